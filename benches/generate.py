@@ -1,0 +1,99 @@
+#!/usr/bin/env python3
+"""generate.py ENTRIES [PER_MANIFEST]: a bundle for `icescan list-plan --bundle` on standard output.
+
+The bundle holds a manifest list and manifests of an unpartitioned table: so many data entries in all (default
+1,000,000), PER_MANIFEST of them in a manifest (default 10,000), each with the column statistics of eight columns, in
+Avro containers with codec null. The same arguments give the same bytes.
+"""
+import json
+import sys
+
+STATISTICS = [(109, 119, 120, "long", "value_counts"), (110, 121, 122, "long", "null_value_counts"),
+              (125, 126, 127, "bytes", "lower_bounds"), (128, 129, 130, "bytes", "upper_bounds")]
+COLUMNS = 8
+MARKER = bytes(range(16))
+OBJECTS_PER_BLOCK = 500
+
+
+def number(value):
+    value = (value << 1) ^ (value >> 63)
+    out = bytearray()
+    while value > 127:
+        out.append(value & 127 | 128)
+        value >>= 7
+    out.append(value)
+    return bytes(out)
+
+
+def run(data):
+    return number(len(data)) + data
+
+
+def field(identifier, name, kind):
+    return {"name": name, "type": kind, "field-id": identifier}
+
+
+def statistics_type(key_id, value_id, kind):
+    pair = {"type": "record", "name": f"k{key_id}_v{value_id}", "fields": [field(key_id, "key", "int"), field(value_id, "value", kind)]}
+    return ["null", {"type": "array", "items": pair, "logicalType": "map"}]
+
+
+ENTRY = {"type": "record", "name": "manifest_entry", "fields": [
+    field(0, "status", "int"), field(1, "snapshot_id", ["null", "long"]), field(3, "sequence_number", ["null", "long"]),
+    field(4, "file_sequence_number", ["null", "long"]),
+    field(2, "data_file", {"type": "record", "name": "r2", "fields": [
+        field(134, "content", "int"), field(100, "file_path", "string"), field(101, "file_format", "string"),
+        field(102, "partition", {"type": "record", "name": "r102", "fields": []}),
+        field(103, "record_count", "long"), field(104, "file_size_in_bytes", "long"),
+        *[field(i, name, statistics_type(k, v, kind)) for i, k, v, kind, name in STATISTICS],
+        field(135, "equality_ids", ["null", {"type": "array", "items": "int", "element-id": 136}])]})]}
+
+ROW = {"type": "record", "name": "manifest_file", "fields": [
+    field(500, "manifest_path", "string"), field(501, "manifest_length", "long"), field(502, "partition_spec_id", "int"),
+    field(517, "content", "int"), field(515, "sequence_number", "long"), field(516, "min_sequence_number", "long"),
+    field(503, "added_snapshot_id", "long")]}
+
+
+def container(schema, objects):
+    text = json.dumps(schema, separators=(",", ":")).encode()
+    out = [b"Obj\x01", number(2), run(b"avro.codec"), run(b"null"), run(b"avro.schema"), run(text), number(0), MARKER]
+    for start in range(0, len(objects), OBJECTS_PER_BLOCK):
+        block = objects[start:start + OBJECTS_PER_BLOCK]
+        body = b"".join(block)
+        out += [number(len(block)), number(len(body)), body, MARKER]
+    return b"".join(out)
+
+
+def statistics(index):
+    out = []
+    for _, _, _, kind, _ in STATISTICS:
+        out += [number(1), number(COLUMNS)]
+        for column in range(COLUMNS):
+            value = number(1000 + column) if kind == "long" else run((index * 8 + column).to_bytes(8, "little"))
+            out += [number(column + 1), value]
+        out.append(number(0))
+    return b"".join(out)
+
+
+def entry(index):
+    path = f"s3://warehouse/events/data/part-{index:010}-0e7c2b1a.parquet".encode()
+    return b"".join([number(1), number(1), number(7), number(0), number(0), number(0), run(path), run(b"PARQUET"),
+                     number(1000), number(1 << 20), statistics(index), number(0)])
+
+
+def main():
+    entries = int(sys.argv[1]) if len(sys.argv) > 1 else 1_000_000
+    each = int(sys.argv[2]) if len(sys.argv) > 2 else 10_000
+    out = sys.stdout
+    rows = []
+    starts = range(0, entries, each)
+    for at, start in enumerate(starts):
+        path = f"s3://warehouse/events/metadata/m{at:06}.avro".encode()
+        rows.append(run(path) + number(0) + number(0) + number(0) + number(3) + number(3) + number(7))
+    out.write("s3://warehouse/events/metadata/list.avro " + container(ROW, rows).hex() + "\n")
+    for at, start in enumerate(starts):
+        objects = [entry(index) for index in range(start, min(start + each, entries))]
+        out.write(f"s3://warehouse/events/metadata/m{at:06}.avro " + container(ENTRY, objects).hex() + "\n")
+
+
+main()

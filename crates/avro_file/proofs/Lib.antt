@@ -1,0 +1,9 @@
+pub mod Groups
+pub mod Texts
+pub mod Views
+pub mod Steps
+pub mod Taken
+pub mod Loop
+pub mod Again
+pub mod Heads
+pub mod Properties

@@ -1,0 +1,9 @@
+-- What a reader of objects will give.
+use Rattle.std.specs.Prelude.{List, Option}
+use Rattle.avro_file.specs.declared.fault.AvroFault.{AvroFault}
+use Rattle.avro_file.specs.Value.{Value}
+
+-- it will give these data, and then the fault, or none at the end of the file; or it has refused, and does so for good
+pub data Ahead : Type 0 where
+  running : List Value → Option AvroFault → Ahead
+  refusing : AvroFault → Ahead

@@ -1,0 +1,123 @@
+-- Reading the blocks of a file from left to right, with the data before the first fault.
+-- Avro 1.11.1 specification, 'Object Container Files': a file data block is a count of objects, a size in bytes,
+-- the serialized objects and the file's 16-byte sync marker.
+use Rattle.std.specs.Prelude.{◌≡◌, ◌≢◌, ℕ, zero, suc, ◌-◌, ℤ, pos, negsuc, List, [], ◌∷◌, length, Option, Some, None, Result, Ok, Err, if◌then◌else◌}
+use Rattle.std.specs.Str.{bytes_eq}
+use Rattle.avro_schema.specs.Outcome.{◌>>=◌}
+use Rattle.avro_schema.specs.Tree.{Tree}
+use Rattle.avro_file.specs.declared.refusal.Refusal.{Refusal}
+use Rattle.avro_file.specs.declared.refusal.Refusal.TheVariants as refusal
+use Rattle.avro_file.specs.declared.refusal.Refusal.TheVariants.{BadSync, BlockSize}
+use Rattle.avro_file.specs.declared.fault.AvroFault.{AvroFault}
+use Rattle.avro_file.specs.declared.fault.AvroFault.TheVariants as fault
+use Rattle.avro_file.specs.Number.{long_at}
+use Rattle.avro_file.specs.Value.{Value}
+use Rattle.avro_file.specs.Reading.{run_at, datum_at}
+
+-- what a refusal is called, in a file of so many bytes
+abbrev pub fault_of : ℕ → Refusal → AvroFault
+fault_of total (refusal.Short left) = fault.Truncated (total - left)
+fault_of total refusal.BadNumber = fault.BadNumber
+fault_of total refusal.BadUnion = fault.BadUnion
+fault_of total refusal.BadUtf8 = fault.BadUtf8
+fault_of total refusal.BadBoolean = fault.BadBoolean
+fault_of total refusal.TooManyItems = fault.TooManyItems
+fault_of total refusal.BadSync = fault.BadSync
+fault_of total refusal.BlockSize = fault.BlockSize
+fault_of total refusal.Memory = fault.Memory
+
+-- a refusal that is met in an object, which may not pass its block's end
+abbrev pub inside : Refusal → Refusal
+inside (refusal.Short left) = BlockSize
+inside refusal.BadNumber = refusal.BadNumber
+inside refusal.BadUnion = refusal.BadUnion
+inside refusal.BadUtf8 = refusal.BadUtf8
+inside refusal.BadBoolean = refusal.BadBoolean
+inside refusal.TooManyItems = refusal.TooManyItems
+inside refusal.BadSync = BadSync
+inside refusal.BlockSize = BlockSize
+inside refusal.Memory = refusal.Memory
+
+-- the same reading, with its refusal seen otherwise
+abbrev pub refused : {A E F : Type 0} → (E → F) → Result A E → Result A F
+refused f (Ok x) = Ok x
+refused f (Err e) = Err (f e)
+
+pub record BlockHead : Type 0 where
+  pub count : ℕ
+  pub content : List ℕ
+  pub rest : List ℕ
+
+-- a number that may not be negative
+abbrev pub natural_of : ℤ → Result ℕ Refusal
+natural_of (pos n) = Ok n
+natural_of (negsuc n) = Err BlockSize
+
+-- A block's count, size, content and marker. Each is checked before the next is read.
+unfoldable pub head_at : List ℕ → List ℕ → Result BlockHead Refusal
+head_at sync bytes = do
+  count ← long_at bytes
+  n ← natural_of count.0
+  size ← long_at count.1
+  len ← natural_of size.0
+  content ← run_at len size.1
+  marker ← run_at 16 content.1
+  if bytes_eq marker.0 sync then Ok (record { count = n; content = content.0; rest = marker.1 }) else Err BadSync
+
+-- the most items of one object's arrays and maps
+abbrev pub max_items : ℕ
+max_items = 16777216
+
+unfoldable pub object_at : Tree → List ℕ → Result (Value × List ℕ) Refusal
+object_at s block = do
+  x ← refused inside (datum_at s (record { bytes = block; left = max_items }))
+  Ok (x.0, x.1.bytes)
+
+-- the data that come, and the fault that ends them, or none at the end of the file
+pub record Run : Type 0 where
+  pub found : List Value
+  pub ending : Option AvroFault
+
+abbrev pub at_end : Run
+at_end = record { found = []; ending = None }
+
+abbrev pub stopped : AvroFault → Run
+stopped f = record { found = []; ending = Some f }
+
+abbrev pub preceded : Value → Run → Run
+preceded v r = record { found = v ∷ r.found; ending = r.ending }
+
+abbrev pub object_then : ℕ → (List ℕ → Run) → Result (Value × List ℕ) Refusal → Run
+object_then total others (Ok x) = preceded x.0 (others x.1)
+object_then total others (Err e) = stopped (fault_of total e)
+
+-- so many objects, which fill their block, and what comes after the block
+unfoldable pub objects_run : Tree → ℕ → Run → ℕ → List ℕ → Run
+objects_run s total after zero [] = after
+objects_run s total after zero (b ∷ block) = stopped fault.BlockSize
+objects_run s total after (suc n) block = object_then total (objects_run s total after n) (object_at s block)
+
+abbrev pub head_then : Tree → ℕ → (List ℕ → Run) → Result BlockHead Refusal → Run
+head_then s total others (Ok h) = objects_run s total (others h.rest) h.count h.content
+head_then s total others (Err e) = stopped (fault_of total e)
+
+-- The number bounds the blocks. As many as there are bytes are always enough.
+unfoldable pub blocks_run : Tree → List ℕ → ℕ → ℕ → List ℕ → Run
+blocks_run s sync total turns [] = at_end
+blocks_run s sync total zero (b ∷ bytes) = stopped fault.BlockSize
+blocks_run s sync total (suc turns) (b ∷ bytes) = head_then s total (blocks_run s sync total turns) (head_at sync (b ∷ bytes))
+
+-- where a reader of objects stands: so many are still in the block, then come its bytes, then other blocks
+pub record FilePosition : Type 0 where
+  pub count : ℕ
+  pub block : List ℕ
+  pub bytes : List ℕ
+
+unfoldable pub run_from : Tree → List ℕ → ℕ → FilePosition → Run
+run_from s sync total p = objects_run s total (blocks_run s sync total (length p.bytes) p.bytes) p.count p.block
+
+-- one step of the run, whatever the length of the file: the next of the data, or how it ends
+abbrev pub Steps : {X : Type 0} → (X → Value × FilePosition) → Tree → List ℕ → FilePosition → Result (Option X) Refusal → Type 0
+Steps see s sync p (Ok None) = (total : ℕ) → run_from s sync total p ≡ at_end
+Steps see s sync p (Ok (Some x)) = (total : ℕ) → run_from s sync total p ≡ preceded (see x).0 (run_from s sync total (see x).1)
+Steps see s sync p (Err e) = e ≢ refusal.Memory → (total : ℕ) → run_from s sync total p ≡ stopped (fault_of total e)

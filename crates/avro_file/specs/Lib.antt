@@ -1,0 +1,12 @@
+pub mod Number
+pub mod Value
+pub mod View
+pub mod Reading
+pub mod Place
+pub mod Spelling
+pub mod Blocks
+pub mod Where
+pub mod Holding
+pub mod Header
+pub mod Ahead
+pub mod Files

@@ -1,0 +1,7 @@
+-- where a `Place` stands
+use Rattle.std.specs.Prelude.{ℕ, List}
+use Rattle.avro_file.specs.declared.place.Place.{Place}
+use Rattle.avro_file.specs.Reading.{Position}
+
+abbrev pub position_of : Place → Position
+position_of p = record { bytes = p.bytes.now; left = p.left }

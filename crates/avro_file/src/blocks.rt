@@ -1,0 +1,123 @@
+//! The blocks of a file, and the objects in them.
+
+ghost use Rattle.std.specs.Prelude.{◌≡◌, ◌≢◌, List, length, Ok};
+ghost use Rattle.avro_schema.specs.Outcome.{Gives};
+ghost use Rattle.avro_schema.specs.View.{tree};
+ghost use Rattle.avro_file.specs.View.{view};
+ghost use Rattle.avro_file.specs.Blocks.{inside, object_at, head_at, Steps};
+ghost use Rattle.avro_file.specs.Where.{head_of_block, file_position_of};
+
+use crate::datum::Datum;
+use crate::decode::datum_of;
+use crate::leaf::run_of_len;
+use crate::number::long_of;
+use crate::place::Place;
+use crate::refusal::Refusal;
+use avro_schema::Schema;
+use std::alloc::Global;
+
+/// The most items that the arrays and maps of one object may have.
+const MAX_ITEMS: u64 = 16_777_216;
+
+/// A block's count, its content, and what follows its marker.
+#[derive(Clone, Copy, Debug)]
+pub struct Head<'a> {
+    pub count: u64,
+    pub content: &'a [u8],
+    pub rest: &'a [u8],
+}
+
+/// Where a reader stands: so many objects are still in the block, then come its bytes, then other blocks.
+#[derive(Clone, Copy, Debug)]
+pub struct Spot<'a> {
+    pub count: u64,
+    pub block: &'a [u8],
+    pub bytes: &'a [u8],
+}
+
+/// A refusal that is met in an object: it may not pass its block's end.
+fn refused_inside(refusal: Refusal) -> Refusal
+    ensures { result ≡ inside refusal }
+{
+    match refusal {
+        Refusal::Short(_) => Refusal::BlockSize,
+        other => other,
+    }
+}
+
+/// The head of a block, its marker among it.
+#[tactic(auto, unfolding(crate::specs::Blocks::head_at))]
+fn head_of<'a>(sync: &[u8], bytes: &'a [u8]) -> Result<Head<'a>, Refusal>
+    ensures { Gives Refusal.Memory head_of_block result (head_at sync.now bytes.now) }
+{
+    let (count, rest) = long_of(bytes)?;
+    if count < 0 {
+        return Err(Refusal::BlockSize);
+    }
+    let (size, rest) = long_of(rest)?;
+    if size < 0 {
+        return Err(Refusal::BlockSize);
+    }
+    let (content, rest) = run_of_len(size as u64, rest)?;
+    let (marker, rest) = run_of_len(16, rest)?;
+    if marker != sync {
+        return Err(Refusal::BadSync);
+    }
+    Ok(Head {
+        count: count as u64,
+        content,
+        rest,
+    })
+}
+
+/// An object at the front of what is left of its block.
+#[tactic(auto, unfolding(crate::specs::Blocks::object_at))]
+fn object_of<'a>(
+    alloc: Global,
+    schema: &Schema,
+    block: &'a [u8],
+) -> Result<(Datum, &'a [u8]), Refusal>
+    ensures { Gives Refusal.Memory (λ x. (view x.0, x.1.now)) result (object_at (tree schema.now) block.now) }
+{
+    let place = Place {
+        bytes: block,
+        left: MAX_ITEMS,
+    };
+    match datum_of(alloc, schema, place) {
+        Ok((datum, after)) => Ok((datum, after.bytes)),
+        Err(refusal) => Err(refused_inside(refusal)),
+    }
+}
+
+/// The next object, and where the reader stands behind it; none at the end of the file.
+pub fn step<'a>(
+    alloc: Global,
+    schema: &Schema,
+    sync: &[u8],
+    start: Spot<'a>,
+) -> Result<Option<(Datum, Spot<'a>)>, Refusal>
+    ensures { Steps (λ x. (view x.0, file_position_of x.1)) (tree schema.now) sync.now (file_position_of start.entry) result }
+{
+    let mut here = start;
+    'empty: while here.count == 0 {
+        if !here.block.is_empty() {
+            return Err(Refusal::BlockSize);
+        }
+        if here.bytes.is_empty() {
+            return Ok(None);
+        }
+        let head = head_of(sync, here.bytes)?;
+        here = Spot {
+            count: head.count,
+            block: head.content,
+            bytes: head.rest,
+        };
+    }
+    let (datum, rest) = object_of(alloc, schema, here.block)?;
+    let after = Spot {
+        count: here.count - 1,
+        block: rest,
+        bytes: here.bytes,
+    };
+    Ok(Some((datum, after)))
+}

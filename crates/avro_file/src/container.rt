@@ -1,0 +1,154 @@
+//! A whole file: its header, and the objects one after the other.
+
+ghost use Rattle.std.specs.Prelude.{◌≡◌, List, length, IfOk, Ok, None};
+ghost use Rattle.avro_schema.specs.Outcome.{Gives};
+ghost use Rattle.avro_schema.specs.View.{tree};
+ghost use Rattle.avro_schema.specs.Texts.{schema_of};
+ghost use Rattle.avro_file.specs.Where.{header_of_file, now_of};
+ghost use Rattle.avro_file.specs.Blocks.{refused};
+ghost use Rattle.avro_file.specs.Files.{begun_at, uncompressed};
+
+use crate::blocks::{Spot, step};
+use crate::datum::Datum;
+use crate::fault::{AvroFault, CodecName};
+use crate::header::{Header, header_of};
+use crate::refusal::Refusal;
+use avro_schema::{Schema, SchemaFault};
+use std::alloc::Global;
+
+const MAGIC: &[u8] = b"Obj\x01";
+const NO_CODEC: &[u8] = b"null";
+
+/// The header of a file.
+#[tactic(auto, unfolding(crate::specs::Files::begun_at))]
+fn begin(bytes: &[u8]) -> Result<Header<'_>, AvroFault>
+    ensures { Gives AvroFault.Memory header_of_file result (begun_at bytes.now) }
+{
+    let total = bytes.len();
+    if total < 4 {
+        return Err(AvroFault::NotAvro);
+    }
+    let (front, rest) = bytes.split_at(4);
+    if front != MAGIC {
+        return Err(AvroFault::NotAvro);
+    }
+    match header_of(rest) {
+        Ok(header) => Ok(header),
+        Err(refusal) => Err(refusal.fault(total)),
+    }
+}
+
+/// Refuses each codec that compresses.
+fn check_codec(alloc: Global, codec: Option<&[u8]>) -> Result<(), AvroFault>
+    ensures { Gives AvroFault.Memory (λ x. x) result (uncompressed (now_of codec.entry)) }
+{
+    match codec {
+        None => Ok(()),
+        Some(name) => {
+            if name == NO_CODEC {
+                return Ok(());
+            }
+            let bytes = Vec::from_slice(alloc, name)?;
+            Err(AvroFault::Codec(CodecName::from_vec(bytes)))
+        }
+    }
+}
+
+/// The type of the objects.
+fn schema_named(alloc: Global, text: &[u8]) -> Result<Schema, AvroFault>
+    ensures { Gives AvroFault.Memory tree result (refused AvroFault.Schema (schema_of text.now)) }
+{
+    match Schema::from_json(alloc, text) {
+        Ok(schema) => Ok(schema),
+        Err(SchemaFault::Memory) => Err(AvroFault::Memory),
+        Err(fault) => Err(AvroFault::Schema(fault)),
+    }
+}
+
+/// An object of a file. It was checked whole.
+#[derive(Debug, Drop)]
+pub struct Object {
+    datum: Datum,
+}
+
+impl Object {
+    ghost use Rattle.avro_file.specs.Files.{shown};
+    ghost use Rattle.avro_file.specs.View.{view};
+
+    /// The object as a tree.
+    pub fn datum(self) -> Datum
+        ensures { view result ≡ shown self }
+    {
+        let Object { datum } = self;
+        datum
+    }
+}
+
+/// A file that is read object by object.
+#[derive(Debug, Drop)]
+pub struct Container<'a> {
+    schema: Schema,
+    sync: &'a [u8],
+    total: usize,
+    spot: Spot<'a>,
+    refused: Option<Refusal>,
+}
+
+impl<'a> Container<'a> {
+    ghost use Rattle.avro_file.specs.Files.{ahead, tree_of, Next, shown, opened, opened_at};
+
+    /// A reader of the file's objects.
+    ///
+    /// `NotAvro` comes where the file does not begin as a container does, and where its whole header names no
+    /// schema; the faults of the header come in the order of its bytes, then `Codec`, then `Schema`.
+    #[tactic(auto, unfolding(crate::specs::Files::opened_at))]
+    pub fn open(alloc: Global, bytes: &'a [u8]) -> Result<Container<'a>, AvroFault>
+        ensures exact { Gives AvroFault.Memory opened result (opened_at bytes.now) }
+    {
+        let header = begin(bytes)?;
+        let Some(text) = header.wanted.schema else {
+            return Err(AvroFault::NotAvro);
+        };
+        check_codec(alloc, header.wanted.codec)?;
+        let schema = schema_named(alloc, text)?;
+        Ok(Container {
+            schema,
+            sync: header.sync,
+            total: bytes.len(),
+            spot: Spot {
+                count: 0,
+                block: &[],
+                bytes: header.rest,
+            },
+            refused: None,
+        })
+    }
+
+    /// The type of the objects.
+    pub fn schema(&self) -> &Schema
+        ensures { tree result.now ≡ tree_of self.now }
+    {
+        &self.schema
+    }
+
+    /// The next object, which was checked whole; none at the end of the file. After a refusal, the same refusal.
+    pub fn next(&mut self, alloc: Global) -> Result<Option<Object>, AvroFault>
+        ensures next { Next shown (ahead self.old) result (ahead self.new) }
+        ensures schema { tree_of self.new ≡ tree_of self.old }
+    {
+        if let Some(refusal) = self.refused {
+            return Err(refusal.fault(self.total));
+        }
+        match step(alloc, &self.schema, self.sync, self.spot) {
+            Ok(None) => Ok(None),
+            Ok(Some((datum, spot))) => {
+                self.spot = spot;
+                Ok(Some(Object { datum }))
+            }
+            Err(refusal) => {
+                self.refused = Some(refusal);
+                Err(refusal.fault(self.total))
+            }
+        }
+    }
+}

@@ -1,0 +1,262 @@
+//! Values of every schema.
+
+ghost use Rattle.std.specs.Prelude.{◌≡◌, ◌≤◌, suc, List, length, Ok, IfOk, map, MatchOption, pos, ◌<ℤ◌};
+ghost use Rattle.avro_schema.specs.Outcome.{Gives};
+ghost use Rattle.avro_schema.specs.View.{tree, trees, parts, fields_of, branches_of};
+ghost use Rattle.avro_file.specs.View.{view, views, entry_views};
+ghost use Rattle.avro_file.specs.Place.{position_of};
+ghost use Rattle.avro_file.specs.Reading.{count_at, with_front, values_at, blocks_at, entry_at, datum_at, fields_at, branch_at, chosen_by};
+
+use crate::datum::Datum;
+use crate::leaf::{boolean_of, bytes_of, run_of_len, symbol_of, text_of};
+use crate::number::{int_of, long_of};
+use crate::place::Place;
+use crate::refusal::Refusal;
+use avro_schema::{Field, Schema};
+use std::alloc::Global;
+
+/// The count of a block's items.
+#[tactic(auto, unfolding(crate::specs::Reading::count_at))]
+pub fn count_of(place: Place<'_>) -> Result<(u64, Place<'_>), Refusal>
+    ensures { Gives Refusal.Memory (λ x. (x.0, position_of x.1)) result (count_at (position_of place.entry)) }
+{
+    let (count, rest) = long_of(place.bytes)?;
+    let items = count.unsigned_abs();
+    if items > place.left {
+        return Err(Refusal::TooManyItems);
+    }
+    let left = place.left - items;
+    if count >= 0 {
+        return Ok((items, Place { bytes: rest, left }));
+    }
+    let (_, rest) = long_of(rest)?;
+    Ok((items, Place { bytes: rest, left }))
+}
+
+/// The value at the front of the bytes.
+#[cycle(datum)]
+#[tactic(auto, unfolding(crate::specs::Reading::datum_at))]
+pub fn datum_of<'a>(
+    alloc: Global,
+    schema: &Schema,
+    place: Place<'a>,
+) -> Result<(Datum, Place<'a>), Refusal>
+    ensures { Gives Refusal.Memory (λ x. (view x.0, position_of x.1)) result (datum_at (tree schema.now) (position_of place.entry)) }
+{
+    let left = place.left;
+    match schema {
+        Schema::Null => Ok((Datum::Null, place)),
+        Schema::Boolean => {
+            let (truth, bytes) = boolean_of(place.bytes)?;
+            Ok((Datum::Boolean(truth), Place { bytes, left }))
+        }
+        Schema::Int => {
+            let (number, bytes) = int_of(place.bytes)?;
+            Ok((Datum::Int(number), Place { bytes, left }))
+        }
+        Schema::Float => {
+            let (run, bytes) = run_of_len(4, place.bytes)?;
+            Ok((
+                Datum::Float(Vec::from_slice(alloc, run)?),
+                Place { bytes, left },
+            ))
+        }
+        Schema::Double => {
+            let (run, bytes) = run_of_len(8, place.bytes)?;
+            Ok((
+                Datum::Double(Vec::from_slice(alloc, run)?),
+                Place { bytes, left },
+            ))
+        }
+        Schema::Enum(count) => {
+            let (position, bytes) = symbol_of(*count, place.bytes)?;
+            Ok((Datum::Enum(position), Place { bytes, left }))
+        }
+        Schema::Long => {
+            let (number, bytes) = long_of(place.bytes)?;
+            Ok((Datum::Long(number), Place { bytes, left }))
+        }
+        Schema::Bytes(_) => {
+            let (run, bytes) = bytes_of(place.bytes)?;
+            Ok((
+                Datum::Bytes(Vec::from_slice(alloc, run)?),
+                Place { bytes, left },
+            ))
+        }
+        Schema::String => {
+            let (text, bytes) = text_of(place.bytes)?;
+            Ok((
+                Datum::String(String::from_str(alloc, text)?),
+                Place { bytes, left },
+            ))
+        }
+        Schema::Fixed(len, _) => {
+            let (run, bytes) = run_of_len(u64::from(*len), place.bytes)?;
+            Ok((
+                Datum::Fixed(Vec::from_slice(alloc, run)?),
+                Place { bytes, left },
+            ))
+        }
+        Schema::Record(fields) => {
+            let (values, place) = record_of(alloc, fields, place)?;
+            Ok((Datum::Record(values), place))
+        }
+        Schema::Array(items, _, _) => {
+            let (values, place) = array_of(alloc, items, place)?;
+            Ok((Datum::Array(values), place))
+        }
+        Schema::Map(values) => {
+            let (entries, place) = map_of(alloc, values, place)?;
+            Ok((Datum::Map(entries), place))
+        }
+        Schema::Union(branches) => {
+            let (position, bytes) = long_of(place.bytes)?;
+            union_of(alloc, branches, position, Place { bytes, left })
+        }
+    }
+}
+
+/// The number, unless it is negative.
+fn natural(number: i64) -> Option<usize>
+    ensures { MatchOption result (number <ℤ pos 0) (λ n. number ≡ pos n) }
+{
+    if number < 0 {
+        None
+    } else {
+        Some(number as usize)
+    }
+}
+
+/// A value of the branch at this position.
+#[cycle(datum)]
+fn union_of<'a>(
+    alloc: Global,
+    branches: &[Schema],
+    position: i64,
+    place: Place<'a>,
+) -> Result<(Datum, Place<'a>), Refusal>
+    ensures { Gives Refusal.Memory (λ x. (view x.0, position_of x.1)) result (chosen_by (branch_at (branches_of (trees branches.now))) position (position_of place.entry)) }
+{
+    let Some(position) = natural(position) else {
+        return Err(Refusal::BadUnion);
+    };
+    if position >= branches.len() {
+        return Err(Refusal::BadUnion);
+    }
+    let (value, place) = datum_of(alloc, &branches[position], place)?;
+    Ok((Datum::Union(position, Box::new(alloc, value)?), place))
+}
+
+/// The fields of a record, one after the other.
+#[cycle(datum)]
+fn record_of<'a>(
+    alloc: Global,
+    fields: &[Field],
+    place: Place<'a>,
+) -> Result<(Vec<Datum>, Place<'a>), Refusal>
+    ensures { Gives Refusal.Memory (λ x. (views x.0.items, position_of x.1)) result (fields_at (fields_of (parts fields.now)) (position_of place.entry)) }
+{
+    let mut values = Vec::new(alloc);
+    let mut here = place;
+    'fields: for field in fields {
+        let (value, after) = datum_of(alloc, &field.schema, here)?;
+        values.push(value)?;
+        here = after;
+    }
+    Ok((values, here))
+}
+
+/// The blocks of an array, up to the one that is empty.
+#[cycle(datum)]
+fn array_of<'a>(
+    alloc: Global,
+    schema: &Schema,
+    place: Place<'a>,
+) -> Result<(Vec<Datum>, Place<'a>), Refusal>
+    ensures { Gives Refusal.Memory (λ x. (views x.0.items, position_of x.1)) result (blocks_at (datum_at (tree schema.now)) (suc (length (position_of place.entry).bytes)) (position_of place.entry)) }
+{
+    let mut values = Vec::new(alloc);
+    let mut here = place;
+    'each_block: loop {
+        let (count, after) = count_of(here)?;
+        if count == 0 {
+            return Ok((values, after));
+        }
+        let (more, after) = items_of(alloc, schema, count, values, after)?;
+        values = more;
+        here = after;
+    }
+}
+
+/// So many items, added to the values.
+#[cycle(datum)]
+fn items_of<'a>(
+    alloc: Global,
+    schema: &Schema,
+    count: u64,
+    values: Vec<Datum>,
+    place: Place<'a>,
+) -> Result<(Vec<Datum>, Place<'a>), Refusal>
+    ensures { Gives Refusal.Memory (λ x. (views x.0.items, position_of x.1)) result (with_front (views values.items) (values_at (datum_at (tree schema.now)) count (position_of place.entry))) }
+{
+    let mut values = values;
+    let mut here = place;
+    'items: for _ in 0..count {
+        let (value, after) = datum_of(alloc, schema, here)?;
+        values.push(value)?;
+        here = after;
+    }
+    Ok((values, here))
+}
+
+/// The blocks of a map, up to the one that is empty.
+#[cycle(datum)]
+fn map_of<'a>(
+    alloc: Global,
+    schema: &Schema,
+    place: Place<'a>,
+) -> Result<(Vec<(String, Datum)>, Place<'a>), Refusal>
+    ensures { Gives Refusal.Memory (λ x. (entry_views x.0.items, position_of x.1)) result (blocks_at (entry_at (datum_at (tree schema.now))) (suc (length (position_of place.entry).bytes)) (position_of place.entry)) }
+{
+    let mut values = Vec::new(alloc);
+    let mut here = place;
+    'each_block: loop {
+        let (count, after) = count_of(here)?;
+        if count == 0 {
+            return Ok((values, after));
+        }
+        let (more, after) = entries_of(alloc, schema, count, values, after)?;
+        values = more;
+        here = after;
+    }
+}
+
+/// So many entries, added to the values.
+#[cycle(datum)]
+fn entries_of<'a>(
+    alloc: Global,
+    schema: &Schema,
+    count: u64,
+    values: Vec<(String, Datum)>,
+    place: Place<'a>,
+) -> Result<(Vec<(String, Datum)>, Place<'a>), Refusal>
+    ensures { Gives Refusal.Memory (λ x. (entry_views x.0.items, position_of x.1)) result (with_front (entry_views values.items) (values_at (entry_at (datum_at (tree schema.now))) count (position_of place.entry))) }
+{
+    let mut values = values;
+    let mut here = place;
+    'items: for _ in 0..count {
+        let (text, rest) = text_of(here.bytes)?;
+        let key = String::from_str(alloc, text)?;
+        let (value, after) = datum_of(
+            alloc,
+            schema,
+            Place {
+                bytes: rest,
+                left: here.left,
+            },
+        )?;
+        values.push((key, value))?;
+        here = after;
+    }
+    Ok((values, here))
+}

@@ -1,0 +1,85 @@
+//! Whole numbers.
+
+ghost use Rattle.std.specs.Prelude.{◌≡◌, ◌^◌, ◌<◌, List, length, Ok};
+ghost use Rattle.avro_schema.specs.Outcome.{Gives};
+ghost use Rattle.avro_file.specs.Number.{from_start, groups_at, number_at, long_at, int_at, signed_of};
+
+use crate::refusal::Refusal;
+
+/// The groups of a number, at most ten of them, and the bytes after it.
+fn groups(bytes: &[u8]) -> Result<(u128, &[u8]), Refusal>
+    ensures { Gives Refusal.Memory (λ x. (x.0, x.1.now)) result (from_start bytes.now (groups_at 10 bytes.now)) }
+{
+    let mut value: u128 = 0;
+    let mut place: u128 = 1;
+    let mut rest = bytes;
+    for _ in 0..10u32 {
+        let Some((first, after)) = rest.split_first() else {
+            return Err(Refusal::Short(bytes.len()));
+        };
+        let group = *first;
+        if group < 128 {
+            return Ok((value + place * u128::from(group), after));
+        }
+        value += place * u128::from(group - 128);
+        place *= 128;
+        rest = after;
+    }
+    Err(Refusal::BadNumber)
+}
+
+/// An unsigned number of 64 bits.
+#[tactic(auto, unfolding(crate::specs::Number::number_at))]
+fn unsigned_of(bytes: &[u8]) -> Result<(u64, &[u8]), Refusal>
+    ensures { Gives Refusal.Memory (λ x. (x.0, x.1.now)) result (number_at (2 ^ 64) bytes.now) }
+{
+    let (value, rest) = groups(bytes)?;
+    if value > u128::from(u64::MAX) {
+        return Err(Refusal::BadNumber);
+    }
+    Ok((value as u64, rest))
+}
+
+fn signed(value: u64) -> i64
+    ensures { result ≡ signed_of value }
+{
+    let half = (value / 2) as i64;
+    if value % 2 == 0 { half } else { -half - 1 }
+}
+
+/// An unsigned number of 32 bits.
+#[tactic(auto, unfolding(crate::specs::Number::number_at))]
+fn unsigned_32_of(bytes: &[u8]) -> Result<(u32, &[u8]), Refusal>
+    ensures { Gives Refusal.Memory (λ x. (x.0, x.1.now)) result (number_at (2 ^ 32) bytes.now) }
+{
+    let (value, rest) = groups(bytes)?;
+    if value > u128::from(u32::MAX) {
+        return Err(Refusal::BadNumber);
+    }
+    Ok((value as u32, rest))
+}
+
+fn signed_32(value: u32) -> i32
+    ensures { result ≡ signed_of value }
+{
+    let half = (value / 2) as i32;
+    if value % 2 == 0 { half } else { -1 - half }
+}
+
+/// A whole number of 32 bits, and the bytes after it.
+#[tactic(auto, unfolding(crate::specs::Number::int_at))]
+pub fn int_of(bytes: &[u8]) -> Result<(i32, &[u8]), Refusal>
+    ensures { Gives Refusal.Memory (λ x. (x.0, x.1.now)) result (int_at bytes.now) }
+{
+    let (value, rest) = unsigned_32_of(bytes)?;
+    Ok((signed_32(value), rest))
+}
+
+/// A whole number of 64 bits, and the bytes after it.
+#[tactic(auto, unfolding(crate::specs::Number::long_at))]
+pub fn long_of(bytes: &[u8]) -> Result<(i64, &[u8]), Refusal>
+    ensures { Gives Refusal.Memory (λ x. (x.0, x.1.now)) result (long_at bytes.now) }
+{
+    let (value, rest) = unsigned_of(bytes)?;
+    Ok((signed(value), rest))
+}

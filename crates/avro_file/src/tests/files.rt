@@ -1,0 +1,165 @@
+//! Whole files.
+
+use super::*;
+
+/// The longs 64 and -1.
+const LONGS: [u8; 62] = [
+    0x4f, 0x62, 0x6a, 0x01, 0x02, 0x16, 0x61, 0x76, 0x72, 0x6f, 0x2e, 0x73, 0x63, 0x68, 0x65, 0x6d,
+    0x61, 0x0c, 0x22, 0x6c, 0x6f, 0x6e, 0x67, 0x22, 0x00, 0x00, 0x01, 0x02, 0x03, 0x04, 0x05, 0x06,
+    0x07, 0x08, 0x09, 0x0a, 0x0b, 0x0c, 0x0d, 0x0e, 0x0f, 0x04, 0x06, 0x80, 0x01, 0x01, 0x00, 0x01,
+    0x02, 0x03, 0x04, 0x05, 0x06, 0x07, 0x08, 0x09, 0x0a, 0x0b, 0x0c, 0x0d, 0x0e, 0x0f,
+];
+
+#[test]
+fn two_longs(rt: HostRuntime) -> Result<(), Fail> {
+    let mut file = Container::open(rt.alloc(), &LONGS).ok().ok_or("a file")?;
+    assert!(rt; matches!(file.schema(), Schema::Long));
+    let one = file.next(rt.alloc()).ok().ok_or("one")?.ok_or("one")?;
+    assert!(rt; matches!(one.datum(), Datum::Long(64)));
+    let two = file.next(rt.alloc()).ok().ok_or("two")?.ok_or("two")?;
+    assert!(rt; matches!(two.datum(), Datum::Long(-1)));
+    assert!(rt; matches!(file.next(rt.alloc()), Ok(None)));
+    assert!(rt; matches!(file.next(rt.alloc()), Ok(None)));
+    Ok(())
+}
+
+#[test]
+fn cut_files(rt: HostRuntime) -> Result<(), Fail> {
+    assert!(rt; matches!(first(rt.alloc(), &LONGS[..3]), Err(AvroFault::NotAvro)));
+    assert!(rt; matches!(first(rt.alloc(), b"Obj\x02"), Err(AvroFault::NotAvro)));
+    assert!(rt; matches!(first(rt.alloc(), &LONGS[..20]), Err(AvroFault::Truncated(18))));
+    assert!(rt; matches!(first(rt.alloc(), &LONGS[..40]), Err(AvroFault::Truncated(25))));
+    let mut none = Container::open(rt.alloc(), &LONGS[..41]).ok().ok_or("a file")?;
+    assert!(rt; matches!(none.next(rt.alloc()), Ok(None)));
+    assert!(rt; matches!(first(rt.alloc(), &LONGS[..42]), Err(AvroFault::Truncated(42))));
+    assert!(rt; matches!(first(rt.alloc(), &LONGS[..45]), Err(AvroFault::Truncated(43))));
+    assert!(rt; matches!(first(rt.alloc(), &LONGS[..50]), Err(AvroFault::Truncated(46))));
+    let mut bytes = LONGS;
+    bytes[61] = 0x0e;
+    assert!(rt; matches!(first(rt.alloc(), &bytes), Err(AvroFault::BadSync)));
+    Ok(())
+}
+
+#[test]
+fn refused_for_good(rt: HostRuntime) -> Result<(), Fail> {
+    let mut bytes = LONGS;
+    bytes[41] = 6;
+    let mut file = Container::open(rt.alloc(), &bytes).ok().ok_or("a file")?;
+    assert!(rt; matches!(file.next(rt.alloc()), Ok(Some(_))));
+    assert!(rt; matches!(file.next(rt.alloc()), Ok(Some(_))));
+    for _ in 0..3 {
+        assert!(rt; matches!(file.next(rt.alloc()), Err(AvroFault::BlockSize)));
+    }
+    Ok(())
+}
+
+#[test]
+fn blocks(rt: HostRuntime) -> Result<(), Fail> {
+    let most = [0xfe, 0xff, 0xff, 0xff, 0xff, 0xff, 0xff, 0xff, 0xff, 1];
+    let bytes = file(rt.alloc(), b"\"long\"", &most, &[6])?;
+    let mut long = Container::open(rt.alloc(), &bytes).ok().ok_or("a file")?;
+    assert!(rt; matches!(long.next(rt.alloc()), Ok(Some(_))));
+    assert!(rt; matches!(long.next(rt.alloc()), Err(AvroFault::BlockSize)));
+    // a negative count, although no size follows it
+    let mut bytes = header(rt.alloc(), b"\"long\"")?;
+    bytes.push(1)?;
+    assert!(rt; matches!(first(rt.alloc(), &bytes), Err(AvroFault::BlockSize)));
+    // a negative size
+    let mut bytes = header(rt.alloc(), b"\"long\"")?;
+    bytes.extend_from_slice(&[2, 1])?;
+    assert!(rt; matches!(first(rt.alloc(), &bytes), Err(AvroFault::BlockSize)));
+    // a block of nothing, and one of no objects that has bytes
+    let bytes = file(rt.alloc(), b"\"long\"", &[0], &[])?;
+    let mut none = Container::open(rt.alloc(), &bytes).ok().ok_or("a file")?;
+    assert!(rt; matches!(none.next(rt.alloc()), Ok(None)));
+    let bytes = file(rt.alloc(), b"\"long\"", &[0], &[6])?;
+    assert!(rt; matches!(first(rt.alloc(), &bytes), Err(AvroFault::BlockSize)));
+    Ok(())
+}
+
+/// What opening a file with this metadata gives.
+fn opened_with(alloc: Global, metadata: &[u8]) -> Result<Result<(), AvroFault>, Fail> {
+    let mut bytes = b"Obj\x01".to_vec(alloc)?;
+    bytes.extend_from_slice(metadata)?;
+    bytes.extend_from_slice(&MARKER)?;
+    Ok(match Container::open(alloc, &bytes) {
+        Ok(_) => Ok(()),
+        Err(fault) => Err(fault),
+    })
+}
+
+#[test]
+fn metadata(rt: HostRuntime) -> Result<(), Fail> {
+    let deflate = b"\x04\x16avro.schema\x0c\"long\"\x14avro.codec\x0edeflate\x00";
+    let found = opened_with(rt.alloc(), deflate)?;
+    assert!(rt; matches!(found, Err(AvroFault::Codec(name)) if name.as_slice() == b"deflate".as_slice()));
+    // a codec is told before a schema that is at fault
+    let both = b"\x04\x16avro.schema\x02{\x14avro.codec\x0edeflate\x00";
+    assert!(rt; matches!(opened_with(rt.alloc(), both)?, Err(AvroFault::Codec(_))));
+    let null = b"\x04\x16avro.schema\x0c\"long\"\x14avro.codec\x08null\x00";
+    assert!(rt; matches!(opened_with(rt.alloc(), null)?, Ok(())));
+    // of equal keys the last counts, over blocks too
+    let last = b"\x04\x14avro.codec\x0edeflate\x16avro.schema\x02{\x03\x00\x14avro.codec\x08null\x16avro.schema\x0c\"long\"\x00";
+    assert!(rt; matches!(opened_with(rt.alloc(), last)?, Ok(())));
+    let other = b"\x02\x02k\x02v\x00";
+    assert!(rt; matches!(opened_with(rt.alloc(), other)?, Err(AvroFault::NotAvro)));
+    let unread = b"\x02\x16avro.schema\x02{\x00";
+    let found = opened_with(rt.alloc(), unread)?;
+    assert!(rt; matches!(found, Err(AvroFault::Schema(SchemaFault::NotJson))));
+    let long = b"\x02\x02k\xfe\xff\xff\xff\xff\xff\xff\xff\xff\x01";
+    assert!(rt; matches!(opened_with(rt.alloc(), long)?, Err(AvroFault::Truncated(17))));
+    Ok(())
+}
+
+/// How many objects come, and the fault behind them. There may be up to five.
+fn objects(alloc: Global, bytes: &[u8]) -> (usize, Option<AvroFault>) {
+    let mut file = match Container::open(alloc, bytes) {
+        Ok(file) => file,
+        Err(fault) => return (0, Some(fault)),
+    };
+    for count in 0..6 {
+        match file.next(alloc) {
+            Ok(Some(_)) => {}
+            Ok(None) => return (count, None),
+            Err(fault) => return (count, Some(fault)),
+        }
+    }
+    (6, None)
+}
+
+#[test]
+fn each_truncation(rt: HostRuntime) -> Result<(), Fail> {
+    let mut bytes = b"Obj\x01\x02\x16avro.schema\x82\x02".to_vec(rt.alloc())?;
+    let schema = b"{\"type\":\"record\",\"name\":\"r\",\"fields\":[{\"name\":\"s\",\"type\":\"string\"},{\"name\":\"a\",\"type\":{\"type\":\"array\",\"items\":[\"null\",\"long\"]}}]}";
+    bytes.extend_from_slice(schema)?;
+    bytes.push(0)?;
+    bytes.extend_from_slice(&MARKER)?;
+    let start = bytes.len();
+    // two records: x with null and 3, and an empty text with no items
+    bytes.extend_from_slice(&[4, 18, 2, 0x78, 4, 0, 2, 6, 0, 0, 0])?;
+    bytes.extend_from_slice(&MARKER)?;
+    let middle = bytes.len();
+    // one record, its array in a block of a negative count
+    bytes.extend_from_slice(&[2, 12, 0, 1, 4, 2, 6, 0])?;
+    bytes.extend_from_slice(&MARKER)?;
+    for cut in 0..bytes.len() + 1 {
+        let (count, fault) = objects(rt.alloc(), &bytes[..cut]);
+        let want = if cut < middle {
+            0
+        } else if cut < bytes.len() {
+            2
+        } else {
+            3
+        };
+        assert_eq!(rt; count, want, "at {cut}");
+        let ends = cut == start || cut == middle || cut == bytes.len();
+        let right = match fault {
+            None => ends,
+            Some(AvroFault::NotAvro) => cut < 4,
+            Some(AvroFault::Truncated(offset)) => cut >= 4 && offset <= cut && !ends,
+            Some(_) => false,
+        };
+        assert!(rt; right, "at {cut}");
+    }
+    Ok(())
+}

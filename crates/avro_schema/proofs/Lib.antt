@@ -1,0 +1,7 @@
+pub mod Loop
+pub mod Walks
+pub mod Utf
+pub mod Keys
+pub mod Binds
+pub mod Limits
+pub mod Shapes

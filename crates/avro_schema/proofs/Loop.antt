@@ -1,0 +1,58 @@
+-- Reading items one after the other, as the loops do.
+use Rattle.std.proofs.Common.{◌≡◌, ◌≢◌, ℕ, zero, suc, ◌+◌, ◌≤◌, ◌<◌, ◌-◌, Bool, true, nat_lt, List, [], ◌∷◌, ◌++◌, length, get_or, drop, Result, Ok, Err, refl, sym, ap, ◌∙◌, add-one, drop-cons, arith, rules}
+use Rattle.std.proofs.Math.ListN.{drop_of_length-le}
+use Rattle.serde_json.specs.declared.value.Value.{Value}
+use Rattle.serde_json.specs.Data.{Data, Items}
+use Rattle.serde_json.specs.View.{view, items_view}
+use Rattle.avro_schema.specs.declared.fault.SchemaFault.{SchemaFault}
+use Rattle.avro_schema.specs.declared.fault.SchemaFault.TheVariants.{TooBig, Memory}
+use Rattle.avro_schema.specs.declared.schema.Schema.{Schema, Record, the_lemmas}
+use Rattle.avro_schema.specs.declared.schema.Field.{Field}
+use Rattle.std.specs.Prelude.{Vec}
+use Rattle.std.specs.declared.alloc.Global.{Global}
+use Rattle.avro_schema.specs.declared.reading.Place.{Place}
+use Rattle.avro_schema.specs.Outcome.{◌>>=◌}
+use Rattle.avro_schema.specs.Tree.{Tree, structure}
+use Rattle.avro_schema.specs.View.{tree, parts, fields_of}
+use Rattle.avro_schema.specs.Reading.{Seen, Read, Reader, each_at, node_at, counted, tree_at}
+
+pub each_on : {A : Type 0} (read : List A → Data → Seen → Read A) (front : List A) (vs : List Value) (i : ℕ) (v : Value) (s : Seen) (x : A) (q : Seen) (total : Read (List A)) → i < length vs → v ≡ get_or vs i v → read front (view v) s ≡ Ok (x, q)
+    → each_at read front (items_view (drop i vs)) s ≡ total → each_at read (front ++ x ∷ []) (items_view (drop (i + 1) vs)) q ≡ total
+unfolding each_at
+each_on {A} read front vs i v s x q total lt is h so_far =
+    let k : drop i vs ≡ v ∷ drop (i + 1) vs = drop-cons vs i v lt ∙ rw (← is, add-one) refl in
+    let one : each_at read front (items_view (drop i vs)) s ≡ each_at read (front ++ x ∷ []) (items_view (drop (i + 1) vs)) q = rw (k, h) refl in
+    sym one ∙ so_far
+
+pub each_fails : {A : Type 0} (g : SchemaFault) (read : List A → Data → Seen → Read A) (front : List A) (vs : List Value) (i : ℕ) (v : Value) (s : Seen) (total : Read (List A)) → i < length vs → v ≡ get_or vs i v → (g ≢ Memory → read front (view v) s ≡ Err g)
+    → each_at read front (items_view (drop i vs)) s ≡ total → g ≢ Memory → total ≡ Err g
+unfolding each_at
+each_fails {A} g read front vs i v s total lt is h so_far ne =
+    let k : drop i vs ≡ v ∷ drop (i + 1) vs = drop-cons vs i v lt ∙ rw (← is, add-one) refl in
+    let one : each_at read front (items_view (drop i vs)) s ≡ Err g = rw (k, h ne) refl in
+    sym so_far ∙ one
+
+pub each_done : {A : Type 0} (read : List A → Data → Seen → Read A) (front : List A) (vs : List Value) (i : ℕ) (s : Seen) (total : Read (List A)) → length vs ≤ i → each_at read front (items_view (drop i vs)) s ≡ total → total ≡ Ok (front, s)
+unfolding each_at
+each_done {A} read front vs i s total le so_far =
+    let k : drop i vs ≡ [] = drop_of_length-le vs le in
+    let one : each_at read front (items_view (drop i vs)) s ≡ Ok (front, s) = rw k refl in
+    sym so_far ∙ one
+
+pub tree-Record : (v : Vec Field Global) → tree (Record v) ≡ structure (fields_of (parts v.items))
+tree-Record v = search (rules, the_lemmas)
+
+pub one_more : (n : ℕ) (at : Place) (space : List ℕ) (d : Data) (s : Seen) → 0 < n → 0 < s.left → tree_at n at space d s ≡ node_at (tree_at (n - 1)) (n - 1) at space d (record s { left = s.left - 1 })
+unfolding tree_at
+one_more zero at space d s some left = absurd (omega arith)
+one_more (suc n) at space d s some left = let e : nat_lt 0 s.left ≡ true = search (rules, left) in let k : suc n - 1 ≡ n = omega arith in rw (e, k) refl
+
+pub no_level : (n : ℕ) (at : Place) (space : List ℕ) (d : Data) (s : Seen) → n ≡ 0 → tree_at n at space d s ≡ Err TooBig
+unfolding tree_at
+no_level zero at space d s none = refl
+no_level (suc n) at space d s none = absurd (omega arith)
+
+pub none_left : (n : ℕ) (at : Place) (space : List ℕ) (d : Data) (s : Seen) → s.left ≡ 0 → tree_at n at space d s ≡ Err TooBig
+unfolding tree_at
+none_left zero at space d s none = refl
+none_left (suc n) at space d s none = rw none refl

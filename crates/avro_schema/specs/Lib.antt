@@ -1,0 +1,10 @@
+pub mod Outcome
+pub mod Tree
+pub mod Size
+pub mod View
+pub mod Names
+pub mod Attributes
+pub mod Reading
+pub mod Shape
+pub mod Met
+pub mod Texts

@@ -1,0 +1,41 @@
+-- Full names, and the names that were met.
+use Rattle.std.specs.Prelude.{ℕ, List, [], ◌∷◌, ◌++◌, Bool, true, false, ◌||◌, ◌==◌, Option, Some, None, if◌then◌else◌}
+use Rattle.std.specs.Ordering.{nat_cmp, match_ordering}
+use Rattle.std.specs.Cmp.Lexicographic.{slice_cmp}
+use Rattle.avro_schema.specs.Tree.{Tree}
+
+unfoldable pub dotted : List ℕ → Bool
+dotted [] = false
+dotted (x ∷ s) = x == 46 || dotted s
+
+-- the text before the last dot
+unfoldable pub space_of : List ℕ → List ℕ
+space_of [] = []
+space_of (x ∷ s) = if dotted s then x ∷ space_of s else []
+
+-- a name in a namespace; an empty one is none
+abbrev pub within : List ℕ → List ℕ → List ℕ
+within [] name = name
+within (x ∷ space) name = (x ∷ space) ++ 46 ∷ name
+
+-- what a name in a namespace stands for
+unfoldable pub full : List ℕ → List ℕ → List ℕ
+full space name = if dotted name then name else within space name
+
+-- the namespace that a definition gives, or the one around it
+abbrev pub or_around : Option (List ℕ) → List ℕ → List ℕ
+or_around None space = space
+or_around (Some s) space = s
+
+-- a name, with its tree once its definition is whole
+abbrev pub Entry : Type 0
+Entry = List ℕ × Option Tree
+
+abbrev pub lookup : List ℕ → List Entry → Option (Option Tree)
+lookup name [] = None
+lookup name (e ∷ es) = match_ordering (slice_cmp nat_cmp name e.0) (lookup name es) (Some e.1) (lookup name es)
+
+-- the entries in the order of their names, with x at the name
+abbrev pub put : List ℕ → Option Tree → List Entry → List Entry
+put name x [] = (name, x) ∷ []
+put name x (e ∷ es) = match_ordering (slice_cmp nat_cmp name e.0) ((name, x) ∷ e ∷ es) ((e.0, x) ∷ es) (e ∷ put name x es)

@@ -1,0 +1,29 @@
+-- The tree of a schema that uses no name, from its JSON alone: rule by rule, with no limit and nothing that was read
+-- before. Avro 1.11.1, "Schema Declaration": the primitive types, records, enums, arrays, maps, unions and fixed.
+use Rattle.std.specs.Prelude.{◌≡◌, List, Option, Some, codes, ℕ}
+use Rattle.serde_json.specs.Data as json
+use Rattle.serde_json.specs.Data.{Data, Items}
+use Rattle.serde_json.specs.Find.{get}
+use Rattle.avro_schema.specs.declared.attributes.Kind.TheVariants as kind
+use Rattle.avro_schema.specs.Tree.{Tree, octets, fixed, symbols, structure, array, map, union, Fields, no_fields, field, Branches, no_branches, branch}
+use Rattle.avro_schema.specs.Attributes.{text_in, is_object, items_in, symbols_in, id_in, array_kind, bytes_kind, size_in, plain, kind_of}
+
+mutual
+  pub data Shape : Data → Tree → Type 0 where
+    word : {s : List ℕ} {t : Tree} → plain s ≡ Some t → Shape (json.string s) t
+    a_union : {ds : Items} {bs : Branches} → BranchShapes ds bs → Shape (json.array ds) (union bs)
+    a_word : {d : Data} {s : List ℕ} {t : Tree} → text_in (codes "type") d ≡ Some s → kind_of s ≡ kind.Word → plain s ≡ Some t → Shape d t
+    some_bytes : {d : Data} → text_in (codes "type") d ≡ Some (codes "bytes") → Shape d (octets (bytes_kind d))
+    a_fixed : {d : Data} {n : ℕ} → text_in (codes "type") d ≡ Some (codes "fixed") → size_in d ≡ Some n → Shape d (fixed n (bytes_kind d))
+    an_enum : {d : Data} {n : ℕ} → text_in (codes "type") d ≡ Some (codes "enum") → symbols_in d ≡ Some n → Shape d (symbols n)
+    an_array : {d items : Data} {t : Tree} → text_in (codes "type") d ≡ Some (codes "array") → get (codes "items") d ≡ Some items → Shape items t → Shape d (array t (id_in (codes "element-id") d) (array_kind d))
+    a_map : {d values : Data} {t : Tree} → text_in (codes "type") d ≡ Some (codes "map") → get (codes "values") d ≡ Some values → Shape values t → Shape d (map t)
+    a_record : {d : Data} {ds : Items} {fs : Fields} → text_in (codes "type") d ≡ Some (codes "record") → items_in is_object (codes "fields") d ≡ Some ds → FieldShapes ds fs → Shape d (structure fs)
+
+  pub data BranchShapes : Items → Branches → Type 0 where
+    none : BranchShapes json.no_items no_branches
+    more : {d : Data} {ds : Items} {t : Tree} {bs : Branches} → Shape d t → BranchShapes ds bs → BranchShapes (json.item d ds) (branch t bs)
+
+  pub data FieldShapes : Items → Fields → Type 0 where
+    no_more : FieldShapes json.no_items no_fields
+    one_more : {d type : Data} {ds : Items} {t : Tree} {fs : Fields} → get (codes "type") d ≡ Some type → Shape type t → FieldShapes ds fs → FieldShapes (json.item d ds) (field (id_in (codes "field-id") d) t fs)

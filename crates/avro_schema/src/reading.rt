@@ -1,0 +1,342 @@
+//! The walk over a schema's JSON.
+
+ghost use Rattle.std.specs.Prelude.{◌≡◌, ◌∷◌, [], true, false, List, Ok, IfOk, Result};
+ghost use Rattle.serde_json.specs.View.{view, items_view};
+ghost use Rattle.avro_schema.specs.Names.{full};
+ghost use Rattle.avro_schema.specs.Outcome.{Gives};
+ghost use Rattle.avro_schema.specs.View.{tree, trees, parts};
+ghost use Rattle.avro_schema.specs.Reading.{asked, fresh, defines, branches_at, field_at, fields_at, record_at, array_at, map_at, enum_at, fixed_at, object_at, text_at as tree_of_word, union_at, node_at, tree_at};
+ghost use Rattle.avro_schema.specs.Met.{met};
+ghost use Rattle.avro_schema.specs.declared.reading.Place.TheVariants.{Branch, Elsewhere};
+
+use crate::attributes::{
+    Kind, array_kind_of, bytes_kind_of, fields_in, fixed_size, id_at, kind_from, name_of,
+    symbol_count, text_at,
+};
+use crate::fault::SchemaFault;
+use crate::names::{Seen, define, full_name, named_at, set, space_in};
+use crate::repeat::copy;
+use crate::schema::{Field, Schema};
+use serde_json::Value;
+use std::alloc::{AllocError, Global};
+
+/// Where a type stands.
+#[derive(Clone, Copy, Debug, PartialEq, Eq)]
+pub enum Place {
+    /// It is a branch of a union.
+    Branch,
+    Elsewhere,
+}
+
+/// The tree of a type, where so many levels may come.
+#[cycle(schema)]
+pub fn schema_of(
+    alloc: Global,
+    json: &Value,
+    levels: u32,
+    place: Place,
+    space: &[u8],
+    seen: Seen,
+) -> Result<(Schema, Seen), SchemaFault>
+    ensures { Gives SchemaFault.Memory (λ x. (tree x.0, met x.1)) result (tree_at levels place space.now (view json.now) (met seen)) }
+{
+    if levels == 0 {
+        return Err(SchemaFault::TooBig);
+    }
+    if seen.left == 0 {
+        return Err(SchemaFault::TooBig);
+    }
+    let Seen { names, left } = seen;
+    let now = Seen {
+        names,
+        left: left - 1,
+    };
+    node_of(alloc, json, levels - 1, place, space, now)
+}
+
+/// The tree of a type that was counted, where so many levels may be below it.
+#[cycle(schema)]
+#[tactic(auto, unfolding(crate::specs::Reading::node_at))]
+fn node_of(
+    alloc: Global,
+    json: &Value,
+    most: u32,
+    place: Place,
+    space: &[u8],
+    seen: Seen,
+) -> Result<(Schema, Seen), SchemaFault>
+    ensures { Gives SchemaFault.Memory (λ x. (tree x.0, met x.1)) result (node_at (tree_at most) most place space.now (view json.now) (met seen)) }
+{
+    match json {
+        Value::String(text) => word_of(alloc, text.as_str(), most, space, seen),
+        Value::Array(items) => union_of(alloc, items, most, place, space, seen),
+        Value::Object(_) => object_of(alloc, json, most, space, seen),
+        _ => Err(SchemaFault::UnknownType),
+    }
+}
+
+/// The tree of a text that stands alone.
+#[tactic(auto, unfolding(crate::specs::Reading::text_at))]
+fn word_of(
+    alloc: Global,
+    text: &str,
+    most: u32,
+    space: &[u8],
+    seen: Seen,
+) -> Result<(Schema, Seen), SchemaFault>
+    ensures { Gives SchemaFault.Memory (λ x. (tree x.0, met x.1)) result (tree_of_word most space.now text.now (met seen)) }
+{
+    match kind_from(text) {
+        Kind::Bytes | Kind::Word => named_at(alloc, text, most, space, seen),
+        _ => Err(SchemaFault::UnknownType),
+    }
+}
+
+#[cycle(schema)]
+#[tactic(auto, unfolding(crate::specs::Reading::union_at))]
+fn union_of(
+    alloc: Global,
+    items: &Vec<Value>,
+    most: u32,
+    place: Place,
+    space: &[u8],
+    seen: Seen,
+) -> Result<(Schema, Seen), SchemaFault>
+    ensures { Gives SchemaFault.Memory (λ x. (tree x.0, met x.1)) result (union_at (tree_at most) place space.now (items_view items.now.items) (met seen)) }
+{
+    match place {
+        Place::Branch => Err(SchemaFault::UnknownType),
+        Place::Elsewhere => {
+            let (branches, seen) = branches_of(alloc, items, most, space, seen)?;
+            Ok((Schema::Union(branches), seen))
+        }
+    }
+}
+
+#[cycle(schema)]
+fn branches_of(
+    alloc: Global,
+    items: &Vec<Value>,
+    most: u32,
+    space: &[u8],
+    seen: Seen,
+) -> Result<(Vec<Schema>, Seen), SchemaFault>
+    ensures { Gives SchemaFault.Memory (λ x. (trees x.0.items, met x.1)) result (branches_at (tree_at most Branch space.now) [] (items_view items.now.items) (met seen)) }
+{
+    let mut branches = Vec::new(alloc);
+    let mut now = seen;
+    'branches: for item in items {
+        let (schema, after) = schema_of(alloc, item, most, Place::Branch, space, now)?;
+        branches.push(schema)?;
+        now = after;
+    }
+    Ok((branches, now))
+}
+
+#[cycle(schema)]
+#[tactic(auto, unfolding(crate::specs::Reading::object_at))]
+fn object_of(
+    alloc: Global,
+    json: &Value,
+    most: u32,
+    space: &[u8],
+    seen: Seen,
+) -> Result<(Schema, Seen), SchemaFault>
+    ensures { Gives SchemaFault.Memory (λ x. (tree x.0, met x.1)) result (object_at (tree_at most) most space.now (view json.now) (met seen)) }
+{
+    let Some(text) = text_at(json, "type") else {
+        return Err(SchemaFault::UnknownType);
+    };
+    match kind_from(text) {
+        Kind::Array => array_of(alloc, json, most, space, seen),
+        Kind::Map => map_of(alloc, json, most, space, seen),
+        Kind::Record => record_of(alloc, json, most, space, seen),
+        Kind::Enum => enum_of(alloc, json, space, seen),
+        Kind::Fixed => fixed_of(alloc, json, space, seen),
+        Kind::Bytes => Ok((Schema::Bytes(bytes_kind_of(json)), seen)),
+        Kind::Word => named_at(alloc, text, most, space, seen),
+    }
+}
+
+#[cycle(schema)]
+#[tactic(auto, unfolding(crate::specs::Reading::array_at))]
+fn array_of(
+    alloc: Global,
+    json: &Value,
+    most: u32,
+    space: &[u8],
+    seen: Seen,
+) -> Result<(Schema, Seen), SchemaFault>
+    ensures { Gives SchemaFault.Memory (λ x. (tree x.0, met x.1)) result (array_at (tree_at most) space.now (view json.now) (met seen)) }
+{
+    let Some(items) = json.get("items") else {
+        return Err(SchemaFault::UnknownType);
+    };
+    let (schema, seen) = schema_of(alloc, items, most, Place::Elsewhere, space, seen)?;
+    Ok((
+        Schema::Array(
+            Box::new(alloc, schema)?,
+            id_at(json, "element-id"),
+            array_kind_of(json),
+        ),
+        seen,
+    ))
+}
+
+#[cycle(schema)]
+#[tactic(auto, unfolding(crate::specs::Reading::map_at))]
+fn map_of(
+    alloc: Global,
+    json: &Value,
+    most: u32,
+    space: &[u8],
+    seen: Seen,
+) -> Result<(Schema, Seen), SchemaFault>
+    ensures { Gives SchemaFault.Memory (λ x. (tree x.0, met x.1)) result (map_at (tree_at most) space.now (view json.now) (met seen)) }
+{
+    let Some(values) = json.get("values") else {
+        return Err(SchemaFault::UnknownType);
+    };
+    let (schema, seen) = schema_of(alloc, values, most, Place::Elsewhere, space, seen)?;
+    Ok((Schema::Map(Box::new(alloc, schema)?), seen))
+}
+
+/// The full name that an object defines.
+fn defined_name(
+    alloc: Global,
+    json: &Value,
+    name: &str,
+    space: &[u8],
+) -> Result<Vec<u8>, AllocError>
+    ensures { IfOk result (λ v. v.items ≡ defines space.now name.now (view json.now)) }
+{
+    match text_at(json, "namespace") {
+        Some(own) => full_name(alloc, own.as_bytes(), name.as_bytes()),
+        None => full_name(alloc, space, name.as_bytes()),
+    }
+}
+
+#[tactic(auto, unfolding(crate::specs::Reading::enum_at))]
+fn enum_of(
+    alloc: Global,
+    json: &Value,
+    space: &[u8],
+    seen: Seen,
+) -> Result<(Schema, Seen), SchemaFault>
+    ensures { Gives SchemaFault.Memory (λ x. (tree x.0, met x.1)) result (enum_at space.now (view json.now) (met seen)) }
+{
+    let Some(name) = name_of(json) else {
+        return Err(SchemaFault::UnknownType);
+    };
+    let Some(count) = symbol_count(json) else {
+        return Err(SchemaFault::UnknownType);
+    };
+    let whole = defined_name(alloc, json, name, space)?;
+    let now = define(whole, Some(Schema::Enum(count)), seen)?;
+    Ok((Schema::Enum(count), now))
+}
+
+#[tactic(auto, unfolding(crate::specs::Reading::fixed_at))]
+fn fixed_of(
+    alloc: Global,
+    json: &Value,
+    space: &[u8],
+    seen: Seen,
+) -> Result<(Schema, Seen), SchemaFault>
+    ensures { Gives SchemaFault.Memory (λ x. (tree x.0, met x.1)) result (fixed_at space.now (view json.now) (met seen)) }
+{
+    let Some(name) = name_of(json) else {
+        return Err(SchemaFault::UnknownType);
+    };
+    let Some(size) = fixed_size(json) else {
+        return Err(SchemaFault::UnknownType);
+    };
+    let whole = defined_name(alloc, json, name, space)?;
+    let kind = bytes_kind_of(json);
+    let now = define(whole, Some(Schema::Fixed(size, kind)), seen)?;
+    Ok((Schema::Fixed(size, kind), now))
+}
+
+#[cycle(schema)]
+#[tactic(auto, unfolding(crate::specs::Reading::record_at))]
+fn record_of(
+    alloc: Global,
+    json: &Value,
+    most: u32,
+    space: &[u8],
+    seen: Seen,
+) -> Result<(Schema, Seen), SchemaFault>
+    ensures { Gives SchemaFault.Memory (λ x. (tree x.0, met x.1)) result (record_at (tree_at most) space.now (view json.now) (met seen)) }
+{
+    let Some(name) = name_of(json) else {
+        return Err(SchemaFault::UnknownType);
+    };
+    let Some(items) = fields_in(json) else {
+        return Err(SchemaFault::UnknownType);
+    };
+    let whole = defined_name(alloc, json, name, space)?;
+    let opened = define(Vec::from_slice(alloc, &whole)?, None, seen)?;
+    let (fields, after) = fields_of(alloc, items, most, space_in(&whole), opened)?;
+    let schema = Schema::Record(fields);
+    let kept = copy(alloc, &schema)?;
+    let closed = set(whole, Some(kept), after)?;
+    Ok((schema, closed))
+}
+
+#[cycle(schema)]
+fn fields_of(
+    alloc: Global,
+    items: &Vec<Value>,
+    most: u32,
+    space: &[u8],
+    seen: Seen,
+) -> Result<(Vec<Field>, Seen), SchemaFault>
+    ensures { Gives SchemaFault.Memory (λ x. (parts x.0.items, met x.1)) result (fields_at (tree_at most Elsewhere space.now) [] (items_view items.now.items) (met seen)) }
+{
+    let mut fields = Vec::new(alloc);
+    let mut now = seen;
+    'fields: for item in items {
+        let (field, after) = field_of(alloc, item, &fields, most, space, now)?;
+        fields.push(field)?;
+        now = after;
+    }
+    Ok((fields, now))
+}
+
+/// An id that no field before has.
+fn fresh_id(id: Option<i32>, front: &Vec<Field>) -> Result<Option<i32>, SchemaFault>
+    ensures { Gives SchemaFault.Memory (λ x. x) result (fresh id (parts front.now.items)) }
+{
+    let Some(wanted) = id else {
+        return Ok(None);
+    };
+    'fields: for field in front {
+        if field.id == Some(wanted) {
+            return Err(SchemaFault::FieldTwice(wanted));
+        }
+    }
+    Ok(Some(wanted))
+}
+
+#[cycle(schema)]
+#[tactic(auto, unfolding(crate::specs::Reading::field_at))]
+fn field_of(
+    alloc: Global,
+    json: &Value,
+    front: &Vec<Field>,
+    most: u32,
+    space: &[u8],
+    seen: Seen,
+) -> Result<(Field, Seen), SchemaFault>
+    ensures { Gives SchemaFault.Memory (λ x. ((x.0.id, tree x.0.schema), met x.1)) result (field_at (tree_at most Elsewhere space.now) (parts front.now.items) (view json.now) (met seen)) }
+{
+    if name_of(json).is_none() {
+        return Err(SchemaFault::UnknownType);
+    }
+    let Some(inner) = json.get("type") else {
+        return Err(SchemaFault::UnknownType);
+    };
+    let id = fresh_id(id_at(json, "field-id"), front)?;
+    let (schema, after) = schema_of(alloc, inner, most, Place::Elsewhere, space, seen)?;
+    Ok((Field { id, schema }, after))
+}

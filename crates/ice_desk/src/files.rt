@@ -1,0 +1,33 @@
+//! Files by their paths.
+
+ghost use Rattle.std.specs.Prelude.{◌≡◌, IfOk, IsErrOf, Some, None};
+ghost use Rattle.ice_desk.specs.Worlds.{World, HasAt};
+ghost use Rattle.std.specs.Prelude.{Option, List, ℕ};
+
+use std::alloc::Global;
+
+/// Why a file's bytes were not given.
+#[derive(Clone, Copy, Debug, PartialEq, Eq)]
+pub enum ReadFault {
+    /// There is no file at the path.
+    Absent,
+    /// There may be one, and reading it failed.
+    Device,
+    /// A growth was refused.
+    Memory,
+}
+
+/// Files that can be read whole.
+pub trait Files {
+    /// The bytes at each path, where it tells them. They stay the same from one read to the next.
+    ghost world: { Self → Option World };
+
+    /// A read of the file at a path may fail.
+    ghost may_fail: { Self → List ℕ → Type 0 };
+
+    /// The bytes of the file at a path.
+    fn read(&self, alloc: Global, path: &str) -> Result<Vec<u8>, ReadFault>
+        ensures found { IfOk result (λ bytes. HasAt (world self.now) path.now (Some bytes.items)) }
+        ensures absent { IsErrOf result ReadFault.Absent → HasAt (world self.now) path.now None }
+        ensures device { IsErrOf result ReadFault.Device → may_fail self.now path.now };
+}

@@ -1,0 +1,6 @@
+//! What a scan reads its files from.
+#![tactic(auto)]
+
+mod files;
+
+pub use files::{Files, ReadFault};

@@ -1,0 +1,6 @@
+//! Table metadata as values: for now partition specs.
+#![tactic(auto)]
+
+mod spec;
+
+pub use spec::Spec;
