@@ -53,13 +53,13 @@ run_again s rest =
     let enough : ltb (length (s ++ rest)) (length s) ≡ false = le-ltb _ _ (omega (arith, length-append s rest)) in
     rw (enough, take_at s rest (length s) refl, drop_at s rest (length s) refl) refl
 
-bytes_again : (s bytes rest : List ℕ) → IsRun s bytes → bytes_at (bytes ++ rest) ≡ Ok (s, rest)
+pub bytes_again : (s bytes rest : List ℕ) → IsRun s bytes → bytes_at (bytes ++ rest) ≡ Ok (s, rest)
 unfolding bytes_at
 bytes_again s bytes rest is =
     let regrouped : bytes ++ rest ≡ is.0 ++ (s ++ rest) = ap (λ (t : List ℕ). t ++ rest) is.2 ∙ append_assoc is.0 s rest in
     rw (regrouped, long_again is.0 (pos (length s)) (s ++ rest) is.1) (run_again s rest)
 
-string_again : (s bytes rest : List ℕ) → IsUtf8 s → IsRun s bytes → string_at (bytes ++ rest) ≡ Ok (s, rest)
+pub string_again : (s bytes rest : List ℕ) → IsUtf8 s → IsRun s bytes → string_at (bytes ++ rest) ≡ Ok (s, rest)
 unfolding string_at
 string_again s bytes rest utf8 is = rw (bytes_again s bytes rest is, is_utf8-from_IsUtf8 s utf8) refl
 
@@ -71,7 +71,7 @@ at_is p q e f = ap (λ (b : List ℕ). record { bytes = b; left = p.left }) e �
 abbrev read_as : {A : Type 0} → A → Position → Read A
 read_as x q = Ok (x, q)
 
-ends_at : {A : Type 0} (x : A) (p q : Position) → p.bytes ≡ q.bytes → p.left ≡ q.left → read_as x p ≡ Ok (x, q)
+pub ends_at : {A : Type 0} (x : A) (p q : Position) → p.bytes ≡ q.bytes → p.left ≡ q.left → read_as x p ≡ Ok (x, q)
 ends_at x p q e f = ap (read_as x) (at_is p q e f)
 
 leaf_again : {A : Type 0} (make : A → Value) (x : A) (p q : Position) (read : Result (A × List ℕ) Refusal) → read ≡ Ok (x, q.bytes) → p.left ≡ q.left → leaf make p.left read ≡ Ok (make x, q)
@@ -88,7 +88,7 @@ count_again n spelt p q (inr is) e f =
     let regrouped : p.bytes ≡ is.3 ++ (is.4 ++ q.bytes) = e ∙ ap (λ (t : List ℕ). t ++ q.bytes) is.7 ∙ append_assoc is.3 is.4 q.bytes in
     rw (regrouped, long_again is.3 (negsuc less) (is.4 ++ q.bytes) is.5, few, long_again is.4 is.2 q.bytes is.6, is.1) (ends_at (suc less) (record { bytes = q.bytes; left = p.left - suc less }) q refl (omega (arith, is.1)))
 
-abbrev ReadsAll : {A : Type 0} → (Position → Read A) → (A → List ℕ → Type 0) → (A → ℕ) → Type 0
+abbrev pub ReadsAll : {A : Type 0} → (Position → Read A) → (A → List ℕ → Type 0) → (A → ℕ) → Type 0
 ReadsAll {A} read P cost = (v : A) (spelt : List ℕ) (p q : Position) → P v spelt → p.bytes ≡ spelt ++ q.bytes → p.left ≡ q.left + cost v → read p ≡ Ok (v, q)
 
 values_again : {A : Type 0} (read : Position → Read A) (P : A → List ℕ → Type 0) (cost : A → ℕ) → ReadsAll read P cost → (vs : List A) (spelt : List ℕ) (p q : Position) → AreJoined P vs spelt → p.bytes ≡ spelt ++ q.bytes → p.left ≡ q.left + counts cost vs → values_at read (length vs) p ≡ Ok (vs, q)
@@ -103,7 +103,7 @@ block_then_again : {A : Type 0} (read : Position → Read A) (others : Position 
 block_then_again read others zero p mid q here after lt e f = absurd (omega arith)
 block_then_again read others (suc n) p mid q here after lt e f = rw (e, f) refl
 
-blocks_again : {A : Type 0} (read : Position → Read A) (P : A → List ℕ → Type 0) (cost : A → ℕ) → ReadsAll read P cost → (blocks turns : ℕ) (vs : List A) (spelt : List ℕ) (p q : Position) → blocks < turns → AreBlocks P blocks vs spelt → p.bytes ≡ spelt ++ q.bytes → p.left ≡ q.left + (length vs + counts cost vs)
+pub blocks_again : {A : Type 0} (read : Position → Read A) (P : A → List ℕ → Type 0) (cost : A → ℕ) → ReadsAll read P cost → (blocks turns : ℕ) (vs : List A) (spelt : List ℕ) (p q : Position) → blocks < turns → AreBlocks P blocks vs spelt → p.bytes ≡ spelt ++ q.bytes → p.left ≡ q.left + (length vs + counts cost vs)
     → blocks_at read turns p ≡ Ok (vs, q)
 unfolding blocks_at
 blocks_again read P cost all blocks zero vs spelt p q lt is e f = absurd (omega arith)
@@ -123,7 +123,7 @@ blocks_again read P cost all (suc blocks) (suc turns) vs spelt p q lt is e f =
     rw (count, is.9) (block_then_again read (blocks_at read turns) (length here) begun mid q here after is.5 block others)
 
 -- each block takes a byte
-few_blocks : {A : Type 0} (P : A → List ℕ → Type 0) (blocks : ℕ) (vs : List A) (spelt : List ℕ) → AreBlocks P blocks vs spelt → blocks < length spelt
+pub few_blocks : {A : Type 0} (P : A → List ℕ → Type 0) (blocks : ℕ) (vs : List A) (spelt : List ℕ) → AreBlocks P blocks vs spelt → blocks < length spelt
 few_blocks P zero vs spelt is = count_len 0 spelt (inl is.1)
 few_blocks P (suc blocks) vs spelt is =
     omega (arith, count_len (length is.0) is.2 is.6, few_blocks P blocks is.1 is.4 is.8, ap length is.10, length-append is.2 (is.3 ++ is.4), length-append is.3 is.4)

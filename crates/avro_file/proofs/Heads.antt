@@ -95,55 +95,55 @@ enough s sync total (suc t) (suc u) (b ∷ bytes) p q =
 
 -- ---- the steps of a run
 
-entered_1 : (s : Tree) (sync : List ℕ) (total : ℕ) (bytes : List ℕ) (h : BlockHead) → bytes ≢ [] → head_at sync bytes ≡ Ok h
+entered : (s : Tree) (sync : List ℕ) (total : ℕ) (bytes : List ℕ) (h : BlockHead) → bytes ≢ [] → head_at sync bytes ≡ Ok h
     → objects_run s total (blocks_run s sync total (length bytes) bytes) 0 [] ≡ objects_run s total (blocks_run s sync total (length h.rest) h.rest) h.count h.content
 unfolding objects_run blocks_run
-entered_1 s sync total [] h some e = absurd (some refl)
-entered_1 s sync total (b ∷ bytes) h some e =
+entered s sync total [] h some e = absurd (some refl)
+entered s sync total (b ∷ bytes) h some e =
     let less = head_shorter sync (b ∷ bytes) h e in
     rw e (ap (λ (after : Run). objects_run s total after h.count h.content) (enough s sync total (length bytes) (length h.rest) h.rest (omega arith) (omega arith)))
 
 pub enters : (s : Tree) (sync : List ℕ) (total : ℕ) (p : FilePosition) (h : BlockHead) → p.count ≡ 0 → p.block ≡ [] → p.bytes ≢ [] → head_at sync p.bytes ≡ Ok h
     → run_from s sync total p ≡ run_from s sync total (record { count = h.count; block = h.content; bytes = h.rest })
 unfolding run_from
-enters s sync total p h none empty some e = rw (none, empty) (entered_1 s sync total p.bytes h some e)
+enters s sync total p h none empty some e = rw (none, empty) (entered s sync total p.bytes h some e)
 
 pub ends : (s : Tree) (sync : List ℕ) (total : ℕ) (p : FilePosition) → p.count ≡ 0 → p.block ≡ [] → p.bytes ≡ [] → run_from s sync total p ≡ at_end
 unfolding run_from objects_run blocks_run
 ends s sync total p none empty over = rw (none, empty, over) refl
 
-over_2 : (s : Tree) (total : ℕ) (after : Run) (block : List ℕ) → block ≢ [] → objects_run s total after 0 block ≡ stopped BlockSize
+bytes_left : (s : Tree) (total : ℕ) (after : Run) (block : List ℕ) → block ≢ [] → objects_run s total after 0 block ≡ stopped BlockSize
 unfolding objects_run
-over_2 s total after [] some = absurd (some refl)
-over_2 s total after (b ∷ block) some = refl
+bytes_left s total after [] some = absurd (some refl)
+bytes_left s total after (b ∷ block) some = refl
 
 pub left_over : (s : Tree) (sync : List ℕ) (total : ℕ) (p : FilePosition) → p.count ≡ 0 → p.block ≢ [] → run_from s sync total p ≡ stopped BlockSize
 unfolding run_from
-left_over s sync total p none some = rw none (over_2 s total (blocks_run s sync total (length p.bytes) p.bytes) p.block some)
+left_over s sync total p none some = rw none (bytes_left s total (blocks_run s sync total (length p.bytes) p.bytes) p.block some)
 
-stops_3 : (s : Tree) (sync : List ℕ) (total : ℕ) (bytes : List ℕ) (e : Refusal) → bytes ≢ [] → head_at sync bytes ≡ Err e → objects_run s total (blocks_run s sync total (length bytes) bytes) 0 [] ≡ stopped (fault_of total e)
+head_refused : (s : Tree) (sync : List ℕ) (total : ℕ) (bytes : List ℕ) (e : Refusal) → bytes ≢ [] → head_at sync bytes ≡ Err e → objects_run s total (blocks_run s sync total (length bytes) bytes) 0 [] ≡ stopped (fault_of total e)
 unfolding objects_run blocks_run
-stops_3 s sync total [] e some h = absurd (some refl)
-stops_3 s sync total (b ∷ bytes) e some h = rw h refl
+head_refused s sync total [] e some h = absurd (some refl)
+head_refused s sync total (b ∷ bytes) e some h = rw h refl
 
 pub head_stops : (s : Tree) (sync : List ℕ) (total : ℕ) (p : FilePosition) (e : Refusal) → p.count ≡ 0 → p.block ≡ [] → p.bytes ≢ [] → head_at sync p.bytes ≡ Err e → run_from s sync total p ≡ stopped (fault_of total e)
 unfolding run_from
-head_stops s sync total p e none empty some h = rw (none, empty) (stops_3 s sync total p.bytes e some h)
+head_stops s sync total p e none empty some h = rw (none, empty) (head_refused s sync total p.bytes e some h)
 
-stops_4 : (s : Tree) (total : ℕ) (after : Run) (n : ℕ) (block : List ℕ) (e : Refusal) → n ≢ 0 → object_at s block ≡ Err e → objects_run s total after n block ≡ stopped (fault_of total e)
+object_refused : (s : Tree) (total : ℕ) (after : Run) (n : ℕ) (block : List ℕ) (e : Refusal) → n ≢ 0 → object_at s block ≡ Err e → objects_run s total after n block ≡ stopped (fault_of total e)
 unfolding objects_run
-stops_4 s total after zero block e some h = absurd (some refl)
-stops_4 s total after (suc n) block e some h = rw h refl
+object_refused s total after zero block e some h = absurd (some refl)
+object_refused s total after (suc n) block e some h = rw h refl
 
 pub object_stops : (s : Tree) (sync : List ℕ) (total : ℕ) (p : FilePosition) (e : Refusal) → p.count ≢ 0 → object_at s p.block ≡ Err e → run_from s sync total p ≡ stopped (fault_of total e)
 unfolding run_from
-object_stops s sync total p e some h = stops_4 s total (blocks_run s sync total (length p.bytes) p.bytes) p.count p.block e some h
+object_stops s sync total p e some h = object_refused s total (blocks_run s sync total (length p.bytes) p.bytes) p.count p.block e some h
 
-comes_5 : (s : Tree) (total : ℕ) (after : Run) (n : ℕ) (block : List ℕ) (v : Value) (rest : List ℕ) → n ≢ 0 → object_at s block ≡ Ok (v, rest) → objects_run s total after n block ≡ preceded v (objects_run s total after (n - 1) rest)
+object_first : (s : Tree) (total : ℕ) (after : Run) (n : ℕ) (block : List ℕ) (v : Value) (rest : List ℕ) → n ≢ 0 → object_at s block ≡ Ok (v, rest) → objects_run s total after n block ≡ preceded v (objects_run s total after (n - 1) rest)
 unfolding objects_run
-comes_5 s total after zero block v rest some e = absurd (some refl)
-comes_5 s total after (suc n) block v rest some e = rw (e, sub-one) refl
+object_first s total after zero block v rest some e = absurd (some refl)
+object_first s total after (suc n) block v rest some e = rw (e, sub-one) refl
 
 pub object_comes : (s : Tree) (sync : List ℕ) (total : ℕ) (p : FilePosition) (v : Value) (rest : List ℕ) → p.count ≢ 0 → object_at s p.block ≡ Ok (v, rest) → run_from s sync total p ≡ preceded v (run_from s sync total (record { count = p.count - 1; block = rest; bytes = p.bytes }))
 unfolding run_from
-object_comes s sync total p v rest some e = comes_5 s total (blocks_run s sync total (length p.bytes) p.bytes) p.count p.block v rest some e
+object_comes s sync total p v rest some e = object_first s total (blocks_run s sync total (length p.bytes) p.bytes) p.count p.block v rest some e

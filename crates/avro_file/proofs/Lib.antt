@@ -7,3 +7,7 @@ pub mod Loop
 pub mod Again
 pub mod Heads
 pub mod Properties
+pub mod Held
+pub mod Metadata
+pub mod Opened
+pub mod Unlimited

@@ -1,4 +1,5 @@
 -- What a reader of objects will give.
+-- Avro 1.11.1 specification, 'Object Container Files': a file is a header and blocks of objects up to its end.
 use Rattle.std.specs.Prelude.{List, Option}
 use Rattle.avro_file.specs.declared.fault.AvroFault.{AvroFault}
 use Rattle.avro_file.specs.Value.{Value}

@@ -51,6 +51,10 @@ pub record Opened : Type 0 where
 abbrev pub opened : Container → Opened
 opened c = record { schema = tree_of c; ahead = ahead c }
 
+-- a reader that will give these data, up to the end of the file
+abbrev pub reader_of : Tree → List Value → Opened
+reader_of s vs = record { schema = s; ahead = running vs None }
+
 -- ---- what opening a file gives
 
 unfoldable pub begun_at : List ℕ → Result FileHeader AvroFault

@@ -1,4 +1,5 @@
 -- Which data a file's blocks hold.
+-- Avro 1.11.1 specification, 'Object Container Files': file data blocks.
 use Rattle.std.specs.Prelude.{◌≡◌, ℕ, zero, suc, ◌≤◌, pos, List, [], ◌++◌, length}
 use Rattle.std.specs.List.{AllByRecursion}
 use Rattle.avro_file.specs.Number.{IsLong}

@@ -1,4 +1,5 @@
 -- Zigzag numbers in groups of seven bits, lowest first.
+-- Avro 1.11.1 specification, 'Binary Encoding', 'Primitive Types': int and long are variable-length zig-zag.
 use Rattle.std.specs.Prelude.{◌≡◌, ℕ, zero, suc, ◌+◌, ◌-◌, ◌*◌, ◌/◌, ◌%◌, ◌^◌, ◌<◌, ◌≤◌, ℤ, pos, negsuc, List, [], ◌∷◌, length, Result, Ok, Err, nat_lt, ◌==◌, if◌then◌else◌, ◌⊎◌}
 use Rattle.avro_file.specs.declared.refusal.Refusal.{Refusal}
 use Rattle.avro_file.specs.declared.refusal.Refusal.TheVariants.{Short, BadNumber}

@@ -1,4 +1,6 @@
 -- Reading values from left to right, with the first fault that is met.
+-- Avro 1.11.1 specification, 'Binary Encoding', 'Primitive Types' and 'Complex Types' (records, enums, arrays, maps,
+-- unions, fixed).
 use Rattle.std.specs.Prelude.{◌≡◌, ℕ, zero, suc, ◌-◌, ℤ, pos, negsuc, List, [], ◌∷◌, ◌++◌, length, take, drop, Bool, true, false, Result, Ok, Err, nat_lt, if◌then◌else◌}
 use Rattle.std.specs.Str.{is_utf8}
 use Rattle.avro_file.specs.declared.refusal.Refusal.{Refusal}
@@ -17,6 +19,7 @@ pub record Position : Type 0 where
 abbrev pub Read : Type 0 → Type 0
 Read A = Result (A × Position) Refusal
 
+-- a value that holds no others, and as many items left as before
 abbrev pub leaf : {A : Type 0} → (A → Value) → ℕ → Result (A × List ℕ) Refusal → Read Value
 leaf make left read = read >>= λ x. Ok (make x.0, record { bytes = x.1; left = left })
 
@@ -96,11 +99,30 @@ blocks_at read (suc turns) p = do
   n ← count_at p
   block_then read (blocks_at read turns) n.0 n.1
 
+-- the branch at a position
 abbrev pub chosen_by : (ℕ → Position → Read Value) → ℤ → Position → Read Value
 chosen_by read (pos n) p = do
   x ← read n p
   Ok (chosen n x.0, x.1)
 chosen_by read (negsuc n) p = Err BadUnion
+
+-- schemas whose values are a number, a truth value or nothing
+abbrev pub IsScalar : Tree → Type 0
+IsScalar null = Unit {0}
+IsScalar boolean = Unit {0}
+IsScalar int = Unit {0}
+IsScalar long = Unit {0}
+IsScalar (symbols n) = Unit {0}
+IsScalar s = ⊥
+
+-- schemas whose values are single runs of bytes
+abbrev pub IsRunOfBytes : Tree → Type 0
+IsRunOfBytes float = Unit {0}
+IsRunOfBytes double = Unit {0}
+IsRunOfBytes (octets kind) = Unit {0}
+IsRunOfBytes string = Unit {0}
+IsRunOfBytes (fixed n kind) = Unit {0}
+IsRunOfBytes s = ⊥
 
 -- a key, and a value
 unfoldable pub entry_at : (Position → Read Value) → Position → Read Pair

@@ -1,4 +1,5 @@
 -- Values, without where they lie in memory.
+-- Avro 1.11.1 specification, 'Primitive Types' and 'Complex Types': one constructor for each of their values.
 use Rattle.std.specs.Prelude.{ℕ, ℤ, Bool, List, [], ◌∷◌}
 
 mutual

@@ -1,4 +1,5 @@
 -- The value that a `Datum` is.
+-- Avro 1.11.1 specification, 'Primitive Types' and 'Complex Types'.
 use Rattle.std.specs.Prelude.{ℕ, ℤ, List, [], ◌∷◌, map, String, string_bytes}
 use Rattle.std.specs.declared.alloc.Global.{Global}
 use Rattle.avro_file.specs.declared.datum.Datum.{Datum, fold-Datum}

@@ -1,4 +1,5 @@
--- What the reader's own types show: a block's head, a header, and where it stands.
+-- What the file reader's own types show: a block's head, a header, and where it stands.
+-- Avro 1.11.1 specification, 'Object Container Files'.
 use Rattle.std.specs.Prelude.{ℕ, List, Option, Some, None}
 use denote.Ref.{Bor}
 use Rattle.avro_file.specs.declared.blocks.Head.{Head}

@@ -17,6 +17,7 @@ use avro_schema::{Schema, SchemaFault};
 use std::alloc::Global;
 
 const MAGIC: &[u8] = b"Obj\x01";
+
 const NO_CODEC: &[u8] = b"null";
 
 /// The header of a file.
@@ -95,15 +96,30 @@ pub struct Container<'a> {
 }
 
 impl<'a> Container<'a> {
-    ghost use Rattle.avro_file.specs.Files.{ahead, tree_of, Next, shown, opened, opened_at};
+    ghost use Rattle.avro_schema.specs.Tree.{Tree};
+    ghost use Rattle.avro_file.specs.Value.{Value};
+    ghost use Rattle.avro_file.specs.Ahead.{running};
+    ghost use Rattle.avro_file.specs.Holding.{AreWithinLimits};
+    ghost use Rattle.avro_file.specs.Files.{ahead, tree_of, Next, shown, opened, opened_at, reader_of, HoldsFile};
 
     /// A reader of the file's objects.
     ///
     /// `NotAvro` comes where the file does not begin as a container does, and where its whole header names no
     /// schema; the faults of the header come in the order of its bytes, then `Codec`, then `Schema`.
-    #[tactic(auto, unfolding(crate::specs::Files::opened_at))]
     pub fn open(alloc: Global, bytes: &'a [u8]) -> Result<Container<'a>, AvroFault>
+        // Data that the file holds are what the reader will give.
+        ensures held { (s : Tree) (vs : List Value) → HoldsFile s vs bytes.now → AreWithinLimits vs → Gives AvroFault.Memory opened result (Ok (reader_of s vs)) }
+        // What it will give up to the file's end is what the file holds.
+        ensures only { IfOk result (λ c. (vs : List Value) → ahead c ≡ running vs None → HoldsFile (tree_of c) vs bytes.now × AreWithinLimits vs) }
+        // What it will give in any case, and which fault it is.
         ensures exact { Gives AvroFault.Memory opened result (opened_at bytes.now) }
+    {
+        Container::read_header(alloc, bytes)
+    }
+
+    #[tactic(auto, unfolding(crate::specs::Files::opened_at))]
+    fn read_header(alloc: Global, bytes: &'a [u8]) -> Result<Container<'a>, AvroFault>
+        ensures { Gives AvroFault.Memory opened result (opened_at bytes.now) }
     {
         let header = begin(bytes)?;
         let Some(text) = header.wanted.schema else {
@@ -139,7 +155,7 @@ impl<'a> Container<'a> {
         if let Some(refusal) = self.refused {
             return Err(refusal.fault(self.total));
         }
-        match step(alloc, &self.schema, self.sync, self.spot) {
+        match step(alloc, self.schema(), self.sync, self.spot) {
             Ok(None) => Ok(None),
             Ok(Some((datum, spot))) => {
                 self.spot = spot;

@@ -1,11 +1,11 @@
 //! Values of every schema.
 
-ghost use Rattle.std.specs.Prelude.{◌≡◌, ◌≤◌, suc, List, length, Ok, IfOk, map, MatchOption, pos, ◌<ℤ◌};
+ghost use Rattle.std.specs.Prelude.{◌≡◌, ◌≤◌, ℕ, suc, List, length, Ok, IfOk, map, MatchOption, pos, ◌<ℤ◌};
 ghost use Rattle.avro_schema.specs.Outcome.{Gives};
 ghost use Rattle.avro_schema.specs.View.{tree, trees, parts, fields_of, branches_of};
 ghost use Rattle.avro_file.specs.View.{view, views, entry_views};
 ghost use Rattle.avro_file.specs.Place.{position_of};
-ghost use Rattle.avro_file.specs.Reading.{count_at, with_front, values_at, blocks_at, entry_at, datum_at, fields_at, branch_at, chosen_by};
+ghost use Rattle.avro_file.specs.Reading.{IsScalar, IsRunOfBytes, count_at, with_front, values_at, blocks_at, entry_at, datum_at, fields_at, branch_at, chosen_by};
 
 use crate::datum::Datum;
 use crate::leaf::{boolean_of, bytes_of, run_of_len, symbol_of, text_of};
@@ -33,6 +33,69 @@ pub fn count_of(place: Place<'_>) -> Result<(u64, Place<'_>), Refusal>
     Ok((items, Place { bytes: rest, left }))
 }
 
+/// The value at the front of the bytes, which is a number, a truth value or nothing.
+#[tactic(auto, unfolding(crate::specs::Reading::datum_at))]
+fn scalar_datum_of<'a>(schema: &Schema, bytes: &'a [u8]) -> Result<(Datum, &'a [u8]), Refusal>
+    requires { IsScalar (tree schema.now) }
+    ensures { (left : ℕ) → Gives Refusal.Memory (λ x. (view x.0, record { bytes = x.1.now; left = left })) result (datum_at (tree schema.now) (record { bytes = bytes.now; left = left })) }
+{
+    match schema {
+        Schema::Null => Ok((Datum::Null, bytes)),
+        Schema::Boolean => {
+            let (truth, rest) = boolean_of(bytes)?;
+            Ok((Datum::Boolean(truth), rest))
+        }
+        Schema::Int => {
+            let (number, rest) = int_of(bytes)?;
+            Ok((Datum::Int(number), rest))
+        }
+        Schema::Long => {
+            let (number, rest) = long_of(bytes)?;
+            Ok((Datum::Long(number), rest))
+        }
+        Schema::Enum(count) => {
+            let (position, rest) = symbol_of(*count, bytes)?;
+            Ok((Datum::Enum(position), rest))
+        }
+        _ => unreachable!(),
+    }
+}
+
+/// The value at the front of the bytes, which is a run of bytes.
+#[tactic(auto, unfolding(crate::specs::Reading::datum_at))]
+fn run_datum_of<'a>(
+    alloc: Global,
+    schema: &Schema,
+    bytes: &'a [u8],
+) -> Result<(Datum, &'a [u8]), Refusal>
+    requires { IsRunOfBytes (tree schema.now) }
+    ensures { (left : ℕ) → Gives Refusal.Memory (λ x. (view x.0, record { bytes = x.1.now; left = left })) result (datum_at (tree schema.now) (record { bytes = bytes.now; left = left })) }
+{
+    match schema {
+        Schema::Float => {
+            let (run, rest) = run_of_len(4, bytes)?;
+            Ok((Datum::Float(Vec::from_slice(alloc, run)?), rest))
+        }
+        Schema::Double => {
+            let (run, rest) = run_of_len(8, bytes)?;
+            Ok((Datum::Double(Vec::from_slice(alloc, run)?), rest))
+        }
+        Schema::Bytes(_) => {
+            let (run, rest) = bytes_of(bytes)?;
+            Ok((Datum::Bytes(Vec::from_slice(alloc, run)?), rest))
+        }
+        Schema::String => {
+            let (text, rest) = text_of(bytes)?;
+            Ok((Datum::String(String::from_str(alloc, text)?), rest))
+        }
+        Schema::Fixed(len, _) => {
+            let (run, rest) = run_of_len(u64::from(*len), bytes)?;
+            Ok((Datum::Fixed(Vec::from_slice(alloc, run)?), rest))
+        }
+        _ => unreachable!(),
+    }
+}
+
 /// The value at the front of the bytes.
 #[cycle(datum)]
 #[tactic(auto, unfolding(crate::specs::Reading::datum_at))]
@@ -45,58 +108,15 @@ pub fn datum_of<'a>(
 {
     let left = place.left;
     match schema {
-        Schema::Null => Ok((Datum::Null, place)),
-        Schema::Boolean => {
-            let (truth, bytes) = boolean_of(place.bytes)?;
-            Ok((Datum::Boolean(truth), Place { bytes, left }))
+        Schema::Null | Schema::Boolean | Schema::Int | Schema::Long | Schema::Enum(_) => {
+            let (datum, bytes) = scalar_datum_of(schema, place.bytes)?;
+            Ok((datum, Place { bytes, left }))
         }
-        Schema::Int => {
-            let (number, bytes) = int_of(place.bytes)?;
-            Ok((Datum::Int(number), Place { bytes, left }))
-        }
-        Schema::Float => {
-            let (run, bytes) = run_of_len(4, place.bytes)?;
-            Ok((
-                Datum::Float(Vec::from_slice(alloc, run)?),
-                Place { bytes, left },
-            ))
-        }
-        Schema::Double => {
-            let (run, bytes) = run_of_len(8, place.bytes)?;
-            Ok((
-                Datum::Double(Vec::from_slice(alloc, run)?),
-                Place { bytes, left },
-            ))
-        }
-        Schema::Enum(count) => {
-            let (position, bytes) = symbol_of(*count, place.bytes)?;
-            Ok((Datum::Enum(position), Place { bytes, left }))
-        }
-        Schema::Long => {
-            let (number, bytes) = long_of(place.bytes)?;
-            Ok((Datum::Long(number), Place { bytes, left }))
-        }
-        Schema::Bytes(_) => {
-            let (run, bytes) = bytes_of(place.bytes)?;
-            Ok((
-                Datum::Bytes(Vec::from_slice(alloc, run)?),
-                Place { bytes, left },
-            ))
-        }
-        Schema::String => {
-            let (text, bytes) = text_of(place.bytes)?;
-            Ok((
-                Datum::String(String::from_str(alloc, text)?),
-                Place { bytes, left },
-            ))
-        }
-        Schema::Fixed(len, _) => {
-            let (run, bytes) = run_of_len(u64::from(*len), place.bytes)?;
-            Ok((
-                Datum::Fixed(Vec::from_slice(alloc, run)?),
-                Place { bytes, left },
-            ))
-        }
+        Schema::Float | Schema::Double | Schema::Bytes(_) | Schema::String | Schema::Fixed(_, _) =>
+            {
+                let (datum, bytes) = run_datum_of(alloc, schema, place.bytes)?;
+                Ok((datum, Place { bytes, left }))
+            }
         Schema::Record(fields) => {
             let (values, place) = record_of(alloc, fields, place)?;
             Ok((Datum::Record(values), place))
@@ -156,7 +176,7 @@ fn record_of<'a>(
 ) -> Result<(Vec<Datum>, Place<'a>), Refusal>
     ensures { Gives Refusal.Memory (λ x. (views x.0.items, position_of x.1)) result (fields_at (fields_of (parts fields.now)) (position_of place.entry)) }
 {
-    let mut values = Vec::new(alloc);
+    let mut values = Vec::with_capacity(alloc, fields.len())?;
     let mut here = place;
     'fields: for field in fields {
         let (value, after) = datum_of(alloc, &field.schema, here)?;

@@ -13,6 +13,7 @@ use crate::place::Place;
 use crate::refusal::Refusal;
 
 const SCHEMA: &[u8] = b"avro.schema";
+
 const CODEC: &[u8] = b"avro.codec";
 
 /// The metadata that a reader needs.

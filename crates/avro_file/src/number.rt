@@ -2,42 +2,40 @@
 
 ghost use Rattle.std.specs.Prelude.{◌≡◌, ◌^◌, ◌<◌, List, length, Ok};
 ghost use Rattle.avro_schema.specs.Outcome.{Gives};
-ghost use Rattle.avro_file.specs.Number.{from_start, groups_at, number_at, long_at, int_at, signed_of};
+ghost use Rattle.avro_file.specs.Number.{number_at, long_at, int_at, signed_of};
 
 use crate::refusal::Refusal;
 
-/// The groups of a number, at most ten of them, and the bytes after it.
-fn groups(bytes: &[u8]) -> Result<(u128, &[u8]), Refusal>
-    ensures { Gives Refusal.Memory (λ x. (x.0, x.1.now)) result (from_start bytes.now (groups_at 10 bytes.now)) }
+/// What the tenth group counts.
+const LAST_PLACE: u64 = 1 << 63;
+
+/// An unsigned number of 64 bits, in at most ten groups, and the bytes after it.
+fn unsigned_of(bytes: &[u8]) -> Result<(u64, &[u8]), Refusal>
+    ensures { Gives Refusal.Memory (λ x. (x.0, x.1.now)) result (number_at (2 ^ 64) bytes.now) }
 {
-    let mut value: u128 = 0;
-    let mut place: u128 = 1;
+    let mut value: u64 = 0;
+    let mut place: u64 = 1;
     let mut rest = bytes;
-    for _ in 0..10u32 {
+    'groups: for _ in 0..9u32 {
         let Some((first, after)) = rest.split_first() else {
             return Err(Refusal::Short(bytes.len()));
         };
         let group = *first;
         if group < 128 {
-            return Ok((value + place * u128::from(group), after));
+            return Ok((value + place * u64::from(group), after));
         }
-        value += place * u128::from(group - 128);
+        value += place * u64::from(group - 128);
         place *= 128;
         rest = after;
     }
-    Err(Refusal::BadNumber)
-}
-
-/// An unsigned number of 64 bits.
-#[tactic(auto, unfolding(crate::specs::Number::number_at))]
-fn unsigned_of(bytes: &[u8]) -> Result<(u64, &[u8]), Refusal>
-    ensures { Gives Refusal.Memory (λ x. (x.0, x.1.now)) result (number_at (2 ^ 64) bytes.now) }
-{
-    let (value, rest) = groups(bytes)?;
-    if value > u128::from(u64::MAX) {
+    let Some((last, after)) = rest.split_first() else {
+        return Err(Refusal::Short(bytes.len()));
+    };
+    // nine groups are 63 bits: one bit is left
+    if *last > 1 {
         return Err(Refusal::BadNumber);
     }
-    Ok((value as u64, rest))
+    Ok((value + LAST_PLACE * u64::from(*last), after))
 }
 
 fn signed(value: u64) -> i64
@@ -48,12 +46,11 @@ fn signed(value: u64) -> i64
 }
 
 /// An unsigned number of 32 bits.
-#[tactic(auto, unfolding(crate::specs::Number::number_at))]
 fn unsigned_32_of(bytes: &[u8]) -> Result<(u32, &[u8]), Refusal>
     ensures { Gives Refusal.Memory (λ x. (x.0, x.1.now)) result (number_at (2 ^ 32) bytes.now) }
 {
-    let (value, rest) = groups(bytes)?;
-    if value > u128::from(u32::MAX) {
+    let (value, rest) = unsigned_of(bytes)?;
+    if value > u64::from(u32::MAX) {
         return Err(Refusal::BadNumber);
     }
     Ok((value as u32, rest))

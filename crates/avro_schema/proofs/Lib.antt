@@ -5,3 +5,7 @@ pub mod Keys
 pub mod Binds
 pub mod Limits
 pub mod Shapes
+pub mod Kept
+pub mod Recursion
+pub mod Closed
+pub mod Accepted

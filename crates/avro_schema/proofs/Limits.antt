@@ -1,23 +1,22 @@
 -- How many nodes and levels an accepted tree has.
-use Rattle.std.proofs.Common.{◌≡◌, ℕ, zero, suc, ◌+◌, ◌-◌, ◌≤◌, ◌<◌, Bool, true, false, List, [], ◌∷◌, ◌++◌, Option, Some, None, Result, Ok, Err, refl, sym, ap, ◌∙◌, arith, rules}
-use Rattle.std.proofs.lemmas.Result.{IfOk-weaker, IfOk-at_ok}
+use Rattle.std.proofs.Common.{◌≡◌, ℕ, zero, suc, ◌+◌, ◌≤◌, ◌<◌, Bool, true, false, List, [], ◌∷◌, ◌++◌, Option, Some, None, refl, arith}
+use Rattle.std.proofs.lemmas.Result.{IfOk-weaker}
 use Rattle.std.proofs.lemmas.Bool.{ltb-true, ltb-false}
-use Rattle.std.specs.Prelude.{IfOk, ⊤, max, nat_lt, codes, ℤ, if◌then◌else◌}
+use Rattle.std.specs.Prelude.{IfOk, ⊤, nat_lt, codes, if◌then◌else◌}
 use Rattle.std.specs.Str.{bytes_eq}
 use Rattle.serde_json.specs.Data as json
 use Rattle.serde_json.specs.Data.{Data, Items}
 use Rattle.serde_json.specs.Find.{get}
-use Rattle.avro_schema.specs.declared.fault.SchemaFault.{SchemaFault}
 use Rattle.avro_schema.specs.declared.reading.Place.{Place}
 use Rattle.avro_schema.specs.declared.reading.Place.TheVariants as place
 use Rattle.avro_schema.specs.declared.attributes.Kind.{Kind}
 use Rattle.avro_schema.specs.declared.attributes.Kind.TheVariants as kind
-use Rattle.avro_schema.specs.Tree.{Tree, Fields, Branches}
+use Rattle.avro_schema.specs.Tree.{Tree}
 use Rattle.avro_schema.specs.Size.{below, in_fields, in_branches, height, deepest_field, deepest_branch, nodes, depth, less}
 use Rattle.avro_schema.specs.View.{Part, fields_of, branches_of}
-use Rattle.avro_schema.specs.Names.{Entry, lookup, full, space_of}
+use Rattle.avro_schema.specs.Names.{lookup, full, space_of}
 use Rattle.avro_schema.specs.Attributes.{name_in, id_in, items_in, is_object, symbols_in, size_in, plain, text_in, kind_of}
-use Rattle.avro_schema.specs.Reading.{Seen, Read, Reader, asked, fresh, if_left, repeated, used, plain_or_used, named, if_new, defined, defines, each_at, branches_at, whatever_before, field_at, fields_at, record_at, array_at, map_at, enum_at, fixed_at, of_kind, object_at, of_word, text_at, union_at, node_at, counted, tree_at}
+use Rattle.avro_schema.specs.Reading.{Seen, Read, Reader, asked, fresh, if_left, used, plain_or_used, named, if_new, defined, defines, each_at, branches_at, field_at, fields_at, record_at, array_at, map_at, enum_at, fixed_at, of_kind, object_at, of_word, text_at, union_at, node_at, counted, tree_at}
 use Rattle.avro_schema.proofs.Binds.{bind_if, bind_any}
 use Rattle.avro_schema.specs.Texts.{json_of, schema_of, most_nodes, most_levels}
 
@@ -45,10 +44,10 @@ defined_left : (name : List ℕ) (x : Option Tree) (s : Seen) → IfOk (defined 
 unfolding defined
 defined_left name x s = if_new_left (lookup name s.names) _
 
-abbrev Leaf : Tree → Type 0
+abbrev pub Leaf : Tree → Type 0
 Leaf t = (below t ≡ 0) × (height t ≡ 0)
 
-abbrev IfLeaf : Option Tree → Type 0
+abbrev pub IfLeaf : Option Tree → Type 0
 IfLeaf None = ⊤
 IfLeaf (Some t) = Leaf t
 
@@ -56,7 +55,7 @@ if_leaf : (b : Bool) (t : Tree) (rest : Option Tree) → Leaf t → IfLeaf rest 
 if_leaf true t rest h k = h
 if_leaf false t rest h k = k
 
-plain_leaf : (s : List ℕ) → IfLeaf (plain s)
+pub plain_leaf : (s : List ℕ) → IfLeaf (plain s)
 unfolding below height
 plain_leaf s =
     if_leaf (bytes_eq s (codes "null")) _ _ (refl, refl) (
@@ -147,8 +146,8 @@ record_below n read h space d s =
     bind_any _ (asked (name_in d)) _ (λ name. bind_any _ (asked (items_in is_object (codes "fields") d)) _ (λ items.
     bind_if (λ q. q.left ≡ s.left) _ (defined (defines space name d) None s) _ (defined_left _ _ _) (λ opened e.
     bind_if (FieldsBelow n s.left) _ (fields_at (read place.Elsewhere (space_of (defines space name d))) [] items opened) _
-        (fields_below n s.left (read place.Elsewhere (space_of (defines space name d))) (h place.Elsewhere (space_of (defines space name d))) [] items opened (omega (arith, e), omega arith))
-        (λ x p. p))))
+    (fields_below n s.left (read place.Elsewhere (space_of (defines space name d))) (h place.Elsewhere (space_of (defines space name d))) [] items opened (omega (arith, e), omega arith))
+    (λ x p. p))))
 
 array_below : (n : ℕ) (read : Reader) → AlwaysWithin n read → (space : List ℕ) (d : Data) (s : Seen) → IfOk (array_at read space d s) (Below n s.left)
 unfolding array_at below height

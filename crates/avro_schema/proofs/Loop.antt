@@ -1,20 +1,19 @@
 -- Reading items one after the other, as the loops do.
-use Rattle.std.proofs.Common.{◌≡◌, ◌≢◌, ℕ, zero, suc, ◌+◌, ◌≤◌, ◌<◌, ◌-◌, Bool, true, nat_lt, List, [], ◌∷◌, ◌++◌, length, get_or, drop, Result, Ok, Err, refl, sym, ap, ◌∙◌, add-one, drop-cons, arith, rules}
+use Rattle.std.proofs.Common.{◌≡◌, ◌≢◌, ℕ, zero, suc, ◌+◌, ◌≤◌, ◌<◌, ◌-◌, true, nat_lt, List, [], ◌∷◌, ◌++◌, length, get_or, drop, Ok, Err, refl, sym, ◌∙◌, add-one, drop-cons, arith, rules}
 use Rattle.std.proofs.Math.ListN.{drop_of_length-le}
 use Rattle.serde_json.specs.declared.value.Value.{Value}
-use Rattle.serde_json.specs.Data.{Data, Items}
+use Rattle.serde_json.specs.Data.{Data}
 use Rattle.serde_json.specs.View.{view, items_view}
 use Rattle.avro_schema.specs.declared.fault.SchemaFault.{SchemaFault}
 use Rattle.avro_schema.specs.declared.fault.SchemaFault.TheVariants.{TooBig, Memory}
-use Rattle.avro_schema.specs.declared.schema.Schema.{Schema, Record, the_lemmas}
+use Rattle.avro_schema.specs.declared.schema.Schema.{Record, the_lemmas}
 use Rattle.avro_schema.specs.declared.schema.Field.{Field}
 use Rattle.std.specs.Prelude.{Vec}
 use Rattle.std.specs.declared.alloc.Global.{Global}
 use Rattle.avro_schema.specs.declared.reading.Place.{Place}
-use Rattle.avro_schema.specs.Outcome.{◌>>=◌}
-use Rattle.avro_schema.specs.Tree.{Tree, structure}
+use Rattle.avro_schema.specs.Tree.{structure}
 use Rattle.avro_schema.specs.View.{tree, parts, fields_of}
-use Rattle.avro_schema.specs.Reading.{Seen, Read, Reader, each_at, node_at, counted, tree_at}
+use Rattle.avro_schema.specs.Reading.{Seen, Read, each_at, node_at, tree_at}
 
 pub each_on : {A : Type 0} (read : List A → Data → Seen → Read A) (front : List A) (vs : List Value) (i : ℕ) (v : Value) (s : Seen) (x : A) (q : Seen) (total : Read (List A)) → i < length vs → v ≡ get_or vs i v → read front (view v) s ≡ Ok (x, q)
     → each_at read front (items_view (drop i vs)) s ≡ total → each_at read (front ++ x ∷ []) (items_view (drop (i + 1) vs)) q ≡ total

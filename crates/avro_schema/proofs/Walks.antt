@@ -1,5 +1,5 @@
 -- The loops over bytes, fields and branches.
-use Rattle.std.proofs.Common.{◌≡◌, ◌≢◌, ℕ, zero, suc, ◌+◌, ◌-◌, ◌≤◌, ◌<◌, Bool, true, false, ◌||◌, ◌&&◌, ◌==◌, nat_eq, List, [], ◌∷◌, ◌++◌, length, get_or, drop, take, Option, Some, None, option_and_then, refl, sym, ap, ◌∙◌, add-one, drop-cons, arith, rules}
+use Rattle.std.proofs.Common.{◌≡◌, ℕ, zero, suc, ◌+◌, ◌-◌, ◌≤◌, ◌<◌, Bool, true, false, ◌||◌, ◌&&◌, ◌==◌, List, [], ◌∷◌, length, get_or, drop, take, Option, Some, None, option_and_then, refl, sym, ap, ◌∙◌, add-one, drop-cons, arith}
 use Rattle.std.proofs.Math.ListN.{drop_of_length-le}
 use Rattle.std.proofs.lemmas.Bool.{lt-ltb, le-ltb, ltb-true, ltb-false}
 use Rattle.std.specs.Prelude.{max, nat_lt}
@@ -17,7 +17,6 @@ use Rattle.avro_schema.specs.declared.schema.Schema.{Schema}
 use Rattle.avro_schema.specs.declared.schema.Field.{Field}
 use Rattle.avro_schema.specs.Attributes.{all_items}
 use Rattle.avro_schema.specs.Names.{dotted, space_of}
-use Rattle.avro_schema.specs.Tree.{Tree}
 use Rattle.avro_schema.specs.Size.{less, below, in_fields, in_branches, height, deepest_field, deepest_branch}
 use Rattle.avro_schema.specs.View.{tree, trees, parts, fields_of, branches_of}
 

@@ -1,5 +1,6 @@
--- What an object's attributes say.
-use Rattle.std.specs.Prelude.{ℕ, suc, ℤ, pos, negsuc, ◌^◌, List, [], ◌∷◌, Bool, true, false, Option, Some, None, option_and_then, option_map, if◌then◌else◌, ◌&&◌, codes, nat_lt}
+-- What an object's attributes say. Avro 1.11.1, "Schema Declaration"; field-id, element-id and the logical type map of
+-- an array by the Iceberg table spec, Appendix A, "Avro". Sizes are 0 to 2^31 - 1, and ids are 32-bit whole numbers.
+use Rattle.std.specs.Prelude.{ℕ, ℤ, pos, negsuc, ◌^◌, List, [], ◌∷◌, Bool, true, false, Option, Some, None, option_and_then, option_map, if◌then◌else◌, ◌&&◌, codes, nat_lt}
 use Rattle.std.specs.Str.{bytes_eq}
 use Rattle.serde_json.specs.Data as json
 use Rattle.serde_json.specs.Data.{Data, Items}
@@ -14,6 +15,7 @@ use Rattle.avro_schema.specs.declared.schema.BytesKind.TheVariants as of_bytes
 use Rattle.avro_schema.specs.declared.attributes.Kind.{Kind}
 use Rattle.avro_schema.specs.declared.attributes.Kind.TheVariants as kind
 
+-- the text at a key
 abbrev pub text_in : List ℕ → Data → Option (List ℕ)
 text_in key d = option_and_then as_str (get key d)
 
@@ -21,6 +23,7 @@ abbrev pub not_empty : List ℕ → Option (List ℕ)
 not_empty [] = None
 not_empty (x ∷ s) = Some (x ∷ s)
 
+-- the name that an object gives, unless it is empty
 abbrev pub name_in : Data → Option (List ℕ)
 name_in d = option_and_then not_empty (text_in (codes "name") d)
 
@@ -54,10 +57,11 @@ array_kind d = if is_logical (codes "map") d then of_array.Map else of_array.Lis
 abbrev pub bytes_kind : Data → BytesKind
 bytes_kind d = if is_logical (codes "decimal") d then of_bytes.Decimal else of_bytes.Plain
 
--- how many symbols an enum has
+-- how many symbols an enum has, where they are an array of texts
 abbrev pub symbols_in : Data → Option ℕ
 symbols_in d = option_map items_len (items_in is_text (codes "symbols") d)
 
+-- the whole number at a key
 abbrev pub number_in : List ℕ → Data → Option ℤ
 number_in key d = option_and_then as_i64 (option_and_then as_number (get key d))
 
@@ -65,6 +69,7 @@ abbrev pub id_of : ℤ → Option ℤ
 id_of (pos n) = if nat_lt n (2 ^ 31) then Some (pos n) else None
 id_of (negsuc n) = if nat_lt n (2 ^ 31) then Some (negsuc n) else None
 
+-- the id at a key; any other value there is none
 abbrev pub id_in : List ℕ → Data → Option ℤ
 id_in key d = option_and_then id_of (number_in key d)
 
@@ -72,6 +77,7 @@ abbrev pub size_of : ℤ → Option ℕ
 size_of (pos n) = if nat_lt n (2 ^ 31) then Some n else None
 size_of (negsuc n) = None
 
+-- the size of a fixed
 abbrev pub size_in : Data → Option ℕ
 size_in d = option_and_then size_of (number_in (codes "size") d)
 

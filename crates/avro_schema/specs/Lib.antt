@@ -8,3 +8,4 @@ pub mod Reading
 pub mod Shape
 pub mod Met
 pub mod Texts
+pub mod Inside

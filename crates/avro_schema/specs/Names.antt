@@ -1,9 +1,10 @@
--- Full names, and the names that were met.
-use Rattle.std.specs.Prelude.{ℕ, List, [], ◌∷◌, ◌++◌, Bool, true, false, ◌||◌, ◌==◌, Option, Some, None, if◌then◌else◌}
+-- Full names, and the names that were met. Avro 1.11.1, "Names": a name with a dot is full, any other is in a namespace.
+use Rattle.std.specs.Prelude.{ℕ, List, [], ◌∷◌, ◌++◌, Bool, false, ◌||◌, ◌==◌, Option, Some, None, if◌then◌else◌}
 use Rattle.std.specs.Ordering.{nat_cmp, match_ordering}
 use Rattle.std.specs.Cmp.Lexicographic.{slice_cmp}
 use Rattle.avro_schema.specs.Tree.{Tree}
 
+-- whether a dot (46) is in the text
 unfoldable pub dotted : List ℕ → Bool
 dotted [] = false
 dotted (x ∷ s) = x == 46 || dotted s
@@ -27,10 +28,11 @@ abbrev pub or_around : Option (List ℕ) → List ℕ → List ℕ
 or_around None space = space
 or_around (Some s) space = s
 
--- a name, with its tree once its definition is whole
+-- a full name, with its tree once its definition is whole
 abbrev pub Entry : Type 0
 Entry = List ℕ × Option Tree
 
+-- what is known of a name
 abbrev pub lookup : List ℕ → List Entry → Option (Option Tree)
 lookup name [] = None
 lookup name (e ∷ es) = match_ordering (slice_cmp nat_cmp name e.0) (lookup name es) (Some e.1) (lookup name es)

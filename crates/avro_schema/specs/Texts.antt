@@ -1,5 +1,6 @@
--- The tree that a schema's text names, or its first fault.
-use Rattle.std.specs.Prelude.{◌≡◌, ℕ, List, [], Option, Some, None, Result, Ok, Err, if◌then◌else◌, true, false}
+-- The tree that a schema's text names, or its first fault. Avro 1.11.1, "Schema Declaration": a schema is JSON in
+-- UTF-8. The limits of nodes and levels are our own.
+use Rattle.std.specs.Prelude.{ℕ, List, [], Option, Some, None, Result, Ok, Err, if◌then◌else◌}
 use Rattle.std.specs.Str.{is_utf8}
 use Rattle.serde_json.specs.Data.{Data}
 use Rattle.serde_json.specs.Read.{read}
@@ -10,6 +11,7 @@ use Rattle.avro_schema.specs.Tree.{Tree}
 use Rattle.avro_schema.specs.declared.reading.Place.TheVariants as place
 use Rattle.avro_schema.specs.Reading.{tree_at}
 
+-- a text that is no JSON is read as nothing
 abbrev pub if_read : Option Data → Result Data SchemaFault
 if_read None = Err NotJson
 if_read (Some d) = Ok d

@@ -1,4 +1,4 @@
--- Schemas, without where they lie in memory.
+-- Schemas as trees, without where they lie in memory. Avro 1.11.1, "Schema Declaration".
 use Rattle.std.specs.Prelude.{ℕ, ℤ, Option}
 use Rattle.avro_schema.specs.declared.schema.ArrayKind.{ArrayKind}
 use Rattle.avro_schema.specs.declared.schema.BytesKind.{BytesKind}

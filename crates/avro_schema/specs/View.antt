@@ -1,5 +1,5 @@
--- The tree that a `Schema` is.
-use Rattle.std.specs.Prelude.{ℕ, ℤ, List, [], ◌∷◌, Option, map}
+-- The tree that a `Schema` is: the same, without where it lies in memory.
+use Rattle.std.specs.Prelude.{ℤ, List, [], ◌∷◌, Option, map}
 use Rattle.avro_schema.specs.declared.schema.Schema.{Schema, fold-Schema}
 use Rattle.avro_schema.specs.declared.schema.Field.{Field}
 use Rattle.avro_schema.specs.declared.schema.Schema.TheOpen.{Schema-F, Field-F}

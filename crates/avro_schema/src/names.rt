@@ -5,7 +5,7 @@ ghost use Rattle.avro_schema.specs.Names.{dotted, space_of, full, lookup, put};
 ghost use Rattle.avro_schema.specs.Outcome.{Gives};
 ghost use Rattle.avro_schema.specs.View.{tree};
 ghost use Rattle.avro_schema.specs.Reading.{used, defined, named};
-ghost use Rattle.avro_schema.specs.Met.{met};
+ghost use Rattle.avro_schema.specs.Met.{met, Reads};
 
 use crate::attributes::plain_of;
 use crate::fault::SchemaFault;
@@ -14,10 +14,12 @@ use crate::schema::Schema;
 use std::alloc::{AllocError, Global};
 use std::collections::BTreeMap;
 
-/// The names that were met, and how many nodes may still come.
+/// What a walk carries along.
 #[derive(Drop)]
 pub struct Seen {
+    /// The full names that were met, each with its tree; without one while its definition is open.
     pub names: BTreeMap<Vec<u8>, Option<Schema>>,
+    /// How many nodes may still come.
     pub left: u32,
 }
 
@@ -61,13 +63,8 @@ pub fn full_name(alloc: Global, space: &[u8], name: &[u8]) -> Result<Vec<u8>, Al
 }
 
 /// The tree of a name that was defined before.
-fn used_at(
-    alloc: Global,
-    name: &[u8],
-    most: u32,
-    seen: Seen,
-) -> Result<(Schema, Seen), SchemaFault>
-    ensures { Gives SchemaFault.Memory (λ x. (tree x.0, met x.1)) result (used most (lookup name.now (met seen).names) (met seen)) }
+fn used_at(alloc: Global, name: &[u8], most: u32, seen: Seen) -> Result<(Schema, Seen), SchemaFault>
+    ensures { Reads result (used most (lookup name.now (met seen).names) (met seen)) }
 {
     match seen.names.get(name) {
         None => Err(SchemaFault::UnknownName),
@@ -100,7 +97,7 @@ pub fn named_at(
     space: &[u8],
     seen: Seen,
 ) -> Result<(Schema, Seen), SchemaFault>
-    ensures { Gives SchemaFault.Memory (λ x. (tree x.0, met x.1)) result (named most space.now text.now (met seen)) }
+    ensures { Reads result (named most space.now text.now (met seen)) }
 {
     if let Some(schema) = plain_of(text) {
         return Ok((schema, seen));
@@ -111,7 +108,8 @@ pub fn named_at(
 
 /// The names with this one, which may have been there.
 pub fn set(name: Vec<u8>, schema: Option<Schema>, seen: Seen) -> Result<Seen, SchemaFault>
-    ensures { Gives SchemaFault.Memory met result (Ok (record (met seen) { names = put name.items (option_map tree schema) (met seen).names })) }
+    ensures { Gives SchemaFault.Memory met result
+        (Ok (record (met seen) { names = put name.items (option_map tree schema) (met seen).names })) }
 {
     let Seen { mut names, left } = seen;
     drop(names.insert(name, schema)?);

@@ -6,7 +6,7 @@ ghost use Rattle.avro_schema.specs.Names.{full};
 ghost use Rattle.avro_schema.specs.Outcome.{Gives};
 ghost use Rattle.avro_schema.specs.View.{tree, trees, parts};
 ghost use Rattle.avro_schema.specs.Reading.{asked, fresh, defines, branches_at, field_at, fields_at, record_at, array_at, map_at, enum_at, fixed_at, object_at, text_at as tree_of_word, union_at, node_at, tree_at};
-ghost use Rattle.avro_schema.specs.Met.{met};
+ghost use Rattle.avro_schema.specs.Met.{met, Reads};
 ghost use Rattle.avro_schema.specs.declared.reading.Place.TheVariants.{Branch, Elsewhere};
 
 use crate::attributes::{
@@ -38,7 +38,7 @@ pub fn schema_of(
     space: &[u8],
     seen: Seen,
 ) -> Result<(Schema, Seen), SchemaFault>
-    ensures { Gives SchemaFault.Memory (λ x. (tree x.0, met x.1)) result (tree_at levels place space.now (view json.now) (met seen)) }
+    ensures { Reads result (tree_at levels place space.now (view json.now) (met seen)) }
 {
     if levels == 0 {
         return Err(SchemaFault::TooBig);
@@ -65,7 +65,7 @@ fn node_of(
     space: &[u8],
     seen: Seen,
 ) -> Result<(Schema, Seen), SchemaFault>
-    ensures { Gives SchemaFault.Memory (λ x. (tree x.0, met x.1)) result (node_at (tree_at most) most place space.now (view json.now) (met seen)) }
+    ensures { Reads result (node_at (tree_at most) most place space.now (view json.now) (met seen)) }
 {
     match json {
         Value::String(text) => word_of(alloc, text.as_str(), most, space, seen),
@@ -84,7 +84,7 @@ fn word_of(
     space: &[u8],
     seen: Seen,
 ) -> Result<(Schema, Seen), SchemaFault>
-    ensures { Gives SchemaFault.Memory (λ x. (tree x.0, met x.1)) result (tree_of_word most space.now text.now (met seen)) }
+    ensures { Reads result (tree_of_word most space.now text.now (met seen)) }
 {
     match kind_from(text) {
         Kind::Bytes | Kind::Word => named_at(alloc, text, most, space, seen),
@@ -102,7 +102,7 @@ fn union_of(
     space: &[u8],
     seen: Seen,
 ) -> Result<(Schema, Seen), SchemaFault>
-    ensures { Gives SchemaFault.Memory (λ x. (tree x.0, met x.1)) result (union_at (tree_at most) place space.now (items_view items.now.items) (met seen)) }
+    ensures { Reads result (union_at (tree_at most) place space.now (items_view items.now.items) (met seen)) }
 {
     match place {
         Place::Branch => Err(SchemaFault::UnknownType),
@@ -121,7 +121,8 @@ fn branches_of(
     space: &[u8],
     seen: Seen,
 ) -> Result<(Vec<Schema>, Seen), SchemaFault>
-    ensures { Gives SchemaFault.Memory (λ x. (trees x.0.items, met x.1)) result (branches_at (tree_at most Branch space.now) [] (items_view items.now.items) (met seen)) }
+    ensures { Gives SchemaFault.Memory (λ x. (trees x.0.items, met x.1)) result
+        (branches_at (tree_at most Branch space.now) [] (items_view items.now.items) (met seen)) }
 {
     let mut branches = Vec::new(alloc);
     let mut now = seen;
@@ -142,7 +143,7 @@ fn object_of(
     space: &[u8],
     seen: Seen,
 ) -> Result<(Schema, Seen), SchemaFault>
-    ensures { Gives SchemaFault.Memory (λ x. (tree x.0, met x.1)) result (object_at (tree_at most) most space.now (view json.now) (met seen)) }
+    ensures { Reads result (object_at (tree_at most) most space.now (view json.now) (met seen)) }
 {
     let Some(text) = text_at(json, "type") else {
         return Err(SchemaFault::UnknownType);
@@ -167,7 +168,7 @@ fn array_of(
     space: &[u8],
     seen: Seen,
 ) -> Result<(Schema, Seen), SchemaFault>
-    ensures { Gives SchemaFault.Memory (λ x. (tree x.0, met x.1)) result (array_at (tree_at most) space.now (view json.now) (met seen)) }
+    ensures { Reads result (array_at (tree_at most) space.now (view json.now) (met seen)) }
 {
     let Some(items) = json.get("items") else {
         return Err(SchemaFault::UnknownType);
@@ -192,7 +193,7 @@ fn map_of(
     space: &[u8],
     seen: Seen,
 ) -> Result<(Schema, Seen), SchemaFault>
-    ensures { Gives SchemaFault.Memory (λ x. (tree x.0, met x.1)) result (map_at (tree_at most) space.now (view json.now) (met seen)) }
+    ensures { Reads result (map_at (tree_at most) space.now (view json.now) (met seen)) }
 {
     let Some(values) = json.get("values") else {
         return Err(SchemaFault::UnknownType);
@@ -223,7 +224,7 @@ fn enum_of(
     space: &[u8],
     seen: Seen,
 ) -> Result<(Schema, Seen), SchemaFault>
-    ensures { Gives SchemaFault.Memory (λ x. (tree x.0, met x.1)) result (enum_at space.now (view json.now) (met seen)) }
+    ensures { Reads result (enum_at space.now (view json.now) (met seen)) }
 {
     let Some(name) = name_of(json) else {
         return Err(SchemaFault::UnknownType);
@@ -243,7 +244,7 @@ fn fixed_of(
     space: &[u8],
     seen: Seen,
 ) -> Result<(Schema, Seen), SchemaFault>
-    ensures { Gives SchemaFault.Memory (λ x. (tree x.0, met x.1)) result (fixed_at space.now (view json.now) (met seen)) }
+    ensures { Reads result (fixed_at space.now (view json.now) (met seen)) }
 {
     let Some(name) = name_of(json) else {
         return Err(SchemaFault::UnknownType);
@@ -266,7 +267,7 @@ fn record_of(
     space: &[u8],
     seen: Seen,
 ) -> Result<(Schema, Seen), SchemaFault>
-    ensures { Gives SchemaFault.Memory (λ x. (tree x.0, met x.1)) result (record_at (tree_at most) space.now (view json.now) (met seen)) }
+    ensures { Reads result (record_at (tree_at most) space.now (view json.now) (met seen)) }
 {
     let Some(name) = name_of(json) else {
         return Err(SchemaFault::UnknownType);
@@ -291,7 +292,8 @@ fn fields_of(
     space: &[u8],
     seen: Seen,
 ) -> Result<(Vec<Field>, Seen), SchemaFault>
-    ensures { Gives SchemaFault.Memory (λ x. (parts x.0.items, met x.1)) result (fields_at (tree_at most Elsewhere space.now) [] (items_view items.now.items) (met seen)) }
+    ensures { Gives SchemaFault.Memory (λ x. (parts x.0.items, met x.1)) result
+        (fields_at (tree_at most Elsewhere space.now) [] (items_view items.now.items) (met seen)) }
 {
     let mut fields = Vec::new(alloc);
     let mut now = seen;
@@ -328,7 +330,8 @@ fn field_of(
     space: &[u8],
     seen: Seen,
 ) -> Result<(Field, Seen), SchemaFault>
-    ensures { Gives SchemaFault.Memory (λ x. ((x.0.id, tree x.0.schema), met x.1)) result (field_at (tree_at most Elsewhere space.now) (parts front.now.items) (view json.now) (met seen)) }
+    ensures { Gives SchemaFault.Memory (λ x. ((x.0.id, tree x.0.schema), met x.1)) result
+        (field_at (tree_at most Elsewhere space.now) (parts front.now.items) (view json.now) (met seen)) }
 {
     if name_of(json).is_none() {
         return Err(SchemaFault::UnknownType);

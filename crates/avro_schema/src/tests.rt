@@ -36,8 +36,14 @@ fn plain_types(rt: HostRuntime) -> Result<(), Fail> {
         (r#"{"type":"long"}"#, "Long"),
         (r#"{"type":"int","logicalType":"date"}"#, "Int"),
         (r#"{"type":"bytes"}"#, "Bytes(Plain)"),
-        (r#"{"type":"bytes","logicalType":"decimal","precision":9,"scale":2}"#, "Bytes(Decimal)"),
-        (r#"{"type":"bytes","logicalType":"big-decimal"}"#, "Bytes(Plain)"),
+        (
+            r#"{"type":"bytes","logicalType":"decimal","precision":9,"scale":2}"#,
+            "Bytes(Decimal)",
+        ),
+        (
+            r#"{"type":"bytes","logicalType":"big-decimal"}"#,
+            "Bytes(Plain)",
+        ),
         (r#"{"type":"bytes","logicalType":7}"#, "Bytes(Plain)"),
     ] {
         assert_eq!(rt; shown(&rt, text)?.as_str(), tree, "at {text}");
@@ -49,32 +55,65 @@ fn plain_types(rt: HostRuntime) -> Result<(), Fail> {
 fn parts(rt: HostRuntime) -> Result<(), Fail> {
     for (text, tree) in [
         (r#"{"type":"fixed","name":"f","size":0}"#, "Fixed(0, Plain)"),
-        (r#"{"type":"fixed","name":"f","size":2147483647}"#, "Fixed(2147483647, Plain)"),
-        (r#"{"type":"fixed","name":"f","size":16,"logicalType":"decimal"}"#, "Fixed(16, Decimal)"),
-        (r#"{"type":"enum","name":"e","symbols":["A","B","A"]}"#, "Enum(3)"),
+        (
+            r#"{"type":"fixed","name":"f","size":2147483647}"#,
+            "Fixed(2147483647, Plain)",
+        ),
+        (
+            r#"{"type":"fixed","name":"f","size":16,"logicalType":"decimal"}"#,
+            "Fixed(16, Decimal)",
+        ),
+        (
+            r#"{"type":"enum","name":"e","symbols":["A","B","A"]}"#,
+            "Enum(3)",
+        ),
         (r#"{"type":"enum","name":"e","symbols":[]}"#, "Enum(0)"),
         (r#"[]"#, "Union([])"),
         (r#"["null","null"]"#, "Union([Null, Null])"),
-        (r#"{"type":"map","values":["null","long"]}"#, "Map(Union([Null, Long]))"),
-        (r#"{"type":"array","items":"long"}"#, "Array(Long, None, List)"),
-        (r#"{"type":"array","items":"long","element-id":133}"#, "Array(Long, Some(133), List)"),
-        (r#"{"type":"array","items":"long","logicalType":"map"}"#, "Array(Long, None, Map)"),
-        (r#"{"type":"array","items":"long","logicalType":"decimal"}"#, "Array(Long, None, List)"),
+        (
+            r#"{"type":"map","values":["null","long"]}"#,
+            "Map(Union([Null, Long]))",
+        ),
+        (
+            r#"{"type":"array","items":"long"}"#,
+            "Array(Long, None, List)",
+        ),
+        (
+            r#"{"type":"array","items":"long","element-id":133}"#,
+            "Array(Long, Some(133), List)",
+        ),
+        (
+            r#"{"type":"array","items":"long","logicalType":"map"}"#,
+            "Array(Long, None, Map)",
+        ),
+        (
+            r#"{"type":"array","items":"long","logicalType":"decimal"}"#,
+            "Array(Long, None, List)",
+        ),
         (
             r#"{"type":"array","items":"int","element-id":-2147483648}"#,
-            "Array(Int, Some(-2147483648), List)"
+            "Array(Int, Some(-2147483648), List)",
         ),
-        (r#"{"type":"array","items":"int","element-id":2147483648}"#, "Array(Int, None, List)"),
-        (r#"{"type":"array","items":"int","element-id":"1"}"#, "Array(Int, None, List)"),
-        (r#"{"type":"array","items":"int","element-id":1.5}"#, "Array(Int, None, List)"),
+        (
+            r#"{"type":"array","items":"int","element-id":2147483648}"#,
+            "Array(Int, None, List)",
+        ),
+        (
+            r#"{"type":"array","items":"int","element-id":"1"}"#,
+            "Array(Int, None, List)",
+        ),
+        (
+            r#"{"type":"array","items":"int","element-id":1.5}"#,
+            "Array(Int, None, List)",
+        ),
         (r#"{"type":"record","name":"r","fields":[]}"#, "Record([])"),
         (
             r#"{"type":"record","name":"long","fields":[{"name":"a","type":"long"}]}"#,
-            "Record([Field { id: None, schema: Long }])"
+            "Record([Field { id: None, schema: Long }])",
         ),
         (
             r#"["null",{"type":"record","name":"long","fields":[]},"long"]"#,
-            "Union([Null, Record([]), Long])"
+            "Union([Null, Record([]), Long])",
         ),
     ] {
         assert_eq!(rt; shown(&rt, text)?.as_str(), tree, "at {text}");
@@ -114,7 +153,11 @@ fn names(rt: HostRuntime) -> Result<(), Fail> {
         (r#","namespace":7"#, "f", tree),
     ] {
         let text = two_fields(&rt, more, second)?;
-        assert_eq!(rt; shown(&rt, text.as_str())?.as_str(), want, "{more} {second}");
+        assert_eq!(rt;
+            shown(&rt, text.as_str())?.as_str(),
+            want,
+            "{more} {second}"
+        );
     }
     Ok(())
 }
@@ -125,33 +168,36 @@ fn namespaces(rt: HostRuntime) -> Result<(), Fail> {
         // a dotted name ignores the namespace beside it
         (
             r#"[{"type":"fixed","name":"p.f","namespace":"q","size":1},"p.f"]"#,
-            "Union([Fixed(1, Plain), Fixed(1, Plain)])"
+            "Union([Fixed(1, Plain), Fixed(1, Plain)])",
         ),
-        (r#"[{"type":"fixed","name":"p.f","namespace":"q","size":1},"q.f"]"#, "UnknownName"),
+        (
+            r#"[{"type":"fixed","name":"p.f","namespace":"q","size":1},"q.f"]"#,
+            "UnknownName",
+        ),
         // a simple name inside a namespace is no name outside
         (
             r#"[{"type":"fixed","name":"f","size":1},{"type":"record","name":"n.r","fields":[{"name":"a","type":"f"}]}]"#,
-            "UnknownName"
+            "UnknownName",
         ),
         // a record's own namespace is around its fields
         (
             r#"{"type":"record","name":"r","namespace":"n","fields":[{"name":"a","type":{"type":"enum","name":"e","symbols":[]}},{"name":"b","type":"n.e"}]}"#,
-            "Record([Field { id: None, schema: Enum(0) }, Field { id: None, schema: Enum(0) }])"
+            "Record([Field { id: None, schema: Enum(0) }, Field { id: None, schema: Enum(0) }])",
         ),
         // the same simple name in two namespaces
         (
             r#"[{"type":"fixed","name":"a.f","size":1},{"type":"fixed","name":"b.f","size":2},"a.f"]"#,
-            "Union([Fixed(1, Plain), Fixed(2, Plain), Fixed(1, Plain)])"
+            "Union([Fixed(1, Plain), Fixed(2, Plain), Fixed(1, Plain)])",
         ),
         // a used name may be the type text of an object
         (
             r#"[{"type":"fixed","name":"f","size":1},{"type":"f"}]"#,
-            "Union([Fixed(1, Plain), Fixed(1, Plain)])"
+            "Union([Fixed(1, Plain), Fixed(1, Plain)])",
         ),
         // a name that was defined further in
         (
             r#"[{"type":"array","items":{"type":"fixed","name":"f","size":1}},"f"]"#,
-            "Union([Array(Fixed(1, Plain), None, List), Fixed(1, Plain)])"
+            "Union([Array(Fixed(1, Plain), None, List), Fixed(1, Plain)])",
         ),
     ] {
         assert_eq!(rt; shown(&rt, text)?.as_str(), want, "at {text}");
@@ -196,7 +242,11 @@ fn no_type(rt: HostRuntime) {
         r#"{"type":"map"}"#,
         r#"{"type":"map","values":null}"#,
     ] {
-        assert_eq!(rt; fault(&rt, text.as_bytes()), Some(SchemaFault::UnknownType), "at {text}");
+        assert_eq!(rt;
+            fault(&rt, text.as_bytes()),
+            Some(SchemaFault::UnknownType),
+            "at {text}"
+        );
     }
 }
 
@@ -228,27 +278,37 @@ fn no_definition(rt: HostRuntime) {
         r#"{"type":"fixed","name":"f","size":1.5}"#,
         r#"{"type":"fixed","name":"f","size":2147483648}"#,
     ] {
-        assert_eq!(rt; fault(&rt, text.as_bytes()), Some(SchemaFault::UnknownType), "at {text}");
+        assert_eq!(rt;
+            fault(&rt, text.as_bytes()),
+            Some(SchemaFault::UnknownType),
+            "at {text}"
+        );
     }
 }
 
 #[test]
 fn first_faults(rt: HostRuntime) {
     for (text, want) in [
-        (r#"{"type":"record","name":"a","fields":[{"name":"f","type":"a"}]}"#, SchemaFault::Recursive),
-        (r#"{"type":"record","name":"a","fields":[{"name":"f","type":"b"}]}"#, SchemaFault::UnknownName),
+        (
+            r#"{"type":"record","name":"a","fields":[{"name":"f","type":"a"}]}"#,
+            SchemaFault::Recursive,
+        ),
+        (
+            r#"{"type":"record","name":"a","fields":[{"name":"f","type":"b"}]}"#,
+            SchemaFault::UnknownName,
+        ),
         (
             r#"{"type":"record","name":"a","fields":[{"name":"f","type":{"type":"fixed","name":"a","size":1}}]}"#,
-            SchemaFault::NameTwice
+            SchemaFault::NameTwice,
         ),
         (
             r#"[{"type":"fixed","name":"f","size":1},{"type":"enum","name":"f","symbols":[]}]"#,
-            SchemaFault::NameTwice
+            SchemaFault::NameTwice,
         ),
         // what a definition lacks comes before its name, which is there
         (
             r#"[{"type":"fixed","name":"f","size":1},{"type":"enum","name":"f"}]"#,
-            SchemaFault::UnknownType
+            SchemaFault::UnknownType,
         ),
         // the first of two
         (r#"[["long"],"b"]"#, SchemaFault::UnknownType),
@@ -256,19 +316,19 @@ fn first_faults(rt: HostRuntime) {
         // an id once more comes before the field's type, and behind its name and that it has a type
         (
             r#"{"type":"record","name":"a","fields":[{"name":"f","type":"long","field-id":1},{"name":"g","type":"b","field-id":1}]}"#,
-            SchemaFault::FieldTwice(1)
+            SchemaFault::FieldTwice(1),
         ),
         (
             r#"{"type":"record","name":"a","fields":[{"name":"f","type":"b","field-id":1},{"name":"g","type":"long","field-id":1}]}"#,
-            SchemaFault::UnknownName
+            SchemaFault::UnknownName,
         ),
         (
             r#"{"type":"record","name":"a","fields":[{"name":"f","type":"long","field-id":1},{"name":"g","field-id":1}]}"#,
-            SchemaFault::UnknownType
+            SchemaFault::UnknownType,
         ),
         (
             r#"{"type":"record","name":"a","fields":[{"name":"f","type":"long","field-id":-7},{"name":"g","type":"long","field-id":-7}]}"#,
-            SchemaFault::FieldTwice(-7)
+            SchemaFault::FieldTwice(-7),
         ),
     ] {
         assert_eq!(rt; fault(&rt, text.as_bytes()), Some(want), "at {text}");
@@ -277,7 +337,8 @@ fn first_faults(rt: HostRuntime) {
 
 #[test]
 fn fields_without_ids(rt: HostRuntime) {
-    let text = r#"{"type":"record","name":"a","fields":[{"name":"f","type":"long"},{"name":"g","type":"long"},{"name":"h","type":"long","field-id":2147483648},{"name":"i","type":"long","field-id":2147483648},{"name":"j","type":{"type":"record","name":"b","fields":[{"name":"f","type":"int","field-id":1}]},"field-id":1}]}"#;
+    let text =
+        r#"{"type":"record","name":"a","fields":[{"name":"f","type":"long"},{"name":"g","type":"long"},{"name":"h","type":"long","field-id":2147483648},{"name":"i","type":"long","field-id":2147483648},{"name":"j","type":{"type":"record","name":"b","fields":[{"name":"f","type":"int","field-id":1}]},"field-id":1}]}"#;
     assert_eq!(rt; fault(&rt, text.as_bytes()), None);
 }
 
@@ -348,8 +409,11 @@ fn doubled(rt: &HostRuntime, count: u32) -> Result<String, Fail> {
 // r12 has 8,191 nodes; the whole tree of r31 would have 4,294,967,295 and never end.
 #[test]
 fn doubling(rt: HostRuntime) -> Result<(), Fail> {
-    for (count, want) in
-        [(12, None), (13, Some(SchemaFault::TooBig)), (31, Some(SchemaFault::TooBig))] {
+    for (count, want) in [
+        (12, None),
+        (13, Some(SchemaFault::TooBig)),
+        (31, Some(SchemaFault::TooBig)),
+    ] {
         let text = doubled(&rt, count)?;
         let start = Instant::now(&rt)?;
         assert_eq!(rt; fault(&rt, text.as_bytes()), want, "r{count}");

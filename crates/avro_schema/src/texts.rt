@@ -14,6 +14,12 @@ use serde_json::{Category, Value};
 use std::alloc::Global;
 use std::collections::BTreeMap;
 
+/// How many nodes a tree may have.
+const MOST_NODES: u32 = 10_000;
+
+/// How many levels a tree may have, its root among them.
+const MOST_LEVELS: u32 = 32;
+
 fn json_from(alloc: Global, text: &[u8]) -> Result<Value, SchemaFault>
     ensures { Gives SchemaFault.Memory view result (json_of text.now) }
 {
@@ -30,7 +36,10 @@ fn json_from(alloc: Global, text: &[u8]) -> Result<Value, SchemaFault>
 }
 
 impl Schema {
-    /// The tree that a text names.
+    /// Reads a schema: the tree that its JSON text names, each name expanded to the tree of its definition.
+    ///
+    /// A tree has at most 10,000 nodes and 32 levels, which is found out before anything is expanded. Attributes that
+    /// a tree does not show are ignored, and an id that is no 32-bit whole number is none.
     #[tactic(auto, unfolding(crate::specs::Texts::schema_of))]
     pub fn from_json(alloc: Global, text: &[u8]) -> Result<Schema, SchemaFault>
         ensures { Gives SchemaFault.Memory tree result (tree_of_text text.now) }
@@ -38,9 +47,9 @@ impl Schema {
         let json = json_from(alloc, text)?;
         let seen = Seen {
             names: BTreeMap::new(alloc),
-            left: 10000,
+            left: MOST_NODES,
         };
-        let (schema, _) = schema_of(alloc, &json, 32, Place::Elsewhere, &[], seen)?;
+        let (schema, _) = schema_of(alloc, &json, MOST_LEVELS, Place::Elsewhere, &[], seen)?;
         Ok(schema)
     }
 }

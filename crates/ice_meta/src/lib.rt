@@ -4,3 +4,6 @@
 mod spec;
 
 pub use spec::Spec;
+
+#[cfg(test)]
+mod tests;

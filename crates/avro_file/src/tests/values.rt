@@ -11,12 +11,18 @@ fn longs(rt: HostRuntime) -> Result<(), Fail> {
         (&[0x7f], -64),
         (&[0x80, 1], 64),
         (&[0x80, 0x81, 0], 64),
-        (&[0x80, 0x80, 0x80, 0x80, 0x80, 0x80, 0x80, 0x80, 0x80, 0], 0),
+        (
+            &[0x80, 0x80, 0x80, 0x80, 0x80, 0x80, 0x80, 0x80, 0x80, 0],
+            0,
+        ),
         (&most, i64::MAX),
     ];
     for (content, want) in rows {
         let found = only(rt.alloc(), b"\"long\"", content)?;
-        assert!(rt; matches!(found, Ok(Datum::Long(number)) if number == want), "{want}");
+        assert!(rt;
+            matches!(found, Ok(Datum::Long(number)) if number == want),
+            "{want}"
+        );
     }
     Ok(())
 }
@@ -24,7 +30,9 @@ fn longs(rt: HostRuntime) -> Result<(), Fail> {
 #[test]
 fn longs_that_do_not_fit(rt: HostRuntime) -> Result<(), Fail> {
     let all = [0xff; 10];
-    let eleven = [0x80, 0x80, 0x80, 0x80, 0x80, 0x80, 0x80, 0x80, 0x80, 0x80, 0];
+    let eleven = [
+        0x80, 0x80, 0x80, 0x80, 0x80, 0x80, 0x80, 0x80, 0x80, 0x80, 0,
+    ];
     let past = [0xfe, 0xff, 0xff, 0xff, 0xff, 0xff, 0xff, 0xff, 0xff, 2];
     for content in [&all[..], &eleven[..], &past[..]] {
         let found = only(rt.alloc(), b"\"long\"", content)?;
@@ -56,35 +64,82 @@ fn ints_and_enums(rt: HostRuntime) -> Result<(), Fail> {
 
 #[test]
 fn booleans_and_unions(rt: HostRuntime) -> Result<(), Fail> {
-    assert!(rt; matches!(only(rt.alloc(), b"\"boolean\"", &[1])?, Ok(Datum::Boolean(true))));
-    assert!(rt; matches!(only(rt.alloc(), b"\"boolean\"", &[2])?, Err(AvroFault::BadBoolean)));
+    assert!(rt;
+        matches!(
+            only(rt.alloc(), b"\"boolean\"", &[1])?,
+            Ok(Datum::Boolean(true))
+        )
+    );
+    assert!(rt;
+        matches!(
+            only(rt.alloc(), b"\"boolean\"", &[2])?,
+            Err(AvroFault::BadBoolean)
+        )
+    );
     let union = b"[\"null\",\"long\"]";
-    let found = only(rt.alloc(), union, &[0])?;
-    assert!(rt; matches!(found, Ok(Datum::Union(0, value)) if matches!(*value, Datum::Null)));
-    let found = only(rt.alloc(), union, &[2, 3])?;
-    assert!(rt; matches!(found, Ok(Datum::Union(1, value)) if matches!(*value, Datum::Long(-2))));
+    let Ok(Datum::Union(position, value)) = only(rt.alloc(), union, &[2, 3])? else {
+        return Err("no union")?;
+    };
+    assert_eq!(rt; position, 1);
+    assert!(rt; matches!(*value, Datum::Long(-2)));
     assert!(rt; matches!(only(rt.alloc(), union, &[4])?, Err(AvroFault::BadUnion)));
     assert!(rt; matches!(only(rt.alloc(), union, &[1])?, Err(AvroFault::BadUnion)));
     Ok(())
 }
 
 #[test]
-fn runs_of_bytes(rt: HostRuntime) -> Result<(), Fail> {
-    let found = only(rt.alloc(), b"\"string\"", b"\x04\xc3\xa9")?;
-    assert!(rt; matches!(found, Ok(Datum::String(text)) if text.as_str() == "é"));
-    assert!(rt; matches!(only(rt.alloc(), b"\"string\"", &[2, 0xff])?, Err(AvroFault::BadUtf8)));
-    assert!(rt; matches!(only(rt.alloc(), b"\"string\"", &[1])?, Err(AvroFault::BadNumber)));
+fn texts(rt: HostRuntime) -> Result<(), Fail> {
+    let Ok(Datum::String(text)) = only(rt.alloc(), b"\"string\"", b"\x04\xc3\xa9")? else {
+        return Err("no text")?;
+    };
+    assert_eq!(rt; text.as_str(), "é");
+    assert!(rt;
+        matches!(
+            only(rt.alloc(), b"\"string\"", &[2, 0xff])?,
+            Err(AvroFault::BadUtf8)
+        )
+    );
+    assert!(rt;
+        matches!(
+            only(rt.alloc(), b"\"string\"", &[1])?,
+            Err(AvroFault::BadNumber)
+        )
+    );
     let most = [0xfe, 0xff, 0xff, 0xff, 0xff, 0xff, 0xff, 0xff, 0xff, 1];
-    assert!(rt; matches!(only(rt.alloc(), b"\"string\"", &most)?, Err(AvroFault::BlockSize)));
-    let found = only(rt.alloc(), b"\"bytes\"", &[2, 0xff])?;
-    assert!(rt; matches!(found, Ok(Datum::Bytes(run)) if run.as_slice() == [0xff].as_slice()));
-    let fixed = b"{\"type\":\"fixed\",\"name\":\"f\",\"size\":2}";
-    let found = only(rt.alloc(), fixed, &[7, 8])?;
-    assert!(rt; matches!(found, Ok(Datum::Fixed(run)) if run.as_slice() == [7, 8].as_slice()));
-    let found = only(rt.alloc(), b"\"float\"", &[0, 0, 0x80, 0x3f])?;
-    assert!(rt; matches!(found, Ok(Datum::Float(run)) if run.as_slice() == [0, 0, 0x80, 0x3f].as_slice()));
-    let found = only(rt.alloc(), b"\"double\"", &[0, 0, 0, 0, 0, 0, 0xf0, 0x3f])?;
-    assert!(rt; matches!(found, Ok(Datum::Double(run)) if run.len() == 8));
+    assert!(rt;
+        matches!(
+            only(rt.alloc(), b"\"string\"", &most)?,
+            Err(AvroFault::BlockSize)
+        )
+    );
+    Ok(())
+}
+
+/// The bytes that a value consists of.
+fn run_of(found: Result<Datum, AvroFault>) -> Option<Vec<u8>> {
+    match found {
+        Ok(Datum::Bytes(run)) => Some(run),
+        Ok(Datum::Fixed(run)) => Some(run),
+        Ok(Datum::Float(run)) => Some(run),
+        Ok(Datum::Double(run)) => Some(run),
+        Ok(_other) => None,
+        Err(_fault) => None,
+    }
+}
+
+#[test]
+fn runs_of_bytes(rt: HostRuntime) -> Result<(), Fail> {
+    let bytes = run_of(only(rt.alloc(), b"\"bytes\"", &[2, 0xff])?).ok_or("bytes")?;
+    assert_eq!(rt; bytes.as_slice(), [0xff].as_slice());
+    let schema = b"{\"type\":\"fixed\",\"name\":\"f\",\"size\":2}";
+    let fixed = run_of(only(rt.alloc(), schema, &[7, 8])?).ok_or("fixed")?;
+    assert_eq!(rt; fixed.as_slice(), [7, 8].as_slice());
+    let one = [0, 0, 0x80, 0x3f];
+    let float = run_of(only(rt.alloc(), b"\"float\"", &one)?).ok_or("float")?;
+    assert_eq!(rt; float.as_slice(), one.as_slice());
+    let one = [0, 0, 0, 0, 0, 0, 0xf0, 0x3f];
+    let double = run_of(only(rt.alloc(), b"\"double\"", &one)?).ok_or("double")?;
+    assert_eq!(rt; double.as_slice(), one.as_slice());
     Ok(())
 }
 
@@ -119,10 +174,20 @@ fn arrays_and_maps(rt: HostRuntime) -> Result<(), Fail> {
 fn too_many_items(rt: HostRuntime) -> Result<(), Fail> {
     let array = b"{\"type\":\"array\",\"items\":\"long\"}";
     let least = [0xff, 0xff, 0xff, 0xff, 0xff, 0xff, 0xff, 0xff, 0xff, 1];
-    assert!(rt; matches!(only(rt.alloc(), array, &least)?, Err(AvroFault::TooManyItems)));
+    assert!(rt;
+        matches!(
+            only(rt.alloc(), array, &least)?,
+            Err(AvroFault::TooManyItems)
+        )
+    );
     // 16,777,217, and the most that may be
     let past = [0x82, 0x80, 0x80, 0x10];
-    assert!(rt; matches!(only(rt.alloc(), array, &past)?, Err(AvroFault::TooManyItems)));
+    assert!(rt;
+        matches!(
+            only(rt.alloc(), array, &past)?,
+            Err(AvroFault::TooManyItems)
+        )
+    );
     let most = [0x80, 0x80, 0x80, 0x10];
     assert!(rt; matches!(only(rt.alloc(), array, &most)?, Err(AvroFault::BlockSize)));
     Ok(())

@@ -69,7 +69,7 @@ union_of-returns t c =
 
 pub datum_of-returns-in_err-values-in-Record : goal.datum_of-returns-in_err-values-in-Record
 datum_of-returns-in_err-values-in-Record t c =
-    let p = err_from_is_err_and c.from_residual-in_err-values-in-Record.result c.from_residual-in_err-values-in-Record.ensures.1 in
+    let p = err_from_is_err_and c.from_residual.result c.from_residual.ensures.1 in
     rw (p.1, p.2) (λ m. rw (c.in-Record.is, tree-Record c.in-Record.fields, ← c.deref.ensures.value) (structure_fails c.in_err-values-in-Record.field-0.0 _ (position_of c.args.place) (c.in_err-values-in-Record.ensures m)))
 
 pub datum_of-returns-in_ok-values-in-Record : goal.datum_of-returns-in_ok-values-in-Record
@@ -77,7 +77,7 @@ datum_of-returns-in_ok-values-in-Record t c = rw (c.in-Record.is, tree-Record c.
 
 pub record_of-returns-in_err-value : goal.record_of-returns-in_err-value
 record_of-returns-in_err-value t c =
-    let p = err_from_is_err_and c.from_residual.result c.from_residual.ensures.1 in
+    let p = err_from_is_err_and c.from_residual-in_err-value.result c.from_residual-in_err-value.ensures.1 in
     rw (p.1, p.2) (λ m. fields_fail c.in_err-value.field-0.0 c.args.fields.now c.fields.field-index c.field-item.result _ _ _ c.fields-test.true c.field-item.is (c.in_err-value.ensures m) c.fields.invariant)
 
 pub record_of-fields-preserved : goal.record_of-fields-preserved

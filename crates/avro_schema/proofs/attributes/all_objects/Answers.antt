@@ -1,6 +1,6 @@
-use Rattle.std.proofs.Common.{◌≡◌, sym, ap, ◌∙◌, refl}
+use Rattle.std.proofs.Common.{sym, ◌∙◌, refl}
 use Rattle.avro_schema.specs.Attributes.{is_object}
-use Rattle.avro_schema.proofs.Walks.{all_here, all_done}
+use Rattle.avro_schema.proofs.Walks.{all_here}
 use Rattle.avro_schema.proofs.attributes.all_objects.Goals as goal
 
 pub returns-then-not-is_object : goal.returns-then-not-is_object

@@ -1,6 +1,5 @@
-use Rattle.std.proofs.Common.{◌≡◌, ◌≤◌, ℕ, List, Result, Ok}
+use Rattle.std.proofs.Common.{◌≤◌}
 use Rattle.std.proofs.lemmas.Result.{IfOk-at_ok}
-use Rattle.avro_schema.specs.Tree.{Tree}
 use Rattle.avro_schema.specs.Size.{nodes, depth}
 use Rattle.avro_schema.specs.Texts.{most_nodes, most_levels}
 use Rattle.avro_schema.proofs.Limits.{schema_small}

@@ -1,4 +1,4 @@
-use Rattle.std.proofs.Common.{◌≡◌, sym, option_map}
+use Rattle.std.proofs.Common.{sym, option_map}
 use Rattle.avro_schema.specs.View.{tree}
 use Rattle.avro_schema.proofs.Keys.{name_there, name_new}
 use Rattle.avro_schema.proofs.names.define.Goals as goal

@@ -1,4 +1,4 @@
-use Rattle.std.proofs.Common.{◌≡◌, ◌==◌, false, sym, ap, ◌∙◌, refl, rules}
+use Rattle.std.proofs.Common.{sym, ◌∙◌, refl, rules}
 use Rattle.avro_schema.proofs.Walks.{dotted_step, dotted_end}
 use Rattle.avro_schema.proofs.names.is_dotted.Goals as goal
 

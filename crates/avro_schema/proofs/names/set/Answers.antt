@@ -1,9 +1,5 @@
-use Rattle.std.proofs.Common.{◌≡◌, Ok, ap, sym, ◌∙◌, refl}
-use Rattle.avro_schema.specs.Names.{Entry}
-use Rattle.avro_schema.specs.Reading.{Seen}
-use Rattle.avro_schema.specs.declared.fault.SchemaFault.{SchemaFault}
-use Rattle.std.specs.Prelude.{List, Result}
-use Rattle.avro_schema.proofs.Keys.{entries-insert_entry, with_names, with_names_is}
+use Rattle.std.proofs.Common.{ap, sym, ◌∙◌}
+use Rattle.avro_schema.proofs.Keys.{entries-insert_entry, with_names_is}
 use Rattle.avro_schema.specs.Met.{entries}
 use Rattle.avro_schema.proofs.names.set.Goals as goal
 

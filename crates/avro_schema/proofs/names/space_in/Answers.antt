@@ -1,4 +1,4 @@
-use Rattle.std.proofs.Common.{◌≡◌, suc, ◌-◌, ◌+◌, ◌<◌, length, ◌==◌, sym, ap, ◌∙◌, refl, rules, arith}
+use Rattle.std.proofs.Common.{◌≡◌, suc, ◌-◌, ◌+◌, ◌<◌, length, ◌∙◌, rules, arith}
 use Rattle.avro_schema.proofs.Walks.{dotted_step, dotted_end, space_there, no_space}
 use Rattle.avro_schema.proofs.names.space_in.Goals as goal
 

@@ -1,4 +1,4 @@
-use Rattle.std.proofs.Common.{◌≡◌, Some, None, sym, ap, ◌∙◌, refl}
+use Rattle.std.proofs.Common.{Some, None, sym, refl}
 use Rattle.avro_schema.proofs.Keys.{found}
 use Rattle.avro_schema.proofs.names.used_at.Goals as goal
 

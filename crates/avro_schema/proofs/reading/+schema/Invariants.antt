@@ -1,4 +1,4 @@
-use Rattle.std.proofs.Common.{◌≡◌, [], ℕ, ◌+◌, ◌*◌, drop}
+use Rattle.std.proofs.Common.{◌≡◌, [], ◌+◌, ◌*◌, drop}
 use Rattle.serde_json.specs.View.{items_view}
 use Rattle.avro_schema.specs.View.{trees, parts}
 use Rattle.avro_schema.specs.Reading.{branches_at, fields_at, tree_at}

@@ -1,4 +1,4 @@
-use Rattle.std.proofs.Common.{◌≡◌, sym, ap, ◌∙◌, refl, rules, w32}
+use Rattle.std.proofs.Common.{◌≡◌, sym, ◌∙◌, refl, rules, w32}
 use mir.Val.{to_z, of_z}
 use Rattle.std.proofs.lemmas.Int.{to_z-of_z}
 use Rattle.avro_schema.proofs.Walks.{any_here, any_done, fresh_twice, fresh_new}

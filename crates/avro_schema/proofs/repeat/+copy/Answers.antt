@@ -1,5 +1,4 @@
-use Rattle.std.proofs.Common.{◌≡◌, List, [], ◌∷◌, ◌++◌, sym, ap, ◌∙◌, refl}
-use Rattle.std.proofs.lemmas.List.{map_push, take_more}
+use Rattle.std.proofs.Common.{List, ap}
 use Rattle.avro_schema.specs.View.{Part, fields_of}
 use Rattle.avro_schema.specs.Tree.{structure}
 use Rattle.avro_schema.proofs.Loop.{tree-Record}

@@ -1,4 +1,4 @@
-use Rattle.std.proofs.Common.{◌≡◌, sym, ap, ◌∙◌, refl, arith}
+use Rattle.std.proofs.Common.{sym, ◌∙◌, refl, arith}
 use Rattle.avro_schema.proofs.Walks.{field_high, branch_high, no_field_high, no_branch_high, none_may, one_less}
 use Rattle.avro_schema.proofs.repeat.+levels.Goals as goal
 

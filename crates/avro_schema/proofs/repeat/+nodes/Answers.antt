@@ -1,6 +1,5 @@
-use Rattle.std.proofs.Common.{◌≡◌, ◌+◌, suc, sym, ap, ◌∙◌}
-use Rattle.avro_schema.specs.Size.{less, below}
-use Rattle.avro_schema.specs.View.{tree}
+use Rattle.std.proofs.Common.{sym, ap, ◌∙◌}
+use Rattle.avro_schema.specs.Size.{less}
 use Rattle.avro_schema.proofs.Walks.{less_on, less_fails, fields_step, branches_step, fields_end, branches_end}
 use Rattle.avro_schema.proofs.repeat.+nodes.Goals as goal
 

@@ -1,0 +1,5 @@
+use Rattle.avro_file.proofs.Opened.{one_list}
+use Rattle.avro_file.proofs.laws.one_list.Goals as goal
+
+pub returns : goal.returns
+returns c = one_list

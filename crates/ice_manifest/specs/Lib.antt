@@ -1,0 +1,6 @@
+pub mod Outcome
+pub mod Kinds
+pub mod Picking
+pub mod Fields
+pub mod Lists
+pub mod Manifests

@@ -1,0 +1,43 @@
+//! Rows of a manifest list.
+
+ghost use Rattle.std.specs.Prelude.{◌≡◌, IfOk};
+
+use ice_value::Text;
+use std::alloc::{AllocError, Global};
+
+/// What the files of a manifest's entries hold.
+#[derive(Clone, Copy, Debug, PartialEq, Eq)]
+pub enum ManifestContent {
+    Data,
+    Deletes,
+}
+
+/// A row of a manifest list. It stands for one manifest.
+#[derive(Debug, PartialEq, Drop)]
+pub struct Row {
+    pub path: Text,
+    /// In bytes, as the list says; any number.
+    pub length: i64,
+    pub spec: i32,
+    pub content: ManifestContent,
+    pub sequence_number: u64,
+    pub min_sequence_number: u64,
+    pub added_snapshot_id: i64,
+}
+
+impl Row {
+    /// The same row.
+    pub fn copy(&self, alloc: Global) -> Result<Row, AllocError>
+        ensures { IfOk result (λ copied. copied ≡ self.now) }
+    {
+        Ok(Row {
+            path: self.path.copy(alloc)?,
+            length: self.length,
+            spec: self.spec,
+            content: self.content,
+            sequence_number: self.sequence_number,
+            min_sequence_number: self.min_sequence_number,
+            added_snapshot_id: self.added_snapshot_id,
+        })
+    }
+}

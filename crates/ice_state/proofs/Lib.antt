@@ -1,0 +1,11 @@
+pub mod Contents
+pub mod Filters
+pub mod Joins
+pub mod Lines
+pub mod Outcomes
+pub mod Pruned
+pub mod Runs
+pub mod Scans
+pub mod Sharing
+pub mod Snapshots
+pub mod Tuples

@@ -1,0 +1,6 @@
+use Rattle.std.proofs.Common.{◌≡◌, drop}
+use Rattle.ice_state.specs.Outcomes.{bad}
+use Rattle.ice_state.proofs.finish.check_good.Given as goal
+
+abbrev pub invariant-loop-i : goal.invariant-loop-i
+invariant-loop-i l = bad (drop l.i l.rows) (drop l.i l.slots) ≡ bad l.rows l.slots

@@ -1,0 +1,5 @@
+use Rattle.ice_state.proofs.Lines.{applies-decides}
+use Rattle.ice_state.proofs.laws.applying.Goals as goal
+
+pub returns : goal.returns
+returns c = applies-decides

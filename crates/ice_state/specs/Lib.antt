@@ -1,0 +1,10 @@
+pub mod Applying
+pub mod Contents
+pub mod Joins
+pub mod Outcomes
+pub mod Pruning
+pub mod Runs
+pub mod Scans
+pub mod Shares
+pub mod Shown
+pub mod Snapshots

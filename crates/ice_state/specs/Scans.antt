@@ -1,0 +1,56 @@
+-- What a scan reads: Apache Iceberg table spec, version 2, "Manifest Lists" and "Scan Planning".
+use Rattle.std.specs.Prelude.{◌≡◌, ℕ, ℤ, Bool, List, [], ◌∷◌, filter, Option, is_none, option_and_then, slice_get, Result, Ok, Err}
+use Rattle.std.specs.List.{find}
+use Rattle.std.specs.Cmp.Lexicographic.{slice_cmp}
+use Rattle.std.specs.Ordering.{nat_cmp, int_eq, is_lt}
+use Rattle.ice_value.specs.Sorting.{sorted}
+use Rattle.ice_meta.specs.declared.spec.Spec.{Spec}
+use Rattle.ice_manifest.specs.declared.row.Row.{Row}
+use Rattle.ice_state.specs.declared.fault.ScanFault.{ScanFault}
+use Rattle.ice_state.specs.declared.fault.ScanFault.TheVariants.{NoSuchSpec}
+use Rattle.ice_state.specs.Pruning.{Pruner, everything}
+
+-- the wanted rows, by the bytes of their paths, and the partition specs of the table
+pub record Scanned : Type 0 where
+  pub wanted : List Row
+  pub specs : List Spec
+
+-- what the scan's filter leaves out: so far no scan has one
+abbrev pub pruner : Scanned → Pruner
+pruner scan = everything
+
+-- the spec of this id
+abbrev pub spec_of : List Spec → ℤ → Option Spec
+spec_of specs id = find (λ spec. int_eq spec.id id) specs
+
+-- in the order of their paths
+abbrev pub row_before : Row → Row → Bool
+row_before a b = is_lt (slice_cmp nat_cmp a.path b.path)
+
+abbrev pub by_row_path : List Row → List Row
+by_row_path rows = sorted row_before rows
+
+-- the rows whose spec is missing
+abbrev pub without_spec : List Spec → List Row → List Row
+without_spec specs rows = filter (λ row. is_none (spec_of specs row.spec)) rows
+
+-- each row's spec is there
+abbrev pub AllHaveSpec : List Spec → List Row → Type 0
+AllHaveSpec specs rows = without_spec specs rows ≡ []
+
+-- the spec of the wanted row i
+abbrev pub spec_at : Scanned → ℕ → Option Spec
+spec_at scan i = option_and_then (λ row. spec_of scan.specs row.spec) (slice_get scan.wanted i)
+
+-- the fault is that the first of these rows has no spec
+abbrev pub Stops : ScanFault → List Row → Type 0
+Stops fault [] = ⊥
+Stops fault (row ∷ rows) = fault ≡ NoSuchSpec row.spec
+
+abbrev pub unless_missing : List Row → Scanned → Result Scanned ScanFault
+unless_missing [] scan = Ok scan
+unless_missing (row ∷ rows) scan = Err (NoSuchSpec row.spec)
+
+-- the scan of these rows by these specs, or the missing spec of the row with the least path
+abbrev pub scan_of : List Row → List Spec → Result Scanned ScanFault
+scan_of rows specs = unless_missing (without_spec specs (by_row_path rows)) (record { wanted = filter everything.wants (by_row_path rows); specs = specs })
