@@ -1,15 +1,15 @@
 -- What is spelled so is read, and nothing else is.
-use Rattle.std.proofs.Common.{◌≡◌, ℕ, zero, suc, ◌+◌, ◌-◌, ◌*◌, ◌^◌, ◌<◌, ◌≤◌, ℤ, pos, negsuc, Bool, true, false, cond, ltb, List, [], ◌∷◌, ◌++◌, length, take, drop, Result, Ok, Err, ◌⊎◌, inl, inr, refl, sym, ap, subst, ◌∙◌, append_assoc, arith}
-use Rattle.std.specs.Str.{is_utf8, IsUtf8}
+use Rattle.std.proofs.Common.{◌≡◌, ℕ, zero, suc, ◌+◌, ◌-◌, ◌^◌, ◌<◌, ◌≤◌, ℤ, pos, negsuc, Bool, true, false, ltb, List, [], ◌∷◌, ◌++◌, length, Result, Ok, inl, inr, refl, sym, ap, ◌∙◌, append_assoc, arith}
+use Rattle.std.specs.Str.{IsUtf8}
 use Rattle.std.proofs.lemmas.Bool.{lt-ltb, le-ltb}
-use Rattle.std.proofs.lemmas.List.{append-nil, take_at, drop_at, length-append}
+use Rattle.std.proofs.lemmas.List.{take_at, drop_at, length-append}
 use Rattle.std.proofs.lemmas.Str.{is_utf8-from_IsUtf8}
 use Rattle.avro_file.specs.declared.refusal.Refusal.{Refusal}
 use Rattle.avro_schema.specs.Outcome.{◌>>=◌}
-use Rattle.avro_file.specs.Number.{IsGroups, IsNumber, IsLong, IsInt, int_at, signed_of, groups_at, from_start, number_at, long_at}
+use Rattle.avro_file.specs.Number.{IsGroups, IsNumber, IsLong, IsInt, int_at, groups_at, number_at, long_at}
 use Rattle.avro_schema.specs.Tree.{Tree, null, boolean, int, long, float, double, symbols, octets, string, fixed, structure, array, map, union, Fields, no_fields, field, Branches, no_branches, branch}
-use Rattle.avro_file.specs.Value.{Value, nothing, truth, small, whole, single, twice, symbol, text, run, raw, fields, items, entries, chosen, values_of, Pair, entries_of}
-use Rattle.avro_file.specs.Reading.{Position, Read, leaf, boolean_at, run_at, run_of, bytes_at, string_at, symbol_of, symbol_at, counted, magnitude, count_at, values_at, block_then, blocks_at, chosen_by, entry_at, datum_at, fields_at, branch_at}
+use Rattle.avro_file.specs.Value.{Value, nothing, truth, small, whole, single, twice, symbol, text, run, raw}
+use Rattle.avro_file.specs.Reading.{Position, Read, leaf, boolean_at, run_at, bytes_at, string_at, symbol_at, count_at, values_at, block_then, blocks_at, chosen_by, entry_at, datum_at, fields_at, branch_at}
 use Rattle.avro_file.specs.Spelling.{IsRun, bit, AreJoined, IsCount, AreBlocks, IsEntry, IsChosen, Spells, SpellsFields, SpellsBranch, item_count}
 use Rattle.avro_file.proofs.Taken.{counts, counts-append, items_held, entry_cost, entries_held, fields_held}
 use Rattle.avro_file.proofs.Loop.{count_len}

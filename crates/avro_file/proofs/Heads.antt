@@ -1,5 +1,5 @@
 -- A block's head, and how far a run reads.
-use Rattle.std.proofs.Common.{◌≡◌, ◌≢◌, ℕ, zero, suc, ◌+◌, ◌-◌, ◌<◌, ◌≤◌, ℤ, pos, negsuc, eqb, Bool, true, false, List, [], ◌∷◌, ◌++◌, length, take, Option, Some, None, Result, Ok, Err, refl, sym, ap, subst, ◌∙◌, append_assoc, sub-one, arith}
+use Rattle.std.proofs.Common.{◌≡◌, ◌≢◌, ℕ, zero, suc, ◌-◌, ◌<◌, ◌≤◌, ℤ, pos, negsuc, eqb, true, false, List, [], ◌∷◌, ◌++◌, length, Result, Ok, Err, refl, sym, ap, subst, ◌∙◌, sub-one, arith}
 use Rattle.std.specs.Str.{bytes_eq}
 use Rattle.std.proofs.lemmas.List.{length-append}
 use Rattle.std.proofs.lemmas.Bool.{eqb-true}
@@ -7,13 +7,12 @@ use Rattle.std.proofs.lemmas.Slice.Eq.{bytes_eq-Decides}
 use Rattle.avro_file.specs.declared.refusal.Refusal.{Refusal}
 use Rattle.avro_file.specs.declared.refusal.Refusal.TheVariants.{BadSync}
 use Rattle.avro_file.specs.declared.fault.AvroFault.TheVariants.{BlockSize}
-use Rattle.avro_schema.specs.Outcome.{◌>>=◌}
 use Rattle.avro_file.specs.Number.{IsLong, long_at}
 use Rattle.avro_schema.specs.Tree.{Tree}
 use Rattle.avro_file.specs.Value.{Value}
 use Rattle.avro_file.specs.Reading.{run_at}
-use Rattle.avro_file.specs.Blocks.{fault_of, refused, BlockHead, natural_of, head_at, object_at, Run, at_end, stopped, preceded, object_then, objects_run, head_then, blocks_run, FilePosition, run_from}
-use Rattle.avro_file.proofs.Steps.{bind_ok, passed, ok_is, joined}
+use Rattle.avro_file.specs.Blocks.{fault_of, refused, BlockHead, natural_of, head_at, object_at, Run, at_end, stopped, preceded, objects_run, head_then, blocks_run, FilePosition, run_from}
+use Rattle.avro_file.proofs.Steps.{bind_ok, passed, ok_is}
 use Rattle.avro_file.proofs.Taken.{long_takes, run_takes}
 use Rattle.avro_file.proofs.Loop.{long_len}
 

@@ -1,19 +1,16 @@
 -- A run gives the data that are held, and no others are.
-use Rattle.std.proofs.Common.{◌≡◌, ◌≢◌, ℕ, zero, suc, ◌+◌, ◌-◌, ◌<◌, ◌≤◌, ℤ, pos, negsuc, Bool, true, false, List, [], ◌∷◌, ◌++◌, length, Option, Some, None, Result, Ok, Err, refl, sym, ap, subst, ◌∙◌, append_assoc, arith}
+use Rattle.std.proofs.Common.{◌≡◌, ◌≢◌, ℕ, zero, suc, ◌-◌, ◌<◌, ◌≤◌, pos, true, List, [], ◌∷◌, ◌++◌, length, Option, Some, None, Result, Ok, Err, refl, sym, ap, subst, ◌∙◌, arith}
 use Rattle.std.specs.Str.{bytes_eq}
-use Rattle.std.specs.List.{AllByRecursion}
-use Rattle.std.proofs.lemmas.List.{length-append, append-nil}
 use Rattle.std.proofs.lemmas.Slice.Eq.{bytes_eq-Decides}
 use Rattle.avro_file.specs.declared.refusal.Refusal.{Refusal}
 use Rattle.avro_file.specs.declared.fault.AvroFault.{AvroFault}
 use Rattle.avro_file.specs.declared.fault.AvroFault.TheVariants.{BlockSize}
-use Rattle.avro_schema.specs.Outcome.{◌>>=◌}
-use Rattle.avro_file.specs.Number.{IsLong, long_at}
+use Rattle.avro_file.specs.Number.{IsLong}
 use Rattle.avro_schema.specs.Tree.{Tree}
 use Rattle.avro_file.specs.Value.{Value}
 use Rattle.avro_file.specs.Reading.{Position, run_at, datum_at}
 use Rattle.avro_file.specs.Spelling.{AreJoined, Spells, item_count}
-use Rattle.avro_file.specs.Blocks.{fault_of, inside, refused, BlockHead, natural_of, head_at, max_items, object_at, Run, at_end, stopped, preceded, object_then, objects_run, head_then, blocks_run}
+use Rattle.avro_file.specs.Blocks.{fault_of, inside, refused, BlockHead, head_at, max_items, object_at, Run, at_end, stopped, preceded, object_then, objects_run, head_then, blocks_run}
 use Rattle.avro_file.specs.Holding.{HoldsBlocks, Holds, AreWithinLimits}
 use Rattle.avro_file.proofs.Steps.{bind_ok, ok_is}
 use Rattle.avro_file.proofs.Taken.{datum_takes}

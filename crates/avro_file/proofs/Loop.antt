@@ -1,5 +1,5 @@
 -- Reading values one after the other, as the loops do.
-use Rattle.std.proofs.Common.{◌≡◌, ◌≢◌, ℕ, zero, suc, ℤ, pos, negsuc, inl, inr, ◌-◌, ◌+◌, ◌≤◌, ◌<◌, List, [], ◌∷◌, ◌++◌, length, get_or, drop, Result, Ok, Err, refl, sym, ap, ◌∙◌, append_assoc, add-one, drop-cons, arith}
+use Rattle.std.proofs.Common.{◌≡◌, ◌≢◌, ℕ, zero, suc, ℤ, pos, negsuc, inl, inr, ◌-◌, ◌+◌, ◌≤◌, ◌<◌, List, [], ◌∷◌, ◌++◌, length, get_or, drop, Ok, Err, refl, sym, ap, ◌∙◌, append_assoc, add-one, drop-cons, arith}
 use Rattle.std.proofs.lemmas.List.{append-nil, length-append}
 use Rattle.std.proofs.Math.ListN.{drop_of_length-le}
 use Rattle.avro_file.specs.declared.refusal.Refusal.{Refusal}
@@ -7,11 +7,10 @@ use Rattle.avro_schema.specs.declared.schema.Field.{Field}
 use Rattle.avro_schema.specs.Outcome.{◌>>=◌}
 use Rattle.avro_file.specs.Number.{IsGroups, IsLong}
 use Rattle.avro_file.specs.Spelling.{IsCount}
-use Rattle.avro_schema.specs.Tree.{Tree}
 use Rattle.avro_file.specs.Value.{Value}
 use Rattle.avro_schema.specs.View.{tree}
-use Rattle.avro_file.specs.Reading.{Position, Read, with_front, count_at, values_at, block_then, blocks_at, datum_at, fields_at}
-use Rattle.avro_file.proofs.Steps.{bind_ok, ok_is}
+use Rattle.avro_file.specs.Reading.{Position, Read, with_front, count_at, values_at, blocks_at, datum_at, fields_at}
+use Rattle.avro_file.proofs.Steps.{ok_is}
 use Rattle.avro_file.proofs.Views.{field_trees}
 use Rattle.avro_file.proofs.Taken.{Each, count_takes, values_take}
 

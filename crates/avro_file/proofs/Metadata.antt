@@ -1,9 +1,8 @@
 -- Which metadata a header has.
-use Rattle.std.proofs.Common.{◌≡◌, ℕ, zero, suc, ◌+◌, ◌-◌, ◌^◌, ◌<◌, ◌≤◌, pos, List, [], ◌∷◌, ◌++◌, length, Result, Ok, refl, sym, ap, subst, ◌∙◌, append_assoc, arith}
+use Rattle.std.proofs.Common.{◌≡◌, ℕ, zero, suc, ◌+◌, ◌-◌, ◌^◌, ◌<◌, ◌≤◌, pos, List, [], ◌∷◌, ◌++◌, length, Ok, refl, sym, ap, subst, ◌∙◌, append_assoc, arith}
 use Rattle.std.proofs.lemmas.List.{length-append}
 use Rattle.avro_schema.specs.Outcome.{◌>>=◌}
-use Rattle.avro_file.specs.declared.refusal.Refusal.{Refusal}
-use Rattle.avro_file.specs.Reading.{Position, Read, run_at, blocks_at}
+use Rattle.avro_file.specs.Reading.{Position, run_at, blocks_at}
 use Rattle.avro_file.specs.Spelling.{AreJoined, AreBlocks}
 use Rattle.avro_file.specs.Header.{Property, Wanted, wanted_with, none_wanted, property_at, properties_at, wanted_at, metadata_at, FileHeader, header_at, IsProperty, AreProperties}
 use Rattle.avro_file.proofs.Steps.{bind_ok, ok_is}

@@ -1,10 +1,10 @@
 -- What opening a file has read, and which files it opens.
-use Rattle.std.proofs.Common.{◌≡◌, ◌≢◌, ℕ, ◌+◌, ◌^◌, ◌<◌, ◌≤◌, ltb, Bool, true, false, cond, List, [], ◌∷◌, ◌++◌, length, take, drop, Option, Some, None, Result, Ok, Err, refl, sym, ap, subst, ◌∙◌, arith}
+use Rattle.std.proofs.Common.{◌≡◌, ℕ, ◌+◌, ◌^◌, ◌<◌, ltb, true, false, cond, List, [], ◌++◌, length, take, drop, Option, Some, None, Result, Ok, Err, refl, sym, ap, subst, ◌∙◌, arith}
 use Rattle.std.specs.Prelude.{IfOk}
 use Rattle.std.specs.Str.{bytes_eq}
 use Rattle.std.proofs.lemmas.Bool.{le-ltb}
 use Rattle.std.proofs.lemmas.List.{length-append, take-append-drop}
-use Rattle.avro_schema.specs.Outcome.{◌>>=◌, Gives}
+use Rattle.avro_schema.specs.Outcome.{Gives}
 use Rattle.avro_schema.specs.Tree.{Tree}
 use Rattle.avro_schema.specs.Texts.{schema_of}
 use Rattle.avro_file.specs.declared.fault.AvroFault.{AvroFault}
@@ -14,7 +14,7 @@ use Rattle.avro_file.specs.Value.{Value}
 use Rattle.avro_file.specs.Blocks.{fault_of, refused, Run, run_from, objects_run, blocks_run}
 use Rattle.avro_file.specs.Holding.{AreWithinLimits}
 use Rattle.avro_file.specs.Header.{Property, Wanted, wanted_with, none_wanted, AreProperties, FileHeader, header_at, last_under, schema_key, codec_key}
-use Rattle.avro_file.specs.Ahead.{Ahead, running}
+use Rattle.avro_file.specs.Ahead.{running}
 use Rattle.avro_file.specs.Files.{magic, null_codec, ahead, ahead_of, tree_of, Opened, opened, reader_of, begun_at, schema_text, uncompressed, opened_at, IsUncompressed, HoldsFile}
 use Rattle.avro_file.proofs.Steps.{bind_ok, guard_ok, passed, ok_is}
 use Rattle.avro_file.proofs.Heads.{refused_ok, same_bytes}

@@ -1,5 +1,5 @@
 -- Steps that may fail, taken apart.
-use Rattle.std.proofs.Common.{◌≡◌, ℕ, Bool, true, false, cond, List, ◌++◌, Result, Ok, Err, ◌⊎◌, inl, inr, refl, ap, sym, ◌∙◌, append_assoc}
+use Rattle.std.proofs.Common.{◌≡◌, Bool, true, false, cond, List, ◌++◌, Result, Ok, Err, ◌⊎◌, inl, inr, refl, ap, sym, ◌∙◌, append_assoc}
 use Rattle.avro_schema.specs.Outcome.{◌>>=◌}
 
 -- the value of a step that did not fail

@@ -9,7 +9,6 @@ use Rattle.avro_schema.specs.Tree.{Tree}
 use Rattle.avro_schema.specs.Texts.{schema_of}
 use Rattle.avro_file.specs.declared.refusal.Refusal.{Refusal}
 use Rattle.avro_file.specs.declared.refusal.Refusal.TheVariants as refusal
-use Rattle.avro_file.specs.declared.fault.AvroFault.{AvroFault}
 use Rattle.avro_file.specs.declared.fault.AvroFault.TheVariants as fault
 use Rattle.avro_file.specs.Number.{IsLong, signed_of, groups_at, from_start, number_at, long_at}
 use Rattle.avro_file.specs.Reading.{Position, Read, run_at, run_of, bytes_at, string_at, magnitude, counted, count_at, values_at, block_then, blocks_at}

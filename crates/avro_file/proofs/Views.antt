@@ -6,7 +6,6 @@ use Rattle.avro_file.specs.declared.refusal.Refusal.TheVariants.{BadUnion}
 use Rattle.avro_schema.specs.declared.schema.Schema.{Schema, Record, Map, Union, the_lemmas}
 use Rattle.avro_schema.specs.declared.schema.Field.{Field}
 use Rattle.avro_file.specs.declared.datum.Datum as datum
-use Rattle.avro_schema.specs.Outcome.{◌>>=◌}
 use Rattle.avro_schema.specs.Tree as Tree
 use Rattle.avro_schema.specs.Tree.{structure, union, Fields, Branches}
 use Rattle.avro_schema.specs.View.{tree, trees, parts, fields_of, branches_of}

@@ -1,5 +1,4 @@
 -- What the value reader's own place shows (Avro 1.11.1 specification, 'Binary Encoding').
-use Rattle.std.specs.Prelude.{ℕ, List}
 use Rattle.avro_file.specs.declared.place.Place.{Place}
 use Rattle.avro_file.specs.Reading.{Position}
 

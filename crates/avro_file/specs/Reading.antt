@@ -1,14 +1,14 @@
 -- Reading values from left to right, with the first fault that is met.
 -- Avro 1.11.1 specification, 'Binary Encoding', 'Primitive Types' and 'Complex Types' (records, enums, arrays, maps,
 -- unions, fixed).
-use Rattle.std.specs.Prelude.{◌≡◌, ℕ, zero, suc, ◌-◌, ℤ, pos, negsuc, List, [], ◌∷◌, ◌++◌, length, take, drop, Bool, true, false, Result, Ok, Err, nat_lt, if◌then◌else◌}
+use Rattle.std.specs.Prelude.{ℕ, zero, suc, ◌-◌, ℤ, pos, negsuc, List, [], ◌∷◌, ◌++◌, length, take, drop, Bool, true, false, Result, Ok, Err, nat_lt, if◌then◌else◌}
 use Rattle.std.specs.Str.{is_utf8}
 use Rattle.avro_file.specs.declared.refusal.Refusal.{Refusal}
 use Rattle.avro_file.specs.declared.refusal.Refusal.TheVariants.{Short, BadNumber, BadUnion, BadUtf8, BadBoolean, TooManyItems}
 use Rattle.avro_schema.specs.Outcome.{◌>>=◌}
 use Rattle.avro_file.specs.Number.{long_at, int_at}
 use Rattle.avro_schema.specs.Tree.{Tree, null, boolean, int, long, float, double, symbols, octets, string, fixed, structure, array, map, union, Fields, no_fields, field, Branches, no_branches, branch}
-use Rattle.avro_file.specs.Value.{Value, nothing, truth, small, whole, single, twice, symbol, text, run, raw, fields, items, entries, chosen, Values, values_of, Pair, entries_of}
+use Rattle.avro_file.specs.Value.{Value, nothing, truth, small, whole, single, twice, symbol, text, run, raw, fields, items, entries, chosen, values_of, Pair, entries_of}
 
 -- where a reader stands: the bytes to come, and how many items may still come in arrays and maps
 pub record Position : Type 0 where

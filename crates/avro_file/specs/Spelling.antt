@@ -1,7 +1,7 @@
 -- Which bytes spell a value under a schema.
 -- Avro 1.11.1 specification, 'Binary Encoding', 'Primitive Types' and 'Complex Types'. Numbers may have more groups
 -- than they need, and the byte size behind a negative count is not compared.
-use Rattle.std.specs.Prelude.{◌≡◌, ℕ, zero, suc, ◌+◌, ◌<◌, ◌≤◌, ℤ, pos, negsuc, Bool, true, false, List, [], ◌∷◌, ◌++◌, length, ◌⊎◌}
+use Rattle.std.specs.Prelude.{◌≡◌, ℕ, zero, suc, ◌+◌, ◌<◌, ℤ, pos, negsuc, Bool, true, false, List, [], ◌∷◌, ◌++◌, length, ◌⊎◌}
 use Rattle.std.specs.Str.{IsUtf8}
 use Rattle.avro_file.specs.Number.{IsLong, IsInt}
 use Rattle.avro_schema.specs.Tree.{Tree, null, boolean, int, long, float, double, symbols, octets, string, fixed, structure, array, map, union, Fields, no_fields, field, Branches, no_branches, branch}

@@ -1,10 +1,10 @@
 -- The value that a `Datum` is.
 -- Avro 1.11.1 specification, 'Primitive Types' and 'Complex Types'.
-use Rattle.std.specs.Prelude.{ℕ, ℤ, List, [], ◌∷◌, map, String, string_bytes}
+use Rattle.std.specs.Prelude.{List, map, String, string_bytes}
 use Rattle.std.specs.declared.alloc.Global.{Global}
 use Rattle.avro_file.specs.declared.datum.Datum.{Datum, fold-Datum}
 use Rattle.avro_file.specs.declared.datum.Datum.TheOpen.{Datum-F}
-use Rattle.avro_file.specs.Value.{Value, nothing, truth, small, whole, single, twice, symbol, text, run, raw, fields, items, entries, chosen, Values, values_of, Pair, entries_of}
+use Rattle.avro_file.specs.Value.{Value, nothing, truth, small, whole, single, twice, symbol, text, run, raw, fields, items, entries, chosen, values_of, Pair, entries_of}
 
 abbrev pub value_step : Datum-F Value → Value
 value_step Datum-F.Null = nothing

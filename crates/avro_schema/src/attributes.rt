@@ -1,7 +1,6 @@
 //! What an object's attributes say.
 
-ghost use Rattle.std.specs.Prelude.{◌≡◌, codes, option_map, option_and_then, Option};
-ghost use Rattle.serde_json.specs.Find.{get};
+ghost use Rattle.std.specs.Prelude.{◌≡◌, codes, option_map, Option};
 ghost use Rattle.serde_json.specs.View.{view, items_view};
 ghost use Rattle.avro_schema.specs.View.{tree};
 ghost use Rattle.avro_schema.specs.Attributes.{text_in, name_in, is_object, is_text, all_items, items_in, symbols_in, number_in, id_of, id_in, array_kind, bytes_kind, size_of, size_in, plain, kind_of};

@@ -1,11 +1,10 @@
 //! The walk over a schema's JSON.
 
-ghost use Rattle.std.specs.Prelude.{◌≡◌, ◌∷◌, [], true, false, List, Ok, IfOk, Result};
+ghost use Rattle.std.specs.Prelude.{◌≡◌, [], Ok, IfOk, Result};
 ghost use Rattle.serde_json.specs.View.{view, items_view};
-ghost use Rattle.avro_schema.specs.Names.{full};
 ghost use Rattle.avro_schema.specs.Outcome.{Gives};
 ghost use Rattle.avro_schema.specs.View.{tree, trees, parts};
-ghost use Rattle.avro_schema.specs.Reading.{asked, fresh, defines, branches_at, field_at, fields_at, record_at, array_at, map_at, enum_at, fixed_at, object_at, text_at as tree_of_word, union_at, node_at, tree_at};
+ghost use Rattle.avro_schema.specs.Reading.{fresh, defines, branches_at, field_at, fields_at, record_at, array_at, map_at, enum_at, fixed_at, object_at, text_at as tree_of_word, union_at, node_at, tree_at};
 ghost use Rattle.avro_schema.specs.Met.{met, Reads};
 ghost use Rattle.avro_schema.specs.declared.reading.Place.TheVariants.{Branch, Elsewhere};
 

@@ -1,8 +1,8 @@
 //! Files by their paths.
 
-ghost use Rattle.std.specs.Prelude.{◌≡◌, IfOk, IsErrOf, Some, None};
-ghost use Rattle.ice_desk.specs.Worlds.{World, HasAt};
-ghost use Rattle.std.specs.Prelude.{Option, List, ℕ};
+ghost use Rattle.std.specs.Prelude.{◌≡◌, ℕ, List, Option, IfOk, IsErrOf, Some, None};
+ghost use Rattle.ice_desk.specs.Worlds.{HasAt};
+ghost use Rattle.ice_state.specs.Contents.{World};
 
 use std::alloc::Global;
 

@@ -1,2 +1,5 @@
 pub mod Steps
 pub mod Ahead
+pub mod Rising
+pub mod Sets
+pub mod Said

@@ -4,3 +4,4 @@ pub mod Picking
 pub mod Fields
 pub mod Lists
 pub mod Manifests
+pub mod Laws

@@ -1,5 +1,6 @@
 -- The rows of a manifest list, or its first fault. Apache Iceberg table spec v2, "Manifest Lists".
 use Rattle.std.specs.Prelude.{ℕ, ℤ, pos, ◌++◌, List, [], ◌∷◌, length, Bool, true, false, ◌&&◌, Option, Some, None, Result, Ok, Err, nat_le, ◌==◌, if◌then◌else◌}
+use Rattle.std.specs.declared.cmp.Ordering.{Ordering}
 use Rattle.std.specs.Ordering.{int_eq, nat_cmp, is_lt}
 use Rattle.std.specs.Cmp.Lexicographic.{slice_cmp}
 use Rattle.std.specs.Str.{bytes_eq}
@@ -90,8 +91,12 @@ rows_ahead at front (refusing f) = Err (of_container f)
 
 -- ---- each row once, in the order of their paths
 
+-- by the bytes of their paths
+abbrev pub path_order : Row → Row → Ordering
+path_order r s = slice_cmp nat_cmp r.path s.path
+
 abbrev pub path_before : Row → Row → Bool
-path_before r s = is_lt (slice_cmp nat_cmp r.path s.path)
+path_before r s = is_lt (path_order r s)
 
 abbrev pub same_content : ManifestContent → ManifestContent → Bool
 same_content Data Data = true

@@ -145,6 +145,21 @@ file_at at of_row vs = do
   ids ← manifested (list_in (pos 136) at.equality_ids vs)
   Ok (record { content = content; path = path; record_count = count; file_size = size; equality_ids = ids })
 
+-- the entry of a file, whose number is inherited already
+abbrev pub entry_of : Row → Spec → ℕ → ℕ → DataFile → Entry
+entry_of row spec position sequence file = record {
+  position = position;
+  content = file.content;
+  path = file.path;
+  spec = row.spec;
+  unpartitioned = is_unpartitioned spec;
+  tuple = [];
+  sequence_number = sequence;
+  record_count = file.record_count;
+  file_size = file.file_size;
+  equality_ids = file.equality_ids;
+}
+
 -- an entry that exists or was added
 unfoldable pub live_entry : EntryLayout → Row → Spec → ℕ → Status → Values → Result Entry ManifestFault
 live_entry at row spec position status vs = do
@@ -152,7 +167,7 @@ live_entry at row spec position status vs = do
   sequence ← inherited row.sequence_number status own
   found ← manifested (asked (pos 2) (file_of at.files (nth at.file vs)))
   file ← file_at found.0 row.content found.1
-  Ok (record { position = position; content = file.content; path = file.path; spec = row.spec; unpartitioned = is_unpartitioned spec; tuple = []; sequence_number = sequence; record_count = file.record_count; file_size = file.file_size; equality_ids = file.equality_ids })
+  Ok (entry_of row spec position sequence file)
 
 -- of a deleted entry nothing but the status is looked at
 abbrev pub unless_deleted : Status → Result Entry ManifestFault → Result (Option Entry) ManifestFault

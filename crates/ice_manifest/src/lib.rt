@@ -5,6 +5,7 @@ mod entry;
 mod fault;
 mod field;
 mod kind;
+mod laws;
 mod layout;
 mod list;
 mod live;
@@ -14,6 +15,10 @@ mod row;
 
 pub use entry::{Entry, FileContent};
 pub use fault::{ListFault, ManifestFault};
+pub use laws::{entries_are_the_live_ones, rows_are_a_set};
 pub use list::read_list;
 pub use manifest::read_manifest;
 pub use row::{ManifestContent, Row};
+
+#[cfg(test)]
+mod tests;

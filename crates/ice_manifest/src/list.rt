@@ -1,11 +1,12 @@
 //! Reading a manifest list.
 
-ghost use Rattle.std.specs.Prelude.{◌≡◌, [], length, option_map, OnOk, IfOk};
+ghost use Rattle.std.specs.Prelude.{◌≡◌, ◌≤◌, [], length, option_map, OnOk, IfOk};
+ghost use Rattle.std.specs.List.Sorted.{IsStrictlySortedBy};
 ghost use Rattle.avro_schema.specs.Outcome.{Gives};
 ghost use Rattle.avro_file.specs.View.{view};
 ghost use Rattle.avro_file.specs.Files.{ahead};
 ghost use Rattle.ice_manifest.specs.Fields.{values};
-ghost use Rattle.ice_manifest.specs.Lists.{rows_of, row_at as row_in, row_content as content_in, rows_ahead, path_twice as twice_in, in_order as ordered, checked as checked_in};
+ghost use Rattle.ice_manifest.specs.Lists.{rows_of, row_at as row_in, row_content as content_in, rows_ahead, path_twice as twice_in, in_order as ordered, checked as checked_in, path_order};
 
 use crate::fault::ListFault;
 use crate::field::{fields_of, int_at, long_at, number_at, path_at, take_path};
@@ -104,7 +105,10 @@ fn checked(alloc: Global, rows: Vec<Row>) -> Result<Vec<Row>, ListFault>
 /// The rows of a manifest list, each once, sorted by the bytes of their paths.
 #[tactic(auto, unfolding(crate::specs::Lists::rows_of))]
 pub fn read_list(alloc: Global, bytes: &[u8]) -> Result<Vec<Row>, ListFault>
-    ensures { Gives ListFault.Memory (λ rows. rows.items) result (rows_of bytes.now) }
+    ensures exact { Gives ListFault.Memory (λ rows. rows.items) result (rows_of bytes.now) }
+    // So no two rows have one path.
+    ensures distinct { IfOk result (λ rows. IsStrictlySortedBy path_order rows.items) }
+    ensures few { IfOk result (λ rows. length rows.items ≤ 65536) }
 {
     let container = Container::open(alloc, bytes)?;
     let layout = RowLayout::of(container.schema())?;

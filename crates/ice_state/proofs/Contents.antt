@@ -10,7 +10,8 @@ use Rattle.ice_state.specs.declared.reading.Reading.{Reading}
 use Rattle.ice_state.specs.declared.reading.Reading.TheVariants.{Good}
 use Rattle.ice_state.specs.Pruning.{everything}
 use Rattle.ice_state.specs.Scans.{Scanned, spec_of}
-use Rattle.ice_state.specs.Contents.{Content, World, reading, reading_of, reading_by, slot_of, slots_of, content, add, or_else, took_at, took, with_row, HasBytesAt, HasBytes}
+use Rattle.ice_state.specs.Contents.{Content, World, reading, reading_of, slot_of, slots_of, content, add, or_else, took_at, took, HasBytesAt, HasBytes}
+use Rattle.ice_state.specs.Parts.{reading_by, with_row}
 use Rattle.ice_state.proofs.Filters.{kept-everything}
 
 -- a row that was taken stays as it is

@@ -1,10 +1,12 @@
 pub mod Contents
+pub mod Elements
 pub mod Filters
 pub mod Joins
 pub mod Lines
 pub mod Outcomes
 pub mod Pruned
 pub mod Runs
+pub mod Scanning
 pub mod Scans
 pub mod Sharing
 pub mod Snapshots

@@ -11,6 +11,7 @@ use Rattle.ice_state.specs.declared.plan.OwnedLine.{OwnedLine}
 use Rattle.ice_state.specs.Applying.{Applies, AppliesAs, SamePartition, applies, applies_as, same_partition, same_tuple}
 use Rattle.ice_state.specs.Outcomes.{line_of, plan_over}
 use Rattle.ice_state.specs.Pruning.{holds, same_content}
+use Rattle.ice_state.proofs.Elements.{filtered, refiltered, mapped}
 use Rattle.ice_state.proofs.Filters.{and_true}
 use Rattle.ice_state.proofs.Tuples.{tuple_decides}
 
@@ -19,9 +20,6 @@ le_decides a b = (λ h. grind (arith, nat_tests), λ h. grind (arith, nat_tests)
 
 lt_decides : (a b : ℕ) → Decides (nat_lt a b) (a < b)
 lt_decides a b = (λ h. grind (arith, nat_tests), λ h. grind (arith, nat_tests))
-
-same_decides : (a b : Bool) → Decides a (a ≡ true)
-same_decides a b = (λ h. h, λ h. h)
 
 partition_decides : (x d : Entry) → Decides (same_partition x d) (SamePartition x d)
 partition_decides x d = Decides-and (int_eq x.spec d.spec) (same_tuple x.tuple d.tuple) (Decides-int_eq x.spec d.spec) (tuple_decides x.tuple d.tuple)
@@ -46,53 +44,6 @@ content_decides PositionDeletes EqualityDeletes = (λ h. cc, λ h. cc)
 content_decides EqualityDeletes Data = (λ h. cc, λ h. cc)
 content_decides EqualityDeletes PositionDeletes = (λ h. cc, λ h. cc)
 content_decides EqualityDeletes EqualityDeletes = (λ h. refl, λ h. refl)
-
--- elements of a list
-contains_more : {X : Type 0} (x y : X) (xs : List X) → Contains xs y → Contains (x ∷ xs) y
-contains_more x y xs (k, l, e) = (suc k, omega arith, e)
-
-contains_at : {X : Type 0} (x y : X) (xs : List X) (k : ℕ) → k < length (x ∷ xs) → slice_index_or (x ∷ xs) k y ≡ y → (x ≡ y) ⊎ Contains xs y
-contains_at x y xs zero l e = inl e
-contains_at x y xs (suc k) l e = inr (k, omega arith, e)
-
-contains_none : {X : Type 0} (y : X) (k : ℕ) → k < length {A = X} [] → ⊥
-contains_none y k l = absurd (omega arith)
-
-filtered : {X : Type 0} (p : X → Bool) (xs : List X) (y : X) → Contains (filter p xs) y → Contains xs y × (p y ≡ true)
-filtered p [] y (k, l, e) = absurd (omega arith)
-filtered {X} p (x ∷ xs) y h =
-    let P : (b : Bool) → p x ≡ b → Contains (cond b (x ∷ filter p xs) (filter p xs)) y → Contains (x ∷ xs) y × (p y ≡ true) =
-    λ b. elim b as (λ v. p x ≡ v → Contains (cond v (x ∷ filter p xs) (filter p xs)) y → Contains (x ∷ xs) y × (p y ≡ true)) [
-      | true ↦ λ t c.
-          elim (contains_at x y (filter p xs) c.0 c.1 c.2) as (λ _. Contains (x ∷ xs) y × (p y ≡ true)) [
-            | inl e ↦ ((0, omega arith, e), sym (ap p e) ∙ t)
-            | inr m ↦ (let r = filtered p xs y m in (contains_more x y xs r.0, r.1))
-          ]
-      | false ↦ λ f c. (let r = filtered p xs y c in (contains_more x y xs r.0, r.1))
-    ] in
-    P (p x) refl h
-
-refiltered : {X : Type 0} (p : X → Bool) (xs : List X) (y : X) → Contains xs y → p y ≡ true → Contains (filter p xs) y
-refiltered p [] y (k, l, e) t = absurd (omega arith)
-refiltered {X} p (x ∷ xs) y c t =
-    let P : (b : Bool) → p x ≡ b → Contains (cond b (x ∷ filter p xs) (filter p xs)) y =
-    λ b. elim b as (λ v. p x ≡ v → Contains (cond v (x ∷ filter p xs) (filter p xs)) y) [
-      | true ↦ λ k.
-          elim (contains_at x y xs c.0 c.1 c.2) as (λ _. Contains (x ∷ filter p xs) y) [
-            | inl e ↦ (0, omega arith, e)
-            | inr m ↦ contains_more x y (filter p xs) (refiltered p xs y m t)
-          ]
-      | false ↦ λ k.
-          elim (contains_at x y xs c.0 c.1 c.2) as (λ _. Contains (filter p xs) y) [
-            | inl e ↦ (let no : true ≡ false = sym t ∙ sym (ap p e) ∙ k in cc)
-            | inr m ↦ refiltered p xs y m t
-          ]
-    ] in
-    P (p x) refl
-
-mapped : {X Y : Type 0} (f : X → Y) (xs : List X) (y : Y) → Contains (map f xs) y → (x : X) × (f x ≡ y)
-mapped f [] y (k, l, e) = absurd (omega arith)
-mapped f (x ∷ xs) y c = elim (contains_at (f x) y (map f xs) c.0 c.1 c.2) [ inl e ↦ (x, e) | inr m ↦ mapped f xs y m ]
 
 pub files_of : (deletes xs : List Entry) → map (λ line. line.file) (plan_over deletes xs) ≡ filter (holds Data) xs
 files_of deletes [] = refl

@@ -6,7 +6,8 @@ use Rattle.ice_manifest.specs.declared.row.Row.{Row}
 use Rattle.ice_state.specs.declared.reading.Reading.{Reading}
 use Rattle.ice_state.specs.declared.reading.Reading.TheVariants.{Good, Bad}
 use Rattle.ice_state.specs.Contents.{Content}
-use Rattle.ice_state.specs.Outcomes.{missing, bad, twice, fault_of}
+use Rattle.ice_state.specs.Outcomes.{missing, bad, twice}
+use Rattle.ice_state.specs.Parts.{fault_of}
 
 -- a row that was taken isn't missing
 pub missing_step : (rows : List Row) (slots : Content) (i : ℕ) (s : Option Reading) → i < length rows → i < length slots → s ≡ get_or slots i s → is_none s ≡ false → missing (drop (suc i) rows) (drop (suc i) slots) ≡ missing (drop i rows) (drop i slots)

@@ -9,7 +9,7 @@ use Rattle.ice_meta.specs.declared.spec.Spec.{Spec}
 use Rattle.ice_manifest.specs.declared.row.Row.{Row}
 use Rattle.ice_state.specs.declared.fault.ScanFault.{ScanFault}
 use Rattle.ice_state.specs.Pruning.{everything}
-use Rattle.ice_state.specs.Scans.{Scanned, spec_of, row_before, by_row_path, without_spec, unless_missing, scan_of, Stops}
+use Rattle.ice_state.specs.Scans.{Scanned, spec_of, row_before, by_row_path, without_spec, unless_missing, scan_of}
 use Rattle.ice_state.proofs.Filters.{wanted-everything}
 
 pub row_order : IsStrictWeakOrder row_before

@@ -44,7 +44,7 @@ kept-every world scan [] = refl
 kept-every world scan (row ∷ rows) = rw (kept-slot scan row (world row.path), kept-every world scan rows) refl
 
 -- what a scan wants
-wanted_of : (rows : List Row) (specs : List Spec) (scan : Scanned) → scan_of rows specs ≡ Ok scan → scan.wanted ≡ filter everything.wants (by_row_path rows)
+pub wanted_of : (rows : List Row) (specs : List Spec) (scan : Scanned) → scan_of rows specs ≡ Ok scan → scan.wanted ≡ filter everything.wants (by_row_path rows)
 wanted_of rows specs scan h =
     let made : Scanned = record { wanted = filter everything.wants (by_row_path rows); specs = specs } in
     let P : (xs : List Row) → unless_missing xs made ≡ Ok scan → made ≡ scan =

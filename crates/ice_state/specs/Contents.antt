@@ -8,7 +8,7 @@ use Rattle.ice_manifest.specs.declared.row.Row.{Row}
 use Rattle.ice_manifest.specs.Manifests.{entries_of}
 use Rattle.ice_state.specs.declared.reading.Reading.{Reading}
 use Rattle.ice_state.specs.declared.reading.Reading.TheVariants.{Good, Bad}
-use Rattle.ice_state.specs.Pruning.{Pruner, everything, kept}
+use Rattle.ice_state.specs.Pruning.{Pruner, kept}
 use Rattle.ice_state.specs.Scans.{Scanned, pruner, spec_of}
 
 -- for each wanted row, in the order of their paths: what its manifest gave, or nothing where it wasn't taken
@@ -35,10 +35,6 @@ manifest_of specs row bytes = entries_by (spec_of specs row.spec) row bytes
 abbrev pub reading : Pruner → Result (List Entry) ManifestFault → Reading
 reading p (Ok entries) = Good (kept p entries)
 reading p (Err fault) = Bad fault
-
--- so far every live entry is kept
-abbrev pub reading_by : Spec → Row → List ℕ → Reading
-reading_by spec row bytes = reading everything (entries_of row spec bytes)
 
 abbrev pub reading_of : Scanned → Row → List ℕ → Reading
 reading_of scan row bytes = reading (pruner scan) (manifest_of scan.specs row bytes)
@@ -99,9 +95,3 @@ took_at scan (s ∷ ss) (row ∷ rows) (suc i) bytes = s ∷ took_at scan ss row
 -- the content with one more row, whose manifest has these bytes
 abbrev pub took : Scanned → Content → ℕ → List ℕ → Content
 took scan c i bytes = took_at scan c scan.wanted i bytes
-
--- the content with one more row, by what it gave
-abbrev pub with_row : Content → ℕ → Reading → Content
-with_row [] i r = []
-with_row (s ∷ ss) zero r = or_else s (Some r) ∷ ss
-with_row (s ∷ ss) (suc i) r = s ∷ with_row ss i r

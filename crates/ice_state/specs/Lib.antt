@@ -2,6 +2,7 @@ pub mod Applying
 pub mod Contents
 pub mod Joins
 pub mod Outcomes
+pub mod Parts
 pub mod Pruning
 pub mod Runs
 pub mod Scans

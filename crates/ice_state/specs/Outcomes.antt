@@ -1,5 +1,5 @@
 -- What a content gives in the end: its first fault, or the plan.
-use Rattle.std.specs.Prelude.{◌≡◌, Bool, ◌&&◌, List, [], ◌∷◌, ◌++◌, map, filter, Option, Some, None, Result, Ok, Err, if◌then◌else◌}
+use Rattle.std.specs.Prelude.{Bool, ◌&&◌, List, [], ◌∷◌, ◌++◌, map, filter, Option, Some, None, Result, Ok, Err, if◌then◌else◌}
 use Rattle.std.specs.List.{flat_map}
 use Rattle.std.specs.Cmp.Lexicographic.{slice_cmp}
 use Rattle.std.specs.Ordering.{nat_cmp, is_lt}
@@ -7,7 +7,6 @@ use Rattle.std.specs.Str.{bytes_eq}
 use Rattle.ice_value.specs.Sorting.{sorted}
 use Rattle.ice_manifest.specs.declared.entry.Entry.{Entry}
 use Rattle.ice_manifest.specs.declared.entry.FileContent.TheVariants.{Data, PositionDeletes, EqualityDeletes}
-use Rattle.ice_manifest.specs.declared.fault.ManifestFault.{ManifestFault}
 use Rattle.ice_manifest.specs.declared.row.Row.{Row}
 use Rattle.ice_state.specs.declared.fault.FinishFault.{FinishFault}
 use Rattle.ice_state.specs.declared.fault.FinishFault.TheVariants as faults
@@ -45,12 +44,6 @@ missing [] slots = []
 missing (row ∷ rows) [] = []
 missing (row ∷ rows) (slot ∷ slots) = missing_at row slot ++ missing rows slots
 
--- the fault of a bad manifest
-abbrev pub fault_of : Option Reading → Option ManifestFault
-fault_of None = None
-fault_of (Some (Good entries)) = None
-fault_of (Some (Bad fault)) = Some fault
-
 -- the rows that are bad
 abbrev pub bad_at : Row → Option Reading → List FinishFault
 bad_at row None = []
@@ -80,17 +73,6 @@ plan_over deletes xs = map (line_of deletes) (filter (holds Data) xs)
 abbrev pub first_or : List FinishFault → List OwnedLine → Result (List OwnedLine) FinishFault
 first_or [] plan = Ok plan
 first_or (f ∷ fs) plan = Err f
-
--- memory ran out, or the fault is the first of the list
-abbrev pub IsFirst : FinishFault → List FinishFault → Type 0
-IsFirst f [] = ⊥
-IsFirst f (g ∷ gs) = f ≡ g
-
-abbrev pub Stops : FinishFault → List FinishFault → Type 0
-Stops faults.Memory fs = Unit {0}
-Stops (faults.Missing p) fs = IsFirst (faults.Missing p) fs
-Stops (faults.Bad p f) fs = IsFirst (faults.Bad p f) fs
-Stops (faults.PathTwice p) fs = IsFirst (faults.PathTwice p) fs
 
 -- what keeps a content from being a plan, in the order in which it counts
 abbrev pub faults_of : List Row → Content → List FinishFault

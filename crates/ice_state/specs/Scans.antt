@@ -1,6 +1,6 @@
 -- What a scan reads: Apache Iceberg table spec, version 2, "Manifest Lists" and "Scan Planning".
-use Rattle.std.specs.Prelude.{◌≡◌, ℕ, ℤ, Bool, List, [], ◌∷◌, filter, Option, is_none, option_and_then, slice_get, Result, Ok, Err}
-use Rattle.std.specs.List.{find}
+use Rattle.std.specs.Prelude.{◌≡◌, ℤ, Bool, false, List, [], ◌∷◌, filter, Option, None, is_none, Result, Ok, Err}
+use Rattle.std.specs.List.{find, Contains}
 use Rattle.std.specs.Cmp.Lexicographic.{slice_cmp}
 use Rattle.std.specs.Ordering.{nat_cmp, int_eq, is_lt}
 use Rattle.ice_value.specs.Sorting.{sorted}
@@ -38,15 +38,6 @@ without_spec specs rows = filter (λ row. is_none (spec_of specs row.spec)) rows
 abbrev pub AllHaveSpec : List Spec → List Row → Type 0
 AllHaveSpec specs rows = without_spec specs rows ≡ []
 
--- the spec of the wanted row i
-abbrev pub spec_at : Scanned → ℕ → Option Spec
-spec_at scan i = option_and_then (λ row. spec_of scan.specs row.spec) (slice_get scan.wanted i)
-
--- the fault is that the first of these rows has no spec
-abbrev pub Stops : ScanFault → List Row → Type 0
-Stops fault [] = ⊥
-Stops fault (row ∷ rows) = fault ≡ NoSuchSpec row.spec
-
 abbrev pub unless_missing : List Row → Scanned → Result Scanned ScanFault
 unless_missing [] scan = Ok scan
 unless_missing (row ∷ rows) scan = Err (NoSuchSpec row.spec)
@@ -54,3 +45,10 @@ unless_missing (row ∷ rows) scan = Err (NoSuchSpec row.spec)
 -- the scan of these rows by these specs, or the missing spec of the row with the least path
 abbrev pub scan_of : List Row → List Spec → Result Scanned ScanFault
 scan_of rows specs = unless_missing (without_spec specs (by_row_path rows)) (record { wanted = filter everything.wants (by_row_path rows); specs = specs })
+
+-- the row with the least path among those whose spec is missing, and that spec's id
+pub record IsFirstUnknown (specs : List Spec) (rows : List Row) (id : ℤ) (row : Row) : Type 0 where
+  pub among : Contains rows row
+  pub named : row.spec ≡ id
+  pub unknown : spec_of specs id ≡ None
+  pub least : (other : Row) → Contains rows other → spec_of specs other.spec ≡ None → row_before other row ≡ false

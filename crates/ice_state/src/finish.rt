@@ -4,7 +4,8 @@ ghost use Rattle.std.specs.Prelude.{◌≡◌, [], ◌++◌, length, map, IfOk, 
 ghost use Rattle.std.specs.Option.{option_copied};
 ghost use Rattle.avro_schema.specs.Outcome.{Gives};
 ghost use Rattle.ice_state.specs.Applying.{applies};
-ghost use Rattle.ice_state.specs.Outcomes.{missing, bad, twice, fault_of, Stops, kept_in, by_path, line_of, plan_over, outcome_of};
+ghost use Rattle.ice_state.specs.Outcomes.{missing, bad, twice, kept_in, by_path, line_of, plan_over, outcome_of};
+ghost use Rattle.ice_state.specs.Parts.{fault_of, Stops};
 ghost use Rattle.ice_state.specs.Pruning.{holds};
 ghost use Rattle.ice_state.specs.Shown.{shown};
 
@@ -16,11 +17,7 @@ use ice_manifest::{Entry, FileContent, ManifestFault, Row};
 use std::alloc::{AllocError, Global};
 
 /// Stops at the first row that wasn't taken.
-fn check_taken(
-    alloc: Global,
-    rows: &[Row],
-    slots: &[Option<Reading>],
-) -> Result<(), FinishFault>
+fn check_taken(alloc: Global, rows: &[Row], slots: &[Option<Reading>]) -> Result<(), FinishFault>
     requires { length rows.now ≡ length slots.now }
     ensures { MatchResult result (λ _. missing rows.now slots.now ≡ []) (λ f. Stops f (missing rows.now slots.now)) }
 {
@@ -43,11 +40,7 @@ fn fault_in(slot: &Option<Reading>) -> Option<&ManifestFault>
 }
 
 /// Stops at the first bad row.
-fn check_good(
-    alloc: Global,
-    rows: &[Row],
-    slots: &[Option<Reading>],
-) -> Result<(), FinishFault>
+fn check_good(alloc: Global, rows: &[Row], slots: &[Option<Reading>]) -> Result<(), FinishFault>
     requires { length rows.now ≡ length slots.now }
     ensures { MatchResult result (λ _. bad rows.now slots.now ≡ []) (λ f. Stops f (bad rows.now slots.now)) }
 {
@@ -72,10 +65,7 @@ fn check_once(alloc: Global, entries: &[&Entry]) -> Result<(), FinishFault>
     Ok(())
 }
 
-fn push_entries<'a>(
-    found: &mut Vec<&'a Entry>,
-    entries: &'a [Entry],
-) -> Result<(), AllocError>
+fn push_entries<'a>(found: &mut Vec<&'a Entry>, entries: &'a [Entry]) -> Result<(), AllocError>
     ensures { OnOk result (map (λ x. x.now) found.new.items ≡ map (λ x. x.now) found.old.items ++ entries.now) }
 {
     'entries: for entry in entries {
@@ -85,10 +75,7 @@ fn push_entries<'a>(
 }
 
 /// The kept entries, row by row.
-fn gathered<'a>(
-    alloc: Global,
-    slots: &'a [Option<Reading>],
-) -> Result<Vec<&'a Entry>, AllocError>
+fn gathered<'a>(alloc: Global, slots: &'a [Option<Reading>]) -> Result<Vec<&'a Entry>, AllocError>
     ensures { IfOk result (λ found. map (λ x. x.now) found.items ≡ kept_in slots.now) }
 {
     let mut found = Vec::new(alloc);

@@ -1,12 +1,15 @@
 //! Laws of contents and plans, in words of their own. Their functions do nothing.
 
-ghost use Rattle.std.specs.Prelude.{◌≡◌, ◌≤◌, ◌↔◌, ℕ, List, [], ◌∷◌, Bool, true, map, filter, Contains};
+ghost use Rattle.std.specs.Prelude.{◌≡◌, ◌≤◌, ◌↔◌, ℕ, ℤ, Ok, Err, IsSome, List, [], ◌∷◌, Bool, true, map, filter, Contains};
 ghost use Rattle.std.specs.List.{flat_map};
+ghost use Rattle.std.specs.List.Sorted.{IsSortedBy};
+ghost use Rattle.ice_meta.specs.declared.spec.Spec.{Spec};
 ghost use Rattle.ice_manifest.specs.declared.entry.Entry.{Entry};
 ghost use Rattle.ice_manifest.specs.declared.entry.FileContent.TheVariants.{Data, PositionDeletes, EqualityDeletes};
 ghost use Rattle.ice_manifest.specs.declared.row.Row.{Row};
 ghost use Rattle.ice_state.specs.declared.fault.FinishFault.{FinishFault};
 ghost use Rattle.ice_state.specs.declared.fault.FinishFault.TheVariants.{PathTwice};
+ghost use Rattle.ice_state.specs.declared.fault.ScanFault.TheVariants.{NoSuchSpec};
 ghost use Rattle.ice_state.specs.declared.plan.OwnedLine.{OwnedLine};
 ghost use Rattle.ice_state.specs.Applying.{Applies, applies};
 ghost use Rattle.ice_state.specs.Contents.{Content, World, content};
@@ -14,9 +17,22 @@ ghost use Rattle.ice_state.specs.Joins.{Agree, join, either};
 ghost use Rattle.ice_state.specs.Outcomes.{by_path, plan_over, twice, outcome};
 ghost use Rattle.ice_state.specs.Pruning.{Pruner, holds, kept};
 ghost use Rattle.ice_state.specs.Runs.{Run, IsIn, TakeTheSame, after};
-ghost use Rattle.ice_state.specs.Scans.{Scanned};
+ghost use Rattle.ice_state.specs.Scans.{Scanned, pruner, spec_of, row_before, scan_of, IsFirstUnknown};
 ghost use Rattle.ice_state.specs.Shares.{IsLeastShared, count_at};
 ghost use Rattle.ice_state.specs.Snapshots.{IsOpen, AreCovered, AreCoveredBy, kept_of_wanted};
+
+/// A scan wants exactly the rows that its filter wants, in the order of their paths, and each of its rows has a spec. It
+/// is refused for the row with the least path among those whose spec is missing.
+pub fn scanning()
+    ensures wanted { (rows : List Row) (specs : List Spec) (scan : Scanned) (row : Row) → scan_of rows specs ≡ Ok scan →
+        (Contains scan.wanted row ↔ (Contains rows row × ((pruner scan).wants row ≡ true))) }
+    ensures sorted { (rows : List Row) (specs : List Spec) (scan : Scanned) → scan_of rows specs ≡ Ok scan →
+        IsSortedBy row_before scan.wanted }
+    ensures known { (rows : List Row) (specs : List Spec) (scan : Scanned) (row : Row) → scan_of rows specs ≡ Ok scan →
+        Contains rows row → IsSome (spec_of specs row.spec) }
+    ensures refused { (rows : List Row) (specs : List Spec) (id : ℤ) → scan_of rows specs ≡ Err (NoSuchSpec id) →
+        (row : Row) × IsFirstUnknown specs rows id row }
+{}
 
 /// What was taken fixes the content: two runs of takes that took the same rows of one world, in whatever order and
 /// however often, end in one content, and so in one outcome.
@@ -48,9 +64,9 @@ pub fn applying()
 pub fn planning()
     ensures files { (deletes xs : List Entry) → map (λ line. line.file) (plan_over deletes xs) ≡ filter (holds Data) xs }
     ensures positions { (deletes xs : List Entry) (line : OwnedLine) (d : Entry) → Contains (plan_over deletes xs) line →
-        Contains line.positions d ↔ (Contains deletes d × ((d.content ≡ PositionDeletes) × Applies line.file d)) }
+        (Contains line.positions d ↔ (Contains deletes d × ((d.content ≡ PositionDeletes) × Applies line.file d))) }
     ensures equalities { (deletes xs : List Entry) (line : OwnedLine) (d : Entry) → Contains (plan_over deletes xs) line →
-        Contains line.equalities d ↔ (Contains deletes d × ((d.content ≡ EqualityDeletes) × Applies line.file d)) }
+        (Contains line.equalities d ↔ (Contains deletes d × ((d.content ≡ EqualityDeletes) × Applies line.file d))) }
 {}
 
 /// Of any filter under which the rows are covered: the kept entries of the wanted rows are those of all rows, and the

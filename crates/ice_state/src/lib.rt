@@ -10,6 +10,8 @@ mod partial;
 mod plan;
 mod reading;
 mod scan;
+#[cfg(test)]
+mod tests;
 
 pub use fault::{FinishFault, ScanFault};
 pub use partial::Partial;

@@ -3,8 +3,9 @@
 ghost use Rattle.std.specs.Prelude.{◌≡◌, ◌<◌, length, OnOk, OnErr, replicate, None, Ok, IfOk, IsOk, IsTrue, List, Bool, ℕ, vec_len};
 ghost use Rattle.avro_schema.specs.Outcome.{Gives};
 ghost use Rattle.ice_manifest.specs.declared.row.Row.{Row};
-ghost use Rattle.ice_state.specs.Contents.{World, IsOf, is_row_taken, took, with_row, content, no_row, every_row, add, HasBytes, HasEach};
+ghost use Rattle.ice_state.specs.Contents.{World, IsOf, is_row_taken, took, content, no_row, every_row, add, HasBytes, HasEach};
 ghost use Rattle.ice_state.specs.Outcomes.{outcome};
+ghost use Rattle.ice_state.specs.Parts.{with_row};
 ghost use Rattle.ice_state.specs.Scans.{Scanned, scan_of};
 ghost use Rattle.ice_state.specs.Snapshots.{AreCovered, plan_of_snapshot};
 

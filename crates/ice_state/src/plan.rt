@@ -38,7 +38,7 @@ impl<'a> Plan<'a> {
     pub fn lines(&self) -> &[Line<'a>]
         ensures { map shown result.now ≡ self.now }
     {
-        &self.lines
+        self.lines.as_slice()
     }
 }
 

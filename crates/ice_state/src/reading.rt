@@ -1,7 +1,7 @@
 //! What a manifest gave.
 
 ghost use Rattle.std.specs.Prelude.{◌≡◌, IfOk};
-ghost use Rattle.ice_state.specs.Contents.{reading_by};
+ghost use Rattle.ice_state.specs.Parts.{reading_by};
 
 use ice_manifest::{Entry, ManifestFault, Row, read_manifest};
 use ice_meta::Spec;

@@ -3,7 +3,8 @@
 ghost use Rattle.std.specs.Prelude.{◌≡◌, ◌<◌, [], length, OnOk, Some, MatchResult, slice_get};
 ghost use Rattle.std.specs.Option.{option_copied};
 ghost use Rattle.avro_schema.specs.Outcome.{Gives};
-ghost use Rattle.ice_state.specs.Scans.{spec_of, spec_at, by_row_path, without_spec, Stops};
+ghost use Rattle.ice_state.specs.Parts.{spec_at, NamesFirst};
+ghost use Rattle.ice_state.specs.Scans.{spec_of, by_row_path, without_spec};
 
 use crate::fault::ScanFault;
 use ice_manifest::Row;
@@ -82,7 +83,7 @@ fn find_spec<'a>(specs: &'a [Spec], row: &Row) -> Option<&'a Spec>
 
 /// Stops at the first row whose spec is missing.
 fn check_specs(rows: &[Row], specs: &[Spec]) -> Result<(), ScanFault>
-    ensures { MatchResult result (λ _. without_spec specs.now rows.now ≡ []) (λ f. Stops f (without_spec specs.now rows.now)) }
+    ensures { MatchResult result (λ _. without_spec specs.now rows.now ≡ []) (λ f. NamesFirst f (without_spec specs.now rows.now)) }
 {
     'rows: for row in rows {
         if find_spec(specs, row).is_none() {

@@ -1,1 +1,4 @@
+pub mod Orders
+pub mod RoundTrip
 pub mod Sorted
+pub mod Texts

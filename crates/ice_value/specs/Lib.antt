@@ -1,1 +1,4 @@
+pub mod Bounds
+pub mod Cells
+pub mod Columns
 pub mod Sorting

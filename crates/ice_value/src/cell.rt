@@ -1,10 +1,17 @@
-//! The value of a column in a row.
+//! The value of a column in a row, and the order of values of one kind.
 
-ghost use Rattle.std.specs.Prelude.{◌≡◌, IfOk};
+ghost use Rattle.std.specs.Prelude.{◌≡◌, ◌↔◌, Some, IfOk, IsSome};
+ghost use Rattle.std.specs.declared.cmp.Ordering.{Ordering};
+ghost use Rattle.std.specs.declared.cmp.Ordering.TheVariants.{Less, Equal};
+ghost use Rattle.std.specs.Option.{option_map};
+ghost use Rattle.std.specs.Ordering.{ordering_reverse};
+ghost use Rattle.ice_value.specs.Cells.{order, AreOfOneKind};
+ghost use Rattle.ice_value.specs.declared.cell.Cell.{Cell};
 
 use crate::items::Items;
 use crate::text::Text;
 use std::alloc::{AllocError, Global};
+use std::cmp::Ordering;
 
 /// A column's value: null, or a value of one of four kinds.
 #[derive(Debug, PartialEq, Drop)]
@@ -29,7 +36,30 @@ impl Cell {
             Cell::Bytes(bytes) => Ok(Cell::Bytes(bytes.copy(alloc)?)),
         }
     }
+
+    /// The order of two cells of one kind: false before true, whole numbers as numbers, texts and bytes by their
+    /// unsigned bytes. None where a cell is null or the kinds differ.
+    pub fn order(&self, other: &Cell) -> Option<Ordering>
+        ensures { result ≡ order self.now other.now }
+    {
+        match (self, other) {
+            (Cell::Bool(a), Cell::Bool(b)) => Some(a.cmp(b)),
+            (Cell::Whole(a), Cell::Whole(b)) => Some(a.cmp(b)),
+            (Cell::Text(a), Cell::Text(b)) => Some(a.as_bytes().cmp(b.as_bytes())),
+            (Cell::Bytes(a), Cell::Bytes(b)) => Some(a.as_slice().cmp(b.as_slice())),
+            _ => None,
+        }
+    }
 }
+
+/// The order of cells is total among the cells of each kind, and a cell is equal to itself alone.
+pub fn order_of_cells()
+    ensures compared { (a b : Cell) → IsSome (order a b) ↔ AreOfOneKind a b }
+    ensures itself { (a : Cell) → AreOfOneKind a a → order a a ≡ Some Equal }
+    ensures no_other { (a b : Cell) → order a b ≡ Some Equal → a ≡ b }
+    ensures turned { (a b : Cell) → order b a ≡ option_map ordering_reverse (order a b) }
+    ensures less { (a b c : Cell) → order a b ≡ Some Less → order b c ≡ Some Less → order a c ≡ Some Less }
+{}
 
 impl Items<Cell> {
     /// The same cells.

@@ -1,12 +1,12 @@
-use Rattle.std.proofs.Common.{◌≡◌, ℕ, suc, pos, length, string_bytes, [], ◌∷◌, ◌++◌, Ok, refl, ap, sym, subst, ◌∙◌, arith, rules}
+use Rattle.std.proofs.Common.{◌≡◌, pos, string_bytes, [], ◌∷◌, ◌++◌, Ok, refl, ◌∙◌, arith}
 use Rattle.std.proofs.lemmas.Result.{err_from_is_err_and}
 use Rattle.std.proofs.lemmas.List.{map_push}
 use Rattle.std.proofs.lemmas.Int.{ints}
 use Rattle.avro_schema.specs.View.{tree}
 use Rattle.avro_file.specs.View.{view, views, entry_views}
 use Rattle.avro_file.specs.Place.{position_of}
-use Rattle.avro_file.specs.Reading.{with_front, values_at, blocks_at, string_at, entry_at, datum_at, fields_at, branch_at}
-use Rattle.avro_file.proofs.Views.{field_trees, branch_trees, tree-Record, branch_there, no_branch, structure_fails, structure_read, not_chosen, chosen_fails, is_chosen, view-Record, view-Union, tree-Map, view-Map, map_read, entry_read, key_fails, value_fails}
+use Rattle.avro_file.specs.Reading.{string_at, entry_at, datum_at, branch_at}
+use Rattle.avro_file.proofs.Views.{field_trees, branch_trees, tree-Record, branch_there, no_branch, structure_fails, structure_read, chosen_fails, is_chosen, view-Record, view-Union, tree-Map, view-Map, map_read, entry_read, key_fails, value_fails}
 use Rattle.avro_file.proofs.Loop.{values_on, values_fail, values_done, fields_on, fields_fail, fields_done, blocks_done, count_fails, block_fails, blocks_on, shorter}
 use Rattle.avro_file.proofs.Taken.{datum_takes, entry_takes}
 use Rattle.avro_file.proofs.decode.+datum.Goals as goal

@@ -1,4 +1,4 @@
-use Rattle.std.proofs.Common.{◌≡◌, ◌++◌, [], suc, length, refl, ap, arith}
+use Rattle.std.proofs.Common.{◌++◌, [], suc, length, refl, arith}
 use Rattle.std.proofs.lemmas.Result.{err_from_is_err_and}
 use Rattle.avro_file.specs.Place.{position_of}
 use Rattle.avro_file.specs.Where.{wanted_of}

@@ -1,6 +1,7 @@
 use Rattle.std.proofs.Common.{◌≡◌, ◌<◌, ◌∙◌, List, ap, sym, arith, length, true, false, None, is_none}
 use Rattle.ice_meta.specs.declared.spec.Spec.{Spec}
-use Rattle.ice_state.specs.Scans.{Scanned, spec_of, spec_at}
+use Rattle.ice_state.specs.Parts.{spec_at}
+use Rattle.ice_state.specs.Scans.{Scanned, spec_of}
 use Rattle.ice_state.proofs.Scans.{has_spec, spec_at-row}
 use Rattle.ice_state.proofs.scan.Scan.spec_of.Goals as goal
 

@@ -1,0 +1,48 @@
+-- What reading lists and manifests comes to, in words of rows and entries alone. Apache Iceberg table spec v2,
+-- "Manifest Lists" and "Manifests".
+use Rattle.std.specs.Prelude.{◌≡◌, ◌≢◌, ◌↔◌, ℕ, ℤ, pos, ◌⊎◌, List, [], map, Option, Some, None, Result, Ok, Err}
+use Rattle.std.specs.List.{Contains, enumerate_from, filter_map}
+use Rattle.avro_file.specs.declared.fault.AvroFault.{AvroFault}
+use Rattle.avro_file.specs.Value.{Value, Values}
+use Rattle.ice_meta.specs.declared.spec.Spec.{Spec}
+use Rattle.ice_manifest.specs.declared.fault.ListFault.TheVariants.{ManifestTwice}
+use Rattle.ice_manifest.specs.declared.fault.ManifestFault.{ManifestFault}
+use Rattle.ice_manifest.specs.declared.row.Row.{Row}
+use Rattle.ice_manifest.specs.declared.entry.Entry.{Entry}
+use Rattle.ice_manifest.specs.declared.layout.EntryLayout.{EntryLayout}
+use Rattle.ice_manifest.specs.Fields.{nth, fields_of, int_in}
+use Rattle.ice_manifest.specs.Lists.{checked, in_order}
+use Rattle.ice_manifest.specs.Manifests.{entry_at, entries_from}
+
+-- the rows that are given are the rows of the file, as a set
+abbrev pub GivesTheRows : Type 0
+GivesTheRows = (rows found : List Row) → checked (in_order rows) ≡ Ok found → (r : Row) → (Contains found r ↔ Contains rows r)
+
+-- two different rows of the file have the path
+abbrev pub HasTwo : List Row → List ℕ → Type 0
+HasTwo rows path = (r : Row) × (s : Row) × Contains rows r × Contains rows s × (r ≢ s) × (r.path ≡ path) × (s.path ≡ path)
+
+-- a path is refused only where two different rows have it
+abbrev pub RefusesTwo : Type 0
+RefusesTwo = (rows : List Row) (path : List ℕ) → checked (in_order rows) ≡ Err (ManifestTwice path) → HasTwo rows path
+
+-- what an object says, at its position
+abbrev pub says : EntryLayout → Row → Spec → ℕ × Value → Result (Option Entry) ManifestFault
+says at row spec p = entry_at at row spec p.0 (fields_of p.1)
+
+abbrev pub kept : List (Option Entry) → List Entry
+kept read = filter_map (λ x. x) read
+
+-- each object says an entry or that there is none, and the entries that are given are all that they say, in their order
+abbrev pub GivesTheEntries : Type 0
+GivesTheEntries = (at : EntryLayout) (row : Row) (spec : Spec) (vs : List Value) (ending : Option AvroFault) (found : List Entry) → entries_from at row spec 0 [] vs ending ≡ Ok found
+    → (read : List (Option Entry)) × (map (says at row spec) (enumerate_from 0 vs) ≡ map Ok read) × (found ≡ kept read)
+
+-- an object that says an entry has the entry's position, and its status is existing or added
+abbrev pub SaysLiveOnes : Type 0
+SaysLiveOnes = (at : EntryLayout) (row : Row) (spec : Spec) (k : ℕ) (vs : Values) (e : Entry) → entry_at at row spec k vs ≡ Ok (Some e)
+    → (e.position ≡ k) × ((int_in (pos 0) (nth at.status vs) ≡ Ok (pos 0)) ⊎ (int_in (pos 0) (nth at.status vs) ≡ Ok (pos 1)))
+
+-- an object with the status deleted says that there is none, whatever else it has
+abbrev pub DropsDeleted : Type 0
+DropsDeleted = (at : EntryLayout) (row : Row) (spec : Spec) (k : ℕ) (vs : Values) → int_in (pos 0) (nth at.status vs) ≡ Ok (pos 2) → entry_at at row spec k vs ≡ Ok None

@@ -1,0 +1,18 @@
+//! What the definitions of rows and entries come to.
+
+ghost use Rattle.ice_manifest.specs.Laws.{GivesTheRows, RefusesTwo, GivesTheEntries, SaysLiveOnes, DropsDeleted};
+
+/// The rows of a list are the set of the rows that its objects say. It is refused for a path only where two different
+/// rows have it.
+pub fn rows_are_a_set()
+    ensures same { GivesTheRows }
+    ensures twice { RefusesTwo }
+{}
+
+/// The entries of a manifest are those that its objects say, each with the position that its object has among all.
+/// An object of a deleted entry says none.
+pub fn entries_are_the_live_ones()
+    ensures all { GivesTheEntries }
+    ensures live { SaysLiveOnes }
+    ensures deleted { DropsDeleted }
+{}

@@ -1,0 +1,339 @@
+use super::*;
+
+/// The fields of an entry that are read before the data file.
+const ENTRY: [&str; 2] = [
+    r#"{"name":"status","type":"int","field-id":0}"#,
+    r#"{"name":"sequence_number","type":["null","long"],"field-id":3}"#,
+];
+
+const FILE: [&str; 5] = [
+    r#"{"name":"content","type":"int","field-id":134}"#,
+    r#"{"name":"file_path","type":"string","field-id":100}"#,
+    r#"{"name":"record_count","type":"long","field-id":103}"#,
+    r#"{"name":"file_size_in_bytes","type":"long","field-id":104}"#,
+    r#"{"name":"equality_ids","type":["null",{"type":"array","items":"int","element-id":136}],"field-id":135}"#,
+];
+
+const A: &[u8] = b"\x02\x00\x00\x22mem://t/a.parquet\x14\xc8\x01\x00";
+
+const E: &[u8] = b"\x02\x00\x04\x22mem://t/e.parquet\x14\xc8\x01\x02\x02\x02\x00";
+
+const F: &[u8] = b"\x02\x00\x04\x22mem://t/f.parquet\x14\xc8\x01\x02\x02\x02\x00";
+
+const P: &[u8] = b"\x02\x00\x02\x22mem://t/p.parquet\x14\xc8\x01\x00";
+
+fn row(alloc: Global, content: ManifestContent, sequence_number: u64) -> Result<Row, AllocError> {
+    Ok(Row {
+        path: Text::from_string(String::from_str(alloc, "mem://t/m1")?),
+        length: 100,
+        spec: 7,
+        content,
+        sequence_number,
+        min_sequence_number: 0,
+        added_snapshot_id: 1,
+    })
+}
+
+/// An entry's type with this field for its data file.
+fn with_file(alloc: Global, field: &str) -> Result<String, AllocError> {
+    let [status, sequence] = ENTRY;
+    record(alloc, "manifest_entry", &[status, sequence, field], 3, "")
+}
+
+/// An entry's type, of which one field, counted through the entry's and then the file's, is replaced.
+fn schema(alloc: Global, position: usize, field: &str) -> Result<String, AllocError> {
+    let (outer, inner) = if position < 2 {
+        (position, 9)
+    } else {
+        (9, position - 2)
+    };
+    let file = record(alloc, "r2", &FILE, inner, field)?;
+    let file = file.as_str();
+    let file_field = format!(in alloc;
+        "{{\"name\":\"data_file\",\"type\":{file},\"field-id\":2}}"
+    )?;
+    let [status, sequence] = ENTRY;
+    let fields = [status, sequence, file_field.as_str()];
+    record(alloc, "manifest_entry", &fields, outer, field)
+}
+
+/// What reading a manifest gives: a line for each entry, or the fault.
+fn outcome(alloc: Global, row: &Row, bytes: &[u8]) -> Result<String, Fail> {
+    let entries = match read_manifest(alloc, row, &Spec::empty(7), bytes) {
+        Ok(entries) => entries,
+        Err(fault) => return Ok(format!(in alloc; "{fault:?}")?),
+    };
+    let mut text = String::new(alloc);
+    for entry in &entries {
+        let position = entry.position;
+        let path = entry.path.as_str();
+        let content = entry.content;
+        let sequence = entry.sequence_number;
+        let records = entry.record_count;
+        let size = entry.file_size;
+        let ids = entry.equality_ids.as_slice();
+        let spec = entry.spec;
+        let whole = entry.unpartitioned && entry.tuple.as_slice().is_empty();
+        let line = format!(in alloc;
+            "{position} {path} {content:?} {sequence} {records} {size} {ids:?} {spec} {whole}\n"
+        )?;
+        text.push_str(&line)?;
+    }
+    Ok(text)
+}
+
+/// What reading these entries gives.
+fn entries(
+    alloc: Global,
+    content: ManifestContent,
+    sequence_number: u64,
+    objects: &[&[u8]],
+) -> Result<String, Fail> {
+    let bytes = file(alloc, &schema(alloc, 9, "")?, objects)?;
+    outcome(alloc, &row(alloc, content, sequence_number)?, &bytes)
+}
+
+#[test]
+fn live_entries_with_their_positions(rt: HostRuntime) -> Result<(), Fail> {
+    let data = entries(rt.alloc(), ManifestContent::Data, 3, &[A])?;
+    assert_eq!(rt;
+        data.as_str(),
+        "0 mem://t/a.parquet Data 3 10 100 [] 7 true\n"
+    );
+    let deletes = entries(rt.alloc(), ManifestContent::Deletes, 3, &[P, F])?;
+    assert_eq!(rt;
+        deletes.as_str(),
+        "0 mem://t/p.parquet PositionDeletes 3 10 100 [] 7 true\n1 mem://t/f.parquet EqualityDeletes 3 10 100 [1] 7 true\n"
+    );
+    // Deleted entries count, whatever stands behind their status.
+    let deleted = b"\x04\x00\x0a\x00\x00\x00\x00".as_slice();
+    let counted = entries(
+        rt.alloc(),
+        ManifestContent::Deletes,
+        4,
+        &[deleted, E, deleted, P],
+    )?;
+    assert_eq!(rt;
+        counted.as_str(),
+        "1 mem://t/e.parquet EqualityDeletes 4 10 100 [1] 7 true\n3 mem://t/p.parquet PositionDeletes 4 10 100 [] 7 true\n"
+    );
+    Ok(())
+}
+
+/// The row's content and sequence number, an entry, and what reading a manifest of it gives.
+const ENTRIES: &str = "\
+data 7 | 02 00 00 02 61 00 00 00 = 0 a Data 7 0 0 [] 7 true
+data 7 | 02 02 0a 00 02 61 00 00 00 = 0 a Data 5 0 0 [] 7 true
+data 7 | 00 02 0a 00 02 61 00 00 00 = 0 a Data 5 0 0 [] 7 true
+data 7 | 00 00 00 02 61 00 00 00 = NoSequence
+data 0 | 00 00 00 02 61 00 00 00 = 0 a Data 0 0 0 [] 7 true
+data 0 | 02 00 00 02 61 00 00 00 = 0 a Data 0 0 0 [] 7 true
+data 7 | 04 00 00 02 61 00 00 00 = 
+data 7 | 06 00 00 02 61 00 00 00 = BadStatus
+data 7 | 01 00 00 02 61 00 00 00 = BadStatus
+data 7 | 02 02 01 00 02 61 00 00 00 = OutOfRange(3)
+data 7 | 02 00 02 02 61 00 00 00 = BadContent
+deletes 7 | 02 00 00 02 61 00 00 00 = BadContent
+deletes 7 | 02 00 06 02 61 00 00 00 = BadContent
+data 7 | 06 02 01 02 02 61 00 00 00 = BadStatus
+data 7 | 02 02 01 02 02 61 00 00 00 = OutOfRange(3)
+data 7 | 00 00 02 02 61 00 00 00 = NoSequence
+data 7 | 02 00 00 02 61 00 00 04 = Avro(BadUnion)
+data 7 | 06 00 00 02 61 00 00 04 = Avro(BadUnion)";
+
+#[test]
+fn sequence_numbers_and_first_faults(rt: HostRuntime) -> Result<(), Fail> {
+    for line in ENTRIES.lines() {
+        let (row, rest) = line.split_once(" | ").ok_or("a row")?;
+        let (content, number) = row.split_once(" ").ok_or("a number")?;
+        let (entry, expected) = rest.split_once(" = ").ok_or("an entry")?;
+        let content = if content == "data" {
+            ManifestContent::Data
+        } else {
+            ManifestContent::Deletes
+        };
+        let entry = bytes_of(rt.alloc(), entry)?;
+        let found = entries(
+            rt.alloc(),
+            content,
+            number.parse::<u64>()?,
+            &[entry.as_slice()],
+        )?;
+        assert_eq!(rt; found.as_str().trim(), expected, "{line}");
+    }
+    Ok(())
+}
+
+/// The first entry at fault decides, and a fault of the file comes where the file has it.
+#[test]
+fn first_of_two_entries_at_fault(rt: HostRuntime) -> Result<(), Fail> {
+    let status = b"\x06\x00\x00\x02a\x00\x00\x00".as_slice();
+    let cut = b"\x02\x00\x00\x02a\x00\x00\x04".as_slice();
+    let first = entries(rt.alloc(), ManifestContent::Data, 7, &[A, status, cut])?;
+    assert_eq!(rt; first.as_str(), "BadStatus");
+    let first = entries(rt.alloc(), ManifestContent::Data, 7, &[A, cut, status])?;
+    assert_eq!(rt; first.as_str(), "Avro(BadUnion)");
+    Ok(())
+}
+
+/// A field in place of the one at a position, an entry, and what reading a manifest of it gives.
+const TYPES: &str =
+    r#"0 | {"name":"status","type":"int"} | 02 00 00 02 61 00 00 00 = MissingField(0)
+0 | {"name":"p","type":"string","field-id":0} | 02 00 00 02 61 00 00 00 = WrongFieldType(0)
+0 | {"name":"p","type":["null","int"],"field-id":0} | 00 00 00 02 61 00 00 00 = MissingField(0)
+0 | {"name":"p","type":"long","field-id":0} | 80 80 80 80 10 00 00 02 61 00 00 00 = OutOfRange(0)
+1 | {"name":"sequence_number","type":["null","long"]} | 02 00 00 02 61 00 00 00 = 0 a Data 7 0 0 [] 7 true
+1 | {"name":"p","type":["null","string"],"field-id":3} | 02 00 00 02 61 00 00 00 = WrongFieldType(3)
+1 | {"name":"p","type":"int","field-id":3} | 00 0a 00 02 61 00 00 00 = 0 a Data 5 0 0 [] 7 true
+2 | {"name":"content","type":"int"} | 02 00 00 02 61 00 00 00 = MissingField(134)
+2 | {"name":"p","type":"boolean","field-id":134} | 02 00 00 02 61 00 00 00 = WrongFieldType(134)
+2 | {"name":"p","type":["null","int"],"field-id":134} | 02 00 00 02 61 00 00 00 = MissingField(134)
+2 | {"name":"p","type":"long","field-id":134} | 02 00 80 80 80 80 10 02 61 00 00 00 = OutOfRange(134)
+3 | {"name":"p","type":"bytes","field-id":100} | 02 00 00 02 61 00 00 00 = WrongFieldType(100)
+3 | {"name":"p","type":["null","string"],"field-id":100} | 02 00 00 00 00 00 00 = MissingField(100)
+3 | {"name":"p","type":["string","null"],"field-id":100} | 02 00 00 00 02 61 00 00 00 = 0 a Data 7 0 0 [] 7 true
+4 | {"name":"p","type":"double","field-id":103} | 02 00 00 02 61 00 00 00 = WrongFieldType(103)
+4 | {"name":"p","type":["null","long"],"field-id":103} | 02 00 00 02 61 00 00 00 = MissingField(103)
+5 | {"name":"p","type":["null","long"],"field-id":104} | 02 00 00 02 61 00 00 00 = MissingField(104)
+5 | {"name":"p","type":"long","field-id":103} | 02 00 00 02 61 00 00 00 = Avro(Schema(FieldTwice(103)))
+6 | {"name":"p","type":"null"} | 02 00 00 02 61 00 00 = 0 a Data 7 0 0 [] 7 true
+6 | {"name":"p","type":{"type":"array","items":"long"},"field-id":135} | 02 00 00 02 61 00 00 03 04 36 00 00 = 0 a Data 7 0 0 [27, 0] 7 true
+6 | {"name":"p","type":{"type":"array","items":"long"},"field-id":135} | 02 00 00 02 61 00 00 02 80 80 80 80 10 00 = OutOfRange(136)
+6 | {"name":"p","type":{"type":"array","items":["null","int"]},"field-id":135} | 02 00 00 02 61 00 00 04 02 06 00 00 = MissingField(136)
+6 | {"name":"p","type":{"type":"array","items":"string"},"field-id":135} | 02 00 00 02 61 00 00 00 = WrongFieldType(136)
+6 | {"name":"p","type":{"type":"map","values":"int"},"field-id":135} | 02 00 00 02 61 00 00 00 = WrongFieldType(135)
+6 | {"name":"p","type":{"type":"array","logicalType":"map","items":"int"},"field-id":135} | 02 00 00 02 61 00 00 00 = WrongFieldType(135)"#;
+
+#[test]
+fn types_of_fields(rt: HostRuntime) -> Result<(), Fail> {
+    let data = row(rt.alloc(), ManifestContent::Data, 7)?;
+    for line in TYPES.lines() {
+        let (position, rest) = line.split_once(" | ").ok_or("a position")?;
+        let (field, rest) = rest.split_once(" | ").ok_or("a field")?;
+        let (entry, expected) = rest.split_once(" = ").ok_or("an entry")?;
+        let entry = bytes_of(rt.alloc(), entry)?;
+        let schema = schema(rt.alloc(), position.parse::<usize>()?, field)?;
+        let found = outcome(
+            rt.alloc(),
+            &data,
+            &file(rt.alloc(), &schema, &[entry.as_slice()])?,
+        )?;
+        assert_eq!(rt; found.as_str().trim(), expected, "{line}");
+    }
+    Ok(())
+}
+
+/// An entry whose data file's type is a union, and what reading a manifest of it gives: each record in the union has
+/// fields and positions of its own.
+const UNIONS: &str = "\
+02 00 02 00 02 61 14 c8 01 00 = 0 a Data 7 10 100 [] 7 true
+02 00 04 c8 01 14 02 61 00 = 0 a Data 7 10 100 [] 7 true
+02 00 00 = MissingField(2)
+00 00 00 = NoSequence
+04 00 00 = ";
+
+#[test]
+fn data_files_in_unions(rt: HostRuntime) -> Result<(), Fail> {
+    let first = record(rt.alloc(), "first", &FILE, 7, "")?;
+    let [content, path, count, size, _] = FILE;
+    let second = record(rt.alloc(), "second", &[size, count, path, content], 7, "")?;
+    let (first, second) = (first.as_str(), second.as_str());
+    let file_field = format!(in rt.alloc();
+        "{{\"name\":\"f\",\"type\":[\"null\",{first},{second}],\"field-id\":2}}"
+    )?;
+    let schema = with_file(rt.alloc(), &file_field)?;
+    let data = row(rt.alloc(), ManifestContent::Data, 7)?;
+    for line in UNIONS.lines() {
+        let (entry, expected) = line.split_once(" = ").ok_or("an entry")?;
+        let entry = bytes_of(rt.alloc(), entry)?;
+        let found = outcome(
+            rt.alloc(),
+            &data,
+            &file(rt.alloc(), &schema, &[entry.as_slice()])?,
+        )?;
+        assert_eq!(rt; found.as_str().trim(), expected, "{line}");
+    }
+    Ok(())
+}
+
+/// A field for the data file, and what reading a manifest without entries gives.
+const FILES: &str = r#"{"name":"f","type":"long","field-id":2} = WrongFieldType(2)
+{"name":"f","type":["null"],"field-id":2} = WrongFieldType(2)
+{"name":"f","type":"long","field-id":5} = MissingField(2)"#;
+
+#[test]
+fn types_of_data_files(rt: HostRuntime) -> Result<(), Fail> {
+    let data = row(rt.alloc(), ManifestContent::Data, 7)?;
+    for line in FILES.lines() {
+        let (field, expected) = line.split_once(" = ").ok_or("a field")?;
+        let schema = with_file(rt.alloc(), field)?;
+        let found = outcome(rt.alloc(), &data, &file(rt.alloc(), &schema, &[])?)?;
+        assert_eq!(rt; found.as_str(), expected, "{line}");
+    }
+    Ok(())
+}
+
+/// Other names, another order, fields without an id or with one that nothing asks for.
+#[test]
+fn fields_are_found_by_their_ids(rt: HostRuntime) -> Result<(), Fail> {
+    let file_type = record(
+        rt.alloc(),
+        "g",
+        &[
+            r#"{"name":"a","type":["null",{"type":"array","items":"int","element-id":136}],"field-id":135}"#,
+            r#"{"name":"b","type":"long","field-id":104,"doc":"text"}"#,
+            r#"{"name":"content","type":{"type":"map","values":"string"},"field-id":9000}"#,
+            r#"{"name":"c","type":"long","field-id":103}"#,
+            r#"{"name":"file_path","type":"string"}"#,
+            r#"{"name":"d","type":"string","field-id":100}"#,
+            r#"{"name":"e","type":"int","field-id":134}"#,
+        ],
+        9,
+        "",
+    )?;
+    let file_type = file_type.as_str();
+    let file_field = format!(in rt.alloc();
+        "{{\"name\":\"h\",\"type\":{file_type},\"field-id\":2}}"
+    )?;
+    let entry = record(
+        rt.alloc(),
+        "i",
+        &[
+            file_field.as_str(),
+            r#"{"name":"j","type":["null","long"],"field-id":3}"#,
+            r#"{"name":"status","type":"int","field-id":1}"#,
+            r#"{"name":"k","type":"int","field-id":0}"#,
+        ],
+        9,
+        "",
+    )?;
+    // The block of ids is one with its size.
+    let object =
+        b"\x02\x01\x02\x02\x00\xc8\x01\x02\x02k\x02v\x00\x14\x02x\x22mem://t/e.parquet\x04\x00\x06\x02";
+    let bytes = file(rt.alloc(), &entry, &[object])?;
+    let found = outcome(
+        rt.alloc(),
+        &row(rt.alloc(), ManifestContent::Deletes, 3)?,
+        &bytes,
+    )?;
+    assert_eq!(rt;
+        found.as_str(),
+        "0 mem://t/e.parquet EqualityDeletes 3 10 100 [1] 7 true\n"
+    );
+    Ok(())
+}
+
+#[test]
+fn copies(rt: HostRuntime) -> Result<(), Fail> {
+    let data = row(rt.alloc(), ManifestContent::Data, 3)?;
+    assert!(rt; data.copy(rt.alloc())? == data);
+    let bytes = file(rt.alloc(), &schema(rt.alloc(), 9, "")?, &[A])?;
+    let entries = read_manifest(rt.alloc(), &data, &Spec::empty(7), &bytes)
+        .ok()
+        .ok_or("entries")?;
+    let entry = entries.first().ok_or("an entry")?.copy(rt.alloc())?;
+    assert_eq!(rt; entry.path.as_str(), "mem://t/a.parquet");
+    let fault = ManifestFault::OutOfRange(3).copy(rt.alloc())?;
+    assert!(rt; matches!(fault, ManifestFault::OutOfRange(3)));
+    Ok(())
+}

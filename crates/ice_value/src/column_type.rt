@@ -1,0 +1,28 @@
+//! The types that a column may have.
+
+/// The type of a column that holds single values.
+#[derive(Clone, Copy, Debug, PartialEq, Eq)]
+pub enum ColumnType {
+    Boolean,
+    /// Whole numbers of 32 bits.
+    Int,
+    /// Whole numbers of 64 bits.
+    Long,
+    Float,
+    Double,
+    /// Days since 1970-01-01.
+    Date,
+    /// Microseconds since midnight.
+    Time,
+    /// Microseconds since 1970-01-01 00:00, without a zone.
+    Timestamp,
+    /// Microseconds since 1970-01-01 00:00 UTC.
+    Timestamptz,
+    String,
+    /// 16 bytes, the most significant first.
+    Uuid,
+    /// Byte strings of one length.
+    Fixed(u32),
+    Binary,
+    Decimal { precision: u32, scale: u32 },
+}

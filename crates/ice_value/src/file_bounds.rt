@@ -1,0 +1,114 @@
+//! What manifests say about the values of files: summaries of partition fields, counts and bounds of columns.
+
+ghost use Rattle.std.specs.Prelude.{◌≡◌, IfOk};
+ghost use Rattle.std.specs.Option.{option_copied};
+ghost use Rattle.ice_value.specs.Columns.{count_of, bound_of};
+
+use crate::items::Items;
+use std::alloc::{AllocError, Global};
+
+/// What a manifest list says about one partition field over all files of a manifest. Bounds are single values in bytes,
+/// of the type that the field's transform gives.
+#[derive(Debug, PartialEq, Drop)]
+pub struct Summary {
+    pub contains_null: bool,
+    pub contains_nan: Option<bool>,
+    pub lower: Option<Items<u8>>,
+    pub upper: Option<Items<u8>>,
+}
+
+impl Summary {
+    /// The same summary.
+    pub fn copy(&self, alloc: Global) -> Result<Summary, AllocError>
+        ensures { IfOk result (λ copied. copied ≡ self.now) }
+    {
+        Ok(Summary {
+            contains_null: self.contains_null,
+            contains_nan: self.contains_nan,
+            lower: copied_bound(alloc, &self.lower)?,
+            upper: copied_bound(alloc, &self.upper)?,
+        })
+    }
+}
+
+fn copied_bound(alloc: Global, bound: &Option<Items<u8>>) -> Result<Option<Items<u8>>, AllocError>
+    ensures { IfOk result (λ copied. copied ≡ bound.now) }
+{
+    match bound {
+        Some(bytes) => Ok(Some(bytes.copy(alloc)?)),
+        None => Ok(None),
+    }
+}
+
+/// A number of values of a column.
+#[derive(Clone, Copy, Debug, PartialEq)]
+pub struct ColumnCount {
+    pub column: i32,
+    pub count: i64,
+}
+
+/// A bound of a column: a single value in bytes.
+#[derive(Debug, PartialEq, Drop)]
+pub struct ColumnBound {
+    pub column: i32,
+    pub bytes: Items<u8>,
+}
+
+/// What a manifest says about the columns of a file, by column id. Where an id stands twice the last entry counts.
+#[derive(Debug, PartialEq, Drop)]
+pub struct FileBounds {
+    pub value_counts: Items<ColumnCount>,
+    pub null_counts: Items<ColumnCount>,
+    pub lower_bounds: Items<ColumnBound>,
+    pub upper_bounds: Items<ColumnBound>,
+}
+
+impl FileBounds {
+    /// How many values the column has, null ones among them.
+    pub fn value_count(&self, column: i32) -> Option<i64>
+        ensures { result ≡ count_of column self.now.value_counts }
+    {
+        find_count(self.value_counts.as_slice(), column)
+    }
+
+    /// How many values of the column are null.
+    pub fn null_count(&self, column: i32) -> Option<i64>
+        ensures { result ≡ count_of column self.now.null_counts }
+    {
+        find_count(self.null_counts.as_slice(), column)
+    }
+
+    /// The bytes of the column's lower bound.
+    pub fn lower_bound(&self, column: i32) -> Option<&[u8]>
+        ensures { option_copied result ≡ bound_of column self.now.lower_bounds }
+    {
+        find_bound(self.lower_bounds.as_slice(), column)
+    }
+
+    /// The bytes of the column's upper bound.
+    pub fn upper_bound(&self, column: i32) -> Option<&[u8]>
+        ensures { option_copied result ≡ bound_of column self.now.upper_bounds }
+    {
+        find_bound(self.upper_bounds.as_slice(), column)
+    }
+}
+
+fn find_count(counts: &[ColumnCount], column: i32) -> Option<i64>
+    ensures { result ≡ count_of column counts.now }
+{
+    counts
+        .iter()
+        .rev()
+        .find(|count| count.column == column)
+        .map(|count| count.count)
+}
+
+fn find_bound(bounds: &[ColumnBound], column: i32) -> Option<&[u8]>
+    ensures { option_copied result ≡ bound_of column bounds.now }
+{
+    bounds
+        .iter()
+        .rev()
+        .find(|bound| bound.column == column)
+        .map(|bound| bound.bytes.as_slice())
+}

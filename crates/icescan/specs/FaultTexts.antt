@@ -1,0 +1,89 @@
+-- The program's own line for a fault: number, name and arguments, with a nested fault in place of its argument.
+-- S is a fault of a schema, V of a container, N of a list or a manifest, X of a scan, Z of a plan, B of the bundle, P of a
+-- read, W of a write.
+use Rattle.std.specs.Prelude.{ℕ, List, [], ◌∷◌, ◌++◌, codes}
+use Rattle.avro_schema.specs.declared.fault.SchemaFault.{SchemaFault}
+use Rattle.avro_schema.specs.declared.fault.SchemaFault.TheVariants as schema
+use Rattle.avro_file.specs.declared.fault.AvroFault.{AvroFault}
+use Rattle.avro_file.specs.declared.fault.AvroFault.TheVariants as avro
+use Rattle.ice_manifest.specs.declared.fault.ListFault.{ListFault}
+use Rattle.ice_manifest.specs.declared.fault.ListFault.TheVariants as list
+use Rattle.ice_manifest.specs.declared.fault.ManifestFault.{ManifestFault}
+use Rattle.ice_manifest.specs.declared.fault.ManifestFault.TheVariants as manifest
+use Rattle.ice_state.specs.declared.fault.ScanFault.{ScanFault}
+use Rattle.ice_state.specs.declared.fault.ScanFault.TheVariants as scan
+use Rattle.ice_state.specs.declared.fault.FinishFault.{FinishFault}
+use Rattle.ice_state.specs.declared.fault.FinishFault.TheVariants as finish
+use Rattle.icescan.specs.declared.fault.RunFault.{RunFault}
+use Rattle.icescan.specs.declared.fault.RunFault.TheVariants as run
+use Rattle.icescan.specs.Pieces.{named_path, named_signed, named_number}
+
+unfoldable pub schema_text : SchemaFault → List ℕ
+schema_text schema.NotJson = codes "S1 NotJson"
+schema_text schema.UnknownType = codes "S2 UnknownType"
+schema_text schema.UnknownName = codes "S3 UnknownName"
+schema_text schema.Recursive = codes "S4 Recursive"
+schema_text schema.TooBig = codes "S5 TooBig"
+schema_text (schema.FieldTwice id) = named_signed (codes "S6 FieldTwice ") id
+schema_text schema.Memory = codes "S7 Memory"
+schema_text schema.NameTwice = codes "S8 NameTwice"
+
+unfoldable pub avro_text : AvroFault → List ℕ
+avro_text avro.NotAvro = codes "V1 NotAvro"
+avro_text (avro.Codec name) = named_path (codes "V2 Codec ") name
+avro_text (avro.Truncated offset) = named_number (codes "V3 Truncated ") offset
+avro_text avro.BadNumber = codes "V4 BadNumber"
+avro_text avro.BadUnion = codes "V5 BadUnion"
+avro_text avro.BadUtf8 = codes "V6 BadUtf8"
+avro_text avro.BadSync = codes "V7 BadSync"
+avro_text avro.BlockSize = codes "V8 BlockSize"
+avro_text (avro.Schema fault) = codes "V9 Schema " ++ schema_text fault
+avro_text avro.Memory = codes "V10 Memory"
+avro_text avro.BadBoolean = codes "V11 BadBoolean"
+avro_text avro.TooManyItems = codes "V12 TooManyItems"
+
+unfoldable pub list_text : ListFault → List ℕ
+list_text (list.Avro fault) = codes "N1 Avro " ++ avro_text fault
+list_text (list.MissingField id) = named_signed (codes "N2 MissingField ") id
+list_text (list.WrongFieldType id) = named_signed (codes "N3 WrongFieldType ") id
+list_text (list.OutOfRange id) = named_signed (codes "N4 OutOfRange ") id
+list_text list.BadContent = codes "N6 BadContent"
+list_text (list.ManifestTwice path) = named_path (codes "N9 ManifestTwice ") path
+list_text list.Memory = codes "N10 Memory"
+list_text list.TooManyRows = codes "N11 TooManyRows"
+
+unfoldable pub manifest_text : ManifestFault → List ℕ
+manifest_text (manifest.Avro fault) = codes "N1 Avro " ++ avro_text fault
+manifest_text (manifest.MissingField id) = named_signed (codes "N2 MissingField ") id
+manifest_text (manifest.WrongFieldType id) = named_signed (codes "N3 WrongFieldType ") id
+manifest_text (manifest.OutOfRange id) = named_signed (codes "N4 OutOfRange ") id
+manifest_text manifest.BadStatus = codes "N5 BadStatus"
+manifest_text manifest.BadContent = codes "N6 BadContent"
+manifest_text manifest.NoSequence = codes "N7 NoSequence"
+manifest_text manifest.Memory = codes "N10 Memory"
+
+unfoldable pub scan_text : ScanFault → List ℕ
+scan_text (scan.NoSuchSpec id) = named_signed (codes "X1 NoSuchSpec ") id
+scan_text scan.Memory = codes "X2 Memory"
+
+unfoldable pub finish_text : FinishFault → List ℕ
+finish_text (finish.Missing path) = named_path (codes "Z1 Missing ") path
+finish_text (finish.Bad path fault) = named_path (codes "Z2 Bad ") path ++ (codes " " ++ manifest_text fault)
+finish_text (finish.PathTwice path) = named_path (codes "Z3 PathTwice ") path
+finish_text finish.Memory = codes "Z4 Memory"
+
+unfoldable pub run_text : RunFault → List ℕ
+run_text run.Words = codes "usage: icescan [list-plan --bundle]"
+run_text run.Input = codes "P3 Device -"
+run_text (run.Bundle line) = named_number (codes "B1 Bundle ") line
+run_text (run.Absent path) = named_path (codes "P2 Absent ") path
+run_text (run.Device path) = named_path (codes "P3 Device ") path
+run_text (run.List fault) = list_text fault
+run_text (run.Scan fault) = scan_text fault
+run_text (run.Finish fault) = finish_text fault
+run_text run.Write = codes "W1 Write"
+run_text run.Memory = codes "Memory"
+
+-- the whole line, with its line feed
+unfoldable pub fault_text : RunFault → List ℕ
+fault_text fault = codes "icescan: " ++ (run_text fault ++ 10 ∷ [])

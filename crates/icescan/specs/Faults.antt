@@ -1,0 +1,74 @@
+-- What the program's faults come from, and the status that each ends with.
+use Rattle.std.specs.Prelude.{ℕ, Bool, true, false, if◌then◌else◌}
+use Rattle.avro_schema.specs.declared.fault.SchemaFault.{SchemaFault}
+use Rattle.avro_schema.specs.declared.fault.SchemaFault.TheVariants as schema
+use Rattle.avro_file.specs.declared.fault.AvroFault.{AvroFault}
+use Rattle.avro_file.specs.declared.fault.AvroFault.TheVariants as avro
+use Rattle.ice_manifest.specs.declared.fault.ListFault.{ListFault}
+use Rattle.ice_manifest.specs.declared.fault.ListFault.TheVariants as list
+use Rattle.ice_manifest.specs.declared.fault.ManifestFault.{ManifestFault}
+use Rattle.ice_manifest.specs.declared.fault.ManifestFault.TheVariants as manifest
+use Rattle.ice_state.specs.declared.fault.ScanFault.{ScanFault}
+use Rattle.ice_state.specs.declared.fault.ScanFault.TheVariants as scan
+use Rattle.ice_state.specs.declared.fault.FinishFault.{FinishFault}
+use Rattle.ice_state.specs.declared.fault.FinishFault.TheVariants as finish
+use Rattle.icescan.specs.declared.fault.RunFault.{RunFault}
+use Rattle.icescan.specs.declared.fault.RunFault.TheVariants as run
+
+-- a lower fault as the program's: want of memory is the program's own
+abbrev pub of_list : ListFault → RunFault
+of_list list.Memory = run.Memory
+of_list fault = run.List fault
+
+abbrev pub of_scan : ScanFault → RunFault
+of_scan scan.Memory = run.Memory
+of_scan fault = run.Scan fault
+
+abbrev pub of_finish : FinishFault → RunFault
+of_finish finish.Memory = run.Memory
+of_finish fault = run.Finish fault
+
+-- a fault in which memory ran out, however deep
+abbrev pub schema_wants_memory : SchemaFault → Bool
+schema_wants_memory schema.Memory = true
+schema_wants_memory _ = false
+
+abbrev pub avro_wants_memory : AvroFault → Bool
+avro_wants_memory avro.Memory = true
+avro_wants_memory (avro.Schema fault) = schema_wants_memory fault
+avro_wants_memory _ = false
+
+abbrev pub list_wants_memory : ListFault → Bool
+list_wants_memory list.Memory = true
+list_wants_memory (list.Avro fault) = avro_wants_memory fault
+list_wants_memory _ = false
+
+abbrev pub manifest_wants_memory : ManifestFault → Bool
+manifest_wants_memory manifest.Memory = true
+manifest_wants_memory (manifest.Avro fault) = avro_wants_memory fault
+manifest_wants_memory _ = false
+
+abbrev pub scan_wants_memory : ScanFault → Bool
+scan_wants_memory scan.Memory = true
+scan_wants_memory (scan.NoSuchSpec id) = false
+
+abbrev pub finish_wants_memory : FinishFault → Bool
+finish_wants_memory finish.Memory = true
+finish_wants_memory (finish.Bad path fault) = manifest_wants_memory fault
+finish_wants_memory _ = false
+
+-- 1: the table is refused; 2: the words or the bundle; 3: a read or a write failed; 5: memory ran out
+abbrev pub refused_status : Bool → ℕ
+refused_status wants_memory = if wants_memory then 5 else 1
+
+abbrev pub status_of : RunFault → ℕ
+status_of (run.Bundle line) = 2
+status_of run.Words = 2
+status_of (run.List fault) = refused_status (list_wants_memory fault)
+status_of (run.Scan fault) = refused_status (scan_wants_memory fault)
+status_of (run.Finish fault) = refused_status (finish_wants_memory fault)
+status_of (run.Absent path) = 3
+status_of (run.Device path) = 3
+status_of run.Input = 3
+status_of run.Write = 3
+status_of run.Memory = 5

@@ -1,0 +1,9 @@
+pub mod Bundles
+pub mod Escaping
+pub mod FaultTexts
+pub mod Faults
+pub mod ListPlans
+pub mod Pieces
+pub mod PlanTexts
+pub mod Runs
+pub mod Written

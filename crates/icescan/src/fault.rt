@@ -1,0 +1,176 @@
+//! Why the program ends without a plan.
+
+ghost use Rattle.std.specs.Prelude.{◌≡◌};
+ghost use Rattle.icescan.specs.Faults.{of_list, of_scan, of_finish, refused_status, schema_wants_memory, avro_wants_memory, list_wants_memory, manifest_wants_memory, scan_wants_memory, finish_wants_memory, status_of};
+ghost use Rattle.icescan.specs.declared.fault.RunFault.TheVariants as run;
+
+use crate::sink::SinkFault;
+use avro_file::AvroFault;
+use avro_schema::SchemaFault;
+use ice_manifest::{ListFault, ManifestFault};
+use ice_state::{FinishFault, ScanFault};
+use ice_value::Text;
+use std::alloc::{AllocError, AllocFailed};
+
+/// The first fault of a run.
+#[derive(Debug, Drop)]
+pub enum RunFault {
+    /// The words on the command line are none of the program's.
+    Words,
+    /// Standard input can't be read.
+    Input,
+    /// This line of the bundle, counted from 1, is no path and bytes, or has a path that an earlier line has.
+    Bundle(u64),
+    /// There is no file at this path.
+    Absent(Text),
+    /// The file at this path can't be read.
+    Device(Text),
+    /// The manifest list is refused.
+    List(ListFault),
+    /// There is no scan of the list's rows.
+    Scan(ScanFault),
+    /// There is no plan.
+    Finish(FinishFault),
+    /// The plan can't be written.
+    Write,
+    /// A growth was refused.
+    Memory,
+}
+
+impl From<AllocError> for RunFault {
+    ghost from_gives = { λ _ e. e ≡ run.Memory };
+
+    fn from(_e: AllocError) -> RunFault {
+        RunFault::Memory
+    }
+}
+
+impl<T: Drop> From<AllocFailed<T>> for RunFault {
+    ghost from_gives = { λ _ e. e ≡ run.Memory };
+
+    fn from(_e: AllocFailed<T>) -> RunFault {
+        RunFault::Memory
+    }
+}
+
+impl From<SinkFault> for RunFault {
+    ghost from_gives = { λ _ e. e ≡ run.Write };
+
+    fn from(_e: SinkFault) -> RunFault {
+        RunFault::Write
+    }
+}
+
+impl From<ListFault> for RunFault {
+    ghost from_gives = { λ fault e. e ≡ of_list fault };
+
+    fn from(fault: ListFault) -> RunFault {
+        match fault {
+            ListFault::Memory => RunFault::Memory,
+            fault => RunFault::List(fault),
+        }
+    }
+}
+
+impl From<ScanFault> for RunFault {
+    ghost from_gives = { λ fault e. e ≡ of_scan fault };
+
+    fn from(fault: ScanFault) -> RunFault {
+        match fault {
+            ScanFault::Memory => RunFault::Memory,
+            fault => RunFault::Scan(fault),
+        }
+    }
+}
+
+impl From<FinishFault> for RunFault {
+    ghost from_gives = { λ fault e. e ≡ of_finish fault };
+
+    fn from(fault: FinishFault) -> RunFault {
+        match fault {
+            FinishFault::Memory => RunFault::Memory,
+            fault => RunFault::Finish(fault),
+        }
+    }
+}
+
+impl RunFault {
+    /// The status that the program ends with: 1 where the table is refused, 2 for the words or the bundle, 3 where a
+    /// read or a write failed, and 5 where memory ran out.
+    pub fn status(&self) -> u8
+        ensures { result ≡ status_of self.now }
+    {
+        match self {
+            RunFault::Words | RunFault::Bundle(_) => 2,
+            RunFault::Input | RunFault::Absent(_) | RunFault::Device(_) | RunFault::Write => 3,
+            RunFault::List(fault) => refused_status(list_wants_memory(fault)),
+            RunFault::Scan(fault) => refused_status(scan_wants_memory(*fault)),
+            RunFault::Finish(fault) => refused_status(finish_wants_memory(fault)),
+            RunFault::Memory => 5,
+        }
+    }
+}
+
+fn refused_status(wants_memory: bool) -> u8
+    ensures { result ≡ refused_status wants_memory }
+{
+    if wants_memory { 5 } else { 1 }
+}
+
+fn schema_wants_memory(fault: SchemaFault) -> bool
+    ensures { result ≡ schema_wants_memory fault }
+{
+    match fault {
+        SchemaFault::Memory => true,
+        _ => false,
+    }
+}
+
+fn avro_wants_memory(fault: &AvroFault) -> bool
+    ensures { result ≡ avro_wants_memory fault.now }
+{
+    match fault {
+        AvroFault::Memory => true,
+        AvroFault::Schema(fault) => schema_wants_memory(*fault),
+        _ => false,
+    }
+}
+
+fn list_wants_memory(fault: &ListFault) -> bool
+    ensures { result ≡ list_wants_memory fault.now }
+{
+    match fault {
+        ListFault::Memory => true,
+        ListFault::Avro(fault) => avro_wants_memory(fault),
+        _ => false,
+    }
+}
+
+fn manifest_wants_memory(fault: &ManifestFault) -> bool
+    ensures { result ≡ manifest_wants_memory fault.now }
+{
+    match fault {
+        ManifestFault::Memory => true,
+        ManifestFault::Avro(fault) => avro_wants_memory(fault),
+        _ => false,
+    }
+}
+
+fn scan_wants_memory(fault: ScanFault) -> bool
+    ensures { result ≡ scan_wants_memory fault }
+{
+    match fault {
+        ScanFault::Memory => true,
+        ScanFault::NoSuchSpec(_) => false,
+    }
+}
+
+fn finish_wants_memory(fault: &FinishFault) -> bool
+    ensures { result ≡ finish_wants_memory fault.now }
+{
+    match fault {
+        FinishFault::Memory => true,
+        FinishFault::Bad(_, fault) => manifest_wants_memory(fault),
+        _ => false,
+    }
+}

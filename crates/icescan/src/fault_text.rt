@@ -1,0 +1,147 @@
+//! The text of a fault: its number, name and arguments.
+
+ghost use Rattle.icescan.specs.FaultTexts.{schema_text, avro_text, list_text, manifest_text, scan_text, finish_text, run_text, fault_text};
+ghost use Rattle.icescan.specs.Written.{Wrote};
+
+use crate::fault::RunFault;
+use crate::pieces::{put_named_int, put_named_number, put_named_path};
+use crate::sink::{Sink, SinkFault, write_all};
+use avro_file::AvroFault;
+use avro_schema::SchemaFault;
+use ice_manifest::{ListFault, ManifestFault};
+use ice_state::{FinishFault, ScanFault};
+
+/// Writes the line of a fault.
+#[tactic(auto, unfolding(crate::specs::FaultTexts::fault_text))]
+pub fn put_fault<S: Sink>(sink: &mut S, fault: &RunFault) -> Result<(), SinkFault>
+    ensures { Wrote S.taken S.may_fail sink.old result sink.new (fault_text fault.now) }
+{
+    write_all(sink, b"icescan: ")?;
+    put_run_fault(sink, fault)?;
+    write_all(sink, b"\n")
+}
+
+#[tactic(auto, unfolding(crate::specs::FaultTexts::run_text))]
+fn put_run_fault<S: Sink>(sink: &mut S, fault: &RunFault) -> Result<(), SinkFault>
+    ensures { Wrote S.taken S.may_fail sink.old result sink.new (run_text fault.now) }
+{
+    match fault {
+        RunFault::Words => write_all(sink, b"usage: icescan [list-plan --bundle]"),
+        RunFault::Input => write_all(sink, b"P3 Device -"),
+        RunFault::Bundle(line) => put_named_number(sink, b"B1 Bundle ", *line),
+        RunFault::Absent(path) => put_named_path(sink, b"P2 Absent ", path.as_bytes()),
+        RunFault::Device(path) => put_named_path(sink, b"P3 Device ", path.as_bytes()),
+        RunFault::List(fault) => put_list_fault(sink, fault),
+        RunFault::Scan(fault) => put_scan_fault(sink, *fault),
+        RunFault::Finish(fault) => put_finish_fault(sink, fault),
+        RunFault::Write => write_all(sink, b"W1 Write"),
+        RunFault::Memory => write_all(sink, b"Memory"),
+    }
+}
+
+#[tactic(auto, unfolding(crate::specs::FaultTexts::finish_text))]
+fn put_finish_fault<S: Sink>(sink: &mut S, fault: &FinishFault) -> Result<(), SinkFault>
+    ensures { Wrote S.taken S.may_fail sink.old result sink.new (finish_text fault.now) }
+{
+    match fault {
+        FinishFault::Missing(path) => put_named_path(sink, b"Z1 Missing ", path.as_bytes()),
+        FinishFault::Bad(path, fault) => {
+            put_named_path(sink, b"Z2 Bad ", path.as_bytes())?;
+            write_all(sink, b" ")?;
+            put_manifest_fault(sink, fault)
+        }
+        FinishFault::PathTwice(path) => put_named_path(sink, b"Z3 PathTwice ", path.as_bytes()),
+        FinishFault::Memory => write_all(sink, b"Z4 Memory"),
+    }
+}
+
+#[tactic(auto, unfolding(crate::specs::FaultTexts::scan_text))]
+fn put_scan_fault<S: Sink>(sink: &mut S, fault: ScanFault) -> Result<(), SinkFault>
+    ensures { Wrote S.taken S.may_fail sink.old result sink.new (scan_text fault) }
+{
+    match fault {
+        ScanFault::NoSuchSpec(id) => put_named_int(sink, b"X1 NoSuchSpec ", id),
+        ScanFault::Memory => write_all(sink, b"X2 Memory"),
+    }
+}
+
+#[tactic(auto, unfolding(crate::specs::FaultTexts::list_text))]
+fn put_list_fault<S: Sink>(sink: &mut S, fault: &ListFault) -> Result<(), SinkFault>
+    ensures { Wrote S.taken S.may_fail sink.old result sink.new (list_text fault.now) }
+{
+    match fault {
+        ListFault::Avro(fault) => {
+            write_all(sink, b"N1 Avro ")?;
+            put_avro_fault(sink, fault)
+        }
+        ListFault::MissingField(id) => put_named_int(sink, b"N2 MissingField ", *id),
+        ListFault::WrongFieldType(id) => put_named_int(sink, b"N3 WrongFieldType ", *id),
+        ListFault::OutOfRange(id) => put_named_int(sink, b"N4 OutOfRange ", *id),
+        ListFault::BadContent => write_all(sink, b"N6 BadContent"),
+        ListFault::ManifestTwice(path) => put_named_path(
+            sink,
+            b"N9 ManifestTwice ",
+            path.as_bytes(),
+        ),
+        ListFault::Memory => write_all(sink, b"N10 Memory"),
+        ListFault::TooManyRows => write_all(sink, b"N11 TooManyRows"),
+    }
+}
+
+#[tactic(auto, unfolding(crate::specs::FaultTexts::manifest_text))]
+fn put_manifest_fault<S: Sink>(sink: &mut S, fault: &ManifestFault) -> Result<(), SinkFault>
+    ensures { Wrote S.taken S.may_fail sink.old result sink.new (manifest_text fault.now) }
+{
+    match fault {
+        ManifestFault::Avro(fault) => {
+            write_all(sink, b"N1 Avro ")?;
+            put_avro_fault(sink, fault)
+        }
+        ManifestFault::MissingField(id) => put_named_int(sink, b"N2 MissingField ", *id),
+        ManifestFault::WrongFieldType(id) => put_named_int(sink, b"N3 WrongFieldType ", *id),
+        ManifestFault::OutOfRange(id) => put_named_int(sink, b"N4 OutOfRange ", *id),
+        ManifestFault::BadStatus => write_all(sink, b"N5 BadStatus"),
+        ManifestFault::BadContent => write_all(sink, b"N6 BadContent"),
+        ManifestFault::NoSequence => write_all(sink, b"N7 NoSequence"),
+        ManifestFault::Memory => write_all(sink, b"N10 Memory"),
+    }
+}
+
+#[tactic(auto, unfolding(crate::specs::FaultTexts::avro_text))]
+fn put_avro_fault<S: Sink>(sink: &mut S, fault: &AvroFault) -> Result<(), SinkFault>
+    ensures { Wrote S.taken S.may_fail sink.old result sink.new (avro_text fault.now) }
+{
+    match fault {
+        AvroFault::NotAvro => write_all(sink, b"V1 NotAvro"),
+        AvroFault::Codec(name) => put_named_path(sink, b"V2 Codec ", name.as_slice()),
+        AvroFault::Truncated(offset) => put_named_number(sink, b"V3 Truncated ", *offset),
+        AvroFault::BadNumber => write_all(sink, b"V4 BadNumber"),
+        AvroFault::BadUnion => write_all(sink, b"V5 BadUnion"),
+        AvroFault::BadUtf8 => write_all(sink, b"V6 BadUtf8"),
+        AvroFault::BadSync => write_all(sink, b"V7 BadSync"),
+        AvroFault::BlockSize => write_all(sink, b"V8 BlockSize"),
+        AvroFault::Schema(fault) => {
+            write_all(sink, b"V9 Schema ")?;
+            put_schema_fault(sink, *fault)
+        }
+        AvroFault::Memory => write_all(sink, b"V10 Memory"),
+        AvroFault::BadBoolean => write_all(sink, b"V11 BadBoolean"),
+        AvroFault::TooManyItems => write_all(sink, b"V12 TooManyItems"),
+    }
+}
+
+#[tactic(auto, unfolding(crate::specs::FaultTexts::schema_text))]
+fn put_schema_fault<S: Sink>(sink: &mut S, fault: SchemaFault) -> Result<(), SinkFault>
+    ensures { Wrote S.taken S.may_fail sink.old result sink.new (schema_text fault) }
+{
+    match fault {
+        SchemaFault::NotJson => write_all(sink, b"S1 NotJson"),
+        SchemaFault::UnknownType => write_all(sink, b"S2 UnknownType"),
+        SchemaFault::UnknownName => write_all(sink, b"S3 UnknownName"),
+        SchemaFault::Recursive => write_all(sink, b"S4 Recursive"),
+        SchemaFault::TooBig => write_all(sink, b"S5 TooBig"),
+        SchemaFault::FieldTwice(id) => put_named_int(sink, b"S6 FieldTwice ", id),
+        SchemaFault::Memory => write_all(sink, b"S7 Memory"),
+        SchemaFault::NameTwice => write_all(sink, b"S8 NameTwice"),
+    }
+}

@@ -1,0 +1,124 @@
+//! The plan of a manifest list.
+
+ghost use Rattle.std.specs.Prelude.{◌≡◌, ◌≢◌, ℕ, List, Option, Some, None, Ok, Err, IfOk, IfErr, OnOk, IsErrOf};
+ghost use Rattle.std.specs.List.{list_any};
+ghost use Rattle.std.specs.Ordering.{int_eq};
+ghost use Rattle.ice_desk.specs.Worlds.{HasAt};
+ghost use Rattle.ice_state.specs.declared.plan.OwnedLine.{OwnedLine};
+ghost use Rattle.ice_state.specs.Contents.{World, HasEach, IsOf, content, every_row};
+ghost use Rattle.icescan.specs.ListPlans.{MayEnd, all_present, answer, file_in, specs_of, with_spec};
+ghost use Rattle.icescan.specs.PlanTexts.{plan_text};
+ghost use Rattle.icescan.specs.Written.{Appends, AppendsFront};
+
+use crate::fault::RunFault;
+use crate::sink::Sink;
+use crate::write::write_plan;
+use ice_desk::{Files, ReadFault};
+use ice_manifest::{Row, read_list};
+use ice_meta::Spec;
+use ice_state::{Partial, Scan};
+use ice_value::Text;
+use std::alloc::{AllocError, Global};
+
+/// A text of its own.
+fn text_of(alloc: Global, path: &str) -> Result<Text, AllocError>
+    ensures { IfOk result (λ text. text ≡ path.now) }
+{
+    Ok(Text::from_string(String::from_str(alloc, path)?))
+}
+
+/// The bytes of the file at a path: `Absent` where there is none, `Device` where reading it failed.
+fn read_file<F: Files>(alloc: Global, files: &F, path: &str) -> Result<Vec<u8>, RunFault>
+    ensures found { (world : World) → F.world files.now ≡ Some world → IfOk result (λ bytes. file_in world path.now ≡ Ok bytes.items) }
+    ensures refused { (world : World) → F.world files.now ≡ Some world → IfErr result (MayEnd (file_in world path.now) (F.may_fail files.now) ⊥) }
+    ensures absent { (path : List ℕ) → IsErrOf result (RunFault.Absent path) → HasAt (F.world files.now) path None }
+    ensures device { (path : List ℕ) → IsErrOf result (RunFault.Device path) → F.may_fail files.now path }
+    ensures write { IsErrOf result RunFault.Write → ⊥ }
+{
+    match files.read(alloc, path) {
+        Ok(bytes) => Ok(bytes),
+        Err(ReadFault::Absent) => Err(RunFault::Absent(text_of(alloc, path)?)),
+        Err(ReadFault::Device) => Err(RunFault::Device(text_of(alloc, path)?)),
+        Err(ReadFault::Memory) => Err(RunFault::Memory),
+    }
+}
+
+/// Whether a spec has this id.
+fn has_spec(specs: &[Spec], id: i32) -> bool
+    ensures { result ≡ list_any (λ spec. int_eq spec.id id) specs.now }
+{
+    specs.iter().any(|spec| spec.id == id)
+}
+
+/// Adds the spec of a row, where it is not there yet.
+fn add_spec(specs: &mut Vec<Spec>, row: &Row) -> Result<(), AllocError>
+    ensures { OnOk result (specs.new.items ≡ with_spec specs.old.items row.now) }
+{
+    if !has_spec(specs, row.spec) {
+        specs.push(Spec::empty(row.spec))?;
+    }
+    Ok(())
+}
+
+/// A spec without fields for each spec id that a row has.
+fn specs_of(alloc: Global, rows: &[Row]) -> Result<Vec<Spec>, AllocError>
+    ensures { IfOk result (λ specs. specs.items ≡ specs_of rows.now) }
+{
+    let mut specs = Vec::new(alloc);
+    for row in rows {
+        add_spec(&mut specs, row)?;
+    }
+    Ok(specs)
+}
+
+/// The state in which each wanted manifest is taken, in the order of their paths.
+fn all_taken<F: Files>(alloc: Global, files: &F, scan: &Scan) -> Result<Partial, RunFault>
+    ensures of_scan { IfOk result (λ state. IsOf scan.now state) }
+    ensures present { (world : World) → F.world files.now ≡ Some world → OnOk result (all_present world scan.now.wanted ≡ Ok tt) }
+    ensures taken { (world : World) → F.world files.now ≡ Some world → IfOk result (λ state. state ≡ content world scan.now (every_row scan.now)) }
+    ensures refused { (world : World) → F.world files.now ≡ Some world → IfErr result (MayEnd (all_present world scan.now.wanted) (F.may_fail files.now) ⊥) }
+    ensures absent { (path : List ℕ) → IsErrOf result (RunFault.Absent path) → HasAt (F.world files.now) path None }
+    ensures device { (path : List ℕ) → IsErrOf result (RunFault.Device path) → F.may_fail files.now path }
+    ensures write { IsErrOf result RunFault.Write → ⊥ }
+{
+    let mut state = Partial::empty(alloc, scan)?;
+    for (i, row) in scan.wanted().iter().enumerate() {
+        let bytes = read_file(alloc, files, row.path.as_str())?;
+        state.take(scan, i, &bytes)?;
+    }
+    Ok(state)
+}
+
+/// Writes the plan of the manifest list at a path. The table is taken as one without partitions.
+///
+/// The refusal is `Absent` where the list or a wanted manifest is not there, `Device` where reading it failed, one of
+/// `List`, `Scan` and `Finish` where the table is at fault, `Write` where a write failed, and then a front of the plan's
+/// text was written, or `Memory`. After any refusal but `Write` nothing was written.
+pub fn run_list_plan<F: Files, W: Sink>(
+    alloc: Global,
+    files: &F,
+    list: &str,
+    output: &mut W,
+) -> Result<(), RunFault>
+    // Over files that tell their world: what is written is the text of the plan, and a fault is the answer's.
+    ensures written { (world : World) → F.world files.now ≡ Some world →
+        OnOk result ((plan : List OwnedLine) × (answer world list.now ≡ Ok plan) × Appends (W.taken output.old) (W.taken output.new) (plan_text plan)) }
+    ensures refused { (world : World) → F.world files.now ≡ Some world →
+        IfErr result (MayEnd (answer world list.now) (F.may_fail files.now) (W.may_fail output.old)) }
+    ensures front { (world : World) → F.world files.now ≡ Some world → IsErrOf result RunFault.Write →
+        (plan : List OwnedLine) × (answer world list.now ≡ Ok plan) × AppendsFront (W.taken output.old) (W.taken output.new) (plan_text plan) }
+
+    // Over all files.
+    ensures nothing { IfErr result (λ fault. fault ≢ RunFault.Write → W.taken output.new ≡ W.taken output.old) }
+    ensures absent { (path : List ℕ) → IsErrOf result (RunFault.Absent path) → HasAt (F.world files.now) path None }
+    ensures device { (path : List ℕ) → IsErrOf result (RunFault.Device path) → F.may_fail files.now path }
+    ensures write { IsErrOf result RunFault.Write → W.may_fail output.old }
+{
+    let bytes = read_file(alloc, files, list)?;
+    let rows = read_list(alloc, &bytes)?;
+    let specs = specs_of(alloc, &rows)?;
+    let scan = Scan::new(alloc, rows, specs)?;
+    let state = all_taken(alloc, files, &scan)?;
+    let plan = state.finish(&scan)?;
+    write_plan(alloc, &plan, output)
+}

@@ -1,0 +1,69 @@
+//! The program over its words, standard input, output and errors.
+
+ghost use Rattle.std.specs.Prelude.{◌≡◌, ◌≢◌, ◌⊎◌, ℕ, List, map, string_bytes, Option, Some, Ok, Err, OnOk, IfErr, false};
+ghost use Rattle.ice_state.specs.declared.plan.OwnedLine.{OwnedLine};
+ghost use Rattle.icescan.specs.PlanTexts.{plan_text};
+ghost use Rattle.icescan.specs.Runs.{MayRefuse, Planned, Refused, asks_list_plan, run_of, words_in};
+ghost use Rattle.icescan.specs.Written.{Appends};
+
+use crate::bundle::Bundle;
+use crate::fault::RunFault;
+use crate::input::read_bundle;
+use crate::report::report;
+use crate::run_list_plan::run_list_plan;
+use crate::sink::Sink;
+use std::alloc::Global;
+use std::io::Read;
+
+/// How many reads of standard input are made at most.
+const MOST_READS: u64 = 16_777_216;
+
+/// That the words ask for what the program does: `list-plan --bundle`, which is also what no words ask for.
+fn check_words(words: &[String]) -> Result<(), RunFault>
+    ensures { result ≡ words_in (map string_bytes words.now) }
+{
+    match words {
+        [] => Ok(()),
+        [command, source] if command.as_str() == "list-plan" && source.as_str() == "--bundle" => Ok(
+            (),
+        ),
+        _ => Err(RunFault::Words),
+    }
+}
+
+/// Writes the plan of a bundle's first file.
+fn plan_bundle<W: Sink>(alloc: Global, input: &[u8], output: &mut W) -> Result<(), RunFault> {
+    let bundle = Bundle::read(alloc, input)?;
+    let Some(list) = bundle.first_path() else {
+        return Err(RunFault::Bundle(1));
+    };
+    run_list_plan(alloc, &bundle, list, output)
+}
+
+/// Writes what the words ask for.
+fn run<R: Read, W: Sink>(
+    alloc: Global,
+    words: &[String],
+    input: &mut R,
+    output: &mut W,
+) -> Result<(), RunFault> {
+    check_words(words)?;
+    let text = read_bundle(alloc, input, MOST_READS)?;
+    plan_bundle(alloc, &text, output)
+}
+
+/// Runs the program: it writes the plan to `output` and ends with 0, or it writes the line of the first fault to
+/// `errors` and ends with the fault's status. Faults are found in this order: of the words, of reading standard input,
+/// of the bundle, of the plan.
+pub fn run_words<R: Read, W: Sink, E: Sink>(
+    alloc: Global,
+    words: &[String],
+    input: &mut R,
+    output: &mut W,
+    errors: &mut E,
+) -> u8 {
+    match run(alloc, words, input, output) {
+        Ok(()) => 0,
+        Err(fault) => report(&fault, errors),
+    }
+}
