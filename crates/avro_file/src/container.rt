@@ -102,10 +102,11 @@ impl<'a> Container<'a> {
     ghost use Rattle.avro_file.specs.Holding.{AreWithinLimits};
     ghost use Rattle.avro_file.specs.Files.{ahead, tree_of, Next, shown, opened, opened_at, reader_of, HoldsFile};
 
-    /// A reader of the file's objects.
+    /// A reader of the file's objects, which copies nothing of the file.
     ///
     /// `NotAvro` comes where the file does not begin as a container does, and where its whole header names no
     /// schema; the faults of the header come in the order of its bytes, then `Codec`, then `Schema`.
+    /// Of equal keys in the metadata the last counts. No block is looked at.
     pub fn open(alloc: Global, bytes: &'a [u8]) -> Result<Container<'a>, AvroFault>
         // Data that the file holds are what the reader will give.
         ensures held { (s : Tree) (vs : List Value) → HoldsFile s vs bytes.now → AreWithinLimits vs → Gives AvroFault.Memory opened result (Ok (reader_of s vs)) }
@@ -147,7 +148,11 @@ impl<'a> Container<'a> {
         &self.schema
     }
 
-    /// The next object, which was checked whole; none at the end of the file. After a refusal, the same refusal.
+    /// The next object, which was checked whole; none at the end of the file.
+    ///
+    /// A block's count, size, content and marker are checked before its first object. An object that runs past its
+    /// block, or bytes left behind the last one, are `BlockSize`. After a refusal, want of memory too, each further
+    /// call gives the same refusal, and takes no memory for it.
     pub fn next(&mut self, alloc: Global) -> Result<Option<Object>, AvroFault>
         ensures next { Next shown (ahead self.old) result (ahead self.new) }
         ensures schema { tree_of self.new ≡ tree_of self.old }
