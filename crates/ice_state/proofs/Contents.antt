@@ -1,5 +1,5 @@
 -- Lemmas on contents.
-use Rattle.std.proofs.Common.{◌≡◌, ◌<◌, ℕ, zero, suc, List, [], ◌∷◌, refl, sym, ap, ◌∙◌, Bool, true, false, length, get_or, Option, Some, None, is_some, replicate, slice_set, arith, option_map, Result, Ok, Err}
+use Rattle.std.proofs.Common.{◌≡◌, ◌<◌, ℕ, zero, suc, List, [], ◌∷◌, refl, sym, ap, ◌∙◌, Bool, true, false, length, get_or, Option, Some, None, is_some, replicate, slice_set, arith, Ok}
 use Rattle.std.specs.List.{slice_get}
 use Rattle.std.specs.Option.{option_and_then}
 use Rattle.ice_meta.specs.declared.spec.Spec.{Spec}
@@ -10,7 +10,7 @@ use Rattle.ice_state.specs.declared.reading.Reading.{Reading}
 use Rattle.ice_state.specs.declared.reading.Reading.TheVariants.{Good}
 use Rattle.ice_state.specs.Pruning.{everything}
 use Rattle.ice_state.specs.Scans.{Scanned, spec_of}
-use Rattle.ice_state.specs.Contents.{Content, World, reading, reading_of, slot_of, slots_of, content, add, or_else, took_at, took, HasBytesAt, HasBytes}
+use Rattle.ice_state.specs.Contents.{Content, World, reading, slot_of, slots_of, content, add, took_at, took, HasBytesAt, HasBytes}
 use Rattle.ice_state.specs.Parts.{reading_by, with_row}
 use Rattle.ice_state.proofs.Filters.{kept-everything}
 

@@ -1,9 +1,8 @@
 -- Elements of lists that are filtered, mapped and sorted.
-use Rattle.std.proofs.Common.{◌≡◌, ◌<◌, ◌≤◌, ◌+◌, ℕ, zero, suc, List, [], ◌∷◌, refl, sym, ap, ◌∙◌, Bool, true, false, map, filter, cond, ◌⊎◌, inl, inr, length, slice_index_or, get_or, arith, subst, add-one}
+use Rattle.std.proofs.Common.{◌≡◌, ◌<◌, ℕ, zero, suc, List, [], ◌∷◌, refl, sym, ap, ◌∙◌, Bool, true, false, map, filter, cond, ◌⊎◌, inl, inr, length, slice_index_or, get_or, arith, subst, add-one}
 use Rattle.std.specs.List.{Contains, AllByRecursion}
 use Rattle.std.specs.List.Sorted.{IsSortedBy}
 use Rattle.std.specs.Cmp.{IsStrictWeakOrder}
-use native.Mathlib.Numerals.{unary_clauses}
 use Rattle.ice_value.specs.Sorting.{put, sorted}
 use Rattle.ice_value.proofs.Sorted.{Rises}
 

@@ -1,10 +1,9 @@
 -- Runs of takes, and the sets of rows that they take.
-use Rattle.std.proofs.Common.{◌≡◌, ◌<◌, ◌==◌, ℕ, zero, suc, List, [], ◌∷◌, refl, sym, ap, ◌∙◌, Bool, true, false, ◌||◌, length, get_or, replicate, slice_set, arith, None, Some}
-use Rattle.std.specs.List.{list_any}
+use Rattle.std.proofs.Common.{◌≡◌, ◌<◌, ◌==◌, ℕ, zero, suc, List, [], ◌∷◌, refl, sym, ap, ◌∙◌, Bool, true, false, ◌||◌, length, get_or, replicate, arith, Some}
 use Rattle.std.proofs.lemmas.Bool.Decides.{nat_tests}
 use Rattle.std.proofs.lemmas.List.{ext_get_or}
 use Rattle.ice_manifest.specs.declared.row.Row.{Row}
-use Rattle.ice_state.specs.Contents.{Content, World, content, no_row, every_row, add, took, HasBytesAt, HasBytes}
+use Rattle.ice_state.specs.Contents.{Content, World, content, no_row, every_row, add, HasBytesAt}
 use Rattle.ice_state.specs.Runs.{Run, IsIn, takes, TakeTheSame, after_from, after}
 use Rattle.ice_state.specs.Scans.{Scanned}
 use Rattle.ice_state.proofs.Contents.{took-content, none-content}

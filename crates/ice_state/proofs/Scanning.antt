@@ -1,17 +1,15 @@
 -- What a scan wants, and when there is none.
-use Rattle.std.proofs.Common.{◌≡◌, ◌↔◌, ℤ, List, [], ◌∷◌, refl, sym, ap, ◌∙◌, Bool, true, false, filter, cond, arith, inl, inr, subst, Option, Some, None, is_none, is_some, Result, Ok, Err}
-use Rattle.std.specs.List.{Contains, AllByRecursion}
+use Rattle.std.proofs.Common.{◌≡◌, ◌↔◌, ℤ, List, [], ◌∷◌, refl, sym, ap, ◌∙◌, Bool, true, false, filter, arith, subst, Option, Some, None, is_none, Ok, Err}
+use Rattle.std.specs.List.{Contains}
 use Rattle.std.specs.List.Sorted.{IsSortedBy}
 use Rattle.std.specs.Option.{IsSome}
-use Rattle.ice_value.specs.Sorting.{sorted}
 use Rattle.ice_value.proofs.Sorted.{Rises, sorted_rises, filter-sorted, irreflexive}
 use Rattle.ice_meta.specs.declared.spec.Spec.{Spec}
 use Rattle.ice_manifest.specs.declared.row.Row.{Row}
-use Rattle.ice_state.specs.declared.fault.ScanFault.{ScanFault}
 use Rattle.ice_state.specs.declared.fault.ScanFault.TheVariants.{NoSuchSpec}
 use Rattle.ice_state.specs.Pruning.{everything}
 use Rattle.ice_state.specs.Scans.{Scanned, pruner, spec_of, row_before, by_row_path, without_spec, unless_missing, scan_of, IsFirstUnknown}
-use Rattle.ice_state.proofs.Elements.{contains_at, contains_more, filtered, refiltered, all_at, sorted_contains, contains_sorted, sorted_from_rises}
+use Rattle.ice_state.proofs.Elements.{filtered, refiltered, all_at, sorted_contains, contains_sorted, sorted_from_rises}
 use Rattle.ice_state.proofs.Filters.{wanted-everything}
 use Rattle.ice_state.proofs.Scans.{row_order}
 use Rattle.ice_state.proofs.Snapshots.{wanted_of}

@@ -1,5 +1,5 @@
 -- Lemmas on scans.
-use Rattle.std.proofs.Common.{◌≡◌, ◌<◌, ℕ, zero, suc, ℤ, List, [], ◌∷◌, refl, sym, ap, ◌∙◌, Bool, true, false, length, get_or, arith, cond, filter, drop, Option, Some, None, is_none, Result, Ok, Err, subst}
+use Rattle.std.proofs.Common.{◌≡◌, ◌<◌, ℕ, zero, suc, List, [], ◌∷◌, refl, sym, ap, ◌∙◌, Bool, true, false, length, get_or, arith, cond, filter, is_none, Ok, subst}
 use Rattle.std.specs.List.{slice_get}
 use Rattle.std.specs.Option.{option_and_then}
 use Rattle.std.specs.Cmp.{IsStrictWeakOrder}
@@ -7,9 +7,8 @@ use Rattle.std.proofs.lemmas.Cmp.{nat_list_cmp_total}
 use Rattle.std.proofs.lemmas.List.Sorted.{ranks_by}
 use Rattle.ice_meta.specs.declared.spec.Spec.{Spec}
 use Rattle.ice_manifest.specs.declared.row.Row.{Row}
-use Rattle.ice_state.specs.declared.fault.ScanFault.{ScanFault}
 use Rattle.ice_state.specs.Pruning.{everything}
-use Rattle.ice_state.specs.Scans.{Scanned, spec_of, row_before, by_row_path, without_spec, unless_missing, scan_of}
+use Rattle.ice_state.specs.Scans.{spec_of, row_before, by_row_path, without_spec, unless_missing, scan_of}
 use Rattle.ice_state.proofs.Filters.{wanted-everything}
 
 pub row_order : IsStrictWeakOrder row_before

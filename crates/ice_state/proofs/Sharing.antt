@@ -1,7 +1,7 @@
 -- What neighbours share in a rising list is what two entries share.
-use Rattle.std.proofs.Common.{◌≡◌, ◌≢◌, ◌<◌, ◌≤◌, ◌+◌, ℕ, suc, List, [], ◌∷◌, refl, sym, ap, ◌∙◌, Bool, true, false, length, arith, filter, cond, subst, Ordering, is_lt, ◌⊎◌, inl, inr}
+use Rattle.std.proofs.Common.{◌≡◌, ◌<◌, ◌≤◌, ℕ, suc, List, [], ◌∷◌, refl, sym, ap, ◌∙◌, Bool, true, false, length, arith, filter, cond, subst, Ordering, is_lt, ◌⊎◌, inl, inr}
 use Rattle.std.specs.List.{AllByRecursion}
-use Rattle.std.specs.Cmp.{IsStrictWeakOrder, IsTotalOrder}
+use Rattle.std.specs.Cmp.{IsStrictWeakOrder}
 use Rattle.std.specs.Cmp.Lexicographic.{slice_cmp}
 use Rattle.std.specs.Ordering.{nat_cmp, is_eq, ordering_reverse}
 use Rattle.std.specs.declared.cmp.Ordering.TheVariants.{Less, Equal, Greater}
@@ -15,8 +15,8 @@ use Rattle.ice_state.specs.declared.fault.FinishFault.{FinishFault}
 use Rattle.ice_state.specs.declared.fault.FinishFault.TheVariants.{PathTwice}
 use Rattle.ice_state.specs.Outcomes.{by_path, path_before, twice}
 use Rattle.ice_value.specs.Sorting.{put, sorted}
-use Rattle.ice_state.specs.Shares.{count_at, IsLeastShared}
-use Rattle.ice_value.proofs.Sorted.{Rises, sorted_rises, irreflexive, filter-sorted}
+use Rattle.ice_state.specs.Shares.{count_at}
+use Rattle.ice_value.proofs.Sorted.{Rises, irreflexive, filter-sorted}
 
 pub order : IsStrictWeakOrder path_before
 order = ranks_by nat_list_cmp_total (λ (a : Entry). a.path)

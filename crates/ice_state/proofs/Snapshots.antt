@@ -1,17 +1,13 @@
 -- The outcome of all wanted rows is the plan of the snapshot.
-use Rattle.std.proofs.Common.{◌≡◌, ℕ, List, [], ◌∷◌, ◌++◌, refl, sym, ap, ◌∙◌, Bool, true, false, filter, length, replicate, Option, Some, None, is_some, option_map, Result, Ok, Err, subst}
-use Rattle.std.specs.List.{flat_map, AllByRecursion}
+use Rattle.std.proofs.Common.{◌≡◌, ℕ, List, [], ◌∷◌, refl, sym, ap, ◌∙◌, true, filter, length, replicate, Option, Some, None, is_some, option_map, Ok, Err, subst}
+use Rattle.std.specs.List.{flat_map}
 use Rattle.ice_meta.specs.declared.spec.Spec.{Spec}
-use Rattle.ice_manifest.specs.declared.entry.Entry.{Entry}
-use Rattle.ice_manifest.specs.declared.fault.ManifestFault.{ManifestFault}
 use Rattle.ice_manifest.specs.declared.row.Row.{Row}
-use Rattle.ice_state.specs.declared.fault.FinishFault.{FinishFault}
-use Rattle.ice_state.specs.declared.fault.ScanFault.{ScanFault}
-use Rattle.ice_state.specs.Contents.{Content, World, manifest_of, reading, reading_of, slot_of, slots_of, content, every_row, HasEach}
-use Rattle.ice_state.specs.Outcomes.{missing, missing_at, bad, bad_at, twice, entries_in, kept_in, by_path, plan_over, first_or, outcome_of, outcome}
-use Rattle.ice_state.specs.Pruning.{Pruner, everything, kept}
+use Rattle.ice_state.specs.Contents.{Content, World, manifest_of, reading, reading_of, slots_of, content, every_row, HasEach}
+use Rattle.ice_state.specs.Outcomes.{missing, missing_at, bad, bad_at, entries_in, kept_in, outcome_of, outcome}
+use Rattle.ice_state.specs.Pruning.{everything, kept}
 use Rattle.ice_state.specs.Scans.{Scanned, pruner, by_row_path, row_before, without_spec, unless_missing, scan_of}
-use Rattle.ice_state.specs.Snapshots.{live, entries_or_none, fault_or_none, bad_row, AreCovered, AreCoveredBy, IsOpen, kept_of_wanted, plan_of_rows, plan_of_snapshot}
+use Rattle.ice_state.specs.Snapshots.{live, entries_or_none, fault_or_none, bad_row, AreCovered, AreCoveredBy, IsOpen, plan_of_rows, plan_of_snapshot}
 use Rattle.ice_state.proofs.Filters.{all_sorted}
 use Rattle.ice_state.proofs.Pruned.{kept_wanted, pruned}
 

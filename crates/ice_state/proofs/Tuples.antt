@@ -1,5 +1,5 @@
 -- The test of tuples says whether they are one.
-use Rattle.std.proofs.Common.{◌≡◌, ap, rules, Bool, List, refl}
+use Rattle.std.proofs.Common.{◌≡◌, ap, rules, List, refl}
 use Rattle.std.specs.Bool.{Decides}
 use Rattle.std.specs.Cmp.{booleans_Decides}
 use Rattle.std.specs.Cmp.Lexicographic.{pointwise}

@@ -55,6 +55,7 @@ impl Partial {
 
         ensures of_scan { IsOf scan.now self.new }
         ensures again { IsTrue (is_row_taken self.old i) → IsOk result }
+        ensures still { IsTrue (is_row_taken self.old i) → self.new ≡ self.old }
         ensures ok { OnOk result (self.new ≡ took scan.now self.old i bytes.now) }
         ensures err { OnErr result (self.new ≡ self.old) }
         ensures world { (world : World) (ts : List Bool) →

@@ -1,7 +1,7 @@
 //! What no clause says: that calls succeed where memory is ample, the plan of manifests that another program wrote, and
 //! what a refused growth leaves.
 
-ghost use Rattle.std.specs.Prelude.{IfOk};
+ghost use Rattle.std.specs.Prelude.{◌<◌, IfOk, length, vec_len};
 ghost use Rattle.ice_state.specs.Contents.{IsOf};
 
 use crate::{FinishFault, Partial, Scan, ScanFault};
@@ -45,18 +45,12 @@ fn manifest(alloc: Global, codec: &[u8], block: &[u8]) -> Result<Vec<u8>, AllocE
     Ok(bytes)
 }
 
-fn row(
-    alloc: Global,
-    path: &str,
-    spec: i32,
-    content: ManifestContent,
-    sequence_number: u64,
-) -> Result<Row, AllocError> {
+fn row(alloc: Global, path: &str, spec: i32, sequence_number: u64) -> Result<Row, AllocError> {
     Ok(Row {
         path: Text::from_string(String::from_str(alloc, path)?),
         length: 100,
         spec,
-        content,
+        content: ManifestContent::Data,
         sequence_number,
         min_sequence_number: sequence_number,
         added_snapshot_id: 1,
@@ -67,7 +61,7 @@ fn row(
 fn data_rows(alloc: Global, paths: &[&str]) -> Result<Vec<Row>, AllocError> {
     let mut rows = Vec::new(alloc);
     'paths: for path in paths {
-        rows.push(row(alloc, path, 0, ManifestContent::Data, 3)?)?;
+        rows.push(row(alloc, path, 0, 3)?)?;
     }
     Ok(rows)
 }
@@ -78,19 +72,60 @@ fn specs(alloc: Global) -> Result<Vec<Spec>, AllocError> {
     Ok(specs)
 }
 
+/// A scan, and the bytes of its manifests in the order of their paths.
+#[derive(Drop)]
+struct Case {
+    scan: Scan,
+    manifests: Vec<Vec<u8>>,
+}
+
+/// Rows `mem://t/m1` (data), `mem://t/m2` and `mem://t/m3` (deletes), the last of the next sequence number.
+fn data_and_deletes(alloc: Global) -> Result<Case, ScanFault> {
+    let mut rows = Vec::new(alloc);
+    rows.push(row(alloc, "mem://t/m1", 0, 3)?)?;
+    let mut deletes = row(alloc, "mem://t/m2", 0, 3)?;
+    deletes.content = ManifestContent::Deletes;
+    rows.push(deletes)?;
+    let mut deletes = row(alloc, "mem://t/m3", 0, 4)?;
+    deletes.content = ManifestContent::Deletes;
+    rows.push(deletes)?;
+    let scan = Scan::new(alloc, rows, specs(alloc)?)?;
+    let mut manifests = Vec::new(alloc);
+    manifests.push(manifest(alloc, UNCOMPRESSED, DATA)?)?;
+    manifests.push(manifest(alloc, UNCOMPRESSED, DELETES)?)?;
+    manifests.push(manifest(alloc, UNCOMPRESSED, LATER_DELETES)?)?;
+    Ok(Case { scan, manifests })
+}
+
+/// Rows `mem://t/m1` and `mem://t/m2`, which share a path, and `mem://t/m3`, which can't be read.
+fn shared_and_bad(alloc: Global) -> Result<Case, ScanFault> {
+    let rows = data_rows(alloc, &["mem://t/m1", "mem://t/m2", "mem://t/m3"])?;
+    let scan = Scan::new(alloc, rows, specs(alloc)?)?;
+    let mut manifests = Vec::new(alloc);
+    manifests.push(manifest(alloc, UNCOMPRESSED, X_AND_Y)?)?;
+    manifests.push(manifest(alloc, UNCOMPRESSED, Z_W_AND_X)?)?;
+    manifests.push(manifest(alloc, DEFLATE, DATA)?)?;
+    Ok(Case { scan, manifests })
+}
+
+/// Rows `mem://t/m1` and `mem://t/m2`, which share a path.
+fn shared(alloc: Global) -> Result<Case, ScanFault> {
+    let rows = data_rows(alloc, &["mem://t/m1", "mem://t/m2"])?;
+    let scan = Scan::new(alloc, rows, specs(alloc)?)?;
+    let mut manifests = Vec::new(alloc);
+    manifests.push(manifest(alloc, UNCOMPRESSED, X_AND_Y)?)?;
+    manifests.push(manifest(alloc, UNCOMPRESSED, Z_W_AND_X)?)?;
+    Ok(Case { scan, manifests })
+}
+
 /// The state after taking these rows in this order.
-fn state_after(
-    alloc: Global,
-    scan: &Scan,
-    manifests: &[Vec<u8>],
-    order: &[usize],
-) -> Result<Partial, AllocError>
-    ensures { IfOk result (λ state. IsOf scan.now state) }
+fn state_after(alloc: Global, case: &Case, order: &[usize]) -> Result<Partial, AllocError>
+    ensures { IfOk result (λ state. IsOf case.now.scan state) }
 {
-    let mut state = Partial::empty(alloc, scan)?;
+    let mut state = Partial::empty(alloc, &case.scan)?;
     'order: for i in order {
-        if *i < scan.wanted().len() && *i < manifests.len() {
-            state.take(scan, *i, &manifests[*i])?;
+        if *i < case.scan.wanted().len() && *i < case.manifests.len() {
+            state.take(&case.scan, *i, &case.manifests[*i])?;
         }
     }
     Ok(state)
@@ -106,6 +141,33 @@ fn has_paths(entries: &[&Entry], paths: &[&str]) -> bool {
         }
     }
     true
+}
+
+fn is_missing(state: &Partial, scan: &Scan, path: &str) -> bool
+    requires { IsOf scan.now state.now }
+{
+    match state.finish(scan) {
+        Err(FinishFault::Missing(missing)) => missing.as_str() == path,
+        _ => false,
+    }
+}
+
+fn is_bad(state: &Partial, scan: &Scan, path: &str) -> bool
+    requires { IsOf scan.now state.now }
+{
+    match state.finish(scan) {
+        Err(FinishFault::Bad(bad, ManifestFault::Avro(_))) => bad.as_str() == path,
+        _ => false,
+    }
+}
+
+fn is_twice(state: &Partial, scan: &Scan, path: &str) -> bool
+    requires { IsOf scan.now state.now }
+{
+    match state.finish(scan) {
+        Err(FinishFault::PathTwice(twice)) => twice.as_str() == path,
+        _ => false,
+    }
 }
 
 #[test]
@@ -125,23 +187,10 @@ fn wants_every_row_by_path(rt: HostRuntime) -> Result<(), Fail> {
 fn names_the_spec_of_the_least_path(rt: HostRuntime) -> Result<(), Fail> {
     let alloc = rt.alloc();
     let mut rows = data_rows(alloc, &["mem://t/a"])?;
-    rows.push(row(alloc, "mem://t/c", 7, ManifestContent::Data, 3)?)?;
-    rows.push(row(alloc, "mem://t/b", -5, ManifestContent::Data, 3)?)?;
+    rows.push(row(alloc, "mem://t/c", 7, 3)?)?;
+    rows.push(row(alloc, "mem://t/b", -5, 3)?)?;
     let fault = Scan::new(alloc, rows, specs(alloc)?).err();
     assert_eq!(rt; fault, Some(ScanFault::NoSuchSpec(-5)));
-    Ok(())
-}
-
-#[test]
-fn names_the_least_missing_manifest(rt: HostRuntime) -> Result<(), Fail> {
-    let alloc = rt.alloc();
-    let rows = data_rows(alloc, &["mem://t/m2", "mem://t/m1"])?;
-    let scan = Scan::new(alloc, rows, specs(alloc)?)?;
-    let state = Partial::empty(alloc, &scan)?;
-    match state.finish(&scan) {
-        Err(FinishFault::Missing(path)) => assert_eq!(rt; path.as_str(), "mem://t/m1"),
-        _ => return Err(Fail::from("no manifest is missing")),
-    }
     Ok(())
 }
 
@@ -160,79 +209,84 @@ fn plans_no_file_of_no_row(rt: HostRuntime) -> Result<(), Fail> {
 #[test]
 fn plans_a_data_file_with_its_deletes(rt: HostRuntime) -> Result<(), Fail> {
     let alloc = rt.alloc();
-    let mut rows = Vec::new(alloc);
-    rows.push(row(alloc, "mem://t/m1", 0, ManifestContent::Data, 3)?)?;
-    rows.push(row(alloc, "mem://t/m2", 0, ManifestContent::Deletes, 3)?)?;
-    rows.push(row(alloc, "mem://t/m3", 0, ManifestContent::Deletes, 4)?)?;
-    let mut manifests = Vec::new(alloc);
-    manifests.push(manifest(alloc, UNCOMPRESSED, DATA)?)?;
-    manifests.push(manifest(alloc, UNCOMPRESSED, DELETES)?)?;
-    manifests.push(manifest(alloc, UNCOMPRESSED, LATER_DELETES)?)?;
-    let scan = Scan::new(alloc, rows, specs(alloc)?)?;
-    let state = state_after(alloc, &scan, &manifests, &[2, 0, 1, 0])?;
-    let plan = state.finish(&scan)?;
+    let case = data_and_deletes(alloc)?;
+    let state = state_after(alloc, &case, &[2, 0, 1, 0])?;
+    let plan = state.finish(&case.scan)?;
     assert_eq!(rt; plan.lines().len(), 1);
     let line = &plan.lines()[0];
     assert_eq!(rt; line.file.path.as_str(), "mem://t/a.parquet");
     assert!(rt; has_paths(&line.positions, &["mem://t/p.parquet"]));
     assert!(rt; has_paths(&line.equalities, &["mem://t/e.parquet"]));
-    let kept = plan.keep(alloc)?;
+    Ok(())
+}
+
+#[test]
+fn keeps_a_plan(rt: HostRuntime) -> Result<(), Fail> {
+    let alloc = rt.alloc();
+    let case = data_and_deletes(alloc)?;
+    let state = state_after(alloc, &case, &[0, 1, 2])?;
+    let kept = state.finish(&case.scan)?.keep(alloc)?;
     assert_eq!(rt; kept.lines().len(), 1);
-    assert_eq!(rt; kept.lines()[0].file.record_count, 10);
-    assert_eq!(rt; kept.lines()[0].file.file_size, 100);
-    assert_eq!(rt; kept.lines()[0].equalities.as_slice().len(), 1);
+    let line = &kept.lines()[0];
+    assert_eq!(rt; line.file.record_count, 10);
+    assert_eq!(rt; line.file.file_size, 100);
+    assert_eq!(rt; line.equalities.as_slice().len(), 1);
     Ok(())
 }
 
 #[test]
 fn names_a_shared_path_in_every_order(rt: HostRuntime) -> Result<(), Fail> {
     let alloc = rt.alloc();
-    let rows = data_rows(alloc, &["mem://t/m1", "mem://t/m2"])?;
-    let mut manifests = Vec::new(alloc);
-    manifests.push(manifest(alloc, UNCOMPRESSED, X_AND_Y)?)?;
-    manifests.push(manifest(alloc, UNCOMPRESSED, Z_W_AND_X)?)?;
-    let scan = Scan::new(alloc, rows, specs(alloc)?)?;
+    let case = shared(alloc)?;
     let orders: [&[usize]; 4] = [&[0, 1], &[1, 0], &[0, 1, 1, 0], &[1, 1, 0]];
     for order in orders {
-        let state = state_after(alloc, &scan, &manifests, order)?;
-        match state.finish(&scan) {
-            Err(FinishFault::PathTwice(path)) => assert_eq!(rt; path.as_str(), "mem://t/x"),
-            _ => return Err(Fail::from("no path is shared")),
-        }
+        let state = state_after(alloc, &case, order)?;
+        assert!(rt; is_twice(&state, &case.scan, "mem://t/x"));
     }
     Ok(())
 }
 
 #[test]
-fn names_the_bad_manifest_before_a_shared_path(rt: HostRuntime) -> Result<(), Fail> {
+fn names_missing_then_bad_then_shared(rt: HostRuntime) -> Result<(), Fail> {
     let alloc = rt.alloc();
-    let rows = data_rows(alloc, &["mem://t/m1", "mem://t/m2", "mem://t/m3"])?;
-    let mut manifests = Vec::new(alloc);
-    manifests.push(manifest(alloc, UNCOMPRESSED, X_AND_Y)?)?;
-    manifests.push(manifest(alloc, UNCOMPRESSED, Z_W_AND_X)?)?;
-    manifests.push(manifest(alloc, DEFLATE, DATA)?)?;
-    let scan = Scan::new(alloc, rows, specs(alloc)?)?;
-    let state = state_after(alloc, &scan, &manifests, &[0, 2])?;
-    match state.finish(&scan) {
-        Err(FinishFault::Missing(path)) => assert_eq!(rt; path.as_str(), "mem://t/m2"),
-        _ => return Err(Fail::from("no manifest is missing")),
-    }
-    let state = state_after(alloc, &scan, &manifests, &[0, 2, 1])?;
-    match state.finish(&scan) {
-        Err(FinishFault::Bad(path, ManifestFault::Avro(_))) => {
-            assert_eq!(rt; path.as_str(), "mem://t/m3");
-        }
-        _ => return Err(Fail::from("no manifest is bad")),
-    }
+    let case = shared_and_bad(alloc)?;
+    let state = state_after(alloc, &case, &[])?;
+    assert!(rt; is_missing(&state, &case.scan, "mem://t/m1"));
+    let state = state_after(alloc, &case, &[0, 2])?;
+    assert!(rt; is_missing(&state, &case.scan, "mem://t/m2"));
+    let state = state_after(alloc, &case, &[0, 2, 1])?;
+    assert!(rt; is_bad(&state, &case.scan, "mem://t/m3"));
     Ok(())
 }
 
-fn is_missing(state: &Partial, scan: &Scan, path: &str) -> bool
+/// Takes a manifest, again where a growth was refused, and says whether the state before it still said that it is
+/// missing.
+fn is_taken_at_last(
+    state: &mut Partial,
+    case: &Case,
+    i: usize,
+    path: &str,
+) -> Result<bool, AllocError>
+    requires of_scan { IsOf case.now.scan state.old }
+    requires row { i < length case.now.scan.wanted }
+    requires manifest { i < vec_len case.now.manifests }
+    ensures { IsOf case.now.scan state.new }
+{
+    if state.take(&case.scan, i, &case.manifests[i]).is_ok() {
+        return Ok(true);
+    }
+    let was_missing = is_missing(state, &case.scan, path);
+    state.take(&case.scan, i, &case.manifests[i])?;
+    Ok(was_missing)
+}
+
+/// The number of lines of the plan, also where a growth was refused at first.
+fn lines_at_last(state: &Partial, scan: &Scan) -> Result<usize, FinishFault>
     requires { IsOf scan.now state.now }
 {
     match state.finish(scan) {
-        Err(FinishFault::Missing(missing)) => missing.as_str() == path,
-        _ => false,
+        Err(FinishFault::Memory) => Ok(state.finish(scan)?.lines().len()),
+        finished => Ok(finished?.lines().len()),
     }
 }
 
@@ -242,37 +296,15 @@ fn is_missing(state: &Partial, scan: &Scan, path: &str) -> bool
 fn a_refused_growth_changes_nothing(rt: HostRuntime) -> Result<(), Fail> {
     let alloc = rt.alloc();
     // Where memory is refused before there is a state, nothing is left to look at.
-    let Ok(rows) = data_rows(alloc, &["mem://t/m1", "mem://t/m2"]) else {
+    let Ok(case) = data_and_deletes(alloc) else {
         return Ok(());
     };
-    let Ok(specs) = specs(alloc) else {
+    let Ok(mut state) = state_after(alloc, &case, &[2]) else {
         return Ok(());
     };
-    let Ok(scan) = Scan::new(alloc, rows, specs) else {
-        return Ok(());
-    };
-    let Ok(first) = manifest(alloc, UNCOMPRESSED, X_AND_Y) else {
-        return Ok(());
-    };
-    let Ok(second) = manifest(alloc, UNCOMPRESSED, DATA) else {
-        return Ok(());
-    };
-    let Ok(mut state) = Partial::empty(alloc, &scan) else {
-        return Ok(());
-    };
-    assert_eq!(rt; scan.wanted().len(), 2);
-    if state.take(&scan, 0, &first).is_err() {
-        assert!(rt; is_missing(&state, &scan, "mem://t/m1"));
-        state.take(&scan, 0, &first)?;
-    }
-    if state.take(&scan, 1, &second).is_err() {
-        assert!(rt; is_missing(&state, &scan, "mem://t/m2"));
-        state.take(&scan, 1, &second)?;
-    }
-    let plan = match state.finish(&scan) {
-        Err(FinishFault::Memory) => state.finish(&scan)?,
-        finished => finished?,
-    };
-    assert_eq!(rt; plan.lines().len(), 3);
+    assert!(rt; case.scan.wanted().len() == 3 && case.manifests.len() == 3);
+    assert!(rt; is_taken_at_last(&mut state, &case, 0, "mem://t/m1")?);
+    assert!(rt; is_taken_at_last(&mut state, &case, 1, "mem://t/m2")?);
+    assert_eq!(rt; lines_at_last(&state, &case.scan)?, 1);
     Ok(())
 }

@@ -1,4 +1,4 @@
-use Rattle.std.proofs.Common.{rules, arith, add-one, ap, sym, ◌∙◌}
+use Rattle.std.proofs.Common.{arith, add-one, ap, sym, ◌∙◌}
 use Rattle.std.specs.Option.{option_copied}
 use Rattle.ice_state.proofs.Outcomes.{bad_step}
 use Rattle.ice_state.proofs.finish.check_good.Goals as goal

@@ -1,4 +1,4 @@
-use Rattle.std.proofs.Common.{◌≡◌, ◌<◌, arith, sym, subst, ℕ, rules}
+use Rattle.std.proofs.Common.{arith}
 use Rattle.ice_state.specs.Outcomes.{by_path, path_before}
 use Rattle.ice_value.proofs.Sorted.{sorted_rises}
 use Rattle.ice_state.proofs.Sharing.{order, none_shared, least_shared, count-by_path}

@@ -1,4 +1,4 @@
-use Rattle.std.proofs.Common.{◌≡◌, ◌∙◌, List, Result, ap, subst}
+use Rattle.std.proofs.Common.{◌∙◌, List, Result, ap, subst}
 use Rattle.avro_schema.specs.Outcome.{Gives}
 use Rattle.ice_manifest.specs.declared.row.Row.{Row}
 use Rattle.ice_state.specs.declared.fault.FinishFault.{FinishFault}

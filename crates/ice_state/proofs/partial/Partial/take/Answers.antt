@@ -1,4 +1,4 @@
-use Rattle.std.proofs.Common.{◌∙◌, ◌≡◌, ap, sym, subst, rules, refl, length, get_or, List}
+use Rattle.std.proofs.Common.{◌∙◌, ◌≡◌, ap, subst, rules, refl, length, get_or, List}
 use Rattle.ice_manifest.specs.declared.row.Row.{Row}
 use Rattle.ice_state.specs.Contents.{Content, took}
 use Rattle.ice_state.proofs.Contents.{with_row-took, took-in_world, length-took}

@@ -1,5 +1,4 @@
-use Rattle.std.proofs.Common.{◌≡◌, ◌∙◌, [], List, ap, sym}
-use Rattle.ice_meta.specs.declared.spec.Spec.{Spec}
+use Rattle.std.proofs.Common.{◌≡◌, []}
 use Rattle.ice_state.specs.Scans.{without_spec}
 use Rattle.ice_state.proofs.Scans.{scan_of-sorted}
 use Rattle.ice_state.proofs.scan.Scan.new.Goals as goal
