@@ -1,0 +1,61 @@
+//! Laws of transforms, on which the projection of filters stands.
+
+ghost use Rattle.std.specs.Prelude.{◌≡◌, ◌≤◌, ◌<◌, ◌↔◌, ℕ, List, Bool, true, false, Some, length, take, nat_eq, encode_utf8_all};
+ghost use Rattle.std.specs.List.{starts_with};
+ghost use Rattle.std.specs.Str.{IsUtf8, chars};
+ghost use Rattle.std.specs.declared.cmp.Ordering.TheVariants.{Equal};
+ghost use Rattle.ice_value.specs.Cells.{order};
+ghost use Rattle.ice_value.specs.declared.cell.Cell.{Cell};
+ghost use Rattle.ice_value.specs.declared.column_type.ColumnType.{ColumnType};
+ghost use Rattle.ice_transform.specs.Cuts.{first_points, has_points};
+ghost use Rattle.ice_transform.specs.Definitions.{IsProper, IsValueOf};
+ghost use Rattle.ice_transform.specs.Values.{value_of, is_void, is_rising, is_at_most};
+ghost use Rattle.ice_transform.specs.declared.parameter.Parameter.{Parameter};
+ghost use Rattle.ice_transform.specs.declared.transform.Transform.{Transform};
+
+/// The value that `apply` gives is the one that the definition of the transform describes, and it gives none exactly
+/// where there is no such value.
+pub fn values_of_transforms()
+    ensures { (f : Transform) (t : ColumnType) (c p : Cell) → IsProper c
+        → IsValueOf f t c p ↔ (value_of f t c ≡ Some p) }
+{}
+
+/// Identity gives the cell itself.
+pub fn identity_values()
+    ensures { (t : ColumnType) (c : Cell) → value_of Transform.Identity t c ≡ Some c }
+{}
+
+/// Null has the value null, and but for void no other cell has.
+pub fn null_values()
+    ensures kept { (f : Transform) (t : ColumnType) → value_of f t Cell.Null ≡ Some Cell.Null }
+    ensures alone { (f : Transform) (t : ColumnType) (c : Cell) → is_void f ≡ false
+        → value_of f t c ≡ Some Cell.Null → c ≡ Cell.Null }
+{}
+
+/// Equal cells have equal values.
+pub fn equal_cells()
+    ensures { (f : Transform) (t : ColumnType) (a b : Cell) → order a b ≡ Some Equal
+        → value_of f t a ≡ value_of f t b }
+{}
+
+/// Of each known transform but bucket and void, a smaller cell has no greater value.
+pub fn rising_values()
+    ensures { (f : Transform) (t : ColumnType) (a b p q : Cell) → is_rising f ≡ true
+        → is_at_most a b ≡ true → value_of f t a ≡ Some p → value_of f t b ≡ Some q
+        → is_at_most p q ≡ true }
+{}
+
+/// A text that starts with s is truncated as s is where s has as many code points as the width, and else to a text that
+/// starts with s.
+pub fn cut_texts()
+    ensures whole { (width : ℕ) (text s : List ℕ) → starts_with nat_eq text s ≡ true
+        → has_points width s ≡ true → first_points width text ≡ first_points width s }
+    ensures short { (width : ℕ) (text s : List ℕ) → starts_with nat_eq text s ≡ true
+        → has_points width s ≡ false → starts_with nat_eq (first_points width text) s ≡ true }
+
+    // What the words mean of a text.
+    ensures first { (width : ℕ) (text : List ℕ) → IsUtf8 text
+        → first_points width text ≡ encode_utf8_all (take width (chars text)) }
+    ensures has { (width : ℕ) (text : List ℕ) → IsUtf8 text
+        → (has_points width text ≡ true) ↔ (width ≤ length (chars text)) }
+{}

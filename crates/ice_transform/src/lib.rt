@@ -1,0 +1,20 @@
+//! Partition transforms: the value of a partition field for a column's value.
+#![tactic(auto)]
+
+mod calendar;
+mod floors;
+mod laws;
+mod murmur;
+mod names;
+mod parameter;
+#[cfg(test)]
+mod tests;
+mod texts;
+mod transform;
+
+pub use laws::{
+    cut_texts, equal_cells, identity_values, null_values, rising_values, values_of_transforms,
+};
+pub use murmur::murmur3;
+pub use parameter::Parameter;
+pub use transform::Transform;
