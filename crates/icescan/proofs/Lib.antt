@@ -1,6 +1,7 @@
 pub mod Escapes
 pub mod Lines
 pub mod Lookups
+pub mod Refusals
 pub mod Steps
 pub mod Texts
 pub mod Writes

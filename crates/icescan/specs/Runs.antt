@@ -30,13 +30,16 @@ or_first_line (Some path) = Ok path
 unfoldable pub list_in : List File → Result (List ℕ) RunFault
 list_in files = or_first_line (first_path files)
 
--- The plan that the words and standard input ask for, or the first fault: of the words, of the bundle, of its list.
-unfoldable pub run_of : List (List ℕ) → List ℕ → Result (List OwnedLine) RunFault
-run_of words input = do
-  _ ← words_in words
-  files ← bundle_of input
+-- the plan of a bundle's first file, or the first fault: of the bundle, of the list
+unfoldable pub bundle_plan : List ℕ → Result (List OwnedLine) RunFault
+bundle_plan text = do
+  files ← bundle_of text
   list ← list_in files
   answer (λ path. bytes_at files path) list
+
+-- what the words and standard input ask for
+unfoldable pub run_of : List (List ℕ) → List ℕ → Result (List OwnedLine) RunFault
+run_of words input = words_in words >>= λ _. bundle_plan input
 
 -- Why the program ends with a fault: standard input can't be read, memory ran out, a write failed that may fail, or the
 -- fault is that of the words and the input.

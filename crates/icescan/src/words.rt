@@ -3,8 +3,9 @@
 ghost use Rattle.std.specs.Prelude.{◌≡◌, ◌≢◌, ◌⊎◌, ℕ, List, map, string_bytes, Option, Some, Ok, Err, OnOk, IfErr, false};
 ghost use Rattle.ice_state.specs.declared.plan.OwnedLine.{OwnedLine};
 ghost use Rattle.icescan.specs.PlanTexts.{plan_text};
-ghost use Rattle.icescan.specs.Runs.{MayRefuse, Planned, Refused, asks_list_plan, run_of, words_in};
-ghost use Rattle.icescan.specs.Written.{Appends};
+ghost use Rattle.icescan.specs.FaultTexts.{fault_text};
+ghost use Rattle.icescan.specs.Runs.{MayRefuse, Planned, Refused, asks_list_plan, bundle_plan, run_of, words_in};
+ghost use Rattle.icescan.specs.Written.{Appends, AppendsFront};
 
 use crate::bundle::Bundle;
 use crate::fault::RunFault;
@@ -32,8 +33,12 @@ fn check_words(words: &[String]) -> Result<(), RunFault>
 }
 
 /// Writes the plan of a bundle's first file.
-fn plan_bundle<W: Sink>(alloc: Global, input: &[u8], output: &mut W) -> Result<(), RunFault> {
-    let bundle = Bundle::read(alloc, input)?;
+fn plan_bundle<W: Sink>(alloc: Global, text: &[u8], output: &mut W) -> Result<(), RunFault>
+    ensures written { OnOk result ((plan : List OwnedLine) × (bundle_plan text.now ≡ Ok plan) × Appends (W.taken output.old) (W.taken output.new) (plan_text plan)) }
+    ensures refused { IfErr result (MayRefuse (bundle_plan text.now) (W.may_fail output.old)) }
+    ensures nothing { IfErr result (λ fault. fault ≢ RunFault.Write → W.taken output.new ≡ W.taken output.old) }
+{
+    let bundle = Bundle::read(alloc, text)?;
     let Some(list) = bundle.first_path() else {
         return Err(RunFault::Bundle(1));
     };
@@ -46,7 +51,14 @@ fn run<R: Read, W: Sink>(
     words: &[String],
     input: &mut R,
     output: &mut W,
-) -> Result<(), RunFault> {
+) -> Result<(), RunFault>
+    ensures words { asks_list_plan (map string_bytes words.now) ≡ false → result ≡ Err RunFault.Words }
+    ensures written { (text : List ℕ) → R.remaining input.old ≡ Some text →
+        OnOk result ((plan : List OwnedLine) × (run_of (map string_bytes words.now) text ≡ Ok plan) × Appends (W.taken output.old) (W.taken output.new) (plan_text plan)) }
+    ensures refused { (text : List ℕ) → R.remaining input.old ≡ Some text →
+        IfErr result (MayRefuse (run_of (map string_bytes words.now) text) (W.may_fail output.old)) }
+    ensures nothing { IfErr result (λ fault. fault ≢ RunFault.Write → W.taken output.new ≡ W.taken output.old) }
+{
     check_words(words)?;
     let text = read_bundle(alloc, input, MOST_READS)?;
     plan_bundle(alloc, &text, output)
@@ -61,7 +73,16 @@ pub fn run_words<R: Read, W: Sink, E: Sink>(
     input: &mut R,
     output: &mut W,
     errors: &mut E,
-) -> u8 {
+) -> u8
+    // Other words are refused whatever standard input holds.
+    ensures words { asks_list_plan (map string_bytes words.now) ≡ false →
+        (result ≡ 2) × (W.taken output.new ≡ W.taken output.old) × AppendsFront (E.taken errors.old) (E.taken errors.new) (fault_text RunFault.Words) }
+
+    // Over a standard input that tells its bytes.
+    ensures run { (text : List ℕ) → R.remaining input.old ≡ Some text →
+        Planned (run_of (map string_bytes words.now) text) result (W.taken output.old) (W.taken output.new) (E.taken errors.old) (E.taken errors.new)
+        ⊎ Refused (run_of (map string_bytes words.now) text) (W.may_fail output.old) result (W.taken output.old) (W.taken output.new) (E.taken errors.old) (E.taken errors.new) }
+{
     match run(alloc, words, input, output) {
         Ok(()) => 0,
         Err(fault) => report(&fault, errors),

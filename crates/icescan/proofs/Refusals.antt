@@ -1,0 +1,90 @@
+-- Why the program refuses its words and its input.
+use Rattle.std.proofs.Common.{◌≡◌, ◌≢◌, ℕ, ◌+◌, Bool, true, false, List, [], ◌∷◌, refl, sym, ap, subst, ◌∙◌, Option, Some, None, is_some}
+use Rattle.std.specs.Prelude.{Result, Ok, Err, if◌then◌else◌, IfSome}
+use Rattle.avro_schema.specs.Outcome.{◌>>=◌}
+use Rattle.ice_state.specs.declared.plan.OwnedLine.{OwnedLine}
+use Rattle.icescan.specs.declared.fault.RunFault.{RunFault}
+use Rattle.icescan.specs.declared.fault.RunFault.TheVariants as run
+use Rattle.icescan.specs.Bundles.{File, added, bundle_of, bytes_at, file_of, first_path, with_lines}
+use Rattle.icescan.specs.ListPlans.{MayEnd, answer}
+use Rattle.icescan.specs.Runs.{MayRefuse, asks_list_plan, bundle_plan, list_in, or_first_line, run_of, words_in}
+
+-- a bundle is refused for a line of it
+there : (n : ℕ) (b : Bool) (files : List File) (e : RunFault) → ◌≡◌ {A = Result (List File) RunFault} (if b then Err (run.Bundle n) else Ok files) (Err e) → e ≡ run.Bundle n
+there n true files e h = cc
+there n false files e h = absurd cc
+
+added_fault : (n : ℕ) (files : List File) (file : Option File) (e : RunFault) → added n files file ≡ Err e → e ≡ run.Bundle n
+added_fault n files None e h = cc
+added_fault n files (Some file) e h = there n (is_some (bytes_at files file.path)) _ e h
+
+lines_step : (n : ℕ) (read : Result (List File) RunFault) (next : List File → Result (List File) RunFault) (e : RunFault)
+    → ((f : RunFault) → read ≡ Err f → f ≡ run.Bundle n) → ((files : List File) → next files ≡ Err e → (m : ℕ) × (e ≡ run.Bundle m))
+    → (read >>= next) ≡ Err e → (m : ℕ) × (e ≡ run.Bundle m)
+lines_step n (Ok files) next e first rest h = rest files h
+lines_step n (Err f) next e first rest h = (n, first e h)
+
+lines_fault : (n : ℕ) (files : List File) (lines : List (List ℕ)) (e : RunFault) → with_lines n files lines ≡ Err e → (m : ℕ) × (e ≡ run.Bundle m)
+unfolding with_lines
+lines_fault n files [] e h = absurd cc
+lines_fault n files (line ∷ lines) e h =
+    lines_step n (added n files (file_of line)) (λ more. with_lines (n + 1) more lines) e (λ f is. added_fault n files (file_of line) f is) (λ more is. lines_fault (n + 1) more lines e is) h
+
+module _ (text : List ℕ) (w : Type 0) where
+  no_plan : (e : RunFault) → bundle_of text ≡ Err e → bundle_plan text ≡ Err e
+  unfolding bundle_plan
+  no_plan e h = rw h refl
+
+  pub bundle_refused : (e : RunFault) → (e ≢ run.Memory → bundle_of text ≡ Err e) → MayRefuse (bundle_plan text) w e
+  bundle_refused run.Input h = tt
+  bundle_refused run.Memory h = tt
+  bundle_refused run.Write h = let f = lines_fault 1 [] _ run.Write (h (λ m. cc)) in let g : run.Write ≡ run.Bundle f.0 = f.1 in absurd cc
+  bundle_refused run.Words h = no_plan run.Words (h (λ m. cc))
+  bundle_refused (run.Bundle n) h = no_plan (run.Bundle n) (h (λ m. cc))
+  bundle_refused (run.Absent path) h = no_plan (run.Absent path) (h (λ m. cc))
+  bundle_refused (run.Device path) h = no_plan (run.Device path) (h (λ m. cc))
+  bundle_refused (run.List f) h = no_plan (run.List f) (h (λ m. cc))
+  bundle_refused (run.Scan f) h = no_plan (run.Scan f) (h (λ m. cc))
+  bundle_refused (run.Finish f) h = no_plan (run.Finish f) (h (λ m. cc))
+
+  module _ (files : List File) (is : bundle_of text ≡ Ok files) where
+    pub no_file : None ≡ first_path files → bundle_plan text ≡ Err (run.Bundle 1)
+    unfolding bundle_plan list_in
+    no_file h = rw (is, ← h) refl
+
+    pub plan_from : (list : List ℕ) → Some list ≡ first_path files → bundle_plan text ≡ answer (λ path. bytes_at files path) list
+    unfolding bundle_plan list_in
+    plan_from list h = rw (is, ← h) refl
+
+-- over files whose reads can't fail
+pub ends_refused : (read other : Result (List OwnedLine) RunFault) (w : Type 0) (e : RunFault) → other ≡ read → MayEnd read (λ _. ⊥) w e → MayRefuse other w e
+ends_refused read other w run.Input q h = tt
+ends_refused read other w run.Memory q h = tt
+ends_refused read other w run.Write q h = h
+ends_refused read other w (run.Device path) q h = absurd h
+ends_refused read other w run.Words q h = q ∙ h
+ends_refused read other w (run.Bundle n) q h = q ∙ h
+ends_refused read other w (run.Absent path) q h = q ∙ h
+ends_refused read other w (run.List f) q h = q ∙ h
+ends_refused read other w (run.Scan f) q h = q ∙ h
+ends_refused read other w (run.Finish f) q h = q ∙ h
+
+abbrev asked : Bool → Result Unit RunFault
+asked b = if b then Ok tt else Err run.Words
+
+words_step : (b : Bool) (read : Result (List OwnedLine) RunFault) (w : Type 0) (e : RunFault) → Err e ≡ asked b → MayRefuse (asked b >>= λ _. read) w e
+words_step true read w e h = absurd cc
+words_step false read w e h = let q : e ≡ run.Words = cc in subst (λ f. MayRefuse (Err run.Words) w f) (sym q) refl
+
+pub words_refused : (words : List (List ℕ)) (text : List ℕ) (w : Type 0) (e : RunFault) → Err e ≡ words_in words → MayRefuse (run_of words text) w e
+unfolding run_of
+words_refused words text w e h = words_step (asks_list_plan words) (bundle_plan text) w e h
+
+pub run_is : (words : List (List ℕ)) (text : List ℕ) → Ok tt ≡ words_in words → run_of words text ≡ bundle_plan text
+unfolding run_of
+run_is words text h = ap (λ s. s >>= λ _. bundle_plan text) (sym h)
+
+-- all that was left
+pub told_text : (known : Option (List ℕ)) (text bytes : List ℕ) → known ≡ Some text → IfSome known (λ left. bytes ≡ left) → bytes ≡ text
+told_text None text bytes is h = absurd cc
+told_text (Some left) text bytes is h = let q : left ≡ text = cc in h ∙ q
