@@ -1,9 +1,9 @@
 -- The rows that a list gives are the set of its rows.
 use Rattle.std.proofs.Common.{◌≡◌, ◌≢◌, ◌⊎◌, ◌↔◌, inl, inr, ℕ, ℤ, ◌<◌, ◌≤◌, Bool, true, false, cond, ◌&&◌, ◌==◌, nat_le, List, [], ◌∷◌, length, Option, Some, None, Result, Ok, Err, refl, sym, ap, subst, ◌∙◌, arith, eqb-true, eq-eqb}
 use Rattle.std.specs.Cmp.{IsEquivalence, decided}
-use Rattle.std.specs.Ordering.{int_eq}
+use Rattle.std.specs.Ordering.{int_eq, nat_cmp, is_lt}
 use Rattle.std.specs.Str.{bytes_eq}
-use Rattle.std.specs.List.{Contains, dedup, dedup_from}
+use Rattle.std.specs.List.{Contains, AllByRecursion, dedup, dedup_from}
 use Rattle.std.proofs.lemmas.Bool.Decides.{Decides-int_eq}
 use Rattle.std.proofs.lemmas.List.Elements.{Contains-append_left, Contains-append_right, Contains-push, Contains-push_cases, Contains-append_cases}
 use Rattle.std.proofs.lemmas.List.Kept.{Contains-dedup, Contains-from_dedup}
@@ -15,8 +15,12 @@ use Rattle.ice_manifest.specs.declared.row.Row.{Row}
 use Rattle.ice_manifest.specs.declared.row.ManifestContent.{ManifestContent}
 use Rattle.ice_manifest.specs.declared.row.ManifestContent.TheVariants.{Data, Deletes}
 use Rattle.ice_manifest.specs.Lists.{path_before, same_content, same_row, twice_after, path_twice, unless_twice, checked, in_order}
-use Rattle.ice_manifest.specs.Laws.{GivesTheRows, HasTwo, RefusesTwo}
-use Rattle.ice_manifest.proofs.Rising.{given}
+use Rattle.ice_manifest.specs.Laws.{GivesTheRows, HasTwo, RefusesTwo, RefusesTheLeast}
+use Rattle.ice_manifest.proofs.Rising.{order, given, less_from, in_order_rises}
+use Rattle.ice_value.proofs.Sorted.{Rises}
+use Rattle.std.specs.declared.cmp.Ordering.TheVariants.{Less}
+use Rattle.std.specs.Cmp.Lexicographic.{slice_cmp}
+use Rattle.std.proofs.lemmas.Cmp.{nat_list_cmp_total, tied_itself}
 
 -- ---- elements
 
@@ -185,3 +189,55 @@ pub refuses_two : RefusesTwo
 refuses_two rows path h =
     let t = two_of (sorted path_before rows) path (twice_is (path_twice (in_order rows)) (in_order rows) path h) in
     (t.0, t.1, from_order rows t.0 t.2, from_order rows t.1 t.3, t.4, t.5, t.6)
+
+-- ---- the least of such paths
+
+among : (P : Row → Type 0) (rows : List Row) (a : Row) → AllByRecursion P rows → Contains rows a → P a
+among P [] a all h = absurd (nowhere a h)
+among P (r ∷ rows) a all h = elim (cases_of r rows a h) as (λ _. P a) [ inl e ↦ subst P e all.0 | inr i ↦ among P rows a all.1 i ]
+
+not_before : (r : Row) (rows : List Row) (a : Row) → AllByRecursion (λ s. path_before s r ≡ false) rows → Contains (r ∷ rows) a → path_before a r ≡ false
+not_before r rows a all h =
+    let P : Row → Type 0 = λ s. path_before s r ≡ false in
+    elim (cases_of r rows a h) as (λ _. path_before a r ≡ false) [ inl e ↦ subst P e (ap is_lt (tied_itself nat_list_cmp_total r.path)) | inr i ↦ among P rows a all i ]
+
+least_after : (r : Row) (rows : List Row) (path : List ℕ) → AllByRecursion (λ s. path_before s r ≡ false) rows → Rises path_before order rows → twice_after r rows ≡ Some path
+    → (a b : Row) → Contains (r ∷ rows) a → Contains (r ∷ rows) b → a ≢ b → a.path ≡ b.path → is_lt (slice_cmp nat_cmp a.path path) ≡ false
+unfolding twice_after
+least_after r [] path all rises h a b ia ib other same = absurd (cc)
+least_after r (s ∷ rows) path all rises h a b ia ib other same =
+    let G : Type 0 = is_lt (slice_cmp nat_cmp a.path path) ≡ false in
+    let P : (c : Bool) → bytes_eq s.path r.path ≡ c → cond c (Some s.path) (twice_after s rows) ≡ Some path → G =
+    λ c. elim c as (λ v. bytes_eq s.path r.path ≡ v → cond v (Some s.path) (twice_after s rows) ≡ Some path → G) [
+      | true ↦ λ e g.
+          let first : s.path ≡ r.path = (bytes_eq-Decides s.path r.path).0 e in
+          let is : s.path ≡ path = cc in
+          let Q : List ℕ → Type 0 = λ p. is_lt (slice_cmp nat_cmp a.path p) ≡ false in
+          subst Q (sym first ∙ is) (not_before r (s ∷ rows) a all ia)
+      | false ↦ λ e g.
+          let less : slice_cmp nat_cmp r.path s.path ≡ Less = less_from r.path s.path all.0 e in
+          let far : (x : Row) → Contains (s ∷ rows) x → x.path ≡ r.path → ⊥ =
+          λ x i q.
+          let Q : List ℕ → Type 0 = λ p. is_lt (slice_cmp nat_cmp p s.path) ≡ false in
+          let t : true ≡ false = sym (ap is_lt less) ∙ subst Q q (not_before s rows x rises.0 i) in
+          cc in
+          elim (cases_of r (s ∷ rows) a ia) as (λ _. G) [
+            | inl ea ↦ elim (cases_of r (s ∷ rows) b ib) as (λ _. G) [
+              | inl eb ↦ absurd (other (sym ea ∙ eb))
+              | inr jb ↦ absurd (far b jb (sym same ∙ sym (ap (λ (x : Row). x.path) ea)))
+            ]
+            | inr ja ↦ elim (cases_of r (s ∷ rows) b ib) as (λ _. G) [
+              | inl eb ↦ absurd (far a ja (same ∙ sym (ap (λ (x : Row). x.path) eb)))
+              | inr jb ↦ least_after s rows path rises.0 rises.1 g a b ja jb other same
+            ]
+          ]
+    ] in
+    P (bytes_eq s.path r.path) refl h
+
+least_of : (rows : List Row) (path : List ℕ) → Rises path_before order rows → path_twice rows ≡ Some path
+    → (a b : Row) → Contains rows a → Contains rows b → a ≢ b → a.path ≡ b.path → is_lt (slice_cmp nat_cmp a.path path) ≡ false
+least_of [] path rises h a b ia ib other same = absurd (cc)
+least_of (r ∷ rows) path rises h a b ia ib other same = least_after r rows path rises.0 rises.1 h a b ia ib other same
+
+pub refuses_the_least : RefusesTheLeast
+refuses_the_least rows path h a b ia ib other same = least_of (in_order rows) path (in_order_rises rows) (twice_is (path_twice (in_order rows)) (in_order rows) path h) a b (to_order rows a ia) (to_order rows b ib) other same

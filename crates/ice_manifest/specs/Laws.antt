@@ -1,6 +1,8 @@
 -- What reading lists and manifests comes to, in words of rows and entries alone. Apache Iceberg table spec v2,
 -- "Manifest Lists" and "Manifests".
-use Rattle.std.specs.Prelude.{◌≡◌, ◌≢◌, ◌↔◌, ℕ, ℤ, pos, ◌⊎◌, List, [], map, Option, Some, None, Result, Ok, Err}
+use Rattle.std.specs.Prelude.{◌≡◌, ◌≢◌, ◌↔◌, ℕ, ℤ, pos, ◌⊎◌, false, List, [], map, Option, Some, None, Result, Ok, Err}
+use Rattle.std.specs.Cmp.Lexicographic.{slice_cmp}
+use Rattle.std.specs.Ordering.{nat_cmp, is_lt}
 use Rattle.std.specs.List.{Contains, enumerate_from, filter_map}
 use Rattle.avro_file.specs.declared.fault.AvroFault.{AvroFault}
 use Rattle.avro_file.specs.Value.{Value, Values}
@@ -25,6 +27,10 @@ HasTwo rows path = (r : Row) × (s : Row) × Contains rows r × Contains rows s 
 -- a path is refused only where two different rows have it
 abbrev pub RefusesTwo : Type 0
 RefusesTwo = (rows : List Row) (path : List ℕ) → checked (in_order rows) ≡ Err (ManifestTwice path) → HasTwo rows path
+
+-- and only the least such path
+abbrev pub RefusesTheLeast : Type 0
+RefusesTheLeast = (rows : List Row) (path : List ℕ) → checked (in_order rows) ≡ Err (ManifestTwice path) → (r s : Row) → Contains rows r → Contains rows s → r ≢ s → r.path ≡ s.path → is_lt (slice_cmp nat_cmp r.path path) ≡ false
 
 -- what an object says, at its position
 abbrev pub says : EntryLayout → Row → Spec → ℕ × Value → Result (Option Entry) ManifestFault

@@ -1,12 +1,13 @@
 //! What the definitions of rows and entries come to.
 
-ghost use Rattle.ice_manifest.specs.Laws.{GivesTheRows, RefusesTwo, GivesTheEntries, SaysLiveOnes, DropsDeleted};
+ghost use Rattle.ice_manifest.specs.Laws.{GivesTheRows, RefusesTwo, RefusesTheLeast, GivesTheEntries, SaysLiveOnes, DropsDeleted};
 
 /// The rows of a list are the set of the rows that its objects say. It is refused for a path only where two different
-/// rows have it.
+/// rows have it, and then for the least such path.
 pub fn rows_are_a_set()
     ensures same { GivesTheRows }
     ensures twice { RefusesTwo }
+    ensures least { RefusesTheLeast }
 {}
 
 /// The entries of a manifest are those that its objects say, each with the position that its object has among all.

@@ -102,7 +102,12 @@ fn checked(alloc: Global, rows: Vec<Row>) -> Result<Vec<Row>, ListFault>
     }
 }
 
-/// The rows of a manifest list, each once, sorted by the bytes of their paths.
+/// The rows of a manifest list, each once, sorted by the bytes of their paths. Two rows are the same where all fields
+/// that are read are equal.
+///
+/// The fault is the first of these: the file's as it is opened; that of the first field that the schema lacks or has
+/// with another type; row by row the file's, or that of the row's first field at fault; after all rows
+/// `ManifestTwice`, for the least path that two different rows have, and then `TooManyRows`.
 #[tactic(auto, unfolding(crate::specs::Lists::rows_of))]
 pub fn read_list(alloc: Global, bytes: &[u8]) -> Result<Vec<Row>, ListFault>
     ensures exact { Gives ListFault.Memory (λ rows. rows.items) result (rows_of bytes.now) }

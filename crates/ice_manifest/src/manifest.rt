@@ -200,7 +200,12 @@ fn all_entries(
     Err(ManifestFault::Memory)
 }
 
-/// The live entries of a row's manifest, in the order of their positions. The spec is that of the row's id.
+/// The live entries of a row's manifest, in the order of their positions, with their numbers inherited. The spec is
+/// that of the row's id.
+///
+/// The fault is the first of these: the file's as it is opened; that of the first field that the schema lacks or has
+/// with another type; entry by entry the file's, or that of the entry's first field at fault. Of a deleted entry
+/// nothing but the status is looked at.
 #[tactic(auto, unfolding(crate::specs::Manifests::entries_of))]
 pub fn read_manifest(
     alloc: Global,

@@ -1,5 +1,5 @@
 -- The first line of a text is what stands before its first line feed.
-use Rattle.std.proofs.Common.{◌≡◌, ℕ, ◌+◌, ◌-◌, ◌<◌, ◌≤◌, ◌==◌, Bool, true, false, List, [], ◌∷◌, length, take, drop, refl, ap, sym, ◌∙◌, Option, Some, None, arith, position, not, cond, nat_lt, add-one, one-add}
+use Rattle.std.proofs.Common.{◌≡◌, ℕ, ◌+◌, ◌<◌, ◌≤◌, ◌==◌, Bool, true, false, List, [], ◌∷◌, length, take, drop, refl, ap, Some, None, arith, position, not, cond, nat_lt, add-one, one-add}
 use Rattle.std.specs.List.{position_or_len}
 use borrow.Author.Tests.{ltb-true, ltb-false}
 use Rattle.icescan.specs.Bundles.{lines_of, before_line}

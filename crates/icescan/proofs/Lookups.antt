@@ -1,7 +1,7 @@
 -- A bundle's files by their paths, as its map has them.
-use Rattle.std.proofs.Common.{◌≡◌, ℕ, Bool, true, false, List, [], ◌∷◌, ◌++◌, refl, ap, sym, ◌∙◌, Option, Some, None, Vec, map, string_bytes, cond, is_some, slice_get, option_map, arith}
+use Rattle.std.proofs.Common.{◌≡◌, ℕ, Bool, true, false, List, [], ◌∷◌, refl, ap, sym, Option, Some, None, Vec, map, string_bytes, cond, is_some, slice_get, option_map}
 use Rattle.std.specs.Prelude.{String}
-use Rattle.std.specs.Prelude.{Result, Ok, Err}
+use Rattle.std.specs.Prelude.{Ok, Err}
 use Rattle.std.specs.Map.{lookup}
 use Rattle.std.specs.String.{string_eq}
 use Rattle.std.specs.HashMap.{HashMap, get_by}

@@ -7,7 +7,7 @@ use Rattle.icescan.specs.declared.fault.RunFault.{RunFault}
 use Rattle.icescan.specs.declared.fault.RunFault.TheVariants as run
 use Rattle.icescan.specs.Bundles.{File, added, bundle_of, bytes_at, file_of, first_path, with_lines}
 use Rattle.icescan.specs.ListPlans.{MayEnd, answer}
-use Rattle.icescan.specs.Runs.{MayRefuse, asks_list_plan, bundle_plan, list_in, or_first_line, run_of, words_in}
+use Rattle.icescan.specs.Runs.{MayRefuse, asks_list_plan, bundle_plan, list_in, run_of, words_in}
 
 -- a bundle is refused for a line of it
 there : (n : ℕ) (b : Bool) (files : List File) (e : RunFault) → ◌≡◌ {A = Result (List File) RunFault} (if b then Err (run.Bundle n) else Ok files) (Err e) → e ≡ run.Bundle n

@@ -1,9 +1,8 @@
 -- The steps of a list plan, and why each of them may end the run.
-use Rattle.std.proofs.Common.{◌≡◌, ◌≢◌, ◌<◌, ◌≤◌, ℕ, suc, ◌+◌, List, [], ◌∷◌, length, get_or, take, drop, drop-cons, refl, sym, ap, subst, ◌∙◌, true, Option, Some, None, is_some}
-use Rattle.std.specs.Prelude.{Result, Ok, Err, filter, fold}
-use Rattle.std.specs.List.{AllByRecursion}
+use Rattle.std.proofs.Common.{◌≡◌, ◌≢◌, ◌<◌, ◌≤◌, ℕ, suc, List, [], ◌∷◌, length, get_or, drop, drop-cons, refl, sym, ap, subst, ◌∙◌, true, Option, Some, None, is_some}
+use Rattle.std.specs.Prelude.{Result, Ok, Err, filter}
 use Rattle.std.proofs.lemmas.List.{drop_all}
-use Rattle.avro_schema.specs.Outcome.{◌>>=◌, Gives}
+use Rattle.avro_schema.specs.Outcome.{◌>>=◌}
 use Rattle.ice_state.specs.Contents.{World}
 use Rattle.ice_meta.specs.declared.spec.Spec.{Spec}
 use Rattle.ice_manifest.specs.declared.fault.ListFault.{ListFault}

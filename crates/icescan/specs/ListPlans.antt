@@ -6,7 +6,6 @@ use Rattle.std.specs.Ordering.{int_eq}
 use Rattle.avro_schema.specs.Outcome.{◌>>=◌}
 use Rattle.ice_state.specs.Contents.{World}
 use Rattle.ice_meta.specs.declared.spec.Spec.{Spec}
-use Rattle.ice_manifest.specs.declared.fault.ListFault.{ListFault}
 use Rattle.ice_manifest.specs.declared.row.Row.{Row}
 use Rattle.ice_manifest.specs.Lists.{rows_of}
 use Rattle.ice_state.specs.declared.plan.OwnedLine.{OwnedLine}

@@ -12,6 +12,8 @@ mod plan_text;
 mod report;
 mod run_list_plan;
 mod sink;
+#[cfg(test)]
+mod tests;
 mod words;
 mod write;
 

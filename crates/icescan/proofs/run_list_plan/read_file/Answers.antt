@@ -1,4 +1,3 @@
-use Rattle.std.proofs.Common.{◌≡◌, refl, ap, sym, ◌∙◌}
 use Rattle.icescan.proofs.Steps.{found_in, absent_in}
 use Rattle.icescan.proofs.run_list_plan.read_file.Goals as goal
 

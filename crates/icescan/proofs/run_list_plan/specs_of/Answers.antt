@@ -1,4 +1,4 @@
-use Rattle.std.proofs.Common.{◌≡◌, ◌∙◌, sym, ap, arith, [], ◌<◌, length}
+use Rattle.std.proofs.Common.{◌∙◌, sym, ap, arith, [], ◌<◌, length}
 use Rattle.std.proofs.lemmas.List.Sums.{fold_more}
 use Rattle.icescan.specs.ListPlans.{with_spec}
 use Rattle.icescan.proofs.run_list_plan.specs_of.Goals as goal

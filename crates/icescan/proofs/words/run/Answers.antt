@@ -1,7 +1,7 @@
-use Rattle.std.proofs.Common.{◌≡◌, refl, ap, sym, subst, ◌∙◌, map, string_bytes}
-use Rattle.std.specs.Prelude.{Ok, IfErr}
-use Rattle.std.proofs.lemmas.Result.{err_from_is_err_and, IfOk-weaker, IfErr-weaker}
-use Rattle.icescan.specs.Runs.{MayRefuse, bundle_plan, run_of}
+use Rattle.std.proofs.Common.{ap, sym, subst, ◌∙◌, map, string_bytes}
+use Rattle.std.specs.Prelude.{IfErr}
+use Rattle.std.proofs.lemmas.Result.{err_from_is_err_and, IfOk-weaker}
+use Rattle.icescan.specs.Runs.{MayRefuse, bundle_plan}
 use Rattle.icescan.proofs.Refusals.{words_refused, run_is, told_text}
 use Rattle.icescan.proofs.words.run.Goals as goal
 

@@ -1,4 +1,4 @@
-use Rattle.std.proofs.Common.{◌≡◌, refl, ap, sym, ◌∙◌, inl, inr}
+use Rattle.std.proofs.Common.{refl, inl, inr}
 use Rattle.icescan.proofs.words.run_words.Goals as goal
 
 pub returns-in-Ok-clause-run : goal.returns-in-Ok-clause-run

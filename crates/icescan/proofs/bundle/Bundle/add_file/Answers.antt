@@ -1,4 +1,3 @@
-use Rattle.std.proofs.Common.{◌≡◌, sym, ◌∙◌, ap, refl}
 use Rattle.icescan.proofs.Lookups.{added_twice, added_new}
 use Rattle.icescan.proofs.bundle.Bundle.add_file.Goals as goal
 

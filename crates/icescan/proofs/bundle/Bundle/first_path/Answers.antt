@@ -1,4 +1,3 @@
-use Rattle.std.proofs.Common.{◌≡◌, sym, ◌∙◌}
 use Rattle.icescan.proofs.Lookups.{first_seen}
 use Rattle.icescan.proofs.bundle.Bundle.first_path.Goals as goal
 

@@ -1,9 +1,8 @@
-use Rattle.std.proofs.Common.{◌≡◌, ◌==◌, true, sym, ◌∙◌, ap, refl, arith, List, ℕ, length, [], ◌∷◌, ◌+◌}
-use Rattle.std.specs.Prelude.{Result, Ok, Err}
+use Rattle.std.proofs.Common.{◌≡◌, ◌==◌, true, sym, ◌∙◌, refl, arith, List, ℕ, length, [], ◌∷◌, ◌+◌}
+use Rattle.std.specs.Prelude.{Ok}
 use Rattle.std.proofs.lemmas.Result.{err_from_is_err_and}
 use Rattle.icescan.specs.Bundles.{File, with_lines, lines_of}
 use borrow.Author.Tests.{eqb-true}
-use Rattle.icescan.specs.declared.fault.RunFault.{RunFault}
 use Rattle.icescan.proofs.bundle.Bundle.read.Goals as goal
 
 zero_len : (n : ℕ) → true ≡ (n == 0) → n ≡ 0

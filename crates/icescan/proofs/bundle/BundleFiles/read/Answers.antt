@@ -1,4 +1,4 @@
-use Rattle.std.proofs.Common.{◌≡◌, sym, ◌∙◌, ap, refl, Some}
+use Rattle.std.proofs.Common.{sym, ◌∙◌, ap, refl, Some}
 use Rattle.std.proofs.lemmas.Result.{IfOk-weaker}
 use Rattle.icescan.proofs.Lookups.{bytes_seen}
 use Rattle.icescan.proofs.bundle.BundleFiles.read.Goals as goal
