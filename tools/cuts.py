@@ -2,7 +2,8 @@
 """cuts.py PROGRAM BUNDLE [STEP]: cuts the files of a bundle at every STEP-th byte (default 1), one at a time, and plans.
 
 Each run has to end in one named refusal, status 1, with nothing on standard output; a plan may come only where the cut
-lies between two blocks of the file, or behind its header. Prints the cuts that gave anything else, and a last line.
+lies between two blocks of the file, or behind its header. Files that the plan does not read are left out. Prints the cuts
+that gave anything else, and a last line.
 """
 import concurrent.futures
 import subprocess
@@ -69,6 +70,8 @@ def main():
         waiting = []
         for which, (path, content) in enumerate(lines):
             data = bytes.fromhex(content.decode())
+            if plan(program, lines, which, b"").returncode == 0:
+                continue
             whole = between_blocks(data)
             for cut in range(0, len(data), step):
                 waiting.append(pool.submit(judged, program, lines, which, data, cut, whole))
