@@ -1,8 +1,8 @@
 #!/usr/bin/env python3
-"""generate.py ENTRIES [PER_MANIFEST]: a bundle for `icescan list-plan --bundle` on standard output.
+"""generate.py ENTRIES [PER_MANIFEST [data|deletes]]: a bundle for `icescan list-plan --bundle` on standard output.
 
-The bundle holds a manifest list and manifests of an unpartitioned table: so many data entries in all (default
-1,000,000), PER_MANIFEST of them in a manifest (default 10,000), each with the column statistics of eight columns, in
+The bundle holds a manifest list and manifests of an unpartitioned table: so many entries in all (default
+1,000,000), PER_MANIFEST of them in a manifest (default 10,000), of data files or of equality deletes, each with the column statistics of eight columns, in
 Avro containers with codec null. The same arguments give the same bytes.
 """
 import json
@@ -75,24 +75,25 @@ def statistics(index):
     return b"".join(out)
 
 
-def entry(index):
+def entry(index, content):
     path = f"s3://warehouse/events/data/part-{index:010}-0e7c2b1a.parquet".encode()
-    return b"".join([number(1), number(1), number(7), number(0), number(0), number(0), run(path), run(b"PARQUET"),
-                     number(1000), number(1 << 20), statistics(index), number(0)])
+    return b"".join([number(1), number(1), number(7), number(0), number(0), number(content), run(path), run(b"PARQUET"),
+                     number(1000), number(1 << 20), statistics(index), number(0) if content == 0 else number(1) + number(1) + number(1) + number(0)])
 
 
 def main():
     entries = int(sys.argv[1]) if len(sys.argv) > 1 else 1_000_000
     each = int(sys.argv[2]) if len(sys.argv) > 2 else 10_000
+    content = 2 if sys.argv[3:] == ["deletes"] else 0
     out = sys.stdout
     rows = []
     starts = range(0, entries, each)
     for at, start in enumerate(starts):
         path = f"s3://warehouse/events/metadata/m{at:06}.avro".encode()
-        rows.append(run(path) + number(0) + number(0) + number(0) + number(3) + number(3) + number(7))
+        rows.append(run(path) + number(0) + number(0) + number(content // 2) + number(3) + number(3) + number(7))
     out.write("s3://warehouse/events/metadata/list.avro " + container(ROW, rows).hex() + "\n")
     for at, start in enumerate(starts):
-        objects = [entry(index) for index in range(start, min(start + each, entries))]
+        objects = [entry(index, content) for index in range(start, min(start + each, entries))]
         out.write(f"s3://warehouse/events/metadata/m{at:06}.avro " + container(ENTRY, objects).hex() + "\n")
 
 
