@@ -69,6 +69,18 @@ module _ {X : Type 0} (q k : X → Bool) (implied : (x : X) → q x ≡ true →
       ] in
       P (wants r) refl
 
+-- what passes p, and of that what passes q
+pub filter_twice : {X : Type 0} (p q : X → Bool) (xs : List X) → filter q (filter p xs) ≡ filter (λ x. p x && q x) xs
+filter_twice p q [] = refl
+filter_twice {X} p q (x ∷ xs) =
+    elim (p x) as (λ v. filter q (cond v (x ∷ filter p xs) (filter p xs)) ≡ cond (v && q x) (x ∷ filter (λ (y : X). p y && q y) xs) (filter (λ (y : X). p y && q y) xs)) [
+      | true ↦ elim (q x) as (λ v. cond v (x ∷ filter q (filter p xs)) (filter q (filter p xs)) ≡ cond v (x ∷ filter (λ (y : X). p y && q y) xs) (filter (λ (y : X). p y && q y) xs)) [
+        | true ↦ ap (λ ys. x ∷ ys) (filter_twice p q xs)
+        | false ↦ filter_twice p q xs
+      ]
+      | false ↦ filter_twice p q xs
+    ]
+
 pub append_all : {X : Type 0} (P : X → Type 0) (xs ys : List X) → AllByRecursion P xs → AllByRecursion P ys → AllByRecursion P (xs ++ ys)
 append_all P [] ys h k = k
 append_all P (x ∷ xs) ys h k = (h.0, append_all P xs ys h.1 k)

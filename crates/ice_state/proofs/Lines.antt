@@ -12,7 +12,7 @@ use Rattle.ice_state.specs.Applying.{Applies, AppliesAs, SamePartition, applies,
 use Rattle.ice_state.specs.Outcomes.{line_of, plan_over}
 use Rattle.ice_state.specs.Pruning.{holds, same_content}
 use Rattle.ice_state.proofs.Elements.{filtered, refiltered, mapped}
-use Rattle.ice_state.proofs.Filters.{and_true}
+use Rattle.ice_state.proofs.Filters.{and_true, filter_twice}
 use Rattle.ice_state.proofs.Tuples.{tuple_decides}
 
 le_decides : (a b : ℕ) → Decides (nat_le a b) (a ≤ b)
@@ -75,3 +75,8 @@ equalities_of deletes xs line d c =
     let m = mapped (line_of deletes) (filter (holds Data) xs) line c in
     let Q : OwnedLine → Type 0 = λ l. Contains l.equalities d ↔ (Contains deletes d × ((d.content ≡ EqualityDeletes) × Applies l.file d)) in
     subst Q m.1 (chosen EqualityDeletes deletes m.0 d)
+
+-- the delete files of each kind that apply, taken from the delete files of that kind alone
+pub line_with : (all ps es : List Entry) (x : Entry) → ps ≡ filter (λ d. applies x d) (filter (holds PositionDeletes) all) → es ≡ filter (λ d. applies x d) (filter (holds EqualityDeletes) all) →
+    record { file = x; positions = ps; equalities = es } ≡ line_of all x
+line_with all ps es x h k = rw (h, k, filter_twice (holds PositionDeletes) (λ (d : Entry). applies x d) all, filter_twice (holds EqualityDeletes) (λ (d : Entry). applies x d) all) refl

@@ -1,6 +1,8 @@
 -- What the functions within this crate say of their parts. No public contract cites these words.
-use Rattle.std.specs.Prelude.{◌≡◌, ℕ, zero, suc, List, [], ◌∷◌, Option, Some, None, option_and_then, slice_get}
+use Rattle.std.specs.Prelude.{◌≡◌, ℕ, zero, suc, List, [], ◌∷◌, map, filter, Option, Some, None, option_and_then, slice_get}
 use Rattle.ice_meta.specs.declared.spec.Spec.{Spec}
+use Rattle.ice_manifest.specs.declared.entry.Entry.{Entry}
+use Rattle.ice_manifest.specs.declared.entry.FileContent.TheVariants.{PositionDeletes, EqualityDeletes}
 use Rattle.ice_manifest.specs.declared.fault.ManifestFault.{ManifestFault}
 use Rattle.ice_manifest.specs.declared.row.Row.{Row}
 use Rattle.ice_manifest.specs.Manifests.{entries_of}
@@ -8,10 +10,11 @@ use Rattle.ice_state.specs.declared.fault.FinishFault.{FinishFault}
 use Rattle.ice_state.specs.declared.fault.FinishFault.TheVariants as faults
 use Rattle.ice_state.specs.declared.fault.ScanFault.{ScanFault}
 use Rattle.ice_state.specs.declared.fault.ScanFault.TheVariants.{NoSuchSpec}
+use Rattle.ice_state.specs.declared.finish.Deletes.{Deletes}
 use Rattle.ice_state.specs.declared.reading.Reading.{Reading}
 use Rattle.ice_state.specs.declared.reading.Reading.TheVariants.{Good, Bad}
 use Rattle.ice_state.specs.Contents.{Content, or_else, reading}
-use Rattle.ice_state.specs.Pruning.{everything}
+use Rattle.ice_state.specs.Pruning.{everything, holds}
 use Rattle.ice_state.specs.Scans.{Scanned, spec_of}
 
 -- the spec of the wanted row i
@@ -49,3 +52,7 @@ Stops faults.Memory fs = Unit {0}
 Stops (faults.Missing p) fs = IsFirst (faults.Missing p) fs
 Stops (faults.Bad p f) fs = IsFirst (faults.Bad p f) fs
 Stops (faults.PathTwice p) fs = IsFirst (faults.PathTwice p) fs
+
+-- these are the delete files among these entries, each kind for itself
+abbrev pub AreDeletesOf : Deletes → List Entry → Type 0
+AreDeletesOf deletes entries = (map (λ d. d.now) deletes.positions.items ≡ filter (holds PositionDeletes) entries) × (map (λ d. d.now) deletes.equalities.items ≡ filter (holds EqualityDeletes) entries)

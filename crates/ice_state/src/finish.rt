@@ -1,11 +1,12 @@
 //! The plan of a content, or its first fault.
 
-ghost use Rattle.std.specs.Prelude.{◌≡◌, [], ◌++◌, length, map, IfOk, OnOk, MatchResult, filter, ◌&&◌};
+ghost use Rattle.std.specs.Prelude.{◌≡◌, List, [], ◌++◌, length, map, IfOk, OnOk, MatchResult, filter};
 ghost use Rattle.std.specs.Option.{option_copied};
 ghost use Rattle.avro_schema.specs.Outcome.{Gives};
+ghost use Rattle.ice_manifest.specs.declared.entry.Entry.{Entry};
 ghost use Rattle.ice_state.specs.Applying.{applies};
 ghost use Rattle.ice_state.specs.Outcomes.{missing, bad, twice, kept_in, by_path, line_of, plan_over, outcome_of};
-ghost use Rattle.ice_state.specs.Parts.{fault_of, Stops};
+ghost use Rattle.ice_state.specs.Parts.{AreDeletesOf, fault_of, Stops};
 ghost use Rattle.ice_state.specs.Pruning.{holds};
 ghost use Rattle.ice_state.specs.Shown.{shown};
 
@@ -95,31 +96,58 @@ fn sort_by_path(entries: &mut Vec<&Entry>) -> Result<(), AllocError>
     Ok(())
 }
 
-/// The delete files of this kind that apply to the data file.
-fn applying<'a>(
+/// The delete files of a content, each kind for itself, by path.
+#[derive(Drop)]
+struct Deletes<'a> {
+    positions: Vec<&'a Entry>,
+    equalities: Vec<&'a Entry>,
+}
+
+/// The entries whose files hold this.
+fn holding<'a>(
     alloc: Global,
     entries: &[&'a Entry],
-    x: &Entry,
-    kind: FileContent,
+    content: FileContent,
 ) -> Result<Vec<&'a Entry>, AllocError>
-    ensures { IfOk result (λ found. map (λ d. d.now) found.items ≡ filter (λ d. holds kind d && applies x.now d) (map (λ d. d.now) entries.now)) }
+    ensures { IfOk result (λ found. map (λ d. d.now) found.items ≡ filter (holds content) (map (λ d. d.now) entries.now)) }
 {
     let mut found = Vec::new(alloc);
     'entries: for d in entries {
-        if d.content == kind && does_apply(x, d) {
+        if d.content == content {
             found.push(*d)?;
         }
     }
     Ok(found)
 }
 
-fn line<'a>(alloc: Global, entries: &[&'a Entry], x: &'a Entry) -> Result<Line<'a>, AllocError>
-    ensures { IfOk result (λ line. shown line ≡ line_of (map (λ d. d.now) entries.now) x.entry.now) }
+/// Those of the delete files that apply to the data file.
+fn applying<'a>(
+    alloc: Global,
+    deletes: &[&'a Entry],
+    x: &Entry,
+) -> Result<Vec<&'a Entry>, AllocError>
+    ensures { IfOk result (λ found. map (λ d. d.now) found.items ≡ filter (λ d. applies x.now d) (map (λ d. d.now) deletes.now)) }
+{
+    let mut found = Vec::new(alloc);
+    'deletes: for d in deletes {
+        if does_apply(x, d) {
+            found.push(*d)?;
+        }
+    }
+    Ok(found)
+}
+
+fn line<'a>(
+    alloc: Global,
+    deletes: &Deletes<'a>,
+    x: &'a Entry,
+) -> Result<Line<'a>, AllocError>
+    ensures { (all : List Entry) → AreDeletesOf deletes.now all → IfOk result (λ line. shown line ≡ line_of all x.entry.now) }
 {
     Ok(Line {
         file: x,
-        positions: applying(alloc, entries, x, FileContent::PositionDeletes)?,
-        equalities: applying(alloc, entries, x, FileContent::EqualityDeletes)?,
+        positions: applying(alloc, &deletes.positions, x)?,
+        equalities: applying(alloc, &deletes.equalities, x)?,
     })
 }
 
@@ -127,10 +155,14 @@ fn line<'a>(alloc: Global, entries: &[&'a Entry], x: &'a Entry) -> Result<Line<'
 fn planned<'a>(alloc: Global, entries: &[&'a Entry]) -> Result<Plan<'a>, AllocError>
     ensures { IfOk result (λ plan. plan ≡ plan_over (map (λ d. d.now) entries.now) (map (λ d. d.now) entries.now)) }
 {
+    let deletes = Deletes {
+        positions: holding(alloc, entries, FileContent::PositionDeletes)?,
+        equalities: holding(alloc, entries, FileContent::EqualityDeletes)?,
+    };
     let mut lines = Vec::new(alloc);
     'entries: for x in entries {
         if x.content == FileContent::Data {
-            lines.push(line(alloc, entries, *x)?)?;
+            lines.push(line(alloc, &deletes, *x)?)?;
         }
     }
     Ok(Plan { lines })
