@@ -2,6 +2,9 @@
 
 ghost use Rattle.std.specs.Prelude.{◌≡◌, ◌⊎◌, ◌<◌, vec_len, IfOk, IfErr, IfSome};
 
+#[cfg(test)]
+mod tests;
+
 use crate::fault::RunFault;
 use std::alloc::{AllocError, Global};
 use std::io::{ErrorKind, Read};

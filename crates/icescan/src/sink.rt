@@ -3,9 +3,6 @@
 ghost use Rattle.std.specs.Prelude.{◌≡◌, ◌<◌, ◌≤◌, ◌++◌, ℕ, List, Option, length, take, IfOk, OnOk, OnErr};
 ghost use Rattle.icescan.specs.Written.{Appends, Wrote};
 
-#[cfg(test)]
-mod tests;
-
 use std::io::Write;
 
 /// A write failed.

@@ -1,5 +1,8 @@
 //! The program over bundles, as its users run it.
 
+mod sinks;
+mod tables;
+
 use crate::report::report;
 use crate::run_list_plan::run_list_plan;
 use crate::words::run_words;
@@ -75,10 +78,13 @@ fn expect_words(
     assert_eq!(rt; ended, status);
 }
 
-#[test]
-fn plan_of_three_manifests(rt: HostRuntime) -> Result<(), Fail> {
-    let alloc = rt.alloc();
-    let text = bundle(
+/// The plan of three manifests.
+const PLAN: &str =
+    "data mem://t/a.parquet seq 3 spec 0 rows 10 size 100\n  pos mem://t/p.parquet seq 3\n  eq mem://t/e.parquet seq 4 ids 1\nfiles 1 deletes 2\n";
+
+/// A list of three manifests, in the order of their paths.
+fn three_manifests(alloc: Global) -> Result<Vec<u8>, AllocError> {
+    bundle(
         alloc,
         "066c146d656d3a2f2f742f6d31c8010000060602146d656d3a2f2f742f6d32c8010002060602146d656d3a2f2f742f6d33c8010002080802000102030405060708090a0b0c0d0e0f",
         &[
@@ -95,15 +101,14 @@ fn plan_of_three_manifests(rt: HostRuntime) -> Result<(), Fail> {
                 "0238020004226d656d3a2f2f742f652e7061727175657414c80102020200000102030405060708090a0b0c0d0e0f",
             ),
         ],
-    )?;
-    expect(
-        &rt,
-        alloc,
-        &text,
-        0,
-        "data mem://t/a.parquet seq 3 spec 0 rows 10 size 100\n  pos mem://t/p.parquet seq 3\n  eq mem://t/e.parquet seq 4 ids 1\nfiles 1 deletes 2\n",
-        "",
-    );
+    )
+}
+
+#[test]
+fn plan_of_three_manifests(rt: HostRuntime) -> Result<(), Fail> {
+    let alloc = rt.alloc();
+    let text = three_manifests(alloc)?;
+    expect(&rt, alloc, &text, 0, PLAN, "");
     let text = bundle(
         alloc,
         "066c146d656d3a2f2f742f6d33c8010002080802146d656d3a2f2f742f6d31c8010000060602146d656d3a2f2f742f6d32c8010002060602000102030405060708090a0b0c0d0e0f",
@@ -122,14 +127,7 @@ fn plan_of_three_manifests(rt: HostRuntime) -> Result<(), Fail> {
             ),
         ],
     )?;
-    expect(
-        &rt,
-        alloc,
-        &text,
-        0,
-        "data mem://t/a.parquet seq 3 spec 0 rows 10 size 100\n  pos mem://t/p.parquet seq 3\n  eq mem://t/e.parquet seq 4 ids 1\nfiles 1 deletes 2\n",
-        "",
-    );
+    expect(&rt, alloc, &text, 0, PLAN, "");
     Ok(())
 }
 

@@ -1,8 +1,12 @@
 //! Sinks that take little or fail.
 
-use super::{Output, Sink, SinkFault, write_all};
+use super::{PLAN, three_manifests};
 use crate::fault::RunFault;
 use crate::report::report;
+use crate::sink::{Output, Sink, SinkFault, write_all};
+use crate::words::run_words;
+use std::alloc::Global;
+use std::test::Fail;
 
 /// Memory that takes at most so many bytes at a time, and only so many in all.
 #[derive(Drop)]
@@ -10,6 +14,16 @@ struct Slow {
     taken: Vec<u8>,
     step: usize,
     room: usize,
+}
+
+impl Slow {
+    fn new(alloc: Global, step: usize, room: usize) -> Self {
+        Slow {
+            taken: Vec::new(alloc),
+            step,
+            room,
+        }
+    }
 }
 
 impl Sink for Slow {
@@ -37,29 +51,46 @@ impl Sink for Slow {
 #[test]
 fn sinks_that_take_little(rt: HostRuntime) {
     let alloc = rt.alloc();
-    let mut errors = Slow {
-        taken: Vec::new(alloc),
-        step: 1,
-        room: 100,
-    };
+    let mut errors = Slow::new(alloc, 1, 100);
     assert_eq!(rt; report(&RunFault::Bundle(12), &mut errors), 2);
     assert_eq!(rt;
         errors.taken.as_slice(),
         b"icescan: B1 Bundle 12\n".as_slice()
     );
-    let mut errors = Slow {
-        taken: Vec::new(alloc),
-        step: 4,
-        room: 14,
-    };
+    let mut errors = Slow::new(alloc, 4, 14);
     assert_eq!(rt; report(&RunFault::Bundle(12), &mut errors), 2);
     assert_eq!(rt; errors.taken.as_slice(), b"icescan: B1 Bu".as_slice());
-    let mut stuck = Slow {
-        taken: Vec::new(alloc),
-        step: 0,
-        room: 1,
-    };
+    let mut stuck = Slow::new(alloc, 0, 1);
     assert_eq!(rt; write_all(&mut stuck, b"a"), Err(SinkFault));
+}
+
+#[test]
+fn plan_of_one_byte_at_a_time(rt: HostRuntime) -> Result<(), Fail> {
+    let alloc = rt.alloc();
+    let text = three_manifests(alloc)?;
+    let mut output = Slow::new(alloc, 1, PLAN.len());
+    let mut errors = Vec::new(alloc);
+    let status = run_words(alloc, &[], &mut text.as_slice(), &mut output, &mut errors);
+    assert_eq!(rt; status, 0);
+    assert_eq!(rt; output.taken.as_slice(), PLAN.as_bytes());
+    assert_eq!(rt; errors.len(), 0);
+    Ok(())
+}
+
+/// A write that fails after any number of bytes leaves just these, and is told.
+#[test]
+fn plan_cut_by_a_failing_write(rt: HostRuntime) -> Result<(), Fail> {
+    let alloc = rt.alloc();
+    let text = three_manifests(alloc)?;
+    for room in 0..PLAN.len() {
+        let mut output = Slow::new(alloc, 7, room);
+        let mut errors = Vec::new(alloc);
+        let status = run_words(alloc, &[], &mut text.as_slice(), &mut output, &mut errors);
+        assert_eq!(rt; status, 3);
+        assert_eq!(rt; Some(output.taken.as_slice()), PLAN.as_bytes().get(..room));
+        assert_eq!(rt; errors.as_slice(), b"icescan: W1 Write\n".as_slice());
+    }
+    Ok(())
 }
 
 #[test]
