@@ -137,11 +137,7 @@ fn applying<'a>(
     Ok(found)
 }
 
-fn line<'a>(
-    alloc: Global,
-    deletes: &Deletes<'a>,
-    x: &'a Entry,
-) -> Result<Line<'a>, AllocError>
+fn line<'a>(alloc: Global, deletes: &Deletes<'a>, x: &'a Entry) -> Result<Line<'a>, AllocError>
     ensures { (all : List Entry) → AreDeletesOf deletes.now all → IfOk result (λ line. shown line ≡ line_of all x.entry.now) }
 {
     Ok(Line {
