@@ -23,6 +23,7 @@ pub struct Seen {
     pub left: u32,
 }
 
+/// Whether a dot is in the name.
 fn is_dotted(name: &[u8]) -> bool
     ensures { result ≡ dotted name.now }
 {

@@ -91,6 +91,7 @@ fn word_of(
     }
 }
 
+/// The tree of a union, which is no branch of one.
 #[cycle(schema)]
 #[tactic(auto, unfolding(crate::specs::Reading::union_at))]
 fn union_of(
@@ -112,6 +113,7 @@ fn union_of(
     }
 }
 
+/// The trees of a union's branches.
 #[cycle(schema)]
 fn branches_of(
     alloc: Global,
@@ -133,6 +135,7 @@ fn branches_of(
     Ok((branches, now))
 }
 
+/// The tree of an object, by what its type text says.
 #[cycle(schema)]
 #[tactic(auto, unfolding(crate::specs::Reading::object_at))]
 fn object_of(
@@ -158,6 +161,7 @@ fn object_of(
     }
 }
 
+/// The tree of an array.
 #[cycle(schema)]
 #[tactic(auto, unfolding(crate::specs::Reading::array_at))]
 fn array_of(
@@ -183,6 +187,7 @@ fn array_of(
     ))
 }
 
+/// The tree of a map.
 #[cycle(schema)]
 #[tactic(auto, unfolding(crate::specs::Reading::map_at))]
 fn map_of(
@@ -216,6 +221,7 @@ fn defined_name(
     }
 }
 
+/// The tree of an enum, whose name is new.
 #[tactic(auto, unfolding(crate::specs::Reading::enum_at))]
 fn enum_of(
     alloc: Global,
@@ -236,6 +242,7 @@ fn enum_of(
     Ok((Schema::Enum(count), now))
 }
 
+/// The tree of a fixed, whose name is new.
 #[tactic(auto, unfolding(crate::specs::Reading::fixed_at))]
 fn fixed_of(
     alloc: Global,
@@ -257,6 +264,7 @@ fn fixed_of(
     Ok((Schema::Fixed(size, kind), now))
 }
 
+/// The tree of a record, whose name is open while its fields are read in its namespace.
 #[cycle(schema)]
 #[tactic(auto, unfolding(crate::specs::Reading::record_at))]
 fn record_of(
@@ -283,6 +291,7 @@ fn record_of(
     Ok((schema, closed))
 }
 
+/// The fields of a record.
 #[cycle(schema)]
 fn fields_of(
     alloc: Global,
@@ -319,6 +328,7 @@ fn fresh_id(id: Option<i32>, front: &Vec<Field>) -> Result<Option<i32>, SchemaFa
     Ok(Some(wanted))
 }
 
+/// A field behind those in front.
 #[cycle(schema)]
 #[tactic(auto, unfolding(crate::specs::Reading::field_at))]
 fn field_of(
