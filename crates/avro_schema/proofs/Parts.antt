@@ -1,5 +1,5 @@
 -- Full names in two parts, compared as the texts that they stand for.
-use Rattle.std.proofs.Common.{◌≡◌, ℕ, zero, suc, ◌+◌, ◌-◌, ◌≤◌, ◌<◌, Bool, true, false, ◌||◌, ◌==◌, List, [], ◌∷◌, ◌++◌, length, get_or, drop, take, Ordering, Less, Equal, Greater, nat_cmp, refl, sym, ap, ◌∙◌, add-one, drop-cons, arith}
+use Rattle.std.proofs.Common.{◌≡◌, ℕ, zero, suc, ◌+◌, ◌≤◌, ◌<◌, Bool, true, false, ◌||◌, ◌==◌, List, [], ◌∷◌, ◌++◌, length, get_or, drop, take, Ordering, Less, Equal, Greater, nat_cmp, refl, sym, ap, ◌∙◌, add-one, drop-cons, arith}
 use Rattle.std.specs.Prelude.{min}
 use Rattle.std.specs.Ordering.{MatchOrdering, ordering_then, is_ne}
 use Rattle.std.specs.Cmp.Lexicographic.{slice_cmp}

@@ -1,4 +1,4 @@
-use Rattle.std.proofs.Common.{◌≡◌, ◌≤◌, sym, ◌∙◌, length, arith}
+use Rattle.std.proofs.Common.{◌≤◌, sym, ◌∙◌, length, arith}
 use Rattle.avro_schema.proofs.Parts.{decided_in_front, alike_in_front}
 use Rattle.avro_schema.proofs.full_name.order.Goals as goal
 

@@ -1,4 +1,4 @@
-use Rattle.std.proofs.Common.{◌≡◌, ◌<◌, refl, sym, ◌∙◌, length, drop, ◌+◌, arith}
+use Rattle.std.proofs.Common.{◌<◌, refl, sym, ◌∙◌, length, drop, ◌+◌, arith}
 use Rattle.std.specs.Ordering.{nat_cmp}
 use Rattle.std.specs.Cmp.Lexicographic.{slice_cmp}
 use Rattle.avro_schema.specs.Joined.{joined}
