@@ -2,6 +2,7 @@ pub mod Loop
 pub mod Walks
 pub mod Utf
 pub mod Keys
+pub mod Parts
 pub mod Binds
 pub mod Limits
 pub mod Shapes

@@ -3,6 +3,7 @@ pub mod Tree
 pub mod Size
 pub mod View
 pub mod Names
+pub mod Joined
 pub mod Attributes
 pub mod Reading
 pub mod Shape

@@ -1,18 +1,19 @@
 -- What the reader's `Seen` stands for: the map as the list of its entries.
-use Rattle.std.specs.Prelude.{ℕ, List, map, Option, option_map, Vec, Result}
-use Rattle.std.specs.declared.alloc.Global.{Global}
+use Rattle.std.specs.Prelude.{List, map, Option, option_map, Result}
+use Rattle.avro_schema.specs.declared.full_name.FullName.{FullName}
 use Rattle.avro_schema.specs.declared.schema.Schema.{Schema}
 use Rattle.avro_schema.specs.declared.names.Seen as code
 use Rattle.avro_schema.specs.declared.fault.SchemaFault.{SchemaFault}
 use Rattle.avro_schema.specs.declared.fault.SchemaFault.TheVariants.{Memory}
+use Rattle.avro_schema.specs.Joined.{joined}
 use Rattle.avro_schema.specs.Outcome.{Gives}
 use Rattle.avro_schema.specs.Tree.{Tree}
 use Rattle.avro_schema.specs.View.{tree}
 use Rattle.avro_schema.specs.Names.{Entry}
 use Rattle.avro_schema.specs.Reading.{Seen, Read}
 
-abbrev pub entries : List (Vec ℕ Global × Option Schema) → List Entry
-entries es = map (λ e. (e.0.items, option_map tree e.1)) es
+abbrev pub entries : List (FullName × Option Schema) → List Entry
+entries es = map (λ e. (joined e.0, option_map tree e.1)) es
 
 abbrev pub met : code.Seen → Seen
 met s = record { names = entries s.names.entries; left = s.left }

@@ -38,6 +38,7 @@ pub fn plain_of(name: &str) -> Option<Schema>
     }
 }
 
+/// What a type text says.
 pub fn kind_from(name: &str) -> Kind
     ensures { result ≡ kind_of name.now }
 {
@@ -52,6 +53,7 @@ pub fn kind_from(name: &str) -> Kind
     }
 }
 
+/// The text at a key of an object.
 pub fn text_at<'a>(json: &'a Value, key: &str) -> Option<&'a str>
     ensures { option_map (λ t. t.now) result ≡ text_in key.now (view json.now) }
 {
@@ -66,6 +68,7 @@ pub fn name_of<'a>(json: &'a Value) -> Option<&'a str>
     if name.is_empty() { None } else { Some(name) }
 }
 
+/// Whether each item is an object.
 fn all_objects(items: &Vec<Value>) -> bool
     ensures { result ≡ all_items is_object (items_view items.now.items) }
 {
@@ -77,6 +80,7 @@ fn all_objects(items: &Vec<Value>) -> bool
     true
 }
 
+/// Whether each item is a text.
 fn all_texts(items: &Vec<Value>) -> bool
     ensures { result ≡ all_items is_text (items_view items.now.items) }
 {
@@ -113,12 +117,14 @@ pub fn symbol_count(json: &Value) -> Option<usize>
     }
 }
 
+/// The whole number of 64 bits at a key of an object.
 fn number_at(json: &Value, key: &str) -> Option<i64>
     ensures { result ≡ number_in key.now (view json.now) }
 {
     json.get(key)?.as_i64()
 }
 
+/// The id that a number is, where it has 32 bits.
 fn id_from(number: i64) -> Option<i32>
     ensures { result ≡ id_of number }
 {
@@ -129,6 +135,7 @@ fn id_from(number: i64) -> Option<i32>
     }
 }
 
+/// The size that a number is, where it is none below zero and has 32 bits.
 fn size_from(number: i64) -> Option<u32>
     ensures { result ≡ size_of number }
 {

@@ -3,6 +3,7 @@
 
 mod attributes;
 mod fault;
+mod full_name;
 pub mod laws;
 mod names;
 mod reading;

@@ -1,7 +1,8 @@
 //! Full names, and the names that were met.
 
-ghost use Rattle.std.specs.Prelude.{◌≡◌, IfOk, Ok, Option, option_map, None, Some};
+ghost use Rattle.std.specs.Prelude.{◌≡◌, Ok, option_map};
 ghost use Rattle.avro_schema.specs.Names.{dotted, space_of, full, lookup, put};
+ghost use Rattle.avro_schema.specs.Joined.{joined};
 ghost use Rattle.avro_schema.specs.Outcome.{Gives};
 ghost use Rattle.avro_schema.specs.View.{tree};
 ghost use Rattle.avro_schema.specs.Reading.{used, defined, named};
@@ -9,20 +10,22 @@ ghost use Rattle.avro_schema.specs.Met.{met, Reads};
 
 use crate::attributes::plain_of;
 use crate::fault::SchemaFault;
+use crate::full_name::FullName;
 use crate::repeat::{copy, is_higher, spend_below};
 use crate::schema::Schema;
-use std::alloc::{AllocError, Global};
+use std::alloc::Global;
 use std::collections::BTreeMap;
 
 /// What a walk carries along.
 #[derive(Drop)]
-pub struct Seen {
+pub struct Seen<'a> {
     /// The full names that were met, each with its tree; without one while its definition is open.
-    pub names: BTreeMap<Vec<u8>, Option<Schema>>,
+    pub names: BTreeMap<FullName<'a>, Option<Schema>>,
     /// How many nodes may still come.
     pub left: u32,
 }
 
+/// Whether a dot is in the name.
 fn is_dotted(name: &[u8]) -> bool
     ensures { result ≡ dotted name.now }
 {
@@ -50,23 +53,38 @@ pub fn space_in(name: &[u8]) -> &[u8]
 
 /// What a name in a namespace stands for.
 #[tactic(auto, unfolding(crate::specs::Names::full))]
-pub fn full_name(alloc: Global, space: &[u8], name: &[u8]) -> Result<Vec<u8>, AllocError>
-    ensures { IfOk result (λ v. v.items ≡ full space.now name.now) }
+pub fn full_name<'a>(space: &'a [u8], name: &'a [u8]) -> FullName<'a>
+    ensures { joined result ≡ full space.now name.now }
 {
-    if is_dotted(name) || space.is_empty() {
-        return Vec::from_slice(alloc, name);
+    if is_dotted(name) {
+        FullName { space: &[], name }
+    } else {
+        FullName { space, name }
     }
-    let mut whole = Vec::from_slice(alloc, space)?;
-    whole.push(b'.')?;
-    whole.extend_from_slice(name)?;
-    Ok(whole)
+}
+
+/// The namespace of what a name in a namespace stands for.
+#[tactic(auto, using(crate::proofs::Parts::space_around), unfolding(crate::specs::Names::full))]
+pub fn inner_space<'a>(space: &'a [u8], name: &'a [u8]) -> &'a [u8]
+    ensures { result.now ≡ space_of (full space.now name.now) }
+{
+    if is_dotted(name) {
+        space_in(name)
+    } else {
+        space
+    }
 }
 
 /// The tree of a name that was defined before.
-fn used_at(alloc: Global, name: &[u8], most: u32, seen: Seen) -> Result<(Schema, Seen), SchemaFault>
-    ensures { Reads result (used most (lookup name.now (met seen).names) (met seen)) }
+fn used_at<'a>(
+    alloc: Global,
+    name: FullName<'a>,
+    most: u32,
+    seen: Seen<'a>,
+) -> Result<(Schema, Seen<'a>), SchemaFault>
+    ensures { Reads result (used most (lookup (joined name.entry) (met seen.entry).names) (met seen.entry)) }
 {
-    match seen.names.get(name) {
+    match seen.names.get(&name) {
         None => Err(SchemaFault::UnknownName),
         Some(None) => Err(SchemaFault::Recursive),
         Some(Some(schema)) => {
@@ -90,26 +108,29 @@ fn used_at(alloc: Global, name: &[u8], most: u32, seen: Seen) -> Result<(Schema,
 
 /// The tree of the type that a text names.
 #[tactic(auto, unfolding(crate::specs::Reading::named))]
-pub fn named_at(
+pub fn named_at<'a>(
     alloc: Global,
-    text: &str,
+    text: &'a str,
     most: u32,
-    space: &[u8],
-    seen: Seen,
-) -> Result<(Schema, Seen), SchemaFault>
-    ensures { Reads result (named most space.now text.now (met seen)) }
+    space: &'a [u8],
+    seen: Seen<'a>,
+) -> Result<(Schema, Seen<'a>), SchemaFault>
+    ensures { Reads result (named most space.now text.now (met seen.entry)) }
 {
     if let Some(schema) = plain_of(text) {
         return Ok((schema, seen));
     }
-    let name = full_name(alloc, space, text.as_bytes())?;
-    used_at(alloc, &name, most, seen)
+    used_at(alloc, full_name(space, text.as_bytes()), most, seen)
 }
 
 /// The names with this one, which may have been there.
-pub fn set(name: Vec<u8>, schema: Option<Schema>, seen: Seen) -> Result<Seen, SchemaFault>
+pub fn set<'a>(
+    name: FullName<'a>,
+    schema: Option<Schema>,
+    seen: Seen<'a>,
+) -> Result<Seen<'a>, SchemaFault>
     ensures { Gives SchemaFault.Memory met result
-        (Ok (record (met seen) { names = put name.items (option_map tree schema) (met seen).names })) }
+        (Ok (record (met seen.entry) { names = put (joined name.entry) (option_map tree schema) (met seen.entry).names })) }
 {
     let Seen { mut names, left } = seen;
     drop(names.insert(name, schema)?);
@@ -118,10 +139,14 @@ pub fn set(name: Vec<u8>, schema: Option<Schema>, seen: Seen) -> Result<Seen, Sc
 
 /// The names with a new one.
 #[tactic(auto, unfolding(crate::specs::Reading::defined))]
-pub fn define(name: Vec<u8>, schema: Option<Schema>, seen: Seen) -> Result<Seen, SchemaFault>
-    ensures { Gives SchemaFault.Memory met result (defined name.items (option_map tree schema) (met seen)) }
+pub fn define<'a>(
+    name: FullName<'a>,
+    schema: Option<Schema>,
+    seen: Seen<'a>,
+) -> Result<Seen<'a>, SchemaFault>
+    ensures { Gives SchemaFault.Memory met result (defined (joined name.entry) (option_map tree schema) (met seen.entry)) }
 {
-    if seen.names.contains_key(name.as_slice()) {
+    if seen.names.contains_key(&name) {
         return Err(SchemaFault::NameTwice);
     }
     set(name, schema, seen)

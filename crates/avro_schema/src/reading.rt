@@ -1,7 +1,10 @@
 //! The walk over a schema's JSON.
 
-ghost use Rattle.std.specs.Prelude.{◌≡◌, [], Ok, IfOk, Result};
+ghost use Rattle.std.specs.Prelude.{◌≡◌, [], codes};
 ghost use Rattle.serde_json.specs.View.{view, items_view};
+ghost use Rattle.avro_schema.specs.Attributes.{text_in};
+ghost use Rattle.avro_schema.specs.Joined.{joined};
+ghost use Rattle.avro_schema.specs.Names.{or_around};
 ghost use Rattle.avro_schema.specs.Outcome.{Gives};
 ghost use Rattle.avro_schema.specs.View.{tree, trees, parts};
 ghost use Rattle.avro_schema.specs.Reading.{fresh, defines, branches_at, field_at, fields_at, record_at, array_at, map_at, enum_at, fixed_at, object_at, text_at as tree_of_word, union_at, node_at, tree_at};
@@ -13,11 +16,12 @@ use crate::attributes::{
     symbol_count, text_at,
 };
 use crate::fault::SchemaFault;
-use crate::names::{Seen, define, full_name, named_at, set, space_in};
+use crate::full_name::FullName;
+use crate::names::{Seen, define, full_name, inner_space, named_at, set};
 use crate::repeat::copy;
 use crate::schema::{Field, Schema};
 use serde_json::Value;
-use std::alloc::{AllocError, Global};
+use std::alloc::Global;
 
 /// Where a type stands.
 #[derive(Clone, Copy, Debug, PartialEq, Eq)]
@@ -29,15 +33,15 @@ pub enum Place {
 
 /// The tree of a type, where so many levels may come.
 #[cycle(schema)]
-pub fn schema_of(
+pub fn schema_of<'a>(
     alloc: Global,
-    json: &Value,
+    json: &'a Value,
     levels: u32,
     place: Place,
-    space: &[u8],
-    seen: Seen,
-) -> Result<(Schema, Seen), SchemaFault>
-    ensures { Reads result (tree_at levels place space.now (view json.now) (met seen)) }
+    space: &'a [u8],
+    seen: Seen<'a>,
+) -> Result<(Schema, Seen<'a>), SchemaFault>
+    ensures { Reads result (tree_at levels place space.now (view json.now) (met seen.entry)) }
 {
     if levels == 0 {
         return Err(SchemaFault::TooBig);
@@ -56,15 +60,15 @@ pub fn schema_of(
 /// The tree of a type that was counted, where so many levels may be below it.
 #[cycle(schema)]
 #[tactic(auto, unfolding(crate::specs::Reading::node_at))]
-fn node_of(
+fn node_of<'a>(
     alloc: Global,
-    json: &Value,
+    json: &'a Value,
     most: u32,
     place: Place,
-    space: &[u8],
-    seen: Seen,
-) -> Result<(Schema, Seen), SchemaFault>
-    ensures { Reads result (node_at (tree_at most) most place space.now (view json.now) (met seen)) }
+    space: &'a [u8],
+    seen: Seen<'a>,
+) -> Result<(Schema, Seen<'a>), SchemaFault>
+    ensures { Reads result (node_at (tree_at most) most place space.now (view json.now) (met seen.entry)) }
 {
     match json {
         Value::String(text) => word_of(alloc, text.as_str(), most, space, seen),
@@ -76,14 +80,14 @@ fn node_of(
 
 /// The tree of a text that stands alone.
 #[tactic(auto, unfolding(crate::specs::Reading::text_at))]
-fn word_of(
+fn word_of<'a>(
     alloc: Global,
-    text: &str,
+    text: &'a str,
     most: u32,
-    space: &[u8],
-    seen: Seen,
-) -> Result<(Schema, Seen), SchemaFault>
-    ensures { Reads result (tree_of_word most space.now text.now (met seen)) }
+    space: &'a [u8],
+    seen: Seen<'a>,
+) -> Result<(Schema, Seen<'a>), SchemaFault>
+    ensures { Reads result (tree_of_word most space.now text.now (met seen.entry)) }
 {
     match kind_from(text) {
         Kind::Bytes | Kind::Word => named_at(alloc, text, most, space, seen),
@@ -91,17 +95,18 @@ fn word_of(
     }
 }
 
+/// The tree of a union, which is no branch of one.
 #[cycle(schema)]
 #[tactic(auto, unfolding(crate::specs::Reading::union_at))]
-fn union_of(
+fn union_of<'a>(
     alloc: Global,
-    items: &Vec<Value>,
+    items: &'a Vec<Value>,
     most: u32,
     place: Place,
-    space: &[u8],
-    seen: Seen,
-) -> Result<(Schema, Seen), SchemaFault>
-    ensures { Reads result (union_at (tree_at most) place space.now (items_view items.now.items) (met seen)) }
+    space: &'a [u8],
+    seen: Seen<'a>,
+) -> Result<(Schema, Seen<'a>), SchemaFault>
+    ensures { Reads result (union_at (tree_at most) place space.now (items_view items.now.items) (met seen.entry)) }
 {
     match place {
         Place::Branch => Err(SchemaFault::UnknownType),
@@ -112,16 +117,17 @@ fn union_of(
     }
 }
 
+/// The trees of a union's branches.
 #[cycle(schema)]
-fn branches_of(
+fn branches_of<'a>(
     alloc: Global,
-    items: &Vec<Value>,
+    items: &'a Vec<Value>,
     most: u32,
-    space: &[u8],
-    seen: Seen,
-) -> Result<(Vec<Schema>, Seen), SchemaFault>
+    space: &'a [u8],
+    seen: Seen<'a>,
+) -> Result<(Vec<Schema>, Seen<'a>), SchemaFault>
     ensures { Gives SchemaFault.Memory (λ x. (trees x.0.items, met x.1)) result
-        (branches_at (tree_at most Branch space.now) [] (items_view items.now.items) (met seen)) }
+        (branches_at (tree_at most Branch space.now) [] (items_view items.now.items) (met seen.entry)) }
 {
     let mut branches = Vec::new(alloc);
     let mut now = seen;
@@ -133,16 +139,17 @@ fn branches_of(
     Ok((branches, now))
 }
 
+/// The tree of an object, by what its type text says.
 #[cycle(schema)]
 #[tactic(auto, unfolding(crate::specs::Reading::object_at))]
-fn object_of(
+fn object_of<'a>(
     alloc: Global,
-    json: &Value,
+    json: &'a Value,
     most: u32,
-    space: &[u8],
-    seen: Seen,
-) -> Result<(Schema, Seen), SchemaFault>
-    ensures { Reads result (object_at (tree_at most) most space.now (view json.now) (met seen)) }
+    space: &'a [u8],
+    seen: Seen<'a>,
+) -> Result<(Schema, Seen<'a>), SchemaFault>
+    ensures { Reads result (object_at (tree_at most) most space.now (view json.now) (met seen.entry)) }
 {
     let Some(text) = text_at(json, "type") else {
         return Err(SchemaFault::UnknownType);
@@ -158,16 +165,17 @@ fn object_of(
     }
 }
 
+/// The tree of an array.
 #[cycle(schema)]
 #[tactic(auto, unfolding(crate::specs::Reading::array_at))]
-fn array_of(
+fn array_of<'a>(
     alloc: Global,
-    json: &Value,
+    json: &'a Value,
     most: u32,
-    space: &[u8],
-    seen: Seen,
-) -> Result<(Schema, Seen), SchemaFault>
-    ensures { Reads result (array_at (tree_at most) space.now (view json.now) (met seen)) }
+    space: &'a [u8],
+    seen: Seen<'a>,
+) -> Result<(Schema, Seen<'a>), SchemaFault>
+    ensures { Reads result (array_at (tree_at most) space.now (view json.now) (met seen.entry)) }
 {
     let Some(items) = json.get("items") else {
         return Err(SchemaFault::UnknownType);
@@ -183,16 +191,17 @@ fn array_of(
     ))
 }
 
+/// The tree of a map.
 #[cycle(schema)]
 #[tactic(auto, unfolding(crate::specs::Reading::map_at))]
-fn map_of(
+fn map_of<'a>(
     alloc: Global,
-    json: &Value,
+    json: &'a Value,
     most: u32,
-    space: &[u8],
-    seen: Seen,
-) -> Result<(Schema, Seen), SchemaFault>
-    ensures { Reads result (map_at (tree_at most) space.now (view json.now) (met seen)) }
+    space: &'a [u8],
+    seen: Seen<'a>,
+) -> Result<(Schema, Seen<'a>), SchemaFault>
+    ensures { Reads result (map_at (tree_at most) space.now (view json.now) (met seen.entry)) }
 {
     let Some(values) = json.get("values") else {
         return Err(SchemaFault::UnknownType);
@@ -201,29 +210,32 @@ fn map_of(
     Ok((Schema::Map(Box::new(alloc, schema)?), seen))
 }
 
-/// The full name that an object defines.
-fn defined_name(
-    alloc: Global,
-    json: &Value,
-    name: &str,
-    space: &[u8],
-) -> Result<Vec<u8>, AllocError>
-    ensures { IfOk result (λ v. v.items ≡ defines space.now name.now (view json.now)) }
+/// The namespace that an object gives, or the one around it.
+fn own_space<'a>(json: &'a Value, space: &'a [u8]) -> &'a [u8]
+    ensures { result.now ≡ or_around (text_in (codes "namespace") (view json.now)) space.now }
 {
     match text_at(json, "namespace") {
-        Some(own) => full_name(alloc, own.as_bytes(), name.as_bytes()),
-        None => full_name(alloc, space, name.as_bytes()),
+        Some(own) => own.as_bytes(),
+        None => space,
     }
 }
 
+/// The full name that an object defines.
+fn defined_name<'a>(json: &'a Value, name: &'a str, space: &'a [u8]) -> FullName<'a>
+    ensures { joined result ≡ defines space.now name.now (view json.now) }
+{
+    full_name(own_space(json, space), name.as_bytes())
+}
+
+/// The tree of an enum, whose name is new.
 #[tactic(auto, unfolding(crate::specs::Reading::enum_at))]
-fn enum_of(
+fn enum_of<'a>(
     alloc: Global,
-    json: &Value,
-    space: &[u8],
-    seen: Seen,
-) -> Result<(Schema, Seen), SchemaFault>
-    ensures { Reads result (enum_at space.now (view json.now) (met seen)) }
+    json: &'a Value,
+    space: &'a [u8],
+    seen: Seen<'a>,
+) -> Result<(Schema, Seen<'a>), SchemaFault>
+    ensures { Reads result (enum_at space.now (view json.now) (met seen.entry)) }
 {
     let Some(name) = name_of(json) else {
         return Err(SchemaFault::UnknownType);
@@ -231,19 +243,20 @@ fn enum_of(
     let Some(count) = symbol_count(json) else {
         return Err(SchemaFault::UnknownType);
     };
-    let whole = defined_name(alloc, json, name, space)?;
+    let whole = defined_name(json, name, space);
     let now = define(whole, Some(Schema::Enum(count)), seen)?;
     Ok((Schema::Enum(count), now))
 }
 
+/// The tree of a fixed, whose name is new.
 #[tactic(auto, unfolding(crate::specs::Reading::fixed_at))]
-fn fixed_of(
+fn fixed_of<'a>(
     alloc: Global,
-    json: &Value,
-    space: &[u8],
-    seen: Seen,
-) -> Result<(Schema, Seen), SchemaFault>
-    ensures { Reads result (fixed_at space.now (view json.now) (met seen)) }
+    json: &'a Value,
+    space: &'a [u8],
+    seen: Seen<'a>,
+) -> Result<(Schema, Seen<'a>), SchemaFault>
+    ensures { Reads result (fixed_at space.now (view json.now) (met seen.entry)) }
 {
     let Some(name) = name_of(json) else {
         return Err(SchemaFault::UnknownType);
@@ -251,22 +264,23 @@ fn fixed_of(
     let Some(size) = fixed_size(json) else {
         return Err(SchemaFault::UnknownType);
     };
-    let whole = defined_name(alloc, json, name, space)?;
+    let whole = defined_name(json, name, space);
     let kind = bytes_kind_of(json);
     let now = define(whole, Some(Schema::Fixed(size, kind)), seen)?;
     Ok((Schema::Fixed(size, kind), now))
 }
 
+/// The tree of a record, whose name is open while its fields are read in its namespace.
 #[cycle(schema)]
 #[tactic(auto, unfolding(crate::specs::Reading::record_at))]
-fn record_of(
+fn record_of<'a>(
     alloc: Global,
-    json: &Value,
+    json: &'a Value,
     most: u32,
-    space: &[u8],
-    seen: Seen,
-) -> Result<(Schema, Seen), SchemaFault>
-    ensures { Reads result (record_at (tree_at most) space.now (view json.now) (met seen)) }
+    space: &'a [u8],
+    seen: Seen<'a>,
+) -> Result<(Schema, Seen<'a>), SchemaFault>
+    ensures { Reads result (record_at (tree_at most) space.now (view json.now) (met seen.entry)) }
 {
     let Some(name) = name_of(json) else {
         return Err(SchemaFault::UnknownType);
@@ -274,25 +288,27 @@ fn record_of(
     let Some(items) = fields_in(json) else {
         return Err(SchemaFault::UnknownType);
     };
-    let whole = defined_name(alloc, json, name, space)?;
-    let opened = define(Vec::from_slice(alloc, &whole)?, None, seen)?;
-    let (fields, after) = fields_of(alloc, items, most, space_in(&whole), opened)?;
+    let whole = defined_name(json, name, space);
+    let opened = define(whole, None, seen)?;
+    let inner = inner_space(own_space(json, space), name.as_bytes());
+    let (fields, after) = fields_of(alloc, items, most, inner, opened)?;
     let schema = Schema::Record(fields);
     let kept = copy(alloc, &schema)?;
     let closed = set(whole, Some(kept), after)?;
     Ok((schema, closed))
 }
 
+/// The fields of a record.
 #[cycle(schema)]
-fn fields_of(
+fn fields_of<'a>(
     alloc: Global,
-    items: &Vec<Value>,
+    items: &'a Vec<Value>,
     most: u32,
-    space: &[u8],
-    seen: Seen,
-) -> Result<(Vec<Field>, Seen), SchemaFault>
+    space: &'a [u8],
+    seen: Seen<'a>,
+) -> Result<(Vec<Field>, Seen<'a>), SchemaFault>
     ensures { Gives SchemaFault.Memory (λ x. (parts x.0.items, met x.1)) result
-        (fields_at (tree_at most Elsewhere space.now) [] (items_view items.now.items) (met seen)) }
+        (fields_at (tree_at most Elsewhere space.now) [] (items_view items.now.items) (met seen.entry)) }
 {
     let mut fields = Vec::new(alloc);
     let mut now = seen;
@@ -319,18 +335,19 @@ fn fresh_id(id: Option<i32>, front: &Vec<Field>) -> Result<Option<i32>, SchemaFa
     Ok(Some(wanted))
 }
 
+/// A field behind those in front.
 #[cycle(schema)]
 #[tactic(auto, unfolding(crate::specs::Reading::field_at))]
-fn field_of(
+fn field_of<'a>(
     alloc: Global,
-    json: &Value,
+    json: &'a Value,
     front: &Vec<Field>,
     most: u32,
-    space: &[u8],
-    seen: Seen,
-) -> Result<(Field, Seen), SchemaFault>
+    space: &'a [u8],
+    seen: Seen<'a>,
+) -> Result<(Field, Seen<'a>), SchemaFault>
     ensures { Gives SchemaFault.Memory (λ x. ((x.0.id, tree x.0.schema), met x.1)) result
-        (field_at (tree_at most Elsewhere space.now) (parts front.now.items) (view json.now) (met seen)) }
+        (field_at (tree_at most Elsewhere space.now) (parts front.now.items) (view json.now) (met seen.entry)) }
 {
     if name_of(json).is_none() {
         return Err(SchemaFault::UnknownType);

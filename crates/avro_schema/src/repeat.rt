@@ -36,6 +36,7 @@ pub fn copy(alloc: Global, schema: &Schema) -> Result<Schema, AllocError>
     }
 }
 
+/// A copy of a record's fields.
 #[cycle(copy)]
 fn copy_fields(alloc: Global, fields: &Vec<Field>) -> Result<Vec<Field>, AllocError>
     ensures { IfOk result (λ v. parts v.items ≡ parts fields.now.items) }
@@ -51,6 +52,7 @@ fn copy_fields(alloc: Global, fields: &Vec<Field>) -> Result<Vec<Field>, AllocEr
     Ok(copies)
 }
 
+/// A copy of a union's branches.
 #[cycle(copy)]
 fn copy_branches(alloc: Global, branches: &Vec<Schema>) -> Result<Vec<Schema>, AllocError>
     ensures { IfOk result (λ v. trees v.items ≡ trees branches.now.items) }
@@ -88,6 +90,7 @@ fn spend(schema: &Schema, left: u32) -> Option<u32>
     spend_below(schema, left - 1)
 }
 
+/// How many are left after the fields' types and all below them.
 #[cycle(nodes)]
 fn spend_fields(fields: &Vec<Field>, left: u32) -> Option<u32>
     ensures { result ≡ less left (in_fields (fields_of (parts fields.now.items))) }
@@ -99,6 +102,7 @@ fn spend_fields(fields: &Vec<Field>, left: u32) -> Option<u32>
     Some(now)
 }
 
+/// How many are left after the branches and all below them.
 #[cycle(nodes)]
 fn spend_branches(branches: &Vec<Schema>, left: u32) -> Option<u32>
     ensures { result ≡ less left (in_branches (branches_of (trees branches.now.items))) }
@@ -136,6 +140,7 @@ fn is_deeper(schema: &Schema, most: u32) -> bool
     is_higher(schema, most - 1)
 }
 
+/// Whether a field's type takes more levels than there may be.
 #[cycle(levels)]
 fn any_field_deeper(fields: &Vec<Field>, most: u32) -> bool
     ensures { result ≡ nat_lt most (deepest_field (fields_of (parts fields.now.items))) }
@@ -148,6 +153,7 @@ fn any_field_deeper(fields: &Vec<Field>, most: u32) -> bool
     false
 }
 
+/// Whether a branch takes more levels than there may be.
 #[cycle(levels)]
 fn any_branch_deeper(branches: &Vec<Schema>, most: u32) -> bool
     ensures { result ≡ nat_lt most (deepest_branch (branches_of (trees branches.now.items))) }

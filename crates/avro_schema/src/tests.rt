@@ -1,4 +1,5 @@
 use crate::fault::SchemaFault;
+use crate::repeat::spend_below;
 use crate::schema::Schema;
 use std::test::*;
 use std::time::{Duration, Instant};
@@ -6,8 +7,9 @@ use std::time::{Duration, Instant};
 mod samples;
 
 use samples::{
-    JAVA_LIST, JAVA_MANIFEST, JAVA_MANIFEST_TREE, LIST_TREE, PYTHON_LIST, PYTHON_MANIFEST,
-    PYTHON_MANIFEST_TREE,
+    BARE_LIST, BARE_MANIFEST, DAY_MANIFEST_TREE, GO_MANIFEST, JAVA_DAY_MANIFEST, JAVA_LIST,
+    JAVA_MANIFEST, JAVA_MANIFEST_TREE, JAVA_PLAIN_MANIFEST, LIST_TREE, PLAIN_MANIFEST_TREE,
+    PYTHON_LIST, PYTHON_MANIFEST, PYTHON_MANIFEST_TREE,
 };
 
 fn fault(rt: &HostRuntime, text: &[u8]) -> Option<SchemaFault> {
@@ -123,10 +125,19 @@ fn parts(rt: HostRuntime) -> Result<(), Fail> {
 
 #[test]
 fn schemas_of_iceberg(rt: HostRuntime) -> Result<(), Fail> {
-    assert_eq!(rt; shown(&rt, JAVA_LIST)?.as_str(), LIST_TREE);
-    assert_eq!(rt; shown(&rt, PYTHON_LIST)?.as_str(), LIST_TREE);
-    assert_eq!(rt; shown(&rt, JAVA_MANIFEST)?.as_str(), JAVA_MANIFEST_TREE);
-    assert_eq!(rt; shown(&rt, PYTHON_MANIFEST)?.as_str(), PYTHON_MANIFEST_TREE);
+    for (text, tree) in [
+        (JAVA_LIST, LIST_TREE),
+        (PYTHON_LIST, LIST_TREE),
+        (BARE_LIST, LIST_TREE),
+        (JAVA_MANIFEST, JAVA_MANIFEST_TREE),
+        (JAVA_DAY_MANIFEST, DAY_MANIFEST_TREE),
+        (JAVA_PLAIN_MANIFEST, PLAIN_MANIFEST_TREE),
+        (BARE_MANIFEST, PLAIN_MANIFEST_TREE),
+        (PYTHON_MANIFEST, PYTHON_MANIFEST_TREE),
+        (GO_MANIFEST, PYTHON_MANIFEST_TREE),
+    ] {
+        assert_eq!(rt; shown(&rt, text)?.as_str(), tree, "at {text}");
+    }
     Ok(())
 }
 
@@ -406,7 +417,17 @@ fn doubled(rt: &HostRuntime, count: u32) -> Result<String, Fail> {
     Ok(text)
 }
 
-// r12 has 8,191 nodes; the whole tree of r31 would have 4,294,967,295 and never end.
+// A root and the nodes below it are 8,191.
+#[test]
+fn nodes_of_a_doubled_tree(rt: HostRuntime) -> Result<(), Fail> {
+    let text = doubled(&rt, 12)?;
+    let schema = Schema::from_json(rt.alloc(), text.as_bytes())?;
+    assert_eq!(rt; spend_below(&schema, 8190), Some(0));
+    assert_eq!(rt; spend_below(&schema, 8189), None);
+    Ok(())
+}
+
+// The whole tree of r31 would have 4,294,967,295 nodes and never end.
 #[test]
 fn doubling(rt: HostRuntime) -> Result<(), Fail> {
     for (count, want) in [
@@ -418,7 +439,7 @@ fn doubling(rt: HostRuntime) -> Result<(), Fail> {
         let start = Instant::now(&rt)?;
         assert_eq!(rt; fault(&rt, text.as_bytes()), want, "r{count}");
         let took = start.elapsed(&rt)?;
-        assert!(rt; took < Duration::from_secs(5), "r{count} took {took:?}");
+        assert!(rt; took < Duration::from_millis(500), "r{count} took {took:?}");
     }
     Ok(())
 }

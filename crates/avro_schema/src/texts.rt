@@ -19,6 +19,7 @@ const MOST_NODES: u32 = 10_000;
 /// How many levels a tree may have, its root among them.
 const MOST_LEVELS: u32 = 32;
 
+/// The JSON value of a text.
 fn json_from(alloc: Global, text: &[u8]) -> Result<Value, SchemaFault>
     ensures { Gives SchemaFault.Memory view result (json_of text.now) }
 {
