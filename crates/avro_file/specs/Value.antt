@@ -1,6 +1,6 @@
 -- Values, without where they lie in memory.
 -- Avro 1.11.1 specification, 'Primitive Types' and 'Complex Types': one constructor for each of their values.
--- The standard's own names are those of the schemas; what each constructor is a value of stands above it.
+-- Tree has the standard's names, for the types; above each constructor stands the type of its values.
 use Rattle.std.specs.Prelude.{ℕ, ℤ, Bool, List, [], ◌∷◌}
 
 mutual

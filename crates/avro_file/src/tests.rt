@@ -2,7 +2,7 @@
 
 use crate::container::Container;
 use crate::datum::Datum;
-use crate::fault::AvroFault;
+use crate::fault::{AvroFault, CodecName};
 use avro_schema::{Schema, SchemaFault};
 use std::alloc::Global;
 use std::test::*;

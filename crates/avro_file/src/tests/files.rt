@@ -158,6 +158,20 @@ fn metadata(rt: HostRuntime) -> Result<(), Fail> {
 }
 
 #[test]
+fn copied_faults(rt: HostRuntime) -> Result<(), Fail> {
+    let name = CodecName::from_vec(b"snappy".to_vec(rt.alloc())?);
+    let AvroFault::Codec(copied) = AvroFault::Codec(name).copy(rt.alloc())? else {
+        return Err("another fault")?;
+    };
+    assert_eq!(rt; copied.as_slice(), b"snappy".as_slice());
+    let cut = AvroFault::Truncated(7).copy(rt.alloc())?;
+    assert!(rt; matches!(cut, AvroFault::Truncated(7)));
+    let unread = AvroFault::Schema(SchemaFault::NotJson).copy(rt.alloc())?;
+    assert!(rt; matches!(unread, AvroFault::Schema(SchemaFault::NotJson)));
+    Ok(())
+}
+
+#[test]
 fn each_truncation(rt: HostRuntime) -> Result<(), Fail> {
     let mut bytes = b"Obj\x01\x02\x16avro.schema\x82\x02".to_vec(rt.alloc())?;
     let schema =
