@@ -23,7 +23,7 @@ use Rattle.avro_file.proofs.Heads.{refused_ok, head_takes, head_shorter}
 pub same_test : (xs : List ℕ) → bytes_eq xs xs ≡ true
 same_test xs = (bytes_eq-Decides xs xs).1 refl
 
-head_again : (sync count size body rest bytes : List ℕ) (n : ℕ) → length sync ≡ 16 → IsLong count (pos n) → IsLong size (pos (length body)) → bytes ≡ count ++ (size ++ (body ++ (sync ++ rest)))
+pub head_again : (sync count size body rest bytes : List ℕ) (n : ℕ) → length sync ≡ 16 → IsLong count (pos n) → IsLong size (pos (length body)) → bytes ≡ count ++ (size ++ (body ++ (sync ++ rest)))
     → head_at sync bytes ≡ Ok (record { count = n; content = body; rest = rest })
 unfolding head_at
 head_again sync count size body rest bytes n sixteen c s e =
@@ -58,7 +58,7 @@ limits-both (v ∷ vs) ws h k = (h.0, limits-both vs ws h.1 k)
 abbrev whole : List Value → Run
 whole vs = record { found = vs; ending = None }
 
-some_bytes : (count more : List ℕ) → 0 < length count → count ++ more ≢ []
+pub some_bytes : (count more : List ℕ) → 0 < length count → count ++ more ≢ []
 some_bytes [] more lt = absurd (omega arith)
 some_bytes (b ∷ count) more lt = λ h. cc
 

@@ -10,4 +10,5 @@ pub mod Properties
 pub mod Held
 pub mod Metadata
 pub mod Opened
+pub mod Once
 pub mod Unlimited

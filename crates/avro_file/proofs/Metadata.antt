@@ -51,7 +51,7 @@ header_takes bytes h e =
 
 -- ---- what is there is read
 
-property_again : ReadsAll property_at IsProperty no_items
+pub property_again : ReadsAll property_at IsProperty no_items
 unfolding property_at
 property_again v spelt p q is e f =
     let mid : List ℕ = is.1 ++ q.bytes in

@@ -110,12 +110,3 @@ opens bytes r given short s vs is few = subst (λ (o : Result Opened AvroFault).
 pub opens_only : (bytes : List ℕ) (r : Result Container AvroFault) → Gives Memory (λ c. opened c) r (opened_at bytes) → IfOk r (λ c. (vs : List Value) → ahead c ≡ running vs None → HoldsFile (tree_of c) vs bytes × AreWithinLimits vs)
 opens_only bytes (Ok c) given = λ vs e. file_held bytes (opened c) vs given e
 opens_only bytes (Err e) given = tt
-
-same_running : (vs ws : List Value) → running vs None ≡ running ws None → vs ≡ ws
-same_running vs ws e = cc
-
--- at most one list of data is held
-pub one_list : (s t : Tree) (bytes : List ℕ) (vs ws : List Value) → length bytes < 2 ^ 64 → HoldsFile s vs bytes → HoldsFile t ws bytes → AreWithinLimits vs → AreWithinLimits ws → (s ≡ t) × (vs ≡ ws)
-one_list s t bytes vs ws short a b few less =
-    let same : reader_of s vs ≡ reader_of t ws = ok_is (reader_of s vs) (reader_of t ws) (sym (file_read s vs bytes short a few) ∙ file_read t ws bytes short b less) in
-    (ap (λ (x : Opened). x.schema) same, same_running vs ws (ap (λ (x : Opened). x.ahead) same))

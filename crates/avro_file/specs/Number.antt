@@ -29,7 +29,7 @@ IsInt bytes z = (n : ℕ) × IsNumber (2 ^ 32) bytes n × (z ≡ signed_of n)
 
 -- ---- reading
 
--- Position most so many groups. The fault is the first: bytes that end too soon, else one group too many.
+-- At most so many groups. The fault is the first: bytes that end too soon, else one group too many.
 unfoldable pub groups_at : ℕ → List ℕ → Result (ℕ × List ℕ) Refusal
 groups_at zero bytes = Err BadNumber
 groups_at (suc turns) [] = Err (Short 0)

@@ -67,7 +67,7 @@ abbrev mutual
   SpellsBranch (branch s bs) zero v bytes = Spells s v bytes
   SpellsBranch (branch s bs) (suc n) v bytes = SpellsBranch bs n v bytes
 
--- how many items arrays hold, also inside one another
+-- how many items the arrays and maps of a value hold, also inside one another
 abbrev mutual
   pub item_count : Value → ℕ
   item_count nothing = 0

@@ -1,3 +1,5 @@
+//! What is read of a file.
+
 /// A value, shaped as its schema is.
 #[derive(Debug, Drop)]
 pub enum Datum {

@@ -22,23 +22,26 @@ impl Model for CodecName {
 }
 
 impl CodecName {
+    /// The codec of this name, which may be any bytes.
     pub fn from_vec(bytes: Vec<u8>) -> Self
         ensures { result ≡ bytes.items }
     {
         CodecName { bytes }
     }
 
+    /// The bytes of the name, as the file has them.
     pub fn as_slice(&self) -> &[u8]
         ensures { result.now ≡ self.now }
     {
         self.bytes.as_slice()
     }
 
+    /// The same name, in memory of its own.
     pub fn copy(&self, alloc: Global) -> Result<Self, AllocError>
         ensures { IfOk result (λ copied. copied ≡ self.now) }
     {
         Ok(CodecName {
-            bytes: self.bytes.as_slice().to_vec(alloc)?,
+            bytes: self.as_slice().to_vec(alloc)?,
         })
     }
 }
@@ -89,7 +92,7 @@ impl<T: Drop> From<AllocFailed<T>> for AvroFault {
 }
 
 impl AvroFault {
-    /// The same fault.
+    /// The same fault, in memory of its own.
     pub fn copy(&self, alloc: Global) -> Result<AvroFault, AllocError>
         ensures { IfOk result (λ copied. copied ≡ self.now) }
     {

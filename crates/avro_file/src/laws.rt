@@ -4,13 +4,12 @@ ghost use Rattle.std.specs.Prelude.{◌≡◌, ◌≢◌, ◌^◌, ◌<◌, ℕ,
 ghost use Rattle.avro_schema.specs.Tree.{Tree};
 ghost use Rattle.avro_file.specs.Value.{Value};
 ghost use Rattle.avro_file.specs.Files.{opened_at, HoldsFile};
-ghost use Rattle.avro_file.specs.Holding.{AreWithinLimits};
 
 use crate::fault::AvroFault;
 
-/// A file holds one list of data of one schema at most.
+/// A file holds one list of data of one schema at most, however many items its objects have.
 pub fn one_list()
-    ensures { (s t : Tree) (bytes : List ℕ) (vs ws : List Value) → length bytes < 2 ^ 64 → HoldsFile s vs bytes → HoldsFile t ws bytes → AreWithinLimits vs → AreWithinLimits ws → (s ≡ t) × (vs ≡ ws) }
+    ensures { (s t : Tree) (bytes : List ℕ) (vs ws : List Value) → HoldsFile s vs bytes → HoldsFile t ws bytes → (s ≡ t) × (vs ≡ ws) }
 {}
 
 /// The metadata of a header may have any number of items.

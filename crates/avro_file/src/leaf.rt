@@ -7,6 +7,7 @@ ghost use Rattle.avro_file.specs.Reading.{boolean_at, run_at, run_of, bytes_at, 
 use crate::number::{int_of, long_of};
 use crate::refusal::Refusal;
 
+/// A truth value: one byte, which is 0 or 1.
 #[tactic(auto, unfolding(crate::specs::Reading::boolean_at))]
 pub fn boolean_of(bytes: &[u8]) -> Result<(bool, &[u8]), Refusal>
     ensures { Gives Refusal.Memory (λ x. (x.0, x.1.now)) result (boolean_at bytes.now) }

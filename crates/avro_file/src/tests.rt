@@ -2,12 +2,13 @@
 
 use crate::container::Container;
 use crate::datum::Datum;
-use crate::fault::AvroFault;
+use crate::fault::{AvroFault, CodecName};
 use avro_schema::{Schema, SchemaFault};
 use std::alloc::Global;
 use std::test::*;
 
 mod files;
+mod libraries;
 mod values;
 
 const MARKER: [u8; 16] = [0, 1, 2, 3, 4, 5, 6, 7, 8, 9, 10, 11, 12, 13, 14, 15];
@@ -51,4 +52,20 @@ fn first(alloc: Global, bytes: &[u8]) -> Result<Datum, AvroFault> {
 fn only(alloc: Global, schema: &[u8], content: &[u8]) -> Result<Result<Datum, AvroFault>, Fail> {
     let bytes = file(alloc, schema, &[2], content)?;
     Ok(first(alloc, &bytes))
+}
+
+/// How many objects come, and the fault behind them. There may be up to five.
+fn objects(alloc: Global, bytes: &[u8]) -> (usize, Option<AvroFault>) {
+    let mut file = match Container::open(alloc, bytes) {
+        Ok(file) => file,
+        Err(fault) => return (0, Some(fault)),
+    };
+    for count in 0..6 {
+        match file.next(alloc) {
+            Ok(Some(_)) => {}
+            Ok(None) => return (count, None),
+            Err(fault) => return (count, Some(fault)),
+        }
+    }
+    (6, None)
 }

@@ -10,14 +10,21 @@ const LONGS: [u8; 62] = [
     0x02, 0x03, 0x04, 0x05, 0x06, 0x07, 0x08, 0x09, 0x0a, 0x0b, 0x0c, 0x0d, 0x0e, 0x0f,
 ];
 
+/// The next object of a file of longs.
+fn next_long(alloc: Global, file: &mut Container) -> Result<i64, Fail> {
+    let object = file.next(alloc).ok().ok_or("no fault")?.ok_or("an object")?;
+    let Datum::Long(number) = object.datum() else {
+        return Err("another type")?;
+    };
+    Ok(number)
+}
+
 #[test]
 fn two_longs(rt: HostRuntime) -> Result<(), Fail> {
     let mut file = Container::open(rt.alloc(), &LONGS).ok().ok_or("a file")?;
     assert!(rt; matches!(file.schema(), Schema::Long));
-    let one = file.next(rt.alloc()).ok().ok_or("one")?.ok_or("one")?;
-    assert!(rt; matches!(one.datum(), Datum::Long(64)));
-    let two = file.next(rt.alloc()).ok().ok_or("two")?.ok_or("two")?;
-    assert!(rt; matches!(two.datum(), Datum::Long(-1)));
+    assert_eq!(rt; next_long(rt.alloc(), &mut file)?, 64);
+    assert_eq!(rt; next_long(rt.alloc(), &mut file)?, -1);
     assert!(rt; matches!(file.next(rt.alloc()), Ok(None)));
     assert!(rt; matches!(file.next(rt.alloc()), Ok(None)));
     Ok(())
@@ -72,8 +79,8 @@ fn refused_for_good(rt: HostRuntime) -> Result<(), Fail> {
     let mut bytes = LONGS;
     bytes[41] = 6;
     let mut file = Container::open(rt.alloc(), &bytes).ok().ok_or("a file")?;
-    assert!(rt; matches!(file.next(rt.alloc()), Ok(Some(_))));
-    assert!(rt; matches!(file.next(rt.alloc()), Ok(Some(_))));
+    assert_eq!(rt; next_long(rt.alloc(), &mut file)?, 64);
+    assert_eq!(rt; next_long(rt.alloc(), &mut file)?, -1);
     for _ in 0..3 {
         assert!(rt; matches!(file.next(rt.alloc()), Err(AvroFault::BlockSize)));
     }
@@ -85,7 +92,7 @@ fn blocks(rt: HostRuntime) -> Result<(), Fail> {
     let most = [0xfe, 0xff, 0xff, 0xff, 0xff, 0xff, 0xff, 0xff, 0xff, 1];
     let bytes = file(rt.alloc(), b"\"long\"", &most, &[6])?;
     let mut long = Container::open(rt.alloc(), &bytes).ok().ok_or("a file")?;
-    assert!(rt; matches!(long.next(rt.alloc()), Ok(Some(_))));
+    assert_eq!(rt; next_long(rt.alloc(), &mut long)?, 3);
     assert!(rt; matches!(long.next(rt.alloc()), Err(AvroFault::BlockSize)));
     // a negative count, although no size follows it
     let mut bytes = header(rt.alloc(), b"\"long\"")?;
@@ -133,6 +140,10 @@ fn metadata(rt: HostRuntime) -> Result<(), Fail> {
     assert!(rt; matches!(opened_with(rt.alloc(), last)?, Ok(())));
     let other = b"\x02\x02k\x02v\x00";
     assert!(rt; matches!(opened_with(rt.alloc(), other)?, Err(AvroFault::NotAvro)));
+    // keys that nobody reads, in front, between and behind
+    let more =
+        b"\x02\x02k\x00\x06\x14avro.codec\x08null\x10snapshot\x04\xff\x00\x16avro.schema\x0c\"long\"\x01\x08\x02z\x02v\x00";
+    assert!(rt; matches!(opened_with(rt.alloc(), more)?, Ok(())));
     let unread = b"\x02\x16avro.schema\x02{\x00";
     let found = opened_with(rt.alloc(), unread)?;
     assert!(rt; matches!(found, Err(AvroFault::Schema(SchemaFault::NotJson))));
@@ -146,20 +157,18 @@ fn metadata(rt: HostRuntime) -> Result<(), Fail> {
     Ok(())
 }
 
-/// How many objects come, and the fault behind them. There may be up to five.
-fn objects(alloc: Global, bytes: &[u8]) -> (usize, Option<AvroFault>) {
-    let mut file = match Container::open(alloc, bytes) {
-        Ok(file) => file,
-        Err(fault) => return (0, Some(fault)),
+#[test]
+fn copied_faults(rt: HostRuntime) -> Result<(), Fail> {
+    let name = CodecName::from_vec(b"snappy".to_vec(rt.alloc())?);
+    let AvroFault::Codec(copied) = AvroFault::Codec(name).copy(rt.alloc())? else {
+        return Err("another fault")?;
     };
-    for count in 0..6 {
-        match file.next(alloc) {
-            Ok(Some(_)) => {}
-            Ok(None) => return (count, None),
-            Err(fault) => return (count, Some(fault)),
-        }
-    }
-    (6, None)
+    assert_eq!(rt; copied.as_slice(), b"snappy".as_slice());
+    let cut = AvroFault::Truncated(7).copy(rt.alloc())?;
+    assert!(rt; matches!(cut, AvroFault::Truncated(7)));
+    let unread = AvroFault::Schema(SchemaFault::NotJson).copy(rt.alloc())?;
+    assert!(rt; matches!(unread, AvroFault::Schema(SchemaFault::NotJson)));
+    Ok(())
 }
 
 #[test]

@@ -1,4 +1,4 @@
-use Rattle.avro_file.proofs.Opened.{one_list}
+use Rattle.avro_file.proofs.Once.{one_list}
 use Rattle.avro_file.proofs.laws.one_list.Goals as goal
 
 pub returns : goal.returns
