@@ -49,14 +49,14 @@ truncated _ _ _ = None
 -- the day number of a date or a time in microseconds
 abbrev pub day_of : ColumnType → Cell → Option ℤ
 day_of Date (Whole day) = Some day
-day_of Timestamp (Whole micros) = Some (floor_div (pos 86_400_000_000) micros)
-day_of Timestamptz (Whole micros) = Some (floor_div (pos 86_400_000_000) micros)
+day_of Timestamp (Whole microseconds) = Some (floor_div (pos 86_400_000_000) microseconds)
+day_of Timestamptz (Whole microseconds) = Some (floor_div (pos 86_400_000_000) microseconds)
 day_of _ _ = None
 
 -- the hour of a time in microseconds, where it fits an int
 abbrev pub hour_of : ColumnType → Cell → Option ℤ
-hour_of Timestamp (Whole micros) = int_if (floor_div (pos 3_600_000_000) micros)
-hour_of Timestamptz (Whole micros) = int_if (floor_div (pos 3_600_000_000) micros)
+hour_of Timestamp (Whole microseconds) = int_if (floor_div (pos 3_600_000_000) microseconds)
+hour_of Timestamptz (Whole microseconds) = int_if (floor_div (pos 3_600_000_000) microseconds)
 hour_of _ _ = None
 
 -- the value of a cell that isn't null

@@ -18,7 +18,7 @@ const UUID: [u8; 16] = [
 ];
 
 /// 2017-11-16T22:31:08
-const MICROS: i64 = 1_510_871_468_000_000;
+const MICROSECONDS: i64 = 1_510_871_468_000_000;
 
 /// The value of the transform of this text is the cell.
 fn check(
@@ -70,7 +70,7 @@ fn hashes(rt: HostRuntime) {
     assert!(rt; murmur3(&34i64.to_le_bytes()) == 2017239379);
     assert!(rt; murmur3(&17486i64.to_le_bytes()) == -653330422);
     assert!(rt; murmur3(&81_068_000_000i64.to_le_bytes()) == -662762989);
-    assert!(rt; murmur3(&MICROS.to_le_bytes()) == -2047944441);
+    assert!(rt; murmur3(&MICROSECONDS.to_le_bytes()) == -2047944441);
     assert!(rt; murmur3("iceberg".as_bytes()) == 1210000089);
     assert!(rt; murmur3(&[0, 1, 2, 3]) == -188683207);
     assert!(rt; murmur3(&UUID) == 1488055340);
@@ -101,13 +101,13 @@ fn buckets(rt: HostRuntime) -> Result<(), Fail> {
         (
             "bucket[2147483647]",
             ColumnType::Timestamp,
-            MICROS,
+            MICROSECONDS,
             99_539_207,
         ),
         (
             "bucket[2147483647]",
             ColumnType::Timestamptz,
-            MICROS,
+            MICROSECONDS,
             99_539_207,
         ),
     ];
@@ -212,10 +212,10 @@ fn times(rt: HostRuntime) -> Result<(), Fail> {
         ("day", -1, -1),
         ("month", -1, -1),
         ("year", -1, -1),
-        ("hour", MICROS, 419_686),
-        ("day", MICROS, 17_486),
-        ("month", MICROS, 574),
-        ("year", MICROS, 47),
+        ("hour", MICROSECONDS, 419_686),
+        ("day", MICROSECONDS, 17_486),
+        ("month", MICROSECONDS, 574),
+        ("year", MICROSECONDS, 47),
         ("day", i64::MAX, 106_751_991),
     ];
     for (name, number, value) in table {

@@ -42,9 +42,9 @@ pub enum Transform {
     Unknown(Text),
 }
 
-const MICROS_PER_DAY: i64 = 86_400_000_000;
+const MICROSECONDS_PER_DAY: i64 = 86_400_000_000;
 
-const MICROS_PER_HOUR: i64 = 3_600_000_000;
+const MICROSECONDS_PER_HOUR: i64 = 3_600_000_000;
 
 impl Transform {
     /// The transform that a partition spec names so: `identity`, `bucket[N]`, `truncate[W]`, `year`, `month`, `day`, `hour`
@@ -219,10 +219,9 @@ fn day_of(source: &ColumnType, cell: &Cell) -> Option<i64>
 {
     match (source, cell) {
         (ColumnType::Date, Cell::Whole(day)) => Some(*day),
-        (ColumnType::Timestamp | ColumnType::Timestamptz, Cell::Whole(micros)) => Some(unit_of(
-            *micros,
-            MICROS_PER_DAY,
-        )),
+        (ColumnType::Timestamp | ColumnType::Timestamptz, Cell::Whole(microseconds)) => Some(
+            unit_of(*microseconds, MICROSECONDS_PER_DAY),
+        ),
         _ => None,
     }
 }
@@ -246,8 +245,8 @@ fn hour_of(source: &ColumnType, cell: &Cell) -> Option<i64>
     ensures { result ≡ hour_of source.now cell.now }
 {
     match (source, cell) {
-        (ColumnType::Timestamp | ColumnType::Timestamptz, Cell::Whole(micros)) => {
-            int_if(unit_of(*micros, MICROS_PER_HOUR))
+        (ColumnType::Timestamp | ColumnType::Timestamptz, Cell::Whole(microseconds)) => {
+            int_if(unit_of(*microseconds, MICROSECONDS_PER_HOUR))
         }
         _ => None,
     }
