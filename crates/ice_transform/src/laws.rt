@@ -9,6 +9,7 @@ ghost use Rattle.ice_value.specs.declared.cell.Cell.{Cell};
 ghost use Rattle.ice_value.specs.declared.column_type.ColumnType.{ColumnType};
 ghost use Rattle.ice_transform.specs.Cuts.{first_points, has_points};
 ghost use Rattle.ice_transform.specs.Definitions.{IsProper, IsValueOf};
+ghost use Rattle.ice_transform.specs.Names.{IsNamed, IsOfText, name_of};
 ghost use Rattle.ice_transform.specs.Values.{value_of, is_void, is_rising, is_at_most};
 ghost use Rattle.ice_transform.specs.declared.parameter.Parameter.{Parameter};
 ghost use Rattle.ice_transform.specs.declared.transform.Transform.{Transform};
@@ -18,6 +19,14 @@ ghost use Rattle.ice_transform.specs.declared.transform.Transform.{Transform};
 pub fn values_of_transforms()
     ensures { (f : Transform) (t : ColumnType) (c p : Cell) → IsProper c
         → IsValueOf f t c p ↔ (value_of f t c ≡ Some p) }
+{}
+
+/// What is written of a transform is read as that transform, what was read is written as the text that it was read from,
+/// and a text names one transform.
+pub fn texts_of_transforms()
+    ensures read_back { (f : Transform) → IsOfText f → IsNamed f (name_of f) }
+    ensures written_back { (f : Transform) (text : List ℕ) → IsNamed f text → name_of f ≡ text }
+    ensures one { (f g : Transform) (text : List ℕ) → IsNamed f text → IsNamed g text → f ≡ g }
 {}
 
 /// Identity gives the cell itself.

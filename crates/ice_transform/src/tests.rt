@@ -343,6 +343,7 @@ fn nulls(rt: HostRuntime) -> Result<(), Fail> {
     Ok(())
 }
 
+/// The text names the transform, and is written for it.
 fn check_name(
     rt: &impl Abort,
     alloc: Global,
@@ -350,11 +351,15 @@ fn check_name(
     transform: Transform,
 ) -> Result<(), AllocError> {
     assert!(rt; Transform::parse(alloc, name)? == transform);
+    assert!(rt; transform.text(alloc)?.as_str() == name);
     Ok(())
 }
 
+/// The text names no known transform, and is kept and written as it came.
 fn check_unknown(rt: &impl Abort, alloc: Global, name: &str) -> Result<(), AllocError> {
-    match Transform::parse(alloc, name)? {
+    let transform = Transform::parse(alloc, name)?;
+    assert!(rt; transform.text(alloc)?.as_str() == name);
+    match transform {
         Transform::Unknown(text) => assert!(rt; text.as_str() == name),
         _ => assert!(rt; false),
     }
@@ -375,6 +380,8 @@ fn names(rt: HostRuntime) -> Result<(), Fail> {
     assert!(rt; most.get() == 2_147_483_647);
     check_name(&rt, alloc, "bucket[1]", Transform::Bucket(one))?;
     check_name(&rt, alloc, "bucket[2147483647]", Transform::Bucket(most))?;
+    let hundred = Parameter::new(100).expect(&rt, "a hundred");
+    check_name(&rt, alloc, "bucket[100]", Transform::Bucket(hundred))?;
     check_name(&rt, alloc, "truncate[1]", Transform::Truncate(one))?;
     check_name(
         &rt,

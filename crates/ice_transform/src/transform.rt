@@ -6,14 +6,14 @@ ghost use Rattle.ice_value.specs.declared.cell.Cell.{Cell};
 ghost use Rattle.ice_value.specs.declared.column_type.ColumnType.{ColumnType};
 ghost use Rattle.ice_transform.specs.Floors.{floor_to, int_if};
 ghost use Rattle.ice_transform.specs.Murmur.{bucket_of};
-ghost use Rattle.ice_transform.specs.Names.{IsNamed};
+ghost use Rattle.ice_transform.specs.Names.{IsNamed, name_of};
 ghost use Rattle.ice_transform.specs.Years.{year_of, month_of};
 ghost use Rattle.ice_transform.specs.Values.{value_of, type_of, bucketed, truncated, day_of, hour_of, has_buckets, has_days, has_hours, has_truncation};
 
 use crate::calendar::{month_of_day, year_of_day};
 use crate::floors::{int_if, truncate, unit_of};
 use crate::murmur::bucket_of;
-use crate::names::known;
+use crate::names::{known, numbered_name, plain_name};
 use crate::parameter::Parameter;
 use crate::texts::{first_bytes, first_points};
 use ice_value::{Cell, ColumnType, Items, Text};
@@ -55,6 +55,23 @@ impl Transform {
         match known(text) {
             Some(transform) => Ok(transform),
             None => Ok(Transform::Unknown(Text::from_string(String::from_str(alloc, text)?))),
+        }
+    }
+
+    /// The text that names the transform; of an unknown one the text that was kept.
+    pub fn text(&self, alloc: Global) -> Result<Text, AllocError>
+        ensures { IfOk result (λ text. text ≡ name_of self.now) }
+    {
+        match self {
+            Transform::Identity => plain_name(alloc, "identity"),
+            Transform::Bucket(buckets) => numbered_name(alloc, "bucket[", *buckets),
+            Transform::Truncate(width) => numbered_name(alloc, "truncate[", *width),
+            Transform::Year => plain_name(alloc, "year"),
+            Transform::Month => plain_name(alloc, "month"),
+            Transform::Day => plain_name(alloc, "day"),
+            Transform::Hour => plain_name(alloc, "hour"),
+            Transform::Void => plain_name(alloc, "void"),
+            Transform::Unknown(text) => text.copy(alloc),
         }
     }
 
