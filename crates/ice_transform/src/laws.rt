@@ -8,17 +8,16 @@ ghost use Rattle.ice_value.specs.Cells.{order};
 ghost use Rattle.ice_value.specs.declared.cell.Cell.{Cell};
 ghost use Rattle.ice_value.specs.declared.column_type.ColumnType.{ColumnType};
 ghost use Rattle.ice_transform.specs.Cuts.{first_points, has_points};
-ghost use Rattle.ice_transform.specs.Definitions.{IsProper, IsValueOf};
+ghost use Rattle.ice_transform.specs.Definitions.{IsValueOf};
 ghost use Rattle.ice_transform.specs.Names.{IsNamed, IsOfText, name_of};
-ghost use Rattle.ice_transform.specs.Values.{value_of, is_void, is_rising, is_at_most};
+ghost use Rattle.ice_transform.specs.Values.{value_of, is_cell, is_void, is_rising, is_at_most};
 ghost use Rattle.ice_transform.specs.declared.parameter.Parameter.{Parameter};
 ghost use Rattle.ice_transform.specs.declared.transform.Transform.{Transform};
 
 /// The value that `apply` gives is the one that the definition of the transform describes, and it gives none exactly
 /// where there is no such value.
 pub fn values_of_transforms()
-    ensures { (f : Transform) (t : ColumnType) (c p : Cell) → IsProper c
-        → IsValueOf f t c p ↔ (value_of f t c ≡ Some p) }
+    ensures { (f : Transform) (t : ColumnType) (c p : Cell) → IsValueOf f t c p ↔ (value_of f t c ≡ Some p) }
 {}
 
 /// What is written of a transform is read as that transform, what was read is written as the text that it was read from,
@@ -29,9 +28,10 @@ pub fn texts_of_transforms()
     ensures one { (f g : Transform) (text : List ℕ) → IsNamed f text → IsNamed g text → f ≡ g }
 {}
 
-/// Identity gives the cell itself.
+/// Identity gives the cell itself, where it is of the source type.
 pub fn identity_values()
-    ensures { (t : ColumnType) (c : Cell) → value_of Transform.Identity t c ≡ Some c }
+    ensures itself { (t : ColumnType) (c : Cell) → is_cell t c ≡ true → value_of Transform.Identity t c ≡ Some c }
+    ensures no_other { (t : ColumnType) (c p : Cell) → value_of Transform.Identity t c ≡ Some p → p ≡ c }
 {}
 
 /// Null has the value null, and but for void no other cell has.

@@ -2,6 +2,7 @@
 #![tactic(auto)]
 
 mod calendar;
+mod cells;
 mod floors;
 mod laws;
 mod murmur;

@@ -301,6 +301,52 @@ fn no_values(rt: HostRuntime) -> Result<(), Fail> {
     Ok(())
 }
 
+/// But for void, a cell that isn't of the source type has no value.
+#[test]
+fn cells_of_other_types(rt: HostRuntime) -> Result<(), Fail> {
+    let alloc = rt.alloc();
+    let large = 2_147_483_648;
+    let decimal = ColumnType::Decimal {
+        precision: 9,
+        scale: 2,
+    };
+    let numbers = [
+        ("identity", ColumnType::Int, large),
+        ("identity", ColumnType::String, 7),
+        ("identity", ColumnType::Float, 7),
+        ("identity", decimal, 7),
+        ("bucket[16]", ColumnType::Int, large),
+        ("bucket[16]", ColumnType::Uuid, 7),
+        ("truncate[10]", ColumnType::Int, large),
+        ("day", ColumnType::Date, large),
+    ];
+    for (name, source, number) in numbers {
+        check_none(&rt, alloc, name, source, Cell::Whole(number))?;
+        check(&rt, alloc, "void", source, Cell::Whole(number), Cell::Null)?;
+    }
+    for (name, source) in [
+        ("identity", ColumnType::Uuid),
+        ("identity", ColumnType::Fixed(3)),
+        ("identity", ColumnType::String),
+        ("bucket[16]", ColumnType::Fixed(5)),
+        ("bucket[16]", ColumnType::Long),
+        ("truncate[2]", ColumnType::String),
+    ] {
+        check_none(&rt, alloc, name, source, bytes(alloc, &[0, 1, 2, 3])?)?;
+    }
+    for source in [ColumnType::Binary, ColumnType::Fixed(4), decimal] {
+        check(
+            &rt,
+            alloc,
+            "identity",
+            source,
+            bytes(alloc, &[0, 1, 2, 3])?,
+            bytes(alloc, &[0, 1, 2, 3])?,
+        )?;
+    }
+    Ok(())
+}
+
 #[test]
 fn nulls(rt: HostRuntime) -> Result<(), Fail> {
     let alloc = rt.alloc();
