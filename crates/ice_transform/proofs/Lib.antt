@@ -5,5 +5,6 @@ pub mod Means
 pub mod Points
 pub mod Rounded
 pub mod Spelled
+pub mod Typed
 pub mod ValueLaws
 pub mod Words

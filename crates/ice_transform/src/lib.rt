@@ -15,7 +15,7 @@ mod transform;
 
 pub use laws::{
     cut_texts, equal_cells, identity_values, null_values, rising_values, texts_of_transforms,
-    values_of_transforms,
+    typed_values, values_of_transforms,
 };
 pub use murmur::murmur3;
 pub use parameter::Parameter;
