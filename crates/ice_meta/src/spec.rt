@@ -6,6 +6,7 @@ ghost use Rattle.ice_meta.specs.Partitioning.{is_unpartitioned};
 /// A partition spec. It has an id and, so far, no fields.
 #[derive(Debug, PartialEq, Drop)]
 pub struct Spec {
+    /// The number by which manifests name the spec.
     pub id: i32,
 }
 

@@ -4,5 +4,7 @@ pub mod Days
 pub mod Means
 pub mod Points
 pub mod Rounded
+pub mod Spelled
+pub mod Typed
 pub mod ValueLaws
 pub mod Words

@@ -1,7 +1,8 @@
 -- The value that is computed is the one with the properties.
-use Rattle.std.proofs.Common.{◌≡◌, ℕ, zero, suc, ◌<◌, ℤ, pos, negsuc, ◌*ℤ◌, ◌≤ℤ◌, ◌<ℤ◌, Bool, true, false, cond, List, Option, None, Some, refl, ap, arith, sym, ◌∙◌, take}
+use Rattle.std.proofs.Common.{◌≡◌, ℕ, zero, suc, ◌<◌, ℤ, pos, negsuc, ◌*ℤ◌, ◌≤ℤ◌, ◌<ℤ◌, Bool, true, false, ◌||◌, cond, List, Option, None, Some, refl, ap, arith, sym, ◌∙◌, take}
 use Rattle.std.specs.Option.{option_map, option_and_then}
 use Rattle.std.specs.Str.{IsUtf8}
+use Rattle.std.proofs.lemmas.Str.{IsUtf8-from_is_utf8}
 use Rattle.std.proofs.Math.IntN.{suc_ℤ, suc_ℤ-*ℤ}
 use Rattle.std.proofs.lemmas.Int.{ints, by_lt_z}
 use Rattle.ice_value.specs.declared.column_type.ColumnType.{ColumnType}
@@ -12,10 +13,10 @@ use Rattle.ice_value.specs.Bounds.{fits_int, fits_long}
 use Rattle.ice_transform.specs.declared.transform.Transform.{Transform}
 use Rattle.ice_transform.specs.declared.transform.Transform.TheVariants.{Identity, Bucket, Truncate, Year, Month, Day, Hour, Void, Unknown}
 use Rattle.ice_transform.specs.Cuts.{first_points}
-use Rattle.ice_transform.specs.Definitions.{IsTruncated, IsDayOf, IsHourOf, IsPresentValue, IsValueOf, IsProper}
+use Rattle.ice_transform.specs.Definitions.{IsTruncated, IsDayOf, IsHourOf, IsPresentValue, IsTypedValue, IsValueOf}
 use Rattle.ice_transform.specs.Floors.{floor_div, floor_to, int_if, long_if, IsUnitOf, IsTruncation}
 use Rattle.ice_transform.specs.Murmur.{bucket_of}
-use Rattle.ice_transform.specs.Values.{value_of, present_value, bucketed, truncated, day_of, hour_of, has_buckets, hashed_bytes}
+use Rattle.ice_transform.specs.Values.{value_of, typed_value, is_void, is_cell, present_value, bucketed, truncated, day_of, hour_of, has_buckets, hashed_bytes}
 use Rattle.ice_transform.specs.Years.{year_of, month_of, IsYearUnit, IsMonthUnit}
 use Rattle.ice_transform.proofs.Days.{year_of_means, month_of_means, year_of_is, month_of_is}
 use Rattle.ice_transform.proofs.Points.{points_of_text}
@@ -104,10 +105,10 @@ bytes_means w s (Flag b) = (λ h. absurd h, λ e. cc)
 bytes_means w s (Whole z) = (λ h. absurd h, λ e. cc)
 bytes_means w s (Text q) = (λ h. absurd h, λ e. cc)
 
-cut_means : (w : ℕ) (t : ColumnType) (c p : Cell) → 0 < w → IsProper c → Means (IsTruncated w t c p) (truncated w t c) p
+cut_means : (w : ℕ) (t : ColumnType) (c p : Cell) → 0 < w → is_cell t c ≡ true → Means (IsTruncated w t c p) (truncated w t c) p
 cut_means w Int (Whole v) p h u = only_whole (IsTruncated w Int (Whole v)) (int_if (floor_to (pos w) v)) (λ z. int_means w v z h) (λ e. e) (λ b e. e) (λ s e. e) (λ s e. e) p
 cut_means w Long (Whole v) p h u = only_whole (IsTruncated w Long (Whole v)) (long_if (floor_to (pos w) v)) (λ z. long_means w v z h) (λ e. e) (λ b e. e) (λ s e. e) (λ s e. e) p
-cut_means w String (Text s) p h u = text_means w s p u
+cut_means w String (Text s) p h u = text_means w s p (IsUtf8-from_is_utf8 s u)
 cut_means w Binary (Bytes s) p h u = bytes_means w s p
 cut_means w t c p h u = (λ e. absurd e, λ e. cc)
 
@@ -187,7 +188,7 @@ bucket_means n t c p = (to, from (has_buckets t) refl (hashed_bytes c) refl) whe
   from true h None e g = absurd cc
   from false h o e g = absurd cc
 
-present_means : (f : Transform) (t : ColumnType) (c p : Cell) → IsProper c → Means (IsPresentValue f t c p) (present_value f t c) p
+present_means : (f : Transform) (t : ColumnType) (c p : Cell) → (is_void f || is_cell t c) ≡ true → Means (IsPresentValue f t c p) (present_value f t c) p
 present_means Identity t c p u = (λ e. ap Some (sym e), λ h. let e : c ≡ p = cc in sym e)
 present_means (Bucket buckets) t c p u = bucket_means buckets.number t c p
 present_means (Truncate width) t c p u = cut_means width.number t c p width.positive u
@@ -198,9 +199,15 @@ present_means Hour t c p u = number_means (IsHourOf t c) (hour_of t c) p (hour_t
 present_means Void t c p u = (λ e. ap Some (sym e), λ h. let e : Null ≡ p = cc in sym e)
 present_means (Unknown text) t c p u = (λ e. absurd e, λ h. cc)
 
-pub means : (f : Transform) (t : ColumnType) (c p : Cell) → IsProper c → Means (IsValueOf f t c p) (value_of f t c) p
-means f t Null p u = (λ e. ap Some (sym e), λ h. let e : Null ≡ p = cc in sym e)
-means f t (Flag truth) p u = present_means f t (Flag truth) p u
-means f t (Whole v) p u = present_means f t (Whole v) p u
-means f t (Text text) p u = present_means f t (Text text) p u
-means f t (Bytes bytes) p u = present_means f t (Bytes bytes) p u
+typed_means : (f : Transform) (t : ColumnType) (c p : Cell) → Means (IsTypedValue f t c p) (typed_value f t c) p
+typed_means f t c p = go (is_void f || is_cell t c) refl where
+  go : (b : Bool) → (is_void f || is_cell t c) ≡ b → Means ((b ≡ true) × IsPresentValue f t c p) (cond b (present_value f t c) None) p
+  go true e = let m = present_means f t c p e in (λ (x, h). m.0 h, λ h. (refl, m.1 h))
+  go false e = (λ (x, h). absurd cc, λ h. absurd cc)
+
+pub means : (f : Transform) (t : ColumnType) (c p : Cell) → Means (IsValueOf f t c p) (value_of f t c) p
+means f t Null p = (λ e. ap Some (sym e), λ h. let e : Null ≡ p = cc in sym e)
+means f t (Flag truth) p = typed_means f t (Flag truth) p
+means f t (Whole v) p = typed_means f t (Whole v) p
+means f t (Text text) p = typed_means f t (Text text) p
+means f t (Bytes bytes) p = typed_means f t (Bytes bytes) p

@@ -73,6 +73,10 @@ scalars-take (suc w) (c ∷ cs) h =
     let r = scalars-take w cs p.1 in
     rw (p.0, r) refl
 
+-- the first code points of a text are a text
+pub points_IsUtf8 : (w : ℕ) (bs : List ℕ) → IsUtf8 bs → IsUtf8 (first_points w bs)
+points_IsUtf8 w bs u = (take w u.0, (scalars-take w u.0 u.1.0, sym (points-encodes w u.0) ∙ ap (first_points w) u.1.1))
+
 -- a text may be cut behind its first code points
 pub cut_boundary : (bs : List ℕ) (w i : ℕ) → IsUtf8 bs → i ≤ length bs → take i bs ≡ first_points w bs → IsCharBoundary bs i
 cut_boundary bs w i u le e =

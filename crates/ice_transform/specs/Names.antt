@@ -1,6 +1,7 @@
 -- The texts that name transforms (Apache Iceberg table spec v2, "Partition Transforms"). A number N or W is written in
 -- decimal digits, without a sign and without a leading zero, from 1 to 2147483647.
-use Rattle.std.specs.Prelude.{◌≡◌, ℕ, ◌+◌, ◌-◌, ◌*◌, ◌==◌, ◌&&◌, ◌||◌, Bool, false, List, [], ◌∷◌, length, drop, codes, Option, None, Some, if◌then◌else◌, nat_lt, nat_eq, is_some}
+use Rattle.std.specs.Prelude.{◌≡◌, ℕ, ◌+◌, ◌-◌, ◌*◌, ◌==◌, ◌&&◌, ◌||◌, Bool, false, List, [], ◌∷◌, ◌++◌, length, drop, codes, Option, None, Some, if◌then◌else◌, nat_lt, nat_eq, is_some}
+use Rattle.std.specs.Fmt.{decimal}
 use Rattle.std.specs.Option.{option_and_then}
 use Rattle.std.specs.List.{starts_with}
 use Rattle.std.specs.Str.{bytes_eq}
@@ -49,3 +50,20 @@ IsNamed Day text = text ≡ codes "day"
 IsNamed Hour text = text ≡ codes "hour"
 IsNamed Void text = text ≡ codes "void"
 IsNamed (Unknown kept) text = (kept ≡ text) × (is_name text ≡ false)
+
+-- the text of a transform
+abbrev pub name_of : Transform → List ℕ
+name_of Identity = codes "identity"
+name_of (Bucket buckets) = codes "bucket[" ++ (decimal buckets.number ++ codes "]")
+name_of (Truncate width) = codes "truncate[" ++ (decimal width.number ++ codes "]")
+name_of Year = codes "year"
+name_of Month = codes "month"
+name_of Day = codes "day"
+name_of Hour = codes "hour"
+name_of Void = codes "void"
+name_of (Unknown kept) = kept
+
+-- a transform that a text names: an unknown one doesn't keep the text of a known one
+abbrev pub IsOfText : Transform → Type 0
+IsOfText (Unknown kept) = is_name kept ≡ false
+IsOfText _ = Unit {0}

@@ -1,12 +1,13 @@
 -- The values of transforms (Apache Iceberg table spec v2, "Partition Transforms").
-use Rattle.std.specs.Prelude.{ℕ, Bool, true, false, List, Option, None, Some, if◌then◌else◌, ℤ, pos, take}
+use Rattle.std.specs.Prelude.{ℕ, Bool, true, false, ◌||◌, List, Option, None, Some, if◌then◌else◌, ℤ, pos, take}
 use Rattle.std.specs.Option.{option_map, option_and_then}
 use Rattle.std.specs.Int.{w64, to_le_bytes, cast_unsigned}
 use Rattle.std.specs.Ordering.{is_le, is_some_and}
 use Rattle.ice_value.specs.declared.column_type.ColumnType.{ColumnType}
-use Rattle.ice_value.specs.declared.column_type.ColumnType.TheVariants.{Int, Long, Date, Time, Timestamp, Timestamptz, String, Uuid, Fixed, Binary}
+use Rattle.ice_value.specs.declared.column_type.ColumnType.TheVariants.{Int, Long, Date, Time, Timestamp, Timestamptz, String, Uuid, Fixed, Binary, Decimal}
 use Rattle.ice_value.specs.declared.cell.Cell.{Cell}
 use Rattle.ice_value.specs.declared.cell.Cell.TheVariants.{Null, Bool as Flag, Whole, Text, Bytes}
+use Rattle.ice_value.specs.Bounds.{is_value}
 use Rattle.ice_value.specs.Cells.{order}
 use Rattle.ice_transform.specs.declared.transform.Transform.{Transform}
 use Rattle.ice_transform.specs.declared.transform.Transform.TheVariants.{Identity, Bucket, Truncate, Year, Month, Day, Hour, Void, Unknown}
@@ -49,17 +50,31 @@ truncated _ _ _ = None
 -- the day number of a date or a time in microseconds
 abbrev pub day_of : ColumnType → Cell → Option ℤ
 day_of Date (Whole day) = Some day
-day_of Timestamp (Whole micros) = Some (floor_div (pos 86_400_000_000) micros)
-day_of Timestamptz (Whole micros) = Some (floor_div (pos 86_400_000_000) micros)
+day_of Timestamp (Whole microseconds) = Some (floor_div (pos 86_400_000_000) microseconds)
+day_of Timestamptz (Whole microseconds) = Some (floor_div (pos 86_400_000_000) microseconds)
 day_of _ _ = None
 
 -- the hour of a time in microseconds, where it fits an int
 abbrev pub hour_of : ColumnType → Cell → Option ℤ
-hour_of Timestamp (Whole micros) = int_if (floor_div (pos 3_600_000_000) micros)
-hour_of Timestamptz (Whole micros) = int_if (floor_div (pos 3_600_000_000) micros)
+hour_of Timestamp (Whole microseconds) = int_if (floor_div (pos 3_600_000_000) microseconds)
+hour_of Timestamptz (Whole microseconds) = int_if (floor_div (pos 3_600_000_000) microseconds)
 hour_of _ _ = None
 
--- the value of a cell that isn't null
+-- all cells have the value null
+abbrev pub is_void : Transform → Bool
+is_void Void = true
+is_void _ = false
+
+-- the bytes of a decimal number
+abbrev pub is_decimal : ColumnType → Cell → Bool
+is_decimal (Decimal precision scale) (Bytes bytes) = true
+is_decimal _ _ = false
+
+-- the cell is a value of this type; there are no cells of floats and doubles
+abbrev pub is_cell : ColumnType → Cell → Bool
+is_cell t c = is_decimal t c || is_value t c
+
+-- the value of a cell of the source type that isn't null
 abbrev pub present_value : Transform → ColumnType → Cell → Option Cell
 present_value Identity t c = Some c
 present_value (Bucket buckets) t c = bucketed buckets.number t c
@@ -71,13 +86,17 @@ present_value Hour t c = option_map Whole (hour_of t c)
 present_value Void t c = Some Null
 present_value (Unknown text) t c = None
 
+-- the value of a cell that isn't null: but for void, a cell that isn't of the source type has none
+abbrev pub typed_value : Transform → ColumnType → Cell → Option Cell
+typed_value f t c = if is_void f || is_cell t c then present_value f t c else None
+
 -- the value of a transform over a source type; every transform of null is null
 abbrev pub value_of : Transform → ColumnType → Cell → Option Cell
 value_of f t Null = Some Null
-value_of f t (Flag truth) = present_value f t (Flag truth)
-value_of f t (Whole v) = present_value f t (Whole v)
-value_of f t (Text text) = present_value f t (Text text)
-value_of f t (Bytes bytes) = present_value f t (Bytes bytes)
+value_of f t (Flag truth) = typed_value f t (Flag truth)
+value_of f t (Whole v) = typed_value f t (Whole v)
+value_of f t (Text text) = typed_value f t (Text text)
+value_of f t (Bytes bytes) = typed_value f t (Bytes bytes)
 
 -- dates and times
 abbrev pub has_days : ColumnType → Bool
@@ -110,11 +129,6 @@ type_of Day t = if has_days t then Some Int else None
 type_of Hour t = if has_hours t then Some Int else None
 type_of Void t = Some Int
 type_of (Unknown text) t = None
-
--- all cells have the value null
-abbrev pub is_void : Transform → Bool
-is_void Void = true
-is_void _ = false
 
 -- a known transform that keeps the order
 abbrev pub is_rising : Transform → Bool

@@ -1,6 +1,6 @@
 //! Laws of transforms, on which the projection of filters stands.
 
-ghost use Rattle.std.specs.Prelude.{◌≡◌, ◌≤◌, ◌<◌, ◌↔◌, ℕ, List, Bool, true, false, Some, length, take, nat_eq, encode_utf8_all};
+ghost use Rattle.std.specs.Prelude.{◌≡◌, ◌≤◌, ◌<◌, ◌↔◌, ◌⊎◌, ℕ, List, Bool, true, false, Some, length, take, nat_eq, encode_utf8_all};
 ghost use Rattle.std.specs.List.{starts_with};
 ghost use Rattle.std.specs.Str.{IsUtf8, chars};
 ghost use Rattle.std.specs.declared.cmp.Ordering.TheVariants.{Equal};
@@ -8,21 +8,36 @@ ghost use Rattle.ice_value.specs.Cells.{order};
 ghost use Rattle.ice_value.specs.declared.cell.Cell.{Cell};
 ghost use Rattle.ice_value.specs.declared.column_type.ColumnType.{ColumnType};
 ghost use Rattle.ice_transform.specs.Cuts.{first_points, has_points};
-ghost use Rattle.ice_transform.specs.Definitions.{IsProper, IsValueOf};
-ghost use Rattle.ice_transform.specs.Values.{value_of, is_void, is_rising, is_at_most};
+ghost use Rattle.ice_transform.specs.Definitions.{IsValueOf};
+ghost use Rattle.ice_transform.specs.Names.{IsNamed, IsOfText, name_of};
+ghost use Rattle.ice_transform.specs.Values.{value_of, type_of, is_cell, is_void, is_rising, is_at_most};
 ghost use Rattle.ice_transform.specs.declared.parameter.Parameter.{Parameter};
 ghost use Rattle.ice_transform.specs.declared.transform.Transform.{Transform};
 
 /// The value that `apply` gives is the one that the definition of the transform describes, and it gives none exactly
 /// where there is no such value.
 pub fn values_of_transforms()
-    ensures { (f : Transform) (t : ColumnType) (c p : Cell) → IsProper c
-        → IsValueOf f t c p ↔ (value_of f t c ≡ Some p) }
+    ensures { (f : Transform) (t : ColumnType) (c p : Cell) → IsValueOf f t c p ↔ (value_of f t c ≡ Some p) }
 {}
 
-/// Identity gives the cell itself.
+/// A value is null or of the transform's result type, so a transform that doesn't take the source type has no other value.
+pub fn typed_values()
+    ensures { (f : Transform) (t : ColumnType) (c p : Cell) → value_of f t c ≡ Some p
+        → (p ≡ Cell.Null) ⊎ ((r : ColumnType) × (type_of f t ≡ Some r) × (is_cell r p ≡ true)) }
+{}
+
+/// What is written of a transform is read as that transform, what was read is written as the text that it was read from,
+/// and a text names one transform.
+pub fn texts_of_transforms()
+    ensures read_back { (f : Transform) → IsOfText f → IsNamed f (name_of f) }
+    ensures written_back { (f : Transform) (text : List ℕ) → IsNamed f text → name_of f ≡ text }
+    ensures one { (f g : Transform) (text : List ℕ) → IsNamed f text → IsNamed g text → f ≡ g }
+{}
+
+/// Identity gives the cell itself, where it is of the source type.
 pub fn identity_values()
-    ensures { (t : ColumnType) (c : Cell) → value_of Transform.Identity t c ≡ Some c }
+    ensures itself { (t : ColumnType) (c : Cell) → is_cell t c ≡ true → value_of Transform.Identity t c ≡ Some c }
+    ensures no_other { (t : ColumnType) (c p : Cell) → value_of Transform.Identity t c ≡ Some p → p ≡ c }
 {}
 
 /// Null has the value null, and but for void no other cell has.

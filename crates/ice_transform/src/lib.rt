@@ -2,6 +2,7 @@
 #![tactic(auto)]
 
 mod calendar;
+mod cells;
 mod floors;
 mod laws;
 mod murmur;
@@ -13,7 +14,8 @@ mod texts;
 mod transform;
 
 pub use laws::{
-    cut_texts, equal_cells, identity_values, null_values, rising_values, values_of_transforms,
+    cut_texts, equal_cells, identity_values, null_values, rising_values, texts_of_transforms,
+    typed_values, values_of_transforms,
 };
 pub use murmur::murmur3;
 pub use parameter::Parameter;

@@ -1,12 +1,15 @@
 //! The texts that name transforms.
 
-ghost use Rattle.std.specs.Prelude.{◌≡◌, ◌<◌, ◌^◌, codes, true, false, IfSome, IfNone};
+ghost use Rattle.std.specs.Prelude.{◌≡◌, ◌<◌, ◌^◌, ◌++◌, codes, true, false, IfSome, IfNone, IfOk};
+ghost use Rattle.std.specs.Fmt.{decimal};
 ghost use Rattle.std.specs.Option.{option_map};
 ghost use Rattle.ice_transform.specs.Names.{IsNamed, is_name, is_plain_name, with_digit, number_after, parameter_before_bracket, parameter_in};
 ghost use Rattle.ice_transform.specs.declared.parameter.Parameter.{Parameter};
 
 use crate::parameter::Parameter;
 use crate::transform::Transform;
+use ice_value::Text;
+use std::alloc::{AllocError, Global};
 
 /// The number after one more digit, where it fits.
 fn with_digit(number: u32, digit: u8) -> Option<u32>
@@ -96,4 +99,19 @@ pub fn known(text: &str) -> Option<Transform>
         Some(width) => Some(Transform::Truncate(width)),
         None => None,
     }
+}
+
+/// The text of a transform without a number.
+pub fn plain_name(alloc: Global, name: &str) -> Result<Text, AllocError>
+    ensures { IfOk result (λ text. text ≡ name.now) }
+{
+    Ok(Text::from_string(String::from_str(alloc, name)?))
+}
+
+/// The text of a transform with a number.
+pub fn numbered_name(alloc: Global, front: &str, parameter: Parameter) -> Result<Text, AllocError>
+    ensures { IfOk result (λ text. text ≡ front.now ++ (decimal parameter.number ++ codes "]")) }
+{
+    let number = parameter.get();
+    Ok(Text::from_string(format!(in alloc; "{front}{number}]")?))
 }

@@ -26,6 +26,7 @@ impl Parameter {
         }
     }
 
+    /// The number itself.
     pub fn get(self) -> u32
         ensures { result ≡ self.number }
     {

@@ -18,7 +18,7 @@ const UUID: [u8; 16] = [
 ];
 
 /// 2017-11-16T22:31:08
-const MICROS: i64 = 1_510_871_468_000_000;
+const MICROSECONDS: i64 = 1_510_871_468_000_000;
 
 /// The value of the transform of this text is the cell.
 fn check(
@@ -70,7 +70,7 @@ fn hashes(rt: HostRuntime) {
     assert!(rt; murmur3(&34i64.to_le_bytes()) == 2017239379);
     assert!(rt; murmur3(&17486i64.to_le_bytes()) == -653330422);
     assert!(rt; murmur3(&81_068_000_000i64.to_le_bytes()) == -662762989);
-    assert!(rt; murmur3(&MICROS.to_le_bytes()) == -2047944441);
+    assert!(rt; murmur3(&MICROSECONDS.to_le_bytes()) == -2047944441);
     assert!(rt; murmur3("iceberg".as_bytes()) == 1210000089);
     assert!(rt; murmur3(&[0, 1, 2, 3]) == -188683207);
     assert!(rt; murmur3(&UUID) == 1488055340);
@@ -101,13 +101,13 @@ fn buckets(rt: HostRuntime) -> Result<(), Fail> {
         (
             "bucket[2147483647]",
             ColumnType::Timestamp,
-            MICROS,
+            MICROSECONDS,
             99_539_207,
         ),
         (
             "bucket[2147483647]",
             ColumnType::Timestamptz,
-            MICROS,
+            MICROSECONDS,
             99_539_207,
         ),
     ];
@@ -212,10 +212,10 @@ fn times(rt: HostRuntime) -> Result<(), Fail> {
         ("day", -1, -1),
         ("month", -1, -1),
         ("year", -1, -1),
-        ("hour", MICROS, 419_686),
-        ("day", MICROS, 17_486),
-        ("month", MICROS, 574),
-        ("year", MICROS, 47),
+        ("hour", MICROSECONDS, 419_686),
+        ("day", MICROSECONDS, 17_486),
+        ("month", MICROSECONDS, 574),
+        ("year", MICROSECONDS, 47),
         ("day", i64::MAX, 106_751_991),
     ];
     for (name, number, value) in table {
@@ -301,6 +301,52 @@ fn no_values(rt: HostRuntime) -> Result<(), Fail> {
     Ok(())
 }
 
+/// But for void, a cell that isn't of the source type has no value.
+#[test]
+fn cells_of_other_types(rt: HostRuntime) -> Result<(), Fail> {
+    let alloc = rt.alloc();
+    let large = 2_147_483_648;
+    let decimal = ColumnType::Decimal {
+        precision: 9,
+        scale: 2,
+    };
+    let numbers = [
+        ("identity", ColumnType::Int, large),
+        ("identity", ColumnType::String, 7),
+        ("identity", ColumnType::Float, 7),
+        ("identity", decimal, 7),
+        ("bucket[16]", ColumnType::Int, large),
+        ("bucket[16]", ColumnType::Uuid, 7),
+        ("truncate[10]", ColumnType::Int, large),
+        ("day", ColumnType::Date, large),
+    ];
+    for (name, source, number) in numbers {
+        check_none(&rt, alloc, name, source, Cell::Whole(number))?;
+        check(&rt, alloc, "void", source, Cell::Whole(number), Cell::Null)?;
+    }
+    for (name, source) in [
+        ("identity", ColumnType::Uuid),
+        ("identity", ColumnType::Fixed(3)),
+        ("identity", ColumnType::String),
+        ("bucket[16]", ColumnType::Fixed(5)),
+        ("bucket[16]", ColumnType::Long),
+        ("truncate[2]", ColumnType::String),
+    ] {
+        check_none(&rt, alloc, name, source, bytes(alloc, &[0, 1, 2, 3])?)?;
+    }
+    for source in [ColumnType::Binary, ColumnType::Fixed(4), decimal] {
+        check(
+            &rt,
+            alloc,
+            "identity",
+            source,
+            bytes(alloc, &[0, 1, 2, 3])?,
+            bytes(alloc, &[0, 1, 2, 3])?,
+        )?;
+    }
+    Ok(())
+}
+
 #[test]
 fn nulls(rt: HostRuntime) -> Result<(), Fail> {
     let alloc = rt.alloc();
@@ -343,6 +389,7 @@ fn nulls(rt: HostRuntime) -> Result<(), Fail> {
     Ok(())
 }
 
+/// The text names the transform, and is written for it.
 fn check_name(
     rt: &impl Abort,
     alloc: Global,
@@ -350,11 +397,15 @@ fn check_name(
     transform: Transform,
 ) -> Result<(), AllocError> {
     assert!(rt; Transform::parse(alloc, name)? == transform);
+    assert!(rt; transform.text(alloc)?.as_str() == name);
     Ok(())
 }
 
+/// The text names no known transform, and is kept and written as it came.
 fn check_unknown(rt: &impl Abort, alloc: Global, name: &str) -> Result<(), AllocError> {
-    match Transform::parse(alloc, name)? {
+    let transform = Transform::parse(alloc, name)?;
+    assert!(rt; transform.text(alloc)?.as_str() == name);
+    match transform {
         Transform::Unknown(text) => assert!(rt; text.as_str() == name),
         _ => assert!(rt; false),
     }
@@ -375,6 +426,8 @@ fn names(rt: HostRuntime) -> Result<(), Fail> {
     assert!(rt; most.get() == 2_147_483_647);
     check_name(&rt, alloc, "bucket[1]", Transform::Bucket(one))?;
     check_name(&rt, alloc, "bucket[2147483647]", Transform::Bucket(most))?;
+    let hundred = Parameter::new(100).expect(&rt, "a hundred");
+    check_name(&rt, alloc, "bucket[100]", Transform::Bucket(hundred))?;
     check_name(&rt, alloc, "truncate[1]", Transform::Truncate(one))?;
     check_name(
         &rt,

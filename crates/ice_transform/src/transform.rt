@@ -6,14 +6,15 @@ ghost use Rattle.ice_value.specs.declared.cell.Cell.{Cell};
 ghost use Rattle.ice_value.specs.declared.column_type.ColumnType.{ColumnType};
 ghost use Rattle.ice_transform.specs.Floors.{floor_to, int_if};
 ghost use Rattle.ice_transform.specs.Murmur.{bucket_of};
-ghost use Rattle.ice_transform.specs.Names.{IsNamed};
+ghost use Rattle.ice_transform.specs.Names.{IsNamed, name_of};
 ghost use Rattle.ice_transform.specs.Years.{year_of, month_of};
 ghost use Rattle.ice_transform.specs.Values.{value_of, type_of, bucketed, truncated, day_of, hour_of, has_buckets, has_days, has_hours, has_truncation};
 
 use crate::calendar::{month_of_day, year_of_day};
+use crate::cells::is_cell;
 use crate::floors::{int_if, truncate, unit_of};
 use crate::murmur::bucket_of;
-use crate::names::known;
+use crate::names::{known, numbered_name, plain_name};
 use crate::parameter::Parameter;
 use crate::texts::{first_bytes, first_points};
 use ice_value::{Cell, ColumnType, Items, Text};
@@ -42,9 +43,9 @@ pub enum Transform {
     Unknown(Text),
 }
 
-const MICROS_PER_DAY: i64 = 86_400_000_000;
+const MICROSECONDS_PER_DAY: i64 = 86_400_000_000;
 
-const MICROS_PER_HOUR: i64 = 3_600_000_000;
+const MICROSECONDS_PER_HOUR: i64 = 3_600_000_000;
 
 impl Transform {
     /// The transform that a partition spec names so: `identity`, `bucket[N]`, `truncate[W]`, `year`, `month`, `day`, `hour`
@@ -58,9 +59,27 @@ impl Transform {
         }
     }
 
-    /// The value of a cell of the source type, null for null. None where the transform is unknown, where it doesn't take
-    /// the source type, and where the value would leave the type of its values: a truncated number below the least one,
-    /// an hour outside 32 bits, the year or month of a day outside the years -9999 to 9999.
+    /// The text that names the transform; of an unknown one the text that was kept.
+    pub fn text(&self, alloc: Global) -> Result<Text, AllocError>
+        ensures { IfOk result (λ text. text ≡ name_of self.now) }
+    {
+        match self {
+            Transform::Identity => plain_name(alloc, "identity"),
+            Transform::Bucket(buckets) => numbered_name(alloc, "bucket[", *buckets),
+            Transform::Truncate(width) => numbered_name(alloc, "truncate[", *width),
+            Transform::Year => plain_name(alloc, "year"),
+            Transform::Month => plain_name(alloc, "month"),
+            Transform::Day => plain_name(alloc, "day"),
+            Transform::Hour => plain_name(alloc, "hour"),
+            Transform::Void => plain_name(alloc, "void"),
+            Transform::Unknown(text) => text.copy(alloc),
+        }
+    }
+
+    /// The value of a cell, null for null; `Void` has null for every cell. None where the cell isn't of the source type,
+    /// where the transform is unknown, where it doesn't take the source type, and where the value would leave the type of
+    /// its values: a truncated number below the least one, an hour outside 32 bits, the year or month of a day outside the
+    /// years -9999 to 9999.
     pub fn apply(
         &self,
         alloc: Global,
@@ -70,7 +89,8 @@ impl Transform {
         ensures { IfOk result (λ value. value ≡ value_of self.now source.now cell.now) }
     {
         match (self, cell) {
-            (_, Cell::Null) => Ok(Some(Cell::Null)),
+            (_, Cell::Null) | (Transform::Void, _) => Ok(Some(Cell::Null)),
+            _ if !is_cell(source, cell) => Ok(None),
             (Transform::Identity, _) => Ok(Some(cell.copy(alloc)?)),
             (Transform::Bucket(buckets), _) => Ok(bucketed(*buckets, source, cell)),
             (Transform::Truncate(width), _) => truncated(alloc, *width, source, cell),
@@ -78,7 +98,6 @@ impl Transform {
             (Transform::Month, _) => Ok(whole(month_of(source, cell))),
             (Transform::Day, _) => Ok(whole(day_of(source, cell))),
             (Transform::Hour, _) => Ok(whole(hour_of(source, cell))),
-            (Transform::Void, _) => Ok(Some(Cell::Null)),
             (Transform::Unknown(_), _) => Ok(None),
         }
     }
@@ -219,10 +238,9 @@ fn day_of(source: &ColumnType, cell: &Cell) -> Option<i64>
 {
     match (source, cell) {
         (ColumnType::Date, Cell::Whole(day)) => Some(*day),
-        (ColumnType::Timestamp | ColumnType::Timestamptz, Cell::Whole(micros)) => Some(unit_of(
-            *micros,
-            MICROS_PER_DAY,
-        )),
+        (ColumnType::Timestamp | ColumnType::Timestamptz, Cell::Whole(microseconds)) => Some(
+            unit_of(*microseconds, MICROSECONDS_PER_DAY),
+        ),
         _ => None,
     }
 }
@@ -246,8 +264,8 @@ fn hour_of(source: &ColumnType, cell: &Cell) -> Option<i64>
     ensures { result ≡ hour_of source.now cell.now }
 {
     match (source, cell) {
-        (ColumnType::Timestamp | ColumnType::Timestamptz, Cell::Whole(micros)) => {
-            int_if(unit_of(*micros, MICROS_PER_HOUR))
+        (ColumnType::Timestamp | ColumnType::Timestamptz, Cell::Whole(microseconds)) => {
+            int_if(unit_of(*microseconds, MICROSECONDS_PER_HOUR))
         }
         _ => None,
     }

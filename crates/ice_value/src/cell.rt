@@ -16,10 +16,15 @@ use std::cmp::Ordering;
 /// A column's value: null, or a value of one of four kinds.
 #[derive(Debug, PartialEq, Drop)]
 pub enum Cell {
+    /// No value.
     Null,
+    /// A boolean.
     Bool(bool),
+    /// A whole number, a day number, or a time in microseconds.
     Whole(i64),
+    /// A text.
     Text(Text),
+    /// A byte string, or a number of 16 bytes.
     Bytes(Items<u8>),
 }
 

@@ -11,9 +11,13 @@ use std::alloc::{AllocError, Global};
 /// of the type that the field's transform gives.
 #[derive(Debug, PartialEq, Drop)]
 pub struct Summary {
+    /// Whether a partition value is null.
     pub contains_null: bool,
+    /// Whether a partition value is no number, where the writer says it.
     pub contains_nan: Option<bool>,
+    /// No partition value is below it.
     pub lower: Option<Items<u8>>,
+    /// No partition value is above it.
     pub upper: Option<Items<u8>>,
 }
 
@@ -43,23 +47,31 @@ fn copied_bound(alloc: Global, bound: &Option<Items<u8>>) -> Result<Option<Items
 /// A number of values of a column.
 #[derive(Clone, Copy, Debug, PartialEq)]
 pub struct ColumnCount {
+    /// The column's id.
     pub column: i32,
+    /// How many values.
     pub count: i64,
 }
 
 /// A bound of a column: a single value in bytes.
 #[derive(Debug, PartialEq, Drop)]
 pub struct ColumnBound {
+    /// The column's id.
     pub column: i32,
+    /// The value in bytes.
     pub bytes: Items<u8>,
 }
 
 /// What a manifest says about the columns of a file, by column id. Where an id stands twice the last entry counts.
 #[derive(Debug, PartialEq, Drop)]
 pub struct FileBounds {
+    /// How many values each column has, null ones among them.
     pub value_counts: Items<ColumnCount>,
+    /// How many values of each column are null.
     pub null_counts: Items<ColumnCount>,
+    /// No value of the column is below its lower bound.
     pub lower_bounds: Items<ColumnBound>,
+    /// No value of the column is above its upper bound.
     pub upper_bounds: Items<ColumnBound>,
 }
 

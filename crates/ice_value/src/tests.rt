@@ -134,9 +134,13 @@ fn cells_in_order(rt: HostRuntime) -> Result<(), Fail> {
     check_order(&rt, texts.as_slice());
     check_order(&rt, strings.as_slice());
     check_apart(&rt, &nulls, &nulls);
+    check_apart(&rt, &nulls, &flags);
     check_apart(&rt, &nulls, numbers.as_slice());
+    check_apart(&rt, &nulls, texts.as_slice());
+    check_apart(&rt, &nulls, strings.as_slice());
     check_apart(&rt, &flags, numbers.as_slice());
     check_apart(&rt, &flags, texts.as_slice());
+    check_apart(&rt, &flags, strings.as_slice());
     check_apart(&rt, numbers.as_slice(), texts.as_slice());
     check_apart(&rt, texts.as_slice(), strings.as_slice());
     check_apart(&rt, numbers.as_slice(), strings.as_slice());
