@@ -16,6 +16,7 @@ use crate::write::write_plan;
 use ice_desk::{Files, ReadFault};
 use ice_manifest::{Row, read_list};
 use ice_meta::Spec;
+use ice_state::laws::covering;
 use ice_state::{Partial, Scan};
 use ice_value::Text;
 use std::alloc::{AllocError, Global};
@@ -119,6 +120,8 @@ pub fn run_list_plan<F: Files, W: Sink>(
     let specs = specs_of(alloc, &rows)?;
     let scan = Scan::new(alloc, rows, specs)?;
     let state = all_taken(alloc, files, &scan)?;
+    // Without a filter the wanted rows are all rows, so the state's outcome is the plan of the snapshot.
+    covering();
     let plan = state.finish(&scan)?;
     write_plan(alloc, &plan, output)
 }

@@ -1,6 +1,6 @@
 use Rattle.std.proofs.Common.{◌≡◌, ◌<◌, ◌≤◌, suc, drop, length, refl, ap, ◌∙◌, arith, add-one}
 use Rattle.std.proofs.lemmas.Result.{err_from_is_err_and}
-use Rattle.ice_state.proofs.Runs.{begins, goes_on, ends, has_bytes}
+use Rattle.icescan.proofs.Turns.{begins, goes_on, ends, has_bytes}
 use Rattle.icescan.specs.ListPlans.{all_present}
 use Rattle.icescan.proofs.Steps.{bytes_in, present_more, present_none, present_ends, row_next}
 use Rattle.icescan.proofs.run_list_plan.all_taken.Goals as goal

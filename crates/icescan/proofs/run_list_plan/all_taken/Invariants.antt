@@ -1,7 +1,7 @@
 use Rattle.std.proofs.Common.{◌≡◌, Some, drop, length}
 use Rattle.ice_state.specs.Contents.{World}
 use Rattle.ice_state.specs.Contents.{IsOf, content}
-use Rattle.ice_state.proofs.Runs.{first}
+use Rattle.icescan.proofs.Turns.{first}
 use Rattle.icescan.specs.ListPlans.{all_present}
 use Rattle.icescan.proofs.run_list_plan.all_taken.Given as goal
 
