@@ -4,4 +4,5 @@ pub mod Lookups
 pub mod Refusals
 pub mod Steps
 pub mod Texts
+pub mod Turns
 pub mod Writes

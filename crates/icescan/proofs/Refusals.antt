@@ -1,13 +1,13 @@
 -- Why the program refuses its words and its input.
-use Rattle.std.proofs.Common.{◌≡◌, ◌≢◌, ℕ, ◌+◌, Bool, true, false, List, [], ◌∷◌, refl, sym, ap, subst, ◌∙◌, Option, Some, None, is_some}
-use Rattle.std.specs.Prelude.{Result, Ok, Err, if◌then◌else◌, IfSome}
+use Rattle.std.proofs.Common.{◌≡◌, ◌≢◌, ℕ, ◌+◌, Bool, true, false, List, [], ◌∷◌, refl, sym, ap, subst, ◌∙◌, ◌⊎◌, inl, inr, Option, Some, None, is_some}
+use Rattle.std.specs.Prelude.{Result, Ok, Err, if◌then◌else◌}
 use Rattle.avro_schema.specs.Outcome.{◌>>=◌}
 use Rattle.ice_state.specs.declared.plan.OwnedLine.{OwnedLine}
 use Rattle.icescan.specs.declared.fault.RunFault.{RunFault}
 use Rattle.icescan.specs.declared.fault.RunFault.TheVariants as run
 use Rattle.icescan.specs.Bundles.{File, added, bundle_of, bytes_at, file_of, first_path, with_lines}
 use Rattle.icescan.specs.ListPlans.{MayEnd, answer}
-use Rattle.icescan.specs.Runs.{MayRefuse, asks_list_plan, bundle_plan, list_in, run_of, words_in}
+use Rattle.icescan.specs.Runs.{IsInput, MayRefuse, Ran, asks_list_plan, bundle_plan, list_in, run_of, words_in}
 
 -- a bundle is refused for a line of it
 there : (n : ℕ) (b : Bool) (files : List File) (e : RunFault) → ◌≡◌ {A = Result (List File) RunFault} (if b then Err (run.Bundle n) else Ok files) (Err e) → e ≡ run.Bundle n
@@ -47,6 +47,16 @@ module _ (text : List ℕ) (w : Type 0) where
   bundle_refused (run.Scan f) h = no_plan (run.Scan f) (h (λ m. cc))
   bundle_refused (run.Finish f) h = no_plan (run.Finish f) (h (λ m. cc))
 
+  -- no bundle is refused for a failed write
+  no_write : (e : RunFault) → (e ≢ run.Memory → bundle_of text ≡ Err e) → e ≡ run.Write → ⊥
+  no_write e h is =
+      let f = lines_fault 1 [] _ e (h (λ m. let n : run.Write ≡ run.Memory = sym is ∙ m in absurd cc)) in
+      let g : run.Write ≡ run.Bundle f.0 = sym is ∙ f.1 in
+      absurd cc
+
+  pub bundle_ran : (o : Option (List ℕ)) (e : RunFault) → (e ≢ run.Memory → bundle_of text ≡ Err e) → Ran (bundle_plan text) w (Err e) o o
+  bundle_ran o e h = record { written = tt; refused = bundle_refused e h; nothing = λ _. refl; front = λ is. let q : e ≡ run.Write = cc in absurd (no_write e h q) }
+
   module _ (files : List File) (is : bundle_of text ≡ Ok files) where
     pub no_file : None ≡ first_path files → bundle_plan text ≡ Err (run.Bundle 1)
     unfolding bundle_plan list_in
@@ -57,17 +67,17 @@ module _ (text : List ℕ) (w : Type 0) where
     plan_from list h = rw (is, ← h) refl
 
 -- over files whose reads can't fail
-pub ends_refused : (read other : Result (List OwnedLine) RunFault) (w : Type 0) (e : RunFault) → other ≡ read → MayEnd read (λ _. ⊥) w e → MayRefuse other w e
-ends_refused read other w run.Input q h = tt
-ends_refused read other w run.Memory q h = tt
-ends_refused read other w run.Write q h = h
-ends_refused read other w (run.Device path) q h = absurd h
-ends_refused read other w run.Words q h = q ∙ h
-ends_refused read other w (run.Bundle n) q h = q ∙ h
-ends_refused read other w (run.Absent path) q h = q ∙ h
-ends_refused read other w (run.List f) q h = q ∙ h
-ends_refused read other w (run.Scan f) q h = q ∙ h
-ends_refused read other w (run.Finish f) q h = q ∙ h
+pub ends_refused : (read other : Result (List OwnedLine) RunFault) (r : List ℕ → Type 0) (w : Type 0) (e : RunFault) → ((path : List ℕ) → r path → ⊥) → other ≡ read → MayEnd read r w e → MayRefuse other w e
+ends_refused read other r w run.Input never q h = tt
+ends_refused read other r w run.Memory never q h = tt
+ends_refused read other r w run.Write never q h = h
+ends_refused read other r w (run.Device path) never q h = absurd (never path h)
+ends_refused read other r w run.Words never q h = q ∙ h
+ends_refused read other r w (run.Bundle n) never q h = q ∙ h
+ends_refused read other r w (run.Absent path) never q h = q ∙ h
+ends_refused read other r w (run.List f) never q h = q ∙ h
+ends_refused read other r w (run.Scan f) never q h = q ∙ h
+ends_refused read other r w (run.Finish f) never q h = q ∙ h
 
 abbrev asked : Bool → Result Unit RunFault
 asked b = if b then Ok tt else Err run.Words
@@ -84,7 +94,31 @@ pub run_is : (words : List (List ℕ)) (text : List ℕ) → Ok tt ≡ words_in 
 unfolding run_of
 run_is words text h = ap (λ s. s >>= λ _. bundle_plan text) (sym h)
 
--- all that was left
-pub told_text : (known : Option (List ℕ)) (text bytes : List ℕ) → known ≡ Some text → IfSome known (λ left. bytes ≡ left) → bytes ≡ text
-told_text None text bytes is h = absurd cc
-told_text (Some left) text bytes is h = let q : left ≡ text = cc in h ∙ q
+no_words : (b : Bool) (e : RunFault) → Err e ≡ asked b → e ≡ run.Words
+no_words true e h = absurd cc
+no_words false e h = cc
+
+-- before anything was read: any text may be what was left
+abbrev pub left_of : Option (List ℕ) → List ℕ
+left_of None = []
+left_of (Some text) = text
+
+pub is_left : (known : Option (List ℕ)) → IsInput known (left_of known)
+is_left None = tt
+is_left (Some text) = refl
+
+pub words_ran : (words : List (List ℕ)) (text : List ℕ) (w : Type 0) (o : Option (List ℕ)) (e : RunFault) → Err e ≡ words_in words → Ran (run_of words text) w (Err e) o o
+words_ran words text w o e h =
+    record {
+      written = tt;
+      refused = words_refused words text w e h;
+      nothing = λ _. refl;
+      front = λ is. let q : e ≡ run.Write = cc in let g : run.Write ≡ run.Words = sym q ∙ no_words (asks_list_plan words) e h in absurd cc;
+    }
+
+pub unread_ran : (read : Result (List OwnedLine) RunFault) (w : Type 0) (o : Option (List ℕ)) (e : RunFault) → (e ≡ run.Input) ⊎ (e ≡ run.Memory) → Ran read w (Err e) o o
+unread_ran read w o e (inl h) = subst (λ f. Ran read w (Err f) o o) (sym h) (record { written = tt; refused = tt; nothing = λ _. refl; front = λ is. absurd cc })
+unread_ran read w o e (inr h) = subst (λ f. Ran read w (Err f) o o) (sym h) (record { written = tt; refused = tt; nothing = λ _. refl; front = λ is. absurd cc })
+
+pub ran_as : (read other : Result (List OwnedLine) RunFault) (w : Type 0) (r : Result Unit RunFault) (o o' : Option (List ℕ)) → other ≡ read → Ran read w r o o' → Ran other w r o o'
+ran_as read other w r o o' same h = subst (λ a. Ran a w r o o') (sym same) h

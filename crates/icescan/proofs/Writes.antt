@@ -1,6 +1,6 @@
 -- Lemmas on what was written.
 use Rattle.std.proofs.Common.{◌≡◌, ℕ, ◌+◌, ◌-◌, List, [], ◌∷◌, ◌++◌, length, take, drop, Option, Some, None, Result, Ok, Err, refl, arith, length-append, append_assoc}
-use Rattle.std.proofs.lemmas.List.{take_rest, take-append-le, append-nil, take-append-drop}
+use Rattle.std.proofs.lemmas.List.{take_rest, take-append-le, take-append-drop}
 use Rattle.std.proofs.Math.Seq.{take-add, take-append-add}
 use Rattle.icescan.specs.declared.sink.SinkFault.{SinkFault}
 use Rattle.std.specs.Result.{IsErr, IfErr}
@@ -24,11 +24,6 @@ appends_both (Some x) (Some y) b xs ys h k =
     let e : y ≡ x ++ xs = cc in
     let k' = rw e at k in
     rw (← append_assoc) k'
-
--- nothing
-pub appends_nothing : (o : Option (List ℕ)) → Appends o o []
-appends_nothing None = tt
-appends_nothing (Some x) = rw (append-nil x) refl
 
 -- a front of what was written after another text
 pub front_after : (o a b : Option (List ℕ)) (xs ys : List ℕ) → Appends o a xs → AppendsFront a b ys → AppendsFront o b (xs ++ ys)
@@ -63,9 +58,6 @@ module _ {X : Type 0} (taken : X → Option (List ℕ)) (may_fail : X → Type 0
   pub wrote_fails : (a b : X) (e : SinkFault) (r : Result Unit SinkFault) (xs : List ℕ) → IsErr r → Wrote taken may_fail a (Err e) b xs → Wrote taken may_fail a r b xs
   wrote_fails a b e (Ok u) xs f h = cc
   wrote_fails a b e (Err d) xs f h = record { all = tt; front = h.front; cause = h.cause; still = h.still }
-
-  pub wrote_nothing : (a : X) → Wrote taken may_fail a (Ok tt) a []
-  wrote_nothing a = record { all = appends_nothing (taken a); front = tt; cause = tt; still = λ m. m }
 
 pub escaped_append : (xs ys : List ℕ) → escaped (xs ++ ys) ≡ escaped xs ++ escaped ys
 escaped_append [] ys = refl

@@ -1,6 +1,6 @@
 -- The plan of a snapshot that a manifest list names: Apache Iceberg table spec, version 2, "Scan Planning". No metadata
 -- is read, so each row's spec is taken as one without fields, and nothing is filtered.
-use Rattle.std.specs.Prelude.{◌≡◌, ℕ, List, [], ◌∷◌, ◌++◌, fold, Option, Some, None, Result, Ok, Err, if◌then◌else◌}
+use Rattle.std.specs.Prelude.{◌≡◌, ℕ, true, List, [], ◌∷◌, ◌++◌, fold, map, Option, Some, None, is_some, Result, Ok, Err, ◌⊎◌, if◌then◌else◌}
 use Rattle.std.specs.List.{list_any}
 use Rattle.std.specs.Ordering.{int_eq}
 use Rattle.avro_schema.specs.Outcome.{◌>>=◌}
@@ -61,9 +61,34 @@ answer world list = do
   _ ← all_present world scan.wanted
   plan_in world scan rows
 
--- Why a run ends with a fault: memory ran out, a read or a write failed that may fail, or the fault is the answer's.
+abbrev pub paths_of : List Row → List (List ℕ)
+paths_of rows = map (λ row. row.path) rows
+
+-- the manifests that are wanted of a scan: none where there is no scan
+abbrev pub wanted_of : Result Scanned RunFault → List (List ℕ)
+wanted_of (Ok scan) = paths_of scan.wanted
+wanted_of (Err fault) = []
+
+-- the scan of the list at a path
+unfoldable pub scan_at : World → List ℕ → Result Scanned RunFault
+scan_at world list = do
+  bytes ← file_in world list
+  rows ← rows_in bytes
+  scan_in rows
+
+-- the paths that are read, in this order: the list's, and then those of the wanted manifests
+unfoldable pub reads : World → List ℕ → List (List ℕ)
+reads world list = list ∷ wanted_of (scan_at world list)
+
+-- Reading these in turn may end at a path: the read of it may fail, and the files before it are there.
+abbrev pub MayFailAt : World → (List ℕ → Type 0) → List (List ℕ) → List ℕ → Type 0
+MayFailAt world may_fail [] path = ⊥
+MayFailAt world may_fail (next ∷ paths) path = ((path ≡ next) × may_fail path) ⊎ ((is_some (world next) ≡ true) × MayFailAt world may_fail paths path)
+
+-- Why a run ends with a fault: memory ran out, a read failed at a path where it may, a write failed that may fail, or the
+-- fault is the answer's.
 abbrev pub MayEnd : {A : Type 0} → Result A RunFault → (List ℕ → Type 0) → Type 0 → RunFault → Type 0
-MayEnd read read_may_fail write_may_fail run.Memory = Unit {0}
-MayEnd read read_may_fail write_may_fail (run.Device path) = read_may_fail path
-MayEnd read read_may_fail write_may_fail run.Write = write_may_fail
-MayEnd read read_may_fail write_may_fail fault = read ≡ Err fault
+MayEnd read may_fail_at write_may_fail run.Memory = Unit {0}
+MayEnd read may_fail_at write_may_fail (run.Device path) = may_fail_at path
+MayEnd read may_fail_at write_may_fail run.Write = write_may_fail
+MayEnd read may_fail_at write_may_fail fault = read ≡ Err fault

@@ -1,5 +1,5 @@
 -- The whole program: what it makes of its words and of standard input.
-use Rattle.std.specs.Prelude.{◌≡◌, ◌≢◌, ℕ, Bool, true, false, ◌&&◌, List, [], ◌∷◌, codes, Option, Some, None, Result, Ok, Err, if◌then◌else◌}
+use Rattle.std.specs.Prelude.{◌≡◌, ◌≢◌, ℕ, Bool, true, false, ◌&&◌, List, [], ◌∷◌, codes, Option, Some, None, IfSome, Result, Ok, Err, OnOk, IfErr, IsErrOf, if◌then◌else◌}
 use Rattle.std.specs.Str.{bytes_eq}
 use Rattle.avro_schema.specs.Outcome.{◌>>=◌}
 use Rattle.ice_state.specs.declared.plan.OwnedLine.{OwnedLine}
@@ -49,18 +49,35 @@ MayRefuse read write_may_fail run.Memory = Unit {0}
 MayRefuse read write_may_fail run.Write = write_may_fail
 MayRefuse read write_may_fail fault = read ≡ Err fault
 
+-- what was written is the text of the plan, or a front of it
+abbrev pub WrotePlan : Result (List OwnedLine) RunFault → Option (List ℕ) → Option (List ℕ) → Type 0
+WrotePlan read output output' = (plan : List OwnedLine) × (read ≡ Ok plan) × Appends output output' (plan_text plan)
+
+abbrev pub WroteFront : Result (List OwnedLine) RunFault → Option (List ℕ) → Option (List ℕ) → Type 0
+WroteFront read output output' = (plan : List OwnedLine) × (read ≡ Ok plan) × AppendsFront output output' (plan_text plan)
+
+-- what a run gives: the plan is written, or there is a fault, and nothing was written but after a failed write
+pub record Ran (read : Result (List OwnedLine) RunFault) (write_may_fail : Type 0) (result : Result Unit RunFault) (output output' : Option (List ℕ)) : Type 0 where
+  pub written : OnOk result (WrotePlan read output output')
+  pub refused : IfErr result (MayRefuse read write_may_fail)
+  pub nothing : IfErr result (λ fault. fault ≢ run.Write → output' ≡ output)
+  pub front : IsErrOf result run.Write → WroteFront read output output'
+
 -- the program ended with status 0: it wrote the plan to its output
 pub record Planned (read : Result (List OwnedLine) RunFault) (status : ℕ) (output output' errors errors' : Option (List ℕ)) : Type 0 where
-  pub plan : List OwnedLine
-  pub is : read ≡ Ok plan
+  pub written : WrotePlan read output output'
   pub status_is : status ≡ 0
-  pub written : Appends output output' (plan_text plan)
   pub silent : errors' ≡ errors
 
--- the program ended with a fault: it told it, and wrote nothing else but after a failed write
+-- the program ended with a fault: it told it, and wrote nothing else but after a failed write, and then a front of the plan
 pub record Refused (read : Result (List OwnedLine) RunFault) (write_may_fail : Type 0) (status : ℕ) (output output' errors errors' : Option (List ℕ)) : Type 0 where
   pub fault : RunFault
   pub cause : MayRefuse read write_may_fail fault
   pub status_is : status ≡ status_of fault
   pub nothing : fault ≢ run.Write → output' ≡ output
+  pub front : fault ≡ run.Write → WroteFront read output output'
   pub told : AppendsFront errors errors' (fault_text fault)
+
+-- the text that was read: where a reader tells what it has left, that
+abbrev pub IsInput : Option (List ℕ) → List ℕ → Type 0
+IsInput left text = IfSome left (λ bytes. text ≡ bytes)

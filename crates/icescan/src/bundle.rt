@@ -4,8 +4,8 @@ ghost use Rattle.std.specs.Prelude.{◌≡◌, ◌≢◌, ◌+◌, ◌<◌, ◌=
 ghost use Rattle.avro_schema.specs.Outcome.{Gives};
 ghost use Rattle.icescan.specs.Bundles.{added, bundle_of, bytes_of, file_of, first_path, lines_of, path_of};
 
-use crate::escape::unescape;
 use crate::fault::RunFault;
+use crate::unescape::unescape;
 use hex::FromHexError;
 use ice_desk::{Files, ReadFault};
 use indexmap::IndexMap;
@@ -115,7 +115,7 @@ impl Bundle {
         }
     }
 
-    /// Puts the file of line `number` behind the others.
+    /// Puts this file, which line `number` has, behind the others. Its path has to be new.
     fn add_file(&mut self, number: u64, file: NamedFile) -> Result<(), RunFault>
         ensures ok { OnOk result (added number self.old (Some file) ≡ Ok self.new) }
         ensures err { IfErr result (λ e. e ≢ RunFault.Memory → added number self.old (Some file) ≡ Err e) }
@@ -128,7 +128,7 @@ impl Bundle {
         Ok(())
     }
 
-    /// Puts the file of line `number` behind the others.
+    /// Puts the file of this line, which is line `number`, behind the others, where the line has one.
     fn add_line(&mut self, alloc: Global, number: u64, line: &[u8]) -> Result<(), RunFault>
         ensures ok { OnOk result (added number self.old (file_of line.now) ≡ Ok self.new) }
         ensures err { IfErr result (λ e. e ≢ RunFault.Memory → added number self.old (file_of line.now) ≡ Err e) }

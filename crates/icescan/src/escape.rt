@@ -1,62 +1,74 @@
-//! Paths as they stand in texts.
+//! Writing paths and names escaped.
 
-ghost use Rattle.std.specs.Prelude.{◌≡◌, ◌<◌, ℕ, List, Some, None, length, IfOk, IfSome, IsNone, option_map};
-ghost use Rattle.icescan.specs.Escaping.{escaped, unescaped, before, digit_value};
+ghost use Rattle.std.specs.Prelude.{◌≡◌, ◌<◌, ◌≤◌, true, Ok, Err, IfOk, IfErr, length, take, slice_index};
+ghost use Rattle.icescan.specs.Escaping.{hex_digit, is_escaped, escaped_byte, escaped};
+ghost use Rattle.icescan.specs.Written.{Wrote};
 
-#[cfg(test)]
-mod tests;
+use crate::sink::{Sink, SinkFault, write_all};
 
-use crate::pieces::is_escaped;
-use std::alloc::{AllocError, Global};
-
-/// The bytes that an escaped text stands for, or none where escaping gives no such text: a byte that has to be escaped
-/// stands in it as it is, or another byte stands in it escaped.
-pub fn unescape(alloc: Global, text: &[u8]) -> Result<Option<Vec<u8>>, AllocError>
-    ensures { IfOk result (λ found. option_map (λ bytes. bytes.items) found ≡ unescaped text.now) }
+/// Writes a path or a name, escaped.
+pub fn put_escaped<S: Sink>(sink: &mut S, bytes: &[u8]) -> Result<(), SinkFault>
+    ensures { Wrote S.taken S.may_fail sink.old result sink.new (escaped bytes.now) }
 {
-    let mut bytes = Vec::new(alloc);
-    let mut rest = text;
-    while let Some((byte, after)) = split_byte(rest) {
-        bytes.push(byte)?;
-        rest = after;
+    let mut done = 0;
+    while done < bytes.len() {
+        done += put_front(sink, &bytes[done..])?;
     }
-    Ok(if rest.is_empty() { Some(bytes) } else { None })
+    Ok(())
 }
 
-/// A text stands for some bytes exactly where it is those bytes escaped.
-pub fn escaping()
-    ensures back { (bytes : List ℕ) → unescaped (escaped bytes) ≡ Some bytes }
-    ensures only { (text bytes : List ℕ) → unescaped text ≡ Some bytes → text ≡ escaped bytes }
-{}
-
-/// The byte that a text begins with, escaped or not, and the rest of the text.
-fn split_byte(text: &[u8]) -> Option<(u8, &[u8])>
-    ensures found { IfSome result (λ split. unescaped text.now ≡ before (Some split.0) (unescaped split.1.now)) }
-    ensures shorter { IfSome result (λ split. length split.1.now < length text.now) }
-    ensures none { IsNone result → 0 < length text.now → unescaped text.now ≡ None }
+/// Writes the first byte where it has to be escaped, else all bytes before the next such byte, and says how many.
+fn put_front<S: Sink>(sink: &mut S, bytes: &[u8]) -> Result<usize, SinkFault>
+    requires { 0 < length bytes.now }
+    ensures some { IfOk result (λ n. 0 < n) }
+    ensures within { IfOk result (λ n. n ≤ length bytes.now) }
+    ensures ok { IfOk result (λ n. Wrote S.taken S.may_fail sink.old (Ok tt) sink.new (escaped (take n bytes.now))) }
+    ensures err { IfErr result (λ e. Wrote S.taken S.may_fail sink.old (Err e) sink.new (escaped bytes.now)) }
 {
-    match text {
-        [b'\\', b'x', high, low, rest @ ..] => {
-            let byte = 16 * hex_value(*high)? + hex_value(*low)?;
-            if is_escaped(byte) {
-                Some((byte, rest))
-            } else {
-                None
-            }
-        }
-        [byte, rest @ ..] if !is_escaped(*byte) => Some((*byte, rest)),
-        _ => None,
+    if is_escaped(bytes[0]) {
+        put_digits(sink, bytes[0])?;
+        return Ok(1);
     }
+    let plain = count_plain(bytes);
+    write_all(sink, &bytes[..plain])?;
+    Ok(plain)
 }
 
-/// The number that a hexadecimal digit in lower case stands for.
-fn hex_value(digit: u8) -> Option<u8>
-    ensures value { result ≡ digit_value digit }
-    ensures small { IfSome result (λ n. n < 16) }
+/// How many bytes stand before the first that has to be escaped.
+fn count_plain(bytes: &[u8]) -> usize
+    ensures within { result ≤ length bytes.now }
+    ensures plain { escaped (take result bytes.now) ≡ take result bytes.now }
+    ensures stops { result < length bytes.now → is_escaped (slice_index bytes.now result) ≡ true }
 {
-    match digit {
-        b'0'..=b'9' => Some(digit - b'0'),
-        b'a'..=b'f' => Some(digit - b'a' + 10),
-        _ => None,
+    let mut count = 0;
+    while count < bytes.len() && !is_escaped(bytes[count]) {
+        count += 1;
     }
+    count
+}
+
+/// Writes a byte that has to be escaped by its digits.
+fn put_digits<S: Sink>(sink: &mut S, byte: u8) -> Result<(), SinkFault>
+    requires { is_escaped byte ≡ true }
+    ensures { Wrote S.taken S.may_fail sink.old result sink.new (escaped_byte byte) }
+{
+    write_all(
+        sink,
+        &[b'\\', b'x', hex_digit(byte / 16), hex_digit(byte % 16)],
+    )
+}
+
+/// Whether texts show this byte by its digits.
+pub fn is_escaped(byte: u8) -> bool
+    ensures { result ≡ is_escaped byte }
+{
+    byte <= b' ' || byte == b'\\' || byte == 127
+}
+
+/// A hexadecimal digit, in lower case.
+fn hex_digit(n: u8) -> u8
+    requires { n < 16 }
+    ensures { result ≡ hex_digit n }
+{
+    if n < 10 { b'0' + n } else { b'a' - 10 + n }
 }

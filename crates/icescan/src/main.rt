@@ -14,6 +14,7 @@ mod run_list_plan;
 mod sink;
 #[cfg(test)]
 mod tests;
+mod unescape;
 mod words;
 mod write;
 

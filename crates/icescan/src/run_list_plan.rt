@@ -1,12 +1,12 @@
 //! The plan of a manifest list.
 
-ghost use Rattle.std.specs.Prelude.{◌≡◌, ◌≢◌, ℕ, List, Option, Some, None, Ok, Err, IfOk, IfErr, OnOk, IsErrOf};
+ghost use Rattle.std.specs.Prelude.{◌≡◌, ◌≢◌, ℕ, List, [], ◌∷◌, Option, Some, None, Ok, Err, IfOk, IfErr, OnOk, IsErrOf};
 ghost use Rattle.std.specs.List.{list_any};
 ghost use Rattle.std.specs.Ordering.{int_eq};
 ghost use Rattle.ice_desk.specs.Worlds.{HasAt};
 ghost use Rattle.ice_state.specs.declared.plan.OwnedLine.{OwnedLine};
 ghost use Rattle.ice_state.specs.Contents.{World, HasEach, IsOf, content, every_row};
-ghost use Rattle.icescan.specs.ListPlans.{MayEnd, all_present, answer, file_in, specs_of, with_spec};
+ghost use Rattle.icescan.specs.ListPlans.{MayEnd, MayFailAt, all_present, answer, file_in, paths_of, reads, specs_of, with_spec};
 ghost use Rattle.icescan.specs.PlanTexts.{plan_text};
 ghost use Rattle.icescan.specs.Written.{Appends, AppendsFront};
 
@@ -16,6 +16,7 @@ use crate::write::write_plan;
 use ice_desk::{Files, ReadFault};
 use ice_manifest::{Row, read_list};
 use ice_meta::Spec;
+use ice_state::laws::covering;
 use ice_state::{Partial, Scan};
 use ice_value::Text;
 use std::alloc::{AllocError, Global};
@@ -30,7 +31,7 @@ fn text_of(alloc: Global, path: &str) -> Result<Text, AllocError>
 /// The bytes of the file at a path: `Absent` where there is none, `Device` where reading it failed.
 fn read_file<F: Files>(alloc: Global, files: &F, path: &str) -> Result<Vec<u8>, RunFault>
     ensures found { (world : World) → F.world files.now ≡ Some world → IfOk result (λ bytes. file_in world path.now ≡ Ok bytes.items) }
-    ensures refused { (world : World) → F.world files.now ≡ Some world → IfErr result (MayEnd (file_in world path.now) (F.may_fail files.now) ⊥) }
+    ensures refused { (world : World) → F.world files.now ≡ Some world → IfErr result (MayEnd (file_in world path.now) (MayFailAt world (F.may_fail files.now) (path.now ∷ [])) ⊥) }
     ensures absent { (path : List ℕ) → IsErrOf result (RunFault.Absent path) → HasAt (F.world files.now) path None }
     ensures device { (path : List ℕ) → IsErrOf result (RunFault.Device path) → F.may_fail files.now path }
     ensures write { IsErrOf result RunFault.Write → ⊥ }
@@ -76,7 +77,7 @@ fn all_taken<F: Files>(alloc: Global, files: &F, scan: &Scan) -> Result<Partial,
     ensures of_scan { IfOk result (λ state. IsOf scan.now state) }
     ensures present { (world : World) → F.world files.now ≡ Some world → OnOk result (all_present world scan.now.wanted ≡ Ok tt) }
     ensures taken { (world : World) → F.world files.now ≡ Some world → IfOk result (λ state. state ≡ content world scan.now (every_row scan.now)) }
-    ensures refused { (world : World) → F.world files.now ≡ Some world → IfErr result (MayEnd (all_present world scan.now.wanted) (F.may_fail files.now) ⊥) }
+    ensures refused { (world : World) → F.world files.now ≡ Some world → IfErr result (MayEnd (all_present world scan.now.wanted) (MayFailAt world (F.may_fail files.now) (paths_of scan.now.wanted)) ⊥) }
     ensures absent { (path : List ℕ) → IsErrOf result (RunFault.Absent path) → HasAt (F.world files.now) path None }
     ensures device { (path : List ℕ) → IsErrOf result (RunFault.Device path) → F.may_fail files.now path }
     ensures write { IsErrOf result RunFault.Write → ⊥ }
@@ -93,7 +94,8 @@ fn all_taken<F: Files>(alloc: Global, files: &F, scan: &Scan) -> Result<Partial,
 ///
 /// The refusal is `Absent` where the list or a wanted manifest is not there, `Device` where reading it failed, one of
 /// `List`, `Scan` and `Finish` where the table is at fault, `Write` where a write failed, and then a front of the plan's
-/// text was written, or `Memory`. After any refusal but `Write` nothing was written.
+/// text was written, or `Memory`. After any refusal but `Write` nothing was written. The list is read first, then the
+/// wanted manifests in the order of their paths, and the first that is not there or can't be read ends the run.
 pub fn run_list_plan<F: Files, W: Sink>(
     alloc: Global,
     files: &F,
@@ -104,7 +106,7 @@ pub fn run_list_plan<F: Files, W: Sink>(
     ensures written { (world : World) → F.world files.now ≡ Some world →
         OnOk result ((plan : List OwnedLine) × (answer world list.now ≡ Ok plan) × Appends (W.taken output.old) (W.taken output.new) (plan_text plan)) }
     ensures refused { (world : World) → F.world files.now ≡ Some world →
-        IfErr result (MayEnd (answer world list.now) (F.may_fail files.now) (W.may_fail output.old)) }
+        IfErr result (MayEnd (answer world list.now) (MayFailAt world (F.may_fail files.now) (reads world list.now)) (W.may_fail output.old)) }
     ensures front { (world : World) → F.world files.now ≡ Some world → IsErrOf result RunFault.Write →
         (plan : List OwnedLine) × (answer world list.now ≡ Ok plan) × AppendsFront (W.taken output.old) (W.taken output.new) (plan_text plan) }
 
@@ -119,6 +121,8 @@ pub fn run_list_plan<F: Files, W: Sink>(
     let specs = specs_of(alloc, &rows)?;
     let scan = Scan::new(alloc, rows, specs)?;
     let state = all_taken(alloc, files, &scan)?;
+    // Without a filter the wanted rows are all rows, so the state's outcome is the plan of the snapshot.
+    covering();
     let plan = state.finish(&scan)?;
     write_plan(alloc, &plan, output)
 }

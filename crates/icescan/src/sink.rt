@@ -66,6 +66,7 @@ pub struct Output<W> {
 }
 
 impl<W: Write> Output<W> {
+    /// A sink over a writer. It keeps nothing back: each write is the writer's.
     pub fn new(writer: W) -> Self
         ensures { result ≡ record { writer = writer } }
     {

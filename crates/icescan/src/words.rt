@@ -1,11 +1,9 @@
 //! The program over its words, standard input, output and errors.
 
-ghost use Rattle.std.specs.Prelude.{◌≡◌, ◌≢◌, ◌⊎◌, ℕ, List, map, string_bytes, Option, Some, Ok, Err, OnOk, IfErr, false};
-ghost use Rattle.ice_state.specs.declared.plan.OwnedLine.{OwnedLine};
-ghost use Rattle.icescan.specs.PlanTexts.{plan_text};
+ghost use Rattle.std.specs.Prelude.{◌≡◌, ◌⊎◌, ℕ, List, map, string_bytes, Err, false};
 ghost use Rattle.icescan.specs.FaultTexts.{fault_text};
-ghost use Rattle.icescan.specs.Runs.{MayRefuse, Planned, Refused, asks_list_plan, bundle_plan, run_of, words_in};
-ghost use Rattle.icescan.specs.Written.{Appends, AppendsFront};
+ghost use Rattle.icescan.specs.Runs.{IsInput, Planned, Ran, Refused, asks_list_plan, bundle_plan, run_of, words_in};
+ghost use Rattle.icescan.specs.Written.{AppendsFront};
 
 use crate::bundle::Bundle;
 use crate::fault::RunFault;
@@ -34,9 +32,7 @@ fn check_words(words: &[String]) -> Result<(), RunFault>
 
 /// Writes the plan of a bundle's first file.
 fn plan_bundle<W: Sink>(alloc: Global, text: &[u8], output: &mut W) -> Result<(), RunFault>
-    ensures written { OnOk result ((plan : List OwnedLine) × (bundle_plan text.now ≡ Ok plan) × Appends (W.taken output.old) (W.taken output.new) (plan_text plan)) }
-    ensures refused { IfErr result (MayRefuse (bundle_plan text.now) (W.may_fail output.old)) }
-    ensures nothing { IfErr result (λ fault. fault ≢ RunFault.Write → W.taken output.new ≡ W.taken output.old) }
+    ensures { Ran (bundle_plan text.now) (W.may_fail output.old) result (W.taken output.old) (W.taken output.new) }
 {
     let bundle = Bundle::read(alloc, text)?;
     let Some(list) = bundle.first_path() else {
@@ -53,11 +49,8 @@ fn run<R: Read, W: Sink>(
     output: &mut W,
 ) -> Result<(), RunFault>
     ensures words { asks_list_plan (map string_bytes words.now) ≡ false → result ≡ Err RunFault.Words }
-    ensures written { (text : List ℕ) → R.remaining input.old ≡ Some text →
-        OnOk result ((plan : List OwnedLine) × (run_of (map string_bytes words.now) text ≡ Ok plan) × Appends (W.taken output.old) (W.taken output.new) (plan_text plan)) }
-    ensures refused { (text : List ℕ) → R.remaining input.old ≡ Some text →
-        IfErr result (MayRefuse (run_of (map string_bytes words.now) text) (W.may_fail output.old)) }
-    ensures nothing { IfErr result (λ fault. fault ≢ RunFault.Write → W.taken output.new ≡ W.taken output.old) }
+    ensures ran { (text : List ℕ) × IsInput (R.remaining input.old) text ×
+        Ran (run_of (map string_bytes words.now) text) (W.may_fail output.old) result (W.taken output.old) (W.taken output.new) }
 {
     check_words(words)?;
     let text = read_bundle(alloc, input, MOST_READS)?;
@@ -78,10 +71,11 @@ pub fn run_words<R: Read, W: Sink, E: Sink>(
     ensures words { asks_list_plan (map string_bytes words.now) ≡ false →
         (result ≡ 2) × (W.taken output.new ≡ W.taken output.old) × AppendsFront (E.taken errors.old) (E.taken errors.new) (fault_text RunFault.Words) }
 
-    // Over a standard input that tells its bytes.
-    ensures run { (text : List ℕ) → R.remaining input.old ≡ Some text →
-        Planned (run_of (map string_bytes words.now) text) result (W.taken output.old) (W.taken output.new) (E.taken errors.old) (E.taken errors.new)
-        ⊎ Refused (run_of (map string_bytes words.now) text) (W.may_fail output.old) result (W.taken output.old) (W.taken output.new) (E.taken errors.old) (E.taken errors.new) }
+    // For some text, which is all that standard input had left where that is told: the plan of that text was written, or
+    // the fault is that of the words and that text, or reading, writing or memory failed.
+    ensures run { (text : List ℕ) × IsInput (R.remaining input.old) text ×
+        (Planned (run_of (map string_bytes words.now) text) result (W.taken output.old) (W.taken output.new) (E.taken errors.old) (E.taken errors.new)
+        ⊎ Refused (run_of (map string_bytes words.now) text) (W.may_fail output.old) result (W.taken output.old) (W.taken output.new) (E.taken errors.old) (E.taken errors.new)) }
 {
     match run(alloc, words, input, output) {
         Ok(()) => 0,

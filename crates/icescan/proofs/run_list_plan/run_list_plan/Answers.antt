@@ -1,7 +1,6 @@
 use Rattle.std.proofs.Common.{ap, sym, ◌∙◌}
 use Rattle.std.specs.Prelude.{Ok}
 use Rattle.std.proofs.lemmas.Result.{err_from_is_err_and, on_ok_weaker}
-use Rattle.ice_state.proofs.Snapshots.{covered}
 use Rattle.icescan.proofs.Steps.{list_file_ends, rows_end, scan_end, wanted_end, plan_end, plan_is, scan_again, has_each}
 use Rattle.icescan.proofs.run_list_plan.run_list_plan.Goals as goal
 
@@ -44,7 +43,7 @@ returns-in_err-plan-clause-refused g c =
     let present = c.in_ok-state.ensures.present world told in
     let rows = c.in_ok-rows.rows.items in
     let scan = c.in_ok-scan.scan in
-    let no_plan = c.in_err-plan.ensures.snapshot world rows (scan_again rows _ scan scanned) (covered world scan rows) (has_each world scan.wanted present) (c.in_ok-state.ensures.taken world told) in
+    let no_plan = c.in_err-plan.ensures.snapshot world rows (scan_again rows _ scan scanned) (c.covering.ensures world scan rows) (has_each world scan.wanted present) (c.in_ok-state.ensures.taken world told) in
     rw (p.1, p.2) (plan_end (g.F.Files.may_fail c.args.files.now) (g.W.Sink.may_fail c.args.output.now) world c.args.list.now c.deref.result.now has rows c.in_ok-rows.ensures.exact scan scanned present c.in_err-plan.field-0.0 no_plan)
 
 pub returns-clause-written : goal.returns-clause-written
@@ -56,7 +55,7 @@ returns-clause-written g c =
     let present = c.in_ok-state.ensures.present world told in
     let rows = c.in_ok-rows.rows.items in
     let scan = c.in_ok-scan.scan in
-    let plan = c.in_ok-plan.ensures.snapshot world rows (scan_again rows _ scan scanned) (covered world scan rows) (has_each world scan.wanted present) (c.in_ok-state.ensures.taken world told) in
+    let plan = c.in_ok-plan.ensures.snapshot world rows (scan_again rows _ scan scanned) (c.covering.ensures world scan rows) (has_each world scan.wanted present) (c.in_ok-state.ensures.taken world told) in
     let answered = plan_is (λ _. ⊥) ⊥ world c.args.list.now c.deref.result.now has rows c.in_ok-rows.ensures.exact scan scanned present c.in_ok-plan.plan plan in
     on_ok_weaker c.write_plan.result (λ all. (c.in_ok-plan.plan, answered, all)) c.write_plan.ensures.all
 
@@ -69,6 +68,6 @@ returns-clause-front g c =
     let present = c.in_ok-state.ensures.present world told in
     let rows = c.in_ok-rows.rows.items in
     let scan = c.in_ok-scan.scan in
-    let plan = c.in_ok-plan.ensures.snapshot world rows (scan_again rows _ scan scanned) (covered world scan rows) (has_each world scan.wanted present) (c.in_ok-state.ensures.taken world told) in
+    let plan = c.in_ok-plan.ensures.snapshot world rows (scan_again rows _ scan scanned) (c.covering.ensures world scan rows) (has_each world scan.wanted present) (c.in_ok-state.ensures.taken world told) in
     let answered = plan_is (λ _. ⊥) ⊥ world c.args.list.now c.deref.result.now has rows c.in_ok-rows.ensures.exact scan scanned present c.in_ok-plan.plan plan in
     (c.in_ok-plan.plan, answered, c.write_plan.ensures.front failed)

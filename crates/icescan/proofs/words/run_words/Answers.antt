@@ -1,13 +1,14 @@
-use Rattle.std.proofs.Common.{refl, inl, inr}
+use Rattle.std.proofs.Common.{refl, inl, inr, ap}
+use Rattle.std.specs.Prelude.{Err}
 use Rattle.icescan.proofs.words.run_words.Goals as goal
 
 pub returns-in-Ok-clause-run : goal.returns-in-Ok-clause-run
 returns-in-Ok-clause-run g c =
-    λ text told.
-    let w = c.in-Ok.ensures.written text told in
-    inl (record { plan = w.0; is = w.1; status_is = refl; written = w.2; silent = refl })
+    let w = c.in-Ok.ensures.ran in
+    (w.0, w.1, inl (record { written = w.2.written; status_is = refl; silent = refl }))
 
 pub returns-in-Err-clause-run : goal.returns-in-Err-clause-run
 returns-in-Err-clause-run g c =
-    λ text told.
-    inr (record { fault = c.in-Err.fault; cause = c.in-Err.ensures.refused text told; status_is = c.report.ensures.status; nothing = c.in-Err.ensures.nothing; told = c.report.ensures.front })
+    let w = c.in-Err.ensures.ran in
+    let ran = w.2 in
+    (w.0, w.1, inr (record { fault = c.in-Err.fault; cause = ran.refused; status_is = c.report.ensures.status; nothing = ran.nothing; front = λ is. ran.front (ap Err is); told = c.report.ensures.front }))

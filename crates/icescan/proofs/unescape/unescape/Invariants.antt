@@ -1,6 +1,6 @@
 use Rattle.std.proofs.Common.{◌≡◌, ◌++◌, length, option_map}
 use Rattle.icescan.specs.Escaping.{unescaped}
-use Rattle.icescan.proofs.escape.unescape.Given as goal
+use Rattle.icescan.proofs.unescape.unescape.Given as goal
 
 -- the text stands for the bytes so far and those of the rest
 abbrev pub invariant-loop-byte : goal.invariant-loop-byte

@@ -1,7 +1,7 @@
 use Rattle.std.proofs.Common.{arith}
 use Rattle.std.proofs.lemmas.List.{take_rest}
 use Rattle.icescan.proofs.Writes.{wrote_more, wrote_fails, escaped_split, escaped_more}
-use Rattle.icescan.proofs.pieces.put_escaped.Goals as goal
+use Rattle.icescan.proofs.escape.put_escaped.Goals as goal
 
 pub returns-in_err-done : goal.returns-in_err-done
 returns-in_err-done g c =

@@ -1,7 +1,7 @@
 use Rattle.std.proofs.Common.{◌≤◌, ◌-◌, length, take, Ok}
 use Rattle.icescan.specs.Escaping.{escaped}
 use Rattle.icescan.specs.Written.{Wrote}
-use Rattle.icescan.proofs.pieces.put_escaped.Given as goal
+use Rattle.icescan.proofs.escape.put_escaped.Given as goal
 
 -- what was written so far are the bytes so far
 abbrev pub invariant-loop-done : goal.invariant-loop-done

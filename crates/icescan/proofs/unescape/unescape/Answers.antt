@@ -1,6 +1,6 @@
 use Rattle.std.proofs.Common.{◌≡◌, ◌∷◌, [], ◌++◌, ◌∙◌, ap, refl, ℕ, List, Option, Some, None, option_map, append_assoc}
 use Rattle.icescan.specs.Escaping.{before}
-use Rattle.icescan.proofs.escape.unescape.Goals as goal
+use Rattle.icescan.proofs.unescape.unescape.Goals as goal
 
 -- a byte at the front of the rest, or at the end of what was read
 moved : (xs ys : List ℕ) (b : ℕ) (rest : Option (List ℕ)) → ys ≡ xs ++ b ∷ [] → option_map (λ more. xs ++ more) (before (Some b) rest) ≡ option_map (λ more. ys ++ more) rest
