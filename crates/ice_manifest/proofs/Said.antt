@@ -13,8 +13,8 @@ use Rattle.ice_manifest.specs.declared.fault.ManifestFault.{ManifestFault}
 use Rattle.ice_manifest.specs.declared.fault.ManifestFault.TheVariants.{BadStatus}
 use Rattle.ice_manifest.specs.declared.row.Row.{Row}
 use Rattle.ice_manifest.specs.declared.entry.Entry.{Entry}
-use Rattle.ice_manifest.specs.declared.live.Status.{Status}
-use Rattle.ice_manifest.specs.declared.live.Status.TheVariants.{Existing, Added, Deleted}
+use Rattle.ice_manifest.specs.declared.status.Status.{Status}
+use Rattle.ice_manifest.specs.declared.status.Status.TheVariants.{Existing, Added, Deleted}
 use Rattle.ice_manifest.specs.declared.layout.EntryLayout.{EntryLayout}
 use Rattle.ice_manifest.specs.Fields.{nth, fields_of, int_in, optional_number, asked}
 use Rattle.ice_manifest.specs.Manifests.{manifested, status_of, unless_deleted, inherited, file_of, file_at, entry_of, live_entry, entry_at, with_live, entries_from}

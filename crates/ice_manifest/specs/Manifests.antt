@@ -21,9 +21,9 @@ use Rattle.ice_manifest.specs.declared.row.ManifestContent.TheVariants.{Data, De
 use Rattle.ice_manifest.specs.declared.entry.Entry.{Entry}
 use Rattle.ice_manifest.specs.declared.entry.FileContent.{FileContent}
 use Rattle.ice_manifest.specs.declared.entry.FileContent.TheVariants as holds
-use Rattle.ice_manifest.specs.declared.live.Status.{Status}
-use Rattle.ice_manifest.specs.declared.live.Status.TheVariants.{Existing, Added, Deleted}
-use Rattle.ice_manifest.specs.declared.live.DataFile.{DataFile}
+use Rattle.ice_manifest.specs.declared.status.Status.{Status}
+use Rattle.ice_manifest.specs.declared.status.Status.TheVariants.{Existing, Added, Deleted}
+use Rattle.ice_manifest.specs.declared.data_file.DataFile.{DataFile}
 use Rattle.ice_manifest.specs.declared.layout.EntryLayout.{EntryLayout}
 use Rattle.ice_manifest.specs.declared.layout.FileLayout.{FileLayout}
 use Rattle.ice_manifest.specs.declared.kind.Kind.TheVariants as kind

@@ -55,7 +55,7 @@ pub enum ManifestFault {
     BadStatus,
     /// A content number is none, or does not fit the manifest's row.
     BadContent,
-    /// An existing entry has no sequence number of its own.
+    /// An existing entry has no sequence number of its own, under a row whose number is not 0.
     NoSequence,
     /// A growth was refused.
     Memory,

@@ -1,6 +1,7 @@
 //! Manifest lists and manifests: their rows and live entries, found by field id, or the first fault.
 #![tactic(auto)]
 
+mod data_file;
 mod entry;
 mod fault;
 mod field;
@@ -8,10 +9,10 @@ mod kind;
 mod laws;
 mod layout;
 mod list;
-mod live;
 mod manifest;
 mod pick;
 mod row;
+mod status;
 
 pub use entry::{Entry, FileContent};
 pub use fault::{ListFault, ManifestFault};

@@ -8,14 +8,15 @@ ghost use Rattle.ice_manifest.specs.Fields.{values};
 ghost use Rattle.ice_manifest.specs.Outcome.{found_file};
 ghost use Rattle.ice_manifest.specs.Manifests.{entries_of, status_of as status_in, content_of as content_in, inherited as inherited_in, file_of as file_in, file_at as file_said, live_entry as live_said, entry_at as entry_said, entries_ahead, with_live, layout_at as layout_in, record_of as record_in};
 
+use crate::data_file::DataFile;
 use crate::entry::{Entry, FileContent};
 use crate::fault::ManifestFault;
 use crate::field::{
     fields_of, int_at, list_at, long_at, optional_number, path_at, take, take_path,
 };
 use crate::layout::{EntryLayout, FileLayout};
-use crate::live::{DataFile, Status};
 use crate::row::{ManifestContent, Row};
+use crate::status::Status;
 use avro_file::{Container, Datum};
 use ice_meta::Spec;
 use ice_value::Items;

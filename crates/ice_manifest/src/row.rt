@@ -15,12 +15,16 @@ pub enum ManifestContent {
 /// A row of a manifest list. It stands for one manifest.
 #[derive(Debug, PartialEq, Drop)]
 pub struct Row {
+    /// Where the manifest is.
     pub path: Text,
     /// In bytes, as the list says; any number.
     pub length: i64,
+    /// The id of its partition spec.
     pub spec: i32,
     pub content: ManifestContent,
+    /// The number of the commit that added the manifest. Its added entries inherit it.
     pub sequence_number: u64,
+    /// The least number of its live entries, as the list says.
     pub min_sequence_number: u64,
     pub added_snapshot_id: i64,
 }

@@ -39,30 +39,77 @@ fn bytes_of(alloc: Global, hex: &str) -> Result<Vec<u8>, Fail> {
     Ok(bytes)
 }
 
-/// A file of objects of this type, in one block.
-fn file(alloc: Global, schema: &str, objects: &[&[u8]]) -> Result<Vec<u8>, AllocError> {
-    let mut bytes = b"Obj\x01\x02".to_vec(alloc)?;
+/// The header of a file of objects of this type, with these further keys before the type.
+fn header(alloc: Global, further: &[(&str, &str)], schema: &str) -> Result<Vec<u8>, AllocError> {
+    let mut bytes = b"Obj\x01".to_vec(alloc)?;
+    push_number(&mut bytes, further.len().wrapping_add(1))?;
+    for (key, value) in further {
+        push_run(&mut bytes, key.as_bytes())?;
+        push_run(&mut bytes, value.as_bytes())?;
+    }
     push_run(&mut bytes, b"avro.schema")?;
     push_run(&mut bytes, schema.as_bytes())?;
     bytes.push(0)?;
     bytes.extend_from_slice(&MARKER)?;
+    Ok(bytes)
+}
+
+fn push_block(bytes: &mut Vec<u8>, alloc: Global, objects: &[&[u8]]) -> Result<(), AllocError> {
     let mut content = Vec::new(alloc);
     for object in objects {
         content.extend_from_slice(object)?;
     }
-    push_number(&mut bytes, objects.len())?;
-    push_run(&mut bytes, &content)?;
-    bytes.extend_from_slice(&MARKER)?;
+    push_number(bytes, objects.len())?;
+    push_run(bytes, &content)?;
+    bytes.extend_from_slice(&MARKER)
+}
+
+/// A file of objects of this type, in one block.
+fn file(alloc: Global, schema: &str, objects: &[&[u8]]) -> Result<Vec<u8>, AllocError> {
+    let mut bytes = header(alloc, &[], schema)?;
+    push_block(&mut bytes, alloc, objects)?;
     Ok(bytes)
 }
 
-/// A record of these fields, of which the one at a position is replaced.
+/// Further keys, as writers put them into a header.
+const FURTHER_KEYS: [(&str, &str); 5] = [
+    ("avro.codec", "null"),
+    ("schema", "{}"),
+    ("format-version", "2"),
+    ("content", "deletes"),
+    ("avro.schema", "\"long\""),
+];
+
+/// Fields that stand in place of others, each at a position.
+type Changes<'a> = Vec<(usize, &'a str)>;
+
+/// The changes that a line of a table says: a position and a field each.
+fn changes_of(alloc: Global, text: &str) -> Result<Changes<'_>, Fail> {
+    let mut changes = Vec::new(alloc);
+    for change in text.split(" & ") {
+        let (position, field) = change.split_once(" ").ok_or("a position")?;
+        changes.push((position.parse::<usize>()?, field))?;
+    }
+    Ok(changes)
+}
+
+/// The field that stands at a position in place of another.
+fn change_at<'a>(position: usize, changes: &[(usize, &'a str)]) -> Option<&'a str> {
+    for (place, field) in changes {
+        if *place == position {
+            return Some(*field);
+        }
+    }
+    None
+}
+
+/// A record of these fields, of which the first has this position, after the changes.
 fn record(
     alloc: Global,
     name: &str,
     fields: &[&str],
-    position: usize,
-    other: &str,
+    first: usize,
+    changes: &[(usize, &str)],
 ) -> Result<String, AllocError> {
     let mut text = String::from_str(alloc, "{\"type\":\"record\",\"name\":\"")?;
     text.push_str(name)?;
@@ -71,7 +118,10 @@ fn record(
         if i > 0 {
             text.push_str(",")?;
         }
-        text.push_str(if i == position { other } else { *field })?;
+        match change_at(first.wrapping_add(i), changes) {
+            Some(other) => text.push_str(other)?,
+            None => text.push_str(*field)?,
+        }
     }
     text.push_str("]}")?;
     Ok(text)

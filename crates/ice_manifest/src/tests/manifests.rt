@@ -37,24 +37,19 @@ fn row(alloc: Global, content: ManifestContent, sequence_number: u64) -> Result<
 /// An entry's type with this field for its data file.
 fn with_file(alloc: Global, field: &str) -> Result<String, AllocError> {
     let [status, sequence] = ENTRY;
-    record(alloc, "manifest_entry", &[status, sequence, field], 3, "")
+    record(alloc, "manifest_entry", &[status, sequence, field], 0, &[])
 }
 
-/// An entry's type, of which one field, counted through the entry's and then the file's, is replaced.
-fn schema(alloc: Global, position: usize, field: &str) -> Result<String, AllocError> {
-    let (outer, inner) = if position < 2 {
-        (position, 9)
-    } else {
-        (9, position - 2)
-    };
-    let file = record(alloc, "r2", &FILE, inner, field)?;
+/// An entry's type after these changes. Its own fields have the positions from 0, those of its data file from 10.
+fn schema(alloc: Global, changes: &[(usize, &str)]) -> Result<String, AllocError> {
+    let file = record(alloc, "r2", &FILE, 10, changes)?;
     let file = file.as_str();
     let file_field = format!(in alloc;
         "{{\"name\":\"data_file\",\"type\":{file},\"field-id\":2}}"
     )?;
     let [status, sequence] = ENTRY;
     let fields = [status, sequence, file_field.as_str()];
-    record(alloc, "manifest_entry", &fields, outer, field)
+    record(alloc, "manifest_entry", &fields, 0, changes)
 }
 
 /// What reading a manifest gives: a line for each entry, or the fault.
@@ -89,7 +84,7 @@ fn entries(
     sequence_number: u64,
     objects: &[&[u8]],
 ) -> Result<String, Fail> {
-    let bytes = file(alloc, &schema(alloc, 9, "")?, objects)?;
+    let bytes = file(alloc, &schema(alloc, &[])?, objects)?;
     outcome(alloc, &row(alloc, content, sequence_number)?, &bytes)
 }
 
@@ -176,43 +171,60 @@ fn first_of_two_entries_at_fault(rt: HostRuntime) -> Result<(), Fail> {
     Ok(())
 }
 
-/// A field in place of the one at a position, an entry, and what reading a manifest of it gives.
-const TYPES: &str =
-    r#"0 | {"name":"status","type":"int"} | 02 00 00 02 61 00 00 00 = MissingField(0)
-0 | {"name":"p","type":"string","field-id":0} | 02 00 00 02 61 00 00 00 = WrongFieldType(0)
-0 | {"name":"p","type":["null","int"],"field-id":0} | 00 00 00 02 61 00 00 00 = MissingField(0)
-0 | {"name":"p","type":"long","field-id":0} | 80 80 80 80 10 00 00 02 61 00 00 00 = OutOfRange(0)
-1 | {"name":"sequence_number","type":["null","long"]} | 02 00 00 02 61 00 00 00 = 0 a Data 7 0 0 [] 7 true
-1 | {"name":"p","type":["null","string"],"field-id":3} | 02 00 00 02 61 00 00 00 = WrongFieldType(3)
-1 | {"name":"p","type":"int","field-id":3} | 00 0a 00 02 61 00 00 00 = 0 a Data 5 0 0 [] 7 true
-2 | {"name":"content","type":"int"} | 02 00 00 02 61 00 00 00 = MissingField(134)
-2 | {"name":"p","type":"boolean","field-id":134} | 02 00 00 02 61 00 00 00 = WrongFieldType(134)
-2 | {"name":"p","type":["null","int"],"field-id":134} | 02 00 00 02 61 00 00 00 = MissingField(134)
-2 | {"name":"p","type":"long","field-id":134} | 02 00 80 80 80 80 10 02 61 00 00 00 = OutOfRange(134)
-3 | {"name":"p","type":"bytes","field-id":100} | 02 00 00 02 61 00 00 00 = WrongFieldType(100)
-3 | {"name":"p","type":["null","string"],"field-id":100} | 02 00 00 00 00 00 00 = MissingField(100)
-3 | {"name":"p","type":["string","null"],"field-id":100} | 02 00 00 00 02 61 00 00 00 = 0 a Data 7 0 0 [] 7 true
-4 | {"name":"p","type":"double","field-id":103} | 02 00 00 02 61 00 00 00 = WrongFieldType(103)
-4 | {"name":"p","type":["null","long"],"field-id":103} | 02 00 00 02 61 00 00 00 = MissingField(103)
-5 | {"name":"p","type":["null","long"],"field-id":104} | 02 00 00 02 61 00 00 00 = MissingField(104)
-5 | {"name":"p","type":"long","field-id":103} | 02 00 00 02 61 00 00 00 = Avro(Schema(FieldTwice(103)))
-6 | {"name":"p","type":"null"} | 02 00 00 02 61 00 00 = 0 a Data 7 0 0 [] 7 true
-6 | {"name":"p","type":{"type":"array","items":"long"},"field-id":135} | 02 00 00 02 61 00 00 03 04 36 00 00 = 0 a Data 7 0 0 [27, 0] 7 true
-6 | {"name":"p","type":{"type":"array","items":"long"},"field-id":135} | 02 00 00 02 61 00 00 02 80 80 80 80 10 00 = OutOfRange(136)
-6 | {"name":"p","type":{"type":"array","items":["null","int"]},"field-id":135} | 02 00 00 02 61 00 00 04 02 06 00 00 = MissingField(136)
-6 | {"name":"p","type":{"type":"array","items":"string"},"field-id":135} | 02 00 00 02 61 00 00 00 = WrongFieldType(136)
-6 | {"name":"p","type":{"type":"map","values":"int"},"field-id":135} | 02 00 00 02 61 00 00 00 = WrongFieldType(135)
-6 | {"name":"p","type":{"type":"array","logicalType":"map","items":"int"},"field-id":135} | 02 00 00 02 61 00 00 00 = WrongFieldType(135)"#;
+/// Fields in place of those at some positions, an entry, and what reading a manifest of it gives.
+const TYPES: &str = r#"0 {"name":"status","type":"int"} | 02 00 00 02 61 00 00 00 = MissingField(0)
+0 {"name":"p","type":"string","field-id":0} | 02 00 00 02 61 00 00 00 = WrongFieldType(0)
+0 {"name":"p","type":["null","int"],"field-id":0} | 00 00 00 02 61 00 00 00 = MissingField(0)
+0 {"name":"p","type":"long","field-id":0} | 80 80 80 80 10 00 00 02 61 00 00 00 = OutOfRange(0)
+1 {"name":"sequence_number","type":["null","long"]} | 02 00 00 02 61 00 00 00 = 0 a Data 7 0 0 [] 7 true
+1 {"name":"p","type":["null","string"],"field-id":3} | 02 00 00 02 61 00 00 00 = WrongFieldType(3)
+1 {"name":"p","type":"int","field-id":3} | 00 0a 00 02 61 00 00 00 = 0 a Data 5 0 0 [] 7 true
+10 {"name":"content","type":"int"} | 02 00 00 02 61 00 00 00 = MissingField(134)
+10 {"name":"p","type":"boolean","field-id":134} | 02 00 00 02 61 00 00 00 = WrongFieldType(134)
+10 {"name":"p","type":["null","int"],"field-id":134} | 02 00 00 02 61 00 00 00 = MissingField(134)
+10 {"name":"p","type":"long","field-id":134} | 02 00 80 80 80 80 10 02 61 00 00 00 = OutOfRange(134)
+11 {"name":"p","type":"bytes","field-id":100} | 02 00 00 02 61 00 00 00 = WrongFieldType(100)
+11 {"name":"p","type":["null","string"],"field-id":100} | 02 00 00 00 00 00 00 = MissingField(100)
+11 {"name":"p","type":["string","null"],"field-id":100} | 02 00 00 00 02 61 00 00 00 = 0 a Data 7 0 0 [] 7 true
+12 {"name":"p","type":"double","field-id":103} | 02 00 00 02 61 00 00 00 = WrongFieldType(103)
+12 {"name":"p","type":["null","long"],"field-id":103} | 02 00 00 02 61 00 00 00 = MissingField(103)
+13 {"name":"p","type":["null","long"],"field-id":104} | 02 00 00 02 61 00 00 00 = MissingField(104)
+13 {"name":"p","type":"long","field-id":103} | 02 00 00 02 61 00 00 00 = Avro(Schema(FieldTwice(103)))
+14 {"name":"p","type":"null"} | 02 00 00 02 61 00 00 = 0 a Data 7 0 0 [] 7 true
+14 {"name":"p","type":{"type":"array","items":"long"},"field-id":135} | 02 00 00 02 61 00 00 03 04 36 00 00 = 0 a Data 7 0 0 [27, 0] 7 true
+14 {"name":"p","type":{"type":"array","items":"long"},"field-id":135} | 02 00 00 02 61 00 00 02 80 80 80 80 10 00 = OutOfRange(136)
+14 {"name":"p","type":{"type":"array","items":["null","int"]},"field-id":135} | 02 00 00 02 61 00 00 04 02 06 00 00 = MissingField(136)
+14 {"name":"p","type":{"type":"array","items":"string"},"field-id":135} | 02 00 00 02 61 00 00 00 = WrongFieldType(136)
+14 {"name":"p","type":{"type":"map","values":"int"},"field-id":135} | 02 00 00 02 61 00 00 00 = WrongFieldType(135)
+14 {"name":"p","type":{"type":"array","logicalType":"map","items":"int"},"field-id":135} | 02 00 00 02 61 00 00 00 = WrongFieldType(135)
+0 {"name":"p","type":["null","int"],"field-id":0} | 00 02 01 02 02 61 00 00 00 = MissingField(0)
+0 {"name":"p","type":"long","field-id":0} | 80 80 80 80 10 02 01 02 02 61 00 00 00 = OutOfRange(0)
+0 {"name":"p","type":"string","field-id":0} | 00 02 01 02 02 61 00 00 00 = WrongFieldType(0)
+10 {"name":"p","type":["null","int"],"field-id":134} | 00 00 00 02 61 00 00 00 = NoSequence
+10 {"name":"p","type":["null","int"],"field-id":134} | 02 02 01 00 02 61 00 00 00 = OutOfRange(3)
+10 {"name":"p","type":["null","int"],"field-id":134} & 11 {"name":"q","type":["null","string"],"field-id":100} | 02 00 00 00 00 00 00 = MissingField(134)
+10 {"name":"p","type":"long","field-id":134} & 11 {"name":"q","type":["null","string"],"field-id":100} | 02 00 80 80 80 80 10 00 00 00 00 = OutOfRange(134)
+11 {"name":"p","type":["null","string"],"field-id":100} | 02 00 02 00 00 00 00 = BadContent
+11 {"name":"p","type":["null","string"],"field-id":100} & 12 {"name":"q","type":["null","long"],"field-id":103} | 02 00 00 00 00 00 00 = MissingField(100)
+12 {"name":"p","type":["null","long"],"field-id":103} | 02 00 02 02 61 00 00 00 = BadContent
+12 {"name":"p","type":["null","long"],"field-id":103} & 13 {"name":"q","type":["null","long"],"field-id":104} | 02 00 00 02 61 00 00 00 = MissingField(103)
+12 {"name":"p","type":["null","long"],"field-id":103} & 14 {"name":"q","type":{"type":"array","items":"long"},"field-id":135} | 02 00 00 02 61 00 00 02 80 80 80 80 10 00 = MissingField(103)
+13 {"name":"p","type":["null","long"],"field-id":104} & 14 {"name":"q","type":{"type":"array","items":"long"},"field-id":135} | 02 00 00 02 61 00 00 02 80 80 80 80 10 00 = MissingField(104)
+14 {"name":"p","type":{"type":"array","items":["null","long"]},"field-id":135} | 02 00 00 02 61 00 00 04 02 80 80 80 80 10 00 00 = OutOfRange(136)
+14 {"name":"p","type":{"type":"array","items":["null","long"]},"field-id":135} | 02 00 00 02 61 00 00 04 00 02 80 80 80 80 10 00 = MissingField(136)
+14 {"name":"p","type":{"type":"array","items":["null","long"]},"field-id":135} | 02 00 00 02 61 00 00 04 00 04 00 = Avro(BadUnion)
+14 {"name":"p","type":"string","field-id":135} | 06 00 00 02 61 00 00 00 = WrongFieldType(135)
+14 {"name":"p","type":{"type":"array","items":"string"},"field-id":135} | 06 00 00 02 61 00 00 00 = WrongFieldType(136)"#;
 
 #[test]
 fn types_of_fields(rt: HostRuntime) -> Result<(), Fail> {
     let data = row(rt.alloc(), ManifestContent::Data, 7)?;
     for line in TYPES.lines() {
-        let (position, rest) = line.split_once(" | ").ok_or("a position")?;
-        let (field, rest) = rest.split_once(" | ").ok_or("a field")?;
+        let (changes, rest) = line.split_once(" | ").ok_or("changes")?;
         let (entry, expected) = rest.split_once(" = ").ok_or("an entry")?;
+        let changes = changes_of(rt.alloc(), changes)?;
         let entry = bytes_of(rt.alloc(), entry)?;
-        let schema = schema(rt.alloc(), position.parse::<usize>()?, field)?;
+        let schema = schema(rt.alloc(), &changes)?;
         let found = outcome(
             rt.alloc(),
             &data,
@@ -230,13 +242,15 @@ const UNIONS: &str = "\
 02 00 04 c8 01 14 02 61 00 = 0 a Data 7 10 100 [] 7 true
 02 00 00 = MissingField(2)
 00 00 00 = NoSequence
+02 02 01 00 = OutOfRange(3)
+06 02 01 00 = BadStatus
 04 00 00 = ";
 
 #[test]
 fn data_files_in_unions(rt: HostRuntime) -> Result<(), Fail> {
-    let first = record(rt.alloc(), "first", &FILE, 7, "")?;
+    let first = record(rt.alloc(), "first", &FILE, 0, &[])?;
     let [content, path, count, size, _] = FILE;
-    let second = record(rt.alloc(), "second", &[size, count, path, content], 7, "")?;
+    let second = record(rt.alloc(), "second", &[size, count, path, content], 0, &[])?;
     let (first, second) = (first.as_str(), second.as_str());
     let file_field = format!(in rt.alloc();
         "{{\"name\":\"f\",\"type\":[\"null\",{first},{second}],\"field-id\":2}}"
@@ -273,52 +287,122 @@ fn types_of_data_files(rt: HostRuntime) -> Result<(), Fail> {
     Ok(())
 }
 
-/// Other names, another order, fields without an id or with one that nothing asks for.
+/// Two fields that are not as they have to be, and the fault, which is that of the first in the order of the tables.
+const TWO_TYPES: &str =
+    r#"0 {"name":"p","type":"int"} & 1 {"name":"q","type":"string","field-id":3} = MissingField(0)
+0 {"name":"p","type":"string","field-id":0} & 2 {"name":"q","type":"long"} = WrongFieldType(0)
+1 {"name":"p","type":"string","field-id":3} & 2 {"name":"q","type":"long"} = WrongFieldType(3)
+1 {"name":"p","type":"string","field-id":3} & 10 {"name":"q","type":"int"} = WrongFieldType(3)
+2 {"name":"p","type":"long"} & 10 {"name":"q","type":"int"} = MissingField(2)
+10 {"name":"p","type":"string","field-id":134} & 11 {"name":"q","type":"string"} = WrongFieldType(134)
+11 {"name":"p","type":"string"} & 12 {"name":"q","type":"string","field-id":103} = MissingField(100)
+12 {"name":"p","type":"string","field-id":103} & 13 {"name":"q","type":"long"} = WrongFieldType(103)
+13 {"name":"p","type":"long"} & 14 {"name":"q","type":"string","field-id":135} = MissingField(104)
+13 {"name":"p","type":"bytes","field-id":104} & 14 {"name":"q","type":{"type":"array","items":"string"},"field-id":135} = WrongFieldType(104)"#;
+
 #[test]
-fn fields_are_found_by_their_ids(rt: HostRuntime) -> Result<(), Fail> {
-    let file_type = record(
-        rt.alloc(),
-        "g",
-        &[
-            r#"{"name":"a","type":["null",{"type":"array","items":"int","element-id":136}],"field-id":135}"#,
-            r#"{"name":"b","type":"long","field-id":104,"doc":"text"}"#,
-            r#"{"name":"content","type":{"type":"map","values":"string"},"field-id":9000}"#,
-            r#"{"name":"c","type":"long","field-id":103}"#,
-            r#"{"name":"file_path","type":"string"}"#,
-            r#"{"name":"d","type":"string","field-id":100}"#,
-            r#"{"name":"e","type":"int","field-id":134}"#,
-        ],
-        9,
-        "",
-    )?;
-    let file_type = file_type.as_str();
-    let file_field = format!(in rt.alloc();
-        "{{\"name\":\"h\",\"type\":{file_type},\"field-id\":2}}"
-    )?;
-    let entry = record(
-        rt.alloc(),
-        "i",
-        &[
-            file_field.as_str(),
-            r#"{"name":"j","type":["null","long"],"field-id":3}"#,
-            r#"{"name":"status","type":"int","field-id":1}"#,
-            r#"{"name":"k","type":"int","field-id":0}"#,
-        ],
-        9,
-        "",
-    )?;
-    // The block of ids is one with its size.
-    let object =
-        b"\x02\x01\x02\x02\x00\xc8\x01\x02\x02k\x02v\x00\x14\x02x\x22mem://t/e.parquet\x04\x00\x06\x02";
-    let bytes = file(rt.alloc(), &entry, &[object])?;
-    let found = outcome(
-        rt.alloc(),
-        &row(rt.alloc(), ManifestContent::Deletes, 3)?,
-        &bytes,
-    )?;
+fn first_of_two_types_at_fault(rt: HostRuntime) -> Result<(), Fail> {
+    let data = row(rt.alloc(), ManifestContent::Data, 7)?;
+    for line in TWO_TYPES.lines() {
+        let (changes, expected) = line.split_once(" = ").ok_or("changes")?;
+        let schema = schema(rt.alloc(), &changes_of(rt.alloc(), changes)?)?;
+        let found = outcome(rt.alloc(), &data, &file(rt.alloc(), &schema, &[])?)?;
+        assert_eq!(rt; found.as_str(), expected, "{line}");
+    }
+    Ok(())
+}
+
+/// What opening the file finds comes before its types, and these before its blocks.
+#[test]
+fn faults_of_a_file_as_it_is_opened(rt: HostRuntime) -> Result<(), Fail> {
+    let data = row(rt.alloc(), ManifestContent::Data, 7)?;
+    let packed = header(rt.alloc(), &[("avro.codec", "deflate")], "\"long\"")?;
+    let found = outcome(rt.alloc(), &data, &packed)?;
+    assert!(rt; found.starts_with("Avro(Codec("));
+    let mut cut = header(rt.alloc(), &[], "\"long\"")?;
+    cut.push(1)?;
+    let found = outcome(rt.alloc(), &data, &cut)?;
+    assert_eq!(rt; found.as_str(), "MissingField(0)");
+    let mut cut = header(rt.alloc(), &[], &schema(rt.alloc(), &[])?)?;
+    cut.push(1)?;
+    let found = outcome(rt.alloc(), &data, &cut)?;
+    assert_eq!(rt; found.as_str(), "Avro(BlockSize)");
+    Ok(())
+}
+
+/// What reading an added entry gives that has this content number and a path of so many bytes, in a manifest of data.
+fn entry_of_length(alloc: Global, content: u8, length: usize) -> Result<String, Fail> {
+    let path = vec![in alloc; b'a'; length]?;
+    let mut entry = b"\x02\x00".to_vec(alloc)?;
+    entry.push(content)?;
+    push_run(&mut entry, &path)?;
+    entry.extend_from_slice(b"\x00\x00\x00")?;
+    entries(alloc, ManifestContent::Data, 7, &[entry.as_slice()])
+}
+
+#[test]
+fn paths_of_at_most_65535_bytes(rt: HostRuntime) -> Result<(), Fail> {
+    let whole = entry_of_length(rt.alloc(), 0, 65535)?;
+    assert!(rt; whole.ends_with("a Data 7 0 0 [] 7 true\n"));
+    let long = entry_of_length(rt.alloc(), 0, 65536)?;
+    assert_eq!(rt; long.as_str(), "OutOfRange(100)");
+    let content = entry_of_length(rt.alloc(), 2, 65536)?;
+    assert_eq!(rt; content.as_str(), "BadContent");
+    Ok(())
+}
+
+/// A data file's fields by other names and in another order, with some that have no id or one that nothing asks for.
+const OTHER_FILE: [&str; 8] = [
+    r#"{"name":"a","type":["null",{"type":"array","items":"int","element-id":136}],"field-id":135}"#,
+    r#"{"name":"b","type":"long","field-id":104,"doc":"text"}"#,
+    r#"{"name":"content","type":{"type":"map","values":"string"},"field-id":9000}"#,
+    r#"{"name":"equality_ids","type":{"type":"array","items":"string","element-id":9002},"field-id":9001}"#,
+    r#"{"name":"c","type":"long","field-id":103,"order":"ignore"}"#,
+    r#"{"name":"file_path","type":"string"}"#,
+    r#"{"name":"d","type":"string","field-id":100,"aliases":["z"]}"#,
+    r#"{"name":"e","type":"int","field-id":134}"#,
+];
+
+/// The same of an entry.
+fn other_schema(alloc: Global) -> Result<String, AllocError> {
+    let file = record(alloc, "g", &OTHER_FILE, 0, &[])?;
+    let file = file.as_str();
+    let file_field = format!(in alloc; "{{\"name\":\"h\",\"type\":{file},\"field-id\":2}}")?;
+    let fields = [
+        file_field.as_str(),
+        r#"{"name":"j","type":["null","long"],"field-id":3}"#,
+        r#"{"name":"status","type":"int","field-id":1}"#,
+        r#"{"name":"k","type":"int","field-id":0,"default":0}"#,
+    ];
+    record(alloc, "i", &fields, 0, &[])
+}
+
+/// The entries E and P with a deleted one between them, in blocks of which one is empty. Lists have blocks with their
+/// sizes too.
+fn written_otherwise(alloc: Global) -> Result<Vec<u8>, AllocError> {
+    let e =
+        b"\x02\x01\x02\x02\x00\xc8\x01\x02\x02k\x02v\x00\x03\x08\x02x\x02y\x02\x02z\x00\x14\x02x\x22mem://t/e.parquet\x04\x00\x06\x02".as_slice();
+    let deleted = b"\x00\x00\x00\x00\x00\x00\x00\x0a\x00\x00\x04".as_slice();
+    let p =
+        b"\x00\xc8\x01\x01\x08\x02k\x02v\x00\x00\x14\x00\x22mem://t/p.parquet\x02\x00\x00\x02".as_slice();
+    let mut bytes = header(alloc, &FURTHER_KEYS, &other_schema(alloc)?)?;
+    for block in [[e, deleted].as_slice(), [].as_slice(), [p].as_slice()] {
+        push_block(&mut bytes, alloc, block)?;
+    }
+    Ok(bytes)
+}
+
+/// Other names, another order, fields without an id or with one that nothing asks for, further keys, several blocks.
+#[test]
+fn the_same_entries_written_otherwise(rt: HostRuntime) -> Result<(), Fail> {
+    let deletes = row(rt.alloc(), ManifestContent::Deletes, 3)?;
+    let found = outcome(rt.alloc(), &deletes, &written_otherwise(rt.alloc())?)?;
+    let deleted = b"\x04\x00\x0a\x00\x00\x00\x00".as_slice();
+    let plain = entries(rt.alloc(), ManifestContent::Deletes, 3, &[E, deleted, P])?;
+    assert_eq!(rt; found.as_str(), plain.as_str());
     assert_eq!(rt;
         found.as_str(),
-        "0 mem://t/e.parquet EqualityDeletes 3 10 100 [1] 7 true\n"
+        "0 mem://t/e.parquet EqualityDeletes 3 10 100 [1] 7 true\n2 mem://t/p.parquet PositionDeletes 3 10 100 [] 7 true\n"
     );
     Ok(())
 }
@@ -327,7 +411,7 @@ fn fields_are_found_by_their_ids(rt: HostRuntime) -> Result<(), Fail> {
 fn copies(rt: HostRuntime) -> Result<(), Fail> {
     let data = row(rt.alloc(), ManifestContent::Data, 3)?;
     assert!(rt; data.copy(rt.alloc())? == data);
-    let bytes = file(rt.alloc(), &schema(rt.alloc(), 9, "")?, &[A])?;
+    let bytes = file(rt.alloc(), &schema(rt.alloc(), &[])?, &[A])?;
     let entries = read_manifest(rt.alloc(), &data, &Spec::empty(7), &bytes)
         .ok()
         .ok_or("entries")?;

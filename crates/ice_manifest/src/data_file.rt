@@ -1,17 +1,9 @@
-//! The parts of a manifest entry.
+//! The file that a manifest entry is about.
 
 use crate::entry::FileContent;
 use ice_value::{Items, Text};
 
-/// What became of an entry's file in its snapshot.
-#[derive(Clone, Copy, Debug, PartialEq, Eq)]
-pub enum Status {
-    Existing,
-    Added,
-    Deleted,
-}
-
-/// The file of an entry.
+/// What a live entry says of its file. It holds data or deletes.
 #[derive(Debug, Drop)]
 pub struct DataFile {
     pub content: FileContent,
