@@ -127,14 +127,14 @@ same_rising a b x y le e f =
     rw (← ex, ← ey) le
 
 -- of the day of a time
-micros_rising : (g : ℤ → Option ℤ) → IsRising g → IsRising (λ v. g (floor_div (pos 86_400_000_000) v))
+microseconds_rising : (g : ℤ → Option ℤ) → IsRising g → IsRising (λ v. g (floor_div (pos 86_400_000_000) v))
 unfolding IsRising
-micros_rising g rise a b x y le e f = rise (floor_div (pos 86_400_000_000) a) (floor_div (pos 86_400_000_000) b) x y (unit_mono 86_400_000_000 a b (omega arith) le) e f
+microseconds_rising g rise a b x y le e f = rise (floor_div (pos 86_400_000_000) a) (floor_div (pos 86_400_000_000) b) x y (unit_mono 86_400_000_000 a b (omega arith) le) e f
 
 days_rising : (g : ℤ → Option ℤ) → IsRising g → (t : ColumnType) (a b p q : Cell) → is_at_most a b ≡ true → option_map Whole (option_and_then g (day_of t a)) ≡ Some p → option_map Whole (option_and_then g (day_of t b)) ≡ Some q → is_at_most p q ≡ true
 days_rising g rise Date (Whole a) (Whole b) p q le e f = whole_rising g rise a b p q le e f
-days_rising g rise Timestamp (Whole a) (Whole b) p q le e f = whole_rising (λ v. g (floor_div (pos 86_400_000_000) v)) (micros_rising g rise) a b p q le e f
-days_rising g rise Timestamptz (Whole a) (Whole b) p q le e f = whole_rising (λ v. g (floor_div (pos 86_400_000_000) v)) (micros_rising g rise) a b p q le e f
+days_rising g rise Timestamp (Whole a) (Whole b) p q le e f = whole_rising (λ v. g (floor_div (pos 86_400_000_000) v)) (microseconds_rising g rise) a b p q le e f
+days_rising g rise Timestamptz (Whole a) (Whole b) p q le e f = whole_rising (λ v. g (floor_div (pos 86_400_000_000) v)) (microseconds_rising g rise) a b p q le e f
 days_rising g rise t a b p q le e f = absurd cc
 
 given_back : (o : Option ℤ) → option_and_then (λ (x : ℤ). Some x) o ≡ o
