@@ -45,7 +45,7 @@ fn byte_at(name: &FullName, index: usize) -> u8
     }
 }
 
-/// The order of two full names behind bytes that both have.
+/// The order of what two full names have from a place on.
 fn order_from(left: &FullName, right: &FullName, start: usize) -> Ordering
     requires { (start ≤ length (joined left.now)) × (start ≤ length (joined right.now)) }
     ensures { result ≡ slice_cmp nat_cmp (drop start (joined left.now)) (drop start (joined right.now)) }
@@ -61,7 +61,7 @@ fn order_from(left: &FullName, right: &FullName, start: usize) -> Ordering
     first.cmp(&second)
 }
 
-/// The order of two full names as texts. What their namespaces share is passed in long strides.
+/// The order of two full names as texts: the fronts of their namespaces as slices, the rest byte by byte.
 fn order<'a>(left: &FullName<'a>, right: &FullName<'a>) -> Ordering
     ensures { result ≡ slice_cmp nat_cmp (joined left.now) (joined right.now) }
 {
