@@ -146,8 +146,9 @@ pub fn define<'a>(
 ) -> Result<Seen<'a>, SchemaFault>
     ensures { Gives SchemaFault.Memory met result (defined (joined name.entry) (option_map tree schema) (met seen.entry)) }
 {
-    if seen.names.contains_key(&name) {
-        return Err(SchemaFault::NameTwice);
+    let Seen { mut names, left } = seen;
+    match names.insert(name, schema)? {
+        Some(_) => Err(SchemaFault::NameTwice),
+        None => Ok(Seen { names, left }),
     }
-    set(name, schema, seen)
 }
