@@ -1,5 +1,5 @@
 -- The rows that a list gives rise strictly by their paths.
-use Rattle.std.proofs.Common.{◌≡◌, ℕ, ◌≤◌, Bool, true, false, cond, not, ◌||◌, ◌&&◌, nat_le, List, [], ◌∷◌, length, Option, Some, None, Result, Ok, Err, Vec, Global, refl, sym, ap, subst, ◌∙◌, arith, rules, leb-true}
+use Rattle.std.proofs.Common.{◌≡◌, ℕ, ◌≤◌, Bool, true, false, cond, nat_le, List, [], ◌∷◌, length, Option, Some, None, Result, Ok, Err, Vec, Global, refl, sym, ap, subst, ◌∙◌, leb-true}
 use Rattle.std.specs.Prelude.{IfOk}
 use Rattle.std.specs.declared.cmp.Ordering.{Ordering}
 use Rattle.std.specs.declared.cmp.Ordering.TheVariants.{Less, Equal, Greater}
@@ -16,7 +16,7 @@ use Rattle.avro_schema.specs.Outcome.{Gives}
 use Rattle.ice_value.specs.Sorting.{sorted}
 use Rattle.ice_value.proofs.Sorted.{Rises, sorted_rises}
 use Rattle.ice_manifest.specs.declared.fault.ListFault.{ListFault}
-use Rattle.ice_manifest.specs.declared.fault.ListFault.TheVariants.{ManifestTwice, TooManyRows, Memory}
+use Rattle.ice_manifest.specs.declared.fault.ListFault.TheVariants.{TooManyRows, Memory}
 use Rattle.ice_manifest.specs.declared.row.Row.{Row}
 use Rattle.ice_manifest.specs.Lists.{path_order, path_before, same_row, twice_after, path_twice, unless_twice, checked, in_order}
 

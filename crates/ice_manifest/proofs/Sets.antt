@@ -1,5 +1,5 @@
 -- The rows that a list gives are the set of its rows.
-use Rattle.std.proofs.Common.{◌≡◌, ◌≢◌, ◌⊎◌, ◌↔◌, inl, inr, ℕ, ℤ, ◌<◌, ◌≤◌, Bool, true, false, cond, ◌&&◌, ◌==◌, nat_le, List, [], ◌∷◌, length, Option, Some, None, Result, Ok, Err, refl, sym, ap, subst, ◌∙◌, arith, eqb-true, eq-eqb}
+use Rattle.std.proofs.Common.{◌≡◌, ◌≢◌, ◌⊎◌, ◌↔◌, inl, inr, ℕ, ℤ, Bool, true, false, cond, ◌&&◌, ◌==◌, nat_le, List, [], ◌∷◌, length, Option, Some, None, Ok, Err, refl, sym, ap, subst, ◌∙◌, arith, eqb-true, eq-eqb}
 use Rattle.std.specs.Cmp.{IsEquivalence, decided}
 use Rattle.std.specs.Ordering.{int_eq, nat_cmp, is_lt}
 use Rattle.std.specs.Str.{bytes_eq}
@@ -9,12 +9,11 @@ use Rattle.std.proofs.lemmas.List.Elements.{Contains-append_left, Contains-appen
 use Rattle.std.proofs.lemmas.List.Kept.{Contains-dedup, Contains-from_dedup}
 use Rattle.std.proofs.lemmas.Slice.Eq.{bytes_eq-Decides}
 use Rattle.ice_value.specs.Sorting.{put, sorted}
-use Rattle.ice_manifest.specs.declared.fault.ListFault.{ListFault}
 use Rattle.ice_manifest.specs.declared.fault.ListFault.TheVariants.{ManifestTwice, TooManyRows}
 use Rattle.ice_manifest.specs.declared.row.Row.{Row}
 use Rattle.ice_manifest.specs.declared.row.ManifestContent.{ManifestContent}
 use Rattle.ice_manifest.specs.declared.row.ManifestContent.TheVariants.{Data, Deletes}
-use Rattle.ice_manifest.specs.Lists.{path_before, same_content, same_row, twice_after, path_twice, unless_twice, checked, in_order}
+use Rattle.ice_manifest.specs.Lists.{path_before, same_content, same_row, twice_after, path_twice, unless_twice, in_order}
 use Rattle.ice_manifest.specs.Laws.{GivesTheRows, HasTwo, RefusesTwo, RefusesTheLeast}
 use Rattle.ice_manifest.proofs.Rising.{order, given, less_from, in_order_rises}
 use Rattle.ice_value.proofs.Sorted.{Rises}

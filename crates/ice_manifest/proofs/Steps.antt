@@ -1,15 +1,15 @@
 -- Going through lists, as the loops do.
-use Rattle.std.proofs.Common.{◌≡◌, ℕ, zero, suc, ◌+◌, ◌≤◌, ◌<◌, Bool, true, false, ◌||◌, ◌&&◌, List, [], ◌∷◌, ◌++◌, length, get_or, drop, Option, Some, None, Ok, Err, ℤ, cond, refl, sym, ap, ◌∙◌, add-one, drop-cons, arith, rules}
+use Rattle.std.proofs.Common.{◌≡◌, ℕ, zero, suc, ◌+◌, ◌≤◌, ◌<◌, Bool, true, false, ◌||◌, ◌&&◌, List, [], ◌∷◌, ◌++◌, length, get_or, drop, Option, Some, None, Ok, Err, ℤ, cond, refl, sym, ◌∙◌, add-one, drop-cons, arith, rules}
 use Rattle.std.proofs.Math.ListN.{drop_of_length-le}
 use Rattle.std.proofs.Common.{Vec, Global}
 use Rattle.avro_schema.specs.declared.schema.Schema.{Schema, the_lemmas}
 use Rattle.avro_schema.specs.declared.schema.Schema.TheVariants.{Record}
 use Rattle.avro_schema.specs.declared.schema.Field.{Field}
-use Rattle.avro_schema.specs.Tree.{Tree, structure}
+use Rattle.avro_schema.specs.Tree.{structure}
 use Rattle.avro_schema.specs.View.{tree, trees, parts, fields_of, branches_of}
 use Rattle.avro_file.specs.declared.datum.Datum.{Datum}
 use Rattle.avro_file.specs.declared.datum.Datum.TheVariants.{Null}
-use Rattle.avro_file.specs.Value.{Value, nothing, value}
+use Rattle.avro_file.specs.Value.{nothing, value}
 use Rattle.avro_file.specs.View.{view}
 use Rattle.ice_manifest.specs.declared.kind.Kind.{Kind}
 use Rattle.ice_manifest.specs.Kinds.{is_of, null_or, each_is, some_is, has_whole_items, each_has_whole_items}

@@ -11,7 +11,7 @@ use Rattle.avro_file.specs.Value.{Value, Values}
 use Rattle.avro_file.specs.Ahead.{Ahead, running, refusing}
 use Rattle.avro_file.specs.Files.{opened_at}
 use Rattle.avro_schema.specs.Outcome.{◌>>=◌}
-use Rattle.avro_schema.specs.Tree.{Tree, Fields}
+use Rattle.avro_schema.specs.Tree.{Fields}
 use Rattle.ice_value.specs.Sorting.{sorted}
 use Rattle.ice_manifest.specs.declared.fault.FieldFault.{FieldFault}
 use Rattle.ice_manifest.specs.declared.fault.FieldFault.TheVariants as field

@@ -1,6 +1,6 @@
 -- Finding fields in a file's schema. Apache Iceberg table spec v2, "Column Projection": fields are found by their ids,
 -- never by their names; fields that no id asks for are skipped.
-use Rattle.std.specs.Prelude.{ℕ, zero, suc, ℤ, pos, ◌+◌, List, Option, Some, None, Result, Ok, Err, if◌then◌else◌}
+use Rattle.std.specs.Prelude.{ℕ, ℤ, ◌+◌, Option, Some, None, Result, Ok, Err, if◌then◌else◌}
 use Rattle.std.specs.Ordering.{int_eq}
 use Rattle.std.specs.Option.{option_eq}
 use Rattle.avro_schema.specs.Outcome.{◌>>=◌}

@@ -1,10 +1,11 @@
 //! What the definitions of rows and entries come to.
 
-ghost use Rattle.ice_manifest.specs.Laws.{GivesTheRows, RefusesTwo, RefusesTheLeast, GivesTheEntries, SaysLiveOnes, DropsDeleted};
+ghost use Rattle.ice_manifest.specs.Laws.{GivesEachRow, GivesTheRows, RefusesTwo, RefusesTheLeast, GivesTheEntries, SaysLiveOnes, DropsDeleted, KeepsItsNumber, InheritsTheRows, NeedsItsOwn};
 
 /// The rows of a list are the set of the rows that its objects say. It is refused for a path only where two different
 /// rows have it, and then for the least such path.
 pub fn rows_are_a_set()
+    ensures each { GivesEachRow }
     ensures same { GivesTheRows }
     ensures twice { RefusesTwo }
     ensures least { RefusesTheLeast }
@@ -16,4 +17,12 @@ pub fn entries_are_the_live_ones()
     ensures all { GivesTheEntries }
     ensures live { SaysLiveOnes }
     ensures deleted { DropsDeleted }
+{}
+
+/// An entry keeps the sequence number that it has. Without one an added entry has its row's, and an existing one is
+/// refused, but has 0 where its row has 0.
+pub fn numbers_are_inherited()
+    ensures own { KeepsItsNumber }
+    ensures added { InheritsTheRows }
+    ensures existing { NeedsItsOwn }
 {}

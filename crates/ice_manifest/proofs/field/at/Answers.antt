@@ -1,4 +1,4 @@
-use Rattle.std.proofs.Common.{◌≡◌, ◌<◌, ◌≤◌, length, sym, ap, ◌∙◌, refl, arith}
+use Rattle.std.proofs.Common.{ap, ◌∙◌, arith}
 use Rattle.avro_file.specs.View.{view}
 use Rattle.ice_manifest.proofs.Steps.{nth_there, nth_past}
 use Rattle.ice_manifest.proofs.field.at.Goals as goal

@@ -1,4 +1,4 @@
-use Rattle.std.proofs.Common.{◌≡◌, ◌<◌, ◌≤◌, length, sym, ap, ◌∙◌, refl, arith, rules}
+use Rattle.std.proofs.Common.{◌≡◌, ◌<◌, ◌≤◌, length, ap, ◌∙◌, arith, rules}
 use Rattle.avro_file.specs.declared.datum.Datum.TheVariants.{Null}
 use Rattle.avro_file.specs.declared.datum.Datum.{the_lemmas}
 use Rattle.avro_file.specs.Value.{nothing}

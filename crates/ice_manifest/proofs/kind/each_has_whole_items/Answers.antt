@@ -1,4 +1,4 @@
-use Rattle.std.proofs.Common.{◌≡◌, sym, ap, ◌∙◌, refl}
+use Rattle.std.proofs.Common.{sym, ◌∙◌, refl}
 use Rattle.ice_manifest.proofs.Steps.{items_here, items_end}
 use Rattle.ice_manifest.proofs.kind.each_has_whole_items.Goals as goal
 

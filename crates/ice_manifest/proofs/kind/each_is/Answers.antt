@@ -1,4 +1,4 @@
-use Rattle.std.proofs.Common.{◌≡◌, sym, ap, ◌∙◌, refl}
+use Rattle.std.proofs.Common.{sym, ◌∙◌, refl}
 use Rattle.ice_manifest.proofs.Steps.{each_here, each_end}
 use Rattle.ice_manifest.proofs.kind.each_is.Goals as goal
 

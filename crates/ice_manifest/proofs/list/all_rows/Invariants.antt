@@ -1,4 +1,4 @@
-use Rattle.std.proofs.Common.{◌≡◌, [], length, List}
+use Rattle.std.proofs.Common.{◌≡◌, []}
 use Rattle.avro_file.specs.Files.{ahead}
 use Rattle.ice_manifest.specs.Lists.{rows_ahead, still_ahead}
 use Rattle.ice_manifest.proofs.list.all_rows.Given as goal

@@ -1,5 +1,4 @@
-use Rattle.std.proofs.Common.{◌≡◌, sym, ap, ◌∙◌, refl}
-use Rattle.ice_manifest.specs.Lists.{path_twice}
+use Rattle.std.proofs.Common.{sym, ◌∙◌, refl}
 use Rattle.ice_manifest.proofs.Steps.{twice_here, twice_end}
 use Rattle.ice_manifest.proofs.list.path_twice.Goals as goal
 

@@ -1,4 +1,4 @@
-use Rattle.std.proofs.Common.{◌≡◌, sym, ap, ◌∙◌, refl, subst}
+use Rattle.std.proofs.Common.{sym}
 use Rattle.ice_manifest.proofs.Rising.{strictly_given, few_given}
 use Rattle.ice_manifest.proofs.list.read_list.Goals as goal
 

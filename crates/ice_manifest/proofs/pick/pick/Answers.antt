@@ -1,4 +1,4 @@
-use Rattle.std.proofs.Common.{◌≡◌, sym, ap, ◌∙◌, refl, rules, w32}
+use Rattle.std.proofs.Common.{◌≡◌, sym, ◌∙◌, refl, rules, w32}
 use mir.Val.{to_z, of_z}
 use Rattle.std.proofs.lemmas.Int.{to_z-of_z}
 use Rattle.ice_manifest.proofs.Steps.{pick_here, pick_end}

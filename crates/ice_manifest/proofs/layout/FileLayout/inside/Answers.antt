@@ -1,6 +1,4 @@
-use Rattle.std.proofs.Common.{◌≡◌, sym, ap, ◌∙◌, refl}
-use Rattle.avro_schema.specs.View.{parts, fields_of}
-use Rattle.ice_manifest.specs.Manifests.{file_layout}
+use Rattle.std.proofs.Common.{sym, refl}
 use Rattle.ice_manifest.proofs.Steps.{tree-Record}
 use Rattle.ice_manifest.proofs.layout.FileLayout.inside.Goals as goal
 
