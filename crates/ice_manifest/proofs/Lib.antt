@@ -3,4 +3,3 @@ pub mod Ahead
 pub mod Rising
 pub mod Sets
 pub mod Said
-pub mod Few

@@ -1,11 +1,12 @@
 //! Reading a manifest.
 
-ghost use Rattle.std.specs.Prelude.{◌≡◌, option_map, OnOk};
+ghost use Rattle.std.specs.Prelude.{◌≡◌, [], option_map, OnOk};
 ghost use Rattle.avro_schema.specs.Outcome.{Gives};
 ghost use Rattle.avro_file.specs.View.{view};
+ghost use Rattle.avro_file.specs.Files.{ahead};
 ghost use Rattle.ice_manifest.specs.Fields.{values};
 ghost use Rattle.ice_manifest.specs.Outcome.{found_file};
-ghost use Rattle.ice_manifest.specs.Manifests.{entries_of, status_of as status_in, content_of as content_in, inherited as inherited_in, file_of as file_in, file_at as file_said, live_entry as live_said, entry_at as entry_said, with_live, layout_at as layout_in, record_of as record_in};
+ghost use Rattle.ice_manifest.specs.Manifests.{entries_of, status_of as status_in, content_of as content_in, inherited as inherited_in, file_of as file_in, file_at as file_said, live_entry as live_said, entry_at as entry_said, entries_ahead, with_live, layout_at as layout_in, record_of as record_in};
 
 use crate::data_file::DataFile;
 use crate::entry::{Entry, FileContent};
@@ -177,6 +178,29 @@ fn push_live(entries: &mut Vec<Entry>, entry: Option<Entry>) -> Result<(), Alloc
     Ok(())
 }
 
+/// The live entries of all objects that are to come.
+fn all_entries(
+    alloc: Global,
+    layout: &EntryLayout,
+    row: &Row,
+    spec: &Spec,
+    mut container: Container<'_>,
+) -> Result<Vec<Entry>, ManifestFault>
+    ensures { Gives ManifestFault.Memory (λ entries. entries.items) result (entries_ahead layout.now row.now spec.now 0 [] (ahead container.entry)) }
+{
+    let mut entries = Vec::new(alloc);
+    'objects: for position in 0..u64::MAX {
+        let Some(object) = container.next(alloc)? else {
+            return Ok(entries);
+        };
+        let fields = fields_of(alloc, object.datum());
+        let entry = entry_at(alloc, layout, row, spec, position, fields)?;
+        push_live(&mut entries, entry)?;
+    }
+    // An entry takes a byte at least, and no memory holds so many.
+    Err(ManifestFault::Memory)
+}
+
 /// The live entries of a row's manifest, in the order of their positions, with their numbers inherited. The spec is
 /// that of the row's id.
 ///
@@ -192,16 +216,7 @@ pub fn read_manifest(
 ) -> Result<Vec<Entry>, ManifestFault>
     ensures { Gives ManifestFault.Memory (λ entries. entries.items) result (entries_of row.now spec.now bytes.now) }
 {
-    let mut container = Container::open(alloc, bytes)?;
+    let container = Container::open(alloc, bytes)?;
     let layout = EntryLayout::of(alloc, container.schema())?;
-    let mut entries = Vec::new(alloc);
-    // Each entry takes a byte at least, so there are no more of them than bytes.
-    let mut position: u64 = 0;
-    'objects: while let Some(object) = container.next(alloc)? {
-        let fields = fields_of(alloc, object.datum());
-        let entry = entry_at(alloc, &layout, row, spec, position, fields)?;
-        push_live(&mut entries, entry)?;
-        position += 1;
-    }
-    Ok(entries)
+    all_entries(alloc, &layout, row, spec, container)
 }

@@ -1,0 +1,7 @@
+use Rattle.std.proofs.Common.{◌≡◌, []}
+use Rattle.avro_file.specs.Files.{ahead}
+use Rattle.ice_manifest.specs.Manifests.{entries_ahead}
+use Rattle.ice_manifest.proofs.manifest.all_entries.Given as goal
+
+abbrev pub invariant-objects : goal.invariant-objects
+invariant-objects l = entries_ahead l.layout l.row l.spec l.position l.entries.items (ahead l.container) ≡ entries_ahead l.layout l.row l.spec 0 [] (ahead l.initial.container)
