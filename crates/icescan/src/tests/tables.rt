@@ -6,8 +6,7 @@ use std::process::Abort;
 use std::test::Fail;
 
 /// A list whose one row is a data manifest of sequence number 3.
-const ONE_ROW: &str =
-    "0224146d656d3a2f2f742f6d31c8010000060602000102030405060708090a0b0c0d0e0f";
+const ONE_ROW: &str = "0224146d656d3a2f2f742f6d31c8010000060602000102030405060708090a0b0c0d0e0f";
 
 /// The same of sequence number 7.
 const ROW_OF_SEVEN: &str =
@@ -31,12 +30,7 @@ fn one_manifest(alloc: Global, list: &str, manifest: &str) -> Result<Vec<u8>, Al
 }
 
 /// Looks that a manifest of one entry, which has these bytes, plans to a data file with so many rows.
-fn expect_rows(
-    rt: &impl Abort,
-    alloc: Global,
-    block: &str,
-    rows: &str,
-) -> Result<(), AllocError> {
+fn expect_rows(rt: &impl Abort, alloc: Global, block: &str, rows: &str) -> Result<(), AllocError> {
     let mut manifest = String::from_str(alloc, block)?;
     manifest.push_str(MARKER)?;
     let mut plan = String::from_str(alloc, "data mem://t/a.parquet seq 3 spec 0 rows ")?;
@@ -48,12 +42,7 @@ fn expect_rows(
 }
 
 /// Looks that a manifest with these blocks is refused for this fault.
-fn expect_bad(
-    rt: &impl Abort,
-    alloc: Global,
-    blocks: &str,
-    fault: &str,
-) -> Result<(), AllocError> {
+fn expect_bad(rt: &impl Abort, alloc: Global, blocks: &str, fault: &str) -> Result<(), AllocError> {
     let mut line = String::from_str(alloc, "icescan: Z2 Bad mem://t/m1 N1 Avro ")?;
     line.push_str(fault)?;
     line.push_str("\n")?;
@@ -67,11 +56,26 @@ fn expect_bad(
 fn numbers(rt: HostRuntime) -> Result<(), Fail> {
     let alloc = rt.alloc();
     let cases = [
-        ("0232020000226d656d3a2f2f742f612e7061727175657400c80100", "0"),
-        ("0232020000226d656d3a2f2f742f612e7061727175657401c80100", "-1"),
-        ("0232020000226d656d3a2f2f742f612e706172717565747fc80100", "-64"),
-        ("0234020000226d656d3a2f2f742f612e706172717565748001c80100", "64"),
-        ("0236020000226d656d3a2f2f742f612e70617271756574808100c80100", "64"),
+        (
+            "0232020000226d656d3a2f2f742f612e7061727175657400c80100",
+            "0",
+        ),
+        (
+            "0232020000226d656d3a2f2f742f612e7061727175657401c80100",
+            "-1",
+        ),
+        (
+            "0232020000226d656d3a2f2f742f612e706172717565747fc80100",
+            "-64",
+        ),
+        (
+            "0234020000226d656d3a2f2f742f612e706172717565748001c80100",
+            "64",
+        ),
+        (
+            "0236020000226d656d3a2f2f742f612e70617271756574808100c80100",
+            "64",
+        ),
         (
             "0244020000226d656d3a2f2f742f612e70617271756574feffffffffffffffff01c80100",
             "9223372036854775807",
@@ -98,7 +102,14 @@ fn numbers(rt: HostRuntime) -> Result<(), Fail> {
         "022c146d656d3a2f2f742f6d31c801808080801000060602000102030405060708090a0b0c0d0e0f",
         ADDED,
     )?;
-    expect(&rt, alloc, &no_int, 1, "", "icescan: N1 Avro V4 BadNumber\n");
+    expect(
+        &rt,
+        alloc,
+        &no_int,
+        1,
+        "",
+        "icescan: N1 Avro V4 BadNumber\n",
+    );
     Ok(())
 }
 
@@ -115,7 +126,10 @@ fn containers_with_a_fault(rt: HostRuntime) -> Result<(), Fail> {
             "0244020000226d656d3a2f2f742f612e70617271756574feffffffffffffffff02c80100000102030405060708090a0b0c0d0e0f",
             "V4 BadNumber",
         ),
-        ("0232020000226d656d3a2f2f742f612e7061727175657414", "V3 Truncated 592"),
+        (
+            "0232020000226d656d3a2f2f742f612e7061727175657414",
+            "V3 Truncated 592",
+        ),
         ("02", "V3 Truncated 591"),
         (
             "0232020000226d656d3a2f2f742f612e7061727175657414c8010000010203",
@@ -143,7 +157,14 @@ fn containers_with_a_fault(rt: HostRuntime) -> Result<(), Fail> {
         expect_bad(&rt, alloc, blocks, fault)?;
     }
     let cut_between_blocks = one_manifest(alloc, ONE_ROW, "")?;
-    expect(&rt, alloc, &cut_between_blocks, 0, "files 0 deletes 0\n", "");
+    expect(
+        &rt,
+        alloc,
+        &cut_between_blocks,
+        0,
+        "files 0 deletes 0\n",
+        "",
+    );
     Ok(())
 }
 
@@ -179,11 +200,16 @@ fn sequence_numbers(rt: HostRuntime) -> Result<(), Fail> {
 #[test]
 fn deletes_by_sequence_number(rt: HostRuntime) -> Result<(), Fail> {
     let alloc = rt.alloc();
-    let equalities = "08f00102020604246d656d3a2f2f742f65302e7061727175657414c8010202020002020804246d656d3a2f2f742f65312e7061727175657414c8010202020002020804246d656d3a2f2f742f65322e7061727175657414c8010202020002020c04246d656d3a2f2f742f65332e7061727175657414c80102020200000102030405060708090a0b0c0d0e0f";
-    let positions = "06a20102020602246d656d3a2f2f742f70302e7061727175657414c8010002020802246d656d3a2f2f742f70312e7061727175657414c8010002020c02246d656d3a2f2f742f70322e7061727175657414c80100000102030405060708090a0b0c0d0e0f";
-    let of_three = "023402020600226d656d3a2f2f742f612e7061727175657414c80100000102030405060708090a0b0c0d0e0f";
-    let of_four = "023402020800226d656d3a2f2f742f612e7061727175657414c80100000102030405060708090a0b0c0d0e0f";
-    let of_six = "023402020c00226d656d3a2f2f742f612e7061727175657414c80100000102030405060708090a0b0c0d0e0f";
+    let equalities =
+        "08f00102020604246d656d3a2f2f742f65302e7061727175657414c8010202020002020804246d656d3a2f2f742f65312e7061727175657414c8010202020002020804246d656d3a2f2f742f65322e7061727175657414c8010202020002020c04246d656d3a2f2f742f65332e7061727175657414c80102020200000102030405060708090a0b0c0d0e0f";
+    let positions =
+        "06a20102020602246d656d3a2f2f742f70302e7061727175657414c8010002020802246d656d3a2f2f742f70312e7061727175657414c8010002020c02246d656d3a2f2f742f70322e7061727175657414c80100000102030405060708090a0b0c0d0e0f";
+    let of_three =
+        "023402020600226d656d3a2f2f742f612e7061727175657414c80100000102030405060708090a0b0c0d0e0f";
+    let of_four =
+        "023402020800226d656d3a2f2f742f612e7061727175657414c80100000102030405060708090a0b0c0d0e0f";
+    let of_six =
+        "023402020c00226d656d3a2f2f742f612e7061727175657414c80100000102030405060708090a0b0c0d0e0f";
     let cases = [
         (
             of_three,
