@@ -65,6 +65,12 @@ abbrev pub is_void : Transform → Bool
 is_void Void = true
 is_void _ = false
 
+-- every cell has a value, whatever the source type is
+abbrev pub takes_any : Transform → Bool
+takes_any Identity = true
+takes_any Void = true
+takes_any _ = false
+
 -- the bytes of a decimal number
 abbrev pub is_decimal : ColumnType → Cell → Bool
 is_decimal (Decimal precision scale) (Bytes bytes) = true
@@ -74,7 +80,7 @@ is_decimal _ _ = false
 abbrev pub is_cell : ColumnType → Cell → Bool
 is_cell t c = is_decimal t c || is_value t c
 
--- the value of a cell of the source type that isn't null
+-- the value of a cell that isn't null, by the transform
 abbrev pub present_value : Transform → ColumnType → Cell → Option Cell
 present_value Identity t c = Some c
 present_value (Bucket buckets) t c = bucketed buckets.number t c
@@ -86,9 +92,9 @@ present_value Hour t c = option_map Whole (hour_of t c)
 present_value Void t c = Some Null
 present_value (Unknown text) t c = None
 
--- the value of a cell that isn't null: but for void, a cell that isn't of the source type has none
+-- but for identity and void, a cell that isn't of the source type has none
 abbrev pub typed_value : Transform → ColumnType → Cell → Option Cell
-typed_value f t c = if is_void f || is_cell t c then present_value f t c else None
+typed_value f t c = if takes_any f || is_cell t c then present_value f t c else None
 
 -- the value of a transform over a source type; every transform of null is null
 abbrev pub value_of : Transform → ColumnType → Cell → Option Cell

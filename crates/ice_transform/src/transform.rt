@@ -76,10 +76,10 @@ impl Transform {
         }
     }
 
-    /// The value of a cell, null for null; `Void` has null for every cell. None where the cell isn't of the source type,
-    /// where the transform is unknown, where it doesn't take the source type, and where the value would leave the type of
-    /// its values: a truncated number below the least one, an hour outside 32 bits, the year or month of a day outside the
-    /// years -9999 to 9999.
+    /// The value of a cell, null for null. `Identity` gives every cell itself, and `Void` null for every cell, whatever
+    /// the source type is. Of the others none where the cell isn't of the source type, where the transform is unknown,
+    /// where it doesn't take the source type, and where the value would leave the type of its values: a truncated number
+    /// below the least one, an hour outside 32 bits, the year or month of a day outside the years -9999 to 9999.
     pub fn apply(
         &self,
         alloc: Global,
@@ -90,8 +90,8 @@ impl Transform {
     {
         match (self, cell) {
             (_, Cell::Null) | (Transform::Void, _) => Ok(Some(Cell::Null)),
-            _ if !is_cell(source, cell) => Ok(None),
             (Transform::Identity, _) => Ok(Some(cell.copy(alloc)?)),
+            _ if !is_cell(source, cell) => Ok(None),
             (Transform::Bucket(buckets), _) => Ok(bucketed(*buckets, source, cell)),
             (Transform::Truncate(width), _) => truncated(alloc, *width, source, cell),
             (Transform::Year, _) => Ok(whole(year_of(source, cell))),
