@@ -9,14 +9,14 @@ use Rattle.ice_value.specs.declared.column_type.ColumnType.{ColumnType}
 use Rattle.ice_value.specs.declared.column_type.ColumnType.TheVariants.{Int, Long, Date, Timestamp, Timestamptz, String, Binary}
 use Rattle.ice_value.specs.declared.cell.Cell.{Cell}
 use Rattle.ice_value.specs.declared.cell.Cell.TheVariants.{Null, Bool as Flag, Whole, Text, Bytes}
-use Rattle.ice_value.specs.Bounds.{fits_int, fits_long}
+use Rattle.ice_value.specs.Bounds.{fits_int, fits_long, is_cell}
 use Rattle.ice_transform.specs.declared.transform.Transform.{Transform}
 use Rattle.ice_transform.specs.declared.transform.Transform.TheVariants.{Identity, Bucket, Truncate, Year, Month, Day, Hour, Void, Unknown}
 use Rattle.ice_transform.specs.Cuts.{first_points}
 use Rattle.ice_transform.specs.Definitions.{IsTruncated, IsDayOf, IsHourOf, IsPresentValue, IsTypedValue, IsValueOf}
 use Rattle.ice_transform.specs.Floors.{floor_div, floor_to, int_if, long_if, IsUnitOf, IsTruncation}
 use Rattle.ice_transform.specs.Murmur.{bucket_of}
-use Rattle.ice_transform.specs.Values.{value_of, typed_value, takes_any, is_cell, present_value, bucketed, truncated, day_of, hour_of, has_buckets, hashed_bytes}
+use Rattle.ice_transform.specs.Values.{value_of, typed_value, takes_any, present_value, bucketed, truncated, day_of, hour_of, has_buckets, hashed_bytes}
 use Rattle.ice_transform.specs.Years.{year_of, month_of, IsYearUnit, IsMonthUnit}
 use Rattle.ice_transform.proofs.Days.{year_of_means, month_of_means, year_of_is, month_of_is}
 use Rattle.ice_transform.proofs.Points.{points_of_text}

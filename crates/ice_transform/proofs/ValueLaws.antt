@@ -5,14 +5,14 @@ use Rattle.ice_value.specs.declared.column_type.ColumnType.{ColumnType}
 use Rattle.ice_value.specs.declared.column_type.ColumnType.TheVariants.{Int, Long, Date, Timestamp, Timestamptz, String, Binary}
 use Rattle.ice_value.specs.declared.cell.Cell.{Cell}
 use Rattle.ice_value.specs.declared.cell.Cell.TheVariants.{Null, Bool as Flag, Whole, Text, Bytes}
-use Rattle.ice_value.specs.Bounds.{fits_int, fits_long}
+use Rattle.ice_value.specs.Bounds.{fits_int, fits_long, is_cell}
 use Rattle.ice_transform.specs.declared.transform.Transform.{Transform}
 use Rattle.ice_transform.specs.declared.transform.Transform.TheVariants.{Identity, Bucket, Truncate, Year, Month, Day, Hour, Void, Unknown}
 use Rattle.ice_transform.specs.Cuts.{first_points}
 use Rattle.ice_transform.specs.Floors.{floor_div, floor_to, int_if, long_if}
 use Rattle.ice_transform.specs.Murmur.{bucket_of}
 use Rattle.ice_transform.specs.Years.{year_of, month_of}
-use Rattle.ice_transform.specs.Values.{value_of, typed_value, is_cell, present_value, bucketed, truncated, day_of, hour_of, has_buckets, hashed_bytes, is_void, takes_any, is_rising, is_at_most}
+use Rattle.ice_transform.specs.Values.{value_of, typed_value, present_value, bucketed, truncated, day_of, hour_of, has_buckets, hashed_bytes, is_void, takes_any, is_rising, is_at_most}
 use Rattle.ice_transform.proofs.Days.{year_of_means, month_of_means, year_units, month_units, le_means, le_shown}
 use Rattle.ice_transform.proofs.Rounded.{unit_mono, truncation_mono}
 use Rattle.ice_transform.proofs.CutOrder.{points_mono, take_mono}

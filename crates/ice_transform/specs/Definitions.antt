@@ -1,7 +1,7 @@
 -- What the value of a transform is (Apache Iceberg table spec v2, "Partition Transforms"), by its properties.
 use Rattle.std.specs.Prelude.{◌≡◌, ℕ, true, ◌||◌, List, Some, ℤ, pos, take, encode_utf8_all}
 use Rattle.std.specs.Str.{chars}
-use Rattle.ice_value.specs.Bounds.{fits_int, fits_long}
+use Rattle.ice_value.specs.Bounds.{fits_int, fits_long, is_cell}
 use Rattle.ice_value.specs.declared.column_type.ColumnType.{ColumnType}
 use Rattle.ice_value.specs.declared.column_type.ColumnType.TheVariants.{Int, Long, Date, Timestamp, Timestamptz, String, Binary}
 use Rattle.ice_value.specs.declared.cell.Cell.{Cell}
@@ -10,7 +10,7 @@ use Rattle.ice_transform.specs.declared.transform.Transform.{Transform}
 use Rattle.ice_transform.specs.declared.transform.Transform.TheVariants.{Identity, Bucket, Truncate, Year, Month, Day, Hour, Void, Unknown}
 use Rattle.ice_transform.specs.Floors.{IsUnitOf, IsTruncation}
 use Rattle.ice_transform.specs.Murmur.{bucket_of}
-use Rattle.ice_transform.specs.Values.{has_buckets, hashed_bytes, is_cell, takes_any}
+use Rattle.ice_transform.specs.Values.{has_buckets, hashed_bytes, takes_any}
 use Rattle.ice_transform.specs.Years.{IsYearUnit, IsMonthUnit}
 
 -- p is the multiple of the width with p ≤ v < p + width, in the type of v; of a text it is the first code points, of

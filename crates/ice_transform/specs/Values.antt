@@ -4,10 +4,10 @@ use Rattle.std.specs.Option.{option_map, option_and_then}
 use Rattle.std.specs.Int.{w64, to_le_bytes, cast_unsigned}
 use Rattle.std.specs.Ordering.{is_le, is_some_and}
 use Rattle.ice_value.specs.declared.column_type.ColumnType.{ColumnType}
-use Rattle.ice_value.specs.declared.column_type.ColumnType.TheVariants.{Int, Long, Date, Time, Timestamp, Timestamptz, String, Uuid, Fixed, Binary, Decimal}
+use Rattle.ice_value.specs.declared.column_type.ColumnType.TheVariants.{Int, Long, Date, Time, Timestamp, Timestamptz, String, Uuid, Fixed, Binary}
 use Rattle.ice_value.specs.declared.cell.Cell.{Cell}
 use Rattle.ice_value.specs.declared.cell.Cell.TheVariants.{Null, Bool as Flag, Whole, Text, Bytes}
-use Rattle.ice_value.specs.Bounds.{is_value}
+use Rattle.ice_value.specs.Bounds.{is_cell}
 use Rattle.ice_value.specs.Cells.{order}
 use Rattle.ice_transform.specs.declared.transform.Transform.{Transform}
 use Rattle.ice_transform.specs.declared.transform.Transform.TheVariants.{Identity, Bucket, Truncate, Year, Month, Day, Hour, Void, Unknown}
@@ -70,15 +70,6 @@ abbrev pub takes_any : Transform → Bool
 takes_any Identity = true
 takes_any Void = true
 takes_any _ = false
-
--- the bytes of a decimal number
-abbrev pub is_decimal : ColumnType → Cell → Bool
-is_decimal (Decimal precision scale) (Bytes bytes) = true
-is_decimal _ _ = false
-
--- the cell is a value of this type; there are no cells of floats and doubles
-abbrev pub is_cell : ColumnType → Cell → Bool
-is_cell t c = is_decimal t c || is_value t c
 
 -- the value of a cell that isn't null, by the transform
 abbrev pub present_value : Transform → ColumnType → Cell → Option Cell

@@ -11,7 +11,6 @@ ghost use Rattle.ice_transform.specs.Years.{year_of, month_of};
 ghost use Rattle.ice_transform.specs.Values.{value_of, type_of, bucketed, truncated, day_of, hour_of, has_buckets, has_days, has_hours, has_truncation};
 
 use crate::calendar::{month_of_day, year_of_day};
-use crate::cells::is_cell;
 use crate::floors::{int_if, truncate, unit_of};
 use crate::murmur::bucket_of;
 use crate::names::{known, numbered_name, plain_name};
@@ -91,7 +90,7 @@ impl Transform {
         match (self, cell) {
             (_, Cell::Null) | (Transform::Void, _) => Ok(Some(Cell::Null)),
             (Transform::Identity, _) => Ok(Some(cell.copy(alloc)?)),
-            _ if !is_cell(source, cell) => Ok(None),
+            _ if !cell.is_of(source) => Ok(None),
             (Transform::Bucket(buckets), _) => Ok(bucketed(*buckets, source, cell)),
             (Transform::Truncate(width), _) => truncated(alloc, *width, source, cell),
             (Transform::Year, _) => Ok(whole(year_of(source, cell))),
