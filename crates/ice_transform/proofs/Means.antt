@@ -9,14 +9,14 @@ use Rattle.ice_value.specs.declared.column_type.ColumnType.{ColumnType}
 use Rattle.ice_value.specs.declared.column_type.ColumnType.TheVariants.{Int, Long, Date, Timestamp, Timestamptz, String, Binary}
 use Rattle.ice_value.specs.declared.cell.Cell.{Cell}
 use Rattle.ice_value.specs.declared.cell.Cell.TheVariants.{Null, Bool as Flag, Whole, Text, Bytes}
-use Rattle.ice_value.specs.Bounds.{fits_int, fits_long}
+use Rattle.ice_value.specs.Bounds.{fits_int, fits_long, is_cell}
 use Rattle.ice_transform.specs.declared.transform.Transform.{Transform}
 use Rattle.ice_transform.specs.declared.transform.Transform.TheVariants.{Identity, Bucket, Truncate, Year, Month, Day, Hour, Void, Unknown}
 use Rattle.ice_transform.specs.Cuts.{first_points}
 use Rattle.ice_transform.specs.Definitions.{IsTruncated, IsDayOf, IsHourOf, IsPresentValue, IsTypedValue, IsValueOf}
 use Rattle.ice_transform.specs.Floors.{floor_div, floor_to, int_if, long_if, IsUnitOf, IsTruncation}
 use Rattle.ice_transform.specs.Murmur.{bucket_of}
-use Rattle.ice_transform.specs.Values.{value_of, typed_value, is_void, is_cell, present_value, bucketed, truncated, day_of, hour_of, has_buckets, hashed_bytes}
+use Rattle.ice_transform.specs.Values.{value_of, typed_value, takes_any, present_value, bucketed, truncated, day_of, hour_of, has_buckets, hashed_bytes}
 use Rattle.ice_transform.specs.Years.{year_of, month_of, IsYearUnit, IsMonthUnit}
 use Rattle.ice_transform.proofs.Days.{year_of_means, month_of_means, year_of_is, month_of_is}
 use Rattle.ice_transform.proofs.Points.{points_of_text}
@@ -188,7 +188,7 @@ bucket_means n t c p = (to, from (has_buckets t) refl (hashed_bytes c) refl) whe
   from true h None e g = absurd cc
   from false h o e g = absurd cc
 
-present_means : (f : Transform) (t : ColumnType) (c p : Cell) → (is_void f || is_cell t c) ≡ true → Means (IsPresentValue f t c p) (present_value f t c) p
+present_means : (f : Transform) (t : ColumnType) (c p : Cell) → (takes_any f || is_cell t c) ≡ true → Means (IsPresentValue f t c p) (present_value f t c) p
 present_means Identity t c p u = (λ e. ap Some (sym e), λ h. let e : c ≡ p = cc in sym e)
 present_means (Bucket buckets) t c p u = bucket_means buckets.number t c p
 present_means (Truncate width) t c p u = cut_means width.number t c p width.positive u
@@ -200,8 +200,8 @@ present_means Void t c p u = (λ e. ap Some (sym e), λ h. let e : Null ≡ p = 
 present_means (Unknown text) t c p u = (λ e. absurd e, λ h. cc)
 
 typed_means : (f : Transform) (t : ColumnType) (c p : Cell) → Means (IsTypedValue f t c p) (typed_value f t c) p
-typed_means f t c p = go (is_void f || is_cell t c) refl where
-  go : (b : Bool) → (is_void f || is_cell t c) ≡ b → Means ((b ≡ true) × IsPresentValue f t c p) (cond b (present_value f t c) None) p
+typed_means f t c p = go (takes_any f || is_cell t c) refl where
+  go : (b : Bool) → (takes_any f || is_cell t c) ≡ b → Means ((b ≡ true) × IsPresentValue f t c p) (cond b (present_value f t c) None) p
   go true e = let m = present_means f t c p e in (λ (x, h). m.0 h, λ h. (refl, m.1 h))
   go false e = (λ (x, h). absurd cc, λ h. absurd cc)
 

@@ -1,5 +1,5 @@
 -- Values are of the result type.
-use Rattle.std.proofs.Common.{◌≡◌, ℕ, ◌<◌, ℤ, pos, negsuc, ◌≤ℤ◌, ◌<ℤ◌, Bool, true, false, ◌||◌, cond, List, Option, None, Some, ◌⊎◌, inl, inr, refl, arith, sym, take}
+use Rattle.std.proofs.Common.{◌≡◌, ◌≢◌, ℕ, ◌<◌, ℤ, pos, negsuc, ◌≤ℤ◌, ◌<ℤ◌, Bool, true, false, cond, List, Option, None, Some, ◌⊎◌, inl, inr, refl, arith, sym, take}
 use Rattle.std.specs.Option.{option_map, option_and_then}
 use Rattle.std.proofs.Math.Nat.{mod-lt}
 use Rattle.std.proofs.lemmas.Int.{ints}
@@ -9,17 +9,18 @@ use Rattle.ice_value.specs.declared.column_type.ColumnType.{ColumnType}
 use Rattle.ice_value.specs.declared.column_type.ColumnType.TheVariants.{Int, Long, Date, Timestamp, Timestamptz, String, Binary}
 use Rattle.ice_value.specs.declared.cell.Cell.{Cell}
 use Rattle.ice_value.specs.declared.cell.Cell.TheVariants.{Null, Bool as Flag, Whole, Text, Bytes}
-use Rattle.ice_value.specs.Bounds.{fits_int, fits_long}
+use Rattle.ice_value.specs.Bounds.{fits_int, fits_long, is_cell}
 use Rattle.ice_transform.specs.declared.transform.Transform.{Transform}
 use Rattle.ice_transform.specs.declared.transform.Transform.TheVariants.{Identity, Bucket, Truncate, Year, Month, Day, Hour, Void, Unknown}
 use Rattle.ice_transform.specs.Cuts.{first_points}
 use Rattle.ice_transform.specs.Floors.{floor_div, floor_to, int_if, long_if}
 use Rattle.ice_transform.specs.Murmur.{bucket_of}
 use Rattle.ice_transform.specs.Years.{year_of, month_of, IsYearUnit, IsMonthUnit}
-use Rattle.ice_transform.specs.Values.{value_of, typed_value, present_value, type_of, is_cell, is_void, bucketed, truncated, day_of, hour_of, has_buckets, has_days, has_hours, hashed_bytes}
+use Rattle.ice_transform.specs.Values.{value_of, typed_value, present_value, type_of, takes_any, bucketed, truncated, day_of, hour_of, has_buckets, has_days, has_hours, hashed_bytes}
 use Rattle.ice_transform.proofs.Days.{year_of_means, month_of_means}
 use Rattle.ice_transform.proofs.Points.{points_IsUtf8}
 use Rattle.ice_transform.proofs.Rounded.{unit_is}
+use Rattle.ice_transform.proofs.ValueLaws.{given}
 
 -- the transform has a result type, and the cell is of it
 abbrev IsTyped : Transform → ColumnType → Cell → Type 0
@@ -125,37 +126,37 @@ dated_typed f g t c p taken fits h =
 int_where : (b : Bool) → b ≡ true → cond b (Some Int) None ≡ Some Int
 int_where b h = rw h refl
 
-present_typed : (f : Transform) (t : ColumnType) (c p : Cell) → is_void f ≡ false → is_cell t c ≡ true → present_value f t c ≡ Some p → IsTyped f t p
-present_typed Identity t c p v u h = let is : c ≡ p = cc in (t, refl, rw (← is) u)
-present_typed (Bucket buckets) t c p v u h = bucket_typed (Bucket buckets) buckets.number t c p buckets.positive buckets.below (int_where (has_buckets t)) h
-present_typed (Truncate width) t c p v u h = cut_typed (Truncate width) width.number t c p u h (refl, refl, refl, refl)
-present_typed Year t c p v u h = dated_typed Year year_of t c p (int_where (has_days t)) (λ d z e. year_fits d z (year_of_means d z e)) h
-present_typed Month t c p v u h = dated_typed Month month_of t c p (int_where (has_days t)) (λ d z e. month_fits d z (month_of_means d z e)) h
-present_typed Day t c p v u h =
+present_typed : (f : Transform) (t : ColumnType) (c p : Cell) → is_cell t c ≡ true → present_value f t c ≡ Some p → (p ≡ Null) ⊎ IsTyped f t p
+present_typed Identity t c p u h = let is : c ≡ p = cc in inr (t, refl, rw (← is) u)
+present_typed (Bucket buckets) t c p u h = inr (bucket_typed (Bucket buckets) buckets.number t c p buckets.positive buckets.below (int_where (has_buckets t)) h)
+present_typed (Truncate width) t c p u h = inr (cut_typed (Truncate width) width.number t c p u h (refl, refl, refl, refl))
+present_typed Year t c p u h = inr (dated_typed Year year_of t c p (int_where (has_days t)) (λ d z e. year_fits d z (year_of_means d z e)) h)
+present_typed Month t c p u h = inr (dated_typed Month month_of t c p (int_where (has_days t)) (λ d z e. month_fits d z (month_of_means d z e)) h)
+present_typed Day t c p u h =
     let s = whole_of (day_of t c) p h in
-    int_typed Day t s.0 p (int_where (has_days t) (has_day t c s.0 s.1)) (day_fits t c s.0 u s.1) s.2
-present_typed Hour t c p v u h =
+    inr (int_typed Day t s.0 p (int_where (has_days t) (has_day t c s.0 s.1)) (day_fits t c s.0 u s.1) s.2)
+present_typed Hour t c p u h =
     let s = whole_of (hour_of t c) p h in
     let k = has_hour t c s.0 s.1 in
-    int_typed Hour t s.0 p (int_where (has_hours t) k.0) k.1 s.2
-present_typed Void t c p v u h = absurd cc
-present_typed (Unknown text) t c p v u h = absurd cc
+    inr (int_typed Hour t s.0 p (int_where (has_hours t) k.0) k.1 s.2)
+present_typed Void t c p u h = let is : Null ≡ p = cc in inl (sym is)
+present_typed (Unknown text) t c p u h = absurd cc
 
-void_null : (f : Transform) (t : ColumnType) (c p : Cell) → is_void f ≡ true → typed_value f t c ≡ Some p → p ≡ Null
-void_null Void t c p v h = let is : Null ≡ p = cc in sym is
-void_null f t c p v h = absurd cc
+-- the value of a cell of the source type is null, or of the result type
+pub value_typed : (f : Transform) (t : ColumnType) (c p : Cell) → is_cell t c ≡ true → value_of f t c ≡ Some p → (p ≡ Null) ⊎ IsTyped f t p
+value_typed f t Null p u h = let is : Null ≡ p = cc in inl (sym is)
+value_typed f t (Flag truth) p u h = present_typed f t (Flag truth) p u (given f t (Flag truth) p h)
+value_typed f t (Whole z) p u h = present_typed f t (Whole z) p u (given f t (Whole z) p h)
+value_typed f t (Text text) p u h = present_typed f t (Text text) p u (given f t (Text text) p h)
+value_typed f t (Bytes bytes) p u h = present_typed f t (Bytes bytes) p u (given f t (Bytes bytes) p h)
 
-typed : (f : Transform) (t : ColumnType) (c p : Cell) → typed_value f t c ≡ Some p → (p ≡ Null) ⊎ IsTyped f t p
-typed f t c p h = go (is_void f) refl (is_cell t c) refl h where
-  go : (v : Bool) → is_void f ≡ v → (u : Bool) → is_cell t c ≡ u → cond (v || u) (present_value f t c) None ≡ Some p → (p ≡ Null) ⊎ IsTyped f t p
-  go true k u l e = inl (void_null f t c p k h)
-  go false k true l e = inr (present_typed f t c p k l e)
-  go false k false l e = absurd cc
+untyped : (f : Transform) (t : ColumnType) (c : Cell) → takes_any f ≡ false → is_cell t c ≡ false → typed_value f t c ≡ None
+untyped f t c a u = rw (a, u) refl
 
--- a value is null, or of the result type
-pub value_typed : (f : Transform) (t : ColumnType) (c p : Cell) → value_of f t c ≡ Some p → (p ≡ Null) ⊎ IsTyped f t p
-value_typed f t Null p h = let is : Null ≡ p = cc in inl (sym is)
-value_typed f t (Flag truth) p h = typed f t (Flag truth) p h
-value_typed f t (Whole z) p h = typed f t (Whole z) p h
-value_typed f t (Text text) p h = typed f t (Text text) p h
-value_typed f t (Bytes bytes) p h = typed f t (Bytes bytes) p h
+-- but for identity and void, a cell of another type has no value
+pub no_value : (f : Transform) (t : ColumnType) (c : Cell) → takes_any f ≡ false → is_cell t c ≡ false → c ≢ Null → value_of f t c ≡ None
+no_value f t Null a u solid = absurd (solid refl)
+no_value f t (Flag truth) a u solid = untyped f t (Flag truth) a u
+no_value f t (Whole z) a u solid = untyped f t (Whole z) a u
+no_value f t (Text text) a u solid = untyped f t (Text text) a u
+no_value f t (Bytes bytes) a u solid = untyped f t (Bytes bytes) a u

@@ -5,14 +5,14 @@ use Rattle.ice_value.specs.declared.column_type.ColumnType.{ColumnType}
 use Rattle.ice_value.specs.declared.column_type.ColumnType.TheVariants.{Int, Long, Date, Timestamp, Timestamptz, String, Binary}
 use Rattle.ice_value.specs.declared.cell.Cell.{Cell}
 use Rattle.ice_value.specs.declared.cell.Cell.TheVariants.{Null, Bool as Flag, Whole, Text, Bytes}
-use Rattle.ice_value.specs.Bounds.{fits_int, fits_long}
+use Rattle.ice_value.specs.Bounds.{fits_int, fits_long, is_cell}
 use Rattle.ice_transform.specs.declared.transform.Transform.{Transform}
 use Rattle.ice_transform.specs.declared.transform.Transform.TheVariants.{Identity, Bucket, Truncate, Year, Month, Day, Hour, Void, Unknown}
 use Rattle.ice_transform.specs.Cuts.{first_points}
 use Rattle.ice_transform.specs.Floors.{floor_div, floor_to, int_if, long_if}
 use Rattle.ice_transform.specs.Murmur.{bucket_of}
 use Rattle.ice_transform.specs.Years.{year_of, month_of}
-use Rattle.ice_transform.specs.Values.{value_of, typed_value, is_cell, present_value, bucketed, truncated, day_of, hour_of, has_buckets, hashed_bytes, is_void, is_rising, is_at_most}
+use Rattle.ice_transform.specs.Values.{value_of, typed_value, present_value, bucketed, truncated, day_of, hour_of, has_buckets, hashed_bytes, is_void, takes_any, is_rising, is_at_most}
 use Rattle.ice_transform.proofs.Days.{year_of_means, month_of_means, year_units, month_units, le_means, le_shown}
 use Rattle.ice_transform.proofs.Rounded.{unit_mono, truncation_mono}
 use Rattle.ice_transform.proofs.CutOrder.{points_mono, take_mono}
@@ -53,9 +53,9 @@ present_solid Hour t c solid v h = whole_solid (hour_of t c) h
 present_solid Void t c solid v h = cc
 present_solid (Unknown text) t c solid v h = cc
 
--- a value is that of a cell of the source type
-given : (f : Transform) (t : ColumnType) (c p : Cell) → typed_value f t c ≡ Some p → present_value f t c ≡ Some p
-given f t c p h = go (is_void f || is_cell t c) h where
+-- a value is what the transform makes of the cell
+pub given : (f : Transform) (t : ColumnType) (c p : Cell) → typed_value f t c ≡ Some p → present_value f t c ≡ Some p
+given f t c p h = go (takes_any f || is_cell t c) h where
   go : (b : Bool) → cond b (present_value f t c) None ≡ Some p → present_value f t c ≡ Some p
   go true e = e
   go false e = absurd cc
@@ -182,24 +182,10 @@ rising f t (Text a) (Text b) p q r le e g = present_rising f t (Text a) (Text b)
 rising f t (Bytes a) (Bytes b) p q r le e g = present_rising f t (Bytes a) (Bytes b) p q r le (given f t (Bytes a) p e) (given f t (Bytes b) q g)
 rising f t _ _ p q r le e g = absurd cc
 
-typed_cell : (t : ColumnType) (c : Cell) → is_cell t c ≡ true → typed_value Identity t c ≡ Some c
-typed_cell t c h = rw h refl
-
 -- identity gives the cell itself
-pub same_value : (t : ColumnType) (c : Cell) → is_cell t c ≡ true → value_of Identity t c ≡ Some c
-same_value t Null h = refl
-same_value t (Flag truth) h = typed_cell t (Flag truth) h
-same_value t (Whole z) h = typed_cell t (Whole z) h
-same_value t (Text text) h = typed_cell t (Text text) h
-same_value t (Bytes bytes) h = typed_cell t (Bytes bytes) h
-
-same_cell : (t : ColumnType) (c p : Cell) → typed_value Identity t c ≡ Some p → p ≡ c
-same_cell t c p h = let e = given Identity t c p h in cc
-
--- identity gives no other cell
-pub no_other_value : (t : ColumnType) (c p : Cell) → value_of Identity t c ≡ Some p → p ≡ c
-no_other_value t Null p h = cc
-no_other_value t (Flag truth) p h = same_cell t (Flag truth) p h
-no_other_value t (Whole z) p h = same_cell t (Whole z) p h
-no_other_value t (Text text) p h = same_cell t (Text text) p h
-no_other_value t (Bytes bytes) p h = same_cell t (Bytes bytes) p h
+pub same_value : (t : ColumnType) (c : Cell) → value_of Identity t c ≡ Some c
+same_value t Null = refl
+same_value t (Flag truth) = refl
+same_value t (Whole z) = refl
+same_value t (Text text) = refl
+same_value t (Bytes bytes) = refl

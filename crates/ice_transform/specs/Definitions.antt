@@ -1,7 +1,7 @@
 -- What the value of a transform is (Apache Iceberg table spec v2, "Partition Transforms"), by its properties.
 use Rattle.std.specs.Prelude.{◌≡◌, ℕ, true, ◌||◌, List, Some, ℤ, pos, take, encode_utf8_all}
 use Rattle.std.specs.Str.{chars}
-use Rattle.ice_value.specs.Bounds.{fits_int, fits_long}
+use Rattle.ice_value.specs.Bounds.{fits_int, fits_long, is_cell}
 use Rattle.ice_value.specs.declared.column_type.ColumnType.{ColumnType}
 use Rattle.ice_value.specs.declared.column_type.ColumnType.TheVariants.{Int, Long, Date, Timestamp, Timestamptz, String, Binary}
 use Rattle.ice_value.specs.declared.cell.Cell.{Cell}
@@ -10,7 +10,7 @@ use Rattle.ice_transform.specs.declared.transform.Transform.{Transform}
 use Rattle.ice_transform.specs.declared.transform.Transform.TheVariants.{Identity, Bucket, Truncate, Year, Month, Day, Hour, Void, Unknown}
 use Rattle.ice_transform.specs.Floors.{IsUnitOf, IsTruncation}
 use Rattle.ice_transform.specs.Murmur.{bucket_of}
-use Rattle.ice_transform.specs.Values.{has_buckets, hashed_bytes, is_cell, is_void}
+use Rattle.ice_transform.specs.Values.{has_buckets, hashed_bytes, takes_any}
 use Rattle.ice_transform.specs.Years.{IsYearUnit, IsMonthUnit}
 
 -- p is the multiple of the width with p ≤ v < p + width, in the type of v; of a text it is the first code points, of
@@ -35,7 +35,7 @@ IsHourOf Timestamp (Whole v) hour = IsUnitOf (pos 3_600_000_000) v hour × (fits
 IsHourOf Timestamptz (Whole v) hour = IsUnitOf (pos 3_600_000_000) v hour × (fits_int hour ≡ true)
 IsHourOf _ _ _ = ⊥
 
--- p is the transform's value of c, which isn't null, and is of the source type
+-- p is the value of c, which isn't null, by the transform
 abbrev pub IsPresentValue : Transform → ColumnType → Cell → Cell → Type 0
 IsPresentValue Identity t c p = p ≡ c
 IsPresentValue (Bucket buckets) t c p =
@@ -48,9 +48,9 @@ IsPresentValue Hour t c p = (hour : ℤ) × IsHourOf t c hour × (p ≡ Whole ho
 IsPresentValue Void t c p = p ≡ Null
 IsPresentValue (Unknown text) t c p = ⊥
 
--- but for void, a cell that isn't of the source type has no value
+-- but for identity and void, a cell that isn't of the source type has no value
 abbrev pub IsTypedValue : Transform → ColumnType → Cell → Cell → Type 0
-IsTypedValue f t c p = ((is_void f || is_cell t c) ≡ true) × IsPresentValue f t c p
+IsTypedValue f t c p = ((takes_any f || is_cell t c) ≡ true) × IsPresentValue f t c p
 
 -- p is the transform's value of c over this source type
 abbrev pub IsValueOf : Transform → ColumnType → Cell → Cell → Type 0

@@ -4,10 +4,10 @@ use Rattle.std.specs.Option.{option_map, option_and_then}
 use Rattle.std.specs.Int.{w64, to_le_bytes, cast_unsigned}
 use Rattle.std.specs.Ordering.{is_le, is_some_and}
 use Rattle.ice_value.specs.declared.column_type.ColumnType.{ColumnType}
-use Rattle.ice_value.specs.declared.column_type.ColumnType.TheVariants.{Int, Long, Date, Time, Timestamp, Timestamptz, String, Uuid, Fixed, Binary, Decimal}
+use Rattle.ice_value.specs.declared.column_type.ColumnType.TheVariants.{Int, Long, Date, Time, Timestamp, Timestamptz, String, Uuid, Fixed, Binary}
 use Rattle.ice_value.specs.declared.cell.Cell.{Cell}
 use Rattle.ice_value.specs.declared.cell.Cell.TheVariants.{Null, Bool as Flag, Whole, Text, Bytes}
-use Rattle.ice_value.specs.Bounds.{is_value}
+use Rattle.ice_value.specs.Bounds.{is_cell}
 use Rattle.ice_value.specs.Cells.{order}
 use Rattle.ice_transform.specs.declared.transform.Transform.{Transform}
 use Rattle.ice_transform.specs.declared.transform.Transform.TheVariants.{Identity, Bucket, Truncate, Year, Month, Day, Hour, Void, Unknown}
@@ -65,16 +65,13 @@ abbrev pub is_void : Transform → Bool
 is_void Void = true
 is_void _ = false
 
--- the bytes of a decimal number
-abbrev pub is_decimal : ColumnType → Cell → Bool
-is_decimal (Decimal precision scale) (Bytes bytes) = true
-is_decimal _ _ = false
+-- every cell has a value, whatever the source type is
+abbrev pub takes_any : Transform → Bool
+takes_any Identity = true
+takes_any Void = true
+takes_any _ = false
 
--- the cell is a value of this type; there are no cells of floats and doubles
-abbrev pub is_cell : ColumnType → Cell → Bool
-is_cell t c = is_decimal t c || is_value t c
-
--- the value of a cell of the source type that isn't null
+-- the value of a cell that isn't null, by the transform
 abbrev pub present_value : Transform → ColumnType → Cell → Option Cell
 present_value Identity t c = Some c
 present_value (Bucket buckets) t c = bucketed buckets.number t c
@@ -86,9 +83,9 @@ present_value Hour t c = option_map Whole (hour_of t c)
 present_value Void t c = Some Null
 present_value (Unknown text) t c = None
 
--- the value of a cell that isn't null: but for void, a cell that isn't of the source type has none
+-- but for identity and void, a cell that isn't of the source type has none
 abbrev pub typed_value : Transform → ColumnType → Cell → Option Cell
-typed_value f t c = if is_void f || is_cell t c then present_value f t c else None
+typed_value f t c = if takes_any f || is_cell t c then present_value f t c else None
 
 -- the value of a transform over a source type; every transform of null is null
 abbrev pub value_of : Transform → ColumnType → Cell → Option Cell

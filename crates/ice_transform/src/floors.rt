@@ -1,7 +1,6 @@
 //! Whole numbers rounded down.
 
 ghost use Rattle.std.specs.Prelude.{◌≡◌, ◌<◌, ◌^◌, pos, ◌<ℤ◌};
-ghost use Rattle.ice_value.specs.Bounds.{fits_int};
 ghost use Rattle.ice_transform.specs.Floors.{floor_div, floor_to, int_if, long_if};
 
 /// The unit in which the number lies.
@@ -21,16 +20,13 @@ pub fn truncate(number: i64, width: u32) -> Option<i64>
     number.checked_sub(number.rem_euclid(width))
 }
 
-/// Whether the number fits 32 bits.
-pub fn is_int(number: i64) -> bool
-    ensures { result ≡ fits_int number }
-{
-    number >= -0x8000_0000 && number < 0x8000_0000
-}
-
 /// The number, where it fits 32 bits.
 pub fn int_if(number: i64) -> Option<i64>
     ensures { result ≡ int_if number }
 {
-    if is_int(number) { Some(number) } else { None }
+    if number >= -0x8000_0000 && number < 0x8000_0000 {
+        Some(number)
+    } else {
+        None
+    }
 }

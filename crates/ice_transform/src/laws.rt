@@ -1,16 +1,17 @@
 //! Laws of transforms, on which the projection of filters stands.
 
-ghost use Rattle.std.specs.Prelude.{◌≡◌, ◌≤◌, ◌<◌, ◌↔◌, ◌⊎◌, ℕ, List, Bool, true, false, Some, length, take, nat_eq, encode_utf8_all};
+ghost use Rattle.std.specs.Prelude.{◌≡◌, ◌≢◌, ◌≤◌, ◌<◌, ◌↔◌, ◌⊎◌, ℕ, List, Bool, true, false, None, Some, length, take, nat_eq, encode_utf8_all};
 ghost use Rattle.std.specs.List.{starts_with};
 ghost use Rattle.std.specs.Str.{IsUtf8, chars};
 ghost use Rattle.std.specs.declared.cmp.Ordering.TheVariants.{Equal};
+ghost use Rattle.ice_value.specs.Bounds.{is_cell};
 ghost use Rattle.ice_value.specs.Cells.{order};
 ghost use Rattle.ice_value.specs.declared.cell.Cell.{Cell};
 ghost use Rattle.ice_value.specs.declared.column_type.ColumnType.{ColumnType};
 ghost use Rattle.ice_transform.specs.Cuts.{first_points, has_points};
 ghost use Rattle.ice_transform.specs.Definitions.{IsValueOf};
 ghost use Rattle.ice_transform.specs.Names.{IsNamed, IsOfText, name_of};
-ghost use Rattle.ice_transform.specs.Values.{value_of, type_of, is_cell, is_void, is_rising, is_at_most};
+ghost use Rattle.ice_transform.specs.Values.{value_of, type_of, is_void, takes_any, is_rising, is_at_most};
 ghost use Rattle.ice_transform.specs.declared.parameter.Parameter.{Parameter};
 ghost use Rattle.ice_transform.specs.declared.transform.Transform.{Transform};
 
@@ -20,10 +21,14 @@ pub fn values_of_transforms()
     ensures { (f : Transform) (t : ColumnType) (c p : Cell) → IsValueOf f t c p ↔ (value_of f t c ≡ Some p) }
 {}
 
-/// A value is null or of the transform's result type, so a transform that doesn't take the source type has no other value.
+/// A value of a cell of the source type is null or of the transform's result type, so there a transform that doesn't take
+/// the source type has no other value. Of a cell that is neither null nor of the source type, identity and void alone have
+/// a value.
 pub fn typed_values()
-    ensures { (f : Transform) (t : ColumnType) (c p : Cell) → value_of f t c ≡ Some p
+    ensures of_source { (f : Transform) (t : ColumnType) (c p : Cell) → is_cell t c ≡ true → value_of f t c ≡ Some p
         → (p ≡ Cell.Null) ⊎ ((r : ColumnType) × (type_of f t ≡ Some r) × (is_cell r p ≡ true)) }
+    ensures of_others { (f : Transform) (t : ColumnType) (c : Cell) → takes_any f ≡ false → is_cell t c ≡ false
+        → c ≢ Cell.Null → value_of f t c ≡ None }
 {}
 
 /// What is written of a transform is read as that transform, what was read is written as the text that it was read from,
@@ -34,10 +39,9 @@ pub fn texts_of_transforms()
     ensures one { (f g : Transform) (text : List ℕ) → IsNamed f text → IsNamed g text → f ≡ g }
 {}
 
-/// Identity gives the cell itself, where it is of the source type.
+/// Identity gives the cell itself.
 pub fn identity_values()
-    ensures itself { (t : ColumnType) (c : Cell) → is_cell t c ≡ true → value_of Transform.Identity t c ≡ Some c }
-    ensures no_other { (t : ColumnType) (c p : Cell) → value_of Transform.Identity t c ≡ Some p → p ≡ c }
+    ensures { (t : ColumnType) (c : Cell) → value_of Transform.Identity t c ≡ Some c }
 {}
 
 /// Null has the value null, and but for void no other cell has.

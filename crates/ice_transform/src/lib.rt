@@ -2,7 +2,6 @@
 #![tactic(auto)]
 
 mod calendar;
-mod cells;
 mod floors;
 mod laws;
 mod murmur;

@@ -301,48 +301,75 @@ fn no_values(rt: HostRuntime) -> Result<(), Fail> {
     Ok(())
 }
 
-/// But for void, a cell that isn't of the source type has no value.
+/// Identity gives the cell itself and void null; under another transform a cell that isn't of the source type has no value.
 #[test]
 fn cells_of_other_types(rt: HostRuntime) -> Result<(), Fail> {
     let alloc = rt.alloc();
     let large = 2_147_483_648;
+    let numbers = [
+        ("bucket[16]", ColumnType::Int, large),
+        ("bucket[16]", ColumnType::Date, large),
+        ("bucket[16]", ColumnType::Uuid, 7),
+        ("truncate[10]", ColumnType::Int, large),
+        ("truncate[10]", ColumnType::String, 7),
+        ("year", ColumnType::Date, large),
+        ("month", ColumnType::Date, large),
+        ("day", ColumnType::Date, large),
+        ("hour", ColumnType::Float, 7),
+        ("zorder", ColumnType::Double, 7),
+    ];
+    for (name, source, number) in numbers {
+        check_none(&rt, alloc, name, source, Cell::Whole(number))?;
+        check_whole(&rt, alloc, "identity", source, number, number)?;
+        check(&rt, alloc, "void", source, Cell::Whole(number), Cell::Null)?;
+    }
+    let strings = [
+        ("bucket[16]", ColumnType::Uuid),
+        ("bucket[16]", ColumnType::Fixed(5)),
+        ("bucket[16]", ColumnType::Long),
+        ("truncate[2]", ColumnType::String),
+        ("day", ColumnType::Timestamp),
+    ];
+    for (name, source) in strings {
+        check_none(&rt, alloc, name, source, bytes(alloc, &UUID[..4])?)?;
+        check_identity(&rt, alloc, source, bytes(alloc, &UUID[..4])?)?;
+    }
+    Ok(())
+}
+
+fn check_identity(
+    rt: &impl Abort,
+    alloc: Global,
+    source: ColumnType,
+    cell: Cell,
+) -> Result<(), AllocError> {
+    let same = cell.copy(alloc)?;
+    check(rt, alloc, "identity", source, cell, same)
+}
+
+/// Identity gives the cell itself.
+#[test]
+fn identities(rt: HostRuntime) -> Result<(), Fail> {
+    let alloc = rt.alloc();
     let decimal = ColumnType::Decimal {
         precision: 9,
         scale: 2,
     };
-    let numbers = [
-        ("identity", ColumnType::Int, large),
-        ("identity", ColumnType::String, 7),
-        ("identity", ColumnType::Float, 7),
-        ("identity", decimal, 7),
-        ("bucket[16]", ColumnType::Int, large),
-        ("bucket[16]", ColumnType::Uuid, 7),
-        ("truncate[10]", ColumnType::Int, large),
-        ("day", ColumnType::Date, large),
-    ];
-    for (name, source, number) in numbers {
-        check_none(&rt, alloc, name, source, Cell::Whole(number))?;
-        check(&rt, alloc, "void", source, Cell::Whole(number), Cell::Null)?;
-    }
-    for (name, source) in [
-        ("identity", ColumnType::Uuid),
-        ("identity", ColumnType::Fixed(3)),
-        ("identity", ColumnType::String),
-        ("bucket[16]", ColumnType::Fixed(5)),
-        ("bucket[16]", ColumnType::Long),
-        ("truncate[2]", ColumnType::String),
+    for source in [
+        ColumnType::Boolean,
+        ColumnType::Int,
+        ColumnType::Double,
+        ColumnType::String,
+        ColumnType::Uuid,
+        ColumnType::Fixed(4),
+        ColumnType::Binary,
+        decimal,
     ] {
-        check_none(&rt, alloc, name, source, bytes(alloc, &[0, 1, 2, 3])?)?;
-    }
-    for source in [ColumnType::Binary, ColumnType::Fixed(4), decimal] {
-        check(
-            &rt,
-            alloc,
-            "identity",
-            source,
-            bytes(alloc, &[0, 1, 2, 3])?,
-            bytes(alloc, &[0, 1, 2, 3])?,
-        )?;
+        check_identity(&rt, alloc, source, Cell::Null)?;
+        check_identity(&rt, alloc, source, Cell::Bool(true))?;
+        check_identity(&rt, alloc, source, Cell::Whole(-2_147_483_649))?;
+        check_identity(&rt, alloc, source, text(alloc, "ice")?)?;
+        check_identity(&rt, alloc, source, bytes(alloc, &[0, 1, 2, 3])?)?;
     }
     Ok(())
 }

@@ -11,7 +11,6 @@ ghost use Rattle.ice_transform.specs.Years.{year_of, month_of};
 ghost use Rattle.ice_transform.specs.Values.{value_of, type_of, bucketed, truncated, day_of, hour_of, has_buckets, has_days, has_hours, has_truncation};
 
 use crate::calendar::{month_of_day, year_of_day};
-use crate::cells::is_cell;
 use crate::floors::{int_if, truncate, unit_of};
 use crate::murmur::bucket_of;
 use crate::names::{known, numbered_name, plain_name};
@@ -76,10 +75,10 @@ impl Transform {
         }
     }
 
-    /// The value of a cell, null for null; `Void` has null for every cell. None where the cell isn't of the source type,
-    /// where the transform is unknown, where it doesn't take the source type, and where the value would leave the type of
-    /// its values: a truncated number below the least one, an hour outside 32 bits, the year or month of a day outside the
-    /// years -9999 to 9999.
+    /// The value of a cell, null for null. `Identity` gives every cell itself, and `Void` null for every cell, whatever
+    /// the source type is. Of the others none where the cell isn't of the source type, where the transform is unknown,
+    /// where it doesn't take the source type, and where the value would leave the type of its values: a truncated number
+    /// below the least one, an hour outside 32 bits, the year or month of a day outside the years -9999 to 9999.
     pub fn apply(
         &self,
         alloc: Global,
@@ -90,8 +89,8 @@ impl Transform {
     {
         match (self, cell) {
             (_, Cell::Null) | (Transform::Void, _) => Ok(Some(Cell::Null)),
-            _ if !is_cell(source, cell) => Ok(None),
             (Transform::Identity, _) => Ok(Some(cell.copy(alloc)?)),
+            _ if !cell.is_of(source) => Ok(None),
             (Transform::Bucket(buckets), _) => Ok(bucketed(*buckets, source, cell)),
             (Transform::Truncate(width), _) => truncated(alloc, *width, source, cell),
             (Transform::Year, _) => Ok(whole(year_of(source, cell))),

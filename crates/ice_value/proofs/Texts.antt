@@ -4,7 +4,7 @@ use Rattle.std.specs.Str.{IsUtf8, is_utf8}
 use Rattle.std.proofs.lemmas.Str.{is_utf8-from_IsUtf8, IsUtf8-from_is_utf8}
 use Rattle.ice_value.specs.declared.column_type.ColumnType.TheVariants.{String}
 use Rattle.ice_value.specs.declared.cell.Cell.TheVariants.{Text}
-use Rattle.ice_value.specs.Bounds.{cell_in, written}
+use Rattle.ice_value.specs.Bounds.{cell_in}
 
 is_false : (b : Bool) → (b ≡ true → ⊥) → b ≡ false
 is_false true h = absurd (h refl)
@@ -18,6 +18,3 @@ read_as_text bs text u e = let is = is_utf8-from_IsUtf8 bs u in rw (is, e) refl
 
 pub read_as_none : (bs : List ℕ) → (IsUtf8 bs → ⊥) → None ≡ cell_in String bs
 read_as_none bs h = let is = not_text bs h in rw is refl
-
-pub written_text : (text : List ℕ) → IsUtf8 text → Some text ≡ written String (Text text)
-written_text text u = let is = is_utf8-from_IsUtf8 text u in rw is refl

@@ -1,11 +1,11 @@
 -- Single values in bytes (Apache Iceberg table spec v2, "Appendix D: Single-value serialization", binary form).
-use Rattle.std.specs.Prelude.{◌≡◌, ℕ, ◌==◌, not, Bool, true, false, List, [], ◌∷◌, length, Option, None, Some, if◌then◌else◌, ℤ, pos, negsuc, nat_lt, ◌⊎◌}
+use Rattle.std.specs.Prelude.{◌≡◌, ℕ, ◌==◌, not, ◌||◌, Bool, true, false, List, [], ◌∷◌, length, Option, None, Some, if◌then◌else◌, ℤ, pos, negsuc, nat_lt, ◌⊎◌}
 use Rattle.std.specs.Option.{option_and_then, option_map}
 use Rattle.std.specs.Int.{w32, w64, cast_signed, cast_unsigned, from_le_bytes, to_le_bytes}
 use Rattle.std.specs.Str.{is_utf8}
 use Rattle.std.specs.declared.cmp.Ordering.{Ordering}
 use Rattle.ice_value.specs.declared.column_type.ColumnType.{ColumnType}
-use Rattle.ice_value.specs.declared.column_type.ColumnType.TheVariants.{Boolean, Int, Long, Date, Time, Timestamp, Timestamptz, String, Uuid, Fixed, Binary}
+use Rattle.ice_value.specs.declared.column_type.ColumnType.TheVariants.{Boolean, Int, Long, Date, Time, Timestamp, Timestamptz, String, Uuid, Fixed, Binary, Decimal}
 use Rattle.ice_value.specs.declared.cell.Cell.{Cell}
 use Rattle.ice_value.specs.declared.cell.Cell.TheVariants.{Null, Bool as Flag, Whole, Text, Bytes}
 use Rattle.ice_value.specs.Cells.{order}
@@ -97,6 +97,15 @@ is_value Uuid (Bytes u) = length u == 16
 is_value (Fixed size) (Bytes value) = length value == size
 is_value Binary (Bytes value) = true
 is_value _ _ = false
+
+-- the bytes of a decimal number
+abbrev pub is_decimal : ColumnType → Cell → Bool
+is_decimal (Decimal precision scale) (Bytes bytes) = true
+is_decimal _ _ = false
+
+-- the cell is a value of this type; there are no cells of floats and doubles
+abbrev pub is_cell : ColumnType → Cell → Bool
+is_cell t c = is_decimal t c || is_value t c
 
 abbrev pub flag_byte : Bool → ℕ
 flag_byte true = 1

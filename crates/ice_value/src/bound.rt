@@ -5,7 +5,7 @@ ghost use Rattle.std.specs.Str.{is_utf8};
 ghost use Rattle.std.specs.Option.{option_map};
 ghost use Rattle.std.specs.Ordering.{nat_cmp};
 ghost use Rattle.std.specs.Cmp.Lexicographic.{slice_cmp};
-ghost use Rattle.ice_value.specs.Bounds.{cell_in, order_in, int_in, long_in, widened_in, flag_in, sized_in, fits_int, is_value, written, Holds};
+ghost use Rattle.ice_value.specs.Bounds.{cell_in, order_in, int_in, long_in, widened_in, flag_in, sized_in, is_value, written, Holds};
 ghost use Rattle.ice_value.specs.declared.cell.Cell.{Cell};
 ghost use Rattle.ice_value.specs.declared.column_type.ColumnType.{ColumnType};
 
@@ -159,54 +159,11 @@ pub fn compare_bound(column_type: &ColumnType, bytes: &[u8], cell: &Cell) -> Opt
     }
 }
 
-/// Whether the number fits 32 bits.
-fn is_int(number: i64) -> bool
-    ensures { result ≡ fits_int number }
-{
-    number >= -0x8000_0000 && number < 0x8000_0000
-}
-
 /// The same bytes as a list.
 fn listed(alloc: Global, bytes: &[u8]) -> Result<Option<Items<u8>>, AllocError>
     ensures { IfOk result (λ listed. listed ≡ Some bytes.now) }
 {
     Ok(Some(Items::from_vec(bytes.to_vec(alloc)?)))
-}
-
-/// The bytes of the text.
-fn write_text(alloc: Global, text: &Text) -> Result<Option<Items<u8>>, AllocError>
-    ensures { IfOk result (λ bytes. bytes ≡ written ColumnType.String (Cell.Text text.now)) }
-{
-    listed(alloc, text.as_str().as_bytes())
-}
-
-/// The bytes of the number, where it fits 32 bits.
-fn write_int(alloc: Global, number: i64) -> Result<Option<Items<u8>>, AllocError>
-    ensures { IfOk result (λ bytes. bytes ≡ written ColumnType.Int (Cell.Whole number)) }
-{
-    if is_int(number) {
-        listed(alloc, &(number as i32).to_le_bytes())
-    } else {
-        Ok(None)
-    }
-}
-
-/// The bytes of the number.
-fn write_long(alloc: Global, number: i64) -> Result<Option<Items<u8>>, AllocError>
-    ensures { IfOk result (λ bytes. bytes ≡ written ColumnType.Long (Cell.Whole number)) }
-{
-    listed(alloc, &number.to_le_bytes())
-}
-
-/// The same bytes, where there are so many.
-fn write_sized(alloc: Global, size: usize, value: &[u8]) -> Result<Option<Items<u8>>, AllocError>
-    ensures { IfOk result (λ bytes. bytes ≡ sized_in size value.now) }
-{
-    if value.len() == size {
-        listed(alloc, value)
-    } else {
-        Ok(None)
-    }
 }
 
 /// The bytes that hold the cell, as `read_bound` reads them; none where the cell isn't a value of this type, or the type
@@ -219,20 +176,20 @@ pub fn write_bound(
     ensures { IfOk result (λ bytes. bytes ≡ written column_type.now cell.now) }
 {
     match (column_type, cell) {
+        _ if !cell.is_of(column_type) => Ok(None),
         (ColumnType::Boolean, Cell::Bool(truth)) => listed(alloc, &[*truth as u8]),
-        (ColumnType::Int | ColumnType::Date, Cell::Whole(number)) => write_int(alloc, *number),
+        (ColumnType::Int | ColumnType::Date, Cell::Whole(number)) => listed(
+            alloc,
+            &(*number as i32).to_le_bytes(),
+        ),
         (
             ColumnType::Long | ColumnType::Time | ColumnType::Timestamp | ColumnType::Timestamptz,
             Cell::Whole(number),
-        ) => write_long(alloc, *number),
-        (ColumnType::String, Cell::Text(text)) => write_text(alloc, text),
-        (ColumnType::Uuid, Cell::Bytes(value)) => write_sized(alloc, 16, value.as_slice()),
-        (ColumnType::Fixed(size), Cell::Bytes(value)) => write_sized(
-            alloc,
-            *size as usize,
-            value.as_slice(),
-        ),
-        (ColumnType::Binary, Cell::Bytes(value)) => listed(alloc, value.as_slice()),
+        ) => listed(alloc, &number.to_le_bytes()),
+        (ColumnType::String, Cell::Text(text)) => listed(alloc, text.as_bytes()),
+        (ColumnType::Uuid | ColumnType::Fixed(_) | ColumnType::Binary, Cell::Bytes(value)) => {
+            listed(alloc, value.as_slice())
+        }
         _ => Ok(None),
     }
 }

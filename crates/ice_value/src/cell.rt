@@ -5,9 +5,12 @@ ghost use Rattle.std.specs.declared.cmp.Ordering.{Ordering};
 ghost use Rattle.std.specs.declared.cmp.Ordering.TheVariants.{Less, Equal};
 ghost use Rattle.std.specs.Option.{option_map};
 ghost use Rattle.std.specs.Ordering.{ordering_reverse};
+ghost use Rattle.ice_value.specs.Bounds.{fits_int, is_cell};
 ghost use Rattle.ice_value.specs.Cells.{order, AreOfOneKind};
 ghost use Rattle.ice_value.specs.declared.cell.Cell.{Cell};
+ghost use Rattle.ice_value.specs.declared.column_type.ColumnType.{ColumnType};
 
+use crate::column_type::ColumnType;
 use crate::items::Items;
 use crate::text::Text;
 use std::alloc::{AllocError, Global};
@@ -42,6 +45,20 @@ impl Cell {
         }
     }
 
+    /// Whether the cell is a value of the type. Null is of no type, no cell is of type float or double, and any bytes are of
+    /// type decimal.
+    pub fn is_of(&self, column_type: &ColumnType) -> bool
+        ensures { result ≡ is_cell column_type.now self.now }
+    {
+        match self {
+            Cell::Null => false,
+            Cell::Bool(_) => matches!(column_type, ColumnType::Boolean),
+            Cell::Whole(number) => is_number_of(*number, column_type),
+            Cell::Text(text) => is_text_of(text.as_str(), column_type),
+            Cell::Bytes(bytes) => are_bytes_of(bytes.as_slice(), column_type),
+        }
+    }
+
     /// The order of two cells of one kind: false before true, whole numbers as numbers, texts and bytes by their
     /// unsigned bytes. None where a cell is null or the kinds differ.
     pub fn order(&self, other: &Cell) -> Option<Ordering>
@@ -54,6 +71,43 @@ impl Cell {
             (Cell::Bytes(a), Cell::Bytes(b)) => Some(a.as_slice().cmp(b.as_slice())),
             _ => None,
         }
+    }
+}
+
+fn is_number_of(number: i64, column_type: &ColumnType) -> bool
+    ensures { result ≡ is_cell column_type.now (Cell.Whole number) }
+{
+    match column_type {
+        ColumnType::Int | ColumnType::Date => is_int(number),
+        ColumnType::Long | ColumnType::Time | ColumnType::Timestamp | ColumnType::Timestamptz =>
+            true,
+        _ => false,
+    }
+}
+
+/// Whether the number fits 32 bits.
+fn is_int(number: i64) -> bool
+    ensures { result ≡ fits_int number }
+{
+    number >= -0x8000_0000 && number < 0x8000_0000
+}
+
+/// A `str` is UTF-8 by its type.
+fn is_text_of(text: &str, column_type: &ColumnType) -> bool
+    ensures { result ≡ is_cell column_type.now (Cell.Text text.now) }
+{
+    let _ = text;
+    matches!(column_type, ColumnType::String)
+}
+
+fn are_bytes_of(bytes: &[u8], column_type: &ColumnType) -> bool
+    ensures { result ≡ is_cell column_type.now (Cell.Bytes bytes.now) }
+{
+    match column_type {
+        ColumnType::Uuid => bytes.len() == 16,
+        ColumnType::Fixed(size) => bytes.len() == *size as usize,
+        ColumnType::Binary | ColumnType::Decimal { .. } => true,
+        _ => false,
     }
 }
 

@@ -318,6 +318,56 @@ fn cells_of_other_types(rt: HostRuntime) -> Result<(), Fail> {
     Ok(())
 }
 
+/// The cells at these places are values of the type, and no others.
+fn check_type(rt: &impl Abort, cells: &[Cell], column_type: ColumnType, places: &[usize]) {
+    for (place, cell) in cells.iter().enumerate() {
+        assert!(rt; cell.is_of(&column_type) == places.contains(&place));
+    }
+}
+
+#[test]
+fn types_of_cells(rt: HostRuntime) -> Result<(), Fail> {
+    let alloc = rt.alloc();
+    let cells = [
+        Cell::Null,
+        Cell::Bool(false),
+        Cell::Whole(-2_147_483_648),
+        Cell::Whole(2_147_483_647),
+        Cell::Whole(-2_147_483_649),
+        Cell::Whole(2_147_483_648),
+        text(alloc, "")?,
+        text(alloc, "0123456789abcdef")?,
+        bytes(alloc, &[])?,
+        bytes(alloc, &[0xff; 15])?,
+        bytes(alloc, &UUID)?,
+    ];
+    let decimal = ColumnType::Decimal {
+        precision: 9,
+        scale: 2,
+    };
+    let table = [
+        (ColumnType::Boolean, [1].as_slice()),
+        (ColumnType::Int, [2, 3].as_slice()),
+        (ColumnType::Date, [2, 3].as_slice()),
+        (ColumnType::Long, [2, 3, 4, 5].as_slice()),
+        (ColumnType::Time, [2, 3, 4, 5].as_slice()),
+        (ColumnType::Timestamp, [2, 3, 4, 5].as_slice()),
+        (ColumnType::Timestamptz, [2, 3, 4, 5].as_slice()),
+        (ColumnType::String, [6, 7].as_slice()),
+        (ColumnType::Uuid, [10].as_slice()),
+        (ColumnType::Fixed(15), [9].as_slice()),
+        (ColumnType::Fixed(0), [8].as_slice()),
+        (ColumnType::Binary, [8, 9, 10].as_slice()),
+        (decimal, [8, 9, 10].as_slice()),
+        (ColumnType::Float, [].as_slice()),
+        (ColumnType::Double, [].as_slice()),
+    ];
+    for (column_type, places) in table {
+        check_type(&rt, cells.as_slice(), column_type, places);
+    }
+    Ok(())
+}
+
 #[test]
 fn copies(rt: HostRuntime) -> Result<(), Fail> {
     let alloc = rt.alloc();
