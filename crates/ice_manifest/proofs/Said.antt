@@ -25,7 +25,7 @@ use Rattle.ice_manifest.specs.Manifests.{manifested, status_of, unless_deleted, 
 use Rattle.ice_manifest.specs.Laws.{says, kept, GivesEachRow, GivesTheEntries, SaysLiveOnes, DropsDeleted, KeepsItsNumber, InheritsTheRows, NeedsItsOwn}
 
 -- a step of reading that went on
-went_on : {A B E : Type 0} (r : Result A E) (f : A → Result B E) (x : B) → (r >>= f) ≡ Ok x → (a : A) × (r ≡ Ok a) × (f a ≡ Ok x)
+pub went_on : {A B E : Type 0} (r : Result A E) (f : A → Result B E) (x : B) → (r >>= f) ≡ Ok x → (a : A) × (r ≡ Ok a) × (f a ≡ Ok x)
 went_on {A} {B} {E} (Ok a) f x h = (a, refl, h)
 went_on {A} {B} {E} (Err e) f x h = absurd (cc)
 
@@ -44,7 +44,7 @@ position_is at row spec k status vs e h =
     let is : entry_of row spec k sequence.0 file.0 ≡ e = cc in
     sym (ap (λ (x : Entry). x.position) is)
 
-live_is : (status : Status) (entry : Result Entry ManifestFault) (e : Entry) → unless_deleted status entry ≡ Ok (Some e) → entry ≡ Ok e
+pub live_is : (status : Status) (entry : Result Entry ManifestFault) (e : Entry) → unless_deleted status entry ≡ Ok (Some e) → entry ≡ Ok e
 live_is Deleted entry e h = absurd (cc)
 live_is Existing (Ok x) e h = cc
 live_is Existing (Err f) e h = absurd (cc)

@@ -29,7 +29,7 @@ here {X} x xs z e = let P : X → Type 0 = λ v. Contains (x ∷ xs) v in subst 
 pub later : {X : Type 0} (x : X) (xs : List X) (z : X) → Contains xs z → Contains (x ∷ xs) z
 later {X} x xs z h = Contains-append_right (x ∷ []) xs z h
 
-nowhere : {X : Type 0} (z : X) → Contains {X = X} [] z → ⊥
+pub nowhere : {X : Type 0} (z : X) → Contains {X = X} [] z → ⊥
 nowhere {X} z h = let lt = h.1 in omega arith
 
 pub cases_of : {X : Type 0} (x : X) (xs : List X) (z : X) → Contains (x ∷ xs) z → (x ≡ z) ⊎ Contains xs z
@@ -119,7 +119,7 @@ same_self r = rw ((bytes_eq-Decides r.path r.path).1 refl, (Decides-int_eq r.len
 same_equal : (r s : Row) → r ≡ s → same_row r s ≡ true
 same_equal r s e = let P : Row → Type 0 = λ v. same_row r v ≡ true in subst P e (same_self r)
 
-equality : IsEquivalence same_row
+pub equality : IsEquivalence same_row
 equality = decided same_row (λ r s. (same_is r s, same_equal r s))
 
 -- ---- the rows in their order
@@ -191,7 +191,7 @@ refuses_two rows path h =
 
 -- ---- the least of such paths
 
-among : (P : Row → Type 0) (rows : List Row) (a : Row) → AllByRecursion P rows → Contains rows a → P a
+pub among : (P : Row → Type 0) (rows : List Row) (a : Row) → AllByRecursion P rows → Contains rows a → P a
 among P [] a all h = absurd (nowhere a h)
 among P (r ∷ rows) a all h = elim (cases_of r rows a h) as (λ _. P a) [ inl e ↦ subst P e all.0 | inr i ↦ among P rows a all.1 i ]
 

@@ -5,3 +5,4 @@ pub mod Fields
 pub mod Lists
 pub mod Manifests
 pub mod Laws
+pub mod Faults

@@ -1,6 +1,7 @@
 //! What the definitions of rows and entries come to.
 
 ghost use Rattle.ice_manifest.specs.Laws.{GivesEachRow, GivesTheRows, RefusesTwo, RefusesTheLeast, GivesTheEntries, SaysLiveOnes, DropsDeleted, KeepsItsNumber, InheritsTheRows, NeedsItsOwn};
+ghost use Rattle.ice_manifest.specs.Faults.{TellsTheFirstRow, TellsTheListsEnd, TellsTheFirstEntry, TellsTheManifestsEnd, RefusesAPathExactly, RefusesManyExactly, FitsItsRow};
 
 /// The rows of a list are the set of the rows that its objects say. It is refused for a path only where two different
 /// rows have it, and then for the least such path.
@@ -25,4 +26,25 @@ pub fn numbers_are_inherited()
     ensures own { KeepsItsNumber }
     ensures added { InheritsTheRows }
     ensures existing { NeedsItsOwn }
+{}
+
+/// The fault of a list or a manifest is that of its first object at fault, whatever comes after it. Where no object is
+/// at fault, it is the container's behind them.
+pub fn first_faults_are_told()
+    ensures row { TellsTheFirstRow }
+    ensures list_end { TellsTheListsEnd }
+    ensures entry { TellsTheFirstEntry }
+    ensures manifest_end { TellsTheManifestsEnd }
+{}
+
+/// A list is refused for its rows together exactly where it has no other fault: for the least path of two different
+/// rows, and where there is none, for more than 65,536 different rows.
+pub fn rows_are_refused_together()
+    ensures path { RefusesAPathExactly }
+    ensures many { RefusesManyExactly }
+{}
+
+/// Each entry holds what its row's content allows: data under a row of data, deletes under one of deletes.
+pub fn contents_fit()
+    ensures { FitsItsRow }
 {}

@@ -16,7 +16,10 @@ mod status;
 
 pub use entry::{Entry, FileContent};
 pub use fault::{ListFault, ManifestFault};
-pub use laws::{entries_are_the_live_ones, numbers_are_inherited, rows_are_a_set};
+pub use laws::{
+    contents_fit, entries_are_the_live_ones, first_faults_are_told, numbers_are_inherited,
+    rows_are_a_set, rows_are_refused_together,
+};
 pub use list::read_list;
 pub use manifest::read_manifest;
 pub use row::{ManifestContent, Row};
