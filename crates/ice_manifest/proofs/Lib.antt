@@ -3,3 +3,4 @@ pub mod Ahead
 pub mod Rising
 pub mod Sets
 pub mod Said
+pub mod Few
