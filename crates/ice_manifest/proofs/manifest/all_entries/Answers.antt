@@ -1,4 +1,4 @@
-use Rattle.std.proofs.Common.{sym, ap, ◌∙◌, arith}
+use Rattle.std.proofs.Common.{sym, ap, ◌∙◌, arith, rules}
 use Rattle.std.proofs.lemmas.Result.{err_from_is_err_and}
 use Rattle.avro_file.specs.Files.{ahead}
 use Rattle.ice_manifest.specs.Fields.{fields_of}
@@ -36,4 +36,4 @@ objects-preserved c =
     )
 
 pub returns : goal.returns
-returns c = sym c.objects.invariant.0 ∙ no_entry c.args.layout.now c.args.row.now c.args.spec.now c.objects.position c.objects.entries.items (ahead c.objects.container) (ahead c.next.new.self) _ c.in_ok-object.ensures.next c.in_default.not-Some
+returns c = sym c.objects.invariant.0 ∙ search (rules, no_entry c.args.layout.now c.args.row.now c.args.spec.now c.objects.position c.objects.entries.items (ahead c.objects.container) (ahead c.next.new.self))
