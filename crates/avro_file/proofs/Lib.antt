@@ -12,3 +12,4 @@ pub mod Metadata
 pub mod Opened
 pub mod Once
 pub mod Unlimited
+pub mod Few

@@ -1,7 +1,7 @@
 -- Which bytes spell a value under a schema.
 -- Avro 1.11.1 specification, 'Binary Encoding', 'Primitive Types' and 'Complex Types'. Numbers may have more groups
 -- than they need, and the byte size behind a negative count is not compared.
-use Rattle.std.specs.Prelude.{◌≡◌, ℕ, zero, suc, ◌+◌, ◌<◌, ℤ, pos, negsuc, Bool, true, false, List, [], ◌∷◌, ◌++◌, length, ◌⊎◌}
+use Rattle.std.specs.Prelude.{◌≡◌, ℕ, zero, suc, ◌+◌, ◌<◌, ℤ, pos, negsuc, Bool, true, false, List, [], ◌∷◌, ◌++◌, length, nat_lt, ◌||◌, ◌⊎◌}
 use Rattle.std.specs.Str.{IsUtf8}
 use Rattle.avro_file.specs.Number.{IsLong, IsInt}
 use Rattle.avro_schema.specs.Tree.{Tree, null, boolean, int, long, float, double, symbols, octets, string, fixed, structure, array, map, union, Fields, no_fields, field, Branches, no_branches, branch}
@@ -66,6 +66,19 @@ abbrev mutual
   SpellsBranch no_branches n v bytes = ⊥
   SpellsBranch (branch s bs) zero v bytes = Spells s v bytes
   SpellsBranch (branch s bs) (suc n) v bytes = SpellsBranch bs n v bytes
+
+-- Whether each value of the schema takes a byte at least. A null takes none, and a fixed as many as its size says.
+unfoldable mutual
+  pub takes_bytes : Tree → Bool
+  takes_bytes null = false
+  takes_bytes (fixed n kind) = nat_lt 0 n
+  takes_bytes (structure fs) = some_takes_bytes fs
+  takes_bytes s = true
+
+  -- a record takes a byte where one of its fields does
+  pub some_takes_bytes : Fields → Bool
+  some_takes_bytes no_fields = false
+  some_takes_bytes (field id s fs) = takes_bytes s || some_takes_bytes fs
 
 -- how many items the arrays and maps of a value hold, also inside one another
 abbrev mutual

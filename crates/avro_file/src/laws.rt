@@ -1,9 +1,11 @@
 //! Laws of the format, over its definitions alone.
 
-ghost use Rattle.std.specs.Prelude.{◌≡◌, ◌≢◌, ◌^◌, ◌<◌, ℕ, List, length, Err};
+ghost use Rattle.std.specs.Prelude.{◌≡◌, ◌≢◌, ◌^◌, ◌<◌, ◌≤◌, ℕ, true, List, length, Ok, Err};
 ghost use Rattle.avro_schema.specs.Tree.{Tree};
 ghost use Rattle.avro_file.specs.Value.{Value};
-ghost use Rattle.avro_file.specs.Files.{opened_at, HoldsFile};
+ghost use Rattle.avro_file.specs.Spelling.{takes_bytes};
+ghost use Rattle.avro_file.specs.Ahead.{still_ahead};
+ghost use Rattle.avro_file.specs.Files.{opened_at, HoldsFile, Opened};
 
 use crate::fault::AvroFault;
 
@@ -15,4 +17,9 @@ pub fn one_list()
 /// The metadata of a header may have any number of items.
 pub fn no_item_limit()
     ensures { (bytes : List ℕ) → length bytes < 2 ^ 63 → opened_at bytes ≢ Err AvroFault.TooManyItems }
+{}
+
+/// A file gives no more objects than it has bytes, where each value of its schema takes a byte at least.
+pub fn objects_take_bytes()
+    ensures { (bytes : List ℕ) (o : Opened) → opened_at bytes ≡ Ok o → takes_bytes o.schema ≡ true → still_ahead o.ahead ≤ length bytes }
 {}

@@ -16,7 +16,7 @@ mod refusal;
 pub use container::{Container, Object};
 pub use datum::Datum;
 pub use fault::{AvroFault, CodecName};
-pub use laws::{no_item_limit, one_list};
+pub use laws::{no_item_limit, objects_take_bytes, one_list};
 
 #[cfg(test)]
 mod tests;

@@ -3,7 +3,7 @@ use Rattle.std.proofs.Common.{◌≡◌, ◌≢◌, ℕ, ◌+◌, ◌<◌, List,
 use Rattle.avro_file.specs.declared.fault.AvroFault.{AvroFault}
 use Rattle.avro_file.specs.declared.fault.AvroFault.TheVariants as container
 use Rattle.avro_file.specs.declared.container.Object.{Object}
-use Rattle.avro_file.specs.Ahead.{Ahead, running, refusing}
+use Rattle.avro_file.specs.Ahead.{Ahead, running, refusing, still_ahead}
 use Rattle.avro_file.specs.Files.{Next, shown}
 use Rattle.ice_meta.specs.declared.spec.Spec.{Spec}
 use Rattle.ice_manifest.specs.declared.fault.ListFault.{ListFault}
@@ -16,7 +16,7 @@ use Rattle.ice_manifest.specs.declared.layout.RowLayout.{RowLayout}
 use Rattle.ice_manifest.specs.declared.layout.EntryLayout.{EntryLayout}
 use Rattle.ice_manifest.specs.Fields.{fields_of}
 use Rattle.ice_manifest.specs.Lists as Lists
-use Rattle.ice_manifest.specs.Lists.{row_at, rows_from, rows_ahead, still_ahead}
+use Rattle.ice_manifest.specs.Lists.{row_at, rows_from, rows_ahead}
 use Rattle.ice_manifest.specs.Manifests as Manifests
 use Rattle.ice_manifest.specs.Manifests.{entry_at, with_live, entries_from, entries_ahead}
 

@@ -138,8 +138,3 @@ rows_of bytes = do
   at ← listed (row_layout (fields_in file.schema))
   rows ← rows_ahead at [] file.ahead
   checked (in_order rows)
-
--- how many objects are to come
-unfoldable pub still_ahead : Ahead → ℕ
-still_ahead (running vs ending) = length vs
-still_ahead (refusing f) = 0

@@ -1,8 +1,9 @@
 //! Reading a manifest.
 
-ghost use Rattle.std.specs.Prelude.{◌≡◌, [], option_map, OnOk};
+ghost use Rattle.std.specs.Prelude.{◌≡◌, ◌<◌, ◌^◌, [], option_map, OnOk};
 ghost use Rattle.avro_schema.specs.Outcome.{Gives};
 ghost use Rattle.avro_file.specs.View.{view};
+ghost use Rattle.avro_file.specs.Ahead.{still_ahead};
 ghost use Rattle.avro_file.specs.Files.{ahead};
 ghost use Rattle.ice_manifest.specs.Fields.{values};
 ghost use Rattle.ice_manifest.specs.Outcome.{found_file};
@@ -17,7 +18,7 @@ use crate::field::{
 use crate::layout::{EntryLayout, FileLayout};
 use crate::row::{ManifestContent, Row};
 use crate::status::Status;
-use avro_file::{Container, Datum};
+use avro_file::{Container, Datum, objects_take_bytes};
 use ice_meta::Spec;
 use ice_value::Items;
 use std::alloc::{AllocError, Global};
@@ -178,7 +179,7 @@ fn push_live(entries: &mut Vec<Entry>, entry: Option<Entry>) -> Result<(), Alloc
     Ok(())
 }
 
-/// The live entries of all objects that are to come.
+/// The live entries of all objects that are to come, which are few enough to be numbered.
 fn all_entries(
     alloc: Global,
     layout: &EntryLayout,
@@ -186,19 +187,18 @@ fn all_entries(
     spec: &Spec,
     mut container: Container<'_>,
 ) -> Result<Vec<Entry>, ManifestFault>
+    requires { still_ahead (ahead container) < 2 ^ 64 }
     ensures { Gives ManifestFault.Memory (λ entries. entries.items) result (entries_ahead layout.now row.now spec.now 0 [] (ahead container.entry)) }
 {
     let mut entries = Vec::new(alloc);
-    'objects: for position in 0..u64::MAX {
-        let Some(object) = container.next(alloc)? else {
-            return Ok(entries);
-        };
+    let mut position: u64 = 0;
+    'objects: while let Some(object) = container.next(alloc)? {
         let fields = fields_of(alloc, object.datum());
         let entry = entry_at(alloc, layout, row, spec, position, fields)?;
         push_live(&mut entries, entry)?;
+        position += 1;
     }
-    // An entry takes a byte at least, and no memory holds so many.
-    Err(ManifestFault::Memory)
+    Ok(entries)
 }
 
 /// The live entries of a row's manifest, in the order of their positions, with their numbers inherited. The spec is
@@ -218,5 +218,7 @@ pub fn read_manifest(
 {
     let container = Container::open(alloc, bytes)?;
     let layout = EntryLayout::of(alloc, container.schema())?;
+    // An entry takes a byte at least, so there are no more of them than bytes.
+    objects_take_bytes();
     all_entries(alloc, &layout, row, spec, container)
 }

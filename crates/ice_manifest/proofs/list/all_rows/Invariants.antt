@@ -1,6 +1,7 @@
 use Rattle.std.proofs.Common.{◌≡◌, []}
+use Rattle.avro_file.specs.Ahead.{still_ahead}
 use Rattle.avro_file.specs.Files.{ahead}
-use Rattle.ice_manifest.specs.Lists.{rows_ahead, still_ahead}
+use Rattle.ice_manifest.specs.Lists.{rows_ahead}
 use Rattle.ice_manifest.proofs.list.all_rows.Given as goal
 
 abbrev pub invariant-objects : goal.invariant-objects
