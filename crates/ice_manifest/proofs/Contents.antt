@@ -8,7 +8,6 @@ use Rattle.avro_file.specs.declared.fault.AvroFault.{AvroFault}
 use Rattle.avro_file.specs.Value.{Value, Values}
 use Rattle.avro_file.specs.Ahead.{Ahead, running, refusing}
 use Rattle.avro_file.specs.Files.{opened_at}
-use Rattle.avro_file.proofs.Steps.{passed, ok_is, either}
 use Rattle.ice_meta.specs.declared.spec.Spec.{Spec}
 use Rattle.ice_manifest.specs.declared.fault.ManifestFault.TheVariants.{BadContent}
 use Rattle.ice_manifest.specs.declared.row.Row.{Row}
@@ -25,6 +24,7 @@ use Rattle.ice_manifest.specs.Fields.{nth, fields_of, asked, long_in, int_in, op
 use Rattle.ice_manifest.specs.Picking.{fields_in}
 use Rattle.ice_manifest.specs.Manifests.{contained, manifested, entry_layout, status_of, content_of, inherited, file_of, file_at, live_entry, entry_at, with_live, entries_from, entries_ahead, entries_of}
 use Rattle.ice_manifest.specs.Faults.{MayHold, FitsItsRow}
+use Rattle.ice_manifest.proofs.Tests.{passed, ok_is, either}
 use Rattle.ice_manifest.proofs.Said.{went_on, live_is}
 use Rattle.ice_manifest.proofs.Sets.{nowhere}
 

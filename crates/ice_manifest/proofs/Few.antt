@@ -12,6 +12,7 @@ use Rattle.ice_manifest.specs.declared.layout.EntryLayout.{EntryLayout}
 use Rattle.ice_manifest.specs.Kinds.{fits}
 use Rattle.ice_manifest.specs.Manifests.{manifested, entry_layout}
 use Rattle.ice_manifest.specs.Picking.{fields_in, pick_from, pick, must_fit, required_field}
+use Rattle.ice_manifest.proofs.Tests.{passed, ok_is}
 
 whole_takes_bytes : (t : Tree) → fits kind.Whole t ≡ true → takes_bytes t ≡ true
 unfolding fits takes_bytes
@@ -67,12 +68,9 @@ tree_takes_bytes (union bs) p here fit = refl
 must_have : (o : Option (ℕ × Tree)) (p : ℕ × Tree) → must_fit kind.Whole (pos 0) o ≡ Ok p → (o ≡ Some p) × (fits kind.Whole p.1 ≡ true)
 must_have None p e = absurd cc
 must_have (Some q) p e =
-    let step : (b : Bool) → fits kind.Whole q.1 ≡ b → cond b (Ok q) (Err (WrongType (pos 0))) ≡ Ok p → (Some q ≡ Some p) × (fits kind.Whole p.1 ≡ true) =
-    λ b. elim b as (λ x. fits kind.Whole q.1 ≡ x → cond x (Ok q) (Err (WrongType (pos 0))) ≡ Ok p → (Some q ≡ Some p) × (fits kind.Whole p.1 ≡ true)) [
-      | true ↦ λ fit taken. let same : q ≡ p = cc in (ap Some same, subst (λ (r : ℕ × Tree). fits kind.Whole r.1 ≡ true) same fit)
-      | false ↦ λ fit taken. absurd cc
-    ] in
-    step (fits kind.Whole q.1) refl e
+    let g = passed (fits kind.Whole q.1) (WrongType (pos 0)) (Ok q) p e in
+    let same : q ≡ p = ok_is q p g.1 in
+    (ap Some same, subst (λ (r : ℕ × Tree). fits kind.Whole r.1 ≡ true) same g.0)
 
 first_step : {A B E : Type 0} (r : Result A E) (f : A → Result B E) (y : B) → (r >>= f) ≡ Ok y → (x : A) × (r ≡ Ok x)
 first_step (Ok x) f y e = (x, refl)
