@@ -1,6 +1,7 @@
 -- One level of a schema, as a tree.
 use Rattle.std.proofs.Common.{◌≡◌, ℕ, zero, suc, ◌<◌, ◌≤◌, List, [], ◌∷◌, length, get_or, ℤ, pos, negsuc, ◌<ℤ◌, Ok, Err, refl, arith, rules, Vec, Box, String, Global, string_bytes, map, ap, ◌∙◌}
 use Rattle.std.proofs.lemmas.Int.{ints}
+use Rattle.std.specs.declared.sync.Arc.{Arc}
 use Rattle.avro_file.specs.declared.refusal.Refusal.{Refusal}
 use Rattle.avro_file.specs.declared.refusal.Refusal.TheVariants.{BadUnion}
 use Rattle.avro_schema.specs.declared.schema.Schema.{Schema, Record, Map, Union, the_lemmas}
@@ -19,11 +20,11 @@ field_trees fs = fields_of (parts fs)
 abbrev pub branch_trees : List Schema → Branches
 branch_trees ss = branches_of (trees ss)
 
-pub tree-Record : (v : Vec Field Global) → tree (Record v) ≡ structure (field_trees v.items)
-tree-Record v = search (rules, the_lemmas)
+pub tree-Record : (a : Arc (Vec Field Global) Global) → tree (Record a) ≡ structure (field_trees a.value.items)
+tree-Record a = search (rules, the_lemmas)
 
-pub tree-Union : (v : Vec Schema Global) → tree (Union v) ≡ union (branch_trees v.items)
-tree-Union v = search (rules, the_lemmas)
+pub tree-Union : (a : Arc (Vec Schema Global) Global) → tree (Union a) ≡ union (branch_trees a.value.items)
+tree-Union a = search (rules, the_lemmas)
 
 pub branch_there : (ss : List Schema) (n : ℕ) (d : Schema) (p : Position) → n < length ss → branch_at (branch_trees ss) n p ≡ datum_at (tree (get_or ss n d)) p
 unfolding branch_at
@@ -65,8 +66,8 @@ pub map_read : (s : Tree.Tree) (p : Position) (es : List Pair) (q : Position) �
 unfolding datum_at
 map_read s p es q h = rw h refl
 
-pub tree-Map : (b : Box Schema Global) → tree (Map b) ≡ Tree.map (tree b.value)
-tree-Map b = search (rules, the_lemmas)
+pub tree-Map : (a : Arc Schema Global) → tree (Map a) ≡ Tree.map (tree a.value)
+tree-Map a = search (rules, the_lemmas)
 
 view-Map_inside : (v : Vec (String Global × datum.Datum) Global) → view (datum.Map v) ≡ entries (entries_of (map (λ (e : String Global × Value). (string_bytes e.0, e.1)) (map (λ (e : String Global × datum.Datum). (e.0, view e.1)) v.items)))
 view-Map_inside v = search (rules, datum.the_lemmas)

@@ -6,13 +6,7 @@ use Rattle.serde_json.specs.Data.{Data}
 use Rattle.serde_json.specs.View.{view, items_view}
 use Rattle.avro_schema.specs.declared.fault.SchemaFault.{SchemaFault}
 use Rattle.avro_schema.specs.declared.fault.SchemaFault.TheVariants.{TooBig, Memory}
-use Rattle.avro_schema.specs.declared.schema.Schema.{Record, the_lemmas}
-use Rattle.avro_schema.specs.declared.schema.Field.{Field}
-use Rattle.std.specs.Prelude.{Vec}
-use Rattle.std.specs.declared.alloc.Global.{Global}
 use Rattle.avro_schema.specs.declared.reading.Place.{Place}
-use Rattle.avro_schema.specs.Tree.{structure}
-use Rattle.avro_schema.specs.View.{tree, parts, fields_of}
 use Rattle.avro_schema.specs.Reading.{Seen, Read, each_at, node_at, tree_at}
 
 pub each_on : {A : Type 0} (read : List A → Data → Seen → Read A) (front : List A) (vs : List Value) (i : ℕ) (v : Value) (s : Seen) (x : A) (q : Seen) (total : Read (List A)) → i < length vs → v ≡ get_or vs i v → read front (view v) s ≡ Ok (x, q)
@@ -37,9 +31,6 @@ each_done {A} read front vs i s total le so_far =
     let k : drop i vs ≡ [] = drop_of_length-le vs le in
     let one : each_at read front (items_view (drop i vs)) s ≡ Ok (front, s) = rw k refl in
     sym so_far ∙ one
-
-pub tree-Record : (v : Vec Field Global) → tree (Record v) ≡ structure (fields_of (parts v.items))
-tree-Record v = search (rules, the_lemmas)
 
 pub one_more : (n : ℕ) (at : Place) (space : List ℕ) (d : Data) (s : Seen) → 0 < n → 0 < s.left → tree_at n at space d s ≡ node_at (tree_at (n - 1)) (n - 1) at space d (record s { left = s.left - 1 })
 unfolding tree_at

@@ -30,10 +30,10 @@ tree_step (Schema-F.Enum n) = symbols n
 tree_step (Schema-F.Bytes kind) = octets kind
 tree_step Schema-F.String = string
 tree_step (Schema-F.Fixed n kind) = fixed n kind
-tree_step (Schema-F.Record v) = structure (fields_of v.items)
-tree_step (Schema-F.Array b id kind) = array b.value id kind
-tree_step (Schema-F.Map b) = tree_of.map b.value
-tree_step (Schema-F.Union v) = union (branches_of v.items)
+tree_step (Schema-F.Record a) = structure (fields_of a.value.items)
+tree_step (Schema-F.Array a id kind) = array a.value id kind
+tree_step (Schema-F.Map a) = tree_of.map a.value
+tree_step (Schema-F.Union a) = union (branches_of a.value.items)
 
 abbrev pub field_step : Field-F Tree Part → Part
 field_step f = (f.id, f.schema)

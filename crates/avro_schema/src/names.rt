@@ -13,7 +13,6 @@ use crate::fault::SchemaFault;
 use crate::full_name::FullName;
 use crate::repeat::{copy, is_higher, spend_below};
 use crate::schema::Schema;
-use std::alloc::Global;
 use std::collections::BTreeMap;
 
 /// What a walk carries along.
@@ -77,7 +76,6 @@ pub fn inner_space<'a>(space: &'a [u8], name: &'a [u8]) -> &'a [u8]
 
 /// The tree of a name that was defined before.
 fn used_at<'a>(
-    alloc: Global,
     name: FullName<'a>,
     most: u32,
     seen: Seen<'a>,
@@ -94,7 +92,7 @@ fn used_at<'a>(
             if is_higher(schema, most) {
                 return Err(SchemaFault::TooBig);
             }
-            let copied = copy(alloc, schema)?;
+            let copied = copy(schema)?;
             Ok((
                 copied,
                 Seen {
@@ -109,7 +107,6 @@ fn used_at<'a>(
 /// The tree of the type that a text names.
 #[tactic(auto, unfolding(crate::specs::Reading::named))]
 pub fn named_at<'a>(
-    alloc: Global,
     text: &'a str,
     most: u32,
     space: &'a [u8],
@@ -120,7 +117,7 @@ pub fn named_at<'a>(
     if let Some(schema) = plain_of(text) {
         return Ok((schema, seen));
     }
-    used_at(alloc, full_name(space, text.as_bytes()), most, seen)
+    used_at(full_name(space, text.as_bytes()), most, seen)
 }
 
 /// The names with this one, which may have been there.

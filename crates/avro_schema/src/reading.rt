@@ -22,6 +22,7 @@ use crate::repeat::copy;
 use crate::schema::{Field, Schema};
 use serde_json::Value;
 use std::alloc::Global;
+use std::sync::Arc;
 
 /// Where a type stands.
 #[derive(Clone, Copy, Debug, PartialEq, Eq)]
@@ -71,7 +72,7 @@ fn node_of<'a>(
     ensures { Reads result (node_at (tree_at most) most place space.now (view json.now) (met seen.entry)) }
 {
     match json {
-        Value::String(text) => word_of(alloc, text.as_str(), most, space, seen),
+        Value::String(text) => word_of(text.as_str(), most, space, seen),
         Value::Array(items) => union_of(alloc, items, most, place, space, seen),
         Value::Object(_) => object_of(alloc, json, most, space, seen),
         _ => Err(SchemaFault::UnknownType),
@@ -81,7 +82,6 @@ fn node_of<'a>(
 /// The tree of a text that stands alone.
 #[tactic(auto, unfolding(crate::specs::Reading::text_at))]
 fn word_of<'a>(
-    alloc: Global,
     text: &'a str,
     most: u32,
     space: &'a [u8],
@@ -90,7 +90,7 @@ fn word_of<'a>(
     ensures { Reads result (tree_of_word most space.now text.now (met seen.entry)) }
 {
     match kind_from(text) {
-        Kind::Bytes | Kind::Word => named_at(alloc, text, most, space, seen),
+        Kind::Bytes | Kind::Word => named_at(text, most, space, seen),
         _ => Err(SchemaFault::UnknownType),
     }
 }
@@ -112,7 +112,7 @@ fn union_of<'a>(
         Place::Branch => Err(SchemaFault::UnknownType),
         Place::Elsewhere => {
             let (branches, seen) = branches_of(alloc, items, most, space, seen)?;
-            Ok((Schema::Union(branches), seen))
+            Ok((Schema::Union(Arc::new(alloc, branches)?), seen))
         }
     }
 }
@@ -161,7 +161,7 @@ fn object_of<'a>(
         Kind::Enum => enum_of(alloc, json, space, seen),
         Kind::Fixed => fixed_of(alloc, json, space, seen),
         Kind::Bytes => Ok((Schema::Bytes(bytes_kind_of(json)), seen)),
-        Kind::Word => named_at(alloc, text, most, space, seen),
+        Kind::Word => named_at(text, most, space, seen),
     }
 }
 
@@ -183,7 +183,7 @@ fn array_of<'a>(
     let (schema, seen) = schema_of(alloc, items, most, Place::Elsewhere, space, seen)?;
     Ok((
         Schema::Array(
-            Box::new(alloc, schema)?,
+            Arc::new(alloc, schema)?,
             id_at(json, "element-id"),
             array_kind_of(json),
         ),
@@ -207,7 +207,7 @@ fn map_of<'a>(
         return Err(SchemaFault::UnknownType);
     };
     let (schema, seen) = schema_of(alloc, values, most, Place::Elsewhere, space, seen)?;
-    Ok((Schema::Map(Box::new(alloc, schema)?), seen))
+    Ok((Schema::Map(Arc::new(alloc, schema)?), seen))
 }
 
 /// The namespace that an object gives, or the one around it.
@@ -292,8 +292,8 @@ fn record_of<'a>(
     let opened = define(whole, None, seen)?;
     let inner = inner_space(own_space(json, space), name.as_bytes());
     let (fields, after) = fields_of(alloc, items, most, inner, opened)?;
-    let schema = Schema::Record(fields);
-    let kept = copy(alloc, &schema)?;
+    let schema = Schema::Record(Arc::new(alloc, fields)?);
+    let kept = copy(&schema)?;
     let closed = set(whole, Some(kept), after)?;
     Ok((schema, closed))
 }

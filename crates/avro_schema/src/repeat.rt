@@ -1,15 +1,15 @@
-//! What it takes to let a tree stand once more: its nodes, its levels and a copy.
+//! What it takes to let a tree stand once more: its nodes, its levels, and a share in it.
 
 ghost use Rattle.std.specs.Prelude.{◌≡◌, nat_lt, IfOk};
 ghost use Rattle.avro_schema.specs.Size.{less, below, nodes, in_fields, in_branches, height, depth, deepest_field, deepest_branch};
 ghost use Rattle.avro_schema.specs.View.{tree, trees, parts, fields_of, branches_of};
 
 use crate::schema::{Field, Schema};
-use std::alloc::{AllocError, Global};
+use std::alloc::AllocError;
+use std::sync::Arc;
 
-/// A copy of a schema.
-#[cycle(copy)]
-pub fn copy(alloc: Global, schema: &Schema) -> Result<Schema, AllocError>
+/// The same tree once more, which shares what is below its root.
+pub fn copy(schema: &Schema) -> Result<Schema, AllocError>
     ensures { IfOk result (λ s. tree s ≡ tree schema.now) }
 {
     match schema {
@@ -23,45 +23,11 @@ pub fn copy(alloc: Global, schema: &Schema) -> Result<Schema, AllocError>
         Schema::String => Ok(Schema::String),
         Schema::Fixed(size, kind) => Ok(Schema::Fixed(*size, *kind)),
         Schema::Enum(count) => Ok(Schema::Enum(*count)),
-        Schema::Record(fields) => Ok(Schema::Record(copy_fields(alloc, fields)?)),
-        Schema::Array(items, id, kind) => {
-            let items = copy(alloc, items)?;
-            Ok(Schema::Array(Box::new(alloc, items)?, *id, *kind))
-        }
-        Schema::Map(values) => {
-            let values = copy(alloc, values)?;
-            Ok(Schema::Map(Box::new(alloc, values)?))
-        }
-        Schema::Union(branches) => Ok(Schema::Union(copy_branches(alloc, branches)?)),
+        Schema::Record(fields) => Ok(Schema::Record(Arc::clone(fields)?)),
+        Schema::Array(items, id, kind) => Ok(Schema::Array(Arc::clone(items)?, *id, *kind)),
+        Schema::Map(values) => Ok(Schema::Map(Arc::clone(values)?)),
+        Schema::Union(branches) => Ok(Schema::Union(Arc::clone(branches)?)),
     }
-}
-
-/// A copy of a record's fields.
-#[cycle(copy)]
-fn copy_fields(alloc: Global, fields: &Vec<Field>) -> Result<Vec<Field>, AllocError>
-    ensures { IfOk result (λ v. parts v.items ≡ parts fields.now.items) }
-{
-    let mut copies = Vec::new(alloc);
-    'fields: for field in fields {
-        let schema = copy(alloc, &field.schema)?;
-        copies.push(Field {
-            id: field.id,
-            schema,
-        })?;
-    }
-    Ok(copies)
-}
-
-/// A copy of a union's branches.
-#[cycle(copy)]
-fn copy_branches(alloc: Global, branches: &Vec<Schema>) -> Result<Vec<Schema>, AllocError>
-    ensures { IfOk result (λ v. trees v.items ≡ trees branches.now.items) }
-{
-    let mut copies = Vec::new(alloc);
-    'branches: for branch in branches {
-        copies.push(copy(alloc, branch)?)?;
-    }
-    Ok(copies)
 }
 
 /// How many of the nodes that may still come are left after those below this one.

@@ -1,5 +1,7 @@
 //! The tree that a schema's text names.
 
+use std::sync::Arc;
+
 /// What an array stands for: a list, or a map whose items are records of a key and a value.
 #[derive(Clone, Copy, Debug, PartialEq, Eq)]
 pub enum ArrayKind {
@@ -14,7 +16,7 @@ pub enum BytesKind {
     Decimal,
 }
 
-/// A type, as a tree: each name in the text stands for the whole tree of its definition.
+/// A type, as a tree: each name in the text stands for the whole tree of its definition, and shares it in memory.
 #[derive(Debug, Drop)]
 #[cycle(schema)]
 pub enum Schema {
@@ -30,12 +32,12 @@ pub enum Schema {
     Fixed(u32, BytesKind),
     /// One of so many symbols.
     Enum(usize),
-    Record(Vec<Field>),
+    Record(Arc<Vec<Field>>),
     /// The items' type and their field id.
-    Array(Box<Schema>, Option<i32>, ArrayKind),
+    Array(Arc<Schema>, Option<i32>, ArrayKind),
     /// The values' type; the keys are texts.
-    Map(Box<Schema>),
-    Union(Vec<Schema>),
+    Map(Arc<Schema>),
+    Union(Arc<Vec<Schema>>),
 }
 
 /// A field of a record: its field id, where it has one, and its type.

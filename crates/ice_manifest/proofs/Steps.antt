@@ -2,6 +2,7 @@
 use Rattle.std.proofs.Common.{◌≡◌, ℕ, zero, suc, ◌+◌, ◌≤◌, ◌<◌, Bool, true, false, ◌||◌, ◌&&◌, List, [], ◌∷◌, ◌++◌, length, get_or, drop, Option, Some, None, Ok, Err, ℤ, cond, refl, sym, ◌∙◌, add-one, drop-cons, arith, rules}
 use Rattle.std.proofs.Math.ListN.{drop_of_length-le}
 use Rattle.std.proofs.Common.{Vec, Global}
+use Rattle.std.specs.declared.sync.Arc.{Arc}
 use Rattle.avro_schema.specs.declared.schema.Schema.{Schema, the_lemmas}
 use Rattle.avro_schema.specs.declared.schema.Schema.TheVariants.{Record}
 use Rattle.avro_schema.specs.declared.schema.Field.{Field}
@@ -144,8 +145,8 @@ twice_end last rows i le = rw (end_of rows i le) refl
 
 -- ---- one level of a schema
 
-pub tree-Record : (v : Vec Field Global) → tree (Record v) ≡ structure (fields_of (parts v.items))
-tree-Record v = search (rules, the_lemmas)
+pub tree-Record : (a : Arc (Vec Field Global) Global) → tree (Record a) ≡ structure (fields_of (parts a.value.items))
+tree-Record a = search (rules, the_lemmas)
 
 -- ---- equal neighbours
 

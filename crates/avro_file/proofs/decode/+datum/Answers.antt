@@ -70,10 +70,13 @@ union_of-returns t c =
 pub datum_of-returns-in_err-values-in-Record : goal.datum_of-returns-in_err-values-in-Record
 datum_of-returns-in_err-values-in-Record t c =
     let p = err_from_is_err_and c.from_residual.result c.from_residual.ensures.1 in
-    rw (p.1, p.2) (λ m. rw (c.in-Record.is, tree-Record c.in-Record.fields, ← c.deref.ensures.value) (structure_fails c.in_err-values-in-Record.field-0.0 _ (position_of c.args.place) (c.in_err-values-in-Record.ensures m)))
+    let here : c.deref.result.now ≡ c.in-Record.fields.value = c.deref.ensures in
+    rw (p.1, p.2) (λ m. rw (c.in-Record.is, tree-Record c.in-Record.fields, ← here, ← c.deref-in-Record.ensures.value) (structure_fails c.in_err-values-in-Record.field-0.0 _ (position_of c.args.place) (c.in_err-values-in-Record.ensures m)))
 
 pub datum_of-returns-in_ok-values-in-Record : goal.datum_of-returns-in_ok-values-in-Record
-datum_of-returns-in_ok-values-in-Record t c = rw (c.in-Record.is, tree-Record c.in-Record.fields, ← c.deref.ensures.value, view-Record c.in_ok-values-in-Record.values) (structure_read (field_trees c.deref.result.now) (position_of c.args.place) _ _ c.in_ok-values-in-Record.ensures)
+datum_of-returns-in_ok-values-in-Record t c =
+    let here : c.deref.result.now ≡ c.in-Record.fields.value = c.deref.ensures in
+    rw (c.in-Record.is, tree-Record c.in-Record.fields, ← here, ← c.deref-in-Record.ensures.value, view-Record c.in_ok-values-in-Record.values) (structure_read (field_trees c.deref-in-Record.result.now) (position_of c.args.place) _ _ c.in_ok-values-in-Record.ensures)
 
 pub record_of-returns-in_err-value : goal.record_of-returns-in_err-value
 record_of-returns-in_err-value t c =
