@@ -24,7 +24,7 @@ use Rattle.ice_manifest.specs.Fields.{nth, fields_of, asked, long_in, int_in, op
 use Rattle.ice_manifest.specs.Picking.{fields_in}
 use Rattle.ice_manifest.specs.Manifests.{contained, manifested, entry_layout, status_of, content_of, inherited, file_of, file_at, live_entry, entry_at, with_live, entries_from, entries_ahead, entries_of}
 use Rattle.ice_manifest.specs.Faults.{MayHold, FitsItsRow}
-use Rattle.ice_manifest.proofs.Tests.{passed, ok_is, either}
+use Rattle.ice_manifest.proofs.Guards.{passed, ok_is, either}
 use Rattle.ice_manifest.proofs.Said.{went_on, live_is}
 use Rattle.ice_manifest.proofs.Sets.{nowhere}
 

@@ -12,7 +12,7 @@ use Rattle.ice_manifest.specs.declared.layout.EntryLayout.{EntryLayout}
 use Rattle.ice_manifest.specs.Kinds.{fits}
 use Rattle.ice_manifest.specs.Manifests.{manifested, entry_layout}
 use Rattle.ice_manifest.specs.Picking.{fields_in, pick_from, pick, must_fit, required_field}
-use Rattle.ice_manifest.proofs.Tests.{passed, ok_is}
+use Rattle.ice_manifest.proofs.Guards.{passed, ok_is}
 
 whole_takes_bytes : (t : Tree) → fits kind.Whole t ≡ true → takes_bytes t ≡ true
 unfolding fits takes_bytes

@@ -1,5 +1,5 @@
 pub mod Steps
-pub mod Tests
+pub mod Guards
 pub mod Ahead
 pub mod Rising
 pub mod Sets

@@ -22,7 +22,7 @@ use Rattle.ice_manifest.specs.Fields.{nth, fields_of, int_in, optional_number, a
 use Rattle.ice_manifest.specs.Lists.{row_at, rows_from}
 use Rattle.ice_manifest.specs.Manifests.{manifested, status_of, unless_deleted, inherited, file_of, file_at, entry_of, live_entry, entry_at, with_live, entries_from}
 use Rattle.ice_manifest.specs.Laws.{says, kept, GivesEachRow, GivesTheEntries, SaysLiveOnes, DropsDeleted, KeepsItsNumber, InheritsTheRows, NeedsItsOwn}
-use Rattle.ice_manifest.proofs.Tests.{passed, ok_is}
+use Rattle.ice_manifest.proofs.Guards.{passed, ok_is}
 
 -- a step of reading that went on
 pub went_on : {A B E : Type 0} (r : Result A E) (f : A → Result B E) (x : B) → (r >>= f) ≡ Ok x → (a : A) × (r ≡ Ok a) × (f a ≡ Ok x)
