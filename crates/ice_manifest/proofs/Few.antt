@@ -2,7 +2,6 @@
 use Rattle.std.proofs.Common.{◌≡◌, ℕ, ◌+◌, ℤ, pos, Bool, true, false, cond, Option, Some, None, Result, Ok, Err, refl, sym, ap, subst, ◌||◌}
 use Rattle.std.specs.Ordering.{int_eq}
 use Rattle.std.specs.Option.{option_eq}
-use Rattle.avro_schema.specs.Outcome.{◌>>=◌}
 use Rattle.avro_schema.specs.Tree.{Tree, null, boolean, int, long, float, double, symbols, octets, string, fixed, structure, array, map, union, Fields, no_fields, field}
 use Rattle.avro_file.specs.Spelling.{takes_bytes, some_takes_bytes}
 use Rattle.ice_manifest.specs.declared.fault.FieldFault.{FieldFault}
@@ -13,6 +12,7 @@ use Rattle.ice_manifest.specs.Kinds.{fits}
 use Rattle.ice_manifest.specs.Manifests.{manifested, entry_layout}
 use Rattle.ice_manifest.specs.Picking.{fields_in, pick_from, pick, must_fit, required_field}
 use Rattle.ice_manifest.proofs.Guards.{passed, ok_is}
+use Rattle.ice_manifest.proofs.Said.{went_on}
 
 whole_takes_bytes : (t : Tree) → fits kind.Whole t ≡ true → takes_bytes t ≡ true
 unfolding fits takes_bytes
@@ -72,10 +72,6 @@ must_have (Some q) p e =
     let same : q ≡ p = ok_is q p g.1 in
     (ap Some same, subst (λ (r : ℕ × Tree). fits kind.Whole r.1 ≡ true) same g.0)
 
-first_step : {A B E : Type 0} (r : Result A E) (f : A → Result B E) (y : B) → (r >>= f) ≡ Ok y → (x : A) × (r ≡ Ok x)
-first_step (Ok x) f y e = (x, refl)
-first_step (Err d) f y e = absurd cc
-
 found : (r : Result EntryLayout FieldFault) (at : EntryLayout) → manifested r ≡ Ok at → r ≡ Ok at
 found (Ok b) at h = cc
 found (Err f) at h = absurd cc
@@ -84,6 +80,6 @@ found (Err f) at h = absurd cc
 pub entries_take_bytes : (s : Tree) (at : EntryLayout) → manifested (entry_layout (fields_in s)) ≡ Ok at → takes_bytes s ≡ true
 unfolding entry_layout required_field
 entries_take_bytes s at e =
-    let status = first_step (required_field kind.Whole (pos 0) (fields_in s)) _ at (found (entry_layout (fields_in s)) at e) in
+    let status = went_on (required_field kind.Whole (pos 0) (fields_in s)) _ at (found (entry_layout (fields_in s)) at e) in
     let there = must_have (pick (pos 0) (fields_in s)) status.0 status.1 in
     tree_takes_bytes s status.0 there.0 there.1

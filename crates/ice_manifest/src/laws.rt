@@ -28,8 +28,8 @@ pub fn numbers_are_inherited()
     ensures existing { NeedsItsOwn }
 {}
 
-/// The fault of a list or a manifest is that of its first object at fault, whatever comes after it. Where no object is
-/// at fault, it is the container's behind them.
+/// The fault of a list or a manifest that opens and has its fields is that of its first object at fault, whatever comes
+/// after it. Where no object is at fault, it is the fault with which the container ends.
 pub fn first_faults_are_told()
     ensures row { TellsTheFirstRow }
     ensures list_end { TellsTheListsEnd }
