@@ -4,12 +4,17 @@ pub mod Views
 pub mod Steps
 pub mod Taken
 pub mod Loop
+pub mod Behind
+pub mod Encoded
+pub mod Written
 pub mod Again
 pub mod Heads
 pub mod Properties
 pub mod Held
 pub mod Metadata
 pub mod Opened
+pub mod Filed
 pub mod Once
 pub mod Unlimited
+pub mod Unasked
 pub mod Few

@@ -1,7 +1,7 @@
 -- Which metadata a header has.
 use Rattle.std.proofs.Common.{◌≡◌, ℕ, zero, suc, ◌+◌, ◌-◌, ◌^◌, ◌<◌, ◌≤◌, pos, List, [], ◌∷◌, ◌++◌, length, Ok, refl, sym, ap, subst, ◌∙◌, append_assoc, arith}
 use Rattle.std.proofs.lemmas.List.{length-append}
-use Rattle.avro_schema.specs.Outcome.{◌>>=◌}
+use Rattle.contract_words.specs.Outcome.{◌>>=◌}
 use Rattle.avro_file.specs.Reading.{Position, run_at, blocks_at}
 use Rattle.avro_file.specs.Spelling.{AreJoined, AreBlocks}
 use Rattle.avro_file.specs.Header.{Property, Wanted, wanted_with, none_wanted, property_at, properties_at, wanted_at, metadata_at, FileHeader, header_at, IsProperty, AreProperties}

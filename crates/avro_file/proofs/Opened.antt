@@ -4,7 +4,7 @@ use Rattle.std.specs.Prelude.{IfOk}
 use Rattle.std.specs.Str.{bytes_eq}
 use Rattle.std.proofs.lemmas.Bool.{le-ltb}
 use Rattle.std.proofs.lemmas.List.{length-append, take-append-drop}
-use Rattle.avro_schema.specs.Outcome.{Gives}
+use Rattle.contract_words.specs.Outcome.{Gives}
 use Rattle.avro_schema.specs.Tree.{Tree}
 use Rattle.avro_schema.specs.Texts.{schema_of}
 use Rattle.avro_file.specs.declared.fault.AvroFault.{AvroFault}
@@ -15,7 +15,7 @@ use Rattle.avro_file.specs.Blocks.{fault_of, refused, Run, run_from, objects_run
 use Rattle.avro_file.specs.Holding.{AreWithinLimits}
 use Rattle.avro_file.specs.Header.{Property, Wanted, wanted_with, none_wanted, AreProperties, FileHeader, header_at, last_under, schema_key, codec_key}
 use Rattle.avro_file.specs.Ahead.{running}
-use Rattle.avro_file.specs.Files.{magic, null_codec, ahead, ahead_of, tree_of, Opened, opened, reader_of, begun_at, schema_text, uncompressed, opened_at, IsUncompressed, HoldsFile}
+use Rattle.avro_file.specs.Files.{magic, null_codec, at_start, ahead_of, tree_of, Opened, opened, reader_of, begun_at, schema_text, uncompressed, opened_at, IsUncompressed, HoldsFile}
 use Rattle.avro_file.proofs.Steps.{bind_ok, guard_ok, passed, ok_is}
 use Rattle.avro_file.proofs.Heads.{refused_ok, same_bytes}
 use Rattle.avro_file.proofs.Held.{same_test, blocks_again, blocks_held}
@@ -107,6 +107,6 @@ file_held bytes o vs e g =
 pub opens : (bytes : List ℕ) (r : Result Container AvroFault) → Gives Memory (λ c. opened c) r (opened_at bytes) → length bytes < 2 ^ 64 → (s : Tree) (vs : List Value) → HoldsFile s vs bytes → AreWithinLimits vs → Gives Memory (λ c. opened c) r (Ok (reader_of s vs))
 opens bytes r given short s vs is few = subst (λ (o : Result Opened AvroFault). Gives Memory (λ c. opened c) r o) (file_read s vs bytes short is few) given
 
-pub opens_only : (bytes : List ℕ) (r : Result Container AvroFault) → Gives Memory (λ c. opened c) r (opened_at bytes) → IfOk r (λ c. (vs : List Value) → ahead c ≡ running vs None → HoldsFile (tree_of c) vs bytes × AreWithinLimits vs)
+pub opens_only : (bytes : List ℕ) (r : Result Container AvroFault) → Gives Memory (λ c. opened c) r (opened_at bytes) → IfOk r (λ c. (vs : List Value) → at_start c ≡ running vs None → HoldsFile (tree_of c) vs bytes × AreWithinLimits vs)
 opens_only bytes (Ok c) given = λ vs e. file_held bytes (opened c) vs given e
 opens_only bytes (Err e) given = tt

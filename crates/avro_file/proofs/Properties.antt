@@ -1,7 +1,7 @@
 -- Reading the metadata property by property, as the loops do.
 use Rattle.std.proofs.Common.{◌≡◌, ℕ, List, [], ◌∷◌, ◌++◌, Option, Some, cond, Ok, Err, refl, sym, ap, subst, ◌∙◌, arith}
 use Rattle.std.specs.Str.{bytes_eq}
-use Rattle.avro_schema.specs.Outcome.{◌>>=◌}
+use Rattle.contract_words.specs.Outcome.{◌>>=◌}
 use Rattle.avro_file.specs.declared.refusal.Refusal.{Refusal}
 use Rattle.avro_file.specs.Reading.{Position, Read, with_front, string_at, bytes_at}
 use Rattle.avro_file.specs.Header.{Property, schema_key, codec_key, last_under, Wanted, wanted_with, none_wanted, property_at, properties_at, wanted_at, metadata_at, IsProperty}

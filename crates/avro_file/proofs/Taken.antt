@@ -6,7 +6,7 @@ use Rattle.std.proofs.lemmas.List.{take-append-drop, length-append, length-take}
 use Rattle.std.proofs.lemmas.Str.{IsUtf8-from_is_utf8}
 use Rattle.avro_file.specs.declared.refusal.Refusal.{Refusal}
 use Rattle.avro_file.specs.declared.refusal.Refusal.TheVariants.{Short, BadNumber, BadUnion, BadUtf8, BadBoolean, TooManyItems, BadSync, BlockSize, Memory}
-use Rattle.avro_schema.specs.Outcome.{◌>>=◌}
+use Rattle.contract_words.specs.Outcome.{◌>>=◌}
 use Rattle.avro_file.specs.Number.{IsGroups, IsNumber, IsLong, IsInt, int_at, signed_of, groups_at, from_start, number_at, long_at}
 use Rattle.avro_schema.specs.Tree.{Tree, null, boolean, int, long, float, double, symbols, octets, string, fixed, structure, array, map, union, Fields, no_fields, field, Branches, no_branches, branch}
 use Rattle.avro_file.specs.Value.{Value, nothing, truth, small, whole, single, twice, symbol, text, run, raw, fields, items, entries, chosen, values_of, Pair, entries_of}
@@ -226,7 +226,7 @@ pub counts-append : {A : Type 0} (cost : A → ℕ) (vs ws : List A) → counts 
 counts-append cost [] ws = omega arith
 counts-append cost (v ∷ vs) ws = omega (arith, counts-append cost vs ws)
 
-values_len-values_of : (vs : List Value) → values_len (values_of vs) ≡ length vs
+pub values_len-values_of : (vs : List Value) → values_len (values_of vs) ≡ length vs
 values_len-values_of [] = refl
 values_len-values_of (v ∷ vs) = ap suc (values_len-values_of vs)
 
@@ -272,7 +272,7 @@ items_held vs = omega (arith, values_len-values_of vs, counts-values vs)
 abbrev pub entry_cost : Pair → ℕ
 entry_cost e = item_count e.1
 
-entries_len-entries_of : (es : List Pair) → entries_len (entries_of es) ≡ length es
+pub entries_len-entries_of : (es : List Pair) → entries_len (entries_of es) ≡ length es
 entries_len-entries_of [] = refl
 entries_len-entries_of (e ∷ es) = ap suc (entries_len-entries_of es)
 

@@ -4,7 +4,7 @@ use Rattle.std.specs.Str.{is_utf8, bytes_eq}
 use Rattle.std.proofs.lemmas.Bool.{le-ltb}
 use Rattle.std.proofs.lemmas.List.{length-append, length-drop}
 use Rattle.avro_schema.specs.declared.fault.SchemaFault.{SchemaFault}
-use Rattle.avro_schema.specs.Outcome.{◌>>=◌}
+use Rattle.contract_words.specs.Outcome.{◌>>=◌}
 use Rattle.avro_schema.specs.Tree.{Tree}
 use Rattle.avro_schema.specs.Texts.{schema_of}
 use Rattle.avro_file.specs.declared.refusal.Refusal.{Refusal}
@@ -20,14 +20,14 @@ use Rattle.avro_file.proofs.Properties.{no_items, property_takes}
 use Rattle.avro_file.proofs.Metadata.{properties_cost}
 
 -- this is not how reading fails
-abbrev Never : {A E : Type 0} → E → Result A E → Type 0
+abbrev pub Never : {A E : Type 0} → E → Result A E → Type 0
 Never e r = r ≢ Err e
 
-bind_never : {A B E : Type 0} (e : E) (r : Result A E) (f : A → Result B E) → Never e r → ((x : A) → r ≡ Ok x → Never e (f x)) → Never e (r >>= f)
+pub bind_never : {A B E : Type 0} (e : E) (r : Result A E) (f : A → Result B E) → Never e r → ((x : A) → r ≡ Ok x → Never e (f x)) → Never e (r >>= f)
 bind_never e (Ok x) f p q = q x refl
 bind_never {A} e (Err d) f p q = λ h. let same : d ≡ e = cc in p (ap (λ y. Err y) same)
 
-cond_never : {A E : Type 0} (e : E) (b : Bool) (x y : Result A E) → Never e x → Never e y → Never e (cond b x y)
+pub cond_never : {A E : Type 0} (e : E) (b : Bool) (x y : Result A E) → Never e x → Never e y → Never e (cond b x y)
 cond_never e true x y p q = p
 cond_never e false x y p q = q
 

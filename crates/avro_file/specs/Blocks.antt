@@ -3,7 +3,7 @@
 -- the serialized objects and the file's 16-byte sync marker.
 use Rattle.std.specs.Prelude.{◌≡◌, ◌≢◌, ℕ, zero, suc, ◌-◌, ℤ, pos, negsuc, List, [], ◌∷◌, length, Option, Some, None, Result, Ok, Err, if◌then◌else◌}
 use Rattle.std.specs.Str.{bytes_eq}
-use Rattle.avro_schema.specs.Outcome.{◌>>=◌}
+use Rattle.contract_words.specs.Outcome.{◌>>=◌}
 use Rattle.avro_schema.specs.Tree.{Tree}
 use Rattle.avro_file.specs.declared.refusal.Refusal.{Refusal}
 use Rattle.avro_file.specs.declared.refusal.Refusal.TheVariants as refusal
@@ -116,8 +116,18 @@ pub record FilePosition : Type 0 where
 unfoldable pub run_from : Tree → List ℕ → ℕ → FilePosition → Run
 run_from s sync total p = objects_run s total (blocks_run s sync total (length p.bytes) p.bytes) p.count p.block
 
+-- an object is read at the front of these bytes
+abbrev pub StandsAt : Tree → List ℕ → Value → Type 0
+StandsAt s block v = (rest : List ℕ) × (object_at s block ≡ Ok (v, rest))
+
+-- Over the blocks to the next object, whatever its type: where a reader then stands, or how the run ends.
+abbrev pub Enters : {X : Type 0} → (X → FilePosition) → List ℕ → FilePosition → Result (Option X) Refusal → Type 0
+Enters see sync p (Ok None) = (s : Tree) (total : ℕ) → run_from s sync total p ≡ at_end
+Enters see sync p (Ok (Some x)) = ((see x).count ≢ 0) × ((s : Tree) (total : ℕ) → run_from s sync total p ≡ run_from s sync total (see x))
+Enters see sync p (Err e) = (s : Tree) (total : ℕ) → run_from s sync total p ≡ stopped (fault_of total e)
+
 -- one step of the run, whatever the length of the file: the next of the data, or how it ends
-abbrev pub Steps : {X : Type 0} → (X → Value × FilePosition) → Tree → List ℕ → FilePosition → Result (Option X) Refusal → Type 0
+abbrev pub Steps : {X : Type 0} → (X → List ℕ × FilePosition) → Tree → List ℕ → FilePosition → Result (Option X) Refusal → Type 0
 Steps see s sync p (Ok None) = (total : ℕ) → run_from s sync total p ≡ at_end
-Steps see s sync p (Ok (Some x)) = (total : ℕ) → run_from s sync total p ≡ preceded (see x).0 (run_from s sync total (see x).1)
-Steps see s sync p (Err e) = e ≢ refusal.Memory → (total : ℕ) → run_from s sync total p ≡ stopped (fault_of total e)
+Steps see s sync p (Ok (Some x)) = (v : Value) × StandsAt s (see x).0 v × ((total : ℕ) → run_from s sync total p ≡ preceded v (run_from s sync total (see x).1))
+Steps see s sync p (Err e) = (total : ℕ) → run_from s sync total p ≡ stopped (fault_of total e)

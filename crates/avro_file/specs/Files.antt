@@ -1,20 +1,20 @@
 -- What a file holds, and what its reader will give.
 -- Avro 1.11.1 specification, 'Object Container Files' and 'Required Codecs'.
-use Rattle.std.specs.Prelude.{◌≡◌, ◌≢◌, ℕ, List, [], ◌∷◌, ◌++◌, length, take, drop, Option, Some, None, Result, Ok, Err, nat_lt, if◌then◌else◌, codes}
+use Rattle.std.specs.Prelude.{◌≡◌, ℕ, List, [], ◌∷◌, ◌++◌, length, take, drop, Option, Some, None, Result, Ok, Err, nat_lt, if◌then◌else◌, codes}
 use Rattle.std.specs.Str.{bytes_eq}
-use Rattle.avro_schema.specs.Outcome.{◌>>=◌}
+use Rattle.contract_words.specs.Outcome.{◌>>=◌}
 use Rattle.avro_schema.specs.Tree.{Tree}
 use Rattle.avro_schema.specs.View.{tree}
 use Rattle.avro_schema.specs.Texts.{schema_of}
 use Rattle.avro_file.specs.declared.refusal.Refusal.{Refusal}
 use Rattle.avro_file.specs.declared.fault.AvroFault.{AvroFault}
-use Rattle.avro_file.specs.declared.fault.AvroFault.TheVariants.{NotAvro, Codec, Schema, Memory}
+use Rattle.avro_file.specs.declared.fault.AvroFault.TheVariants.{NotAvro, Codec, Schema}
 use Rattle.avro_file.specs.declared.container.Container.{Container}
-use Rattle.avro_file.specs.declared.container.Object.{Object}
+use Rattle.avro_file.specs.declared.container.Objects.{Objects}
+use Rattle.avro_file.specs.declared.object.Object.{Object}
 use Rattle.avro_file.specs.Value.{Value}
-use Rattle.avro_file.specs.View.{view}
 use Rattle.avro_file.specs.Where.{file_position_of}
-use Rattle.avro_file.specs.Blocks.{fault_of, refused, Run, run_from}
+use Rattle.avro_file.specs.Blocks.{fault_of, refused, Run, run_from, StandsAt}
 use Rattle.avro_file.specs.Holding.{Holds}
 use Rattle.avro_file.specs.Header.{Property, schema_key, codec_key, last_under, FileHeader, header_at, AreProperties}
 use Rattle.avro_file.specs.Ahead.{Ahead, running, refusing}
@@ -29,8 +29,9 @@ null_codec = codes "null"
 
 -- ---- what a reader shows
 
-abbrev pub shown : Object → Value
-shown o = view o.datum
+-- what an object is, which lies at the front of its bytes
+abbrev pub Shows : Object → Value → Type 0
+Shows o v = StandsAt (tree o.schema.now) o.bytes.now v
 
 abbrev pub ahead_of : ℕ → Option Refusal → Run → Ahead
 ahead_of total (Some e) r = refusing (fault_of total e)
@@ -39,16 +40,24 @@ ahead_of total None r = running r.found r.ending
 abbrev pub tree_of : Container → Tree
 tree_of c = tree c.schema
 
-abbrev pub ahead : Container → Ahead
-ahead c = ahead_of c.total c.refused (run_from (tree c.schema) c.sync.now c.total (file_position_of c.spot))
+-- what the objects of a file are, from the first on
+abbrev pub at_start : Container → Ahead
+at_start c = ahead_of c.total None (run_from (tree c.schema) c.sync.now c.total (record { count = 0; block = []; bytes = c.rest.now }))
 
--- a reader that was just opened: the tree of the file's schema, and what the reader will give
+abbrev pub type_of : Objects → Tree
+type_of o = tree o.schema.now
+
+-- what is still to come
+abbrev pub ahead : Objects → Ahead
+ahead o = ahead_of o.total o.refused (run_from (tree o.schema.now) o.sync.now o.total (file_position_of o.spot))
+
+-- a file that was opened: the tree of its schema, and what its objects will be
 pub record Opened : Type 0 where
   pub schema : Tree
   pub ahead : Ahead
 
 abbrev pub opened : Container → Opened
-opened c = record { schema = tree_of c; ahead = ahead c }
+opened c = record { schema = tree_of c; ahead = at_start c }
 
 -- a reader that will give these data, up to the end of the file
 abbrev pub reader_of : Tree → List Value → Opened
@@ -81,12 +90,16 @@ opened_at bytes = do
   s ← refused Schema (schema_of text)
   Ok (record { schema = s; ahead = ahead_of (length bytes) None (run_from s header.sync (length bytes) (record { count = 0; block = []; bytes = header.rest })) })
 
+-- the header is whole and names a schema
+abbrev pub HasHeader : List ℕ → Type 0
+HasHeader bytes = (header : FileHeader) × (text : List ℕ) × (begun_at bytes ≡ Ok header) × (header.wanted.schema ≡ Some text)
+
 -- one call of next
-abbrev pub Next : {X : Type 0} → (X → Value) → Ahead → Result (Option X) AvroFault → Ahead → Type 0
-Next see (refusing e) result new = (result ≡ Err e) × (new ≡ refusing e)
-Next see (running vs ending) (Ok None) new = (vs ≡ []) × (ending ≡ None) × (new ≡ running vs ending)
-Next see (running vs ending) (Ok (Some x)) new = (ws : List Value) × (vs ≡ see x ∷ ws) × (new ≡ running ws ending)
-Next see (running vs ending) (Err e) new = (e ≢ Memory → (vs ≡ []) × (ending ≡ Some e)) × (new ≡ refusing e)
+abbrev pub Next : {X : Type 0} → (X → Value → Type 0) → Ahead → Result (Option X) AvroFault → Ahead → Type 0
+Next Shows (refusing e) result new = (result ≡ Err e) × (new ≡ refusing e)
+Next Shows (running vs ending) (Ok None) new = (vs ≡ []) × (ending ≡ None) × (new ≡ running vs ending)
+Next Shows (running vs ending) (Ok (Some x)) new = (v : Value) × (ws : List Value) × Shows x v × (vs ≡ v ∷ ws) × (new ≡ running ws ending)
+Next Shows (running vs ending) (Err e) new = (vs ≡ []) × (ending ≡ Some e) × (new ≡ refusing e)
 
 -- ---- what a file holds
 

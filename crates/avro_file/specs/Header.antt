@@ -3,7 +3,7 @@
 -- keys `avro.schema` and `avro.codec` are used; behind them stands the 16-byte sync marker.
 use Rattle.std.specs.Prelude.{◌≡◌, ℕ, suc, ◌-◌, ◌^◌, List, [], ◌∷◌, ◌++◌, length, Option, Some, None, Result, Ok, if◌then◌else◌, codes}
 use Rattle.std.specs.Str.{IsUtf8, bytes_eq}
-use Rattle.avro_schema.specs.Outcome.{◌>>=◌}
+use Rattle.contract_words.specs.Outcome.{◌>>=◌}
 use Rattle.avro_file.specs.declared.refusal.Refusal.{Refusal}
 use Rattle.avro_file.specs.Reading.{Position, Read, run_at, bytes_at, string_at, blocks_at}
 use Rattle.avro_file.specs.Spelling.{IsRun, AreBlocks}

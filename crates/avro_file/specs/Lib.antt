@@ -1,3 +1,4 @@
+pub mod Exact
 pub mod Number
 pub mod Value
 pub mod View
@@ -10,3 +11,7 @@ pub mod Holding
 pub mod Header
 pub mod Ahead
 pub mod Files
+pub mod Picking
+pub mod Writing
+pub mod Property
+pub mod Writers

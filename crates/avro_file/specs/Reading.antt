@@ -5,7 +5,7 @@ use Rattle.std.specs.Prelude.{ℕ, zero, suc, ◌-◌, ℤ, pos, negsuc, List, [
 use Rattle.std.specs.Str.{is_utf8}
 use Rattle.avro_file.specs.declared.refusal.Refusal.{Refusal}
 use Rattle.avro_file.specs.declared.refusal.Refusal.TheVariants.{Short, BadNumber, BadUnion, BadUtf8, BadBoolean, TooManyItems}
-use Rattle.avro_schema.specs.Outcome.{◌>>=◌}
+use Rattle.contract_words.specs.Outcome.{◌>>=◌}
 use Rattle.avro_file.specs.Number.{long_at, int_at}
 use Rattle.avro_schema.specs.Tree.{Tree, null, boolean, int, long, float, double, symbols, octets, string, fixed, structure, array, map, union, Fields, no_fields, field, Branches, no_branches, branch}
 use Rattle.avro_file.specs.Value.{Value, nothing, truth, small, whole, single, twice, symbol, text, run, raw, fields, items, entries, chosen, values_of, Pair, entries_of}
@@ -18,6 +18,10 @@ pub record Position : Type 0 where
 -- a value and where reading goes on
 abbrev pub Read : Type 0 → Type 0
 Read A = Result (A × Position) Refusal
+
+-- where reading goes on behind what was read
+abbrev pub behind : {A B : Type 0} → Result (A × B) Refusal → Result B Refusal
+behind read = read >>= λ x. Ok x.1
 
 -- a value that holds no others, and as many items left as before
 abbrev pub leaf : {A : Type 0} → (A → Value) → ℕ → Result (A × List ℕ) Refusal → Read Value

@@ -1,14 +1,17 @@
 //! The blocks of a file, and the objects in them.
 
 ghost use Rattle.std.specs.Prelude.{◌≡◌, ◌≢◌, List, length, Ok};
-ghost use Rattle.avro_schema.specs.Outcome.{Gives};
+ghost use Rattle.contract_words.specs.Outcome.{Gives};
+ghost use Rattle.avro_file.specs.Exact.{IsRead};
+ghost use Rattle.avro_file.specs.Reading.{behind};
 ghost use Rattle.avro_schema.specs.View.{tree};
 ghost use Rattle.avro_file.specs.View.{view};
-ghost use Rattle.avro_file.specs.Blocks.{inside, object_at, head_at, Steps};
+ghost use Rattle.avro_file.specs.Blocks.{inside, object_at, head_at, Enters, Steps};
 ghost use Rattle.avro_file.specs.Where.{head_of_block, file_position_of};
 
 use crate::datum::Datum;
 use crate::decode::datum_of;
+use crate::ends::end_of;
 use crate::leaf::run_of_len;
 use crate::number::long_of;
 use crate::place::Place;
@@ -48,7 +51,7 @@ fn refused_inside(refusal: Refusal) -> Refusal
 /// The head of a block, its marker among it.
 #[tactic(auto, unfolding(crate::specs::Blocks::head_at))]
 fn head_of<'a>(sync: &[u8], bytes: &'a [u8]) -> Result<Head<'a>, Refusal>
-    ensures { Gives Refusal.Memory head_of_block result (head_at sync.now bytes.now) }
+    ensures { IsRead head_of_block result (head_at sync.now bytes.now) }
 {
     let (count, rest) = long_of(bytes)?;
     if count < 0 {
@@ -72,7 +75,7 @@ fn head_of<'a>(sync: &[u8], bytes: &'a [u8]) -> Result<Head<'a>, Refusal>
 
 /// An object at the front of what is left of its block.
 #[tactic(auto, unfolding(crate::specs::Blocks::object_at))]
-fn object_of<'a>(
+pub fn object_of<'a>(
     alloc: Global,
     schema: &Schema,
     block: &'a [u8],
@@ -89,14 +92,23 @@ fn object_of<'a>(
     }
 }
 
-/// The next object, and where the reader stands behind it; none at the end of the file.
-pub fn step<'a>(
-    alloc: Global,
-    schema: &Schema,
-    sync: &[u8],
-    start: Spot<'a>,
-) -> Result<Option<(Datum, Spot<'a>)>, Refusal>
-    ensures { Steps (λ x. (view x.0, file_position_of x.1)) (tree schema.now) sync.now (file_position_of start.entry) result }
+/// What follows the object at the front of what is left of its block.
+fn behind_object<'a>(schema: &Schema, block: &'a [u8]) -> Result<&'a [u8], Refusal>
+    ensures { IsRead (λ rest. rest.now) result (behind (object_at (tree schema.now) block.now)) }
+{
+    let place = Place {
+        bytes: block,
+        left: MAX_ITEMS,
+    };
+    match end_of(schema, place) {
+        Ok(after) => Ok(after.bytes),
+        Err(refusal) => Err(refused_inside(refusal)),
+    }
+}
+
+/// Goes over the blocks' ends and heads to the next object; none at the end of the file.
+fn entered<'a>(sync: &[u8], start: Spot<'a>) -> Result<Option<Spot<'a>>, Refusal>
+    ensures { Enters file_position_of sync.now (file_position_of start.entry) result }
 {
     let mut here = start;
     'empty: while here.count == 0 {
@@ -113,11 +125,26 @@ pub fn step<'a>(
             bytes: head.rest,
         };
     }
-    let (datum, rest) = object_of(alloc, schema, here.block)?;
+    Ok(Some(here))
+}
+
+/// The bytes at whose front the next object is, which is checked whole, and where the reader stands behind it;
+/// none at the end of the file.
+pub fn step<'a>(
+    schema: &Schema,
+    sync: &[u8],
+    start: Spot<'a>,
+) -> Result<Option<(&'a [u8], Spot<'a>)>, Refusal>
+    ensures { Steps (λ x. (x.0.now, file_position_of x.1)) (tree schema.now) sync.now (file_position_of start.entry) result }
+{
+    let Some(here) = entered(sync, start)? else {
+        return Ok(None);
+    };
+    let rest = behind_object(schema, here.block)?;
     let after = Spot {
         count: here.count - 1,
         block: rest,
         bytes: here.bytes,
     };
-    Ok(Some((datum, after)))
+    Ok(Some((here.block, after)))
 }

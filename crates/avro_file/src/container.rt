@@ -1,7 +1,8 @@
 //! A whole file: its header, and the objects one after the other.
 
 ghost use Rattle.std.specs.Prelude.{◌≡◌, List, length, IfOk, Ok, None};
-ghost use Rattle.avro_schema.specs.Outcome.{Gives};
+ghost use Rattle.contract_words.specs.Outcome.{Gives};
+ghost use Rattle.avro_file.specs.Exact.{IsRead};
 ghost use Rattle.avro_schema.specs.View.{tree};
 ghost use Rattle.avro_schema.specs.Texts.{schema_of};
 ghost use Rattle.avro_file.specs.Where.{header_of_file, now_of};
@@ -9,9 +10,9 @@ ghost use Rattle.avro_file.specs.Blocks.{refused};
 ghost use Rattle.avro_file.specs.Files.{begun_at, uncompressed};
 
 use crate::blocks::{Spot, step};
-use crate::datum::Datum;
 use crate::fault::{AvroFault, CodecName};
 use crate::header::{Header, header_of};
+use crate::object::Object;
 use crate::refusal::Refusal;
 use avro_schema::{Schema, SchemaFault};
 use std::alloc::Global;
@@ -23,7 +24,7 @@ const NO_CODEC: &[u8] = b"null";
 /// The header of a file.
 #[tactic(auto, unfolding(crate::specs::Files::begun_at))]
 fn begin(bytes: &[u8]) -> Result<Header<'_>, AvroFault>
-    ensures { Gives AvroFault.Memory header_of_file result (begun_at bytes.now) }
+    ensures { IsRead header_of_file result (begun_at bytes.now) }
 {
     let total = bytes.len();
     if total < 4 {
@@ -56,7 +57,7 @@ fn check_codec(alloc: Global, codec: Option<&[u8]>) -> Result<(), AvroFault>
 }
 
 /// The type of the objects.
-fn schema_named(alloc: Global, text: &[u8]) -> Result<Schema, AvroFault>
+pub fn schema_named(alloc: Global, text: &[u8]) -> Result<Schema, AvroFault>
     ensures { Gives AvroFault.Memory tree result (refused AvroFault.Schema (schema_of text.now)) }
 {
     match Schema::from_json(alloc, text) {
@@ -66,33 +67,13 @@ fn schema_named(alloc: Global, text: &[u8]) -> Result<Schema, AvroFault>
     }
 }
 
-/// An object of a file. It was checked whole.
-#[derive(Debug, Drop)]
-pub struct Object {
-    datum: Datum,
-}
-
-impl Object {
-    ghost use Rattle.avro_file.specs.Files.{shown};
-    ghost use Rattle.avro_file.specs.View.{view};
-
-    /// The object as a tree.
-    pub fn datum(self) -> Datum
-        ensures { view result ≡ shown self }
-    {
-        let Object { datum } = self;
-        datum
-    }
-}
-
-/// A file that is read object by object.
+/// A file: its schema, and where its objects begin.
 #[derive(Debug, Drop)]
 pub struct Container<'a> {
     schema: Schema,
     sync: &'a [u8],
     total: usize,
-    spot: Spot<'a>,
-    refused: Option<Refusal>,
+    rest: &'a [u8],
 }
 
 impl<'a> Container<'a> {
@@ -100,9 +81,10 @@ impl<'a> Container<'a> {
     ghost use Rattle.avro_file.specs.Value.{Value};
     ghost use Rattle.avro_file.specs.Ahead.{running};
     ghost use Rattle.avro_file.specs.Holding.{AreWithinLimits};
-    ghost use Rattle.avro_file.specs.Files.{ahead, tree_of, Next, shown, opened, opened_at, reader_of, HoldsFile};
+    ghost use Rattle.std.specs.Result.{IfErr};
+    ghost use Rattle.avro_file.specs.Files.{HasHeader, ahead, at_start, tree_of, type_of, opened, opened_at, reader_of, HoldsFile};
 
-    /// A reader of the file's objects, which copies nothing of the file.
+    /// The file of these bytes, of which nothing is copied.
     ///
     /// `NotAvro` comes where the file does not begin as a container does, and where its whole header names no
     /// schema; the faults of the header come in the order of its bytes, then `Codec`, then `Schema`.
@@ -111,16 +93,19 @@ impl<'a> Container<'a> {
         // Data that the file holds are what the reader will give.
         ensures held { (s : Tree) (vs : List Value) → HoldsFile s vs bytes.now → AreWithinLimits vs → Gives AvroFault.Memory opened result (Ok (reader_of s vs)) }
         // What it will give up to the file's end is what the file holds.
-        ensures only { IfOk result (λ c. (vs : List Value) → ahead c ≡ running vs None → HoldsFile (tree_of c) vs bytes.now × AreWithinLimits vs) }
+        ensures only { IfOk result (λ c. (vs : List Value) → at_start c ≡ running vs None → HoldsFile (tree_of c) vs bytes.now × AreWithinLimits vs) }
         // What it will give in any case, and which fault it is.
         ensures exact { Gives AvroFault.Memory opened result (opened_at bytes.now) }
+        // No memory is asked for before the header was whole and named a schema.
+        ensures memory { IfErr result (λ e. e ≡ AvroFault.Memory → HasHeader bytes.now) }
     {
         Container::read_header(alloc, bytes)
     }
 
     #[tactic(auto, unfolding(crate::specs::Files::opened_at))]
     fn read_header(alloc: Global, bytes: &'a [u8]) -> Result<Container<'a>, AvroFault>
-        ensures { Gives AvroFault.Memory opened result (opened_at bytes.now) }
+        ensures exact { Gives AvroFault.Memory opened result (opened_at bytes.now) }
+        ensures memory { IfErr result (λ e. e ≡ AvroFault.Memory → HasHeader bytes.now) }
     {
         let header = begin(bytes)?;
         let Some(text) = header.wanted.schema else {
@@ -132,12 +117,7 @@ impl<'a> Container<'a> {
             schema,
             sync: header.sync,
             total: bytes.len(),
-            spot: Spot {
-                count: 0,
-                block: &[],
-                bytes: header.rest,
-            },
-            refused: None,
+            rest: header.rest,
         })
     }
 
@@ -148,23 +128,58 @@ impl<'a> Container<'a> {
         &self.schema
     }
 
-    /// The next object, which was checked whole; none at the end of the file.
+    /// The objects, from the first on.
+    pub fn objects(&self) -> Objects<'_>
+        ensures ahead { ahead result ≡ at_start self.now }
+        ensures schema { type_of result ≡ tree_of self.now }
+    {
+        Objects {
+            schema: &self.schema,
+            sync: self.sync,
+            total: self.total,
+            spot: Spot {
+                count: 0,
+                block: &[],
+                bytes: self.rest,
+            },
+            refused: None,
+        }
+    }
+}
+
+/// The objects of a file, one after the other. Nothing of them is built unasked.
+#[derive(Debug, Drop)]
+pub struct Objects<'a> {
+    schema: &'a Schema,
+    sync: &'a [u8],
+    total: usize,
+    spot: Spot<'a>,
+    refused: Option<Refusal>,
+}
+
+impl<'a> Objects<'a> {
+    ghost use Rattle.avro_file.specs.Files.{ahead, type_of, Next, Shows};
+
+    /// The next object, which was checked whole; none at the end of the file. This takes no memory.
     ///
     /// A block's count, size, content and marker are checked before its first object. An object that runs past its
-    /// block, or bytes left behind the last one, are `BlockSize`. After a refusal, want of memory too, each further
-    /// call gives the same refusal, and takes no memory for it.
-    pub fn next(&mut self, alloc: Global) -> Result<Option<Object>, AvroFault>
-        ensures next { Next shown (ahead self.old) result (ahead self.new) }
-        ensures schema { tree_of self.new ≡ tree_of self.old }
+    /// block, or bytes left behind the last one, are `BlockSize`. After a refusal each further call gives the same
+    /// refusal.
+    pub fn next(&mut self) -> Result<Option<Object<'a>>, AvroFault>
+        ensures next { Next Shows (ahead self.old) result (ahead self.new) }
+        ensures schema { type_of self.new ≡ type_of self.old }
     {
         if let Some(refusal) = self.refused {
             return Err(refusal.fault(self.total));
         }
-        match step(alloc, self.schema(), self.sync, self.spot) {
+        match step(self.schema, self.sync, self.spot) {
             Ok(None) => Ok(None),
-            Ok(Some((datum, spot))) => {
+            Ok(Some((bytes, spot))) => {
                 self.spot = spot;
-                Ok(Some(Object { datum }))
+                Ok(Some(Object {
+                    schema: self.schema,
+                    bytes,
+                }))
             }
             Err(refusal) => {
                 self.refused = Some(refusal);

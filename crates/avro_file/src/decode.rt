@@ -1,7 +1,8 @@
 //! Values of every schema.
 
 ghost use Rattle.std.specs.Prelude.{◌≡◌, ◌≤◌, ℕ, suc, List, length, Ok, IfOk, map, MatchOption, pos, ◌<ℤ◌};
-ghost use Rattle.avro_schema.specs.Outcome.{Gives};
+ghost use Rattle.contract_words.specs.Outcome.{Gives};
+ghost use Rattle.avro_file.specs.Exact.{IsRead};
 ghost use Rattle.avro_schema.specs.View.{tree, trees, parts, fields_of, branches_of};
 ghost use Rattle.avro_file.specs.View.{view, views, entry_views};
 ghost use Rattle.avro_file.specs.Place.{position_of};
@@ -18,7 +19,7 @@ use std::alloc::Global;
 /// The count of a block's items.
 #[tactic(auto, unfolding(crate::specs::Reading::count_at))]
 pub fn count_of(place: Place<'_>) -> Result<(u64, Place<'_>), Refusal>
-    ensures { Gives Refusal.Memory (λ x. (x.0, position_of x.1)) result (count_at (position_of place.entry)) }
+    ensures { IsRead (λ x. (x.0, position_of x.1)) result (count_at (position_of place.entry)) }
 {
     let (count, rest) = long_of(place.bytes)?;
     let items = count.unsigned_abs();
@@ -37,7 +38,7 @@ pub fn count_of(place: Place<'_>) -> Result<(u64, Place<'_>), Refusal>
 #[tactic(auto, unfolding(crate::specs::Reading::datum_at))]
 fn scalar_datum_of<'a>(schema: &Schema, bytes: &'a [u8]) -> Result<(Datum, &'a [u8]), Refusal>
     requires { IsScalar (tree schema.now) }
-    ensures { (left : ℕ) → Gives Refusal.Memory (λ x. (view x.0, record { bytes = x.1.now; left = left })) result (datum_at (tree schema.now) (record { bytes = bytes.now; left = left })) }
+    ensures { (left : ℕ) → IsRead (λ x. (view x.0, record { bytes = x.1.now; left = left })) result (datum_at (tree schema.now) (record { bytes = bytes.now; left = left })) }
 {
     match schema {
         Schema::Null => Ok((Datum::Null, bytes)),
@@ -137,7 +138,7 @@ pub fn datum_of<'a>(
 }
 
 /// The number, unless it is negative.
-fn natural(number: i64) -> Option<usize>
+pub fn natural(number: i64) -> Option<usize>
     ensures { MatchOption result (number <ℤ pos 0) (λ n. number ≡ pos n) }
 {
     if number < 0 {

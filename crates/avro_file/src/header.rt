@@ -1,7 +1,7 @@
 //! The header of a file: its metadata and marker.
 
 ghost use Rattle.std.specs.Prelude.{◌≡◌, List, [], ◌∷◌, length, Ok};
-ghost use Rattle.avro_schema.specs.Outcome.{Gives};
+ghost use Rattle.avro_file.specs.Exact.{IsRead};
 ghost use Rattle.avro_file.specs.Place.{position_of};
 ghost use Rattle.avro_file.specs.Where.{wanted_of, header_of_file};
 ghost use Rattle.avro_file.specs.Reading.{values_at};
@@ -55,7 +55,7 @@ fn properties_of<'a>(
     wanted: Wanted<'a>,
     place: Place<'a>,
 ) -> Result<(Wanted<'a>, Place<'a>), Refusal>
-    ensures { Gives Refusal.Memory (λ x. (wanted_of x.0, position_of x.1)) result (wanted_at (wanted_of wanted.entry) (values_at property_at count (position_of place.entry))) }
+    ensures { IsRead (λ x. (wanted_of x.0, position_of x.1)) result (wanted_at (wanted_of wanted.entry) (values_at property_at count (position_of place.entry))) }
 {
     let mut so_far = wanted;
     let mut here = place;
@@ -73,7 +73,7 @@ fn properties_of<'a>(
 
 /// What is wanted of the metadata, and the bytes behind it.
 fn metadata_of(bytes: &[u8]) -> Result<(Wanted<'_>, &[u8]), Refusal>
-    ensures { Gives Refusal.Memory (λ x. (wanted_of x.0, x.1.now)) result (metadata_at bytes.now) }
+    ensures { IsRead (λ x. (wanted_of x.0, x.1.now)) result (metadata_at bytes.now) }
 {
     let mut wanted = Wanted {
         schema: None,
@@ -97,7 +97,7 @@ fn metadata_of(bytes: &[u8]) -> Result<(Wanted<'_>, &[u8]), Refusal>
 /// The header behind the magic number.
 #[tactic(auto, unfolding(crate::specs::Header::header_at))]
 pub fn header_of(bytes: &[u8]) -> Result<Header<'_>, Refusal>
-    ensures { Gives Refusal.Memory header_of_file result (header_at bytes.now) }
+    ensures { IsRead header_of_file result (header_at bytes.now) }
 {
     let (wanted, rest) = metadata_of(bytes)?;
     let (sync, rest) = run_of_len(16, rest)?;

@@ -1,7 +1,7 @@
 //! Values that hold no others.
 
 ghost use Rattle.std.specs.Prelude.{◌≡◌, ◌^◌, ◌<◌, List, length, Ok, string_bytes};
-ghost use Rattle.avro_schema.specs.Outcome.{Gives};
+ghost use Rattle.avro_file.specs.Exact.{IsRead};
 ghost use Rattle.avro_file.specs.Reading.{boolean_at, run_at, run_of, bytes_at, string_at, symbol_at};
 
 use crate::number::{int_of, long_of};
@@ -10,7 +10,7 @@ use crate::refusal::Refusal;
 /// A truth value: one byte, which is 0 or 1.
 #[tactic(auto, unfolding(crate::specs::Reading::boolean_at))]
 pub fn boolean_of(bytes: &[u8]) -> Result<(bool, &[u8]), Refusal>
-    ensures { Gives Refusal.Memory (λ x. (x.0, x.1.now)) result (boolean_at bytes.now) }
+    ensures { IsRead (λ x. (x.0, x.1.now)) result (boolean_at bytes.now) }
 {
     match bytes {
         [] => Err(Refusal::Short(0)),
@@ -23,7 +23,7 @@ pub fn boolean_of(bytes: &[u8]) -> Result<(bool, &[u8]), Refusal>
 /// So many bytes.
 #[tactic(auto, unfolding(crate::specs::Reading::run_at))]
 pub fn run_of_len(len: u64, bytes: &[u8]) -> Result<(&[u8], &[u8]), Refusal>
-    ensures { Gives Refusal.Memory (λ x. (x.0.now, x.1.now)) result (run_at len bytes.now) }
+    ensures { IsRead (λ x. (x.0.now, x.1.now)) result (run_at len bytes.now) }
 {
     if (bytes.len() as u64) < len {
         return Err(Refusal::Short(bytes.len()));
@@ -34,7 +34,7 @@ pub fn run_of_len(len: u64, bytes: &[u8]) -> Result<(&[u8], &[u8]), Refusal>
 /// A length, and that many bytes.
 #[tactic(auto, unfolding(crate::specs::Reading::bytes_at))]
 pub fn bytes_of(bytes: &[u8]) -> Result<(&[u8], &[u8]), Refusal>
-    ensures { Gives Refusal.Memory (λ x. (x.0.now, x.1.now)) result (bytes_at bytes.now) }
+    ensures { IsRead (λ x. (x.0.now, x.1.now)) result (bytes_at bytes.now) }
 {
     let (len, rest) = long_of(bytes)?;
     if len < 0 {
@@ -46,7 +46,7 @@ pub fn bytes_of(bytes: &[u8]) -> Result<(&[u8], &[u8]), Refusal>
 /// A text, by its length.
 #[tactic(auto, unfolding(crate::specs::Reading::string_at))]
 pub fn text_of(bytes: &[u8]) -> Result<(&str, &[u8]), Refusal>
-    ensures { Gives Refusal.Memory (λ x. (x.0.now, x.1.now)) result (string_at bytes.now) }
+    ensures { IsRead (λ x. (x.0.now, x.1.now)) result (string_at bytes.now) }
 {
     let (run, rest) = bytes_of(bytes)?;
     let Ok(text) = str::from_utf8(run) else {
@@ -58,7 +58,7 @@ pub fn text_of(bytes: &[u8]) -> Result<(&str, &[u8]), Refusal>
 /// A position among so many symbols.
 #[tactic(auto, unfolding(crate::specs::Reading::symbol_at))]
 pub fn symbol_of(count: usize, bytes: &[u8]) -> Result<(usize, &[u8]), Refusal>
-    ensures { Gives Refusal.Memory (λ x. (x.0, x.1.now)) result (symbol_at count bytes.now) }
+    ensures { IsRead (λ x. (x.0, x.1.now)) result (symbol_at count bytes.now) }
 {
     let (position, rest) = int_of(bytes)?;
     if position < 0 {

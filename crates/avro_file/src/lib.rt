@@ -5,18 +5,24 @@ mod blocks;
 mod container;
 mod datum;
 mod decode;
+mod encode;
+mod ends;
 mod fault;
 mod header;
 mod laws;
 mod leaf;
 mod number;
+mod object;
 mod place;
 mod refusal;
+mod writer;
 
-pub use container::{Container, Object};
+pub use container::{Container, Objects};
 pub use datum::Datum;
 pub use fault::{AvroFault, CodecName};
 pub use laws::{no_item_limit, objects_take_bytes, one_list};
+pub use object::Object;
+pub use writer::{Property, Writer};
 
 #[cfg(test)]
 mod tests;

@@ -1,7 +1,7 @@
 //! Whole numbers.
 
 ghost use Rattle.std.specs.Prelude.{◌≡◌, ◌^◌, ◌<◌, List, length, Ok};
-ghost use Rattle.avro_schema.specs.Outcome.{Gives};
+ghost use Rattle.avro_file.specs.Exact.{IsRead};
 ghost use Rattle.avro_file.specs.Number.{number_at, long_at, int_at, signed_of};
 
 use crate::refusal::Refusal;
@@ -11,7 +11,7 @@ const LAST_PLACE: u64 = 1 << 63;
 
 /// An unsigned number of 64 bits, in at most ten groups, and the bytes after it.
 fn unsigned_of(bytes: &[u8]) -> Result<(u64, &[u8]), Refusal>
-    ensures { Gives Refusal.Memory (λ x. (x.0, x.1.now)) result (number_at (2 ^ 64) bytes.now) }
+    ensures { IsRead (λ x. (x.0, x.1.now)) result (number_at (2 ^ 64) bytes.now) }
 {
     let mut value: u64 = 0;
     let mut place: u64 = 1;
@@ -47,7 +47,7 @@ fn signed(value: u64) -> i64
 
 /// An unsigned number of 32 bits.
 fn unsigned_32_of(bytes: &[u8]) -> Result<(u32, &[u8]), Refusal>
-    ensures { Gives Refusal.Memory (λ x. (x.0, x.1.now)) result (number_at (2 ^ 32) bytes.now) }
+    ensures { IsRead (λ x. (x.0, x.1.now)) result (number_at (2 ^ 32) bytes.now) }
 {
     let (value, rest) = unsigned_of(bytes)?;
     if value > u64::from(u32::MAX) {
@@ -66,7 +66,7 @@ fn signed_32(value: u32) -> i32
 /// A whole number of 32 bits, and the bytes after it.
 #[tactic(auto, unfolding(crate::specs::Number::int_at))]
 pub fn int_of(bytes: &[u8]) -> Result<(i32, &[u8]), Refusal>
-    ensures { Gives Refusal.Memory (λ x. (x.0, x.1.now)) result (int_at bytes.now) }
+    ensures { IsRead (λ x. (x.0, x.1.now)) result (int_at bytes.now) }
 {
     let (value, rest) = unsigned_32_of(bytes)?;
     Ok((signed_32(value), rest))
@@ -75,7 +75,7 @@ pub fn int_of(bytes: &[u8]) -> Result<(i32, &[u8]), Refusal>
 /// A whole number of 64 bits, and the bytes after it.
 #[tactic(auto, unfolding(crate::specs::Number::long_at))]
 pub fn long_of(bytes: &[u8]) -> Result<(i64, &[u8]), Refusal>
-    ensures { Gives Refusal.Memory (λ x. (x.0, x.1.now)) result (long_at bytes.now) }
+    ensures { IsRead (λ x. (x.0, x.1.now)) result (long_at bytes.now) }
 {
     let (value, rest) = unsigned_of(bytes)?;
     Ok((signed(value), rest))

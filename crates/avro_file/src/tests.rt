@@ -1,6 +1,6 @@
 //! Vectors that were written by hand from the specification.
 
-use crate::container::Container;
+use crate::container::{Container, Objects};
 use crate::datum::Datum;
 use crate::fault::{AvroFault, CodecName};
 use avro_schema::{Schema, SchemaFault};
@@ -10,6 +10,7 @@ use std::test::*;
 mod files;
 mod libraries;
 mod values;
+mod written;
 
 const MARKER: [u8; 16] = [0, 1, 2, 3, 4, 5, 6, 7, 8, 9, 10, 11, 12, 13, 14, 15];
 
@@ -41,9 +42,9 @@ fn file(alloc: Global, schema: &[u8], count: &[u8], content: &[u8]) -> Result<Ve
 
 /// The first object of a file.
 fn first(alloc: Global, bytes: &[u8]) -> Result<Datum, AvroFault> {
-    let mut file = Container::open(alloc, bytes)?;
-    match file.next(alloc)? {
-        Some(object) => Ok(object.datum()),
+    let file = Container::open(alloc, bytes)?;
+    match file.objects().next()? {
+        Some(object) => Ok(object.datum(alloc)?),
         None => Err(AvroFault::NotAvro),
     }
 }
@@ -56,12 +57,13 @@ fn only(alloc: Global, schema: &[u8], content: &[u8]) -> Result<Result<Datum, Av
 
 /// How many objects come, and the fault behind them. There may be up to five.
 fn objects(alloc: Global, bytes: &[u8]) -> (usize, Option<AvroFault>) {
-    let mut file = match Container::open(alloc, bytes) {
+    let file = match Container::open(alloc, bytes) {
         Ok(file) => file,
         Err(fault) => return (0, Some(fault)),
     };
+    let mut objects = file.objects();
     for count in 0..6 {
-        match file.next(alloc) {
+        match objects.next() {
             Ok(Some(_)) => {}
             Ok(None) => return (count, None),
             Err(fault) => return (count, Some(fault)),

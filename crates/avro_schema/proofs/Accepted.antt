@@ -10,7 +10,7 @@ use Rattle.avro_schema.specs.declared.fault.SchemaFault.{SchemaFault}
 use Rattle.avro_schema.specs.declared.fault.SchemaFault.TheVariants.{FieldTwice}
 use Rattle.avro_schema.specs.declared.reading.Place.{Place}
 use Rattle.avro_schema.specs.declared.reading.Place.TheVariants as place
-use Rattle.avro_schema.specs.Outcome.{◌>>=◌}
+use Rattle.contract_words.specs.Outcome.{◌>>=◌}
 use Rattle.avro_schema.specs.Tree.{Tree, symbols, fixed, structure, union, array, map, Fields, field, Branches, branch}
 use Rattle.avro_schema.specs.Size.{below, in_fields, in_branches, height, deepest_field, deepest_branch, nodes, depth}
 use Rattle.avro_schema.specs.View.{Part, fields_of, branches_of}

@@ -1,4 +1,3 @@
-pub mod Outcome
 pub mod Tree
 pub mod Size
 pub mod View

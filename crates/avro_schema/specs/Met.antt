@@ -6,7 +6,7 @@ use Rattle.avro_schema.specs.declared.names.Seen as code
 use Rattle.avro_schema.specs.declared.fault.SchemaFault.{SchemaFault}
 use Rattle.avro_schema.specs.declared.fault.SchemaFault.TheVariants.{Memory}
 use Rattle.avro_schema.specs.Joined.{joined}
-use Rattle.avro_schema.specs.Outcome.{Gives}
+use Rattle.contract_words.specs.Outcome.{Gives}
 use Rattle.avro_schema.specs.Tree.{Tree}
 use Rattle.avro_schema.specs.View.{tree}
 use Rattle.avro_schema.specs.Names.{Entry}

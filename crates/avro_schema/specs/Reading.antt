@@ -15,7 +15,7 @@ use Rattle.avro_schema.specs.declared.reading.Place.{Place}
 use Rattle.avro_schema.specs.declared.reading.Place.TheVariants as place
 use Rattle.avro_schema.specs.declared.attributes.Kind.{Kind}
 use Rattle.avro_schema.specs.declared.attributes.Kind.TheVariants as kind
-use Rattle.avro_schema.specs.Outcome.{◌>>=◌}
+use Rattle.contract_words.specs.Outcome.{◌>>=◌}
 use Rattle.avro_schema.specs.Tree.{Tree, octets, fixed, symbols, structure, array, map, union}
 use Rattle.avro_schema.specs.Size.{below, height, less}
 use Rattle.avro_schema.specs.View.{Part, fields_of, branches_of}

@@ -6,7 +6,7 @@ use Rattle.serde_json.specs.Data.{Data}
 use Rattle.serde_json.specs.Read.{read}
 use Rattle.avro_schema.specs.declared.fault.SchemaFault.{SchemaFault}
 use Rattle.avro_schema.specs.declared.fault.SchemaFault.TheVariants.{NotJson}
-use Rattle.avro_schema.specs.Outcome.{◌>>=◌}
+use Rattle.contract_words.specs.Outcome.{◌>>=◌}
 use Rattle.avro_schema.specs.Tree.{Tree}
 use Rattle.avro_schema.specs.declared.reading.Place.TheVariants as place
 use Rattle.avro_schema.specs.Reading.{tree_at}

@@ -3,7 +3,7 @@
 ghost use Rattle.std.specs.Prelude.{◌≡◌, Ok, option_map};
 ghost use Rattle.avro_schema.specs.Names.{dotted, space_of, full, lookup, put};
 ghost use Rattle.avro_schema.specs.Joined.{joined};
-ghost use Rattle.avro_schema.specs.Outcome.{Gives};
+ghost use Rattle.contract_words.specs.Outcome.{Gives};
 ghost use Rattle.avro_schema.specs.View.{tree};
 ghost use Rattle.avro_schema.specs.Reading.{used, defined, named};
 ghost use Rattle.avro_schema.specs.Met.{met, Reads};

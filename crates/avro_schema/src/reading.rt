@@ -5,7 +5,7 @@ ghost use Rattle.serde_json.specs.View.{view, items_view};
 ghost use Rattle.avro_schema.specs.Attributes.{text_in};
 ghost use Rattle.avro_schema.specs.Joined.{joined};
 ghost use Rattle.avro_schema.specs.Names.{or_around};
-ghost use Rattle.avro_schema.specs.Outcome.{Gives};
+ghost use Rattle.contract_words.specs.Outcome.{Gives};
 ghost use Rattle.avro_schema.specs.View.{tree, trees, parts};
 ghost use Rattle.avro_schema.specs.Reading.{fresh, defines, branches_at, field_at, fields_at, record_at, array_at, map_at, enum_at, fixed_at, object_at, text_at as tree_of_word, union_at, node_at, tree_at};
 ghost use Rattle.avro_schema.specs.Met.{met, Reads};

@@ -1,7 +1,7 @@
 //! Schemas from their texts.
 
 ghost use Rattle.serde_json.specs.View.{view};
-ghost use Rattle.avro_schema.specs.Outcome.{Gives};
+ghost use Rattle.contract_words.specs.Outcome.{Gives};
 ghost use Rattle.avro_schema.specs.View.{tree};
 ghost use Rattle.avro_schema.specs.Texts.{json_of, schema_of as tree_of_text};
 

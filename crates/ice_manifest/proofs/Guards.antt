@@ -1,4 +1,5 @@
 -- Tests that may fail, taken apart.
+use Rattle.contract_words.specs.Outcome.{◌>>=◌}
 use Rattle.std.proofs.Common.{◌≡◌, Bool, true, false, cond, Result, Ok, Err, ◌⊎◌, inl, inr, refl}
 
 -- a test that did not fail
@@ -16,3 +17,8 @@ ok_is x y e = cc
 pub either : {A : Type 0} (b : Bool) (x y z : A) → cond b x y ≡ z → ((b ≡ true) × (x ≡ z)) ⊎ ((b ≡ false) × (y ≡ z))
 either true x y z e = inl (refl, e)
 either false x y z e = inr (refl, e)
+
+-- a step of reading that went on
+pub went_on : {A B E : Type 0} (r : Result A E) (f : A → Result B E) (x : B) → (r >>= f) ≡ Ok x → (a : A) × (r ≡ Ok a) × (f a ≡ Ok x)
+went_on {A} {B} {E} (Ok a) f x h = (a, refl, h)
+went_on {A} {B} {E} (Err e) f x h = absurd (cc)

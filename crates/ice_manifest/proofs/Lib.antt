@@ -1,10 +1,12 @@
-pub mod Steps
 pub mod Guards
-pub mod Ahead
+pub mod Reading
+pub mod Steps
+pub mod Records
 pub mod Rising
 pub mod Sets
 pub mod Said
 pub mod Told
+pub mod Alike
 pub mod Whole
 pub mod Contents
 pub mod Few

@@ -12,9 +12,9 @@ use Rattle.std.specs.Str.{bytes_eq}
 use Rattle.std.proofs.lemmas.Cmp.{nat_list_cmp_total}
 use Rattle.std.proofs.lemmas.List.Sorted.{ranks_by}
 use Rattle.std.proofs.lemmas.Map.Text.{is_eq-slice_cmp}
-use Rattle.avro_schema.specs.Outcome.{Gives}
-use Rattle.ice_value.specs.Sorting.{sorted}
-use Rattle.ice_value.proofs.Sorted.{Rises, sorted_rises}
+use Rattle.contract_words.specs.Outcome.{Gives}
+use Rattle.contract_words.specs.Sorting.{sorted}
+use Rattle.contract_words.proofs.Sorted.{Rises, sorted_rises}
 use Rattle.ice_manifest.specs.declared.fault.ListFault.{ListFault}
 use Rattle.ice_manifest.specs.declared.fault.ListFault.TheVariants.{TooManyRows, Memory}
 use Rattle.ice_manifest.specs.declared.row.Row.{Row}

@@ -1,208 +1,238 @@
--- The rows and entries that are given are those that the objects say: of entries the live ones, with the positions of
--- their objects and the numbers that they have or inherit.
-use Rattle.std.proofs.Common.{◌≡◌, ◌⊎◌, inl, inr, ℕ, ℤ, pos, ◌+◌, Bool, true, false, cond, List, [], ◌∷◌, ◌++◌, map, Option, Some, None, Result, Ok, Err, refl, sym, ap, subst, ◌∙◌, append_assoc, ◌==◌, eqb-true}
-use Rattle.std.specs.Ordering.{int_eq}
+-- What objects say, and that reading them gives this and nothing else.
+use Rattle.std.proofs.Common.{◌≡◌, ◌⊎◌, inl, inr, ℕ, ℤ, pos, ◌+◌, Bool, List, [], ◌∷◌, map, Option, Some, None, Result, Ok, Err, refl, sym, ap, subst, ◌∙◌, ◌==◌, eqb-true}
 use Rattle.std.specs.List.{enumerate_from}
-use Rattle.std.proofs.lemmas.Bool.Decides.{Decides-int_eq}
-use Rattle.std.proofs.lemmas.List.{append-nil}
-use Rattle.avro_schema.specs.Outcome.{◌>>=◌}
-use Rattle.avro_file.specs.declared.fault.AvroFault.{AvroFault}
-use Rattle.avro_file.specs.Value.{Value, Values}
-use Rattle.ice_meta.specs.declared.spec.Spec.{Spec}
+use Rattle.contract_words.specs.Outcome.{◌>>=◌}
+use Rattle.avro_schema.specs.Tree.{structure, Fields}
+use Rattle.avro_file.specs.Value.{Value}
+use Rattle.avro_file.specs.Picking.{Typed}
+use Rattle.ice_value.specs.declared.file_bounds.Summary.{Summary}
+use Rattle.ice_value.specs.declared.file_bounds.FileBounds.{FileBounds}
+use Rattle.ice_value.specs.declared.file_content.FileContent.{FileContent}
 use Rattle.ice_manifest.specs.declared.fault.FieldFault.{FieldFault}
 use Rattle.ice_manifest.specs.declared.fault.ManifestFault.{ManifestFault}
-use Rattle.ice_manifest.specs.declared.fault.ManifestFault.TheVariants.{BadStatus, NoSequence}
+use Rattle.ice_manifest.specs.declared.fault.ManifestFault.TheVariants.{NoSequence}
+use Rattle.ice_manifest.specs.declared.counts.Counts.{Counts}
 use Rattle.ice_manifest.specs.declared.row.Row.{Row}
-use Rattle.ice_manifest.specs.declared.entry.Entry.{Entry}
+use Rattle.ice_manifest.specs.declared.row.ManifestContent.{ManifestContent}
+use Rattle.ice_manifest.specs.declared.data_file.DataFile.{DataFile}
+use Rattle.ice_manifest.specs.declared.entry.Live.{Live}
 use Rattle.ice_manifest.specs.declared.status.Status.{Status}
 use Rattle.ice_manifest.specs.declared.status.Status.TheVariants.{Existing, Added, Deleted}
-use Rattle.ice_manifest.specs.declared.layout.RowLayout.{RowLayout}
-use Rattle.ice_manifest.specs.declared.layout.EntryLayout.{EntryLayout}
-use Rattle.ice_manifest.specs.Fields.{nth, fields_of, int_in, optional_number, asked}
-use Rattle.ice_manifest.specs.Lists.{row_at, rows_from}
-use Rattle.ice_manifest.specs.Manifests.{manifested, status_of, unless_deleted, inherited, file_of, file_at, entry_of, live_entry, entry_at, with_live, entries_from}
-use Rattle.ice_manifest.specs.Laws.{says, kept, GivesEachRow, GivesTheEntries, SaysLiveOnes, DropsDeleted, KeepsItsNumber, InheritsTheRows, NeedsItsOwn}
-use Rattle.ice_manifest.proofs.Guards.{passed, ok_is}
+use Rattle.ice_manifest.specs.Each.{each}
+use Rattle.ice_manifest.specs.Naming.{in_list, in_manifest, told}
+use Rattle.ice_manifest.specs.Fields.{at, there, long_at, int_at, number_at, path_at, record_at, ints_at, optional_number}
+use Rattle.ice_manifest.specs.Lists as Lists
+use Rattle.ice_manifest.specs.Lists.{row_of, counts_at, summaries_in, says_row}
+use Rattle.ice_manifest.specs.Manifests.{content_at, file_of, status_at, snapshot_at, inherited, sequence_at, file_sequence_at, no_bounds, live_at, unless_deleted, entry_of, says_entry}
+use Rattle.ice_manifest.specs.Laws.{SaysRow, SaysFile, SaysLive, SaysEntry, SayRows, SayEntries, KeepsItsNumber, InheritsTheRows, NeedsItsOwn}
+use Rattle.ice_manifest.proofs.Guards.{passed, ok_is, went_on}
+use Rattle.ice_manifest.proofs.Reading.{told_ok}
 
--- a step of reading that went on
-pub went_on : {A B E : Type 0} (r : Result A E) (f : A → Result B E) (x : B) → (r >>= f) ≡ Ok x → (a : A) × (r ≡ Ok a) × (f a ≡ Ok x)
-went_on {A} {B} {E} (Ok a) f x h = (a, refl, h)
-went_on {A} {B} {E} (Err e) f x h = absurd (cc)
+-- ---- a row
 
-read_is : {A : Type 0} (r : Result A FieldFault) (a : A) → manifested r ≡ Ok a → r ≡ Ok a
-read_is {A} (Ok b) a h = cc
-read_is {A} (Err e) a h = absurd (cc)
+abbrev row_made : List ℕ → ℤ → ℤ → ManifestContent → ℕ → ℕ → ℤ → Counts → Option (List Summary) → Row
+row_made path length spec content sequence least snapshot counts partitions =
+    record { path = path; length = length; spec_id = spec; content = content; sequence_number = sequence; min_sequence_number = least; added_snapshot_id = snapshot; counts = counts; partitions = partitions }
 
-position_is : (at : EntryLayout) (row : Row) (spec : Spec) (k : ℕ) (status : Status) (vs : Values) (e : Entry) → live_entry at row spec k status vs ≡ Ok e → e.position ≡ k
-unfolding live_entry
-position_is at row spec k status vs e h =
-    let own = went_on (manifested (optional_number (pos 3) at.sequence_number vs)) _ e h in
-    let sequence = went_on (inherited row.sequence_number status own.0) _ e own.2 in
-    let found = went_on (manifested (asked (pos 2) (file_of at.files (nth at.file vs)))) _ e sequence.2 in
-    let file = went_on (file_at found.0.0 row.content found.0.1) _ e found.2 in
-    let last : Ok (entry_of row spec k sequence.0 file.0) ≡ Ok e = file.2 in
-    let is : entry_of row spec k sequence.0 file.0 ≡ e = cc in
-    sym (ap (λ (x : Entry). x.position) is)
+pub row_said : (x : Typed) (r : Row) → row_of x ≡ Ok r → SaysRow x r
+unfolding row_of
+row_said x r h =
+    let path = went_on (path_at (pos 500) x) _ r h in
+    let length = went_on (long_at (pos 501) x) _ r path.2 in
+    let spec = went_on (int_at (pos 502) x) _ r length.2 in
+    let content = went_on (Lists.content_at x) _ r spec.2 in
+    let sequence = went_on (number_at (pos 515) x) _ r content.2 in
+    let least = went_on (number_at (pos 516) x) _ r sequence.2 in
+    let snapshot = went_on (long_at (pos 503) x) _ r least.2 in
+    let counts = went_on (counts_at x) _ r snapshot.2 in
+    let partitions = went_on (summaries_in (there (at (pos 507) x))) _ r counts.2 in
+    let is : row_made path.0 length.0 spec.0 content.0 sequence.0 least.0 snapshot.0 counts.0 partitions.0 ≡ r = ok_is _ r partitions.2 in
+    record {
+      path = path.1 ∙ ap (λ (s : Row). Ok s.path) is;
+      length = length.1 ∙ ap (λ (s : Row). Ok s.length) is;
+      spec_id = spec.1 ∙ ap (λ (s : Row). Ok s.spec_id) is;
+      content = content.1 ∙ ap (λ (s : Row). Ok s.content) is;
+      sequence_number = sequence.1 ∙ ap (λ (s : Row). Ok s.sequence_number) is;
+      min_sequence_number = least.1 ∙ ap (λ (s : Row). Ok s.min_sequence_number) is;
+      added_snapshot_id = snapshot.1 ∙ ap (λ (s : Row). Ok s.added_snapshot_id) is;
+      counts = counts.1 ∙ ap (λ (s : Row). Ok s.counts) is;
+      partitions = partitions.1 ∙ ap (λ (s : Row). Ok s.partitions) is;
+    }
 
-pub live_is : (status : Status) (entry : Result Entry ManifestFault) (e : Entry) → unless_deleted status entry ≡ Ok (Some e) → entry ≡ Ok e
-live_is Deleted entry e h = absurd (cc)
-live_is Existing (Ok x) e h = cc
-live_is Existing (Err f) e h = absurd (cc)
-live_is Added (Ok x) e h = cc
-live_is Added (Err f) e h = absurd (cc)
+pub row_by : (x : Typed) (r : Row) → SaysRow x r → row_of x ≡ Ok r
+unfolding row_of
+row_by x r m = rw (m.path, m.length, m.spec_id, m.content, m.sequence_number, m.min_sequence_number, m.added_snapshot_id, m.counts, m.partitions) refl
 
--- which status a number says
-status_said : (z : ℤ) (status : Status) → status_of z ≡ Ok status → (z ≡ pos 0) ⊎ ((z ≡ pos 1) ⊎ (status ≡ Deleted))
-status_said z status h =
-    let third : (b : Bool) → cond b (Ok Deleted) (Err BadStatus) ≡ Ok status → status ≡ Deleted =
-    λ b. elim b as (λ v. cond v (Ok Deleted) (Err BadStatus) ≡ Ok status → status ≡ Deleted) [ true ↦ λ g. cc | false ↦ λ g. absurd (cc) ] in
-    let second : (b : Bool) → int_eq z (pos 1) ≡ b → cond b (Ok Added) (cond (int_eq z (pos 2)) (Ok Deleted) (Err BadStatus)) ≡ Ok status → (z ≡ pos 1) ⊎ (status ≡ Deleted) =
-    λ b. elim b as (λ v. int_eq z (pos 1) ≡ v → cond v (Ok Added) (cond (int_eq z (pos 2)) (Ok Deleted) (Err BadStatus)) ≡ Ok status → (z ≡ pos 1) ⊎ (status ≡ Deleted)) [
-      | true ↦ λ e g. inl ((Decides-int_eq z (pos 1)).0 e)
-      | false ↦ λ e g. inr (third (int_eq z (pos 2)) g)
-    ] in
-    let first : (b : Bool) → int_eq z (pos 0) ≡ b → cond b (Ok Existing) (cond (int_eq z (pos 1)) (Ok Added) (cond (int_eq z (pos 2)) (Ok Deleted) (Err BadStatus))) ≡ Ok status → (z ≡ pos 0) ⊎ ((z ≡ pos 1) ⊎ (status ≡ Deleted)) =
-    λ b. elim b as (λ v. int_eq z (pos 0) ≡ v → cond v (Ok Existing) (cond (int_eq z (pos 1)) (Ok Added) (cond (int_eq z (pos 2)) (Ok Deleted) (Err BadStatus))) ≡ Ok status → (z ≡ pos 0) ⊎ ((z ≡ pos 1) ⊎ (status ≡ Deleted))) [
-      | true ↦ λ e g. inl ((Decides-int_eq z (pos 0)).0 e)
-      | false ↦ λ e g. inr (second (int_eq z (pos 1)) refl g)
-    ] in
-    first (int_eq z (pos 0)) refl h
+-- ---- a data file
 
-not_deleted : (status : Status) (entry : Result Entry ManifestFault) (e : Entry) → unless_deleted status entry ≡ Ok (Some e) → status ≡ Deleted → ⊥
-not_deleted Deleted entry e h q = cc
-not_deleted Existing entry e h q = cc
-not_deleted Added entry e h q = cc
+abbrev file_made : FileContent → List ℕ → ℤ → ℤ → List ℤ → DataFile
+file_made content path count size ids = record { content = content; path = path; tuple = []; record_count = count; file_size = size; equality_ids = ids }
 
-pub says_live_ones : SaysLiveOnes
-unfolding entry_at
-says_live_ones at row spec k vs e h =
-    let code = went_on (manifested (int_in (pos 0) (nth at.status vs))) _ (Some e) h in
-    let status = went_on (status_of code.0) _ (Some e) code.2 in
-    let read = read_is (int_in (pos 0) (nth at.status vs)) code.0 code.1 in
-    let live = live_is status.0 (live_entry at row spec k status.0 vs) e status.2 in
-    let G : Type 0 = (int_in (pos 0) (nth at.status vs) ≡ Ok (pos 0)) ⊎ (int_in (pos 0) (nth at.status vs) ≡ Ok (pos 1)) in (
-      position_is at row spec k status.0 vs e live,
-      elim (status_said code.0 status.0 status.1) as (λ _. G) [
-        | inl none ↦ inl (read ∙ ap Ok none)
-        | inr other ↦ elim other as (λ _. G) [ inl one ↦ inr (read ∙ ap Ok one) | inr q ↦ absurd (not_deleted status.0 (live_entry at row spec k status.0 vs) e status.2 q) ]
-      ],
-    )
+file_said : (of_row : ManifestContent) (x : Typed) (d : DataFile) → file_of of_row x ≡ Ok d → SaysFile of_row x d
+unfolding file_of
+file_said of_row x d h =
+    let content = went_on (content_at of_row x) _ d h in
+    let path = went_on (path_at (pos 100) x) _ d content.2 in
+    let count = went_on (long_at (pos 103) x) _ d path.2 in
+    let size = went_on (long_at (pos 104) x) _ d count.2 in
+    let ids = went_on (ints_at (pos 135) (pos 136) x) _ d size.2 in
+    let is : file_made content.0 path.0 count.0 size.0 ids.0 ≡ d = ok_is _ d ids.2 in
+    record {
+      content = content.1 ∙ ap (λ (f : DataFile). Ok f.content) is;
+      path = path.1 ∙ ap (λ (f : DataFile). Ok f.path) is;
+      record_count = count.1 ∙ ap (λ (f : DataFile). Ok f.record_count) is;
+      file_size = size.1 ∙ ap (λ (f : DataFile). Ok f.file_size) is;
+      equality_ids = ids.1 ∙ ap (λ (f : DataFile). Ok f.equality_ids) is;
+      tuple = sym (ap (λ (f : DataFile). f.tuple) is);
+    }
 
-pub drops_deleted : DropsDeleted
-unfolding entry_at
-drops_deleted at row spec k vs h = rw h refl
+file_by : (of_row : ManifestContent) (x : Typed) (d : DataFile) → SaysFile of_row x d → file_of of_row x ≡ Ok d
+unfolding file_of
+file_by of_row x d m = rw (m.content, m.path, m.record_count, m.file_size, m.equality_ids, sym m.tuple) refl
 
--- ---- sequence numbers
+-- ---- an entry
 
--- the number that an object has, and what comes of it
-record Numbered (at : EntryLayout) (row : Row) (vs : Values) (code : ℤ) (e : Entry) : Type 0 where
-  status : Status
-  own : Option ℕ
-  code_is : int_in (pos 0) (nth at.status vs) ≡ Ok code
-  status_is : status_of code ≡ Ok status
-  own_is : optional_number (pos 3) at.sequence_number vs ≡ Ok own
-  number_is : inherited row.sequence_number status own ≡ Ok e.sequence_number
+abbrev pub live_made : Row → Bool → ℕ → Typed → ℕ → Option ℕ → DataFile → Live
+live_made row unpartitioned k x sequence file_sequence file = record {
+  entry = record { position = k; spec_id = row.spec_id; unpartitioned = unpartitioned; snapshot_id = snapshot_at row x; sequence_number = sequence; file_sequence_number = file_sequence; file = file };
+  bounds = no_bounds;
+}
 
-numbered : (at : EntryLayout) (row : Row) (spec : Spec) (k : ℕ) (vs : Values) (e : Entry) → entry_at at row spec k vs ≡ Ok (Some e) → (code : ℤ) × Numbered at row vs code e
-unfolding entry_at live_entry
-numbered at row spec k vs e h =
-    let code = went_on (manifested (int_in (pos 0) (nth at.status vs))) _ (Some e) h in
-    let status = went_on (status_of code.0) _ (Some e) code.2 in
-    let live = live_is status.0 (live_entry at row spec k status.0 vs) e status.2 in
-    let own = went_on (manifested (optional_number (pos 3) at.sequence_number vs)) _ e live in
-    let sequence = went_on (inherited row.sequence_number status.0 own.0) _ e own.2 in
-    let found = went_on (manifested (asked (pos 2) (file_of at.files (nth at.file vs)))) _ e sequence.2 in
-    let file = went_on (file_at found.0.0 row.content found.0.1) _ e found.2 in
-    let last : Ok (entry_of row spec k sequence.0 file.0) ≡ Ok e = file.2 in
-    let is : entry_of row spec k sequence.0 file.0 ≡ e = cc in (
-      code.0,
-      record {
-        status = status.0;
-        own = own.0;
-        code_is = read_is (int_in (pos 0) (nth at.status vs)) code.0 code.1;
-        status_is = status.1;
-        own_is = read_is (optional_number (pos 3) at.sequence_number vs) own.0 own.1;
-        number_is = sequence.1 ∙ ap (λ (x : Entry). Ok x.sequence_number) is;
-      },
-    )
+live_said : (row : Row) (unpartitioned : Bool) (k : ℕ) (status : Status) (x : Typed) (l : Live) → status_at x ≡ Ok status → (status ≡ Existing) ⊎ (status ≡ Added) → live_at row unpartitioned k status x ≡ Ok l → SaysLive row unpartitioned k x l
+unfolding live_at
+live_said row unpartitioned k status x l said lives h =
+    let sequence = went_on (sequence_at row status x) _ l h in
+    let file_sequence = went_on (told in_manifest (file_sequence_at row status x)) _ l sequence.2 in
+    let inner = went_on (told in_manifest (record_at (pos 2) x)) _ l file_sequence.2 in
+    let file = went_on (told in_manifest (file_of row.content inner.0)) _ l inner.2 in
+    let is : live_made row unpartitioned k x sequence.0 file_sequence.0 file.0 ≡ l = ok_is _ l file.2 in
+    let file_is : file_of row.content inner.0 ≡ Ok l.entry.file = told_ok in_manifest (file_of row.content inner.0) file.0 file.1 ∙ ap (λ (m : Live). Ok m.entry.file) is in
+    record {
+      status = status;
+      inner = inner.0;
+      status_is = said;
+      lives = lives;
+      position = sym (ap (λ (m : Live). m.entry.position) is);
+      spec_id = sym (ap (λ (m : Live). m.entry.spec_id) is);
+      partitions_nothing = sym (ap (λ (m : Live). m.entry.unpartitioned) is);
+      snapshot_id = sym (ap (λ (m : Live). m.entry.snapshot_id) is);
+      sequence_number = sequence.1 ∙ ap (λ (m : Live). Ok m.entry.sequence_number) is;
+      file_sequence_number = told_ok in_manifest (file_sequence_at row status x) file_sequence.0 file_sequence.1 ∙ ap (λ (m : Live). Ok m.entry.file_sequence_number) is;
+      inner_is = told_ok in_manifest (record_at (pos 2) x) inner.0 inner.1;
+      file = file_said row.content inner.0 l.entry.file file_is;
+      bounds = sym (ap (λ (m : Live). m.bounds) is);
+    }
 
-same_ok : {A E : Type 0} (r : Result A E) (x y : A) → r ≡ Ok x → r ≡ Ok y → x ≡ y
-same_ok {A} {E} r x y e f = cc
+abbrev live_of_parts : ℕ → ℤ → Bool → ℤ → ℕ → Option ℕ → DataFile → FileBounds → Live
+live_of_parts k spec unpartitioned snapshot sequence file_sequence file bounds = record {
+  entry = record { position = k; spec_id = spec; unpartitioned = unpartitioned; snapshot_id = snapshot; sequence_number = sequence; file_sequence_number = file_sequence; file = file };
+  bounds = bounds;
+}
 
-own_kept : (of_row n : ℕ) (status : Status) (s : ℕ) → inherited of_row status (Some n) ≡ Ok s → s ≡ n
-own_kept of_row n status s h = cc
+same_parts : (row : Row) (unpartitioned : Bool) (k : ℕ) (x : Typed) (l : Live) → SaysLive row unpartitioned k x l → live_made row unpartitioned k x l.entry.sequence_number l.entry.file_sequence_number l.entry.file ≡ l
+same_parts row unpartitioned k x l m =
+    let one : k ≡ l.entry.position = sym m.position in
+    let two : row.spec_id ≡ l.entry.spec_id = sym m.spec_id in
+    let three : unpartitioned ≡ l.entry.unpartitioned = sym m.partitions_nothing in
+    let four : snapshot_at row x ≡ l.entry.snapshot_id = sym m.snapshot_id in
+    let five : no_bounds ≡ l.bounds = sym m.bounds in
+    ap (λ (n : ℕ). live_of_parts n row.spec_id unpartitioned (snapshot_at row x) l.entry.sequence_number l.entry.file_sequence_number l.entry.file no_bounds) one
+    ∙ ap (λ (n : ℤ). live_of_parts l.entry.position n unpartitioned (snapshot_at row x) l.entry.sequence_number l.entry.file_sequence_number l.entry.file no_bounds) two
+    ∙ ap (λ (n : Bool). live_of_parts l.entry.position l.entry.spec_id n (snapshot_at row x) l.entry.sequence_number l.entry.file_sequence_number l.entry.file no_bounds) three
+    ∙ ap (λ (n : ℤ). live_of_parts l.entry.position l.entry.spec_id l.entry.unpartitioned n l.entry.sequence_number l.entry.file_sequence_number l.entry.file no_bounds) four
+    ∙ ap (λ (n : FileBounds). live_of_parts l.entry.position l.entry.spec_id l.entry.unpartitioned l.entry.snapshot_id l.entry.sequence_number l.entry.file_sequence_number l.entry.file n) five
 
-row_given : (of_row s : ℕ) → inherited of_row Added None ≡ Ok s → s ≡ of_row
-row_given of_row s h = cc
+live_by : (row : Row) (unpartitioned : Bool) (k : ℕ) (x : Typed) (l : Live) (m : SaysLive row unpartitioned k x l) → live_at row unpartitioned k m.status x ≡ Ok l
+unfolding live_at
+live_by row unpartitioned k x l m = rw (m.sequence_number, m.file_sequence_number, m.inner_is, file_by row.content m.inner l.entry.file m.file) (ap Ok (same_parts row unpartitioned k x l m))
 
-zero_given : (of_row s : ℕ) → inherited of_row Existing None ≡ Ok s → (of_row ≡ 0) × (s ≡ 0)
-zero_given of_row s h =
-    let p = passed (of_row == 0) NoSequence (Ok 0) s h in
-    let is : 0 ≡ s = ok_is 0 s p.1 in
-    (eqb-true of_row 0 p.0, sym is)
+some_live : (r : Result Live ManifestFault) (l : Live) → (r >>= λ m. Ok (Some m)) ≡ Ok (Some l) → r ≡ Ok l
+some_live (Ok m) l h = cc
+some_live (Err f) l h = absurd cc
 
-pub keeps_its_number : KeepsItsNumber
-keeps_its_number at row spec k n vs e h own =
-    let m = (numbered at row spec k vs e h).1 in
-    let same : m.own ≡ Some n = same_ok (optional_number (pos 3) at.sequence_number vs) m.own (Some n) m.own_is own in
-    own_kept row.sequence_number n m.status e.sequence_number (subst (λ (o : Option ℕ). inherited row.sequence_number m.status o ≡ Ok e.sequence_number) same m.number_is)
+none_live : (r : Result Live ManifestFault) → (r >>= λ m. Ok (Some m)) ≡ Ok None → ⊥
+none_live (Ok m) h = cc
+none_live (Err f) h = cc
 
--- the number of an object that has none, where its status is known
-without_own : (at : EntryLayout) (row : Row) (vs : Values) (code : ℤ) (e : Entry) (m : Numbered at row vs code e) (status : Status) → status_of code ≡ Ok status → optional_number (pos 3) at.sequence_number vs ≡ Ok None → inherited row.sequence_number status None ≡ Ok e.sequence_number
-without_own at row vs code e m status is none =
-    let here : m.status ≡ status = same_ok (status_of code) m.status status m.status_is is in
-    let empty : m.own ≡ None = same_ok (optional_number (pos 3) at.sequence_number vs) m.own None m.own_is none in
-    subst (λ (t : Status). inherited row.sequence_number t None ≡ Ok e.sequence_number) here (subst (λ (o : Option ℕ). inherited row.sequence_number m.status o ≡ Ok e.sequence_number) empty m.number_is)
+said_by : (row : Row) (unpartitioned : Bool) (k : ℕ) (x : Typed) (status : Status) (e : Option Live) → status_at x ≡ Ok status → unless_deleted status (live_at row unpartitioned k status x) ≡ Ok e → SaysEntry row unpartitioned k x e
+said_by row unpartitioned k x Deleted None said h = said
+said_by row unpartitioned k x Deleted (Some l) said h = absurd cc
+said_by row unpartitioned k x Existing None said h = absurd (none_live (live_at row unpartitioned k Existing x) h)
+said_by row unpartitioned k x Existing (Some l) said h = live_said row unpartitioned k Existing x l said (inl refl) (some_live (live_at row unpartitioned k Existing x) l h)
+said_by row unpartitioned k x Added None said h = absurd (none_live (live_at row unpartitioned k Added x) h)
+said_by row unpartitioned k x Added (Some l) said h = live_said row unpartitioned k Added x l said (inr refl) (some_live (live_at row unpartitioned k Added x) l h)
 
-pub inherits_the_rows : InheritsTheRows
-inherits_the_rows at row spec k vs e h added none =
-    let m = numbered at row spec k vs e h in
-    let code : m.0 ≡ pos 1 = same_ok (int_in (pos 0) (nth at.status vs)) m.0 (pos 1) m.1.code_is added in
-    let is : status_of m.0 ≡ Ok Added = ap status_of code in
-    row_given row.sequence_number e.sequence_number (without_own at row vs m.0 e m.1 Added is none)
+pub entry_said : (row : Row) (unpartitioned : Bool) (k : ℕ) (x : Typed) (e : Option Live) → entry_of row unpartitioned k x ≡ Ok e → SaysEntry row unpartitioned k x e
+unfolding entry_of
+entry_said row unpartitioned k x e h =
+    let status = went_on (status_at x) _ e h in
+    said_by row unpartitioned k x status.0 e status.1 status.2
 
-pub needs_its_own : NeedsItsOwn
-needs_its_own at row spec k vs e h existing none =
-    let m = numbered at row spec k vs e h in
-    let code : m.0 ≡ pos 0 = same_ok (int_in (pos 0) (nth at.status vs)) m.0 (pos 0) m.1.code_is existing in
-    let is : status_of m.0 ≡ Ok Existing = ap status_of code in
-    zero_given row.sequence_number e.sequence_number (without_own at row vs m.0 e m.1 Existing is none)
+lives_on : (status : Status) (r : Result Live ManifestFault) (l : Live) → (status ≡ Existing) ⊎ (status ≡ Added) → r ≡ Ok l → unless_deleted status r ≡ Ok (Some l)
+lives_on Existing r l lives is = rw is refl
+lives_on Added r l lives is = rw is refl
+lives_on Deleted r l (inl q) is = absurd cc
+lives_on Deleted r l (inr q) is = absurd cc
+
+pub entry_by : (row : Row) (unpartitioned : Bool) (k : ℕ) (x : Typed) (e : Option Live) → SaysEntry row unpartitioned k x e → entry_of row unpartitioned k x ≡ Ok e
+unfolding entry_of
+entry_by row unpartitioned k x None said = rw said refl
+entry_by row unpartitioned k x (Some l) m = rw (m.status_is) (lives_on m.status (live_at row unpartitioned k m.status x) l m.lives (live_by row unpartitioned k x l m))
 
 -- ---- all objects
 
-regroup : (front : List Entry) (x : Option Entry) (more : List (Option Entry)) → with_live front x ++ kept more ≡ front ++ kept (x ∷ more)
-regroup front None more = refl
-regroup front (Some e) more = append_assoc front (e ∷ []) (kept more)
+pub rows_said : (fs : Fields) (vs : List Value) (rows : List Row) → each (says_row fs) vs ≡ Ok rows → SayRows fs vs rows
+unfolding each
+rows_said fs [] [] h = tt
+rows_said fs [] (r ∷ rows) h = absurd cc
+rows_said fs (v ∷ vs) rows h =
+    let one = went_on (says_row fs v) _ rows h in
+    let more = went_on (each (says_row fs) vs) _ rows one.2 in
+    let is : one.0 ∷ more.0 ≡ rows = ok_is (one.0 ∷ more.0) rows more.2 in
+    let P : List Row → Type 0 = λ rs. SayRows fs (v ∷ vs) rs in
+    subst P is (row_said (structure fs, v) one.0 (told_ok in_list (row_of (structure fs, v)) one.0 one.1), rows_said fs vs more.0 more.1)
 
-cons_both : {X : Type 0} (a b : X) (xs ys : List X) → a ≡ b → xs ≡ ys → a ∷ xs ≡ b ∷ ys
-cons_both {X} a b xs ys e f = cc
+pub rows_by : (fs : Fields) (vs : List Value) (rows : List Row) → SayRows fs vs rows → each (says_row fs) vs ≡ Ok rows
+unfolding each
+rows_by fs [] [] said = refl
+rows_by fs [] (r ∷ rows) said = absurd said
+rows_by fs (v ∷ vs) [] said = absurd said
+rows_by fs (v ∷ vs) (r ∷ rows) said = rw (row_by (structure fs, v) r said.0, rows_by fs vs rows said.1) refl
 
-all_read : (at : EntryLayout) (row : Row) (spec : Spec) (k : ℕ) (front : List Entry) (vs : List Value) (ending : Option AvroFault) (found : List Entry) → entries_from at row spec k front vs ending ≡ Ok found
-    → (read : List (Option Entry)) × (map (says at row spec) (enumerate_from k vs) ≡ map Ok read) × (found ≡ front ++ kept read)
-unfolding entries_from
-all_read at row spec k front [] None found h = let e : front ≡ found = cc in ([], refl, sym e ∙ sym (append-nil front))
-all_read at row spec k front [] (Some f) found h = absurd (cc)
-all_read at row spec k front (v ∷ vs) ending found h =
-    let one = went_on (entry_at at row spec k (fields_of v)) _ found h in
-    let rest = all_read at row spec (k + 1) (with_live front one.0) vs ending found one.2 in
-    (one.0 ∷ rest.0, cons_both _ _ _ _ one.1 rest.1, rest.2 ∙ regroup front one.0 rest.0)
+pub entries_said : (row : Row) (unpartitioned : Bool) (fs : Fields) (k : ℕ) (vs : List Value) (read : List (Option Live)) → each (says_entry row unpartitioned fs) (enumerate_from k vs) ≡ Ok read → SayEntries row unpartitioned fs k vs read
+unfolding each
+entries_said row unpartitioned fs k [] [] h = tt
+entries_said row unpartitioned fs k [] (e ∷ read) h = absurd cc
+entries_said row unpartitioned fs k (v ∷ vs) read h =
+    let one = went_on (entry_of row unpartitioned k (structure fs, v)) _ read h in
+    let more = went_on (each (says_entry row unpartitioned fs) (enumerate_from (k + 1) vs)) _ read one.2 in
+    let is : one.0 ∷ more.0 ≡ read = ok_is (one.0 ∷ more.0) read more.2 in
+    let P : List (Option Live) → Type 0 = λ es. SayEntries row unpartitioned fs k (v ∷ vs) es in
+    subst P is (entry_said row unpartitioned k (structure fs, v) one.0 one.1, entries_said row unpartitioned fs (k + 1) vs more.0 more.1)
 
-pub gives_the_entries : GivesTheEntries
-gives_the_entries at row spec vs ending found h = all_read at row spec 0 [] vs ending found h
+pub entries_by : (row : Row) (unpartitioned : Bool) (fs : Fields) (k : ℕ) (vs : List Value) (read : List (Option Live)) → SayEntries row unpartitioned fs k vs read → each (says_entry row unpartitioned fs) (enumerate_from k vs) ≡ Ok read
+unfolding each
+entries_by row unpartitioned fs k [] [] said = refl
+entries_by row unpartitioned fs k [] (e ∷ read) said = absurd said
+entries_by row unpartitioned fs k (v ∷ vs) [] said = absurd said
+entries_by row unpartitioned fs k (v ∷ vs) (e ∷ read) said = rw (entry_by row unpartitioned k (structure fs, v) e said.0, entries_by row unpartitioned fs (k + 1) vs read said.1) refl
 
--- ---- rows
+-- ---- sequence numbers
 
-rows_read : (at : RowLayout) (front : List Row) (vs : List Value) (ending : Option AvroFault) (rows : List Row) → rows_from at front vs ending ≡ Ok rows
-    → (ending ≡ None) × (read : List Row) × (map (λ v. row_at at (fields_of v)) vs ≡ map Ok read) × (rows ≡ front ++ read)
-unfolding rows_from
-rows_read at front [] None rows h = let e : front ≡ rows = cc in (refl, [], refl, sym e ∙ sym (append-nil front))
-rows_read at front [] (Some f) rows h = absurd (cc)
-rows_read at front (v ∷ vs) ending rows h =
-    let one = went_on (row_at at (fields_of v)) _ rows h in
-    let rest = rows_read at (front ++ one.0 ∷ []) vs ending rows one.2 in
-    (rest.0, one.0 ∷ rest.1, cons_both _ _ _ _ one.1 rest.2, rest.3 ∙ append_assoc front (one.0 ∷ []) rest.1)
+pub keeps_its_number : KeepsItsNumber
+unfolding sequence_at
+keeps_its_number row status x m n own h = let is : m ≡ n = ok_is m n (sym (rw own refl) ∙ h) in sym is
 
-pub gives_each_row : GivesEachRow
-gives_each_row at vs ending rows h =
-    let all = rows_read at [] vs ending rows h in
-    (all.0, all.2 ∙ ap (λ (read : List Row). map Ok read) (sym all.3))
+pub inherits_the_rows : InheritsTheRows
+unfolding sequence_at
+inherits_the_rows row x n none h = let is : row.sequence_number ≡ n = ok_is row.sequence_number n (sym (rw none refl) ∙ h) in sym is
+
+zero_given : (of_row n : ℕ) → inherited of_row Existing None ≡ Ok n → (of_row ≡ 0) × (n ≡ 0)
+zero_given of_row n h =
+    let p = passed (of_row == 0) NoSequence (Ok 0) n h in
+    let is : 0 ≡ n = ok_is 0 n p.1 in
+    (eqb-true of_row 0 p.0, sym is)
+
+pub needs_its_own : NeedsItsOwn
+unfolding sequence_at
+needs_its_own row x n none h = zero_given row.sequence_number n (sym (rw none refl) ∙ h)

@@ -1,40 +1,45 @@
--- What all rows of a list come to together, and the fault that comes after all others.
-use Rattle.std.proofs.Common.{◌≡◌, inl, inr, ℕ, pos, ◌<◌, Bool, true, false, cond, nat_le, List, [], ◌∷◌, ◌++◌, length, Option, Some, None, Result, Ok, Err, refl, sym, ap, subst, ◌∙◌, leb-false}
-use Rattle.std.proofs.lemmas.Bool.{lt-leb}
+-- What all rows of a list come to together, what a list and a manifest give, and the fault that comes after all others.
+use Rattle.std.proofs.Common.{◌≡◌, inl, inr, ℕ, ◌<◌, ◌≤◌, Bool, true, false, cond, nat_le, List, [], ◌∷◌, length, Option, Some, None, Result, Ok, Err, refl, sym, ap, subst, ◌∙◌, leb-true, leb-false}
+use Rattle.std.proofs.lemmas.Bool.{lt-leb, le-leb}
 use Rattle.std.specs.declared.cmp.Ordering.TheVariants.{Less, Equal}
 use Rattle.std.specs.Cmp.Lexicographic.{slice_cmp}
-use Rattle.std.specs.Ordering.{int_eq, nat_cmp, is_lt}
+use Rattle.std.specs.Ordering.{nat_cmp, is_lt}
 use Rattle.std.specs.Str.{bytes_eq}
-use Rattle.std.specs.List.{AllByRecursion, IsDistinct}
+use Rattle.std.specs.List.{AllByRecursion, IsDistinct, enumerate_from}
 use Rattle.std.specs.List.Sorted.{IsStrictlySortedBy}
 use Rattle.std.specs.Set.{is_member, distinct_count}
 use Rattle.std.proofs.lemmas.Cmp.{nat_list_cmp_total, tied_itself}
 use Rattle.std.proofs.lemmas.Map.Made.{length-from_keys}
 use Rattle.std.proofs.lemmas.Map.Views.{list_any-from_Contains, Contains-from_any}
 use Rattle.std.proofs.lemmas.Slice.Eq.{bytes_eq-Decides}
-use Rattle.avro_schema.specs.Outcome.{◌>>=◌}
-use Rattle.avro_schema.specs.Tree.{Tree}
+use Rattle.contract_words.specs.Outcome.{◌>>=◌}
+use Rattle.avro_schema.specs.Tree.{Tree, structure, Fields}
 use Rattle.avro_file.specs.declared.fault.AvroFault.{AvroFault}
 use Rattle.avro_file.specs.declared.fault.AvroFault.TheVariants as container
-use Rattle.avro_file.specs.Value.{Value, Values}
+use Rattle.avro_file.specs.Value.{Value}
 use Rattle.avro_file.specs.Ahead.{Ahead, running, refusing}
 use Rattle.avro_file.specs.Files.{opened_at}
+use Rattle.ice_meta.specs.declared.spec.Spec.{Spec}
+use Rattle.ice_meta.specs.Partitioning.{is_unpartitioned}
 use Rattle.ice_manifest.specs.declared.fault.FieldFault.{FieldFault}
 use Rattle.ice_manifest.specs.declared.fault.FieldFault.TheVariants as field
 use Rattle.ice_manifest.specs.declared.fault.ListFault.{ListFault}
-use Rattle.ice_manifest.specs.declared.fault.ListFault.TheVariants.{MissingField, WrongFieldType, OutOfRange, ManifestTwice, TooManyRows, BadContent}
+use Rattle.ice_manifest.specs.declared.fault.ListFault.TheVariants.{ManifestTwice, TooManyRows}
 use Rattle.ice_manifest.specs.declared.row.Row.{Row}
-use Rattle.ice_manifest.specs.declared.row.ManifestContent.TheVariants.{Data, Deletes}
-use Rattle.ice_manifest.specs.declared.layout.RowLayout.{RowLayout}
-use Rattle.ice_manifest.specs.Fields.{nth, fields_of, long_in, int_in, number_in, path_in}
-use Rattle.ice_manifest.specs.Picking.{fields_in}
-use Rattle.ice_manifest.specs.Lists.{of_container, contained, listed, row_layout, row_content, row_at, rows_from, rows_ahead, path_order, same_row, path_twice, unless_twice, checked, in_order, rows_of}
-use Rattle.ice_manifest.specs.Laws.{HasTwo}
-use Rattle.ice_manifest.specs.Faults.{HasRows, HasEachPathOnce, IsLeastTwice, RefusesAPathExactly, RefusesManyExactly}
-use Rattle.ice_manifest.proofs.Rising.{less_from, in_order_rises, strict_of}
-use Rattle.ice_manifest.proofs.Said.{gives_each_row}
+use Rattle.ice_manifest.specs.declared.entry.Live.{Live}
+use Rattle.ice_manifest.specs.Each.{each}
+use Rattle.ice_manifest.specs.Naming.{Naming, in_list, in_manifest, contained, told, ended}
+use Rattle.ice_manifest.specs.Schemas.{fields_in, row_fields, entry_fields}
+use Rattle.ice_manifest.specs.Lists.{row_of, says_row, rows_ahead, path_order, same_row, path_twice, unless_twice, checked, in_order, rows_of}
+use Rattle.ice_manifest.specs.Manifests.{kept, says_entry, entries_ahead, live_of}
+use Rattle.ice_manifest.specs.Laws.{IsManifest, SayEntries, HasRows, HasEachPathOnce, HasTwo, ReadsRowsExactly, ReadsEntriesExactly}
+use Rattle.ice_manifest.specs.Faults.{IsLeastTwice, RefusesAPathExactly, RefusesManyExactly}
+use Rattle.ice_manifest.proofs.Guards.{went_on, ok_is}
+use Rattle.ice_manifest.proofs.Reading.{told_ok}
+use Rattle.ice_manifest.proofs.Rising.{less_from, in_order_rises, strict_of, given}
+use Rattle.ice_manifest.proofs.Said.{rows_said, entries_said, entries_by}
 use Rattle.ice_manifest.proofs.Sets.{nowhere, cases_of, among, same_is, equality, from_order, to_order, refuses_two, refuses_the_least}
-use Rattle.ice_manifest.proofs.Told.{by_rows}
+use Rattle.ice_manifest.proofs.Told.{by_rows, opened_manifest}
 
 -- ---- faults of all rows together, which come after all others
 
@@ -43,7 +48,7 @@ IsOfAll (ManifestTwice path) = Unit {0}
 IsOfAll TooManyRows = Unit {0}
 IsOfAll f = ⊥
 
-of_container_first : (f : AvroFault) → IsOfAll (of_container f) → ⊥
+of_container_first : (f : AvroFault) → IsOfAll (in_list.of_container f) → ⊥
 of_container_first container.Memory h = h
 of_container_first container.NotAvro h = h
 of_container_first (container.Codec name) h = h
@@ -56,6 +61,12 @@ of_container_first container.BlockSize h = h
 of_container_first (container.Schema f) h = h
 of_container_first container.BadBoolean h = h
 of_container_first container.TooManyItems h = h
+
+of_field_first : (f : FieldFault) → IsOfAll (in_list.of_field f) → ⊥
+of_field_first (field.Missing id) h = h
+of_field_first (field.WrongType id) h = h
+of_field_first (field.OutOfRange id) h = h
+of_field_first field.BadContent h = h
 
 -- a step whose fault, if it has one, is none of all rows together
 abbrev Early : {A : Type 0} → Result A ListFault → Type 0
@@ -71,78 +82,62 @@ early_ok {A} x f h all = cc
 early_err : {A : Type 0} (e : ListFault) → (IsOfAll e → ⊥) → Early {A = A} (Err e)
 early_err {A} e other f h all = let same : e ≡ f = cc in other_is e f other same all
 
-early_contained : {A : Type 0} (r : Result A AvroFault) → Early (contained r)
+early_contained : {A : Type 0} (r : Result A AvroFault) → Early (contained in_list r)
 early_contained {A} (Ok x) = early_ok x
-early_contained {A} (Err g) = early_err (of_container g) (of_container_first g)
+early_contained {A} (Err g) = early_err (in_list.of_container g) (of_container_first g)
 
-early_listed : {A : Type 0} (r : Result A FieldFault) → Early (listed r)
-early_listed {A} (Ok x) = early_ok x
-early_listed {A} (Err (field.Missing id)) = early_err (MissingField id) (λ h. h)
-early_listed {A} (Err (field.WrongType id)) = early_err (WrongFieldType id) (λ h. h)
-early_listed {A} (Err (field.OutOfRange id)) = early_err (OutOfRange id) (λ h. h)
+early_told : {A : Type 0} (r : Result A FieldFault) → Early (told in_list r)
+early_told {A} (Ok x) = early_ok x
+early_told {A} (Err g) = early_err (in_list.of_field g) (of_field_first g)
 
 early_then : {A B : Type 0} (r : Result A ListFault) (g : A → Result B ListFault) → Early r → ((a : A) → Early (g a)) → Early (r >>= g)
 early_then {A} {B} (Ok a) g first more f h all = more a f h all
 early_then {A} {B} (Err e) g first more f h all = let same : e ≡ f = cc in first f (ap Err same) all
 
-content_early : (a b : Bool) → Early (cond a (Ok Data) (cond b (Ok Deletes) (Err BadContent)))
-content_early true b = early_ok Data
-content_early false true = early_ok Deletes
-content_early false false = early_err BadContent (λ h. h)
+early_rows : (fs : Fields) (vs : List Value) → Early (each (says_row fs) vs)
+unfolding each
+early_rows fs [] = early_ok []
+early_rows fs (v ∷ vs) = early_then (says_row fs v) _ (early_told (row_of (structure fs, v))) (λ row. early_then (each (says_row fs) vs) (λ rows. Ok (row ∷ rows)) (early_rows fs vs) (λ rows. early_ok (row ∷ rows)))
 
-early_row : (at : RowLayout) (vs : Values) → Early (row_at at vs)
-unfolding row_at
-early_row at vs =
-    early_then (listed (path_in (pos 500) (nth at.path vs))) _ (early_listed (path_in (pos 500) (nth at.path vs))) (λ path.
-    early_then (listed (long_in (pos 501) (nth at.length vs))) _ (early_listed (long_in (pos 501) (nth at.length vs))) (λ length.
-    early_then (listed (int_in (pos 502) (nth at.spec vs))) _ (early_listed (int_in (pos 502) (nth at.spec vs))) (λ spec.
-    early_then (listed (int_in (pos 517) (nth at.content vs))) _ (early_listed (int_in (pos 517) (nth at.content vs))) (λ code.
-    early_then (row_content code) _ (content_early (int_eq code (pos 0)) (int_eq code (pos 1))) (λ content.
-    early_then (listed (number_in (pos 515) (nth at.sequence_number vs))) _ (early_listed (number_in (pos 515) (nth at.sequence_number vs))) (λ sequence.
-    early_then (listed (number_in (pos 516) (nth at.min_sequence_number vs))) _ (early_listed (number_in (pos 516) (nth at.min_sequence_number vs))) (λ least.
-    early_then (listed (long_in (pos 503) (nth at.added_snapshot_id vs))) _ (early_listed (long_in (pos 503) (nth at.added_snapshot_id vs))) (λ snapshot.
-    early_ok _))))))))
+early_ended : {A : Type 0} (ending : Option AvroFault) (x : A) → Early (ended in_list ending x)
+early_ended {A} None x = early_ok x
+early_ended {A} (Some f) x = early_err (in_list.of_container f) (of_container_first f)
 
-early_rows : (at : RowLayout) (front : List Row) (vs : List Value) (ending : Option AvroFault) → Early (rows_from at front vs ending)
-unfolding rows_from
-early_rows at front [] None = early_ok front
-early_rows at front [] (Some f) = early_err (of_container f) (of_container_first f)
-early_rows at front (v ∷ vs) ending = early_then (row_at at (fields_of v)) (λ row. rows_from at (front ++ row ∷ []) vs ending) (early_row at (fields_of v)) (λ row. early_rows at (front ++ row ∷ []) vs ending)
-
-early_ahead : (at : RowLayout) (front : List Row) (a : Ahead) → Early (rows_ahead at front a)
+early_ahead : (fs : Fields) (a : Ahead) → Early (rows_ahead fs a)
 unfolding rows_ahead
-early_ahead at front (running vs ending) = early_rows at front vs ending
-early_ahead at front (refusing f) = early_err (of_container f) (of_container_first f)
+early_ahead fs (running vs ending) = early_then (each (says_row fs) vs) (ended in_list ending) (early_rows fs vs) (λ rows. early_ended ending rows)
+early_ahead fs (refusing f) = early_err (in_list.of_container f) (of_container_first f)
 
 -- a step before a fault of all rows together
 went_past : {A B : Type 0} (r : Result A ListFault) (g : A → Result B ListFault) (f : ListFault) → Early r → IsOfAll f → (r >>= g) ≡ Err f → (a : A) × (r ≡ Ok a) × (g a ≡ Err f)
 went_past {A} {B} (Ok a) g f early all h = (a, refl, h)
 went_past {A} {B} (Err e) g f early all h = let same : e ≡ f = cc in absurd (early f (ap Err same) all)
 
-opened_is : {A : Type 0} (r : Result A AvroFault) (a : A) → contained r ≡ Ok a → r ≡ Ok a
-opened_is {A} (Ok x) a h = cc
-opened_is {A} (Err e) a h = absurd (cc)
+opened_is : {A E : Type 0} (w : Naming E) (r : Result A AvroFault) (a : A) → contained w r ≡ Ok a → r ≡ Ok a
+opened_is {A} {E} w (Ok x) a h = cc
+opened_is {A} {E} w (Err e) a h = absurd (cc)
 
-laid_is : {A : Type 0} (r : Result A FieldFault) (a : A) → listed r ≡ Ok a → r ≡ Ok a
-laid_is {A} (Ok x) a h = cc
-laid_is {A} (Err e) a h = absurd (cc)
+to_the_end : {A E : Type 0} (w : Naming E) (ending : Option AvroFault) (x y : A) → ended w ending x ≡ Ok y → (ending ≡ None) × (x ≡ y)
+to_the_end {A} {E} w None x y h = (refl, ok_is x y h)
+to_the_end {A} {E} w (Some f) x y h = absurd cc
 
-objects : (bytes : List ℕ) (s : Tree) (a : Ahead) (at : RowLayout) (rows : List Row) → opened_at bytes ≡ Ok (record { schema = s; ahead = a }) → row_layout (fields_in s) ≡ Ok at → rows_ahead at [] a ≡ Ok rows → HasRows bytes rows
+objects : (bytes : List ℕ) (s : Tree) (a : Ahead) (rows : List Row) → opened_at bytes ≡ Ok (record { schema = s; ahead = a }) → row_fields (fields_in s) ≡ Ok tt → rows_ahead (fields_in s) a ≡ Ok rows → HasRows bytes rows
 unfolding rows_ahead
-objects bytes s (running vs ending) at rows opens laid h =
-    let g = gives_each_row at vs ending rows h in
+objects bytes s (running vs ending) rows opens fits h =
+    let read = went_on (each (says_row (fields_in s)) vs) (ended in_list ending) rows h in
+    let last = to_the_end in_list ending read.0 rows read.2 in
     let P : Option AvroFault → Type 0 = λ x. opened_at bytes ≡ Ok (record { schema = s; ahead = running vs x }) in
-    (at, vs, (s, subst P g.0 opens, laid), g.1)
-objects bytes s (refusing f) at rows opens laid h = absurd (cc)
+    (fields_in s, vs, (s, subst P last.0 opens, refl, fits), rows_said (fields_in s) vs rows (read.1 ∙ ap Ok last.1))
+objects bytes s (refusing f) rows opens fits h = absurd (cc)
 
 -- a fault of all rows together is one of a list that has no other
-rows_by : (bytes : List ℕ) (f : ListFault) → IsOfAll f → rows_of bytes ≡ Err f → (rows : List Row) × HasRows bytes rows × (checked (in_order rows) ≡ Err f)
+rows_with : (bytes : List ℕ) (f : ListFault) → IsOfAll f → rows_of bytes ≡ Err f → (rows : List Row) × HasRows bytes rows × (checked (in_order rows) ≡ Err f)
 unfolding rows_of
-rows_by bytes f all h =
-    let file = went_past (contained (opened_at bytes)) _ f (early_contained (opened_at bytes)) all h in
-    let at = went_past (listed (row_layout (fields_in file.0.schema))) _ f (early_listed (row_layout (fields_in file.0.schema))) all file.2 in
-    let rows = went_past (rows_ahead at.0 [] file.0.ahead) _ f (early_ahead at.0 [] file.0.ahead) all at.2 in
-    (rows.0, objects bytes file.0.schema file.0.ahead at.0 rows.0 (opened_is (opened_at bytes) file.0 file.1) (laid_is (row_layout (fields_in file.0.schema)) at.0 at.1) rows.1, rows.2)
+rows_with bytes f all h =
+    let file = went_past (contained in_list (opened_at bytes)) _ f (early_contained (opened_at bytes)) all h in
+    let fits = went_past (told in_list (row_fields (fields_in file.0.schema))) _ f (early_told (row_fields (fields_in file.0.schema))) all file.2 in
+    let rows = went_past (rows_ahead (fields_in file.0.schema) file.0.ahead) _ f (early_ahead (fields_in file.0.schema) file.0.ahead) all fits.2 in
+    (rows.0, objects bytes file.0.schema file.0.ahead rows.0 (opened_is in_list (opened_at bytes) file.0 file.1) (told_ok in_list (row_fields (fields_in file.0.schema)) tt fits.1) rows.1, rows.2)
 
 -- ---- rows that rise strictly by their paths
 
@@ -223,7 +218,7 @@ path_is p q low high =
 
 pub refuses_a_path_exactly : RefusesAPathExactly
 refuses_a_path_exactly bytes path = (
-  λ h. let r = rows_by bytes (ManifestTwice path) tt h in (r.0, r.1, (refuses_two r.0 path r.2, no_lesser r.0 path r.2)),
+  λ h. let r = rows_with bytes (ManifestTwice path) tt h in (r.0, r.1, (refuses_two r.0 path r.2, no_lesser r.0 path r.2)),
   λ g.
       let least : IsLeastTwice g.0 path = g.2 in
       let some = some_if g.0 path least.0 in
@@ -259,7 +254,7 @@ too_many None rows e h = rw h refl
 pub refuses_many_exactly : RefusesManyExactly
 refuses_many_exactly bytes = (
   λ h.
-      let r = rows_by bytes TooManyRows tt h in
+      let r = rows_with bytes TooManyRows tt h in
       let m = too_many_is (path_twice (in_order r.0)) (in_order r.0) r.2 in
       let P : ℕ → Type 0 = λ n. 65536 < n in
       (r.0, r.1, once_if r.0 m.0, subst P (counted r.0 m.0) (leb-false (length (in_order r.0)) 65536 m.1)),
@@ -267,4 +262,50 @@ refuses_many_exactly bytes = (
       let none = none_if g.0 g.2 in
       let P : ℕ → Type 0 = λ n. 65536 < n in
       by_rows bytes g.0 g.1 ∙ too_many (path_twice (in_order g.0)) (in_order g.0) none (lt-leb (length (in_order g.0)) 65536 (subst P (sym (counted g.0 none)) g.3)),
+)
+
+-- ---- what a list gives
+
+few_if : (o : Option (List ℕ)) (rows : List Row) → o ≡ None → length rows ≤ 65536 → unless_twice o rows ≡ Ok rows
+few_if (Some p) rows e le = absurd (cc)
+few_if None rows e le = rw (le-leb (length rows) 65536 le) refl
+
+pub reads_rows_exactly : ReadsRowsExactly
+unfolding rows_of
+reads_rows_exactly bytes found = (
+  λ h.
+      let file = went_on (contained in_list (opened_at bytes)) _ found h in
+      let fits = went_on (told in_list (row_fields (fields_in file.0.schema))) _ found file.2 in
+      let rows = went_on (rows_ahead (fields_in file.0.schema) file.0.ahead) _ found fits.2 in
+      let has = objects bytes file.0.schema file.0.ahead rows.0 (opened_is in_list (opened_at bytes) file.0 file.1) (told_ok in_list (row_fields (fields_in file.0.schema)) tt fits.1) rows.1 in
+      let g = given (in_order rows.0) found rows.2 in
+      let P : ℕ → Type 0 = λ n. n ≤ 65536 in
+      (rows.0, has, once_if rows.0 g.0, subst P (counted rows.0 g.0) (leb-true (length (in_order rows.0)) 65536 g.1), sym g.2),
+  λ g.
+      let none = none_if g.0 g.2 in
+      let P : ℕ → Type 0 = λ n. n ≤ 65536 in
+      by_rows bytes g.0 g.1 ∙ few_if (path_twice (in_order g.0)) (in_order g.0) none (subst P (sym (counted g.0 none)) g.3) ∙ ap Ok (sym g.4),
+)
+
+-- ---- what a manifest gives
+
+entries_of_objects : (row : Row) (spec : Spec) (bytes : List ℕ) (s : Tree) (a : Ahead) (found : List Live) → opened_at bytes ≡ Ok (record { schema = s; ahead = a }) → entry_fields (fields_in s) ≡ Ok tt
+    → entries_ahead row (is_unpartitioned spec) (fields_in s) 0 a ≡ Ok found
+    → (fs : Fields) × (vs : List Value) × (read : List (Option Live)) × IsManifest bytes fs vs None × SayEntries row (is_unpartitioned spec) fs 0 vs read × (found ≡ kept read)
+unfolding entries_ahead
+entries_of_objects row spec bytes s (running vs ending) found opens fits h =
+    let read = went_on (each (says_entry row (is_unpartitioned spec) (fields_in s)) (enumerate_from 0 vs)) (λ read. ended in_manifest ending (kept read)) found h in
+    let last = to_the_end in_manifest ending (kept read.0) found read.2 in
+    let P : Option AvroFault → Type 0 = λ x. opened_at bytes ≡ Ok (record { schema = s; ahead = running vs x }) in
+    (fields_in s, vs, read.0, (s, subst P last.0 opens, refl, fits), entries_said row (is_unpartitioned spec) (fields_in s) 0 vs read.0 read.1, sym last.1)
+entries_of_objects row spec bytes s (refusing f) found opens fits h = absurd (cc)
+
+pub reads_entries_exactly : ReadsEntriesExactly
+unfolding live_of
+reads_entries_exactly row spec bytes found = (
+  λ h.
+      let file = went_on (contained in_manifest (opened_at bytes)) _ found h in
+      let fits = went_on (told in_manifest (entry_fields (fields_in file.0.schema))) _ found file.2 in
+      entries_of_objects row spec bytes file.0.schema file.0.ahead found (opened_is in_manifest (opened_at bytes) file.0 file.1) (told_ok in_manifest (entry_fields (fields_in file.0.schema)) tt fits.1) fits.2,
+  λ g. opened_manifest row spec bytes g.0 g.1 None g.3 ∙ rw (entries_by row (is_unpartitioned spec) g.0 0 g.1 g.2 g.4) (ap Ok (sym g.5)),
 )

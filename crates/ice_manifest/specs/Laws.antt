@@ -1,29 +1,177 @@
 -- What reading lists and manifests comes to, in words of rows and entries alone. Apache Iceberg table spec v2,
 -- "Manifest Lists" and "Manifests".
-use Rattle.std.specs.Prelude.{◌≡◌, ◌≢◌, ◌↔◌, ℕ, pos, ◌⊎◌, false, List, [], map, Option, Some, None, Result, Ok, Err}
+use Rattle.std.specs.Prelude.{◌≡◌, ◌≢◌, ◌↔◌, ℕ, pos, ◌+◌, ◌<◌, ◌≤◌, ◌⊎◌, Bool, false, List, [], ◌∷◌, ◌++◌, length, map, Option, Some, None, Result, Ok, Err}
 use Rattle.std.specs.Cmp.Lexicographic.{slice_cmp}
 use Rattle.std.specs.Ordering.{nat_cmp, is_lt}
-use Rattle.std.specs.List.{Contains, enumerate_from, filter_map}
+use Rattle.std.specs.List.{Contains, AllByRecursion}
+use Rattle.std.specs.Set.{distinct_count}
+use Rattle.avro_schema.specs.Tree.{Tree, structure, Fields}
 use Rattle.avro_file.specs.declared.fault.AvroFault.{AvroFault}
-use Rattle.avro_file.specs.Value.{Value, Values}
+use Rattle.avro_file.specs.Value.{Value}
+use Rattle.avro_file.specs.Ahead.{running}
+use Rattle.avro_file.specs.Files.{opened_at}
+use Rattle.avro_file.specs.Picking.{Typed}
+use Rattle.ice_value.specs.declared.file_content.FileContent.{FileContent}
+use Rattle.ice_value.specs.declared.file_content.FileContent.TheVariants as holds
 use Rattle.ice_meta.specs.declared.spec.Spec.{Spec}
+use Rattle.ice_meta.specs.Partitioning.{is_unpartitioned}
 use Rattle.ice_manifest.specs.declared.fault.ListFault.TheVariants.{ManifestTwice}
-use Rattle.ice_manifest.specs.declared.fault.ManifestFault.{ManifestFault}
 use Rattle.ice_manifest.specs.declared.row.Row.{Row}
+use Rattle.ice_manifest.specs.declared.row.ManifestContent.{ManifestContent}
+use Rattle.ice_manifest.specs.declared.row.ManifestContent.TheVariants.{Data, Deletes}
+use Rattle.ice_manifest.specs.declared.data_file.DataFile.{DataFile}
 use Rattle.ice_manifest.specs.declared.entry.Entry.{Entry}
-use Rattle.ice_manifest.specs.declared.layout.RowLayout.{RowLayout}
-use Rattle.ice_manifest.specs.declared.layout.EntryLayout.{EntryLayout}
-use Rattle.ice_manifest.specs.Fields.{nth, fields_of, int_in, optional_number}
-use Rattle.ice_manifest.specs.Lists.{row_at, rows_from, checked, in_order}
-use Rattle.ice_manifest.specs.Manifests.{entry_at, entries_from}
+use Rattle.ice_manifest.specs.declared.entry.Live.{Live}
+use Rattle.ice_manifest.specs.declared.status.Status.{Status}
+use Rattle.ice_manifest.specs.declared.status.Status.TheVariants.{Existing, Added, Deleted}
+use Rattle.ice_manifest.specs.Schemas.{Fault, fields_in, row_fields, entry_fields}
+use Rattle.ice_manifest.specs.Fields.{at, there, long_at, int_at, number_at, path_at, record_at, ints_at, optional_number}
+use Rattle.ice_manifest.specs.Lists as Lists
+use Rattle.ice_manifest.specs.Lists.{row_of, counts_at, summaries_in, same_row, checked, in_order, rows_of}
+use Rattle.ice_manifest.specs.Manifests.{content_at, status_at, snapshot_at, sequence_at, file_sequence_at, no_bounds, kept, live_of, entries_of}
+
+-- ---- files by their objects
+
+-- A file opens, its objects have these fields, with which nothing is at fault, and it gives these objects and then the
+-- fault, or none at its end. An object that the container can't read is none of them: its fault comes after them.
+abbrev pub IsFile : (Fields → Fault) → List ℕ → Fields → List Value → Option AvroFault → Type 0
+IsFile check bytes fs vs ending = (s : Tree)
+    × (opened_at bytes ≡ Ok (record { schema = s; ahead = running vs ending })) × (fields_in s ≡ fs)
+    × (check fs ≡ Ok tt)
+
+abbrev pub IsList : List ℕ → Fields → List Value → Option AvroFault → Type 0
+IsList bytes fs vs ending = IsFile row_fields bytes fs vs ending
+
+abbrev pub IsManifest : List ℕ → Fields → List Value → Option AvroFault → Type 0
+IsManifest bytes fs vs ending = IsFile entry_fields bytes fs vs ending
+
+-- ---- what an object says
+
+-- an object of a list and its row, field by field
+pub record SaysRow (x : Typed) (r : Row) : Type 0 where
+  pub path : path_at (pos 500) x ≡ Ok r.path
+  pub length : long_at (pos 501) x ≡ Ok r.length
+  pub spec_id : int_at (pos 502) x ≡ Ok r.spec_id
+  pub content : Lists.content_at x ≡ Ok r.content
+  pub sequence_number : number_at (pos 515) x ≡ Ok r.sequence_number
+  pub min_sequence_number : number_at (pos 516) x ≡ Ok r.min_sequence_number
+  pub added_snapshot_id : long_at (pos 503) x ≡ Ok r.added_snapshot_id
+  pub counts : counts_at x ≡ Ok r.counts
+  pub partitions : summaries_in (there (at (pos 507) x)) ≡ Ok r.partitions
+
+-- a record in a manifest of this content and its data file, field by field
+pub record SaysFile (of_row : ManifestContent) (x : Typed) (d : DataFile) : Type 0 where
+  pub content : content_at of_row x ≡ Ok d.content
+  pub path : path_at (pos 100) x ≡ Ok d.path
+  pub record_count : long_at (pos 103) x ≡ Ok d.record_count
+  pub file_size : long_at (pos 104) x ≡ Ok d.file_size
+  pub equality_ids : ints_at (pos 135) (pos 136) x ≡ Ok d.equality_ids
+  pub tuple : d.tuple ≡ []
+
+-- the object at a position of a manifest and its live entry, field by field
+pub record SaysLive (row : Row) (unpartitioned : Bool) (k : ℕ) (x : Typed) (l : Live) : Type 0 where
+  pub status : Status
+  pub inner : Typed
+  pub status_is : status_at x ≡ Ok status
+  pub lives : (status ≡ Existing) ⊎ (status ≡ Added)
+  pub position : l.entry.position ≡ k
+  pub spec_id : l.entry.spec_id ≡ row.spec_id
+  pub partitions_nothing : l.entry.unpartitioned ≡ unpartitioned
+  pub snapshot_id : l.entry.snapshot_id ≡ snapshot_at row x
+  pub sequence_number : sequence_at row status x ≡ Ok l.entry.sequence_number
+  pub file_sequence_number : file_sequence_at row status x ≡ Ok l.entry.file_sequence_number
+  pub inner_is : record_at (pos 2) x ≡ Ok inner
+  pub file : SaysFile row.content inner l.entry.file
+  pub bounds : l.bounds ≡ no_bounds
+
+-- an object says its live entry, or that there is none: its status is deleted, whatever else it has
+abbrev pub SaysEntry : Row → Bool → ℕ → Typed → Option Live → Type 0
+SaysEntry row unpartitioned k x (Some l) = SaysLive row unpartitioned k x l
+SaysEntry row unpartitioned k x None = status_at x ≡ Ok Deleted
+
+-- each object of a list says its row
+abbrev pub SayRows : Fields → List Value → List Row → Type 0
+SayRows fs [] [] = Unit {0}
+SayRows fs (v ∷ vs) (r ∷ rows) = SaysRow (structure fs, v) r × SayRows fs vs rows
+SayRows fs vs rows = ⊥
+
+-- each object of a manifest says its entry, where the first has a position
+abbrev pub SayEntries : Row → Bool → Fields → ℕ → List Value → List (Option Live) → Type 0
+SayEntries row unpartitioned fs k [] [] = Unit {0}
+SayEntries row unpartitioned fs k (v ∷ vs) (e ∷ read) = SaysEntry row unpartitioned k (structure fs, v) e
+    × SayEntries row unpartitioned fs (k + 1) vs read
+SayEntries row unpartitioned fs k vs read = ⊥
+
+-- ---- entries
+
+-- the entries of a manifest are these exactly where its file holds objects up to its end of which none is at fault, and
+-- these are the live ones that they say, in their order
+abbrev pub ReadsEntriesExactly : Type 0
+ReadsEntriesExactly = (row : Row) (spec : Spec) (bytes : List ℕ) (found : List Live) → live_of row spec bytes ≡ Ok found
+    ↔ ((fs : Fields) × (vs : List Value) × (read : List (Option Live)) × IsManifest bytes fs vs None
+    × SayEntries row (is_unpartitioned spec) fs 0 vs read × (found ≡ kept read))
+
+-- an entry keeps the number that it has
+abbrev pub KeepsItsNumber : Type 0
+KeepsItsNumber = (row : Row) (status : Status) (x : Typed) (m n : ℕ) → optional_number (pos 3) x ≡ Ok (Some m)
+    → sequence_at row status x ≡ Ok n → n ≡ m
+
+-- an added one that has none has its row's
+abbrev pub InheritsTheRows : Type 0
+InheritsTheRows = (row : Row) (x : Typed) (n : ℕ) → optional_number (pos 3) x ≡ Ok None
+    → sequence_at row Added x ≡ Ok n → n ≡ row.sequence_number
+
+-- an existing one that has none is given only under a row whose number is 0, and has this
+abbrev pub NeedsItsOwn : Type 0
+NeedsItsOwn = (row : Row) (x : Typed) (n : ℕ) → optional_number (pos 3) x ≡ Ok None
+    → sequence_at row Existing x ≡ Ok n → (row.sequence_number ≡ 0) × (n ≡ 0)
+
+-- what the files of a row's manifest may hold
+abbrev pub MayHold : ManifestContent → FileContent → Type 0
+MayHold Data c = c ≡ holds.Data
+MayHold Deletes c = (c ≡ holds.PositionDeletes) ⊎ (c ≡ holds.EqualityDeletes)
+
+-- each entry that is given holds what its row's content allows
+abbrev pub FitsItsRow : Type 0
+FitsItsRow = (row : Row) (spec : Spec) (bytes : List ℕ) (found : List Live) (l : Live)
+    → live_of row spec bytes ≡ Ok found → Contains found l → MayHold row.content l.entry.file.content
+
+-- an entry has its row's spec id, and partitions nothing where the spec does not
+abbrev pub IsOfSpec : Row → Spec → Entry → Type 0
+IsOfSpec row spec e = (e.spec_id ≡ row.spec_id) × (e.unpartitioned ≡ is_unpartitioned spec)
+
+-- each entry that is given is of its row's spec
+abbrev pub AreOfTheirSpec : Type 0
+AreOfTheirSpec = (row : Row) (spec : Spec) (bytes : List ℕ) (found : List Entry)
+    → entries_of row spec bytes ≡ Ok found → AllByRecursion (IsOfSpec row spec) found
+
+-- ---- rows
+
+-- a list without a fault up to its end, whose objects say these rows
+abbrev pub HasRows : List ℕ → List Row → Type 0
+HasRows bytes rows = (fs : Fields) × (vs : List Value) × IsList bytes fs vs None × SayRows fs vs rows
+
+-- no two different rows have one path
+abbrev pub HasEachPathOnce : List Row → Type 0
+HasEachPathOnce rows = (r s : Row) → Contains rows r → Contains rows s → r.path ≡ s.path → r ≡ s
+
+-- the rows of a list are these exactly where its file has no fault up to its end, and these are the rows that its
+-- objects say, each once and in the order of their paths; no two different ones have one path, and at most 65,536 are
+-- different
+abbrev pub ReadsRowsExactly : Type 0
+ReadsRowsExactly = (bytes : List ℕ) (found : List Row) → rows_of bytes ≡ Ok found
+    ↔ ((rows : List Row) × HasRows bytes rows × HasEachPathOnce rows
+    × (distinct_count same_row rows ≤ 65536) × (found ≡ in_order rows))
 
 -- the rows that are given are the rows of the file, as a set
 abbrev pub GivesTheRows : Type 0
-GivesTheRows = (rows found : List Row) → checked (in_order rows) ≡ Ok found → (r : Row) → (Contains found r ↔ Contains rows r)
+GivesTheRows = (rows found : List Row) → checked (in_order rows) ≡ Ok found → (r : Row)
+    → (Contains found r ↔ Contains rows r)
 
 -- two different rows of the file have the path
 abbrev pub HasTwo : List Row → List ℕ → Type 0
-HasTwo rows path = (r : Row) × (s : Row) × Contains rows r × Contains rows s × (r ≢ s) × (r.path ≡ path) × (s.path ≡ path)
+HasTwo rows path = (r : Row) × (s : Row) × Contains rows r × Contains rows s × (r ≢ s) × (r.path ≡ path)
+    × (s.path ≡ path)
 
 -- a path is refused only where two different rows have it
 abbrev pub RefusesTwo : Type 0
@@ -31,43 +179,6 @@ RefusesTwo = (rows : List Row) (path : List ℕ) → checked (in_order rows) ≡
 
 -- and only the least such path
 abbrev pub RefusesTheLeast : Type 0
-RefusesTheLeast = (rows : List Row) (path : List ℕ) → checked (in_order rows) ≡ Err (ManifestTwice path) → (r s : Row) → Contains rows r → Contains rows s → r ≢ s → r.path ≡ s.path → is_lt (slice_cmp nat_cmp r.path path) ≡ false
-
--- each object says a row, and these are all that are given
-abbrev pub GivesEachRow : Type 0
-GivesEachRow = (at : RowLayout) (vs : List Value) (ending : Option AvroFault) (rows : List Row) → rows_from at [] vs ending ≡ Ok rows → (ending ≡ None) × (map (λ v. row_at at (fields_of v)) vs ≡ map Ok rows)
-
--- what an object says, at its position
-abbrev pub says : EntryLayout → Row → Spec → ℕ × Value → Result (Option Entry) ManifestFault
-says at row spec p = entry_at at row spec p.0 (fields_of p.1)
-
-abbrev pub kept : List (Option Entry) → List Entry
-kept read = filter_map (λ x. x) read
-
--- each object says an entry or that there is none, and the entries that are given are all that they say, in their order
-abbrev pub GivesTheEntries : Type 0
-GivesTheEntries = (at : EntryLayout) (row : Row) (spec : Spec) (vs : List Value) (ending : Option AvroFault) (found : List Entry) → entries_from at row spec 0 [] vs ending ≡ Ok found
-    → (read : List (Option Entry)) × (map (says at row spec) (enumerate_from 0 vs) ≡ map Ok read) × (found ≡ kept read)
-
--- an object that says an entry has the entry's position, and its status is existing or added
-abbrev pub SaysLiveOnes : Type 0
-SaysLiveOnes = (at : EntryLayout) (row : Row) (spec : Spec) (k : ℕ) (vs : Values) (e : Entry) → entry_at at row spec k vs ≡ Ok (Some e)
-    → (e.position ≡ k) × ((int_in (pos 0) (nth at.status vs) ≡ Ok (pos 0)) ⊎ (int_in (pos 0) (nth at.status vs) ≡ Ok (pos 1)))
-
--- an object with the status deleted says that there is none, whatever else it has
-abbrev pub DropsDeleted : Type 0
-DropsDeleted = (at : EntryLayout) (row : Row) (spec : Spec) (k : ℕ) (vs : Values) → int_in (pos 0) (nth at.status vs) ≡ Ok (pos 2) → entry_at at row spec k vs ≡ Ok None
-
--- an entry keeps the number that it has
-abbrev pub KeepsItsNumber : Type 0
-KeepsItsNumber = (at : EntryLayout) (row : Row) (spec : Spec) (k n : ℕ) (vs : Values) (e : Entry) → entry_at at row spec k vs ≡ Ok (Some e) → optional_number (pos 3) at.sequence_number vs ≡ Ok (Some n) → e.sequence_number ≡ n
-
--- an added one that has none has its row's
-abbrev pub InheritsTheRows : Type 0
-InheritsTheRows = (at : EntryLayout) (row : Row) (spec : Spec) (k : ℕ) (vs : Values) (e : Entry) → entry_at at row spec k vs ≡ Ok (Some e) → int_in (pos 0) (nth at.status vs) ≡ Ok (pos 1) → optional_number (pos 3) at.sequence_number vs ≡ Ok None
-    → e.sequence_number ≡ row.sequence_number
-
--- an existing one that has none is given only under a row whose number is 0, and has this
-abbrev pub NeedsItsOwn : Type 0
-NeedsItsOwn = (at : EntryLayout) (row : Row) (spec : Spec) (k : ℕ) (vs : Values) (e : Entry) → entry_at at row spec k vs ≡ Ok (Some e) → int_in (pos 0) (nth at.status vs) ≡ Ok (pos 0) → optional_number (pos 3) at.sequence_number vs ≡ Ok None
-    → (row.sequence_number ≡ 0) × (e.sequence_number ≡ 0)
+RefusesTheLeast = (rows : List Row) (path : List ℕ) → checked (in_order rows) ≡ Err (ManifestTwice path)
+    → (r s : Row) → Contains rows r → Contains rows s → r ≢ s → r.path ≡ s.path
+    → is_lt (slice_cmp nat_cmp r.path path) ≡ false

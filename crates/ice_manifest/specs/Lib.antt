@@ -1,8 +1,13 @@
-pub mod Outcome
-pub mod Kinds
-pub mod Picking
+pub mod Types
 pub mod Fields
+pub mod Naming
+pub mod Each
+pub mod Schemas
 pub mod Lists
 pub mod Manifests
 pub mod Laws
 pub mod Faults
+pub mod Same
+pub mod Kinds
+pub mod Seen
+pub mod Places

@@ -2,35 +2,24 @@
 
 ghost use Rattle.std.specs.Prelude.{◌≡◌, IfOk};
 
-use ice_value::{Cell, Items, Text};
+use crate::data_file::DataFile;
+use ice_value::{FileBounds, SequenceNumber};
 use std::alloc::{AllocError, Global};
 
-/// What an entry's file holds.
-#[derive(Clone, Copy, Debug, PartialEq, Eq)]
-pub enum FileContent {
-    Data,
-    PositionDeletes,
-    EqualityDeletes,
-}
-
-/// A live entry of a manifest: one that exists or was added. Its numbers are inherited already.
+/// A live entry of a manifest: one that exists or was added. Its snapshot and numbers are inherited already.
 #[derive(Debug, Drop)]
 pub struct Entry {
     /// Its place in its manifest, counted from 0 over all entries, deleted ones too.
     pub position: u64,
-    pub content: FileContent,
-    pub path: Text,
     /// The partition spec of its manifest, and whether that spec partitions nothing.
-    pub spec: i32,
+    pub spec_id: i32,
     pub unpartitioned: bool,
-    /// The partition values, in the order of the spec's fields.
-    pub tuple: Items<Cell>,
-    pub sequence_number: u64,
-    /// As the manifest says; any number.
-    pub record_count: i64,
-    /// In bytes, as the manifest says; any number.
-    pub file_size: i64,
-    pub equality_ids: Items<i32>,
+    /// The snapshot that its status is of.
+    pub snapshot_id: i64,
+    pub sequence_number: SequenceNumber,
+    /// The number of the commit that added the file. An existing entry of an early writer has none.
+    pub file_sequence_number: Option<SequenceNumber>,
+    pub file: DataFile,
 }
 
 impl Entry {
@@ -40,15 +29,19 @@ impl Entry {
     {
         Ok(Entry {
             position: self.position,
-            content: self.content,
-            path: self.path.copy(alloc)?,
-            spec: self.spec,
+            spec_id: self.spec_id,
             unpartitioned: self.unpartitioned,
-            tuple: self.tuple.copy(alloc)?,
+            snapshot_id: self.snapshot_id,
             sequence_number: self.sequence_number,
-            record_count: self.record_count,
-            file_size: self.file_size,
-            equality_ids: self.equality_ids.copy(alloc)?,
+            file_sequence_number: self.file_sequence_number,
+            file: self.file.copy(alloc)?,
         })
     }
+}
+
+/// A live entry, and what its manifest says of the columns of its file: enough to tell whether a filter needs the file.
+#[derive(Debug, Drop)]
+pub struct Live {
+    pub entry: Entry,
+    pub bounds: FileBounds,
 }

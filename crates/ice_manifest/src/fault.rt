@@ -5,7 +5,7 @@ ghost use Rattle.ice_manifest.specs.declared.fault.ListFault.TheVariants as list
 ghost use Rattle.ice_manifest.specs.declared.fault.ManifestFault.TheVariants as manifest;
 
 use avro_file::AvroFault;
-use ice_value::Text;
+use contract_words::Text;
 use std::alloc::{AllocError, AllocFailed, Global};
 
 /// What is wrong with a field of an id, whichever file it is of.
@@ -17,6 +17,8 @@ pub enum FieldFault {
     WrongType(i32),
     /// The number or path in it is out of its range.
     OutOfRange(i32),
+    /// A content number is none, or does not fit where it stands.
+    BadContent,
 }
 
 /// The first fault of a manifest list.
@@ -62,23 +64,24 @@ pub enum ManifestFault {
 }
 
 impl From<FieldFault> for ListFault {
-    ghost use Rattle.ice_manifest.specs.Lists.{of_field};
+    ghost use Rattle.ice_manifest.specs.Naming.{in_list};
 
-    ghost from_gives = { λ f e. e ≡ of_field f };
+    ghost from_gives = { λ f e. e ≡ in_list.of_field f };
 
     fn from(fault: FieldFault) -> ListFault {
         match fault {
             FieldFault::Missing(id) => ListFault::MissingField(id),
             FieldFault::WrongType(id) => ListFault::WrongFieldType(id),
             FieldFault::OutOfRange(id) => ListFault::OutOfRange(id),
+            FieldFault::BadContent => ListFault::BadContent,
         }
     }
 }
 
 impl From<AvroFault> for ListFault {
-    ghost use Rattle.ice_manifest.specs.Lists.{of_container};
+    ghost use Rattle.ice_manifest.specs.Naming.{in_list};
 
-    ghost from_gives = { λ f e. e ≡ of_container f };
+    ghost from_gives = { λ f e. e ≡ in_list.of_container f };
 
     fn from(fault: AvroFault) -> ListFault {
         match fault {
@@ -105,23 +108,24 @@ impl<T: Drop> From<AllocFailed<T>> for ListFault {
 }
 
 impl From<FieldFault> for ManifestFault {
-    ghost use Rattle.ice_manifest.specs.Manifests.{of_field};
+    ghost use Rattle.ice_manifest.specs.Naming.{in_manifest};
 
-    ghost from_gives = { λ f e. e ≡ of_field f };
+    ghost from_gives = { λ f e. e ≡ in_manifest.of_field f };
 
     fn from(fault: FieldFault) -> ManifestFault {
         match fault {
             FieldFault::Missing(id) => ManifestFault::MissingField(id),
             FieldFault::WrongType(id) => ManifestFault::WrongFieldType(id),
             FieldFault::OutOfRange(id) => ManifestFault::OutOfRange(id),
+            FieldFault::BadContent => ManifestFault::BadContent,
         }
     }
 }
 
 impl From<AvroFault> for ManifestFault {
-    ghost use Rattle.ice_manifest.specs.Manifests.{of_container};
+    ghost use Rattle.ice_manifest.specs.Naming.{in_manifest};
 
-    ghost from_gives = { λ f e. e ≡ of_container f };
+    ghost from_gives = { λ f e. e ≡ in_manifest.of_container f };
 
     fn from(fault: AvroFault) -> ManifestFault {
         match fault {

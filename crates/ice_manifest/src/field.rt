@@ -1,112 +1,38 @@
 //! What the fields of an object hold.
 
-ghost use Rattle.std.specs.Prelude.{◌≡◌, [], option_map, string_bytes};
-ghost use Rattle.avro_schema.specs.Outcome.{Gives};
-ghost use Rattle.avro_file.specs.Value.{nothing};
+ghost use Rattle.std.specs.Prelude.{◌≡◌, [], ◌∷◌, option_map, string_bytes, Some, IfOk};
+ghost use Rattle.contract_words.specs.Outcome.{Gives};
+ghost use Rattle.avro_schema.specs.View.{tree};
 ghost use Rattle.avro_file.specs.View.{view};
-ghost use Rattle.ice_manifest.specs.Outcome.{result_map, viewed};
-ghost use Rattle.ice_manifest.specs.Fields.{values, nth, bare as bare_value, whole_of as whole_value, text_of as text_value, items_of as items_value, fields_of as fields_value, long_in, int_in, number_in, optional_number as optional_in, path_in, ints_in, list_in, within_32 as within, not_negative as natural};
-ghost use Rattle.ice_manifest.specs.Manifests.{manifested};
+ghost use Rattle.ice_manifest.specs.Each.{each};
+ghost use Rattle.ice_manifest.specs.Naming.{in_manifest, told};
+ghost use Rattle.ice_manifest.specs.Fields.{asked, whole_of as whole_value, truth_of as truth_value, binary_of as binary_value, items_of as items_value, there, at, long_at as long_said, int_at as int_said, number_at as number_said, path_at as path_said, truth_at as truth_said, optional_long as long_if_there, optional_int as int_if_there, optional_number as number_if_there, optional_truth as truth_if_there, optional_binary as binary_if_there, int_item as int_of_item, ints_at as ints_said, within_32 as within, not_negative as natural};
+ghost use Rattle.ice_manifest.specs.Seen.{result_map, object, listed};
 
 use crate::fault::{FieldFault, ManifestFault};
+use crate::pick::{itself, pick, take};
 use avro_file::Datum;
-use ice_value::{Items, Text};
-use std::alloc::Global;
+use avro_schema::{Field, Schema};
+use contract_words::Items;
+use ice_value::SequenceNumber;
+use std::alloc::{AllocError, Global};
 
-/// A union's value, without the branch that it is of.
-fn bare(datum: &Datum) -> &Datum
-    ensures { view result.now ≡ bare_value (view datum.now) }
+/// The whole number at a field; none where it is absent or null.
+pub fn optional_long(fields: &[Field], values: &[Datum], id: i32) -> Option<i64>
+    ensures { result ≡ long_if_there id (object fields.now values.now) }
 {
-    match datum {
-        Datum::Union(_, chosen) => chosen,
-        _ => datum,
-    }
-}
-
-/// The same, moved out.
-fn bared(datum: Datum) -> Datum
-    ensures { view result ≡ bare_value (view datum) }
-{
-    match datum {
-        Datum::Union(_, chosen) => Box::into_inner(chosen),
-        other => other,
-    }
-}
-
-/// The whole number that a value is.
-fn whole_of(datum: &Datum) -> Option<i64>
-    ensures { result ≡ whole_value (bare_value (view datum.now)) }
-{
-    match bare(datum) {
-        Datum::Int(number) => Some(i64::from(*number)),
-        Datum::Long(number) => Some(*number),
+    match pick(fields, values, id)? {
+        (_, Datum::Int(number)) => Some(i64::from(*number)),
+        (_, Datum::Long(number)) => Some(*number),
         _ => None,
     }
-}
-
-/// The text that a value is.
-fn text_of(datum: &Datum) -> Option<&String>
-    ensures { option_map (λ t. string_bytes t.now) result ≡ text_value (bare_value (view datum.now)) }
-{
-    match bare(datum) {
-        Datum::String(text) => Some(text),
-        _ => None,
-    }
-}
-
-/// The fields of a record's value. Any other value has none.
-pub fn fields_of(alloc: Global, datum: Datum) -> Vec<Datum>
-    ensures { values result.items ≡ fields_value (view datum) }
-{
-    match datum {
-        Datum::Record(fields) => fields,
-        _ => Vec::new(alloc),
-    }
-}
-
-/// The items of a list's value. Any other value has none.
-fn items_of(datum: &Datum) -> &[Datum]
-    ensures { values result.now ≡ items_value (bare_value (view datum.now)) }
-{
-    match bare(datum) {
-        Datum::Array(items) => items,
-        _ => &[],
-    }
-}
-
-/// The value at a position.
-fn at(fields: &[Datum], position: usize) -> Option<&Datum>
-    ensures { viewed result ≡ nth position (values fields.now) }
-{
-    if position < fields.len() {
-        Some(&fields[position])
-    } else {
-        None
-    }
-}
-
-/// The value at a position, moved out; null where there is none.
-pub fn take(mut fields: Vec<Datum>, position: usize) -> Datum
-    ensures { view result ≡ nth position (values fields.items) }
-{
-    if position < fields.len() {
-        fields.swap_remove(position)
-    } else {
-        Datum::Null
-    }
-}
-
-fn whole_at(fields: &[Datum], position: usize) -> Option<i64>
-    ensures { result ≡ whole_value (bare_value (nth position (values fields.now))) }
-{
-    whole_of(at(fields, position)?)
 }
 
 /// A whole number of 64 bits.
-pub fn long_at(fields: &[Datum], position: usize, id: i32) -> Result<i64, FieldFault>
-    ensures { result ≡ long_in id (nth position (values fields.now)) }
+pub fn long_at(fields: &[Field], values: &[Datum], id: i32) -> Result<i64, FieldFault>
+    ensures { result ≡ long_said id (object fields.now values.now) }
 {
-    match whole_at(fields, position) {
+    match optional_long(fields, values, id) {
         Some(number) => Ok(number),
         None => Err(FieldFault::Missing(id)),
     }
@@ -124,59 +50,103 @@ fn within_32(number: i64, id: i32) -> Result<i32, FieldFault>
 }
 
 /// The number, where it is not negative.
-fn not_negative(number: i64, id: i32) -> Result<u64, FieldFault>
+fn not_negative(number: i64, id: i32) -> Result<SequenceNumber, FieldFault>
     ensures { result ≡ natural id number }
 {
     if number < 0 {
-        Err(FieldFault::OutOfRange(id))
-    } else {
-        Ok(number as u64)
+        return Err(FieldFault::OutOfRange(id));
+    }
+    match SequenceNumber::new(number as u64) {
+        Some(number) => Ok(number),
+        None => Err(FieldFault::OutOfRange(id)),
     }
 }
 
 /// A whole number of 32 bits.
-#[tactic(auto, unfolding(crate::specs::Fields::int_in))]
-pub fn int_at(fields: &[Datum], position: usize, id: i32) -> Result<i32, FieldFault>
-    ensures { result ≡ int_in id (nth position (values fields.now)) }
+#[tactic(auto, unfolding(crate::specs::Fields::int_at))]
+pub fn int_at(fields: &[Field], values: &[Datum], id: i32) -> Result<i32, FieldFault>
+    ensures { result ≡ int_said id (object fields.now values.now) }
 {
-    within_32(long_at(fields, position, id)?, id)
+    within_32(long_at(fields, values, id)?, id)
+}
+
+/// A whole number of 32 bits; none where it is absent or null.
+#[tactic(auto, unfolding(crate::specs::Fields::optional_int))]
+pub fn optional_int(fields: &[Field], values: &[Datum], id: i32) -> Result<Option<i32>, FieldFault>
+    ensures { result ≡ int_if_there id (object fields.now values.now) }
+{
+    match optional_long(fields, values, id) {
+        Some(number) => Ok(Some(within_32(number, id)?)),
+        None => Ok(None),
+    }
 }
 
 /// A sequence number.
-#[tactic(auto, unfolding(crate::specs::Fields::number_in))]
-pub fn number_at(fields: &[Datum], position: usize, id: i32) -> Result<u64, FieldFault>
-    ensures { result ≡ number_in id (nth position (values fields.now)) }
+#[tactic(auto, unfolding(crate::specs::Fields::number_at))]
+pub fn number_at(fields: &[Field], values: &[Datum], id: i32) -> Result<SequenceNumber, FieldFault>
+    ensures { result ≡ number_said id (object fields.now values.now) }
 {
-    not_negative(long_at(fields, position, id)?, id)
+    not_negative(long_at(fields, values, id)?, id)
 }
 
-/// A sequence number, or none.
+/// A sequence number; none where it is absent or null.
 #[tactic(auto, unfolding(crate::specs::Fields::optional_number))]
 pub fn optional_number(
-    fields: &[Datum],
-    position: Option<usize>,
+    fields: &[Field],
+    values: &[Datum],
     id: i32,
-) -> Result<Option<u64>, FieldFault>
-    ensures { result ≡ optional_in id position (values fields.now) }
+) -> Result<Option<SequenceNumber>, FieldFault>
+    ensures { result ≡ number_if_there id (object fields.now values.now) }
 {
-    let Some(position) = position else {
-        return Ok(None);
-    };
-    let Some(number) = whole_at(fields, position) else {
-        return Ok(None);
-    };
-    Ok(Some(not_negative(number, id)?))
+    match optional_long(fields, values, id) {
+        Some(number) => Ok(Some(not_negative(number, id)?)),
+        None => Ok(None),
+    }
 }
 
-/// A path of at most 65,535 bytes.
-#[tactic(auto, unfolding(crate::specs::Fields::path_in))]
-pub fn path_at(fields: &[Datum], position: usize, id: i32) -> Result<&String, FieldFault>
-    ensures { result_map (λ s. string_bytes s.now) result ≡ path_in id (nth position (values fields.now)) }
+/// A boolean; none where it is absent or null.
+pub fn optional_truth(fields: &[Field], values: &[Datum], id: i32) -> Option<bool>
+    ensures { result ≡ truth_if_there id (object fields.now values.now) }
 {
-    let Some(datum) = at(fields, position) else {
-        return Err(FieldFault::Missing(id));
-    };
-    let Some(text) = text_of(datum) else {
+    match pick(fields, values, id)? {
+        (_, Datum::Boolean(truth)) => Some(*truth),
+        _ => None,
+    }
+}
+
+/// A boolean.
+pub fn truth_at(fields: &[Field], values: &[Datum], id: i32) -> Result<bool, FieldFault>
+    ensures { result ≡ truth_said id (object fields.now values.now) }
+{
+    match optional_truth(fields, values, id) {
+        Some(truth) => Ok(truth),
+        None => Err(FieldFault::Missing(id)),
+    }
+}
+
+/// A copy of bytes; none where they are absent or null.
+pub fn optional_binary(
+    alloc: Global,
+    fields: &[Field],
+    values: &[Datum],
+    id: i32,
+) -> Result<Option<Items<u8>>, AllocError>
+    ensures { IfOk result (λ bytes. bytes ≡ binary_if_there id (object fields.now values.now)) }
+{
+    match pick(fields, values, id) {
+        Some((_, Datum::Bytes(bytes))) => Ok(Some(Items::from_vec(
+            bytes.as_slice().to_vec(alloc)?,
+        ))),
+        _ => Ok(None),
+    }
+}
+
+/// A path of at most 65,535 bytes, moved out.
+#[tactic(auto, unfolding(crate::specs::Fields::path_at))]
+pub fn take_path(fields: &[Field], values: Vec<Datum>, id: i32) -> Result<String, FieldFault>
+    ensures { result_map string_bytes result ≡ path_said id (object fields.now values.items) }
+{
+    let Some((_, Datum::String(text))) = take(fields, values, id) else {
         return Err(FieldFault::Missing(id));
     };
     if text.len() <= 65535 {
@@ -186,47 +156,60 @@ pub fn path_at(fields: &[Datum], position: usize, id: i32) -> Result<&String, Fi
     }
 }
 
-/// The same path, moved out.
-#[tactic(auto, unfolding(crate::specs::Fields::path_in))]
-pub fn take_path(fields: Vec<Datum>, position: usize, id: i32) -> Result<Text, FieldFault>
-    ensures { result ≡ path_in id (nth position (values fields.items)) }
+/// The items of a list and their type. Any other value has none.
+pub fn items_of<'a>(schema: &'a Schema, datum: &'a Datum) -> (&'a Schema, &'a [Datum])
+    ensures { listed result ≡ items_value (Some (tree schema.now, view datum.now)) }
 {
-    let Datum::String(text) = bared(take(fields, position)) else {
-        return Err(FieldFault::Missing(id));
-    };
-    if text.len() <= 65535 {
-        Ok(Text::from_string(text))
-    } else {
-        Err(FieldFault::OutOfRange(id))
+    match (schema, datum) {
+        (Schema::Array(items, _, _), Datum::Array(data)) => (items, data),
+        _ => (schema, &[]),
+    }
+}
+
+/// A whole number of 32 bits that is an item of a list.
+#[tactic(auto, unfolding(crate::specs::Fields::int_item))]
+fn int_item(schema: &Schema, datum: &Datum, id: i32) -> Result<i32, FieldFault>
+    ensures { result ≡ int_of_item id (tree schema.now, view datum.now) }
+{
+    match itself(schema, datum) {
+        Some((_, Datum::Int(number))) => within_32(i64::from(*number), id),
+        Some((_, Datum::Long(number))) => within_32(*number, id),
+        _ => Err(FieldFault::Missing(id)),
     }
 }
 
 /// Whole numbers of 32 bits, the items of a list.
-fn ints_of(alloc: Global, items: &[Datum], id: i32) -> Result<Items<i32>, ManifestFault>
-    ensures { Gives ManifestFault.Memory (λ ids. ids) result (manifested (ints_in id [] (values items.now))) }
+fn int_items(
+    alloc: Global,
+    schema: &Schema,
+    items: &[Datum],
+    id: i32,
+) -> Result<Items<i32>, ManifestFault>
+    ensures { Gives ManifestFault.Memory (λ ids. ids) result (told in_manifest (each (int_of_item id) (listed (schema.entry, items.entry)))) }
 {
     let mut ids = Items::new(alloc);
-    'items: for position in 0..items.len() {
-        ids.push(int_at(items, position, id)?)?;
+    'items: for item in items {
+        ids.push(int_item(schema, item, id)?)?;
     }
     Ok(ids)
 }
 
-/// The whole numbers of a list; none where there is no list.
-#[tactic(auto, unfolding(crate::specs::Fields::list_in, crate::specs::Fields::ints_in))]
-pub fn list_at(
+/// The whole numbers of a list, whose items have an id; none where there is no list.
+#[tactic(auto, unfolding(crate::specs::Fields::ints_at, crate::specs::Each::each))]
+pub fn ints_at(
     alloc: Global,
-    fields: &[Datum],
-    position: Option<usize>,
+    fields: &[Field],
+    values: &[Datum],
     id: i32,
+    item: i32,
 ) -> Result<Items<i32>, ManifestFault>
-    ensures { Gives ManifestFault.Memory (λ ids. ids) result (manifested (list_in id position (values fields.now))) }
+    ensures { Gives ManifestFault.Memory (λ ids. ids) result (told in_manifest (ints_said id item (object fields.now values.now))) }
 {
-    let Some(position) = position else {
-        return Ok(Items::new(alloc));
-    };
-    match at(fields, position) {
-        Some(datum) => ints_of(alloc, items_of(datum), id),
+    match pick(fields, values, id) {
+        Some((schema, datum)) => {
+            let (schema, items) = items_of(schema, datum);
+            int_items(alloc, schema, items, item)
+        }
         None => Ok(Items::new(alloc)),
     }
 }

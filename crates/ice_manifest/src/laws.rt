@@ -1,12 +1,13 @@
 //! What the definitions of rows and entries come to.
 
-ghost use Rattle.ice_manifest.specs.Laws.{GivesEachRow, GivesTheRows, RefusesTwo, RefusesTheLeast, GivesTheEntries, SaysLiveOnes, DropsDeleted, KeepsItsNumber, InheritsTheRows, NeedsItsOwn};
-ghost use Rattle.ice_manifest.specs.Faults.{TellsTheFirstRow, TellsTheListsEnd, TellsTheFirstEntry, TellsTheManifestsEnd, RefusesAPathExactly, RefusesManyExactly, FitsItsRow};
+ghost use Rattle.ice_manifest.specs.Laws.{ReadsRowsExactly, GivesTheRows, RefusesTwo, RefusesTheLeast, ReadsEntriesExactly, KeepsItsNumber, InheritsTheRows, NeedsItsOwn, FitsItsRow, AreOfTheirSpec};
+ghost use Rattle.ice_manifest.specs.Faults.{TellsTheFirstRow, TellsTheListsEnd, TellsTheFirstEntry, TellsTheManifestsEnd, RefusesAPathExactly, RefusesManyExactly};
+ghost use Rattle.ice_manifest.specs.Same.{SkipsOtherFieldsOfEntries, SkipsOtherFieldsOfRows};
 
 /// The rows of a list are the set of the rows that its objects say. It is refused for a path only where two different
 /// rows have it, and then for the least such path.
 pub fn rows_are_a_set()
-    ensures each { GivesEachRow }
+    ensures exactly { ReadsRowsExactly }
     ensures same { GivesTheRows }
     ensures twice { RefusesTwo }
     ensures least { RefusesTheLeast }
@@ -15,9 +16,7 @@ pub fn rows_are_a_set()
 /// The entries of a manifest are those that its objects say, each with the position that its object has among all.
 /// An object of a deleted entry says none.
 pub fn entries_are_the_live_ones()
-    ensures all { GivesTheEntries }
-    ensures live { SaysLiveOnes }
-    ensures deleted { DropsDeleted }
+    ensures { ReadsEntriesExactly }
 {}
 
 /// An entry keeps the sequence number that it has. Without one an added entry has its row's, and an existing one is
@@ -44,7 +43,16 @@ pub fn rows_are_refused_together()
     ensures many { RefusesManyExactly }
 {}
 
-/// Each entry holds what its row's content allows: data under a row of data, deletes under one of deletes.
+/// Each entry holds what its row's content allows: data under a row of data, deletes under one of deletes. It is of its
+/// row's spec.
 pub fn contents_fit()
-    ensures { FitsItsRow }
+    ensures content { FitsItsRow }
+    ensures spec { AreOfTheirSpec }
+{}
+
+/// Two files whose objects say the same in the fields that are read give the same, whatever else they hold: other
+/// fields, other names, and objects that lie otherwise in blocks.
+pub fn other_fields_are_skipped()
+    ensures entries { SkipsOtherFieldsOfEntries }
+    ensures rows { SkipsOtherFieldsOfRows }
 {}

@@ -1,28 +1,33 @@
 //! Manifest lists and manifests: their rows and live entries, found by field id, or the first fault.
 #![tactic(auto)]
 
+mod counts;
 mod data_file;
 mod entry;
 mod fault;
 mod field;
 mod kind;
 mod laws;
-mod layout;
 mod list;
 mod manifest;
 mod pick;
 mod row;
+mod shape;
 mod status;
 
-pub use entry::{Entry, FileContent};
-pub use fault::{ListFault, ManifestFault};
+pub use counts::Counts;
+pub use data_file::DataFile;
+pub use entry::{Entry, Live};
+pub use fault::{FieldFault, ListFault, ManifestFault};
+pub use kind::Kind;
 pub use laws::{
     contents_fit, entries_are_the_live_ones, first_faults_are_told, numbers_are_inherited,
-    rows_are_a_set, rows_are_refused_together,
+    other_fields_are_skipped, rows_are_a_set, rows_are_refused_together,
 };
 pub use list::read_list;
 pub use manifest::read_manifest;
 pub use row::{ManifestContent, Row};
+pub use status::Status;
 
 #[cfg(test)]
 mod tests;

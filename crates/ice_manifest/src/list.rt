@@ -1,65 +1,161 @@
 //! Reading a manifest list.
 
-ghost use Rattle.std.specs.Prelude.{◌≡◌, ◌≤◌, [], length, option_map, OnOk, IfOk};
+ghost use Rattle.std.specs.Prelude.{◌≡◌, ◌≤◌, [], Some, pos, length, option_map, OnOk, IfOk};
 ghost use Rattle.std.specs.List.Sorted.{IsStrictlySortedBy};
-ghost use Rattle.avro_schema.specs.Outcome.{Gives};
+ghost use Rattle.contract_words.specs.Outcome.{Gives};
+ghost use Rattle.avro_schema.specs.Tree.{structure};
+ghost use Rattle.avro_schema.specs.View.{tree};
 ghost use Rattle.avro_file.specs.View.{view};
 ghost use Rattle.avro_file.specs.Files.{ahead};
-ghost use Rattle.ice_manifest.specs.Fields.{values};
-ghost use Rattle.ice_manifest.specs.Lists.{rows_of, row_at as row_in, row_content as content_in, rows_ahead, path_twice as twice_in, in_order as ordered, checked as checked_in, path_order};
+ghost use Rattle.ice_manifest.specs.Each.{each};
+ghost use Rattle.ice_manifest.specs.Fields.{at, there};
+ghost use Rattle.ice_manifest.specs.Naming.{in_list, told};
+ghost use Rattle.ice_manifest.specs.Seen.{fields_seen, object, listed};
+ghost use Rattle.ice_manifest.specs.Lists.{rows_of, row_of as row_said, row_content as content_in, content_at as content_said, counts_at as counts_said, summary_in as summary_said, summary_of as summary_of_item, summaries_in, rows_ahead, path_twice as twice_in, in_order as ordered, checked as checked_in, path_order};
 
-use crate::fault::ListFault;
-use crate::field::{fields_of, int_at, long_at, number_at, path_at, take_path};
-use crate::layout::RowLayout;
+use crate::counts::Counts;
+use crate::fault::{FieldFault, ListFault};
+use crate::field::{
+    int_at, items_of, long_at, number_at, optional_binary, optional_int, optional_long,
+    optional_truth, take_path, truth_at,
+};
+use crate::pick::{itself, pick, record_values};
 use crate::row::{ManifestContent, Row};
-use avro_file::{Container, Datum};
-use ice_value::Text;
+use crate::shape::{check_row_fields, fields_of};
+use avro_file::{Container, Datum, Objects};
+use avro_schema::{Field, Schema};
+use contract_words::{Items, Text};
+use ice_value::Summary;
 use std::alloc::{AllocError, Global};
 
-fn row_content(code: i32) -> Result<ManifestContent, ListFault>
+fn row_content(code: i32) -> Result<ManifestContent, FieldFault>
     ensures { result ≡ content_in code }
 {
     match code {
         0 => Ok(ManifestContent::Data),
         1 => Ok(ManifestContent::Deletes),
-        _ => Err(ListFault::BadContent),
+        _ => Err(FieldFault::BadContent),
     }
 }
 
-/// The row that an object's fields say.
-#[tactic(auto, unfolding(crate::specs::Lists::row_at))]
-fn row_at(layout: &RowLayout, fields: Vec<Datum>) -> Result<Row, ListFault>
-    ensures { result ≡ row_in layout.now (values fields.items) }
+#[tactic(auto, unfolding(crate::specs::Lists::content_at))]
+fn content_at(fields: &[Field], values: &[Datum]) -> Result<ManifestContent, FieldFault>
+    ensures { result ≡ content_said (object fields.now values.now) }
 {
-    path_at(&fields, layout.path, 500)?;
-    let length = long_at(&fields, layout.length, 501)?;
-    let spec = int_at(&fields, layout.spec, 502)?;
-    let content = row_content(int_at(&fields, layout.content, 517)?)?;
-    let sequence_number = number_at(&fields, layout.sequence_number, 515)?;
-    let min_sequence_number = number_at(&fields, layout.min_sequence_number, 516)?;
-    let added_snapshot_id = long_at(&fields, layout.added_snapshot_id, 503)?;
-    Ok(Row {
-        path: take_path(fields, layout.path, 500)?,
-        length,
-        spec,
-        content,
-        sequence_number,
-        min_sequence_number,
-        added_snapshot_id,
+    row_content(int_at(fields, values, 517)?)
+}
+
+#[tactic(auto, unfolding(crate::specs::Lists::counts_at))]
+fn counts_at(fields: &[Field], values: &[Datum]) -> Result<Counts, FieldFault>
+    ensures { result ≡ counts_said (object fields.now values.now) }
+{
+    Ok(Counts {
+        added_files: optional_int(fields, values, 504)?,
+        existing_files: optional_int(fields, values, 505)?,
+        deleted_files: optional_int(fields, values, 506)?,
+        added_rows: optional_long(fields, values, 512),
+        existing_rows: optional_long(fields, values, 513),
+        deleted_rows: optional_long(fields, values, 514),
     })
 }
 
-/// The rows of all objects that are to come, in the file's order.
-fn all_rows(
+/// The summary that a record's fields say.
+#[tactic(auto, unfolding(crate::specs::Lists::summary_in))]
+fn summary_in(alloc: Global, fields: &[Field], values: &[Datum]) -> Result<Summary, ListFault>
+    ensures { Gives ListFault.Memory (λ x. x) result (told in_list (summary_said (object fields.now values.now))) }
+{
+    Ok(Summary {
+        contains_null: truth_at(fields, values, 509)?,
+        contains_nan: optional_truth(fields, values, 518),
+        lower: optional_binary(alloc, fields, values, 510)?,
+        upper: optional_binary(alloc, fields, values, 511)?,
+    })
+}
+
+/// The summary that an item of a list says.
+#[tactic(auto, unfolding(crate::specs::Lists::summary_of))]
+fn summary_of(alloc: Global, schema: &Schema, datum: &Datum) -> Result<Summary, ListFault>
+    ensures { Gives ListFault.Memory (λ x. x) result (told in_list (summary_of_item (tree schema.now, view datum.now))) }
+{
+    match itself(schema, datum) {
+        Some((Schema::Record(fields), Datum::Record(values))) => summary_in(alloc, fields, values),
+        _ => Err(ListFault::MissingField(508)),
+    }
+}
+
+fn summaries_of(
     alloc: Global,
-    layout: &RowLayout,
-    mut container: Container<'_>,
-) -> Result<Vec<Row>, ListFault>
-    ensures { Gives ListFault.Memory (λ rows. rows.items) result (rows_ahead layout.now [] (ahead container.entry)) }
+    schema: &Schema,
+    items: &[Datum],
+) -> Result<Items<Summary>, ListFault>
+    ensures { Gives ListFault.Memory (λ x. x) result (told in_list (each summary_of_item (listed (schema.entry, items.entry)))) }
+{
+    let mut summaries = Items::new(alloc);
+    'items: for item in items {
+        summaries.push(summary_of(alloc, schema, item)?)?;
+    }
+    Ok(summaries)
+}
+
+fn partitions_at(
+    alloc: Global,
+    fields: &[Field],
+    values: &[Datum],
+) -> Result<Option<Items<Summary>>, ListFault>
+    ensures { Gives ListFault.Memory (λ x. x) result (told in_list (summaries_in (there (at (pos 507) (object fields.now values.now))))) }
+{
+    let Some((schema, datum)) = pick(fields, values, 507) else {
+        return Ok(None);
+    };
+    let (schema, items) = items_of(schema, datum);
+    Ok(Some(summaries_of(alloc, schema, items)?))
+}
+
+/// The row that a record's fields say.
+#[tactic(auto, unfolding(crate::specs::Lists::row_of))]
+fn row_at(alloc: Global, fields: &[Field], values: Vec<Datum>) -> Result<Row, ListFault>
+    ensures { Gives ListFault.Memory (λ x. x) result (told in_list (row_said (object fields.now values.items))) }
+{
+    let length = long_at(fields, &values, 501);
+    let spec_id = int_at(fields, &values, 502);
+    let content = content_at(fields, &values);
+    let sequence_number = number_at(fields, &values, 515);
+    let min_sequence_number = number_at(fields, &values, 516);
+    let added_snapshot_id = long_at(fields, &values, 503);
+    let counts = counts_at(fields, &values);
+    let partitions = partitions_at(alloc, fields, &values);
+    // The faults in the order of the fields: the path's comes first, though it is moved out last.
+    Ok(Row {
+        path: Text::from_string(take_path(fields, values, 500)?),
+        length: length?,
+        spec_id: spec_id?,
+        content: content?,
+        sequence_number: sequence_number?,
+        min_sequence_number: min_sequence_number?,
+        added_snapshot_id: added_snapshot_id?,
+        counts: counts?,
+        partitions: partitions?,
+    })
+}
+
+/// The row that an object of these fields says.
+fn row_of(alloc: Global, fields: &[Field], datum: Datum) -> Result<Row, ListFault>
+    ensures { Gives ListFault.Memory (λ x. x) result (told in_list (row_said (structure (fields_seen fields.now), view datum))) }
+{
+    match record_values(datum) {
+        Some(values) => row_at(alloc, fields, values),
+        None => Err(ListFault::MissingField(500)),
+    }
+}
+
+/// The rows of all objects that are to come, in the file's order.
+fn all_rows(alloc: Global, fields: &[Field], mut reader: Objects<'_>) -> Result<Vec<Row>, ListFault>
+    ensures { Gives ListFault.Memory (λ rows. rows.items) result (rows_ahead (fields_seen fields.now) (ahead reader.entry)) }
 {
     let mut rows = Vec::new(alloc);
-    'objects: while let Some(object) = container.next(alloc)? {
-        rows.push(row_at(layout, fields_of(alloc, object.datum()))?)?;
+    'objects: while let Some(object) = reader.next()? {
+        let datum = object.datum(alloc)?;
+        rows.push(row_of(alloc, fields, datum)?)?;
     }
     Ok(rows)
 }
@@ -116,8 +212,9 @@ pub fn read_list(alloc: Global, bytes: &[u8]) -> Result<Vec<Row>, ListFault>
     ensures few { IfOk result (λ rows. length rows.items ≤ 65536) }
 {
     let container = Container::open(alloc, bytes)?;
-    let layout = RowLayout::of(container.schema())?;
-    let mut rows = all_rows(alloc, &layout, container)?;
+    let fields = fields_of(container.schema());
+    check_row_fields(fields)?;
+    let mut rows = all_rows(alloc, fields, container.objects())?;
     put_in_order(&mut rows)?;
     checked(alloc, rows)
 }

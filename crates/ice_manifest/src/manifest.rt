@@ -1,26 +1,28 @@
 //! Reading a manifest.
 
-ghost use Rattle.std.specs.Prelude.{◌≡◌, ◌<◌, ◌^◌, [], option_map, OnOk};
-ghost use Rattle.avro_schema.specs.Outcome.{Gives};
+ghost use Rattle.std.specs.Prelude.{◌≡◌, ◌<◌, ◌^◌, [], ◌∷◌, ◌++◌, OnOk};
+ghost use Rattle.contract_words.specs.Outcome.{Gives};
+ghost use Rattle.avro_schema.specs.Tree.{structure};
 ghost use Rattle.avro_file.specs.View.{view};
 ghost use Rattle.avro_file.specs.Ahead.{still_ahead};
 ghost use Rattle.avro_file.specs.Files.{ahead};
-ghost use Rattle.ice_manifest.specs.Fields.{values};
-ghost use Rattle.ice_manifest.specs.Outcome.{found_file};
-ghost use Rattle.ice_manifest.specs.Manifests.{entries_of, status_of as status_in, content_of as content_in, inherited as inherited_in, file_of as file_in, file_at as file_said, live_entry as live_said, entry_at as entry_said, entries_ahead, with_live, layout_at as layout_in, record_of as record_in};
+ghost use Rattle.ice_manifest.specs.Naming.{in_manifest, told};
+ghost use Rattle.ice_manifest.specs.Seen.{fields_seen, object};
+ghost use Rattle.ice_manifest.specs.Manifests.{live_of, no_bounds as empty_bounds, status_of as status_in, status_at as status_said, content_of as content_in, content_at as content_said, inherited as inherited_in, file_inherited as file_inherited_in, sequence_at as sequence_said, file_sequence_at as file_sequence_said, snapshot_at as snapshot_said, file_of as file_said, live_at as live_said, entry_of as entry_said, entries_ahead, kept};
 
 use crate::data_file::DataFile;
-use crate::entry::{Entry, FileContent};
-use crate::fault::ManifestFault;
-use crate::field::{
-    fields_of, int_at, list_at, long_at, optional_number, path_at, take, take_path,
-};
-use crate::layout::{EntryLayout, FileLayout};
+use crate::entry::{Entry, Live};
+use crate::fault::{FieldFault, ManifestFault};
+use crate::field::{int_at, ints_at, long_at, optional_long, optional_number, take_path};
+use crate::pick::{record_values, take_record};
 use crate::row::{ManifestContent, Row};
+use crate::shape::{check_entry_fields, fields_of};
 use crate::status::Status;
-use avro_file::{Container, Datum, objects_take_bytes};
+use avro_file::{Container, Datum, Objects, objects_take_bytes};
+use avro_schema::Field;
+use contract_words::Items;
 use ice_meta::Spec;
-use ice_value::Items;
+use ice_value::{FileBounds, FileContent, SequenceNumber};
 use std::alloc::{AllocError, Global};
 
 fn status_of(code: i32) -> Result<Status, ManifestFault>
@@ -34,147 +36,216 @@ fn status_of(code: i32) -> Result<Status, ManifestFault>
     }
 }
 
+#[tactic(auto, unfolding(crate::specs::Manifests::status_at))]
+fn status_at(fields: &[Field], values: &[Datum]) -> Result<Status, ManifestFault>
+    ensures { result ≡ status_said (object fields.now values.now) }
+{
+    status_of(int_at(fields, values, 0)?)
+}
+
 /// What a file of a manifest of this content holds.
-fn content_of(of_row: ManifestContent, code: i32) -> Result<FileContent, ManifestFault>
+fn content_of(of_row: ManifestContent, code: i32) -> Result<FileContent, FieldFault>
     ensures { result ≡ content_in of_row code }
 {
     match (of_row, code) {
         (ManifestContent::Data, 0) => Ok(FileContent::Data),
         (ManifestContent::Deletes, 1) => Ok(FileContent::PositionDeletes),
         (ManifestContent::Deletes, 2) => Ok(FileContent::EqualityDeletes),
-        _ => Err(ManifestFault::BadContent),
+        _ => Err(FieldFault::BadContent),
     }
 }
 
+#[tactic(auto, unfolding(crate::specs::Manifests::content_at))]
+fn content_at(
+    of_row: ManifestContent,
+    fields: &[Field],
+    values: &[Datum],
+) -> Result<FileContent, FieldFault>
+    ensures { result ≡ content_said of_row (object fields.now values.now) }
+{
+    content_of(of_row, int_at(fields, values, 134)?)
+}
+
+/// The file that a record's fields say, in a manifest of this content.
+#[tactic(auto, unfolding(crate::specs::Manifests::file_of))]
+fn file_of(
+    alloc: Global,
+    of_row: ManifestContent,
+    fields: &[Field],
+    values: Vec<Datum>,
+) -> Result<DataFile, ManifestFault>
+    ensures { Gives ManifestFault.Memory (λ x. x) result (told in_manifest (file_said of_row (object fields.now values.items))) }
+{
+    let content = content_at(of_row, fields, &values)?;
+    let record_count = long_at(fields, &values, 103);
+    let file_size = long_at(fields, &values, 104);
+    let equality_ids = ints_at(alloc, fields, &values, 135, 136);
+    // The faults in the order of the fields: the path's comes before those of the numbers, though it is moved out last.
+    Ok(DataFile {
+        content,
+        path: Items::from_vec(take_path(fields, values, 100)?.into_bytes()),
+        tuple: Items::new(alloc),
+        record_count: record_count?,
+        file_size: file_size?,
+        equality_ids: equality_ids?,
+    })
+}
+
 /// An entry's sequence number: its own, or that of its manifest's row.
-fn inherited(of_row: u64, status: Status, own: Option<u64>) -> Result<u64, ManifestFault>
+fn inherited(
+    of_row: SequenceNumber,
+    status: Status,
+    own: Option<SequenceNumber>,
+) -> Result<SequenceNumber, ManifestFault>
     ensures { result ≡ inherited_in of_row status own }
 {
     match (own, status) {
         (Some(own), _) => Ok(own),
         (None, Status::Added) => Ok(of_row),
-        (None, _) if of_row == 0 => Ok(0),
+        (None, _) if of_row == SequenceNumber::zero() => Ok(of_row),
         (None, _) => Err(ManifestFault::NoSequence),
     }
 }
 
-fn layout_at(files: &[Option<FileLayout>], branch: usize) -> Option<FileLayout>
-    ensures { result ≡ layout_in files.now branch }
+#[tactic(auto, unfolding(crate::specs::Manifests::sequence_at))]
+fn sequence_at(
+    row: &Row,
+    status: Status,
+    fields: &[Field],
+    values: &[Datum],
+) -> Result<SequenceNumber, ManifestFault>
+    ensures { result ≡ sequence_said row.now status (object fields.now values.now) }
 {
-    if branch < files.len() {
-        files[branch]
-    } else {
-        None
+    inherited(
+        row.sequence_number,
+        status,
+        optional_number(fields, values, 3)?,
+    )
+}
+
+/// The sequence number of an entry's file: its own, or that of its manifest's row. An existing entry may have none.
+fn file_inherited(
+    of_row: SequenceNumber,
+    status: Status,
+    own: Option<SequenceNumber>,
+) -> Option<SequenceNumber>
+    ensures { result ≡ file_inherited_in of_row status own }
+{
+    match (own, status) {
+        (Some(own), _) => Some(own),
+        (None, Status::Added) => Some(of_row),
+        (None, _) if of_row == SequenceNumber::zero() => Some(of_row),
+        (None, _) => None,
     }
 }
 
-/// The fields of a record and where they stand, where it is of this branch.
-fn record_of(
-    files: &[Option<FileLayout>],
-    branch: usize,
-    datum: Datum,
-) -> Option<(FileLayout, Vec<Datum>)>
-    ensures { option_map found_file result ≡ record_in files.now branch (view datum) }
+#[tactic(auto, unfolding(crate::specs::Manifests::file_sequence_at))]
+fn file_sequence_at(
+    row: &Row,
+    status: Status,
+    fields: &[Field],
+    values: &[Datum],
+) -> Result<Option<SequenceNumber>, FieldFault>
+    ensures { result ≡ file_sequence_said row.now status (object fields.now values.now) }
 {
-    let Datum::Record(fields) = datum else {
-        return None;
-    };
-    let layout = layout_at(files, branch)?;
-    Some((layout, fields))
+    let own = optional_number(fields, values, 4)?;
+    Ok(file_inherited(row.sequence_number, status, own))
 }
 
-/// A data file's fields and where they stand, unless it is null.
-fn file_of(files: &[Option<FileLayout>], datum: Datum) -> Option<(FileLayout, Vec<Datum>)>
-    ensures { option_map found_file result ≡ file_in files.now (view datum) }
+/// The snapshot of an entry: its own, or that which added its manifest.
+fn snapshot_at(row: &Row, fields: &[Field], values: &[Datum]) -> i64
+    ensures { result ≡ snapshot_said row.now (object fields.now values.now) }
 {
-    match datum {
-        Datum::Union(branch, chosen) => record_of(files, branch, Box::into_inner(chosen)),
-        _ => record_of(files, 0, datum),
+    optional_long(fields, values, 1).unwrap_or(row.added_snapshot_id)
+}
+
+/// No bounds and no counts.
+fn no_bounds(alloc: Global) -> FileBounds
+    ensures { result ≡ empty_bounds }
+{
+    FileBounds {
+        value_counts: Items::new(alloc),
+        null_counts: Items::new(alloc),
+        lower_bounds: Items::new(alloc),
+        upper_bounds: Items::new(alloc),
     }
-}
-
-/// What the fields of a data file say, in a manifest of this content.
-#[tactic(auto, unfolding(crate::specs::Manifests::file_at))]
-fn file_at(
-    alloc: Global,
-    layout: FileLayout,
-    of_row: ManifestContent,
-    fields: Vec<Datum>,
-) -> Result<DataFile, ManifestFault>
-    ensures { Gives ManifestFault.Memory (λ x. x) result (file_said layout of_row (values fields.items)) }
-{
-    let content = content_of(of_row, int_at(&fields, layout.content, 134)?)?;
-    path_at(&fields, layout.path, 100)?;
-    let record_count = long_at(&fields, layout.record_count, 103)?;
-    let file_size = long_at(&fields, layout.file_size, 104)?;
-    let equality_ids = list_at(alloc, &fields, layout.equality_ids, 136)?;
-    Ok(DataFile {
-        content,
-        path: take_path(fields, layout.path, 100)?,
-        record_count,
-        file_size,
-        equality_ids,
-    })
 }
 
 /// An entry that exists or was added.
-#[tactic(auto, unfolding(crate::specs::Manifests::live_entry))]
-fn live_entry(
+#[tactic(auto, unfolding(crate::specs::Manifests::live_at))]
+fn live_at(
     alloc: Global,
-    layout: &EntryLayout,
     row: &Row,
-    spec: &Spec,
+    unpartitioned: bool,
     position: u64,
     status: Status,
-    fields: Vec<Datum>,
-) -> Result<Entry, ManifestFault>
-    ensures { Gives ManifestFault.Memory (λ x. x) result (live_said layout.now row.now spec.now position status (values fields.items)) }
+    fields: &[Field],
+    values: Vec<Datum>,
+) -> Result<Live, ManifestFault>
+    ensures { Gives ManifestFault.Memory (λ x. x) result (live_said row.now unpartitioned position status (object fields.now values.items)) }
 {
-    let own = optional_number(&fields, layout.sequence_number, 3)?;
-    let sequence_number = inherited(row.sequence_number, status, own)?;
-    let Some((at, file_fields)) = file_of(layout.files.as_slice(), take(fields, layout.file)) else {
+    let snapshot_id = snapshot_at(row, fields, &values);
+    let sequence_number = sequence_at(row, status, fields, &values)?;
+    let file_sequence_number = file_sequence_at(row, status, fields, &values)?;
+    let Some((file_fields, file_values)) = take_record(fields, values, 2) else {
         return Err(ManifestFault::MissingField(2));
     };
-    let file = file_at(alloc, at, row.content, file_fields)?;
-    Ok(Entry {
-        position,
-        content: file.content,
-        path: file.path,
-        spec: row.spec,
-        unpartitioned: spec.is_unpartitioned(),
-        tuple: Items::new(alloc),
-        sequence_number,
-        record_count: file.record_count,
-        file_size: file.file_size,
-        equality_ids: file.equality_ids,
+    Ok(Live {
+        entry: Entry {
+            position,
+            spec_id: row.spec_id,
+            unpartitioned,
+            snapshot_id,
+            sequence_number,
+            file_sequence_number,
+            file: file_of(alloc, row.content, file_fields, file_values)?,
+        },
+        bounds: no_bounds(alloc),
     })
 }
 
-/// The entry that an object's fields say. Of a deleted one nothing but the status is looked at.
-#[tactic(auto, unfolding(crate::specs::Manifests::entry_at))]
+/// The entry that a record's fields say. Of a deleted one nothing but the status is looked at.
+#[tactic(auto, unfolding(crate::specs::Manifests::entry_of))]
 fn entry_at(
     alloc: Global,
-    layout: &EntryLayout,
     row: &Row,
-    spec: &Spec,
+    unpartitioned: bool,
     position: u64,
-    fields: Vec<Datum>,
-) -> Result<Option<Entry>, ManifestFault>
-    ensures { Gives ManifestFault.Memory (λ x. x) result (entry_said layout.now row.now spec.now position (values fields.items)) }
+    fields: &[Field],
+    values: Vec<Datum>,
+) -> Result<Option<Live>, ManifestFault>
+    ensures { Gives ManifestFault.Memory (λ x. x) result (entry_said row.now unpartitioned position (object fields.now values.items)) }
 {
-    let status = status_of(int_at(&fields, layout.status, 0)?)?;
+    let status = status_at(fields, &values)?;
     if status == Status::Deleted {
         return Ok(None);
     }
-    Ok(Some(live_entry(alloc, layout, row, spec, position, status, fields)?))
+    Ok(Some(live_at(alloc, row, unpartitioned, position, status, fields, values)?))
+}
+
+/// The entry that an object of these fields says.
+fn entry_of(
+    alloc: Global,
+    row: &Row,
+    unpartitioned: bool,
+    position: u64,
+    fields: &[Field],
+    datum: Datum,
+) -> Result<Option<Live>, ManifestFault>
+    ensures { Gives ManifestFault.Memory (λ x. x) result (entry_said row.now unpartitioned position (structure (fields_seen fields.now), view datum)) }
+{
+    match record_values(datum) {
+        Some(values) => entry_at(alloc, row, unpartitioned, position, fields, values),
+        None => Err(ManifestFault::MissingField(0)),
+    }
 }
 
 /// Puts an entry last, if there is one.
-fn push_live(entries: &mut Vec<Entry>, entry: Option<Entry>) -> Result<(), AllocError>
-    ensures { OnOk result (entries.new.items ≡ with_live entries.old.items entry) }
+fn push_live(found: &mut Vec<Live>, live: Option<Live>) -> Result<(), AllocError>
+    ensures { OnOk result (found.new.items ≡ found.old.items ++ kept (live ∷ [])) }
 {
-    if let Some(entry) = entry {
-        entries.push(entry)?;
+    if let Some(live) = live {
+        found.push(live)?;
     }
     Ok(())
 }
@@ -182,43 +253,46 @@ fn push_live(entries: &mut Vec<Entry>, entry: Option<Entry>) -> Result<(), Alloc
 /// The live entries of all objects that are to come, which are few enough to be numbered.
 fn all_entries(
     alloc: Global,
-    layout: &EntryLayout,
     row: &Row,
-    spec: &Spec,
-    mut container: Container<'_>,
-) -> Result<Vec<Entry>, ManifestFault>
-    requires { still_ahead (ahead container) < 2 ^ 64 }
-    ensures { Gives ManifestFault.Memory (λ entries. entries.items) result (entries_ahead layout.now row.now spec.now 0 [] (ahead container.entry)) }
+    unpartitioned: bool,
+    fields: &[Field],
+    mut reader: Objects<'_>,
+) -> Result<Vec<Live>, ManifestFault>
+    requires { still_ahead (ahead reader) < 2 ^ 64 }
+    ensures { Gives ManifestFault.Memory (λ found. found.items) result (entries_ahead row.now unpartitioned (fields_seen fields.now) 0 (ahead reader.entry)) }
 {
-    let mut entries = Vec::new(alloc);
+    let mut found = Vec::new(alloc);
     let mut position: u64 = 0;
-    'objects: while let Some(object) = container.next(alloc)? {
-        let fields = fields_of(alloc, object.datum());
-        let entry = entry_at(alloc, layout, row, spec, position, fields)?;
-        push_live(&mut entries, entry)?;
+    'objects: while let Some(object) = reader.next()? {
+        let datum = object.datum(alloc)?;
+        let live = entry_of(alloc, row, unpartitioned, position, fields, datum)?;
+        push_live(&mut found, live)?;
         position += 1;
     }
-    Ok(entries)
+    Ok(found)
 }
 
-/// The live entries of a row's manifest, in the order of their positions, with their numbers inherited. The spec is
-/// that of the row's id.
+/// The live entries of a row's manifest, in the order of their positions, with their numbers inherited.
 ///
 /// The fault is the first of these: the file's as it is opened; that of the first field that the schema lacks or has
 /// with another type; entry by entry the file's, or that of the entry's first field at fault. Of a deleted entry
 /// nothing but the status is looked at.
-#[tactic(auto, unfolding(crate::specs::Manifests::entries_of))]
+#[tactic(auto, unfolding(crate::specs::Manifests::live_of))]
 pub fn read_manifest(
     alloc: Global,
     row: &Row,
     spec: &Spec,
     bytes: &[u8],
-) -> Result<Vec<Entry>, ManifestFault>
-    ensures { Gives ManifestFault.Memory (λ entries. entries.items) result (entries_of row.now spec.now bytes.now) }
+) -> Result<Vec<Live>, ManifestFault>
+    // The spec is that of the row's id.
+    requires { spec.now.id ≡ row.now.spec_id }
+    ensures { Gives ManifestFault.Memory (λ found. found.items) result (live_of row.now spec.now bytes.now) }
 {
     let container = Container::open(alloc, bytes)?;
-    let layout = EntryLayout::of(alloc, container.schema())?;
+    let fields = fields_of(container.schema());
+    check_entry_fields(fields)?;
     // An entry takes a byte at least, so there are no more of them than bytes.
     objects_take_bytes();
-    all_entries(alloc, &layout, row, spec, container)
+    let unpartitioned = spec.is_unpartitioned();
+    all_entries(alloc, row, unpartitioned, fields, container.objects())
 }

@@ -1,13 +1,27 @@
 //! Files that were written by hand from the specification, field by field.
 
-use crate::{ListFault, ManifestContent, ManifestFault, Row, read_list, read_manifest};
+use crate::{
+    Counts, DataFile, Entry, ListFault, Live, ManifestContent, ManifestFault, Row, read_list,
+    read_manifest,
+};
+use contract_words::{Items, Text};
 use ice_meta::Spec;
-use ice_value::Text;
+use ice_value::SequenceNumber;
 use std::alloc::{AllocError, Global};
 use std::test::*;
 
 mod lists;
 mod manifests;
+mod whole;
+
+const NO_COUNTS: Counts = Counts {
+    added_files: None,
+    existing_files: None,
+    deleted_files: None,
+    added_rows: None,
+    existing_rows: None,
+    deleted_rows: None,
+};
 
 const MARKER: [u8; 16] = [0, 1, 2, 3, 4, 5, 6, 7, 8, 9, 10, 11, 12, 13, 14, 15];
 

@@ -1,18 +1,14 @@
 -- Lemmas on contents.
-use Rattle.std.proofs.Common.{◌≡◌, ◌<◌, ℕ, zero, suc, List, [], ◌∷◌, refl, sym, ap, ◌∙◌, Bool, true, false, length, get_or, Option, Some, None, is_some, replicate, slice_set, arith, Ok}
+use Rattle.std.proofs.Common.{◌≡◌, ◌<◌, ℕ, zero, suc, List, [], ◌∷◌, refl, ap, ◌∙◌, Bool, true, false, length, get_or, Option, Some, None, is_some, replicate, slice_set, arith}
 use Rattle.std.specs.List.{slice_get}
 use Rattle.std.specs.Option.{option_and_then}
 use Rattle.ice_meta.specs.declared.spec.Spec.{Spec}
-use Rattle.ice_manifest.specs.declared.entry.Entry.{Entry}
 use Rattle.ice_manifest.specs.declared.row.Row.{Row}
-use Rattle.ice_manifest.specs.Manifests.{entries_of}
 use Rattle.ice_state.specs.declared.reading.Reading.{Reading}
-use Rattle.ice_state.specs.declared.reading.Reading.TheVariants.{Good}
-use Rattle.ice_state.specs.Pruning.{everything}
-use Rattle.ice_state.specs.Scans.{Scanned, spec_of}
-use Rattle.ice_state.specs.Contents.{Content, World, reading, slot_of, slots_of, content, add, took_at, took, HasBytesAt, HasBytes}
+use Rattle.ice_state.specs.Scans.{Scanned, pruner}
+use Rattle.ice_state.specs.Specs.{spec_of}
+use Rattle.ice_state.specs.Contents.{Content, World, slot_of, slots_of, content, add, took_at, took, HasBytesAt, HasBytes}
 use Rattle.ice_state.specs.Parts.{reading_by, with_row}
-use Rattle.ice_state.proofs.Filters.{kept-everything}
 
 -- a row that was taken stays as it is
 pub with_row-kept : (c : Content) (i : ℕ) (r : Reading) (s : Option Reading) → s ≡ get_or c i s → is_some s ≡ true → c ≡ with_row c i r
@@ -37,7 +33,7 @@ with_row-new (t ∷ ss) (suc i) r s h k = ap (λ x. t ∷ x) (with_row-new ss i 
 
 -- by the row's manifest, or by what it gave
 pub with_row-took : (scan : Scanned) (c : Content) (rows : List Row) (i : ℕ) (bytes : List ℕ) (row : Row) (spec : Spec) → i < length rows → row ≡ get_or rows i row →
-    option_and_then (λ (r : Row). spec_of scan.specs r.spec) (slice_get rows i) ≡ Some spec → with_row c i (reading_by spec row bytes) ≡ took_at scan c rows i bytes
+    option_and_then (λ (r : Row). spec_of scan.specs r.spec_id) (slice_get rows i) ≡ Some spec → with_row c i (reading_by (pruner scan) spec row bytes) ≡ took_at scan c rows i bytes
 with_row-took scan [] rows i bytes row spec l h k = refl
 with_row-took scan (s ∷ ss) [] i bytes row spec l h k = absurd (omega arith)
 with_row-took scan (s ∷ ss) (r ∷ rs) zero bytes row spec l h k = rw (k, h) refl
@@ -65,7 +61,3 @@ length-took scan (s ∷ ss) (row ∷ rows) (suc i) bytes = ap suc (length-took s
 pub none-content : (world : World) (scan : Scanned) (rows : List Row) → replicate (length rows) None ≡ slots_of world scan (replicate (length rows) false) rows
 none-content world scan [] = refl
 none-content world scan (row ∷ rows) = ap (λ c. None ∷ c) (none-content world scan rows)
-
--- what a manifest gives that can be read
-pub read-good : (spec : Spec) (row : Row) (bytes : List ℕ) (entries given : List Entry) → entries_of row spec bytes ≡ Ok entries → given ≡ entries → Good given ≡ reading_by spec row bytes
-read-good spec row bytes entries given is same = ap Good (same ∙ sym (kept-everything entries)) ∙ sym (ap (reading everything) is)

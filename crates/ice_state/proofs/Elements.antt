@@ -3,8 +3,8 @@ use Rattle.std.proofs.Common.{◌≡◌, ◌<◌, ℕ, zero, suc, List, [], ◌�
 use Rattle.std.specs.List.{Contains, AllByRecursion}
 use Rattle.std.specs.List.Sorted.{IsSortedBy}
 use Rattle.std.specs.Cmp.{IsStrictWeakOrder}
-use Rattle.ice_value.specs.Sorting.{put, sorted}
-use Rattle.ice_value.proofs.Sorted.{Rises}
+use Rattle.contract_words.specs.Sorting.{put, sorted}
+use Rattle.contract_words.proofs.Sorted.{Rises}
 
 pub contains_more : {X : Type 0} (x y : X) (xs : List X) → Contains xs y → Contains (x ∷ xs) y
 contains_more x y xs (k, l, e) = (suc k, omega arith, e)

@@ -1,12 +1,9 @@
 -- Lemmas on filters and on lists whose elements all pass.
-use Rattle.std.proofs.Common.{◌≡◌, List, [], ◌∷◌, ◌++◌, refl, ap, Bool, true, false, filter, cond, not, ◌&&◌, ◌||◌, ◌⊎◌, inl, inr}
+use Rattle.std.proofs.Common.{◌≡◌, List, [], ◌∷◌, ◌++◌, refl, sym, ◌∙◌, ap, Bool, true, false, filter, cond, ◌&&◌, ◌||◌, ◌⊎◌, inl, inr}
 use Rattle.std.specs.List.{flat_map, list_any, AllByRecursion}
+use Rattle.std.proofs.lemmas.List.{append-nil}
 use Rattle.std.proofs.lemmas.List.Elements.{filter-append}
-use Rattle.ice_value.specs.Sorting.{put, sorted}
-use Rattle.ice_manifest.specs.declared.entry.Entry.{Entry}
-use Rattle.ice_manifest.specs.declared.entry.FileContent.TheVariants.{Data}
-use Rattle.ice_manifest.specs.declared.row.Row.{Row}
-use Rattle.ice_state.specs.Pruning.{everything, holds, keeps, kept}
+use Rattle.contract_words.specs.Sorting.{put, sorted}
 
 pub or_false : (a b : Bool) → (a || b) ≡ false → (a ≡ false) × (b ≡ false)
 or_false true b h = cc
@@ -20,52 +17,47 @@ pub and_true : (a b : Bool) → (a && b) ≡ true → (a ≡ true) × (b ≡ tru
 and_true true b h = (refl, h)
 and_true false b h = cc
 
--- without a filter every live entry is kept, and every row is wanted
-pub kept-everything : (xs : List Entry) → kept everything xs ≡ xs
-kept-everything [] = refl
-kept-everything (x ∷ xs) =
-    elim (holds Data x) as (λ v. cond (true && (not v || true)) (x ∷ filter (keeps everything) xs) (filter (keeps everything) xs) ≡ x ∷ xs) [
-      | true ↦ ap (λ ys. x ∷ ys) (kept-everything xs)
-      | false ↦ ap (λ ys. x ∷ ys) (kept-everything xs)
-    ]
+pub all_unit : {X : Type 0} (xs : List X) → AllByRecursion (λ _. Unit {0}) xs
+all_unit [] = tt
+all_unit (x ∷ xs) = (tt, all_unit xs)
 
-pub wanted-everything : (rows : List Row) → filter everything.wants rows ≡ rows
-wanted-everything [] = refl
-wanted-everything (row ∷ rows) = ap (λ rs. row ∷ rs) (wanted-everything rows)
+pub all_implies : {X : Type 0} (P Q : X → Type 0) (xs : List X) → ((x : X) → P x → Q x) → AllByRecursion P xs → AllByRecursion Q xs
+all_implies P Q [] f all = tt
+all_implies P Q (x ∷ xs) f all = (f x all.0, all_implies P Q xs f all.1)
 
--- what passes q passes k
-module _ {X : Type 0} (q k : X → Bool) (implied : (x : X) → q x ≡ true → k x ≡ true) where
-  pub filter_kept : (xs : List X) → filter q xs ≡ filter q (filter k xs)
-  filter_kept [] = refl
-  filter_kept (x ∷ xs) =
+-- of what S holds, what passes q passes k
+module _ {X : Type 0} (S : X → Type 0) (q k : X → Bool) (implied : (x : X) → S x → q x ≡ true → k x ≡ true) where
+  pub filter_kept : (xs : List X) → AllByRecursion S xs → filter q xs ≡ filter q (filter k xs)
+  filter_kept [] all = refl
+  filter_kept (x ∷ xs) all =
       let P : (b : Bool) → q x ≡ b → cond b (x ∷ filter q xs) (filter q xs) ≡ filter q (filter k (x ∷ xs)) =
       λ b. elim b as (λ v. q x ≡ v → cond v (x ∷ filter q xs) (filter q xs) ≡ filter q (filter k (x ∷ xs))) [
-        | true ↦ λ h. rw (implied x h, h) (ap (λ ys. x ∷ ys) (filter_kept xs))
-        | false ↦ λ h. elim (k x) as (λ v. filter q xs ≡ filter q (cond v (x ∷ filter k xs) (filter k xs))) [ true ↦ rw h (filter_kept xs) | false ↦ filter_kept xs ]
+        | true ↦ λ h. rw (implied x all.0 h, h) (ap (λ ys. x ∷ ys) (filter_kept xs all.1))
+        | false ↦ λ h. elim (k x) as (λ v. filter q xs ≡ filter q (cond v (x ∷ filter k xs) (filter k xs))) [ true ↦ rw h (filter_kept xs all.1) | false ↦ filter_kept xs all.1 ]
       ] in
       P (q x) refl
 
-  pub filter_none : (xs : List X) → list_any k xs ≡ false → filter q xs ≡ []
-  filter_none [] h = refl
-  filter_none (x ∷ xs) h =
+  pub filter_none : (xs : List X) → AllByRecursion S xs → list_any k xs ≡ false → filter q xs ≡ []
+  filter_none [] all h = refl
+  filter_none (x ∷ xs) all h =
       let P : (b : Bool) → q x ≡ b → cond b (x ∷ filter q xs) (filter q xs) ≡ [] =
       λ b. elim b as (λ v. q x ≡ v → cond v (x ∷ filter q xs) (filter q xs) ≡ []) [
-        | true ↦ λ t. let yes = implied x t in let no = (or_false (k x) (list_any k xs) h).0 in cc
-        | false ↦ λ f. filter_none xs (or_false (k x) (list_any k xs) h).1
+        | true ↦ λ t. let yes = implied x all.0 t in let no = (or_false (k x) (list_any k xs) h).0 in cc
+        | false ↦ λ f. filter_none xs all.1 (or_false (k x) (list_any k xs) h).1
       ] in
       P (q x) refl
 
-  pub filter_rows : {R : Type 0} (live : R → List X) (wants : R → Bool) → (rs : List R) → AllByRecursion (λ r. list_any k (live r) ≡ true → wants r ≡ true) rs →
+  pub filter_rows : {R : Type 0} (live : R → List X) (wants : R → Bool) → ((r : R) → AllByRecursion S (live r)) → (rs : List R) → AllByRecursion (λ r. list_any k (live r) ≡ true → wants r ≡ true) rs →
       filter q (flat_map live rs) ≡ filter q (flat_map (λ r. filter k (live r)) (filter wants rs))
-  filter_rows live wants [] covered = refl
-  filter_rows {R} live wants (r ∷ rs) covered =
+  filter_rows live wants each [] covered = refl
+  filter_rows {R} live wants each (r ∷ rs) covered =
       let P : (b : Bool) → wants r ≡ b → filter q (live r ++ flat_map live rs) ≡ filter q (flat_map (λ (w : R). filter k (live w)) (cond b (r ∷ filter wants rs) (filter wants rs))) =
       λ b. elim b as (λ v. wants r ≡ v → filter q (live r ++ flat_map live rs) ≡ filter q (flat_map (λ (w : R). filter k (live w)) (cond v (r ∷ filter wants rs) (filter wants rs)))) [
-        | true ↦ λ h. rw (filter-append q (live r) (flat_map live rs), filter-append q (filter k (live r)), ← filter_kept (live r), filter_rows live wants rs covered.1) refl
+        | true ↦ λ h. rw (filter-append q (live r) (flat_map live rs), filter-append q (filter k (live r)), ← filter_kept (live r) (each r), filter_rows live wants each rs covered.1) refl
         | false ↦ λ h.
             let N : (v : Bool) → list_any k (live r) ≡ v → filter q (live r) ≡ [] =
-            λ v. elim v as (λ u. list_any k (live r) ≡ u → filter q (live r) ≡ []) [ true ↦ λ t. let yes = covered.0 t in cc | false ↦ λ f. filter_none (live r) f ] in
-            rw (filter-append q (live r) (flat_map live rs), N (list_any k (live r)) refl) (filter_rows live wants rs covered.1)
+            λ v. elim v as (λ u. list_any k (live r) ≡ u → filter q (live r) ≡ []) [ true ↦ λ t. let yes = covered.0 t in cc | false ↦ λ f. filter_none (live r) (each r) f ] in
+            rw (filter-append q (live r) (flat_map live rs), N (list_any k (live r)) refl) (filter_rows live wants each rs covered.1)
       ] in
       P (wants r) refl
 
@@ -104,3 +96,18 @@ all_put lt P x (y ∷ ys) p all = elim (lt y x) as (λ b. AllByRecursion P (cond
 pub all_sorted : {X : Type 0} (lt : X → X → Bool) (P : X → Type 0) (xs : List X) → AllByRecursion P xs → AllByRecursion P (sorted lt xs)
 all_sorted lt P [] all = tt
 all_sorted lt P (x ∷ xs) all = all_put lt P x (sorted lt xs) all.0 (all_sorted lt P xs all.1)
+
+-- one more element
+pub filter-push : {X : Type 0} (q : X → Bool) (xs : List X) (x : X) (b : Bool) → q x ≡ b → filter q (xs ++ x ∷ []) ≡ filter q xs ++ cond b (x ∷ []) []
+filter-push q [] x b h = rw h refl
+filter-push {X} q (y ∷ ys) x b h =
+    elim (q y) as (λ v. cond v (y ∷ filter q (ys ++ x ∷ [])) (filter q (ys ++ x ∷ [])) ≡ cond v (y ∷ filter q ys) (filter q ys) ++ cond b (x ∷ []) []) [
+      | true ↦ ap (λ (zs : List X). y ∷ zs) (filter-push q ys x b h)
+      | false ↦ filter-push q ys x b h
+    ]
+
+pub filter-hit : {X : Type 0} (q : X → Bool) (xs found new : List X) (x : X) → q x ≡ true → new ≡ found ++ x ∷ [] → found ≡ filter q xs → new ≡ filter q (xs ++ x ∷ [])
+filter-hit {X} q xs found new x h is so_far = is ∙ ap (λ (ys : List X). ys ++ x ∷ []) so_far ∙ sym (filter-push q xs x true h)
+
+pub filter-miss : {X : Type 0} (q : X → Bool) (xs found : List X) (x : X) → q x ≡ false → found ≡ filter q xs → found ≡ filter q (xs ++ x ∷ [])
+filter-miss q xs found x h so_far = so_far ∙ sym (append-nil (filter q xs)) ∙ sym (filter-push q xs x false h)

@@ -1,30 +1,42 @@
--- Runs of takes, and the sets of rows that they take.
-use Rattle.std.proofs.Common.{◌≡◌, ◌<◌, ◌==◌, ℕ, zero, suc, List, [], ◌∷◌, refl, sym, ap, ◌∙◌, Bool, true, false, ◌||◌, length, get_or, arith}
+-- Trees of takes and merges, and the sets of rows that they take.
+use Rattle.std.proofs.Common.{◌≡◌, ◌<◌, ◌==◌, ℕ, zero, suc, List, [], ◌∷◌, refl, sym, ap, ◌∙◌, Bool, true, false, ◌||◌, length, get_or, arith, replicate}
 use Rattle.std.proofs.lemmas.Bool.Decides.{nat_tests}
 use Rattle.std.proofs.lemmas.List.{ext_get_or}
-use Rattle.ice_state.specs.Contents.{Content, World, content, no_row, add}
-use Rattle.ice_state.specs.Runs.{Run, IsIn, takes, TakeTheSame, after_from, after}
+use Rattle.ice_manifest.specs.declared.row.Row.{Row}
+use Rattle.ice_state.specs.Contents.{Content, World, content, add, took}
+use Rattle.ice_state.specs.Joins.{join, either}
+use Rattle.ice_state.specs.Runs.{Run, empty, take, merge, IsIn, takes, taken, TakeTheSame, after}
 use Rattle.ice_state.specs.Scans.{Scanned}
 use Rattle.ice_state.proofs.Contents.{took-content, none-content}
+use Rattle.ice_state.proofs.Joins.{join-content}
 
--- the set after a run
-abbrev pub rows_after : List Bool → Run → List Bool
-rows_after ts [] = ts
-rows_after ts (step ∷ steps) = rows_after (add ts step.0) steps
-
-run-content : (world : World) (scan : Scanned) (ts : List Bool) (run : Run) → IsIn world scan run → after_from scan (content world scan ts) run ≡ content world scan (rows_after ts run)
-run-content world scan ts [] is = refl
-run-content world scan ts (step ∷ steps) is =
-    ap (λ (c : Content). after_from scan c steps) (took-content world scan ts scan.wanted step.0 step.1 is.0) ∙ run-content world scan (add ts step.0) steps is.1
+-- the content is that of the world and the rows taken
+pub after-content : (world : World) (scan : Scanned) (run : Run) → IsIn world scan run → after scan run ≡ content world scan (taken scan run)
+after-content world scan empty is = none-content world scan scan.wanted
+after-content world scan (take run i bytes) is = ap (λ (c : Content). took scan c i bytes) (after-content world scan run is.0) ∙ took-content world scan (taken scan run) scan.wanted i bytes is.1
+after-content world scan (merge run other) is =
+    ap (λ (c : Content). join c (after scan other)) (after-content world scan run is.0) ∙ ap (λ (c : Content). join (content world scan (taken scan run)) c) (after-content world scan other is.1)
+    ∙ join-content world scan (taken scan run) (taken scan other) scan.wanted
 
 length-add : (ts : List Bool) (i : ℕ) → length (add ts i) ≡ length ts
 length-add [] i = refl
 length-add (t ∷ ts) zero = refl
 length-add (t ∷ ts) (suc i) = ap suc (length-add ts i)
 
-length-rows : (ts : List Bool) (run : Run) → length (rows_after ts run) ≡ length ts
-length-rows ts [] = refl
-length-rows ts (step ∷ steps) = length-rows (add ts step.0) steps ∙ length-add ts step.0
+length-either : (ts us : List Bool) → length ts ≡ length us → length (either ts us) ≡ length ts
+length-either [] [] h = refl
+length-either [] (u ∷ us) h = absurd (omega arith)
+length-either (t ∷ ts) [] h = refl
+length-either (t ∷ ts) (u ∷ us) h = ap suc (length-either ts us (omega arith))
+
+length-no : (rows : List Row) → length (replicate (length rows) false) ≡ length rows
+length-no [] = refl
+length-no (row ∷ rows) = ap suc (length-no rows)
+
+pub length-taken : (scan : Scanned) (run : Run) → length (taken scan run) ≡ length scan.wanted
+length-taken scan empty = length-no scan.wanted
+length-taken scan (take run i bytes) = length-add (taken scan run) i ∙ length-taken scan run
+length-taken scan (merge run other) = length-either (taken scan run) (taken scan other) (length-taken scan run ∙ sym (length-taken scan other)) ∙ length-taken scan run
 
 or_true : (a : Bool) → (a || true) ≡ true
 or_true true = refl
@@ -33,10 +45,6 @@ or_true false = refl
 or_false : (a : Bool) → (a || false) ≡ a
 or_false true = refl
 or_false false = refl
-
-or_assoc : (a b c : Bool) → ((a || b) || c) ≡ (a || (b || c))
-or_assoc true b c = refl
-or_assoc false b c = refl
 
 zero-eq-suc : (k : ℕ) → (0 == suc k) ≡ false
 zero-eq-suc k = grind (arith, nat_tests)
@@ -55,22 +63,36 @@ add-at (t ∷ ts) zero (suc k) l = sym (ap (λ b. get_or ts k false || b) (zero-
 add-at (t ∷ ts) (suc i) zero l = sym (ap (λ b. t || b) (suc-eq-zero i) ∙ or_false t)
 add-at (t ∷ ts) (suc i) (suc k) l = add-at ts i k (omega arith) ∙ sym (ap (λ b. get_or ts k false || b) (suc-eq-suc i k))
 
-rows-at : (ts : List Bool) (run : Run) (k : ℕ) → k < length ts → get_or (rows_after ts run) k false ≡ (get_or ts k false || takes run k)
-rows-at ts [] k l = sym (or_false (get_or ts k false))
-rows-at ts (step ∷ steps) k l =
-    let l' : k < length (add ts step.0) = omega (arith, length-add ts step.0) in
-    rows-at (add ts step.0) steps k l' ∙ ap (λ b. b || takes steps k) (add-at ts step.0 k l) ∙ or_assoc (get_or ts k false) (step.0 == k) (takes steps k)
+either-at : (ts us : List Bool) (k : ℕ) → length ts ≡ length us → get_or (either ts us) k false ≡ (get_or ts k false || get_or us k false)
+either-at [] [] k h = refl
+either-at [] (u ∷ us) k h = absurd (omega arith)
+either-at (t ∷ ts) [] k h = absurd (omega arith)
+either-at (t ∷ ts) (u ∷ us) zero h = refl
+either-at (t ∷ ts) (u ∷ us) (suc k) h = either-at ts us k (omega arith)
 
--- runs that take the same rows end in one set
-same_rows : (ts : List Bool) (run other : Run) → TakeTheSame run other → rows_after ts run ≡ rows_after ts other
-same_rows ts run other same =
-    ext_get_or false (rows_after ts run) (rows_after ts other) (length-rows ts run ∙ sym (length-rows ts other))
+none-at : (rows : List Row) (k : ℕ) → get_or (replicate (length rows) false) k false ≡ false
+none-at [] k = refl
+none-at (row ∷ rows) zero = refl
+none-at (row ∷ rows) (suc k) = none-at rows k
+
+-- a row is in the set where it was taken
+pub taken-at : (scan : Scanned) (run : Run) (k : ℕ) → k < length scan.wanted → get_or (taken scan run) k false ≡ takes run k
+taken-at scan empty k l = none-at scan.wanted k
+taken-at scan (take run i bytes) k l =
+    let l' : k < length (taken scan run) = omega (arith, length-taken scan run) in
+    add-at (taken scan run) i k l' ∙ ap (λ b. b || (i == k)) (taken-at scan run k l)
+taken-at scan (merge run other) k l =
+    either-at (taken scan run) (taken scan other) k (length-taken scan run ∙ sym (length-taken scan other))
+    ∙ ap (λ b. b || get_or (taken scan other) k false) (taken-at scan run k l) ∙ ap (λ b. takes run k || b) (taken-at scan other k l)
+
+-- trees that take the same rows end in one set
+same_rows : (scan : Scanned) (run other : Run) → TakeTheSame run other → taken scan run ≡ taken scan other
+same_rows scan run other same =
+    ext_get_or false (taken scan run) (taken scan other) (length-taken scan run ∙ sym (length-taken scan other))
     (λ k l.
-    let l' : k < length ts = omega (arith, length-rows ts run) in
-    rows-at ts run k l' ∙ ap (λ b. get_or ts k false || b) (same k) ∙ sym (rows-at ts other k l'))
+    let l' : k < length scan.wanted = omega (arith, length-taken scan run) in
+    taken-at scan run k l' ∙ same k ∙ sym (taken-at scan other k l'))
 
 pub same_content : (world : World) (scan : Scanned) (run other : Run) → IsIn world scan run → IsIn world scan other → TakeTheSame run other → after scan run ≡ after scan other
 same_content world scan run other is is' same =
-    let start : (r : Run) → IsIn world scan r → after scan r ≡ content world scan (rows_after (no_row scan) r) =
-    λ r i. ap (λ (c : Content). after_from scan c r) (none-content world scan scan.wanted) ∙ run-content world scan (no_row scan) r i in
-    start run is ∙ ap (λ ts. content world scan ts) (same_rows (no_row scan) run other same) ∙ sym (start other is')
+    after-content world scan run is ∙ ap (λ ts. content world scan ts) (same_rows scan run other same) ∙ sym (after-content world scan other is')

@@ -2,14 +2,15 @@
 use Rattle.std.specs.Prelude.{◌≡◌, ℕ, zero, suc, Bool, true, false, List, [], ◌∷◌, length, replicate, Option, Some, None, is_some, option_map, slice_set, slice_index_or, Result, Ok, Err}
 use Rattle.std.specs.List.{AllByRecursion}
 use Rattle.ice_meta.specs.declared.spec.Spec.{Spec}
-use Rattle.ice_manifest.specs.declared.entry.Entry.{Entry}
+use Rattle.ice_manifest.specs.declared.entry.Live.{Live}
 use Rattle.ice_manifest.specs.declared.fault.ManifestFault.{ManifestFault}
 use Rattle.ice_manifest.specs.declared.row.Row.{Row}
-use Rattle.ice_manifest.specs.Manifests.{entries_of}
+use Rattle.ice_manifest.specs.Manifests.{live_of}
 use Rattle.ice_state.specs.declared.reading.Reading.{Reading}
 use Rattle.ice_state.specs.declared.reading.Reading.TheVariants.{Good, Bad}
 use Rattle.ice_state.specs.Pruning.{Pruner, kept}
-use Rattle.ice_state.specs.Scans.{Scanned, pruner, spec_of}
+use Rattle.ice_state.specs.Scans.{Scanned, pruner}
+use Rattle.ice_state.specs.Specs.{spec_of}
 
 -- for each wanted row, in the order of their paths: what its manifest gave, or nothing where it wasn't taken
 abbrev pub Content : Type 0
@@ -24,16 +25,16 @@ abbrev pub World : Type 0
 World = List ℕ → Option (List ℕ)
 
 -- the live entries of a row's manifest, or its first fault; no scan has a row whose spec is missing
-abbrev pub entries_by : Option Spec → Row → List ℕ → Result (List Entry) ManifestFault
-entries_by (Some spec) row bytes = entries_of row spec bytes
-entries_by None row bytes = Ok []
+abbrev pub live_by : Option Spec → Row → List ℕ → Result (List Live) ManifestFault
+live_by (Some spec) row bytes = live_of row spec bytes
+live_by None row bytes = Ok []
 
-abbrev pub manifest_of : List Spec → Row → List ℕ → Result (List Entry) ManifestFault
-manifest_of specs row bytes = entries_by (spec_of specs row.spec) row bytes
+abbrev pub manifest_of : List Spec → Row → List ℕ → Result (List Live) ManifestFault
+manifest_of specs row bytes = live_by (spec_of specs row.spec_id) row bytes
 
 -- what is kept of it: the kept entries in the order of their positions, or the fault
-abbrev pub reading : Pruner → Result (List Entry) ManifestFault → Reading
-reading p (Ok entries) = Good (kept p entries)
+abbrev pub reading : Pruner → Result (List Live) ManifestFault → Reading
+reading p (Ok found) = Good (kept p found)
 reading p (Err fault) = Bad fault
 
 abbrev pub reading_of : Scanned → Row → List ℕ → Reading

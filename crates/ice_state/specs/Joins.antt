@@ -25,3 +25,14 @@ abbrev pub Agree : Content → Content → Type 0
 Agree [] ds = Unit {0}
 Agree (c ∷ cs) [] = Unit {0}
 Agree (c ∷ cs) (d ∷ ds) = AgreeAt c d × Agree cs ds
+
+-- each row that the second took is taken in the first
+abbrev pub IsNoGain : Option Reading → Option Reading → Type 0
+IsNoGain None (Some r) = ⊥
+IsNoGain None None = Unit {0}
+IsNoGain (Some r) d = Unit {0}
+
+abbrev pub TookAllOf : Content → Content → Type 0
+TookAllOf [] ds = Unit {0}
+TookAllOf (c ∷ cs) [] = Unit {0}
+TookAllOf (c ∷ cs) (d ∷ ds) = IsNoGain c d × TookAllOf cs ds

@@ -1,11 +1,13 @@
 pub mod Applying
 pub mod Contents
+pub mod Covering
 pub mod Joins
+pub mod Lines
 pub mod Outcomes
 pub mod Parts
 pub mod Pruning
 pub mod Runs
 pub mod Scans
 pub mod Shares
-pub mod Shown
 pub mod Snapshots
+pub mod Specs

@@ -4,13 +4,13 @@ use Rattle.std.specs.List.{flat_map}
 use Rattle.std.specs.Cmp.Lexicographic.{slice_cmp}
 use Rattle.std.specs.Ordering.{nat_cmp, is_lt}
 use Rattle.std.specs.Str.{bytes_eq}
-use Rattle.ice_value.specs.Sorting.{sorted}
+use Rattle.contract_words.specs.Sorting.{sorted}
 use Rattle.ice_manifest.specs.declared.entry.Entry.{Entry}
-use Rattle.ice_manifest.specs.declared.entry.FileContent.TheVariants.{Data, PositionDeletes, EqualityDeletes}
+use Rattle.ice_value.specs.declared.file_content.FileContent.TheVariants.{Data, PositionDeletes, EqualityDeletes}
 use Rattle.ice_manifest.specs.declared.row.Row.{Row}
 use Rattle.ice_state.specs.declared.fault.FinishFault.{FinishFault}
 use Rattle.ice_state.specs.declared.fault.FinishFault.TheVariants as faults
-use Rattle.ice_state.specs.declared.plan.OwnedLine.{OwnedLine}
+use Rattle.ice_state.specs.Lines.{OwnedLine}
 use Rattle.ice_state.specs.declared.reading.Reading.{Reading}
 use Rattle.ice_state.specs.declared.reading.Reading.TheVariants.{Good, Bad}
 use Rattle.ice_state.specs.Applying.{applies}
@@ -29,7 +29,7 @@ kept_in c = flat_map entries_in c
 
 -- in the order of their paths
 abbrev pub path_before : Entry → Entry → Bool
-path_before x y = is_lt (slice_cmp nat_cmp x.path y.path)
+path_before x y = is_lt (slice_cmp nat_cmp x.file.path y.file.path)
 
 abbrev pub by_path : List Entry → List Entry
 by_path xs = sorted path_before xs
@@ -59,7 +59,7 @@ bad (row ∷ rows) (slot ∷ slots) = bad_at row slot ++ bad rows slots
 abbrev pub twice : List Entry → List FinishFault
 twice [] = []
 twice (x ∷ []) = []
-twice (x ∷ y ∷ ys) = if bytes_eq x.path y.path then faults.PathTwice x.path ∷ twice (y ∷ ys) else twice (y ∷ ys)
+twice (x ∷ y ∷ ys) = if bytes_eq x.file.path y.file.path then faults.PathTwice x.file.path ∷ twice (y ∷ ys) else twice (y ∷ ys)
 
 -- a data file with those of the delete files that apply to it
 abbrev pub line_of : List Entry → Entry → OwnedLine

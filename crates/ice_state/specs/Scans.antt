@@ -1,27 +1,26 @@
 -- What a scan reads: Apache Iceberg table spec, version 2, "Manifest Lists" and "Scan Planning".
-use Rattle.std.specs.Prelude.{◌≡◌, ℤ, Bool, false, List, [], ◌∷◌, filter, Option, None, is_none, Result, Ok, Err}
-use Rattle.std.specs.List.{find, Contains}
+use Rattle.std.specs.Prelude.{◌≡◌, ℤ, Bool, false, List, [], ◌∷◌, filter, None, is_none, Result, Ok, Err}
+use Rattle.std.specs.List.{Contains}
 use Rattle.std.specs.Cmp.Lexicographic.{slice_cmp}
-use Rattle.std.specs.Ordering.{nat_cmp, int_eq, is_lt}
-use Rattle.ice_value.specs.Sorting.{sorted}
+use Rattle.std.specs.Ordering.{nat_cmp, is_lt}
+use Rattle.contract_words.specs.Sorting.{sorted}
 use Rattle.ice_meta.specs.declared.spec.Spec.{Spec}
 use Rattle.ice_manifest.specs.declared.row.Row.{Row}
 use Rattle.ice_state.specs.declared.fault.ScanFault.{ScanFault}
 use Rattle.ice_state.specs.declared.fault.ScanFault.TheVariants.{NoSuchSpec}
-use Rattle.ice_state.specs.Pruning.{Pruner, everything}
+use Rattle.ice_state.specs.declared.pruning.Pruning.{Pruning}
+use Rattle.ice_state.specs.Pruning.{Pruner, pruner_of}
+use Rattle.ice_state.specs.Specs.{spec_of, by_id}
 
--- the wanted rows, by the bytes of their paths, and the partition specs of the table
+-- the wanted rows, by the bytes of their paths, the partition specs of the table, by their ids, and what is left out
 pub record Scanned : Type 0 where
   pub wanted : List Row
   pub specs : List Spec
+  pub pruning : Pruning
 
--- what the scan's filter leaves out: so far no scan has one
+-- what the scan keeps
 abbrev pub pruner : Scanned → Pruner
-pruner scan = everything
-
--- the spec of this id
-abbrev pub spec_of : List Spec → ℤ → Option Spec
-spec_of specs id = find (λ spec. int_eq spec.id id) specs
+pruner scan = pruner_of scan.pruning
 
 -- in the order of their paths
 abbrev pub row_before : Row → Row → Bool
@@ -32,23 +31,31 @@ by_row_path rows = sorted row_before rows
 
 -- the rows whose spec is missing
 abbrev pub without_spec : List Spec → List Row → List Row
-without_spec specs rows = filter (λ row. is_none (spec_of specs row.spec)) rows
+without_spec specs rows = filter (λ row. is_none (spec_of specs row.spec_id)) rows
 
 -- each row's spec is there
 abbrev pub AllHaveSpec : List Spec → List Row → Type 0
 AllHaveSpec specs rows = without_spec specs rows ≡ []
 
+-- the rows that are wanted
+abbrev pub wanted_rows : Pruner → List Row → List Row
+wanted_rows p rows = filter p.wants rows
+
 abbrev pub unless_missing : List Row → Scanned → Result Scanned ScanFault
 unless_missing [] scan = Ok scan
-unless_missing (row ∷ rows) scan = Err (NoSuchSpec row.spec)
+unless_missing (row ∷ rows) scan = Err (NoSuchSpec row.spec_id)
 
 -- the scan of these rows by these specs, or the missing spec of the row with the least path
-abbrev pub scan_of : List Row → List Spec → Result Scanned ScanFault
-scan_of rows specs = unless_missing (without_spec specs (by_row_path rows)) (record { wanted = filter everything.wants (by_row_path rows); specs = specs })
+abbrev pub scan_of : List Row → List Spec → Pruning → Result Scanned ScanFault
+scan_of rows specs pruning = unless_missing (without_spec specs (by_row_path rows)) (record { wanted = wanted_rows (pruner_of pruning) (by_row_path rows); specs = by_id specs; pruning = pruning })
+
+-- the scan is that of these rows by these specs
+abbrev pub IsScanOf : List Row → List Spec → Scanned → Type 0
+IsScanOf rows specs scan = scan_of rows specs scan.pruning ≡ Ok scan
 
 -- the row with the least path among those whose spec is missing, and that spec's id
 pub record IsFirstUnknown (specs : List Spec) (rows : List Row) (id : ℤ) (row : Row) : Type 0 where
   pub among : Contains rows row
-  pub named : row.spec ≡ id
+  pub named : row.spec_id ≡ id
   pub unknown : spec_of specs id ≡ None
-  pub least : (other : Row) → Contains rows other → spec_of specs other.spec ≡ None → row_before other row ≡ false
+  pub least : (other : Row) → Contains rows other → spec_of specs other.spec_id ≡ None → row_before other row ≡ false

@@ -7,7 +7,7 @@ use Rattle.ice_manifest.specs.declared.entry.Entry.{Entry}
 
 -- how many entries have the path
 abbrev pub count_at : List Entry → List ℕ → ℕ
-count_at xs p = length (filter (λ x. bytes_eq x.path p) xs)
+count_at xs p = length (filter (λ x. bytes_eq x.file.path p) xs)
 
 -- the least path that two entries share
 pub record IsLeastShared (xs : List Entry) (p : List ℕ) : Type 0 where

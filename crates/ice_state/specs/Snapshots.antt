@@ -3,48 +3,43 @@ use Rattle.std.specs.Prelude.{◌≡◌, true, List, [], ◌∷◌, ◌++◌, fi
 use Rattle.std.specs.List.{flat_map, list_any, AllByRecursion}
 use Rattle.ice_meta.specs.declared.spec.Spec.{Spec}
 use Rattle.ice_manifest.specs.declared.entry.Entry.{Entry}
+use Rattle.ice_manifest.specs.declared.entry.Live.{Live}
+use Rattle.ice_manifest.specs.Manifests.{entries}
 use Rattle.ice_manifest.specs.declared.fault.ManifestFault.{ManifestFault}
 use Rattle.ice_manifest.specs.declared.row.Row.{Row}
 use Rattle.ice_state.specs.declared.fault.FinishFault.{FinishFault}
 use Rattle.ice_state.specs.declared.fault.FinishFault.TheVariants as faults
-use Rattle.ice_state.specs.declared.plan.OwnedLine.{OwnedLine}
 use Rattle.ice_state.specs.Contents.{World, manifest_of}
+use Rattle.ice_state.specs.Lines.{OwnedLine}
 use Rattle.ice_state.specs.Outcomes.{by_path, twice, plan_over, first_or}
 use Rattle.ice_state.specs.Pruning.{Pruner, keeps, kept}
-use Rattle.ice_state.specs.Scans.{Scanned, pruner, by_row_path}
+use Rattle.ice_state.specs.Scans.{by_row_path}
 
-abbrev pub entries_or_none : Option (Result (List Entry) ManifestFault) → List Entry
-entries_or_none None = []
-entries_or_none (Some (Err fault)) = []
-entries_or_none (Some (Ok entries)) = entries
+abbrev pub live_or_none : Option (Result (List Live) ManifestFault) → List Live
+live_or_none None = []
+live_or_none (Some (Err fault)) = []
+live_or_none (Some (Ok found)) = found
 
--- the live entries of a row's manifest: none where it is absent or bad
-abbrev pub live : World → List Spec → Row → List Entry
-live world specs row = entries_or_none (option_map (manifest_of specs row) (world row.path))
+-- the live entries of a row's manifest, with their bounds: none where it is absent or bad
+abbrev pub live : World → List Spec → Row → List Live
+live world specs row = live_or_none (option_map (manifest_of specs row) (world row.path))
 
-abbrev pub fault_or_none : Row → Option (Result (List Entry) ManifestFault) → List FinishFault
+abbrev pub fault_or_none : Row → Option (Result (List Live) ManifestFault) → List FinishFault
 fault_or_none row None = []
 fault_or_none row (Some (Err fault)) = faults.Bad row.path fault ∷ []
-fault_or_none row (Some (Ok entries)) = []
+fault_or_none row (Some (Ok found)) = []
 
 -- that a row's manifest is bad
 abbrev pub bad_row : World → List Spec → Row → List FinishFault
 bad_row world specs row = fault_or_none row (option_map (manifest_of specs row) (world row.path))
 
 -- each of these rows that has a kept entry is wanted
-abbrev pub AreCoveredBy : Pruner → (Row → List Entry) → List Row → Type 0
-AreCoveredBy p live rows = AllByRecursion (λ row. list_any (keeps p) (live row) ≡ true → p.wants row ≡ true) rows
-
--- an unpartitioned spec's projection is true wherever another's is
-abbrev pub IsOpen : Pruner → Type 0
-IsOpen p = (x d : Entry) → d.unpartitioned ≡ true → p.meets x.spec x.tuple ≡ true → p.meets d.spec d.tuple ≡ true
+abbrev pub AreKeptWanted : Pruner → (Row → List Live) → List Row → Type 0
+AreKeptWanted p live rows = AllByRecursion (λ row. list_any (keeps p) (live row) ≡ true → p.wants row ≡ true) rows
 
 -- the kept entries of the wanted rows
-abbrev pub kept_of_wanted : Pruner → (Row → List Entry) → List Row → List Entry
+abbrev pub kept_of_wanted : Pruner → (Row → List Live) → List Row → List Entry
 kept_of_wanted p live rows = flat_map (λ row. kept p (live row)) (filter p.wants rows)
-
-abbrev pub AreCovered : World → Scanned → List Row → Type 0
-AreCovered world scan rows = AreCoveredBy (pruner scan) (live world scan.specs) rows
 
 -- The fault of the bad wanted row with the least path; else the least path that two kept entries of different origin
 -- share; else each kept data file with the live delete files of all rows that apply to it.
@@ -52,7 +47,7 @@ abbrev pub plan_of_rows : Pruner → World → List Spec → List Row → Result
 plan_of_rows p world specs rows =
     let all = flat_map (live world specs) rows in
     let kept_entries = by_path (kept p all) in
-    first_or (flat_map (bad_row world specs) (filter p.wants rows) ++ twice kept_entries) (plan_over (by_path all) kept_entries)
+    first_or (flat_map (bad_row world specs) (filter p.wants rows) ++ twice kept_entries) (plan_over (by_path (entries all)) kept_entries)
 
-abbrev pub plan_of_snapshot : World → Scanned → List Row → Result (List OwnedLine) FinishFault
-plan_of_snapshot world scan rows = plan_of_rows (pruner scan) world scan.specs (by_row_path rows)
+abbrev pub plan_of_snapshot : Pruner → World → List Spec → List Row → Result (List OwnedLine) FinishFault
+plan_of_snapshot p world specs rows = plan_of_rows p world specs (by_row_path rows)

@@ -4,8 +4,8 @@ ghost use Rattle.std.specs.Prelude.{◌≡◌};
 ghost use Rattle.ice_state.specs.declared.fault.FinishFault.TheVariants as finish;
 ghost use Rattle.ice_state.specs.declared.fault.ScanFault.TheVariants as scan;
 
+use contract_words::{Items, Text};
 use ice_manifest::ManifestFault;
-use ice_value::Text;
 use std::alloc::{AllocError, AllocFailed};
 
 /// Why there is no scan.
@@ -25,7 +25,7 @@ pub enum FinishFault {
     /// The manifest at this path was taken and can't be read.
     Bad(Text, ManifestFault),
     /// Two kept entries of different origin have this path.
-    PathTwice(Text),
+    PathTwice(Items<u8>),
     /// A growth was refused.
     Memory,
 }

@@ -1,20 +1,24 @@
 //! The plan of a content, or its first fault.
 
-ghost use Rattle.std.specs.Prelude.{◌≡◌, List, [], ◌++◌, length, map, IfOk, OnOk, MatchResult, filter};
+ghost use Rattle.std.specs.Prelude.{◌≡◌, [], ◌++◌, ◌&&◌, length, map, IfOk, OnOk, MatchResult, filter};
+ghost use Rattle.std.specs.List.{AllByRecursion};
 ghost use Rattle.std.specs.Option.{option_copied};
-ghost use Rattle.avro_schema.specs.Outcome.{Gives};
-ghost use Rattle.ice_manifest.specs.declared.entry.Entry.{Entry};
+ghost use Rattle.contract_words.specs.Outcome.{Gives};
+ghost use Rattle.ice_value.specs.declared.file_content.FileContent.TheVariants.{Data};
 ghost use Rattle.ice_state.specs.Applying.{applies};
 ghost use Rattle.ice_state.specs.Outcomes.{missing, bad, twice, kept_in, by_path, line_of, plan_over, outcome_of};
-ghost use Rattle.ice_state.specs.Parts.{AreDeletesOf, fault_of, Stops};
+ghost use Rattle.ice_state.specs.Lines.{entries_at, line_at, lines_at, AreWithin, IsLineWithin};
+ghost use Rattle.ice_state.specs.Parts.{fault_of, Stops, holds_deletes};
 ghost use Rattle.ice_state.specs.Pruning.{holds};
-ghost use Rattle.ice_state.specs.Shown.{shown};
 
 use crate::applying::does_apply;
 use crate::fault::FinishFault;
-use crate::plan::{Line, Plan};
+use crate::lines::Places;
+use crate::plan::Plan;
 use crate::reading::Reading;
-use ice_manifest::{Entry, FileContent, ManifestFault, Row};
+use contract_words::Items;
+use ice_manifest::{Entry, ManifestFault, Row};
+use ice_value::FileContent;
 use std::alloc::{AllocError, Global};
 
 /// Stops at the first row that wasn't taken.
@@ -59,8 +63,8 @@ fn check_once(alloc: Global, entries: &[&Entry]) -> Result<(), FinishFault>
 {
     for i in 1..entries.len() {
         let before = entries[i - 1];
-        if before.path.as_bytes() == entries[i].path.as_bytes() {
-            return Err(FinishFault::PathTwice(before.path.copy(alloc)?));
+        if before.file.path.as_slice() == entries[i].file.path.as_slice() {
+            return Err(FinishFault::PathTwice(before.file.path.copy(alloc)?));
         }
     }
     Ok(())
@@ -92,76 +96,98 @@ fn gathered<'a>(alloc: Global, slots: &'a [Option<Reading>]) -> Result<Vec<&'a E
 fn sort_by_path(entries: &mut Vec<&Entry>) -> Result<(), AllocError>
     ensures { OnOk result (map (λ x. x.now) entries.new.items ≡ by_path (map (λ x. x.now) entries.old.items)) }
 {
-    entries.sort_by(|a, b| a.path.as_bytes().cmp(b.path.as_bytes()))?;
+    entries.sort_by(|a, b| a.file.path.as_slice().cmp(b.file.path.as_slice()))?;
     Ok(())
 }
 
-/// The delete files of a content, each kind for itself, by path.
-#[derive(Drop)]
-struct Deletes<'a> {
-    positions: Vec<&'a Entry>,
-    equalities: Vec<&'a Entry>,
+/// Those of the entries whose files hold data.
+fn data_files<'a>(alloc: Global, entries: &[&'a Entry]) -> Result<Vec<&'a Entry>, AllocError>
+    ensures { IfOk result (λ found. map (λ x. x.now) found.items ≡ filter (holds Data) (map (λ x. x.now) entries.now)) }
+{
+    let mut found = Vec::new(alloc);
+    'entries: for x in entries {
+        if x.file.content == FileContent::Data {
+            found.push(*x)?;
+        }
+    }
+    Ok(found)
 }
 
-/// The entries whose files hold this.
-fn holding<'a>(
-    alloc: Global,
-    entries: &[&'a Entry],
-    content: FileContent,
-) -> Result<Vec<&'a Entry>, AllocError>
-    ensures { IfOk result (λ found. map (λ d. d.now) found.items ≡ filter (holds content) (map (λ d. d.now) entries.now)) }
+/// Those of the entries whose files hold deletes.
+fn delete_files<'a>(alloc: Global, entries: &[&'a Entry]) -> Result<Vec<&'a Entry>, AllocError>
+    ensures { IfOk result (λ found. map (λ d. d.now) found.items ≡ filter holds_deletes (map (λ d. d.now) entries.now)) }
 {
     let mut found = Vec::new(alloc);
     'entries: for d in entries {
-        if d.content == content {
+        if d.file.content != FileContent::Data {
             found.push(*d)?;
         }
     }
     Ok(found)
 }
 
-/// Those of the delete files that apply to the data file.
-fn applying<'a>(
+/// The places of those delete files that hold this and apply to the data file.
+fn applying(
     alloc: Global,
-    deletes: &[&'a Entry],
+    deletes: &[&Entry],
+    content: FileContent,
     x: &Entry,
-) -> Result<Vec<&'a Entry>, AllocError>
-    ensures { IfOk result (λ found. map (λ d. d.now) found.items ≡ filter (λ d. applies x.now d) (map (λ d. d.now) deletes.now)) }
+) -> Result<Items<usize>, AllocError>
+    ensures at { IfOk result (λ places. entries_at (map (λ d. d.now) deletes.now) places ≡ filter (λ d. holds content d && applies x.now d) (map (λ d. d.now) deletes.now)) }
+    ensures within { IfOk result (λ places. AreWithin (length deletes.now) places) }
 {
-    let mut found = Vec::new(alloc);
-    'deletes: for d in deletes {
-        if does_apply(x, d) {
-            found.push(*d)?;
+    let mut places = Items::new(alloc);
+    for i in 0..deletes.len() {
+        if is_hit(deletes[i], content, x) {
+            places.push(i)?;
         }
     }
-    Ok(found)
+    Ok(places)
 }
 
-fn line<'a>(alloc: Global, deletes: &Deletes<'a>, x: &'a Entry) -> Result<Line<'a>, AllocError>
-    ensures { (all : List Entry) → AreDeletesOf deletes.now all → IfOk result (λ line. shown line ≡ line_of all x.entry.now) }
+/// Whether the delete file holds this and applies to the data file.
+fn is_hit(d: &Entry, content: FileContent, x: &Entry) -> bool
+    ensures { result ≡ (holds content d.now && applies x.now d.now) }
 {
-    Ok(Line {
-        file: x,
-        positions: applying(alloc, &deletes.positions, x)?,
-        equalities: applying(alloc, &deletes.equalities, x)?,
+    d.file.content == content && does_apply(x, d)
+}
+
+/// The places of the delete files that apply to the data file.
+fn line(alloc: Global, deletes: &[&Entry], x: &Entry) -> Result<Places, AllocError>
+    ensures line { IfOk result (λ places. line_at (map (λ d. d.now) deletes.now) x.now places ≡ line_of (map (λ d. d.now) deletes.now) x.now) }
+    ensures within { IfOk result (λ places. IsLineWithin (length deletes.now) places) }
+{
+    Ok(Places {
+        positions: applying(alloc, deletes, FileContent::PositionDeletes, x)?,
+        equalities: applying(alloc, deletes, FileContent::EqualityDeletes, x)?,
     })
+}
+
+/// The places of the delete files that apply, for each of the data files.
+fn lines(alloc: Global, files: &[&Entry], deletes: &[&Entry]) -> Result<Vec<Places>, AllocError>
+    ensures lines { IfOk result (λ places. lines_at (map (λ d. d.now) deletes.now) (map (λ x. x.now) files.now) places.items ≡ map (line_of (map (λ d. d.now) deletes.now)) (map (λ x. x.now) files.now)) }
+    ensures each { IfOk result (λ places. length places.items ≡ length files.now) }
+    ensures within { IfOk result (λ places. AllByRecursion (IsLineWithin (length deletes.now)) places.items) }
+{
+    let mut places = Vec::with_capacity(alloc, files.len())?;
+    'files: for x in files {
+        places.push(line(alloc, deletes, x)?)?;
+    }
+    Ok(places)
 }
 
 /// A line for each data file.
 fn planned<'a>(alloc: Global, entries: &[&'a Entry]) -> Result<Plan<'a>, AllocError>
     ensures { IfOk result (λ plan. plan ≡ plan_over (map (λ d. d.now) entries.now) (map (λ d. d.now) entries.now)) }
 {
-    let deletes = Deletes {
-        positions: holding(alloc, entries, FileContent::PositionDeletes)?,
-        equalities: holding(alloc, entries, FileContent::EqualityDeletes)?,
-    };
-    let mut lines = Vec::new(alloc);
-    'entries: for x in entries {
-        if x.content == FileContent::Data {
-            lines.push(line(alloc, &deletes, *x)?)?;
-        }
-    }
-    Ok(Plan { lines })
+    let files = data_files(alloc, entries)?;
+    let deletes = delete_files(alloc, entries)?;
+    let places = lines(alloc, &files, &deletes)?;
+    Ok(Plan {
+        files,
+        deletes,
+        places,
+    })
 }
 
 /// The plan of slots, or their first fault.

@@ -1,50 +1,51 @@
 //! Copying a plan out of its state.
 
 ghost use Rattle.std.specs.Prelude.{◌≡◌, map, IfOk};
-ghost use Rattle.ice_state.specs.Shown.{shown};
 
-use crate::plan::{Line, OwnedLine, OwnedPlan, Plan};
+use crate::lines::Places;
+use crate::plan::{OwnedPlan, Plan};
+use contract_words::Items;
 use ice_manifest::Entry;
-use ice_value::Items;
 use std::alloc::{AllocError, Global};
 
 impl<'a> Plan<'a> {
-    /// The same plan, copied out of the state.
+    /// The same plan, copied out of the state: each file once.
     pub fn keep(&self, alloc: Global) -> Result<OwnedPlan, AllocError>
         ensures { IfOk result (λ plan. plan ≡ self.now) }
     {
         Ok(OwnedPlan {
-            lines: copied_lines(alloc, &self.lines)?,
+            files: copied_entries(alloc, &self.files)?,
+            deletes: copied_entries(alloc, &self.deletes)?,
+            places: copied_places(alloc, &self.places)?,
         })
     }
 }
 
-fn copied_lines(alloc: Global, lines: &[Line<'_>]) -> Result<Vec<OwnedLine>, AllocError>
-    ensures { IfOk result (λ copied. copied.items ≡ map shown lines.now) }
+fn copied_entries(alloc: Global, entries: &[&Entry]) -> Result<Vec<Entry>, AllocError>
+    ensures { IfOk result (λ copied. copied.items ≡ map (λ d. d.now) entries.now) }
 {
-    let mut copied = Vec::new(alloc);
-    'lines: for line in lines {
-        copied.push(copied_line(alloc, line)?)?;
-    }
-    Ok(copied)
-}
-
-fn copied_line(alloc: Global, line: &Line<'_>) -> Result<OwnedLine, AllocError>
-    ensures { IfOk result (λ copied. copied ≡ shown line.now) }
-{
-    Ok(OwnedLine {
-        file: line.file.copy(alloc)?,
-        positions: copied_entries(alloc, &line.positions)?,
-        equalities: copied_entries(alloc, &line.equalities)?,
-    })
-}
-
-fn copied_entries(alloc: Global, entries: &[&Entry]) -> Result<Items<Entry>, AllocError>
-    ensures { IfOk result (λ copied. copied ≡ map (λ d. d.now) entries.now) }
-{
-    let mut copied = Items::new(alloc);
+    let mut copied = Vec::with_capacity(alloc, entries.len())?;
     'entries: for entry in entries {
         copied.push(entry.copy(alloc)?)?;
     }
     Ok(copied)
+}
+
+fn copied_places(alloc: Global, lines: &[Places]) -> Result<Vec<Places>, AllocError>
+    ensures { IfOk result (λ copied. copied.items ≡ lines.now) }
+{
+    let mut copied = Vec::with_capacity(alloc, lines.len())?;
+    'lines: for line in lines {
+        copied.push(Places {
+            positions: copied_numbers(alloc, line.positions.as_slice())?,
+            equalities: copied_numbers(alloc, line.equalities.as_slice())?,
+        })?;
+    }
+    Ok(copied)
+}
+
+fn copied_numbers(alloc: Global, numbers: &[usize]) -> Result<Items<usize>, AllocError>
+    ensures { IfOk result (λ copied. copied ≡ numbers.now) }
+{
+    Ok(Items::from_vec(numbers.to_vec(alloc)?))
 }

@@ -1,42 +1,54 @@
 //! Laws of contents and plans, in words of their own. Their functions do nothing.
 
-ghost use Rattle.std.specs.Prelude.{◌≡◌, ◌≤◌, ◌↔◌, ℕ, ℤ, Ok, Err, IsSome, List, [], ◌∷◌, Bool, true, map, filter, Contains};
-ghost use Rattle.std.specs.List.{flat_map};
+ghost use Rattle.std.specs.Prelude.{◌≡◌, ◌<◌, ◌≤◌, ◌↔◌, ℕ, ℤ, Err, IsSome, List, [], ◌∷◌, Bool, true, false, length, map, filter, slice_index_or, Contains};
+ghost use Rattle.std.specs.List.{flat_map, AllByRecursion};
 ghost use Rattle.std.specs.List.Sorted.{IsSortedBy};
 ghost use Rattle.ice_meta.specs.declared.spec.Spec.{Spec};
 ghost use Rattle.ice_manifest.specs.declared.entry.Entry.{Entry};
-ghost use Rattle.ice_manifest.specs.declared.entry.FileContent.TheVariants.{Data, PositionDeletes, EqualityDeletes};
+ghost use Rattle.ice_manifest.specs.declared.entry.Live.{Live};
+ghost use Rattle.ice_manifest.specs.Manifests.{entries};
+ghost use Rattle.ice_value.specs.declared.file_content.FileContent.TheVariants.{Data, PositionDeletes, EqualityDeletes};
 ghost use Rattle.ice_manifest.specs.declared.row.Row.{Row};
 ghost use Rattle.ice_state.specs.declared.fault.FinishFault.{FinishFault};
 ghost use Rattle.ice_state.specs.declared.fault.FinishFault.TheVariants.{PathTwice};
 ghost use Rattle.ice_state.specs.declared.fault.ScanFault.TheVariants.{NoSuchSpec};
-ghost use Rattle.ice_state.specs.declared.plan.OwnedLine.{OwnedLine};
+ghost use Rattle.ice_state.specs.declared.pruning.Pruning.{Pruning};
 ghost use Rattle.ice_state.specs.Applying.{Applies, applies};
 ghost use Rattle.ice_state.specs.Contents.{Content, World, content};
+ghost use Rattle.ice_state.specs.Covering.{FieldType, AreCovered, HasSoundSummaries};
 ghost use Rattle.ice_state.specs.Joins.{Agree, join, either};
+ghost use Rattle.ice_state.specs.Lines.{OwnedLine};
 ghost use Rattle.ice_state.specs.Outcomes.{by_path, plan_over, twice, outcome};
-ghost use Rattle.ice_state.specs.Pruning.{Pruner, holds, kept};
-ghost use Rattle.ice_state.specs.Runs.{Run, IsIn, TakeTheSame, after};
-ghost use Rattle.ice_state.specs.Scans.{Scanned, pruner, spec_of, row_before, scan_of, IsFirstUnknown};
+ghost use Rattle.ice_state.specs.Pruning.{Pruner, pruner_of, holds, kept, IsOpen};
+ghost use Rattle.ice_state.specs.Runs.{Run, IsIn, TakeTheSame, takes, taken, after};
+ghost use Rattle.ice_state.specs.Scans.{Scanned, pruner, row_before, scan_of, IsScanOf, IsFirstUnknown};
 ghost use Rattle.ice_state.specs.Shares.{IsLeastShared, count_at};
-ghost use Rattle.ice_state.specs.Snapshots.{IsOpen, AreCovered, AreCoveredBy, kept_of_wanted};
+ghost use Rattle.ice_state.specs.Snapshots.{live, AreKeptWanted, kept_of_wanted};
+ghost use Rattle.ice_state.specs.Specs.{spec_of};
 
 /// A scan wants exactly the rows that its filter wants, in the order of their paths, and each of its rows has a spec. It
 /// is refused for the row with the least path among those whose spec is missing.
 pub fn scanning()
-    ensures wanted { (rows : List Row) (specs : List Spec) (scan : Scanned) (row : Row) → scan_of rows specs ≡ Ok scan →
+    ensures wanted { (rows : List Row) (specs : List Spec) (scan : Scanned) (row : Row) → IsScanOf rows specs scan →
         (Contains scan.wanted row ↔ (Contains rows row × ((pruner scan).wants row ≡ true))) }
-    ensures sorted { (rows : List Row) (specs : List Spec) (scan : Scanned) → scan_of rows specs ≡ Ok scan →
+    ensures sorted { (rows : List Row) (specs : List Spec) (scan : Scanned) → IsScanOf rows specs scan →
         IsSortedBy row_before scan.wanted }
-    ensures known { (rows : List Row) (specs : List Spec) (scan : Scanned) (row : Row) → scan_of rows specs ≡ Ok scan →
-        Contains rows row → IsSome (spec_of specs row.spec) }
-    ensures refused { (rows : List Row) (specs : List Spec) (id : ℤ) → scan_of rows specs ≡ Err (NoSuchSpec id) →
-        (row : Row) × IsFirstUnknown specs rows id row }
+    ensures known { (rows : List Row) (specs : List Spec) (scan : Scanned) (row : Row) → IsScanOf rows specs scan →
+        Contains rows row → IsSome (spec_of specs row.spec_id) }
+    ensures same_specs { (rows : List Row) (specs : List Spec) (scan : Scanned) (id : ℤ) → IsScanOf rows specs scan →
+        spec_of scan.specs id ≡ spec_of specs id }
+    ensures refused { (rows : List Row) (specs : List Spec) (pruning : Pruning) (id : ℤ) →
+        scan_of rows specs pruning ≡ Err (NoSuchSpec id) → (row : Row) × IsFirstUnknown specs rows id row }
 {}
 
-/// What was taken fixes the content: two runs of takes that took the same rows of one world, in whatever order and
-/// however often, end in one content, and so in one outcome.
+/// What was taken fixes the content: after a tree of takes and merges over any number of states it is the content of the
+/// world and of the rows that were taken. So trees that took the same rows, in whatever order, however often and on
+/// however many states, end in one content and in one outcome.
 pub fn sharing()
+    ensures content { (world : World) (scan : Scanned) (run : Run) →
+        IsIn world scan run → after scan run ≡ content world scan (taken scan run) }
+    ensures rows { (scan : Scanned) (run : Run) (i : ℕ) → i < length scan.wanted →
+        slice_index_or (taken scan run) i false ≡ takes run i }
     ensures contents { (world : World) (scan : Scanned) (run other : Run) →
         IsIn world scan run → IsIn world scan other → TakeTheSame run other → after scan run ≡ after scan other }
     ensures outcomes { (world : World) (scan : Scanned) (run other : Run) →
@@ -64,24 +76,35 @@ pub fn applying()
 pub fn planning()
     ensures files { (deletes xs : List Entry) → map (λ line. line.file) (plan_over deletes xs) ≡ filter (holds Data) xs }
     ensures positions { (deletes xs : List Entry) (line : OwnedLine) (d : Entry) → Contains (plan_over deletes xs) line →
-        (Contains line.positions d ↔ (Contains deletes d × ((d.content ≡ PositionDeletes) × Applies line.file d))) }
+        (Contains line.positions d ↔ (Contains deletes d × ((d.file.content ≡ PositionDeletes) × Applies line.file d))) }
     ensures equalities { (deletes xs : List Entry) (line : OwnedLine) (d : Entry) → Contains (plan_over deletes xs) line →
-        (Contains line.equalities d ↔ (Contains deletes d × ((d.content ≡ EqualityDeletes) × Applies line.file d))) }
+        (Contains line.equalities d ↔ (Contains deletes d × ((d.file.content ≡ EqualityDeletes) × Applies line.file d))) }
 {}
 
-/// Of any filter under which the rows are covered: the kept entries of the wanted rows are those of all rows, and the
-/// plan over the kept entries is the plan over the live entries of all rows.
+/// Of any filter under which each row with a kept entry is wanted: the kept entries of the wanted rows are those of all
+/// rows, and the plan over the kept entries is the plan over the live entries of all rows.
 pub fn pruning()
-    ensures entries { (p : Pruner) (live : Row → List Entry) (rows : List Row) → AreCoveredBy p live rows →
+    ensures same_entries { (p : Pruner) (live : Row → List Live) (rows : List Row) → AreKeptWanted p live rows →
         kept p (flat_map live rows) ≡ kept_of_wanted p live rows }
-    ensures plans { (p : Pruner) (live : Row → List Entry) (rows : List Row) → IsOpen p → AreCoveredBy p live rows →
-        plan_over (by_path (flat_map live rows)) (by_path (kept_of_wanted p live rows)) ≡
-        plan_over (by_path (kept_of_wanted p live rows)) (by_path (kept_of_wanted p live rows)) }
+    ensures plans { (p : Pruner) (world : World) (specs : List Spec) (rows : List Row) → IsOpen specs p →
+        AreKeptWanted p (live world specs) rows →
+        plan_over (by_path (entries (flat_map (live world specs) rows))) (by_path (kept_of_wanted p (live world specs) rows)) ≡
+        plan_over (by_path (kept_of_wanted p (live world specs) rows)) (by_path (kept_of_wanted p (live world specs) rows)) }
 {}
 
-/// Without a filter every row is covered.
+/// Where the summaries tell the truth and the test of summaries is right, each row with a kept entry is wanted. What a
+/// scan leaves out is tested so, and its projection through a spec without partitions is true wherever another is.
 pub fn covering()
-    ensures { (world : World) (scan : Scanned) (rows : List Row) → AreCovered world scan rows }
+    ensures wanted { (type_of : FieldType) (p : Pruner) (world : World) (specs : List Spec) (rows : List Row) →
+        HasSoundSummaries type_of specs p → AreCovered type_of world specs rows → AreKeptWanted p (live world specs) rows }
+    ensures sound { (type_of : FieldType) (specs : List Spec) (p : Pruning) → HasSoundSummaries type_of specs (pruner_of p) }
+    ensures open_where_unpartitioned { (specs : List Spec) (p : Pruning) → IsOpen specs (pruner_of p) }
+{}
+
+/// Specs without fields have rows that tell the truth, whatever their summaries say.
+pub fn covering_without_fields()
+    ensures { (type_of : FieldType) (world : World) (specs : List Spec) (rows : List Row) →
+        AllByRecursion (λ spec. spec.fields ≡ []) specs → AreCovered type_of world specs rows }
 {}
 
 /// The first of the paths that neighbours share is the least that two entries share, and there is none only where no

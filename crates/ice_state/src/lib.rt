@@ -6,14 +6,18 @@ mod fault;
 mod finish;
 mod keep;
 pub mod laws;
+mod lines;
 mod partial;
 mod plan;
+mod pruning;
 mod reading;
 mod scan;
 #[cfg(test)]
 mod tests;
 
 pub use fault::{FinishFault, ScanFault};
+pub use lines::{Line, Lines, PlanFile, PlanFiles};
 pub use partial::Partial;
-pub use plan::{Line, OwnedLine, OwnedPlan, Plan};
+pub use plan::{OwnedPlan, Plan};
+pub use pruning::Pruning;
 pub use scan::Scan;

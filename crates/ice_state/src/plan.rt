@@ -1,76 +1,72 @@
 //! Plans: lent from a state, or owned.
 
-ghost use Rattle.std.specs.Prelude.{◌≡◌, map};
-ghost use Rattle.ice_state.specs.Shown.{shown};
+ghost use Rattle.std.specs.Prelude.{◌≡◌};
 
+use crate::lines::{Files, Lines, Places};
 use ice_manifest::Entry;
-use ice_value::Items;
 use std::marker::Model;
 
-/// A data file, with the delete files that apply to it.
-#[derive(Debug, Drop)]
-pub struct Line<'a> {
-    pub file: &'a Entry,
-    /// Position delete files, by path.
-    pub positions: Vec<&'a Entry>,
-    /// Equality delete files, by path.
-    pub equalities: Vec<&'a Entry>,
-}
-
-/// The data files that a scan has to read, by path. It is lent from the state that it was finished from.
+/// The data files that a scan has to read, by path, each with the delete files that apply to it. It is lent from the
+/// state that it was finished from.
 #[derive(Debug, Drop)]
 pub struct Plan<'a> {
-    pub(crate) lines: Vec<Line<'a>>,
+    pub(crate) files: Vec<&'a Entry>,
+    pub(crate) deletes: Vec<&'a Entry>,
+    pub(crate) places: Vec<Places>,
 }
 
 impl<'a> Model for Plan<'a> {
     ghost use Rattle.std.specs.Prelude.{List, map};
-    ghost use Rattle.ice_state.specs.declared.plan.OwnedLine.{OwnedLine};
+    ghost use Rattle.ice_state.specs.Lines.{OwnedLine, lines_at, AreLinesOf};
 
     ghost Value = { List OwnedLine };
 
-    ghost use Rattle.ice_state.specs.Shown.{shown};
+    ghost view = { λ p. lines_at (map (λ x. x.now) p.deletes.items) (map (λ x. x.now) p.files.items) p.places.items };
 
-    ghost view = { λ p. map shown p.lines.items };
+    ghost invariant = { λ p. AreLinesOf (map (λ x. x.now) p.files.items) (map (λ x. x.now) p.deletes.items) p.places.items };
 }
 
 impl<'a> Plan<'a> {
-    pub fn lines(&self) -> &[Line<'a>]
-        ensures { map shown result.now ≡ self.now }
+    /// Its lines.
+    pub fn lines(&self) -> Lines<'_>
+        ensures { result ≡ self.now }
     {
-        self.lines.as_slice()
+        Lines {
+            files: Files::lent(&self.files),
+            deletes: Files::lent(&self.deletes),
+            places: &self.places,
+        }
     }
 }
 
-/// A data file, with the delete files that apply to it.
-#[derive(Debug, Drop)]
-pub struct OwnedLine {
-    pub file: Entry,
-    /// Position delete files, by path.
-    pub positions: Items<Entry>,
-    /// Equality delete files, by path.
-    pub equalities: Items<Entry>,
-}
-
-/// A plan that owns its entries.
+/// A plan that owns its files, each once, in however many lines a delete file stands.
 #[derive(Debug, Drop)]
 pub struct OwnedPlan {
-    pub(crate) lines: Vec<OwnedLine>,
+    pub(crate) files: Vec<Entry>,
+    pub(crate) deletes: Vec<Entry>,
+    pub(crate) places: Vec<Places>,
 }
 
 impl Model for OwnedPlan {
     ghost use Rattle.std.specs.Prelude.{List};
-    ghost use Rattle.ice_state.specs.declared.plan.OwnedLine.{OwnedLine};
+    ghost use Rattle.ice_state.specs.Lines.{OwnedLine, lines_at, AreLinesOf};
 
     ghost Value = { List OwnedLine };
 
-    ghost view = { λ p. p.lines.items };
+    ghost view = { λ p. lines_at p.deletes.items p.files.items p.places.items };
+
+    ghost invariant = { λ p. AreLinesOf p.files.items p.deletes.items p.places.items };
 }
 
 impl OwnedPlan {
-    pub fn lines(&self) -> &[OwnedLine]
-        ensures { result.now ≡ self.now }
+    /// Its lines.
+    pub fn lines(&self) -> Lines<'_>
+        ensures { result ≡ self.now }
     {
-        &self.lines
+        Lines {
+            files: Files::owned(&self.files),
+            deletes: Files::owned(&self.deletes),
+            places: &self.places,
+        }
     }
 }

@@ -2,10 +2,12 @@
 
 ghost use Rattle.std.specs.Prelude.{◌≡◌, IfOk};
 ghost use Rattle.ice_state.specs.Parts.{reading_by};
+ghost use Rattle.ice_state.specs.Pruning.{pruner_of, kept};
 
-use ice_manifest::{Entry, ManifestFault, Row, read_manifest};
+use crate::pruning::Pruning;
+use contract_words::Items;
+use ice_manifest::{Entry, Live, ManifestFault, Row, read_manifest};
 use ice_meta::Spec;
-use ice_value::Items;
 use std::alloc::{AllocError, Global};
 
 /// What a manifest gave: its kept entries in the order of their positions, or why it can't be read.
@@ -15,13 +17,59 @@ pub enum Reading {
     Bad(ManifestFault),
 }
 
+impl Reading {
+    /// The same reading.
+    pub fn copy(&self, alloc: Global) -> Result<Reading, AllocError>
+        ensures { IfOk result (λ copied. copied ≡ self.now) }
+    {
+        match self {
+            Reading::Good(entries) => Ok(Reading::Good(copied_entries(alloc, entries.as_slice())?)),
+            Reading::Bad(fault) => Ok(Reading::Bad(fault.copy(alloc)?)),
+        }
+    }
+}
+
+fn copied_entries(alloc: Global, entries: &[Entry]) -> Result<Items<Entry>, AllocError>
+    ensures { IfOk result (λ copied. copied ≡ entries.now) }
+{
+    let mut copied = Vec::with_capacity(alloc, entries.len())?;
+    'entries: for entry in entries {
+        copied.push(entry.copy(alloc)?)?;
+    }
+    Ok(Items::from_vec(copied))
+}
+
 /// What a row's manifest with these bytes gives, read by its spec.
-pub fn read(alloc: Global, row: &Row, spec: &Spec, bytes: &[u8]) -> Result<Reading, AllocError>
-    ensures { IfOk result (λ reading. reading ≡ reading_by spec.now row.now bytes.now) }
+pub fn read(
+    alloc: Global,
+    pruning: &Pruning,
+    row: &Row,
+    spec: &Spec,
+    bytes: &[u8],
+) -> Result<Reading, AllocError>
+    requires { spec.now.id ≡ row.now.spec_id }
+    ensures { IfOk result (λ reading. reading ≡ reading_by (pruner_of pruning.now) spec.now row.now bytes.now) }
 {
     match read_manifest(alloc, row, spec, bytes) {
-        Ok(entries) => Ok(Reading::Good(Items::from_vec(entries))),
+        Ok(live) => Ok(Reading::Good(kept_entries(alloc, pruning, live)?)),
         Err(ManifestFault::Memory) => Err(AllocError),
         Err(fault) => Ok(Reading::Bad(fault)),
     }
+}
+
+/// Those of the live entries that are kept, without their bounds.
+fn kept_entries(
+    alloc: Global,
+    pruning: &Pruning,
+    live: Vec<Live>,
+) -> Result<Items<Entry>, AllocError>
+    ensures { IfOk result (λ entries. entries ≡ kept (pruner_of pruning.now) live.items) }
+{
+    let mut entries = Vec::with_capacity(alloc, live.len())?;
+    'live: for found in live {
+        if pruning.keeps(&found) {
+            entries.push(found.entry)?;
+        }
+    }
+    Ok(Items::from_vec(entries))
 }

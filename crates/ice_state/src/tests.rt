@@ -4,10 +4,11 @@
 ghost use Rattle.std.specs.Prelude.{◌<◌, IfOk, length, vec_len};
 ghost use Rattle.ice_state.specs.Contents.{IsOf};
 
-use crate::{FinishFault, Partial, Scan, ScanFault};
-use ice_manifest::{Entry, ManifestContent, ManifestFault, Row};
+use crate::{FinishFault, Partial, PlanFiles, Pruning, Scan, ScanFault};
+use contract_words::Text;
+use ice_manifest::{Counts, ManifestContent, ManifestFault, Row};
 use ice_meta::Spec;
-use ice_value::Text;
+use ice_value::SequenceNumber;
 use std::alloc::{AllocError, Global};
 use std::test::Fail;
 
@@ -45,15 +46,35 @@ fn manifest(alloc: Global, codec: &[u8], block: &[u8]) -> Result<Vec<u8>, AllocE
     Ok(bytes)
 }
 
+/// A sequence number; 0 for what is none.
+const NO_COUNTS: Counts = Counts {
+    added_files: None,
+    existing_files: None,
+    deleted_files: None,
+    added_rows: None,
+    existing_rows: None,
+    deleted_rows: None,
+};
+
+fn number(number: u64) -> SequenceNumber {
+    match SequenceNumber::new(number) {
+        Some(number) => number,
+        None => SequenceNumber::zero(),
+    }
+}
+
 fn row(alloc: Global, path: &str, spec: i32, sequence_number: u64) -> Result<Row, AllocError> {
+    let sequence_number = number(sequence_number);
     Ok(Row {
         path: Text::from_string(String::from_str(alloc, path)?),
         length: 100,
-        spec,
+        spec_id: spec,
         content: ManifestContent::Data,
         sequence_number,
         min_sequence_number: sequence_number,
         added_snapshot_id: 1,
+        counts: NO_COUNTS,
+        partitions: None,
     })
 }
 
@@ -68,7 +89,7 @@ fn data_rows(alloc: Global, paths: &[&str]) -> Result<Vec<Row>, AllocError> {
 
 fn specs(alloc: Global) -> Result<Vec<Spec>, AllocError> {
     let mut specs = Vec::new(alloc);
-    specs.push(Spec::empty(0))?;
+    specs.push(Spec::empty(alloc, 0))?;
     Ok(specs)
 }
 
@@ -89,7 +110,7 @@ fn data_and_deletes(alloc: Global) -> Result<Case, ScanFault> {
     let mut deletes = row(alloc, "mem://t/m3", 0, 4)?;
     deletes.content = ManifestContent::Deletes;
     rows.push(deletes)?;
-    let scan = Scan::new(alloc, rows, specs(alloc)?)?;
+    let scan = Scan::new(alloc, rows, specs(alloc)?, Pruning::Nothing)?;
     let mut manifests = Vec::new(alloc);
     manifests.push(manifest(alloc, UNCOMPRESSED, DATA)?)?;
     manifests.push(manifest(alloc, UNCOMPRESSED, DELETES)?)?;
@@ -100,7 +121,7 @@ fn data_and_deletes(alloc: Global) -> Result<Case, ScanFault> {
 /// Rows `mem://t/m1` and `mem://t/m2`, which share a path, and `mem://t/m3`, which can't be read.
 fn shared_and_bad(alloc: Global) -> Result<Case, ScanFault> {
     let rows = data_rows(alloc, &["mem://t/m1", "mem://t/m2", "mem://t/m3"])?;
-    let scan = Scan::new(alloc, rows, specs(alloc)?)?;
+    let scan = Scan::new(alloc, rows, specs(alloc)?, Pruning::Nothing)?;
     let mut manifests = Vec::new(alloc);
     manifests.push(manifest(alloc, UNCOMPRESSED, X_AND_Y)?)?;
     manifests.push(manifest(alloc, UNCOMPRESSED, Z_W_AND_X)?)?;
@@ -111,7 +132,7 @@ fn shared_and_bad(alloc: Global) -> Result<Case, ScanFault> {
 /// Rows `mem://t/m1` and `mem://t/m2`, which share a path.
 fn shared(alloc: Global) -> Result<Case, ScanFault> {
     let rows = data_rows(alloc, &["mem://t/m1", "mem://t/m2"])?;
-    let scan = Scan::new(alloc, rows, specs(alloc)?)?;
+    let scan = Scan::new(alloc, rows, specs(alloc)?, Pruning::Nothing)?;
     let mut manifests = Vec::new(alloc);
     manifests.push(manifest(alloc, UNCOMPRESSED, X_AND_Y)?)?;
     manifests.push(manifest(alloc, UNCOMPRESSED, Z_W_AND_X)?)?;
@@ -131,12 +152,46 @@ fn state_after(alloc: Global, case: &Case, order: &[usize]) -> Result<Partial, A
     Ok(state)
 }
 
-fn has_paths(entries: &[&Entry], paths: &[&str]) -> bool {
-    if entries.len() != paths.len() {
+/// The state that took some rows, after it was merged twice with one that took others.
+fn merged(
+    alloc: Global,
+    case: &Case,
+    order: &[usize],
+    other: &[usize],
+) -> Result<Partial, AllocError>
+    ensures { IfOk result (λ state. IsOf case.now.scan state) }
+{
+    let mut state = state_after(alloc, case, order)?;
+    let other = state_after(alloc, case, other)?;
+    state.merge(&other)?;
+    state.merge(&other)?;
+    Ok(state)
+}
+
+/// Whether the plan is that of `data_and_deletes`: equality deletes of the data file's own sequence number do not apply
+/// to it.
+fn has_plan(state: &Partial, scan: &Scan) -> Result<bool, FinishFault>
+    requires { IsOf scan.now state.now }
+{
+    let plan = state.finish(scan)?;
+    let lines = plan.lines();
+    if lines.len() != 1 {
+        return Ok(false);
+    }
+    let line = lines.line(0);
+    Ok(
+        line.file().path() == "mem://t/a.parquet".as_bytes()
+            && has_paths(&line.positions(), &["mem://t/p.parquet"])
+            && has_paths(&line.equalities(), &["mem://t/e.parquet"]),
+    )
+}
+
+fn has_paths(files: &PlanFiles<'_>, paths: &[&str]) -> bool {
+    if files.len() != paths.len() {
         return false;
     }
-    'entries: for (entry, path) in entries.iter().zip(paths) {
-        if entry.path.as_str() != *path {
+    for i in 0..paths.len() {
+        if files.file(i).path() != paths[i].as_bytes() {
             return false;
         }
     }
@@ -165,7 +220,7 @@ fn is_twice(state: &Partial, scan: &Scan, path: &str) -> bool
     requires { IsOf scan.now state.now }
 {
     match state.finish(scan) {
-        Err(FinishFault::PathTwice(twice)) => twice.as_str() == path,
+        Err(FinishFault::PathTwice(twice)) => twice.as_slice() == path.as_bytes(),
         _ => false,
     }
 }
@@ -174,7 +229,7 @@ fn is_twice(state: &Partial, scan: &Scan, path: &str) -> bool
 fn wants_every_row_by_path(rt: HostRuntime) -> Result<(), Fail> {
     let alloc = rt.alloc();
     let rows = data_rows(alloc, &["mem://t/m2", "mem://t/m10", "mem://t/m1"])?;
-    let scan = Scan::new(alloc, rows, specs(alloc)?)?;
+    let scan = Scan::new(alloc, rows, specs(alloc)?, Pruning::Nothing)?;
     let wanted = scan.wanted();
     assert_eq!(rt; wanted.len(), 3);
     assert_eq!(rt; wanted[0].path.as_str(), "mem://t/m1");
@@ -189,7 +244,7 @@ fn names_the_spec_of_the_least_path(rt: HostRuntime) -> Result<(), Fail> {
     let mut rows = data_rows(alloc, &["mem://t/a"])?;
     rows.push(row(alloc, "mem://t/c", 7, 3)?)?;
     rows.push(row(alloc, "mem://t/b", -5, 3)?)?;
-    let fault = Scan::new(alloc, rows, specs(alloc)?).err();
+    let fault = Scan::new(alloc, rows, specs(alloc)?, Pruning::Nothing).err();
     assert_eq!(rt; fault, Some(ScanFault::NoSuchSpec(-5)));
     Ok(())
 }
@@ -197,7 +252,7 @@ fn names_the_spec_of_the_least_path(rt: HostRuntime) -> Result<(), Fail> {
 #[test]
 fn plans_no_file_of_no_row(rt: HostRuntime) -> Result<(), Fail> {
     let alloc = rt.alloc();
-    let scan = Scan::new(alloc, Vec::new(alloc), specs(alloc)?)?;
+    let scan = Scan::new(alloc, Vec::new(alloc), specs(alloc)?, Pruning::Nothing)?;
     let state = Partial::empty(alloc, &scan)?;
     let plan = state.finish(&scan)?;
     assert_eq!(rt; plan.lines().len(), 0);
@@ -205,18 +260,76 @@ fn plans_no_file_of_no_row(rt: HostRuntime) -> Result<(), Fail> {
     Ok(())
 }
 
-/// Equality deletes of the data file's own sequence number do not apply to it.
 #[test]
 fn plans_a_data_file_with_its_deletes(rt: HostRuntime) -> Result<(), Fail> {
     let alloc = rt.alloc();
     let case = data_and_deletes(alloc)?;
-    let state = state_after(alloc, &case, &[2, 0, 1, 0])?;
-    let plan = state.finish(&case.scan)?;
-    assert_eq!(rt; plan.lines().len(), 1);
-    let line = &plan.lines()[0];
-    assert_eq!(rt; line.file.path.as_str(), "mem://t/a.parquet");
-    assert!(rt; has_paths(&line.positions, &["mem://t/p.parquet"]));
-    assert!(rt; has_paths(&line.equalities, &["mem://t/e.parquet"]));
+    let orders: [&[usize]; 3] = [&[2, 0, 1, 0], &[0, 1, 2], &[2, 1, 0]];
+    for order in orders {
+        let state = state_after(alloc, &case, order)?;
+        assert!(rt; has_plan(&state, &case.scan)?);
+    }
+    Ok(())
+}
+
+#[test]
+fn plans_the_same_however_states_are_merged(rt: HostRuntime) -> Result<(), Fail> {
+    let alloc = rt.alloc();
+    let case = data_and_deletes(alloc)?;
+    let shares: [(&[usize], &[usize]); 5] = [
+        (&[0], &[1, 2]),
+        (&[2, 1], &[0]),
+        (&[1, 0], &[0, 2]),
+        (&[], &[2, 1, 0]),
+        (&[0, 1, 2], &[]),
+    ];
+    for (order, other) in shares {
+        let state = merged(alloc, &case, order, other)?;
+        assert!(rt; has_plan(&state, &case.scan)?);
+    }
+    Ok(())
+}
+
+#[test]
+fn keeps_both_origins_and_bad_rows_of_merged_states(rt: HostRuntime) -> Result<(), Fail> {
+    let alloc = rt.alloc();
+    let case = shared(alloc)?;
+    assert!(rt; is_twice(&merged(alloc, &case, &[0], &[1])?, &case.scan, "mem://t/x"));
+    assert!(rt; is_twice(&merged(alloc, &case, &[1], &[0])?, &case.scan, "mem://t/x"));
+    assert!(rt;
+        is_twice(
+            &merged(alloc, &case, &[0], &[1, 0])?,
+            &case.scan,
+            "mem://t/x"
+        )
+    );
+    let case = shared_and_bad(alloc)?;
+    assert!(rt;
+        is_bad(
+            &merged(alloc, &case, &[0], &[2, 1])?,
+            &case.scan,
+            "mem://t/m3"
+        )
+    );
+    assert!(rt;
+        is_bad(
+            &merged(alloc, &case, &[2, 1], &[0])?,
+            &case.scan,
+            "mem://t/m3"
+        )
+    );
+    assert!(rt; is_missing(&merged(alloc, &case, &[0], &[2])?, &case.scan, "mem://t/m2"));
+    Ok(())
+}
+
+#[test]
+fn tells_which_rows_are_taken(rt: HostRuntime) -> Result<(), Fail> {
+    let alloc = rt.alloc();
+    let case = data_and_deletes(alloc)?;
+    let state = state_after(alloc, &case, &[1])?;
+    assert!(rt;
+        !state.is_taken(0) && state.is_taken(1) && !state.is_taken(2) && !state.is_taken(3)
+    );
     Ok(())
 }
 
@@ -227,10 +340,15 @@ fn keeps_a_plan(rt: HostRuntime) -> Result<(), Fail> {
     let state = state_after(alloc, &case, &[0, 1, 2])?;
     let kept = state.finish(&case.scan)?.keep(alloc)?;
     assert_eq!(rt; kept.lines().len(), 1);
-    let line = &kept.lines()[0];
-    assert_eq!(rt; line.file.record_count, 10);
-    assert_eq!(rt; line.file.file_size, 100);
-    assert_eq!(rt; line.equalities.as_slice().len(), 1);
+    let line = kept.lines().line(0);
+    assert_eq!(rt; line.file().spec_id(), 0);
+    assert_eq!(rt; line.file().sequence_number().get(), 3);
+    assert_eq!(rt; line.file().record_count(), 10);
+    assert_eq!(rt; line.file().file_size(), 100);
+    assert!(rt; has_paths(&line.positions(), &["mem://t/p.parquet"]));
+    let equalities = line.equalities();
+    assert_eq!(rt; equalities.len(), 1);
+    assert_eq!(rt; equalities.file(0).equality_ids(), [1].as_slice());
     Ok(())
 }
 
@@ -280,6 +398,25 @@ fn is_taken_at_last(
     Ok(was_missing)
 }
 
+/// Merges, again where a growth was refused, and says whether the state before it still said that a manifest is missing.
+fn is_merged_at_last(
+    state: &mut Partial,
+    case: &Case,
+    other: &Partial,
+    path: &str,
+) -> Result<bool, AllocError>
+    requires of_scan { IsOf case.now.scan state.old }
+    requires other { IsOf case.now.scan other.now }
+    ensures { IsOf case.now.scan state.new }
+{
+    if state.merge(other).is_ok() {
+        return Ok(true);
+    }
+    let was_missing = is_missing(state, &case.scan, path);
+    state.merge(other)?;
+    Ok(was_missing)
+}
+
 /// The number of lines of the plan, also where a growth was refused at first.
 fn lines_at_last(state: &Partial, scan: &Scan) -> Result<usize, FinishFault>
     requires { IsOf scan.now state.now }
@@ -304,6 +441,9 @@ fn a_refused_growth_changes_nothing(rt: HostRuntime) -> Result<(), Fail> {
     };
     assert!(rt; case.scan.wanted().len() == 3 && case.manifests.len() == 3);
     assert!(rt; is_taken_at_last(&mut state, &case, 0, "mem://t/m1")?);
+    if let Ok(other) = state_after(alloc, &case, &[0, 1]) {
+        assert!(rt; is_merged_at_last(&mut state, &case, &other, "mem://t/m2")?);
+    }
     assert!(rt; is_taken_at_last(&mut state, &case, 1, "mem://t/m2")?);
     assert_eq!(rt; lines_at_last(&state, &case.scan)?, 1);
     Ok(())

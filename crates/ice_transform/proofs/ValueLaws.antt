@@ -12,7 +12,8 @@ use Rattle.ice_transform.specs.Cuts.{first_points}
 use Rattle.ice_transform.specs.Floors.{floor_div, floor_to, int_if, long_if}
 use Rattle.ice_transform.specs.Murmur.{bucket_of}
 use Rattle.ice_transform.specs.Years.{year_of, month_of}
-use Rattle.ice_transform.specs.Values.{value_of, typed_value, present_value, bucketed, truncated, day_of, hour_of, has_buckets, hashed_bytes, is_void, takes_any, is_rising, is_at_most}
+use Rattle.ice_value.specs.Cells.{is_at_most}
+use Rattle.ice_transform.specs.Values.{value_of, typed_value, present_value, bucketed, truncated, day_of, hour_of, has_buckets, hashed_bytes, is_void, takes_any, is_rising}
 use Rattle.ice_transform.proofs.Days.{year_of_means, month_of_means, year_units, month_units, le_means, le_shown}
 use Rattle.ice_transform.proofs.Rounded.{unit_mono, truncation_mono}
 use Rattle.ice_transform.proofs.CutOrder.{points_mono, take_mono}

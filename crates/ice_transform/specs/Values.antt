@@ -2,13 +2,11 @@
 use Rattle.std.specs.Prelude.{ℕ, Bool, true, false, ◌||◌, List, Option, None, Some, if◌then◌else◌, ℤ, pos, take}
 use Rattle.std.specs.Option.{option_map, option_and_then}
 use Rattle.std.specs.Int.{w64, to_le_bytes, cast_unsigned}
-use Rattle.std.specs.Ordering.{is_le, is_some_and}
 use Rattle.ice_value.specs.declared.column_type.ColumnType.{ColumnType}
 use Rattle.ice_value.specs.declared.column_type.ColumnType.TheVariants.{Int, Long, Date, Time, Timestamp, Timestamptz, String, Uuid, Fixed, Binary}
 use Rattle.ice_value.specs.declared.cell.Cell.{Cell}
 use Rattle.ice_value.specs.declared.cell.Cell.TheVariants.{Null, Bool as Flag, Whole, Text, Bytes}
 use Rattle.ice_value.specs.Bounds.{is_cell}
-use Rattle.ice_value.specs.Cells.{order}
 use Rattle.ice_transform.specs.declared.transform.Transform.{Transform}
 use Rattle.ice_transform.specs.declared.transform.Transform.TheVariants.{Identity, Bucket, Truncate, Year, Month, Day, Hour, Void, Unknown}
 use Rattle.ice_transform.specs.Cuts.{first_points}
@@ -133,7 +131,3 @@ is_rising (Bucket buckets) = false
 is_rising Void = false
 is_rising (Unknown text) = false
 is_rising _ = true
-
--- both cells are of one kind, and the first isn't greater
-abbrev pub is_at_most : Cell → Cell → Bool
-is_at_most a b = is_some_and is_le (order a b)

@@ -5,13 +5,13 @@ ghost use Rattle.std.specs.List.{starts_with};
 ghost use Rattle.std.specs.Str.{IsUtf8, chars};
 ghost use Rattle.std.specs.declared.cmp.Ordering.TheVariants.{Equal};
 ghost use Rattle.ice_value.specs.Bounds.{is_cell};
-ghost use Rattle.ice_value.specs.Cells.{order};
+ghost use Rattle.ice_value.specs.Cells.{order, is_at_most};
 ghost use Rattle.ice_value.specs.declared.cell.Cell.{Cell};
 ghost use Rattle.ice_value.specs.declared.column_type.ColumnType.{ColumnType};
 ghost use Rattle.ice_transform.specs.Cuts.{first_points, has_points};
 ghost use Rattle.ice_transform.specs.Definitions.{IsValueOf};
 ghost use Rattle.ice_transform.specs.Names.{IsNamed, IsOfText, name_of};
-ghost use Rattle.ice_transform.specs.Values.{value_of, type_of, is_void, takes_any, is_rising, is_at_most};
+ghost use Rattle.ice_transform.specs.Values.{value_of, type_of, is_void, takes_any, is_rising};
 ghost use Rattle.ice_transform.specs.declared.parameter.Parameter.{Parameter};
 ghost use Rattle.ice_transform.specs.declared.transform.Transform.{Transform};
 

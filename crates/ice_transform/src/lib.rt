@@ -18,4 +18,5 @@ pub use laws::{
 };
 pub use murmur::murmur3;
 pub use parameter::Parameter;
+pub use texts::has_points;
 pub use transform::Transform;

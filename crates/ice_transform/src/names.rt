@@ -8,7 +8,7 @@ ghost use Rattle.ice_transform.specs.declared.parameter.Parameter.{Parameter};
 
 use crate::parameter::Parameter;
 use crate::transform::Transform;
-use ice_value::Text;
+use contract_words::Text;
 use std::alloc::{AllocError, Global};
 
 /// The number after one more digit, where it fits.

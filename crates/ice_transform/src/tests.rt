@@ -1,5 +1,6 @@
-use crate::{Parameter, Transform, murmur3};
-use ice_value::{Cell, ColumnType, Items, Text};
+use crate::{Parameter, Transform, has_points, murmur3};
+use contract_words::{Duplicate, Items, Text};
+use ice_value::{Cell, ColumnType};
 use std::alloc::{AllocError, Global};
 use std::process::Abort;
 use std::test::Fail;
@@ -515,4 +516,14 @@ fn result_types(rt: HostRuntime) -> Result<(), Fail> {
     assert!(rt; Transform::Void.result_type(&decimal) == Some(ColumnType::Int));
     assert!(rt; Transform::parse(alloc, "zorder")?.result_type(&ColumnType::Int) == None);
     Ok(())
+}
+
+#[test]
+fn counted_points(rt: HostRuntime) {
+    assert!(rt; has_points("", 0));
+    assert!(rt; !has_points("", 1));
+    assert!(rt; has_points("ice", 3));
+    assert!(rt; !has_points("ice", 4));
+    assert!(rt; has_points("\u{e9}\u{10348}", 2));
+    assert!(rt; !has_points("\u{e9}\u{10348}", 3));
 }

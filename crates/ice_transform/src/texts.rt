@@ -1,8 +1,8 @@
 //! Texts and byte strings cut to a width.
 
-ghost use Rattle.std.specs.Prelude.{◌≡◌, ◌≤◌, length, take};
-ghost use Rattle.std.specs.Str.{continuation_len};
-ghost use Rattle.ice_transform.specs.Cuts.{first_points};
+ghost use Rattle.std.specs.Prelude.{◌≡◌, ◌≤◌, ◌↔◌, IsTrue, length, take};
+ghost use Rattle.std.specs.Str.{continuation_len, chars};
+ghost use Rattle.ice_transform.specs.Cuts.{first_points, has_points};
 
 /// How many bytes follow the first byte of a code point.
 fn follow(lead: u8) -> u8
@@ -45,6 +45,21 @@ pub fn first_points(text: &str, width: usize) -> &str
 {
     let end = cut_length(text.as_bytes(), width);
     &text[..end]
+}
+
+/// How many code points the text has.
+fn count_points(text: &str) -> usize
+    ensures { result ≡ length (chars text.now) }
+{
+    text.chars().count()
+}
+
+/// Whether the text has at least so many code points.
+pub fn has_points(text: &str, width: usize) -> bool
+    ensures test { result ≡ has_points width text.now }
+    ensures means { IsTrue result ↔ (width ≤ length (chars text.now)) }
+{
+    count_points(text) >= width
 }
 
 /// The first bytes.

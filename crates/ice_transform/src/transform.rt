@@ -16,7 +16,8 @@ use crate::murmur::bucket_of;
 use crate::names::{known, numbered_name, plain_name};
 use crate::parameter::Parameter;
 use crate::texts::{first_bytes, first_points};
-use ice_value::{Cell, ColumnType, Items, Text};
+use contract_words::{Duplicate, Items, Text};
+use ice_value::{Cell, ColumnType};
 use std::alloc::{AllocError, Global};
 
 /// How a partition field's value comes from a column's value.

@@ -1,4 +1,4 @@
+pub mod Deletes
 pub mod Orders
 pub mod RoundTrip
-pub mod Sorted
 pub mod Texts

@@ -1,12 +1,13 @@
 -- The order of cells.
-use Rattle.std.proofs.Common.{◌≡◌, ℕ, ◌<◌, ℤ, ◌<ℤ◌, true, false, List, [], ◌∷◌, Some, refl, ap}
+use Rattle.std.proofs.Common.{◌≡◌, ◌<◌, true, false, Some, None, refl, sym, ap, ◌∙◌, arith, Option}
 use Rattle.std.specs.Option.{option_map}
 use Rattle.std.specs.declared.cmp.Ordering.{Ordering}
 use Rattle.std.specs.declared.cmp.Ordering.TheVariants.{Less as Below, Equal, Greater}
-use Rattle.std.specs.Ordering.{ordering_reverse, nat_cmp, int_cmp, ordering_then, MatchOrdering}
-use Rattle.std.specs.Cmp.Lexicographic.{slice_cmp}
-use Rattle.std.proofs.lemmas.Cmp.{int_ranked, ranked, tied_itself, nat_list_cmp_total, int_cmp_total}
-use Rattle.ice_value.specs.Cells.{order, AreOfOneKind}
+use Rattle.std.specs.Ordering.{ordering_reverse, is_le, is_gt, is_some_and}
+use Rattle.std.specs.Cmp.{IsTotalOrder}
+use Rattle.std.proofs.lemmas.Cmp.{upto, tied_itself, nat_list_cmp_total, int_cmp_total}
+use Rattle.ice_value.specs.Cells.{order, AreOfOneKind, cell_cmp, kind_of, is_at_most}
+use Rattle.ice_value.specs.Equality.{int_same, list_same}
 use Rattle.ice_value.specs.declared.cell.Cell.{Cell}
 use Rattle.ice_value.specs.declared.cell.Cell.TheVariants.{Null, Bool as Flag, Whole, Text, Bytes}
 
@@ -17,35 +18,6 @@ itself (Whole z) h = ap Some (tied_itself int_cmp_total z)
 itself (Text bs) h = ap Some (tied_itself nat_list_cmp_total bs)
 itself (Bytes bs) h = ap Some (tied_itself nat_list_cmp_total bs)
 itself Null h = absurd h
-
-int_same : (a b : ℤ) → int_cmp a b ≡ Equal → a ≡ b
-int_same a b h = same_from _ (int_ranked a b (int_cmp a b) refl) h where
-  same_from : (o : Ordering) → MatchOrdering o (a <ℤ b) (a ≡ b) (b <ℤ a) → o ≡ Equal → a ≡ b
-  same_from Equal m h = m
-  same_from Below m h = cc
-  same_from Greater m h = cc
-
-nat_same : (a b : ℕ) → nat_cmp a b ≡ Equal → a ≡ b
-nat_same a b h = same_from _ (ranked a b (nat_cmp a b) refl) h where
-  same_from : (o : Ordering) → MatchOrdering o (a < b) (a ≡ b) (b < a) → o ≡ Equal → a ≡ b
-  same_from Equal m h = m
-  same_from Below m h = cc
-  same_from Greater m h = cc
-
-then_equal : (o q : Ordering) → ordering_then o q ≡ Equal → (o ≡ Equal) × (q ≡ Equal)
-then_equal Equal q h = (refl, h)
-then_equal Below q h = absurd cc
-then_equal Greater q h = absurd cc
-
-list_same : (a b : List ℕ) → slice_cmp nat_cmp a b ≡ Equal → a ≡ b
-list_same [] [] h = refl
-list_same [] (y ∷ b) h = absurd cc
-list_same (x ∷ a) [] h = absurd cc
-list_same (x ∷ a) (y ∷ b) h =
-    let parts = then_equal (nat_cmp x y) (slice_cmp nat_cmp a b) h in
-    let first = nat_same x y parts.0 in
-    let rest = list_same a b parts.1 in
-    cc
 
 some_is : {X : Type 0} (x y : X) → Some x ≡ Some y → x ≡ y
 some_is x y h = cc
@@ -82,3 +54,63 @@ less (Whole a) (Whole b) (Whole c) h k = ap Some (int_cmp_total.trans a b c (som
 less (Text a) (Text b) (Text c) h k = ap Some (nat_list_cmp_total.trans a b c (some_is _ _ h) (some_is _ _ k))
 less (Bytes a) (Bytes b) (Bytes c) h k = ap Some (nat_list_cmp_total.trans a b c (some_is _ _ h) (some_is _ _ k))
 less _ _ _ h k = absurd cc
+
+-- cells of one kind keep their order
+pub of_one_kind : (a b : Cell) → AreOfOneKind a b → order a b ≡ Some (cell_cmp a b)
+of_one_kind (Flag a) (Flag b) h = refl
+of_one_kind (Whole a) (Whole b) h = refl
+of_one_kind (Text a) (Text b) h = refl
+of_one_kind (Bytes a) (Bytes b) h = refl
+of_one_kind _ _ h = absurd h
+
+pub of_kinds : (a b : Cell) → kind_of a < kind_of b → cell_cmp a b ≡ Below
+of_kinds Null Null h = absurd (omega arith)
+of_kinds (Flag a) (Flag b) h = absurd (omega arith)
+of_kinds (Whole a) (Whole b) h = absurd (omega arith)
+of_kinds (Text a) (Text b) h = absurd (omega arith)
+of_kinds (Bytes a) (Bytes b) h = absurd (omega arith)
+of_kinds Null _ h = refl
+of_kinds (Flag a) Null h = absurd (omega arith)
+of_kinds (Flag a) _ h = refl
+of_kinds (Whole a) (Text b) h = refl
+of_kinds (Whole a) (Bytes b) h = refl
+of_kinds (Text a) (Bytes b) h = refl
+of_kinds _ _ h = absurd (omega arith)
+
+at_most_itself : (o : Option Ordering) → o ≡ Some Equal → is_some_and is_le o ≡ true
+at_most_itself o h = ap (is_some_and is_le) h
+
+pub up_to_itself : (a : Cell) → AreOfOneKind a a → is_at_most a a ≡ true
+up_to_itself a h = at_most_itself (order a a) (itself a h)
+
+le_not_gt : (o : Ordering) → is_le o ≡ true → is_gt o ≡ false
+le_not_gt Below h = refl
+le_not_gt Equal h = refl
+le_not_gt Greater h = absurd cc
+
+not_gt_le : (o : Ordering) → is_gt o ≡ false → is_le o ≡ true
+not_gt_le Below h = refl
+not_gt_le Equal h = refl
+not_gt_le Greater h = absurd cc
+
+chained : {K : Type 0} {R : K → K → Ordering} → IsTotalOrder R → (x y z : K) → is_le (R x y) ≡ true → is_le (R y z) ≡ true → is_le (R x z) ≡ true
+chained {K} {R} o x y z h k = not_gt_le (R x z) (upto o x y z (le_not_gt (R x y) h) (le_not_gt (R y z) k))
+
+pub up_to_further : (a b c : Cell) → is_at_most a b ≡ true → is_at_most b c ≡ true → is_at_most a c ≡ true
+up_to_further (Flag false) (Flag b) (Flag false) h k = refl
+up_to_further (Flag false) (Flag b) (Flag true) h k = refl
+up_to_further (Flag true) (Flag true) (Flag c) h k = k
+up_to_further (Flag true) (Flag false) (Flag c) h k = absurd cc
+up_to_further (Whole a) (Whole b) (Whole c) h k = chained int_cmp_total a b c h k
+up_to_further (Text a) (Text b) (Text c) h k = chained nat_list_cmp_total a b c h k
+up_to_further (Bytes a) (Bytes b) (Bytes c) h k = chained nat_list_cmp_total a b c h k
+up_to_further _ _ _ h k = absurd cc
+
+equal_both_ways : (o : Option Ordering) → is_some_and is_le o ≡ true → is_some_and is_le (option_map ordering_reverse o) ≡ true → o ≡ Some Equal
+equal_both_ways (Some Below) h k = absurd cc
+equal_both_ways (Some Equal) h k = refl
+equal_both_ways (Some Greater) h k = absurd cc
+equal_both_ways None h k = absurd cc
+
+pub up_to_both : (a b : Cell) → is_at_most a b ≡ true → is_at_most b a ≡ true → a ≡ b
+up_to_both a b h k = no_other a b (equal_both_ways (order a b) h (sym (ap (is_some_and is_le) (turned a b)) ∙ k))

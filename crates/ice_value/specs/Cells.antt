@@ -1,12 +1,14 @@
 -- The order of values of one type (Apache Iceberg table spec v2, "Scan planning": bounds are compared as values;
 -- strings and binary values by unsigned bytes, false before true).
-use Rattle.std.specs.Prelude.{Bool, true, false, Option, None, Some}
+use Rattle.std.specs.Prelude.{Bool, true, false, ℕ, Option, None, Some, List, unwrap_or}
 use Rattle.std.specs.declared.cmp.Ordering.{Ordering}
 use Rattle.std.specs.declared.cmp.Ordering.TheVariants.{Less, Equal, Greater}
-use Rattle.std.specs.Ordering.{nat_cmp, int_cmp}
-use Rattle.std.specs.Cmp.Lexicographic.{slice_cmp}
+use Rattle.std.specs.Ordering.{nat_cmp, int_cmp, int_eq, is_le, is_some_and}
+use Rattle.std.specs.Cmp.Lexicographic.{slice_cmp, pointwise}
+use Rattle.std.specs.Str.{bytes_eq}
+use Rattle.std.proofs.Math.Bool.{beq}
 use Rattle.ice_value.specs.declared.cell.Cell.{Cell}
-use Rattle.ice_value.specs.declared.cell.Cell.TheVariants.{Bool as Flag, Whole, Text, Bytes}
+use Rattle.ice_value.specs.declared.cell.Cell.TheVariants.{Null, Bool as Flag, Whole, Text, Bytes}
 
 -- false comes before true
 abbrev pub flag_cmp : Bool → Bool → Ordering
@@ -30,3 +32,36 @@ AreOfOneKind (Whole a) (Whole b) = Unit {0}
 AreOfOneKind (Text a) (Text b) = Unit {0}
 AreOfOneKind (Bytes a) (Bytes b) = Unit {0}
 AreOfOneKind _ _ = ⊥
+
+-- both cells are null, or of one kind with one value
+abbrev pub same_cell : Cell → Cell → Bool
+same_cell Null Null = true
+same_cell (Flag a) (Flag b) = beq a b
+same_cell (Whole a) (Whole b) = int_eq a b
+same_cell (Text a) (Text b) = bytes_eq a b
+same_cell (Bytes a) (Bytes b) = bytes_eq a b
+same_cell _ _ = false
+
+-- as many cells, the same at each place
+abbrev pub same_tuple : List Cell → List Cell → Bool
+same_tuple a b = pointwise same_cell a b
+
+-- both cells are of one kind, and the first isn't greater
+abbrev pub is_at_most : Cell → Cell → Bool
+is_at_most a b = is_some_and is_le (order a b)
+
+-- the place of a cell's kind among the kinds: null, truths, whole numbers, texts, byte strings
+abbrev pub kind_of : Cell → ℕ
+kind_of Null = 0
+kind_of (Flag a) = 1
+kind_of (Whole a) = 2
+kind_of (Text a) = 3
+kind_of (Bytes a) = 4
+
+-- the order of any two cells: within a kind that of the values, else that of the kinds
+abbrev pub cell_cmp : Cell → Cell → Ordering
+cell_cmp a b = unwrap_or (order a b) (nat_cmp (kind_of a) (kind_of b))
+
+-- the order of tuples: that of the first cells that differ, and what ends first comes first
+abbrev pub tuple_cmp : List Cell → List Cell → Ordering
+tuple_cmp a b = slice_cmp cell_cmp a b

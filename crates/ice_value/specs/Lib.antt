@@ -1,4 +1,5 @@
+pub mod Applying
 pub mod Bounds
 pub mod Cells
 pub mod Columns
-pub mod Sorting
+pub mod Equality

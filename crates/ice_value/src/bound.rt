@@ -11,8 +11,7 @@ ghost use Rattle.ice_value.specs.declared.column_type.ColumnType.{ColumnType};
 
 use crate::cell::Cell;
 use crate::column_type::ColumnType;
-use crate::items::Items;
-use crate::text::Text;
+use contract_words::{Items, Text};
 use std::alloc::{AllocError, Global};
 use std::cmp::Ordering;
 

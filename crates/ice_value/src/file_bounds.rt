@@ -4,7 +4,7 @@ ghost use Rattle.std.specs.Prelude.{◌≡◌, IfOk};
 ghost use Rattle.std.specs.Option.{option_copied};
 ghost use Rattle.ice_value.specs.Columns.{count_of, bound_of};
 
-use crate::items::Items;
+use contract_words::{Duplicate, Items};
 use std::alloc::{AllocError, Global};
 
 /// What a manifest list says about one partition field over all files of a manifest. Bounds are single values in bytes,
@@ -21,11 +21,8 @@ pub struct Summary {
     pub upper: Option<Items<u8>>,
 }
 
-impl Summary {
-    /// The same summary.
-    pub fn copy(&self, alloc: Global) -> Result<Summary, AllocError>
-        ensures { IfOk result (λ copied. copied ≡ self.now) }
-    {
+impl Duplicate for Summary {
+    fn copy(&self, alloc: Global) -> Result<Summary, AllocError> {
         Ok(Summary {
             contains_null: self.contains_null,
             contains_nan: self.contains_nan,

@@ -2,18 +2,23 @@
 //! contracts compare them.
 #![tactic(auto)]
 
+mod applying;
 mod bound;
 mod cell;
 mod column_type;
 mod file_bounds;
-mod items;
+mod file_content;
+mod sequence_number;
 #[cfg(test)]
 mod tests;
-mod text;
 
+pub use applying::applying_of_deletes;
 pub use bound::{compare_bound, read_bound, single_values, write_bound};
-pub use cell::{Cell, order_of_cells};
+pub use cell::{
+    Cell, cells_up_to_others, equality_of_cells, is_same_tuple, order_of_cells,
+    total_order_of_cells,
+};
 pub use column_type::ColumnType;
 pub use file_bounds::{ColumnBound, ColumnCount, FileBounds, Summary};
-pub use items::Items;
-pub use text::Text;
+pub use file_content::FileContent;
+pub use sequence_number::SequenceNumber;

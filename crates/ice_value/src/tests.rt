@@ -1,7 +1,8 @@
 use crate::{
-    Cell, ColumnBound, ColumnCount, ColumnType, FileBounds, Items, Summary, Text, compare_bound,
-    read_bound, write_bound,
+    Cell, ColumnBound, ColumnCount, ColumnType, FileBounds, SequenceNumber, Summary, compare_bound,
+    is_same_tuple, read_bound, write_bound,
 };
+use contract_words::{Duplicate, Items, Text};
 use std::alloc::{AllocError, Global};
 use std::cmp::Ordering;
 use std::process::Abort;
@@ -96,6 +97,20 @@ fn check_order(rt: &impl Abort, cells: &[Cell]) {
             assert!(rt; a.order(b) == Some(i.cmp(&j)));
         }
     }
+}
+
+/// Cells of all kinds, in their order.
+fn check_total_order(rt: &impl Abort, cells: &[Cell]) {
+    for (i, a) in cells.iter().enumerate() {
+        for (j, b) in cells.iter().enumerate() {
+            assert!(rt; a.cmp(b) == i.cmp(&j));
+        }
+    }
+}
+
+fn check_tuples(rt: &impl Abort, cells: &[Cell]) {
+    assert!(rt; is_same_tuple(cells, cells));
+    assert!(rt; !is_same_tuple(cells, &[]));
 }
 
 fn check_apart(rt: &impl Abort, cells: &[Cell], others: &[Cell]) {
@@ -437,5 +452,34 @@ fn columns_by_id(rt: HostRuntime) -> Result<(), Fail> {
         None => assert!(rt; false),
     }
     assert!(rt; file.upper_bound(3).is_none());
+    Ok(())
+}
+
+#[test]
+fn sequence_numbers(rt: HostRuntime) -> Result<(), Fail> {
+    let last = SequenceNumber::new(9_223_372_036_854_775_807).ok_or("a long")?;
+    assert!(rt; last.get() == 9_223_372_036_854_775_807);
+    assert!(rt; SequenceNumber::new(9_223_372_036_854_775_808).is_none());
+    assert!(rt; SequenceNumber::zero().get() == 0);
+    assert!(rt; SequenceNumber::zero() < last);
+    Ok(())
+}
+
+#[test]
+fn all_cells_in_order(rt: HostRuntime) -> Result<(), Fail> {
+    let alloc = rt.alloc();
+    let cells = [
+        Cell::Null,
+        Cell::Bool(false),
+        Cell::Bool(true),
+        Cell::Whole(-1),
+        Cell::Whole(0),
+        text(alloc, "")?,
+        text(alloc, "b")?,
+        bytes(alloc, &[])?,
+        bytes(alloc, b"a")?,
+    ];
+    check_total_order(&rt, &cells);
+    check_tuples(&rt, &cells);
     Ok(())
 }

@@ -2,7 +2,6 @@ pub mod Escapes
 pub mod Lines
 pub mod Lookups
 pub mod Refusals
+pub mod Sends
 pub mod Steps
-pub mod Texts
-pub mod Turns
 pub mod Writes

@@ -1,8 +1,11 @@
 -- The steps of a list plan, and why each of them may end the run.
-use Rattle.std.proofs.Common.{◌≡◌, ◌≢◌, ◌<◌, ◌≤◌, ℕ, suc, List, [], ◌∷◌, length, get_or, drop, drop-cons, refl, sym, ap, subst, ◌∙◌, true, Option, Some, None, is_some, inl, inr}
+use Rattle.std.proofs.Common.{◌≡◌, ◌≢◌, ◌⊎◌, ℕ, zero, suc, false, List, [], ◌∷◌, length, replicate, refl, sym, ap, subst, ◌∙◌, true, Option, Some, None, is_some, inl, inr}
 use Rattle.std.specs.Prelude.{Result, Ok, Err, filter}
-use Rattle.std.proofs.lemmas.List.{drop_all}
-use Rattle.avro_schema.specs.Outcome.{◌>>=◌}
+use Rattle.contract_words.specs.Outcome.{◌>>=◌}
+use Rattle.ice_desk.specs.declared.fault.WantedFault.{WantedFault}
+use Rattle.ice_desk.specs.declared.fault.WantedFault.TheVariants as wanted
+use Rattle.ice_desk.specs.Wanted.{IsContentOf, MayStop, paths_of, reads_of, untaken}
+use Rattle.ice_desk.specs.Worlds.{EndsAt, EndsAtAbsent}
 use Rattle.ice_state.specs.Contents.{World}
 use Rattle.ice_meta.specs.declared.spec.Spec.{Spec}
 use Rattle.ice_manifest.specs.declared.fault.ListFault.{ListFault}
@@ -13,15 +16,19 @@ use Rattle.ice_state.specs.declared.fault.ScanFault.{ScanFault}
 use Rattle.ice_state.specs.declared.fault.ScanFault.TheVariants as scan
 use Rattle.ice_state.specs.declared.fault.FinishFault.{FinishFault}
 use Rattle.ice_state.specs.declared.fault.FinishFault.TheVariants as finish
-use Rattle.ice_state.specs.declared.plan.OwnedLine.{OwnedLine}
-use Rattle.ice_state.specs.Contents.{HasEach}
-use Rattle.ice_state.specs.Pruning.{everything}
-use Rattle.ice_state.specs.Scans.{Scanned, scan_of, unless_missing, without_spec, by_row_path}
+use Rattle.ice_state.specs.Lines.{OwnedLine}
+use Rattle.ice_state.specs.Contents.{Content, HasEach, content, no_row}
+use Rattle.ice_state.specs.declared.pruning.Pruning.{Pruning}
+use Rattle.ice_state.specs.declared.pruning.Pruning.TheVariants.{Nothing}
+use Rattle.ice_state.specs.Pruning.{everything, pruner_of}
+use Rattle.ice_state.specs.Specs.{by_id}
+use Rattle.std.specs.List.{AllByRecursion}
+use Rattle.ice_state.specs.Scans.{Scanned, IsScanOf, scan_of, unless_missing, without_spec, by_row_path, wanted_rows}
 use Rattle.ice_state.specs.Snapshots.{plan_of_snapshot}
 use Rattle.icescan.specs.declared.fault.RunFault.{RunFault}
 use Rattle.icescan.specs.declared.fault.RunFault.TheVariants as run
-use Rattle.icescan.specs.Faults.{of_list, of_scan, of_finish}
-use Rattle.icescan.specs.ListPlans.{MayEnd, MayFailAt, as_run, or_absent, file_in, rows_in, scan_in, scan_at, all_present, paths_of, wanted_of, plan_in, reads, specs_of, answer}
+use Rattle.icescan.specs.Faults.{of_list, of_scan, of_finish, of_wanted}
+use Rattle.icescan.specs.ListPlans.{MayEnd, as_run, or_absent, file_in, rows_in, scan_in, scan_at, all_present, wanted_of, plan_in, reads, specs_of, answer}
 
 module _ (r : List ℕ → Type 0) (w : Type 0) where
   -- a step's fault is the run's
@@ -61,16 +68,21 @@ module _ (r : List ℕ → Type 0) (w : Type 0) where
   pub then_ends : {A B : Type 0} (read : Result A RunFault) (next : A → Result B RunFault) (x : A) (e : RunFault) → read ≡ Ok x → MayEnd (next x) r w e → MayEnd (read >>= next) r w e
   then_ends read next x e is h = subst (λ s. MayEnd (s >>= next) r w e) (sym is) h
 
--- what a scan's specs are
-specs_kept : (rows : List Row) (specs : List Spec) (made : Scanned) → scan_of rows specs ≡ Ok made → made.specs ≡ specs
-specs_kept rows specs made h =
-    let all : Scanned = record { wanted = filter everything.wants (by_row_path rows); specs = specs } in
-    let P : (xs : List Row) → unless_missing xs all ≡ Ok made → all ≡ made =
-    λ xs. elim xs as (λ v. unless_missing v all ≡ Ok made → all ≡ made) [ [] ↦ λ e. cc | row ∷ rest ↦ λ e. cc ] in
-    sym (ap (λ (s : Scanned). s.specs) (P (without_spec specs (by_row_path rows)) h))
+-- the scan leaves out what it was made to leave out
+pub scan_again : (rows : List Row) (specs : List Spec) (made : Scanned) → scan_of rows specs Nothing ≡ Ok made → made.pruning ≡ Nothing
+scan_again rows specs made h = kept (without_spec specs (by_row_path rows)) (record { wanted = wanted_rows (pruner_of Nothing) (by_row_path rows); specs = by_id specs; pruning = Nothing }) refl h
+  where
+    kept : (xs : List Row) (all : Scanned) → all.pruning ≡ Nothing → unless_missing xs all ≡ Ok made → made.pruning ≡ Nothing
+    kept [] all p e = let q : all ≡ made = cc in subst (λ (s : Scanned). s.pruning ≡ Nothing) q p
+    kept (row ∷ rest) all p e = absurd cc
 
-pub scan_again : (rows : List Row) (specs : List Spec) (made : Scanned) → scan_of rows specs ≡ Ok made → scan_of rows made.specs ≡ Ok made
-scan_again rows specs made h = ap (λ s. scan_of rows s) (specs_kept rows specs made h) ∙ h
+pub is_scan_of : (rows : List Row) (specs : List Spec) (made : Scanned) → scan_of rows specs Nothing ≡ Ok made → IsScanOf rows specs made
+is_scan_of rows specs made h = subst (λ (p : Pruning). scan_of rows specs p ≡ Ok made) (sym (scan_again rows specs made h)) h
+
+-- specs without fields
+pub are_without_fields : (rows : List Row) → AllByRecursion (λ spec. spec.fields ≡ []) (specs_of rows)
+are_without_fields [] = tt
+are_without_fields (row ∷ rows) = (refl, are_without_fields rows)
 
 -- a file that is there
 pub found_in : (world : World) (path bytes : List ℕ) → world path ≡ Some bytes → file_in world path ≡ Ok bytes
@@ -93,59 +105,82 @@ step_present : (world : World) (path : List ℕ) (found : Option (List ℕ)) (re
 step_present world path None rest h = absurd cc
 step_present world path (Some x) rest h = (refl, h)
 
+is_present : (world : World) (path : List ℕ) (found : Option (List ℕ)) (rest : Result Unit RunFault) → is_some found ≡ true → rest ≡ Ok tt → (or_absent path found >>= λ _. rest) ≡ Ok tt
+is_present world path None rest h k = absurd cc
+is_present world path (Some x) rest h k = k
+
 -- where each is present, the world has each
 pub has_each : (world : World) (rows : List Row) → all_present world rows ≡ Ok tt → HasEach world rows
 unfolding all_present file_in
 has_each world [] h = tt
 has_each world (row ∷ rows) h = let p = step_present world row.path (world row.path) (all_present world rows) h in (p.0, has_each world rows p.1)
 
-pub present_more : (world : World) (row : Row) (rows : List Row) (bytes : List ℕ) → file_in world row.path ≡ Ok bytes → all_present world (row ∷ rows) ≡ all_present world rows
-unfolding all_present
-present_more world row rows bytes h = rw h refl
+pub each_present : (world : World) (rows : List Row) → HasEach world rows → all_present world rows ≡ Ok tt
+unfolding all_present file_in
+each_present world [] h = refl
+each_present world (row ∷ rows) h = is_present world row.path (world row.path) (all_present world rows) h.0 (each_present world rows h.1)
 
-pub present_none : (world : World) (rows : List Row) (i : ℕ) → length rows ≤ i → all_present world (drop i rows) ≡ Ok tt
-unfolding all_present
-present_none world rows i h = rw (drop_all i rows h) refl
+-- a state in which no row was taken lacks all rows
+pub untaken_all : (rows : List Row) → untaken (replicate (length rows) None) rows ≡ rows
+untaken_all [] = refl
+untaken_all (row ∷ rows) = ap (λ (rest : List Row). row ∷ rest) (untaken_all rows)
 
--- the row that stands at i, and those behind it
-pub row_next : (rows : List Row) (i : ℕ) (row : Row) → i < length rows → row ≡ get_or rows i row → drop i rows ≡ row ∷ drop (suc i) rows
-row_next rows i row l h = drop-cons rows i row l ∙ ap (λ (x : Row). x ∷ drop (suc i) rows) (sym h)
+-- a state in which no row was taken has the content of no row
+pub nothing_taken : (world : World) (made : Scanned) (c : Content) → c ≡ content world made (no_row made) → IsContentOf world made c (no_row made)
+nothing_taken world made c h = record { flags = flags (length made.wanted); is = h }
+  where
+    flags : (n : ℕ) → length (replicate n false) ≡ n
+    flags zero = refl
+    flags (suc n) = ap suc (flags n)
+
+absent_next : (world : World) (next path : List ℕ) (found : Option (List ℕ)) (rest : Result Unit RunFault) → ((path ≡ next) × (found ≡ None)) ⊎ ((is_some found ≡ true) × (rest ≡ Err (run.Absent path))) → (or_absent next found >>= λ _. rest) ≡ Err (run.Absent path)
+absent_next world next path None rest (inl h) = ap (λ p. Err (run.Absent p)) (sym h.0)
+absent_next world next path None rest (inr h) = absurd cc
+absent_next world next path (Some x) rest (inl h) = absurd cc
+absent_next world next path (Some x) rest (inr h) = h.1
+
+-- the first that is absent is the fault
+absent_of : (world : World) (rows : List Row) (path : List ℕ) → EndsAtAbsent world (paths_of rows) path → all_present world rows ≡ Err (run.Absent path)
+unfolding all_present file_in
+absent_of world [] path h = absurd h
+absent_of world (row ∷ rows) path (inl h) = absent_next world row.path path (world row.path) (all_present world rows) (inl (h.0, ap world (sym h.0) ∙ h.1))
+absent_of world (row ∷ rows) path (inr h) = absent_next world row.path path (world row.path) (all_present world rows) (inr (h.0, absent_of world rows path h.1))
 
 -- where the first of these reads fails
-only_first : (world : World) (f : List ℕ → Type 0) (next : List ℕ) (paths : List (List ℕ)) (path : List ℕ) → MayFailAt world f (next ∷ []) path → MayFailAt world f (next ∷ paths) path
+only_first : (world : World) (f : List ℕ → Type 0) (next : List ℕ) (paths : List (List ℕ)) (path : List ℕ) → EndsAt world f (next ∷ []) path → EndsAt world f (next ∷ paths) path
 only_first world f next paths path (inl h) = inl h
 only_first world f next paths path (inr h) = absurd h.1
 
-pub fails_here : (world : World) (f : List ℕ → Type 0) (path : List ℕ) → f path → MayFailAt world f (path ∷ []) path
+pub fails_here : (world : World) (f : List ℕ → Type 0) (path : List ℕ) → f path → EndsAt world f (path ∷ []) path
 fails_here world f path h = inl (refl, h)
 
 -- where a later one fails
-pub fails_later : (world : World) (f : List ℕ → Type 0) (next bytes : List ℕ) (paths : List (List ℕ)) (path : List ℕ) → file_in world next ≡ Ok bytes → MayFailAt world f paths path → MayFailAt world f (next ∷ paths) path
+pub fails_later : (world : World) (f : List ℕ → Type 0) (next bytes : List ℕ) (paths : List (List ℕ)) (path : List ℕ) → file_in world next ≡ Ok bytes → EndsAt world f paths path → EndsAt world f (next ∷ paths) path
 fails_later world f next bytes paths path has h = inr (ap is_some (bytes_in world next bytes has), h)
 
 -- reads that never fail
-pub never_fails : (world : World) (paths : List (List ℕ)) (path : List ℕ) → MayFailAt world (λ _. ⊥) paths path → ⊥
+pub never_fails : (world : World) (paths : List (List ℕ)) (path : List ℕ) → EndsAt world (λ _. ⊥) paths path → ⊥
 never_fails world [] path h = h
 never_fails world (next ∷ paths) path (inl h) = h.1
 never_fails world (next ∷ paths) path (inr h) = never_fails world paths path h.1
 
-module _ (world : World) (f : List ℕ → Type 0) (r : List ℕ → Type 0) where
-  pub present_ends : (row : Row) (rows : List Row) (e : RunFault) → ((path : List ℕ) → MayFailAt world f (paths_of (row ∷ rows)) path → r path) → MayEnd (file_in world row.path) (MayFailAt world f (row.path ∷ [])) ⊥ e → MayEnd (all_present world (row ∷ rows)) r ⊥ e
-  unfolding all_present
-  present_ends row rows e stops h =
-      first_ends r ⊥ (MayFailAt world f (row.path ∷ [])) (file_in world row.path) (λ _. all_present world rows) e (λ path m. stops path (only_first world f row.path (paths_of rows) path m)) h
+module _ (world : World) (f : List ℕ → Type 0) where
+  pub stops_end : (rows : List Row) (e : WantedFault) → MayStop world f (paths_of rows) e → MayEnd (all_present world rows) (EndsAt world f (paths_of rows)) ⊥ (of_wanted e)
+  stops_end rows (wanted.Absent path) h = absent_of world rows path h
+  stops_end rows (wanted.Device path) h = h
+  stops_end rows wanted.Memory h = tt
 
 -- the whole run
 module _ (f : List ℕ → Type 0) (w : Type 0) (world : World) (path : List ℕ) where
   abbrev stops : List ℕ → Type 0
-  stops = MayFailAt world f (reads world path)
+  stops = EndsAt world f (reads world path)
 
   same : (p : List ℕ) → stops p → stops p
   same p h = h
 
-  pub list_file_ends : (e : RunFault) → MayEnd (file_in world path) (MayFailAt world f (path ∷ [])) ⊥ e → MayEnd (answer world path) stops w e
+  pub list_file_ends : (e : RunFault) → MayEnd (file_in world path) (EndsAt world f (path ∷ [])) ⊥ e → MayEnd (answer world path) stops w e
   unfolding answer reads
-  list_file_ends e h = first_ends stops w (MayFailAt world f (path ∷ [])) (file_in world path) _ e (λ p m. only_first world f path (wanted_of (scan_at world path)) p m) h
+  list_file_ends e h = first_ends stops w (EndsAt world f (path ∷ [])) (file_in world path) _ e (λ p m. only_first world f path (wanted_of (scan_at world path)) p m) h
 
   module _ (bytes : List ℕ) (has : file_in world path ≡ Ok bytes) where
     pub rows_end : (e : ListFault) → (e ≢ list.Memory → rows_of bytes ≡ Err e) → MayEnd (answer world path) stops w (of_list e)
@@ -157,13 +192,13 @@ module _ (f : List ℕ → Type 0) (w : Type 0) (world : World) (path : List ℕ
       unfolding rows_in
       rows_are = ap (as_run of_list) is
 
-      pub scan_end : (e : ScanFault) → (e ≢ scan.Memory → scan_of rows (specs_of rows) ≡ Err e) → MayEnd (answer world path) stops w (of_scan e)
+      pub scan_end : (e : ScanFault) → (e ≢ scan.Memory → scan_of rows (specs_of rows) Nothing ≡ Err e) → MayEnd (answer world path) stops w (of_scan e)
       unfolding answer scan_in
       scan_end e h =
           then_ends stops w (file_in world path) _ bytes (of_scan e) has
-          (then_ends stops w (rows_in bytes) _ rows (of_scan e) rows_are (first_ends stops w stops (scan_in rows) _ (of_scan e) same (scan_ends stops ⊥ (scan_of rows (specs_of rows)) e h)))
+          (then_ends stops w (rows_in bytes) _ rows (of_scan e) rows_are (first_ends stops w stops (scan_in rows) _ (of_scan e) same (scan_ends stops ⊥ (scan_of rows (specs_of rows) Nothing) e h)))
 
-      module _ (made : Scanned) (scanned : scan_of rows (specs_of rows) ≡ Ok made) where
+      module _ (made : Scanned) (scanned : scan_of rows (specs_of rows) Nothing ≡ Ok made) where
         scan_is : scan_in rows ≡ Ok made
         unfolding scan_in
         scan_is = ap (as_run of_scan) scanned
@@ -173,26 +208,29 @@ module _ (f : List ℕ → Type 0) (w : Type 0) (world : World) (path : List ℕ
         scan_there = rw (has, rows_are, scan_is) refl
 
         -- a wanted manifest that can't be read stands behind the list
-        behind : (p : List ℕ) → MayFailAt world f (paths_of made.wanted) p → stops p
+        behind : (p : List ℕ) → EndsAt world f (paths_of made.wanted) p → stops p
         unfolding reads
-        behind p h = fails_later world f path bytes (wanted_of (scan_at world path)) p has (subst (λ s. MayFailAt world f (wanted_of s) p) (sym scan_there) h)
+        behind p h = fails_later world f path bytes (wanted_of (scan_at world path)) p has (subst (λ s. EndsAt world f (wanted_of s) p) (sym scan_there) h)
 
-        pub wanted_end : (e : RunFault) → MayEnd (all_present world made.wanted) (MayFailAt world f (paths_of made.wanted)) ⊥ e → MayEnd (answer world path) stops w e
+        wanted_end : (e : RunFault) → MayEnd (all_present world made.wanted) (EndsAt world f (paths_of made.wanted)) ⊥ e → MayEnd (answer world path) stops w e
         unfolding answer
         wanted_end e h =
             then_ends stops w (file_in world path) _ bytes e has
             (then_ends stops w (rows_in bytes) _ rows e rows_are
-            (then_ends stops w (scan_in rows) _ made e scan_is (first_ends stops w (MayFailAt world f (paths_of made.wanted)) (all_present world made.wanted) _ e behind h)))
+            (then_ends stops w (scan_in rows) _ made e scan_is (first_ends stops w (EndsAt world f (paths_of made.wanted)) (all_present world made.wanted) _ e behind h)))
+
+        pub taking_ends : (e : WantedFault) → MayStop world f (reads_of made (replicate (length made.wanted) None)) e → MayEnd (answer world path) stops w (of_wanted e)
+        taking_ends e h = wanted_end (of_wanted e) (stops_end world f made.wanted e (subst (λ rows. MayStop world f (paths_of rows) e) (untaken_all made.wanted) h))
 
         module _ (present : all_present world made.wanted ≡ Ok tt) where
-          answer_is : answer world path ≡ plan_in world made rows
+          answer_is : answer world path ≡ plan_in world rows
           unfolding answer
           answer_is = rw (has, rows_are, scan_is, present) refl
 
-          pub plan_end : (e : FinishFault) → (e ≢ finish.Memory → plan_of_snapshot world made rows ≡ Err e) → MayEnd (answer world path) stops w (of_finish e)
+          pub plan_end : (e : FinishFault) → (e ≢ finish.Memory → plan_of_snapshot everything world (specs_of rows) rows ≡ Err e) → MayEnd (answer world path) stops w (of_finish e)
           unfolding plan_in
-          plan_end e h = subst (λ a. MayEnd a stops w (of_finish e)) (sym answer_is) (finish_ends stops w (plan_of_snapshot world made rows) e h)
+          plan_end e h = subst (λ a. MayEnd a stops w (of_finish e)) (sym answer_is) (finish_ends stops w (plan_of_snapshot everything world (specs_of rows) rows) e h)
 
-          pub plan_is : (plan : List OwnedLine) → plan_of_snapshot world made rows ≡ Ok plan → answer world path ≡ Ok plan
+          pub plan_is : (plan : List OwnedLine) → plan_of_snapshot everything world (specs_of rows) rows ≡ Ok plan → answer world path ≡ Ok plan
           unfolding plan_in
           plan_is plan h = answer_is ∙ ap (as_run of_finish) h

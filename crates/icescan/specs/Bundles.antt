@@ -3,7 +3,7 @@ use Rattle.std.specs.Prelude.{ℕ, ◌+◌, ◌==◌, List, [], ◌∷◌, ◌++
 use Rattle.std.specs.Result.{result_ok}
 use Rattle.std.specs.Str.{bytes_eq, is_utf8}
 use Rattle.hex.specs.Hex.{decode_of}
-use Rattle.avro_schema.specs.Outcome.{◌>>=◌}
+use Rattle.contract_words.specs.Outcome.{◌>>=◌}
 use Rattle.icescan.specs.Escaping.{unescaped}
 use Rattle.icescan.specs.declared.fault.RunFault.{RunFault}
 use Rattle.icescan.specs.declared.fault.RunFault.TheVariants.{Bundle}

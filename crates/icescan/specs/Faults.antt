@@ -12,6 +12,8 @@ use Rattle.ice_state.specs.declared.fault.ScanFault.{ScanFault}
 use Rattle.ice_state.specs.declared.fault.ScanFault.TheVariants as scan
 use Rattle.ice_state.specs.declared.fault.FinishFault.{FinishFault}
 use Rattle.ice_state.specs.declared.fault.FinishFault.TheVariants as finish
+use Rattle.ice_desk.specs.declared.fault.WantedFault.{WantedFault}
+use Rattle.ice_desk.specs.declared.fault.WantedFault.TheVariants as wanted
 use Rattle.icescan.specs.declared.fault.RunFault.{RunFault}
 use Rattle.icescan.specs.declared.fault.RunFault.TheVariants as run
 
@@ -27,6 +29,11 @@ of_scan fault = run.Scan fault
 abbrev pub of_finish : FinishFault → RunFault
 of_finish finish.Memory = run.Memory
 of_finish fault = run.Finish fault
+
+abbrev pub of_wanted : WantedFault → RunFault
+of_wanted (wanted.Absent path) = run.Absent path
+of_wanted (wanted.Device path) = run.Device path
+of_wanted wanted.Memory = run.Memory
 
 -- a fault in which memory ran out, however deep
 abbrev pub schema_wants_memory : SchemaFault → Bool

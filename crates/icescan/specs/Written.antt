@@ -17,3 +17,11 @@ pub record Wrote {X : Type 0} (taken : X → Option (List ℕ)) (may_fail : X �
   pub front : OnErr result (AppendsFront (taken old) (taken new) text)
   pub cause : OnErr result (may_fail old)
   pub still : may_fail new → may_fail old
+
+-- What a call sent of a text to a sink, behind pieces that wait: what the sink took and what waits now are together
+-- what waited before and the text. Where a write failed, the sink took a front of these.
+pub record Sent {X : Type 0} (taken : X → Option (List ℕ)) (may_fail : X → Type 0) (old : X) (waits : List ℕ) (result : Result Unit SinkFault) (new : X) (waits' : List ℕ) (text : List ℕ) : Type 0 where
+  pub all : OnOk result ((sent : List ℕ) × Appends (taken old) (taken new) sent × (sent ++ waits' ≡ waits ++ text))
+  pub front : OnErr result (AppendsFront (taken old) (taken new) (waits ++ text))
+  pub cause : OnErr result (may_fail old)
+  pub still : may_fail new → may_fail old

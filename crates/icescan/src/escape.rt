@@ -26,7 +26,7 @@ fn put_front<S: Sink>(sink: &mut S, bytes: &[u8]) -> Result<usize, SinkFault>
     ensures err { IfErr result (λ e. Wrote S.taken S.may_fail sink.old (Err e) sink.new (escaped bytes.now)) }
 {
     if is_escaped(bytes[0]) {
-        put_digits(sink, bytes[0])?;
+        write_all(sink, &digits_of(bytes[0]))?;
         return Ok(1);
     }
     let plain = count_plain(bytes);
@@ -35,7 +35,7 @@ fn put_front<S: Sink>(sink: &mut S, bytes: &[u8]) -> Result<usize, SinkFault>
 }
 
 /// How many bytes stand before the first that has to be escaped.
-fn count_plain(bytes: &[u8]) -> usize
+pub fn count_plain(bytes: &[u8]) -> usize
     ensures within { result ≤ length bytes.now }
     ensures plain { escaped (take result bytes.now) ≡ take result bytes.now }
     ensures stops { result < length bytes.now → is_escaped (slice_index bytes.now result) ≡ true }
@@ -47,15 +47,12 @@ fn count_plain(bytes: &[u8]) -> usize
     count
 }
 
-/// Writes a byte that has to be escaped by its digits.
-fn put_digits<S: Sink>(sink: &mut S, byte: u8) -> Result<(), SinkFault>
+/// The digits by which texts show a byte that has to be escaped.
+pub fn digits_of(byte: u8) -> [u8; 4]
     requires { is_escaped byte ≡ true }
-    ensures { Wrote S.taken S.may_fail sink.old result sink.new (escaped_byte byte) }
+    ensures { result ≡ escaped_byte byte }
 {
-    write_all(
-        sink,
-        &[b'\\', b'x', hex_digit(byte / 16), hex_digit(byte % 16)],
-    )
+    [b'\\', b'x', hex_digit(byte / 16), hex_digit(byte % 16)]
 }
 
 /// Whether texts show this byte by its digits.

@@ -1,15 +1,16 @@
 //! Why the program ends without a plan.
 
 ghost use Rattle.std.specs.Prelude.{◌≡◌};
-ghost use Rattle.icescan.specs.Faults.{of_list, of_scan, of_finish, refused_status, schema_wants_memory, avro_wants_memory, list_wants_memory, manifest_wants_memory, scan_wants_memory, finish_wants_memory, status_of};
+ghost use Rattle.icescan.specs.Faults.{of_list, of_scan, of_finish, of_wanted, refused_status, schema_wants_memory, avro_wants_memory, list_wants_memory, manifest_wants_memory, scan_wants_memory, finish_wants_memory, status_of};
 ghost use Rattle.icescan.specs.declared.fault.RunFault.TheVariants as run;
 
 use crate::sink::SinkFault;
 use avro_file::AvroFault;
 use avro_schema::SchemaFault;
+use contract_words::Text;
+use ice_desk::WantedFault;
 use ice_manifest::{ListFault, ManifestFault};
 use ice_state::{FinishFault, ScanFault};
-use ice_value::Text;
 use std::alloc::{AllocError, AllocFailed};
 
 /// The first fault of a run.
@@ -90,6 +91,18 @@ impl From<FinishFault> for RunFault {
         match fault {
             FinishFault::Memory => RunFault::Memory,
             fault => RunFault::Finish(fault),
+        }
+    }
+}
+
+impl From<WantedFault> for RunFault {
+    ghost from_gives = { λ fault e. e ≡ of_wanted fault };
+
+    fn from(fault: WantedFault) -> RunFault {
+        match fault {
+            WantedFault::Absent(path) => RunFault::Absent(path),
+            WantedFault::Device(path) => RunFault::Device(path),
+            WantedFault::Memory => RunFault::Memory,
         }
     }
 }

@@ -50,7 +50,7 @@ fn put_finish_fault<S: Sink>(sink: &mut S, fault: &FinishFault) -> Result<(), Si
             write_all(sink, b" ")?;
             put_manifest_fault(sink, fault)
         }
-        FinishFault::PathTwice(path) => put_named_path(sink, b"Z3 PathTwice ", path.as_bytes()),
+        FinishFault::PathTwice(path) => put_named_path(sink, b"Z3 PathTwice ", path.as_slice()),
         FinishFault::Memory => write_all(sink, b"Z4 Memory"),
     }
 }

@@ -1,11 +1,11 @@
-//! Reading standard input.
+//! Reading standard input, or a file, to its end.
 
 ghost use Rattle.std.specs.Prelude.{◌≡◌, ◌⊎◌, ◌<◌, vec_len, IfOk, IfErr, IfSome};
 
 #[cfg(test)]
 mod tests;
 
-use crate::fault::RunFault;
+use ice_desk::ReadFault;
 use std::alloc::{AllocError, Global};
 use std::io::{ErrorKind, Read};
 
@@ -17,23 +17,29 @@ fn room(alloc: Global) -> Result<Vec<u8>, AllocError>
 }
 
 /// All that a reader has left. At most `turns` reads are made: where the last of them does not see the end, or a read
-/// fails, it is `Input`. A read that a signal interrupted is made again, and counts.
-pub fn read_bundle<R: Read>(alloc: Global, reader: &mut R, turns: u64) -> Result<Vec<u8>, RunFault>
+/// fails, it is `Device`. A read that a signal interrupted is made again, and counts.
+pub fn read_all<R: Read>(alloc: Global, reader: &mut R, turns: u64) -> Result<Vec<u8>, ReadFault>
     ensures all { IfOk result (λ bytes. IfSome (R.remaining reader.old) (λ left. bytes.items ≡ left)) }
-    ensures causes { IfErr result (λ e. (e ≡ RunFault.Input) ⊎ (e ≡ RunFault.Memory)) }
+    ensures causes { IfErr result (λ e. (e ≡ ReadFault.Device) ⊎ (e ≡ ReadFault.Memory)) }
 {
+    let Ok(mut room) = room(alloc) else {
+        return Err(ReadFault::Memory);
+    };
     let mut bytes = Vec::new(alloc);
-    let mut room = room(alloc)?;
     for _ in 0..turns {
         match reader.read(&mut room) {
             Ok(0) => return Ok(bytes),
-            Ok(count) => bytes.extend_from_slice(&room[..count])?,
+            Ok(count) => {
+                if bytes.extend_from_slice(&room[..count]).is_err() {
+                    return Err(ReadFault::Memory);
+                }
+            }
             Err(e) => {
                 if e.kind() != ErrorKind::Interrupted {
-                    return Err(RunFault::Input);
+                    return Err(ReadFault::Device);
                 }
             }
         }
     }
-    Err(RunFault::Input)
+    Err(ReadFault::Device)
 }

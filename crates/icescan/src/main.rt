@@ -7,6 +7,7 @@ mod escape;
 mod fault;
 mod fault_text;
 mod input;
+mod page;
 mod pieces;
 mod plan_text;
 mod report;

@@ -1,144 +1,163 @@
-//! The text of a plan.
+//! The text of a plan, sent to a sink piece by piece.
 
-ghost use Rattle.std.specs.Prelude.{◌≡◌, ◌++◌, ◌∷◌, map, sum_by, vec_len, OnOk, IfOk};
+ghost use Rattle.std.specs.Prelude.{◌≡◌, ◌∷◌, sum_by, IfSome};
 ghost use Rattle.std.specs.List.{flat_map};
 ghost use Rattle.std.specs.Fmt.{signed_decimal};
-ghost use Rattle.ice_state.specs.Shown.{shown};
 ghost use Rattle.icescan.specs.PlanTexts.{ids_text, numbered_path, size_text, file_text, position_text, equality_text, line_text, deletes_of, plan_text};
+ghost use Rattle.icescan.specs.Written.{Sent};
 
-#[cfg(test)]
-mod tests;
+use crate::page::Page;
+use crate::sink::{Sink, SinkFault};
+use ice_state::{Line, Lines, PlanFile, PlanFiles};
 
-use crate::pieces::{put_named_int, put_named_long, put_named_number, put_named_path};
-use crate::sink::{SinkFault, write_all};
-use ice_manifest::Entry;
-use ice_state::{Line, Plan};
-use std::alloc::{AllocError, Global};
-
-/// The text of a plan: a line for each data file, each with the lines of its delete files, and then their numbers.
-pub fn plan_text(alloc: Global, plan: &Plan<'_>) -> Result<Vec<u8>, AllocError>
-    ensures { IfOk result (λ text. text.items ≡ plan_text plan.now) }
+/// How many lines of delete files a plan has, where that is a number of 64 bits, as it is in any memory.
+pub fn count_deletes(lines: &Lines<'_>) -> Option<u64>
+    ensures { IfSome result (λ n. n ≡ sum_by deletes_of lines.now) }
 {
-    let mut text = Vec::new(alloc);
-    match put_plan(&mut text, plan.lines()) {
-        Ok(()) => Ok(text),
-        Err(SinkFault) => Err(AllocError),
+    let mut deletes: u64 = 0;
+    for i in 0..lines.len() {
+        let line = lines.line(i);
+        deletes = deletes.checked_add(line.positions().len() as u64)?;
+        deletes = deletes.checked_add(line.equalities().len() as u64)?;
     }
+    Some(deletes)
 }
 
+/// Sends the text of a plan: a line for each data file, each with the lines of its delete files, and then their numbers.
 #[tactic(auto, unfolding(crate::specs::PlanTexts::plan_text))]
-fn put_plan(out: &mut Vec<u8>, lines: &[Line<'_>]) -> Result<(), SinkFault>
-    requires { vec_len out.old ≡ 0 }
-    ensures { OnOk result (out.new.items ≡ plan_text (map shown lines.now)) }
+pub fn put_plan<S: Sink>(
+    page: &mut Page,
+    sink: &mut S,
+    lines: &Lines<'_>,
+    deletes: u64,
+) -> Result<(), SinkFault>
+    requires { deletes ≡ sum_by deletes_of lines.now }
+    ensures { Sent S.taken S.may_fail sink.old page.old result sink.new page.new (plan_text lines.now) }
 {
-    let deletes = put_lines(out, lines)?;
-    put_named_number(out, b"files ", lines.len())?;
-    put_named_number(out, b" deletes ", deletes)?;
-    write_all(out, b"\n")
+    put_lines(page, sink, lines)?;
+    page.put_named_number(sink, b"files ", lines.len())?;
+    page.put_named_number(sink, b" deletes ", deletes)?;
+    page.put(sink, b"\n")
 }
 
-/// The lines of a plan. It gives the number of delete lines.
-fn put_lines(out: &mut Vec<u8>, lines: &[Line<'_>]) -> Result<usize, SinkFault>
-    requires { vec_len out.old ≡ 0 }
-    ensures text { OnOk result (out.new.items ≡ flat_map line_text (map shown lines.now)) }
-    ensures count { IfOk result (λ n. n ≡ sum_by deletes_of (map shown lines.now)) }
+fn put_lines<S: Sink>(page: &mut Page, sink: &mut S, lines: &Lines<'_>) -> Result<(), SinkFault>
+    ensures { Sent S.taken S.may_fail sink.old page.old result sink.new page.new (flat_map line_text lines.now) }
 {
-    let mut deletes = 0;
-    for line in lines {
-        put_line(out, line)?;
-        deletes += line.positions.len() + line.equalities.len();
+    for i in 0..lines.len() {
+        put_line(page, sink, &lines.line(i))?;
     }
-    Ok(deletes)
+    Ok(())
 }
 
 #[tactic(auto, unfolding(crate::specs::PlanTexts::line_text))]
-fn put_line(out: &mut Vec<u8>, line: &Line<'_>) -> Result<(), SinkFault>
-    ensures { OnOk result (out.new.items ≡ out.old.items ++ line_text (shown line.now)) }
+fn put_line<S: Sink>(page: &mut Page, sink: &mut S, line: &Line<'_>) -> Result<(), SinkFault>
+    ensures { Sent S.taken S.may_fail sink.old page.old result sink.new page.new (line_text line.now) }
 {
-    put_file(out, line.file)?;
-    put_positions(out, &line.positions)?;
-    put_equalities(out, &line.equalities)
+    put_file(page, sink, &line.file())?;
+    put_positions(page, sink, &line.positions())?;
+    put_equalities(page, sink, &line.equalities())
 }
 
 #[tactic(auto, unfolding(crate::specs::PlanTexts::file_text))]
-fn put_file(out: &mut Vec<u8>, file: &Entry) -> Result<(), SinkFault>
-    ensures { OnOk result (out.new.items ≡ out.old.items ++ file_text file.now) }
+fn put_file<S: Sink>(page: &mut Page, sink: &mut S, file: &PlanFile<'_>) -> Result<(), SinkFault>
+    ensures { Sent S.taken S.may_fail sink.old page.old result sink.new page.new (file_text file.now) }
 {
-    put_numbered_path(out, b"data ", file)?;
-    put_named_int(out, b" spec ", file.spec)?;
-    put_size(out, file)?;
-    write_all(out, b"\n")
+    put_numbered_path(page, sink, b"data ", file)?;
+    page.put_named_int(sink, b" spec ", file.spec_id())?;
+    put_size(page, sink, file)?;
+    page.put(sink, b"\n")
 }
 
-/// Writes a file's rows and bytes.
-fn put_size(out: &mut Vec<u8>, file: &Entry) -> Result<(), SinkFault>
-    ensures { OnOk result (out.new.items ≡ out.old.items ++ size_text file.now) }
+/// Sends a file's rows and bytes.
+fn put_size<S: Sink>(page: &mut Page, sink: &mut S, file: &PlanFile<'_>) -> Result<(), SinkFault>
+    ensures { Sent S.taken S.may_fail sink.old page.old result sink.new page.new (size_text file.now) }
 {
-    put_named_long(out, b" rows ", file.record_count)?;
-    put_named_long(out, b" size ", file.file_size)
+    page.put_named_long(sink, b" rows ", file.record_count())?;
+    page.put_named_long(sink, b" size ", file.file_size())
 }
 
-/// Writes a file's path and sequence number.
-fn put_numbered_path(out: &mut Vec<u8>, name: &[u8], file: &Entry) -> Result<(), SinkFault>
-    ensures { OnOk result (out.new.items ≡ out.old.items ++ numbered_path name.now file.now) }
+/// Sends a file's path and sequence number.
+fn put_numbered_path<S: Sink>(
+    page: &mut Page,
+    sink: &mut S,
+    name: &[u8],
+    file: &PlanFile<'_>,
+) -> Result<(), SinkFault>
+    ensures { Sent S.taken S.may_fail sink.old page.old result sink.new page.new (numbered_path name.now file.now) }
 {
-    put_named_path(out, name, file.path.as_bytes())?;
-    put_named_number(out, b" seq ", file.sequence_number)
+    page.put_named_path(sink, name, file.path())?;
+    page.put_named_number(sink, b" seq ", file.sequence_number().get())
 }
 
-fn put_positions(out: &mut Vec<u8>, entries: &[&Entry]) -> Result<(), SinkFault>
-    ensures { OnOk result (out.new.items ≡ out.old.items ++ flat_map position_text (map (λ d. d.now) entries.now)) }
+fn put_positions<S: Sink>(
+    page: &mut Page,
+    sink: &mut S,
+    files: &PlanFiles<'_>,
+) -> Result<(), SinkFault>
+    ensures { Sent S.taken S.may_fail sink.old page.old result sink.new page.new (flat_map position_text files.now) }
 {
-    for entry in entries {
-        put_position(out, entry)?;
+    for i in 0..files.len() {
+        put_position(page, sink, &files.file(i))?;
     }
     Ok(())
 }
 
 #[tactic(auto, unfolding(crate::specs::PlanTexts::position_text))]
-fn put_position(out: &mut Vec<u8>, entry: &Entry) -> Result<(), SinkFault>
-    ensures { OnOk result (out.new.items ≡ out.old.items ++ position_text entry.now) }
+fn put_position<S: Sink>(
+    page: &mut Page,
+    sink: &mut S,
+    file: &PlanFile<'_>,
+) -> Result<(), SinkFault>
+    ensures { Sent S.taken S.may_fail sink.old page.old result sink.new page.new (position_text file.now) }
 {
-    put_numbered_path(out, b"  pos ", entry)?;
-    write_all(out, b"\n")
+    put_numbered_path(page, sink, b"  pos ", file)?;
+    page.put(sink, b"\n")
 }
 
-fn put_equalities(out: &mut Vec<u8>, entries: &[&Entry]) -> Result<(), SinkFault>
-    ensures { OnOk result (out.new.items ≡ out.old.items ++ flat_map equality_text (map (λ d. d.now) entries.now)) }
+fn put_equalities<S: Sink>(
+    page: &mut Page,
+    sink: &mut S,
+    files: &PlanFiles<'_>,
+) -> Result<(), SinkFault>
+    ensures { Sent S.taken S.may_fail sink.old page.old result sink.new page.new (flat_map equality_text files.now) }
 {
-    for entry in entries {
-        put_equality(out, entry)?;
+    for i in 0..files.len() {
+        put_equality(page, sink, &files.file(i))?;
     }
     Ok(())
 }
 
 #[tactic(auto, unfolding(crate::specs::PlanTexts::equality_text))]
-fn put_equality(out: &mut Vec<u8>, entry: &Entry) -> Result<(), SinkFault>
-    ensures { OnOk result (out.new.items ≡ out.old.items ++ equality_text entry.now) }
+fn put_equality<S: Sink>(
+    page: &mut Page,
+    sink: &mut S,
+    file: &PlanFile<'_>,
+) -> Result<(), SinkFault>
+    ensures { Sent S.taken S.may_fail sink.old page.old result sink.new page.new (equality_text file.now) }
 {
-    put_numbered_path(out, b"  eq ", entry)?;
-    write_all(out, b" ids ")?;
-    put_ids(out, entry.equality_ids.as_slice())?;
-    write_all(out, b"\n")
+    put_numbered_path(page, sink, b"  eq ", file)?;
+    page.put(sink, b" ids ")?;
+    put_ids(page, sink, file.equality_ids())?;
+    page.put(sink, b"\n")
 }
 
-fn put_ids(out: &mut Vec<u8>, ids: &[i32]) -> Result<(), SinkFault>
-    ensures { OnOk result (out.new.items ≡ out.old.items ++ ids_text ids.now) }
+fn put_ids<S: Sink>(page: &mut Page, sink: &mut S, ids: &[i32]) -> Result<(), SinkFault>
+    ensures { Sent S.taken S.may_fail sink.old page.old result sink.new page.new (ids_text ids.now) }
 {
     match ids {
-        [] => write_all(out, b"-"),
+        [] => page.put(sink, b"-"),
         [first, rest @ ..] => {
-            put_named_int(out, b"", *first)?;
-            put_more_ids(out, rest)
+            page.put_named_int(sink, b"", *first)?;
+            put_more_ids(page, sink, rest)
         }
     }
 }
 
-fn put_more_ids(out: &mut Vec<u8>, ids: &[i32]) -> Result<(), SinkFault>
-    ensures { OnOk result (out.new.items ≡ out.old.items ++ flat_map (λ i. 44 ∷ signed_decimal i) ids.now) }
+fn put_more_ids<S: Sink>(page: &mut Page, sink: &mut S, ids: &[i32]) -> Result<(), SinkFault>
+    ensures { Sent S.taken S.may_fail sink.old page.old result sink.new page.new (flat_map (λ i. 44 ∷ signed_decimal i) ids.now) }
 {
     for id in ids {
-        put_named_int(out, b",", *id)?;
+        page.put_named_int(sink, b",", *id)?;
     }
     Ok(())
 }

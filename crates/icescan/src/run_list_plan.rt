@@ -1,24 +1,22 @@
 //! The plan of a manifest list.
 
 ghost use Rattle.std.specs.Prelude.{◌≡◌, ◌≢◌, ℕ, List, [], ◌∷◌, Option, Some, None, Ok, Err, IfOk, IfErr, OnOk, IsErrOf};
-ghost use Rattle.std.specs.List.{list_any};
-ghost use Rattle.std.specs.Ordering.{int_eq};
-ghost use Rattle.ice_desk.specs.Worlds.{HasAt};
-ghost use Rattle.ice_state.specs.declared.plan.OwnedLine.{OwnedLine};
-ghost use Rattle.ice_state.specs.Contents.{World, HasEach, IsOf, content, every_row};
-ghost use Rattle.icescan.specs.ListPlans.{MayEnd, MayFailAt, all_present, answer, file_in, paths_of, reads, specs_of, with_spec};
+ghost use Rattle.ice_desk.specs.Worlds.{EndsAt, HasAt};
+ghost use Rattle.ice_state.specs.Lines.{OwnedLine};
+ghost use Rattle.ice_state.specs.Contents.{World};
+ghost use Rattle.icescan.specs.ListPlans.{MayEnd, answer, file_in, reads, specs_of};
 ghost use Rattle.icescan.specs.PlanTexts.{plan_text};
 ghost use Rattle.icescan.specs.Written.{Appends, AppendsFront};
 
 use crate::fault::RunFault;
 use crate::sink::Sink;
 use crate::write::write_plan;
-use ice_desk::{Files, ReadFault};
+use contract_words::Text;
+use ice_desk::{Files, ReadFault, take_wanted};
 use ice_manifest::{Row, read_list};
 use ice_meta::Spec;
-use ice_state::laws::covering;
-use ice_state::{Partial, Scan};
-use ice_value::Text;
+use ice_state::laws::covering_without_fields;
+use ice_state::{Partial, Pruning, Scan};
 use std::alloc::{AllocError, Global};
 
 /// A text of its own.
@@ -31,7 +29,7 @@ fn text_of(alloc: Global, path: &str) -> Result<Text, AllocError>
 /// The bytes of the file at a path: `Absent` where there is none, `Device` where reading it failed.
 fn read_file<F: Files>(alloc: Global, files: &F, path: &str) -> Result<Vec<u8>, RunFault>
     ensures found { (world : World) → F.world files.now ≡ Some world → IfOk result (λ bytes. file_in world path.now ≡ Ok bytes.items) }
-    ensures refused { (world : World) → F.world files.now ≡ Some world → IfErr result (MayEnd (file_in world path.now) (MayFailAt world (F.may_fail files.now) (path.now ∷ [])) ⊥) }
+    ensures refused { (world : World) → F.world files.now ≡ Some world → IfErr result (MayEnd (file_in world path.now) (EndsAt world (F.may_fail files.now) (path.now ∷ [])) ⊥) }
     ensures absent { (path : List ℕ) → IsErrOf result (RunFault.Absent path) → HasAt (F.world files.now) path None }
     ensures device { (path : List ℕ) → IsErrOf result (RunFault.Device path) → F.may_fail files.now path }
     ensures write { IsErrOf result RunFault.Write → ⊥ }
@@ -44,50 +42,15 @@ fn read_file<F: Files>(alloc: Global, files: &F, path: &str) -> Result<Vec<u8>, 
     }
 }
 
-/// Whether a spec has this id.
-fn has_spec(specs: &[Spec], id: i32) -> bool
-    ensures { result ≡ list_any (λ spec. int_eq spec.id id) specs.now }
-{
-    specs.iter().any(|spec| spec.id == id)
-}
-
-/// Adds the spec of a row, where it is not there yet.
-fn add_spec(specs: &mut Vec<Spec>, row: &Row) -> Result<(), AllocError>
-    ensures { OnOk result (specs.new.items ≡ with_spec specs.old.items row.now) }
-{
-    if !has_spec(specs, row.spec) {
-        specs.push(Spec::empty(row.spec))?;
-    }
-    Ok(())
-}
-
-/// A spec without fields for each spec id that a row has.
+/// For each row a spec without fields, of the row's spec id.
 fn specs_of(alloc: Global, rows: &[Row]) -> Result<Vec<Spec>, AllocError>
     ensures { IfOk result (λ specs. specs.items ≡ specs_of rows.now) }
 {
     let mut specs = Vec::new(alloc);
-    for row in rows {
-        add_spec(&mut specs, row)?;
+    'rows: for row in rows {
+        specs.push(Spec::empty(alloc, row.spec_id))?;
     }
     Ok(specs)
-}
-
-/// The state in which each wanted manifest is taken, in the order of their paths.
-fn all_taken<F: Files>(alloc: Global, files: &F, scan: &Scan) -> Result<Partial, RunFault>
-    ensures of_scan { IfOk result (λ state. IsOf scan.now state) }
-    ensures present { (world : World) → F.world files.now ≡ Some world → OnOk result (all_present world scan.now.wanted ≡ Ok tt) }
-    ensures taken { (world : World) → F.world files.now ≡ Some world → IfOk result (λ state. state ≡ content world scan.now (every_row scan.now)) }
-    ensures refused { (world : World) → F.world files.now ≡ Some world → IfErr result (MayEnd (all_present world scan.now.wanted) (MayFailAt world (F.may_fail files.now) (paths_of scan.now.wanted)) ⊥) }
-    ensures absent { (path : List ℕ) → IsErrOf result (RunFault.Absent path) → HasAt (F.world files.now) path None }
-    ensures device { (path : List ℕ) → IsErrOf result (RunFault.Device path) → F.may_fail files.now path }
-    ensures write { IsErrOf result RunFault.Write → ⊥ }
-{
-    let mut state = Partial::empty(alloc, scan)?;
-    for (i, row) in scan.wanted().iter().enumerate() {
-        let bytes = read_file(alloc, files, row.path.as_str())?;
-        state.take(scan, i, &bytes)?;
-    }
-    Ok(state)
 }
 
 /// Writes the plan of the manifest list at a path. The table is taken as one without partitions.
@@ -106,7 +69,7 @@ pub fn run_list_plan<F: Files, W: Sink>(
     ensures written { (world : World) → F.world files.now ≡ Some world →
         OnOk result ((plan : List OwnedLine) × (answer world list.now ≡ Ok plan) × Appends (W.taken output.old) (W.taken output.new) (plan_text plan)) }
     ensures refused { (world : World) → F.world files.now ≡ Some world →
-        IfErr result (MayEnd (answer world list.now) (MayFailAt world (F.may_fail files.now) (reads world list.now)) (W.may_fail output.old)) }
+        IfErr result (MayEnd (answer world list.now) (EndsAt world (F.may_fail files.now) (reads world list.now)) (W.may_fail output.old)) }
     ensures front { (world : World) → F.world files.now ≡ Some world → IsErrOf result RunFault.Write →
         (plan : List OwnedLine) × (answer world list.now ≡ Ok plan) × AppendsFront (W.taken output.old) (W.taken output.new) (plan_text plan) }
 
@@ -119,10 +82,11 @@ pub fn run_list_plan<F: Files, W: Sink>(
     let bytes = read_file(alloc, files, list)?;
     let rows = read_list(alloc, &bytes)?;
     let specs = specs_of(alloc, &rows)?;
-    let scan = Scan::new(alloc, rows, specs)?;
-    let state = all_taken(alloc, files, &scan)?;
-    // Without a filter the wanted rows are all rows, so the state's outcome is the plan of the snapshot.
-    covering();
+    let scan = Scan::new(alloc, rows, specs, Pruning::Nothing)?;
+    let mut state = Partial::empty(alloc, &scan)?;
+    take_wanted(alloc, files, &scan, &mut state)?;
+    // Specs without fields have summaries that tell the truth, so the state's outcome is the plan of the snapshot.
+    covering_without_fields();
     let plan = state.finish(&scan)?;
-    write_plan(alloc, &plan, output)
+    write_plan(alloc, &plan.lines(), output)
 }

@@ -1,16 +1,15 @@
 //! The program over its words, standard input, output and errors.
 
-ghost use Rattle.std.specs.Prelude.{◌≡◌, ◌⊎◌, ℕ, List, map, string_bytes, Err, false};
-ghost use Rattle.icescan.specs.FaultTexts.{fault_text};
-ghost use Rattle.icescan.specs.Runs.{IsInput, Planned, Ran, Refused, asks_list_plan, bundle_plan, run_of, words_in};
-ghost use Rattle.icescan.specs.Written.{AppendsFront};
+ghost use Rattle.std.specs.Prelude.{◌≡◌, ◌⊎◌, ℕ, List, map, string_bytes, Err, IfOk, IfErr, false};
+ghost use Rattle.icescan.specs.Runs.{Answered, IsInput, Ran, Refused, Told, asks_list_plan, bundle_text, run_of, words_in};
 
 use crate::bundle::Bundle;
 use crate::fault::RunFault;
-use crate::input::read_bundle;
+use crate::input::read_all;
 use crate::report::report;
 use crate::run_list_plan::run_list_plan;
 use crate::sink::Sink;
+use ice_desk::ReadFault;
 use std::alloc::Global;
 use std::io::Read;
 
@@ -32,13 +31,25 @@ fn check_words(words: &[String]) -> Result<(), RunFault>
 
 /// Writes the plan of a bundle's first file.
 fn plan_bundle<W: Sink>(alloc: Global, text: &[u8], output: &mut W) -> Result<(), RunFault>
-    ensures { Ran (bundle_plan text.now) (W.may_fail output.old) result (W.taken output.old) (W.taken output.new) }
+    ensures { Ran (bundle_text text.now) (W.may_fail output.old) result (W.taken output.old) (W.taken output.new) }
 {
     let bundle = Bundle::read(alloc, text)?;
     let Some(list) = bundle.first_path() else {
         return Err(RunFault::Bundle(1));
     };
     run_list_plan(alloc, &bundle, list, output)
+}
+
+/// All that standard input has left.
+fn read_input<R: Read>(alloc: Global, input: &mut R) -> Result<Vec<u8>, RunFault>
+    ensures all { IfOk result (λ text. IsInput (R.remaining input.old) text.items) }
+    ensures causes { IfErr result (λ e. (e ≡ RunFault.Input) ⊎ (e ≡ RunFault.Memory)) }
+{
+    match read_all(alloc, input, MOST_READS) {
+        Ok(text) => Ok(text),
+        Err(ReadFault::Memory) => Err(RunFault::Memory),
+        Err(_) => Err(RunFault::Input),
+    }
 }
 
 /// Writes what the words ask for.
@@ -53,7 +64,7 @@ fn run<R: Read, W: Sink>(
         Ran (run_of (map string_bytes words.now) text) (W.may_fail output.old) result (W.taken output.old) (W.taken output.new) }
 {
     check_words(words)?;
-    let text = read_bundle(alloc, input, MOST_READS)?;
+    let text = read_input(alloc, input)?;
     plan_bundle(alloc, &text, output)
 }
 
@@ -69,13 +80,13 @@ pub fn run_words<R: Read, W: Sink, E: Sink>(
 ) -> u8
     // Other words are refused whatever standard input holds.
     ensures words { asks_list_plan (map string_bytes words.now) ≡ false →
-        (result ≡ 2) × (W.taken output.new ≡ W.taken output.old) × AppendsFront (E.taken errors.old) (E.taken errors.new) (fault_text RunFault.Words) }
+        (result ≡ 2) × (W.taken output.new ≡ W.taken output.old) × Told (E.may_fail errors.old) (E.taken errors.old) (E.taken errors.new) RunFault.Words }
 
-    // For some text, which is all that standard input had left where that is told: the plan of that text was written, or
-    // the fault is that of the words and that text, or reading, writing or memory failed.
+    // For some text, which is all that standard input had left where that is told: what is asked of that text was
+    // written, or the fault is that of the words and that text, or reading, writing or memory failed.
     ensures run { (text : List ℕ) × IsInput (R.remaining input.old) text ×
-        (Planned (run_of (map string_bytes words.now) text) result (W.taken output.old) (W.taken output.new) (E.taken errors.old) (E.taken errors.new)
-        ⊎ Refused (run_of (map string_bytes words.now) text) (W.may_fail output.old) result (W.taken output.old) (W.taken output.new) (E.taken errors.old) (E.taken errors.new)) }
+        (Answered (run_of (map string_bytes words.now) text) result (W.taken output.old) (W.taken output.new) (E.taken errors.old) (E.taken errors.new)
+        ⊎ Refused (run_of (map string_bytes words.now) text) (W.may_fail output.old) (E.may_fail errors.old) result (W.taken output.old) (W.taken output.new) (E.taken errors.old) (E.taken errors.new)) }
 {
     match run(alloc, words, input, output) {
         Ok(()) => 0,

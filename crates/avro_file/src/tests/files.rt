@@ -11,9 +11,9 @@ const LONGS: [u8; 62] = [
 ];
 
 /// The next object of a file of longs.
-fn next_long(alloc: Global, file: &mut Container) -> Result<i64, Fail> {
-    let object = file.next(alloc).ok().ok_or("no fault")?.ok_or("an object")?;
-    let Datum::Long(number) = object.datum() else {
+fn next_long(alloc: Global, objects: &mut Objects) -> Result<i64, Fail> {
+    let object = objects.next().ok().ok_or("no fault")?.ok_or("an object")?;
+    let Datum::Long(number) = object.datum(alloc)? else {
         return Err("another type")?;
     };
     Ok(number)
@@ -21,12 +21,22 @@ fn next_long(alloc: Global, file: &mut Container) -> Result<i64, Fail> {
 
 #[test]
 fn two_longs(rt: HostRuntime) -> Result<(), Fail> {
-    let mut file = Container::open(rt.alloc(), &LONGS).ok().ok_or("a file")?;
+    let file = Container::open(rt.alloc(), &LONGS).ok().ok_or("a file")?;
     assert!(rt; matches!(file.schema(), Schema::Long));
-    assert_eq!(rt; next_long(rt.alloc(), &mut file)?, 64);
-    assert_eq!(rt; next_long(rt.alloc(), &mut file)?, -1);
-    assert!(rt; matches!(file.next(rt.alloc()), Ok(None)));
-    assert!(rt; matches!(file.next(rt.alloc()), Ok(None)));
+    let mut objects = file.objects();
+    assert_eq!(rt; next_long(rt.alloc(), &mut objects)?, 64);
+    assert_eq!(rt; next_long(rt.alloc(), &mut objects)?, -1);
+    assert!(rt; matches!(objects.next(), Ok(None)));
+    assert!(rt; matches!(objects.next(), Ok(None)));
+    // from the first on once more, and the first one dropped
+    let mut again = file.objects();
+    again
+        .next()
+        .ok()
+        .ok_or("no fault")?
+        .ok_or("an object")?
+        .skip();
+    assert_eq!(rt; next_long(rt.alloc(), &mut again)?, -1);
     Ok(())
 }
 
@@ -46,10 +56,10 @@ fn cut_files(rt: HostRuntime) -> Result<(), Fail> {
             Err(AvroFault::Truncated(25))
         )
     );
-    let mut none = Container::open(rt.alloc(), &LONGS[..41])
+    let none = Container::open(rt.alloc(), &LONGS[..41])
         .ok()
         .ok_or("a file")?;
-    assert!(rt; matches!(none.next(rt.alloc()), Ok(None)));
+    assert!(rt; matches!(none.objects().next(), Ok(None)));
     assert!(rt;
         matches!(
             first(rt.alloc(), &LONGS[..42]),
@@ -78,11 +88,12 @@ fn cut_files(rt: HostRuntime) -> Result<(), Fail> {
 fn refused_for_good(rt: HostRuntime) -> Result<(), Fail> {
     let mut bytes = LONGS;
     bytes[41] = 6;
-    let mut file = Container::open(rt.alloc(), &bytes).ok().ok_or("a file")?;
-    assert_eq!(rt; next_long(rt.alloc(), &mut file)?, 64);
-    assert_eq!(rt; next_long(rt.alloc(), &mut file)?, -1);
+    let file = Container::open(rt.alloc(), &bytes).ok().ok_or("a file")?;
+    let mut objects = file.objects();
+    assert_eq!(rt; next_long(rt.alloc(), &mut objects)?, 64);
+    assert_eq!(rt; next_long(rt.alloc(), &mut objects)?, -1);
     for _ in 0..3 {
-        assert!(rt; matches!(file.next(rt.alloc()), Err(AvroFault::BlockSize)));
+        assert!(rt; matches!(objects.next(), Err(AvroFault::BlockSize)));
     }
     Ok(())
 }
@@ -91,9 +102,10 @@ fn refused_for_good(rt: HostRuntime) -> Result<(), Fail> {
 fn blocks(rt: HostRuntime) -> Result<(), Fail> {
     let most = [0xfe, 0xff, 0xff, 0xff, 0xff, 0xff, 0xff, 0xff, 0xff, 1];
     let bytes = file(rt.alloc(), b"\"long\"", &most, &[6])?;
-    let mut long = Container::open(rt.alloc(), &bytes).ok().ok_or("a file")?;
-    assert_eq!(rt; next_long(rt.alloc(), &mut long)?, 3);
-    assert!(rt; matches!(long.next(rt.alloc()), Err(AvroFault::BlockSize)));
+    let long = Container::open(rt.alloc(), &bytes).ok().ok_or("a file")?;
+    let mut longs = long.objects();
+    assert_eq!(rt; next_long(rt.alloc(), &mut longs)?, 3);
+    assert!(rt; matches!(longs.next(), Err(AvroFault::BlockSize)));
     // a negative count, although no size follows it
     let mut bytes = header(rt.alloc(), b"\"long\"")?;
     bytes.push(1)?;
@@ -104,8 +116,8 @@ fn blocks(rt: HostRuntime) -> Result<(), Fail> {
     assert!(rt; matches!(first(rt.alloc(), &bytes), Err(AvroFault::BlockSize)));
     // a block of nothing, and one of no objects that has bytes
     let bytes = file(rt.alloc(), b"\"long\"", &[0], &[])?;
-    let mut none = Container::open(rt.alloc(), &bytes).ok().ok_or("a file")?;
-    assert!(rt; matches!(none.next(rt.alloc()), Ok(None)));
+    let none = Container::open(rt.alloc(), &bytes).ok().ok_or("a file")?;
+    assert!(rt; matches!(none.objects().next(), Ok(None)));
     let bytes = file(rt.alloc(), b"\"long\"", &[0], &[6])?;
     assert!(rt; matches!(first(rt.alloc(), &bytes), Err(AvroFault::BlockSize)));
     Ok(())

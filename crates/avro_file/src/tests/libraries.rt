@@ -296,16 +296,17 @@ Record([String("s3://warehouse/db/plain/metadata/m2.avro"), Long(5318), Int(0), 
 
 /// The objects of a file, a line each.
 fn lines_of(alloc: Global, bytes: &[u8]) -> Result<String, Fail> {
-    let mut file = Container::open(alloc, bytes).ok().ok_or("a file")?;
+    let file = Container::open(alloc, bytes).ok().ok_or("a file")?;
+    let mut objects = file.objects();
     let mut lines = String::new(alloc);
     for count in 0..6 {
-        let Some(object) = file.next(alloc).ok().ok_or("no fault")? else {
+        let Some(object) = objects.next().ok().ok_or("no fault")? else {
             return Ok(lines);
         };
         if count > 0 {
             lines.push('\n')?;
         }
-        let datum = object.datum();
+        let datum = object.datum(alloc)?;
         let line = format!(in alloc; "{datum:?}")?;
         lines.push_str(&line)?;
     }

@@ -28,15 +28,15 @@ fn outcome(alloc: Global, bytes: &[u8]) -> Result<String, Fail> {
         let path = row.path.as_str();
         let Row {
             length,
-            spec,
+            spec_id,
             content,
-            sequence_number,
-            min_sequence_number,
             added_snapshot_id,
             ..
         } = row;
+        let sequence_number = row.sequence_number.get();
+        let min_sequence_number = row.min_sequence_number.get();
         let line = format!(in alloc;
-            "{path} {length} {spec} {content:?} {sequence_number} {min_sequence_number} {added_snapshot_id}\n"
+            "{path} {length} {spec_id} {content:?} {sequence_number} {min_sequence_number} {added_snapshot_id}\n"
         )?;
         text.push_str(&line)?;
     }

@@ -22,15 +22,17 @@ const F: &[u8] = b"\x02\x00\x04\x22mem://t/f.parquet\x14\xc8\x01\x02\x02\x02\x00
 
 const P: &[u8] = b"\x02\x00\x02\x22mem://t/p.parquet\x14\xc8\x01\x00";
 
-fn row(alloc: Global, content: ManifestContent, sequence_number: u64) -> Result<Row, AllocError> {
+fn row(alloc: Global, content: ManifestContent, sequence_number: u64) -> Result<Row, Fail> {
     Ok(Row {
         path: Text::from_string(String::from_str(alloc, "mem://t/m1")?),
         length: 100,
-        spec: 7,
+        spec_id: 7,
         content,
-        sequence_number,
-        min_sequence_number: 0,
+        sequence_number: SequenceNumber::new(sequence_number).ok_or("a long")?,
+        min_sequence_number: SequenceNumber::zero(),
         added_snapshot_id: 1,
+        counts: NO_COUNTS,
+        partitions: None,
     })
 }
 
@@ -54,23 +56,33 @@ fn schema(alloc: Global, changes: &[(usize, &str)]) -> Result<String, AllocError
 
 /// What reading a manifest gives: a line for each entry, or the fault.
 fn outcome(alloc: Global, row: &Row, bytes: &[u8]) -> Result<String, Fail> {
-    let entries = match read_manifest(alloc, row, &Spec::empty(7), bytes) {
-        Ok(entries) => entries,
+    let found = match read_manifest(alloc, row, &Spec::empty(alloc, row.spec_id), bytes) {
+        Ok(found) => found,
         Err(fault) => return Ok(format!(in alloc; "{fault:?}")?),
     };
     let mut text = String::new(alloc);
-    for entry in &entries {
-        let position = entry.position;
-        let path = entry.path.as_str();
-        let content = entry.content;
-        let sequence = entry.sequence_number;
-        let records = entry.record_count;
-        let size = entry.file_size;
-        let ids = entry.equality_ids.as_slice();
-        let spec = entry.spec;
-        let whole = entry.unpartitioned && entry.tuple.as_slice().is_empty();
+    for Live { entry, bounds } in &found {
+        let Entry {
+            position,
+            spec_id,
+            unpartitioned,
+            file,
+            ..
+        } = entry;
+        let sequence = entry.sequence_number.get();
+        let path = std::str::from_utf8(file.path.as_slice())?;
+        let DataFile {
+            content,
+            record_count,
+            file_size,
+            ..
+        } = file;
+        let ids = file.equality_ids.as_slice();
+        let whole = *unpartitioned
+            && file.tuple.as_slice().is_empty()
+            && bounds.lower_bound(1).is_none();
         let line = format!(in alloc;
-            "{position} {path} {content:?} {sequence} {records} {size} {ids:?} {spec} {whole}\n"
+            "{position} {path} {content:?} {sequence} {record_count} {file_size} {ids:?} {spec_id} {whole}\n"
         )?;
         text.push_str(&line)?;
     }
@@ -412,11 +424,16 @@ fn copies(rt: HostRuntime) -> Result<(), Fail> {
     let data = row(rt.alloc(), ManifestContent::Data, 3)?;
     assert!(rt; data.copy(rt.alloc())? == data);
     let bytes = file(rt.alloc(), &schema(rt.alloc(), &[])?, &[A])?;
-    let entries = read_manifest(rt.alloc(), &data, &Spec::empty(7), &bytes)
-        .ok()
-        .ok_or("entries")?;
-    let entry = entries.first().ok_or("an entry")?.copy(rt.alloc())?;
-    assert_eq!(rt; entry.path.as_str(), "mem://t/a.parquet");
+    let found = read_manifest(
+        rt.alloc(),
+        &data,
+        &Spec::empty(rt.alloc(), data.spec_id),
+        &bytes,
+    )
+    .ok()
+    .ok_or("entries")?;
+    let entry = found.first().ok_or("an entry")?.entry.copy(rt.alloc())?;
+    assert_eq!(rt; entry.file.path.as_slice(), b"mem://t/a.parquet".as_slice());
     let fault = ManifestFault::OutOfRange(3).copy(rt.alloc())?;
     assert!(rt; matches!(fault, ManifestFault::OutOfRange(3)));
     Ok(())

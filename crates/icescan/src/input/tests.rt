@@ -1,8 +1,8 @@
 //! Readers that fail, that a signal interrupts, and whose end comes late.
 
-use super::read_bundle;
-use crate::fault::RunFault;
+use super::read_all;
 use crate::words::run_words;
+use ice_desk::ReadFault;
 use std::io::{self, ErrorKind, Read};
 
 /// Gives a byte a time. The read of this number, from 1, fails.
@@ -38,16 +38,16 @@ impl Read for Faltering<'_> {
     }
 }
 
-fn gives(read: Result<Vec<u8>, RunFault>, expected: &[u8]) -> bool {
+fn gives(read: Result<Vec<u8>, ReadFault>, expected: &[u8]) -> bool {
     match read {
         Ok(bytes) => bytes.as_slice() == expected,
         Err(_) => false,
     }
 }
 
-fn is_input(read: Result<Vec<u8>, RunFault>) -> bool {
+fn is_device(read: Result<Vec<u8>, ReadFault>) -> bool {
     match read {
-        Err(RunFault::Input) => true,
+        Err(ReadFault::Device) => true,
         _ => false,
     }
 }
@@ -57,27 +57,27 @@ fn is_input(read: Result<Vec<u8>, RunFault>) -> bool {
 fn reads_are_counted(rt: HostRuntime) {
     let alloc = rt.alloc();
     let mut whole = Faltering::new(b"abc", 0, ErrorKind::Other);
-    assert!(rt; gives(read_bundle(alloc, &mut whole, 4), b"abc"));
+    assert!(rt; gives(read_all(alloc, &mut whole, 4), b"abc"));
     let mut cut = Faltering::new(b"abc", 0, ErrorKind::Other);
-    assert!(rt; is_input(read_bundle(alloc, &mut cut, 3)));
+    assert!(rt; is_device(read_all(alloc, &mut cut, 3)));
     let mut unread = Faltering::new(b"", 0, ErrorKind::Other);
-    assert!(rt; is_input(read_bundle(alloc, &mut unread, 0)));
+    assert!(rt; is_device(read_all(alloc, &mut unread, 0)));
 }
 
 #[test]
 fn an_interrupted_read_is_made_again(rt: HostRuntime) {
     let alloc = rt.alloc();
     let mut stopped = Faltering::new(b"abc", 2, ErrorKind::Interrupted);
-    assert!(rt; gives(read_bundle(alloc, &mut stopped, 5), b"abc"));
+    assert!(rt; gives(read_all(alloc, &mut stopped, 5), b"abc"));
     let mut counted = Faltering::new(b"abc", 2, ErrorKind::Interrupted);
-    assert!(rt; is_input(read_bundle(alloc, &mut counted, 4)));
+    assert!(rt; is_device(read_all(alloc, &mut counted, 4)));
 }
 
 #[test]
 fn a_failed_read_ends_the_run(rt: HostRuntime) {
     let alloc = rt.alloc();
     let mut broken = Faltering::new(b"abc", 3, ErrorKind::ConnectionReset);
-    assert!(rt; is_input(read_bundle(alloc, &mut broken, 9)));
+    assert!(rt; is_device(read_all(alloc, &mut broken, 9)));
     let mut broken = Faltering::new(b"mem://t/list 00\n", 5, ErrorKind::ConnectionReset);
     let mut output = Vec::new(alloc);
     let mut errors = Vec::new(alloc);

@@ -1,6 +1,7 @@
 //! Sinks that take little or fail.
 
-use super::{PLAN, three_manifests};
+use super::bundle_of;
+use super::cases::{CASES, PLAN};
 use crate::fault::RunFault;
 use crate::report::report;
 use crate::sink::{Output, Sink, SinkFault, write_all};
@@ -62,35 +63,6 @@ fn sinks_that_take_little(rt: HostRuntime) {
     assert_eq!(rt; errors.taken.as_slice(), b"icescan: B1 Bu".as_slice());
     let mut stuck = Slow::new(alloc, 0, 1);
     assert_eq!(rt; write_all(&mut stuck, b"a"), Err(SinkFault));
-}
-
-#[test]
-fn plan_of_one_byte_at_a_time(rt: HostRuntime) -> Result<(), Fail> {
-    let alloc = rt.alloc();
-    let text = three_manifests(alloc)?;
-    let mut output = Slow::new(alloc, 1, PLAN.len());
-    let mut errors = Vec::new(alloc);
-    let status = run_words(alloc, &[], &mut text.as_slice(), &mut output, &mut errors);
-    assert_eq!(rt; status, 0);
-    assert_eq!(rt; output.taken.as_slice(), PLAN.as_bytes());
-    assert_eq!(rt; errors.len(), 0);
-    Ok(())
-}
-
-/// A write that fails after any number of bytes leaves just these, and is told.
-#[test]
-fn plan_cut_by_a_failing_write(rt: HostRuntime) -> Result<(), Fail> {
-    let alloc = rt.alloc();
-    let text = three_manifests(alloc)?;
-    for room in 0..PLAN.len() {
-        let mut output = Slow::new(alloc, 7, room);
-        let mut errors = Vec::new(alloc);
-        let status = run_words(alloc, &[], &mut text.as_slice(), &mut output, &mut errors);
-        assert_eq!(rt; status, 3);
-        assert_eq!(rt; Some(output.taken.as_slice()), PLAN.as_bytes().get(..room));
-        assert_eq!(rt; errors.as_slice(), b"icescan: W1 Write\n".as_slice());
-    }
-    Ok(())
 }
 
 #[test]

@@ -27,7 +27,7 @@ items_of-returns t c = values_done (datum_at (tree c.args.schema.now)) _ c.args.
 pub array_of-returns-in_err-count : goal.array_of-returns-in_err-count
 array_of-returns-in_err-count t c =
     let p = err_from_is_err_and c.from_residual.result c.from_residual.ensures.1 in
-    rw (p.1, p.2) (λ m. count_fails c.in_err-count.field-0.0 (datum_at (tree c.args.schema.now)) _ c.each_block.invariant.0 _ _ (omega (arith, c.each_block.invariant.1)) (c.in_err-count.ensures m) c.each_block.invariant.2)
+    rw (p.1, p.2) (λ m. count_fails c.in_err-count.field-0.0 (datum_at (tree c.args.schema.now)) _ c.each_block.invariant.0 _ _ (omega (arith, c.each_block.invariant.1)) c.in_err-count.ensures c.each_block.invariant.2)
 
 pub array_of-returns-then-count-eq0 : goal.array_of-returns-then-count-eq0
 array_of-returns-then-count-eq0 t c = blocks_done _ _ c.each_block.invariant.0 _ _ _ _ (omega (arith, c.each_block.invariant.1)) c.if-count-eq0.true c.in_ok-count.ensures c.each_block.invariant.2
@@ -104,7 +104,7 @@ entries_of-returns t c = values_done (entry_at (datum_at (tree c.args.schema.now
 pub map_of-returns-in_err-count : goal.map_of-returns-in_err-count
 map_of-returns-in_err-count t c =
     let p = err_from_is_err_and c.from_residual.result c.from_residual.ensures.1 in
-    rw (p.1, p.2) (λ m. count_fails c.in_err-count.field-0.0 (entry_at (datum_at (tree c.args.schema.now))) _ c.each_block.invariant.0 _ _ (omega (arith, c.each_block.invariant.1)) (c.in_err-count.ensures m) c.each_block.invariant.2)
+    rw (p.1, p.2) (λ m. count_fails c.in_err-count.field-0.0 (entry_at (datum_at (tree c.args.schema.now))) _ c.each_block.invariant.0 _ _ (omega (arith, c.each_block.invariant.1)) c.in_err-count.ensures c.each_block.invariant.2)
 
 pub map_of-returns-then-count-eq0 : goal.map_of-returns-then-count-eq0
 map_of-returns-then-count-eq0 t c = blocks_done _ _ c.each_block.invariant.0 _ _ _ _ (omega (arith, c.each_block.invariant.1)) c.if-count-eq0.true c.in_ok-count.ensures c.each_block.invariant.2
@@ -127,7 +127,7 @@ map_of-each_block-preserved t c =
 pub entries_of-returns-in_err-text : goal.entries_of-returns-in_err-text
 entries_of-returns-in_err-text t c =
     let p = err_from_is_err_and c.from_residual.result c.from_residual.ensures.1 in
-    rw (p.1, p.2) (λ m. values_fail c.in_err-text.field-0.0 (entry_at (datum_at (tree c.args.schema.now))) _ c.args.count c.items.counter _ _ c.items-test.true (key_fails c.in_err-text.field-0.0 (datum_at (tree c.args.schema.now)) (position_of c.items.here) (c.in_err-text.ensures m)) c.items.invariant)
+    rw (p.1, p.2) (λ m. values_fail c.in_err-text.field-0.0 (entry_at (datum_at (tree c.args.schema.now))) _ c.args.count c.items.counter _ _ c.items-test.true (key_fails c.in_err-text.field-0.0 (datum_at (tree c.args.schema.now)) (position_of c.items.here) c.in_err-text.ensures) c.items.invariant)
 
 pub entries_of-returns-in_err-value : goal.entries_of-returns-in_err-value
 entries_of-returns-in_err-value t c =

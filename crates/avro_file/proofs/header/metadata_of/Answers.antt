@@ -15,7 +15,7 @@ pub returns-in_err-count : goal.returns-in_err-count
 returns-in_err-count c =
     let p = err_from_is_err_and c.from_residual.result c.from_residual.ensures.1 in
     let i = c.each_block.invariant in
-    rw (p.1, p.2) (λ m. metadata_fails c.in_err-count.field-0.0 c.args.bytes.now (count_fails c.in_err-count.field-0.0 property_at i.0 i.2 (position_of c.each_block.here) _ (omega (arith, i.3)) (c.in_err-count.ensures m) i.4))
+    rw (p.1, p.2) (metadata_fails c.in_err-count.field-0.0 c.args.bytes.now (count_fails c.in_err-count.field-0.0 property_at i.0 i.2 (position_of c.each_block.here) _ (omega (arith, i.3)) c.in_err-count.ensures i.4))
 
 pub returns-then-count-eq0 : goal.returns-then-count-eq0
 returns-then-count-eq0 c =
@@ -26,7 +26,7 @@ pub returns-in_err-more : goal.returns-in_err-more
 returns-in_err-more c =
     let p = err_from_is_err_and c.from_residual-in_err-more.result c.from_residual-in_err-more.ensures.1 in
     let i = c.each_block.invariant in
-    rw (p.1, p.2) (λ m. metadata_fails c.in_err-more.field-0.0 c.args.bytes.now (block_fails c.in_err-more.field-0.0 property_at i.0 i.2 _ _ _ _ (omega (arith, i.3)) c.if-count-eq0.false c.in_ok-count.ensures (none_in_front i.0 _ _ (properties_fail c.in_err-more.field-0.0 _ _ (c.in_err-more.ensures m))) i.4))
+    rw (p.1, p.2) (metadata_fails c.in_err-more.field-0.0 c.args.bytes.now (block_fails c.in_err-more.field-0.0 property_at i.0 i.2 _ _ _ _ (omega (arith, i.3)) c.if-count-eq0.false c.in_ok-count.ensures (none_in_front i.0 _ _ (properties_fail c.in_err-more.field-0.0 _ _ c.in_err-more.ensures)) i.4))
 
 pub each_block-smaller : goal.each_block-smaller
 each_block-smaller c =

@@ -12,13 +12,13 @@ pub returns-in_err-key : goal.returns-in_err-key
 returns-in_err-key c =
     let p = err_from_is_err_and c.from_residual.result c.from_residual.ensures.1 in
     let i = c.properties.invariant in
-    rw (p.1, p.2) (λ m. wanted_fails c.in_err-key.field-0.0 (wanted_of c.args.wanted) _ (values_fail c.in_err-key.field-0.0 property_at i.0 c.args.count c.properties.counter (position_of c.properties.here) _ c.properties-test.true (key_fails c.in_err-key.field-0.0 (position_of c.properties.here) (c.in_err-key.ensures m)) i.2))
+    rw (p.1, p.2) (wanted_fails c.in_err-key.field-0.0 (wanted_of c.args.wanted) _ (values_fail c.in_err-key.field-0.0 property_at i.0 c.args.count c.properties.counter (position_of c.properties.here) _ c.properties-test.true (key_fails c.in_err-key.field-0.0 (position_of c.properties.here) c.in_err-key.ensures) i.2))
 
 pub returns-in_err-value : goal.returns-in_err-value
 returns-in_err-value c =
     let p = err_from_is_err_and c.from_residual-in_err-value.result c.from_residual-in_err-value.ensures.1 in
     let i = c.properties.invariant in
-    rw (p.1, p.2) (λ m. wanted_fails c.in_err-value.field-0.0 (wanted_of c.args.wanted) _ (values_fail c.in_err-value.field-0.0 property_at i.0 c.args.count c.properties.counter (position_of c.properties.here) _ c.properties-test.true (bytes_fail c.in_err-value.field-0.0 (position_of c.properties.here) _ _ c.in_ok-key.ensures (c.in_err-value.ensures m)) i.2))
+    rw (p.1, p.2) (wanted_fails c.in_err-value.field-0.0 (wanted_of c.args.wanted) _ (values_fail c.in_err-value.field-0.0 property_at i.0 c.args.count c.properties.counter (position_of c.properties.here) _ c.properties-test.true (bytes_fail c.in_err-value.field-0.0 (position_of c.properties.here) _ _ c.in_ok-key.ensures c.in_err-value.ensures) i.2))
 
 pub properties-preserved : goal.properties-preserved
 properties-preserved c =

@@ -6,7 +6,7 @@ use Rattle.avro_file.proofs.leaf.text_of.Goals as goal
 
 pub returns-in_default : goal.returns-in_default
 unfolding string_at
-returns-in_default c = λ _. rw (c.in_ok-run.ensures, is_utf8-from_not c.in_ok-run.run'.now c.in_default.ensures.cases.0) refl
+returns-in_default c = rw (c.in_ok-run.ensures, is_utf8-from_not c.in_ok-run.run'.now c.in_default.ensures.cases.0) refl
 
 pub returns : goal.returns
 unfolding string_at

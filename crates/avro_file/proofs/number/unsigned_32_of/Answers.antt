@@ -6,10 +6,10 @@ use Rattle.avro_file.proofs.number.unsigned_32_of.Goals as goal
 pub returns-in_err-value : goal.returns-in_err-value
 returns-in_err-value c =
     let p = err_from_is_err_and c.from_residual.result c.from_residual.ensures.1 in
-    rw (p.1, p.2) (λ m. narrow_fails c.in_err-value.field-0.0 c.args.bytes.now (c.in_err-value.ensures m))
+    rw (p.1, p.2) (narrow_fails c.in_err-value.field-0.0 c.args.bytes.now c.in_err-value.ensures)
 
 pub returns-then-value-from : goal.returns-then-value-from
-returns-then-value-from c = λ _. narrow_large c.args.bytes.now c.in_ok-value.value c.in_ok-value.rest.now c.in_ok-value.ensures (omega arith)
+returns-then-value-from c = narrow_large c.args.bytes.now c.in_ok-value.value c.in_ok-value.rest.now c.in_ok-value.ensures (omega arith)
 
 pub returns : goal.returns
 returns c = narrow_found c.args.bytes.now c.in_ok-value.value c.in_ok-value.rest.now c.in_ok-value.ensures (omega arith)

@@ -8,7 +8,7 @@ pub returns-in_default : goal.returns-in_default
 returns-in_default c =
     let l = c.groups in
     let none : l.rest.now ≡ [] = nil_from_length _ c.in_default.ensures.cases in
-    λ _. ends_short l.value l.place l.counter c.args.bytes.now (omega (arith, l.invariant.most)) (rw none at l.invariant.read)
+    ends_short l.value l.place l.counter c.args.bytes.now (omega (arith, l.invariant.most)) (rw none at l.invariant.read)
 
 pub overflow_mul-result : goal.overflow_mul-result
 overflow_mul-result c =
@@ -60,13 +60,13 @@ pub returns-in_default-split_first : goal.returns-in_default-split_first
 returns-in_default-split_first c =
     let l = c.groups in
     let none : l.rest.now ≡ [] = nil_from_length _ c.in_default-split_first.ensures.cases in
-    λ _. ends_short l.value l.place l.counter c.args.bytes.now (omega (arith, l.invariant.most)) (rw none at l.invariant.read)
+    ends_short l.value l.place l.counter c.args.bytes.now (omega (arith, l.invariant.most)) (rw none at l.invariant.read)
 
 pub returns-then-last-gt1 : goal.returns-then-last-gt1
 returns-then-last-gt1 c =
     let l = c.groups in
     let read = rw c.in-Some-split_first.ensures.cases.0 at l.invariant.read in
-    λ _. ends_large l.value l.place l.counter c.in-Some-split_first.last.now c.in-Some-split_first.after.now c.args.bytes.now (omega (arith, l.invariant.most, c.groups-test.false)) l.invariant.place (omega (arith, c.if-last-gt1.true)) read
+    ends_large l.value l.place l.counter c.in-Some-split_first.last.now c.in-Some-split_first.after.now c.args.bytes.now (omega (arith, l.invariant.most, c.groups-test.false)) l.invariant.place (omega (arith, c.if-last-gt1.true)) read
 
 pub returns : goal.returns
 returns c =

@@ -1,11 +1,13 @@
-use Rattle.std.proofs.Common.{◌≡◌, []}
+use Rattle.std.proofs.Common.{◌≡◌}
 use Rattle.avro_file.specs.Ahead.{still_ahead}
 use Rattle.avro_file.specs.Files.{ahead}
+use Rattle.ice_manifest.specs.Seen.{fields_seen}
 use Rattle.ice_manifest.specs.Lists.{rows_ahead}
+use Rattle.ice_manifest.proofs.Reading.{joined}
 use Rattle.ice_manifest.proofs.list.all_rows.Given as goal
 
 abbrev pub invariant-objects : goal.invariant-objects
-invariant-objects l = rows_ahead l.layout l.rows.items (ahead l.container) ≡ rows_ahead l.layout [] (ahead l.initial.container)
+invariant-objects l = joined l.rows.items (rows_ahead (fields_seen l.fields) (ahead l.reader)) ≡ rows_ahead (fields_seen l.fields) (ahead l.initial.reader)
 
 abbrev pub decreases-objects : goal.decreases-objects
-decreases-objects l = still_ahead (ahead l.container)
+decreases-objects l = still_ahead (ahead l.reader)

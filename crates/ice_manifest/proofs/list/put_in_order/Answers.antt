@@ -4,7 +4,7 @@ use Rattle.std.specs.List.{dedup}
 use Rattle.std.proofs.lemmas.Cmp.{nat_list_cmp_total}
 use Rattle.std.proofs.lemmas.List.Sorted.{answers_always, ranks_by}
 use Rattle.ice_manifest.proofs.Steps.{deduped, contents_alike}
-use Rattle.ice_value.proofs.Sorted.{sorted_from_sort}
+use Rattle.contract_words.proofs.Sorted.{sorted_from_sort}
 use Rattle.ice_manifest.specs.declared.row.Row.{Row}
 use Rattle.ice_manifest.specs.Lists.{path_before, same_row}
 use Rattle.ice_manifest.proofs.list.put_in_order.Goals as goal

@@ -1,6 +1,11 @@
-use Rattle.std.proofs.Common.{◌≡◌, take, map, filter}
+use Rattle.std.proofs.Common.{◌≡◌, ◌&&◌, length, take, map, filter}
 use Rattle.ice_state.specs.Applying.{applies}
+use Rattle.ice_state.specs.Lines.{entries_at, AreWithin}
+use Rattle.ice_state.specs.Pruning.{holds}
 use Rattle.ice_state.proofs.finish.applying.Given as goal
 
-abbrev pub invariant-deletes : goal.invariant-deletes
-invariant-deletes l = map (λ d. d.now) l.found.items ≡ filter (λ d. applies l.x d) (map (λ d. d.now) (take l.d-index l.deletes))
+abbrev pub invariant-loop-i : goal.invariant-loop-i
+invariant-loop-i l = record {
+  at : entries_at (map (λ d. d.now) l.deletes) l.places ≡ filter (λ d. holds l.content d && applies l.x d) (take l.i (map (λ d. d.now) l.deletes));
+  within : AreWithin (length l.deletes) l.places;
+}

@@ -1,4 +1,4 @@
-use Rattle.ice_state.proofs.Lines.{applies-decides}
+use Rattle.ice_state.proofs.Planned.{applies-decides}
 use Rattle.ice_state.proofs.laws.applying.Goals as goal
 
 pub returns : goal.returns

@@ -1,4 +1,4 @@
-use Rattle.ice_state.proofs.Lines.{files_of, positions_of, equalities_of}
+use Rattle.ice_state.proofs.Planned.{files_of, positions_of, equalities_of}
 use Rattle.ice_state.proofs.laws.planning.Goals as goal
 
 pub returns : goal.returns

@@ -1,6 +1,6 @@
 use Rattle.std.proofs.Common.{arith}
 use Rattle.ice_state.specs.Outcomes.{by_path, path_before}
-use Rattle.ice_value.proofs.Sorted.{sorted_rises}
+use Rattle.contract_words.proofs.Sorted.{sorted_rises}
 use Rattle.ice_state.proofs.Sharing.{order, none_shared, least_shared, count-by_path}
 use Rattle.ice_state.proofs.laws.sharing_paths.Goals as goal
 

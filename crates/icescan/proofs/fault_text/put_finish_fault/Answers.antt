@@ -16,4 +16,4 @@ returns-in_ok-write_all-in-Bad g c = rw c.in-Bad.is (wrote_more _ _ _ _ _ _ _ _ 
 
 pub returns-in-PathTwice : goal.returns-in-PathTwice
 unfolding finish_text
-returns-in-PathTwice g c = rw c.in-PathTwice.is (rw c.as_bytes-in-PathTwice.ensures at c.put_named_path-in-PathTwice.ensures)
+returns-in-PathTwice g c = rw c.in-PathTwice.is (rw c.as_slice.ensures at c.put_named_path-in-PathTwice.ensures)

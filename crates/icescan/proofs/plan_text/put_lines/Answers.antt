@@ -1,15 +1,22 @@
-use Rattle.std.proofs.Common.{◌≤◌, ◌+◌, arith, length, ap, vec_len}
-use Rattle.std.proofs.lemmas.Grind.{common_steps}
-use Rattle.ice_state.specs.Shown.{shown}
-use Rattle.icescan.proofs.Texts.{line_fits}
+use Rattle.std.proofs.Common.{◌≤◌, add-one, length, refl}
+use Rattle.icescan.specs.PlanTexts.{line_text}
+use Rattle.icescan.proofs.Sends.{flat_all, flat_cut, flat_next, sent_less, sent_more, sent_none}
 use Rattle.icescan.proofs.plan_text.put_lines.Goals as goal
 
--- the delete lines so far are no more than the bytes
-few : (c : goal.After-len-in-loop-line) → c.loop-line.deletes + (c.len.result + c.len-in-loop-line.result) ≤ vec_len c.put_line.new.out
-few c = grind (arith, common_steps, line_fits (shown c.line-item.result), ap length c.in_ok-put_line.ensures)
+pub loop-i-init : goal.loop-i-init
+loop-i-init g c = sent_none _ _ _ _ _
 
-pub overflow_add-deletes-in-loop-line : goal.overflow_add-deletes-in-loop-line
-overflow_add-deletes-in-loop-line c = omega (arith, few c, c.put_line.new.out.small, c.put_line.new.out.ok.1)
+pub returns-in_err-put_line : goal.returns-in_err-put_line
+returns-in_err-put_line g c =
+    rw (flat_cut line_text c.args.lines.now c.loop-i.i c.line.result c.line.ensures)
+    (sent_more _ _ _ _ _ _ _ _ _ _ _ _ c.loop-i.invariant (sent_less _ _ _ _ _ _ _ _ _ _ _ c.from_residual.ensures.0 c.in_err-put_line.ensures))
 
-pub loop-line-preserved : goal.loop-line-preserved
-loop-line-preserved c = record { text = grind (arith, common_steps); count = grind (arith, common_steps); fits = few c }
+pub loop-i-preserved : goal.loop-i-preserved
+loop-i-preserved g c =
+    rw (add-one, flat_next line_text c.args.lines.now c.loop-i.i c.line.result c.line.ensures)
+    (sent_more _ _ _ _ _ _ _ _ _ _ _ _ c.loop-i.invariant c.in_ok-put_line.ensures)
+
+pub returns : goal.returns
+returns g c =
+    let low : length c.args.lines.now ≤ c.loop-i.i = rw c.len-i-end.ensures at c.loop-i-test.false in
+    rw (flat_all line_text c.args.lines.now c.loop-i.i low) at c.loop-i.invariant

@@ -1,8 +1,9 @@
-use Rattle.std.proofs.Common.{◌≡◌, ◌++◌, take, map}
+use Rattle.std.proofs.Common.{take, Ok}
 use Rattle.std.specs.List.{flat_map}
 use Rattle.icescan.specs.PlanTexts.{position_text}
+use Rattle.icescan.specs.Written.{Sent}
 use Rattle.icescan.proofs.plan_text.put_positions.Given as goal
 
--- what was put so far is the text of the entries so far
-abbrev pub invariant-loop-entry : goal.invariant-loop-entry
-invariant-loop-entry l = l.out.items ≡ l.fn.out.items ++ flat_map position_text (map (λ d. d.now) (take l.entry-index l.entries))
+-- the texts so far were sent
+abbrev pub invariant-loop-i : goal.invariant-loop-i
+invariant-loop-i g l = Sent g.S.Sink.taken g.S.Sink.may_fail l.fn.sink l.fn.page (Ok tt) l.sink l.page (flat_map position_text (take l.i l.files))

@@ -1,9 +1,10 @@
-use Rattle.std.proofs.Common.{refl, ◌∙◌}
+use Rattle.std.proofs.Common.{refl, ap, ◌∙◌}
 use Rattle.std.proofs.lemmas.Result.{err_from_is_err_and, IfOk-weaker, IfErr-weaker}
 use Rattle.ice_state.specs.Contents.{World}
 use Rattle.icescan.specs.Bundles.{bytes_at}
 use Rattle.icescan.specs.ListPlans.{answer, reads}
-use Rattle.icescan.specs.Runs.{bundle_plan}
+use Rattle.icescan.specs.Runs.{as_text, bundle_text}
+use Rattle.icescan.specs.PlanTexts.{plan_text}
 use Rattle.icescan.proofs.Refusals.{bundle_ran, no_file, plan_from, ends_refused}
 use Rattle.icescan.proofs.Steps.{never_fails}
 use Rattle.icescan.proofs.words.plan_bundle.Goals as goal
@@ -25,8 +26,8 @@ returns g c =
     let same = plan_from c.args.text.now ⊥ bundle c.in_ok-bundle.ensures list c.in-Some.ensures in
     let ran = c.run_list_plan.ensures in
     record {
-      written = IfOk-weaker c.run_list_plan.result _ _ (λ _ w. (w.0, same ∙ w.1, w.2)) (ran.written world refl);
-      refused = IfErr-weaker c.run_list_plan.result _ _ (λ e h. ends_refused (answer world list) (bundle_plan c.args.text.now) _ (g.W.Sink.may_fail c.args.output.now) e (never_fails world (reads world list)) same h) (ran.refused world refl);
+      written = IfOk-weaker c.run_list_plan.result _ _ (λ _ w. (plan_text w.0, same ∙ ap as_text w.1, w.2)) (ran.written world refl);
+      refused = IfErr-weaker c.run_list_plan.result _ _ (λ e h. ends_refused (answer world list) (bundle_text c.args.text.now) _ (g.W.Sink.may_fail c.args.output.now) e (never_fails world (reads world list)) same h) (ran.refused world refl);
       nothing = ran.nothing;
-      front = λ failed. let w = ran.front world refl failed in (w.0, same ∙ w.1, w.2);
+      front = λ failed. let w = ran.front world refl failed in (plan_text w.0, same ∙ ap as_text w.1, w.2);
     }

@@ -1,6 +1,6 @@
 use Rattle.std.proofs.Common.{ap, sym, ◌∙◌, map, string_bytes}
 use Rattle.std.proofs.lemmas.Result.{err_from_is_err_and}
-use Rattle.icescan.specs.Runs.{bundle_plan}
+use Rattle.icescan.specs.Runs.{bundle_text}
 use Rattle.icescan.proofs.Refusals.{is_left, left_of, ran_as, run_is, unread_ran, words_ran}
 use Rattle.icescan.proofs.words.run.Goals as goal
 
@@ -19,5 +19,5 @@ returns-in_err-text-clause-ran g c =
 pub returns-clause-ran : goal.returns-clause-ran
 returns-clause-ran g c =
     let text = c.in_ok-text.text.items in
-    let same = run_is (map string_bytes c.args.words.now) text c.in_ok-check_words.ensures ∙ ap bundle_plan (sym c.deref.ensures.value) in
+    let same = run_is (map string_bytes c.args.words.now) text c.in_ok-check_words.ensures ∙ ap bundle_text (sym c.deref.ensures.value) in
     (text, c.in_ok-text.ensures.all, ran_as _ _ (g.W.Sink.may_fail c.args.output.now) c.plan_bundle.result _ _ same c.plan_bundle.ensures)

@@ -11,4 +11,4 @@ pub returns-in-Err-clause-run : goal.returns-in-Err-clause-run
 returns-in-Err-clause-run g c =
     let w = c.in-Err.ensures.ran in
     let ran = w.2 in
-    (w.0, w.1, inr (record { fault = c.in-Err.fault; cause = ran.refused; status_is = c.report.ensures.status; nothing = ran.nothing; front = λ is. ran.front (ap Err is); told = c.report.ensures.front }))
+    (w.0, w.1, inr (record { fault = c.in-Err.fault; cause = ran.refused; status_is = c.report.ensures.status; nothing = ran.nothing; front = λ is. ran.front (ap Err is); told = record { front = c.report.ensures.front; all = c.report.ensures.all } }))

@@ -1,21 +1,29 @@
-use Rattle.std.proofs.Common.{◌∙◌, ◌≡◌, ap, subst, rules, refl, length, get_or, List}
+use Rattle.std.proofs.Common.{◌∙◌, ◌≡◌, ap, subst, sym, rules, refl, length, get_or, List}
 use Rattle.ice_manifest.specs.declared.row.Row.{Row}
 use Rattle.ice_state.specs.Contents.{Content, took}
 use Rattle.ice_state.proofs.Contents.{with_row-took, took-in_world, length-took}
+use Rattle.ice_state.proofs.Scans.{spec_at-row}
+use Rattle.ice_state.proofs.Specs.{spec_has_id}
 use Rattle.ice_state.proofs.partial.Partial.take.Goals as goal
 
-pub returns-then-is_taken-clause-ok : goal.returns-then-is_taken-clause-ok
-returns-then-is_taken-clause-ok c =
-    subst (λ (s : Content). s ≡ took c.args.scan.now s c.args.i c.args.bytes.now) (c.deref.ensures.value ∙ c.self.view_is) (c.is_taken.ensures.kept (search rules) c.args.scan.now c.args.bytes.now)
+pub read-requires : goal.read-requires
+read-requires c =
+    let row = c.index-wanted-i.is ∙ ap (λ (rs : List Row). get_or rs c.args.i c.index-wanted-i.result) c.wanted.ensures in
+    let scan = c.args.scan.now in
+    spec_has_id scan.specs c.index-wanted-i.result.spec_id c.spec_of.result.now (sym (spec_at-row scan.specs scan.wanted c.args.i c.index-wanted-i.result c.requires.row row) ∙ c.spec_of.ensures)
 
-pub returns-then-is_taken-clause-world : goal.returns-then-is_taken-clause-world
-returns-then-is_taken-clause-world c = λ world ts is has. took-in_world world _ ts _ _ _ _ (returns-then-is_taken-clause-ok c) is has
+pub returns-then-is_slot_taken-clause-ok : goal.returns-then-is_slot_taken-clause-ok
+returns-then-is_slot_taken-clause-ok c =
+    subst (λ (s : Content). s ≡ took c.args.scan.now s c.args.i c.args.bytes.now) (c.deref.ensures.value ∙ c.self.view_is) (c.is_slot_taken.ensures.kept (search rules) c.args.scan.now c.args.bytes.now)
+
+pub returns-then-is_slot_taken-clause-world : goal.returns-then-is_slot_taken-clause-world
+returns-then-is_slot_taken-clause-world c = λ world ts is has. took-in_world world _ ts _ _ _ _ (returns-then-is_slot_taken-clause-ok c) is has
 
 pub returns-clause-ok : goal.returns-clause-ok
 returns-clause-ok c =
     let row = c.index-wanted-i.is ∙ ap (λ (rs : List Row). get_or rs c.args.i c.index-wanted-i.result) c.wanted.ensures in
     let step = with_row-took c.args.scan.now c.self.inside.slots.items c.args.scan.now.wanted c.args.i c.args.bytes.now c.index-wanted-i.result c.spec_of.result.now c.requires.row row c.spec_of.ensures in
-    rw (c.put_row.ensures, c.in_ok-reading.ensures, step, c.self.view_is) refl
+    rw (c.put_row.ensures, c.in_ok-reading.ensures, c.pruning.ensures, step, c.self.view_is) refl
 
 pub returns-clause-world : goal.returns-clause-world
 returns-clause-world c = λ world ts is has. took-in_world world _ ts _ _ _ _ (returns-clause-ok c) is has

@@ -1,0 +1,103 @@
+-- What the steps of writing a value leave.
+use Rattle.std.proofs.Common.{◌≡◌, ℕ, zero, suc, ◌+◌, ◌*◌, ◌/◌, ◌%◌, ◌^◌, ◌<◌, ◌≤◌, pos, List, [], ◌∷◌, ◌++◌, length, get_or, drop, refl, sym, ap, ◌∙◌, append_assoc, add-one, drop-cons, arith, rules, Vec, Box, String, Global, string_bytes}
+use Rattle.std.proofs.lemmas.Bool.{lt-ltb, le-ltb}
+use Rattle.std.proofs.Math.Nat.{pow-suc}
+use Rattle.std.proofs.Math.ListN.{drop_of_length-le}
+use Rattle.avro_file.specs.declared.datum.Datum as datum
+use Rattle.avro_file.specs.declared.datum.Datum.{Datum}
+use Rattle.avro_file.specs.Value.{items, values_of, entries_of}
+use Rattle.avro_file.specs.View.{view, views, entry_views}
+use Rattle.avro_file.specs.Writing.{groups_of, long_bytes, run_bytes, block_bytes, written, all_written, entries_written}
+use Rattle.avro_file.proofs.Views.{view-Union, view-Map}
+use Rattle.avro_file.proofs.Taken.{values_len-values_of, entries_len-entries_of}
+
+-- ---- numbers
+
+pub divided : (n t : ℕ) → n < 128 ^ suc (suc t) → n / 128 < 128 ^ suc t
+divided n t lt = let p : 128 ^ suc (suc t) ≡ 128 ^ suc t * 128 = pow-suc 128 (suc t) in omega (arith, lt, p)
+
+pub one_group : (n : ℕ) → n < 128 ^ suc 0 → n < 128
+one_group n lt = omega (arith, lt)
+
+pub record GroupsGoOn (rest : ℕ) (front total : List ℕ) : Type 0 where
+  pub turns : ℕ
+  pub fits : rest / 128 < 128 ^ suc turns
+  pub so_far : (front ++ (rest % 128 + 128) ∷ []) ++ groups_of (suc turns) (rest / 128) ≡ total
+
+groups_next : (t rest : ℕ) → 128 ≤ rest → groups_of (suc t) rest ≡ (rest % 128 + 128) ∷ groups_of t (rest / 128)
+unfolding groups_of
+groups_next t rest le = rw (le-ltb _ _ le) refl
+
+pub groups_on : (t rest : ℕ) (front total : List ℕ) → 128 ≤ rest → rest < 128 ^ suc t → front ++ groups_of (suc t) rest ≡ total → GroupsGoOn rest front total
+groups_on zero rest front total le lt so_far = absurd (omega (arith, le, one_group rest lt))
+groups_on (suc t) rest front total le lt so_far = record {
+  turns = t;
+  fits = divided rest t lt;
+  so_far = append_assoc front ((rest % 128 + 128) ∷ []) (groups_of (suc t) (rest / 128)) ∙ ap (λ (s : List ℕ). front ++ s) (sym (groups_next (suc t) rest le)) ∙ so_far;
+}
+
+pub groups_end : (t rest : ℕ) → rest < 128 → groups_of (suc t) rest ≡ rest ∷ []
+unfolding groups_of
+groups_end t rest lt = rw (lt-ltb _ _ lt) refl
+
+pub ten_groups : (n : ℕ) → n < 2 ^ 64 → n < 128 ^ suc 9
+ten_groups n lt = omega (arith, lt)
+
+-- ---- values that hold others
+
+view-Array : (v : Vec Datum Global) → view (datum.Array v) ≡ items (values_of (views v.items))
+view-Array v = search (rules, datum.the_lemmas)
+
+views_len : (ds : List Datum) → length (views ds) ≡ length ds
+views_len [] = refl
+views_len (d ∷ ds) = ap suc (views_len ds)
+
+entry_views_len : (es : List (String Global × Datum)) → length (entry_views es) ≡ length es
+entry_views_len [] = refl
+entry_views_len (e ∷ es) = ap suc (entry_views_len es)
+
+pub array_written : (v : Vec Datum Global) → written (view (datum.Array v)) ≡ block_bytes (length v.items) (all_written (values_of (views v.items)))
+unfolding written
+array_written v = rw (view-Array v, values_len-values_of (views v.items), views_len v.items) refl
+
+pub map_written : (v : Vec (String Global × Datum) Global) → written (view (datum.Map v)) ≡ block_bytes (length v.items) (entries_written (entries_of (entry_views v.items)))
+unfolding written
+map_written v = rw (view-Map v, entries_len-entries_of (entry_views v.items), entry_views_len v.items) refl
+
+pub union_written : (n : ℕ) (b : Box Datum Global) → written (view (datum.Union n b)) ≡ long_bytes (pos n) ++ written (view b.value)
+unfolding written
+union_written n b = rw (view-Union n b) refl
+
+all_next : (ds : List Datum) (i : ℕ) (d : Datum) → i < length ds → d ≡ get_or ds i d → all_written (values_of (views (drop i ds))) ≡ written (view d) ++ all_written (values_of (views (drop (i + 1) ds)))
+unfolding all_written
+all_next ds i d lt is =
+    let k : drop i ds ≡ d ∷ drop (i + 1) ds = drop-cons ds i d lt ∙ rw (← is, add-one) refl in
+    rw k refl
+
+pub all_on : (ds : List Datum) (i : ℕ) (d : Datum) (old new total : List ℕ) → i < length ds → d ≡ get_or ds i d → new ≡ old ++ written (view d)
+    → old ++ all_written (values_of (views (drop i ds))) ≡ total → new ++ all_written (values_of (views (drop (i + 1) ds))) ≡ total
+all_on ds i d old new total lt is e so_far =
+    let rest = all_written (values_of (views (drop (i + 1) ds))) in
+    ap (λ (s : List ℕ). s ++ rest) e ∙ append_assoc old (written (view d)) rest ∙ ap (λ (s : List ℕ). old ++ s) (sym (all_next ds i d lt is)) ∙ so_far
+
+pub all_over : (ds : List Datum) (i : ℕ) → length ds ≤ i → all_written (values_of (views (drop i ds))) ≡ []
+unfolding all_written
+all_over ds i le = let k : drop i ds ≡ [] = drop_of_length-le ds le in rw k refl
+
+pairs_next : (es : List (String Global × Datum)) (i : ℕ) (e : String Global × Datum) → i < length es → e ≡ get_or es i e
+    → entries_written (entries_of (entry_views (drop i es))) ≡ (run_bytes (string_bytes e.0) ++ written (view e.1)) ++ entries_written (entries_of (entry_views (drop (i + 1) es)))
+unfolding entries_written
+pairs_next es i e lt is =
+    let k : drop i es ≡ e ∷ drop (i + 1) es = drop-cons es i e lt ∙ rw (← is, add-one) refl in
+    rw k refl
+
+pub pairs_on : (es : List (String Global × Datum)) (i : ℕ) (e : String Global × Datum) (key old mid new total : List ℕ) → i < length es → e ≡ get_or es i e → key ≡ string_bytes e.0 → mid ≡ old ++ run_bytes key → new ≡ mid ++ written (view e.1)
+    → old ++ entries_written (entries_of (entry_views (drop i es))) ≡ total → new ++ entries_written (entries_of (entry_views (drop (i + 1) es))) ≡ total
+pairs_on es i e key old mid new total lt is k f g so_far =
+    let rest = entries_written (entries_of (entry_views (drop (i + 1) es))) in
+    let here : new ≡ old ++ (run_bytes (string_bytes e.0) ++ written (view e.1)) = g ∙ ap (λ (s : List ℕ). s ++ written (view e.1)) (f ∙ ap (λ (s : List ℕ). old ++ run_bytes s) k) ∙ append_assoc old (run_bytes (string_bytes e.0)) (written (view e.1)) in
+    ap (λ (s : List ℕ). s ++ rest) here ∙ append_assoc old (run_bytes (string_bytes e.0) ++ written (view e.1)) rest ∙ ap (λ (s : List ℕ). old ++ s) (sym (pairs_next es i e lt is)) ∙ so_far
+
+pub pairs_over : (es : List (String Global × Datum)) (i : ℕ) → length es ≤ i → entries_written (entries_of (entry_views (drop i es))) ≡ []
+unfolding entries_written
+pairs_over es i le = let k : drop i es ≡ [] = drop_of_length-le es le in rw k refl

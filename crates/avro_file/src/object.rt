@@ -1,0 +1,35 @@
+//! An object of a file.
+
+ghost use Rattle.std.specs.Prelude.{◌≡◌, IfOk};
+
+use crate::blocks::object_of;
+use crate::datum::Datum;
+use avro_schema::Schema;
+use std::alloc::{AllocError, Global};
+
+/// An object of a file, which was checked whole. It lends the file's bytes and owns nothing.
+#[derive(Clone, Copy, Debug)]
+pub struct Object<'a> {
+    pub(crate) schema: &'a Schema,
+    pub(crate) bytes: &'a [u8],
+}
+
+impl<'a> Object<'a> {
+    ghost use Rattle.avro_file.specs.Files.{Shows};
+    ghost use Rattle.avro_file.specs.View.{view};
+    ghost use Rattle.avro_file.specs.Value.{Value};
+
+    /// The object as a tree, which is built now.
+    pub fn datum(self, alloc: Global) -> Result<Datum, AllocError>
+        ensures { (v : Value) → Shows self.entry v → IfOk result (λ datum. view datum ≡ v) }
+    {
+        match object_of(alloc, self.schema, self.bytes) {
+            Ok((datum, _)) => Ok(datum),
+            // It was checked, so that only memory can lack.
+            Err(_) => Err(AllocError),
+        }
+    }
+
+    /// Lets go of the object, of which nothing was built.
+    pub fn skip(self) {}
+}

@@ -1,0 +1,13 @@
+//! Words that the contracts of every crate use, and the small types that hold lists and texts where contracts compare
+//! them. docs/CONTRACT_WORDS.md explains them.
+#![tactic(auto)]
+
+mod duplicate;
+mod items;
+#[cfg(test)]
+mod tests;
+mod text;
+
+pub use duplicate::Duplicate;
+pub use items::Items;
+pub use text::Text;

@@ -1,0 +1,5 @@
+pub mod Found
+pub mod Groups
+pub mod Indexes
+pub mod Keys
+pub mod Shelves

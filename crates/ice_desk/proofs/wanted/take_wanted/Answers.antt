@@ -1,0 +1,61 @@
+use Rattle.std.proofs.Common.{◌≡◌, ◌<◌, ◌≤◌, Some, Bool, true, false, arith, add-one, ap, drop, length, refl, suc, sym, ◌∙◌}
+use Rattle.ice_state.specs.Contents.{is_row_taken}
+use Rattle.ice_desk.proofs.Taking.{again, begins, behind_more, ends, goes_on, has_bytes, has_next, reads_next, reads_none, same_taken, skips, stops_later, took_behind}
+use Rattle.ice_desk.proofs.wanted.take_wanted.Goals as goal
+
+pub loop-i-init : goal.loop-i-init
+loop-i-init g c = record {
+  of_scan = c.requires;
+  behind = refl;
+  taken = λ world ts told h. begins world c.args.scan.now c.args.state.now ts h;
+  present = λ world told h. h;
+  ahead = λ world told e h. h;
+}
+
+pub loop-i-preserved-then-is_taken : goal.loop-i-preserved-then-is_taken
+loop-i-preserved-then-is_taken g c =
+    let scan = c.args.scan.now in
+    let i = c.loop-i.i in
+    let kept = c.loop-i.invariant in
+    let l : i < length scan.wanted = rw c.wanted-row-items.ensures at c.loop-i-test.true in
+    let t : is_row_taken c.loop-i.state i ≡ true = sym c.is_taken.ensures ∙ c.if-is_taken.true in
+    let next = skips c.args.state.now scan.wanted i (sym (same_taken c.loop-i.state c.args.state.now i kept.behind) ∙ t) in
+    record {
+      of_scan = kept.of_scan;
+      behind = rw add-one (behind_more _ _ i kept.behind);
+      taken = λ world ts told h. rw add-one (goes_on world scan c.loop-i.state ts i (omega (arith, l, h.flags)) (again world scan c.loop-i.state ts i t (kept.taken world ts told h)));
+      present = λ world told h. kept.present world told (rw next (rw add-one at h));
+      ahead = λ world told e h. kept.ahead world told e (rw next (rw add-one at h));
+    }
+
+pub loop-i-preserved : goal.loop-i-preserved
+loop-i-preserved g c =
+    let scan = c.args.scan.now in
+    let row = c.row-item.result in
+    let i = c.loop-i.i in
+    let kept = c.loop-i.invariant in
+    let l : i < length scan.wanted = rw c.wanted-row-items.ensures at c.loop-i-test.true in
+    let here = rw c.wanted-row-items.ensures at c.row-item.is in
+    let f : is_row_taken c.loop-i.state i ≡ false = sym c.is_taken.ensures ∙ c.if-is_taken.false in
+    let next = reads_next c.args.state.now scan.wanted i row c.requires l here (sym (same_taken c.loop-i.state c.args.state.now i kept.behind) ∙ f) in
+    record {
+      of_scan = c.in_ok-take.ensures.of_scan;
+      behind = rw add-one (ap (drop (suc i)) c.in_ok-take.ensures.ok ∙ took_behind scan c.loop-i.state scan.wanted i c.deref.result.now ∙ behind_more _ _ i kept.behind);
+      taken = λ world ts told h.
+          let found = rw (told, c.as_str.ensures, ← c.deref.ensures.value) at c.in_ok-bytes.ensures.found in
+          rw add-one (goes_on world scan c.take.new.self ts i (omega (arith, l, h.flags)) (c.in_ok-take.ensures.world world _ (kept.taken world ts told h) (has_bytes world scan.wanted i row c.deref.result.now l here found)));
+      present = λ world told h.
+          let found = rw (told, c.as_str.ensures) at c.in_ok-bytes.ensures.found in
+          kept.present world told (rw next (has_next world row _ c.in_ok-bytes.bytes.items found (rw add-one at h)));
+      ahead = λ world told e h.
+          let found = rw (told, c.as_str.ensures) at c.in_ok-bytes.ensures.found in
+          kept.ahead world told e (rw next (stops_later world (g.F.Files.may_fail c.args.files.now) row.path c.in_ok-bytes.bytes.items _ e found (rw add-one at h)));
+    }
+
+pub returns-clause-taken : goal.returns-clause-taken
+returns-clause-taken g c =
+    let scan = c.args.scan.now in
+    let low : length scan.wanted ≤ c.loop-i.i = rw c.wanted-row-items.ensures at c.loop-i-test.false in
+    let high : c.loop-i.i ≤ length scan.wanted = rw c.wanted-row-items.ensures at c.loop-i.auto.i-end in
+    let e : c.loop-i.i ≡ length scan.wanted = omega arith in
+    λ world ts told h. ends world scan c.loop-i.state ts h.flags (rw e at (c.loop-i.invariant.taken world ts told h))

@@ -1,0 +1,15 @@
+pub mod Frames
+pub mod Quotes
+pub mod Runs
+pub mod Complete
+pub mod Steps
+pub mod Halts
+pub mod Shapes
+pub mod Sound
+pub mod Stacks
+pub mod Mapped
+pub mod Tokens
+pub mod Utf
+pub mod Answering
+pub mod Lists
+pub mod Unique

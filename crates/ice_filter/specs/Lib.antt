@@ -1,0 +1,10 @@
+pub mod Automaton
+pub mod Binding
+pub mod Grammar
+pub mod Lexing
+pub mod Parsing
+pub mod Reads
+pub mod Rebuilding
+pub mod Rows
+pub mod Trees
+pub mod Truths

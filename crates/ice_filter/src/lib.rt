@@ -1,0 +1,30 @@
+//! Filters of rows: their language, and what is kept of a filter once its columns are known, and what it means on a row.
+#![tactic(auto)]
+
+mod binding;
+mod bound;
+mod fault;
+mod filter;
+#[cfg(test)]
+mod language_tests;
+mod laws;
+mod leaf;
+mod lexer;
+mod parser;
+mod parts;
+mod readings;
+#[cfg(test)]
+mod tests;
+mod token;
+mod truths;
+
+pub use binding::bind;
+pub use bound::{Bound, BoundLeaf, Test};
+pub use fault::FilterFault;
+pub use filter::Filter;
+pub use laws::{filters_of_parts, filters_over_other_leaves};
+pub use leaf::{Choices, Column, Leaf, Literal, Question};
+pub use parser::parse;
+pub use parts::{LeafTest, Part, Parts};
+pub use readings::{and_binds_closer_than_or, texts_have_one_reading, tokens_say_one_filter};
+pub use token::Comparison;

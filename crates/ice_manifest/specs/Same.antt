@@ -1,0 +1,92 @@
+-- What is read of a file is what its fields with the ids of this crate say, whatever else it holds: other fields,
+-- names, documentation, and how its objects lie in blocks. Apache Iceberg table spec v2, "Column Projection".
+use Rattle.std.specs.Prelude.{◌≡◌, ℕ, pos, List, [], ◌∷◌, Option, Some, None, Result, Ok, Err}
+use Rattle.avro_schema.specs.Tree.{structure, Fields}
+use Rattle.avro_file.specs.declared.fault.AvroFault.{AvroFault}
+use Rattle.avro_file.specs.Value.{Value}
+use Rattle.avro_file.specs.Picking.{Typed, pick}
+use Rattle.ice_meta.specs.declared.spec.Spec.{Spec}
+use Rattle.ice_manifest.specs.declared.row.Row.{Row}
+use Rattle.ice_manifest.specs.Fields.{at, there, text_of, record_of, items_of, optional_long, optional_truth, optional_binary}
+use Rattle.ice_manifest.specs.Lists.{rows_of}
+use Rattle.ice_manifest.specs.Manifests.{live_of}
+use Rattle.ice_manifest.specs.Laws.{IsList, IsManifest}
+
+-- ---- entries
+
+-- records that say the same in each field of a data file that is read
+pub record SameFile (x y : Typed) : Type 0 where
+  pub content : optional_long (pos 134) x ≡ optional_long (pos 134) y
+  pub path : text_of (there (at (pos 100) x)) ≡ text_of (there (at (pos 100) y))
+  pub record_count : optional_long (pos 103) x ≡ optional_long (pos 103) y
+  pub file_size : optional_long (pos 104) x ≡ optional_long (pos 104) y
+  pub equality_ids : items_of (there (at (pos 135) x)) ≡ items_of (there (at (pos 135) y))
+
+abbrev pub BothSame : (Typed → Typed → Type 0) → Option Typed → Option Typed → Type 0
+BothSame Same None None = Unit {0}
+BothSame Same (Some x) (Some y) = Same x y
+BothSame Same x y = ⊥
+
+-- objects that say the same in each field of an entry that is read
+pub record SameEntry (x y : Typed) : Type 0 where
+  pub status : optional_long (pos 0) x ≡ optional_long (pos 0) y
+  pub snapshot_id : optional_long (pos 1) x ≡ optional_long (pos 1) y
+  pub sequence_number : optional_long (pos 3) x ≡ optional_long (pos 3) y
+  pub file_sequence_number : optional_long (pos 4) x ≡ optional_long (pos 4) y
+  pub file : BothSame SameFile (record_of (there (at (pos 2) x))) (record_of (there (at (pos 2) y)))
+
+-- object by object
+abbrev pub EachSame : (Typed → Typed → Type 0) → Fields → Fields → List Value → List Value → Type 0
+EachSame Same fs gs [] [] = Unit {0}
+EachSame Same fs gs (v ∷ vs) (w ∷ ws) = Same (structure fs, v) (structure gs, w) × EachSame Same fs gs vs ws
+EachSame Same fs gs vs ws = ⊥
+
+-- two manifests whose objects say the same in these fields give the same
+abbrev pub SkipsOtherFieldsOfEntries : Type 0
+SkipsOtherFieldsOfEntries = (row : Row) (spec : Spec) (bytes other : List ℕ) (fs gs : Fields) (vs ws : List Value)
+    (ending : Option AvroFault)
+    → IsManifest bytes fs vs ending → IsManifest other gs ws ending → EachSame SameEntry fs gs vs ws
+    → live_of row spec bytes ≡ live_of row spec other
+
+-- ---- rows
+
+-- records that say the same in each field of a summary
+pub record SameSummary (x y : Typed) : Type 0 where
+  pub contains_null : optional_truth (pos 509) x ≡ optional_truth (pos 509) y
+  pub contains_nan : optional_truth (pos 518) x ≡ optional_truth (pos 518) y
+  pub lower : optional_binary (pos 510) x ≡ optional_binary (pos 510) y
+  pub upper : optional_binary (pos 511) x ≡ optional_binary (pos 511) y
+
+-- item by item
+abbrev pub SameItems : List Typed → List Typed → Type 0
+SameItems [] [] = Unit {0}
+SameItems (x ∷ xs) (y ∷ ys) = BothSame SameSummary (record_of (there (pick [] x))) (record_of (there (pick [] y)))
+    × SameItems xs ys
+SameItems xs ys = ⊥
+
+abbrev pub SameList : Typed → Typed → Type 0
+SameList x y = SameItems (items_of (Some x)) (items_of (Some y))
+
+-- objects that say the same in each field of a row that is read
+pub record SameRow (x y : Typed) : Type 0 where
+  pub path : text_of (there (at (pos 500) x)) ≡ text_of (there (at (pos 500) y))
+  pub length : optional_long (pos 501) x ≡ optional_long (pos 501) y
+  pub spec_id : optional_long (pos 502) x ≡ optional_long (pos 502) y
+  pub content : optional_long (pos 517) x ≡ optional_long (pos 517) y
+  pub sequence_number : optional_long (pos 515) x ≡ optional_long (pos 515) y
+  pub min_sequence_number : optional_long (pos 516) x ≡ optional_long (pos 516) y
+  pub added_snapshot_id : optional_long (pos 503) x ≡ optional_long (pos 503) y
+  pub added_files : optional_long (pos 504) x ≡ optional_long (pos 504) y
+  pub existing_files : optional_long (pos 505) x ≡ optional_long (pos 505) y
+  pub deleted_files : optional_long (pos 506) x ≡ optional_long (pos 506) y
+  pub added_rows : optional_long (pos 512) x ≡ optional_long (pos 512) y
+  pub existing_rows : optional_long (pos 513) x ≡ optional_long (pos 513) y
+  pub deleted_rows : optional_long (pos 514) x ≡ optional_long (pos 514) y
+  pub partitions : BothSame SameList (there (at (pos 507) x)) (there (at (pos 507) y))
+
+-- two lists whose objects say the same in these fields give the same
+abbrev pub SkipsOtherFieldsOfRows : Type 0
+SkipsOtherFieldsOfRows = (bytes other : List ℕ) (fs gs : Fields) (vs ws : List Value)
+    (ending : Option AvroFault)
+    → IsList bytes fs vs ending → IsList other gs ws ending → EachSame SameRow fs gs vs ws
+    → rows_of bytes ≡ rows_of other

@@ -1,0 +1,52 @@
+-- What the code's values are.
+use Rattle.std.specs.Prelude.{ℕ, zero, suc, List, map, Option, Some, None, Result, Ok, Err, Vec}
+use Rattle.std.specs.declared.alloc.Global.{Global}
+use denote.Ref.{Bor}
+use Rattle.avro_schema.specs.declared.schema.Schema.{Schema}
+use Rattle.avro_schema.specs.declared.schema.Field.{Field}
+use Rattle.avro_schema.specs.Tree.{Tree, structure, Fields}
+use Rattle.avro_schema.specs.View.{tree, parts, fields_of}
+use Rattle.avro_file.specs.declared.datum.Datum.{Datum}
+use Rattle.avro_file.specs.Value.{Value, fields, Values, no_values, value, values_of}
+use Rattle.avro_file.specs.View.{view, views}
+use Rattle.avro_file.specs.Picking.{Typed}
+
+abbrev pub result_map : {A B E : Type 0} → (A → B) → Result A E → Result B E
+result_map f (Ok x) = Ok (f x)
+result_map f (Err e) = Err e
+
+-- the fields of a record
+abbrev pub fields_seen : List Field → Fields
+fields_seen fs = fields_of (parts fs)
+
+-- what a list of data is
+abbrev pub values : List Datum → Values
+values ds = values_of (views ds)
+
+-- an object of these fields that has these values
+abbrev pub object : List Field → List Datum → Typed
+object fs ds = (structure (fields_seen fs), fields (values ds))
+
+-- a type and a value
+abbrev pub typed : Bor Schema × Bor Datum → Typed
+typed p = (tree p.0.now, view p.1.now)
+
+-- a type and a value that was moved out
+abbrev pub typed_out : Bor Schema × Datum → Typed
+typed_out p = (tree p.0.now, view p.1)
+
+-- a record that was moved out
+abbrev pub record_out : Bor (List Field) × Vec Datum Global → Typed
+record_out p = object p.0.now p.1.items
+
+-- a value, where it is a record
+abbrev pub as_record : Value → Option Value
+as_record (fields vs) = Some (fields vs)
+as_record v = None
+
+-- items of one type
+abbrev pub items_seen : Tree → List Datum → List Typed
+items_seen t ds = map (λ d. (t, view d)) ds
+
+abbrev pub listed : Bor Schema × Bor (List Datum) → List Typed
+listed p = items_seen (tree p.0.now) p.1.now

@@ -1,0 +1,289 @@
+//! Table metadata: the JSON value that it is, and what it says.
+
+ghost use Rattle.std.specs.Prelude.{◌≡◌, IfOk, Some, map};
+ghost use Rattle.std.specs.Option.{option_copied, option_map};
+ghost use Rattle.contract_words.specs.Outcome.{Gives};
+ghost use Rattle.serde_json.specs.View.{view};
+ghost use Rattle.ice_meta.specs.Tables.{HasCurrentSchema, HasDefaultSpec, HasDifferentSchemas, HasDifferentSpecs, HasDifferentSnapshots, text_json, json_of};
+ghost use Rattle.ice_meta.specs.Targets.{described, metadata_of, schema_with, spec_with, snapshot_with, ref_with, bound_field, bound_spec, is_main, current_id, named_id, target_id, resolved, if_tag, pinned_id, own_schema, pinned_schema, schema_for};
+
+use crate::fault::{Member, MetaFault};
+use crate::schema::Schema;
+use crate::snapshot::{Ref, RefKind, Snapshot};
+use crate::spec::{PartitionField, Spec};
+use crate::table::Table;
+use crate::tables::table_of;
+use contract_words::{Items, Text};
+use serde_json::{Category, Value};
+use std::alloc::{AllocError, Global};
+
+/// What of a table is asked for.
+#[derive(Debug, PartialEq, Drop)]
+pub enum Target {
+    /// The current snapshot.
+    Main,
+    /// The snapshot that a branch or tag names.
+    Ref(Text),
+    /// The snapshot of an id.
+    Snapshot(i64),
+}
+
+/// The metadata of a table.
+#[derive(Debug, Drop)]
+pub struct Metadata {
+    json: Value,
+    table: Table,
+    ghost named: { HasCurrentSchema table },
+}
+
+/// The JSON of a text in UTF-8.
+fn json_from(alloc: Global, bytes: &[u8]) -> Result<Value, MetaFault>
+    ensures { Gives MetaFault.Memory view result (text_json bytes.now) }
+{
+    let Ok(text) = str::from_utf8(bytes) else {
+        return Err(MetaFault::NotJson);
+    };
+    match Value::from_str(alloc, text) {
+        Ok(json) => Ok(json),
+        Err(e) => match e.classify() {
+            Category::Memory => Err(MetaFault::Memory),
+            _ => Err(MetaFault::NotJson),
+        },
+    }
+}
+
+/// The JSON object of a text in UTF-8.
+fn object_from(alloc: Global, bytes: &[u8]) -> Result<Value, MetaFault>
+    ensures { Gives MetaFault.Memory view result (json_of bytes.now) }
+{
+    let json = json_from(alloc, bytes)?;
+    if json.is_object() {
+        Ok(json)
+    } else {
+        Err(MetaFault::NotJson)
+    }
+}
+
+impl Metadata {
+    /// Reads metadata. What of it isn't read is kept as it is.
+    #[tactic(auto, unfolding(crate::specs::Targets::metadata_of))]
+    pub fn read(alloc: Global, bytes: &[u8]) -> Result<Metadata, MetaFault>
+        ensures read { Gives MetaFault.Memory (λ metadata. described metadata.json metadata.table) result (metadata_of bytes.now) }
+        ensures current_schema { IfOk result (λ metadata. HasCurrentSchema metadata.table) }
+        ensures default_spec { IfOk result (λ metadata. HasDefaultSpec metadata.table) }
+        ensures schemas { IfOk result (λ metadata. HasDifferentSchemas metadata.table) }
+        ensures specs { IfOk result (λ metadata. HasDifferentSpecs metadata.table) }
+        ensures snapshots { IfOk result (λ metadata. HasDifferentSnapshots metadata.table) }
+    {
+        let json = object_from(alloc, bytes)?;
+        let table = table_of(alloc, &json)?;
+        Ok(Metadata { json, table })
+    }
+
+    /// The whole JSON object, with the members that aren't read.
+    pub fn json(&self) -> &Value
+        ensures { result.now ≡ self.now.json }
+    {
+        &self.json
+    }
+
+    /// What the metadata says.
+    pub fn table(&self) -> &Table
+        ensures { result.now ≡ self.now.table }
+    {
+        &self.table
+    }
+
+    /// The schema of this id.
+    pub fn schema(&self, id: i32) -> Option<&Schema>
+        ensures { option_copied result ≡ schema_with id self.now.table }
+    {
+        self.table
+            .schemas
+            .as_slice()
+            .iter()
+            .find(|schema| schema.id == id)
+    }
+
+    /// The spec of this id as it is written, without source types.
+    fn written_spec(&self, id: i32) -> Option<&Spec>
+        ensures { option_copied result ≡ spec_with id self.now.table }
+    {
+        self.table
+            .specs
+            .as_slice()
+            .iter()
+            .find(|spec| spec.id == id)
+    }
+
+    /// The spec of this id, with the types that its source columns have in the schema.
+    pub fn spec(&self, alloc: Global, id: i32, schema: &Schema) -> Result<Option<Spec>, AllocError>
+        ensures { IfOk result (λ spec. spec ≡ option_map (bound_spec schema.now) (spec_with id self.now.table)) }
+    {
+        match self.written_spec(id) {
+            Some(spec) => Ok(Some(Spec {
+                id: spec.id,
+                fields: bound_fields(alloc, spec.fields.as_slice(), schema)?,
+            })),
+            None => Ok(None),
+        }
+    }
+
+    /// The snapshot of this id.
+    pub fn snapshot(&self, id: i64) -> Option<&Snapshot>
+        ensures { option_copied result ≡ snapshot_with id self.now.table }
+    {
+        self.table
+            .snapshots
+            .as_slice()
+            .iter()
+            .find(|snapshot| snapshot.id == id)
+    }
+
+    fn ref_with(&self, name: &Text) -> Option<&Ref>
+        ensures { option_copied result ≡ ref_with name.now self.now.table }
+    {
+        self.table
+            .refs
+            .as_slice()
+            .iter()
+            .find(|found| found.name == *name)
+    }
+
+    fn current_id(&self) -> Result<i64, MetaFault>
+        ensures { result ≡ current_id self.now.table }
+    {
+        match self.table.current_snapshot_id {
+            Some(id) => Ok(id),
+            None => Err(MetaFault::NoSnapshot),
+        }
+    }
+
+    fn named_id(&self, name: &Text) -> Result<i64, MetaFault>
+        ensures { result ≡ named_id name.now self.now.table }
+    {
+        match self.ref_with(name) {
+            Some(found) => Ok(found.snapshot_id),
+            None => Err(MetaFault::NoSuchRef),
+        }
+    }
+
+    fn target_id(&self, target: &Target) -> Result<i64, MetaFault>
+        ensures { result ≡ target_id target.now self.now.table }
+    {
+        match target {
+            Target::Main => self.current_id(),
+            Target::Ref(name) if is_main(name) => self.current_id(),
+            Target::Ref(name) => self.named_id(name),
+            Target::Snapshot(id) => Ok(*id),
+        }
+    }
+
+    /// The id of the snapshot that is asked for; the table has it, and it has a manifest list.
+    #[tactic(auto, unfolding(crate::specs::Targets::resolved))]
+    pub fn resolve(&self, target: &Target) -> Result<i64, MetaFault>
+        ensures { result ≡ resolved target.now self.now.table }
+    {
+        let id = self.target_id(target)?;
+        match self.snapshot(id) {
+            Some(snapshot) => match &snapshot.manifest_list {
+                Some(_) => Ok(id),
+                None => Err(MetaFault::Missing(Member::ManifestList)),
+            },
+            None => Err(MetaFault::NoSuchSnapshot),
+        }
+    }
+
+    fn pinned_id(&self, target: &Target) -> Option<i64>
+        ensures { result ≡ pinned_id target.now self.now.table }
+    {
+        match target {
+            Target::Main => None,
+            Target::Ref(name) if is_main(name) => None,
+            Target::Ref(name) => if_tag(self.ref_with(name)?),
+            Target::Snapshot(id) => Some(*id),
+        }
+    }
+
+    fn own_schema(&self, id: i64) -> Option<&Schema>
+        ensures { option_copied result ≡ own_schema id self.now.table }
+    {
+        self.schema(self.snapshot(id)?.schema_id?)
+    }
+
+    fn current_schema(&self) -> &Schema
+        ensures { Some result.now ≡ schema_with self.now.table.current_schema_id self.now.table }
+    {
+        match self.schema(self.table.current_schema_id) {
+            Some(schema) => schema,
+            None => unreachable!(),
+        }
+    }
+
+    /// The pinned snapshot's own schema.
+    fn pinned_schema(&self, target: &Target) -> Option<&Schema>
+        ensures { option_copied result ≡ pinned_schema target.now self.now.table }
+    {
+        self.own_schema(self.pinned_id(target)?)
+    }
+
+    /// The schema that filters of the target are bound to: a tag's or a snapshot's own, where the snapshot names one that
+    /// is there, else the current one.
+    #[tactic(auto, unfolding(crate::specs::Targets::schema_for))]
+    pub fn schema_for(&self, target: &Target) -> &Schema
+        ensures { Some result.now ≡ schema_for target.now self.now.table }
+    {
+        match self.pinned_schema(target) {
+            Some(schema) => schema,
+            None => self.current_schema(),
+        }
+    }
+}
+
+fn is_main(name: &Text) -> bool
+    ensures { result ≡ is_main name.now }
+{
+    name.as_str() == "main"
+}
+
+/// The id of a tag's snapshot.
+fn if_tag(found: &Ref) -> Option<i64>
+    ensures { result ≡ if_tag found.now }
+{
+    match found.kind {
+        RefKind::Branch => None,
+        RefKind::Tag => Some(found.snapshot_id),
+    }
+}
+
+/// The field, with the type that its source column has in the schema.
+fn bound_field(
+    alloc: Global,
+    field: &PartitionField,
+    schema: &Schema,
+) -> Result<PartitionField, AllocError>
+    ensures { IfOk result (λ bound. bound ≡ bound_field schema.now field.now) }
+{
+    Ok(PartitionField {
+        source_id: field.source_id,
+        field_id: field.field_id,
+        name: field.name.copy(alloc)?,
+        transform: field.transform.copy(alloc)?,
+        source_type: schema.type_of(field.source_id),
+    })
+}
+
+/// The fields, with the types that their source columns have in the schema.
+fn bound_fields(
+    alloc: Global,
+    fields: &[PartitionField],
+    schema: &Schema,
+) -> Result<Items<PartitionField>, AllocError>
+    ensures { IfOk result (λ bound. bound ≡ map (bound_field schema.now) fields.now) }
+{
+    let mut bound = Items::new(alloc);
+    'fields: for field in fields {
+        bound.push(bound_field(alloc, field, schema)?)?;
+    }
+    Ok(bound)
+}

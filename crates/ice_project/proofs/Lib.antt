@@ -1,0 +1,10 @@
+pub mod Begins
+pub mod FileLaws
+pub mod Lines
+pub mod Named
+pub mod Orders
+pub mod Sound
+pub mod SummaryLaws
+pub mod TableLines
+pub mod Utf8
+pub mod Within

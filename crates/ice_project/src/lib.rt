@@ -1,0 +1,19 @@
+//! The projection of filters through partition specs: which partition tuples the files with matching rows may have.
+#![tactic(auto)]
+
+mod field;
+mod files;
+mod laws;
+mod limits;
+mod part_filter;
+mod projection;
+mod summaries;
+mod table;
+#[cfg(test)]
+mod tests;
+mod tuples;
+
+pub use files::bounds_may;
+pub use part_filter::{FieldTest, PartFilter};
+pub use projection::project;
+pub use summaries::summary_may;

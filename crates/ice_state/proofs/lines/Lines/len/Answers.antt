@@ -1,0 +1,7 @@
+use Rattle.std.proofs.Common.{◌∙◌, sym, ap, length}
+use Rattle.ice_state.specs.Lines.{entries_of}
+use Rattle.ice_state.proofs.Places.{length-lines_at}
+use Rattle.ice_state.proofs.lines.Lines.len.Goals as goal
+
+pub returns : goal.returns
+returns c = sym (length-lines_at (entries_of c.self.inside.deletes) (entries_of c.self.inside.files) c.self.inside.places.now c.self.invariant.each) ∙ ap length c.self.view_is

@@ -1,0 +1,47 @@
+-- The lines of a plan, and how a plan keeps them.
+use Rattle.std.specs.Prelude.{◌≡◌, ℕ, ◌<◌, zero, suc, List, [], ◌∷◌, ◌++◌, length, map}
+use Rattle.std.specs.List.{flat_map, AllByRecursion}
+use Rattle.ice_manifest.specs.declared.entry.Entry.{Entry}
+use Rattle.ice_state.specs.declared.lines.Files.{Files}
+use Rattle.ice_state.specs.declared.lines.Places.{Places}
+
+-- a data file, and by path the position delete files and the equality delete files that apply to it
+pub record OwnedLine : Type 0 where
+  pub file : Entry
+  pub positions : List Entry
+  pub equalities : List Entry
+
+-- the entries of a table of files
+abbrev pub entries_of : Files → List Entry
+entries_of files = map (λ x. x.now) files.lent.now ++ files.owned.now
+
+-- the entry at a place, where there is one
+abbrev pub entry_at : List Entry → ℕ → List Entry
+entry_at [] i = []
+entry_at (x ∷ xs) zero = x ∷ []
+entry_at (x ∷ xs) (suc i) = entry_at xs i
+
+-- the entries at these places
+abbrev pub entries_at : List Entry → List ℕ → List Entry
+entries_at entries places = flat_map (entry_at entries) places
+
+-- a data file with the delete files at these places
+abbrev pub line_at : List Entry → Entry → Places → OwnedLine
+line_at deletes x places = record { file = x; positions = entries_at deletes places.positions; equalities = entries_at deletes places.equalities }
+
+abbrev pub lines_at : List Entry → List Entry → List Places → List OwnedLine
+lines_at deletes [] places = []
+lines_at deletes (x ∷ xs) [] = []
+lines_at deletes (x ∷ xs) (p ∷ ps) = line_at deletes x p ∷ lines_at deletes xs ps
+
+-- each of these places is one of n
+abbrev pub AreWithin : ℕ → List ℕ → Type 0
+AreWithin n places = AllByRecursion (λ i. i < n) places
+
+abbrev pub IsLineWithin : ℕ → Places → Type 0
+IsLineWithin n places = AreWithin n places.positions × AreWithin n places.equalities
+
+-- a place for each data file, each of them within the delete files
+pub record AreLinesOf (files deletes : List Entry) (places : List Places) : Type 0 where
+  pub each : length places ≡ length files
+  pub within : AllByRecursion (IsLineWithin (length deletes)) places

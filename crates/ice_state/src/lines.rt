@@ -1,0 +1,237 @@
+//! The lines of a plan as they are lent: whoever owns the files, callers see the same.
+
+ghost use Rattle.std.specs.Prelude.{◌≡◌, ◌<◌, length, map, Some, slice_get};
+
+use contract_words::Items;
+use ice_manifest::Entry;
+use ice_value::SequenceNumber;
+use std::marker::Model;
+
+/// Files of a plan: those that a state lends, and then those that the plan owns.
+#[derive(Clone, Copy, Debug)]
+pub(crate) struct Files<'a> {
+    lent: &'a [&'a Entry],
+    owned: &'a [Entry],
+}
+
+impl<'a> Files<'a> {
+    ghost use Rattle.ice_state.specs.Lines.{entries_of};
+
+    /// Files of a state.
+    pub(crate) fn lent(lent: &'a [&'a Entry]) -> Files<'a>
+        ensures { entries_of result ≡ map (λ x. x.now) lent.now }
+    {
+        Files { lent, owned: &[] }
+    }
+
+    /// Files of a plan.
+    pub(crate) fn owned(owned: &'a [Entry]) -> Files<'a>
+        ensures { entries_of result ≡ owned.now }
+    {
+        Files { lent: &[], owned }
+    }
+
+    /// The entry at a place.
+    pub(crate) fn entry(&self, i: usize) -> &'a Entry
+        requires { i < length (entries_of self.now) }
+        ensures { slice_get (entries_of self.now) i ≡ Some result.now }
+    {
+        if i < self.lent.len() {
+            self.lent[i]
+        } else {
+            &self.owned[i - self.lent.len()]
+        }
+    }
+}
+
+/// The places of the delete files that apply to a data file, among those of its plan.
+#[derive(Debug, Drop)]
+pub(crate) struct Places {
+    pub(crate) positions: Items<usize>,
+    pub(crate) equalities: Items<usize>,
+}
+
+/// A file of a plan.
+#[derive(Debug, Drop)]
+pub struct PlanFile<'a> {
+    entry: &'a Entry,
+}
+
+impl<'a> Model for PlanFile<'a> {
+    ghost use Rattle.ice_manifest.specs.declared.entry.Entry.{Entry};
+
+    ghost Value = { Entry };
+
+    ghost view = { λ f. f.entry.now };
+}
+
+impl<'a> PlanFile<'a> {
+    /// The bytes of its path.
+    pub fn path(&self) -> &[u8]
+        ensures { result.now ≡ self.now.file.path }
+    {
+        self.entry.file.path.as_slice()
+    }
+
+    /// The id of its partition spec.
+    pub fn spec_id(&self) -> i32
+        ensures { result ≡ self.now.spec_id }
+    {
+        self.entry.spec_id
+    }
+
+    /// Its sequence number.
+    pub fn sequence_number(&self) -> SequenceNumber
+        ensures { result ≡ self.now.sequence_number }
+    {
+        self.entry.sequence_number
+    }
+
+    /// How many rows it has, as its manifest says; any number.
+    pub fn record_count(&self) -> i64
+        ensures { result ≡ self.now.file.record_count }
+    {
+        self.entry.file.record_count
+    }
+
+    /// How many bytes it has, as its manifest says; any number.
+    pub fn file_size(&self) -> i64
+        ensures { result ≡ self.now.file.file_size }
+    {
+        self.entry.file.file_size
+    }
+
+    /// The ids of the columns by which an equality delete file deletes.
+    pub fn equality_ids(&self) -> &[i32]
+        ensures { result.now ≡ self.now.file.equality_ids }
+    {
+        self.entry.file.equality_ids.as_slice()
+    }
+}
+
+/// Delete files of a line, by path.
+#[derive(Debug, Drop)]
+pub struct PlanFiles<'a> {
+    files: Files<'a>,
+    places: &'a [usize],
+}
+
+impl<'a> Model for PlanFiles<'a> {
+    ghost use Rattle.std.specs.Prelude.{List, length};
+    ghost use Rattle.ice_manifest.specs.declared.entry.Entry.{Entry};
+
+    ghost Value = { List Entry };
+
+    ghost use Rattle.ice_state.specs.Lines.{entries_of, entries_at, AreWithin};
+
+    ghost view = { λ f. entries_at (entries_of f.files) f.places.now };
+
+    ghost invariant = { λ f. AreWithin (length (entries_of f.files)) f.places.now };
+}
+
+impl<'a> PlanFiles<'a> {
+    /// How many there are.
+    pub fn len(&self) -> usize
+        ensures { result ≡ length self.now }
+    {
+        self.places.len()
+    }
+
+    /// The file at a place.
+    pub fn file(&self, i: usize) -> PlanFile<'a>
+        requires { i < length self.now }
+        ensures { slice_get self.now i ≡ Some result }
+    {
+        PlanFile {
+            entry: self.files.entry(self.places[i]),
+        }
+    }
+}
+
+/// A line of a plan: a data file, with the delete files that apply to it.
+#[derive(Debug, Drop)]
+pub struct Line<'a> {
+    file: &'a Entry,
+    deletes: Files<'a>,
+    places: &'a Places,
+}
+
+impl<'a> Model for Line<'a> {
+    ghost use Rattle.std.specs.Prelude.{length};
+    ghost use Rattle.ice_state.specs.Lines.{OwnedLine, entries_of, line_at, IsLineWithin};
+
+    ghost Value = { OwnedLine };
+
+    ghost view = { λ l. line_at (entries_of l.deletes) l.file.now l.places.now };
+
+    ghost invariant = { λ l. IsLineWithin (length (entries_of l.deletes)) l.places.now };
+}
+
+impl<'a> Line<'a> {
+    /// The data file.
+    pub fn file(&self) -> PlanFile<'a>
+        ensures { result ≡ self.now.file }
+    {
+        PlanFile { entry: self.file }
+    }
+
+    /// The position delete files that apply to it.
+    pub fn positions(&self) -> PlanFiles<'a>
+        ensures { result ≡ self.now.positions }
+    {
+        PlanFiles {
+            files: self.deletes,
+            places: self.places.positions.as_slice(),
+        }
+    }
+
+    /// The equality delete files that apply to it.
+    pub fn equalities(&self) -> PlanFiles<'a>
+        ensures { result ≡ self.now.equalities }
+    {
+        PlanFiles {
+            files: self.deletes,
+            places: self.places.equalities.as_slice(),
+        }
+    }
+}
+
+/// The lines of a plan, by the paths of their data files.
+#[derive(Debug, Drop)]
+pub struct Lines<'a> {
+    pub(crate) files: Files<'a>,
+    pub(crate) deletes: Files<'a>,
+    pub(crate) places: &'a [Places],
+}
+
+impl<'a> Model for Lines<'a> {
+    ghost use Rattle.std.specs.Prelude.{List};
+    ghost use Rattle.ice_state.specs.Lines.{OwnedLine, entries_of, lines_at, AreLinesOf};
+
+    ghost Value = { List OwnedLine };
+
+    ghost view = { λ l. lines_at (entries_of l.deletes) (entries_of l.files) l.places.now };
+
+    ghost invariant = { λ l. AreLinesOf (entries_of l.files) (entries_of l.deletes) l.places.now };
+}
+
+impl<'a> Lines<'a> {
+    /// How many there are.
+    pub fn len(&self) -> usize
+        ensures { result ≡ length self.now }
+    {
+        self.places.len()
+    }
+
+    /// The line at a place.
+    pub fn line(&self, i: usize) -> Line<'a>
+        requires { i < length self.now }
+        ensures { slice_get self.now i ≡ Some result }
+    {
+        Line {
+            file: self.files.entry(i),
+            deletes: self.deletes,
+            places: &self.places[i],
+        }
+    }
+}
