@@ -3,10 +3,12 @@
 mod cases;
 mod sinks;
 
+use crate::bundle::Bundle;
+use crate::fault::RunFault;
 use crate::report::report;
 use crate::run_list_plan::run_list_plan;
 use crate::words::run_words;
-use cases::{CASES, Case, NULL, PLAN};
+use cases::{CASES, PLAN};
 use ice_desk::{Files, ReadFault};
 use std::alloc::{AllocError, Global};
 use std::test::Fail;
@@ -18,6 +20,11 @@ const LIST: &[u8] =
 /// The head of a manifest up to its codec.
 const MANIFEST: &[u8] =
     b"Obj\x01\x04\x16avro.schema\xb4\x08{\"type\":\"record\",\"name\":\"manifest_entry\",\"fields\":[{\"name\":\"status\",\"type\":\"int\",\"field-id\":0},{\"name\":\"sequence_number\",\"type\":[\"null\",\"long\"],\"field-id\":3},{\"name\":\"data_file\",\"type\":{\"type\":\"record\",\"name\":\"r2\",\"fields\":[{\"name\":\"content\",\"type\":\"int\",\"field-id\":134},{\"name\":\"file_path\",\"type\":\"string\",\"field-id\":100},{\"name\":\"record_count\",\"type\":\"long\",\"field-id\":103},{\"name\":\"file_size_in_bytes\",\"type\":\"long\",\"field-id\":104},{\"name\":\"equality_ids\",\"type\":[\"null\",{\"type\":\"array\",\"items\":\"int\"}],\"field-id\":135}]},\"field-id\":2}]}";
+
+/// What names a container's codec.
+const NULL: &[u8] = b"\x14avro.codec\x08null\x00";
+
+const DEFLATE: &[u8] = b"\x14avro.codec\x0edeflate\x00";
 
 /// The marker between blocks, in hexadecimal digits.
 const MARKER: &str = "000102030405060708090a0b0c0d0e0f";
@@ -41,14 +48,96 @@ fn put_file(
     Ok(())
 }
 
-/// The bundle of a case.
-fn bundle_of(alloc: Global, case: &Case) -> Result<Vec<u8>, AllocError> {
-    let mut text = Vec::new(alloc);
-    put_file(&mut text, alloc, "mem://t/list", LIST, NULL, case.list)?;
-    for (path, blocks) in case.manifests {
-        put_file(&mut text, alloc, path, MANIFEST, case.codec, blocks)?;
+/// A table, and what a run on it has to write.
+#[derive(Drop)]
+struct Case {
+    bundle: Vec<u8>,
+    codec: &'static [u8],
+    output: Vec<u8>,
+    errors: Vec<u8>,
+}
+
+impl Case {
+    fn new(alloc: Global) -> Self {
+        Case {
+            bundle: Vec::new(alloc),
+            codec: NULL,
+            output: Vec::new(alloc),
+            errors: Vec::new(alloc),
+        }
     }
-    Ok(text)
+
+    /// Takes a line of a case in, but its last.
+    fn take(&mut self, alloc: Global, line: &str) -> Result<(), AllocError> {
+        let Some((word, rest)) = line.split_once(' ') else {
+            return Ok(());
+        };
+        match word {
+            "list" => put_file(&mut self.bundle, alloc, "mem://t/list", LIST, NULL, rest),
+            "put" => self.put(alloc, rest),
+            ">" => put_line(&mut self.output, rest),
+            "!" => put_line(&mut self.errors, rest),
+            "codec" => {
+                self.codec = DEFLATE;
+                Ok(())
+            }
+            _ => Ok(()),
+        }
+    }
+
+    fn put(&mut self, alloc: Global, file: &str) -> Result<(), AllocError> {
+        match file.split_once(' ') {
+            Some((path, blocks)) => {
+                put_file(&mut self.bundle, alloc, path, MANIFEST, self.codec, blocks)
+            }
+            None => Ok(()),
+        }
+    }
+
+    /// Whether the program ends with this status on the table, and writes just these lines.
+    fn ends(&self, alloc: Global, status: &str) -> bool {
+        let mut input = self.bundle.as_slice();
+        let mut written = Vec::new(alloc);
+        let mut told = Vec::new(alloc);
+        let ended = run_words(alloc, &[], &mut input, &mut written, &mut told);
+        status.parse() == Ok(ended) && written == self.output && told == self.errors
+    }
+}
+
+fn put_line(text: &mut Vec<u8>, line: &str) -> Result<(), AllocError> {
+    text.extend_from_slice(line.as_bytes())?;
+    text.push(b'\n')?;
+    Ok(())
+}
+
+/// The bundle of the first case, whose plan is `PLAN`.
+fn first_bundle(alloc: Global) -> Result<Vec<u8>, AllocError> {
+    let mut case = Case::new(alloc);
+    for line in CASES.lines() {
+        if line.starts_with("ends ") {
+            break;
+        }
+        case.take(alloc, line)?;
+    }
+    Ok(case.bundle)
+}
+
+#[test]
+fn tables(rt: HostRuntime) -> Result<(), Fail> {
+    let alloc = rt.alloc();
+    let mut case = Case::new(alloc);
+    let mut cases: usize = 0;
+    for line in CASES.lines() {
+        if let Some(status) = line.strip_prefix("ends ") {
+            assert!(rt; case.ends(alloc, status), "case {cases}");
+            case = Case::new(alloc);
+            cases = cases.saturating_add(1);
+        } else {
+            case.take(alloc, line)?;
+        }
+    }
+    assert_eq!(rt; cases, 39);
+    Ok(())
 }
 
 /// Whether the program ends with this status, and writes just these texts.
@@ -90,13 +179,6 @@ fn bundles(rt: HostRuntime) {
     }
 }
 
-/// Words and whether they are understood.
-static WORDS: [(&str, &str, bool); 3] = [
-    ("list-plan", "--bundle", true),
-    ("plan", "--bundle", false),
-    ("--bundle", "list-plan", false),
-];
-
 /// Files of which one can't be read.
 #[derive(Drop)]
 struct Broken<'a> {
@@ -117,4 +199,28 @@ impl Files for Broken<'_> {
             Err(ReadFault::Device)
         }
     }
+}
+
+/// The faults' lines and the status of a run on a table whose manifests can't be read.
+fn run_broken(alloc: Global, errors: &mut Vec<u8>) -> Result<u8, RunFault> {
+    let bundle = Bundle::read(alloc, &first_bundle(alloc)?)?;
+    let list = bundle
+        .read(alloc, "mem://t/list")
+        .map_err(|_| RunFault::Memory)?;
+    let mut output = Vec::new(alloc);
+    match run_list_plan(alloc, &Broken { list: &list }, "mem://t/list", &mut output) {
+        Ok(()) => Ok(0),
+        Err(fault) => Ok(report(&fault, errors)),
+    }
+}
+
+#[test]
+fn read_that_fails(rt: HostRuntime) {
+    let mut errors = Vec::new(rt.alloc());
+    let status = run_broken(rt.alloc(), &mut errors);
+    assert!(rt; matches!(status, Ok(3)));
+    assert_eq!(rt;
+        errors.as_slice(),
+        b"icescan: P3 Device mem://t/m1\n".as_slice()
+    );
 }

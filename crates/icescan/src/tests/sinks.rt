@@ -1,12 +1,12 @@
 //! Sinks that take little or fail.
 
-use super::bundle_of;
-use super::cases::{CASES, PLAN};
+use super::cases::PLAN;
+use super::first_bundle;
 use crate::fault::RunFault;
 use crate::report::report;
 use crate::sink::{Output, Sink, SinkFault, write_all};
 use crate::words::run_words;
-use std::alloc::Global;
+use std::alloc::{AllocError, Global};
 use std::test::Fail;
 
 /// Memory that takes at most so many bytes at a time, and only so many in all.
@@ -69,4 +69,32 @@ fn sinks_that_take_little(rt: HostRuntime) {
 fn outputs_of_the_system(rt: HostRuntime) {
     let mut output = Output::new(Vec::<u8>::new(rt.alloc()));
     assert_eq!(rt; write_all(&mut output, b"text"), Ok(()));
+}
+
+/// What a sink of this many bytes at a time and in all has taken of the first case's plan, and the run's status.
+fn run_slow(alloc: Global, step: usize, room: usize) -> Result<(u8, Vec<u8>), AllocError> {
+    let bundle = first_bundle(alloc)?;
+    let mut input = bundle.as_slice();
+    let mut output = Slow::new(alloc, step, room);
+    let mut errors = Vec::new(alloc);
+    let status = run_words(alloc, &[], &mut input, &mut output, &mut errors);
+    Ok((status, output.taken))
+}
+
+#[test]
+fn plan_of_one_byte_at_a_time(rt: HostRuntime) -> Result<(), Fail> {
+    let (status, taken) = run_slow(rt.alloc(), 1, 1000)?;
+    assert_eq!(rt; status, 0);
+    assert_eq!(rt; taken.as_slice(), PLAN.as_bytes());
+    Ok(())
+}
+
+#[test]
+fn plan_cut_by_a_failing_write(rt: HostRuntime) -> Result<(), Fail> {
+    for (room, byte) in PLAN.as_bytes().iter().enumerate() {
+        let (status, taken) = run_slow(rt.alloc(), 1000, room)?;
+        assert_eq!(rt; status, 3, "{byte}");
+        assert_eq!(rt; Some(taken.as_slice()), PLAN.as_bytes().get(..room));
+    }
+    Ok(())
 }
