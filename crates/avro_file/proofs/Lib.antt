@@ -1,10 +1,12 @@
 pub mod Groups
 pub mod Texts
 pub mod Views
+pub mod Leaves
 pub mod Steps
 pub mod Taken
 pub mod Loop
 pub mod Behind
+pub mod Places
 pub mod Encoded
 pub mod Written
 pub mod Again

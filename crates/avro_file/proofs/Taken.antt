@@ -55,7 +55,7 @@ begins_ok bytes (Err BadSync) x e = absurd cc
 begins_ok bytes (Err BlockSize) x e = absurd cc
 begins_ok bytes (Err Memory) x e = absurd cc
 
-number_takes : (limit : ℕ) (bytes : List ℕ) (x : ℕ × List ℕ) → number_at limit bytes ≡ Ok x → Front (λ n t. IsNumber limit t n) bytes x
+pub number_takes : (limit : ℕ) (bytes : List ℕ) (x : ℕ × List ℕ) → number_at limit bytes ≡ Ok x → Front (λ n t. IsNumber limit t n) bytes x
 unfolding number_at
 number_takes limit bytes x e =
     let a = bind_ok (from_start bytes (groups_at 10 bytes)) (λ y. cond (ltb y.0 limit) (Ok y) (Err BadNumber)) x e in

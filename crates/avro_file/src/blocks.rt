@@ -15,6 +15,7 @@ use crate::ends::end_of;
 use crate::leaf::run_of_len;
 use crate::number::long_of;
 use crate::place::Place;
+use crate::quick::value_end;
 use crate::refusal::Refusal;
 use avro_schema::Schema;
 use std::alloc::Global;
@@ -92,8 +93,8 @@ pub fn object_of<'a>(
     }
 }
 
-/// What follows the object at the front of what is left of its block.
-fn behind_object<'a>(schema: &Schema, block: &'a [u8]) -> Result<&'a [u8], Refusal>
+/// What follows the object at the front of what is left of its block, or its first fault.
+fn read_object<'a>(schema: &Schema, block: &'a [u8]) -> Result<&'a [u8], Refusal>
     ensures { IsRead (λ rest. rest.now) result (behind (object_at (tree schema.now) block.now)) }
 {
     let place = Place {
@@ -103,6 +104,17 @@ fn behind_object<'a>(schema: &Schema, block: &'a [u8]) -> Result<&'a [u8], Refus
     match end_of(schema, place) {
         Ok(after) => Ok(after.bytes),
         Err(refusal) => Err(refused_inside(refusal)),
+    }
+}
+
+/// What follows the object at the front of what is left of its block. Mostly it is seen quickly.
+fn behind_object<'a>(schema: &Schema, block: &'a [u8]) -> Result<&'a [u8], Refusal>
+    ensures { IsRead (λ rest. rest.now) result (behind (object_at (tree schema.now) block.now)) }
+{
+    let mut left = MAX_ITEMS;
+    match value_end(schema, block, 0, &mut left) {
+        Some(end) => Ok(&block[end..]),
+        None => read_object(schema, block),
     }
 }
 

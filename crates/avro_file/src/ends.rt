@@ -17,7 +17,7 @@ use avro_schema::{Field, Schema};
 /// Whether each value of the schema takes a byte at least.
 #[cycle(takes)]
 #[tactic(auto, unfolding(crate::specs::Spelling::takes_bytes))]
-fn takes_bytes(schema: &Schema) -> bool
+pub fn takes_bytes(schema: &Schema) -> bool
     ensures { result ≡ takes_some (tree schema.now) }
 {
     match schema {

@@ -14,6 +14,7 @@ mod leaf;
 mod number;
 mod object;
 mod place;
+mod quick;
 mod refusal;
 mod writer;
 

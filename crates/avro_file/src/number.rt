@@ -10,7 +10,7 @@ use crate::refusal::Refusal;
 const LAST_PLACE: u64 = 1 << 63;
 
 /// An unsigned number of 64 bits, in at most ten groups, and the bytes after it.
-fn unsigned_of(bytes: &[u8]) -> Result<(u64, &[u8]), Refusal>
+pub fn unsigned_of(bytes: &[u8]) -> Result<(u64, &[u8]), Refusal>
     ensures { IsRead (λ x. (x.0, x.1.now)) result (number_at (2 ^ 64) bytes.now) }
 {
     let mut value: u64 = 0;

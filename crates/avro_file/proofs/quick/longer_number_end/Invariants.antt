@@ -1,0 +1,5 @@
+use Rattle.avro_file.proofs.Places.{GroupsUpTo}
+use Rattle.avro_file.proofs.quick.longer_number_end.Given as goal
+
+abbrev pub invariant-groups : goal.invariant-groups
+invariant-groups l = GroupsUpTo l.bytes l.at l.counter l.here
