@@ -6,5 +6,6 @@ pub mod Orders
 pub mod Sound
 pub mod SummaryLaws
 pub mod TableLines
+pub mod Unpartitioned
 pub mod Utf8
 pub mod Within

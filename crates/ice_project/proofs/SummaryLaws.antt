@@ -3,6 +3,8 @@ use Rattle.std.proofs.Common.{◌≡◌, ℕ, zero, suc, ◌+◌, ◌==◌, Bool
 use Rattle.std.specs.Option.{option_map, option_and_then}
 use Rattle.std.specs.Ordering.{int_eq}
 use Rattle.std.proofs.lemmas.Bool.{and_parts}
+use Rattle.std.proofs.lemmas.Bool.Decides.{Decides-eqb}
+use Rattle.std.proofs.lemmas.List.{length-map}
 use Rattle.ice_value.specs.declared.column_type.ColumnType.{ColumnType}
 use Rattle.ice_value.specs.declared.cell.Cell.{Cell}
 use Rattle.ice_value.specs.declared.file_bounds.Summary.{Summary}
@@ -17,10 +19,10 @@ use Rattle.ice_filter.specs.Rows.{is_null}
 use Rattle.ice_filter.specs.Trees.{meaning, tree_of, map_leaves}
 use Rattle.ice_project.specs.declared.field.Field.{Field}
 use Rattle.ice_project.specs.declared.part_filter.FieldTest.{FieldTest}
-use Rattle.ice_project.specs.Fields.{fields_of}
+use Rattle.ice_project.specs.Fields.{field_of, fields_of}
 use Rattle.ice_project.specs.Limits.{limit, in_bounds}
 use Rattle.ice_project.specs.Projection.{projected_test, test_at, typed_test, leaf_test, with_test, leaf_tests, projection}
-use Rattle.ice_project.specs.Summaries.{summary_allows, field_test_allowed, tests_allowed, summaries_may, IsSummaryOf, IsCovered}
+use Rattle.ice_project.specs.Summaries.{summary_allows, field_test_allowed, tests_allowed, summaries_may, type_of_values, IsSummaryOf, AreSummariesOf, IsCovered}
 use Rattle.ice_project.specs.Tuples.{may, may_present, is_null_test, field_test_met, tests_met, part_meets}
 use Rattle.ice_project.proofs.Orders.{Ordered}
 use Rattle.ice_project.proofs.Sound.{and_both, leaf_position, meaning_mono}
@@ -39,13 +41,13 @@ typed_type at f t test x e = go (type_of f t) refl (projected_test f t test) e w
   go (Some r) eo None k = absurd cc
   go (Some r) eo (Some q) k = let same : test_at at r q ≡ x = cc in rw (← same) eo
 
-leaf_type : (at : ℕ) (field : Field) (l : BoundLeaf) (x : FieldTest) → leaf_test at field l ≡ Some x → (t : ColumnType) × (field.source_type ≡ Some t) × (type_of field.transform t ≡ Some x.value_type)
-leaf_type at field l x e = go (int_eq field.source_id l.column) field.source_type refl e where
-  go : (b : Bool) (o : Option ColumnType) → field.source_type ≡ o → cond b (option_and_then (λ t. typed_test at field.transform t l.test) o) None ≡ Some x →
-      (t : ColumnType) × (field.source_type ≡ Some t) × (type_of field.transform t ≡ Some x.value_type)
-  go true None eo k = absurd cc
-  go true (Some t) eo k = (t, eo, typed_type at field.transform t l.test x k)
-  go false o eo k = absurd cc
+leaf_type : (at : ℕ) (field : Field) (l : BoundLeaf) (x : FieldTest) → leaf_test at field l ≡ Some x → type_of_values field ≡ Some x.value_type
+leaf_type at field l x e = go (int_eq field.source_id l.column) field.source_type e where
+  go : (b : Bool) (o : Option ColumnType) → cond b (option_and_then (λ t. typed_test at field.transform t l.test) o) None ≡ Some x →
+      option_and_then (type_of field.transform) o ≡ Some x.value_type
+  go true None k = absurd cc
+  go true (Some t) k = typed_type at field.transform t l.test x k
+  go false o k = absurd cc
 
 summary_sound : (ordered : Ordered) (at : ℕ) (field : Field) (l : BoundLeaf) (x : FieldTest) (s : Summary) (p : Cell) → leaf_test at field l ≡ Some x → IsSummaryOf field s p →
     may x.test p ≡ true → summary_allows x s ≡ true
@@ -53,8 +55,7 @@ summary_sound ordered at field l x s p e cover h = go (is_null p) refl where
   present : is_null p ≡ false → (b : Bool) → is_null_test x.test ≡ b → cond b s.contains_null (in_bounds x.test (limit x.value_type s.lower) (limit x.value_type s.upper)) ≡ true
   present n true k = no_null_test x.test p k (shown x.test p n h) s.contains_null
   present n false k =
-      let t = leaf_type at field l x e in
-      allowed ordered x.test (limit x.value_type s.lower) (limit x.value_type s.upper) p (cover.present n t.0 x.value_type t.1 t.2) (shown x.test p n h)
+      allowed ordered x.test (limit x.value_type s.lower) (limit x.value_type s.upper) p (cover.present n x.value_type (leaf_type at field l x e)) (shown x.test p n h)
 
   go : (b : Bool) → is_null p ≡ b → summary_allows x s ≡ true
   go true n = let k : is_null_test x.test ≡ true = rw n at h in rw k (cover.null n)
@@ -69,7 +70,7 @@ with_allowed tuple summaries (Some x) tests one rest h =
     and_both _ _ (one x refl parts.0) (rest parts.1)
 
 leaf_allowed : (ordered : Ordered) (fields : List Field) (ss : List Summary) (ps : List Cell) (at : ℕ) (summaries : List Summary) (tuple : List Cell) (l : BoundLeaf) →
-    ((k : ℕ) → slice_get summaries (at + k) ≡ slice_get ss k) → ((k : ℕ) → slice_get tuple (at + k) ≡ slice_get ps k) → IsCovered fields ss ps →
+    ((k : ℕ) → slice_get summaries (at + k) ≡ slice_get ss k) → ((k : ℕ) → slice_get tuple (at + k) ≡ slice_get ps k) → AreSummariesOf fields ss ps →
     tests_met tuple (leaf_tests at fields l) ≡ true → tests_allowed summaries (leaf_tests at fields l) ≡ true
 leaf_allowed ordered [] ss ps at summaries tuple l look_s look_p cover h = refl
 leaf_allowed ordered (f ∷ fs) [] ps at summaries tuple l look_s look_p cover h = absurd cover
@@ -90,19 +91,19 @@ pub covered : (ordered : Ordered) →
     ((f : BoundLeaf → List FieldTest) (met : List FieldTest → Bool) (parts : List (Part BoundLeaf)) → meaning met (tree_of (map_leaves f parts)) ≡ meaning (λ l. met (f l)) (tree_of parts)) →
     (filter : List (Part BoundLeaf)) (spec : Spec) (summaries : List Summary) (tuple : List Cell) → IsCovered (fields_of spec) summaries tuple →
     part_meets (projection filter spec) tuple ≡ true → summaries_may (projection filter spec) summaries ≡ true
-covered ordered mapped filter spec summaries tuple cover h = go (length summaries == length spec.fields) where
+covered ordered mapped filter spec summaries tuple cover h = go (length summaries == length spec.fields) refl where
   fields : List Field
   fields = fields_of spec
 
-  each : (l : BoundLeaf) → tests_met tuple (leaf_tests 0 fields l) ≡ true → tests_allowed summaries (leaf_tests 0 fields l) ≡ true
-  each l m = leaf_allowed ordered fields summaries tuple 0 summaries tuple l (λ k. let o : 0 + k ≡ k = omega arith in rw o refl) (λ k. let o : 0 + k ≡ k = omega arith in rw o refl) cover m
+  each : AreSummariesOf fields summaries tuple → (l : BoundLeaf) → tests_met tuple (leaf_tests 0 fields l) ≡ true → tests_allowed summaries (leaf_tests 0 fields l) ≡ true
+  each are l m = leaf_allowed ordered fields summaries tuple 0 summaries tuple l (λ k. let o : 0 + k ≡ k = omega arith in rw o refl) (λ k. let o : 0 + k ≡ k = omega arith in rw o refl) are m
 
-  all : meaning (tests_allowed summaries) (tree_of (map_leaves (leaf_tests 0 fields) filter)) ≡ true
-  all =
+  all : AreSummariesOf fields summaries tuple → meaning (tests_allowed summaries) (tree_of (map_leaves (leaf_tests 0 fields) filter)) ≡ true
+  all are =
       mapped (leaf_tests 0 fields) (tests_allowed summaries) filter
-      ∙ meaning_mono (λ l. tests_met tuple (leaf_tests 0 fields l)) (λ l. tests_allowed summaries (leaf_tests 0 fields l)) each (tree_of filter)
+      ∙ meaning_mono (λ l. tests_met tuple (leaf_tests 0 fields l)) (λ l. tests_allowed summaries (leaf_tests 0 fields l)) (each are) (tree_of filter)
       (sym (mapped (leaf_tests 0 fields) (tests_met tuple) filter) ∙ h)
 
-  go : (b : Bool) → cond b (meaning (tests_allowed summaries) (tree_of (map_leaves (leaf_tests 0 fields) filter))) true ≡ true
-  go true = all
-  go false = refl
+  go : (b : Bool) → (length summaries == length spec.fields) ≡ b → cond b (meaning (tests_allowed summaries) (tree_of (map_leaves (leaf_tests 0 fields) filter))) true ≡ true
+  go true e = all (cover ((Decides-eqb (length summaries) (length spec.fields)).0 e ∙ sym (length-map spec.fields field_of)))
+  go false e = refl

@@ -2,6 +2,7 @@
 -- a field summary for each field of the spec).
 use Rattle.std.specs.Prelude.{◌≡◌, ℕ, Bool, true, false, ◌==◌, List, [], ◌∷◌, length, Option, None, Some, if◌then◌else◌}
 use Rattle.std.specs.List.{list_all, slice_get}
+use Rattle.std.specs.Option.{option_and_then}
 use Rattle.ice_value.specs.declared.column_type.ColumnType.{ColumnType}
 use Rattle.ice_value.specs.declared.cell.Cell.{Cell}
 use Rattle.ice_value.specs.declared.file_bounds.Summary.{Summary}
@@ -36,15 +37,24 @@ abbrev pub summaries_may : PartFilter → List Summary → Bool
 summaries_may part summaries =
     if length summaries == part.fields then meaning (tests_allowed summaries) (tree_of part.parts) else true
 
--- the summary is one of this value of the field
+-- the type of a field's values, by which its bounds are read; none where the field's column has no type, and where its
+-- transform is unknown or doesn't take that type
+abbrev pub type_of_values : Field → Option ColumnType
+type_of_values field = option_and_then (type_of field.transform) field.source_type
+
+-- the summary is one of this value of the field: it says that there are nulls where the value is null, and any other value
+-- lies within the bounds
 pub record IsSummaryOf (field : Field) (s : Summary) (p : Cell) : Type 0 where
   pub null : is_null p ≡ true → s.contains_null ≡ true
-  pub present : is_null p ≡ false → (t r : ColumnType) → field.source_type ≡ Some t → type_of field.transform t ≡ Some r
-      → LiesIn (limit r s.lower) (limit r s.upper) p
+  pub present : is_null p ≡ false → (r : ColumnType) → type_of_values field ≡ Some r → LiesIn (limit r s.lower) (limit r s.upper) p
 
 -- each field has a summary and a value, and the summary is one of the value
+abbrev pub AreSummariesOf : List Field → List Summary → List Cell → Type 0
+AreSummariesOf [] ss ps = Unit {0}
+AreSummariesOf (f ∷ fs) (s ∷ ss) (p ∷ ps) = IsSummaryOf f s p × AreSummariesOf fs ss ps
+AreSummariesOf (f ∷ fs) [] ps = ⊥
+AreSummariesOf (f ∷ fs) (s ∷ ss) [] = ⊥
+
+-- The summaries, where there is one for each field, are those of the tuple.
 abbrev pub IsCovered : List Field → List Summary → List Cell → Type 0
-IsCovered [] ss ps = Unit {0}
-IsCovered (f ∷ fs) (s ∷ ss) (p ∷ ps) = IsSummaryOf f s p × IsCovered fs ss ps
-IsCovered (f ∷ fs) [] ps = ⊥
-IsCovered (f ∷ fs) (s ∷ ss) [] = ⊥
+IsCovered fields summaries tuple = length summaries ≡ length fields → AreSummariesOf fields summaries tuple
