@@ -1,1 +1,4 @@
+mod Desks
+mod Keeps
 pub mod Taking
+mod Works

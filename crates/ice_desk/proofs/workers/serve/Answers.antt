@@ -1,0 +1,29 @@
+use Rattle.std.proofs.Common.{◌≡◌, ◌<◌, ◌∙◌, None, get_or, length, refl, ap}
+use Rattle.ice_desk.specs.Worlds.{HasAt}
+use Rattle.ice_desk.proofs.Taking.{has_bytes}
+use Rattle.ice_desk.proofs.Works.{add_length, path_at}
+use Rattle.ice_desk.proofs.workers.serve.Goals as goal
+
+pub returns-in-Ok-take-clause-served : goal.returns-in-Ok-take-clause-served
+returns-in-Ok-take-clause-served g c =
+    let here = rw c.wanted.ensures at c.index-wanted-i.is in (
+      (c.deref.result.now, c.in-Ok-take.ensures.ok),
+      λ world ts told h.
+          let found = rw (told, c.as_str.ensures, ← c.deref.ensures.value) at c.in-Ok.ensures.found in
+          record {
+            flags = add_length ts c.args.i ∙ h.flags;
+            is = c.in-Ok-take.ensures.world world ts h.is (has_bytes world c.args.scan.now.wanted c.args.i c.index-wanted-i.result c.deref.result.now c.requires.manifest here found);
+          },
+    )
+
+pub returns-in-Err-Absent-clause-served : goal.returns-in-Err-Absent-clause-served
+returns-in-Err-Absent-clause-served g c =
+    let here = rw c.wanted.ensures at c.index-wanted-i.is in
+    let found = rw c.as_str.ensures at (c.in-Err-Absent.ensures.absent cc) in
+    (refl, path_at (λ path. HasAt (g.F.Files.world c.args.files.now) path None) c.args.scan.now.wanted c.args.i c.index-wanted-i.result c.requires.manifest here found)
+
+pub returns-in-Err-Device-clause-served : goal.returns-in-Err-Device-clause-served
+returns-in-Err-Device-clause-served g c =
+    let here = rw c.wanted.ensures at c.index-wanted-i.is in
+    let found = rw c.as_str.ensures at (c.in-Err-Device.ensures.device cc) in
+    (refl, path_at (g.F.Files.may_fail c.args.files.now) c.args.scan.now.wanted c.args.i c.index-wanted-i.result c.requires.manifest here found)

@@ -1,0 +1,15 @@
+use Rattle.std.proofs.Common.{◌≡◌, ◌-◌, length}
+use Rattle.ice_state.specs.Contents.{IsOf}
+use Rattle.ice_desk.specs.Seats.{IsSeatOf, hand_of, limit_of}
+use Rattle.ice_desk.specs.Works.{Worked}
+use Rattle.ice_desk.proofs.workers.work.Given as goal
+
+abbrev pub invariant-loop-i : goal.invariant-loop-i
+invariant-loop-i g l = record {
+  seat : IsSeatOf l.desk l.seat;
+  of_scan : IsOf l.scan l.state;
+  worked : Worked (g.F.Files.world l.files) (g.F.Files.may_fail l.files) l.desk l.scan l.fn.seat l.seat l.fn.state l.state l.left;
+}
+
+abbrev pub decreases-loop-i : goal.decreases-loop-i
+decreases-loop-i g l = limit_of l.desk - length (hand_of l.seat).drawn

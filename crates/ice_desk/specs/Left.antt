@@ -1,0 +1,15 @@
+-- How many tickets were left.
+use Rattle.std.specs.Prelude.{ℕ, ◌+◌}
+use Rattle.ice_desk.specs.declared.left.Left.{Left}
+use Rattle.ice_desk.specs.declared.left.Served.{Served}
+use Rattle.ice_desk.specs.declared.left.Served.TheVariants.{Taken, Absent, Device, Memory}
+
+-- a ticket that was not taken counts under its cause
+abbrev pub counted : Left → Served → Left
+counted left Taken = left
+counted left Absent = record left { absent = left.absent + 1 }
+counted left Device = record left { device = left.device + 1 }
+counted left Memory = record left { memory = left.memory + 1 }
+
+abbrev pub all_left : Left → ℕ
+all_left left = left.absent + left.device + left.memory

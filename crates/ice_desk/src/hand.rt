@@ -1,0 +1,20 @@
+//! What the desk's rule speaks of. No value of `Hand` is made.
+
+use std::collections::LinkedList;
+
+/// What a seat has done.
+pub struct Hand {
+    /// For how many of the seats that were made it stands.
+    pub seats: u64,
+    /// The numbers that it drew, in order.
+    pub drawn: LinkedList<u64>,
+}
+
+/// What a desk is made for.
+#[derive(Drop)]
+pub struct Size {
+    /// The first number that is no ticket.
+    pub limit: u64,
+    /// How many seats there are.
+    pub seats: u64,
+}

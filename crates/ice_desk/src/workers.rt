@@ -1,0 +1,73 @@
+//! The run of one worker.
+
+ghost use Rattle.std.specs.Prelude.{◌≡◌, ◌<◌, IsTrue, length};
+ghost use Rattle.ice_state.specs.Contents.{IsOf};
+ghost use Rattle.ice_desk.specs.Seats.{IsSeatOf, had_done};
+ghost use Rattle.ice_desk.specs.Works.{Serves, Worked};
+
+use crate::desk::{Claim, Desk, Seat};
+use crate::files::{Files, ReadFault};
+use crate::left::{Left, Served};
+use ice_state::{Partial, Scan};
+use std::alloc::Global;
+
+/// Is told of each read of a worker, before it.
+pub trait Gate {
+    /// The worker of this number is about to read the manifest that stands at `i` among those wanted.
+    fn before_take(&self, worker: usize, i: usize);
+}
+
+/// Reads and takes a manifest.
+fn serve<F: Files, G: Gate>(
+    alloc: Global,
+    files: &F,
+    scan: &Scan,
+    state: &mut Partial,
+    worker: usize,
+    gate: &G,
+    i: usize,
+) -> Served
+    requires state { IsOf scan.now state.old }
+    requires manifest { i < length scan.now.wanted }
+    ensures state { IsOf scan.now state.new }
+    ensures served { Serves (F.world files.now) (F.may_fail files.now) scan.now i state.old state.new result }
+{
+    gate.before_take(worker, i);
+    let row = &scan.wanted()[i];
+    match files.read(alloc, row.path.as_str()) {
+        Ok(bytes) => match state.take(scan, i, &bytes) {
+            Ok(()) => Served::Taken,
+            Err(_) => Served::Memory,
+        },
+        Err(ReadFault::Absent) => Served::Absent,
+        Err(ReadFault::Device) => Served::Device,
+        Err(ReadFault::Memory) => Served::Memory,
+    }
+}
+
+/// Draws, reads and takes until there are no tickets any more. A manifest whose read or take fails is left: it counts
+/// under its cause, and the worker goes on with the next ticket.
+pub fn work<F: Files, G: Gate>(
+    alloc: Global,
+    files: &F,
+    scan: &Scan,
+    desk: &Desk,
+    seat: &mut Seat,
+    state: &mut Partial,
+    worker: usize,
+    gate: &G,
+) -> Left
+    requires seat { IsSeatOf desk.now seat.old }
+    requires state { IsOf scan.now state.old }
+    requires desk { desk.now.manifests ≡ length scan.now.wanted }
+    ensures seat { IsSeatOf desk.now seat.new }
+    ensures done { IsTrue (had_done desk.now seat.new) }
+    ensures worked { Worked (F.world files.now) (F.may_fail files.now) desk.now scan.now seat.old seat.new state.old state.new result }
+{
+    let mut left = Left::none();
+    while let Claim::Index(i) = desk.claim(seat) {
+        let served = serve(alloc, files, scan, state, worker, gate, i);
+        left.count(served);
+    }
+    left
+}
