@@ -1,417 +1,259 @@
-use super::files::PLAIN;
+use super::files::{EMPTY, PLAIN};
 use super::tables::metadata;
-use crate::{Member, MetaFault, Metadata, Target};
-use contract_words::Text;
-use ice_value::ColumnType;
+use crate::{MetaFault, Metadata};
 use std::alloc::Global;
 use std::process::Abort;
 use std::test::Fail;
 
-/// An empty table of one int column.
-const EMPTY: &str =
-    r#"{"format-version": 2, "table-uuid": "f79c3e09-677c-4bbd-a479-3f349cb785e7", "location": "mem://t",
-"last-sequence-number": 0, "last-updated-ms": 0, "last-column-id": 1,
-"schemas": [{"type": "struct", "schema-id": 0, "fields": [{"id": 1, "name": "c", "required": false, "type": "int"}]}],
-"current-schema-id": 0, "partition-specs": [{"spec-id": 0, "fields": []}], "default-spec-id": 0,
-"last-partition-id": 999, "current-snapshot-id": -1, "snapshots": []}"#;
-
-/// The text, with another piece in the place of one.
+/// The text with another piece in the place of one.
 fn with(alloc: Global, text: &str, old: &str, new: &str) -> Result<String, Fail> {
-    let (front, back) = text.split_once(old).ok_or("the piece")?;
+    let (front, back) = text.split_once(old).ok_or("the place")?;
     Ok(format!(in alloc; "{front}{new}{back}")?)
 }
 
-fn fault(alloc: Global, text: &str) -> Option<MetaFault> {
-    Metadata::read(alloc, text.as_bytes()).err()
+/// The text after a change, which is a piece and what stands in its place.
+pub fn changed(alloc: Global, text: &str, change: &str) -> Result<String, Fail> {
+    let (old, new) = change.split_once(" => ").ok_or("a change")?;
+    with(alloc, text, old, new)
 }
 
-fn check(
-    rt: &impl Abort,
-    alloc: Global,
-    old: &str,
-    new: &str,
-    want: Option<MetaFault>,
-) -> Result<(), Fail> {
-    let text = with(alloc, EMPTY, old, new)?;
-    let found = fault(alloc, text.as_str());
-    assert!(rt; found == want, "{new}: {found:?}");
+/// The fault of the text, or `read`.
+fn outcome(alloc: Global, text: &str) -> Result<String, Fail> {
+    match Metadata::read(alloc, text.as_bytes()) {
+        Ok(_) => Ok(String::from_str(alloc, "read")?),
+        Err(fault) => Ok(format!(in alloc; "{fault:?}")?),
+    }
+}
+
+/// Each line changes a piece of the text, and ends with what is read then.
+fn check_lines(rt: &impl Abort, alloc: Global, text: &str, lines: &str) -> Result<(), Fail> {
+    for line in lines.lines() {
+        let (change, want) = line.split_once(" gives ").ok_or("a line")?;
+        let changed = changed(alloc, text, change)?;
+        assert_eq!(rt; outcome(alloc, changed.as_str())?.as_str(), want, "{line}");
+    }
     Ok(())
 }
 
 #[test]
-fn an_empty_table(rt: HostRuntime) -> Result<(), Fail> {
-    let alloc = rt.alloc();
-    let metadata = metadata(alloc, EMPTY)?;
-    assert!(rt; metadata.table().current_snapshot_id.is_none());
-    assert!(rt; metadata.table().refs.as_slice().is_empty());
-    assert!(rt; metadata.resolve(&Target::Main) == Err(MetaFault::NoSnapshot));
-    let main = Target::Ref(Text::from_string(String::from_str(alloc, "main")?));
-    assert!(rt; metadata.resolve(&main) == Err(MetaFault::NoSnapshot));
-    let other = Target::Ref(Text::from_string(String::from_str(alloc, "x")?));
-    assert!(rt; metadata.resolve(&other) == Err(MetaFault::NoSuchRef));
-    assert!(rt; metadata.resolve(&Target::Snapshot(5)) == Err(MetaFault::NoSuchSnapshot));
-    assert!(rt; metadata.resolve(&Target::Snapshot(-1)) == Err(MetaFault::NoSuchSnapshot));
-    assert_eq!(rt; metadata.schema_for(&Target::Main).id, 0);
-    Ok(())
-}
-
-#[test]
-fn no_object(rt: HostRuntime) {
-    for text in ["", "{", "[]", "null", "1", "\"a\"", "{} {}"] {
-        assert!(rt;
-            fault(rt.alloc(), text) == Some(MetaFault::NotJson),
-            "{text}"
-        );
+fn no_object(rt: HostRuntime) -> Result<(), Fail> {
+    for text in "|{|[]|null|1|\"a\"|{} {}".split('|') {
+        assert_eq!(rt; outcome(rt.alloc(), text)?.as_str(), "NotJson", "{text}");
     }
     assert!(rt; Metadata::read(rt.alloc(), b"\xff").err() == Some(MetaFault::NotJson));
-}
-
-#[test]
-fn versions(rt: HostRuntime) -> Result<(), Fail> {
-    for (version, want) in [
-        ("2", None),
-        ("3", Some(MetaFault::Version(3))),
-        ("1", Some(MetaFault::Version(1))),
-        ("-2", Some(MetaFault::Version(-2))),
-        ("2.0", Some(MetaFault::WrongKind(Member::FormatVersion))),
-        ("\"2\"", Some(MetaFault::WrongKind(Member::FormatVersion))),
-        ("null", Some(MetaFault::WrongKind(Member::FormatVersion))),
-        (
-            "9223372036854775808",
-            Some(MetaFault::WrongKind(Member::FormatVersion)),
-        ),
-    ] {
-        let new = format!(in rt.alloc(); "\"format-version\": {version}")?;
-        check(&rt, rt.alloc(), "\"format-version\": 2", new.as_str(), want)?;
-    }
     Ok(())
 }
 
-// Each needed member, left out and null.
+/// Each needed member, left out and null.
+const NEEDED: &str = r#""format-version": => "x": gives Missing(FormatVersion)
+"format-version": => "format-version": null, "x": gives WrongKind(FormatVersion)
+"table-uuid": => "x": gives Missing(TableUuid)
+"table-uuid": => "table-uuid": null, "x": gives WrongKind(TableUuid)
+"location": => "x": gives Missing(Location)
+"location": => "location": null, "x": gives WrongKind(Location)
+"last-sequence-number": => "x": gives Missing(LastSequenceNumber)
+"last-sequence-number": => "last-sequence-number": null, "x": gives WrongKind(LastSequenceNumber)
+"last-updated-ms": => "x": gives Missing(LastUpdatedMs)
+"last-updated-ms": => "last-updated-ms": null, "x": gives WrongKind(LastUpdatedMs)
+"last-column-id": => "x": gives Missing(LastColumnId)
+"last-column-id": => "last-column-id": null, "x": gives WrongKind(LastColumnId)
+"schemas": => "x": gives Missing(Schemas)
+"schemas": => "schemas": null, "x": gives WrongKind(Schemas)
+"current-schema-id": => "x": gives Missing(CurrentSchemaId)
+"current-schema-id": => "current-schema-id": null, "x": gives WrongKind(CurrentSchemaId)
+"partition-specs": => "x": gives Missing(PartitionSpecs)
+"partition-specs": => "partition-specs": null, "x": gives WrongKind(PartitionSpecs)
+"default-spec-id": => "x": gives Missing(DefaultSpecId)
+"default-spec-id": => "default-spec-id": null, "x": gives WrongKind(DefaultSpecId)
+"last-partition-id": => "x": gives Missing(LastPartitionId)
+"last-partition-id": => "last-partition-id": null, "x": gives WrongKind(LastPartitionId)"#;
+
 #[test]
 fn needed_members(rt: HostRuntime) -> Result<(), Fail> {
-    for member in [
-        Member::FormatVersion,
-        Member::TableUuid,
-        Member::Location,
-        Member::LastSequenceNumber,
-        Member::LastUpdatedMs,
-        Member::LastColumnId,
-        Member::Schemas,
-        Member::CurrentSchemaId,
-        Member::PartitionSpecs,
-        Member::DefaultSpecId,
-        Member::LastPartitionId,
-    ] {
-        let name = member.name();
-        let piece = format!(in rt.alloc(); "\"{name}\":")?;
-        let other = format!(in rt.alloc(); "\"x-{name}\":")?;
-        check(
-            &rt,
-            rt.alloc(),
-            piece.as_str(),
-            other.as_str(),
-            Some(MetaFault::Missing(member)),
-        )?;
-        let null = format!(in rt.alloc(); "\"{name}\": null, \"x-{name}\":")?;
-        check(
-            &rt,
-            rt.alloc(),
-            piece.as_str(),
-            null.as_str(),
-            Some(MetaFault::WrongKind(member)),
-        )?;
-    }
-    Ok(())
+    check_lines(&rt, rt.alloc(), EMPTY, NEEDED)
 }
 
-#[test]
-fn the_first_of_two_faults(rt: HostRuntime) -> Result<(), Fail> {
-    let alloc = rt.alloc();
-    let text = with(alloc, EMPTY, "\"location\"", "\"x\"")?;
-    let text = with(alloc, text.as_str(), "\"schemas\"", "\"y\"")?;
-    assert!(rt; fault(alloc, text.as_str()) == Some(MetaFault::Missing(Member::Location)));
-    let text = with(
-        alloc,
-        EMPTY,
-        "\"default-spec-id\": 0",
-        "\"default-spec-id\": 9",
-    )?;
-    let text = with(
-        alloc,
-        text.as_str(),
-        "\"current-schema-id\": 0",
-        "\"current-schema-id\": 9",
-    )?;
-    assert!(rt; fault(alloc, text.as_str()) == Some(MetaFault::Dangling(Member::CurrentSchemaId)));
-    Ok(())
-}
+const VALUES: &str = r#""format-version": 2 => "format-version": 3 gives Version(3)
+"format-version": 2 => "format-version": 1 gives Version(1)
+"format-version": 2 => "format-version": -2 gives Version(-2)
+"format-version": 2 => "format-version": 2.0 gives WrongKind(FormatVersion)
+"format-version": 2 => "format-version": "2" gives WrongKind(FormatVersion)
+"format-version": 2 => "format-version": 9223372036854775808 gives WrongKind(FormatVersion)
+f79c3e09-677c => f79c3e09-677 gives WrongKind(TableUuid)
+"mem://t" => 7 gives WrongKind(Location)
+"last-sequence-number": 0 => "last-sequence-number": -1 gives WrongKind(LastSequenceNumber)
+"last-sequence-number": 0 => "last-sequence-number": 9223372036854775808 gives WrongKind(LastSequenceNumber)
+"last-sequence-number": 0 => "last-sequence-number": 9223372036854775807 gives read
+"last-updated-ms": 0 => "last-updated-ms": 0.5 gives WrongKind(LastUpdatedMs)
+"last-updated-ms": 0 => "last-updated-ms": -1 gives read
+"last-column-id": 1 => "last-column-id": 2147483648 gives WrongKind(LastColumnId)
+"schemas": [ => "schemas": [1,  gives WrongKind(Schemas)
+"schema-id": 0 => "schema-id": -2147483649 gives WrongKind(SchemaId)
+"id": 1 => "id": "1" gives WrongKind(Id)
+"id": 1 => "id": 2147483648 gives WrongKind(Id)
+"name": "c" => "name": 1 gives WrongKind(Name)
+"required": false => "required": 0 gives WrongKind(Required)
+"required": false => "x": 0 gives Missing(Required)
+"current-schema-id": 0 => "current-schema-id": 9 gives Dangling(CurrentSchemaId)
+"fields": [] => "fields": {} gives WrongKind(Fields)
+"spec-id": 0, => "spec-id": 4294967296, gives WrongKind(SpecId)
+"default-spec-id": 0 => "default-spec-id": 9 gives Dangling(DefaultSpecId)
+"current-snapshot-id": -1,  =>  gives read
+"current-snapshot-id": -1 => "current-snapshot-id": null gives read
+"current-snapshot-id": -1 => "current-snapshot-id": 5 gives read
+"current-snapshot-id": -1 => "current-snapshot-id": "1" gives WrongKind(CurrentSnapshotId)
+"snapshots": [] => "snapshots": null, "refs": null gives read
+"snapshots": [] => "snapshots": [[]] gives WrongKind(Snapshots)
+"snapshots": [] => "refs": [] gives WrongKind(Refs)
+"snapshots": [] => "refs": {"a": 1} gives WrongKind(Refs)
+"snapshots": [] => "refs": {"a": {"type": "tag"}} gives Missing(SnapshotId)
+"snapshots": [] => "refs": {"a": {"snapshot-id": 1}} gives Missing(Type)
+"snapshots": [] => "refs": {"a": {"snapshot-id": 1, "type": "x"}} gives WrongKind(Type)"#;
 
 #[test]
 fn values(rt: HostRuntime) -> Result<(), Fail> {
-    for (old, new, member) in [
-        ("f79c3e09-677c", "f79c3e09-677", Member::TableUuid),
-        ("\"mem://t\"", "7", Member::Location),
-        (
-            "\"last-sequence-number\": 0",
-            "\"last-sequence-number\": -1",
-            Member::LastSequenceNumber,
-        ),
-        (
-            "\"last-updated-ms\": 0",
-            "\"last-updated-ms\": 0.5",
-            Member::LastUpdatedMs,
-        ),
-        (
-            "\"last-column-id\": 1",
-            "\"last-column-id\": 2147483648",
-            Member::LastColumnId,
-        ),
-        ("\"schemas\": [", "\"schemas\": [1, ", Member::Schemas),
-        (
-            "\"schema-id\": 0",
-            "\"schema-id\": -2147483649",
-            Member::SchemaId,
-        ),
-        ("\"id\": 1", "\"id\": \"1\"", Member::Id),
-        ("\"name\": \"c\"", "\"name\": 1", Member::Name),
-        ("\"required\": false", "\"required\": 0", Member::Required),
-        ("\"type\": \"int\"", "\"type\": 4", Member::Type),
-        ("\"fields\": []", "\"fields\": {}", Member::Fields),
-        (
-            "\"current-snapshot-id\": -1",
-            "\"current-snapshot-id\": \"1\"",
-            Member::CurrentSnapshotId,
-        ),
-        (
-            "\"snapshots\": []",
-            "\"snapshots\": [[]]",
-            Member::Snapshots,
-        ),
-        ("\"snapshots\": []", "\"refs\": []", Member::Refs),
-        ("\"snapshots\": []", "\"refs\": {\"a\": 1}", Member::Refs),
-        (
-            "\"snapshots\": []",
-            "\"refs\": {\"a\": {\"snapshot-id\": 1, \"type\": \"x\"}}",
-            Member::Type,
-        ),
-    ] {
-        check(
-            &rt,
-            rt.alloc(),
-            old,
-            new,
-            Some(MetaFault::WrongKind(member)),
-        )?;
-    }
-    for (old, new) in [
-        ("\"current-snapshot-id\": -1, ", ""),
-        (
-            "\"current-snapshot-id\": -1",
-            "\"current-snapshot-id\": null",
-        ),
-        ("\"current-snapshot-id\": -1", "\"current-snapshot-id\": 5"),
-        ("\"snapshots\": []", "\"snapshots\": null, \"refs\": null"),
-        (
-            "\"last-sequence-number\": 0",
-            "\"last-sequence-number\": 9223372036854775807",
-        ),
-    ] {
-        check(&rt, rt.alloc(), old, new, None)?;
+    check_lines(&rt, rt.alloc(), EMPTY, VALUES)
+}
+
+/// Two changes of one text.
+const TWO_FAULTS: &str = r#""location": => "x": and "schemas": => "y": gives Missing(Location)
+"format-version": 2 => "format-version": 3 and "table-uuid": => "x": gives Version(3)
+"default-spec-id": 0 => "default-spec-id": 9 and "current-schema-id": 0 => "current-schema-id": 9 gives Dangling(CurrentSchemaId)
+"last-partition-id": => "x": and "default-spec-id": 0 => "default-spec-id": 9 gives Dangling(DefaultSpecId)
+"last-partition-id": => "x": and "current-snapshot-id": -1 => "current-snapshot-id": 1.5 gives Missing(LastPartitionId)
+"current-snapshot-id": -1 => "current-snapshot-id": 1.5 and "snapshots": [] => "snapshots": 1 gives WrongKind(CurrentSnapshotId)
+"current-snapshot-id": -1 => "refs": 1 and "snapshots": [] => "snapshots": 1 gives WrongKind(Snapshots)"#;
+
+#[test]
+fn the_first_of_two_faults(rt: HostRuntime) -> Result<(), Fail> {
+    for line in TWO_FAULTS.lines() {
+        let (change, other) = line.split_once(" and ").ok_or("two changes")?;
+        let text = changed(rt.alloc(), EMPTY, change)?;
+        check_lines(&rt, rt.alloc(), text.as_str(), other)?;
     }
     Ok(())
 }
+
+const SNAPSHOT: &str =
+    r#""snapshots": [] => "snapshots": [{"snapshot-id": 7, "parent-snapshot-id": 6, "sequence-number": 1, "timestamp-ms": 5, "summary": {"operation": "append"}, "manifest-list": "mem://t/l", "schema-id": 0}]"#;
+
+const VALUES_OF_A_SNAPSHOT: &str =
+    r#""snapshot-id": 7 => "snapshot-id": "7" gives WrongKind(SnapshotId)
+"snapshot-id": 7 => "x": 7 gives Missing(SnapshotId)
+"snapshot-id": 7 => "snapshot-id": -1 gives read
+"parent-snapshot-id": 6 => "parent-snapshot-id": "6" gives WrongKind(ParentSnapshotId)
+"parent-snapshot-id": 6 => "parent-snapshot-id": null gives read
+"sequence-number": 1 => "sequence-number": -1 gives WrongKind(SequenceNumber)
+"sequence-number": 1 => "x": 1 gives Missing(SequenceNumber)
+"timestamp-ms": 5 => "timestamp-ms": null gives WrongKind(TimestampMs)
+"timestamp-ms": 5 => "x": 5 gives Missing(TimestampMs)
+{"operation": "append"} => [] gives WrongKind(Summary)
+{"operation": "append"} => {} gives read
+"append" => 1 gives WrongKind(Operation)
+"mem://t/l" => 1 gives WrongKind(ManifestList)
+"manifest-list": "mem://t/l" => "x": 1 gives read
+"schema-id": 0}] => "schema-id": 2147483648}] gives WrongKind(SchemaId)
+"schema-id": 0}] => "schema-id": 9}] gives read"#;
+
+#[test]
+fn values_of_a_snapshot(rt: HostRuntime) -> Result<(), Fail> {
+    let text = changed(rt.alloc(), EMPTY, SNAPSHOT)?;
+    check_lines(&rt, rt.alloc(), text.as_str(), VALUES_OF_A_SNAPSHOT)
+}
+
+const TWICE: &str =
+    r#""snapshots": [] => "snapshots": [{"snapshot-id": 7, "sequence-number": 1, "timestamp-ms": 5}, {"snapshot-id": 7, "sequence-number": 2, "timestamp-ms": 6}] gives IdTwice(7)
+"fields": [] => "fields": [{"source-id": 1, "field-id": 7, "name": "p", "transform": "identity"}, {"source-id": 1, "field-id": 7, "name": "q", "transform": "void"}] gives IdTwice(7)
+"partition-specs": [ => "partition-specs": [{"spec-id": 0, "fields": []},  gives IdTwice(0)
+"schemas": [ => "schemas": [{"type": "struct", "schema-id": 0, "fields": []},  gives IdTwice(0)
+"type": "int" => "type": {"type": "list", "element-id": 1, "element": "int"} gives IdTwice(1)"#;
 
 #[test]
 fn ids_given_twice(rt: HostRuntime) -> Result<(), Fail> {
-    let snapshot =
-        r#"{"snapshot-id": 7, "sequence-number": 1, "timestamp-ms": 5, "manifest-list": "mem://t/l"}"#;
-    let snapshots = format!(in rt.alloc(); "\"snapshots\": [{snapshot}, {snapshot}]")?;
-    check(
-        &rt,
-        rt.alloc(),
-        "\"snapshots\": []",
-        snapshots.as_str(),
-        Some(MetaFault::IdTwice(7)),
-    )?;
-    let fields = r#"[{"source-id": 1, "field-id": 7, "name": "p", "transform": "identity"},
-        {"source-id": 1, "field-id": 7, "name": "q", "transform": "void"}]"#;
-    let fields = format!(in rt.alloc(); "\"fields\": {fields}")?;
-    check(
-        &rt,
-        rt.alloc(),
-        "\"fields\": []",
-        fields.as_str(),
-        Some(MetaFault::IdTwice(7)),
-    )?;
-    let spec = r#""partition-specs": [{"spec-id": 0, "fields": []}, "#;
-    check(
-        &rt,
-        rt.alloc(),
-        "\"partition-specs\": [",
-        spec,
-        Some(MetaFault::IdTwice(0)),
-    )?;
-    let schema = r#""schemas": [{"type": "struct", "schema-id": 0, "fields": []}, "#;
-    check(
-        &rt,
-        rt.alloc(),
-        "\"schemas\": [",
-        schema,
-        Some(MetaFault::IdTwice(0)),
-    )?;
-    let list = r#""type": {"type": "list", "element-id": 1, "element": "int"}"#;
-    check(
-        &rt,
-        rt.alloc(),
-        "\"type\": \"int\"",
-        list,
-        Some(MetaFault::IdTwice(1)),
-    )?;
-    Ok(())
+    check_lines(&rt, rt.alloc(), EMPTY, TWICE)
 }
 
-#[test]
-fn names_of_what_is_not_there(rt: HostRuntime) -> Result<(), Fail> {
-    let spec = MetaFault::Dangling(Member::DefaultSpecId);
-    check(
-        &rt,
-        rt.alloc(),
-        "\"default-spec-id\": 0",
-        "\"default-spec-id\": 9",
-        Some(spec),
-    )?;
-    let schema = MetaFault::Dangling(Member::CurrentSchemaId);
-    check(
-        &rt,
-        rt.alloc(),
-        "\"current-schema-id\": 0",
-        "\"current-schema-id\": 9",
-        Some(schema),
-    )?;
-    Ok(())
-}
-
-fn check_type(
-    rt: &impl Abort,
-    alloc: Global,
-    text: &str,
-    want: Option<ColumnType>,
-) -> Result<(), Fail> {
-    let new = format!(in alloc; "\"type\": \"{text}\"")?;
-    let whole = with(alloc, EMPTY, "\"type\": \"int\"", new.as_str())?;
-    match Metadata::read(alloc, whole.as_bytes()) {
-        Ok(metadata) => {
-            let schema = metadata.schema(0).ok_or("the schema")?;
-            assert!(rt; want.is_some() && schema.type_of(1) == want, "{text}");
-        }
-        Err(fault) => {
-            let unknown = MetaFault::UnknownType(Text::from_string(String::from_str(alloc, text)?));
-            assert!(rt; want.is_none() && fault == unknown, "{text}");
-        }
-    }
-    Ok(())
-}
-
-#[test]
-fn primitive_types(rt: HostRuntime) -> Result<(), Fail> {
-    for (text, want) in [
-        ("boolean", Some(ColumnType::Boolean)),
-        ("long", Some(ColumnType::Long)),
-        ("float", Some(ColumnType::Float)),
-        ("double", Some(ColumnType::Double)),
-        ("date", Some(ColumnType::Date)),
-        ("time", Some(ColumnType::Time)),
-        ("timestamp", Some(ColumnType::Timestamp)),
-        ("timestamptz", Some(ColumnType::Timestamptz)),
-        ("string", Some(ColumnType::String)),
-        ("uuid", Some(ColumnType::Uuid)),
-        ("binary", Some(ColumnType::Binary)),
-        ("fixed[16]", Some(ColumnType::Fixed(16))),
-        ("fixed[2147483647]", Some(ColumnType::Fixed(2147483647))),
-        (
-            "decimal(9,2)",
-            Some(ColumnType::Decimal {
-                precision: 9,
-                scale: 2,
-            }),
-        ),
-        (
-            "decimal(38, 10)",
-            Some(ColumnType::Decimal {
-                precision: 38,
-                scale: 10,
-            }),
-        ),
-        ("int8", None),
-        ("Int", None),
-        ("", None),
-        ("fixed", None),
-        ("fixed[]", None),
-        ("fixed[-1]", None),
-        ("fixed[2147483648]", None),
-        ("fixed[16] ", None),
-        ("decimal(9)", None),
-        ("decimal(,2)", None),
-        ("decimal(9,  2)", None),
-        ("decimal(9,2))", None),
-        ("struct", None),
-    ] {
-        check_type(&rt, rt.alloc(), text, want)?;
-    }
-    Ok(())
-}
+const NESTED: &str = r#""type": "int" => "type": 4 gives WrongKind(Type)
+"type": "int" => "type": {} gives Missing(Type)
+"type": "int" => "type": {"type": "list", "element": "int"} gives Missing(ElementId)
+"type": "int" => "type": {"type": "list", "element-id": 2} gives Missing(Element)
+"type": "int" => "type": {"type": "list", "element-id": 2, "element": []} gives WrongKind(Element)
+"type": "int" => "type": {"type": "map", "key-id": 2, "key": "int"} gives Missing(ValueId)
+"type": "int" => "type": {"type": "struct"} gives Missing(Fields)
+"type": "int" => "type": {"type": "struct", "fields": []} gives read
+"type": "int" => "type": {"type": "set"} gives UnknownType(Text { text: "set" })
+"type": "struct" => "type": "list" gives UnknownType(Text { text: "list" })"#;
 
 #[test]
 fn nested_types(rt: HostRuntime) -> Result<(), Fail> {
-    for (new, want) in [
-        (r#""type": {}"#, Some(MetaFault::Missing(Member::Type))),
-        (
-            r#""type": {"type": "list", "element": "int"}"#,
-            Some(MetaFault::Missing(Member::ElementId)),
-        ),
-        (
-            r#""type": {"type": "list", "element-id": 2}"#,
-            Some(MetaFault::Missing(Member::Element)),
-        ),
-        (
-            r#""type": {"type": "list", "element-id": 2, "element": []}"#,
-            Some(MetaFault::WrongKind(Member::Element)),
-        ),
-        (
-            r#""type": {"type": "map", "key-id": 2, "key": "int"}"#,
-            Some(MetaFault::Missing(Member::ValueId)),
-        ),
-        (
-            r#""type": {"type": "struct"}"#,
-            Some(MetaFault::Missing(Member::Fields)),
-        ),
-        (r#""type": {"type": "struct", "fields": []}"#, None),
-    ] {
-        check(&rt, rt.alloc(), "\"type\": \"int\"", new, want)?;
+    check_lines(&rt, rt.alloc(), EMPTY, NESTED)
+}
+
+/// The text of a type, and the type of the column.
+const TYPES: &str = "\
+boolean = Some(Boolean)
+long = Some(Long)
+float = Some(Float)
+double = Some(Double)
+date = Some(Date)
+time = Some(Time)
+timestamp = Some(Timestamp)
+timestamptz = Some(Timestamptz)
+string = Some(String)
+uuid = Some(Uuid)
+binary = Some(Binary)
+fixed[16] = Some(Fixed(16))
+fixed[2147483647] = Some(Fixed(2147483647))
+decimal(9,2) = Some(Decimal { precision: 9, scale: 2 })
+decimal(38, 10) = Some(Decimal { precision: 38, scale: 10 })";
+
+#[test]
+fn primitive_types(rt: HostRuntime) -> Result<(), Fail> {
+    for line in TYPES.lines() {
+        let (name, want) = line.split_once(" = ").ok_or("a type")?;
+        let change = format!(in rt.alloc(); "\"int\" => \"{name}\"")?;
+        let text = changed(rt.alloc(), EMPTY, change.as_str())?;
+        let metadata = metadata(rt.alloc(), text.as_str())?;
+        let found = metadata.schema(0).ok_or("the schema")?.type_of(1);
+        assert_eq!(rt; format!(in rt.alloc(); "{found:?}")?.as_str(), want);
     }
-    let set = MetaFault::UnknownType(Text::from_string(String::from_str(rt.alloc(), "set")?));
-    check(
-        &rt,
-        rt.alloc(),
-        "\"type\": \"int\"",
-        r#""type": {"type": "set"}"#,
-        Some(set),
-    )?;
-    let list = MetaFault::UnknownType(Text::from_string(String::from_str(rt.alloc(), "list")?));
-    check(
-        &rt,
-        rt.alloc(),
-        "\"type\": \"struct\"",
-        r#""type": "list""#,
-        Some(list),
-    )?;
     Ok(())
 }
 
-// So many fields, each with an id of its own.
+#[test]
+fn texts_of_no_type(rt: HostRuntime) -> Result<(), Fail> {
+    let names =
+        "int8|Int||fixed|fixed[]|fixed[-1]|fixed[2147483648]|fixed[16] |decimal(9)|decimal(,2)|decimal(9,  2)|decimal(9,2))|struct";
+    for name in names.split('|') {
+        let change = format!(in rt.alloc(); "\"int\" => \"{name}\"")?;
+        let text = changed(rt.alloc(), EMPTY, change.as_str())?;
+        let want = format!(in rt.alloc(); "UnknownType(Text {{ text: \"{name}\" }})")?;
+        assert_eq!(rt; outcome(rt.alloc(), text.as_str())?.as_str(), want.as_str());
+    }
+    Ok(())
+}
+
+/// So many times the text.
+fn repeated(alloc: Global, text: &str, count: usize) -> Result<String, Fail> {
+    let mut whole = String::new(alloc);
+    for _ in 0..count {
+        whole.push_str(text)?;
+    }
+    Ok(whole)
+}
+
+#[test]
+fn lengths_of_a_location(rt: HostRuntime) -> Result<(), Fail> {
+    let longest = repeated(rt.alloc(), "l", 65_000)?;
+    let longest = format!(in rt.alloc();
+        "mem://t => {longest} gives read\nmem://t => {longest}l gives WrongKind(Location)"
+    )?;
+    check_lines(&rt, rt.alloc(), EMPTY, longest.as_str())
+}
+
+/// So many fields, each with an id of its own.
 fn fields(alloc: Global, count: u32) -> Result<String, Fail> {
-    let mut text = String::from_str(alloc, r#""fields": ["#)?;
+    let mut text = String::from_str(alloc, "\"fields\": [] => \"fields\": [")?;
     for id in 0..count {
         let comma = if id == 0 { "" } else { "," };
         let field = format!(in alloc;
@@ -424,73 +266,23 @@ fn fields(alloc: Global, count: u32) -> Result<String, Fail> {
 }
 
 #[test]
-fn limits(rt: HostRuntime) -> Result<(), Fail> {
-    let alloc = rt.alloc();
-    check(
-        &rt,
-        rt.alloc(),
-        "\"fields\": []",
-        fields(alloc, 64)?.as_str(),
-        None,
-    )?;
-    check(
-        &rt,
-        rt.alloc(),
-        "\"fields\": []",
-        fields(alloc, 65)?.as_str(),
-        Some(MetaFault::TooBig),
-    )?;
-    let mut location = String::new(alloc);
-    for _ in 0..65_000 {
-        location.push_str("l")?;
-    }
-    check(&rt, rt.alloc(), "mem://t", location.as_str(), None)?;
-    location.push_str("l")?;
-    check(
-        &rt,
-        rt.alloc(),
-        "mem://t",
-        location.as_str(),
-        Some(MetaFault::WrongKind(Member::Location)),
-    )?;
+fn numbers_of_fields(rt: HostRuntime) -> Result<(), Fail> {
+    let most = fields(rt.alloc(), 64)?;
+    let more = fields(rt.alloc(), 65)?;
+    let most = changed(rt.alloc(), EMPTY, most.as_str())?;
+    let more = changed(rt.alloc(), EMPTY, more.as_str())?;
+    assert_eq!(rt; outcome(rt.alloc(), most.as_str())?.as_str(), "read");
+    assert_eq!(rt; outcome(rt.alloc(), more.as_str())?.as_str(), "TooBig");
     Ok(())
-}
-
-#[test]
-fn snapshots_without_lists_and_schemas(rt: HostRuntime) -> Result<(), Fail> {
-    let alloc = rt.alloc();
-    let text = with(
-        alloc,
-        EMPTY,
-        "\"current-snapshot-id\": -1",
-        "\"current-snapshot-id\": 7",
-    )?;
-    let snapshots =
-        r#""snapshots": [{"snapshot-id": 7, "sequence-number": 1, "timestamp-ms": 5, "schema-id": 4}],
-        "refs": {"main": {"snapshot-id": 8, "type": "tag"}, "gone": {"snapshot-id": 9, "type": "tag"}}"#;
-    let text = with(alloc, text.as_str(), "\"snapshots\": []", snapshots)?;
-    let metadata = metadata(alloc, text.as_str())?;
-    let no_list = MetaFault::Missing(Member::ManifestList);
-    assert!(rt; metadata.resolve(&Target::Main) == Err(no_list));
-    let gone = Target::Ref(Text::from_string(String::from_str(alloc, "gone")?));
-    assert!(rt; metadata.resolve(&gone) == Err(MetaFault::NoSuchSnapshot));
-    assert_eq!(rt; metadata.schema_for(&Target::Snapshot(7)).id, 0);
-    let snapshot = metadata.snapshot(7).ok_or("the snapshot")?;
-    assert!(rt; snapshot.operation.is_none() && snapshot.manifest_list.is_none());
-    Ok(())
-}
-
-fn check_cuts(rt: &impl Abort, alloc: Global, bytes: &[u8], step: usize) {
-    for end in 0..bytes.len() {
-        if step != 0 && end % step == 0 {
-            let found = Metadata::read(alloc, &bytes[..end]).err();
-            assert!(rt; found == Some(MetaFault::NotJson), "{end}");
-        }
-    }
 }
 
 #[test]
 fn cuts(rt: HostRuntime) {
-    check_cuts(&rt, rt.alloc(), EMPTY.as_bytes(), 1);
-    check_cuts(&rt, rt.alloc(), PLAIN.as_bytes(), 101);
+    for text in [EMPTY, PLAIN] {
+        let bytes = text.as_bytes();
+        for end in 0..bytes.len() {
+            let found = Metadata::read(rt.alloc(), &bytes[..end]).err();
+            assert!(rt; found == Some(MetaFault::NotJson), "{end}");
+        }
+    }
 }

@@ -1,4 +1,12 @@
-//! Metadata files as Iceberg's Java library lays them out, with other line ends.
+//! Metadata files: a small one, and two as Iceberg's Java library lays them out, with less white space.
+
+/// An empty table of one int column.
+pub const EMPTY: &str =
+    r#"{"format-version": 2, "table-uuid": "f79c3e09-677c-4bbd-a479-3f349cb785e7", "location": "mem://t",
+"last-sequence-number": 0, "last-updated-ms": 0, "last-column-id": 1,
+"schemas": [{"type": "struct", "schema-id": 0, "fields": [{"id": 1, "name": "c", "required": false, "type": "int"}]}],
+"current-schema-id": 0, "partition-specs": [{"spec-id": 0, "fields": []}], "default-spec-id": 0,
+"last-partition-id": 999, "current-snapshot-id": -1, "snapshots": []}"#;
 
 /// A table whose schema and partition spec changed, with a tag and a second branch.
 pub const EVENTS: &str =
