@@ -211,6 +211,7 @@ fn count_at(bytes: &[u8], at: usize) -> (u64, usize)
 
 /// Where a value ends, and how many items are left then.
 #[cycle(quick)]
+#[inline(always)]
 pub fn value_end(schema: &Schema, bytes: &[u8], at: usize, left: &mut u64) -> Option<usize>
     requires { at ≤ length bytes.now }
     ensures { IfSome result (λ end. EndsCounted (datum_at (tree schema.now)) bytes.now at left.old end left.new) }
@@ -225,6 +226,7 @@ pub fn value_end(schema: &Schema, bytes: &[u8], at: usize, left: &mut u64) -> Op
 
 /// Where the fields of a record end.
 #[cycle(quick)]
+#[inline(never)]
 fn fields_end(fields: &[Field], bytes: &[u8], at: usize, left: &mut u64) -> Option<usize>
     requires { at ≤ length bytes.now }
     ensures { IfSome result (λ end. EndsCounted (fields_at (fields_of (parts fields.now))) bytes.now at left.old end left.new) }
@@ -238,6 +240,7 @@ fn fields_end(fields: &[Field], bytes: &[u8], at: usize, left: &mut u64) -> Opti
 
 /// Where a union's branch and its value end.
 #[cycle(quick)]
+#[inline(never)]
 fn branch_end(branches: &[Schema], bytes: &[u8], at: usize, left: &mut u64) -> Option<usize>
     requires { at ≤ length bytes.now }
     ensures { IfSome result (λ end. EndsCounted (datum_at (union (branches_of (trees branches.now)))) bytes.now at left.old end left.new) }
@@ -251,6 +254,7 @@ fn branch_end(branches: &[Schema], bytes: &[u8], at: usize, left: &mut u64) -> O
 
 /// Where an array ends that is one block.
 #[cycle(quick)]
+#[inline(never)]
 fn items_end(schema: &Schema, bytes: &[u8], at: usize, left: &mut u64) -> Option<usize>
     requires { at ≤ length bytes.now }
     ensures { IfSome result (λ end. EndsCounted (blocks_at (datum_at (tree schema.now)) (suc (length (drop at bytes.now)))) bytes.now at left.old end left.new) }
@@ -272,6 +276,7 @@ fn items_end(schema: &Schema, bytes: &[u8], at: usize, left: &mut u64) -> Option
 
 /// Where so many items end. Those that take no bytes end where they begin.
 #[cycle(quick)]
+#[inline(never)]
 fn some_end(schema: &Schema, count: u64, bytes: &[u8], at: usize, left: &mut u64) -> Option<usize>
     requires { at ≤ length bytes.now }
     ensures { IfSome result (λ end. EndsCounted (values_at (datum_at (tree schema.now)) count) bytes.now at left.old end left.new) }
