@@ -1,11 +1,12 @@
 //! Laws of the format, over its definitions alone.
 
-ghost use Rattle.std.specs.Prelude.{◌≡◌, ◌≢◌, ◌^◌, ◌<◌, ◌≤◌, ℕ, true, List, length, Ok, Err};
+ghost use Rattle.std.specs.Prelude.{◌≡◌, ◌≢◌, ◌^◌, ◌<◌, ◌≤◌, ℕ, true, List, length, None, Ok, Err};
 ghost use Rattle.avro_schema.specs.Tree.{Tree};
 ghost use Rattle.avro_file.specs.Value.{Value};
 ghost use Rattle.avro_file.specs.Spelling.{takes_bytes};
-ghost use Rattle.avro_file.specs.Ahead.{still_ahead};
-ghost use Rattle.avro_file.specs.Files.{opened_at, HoldsFile, Opened};
+ghost use Rattle.avro_file.specs.Ahead.{running, still_ahead};
+ghost use Rattle.avro_file.specs.Holding.{AreWithinLimits};
+ghost use Rattle.avro_file.specs.Files.{opened_at, reader_of, HoldsFile, Opened};
 
 use crate::fault::AvroFault;
 
@@ -22,4 +23,10 @@ pub fn no_item_limit()
 /// A file gives no more objects than it has bytes, where each value of its schema takes a byte at least.
 pub fn objects_take_bytes()
     ensures { (bytes : List ℕ) (o : Opened) → opened_at bytes ≡ Ok o → takes_bytes o.schema ≡ true → still_ahead o.ahead ≤ length bytes }
+{}
+
+/// The data that a file holds within the limits are what its reader gives up to the end, and only these.
+pub fn held_is_read()
+    ensures read { (s : Tree) (vs : List Value) (bytes : List ℕ) → length bytes < 2 ^ 64 → HoldsFile s vs bytes → AreWithinLimits vs → opened_at bytes ≡ Ok (reader_of s vs) }
+    ensures only { (bytes : List ℕ) (o : Opened) (vs : List Value) → opened_at bytes ≡ Ok o → o.ahead ≡ running vs None → HoldsFile o.schema vs bytes × AreWithinLimits vs }
 {}

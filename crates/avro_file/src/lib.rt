@@ -21,7 +21,7 @@ mod writer;
 pub use container::{Container, Objects};
 pub use datum::Datum;
 pub use fault::{AvroFault, CodecName};
-pub use laws::{no_item_limit, objects_take_bytes, one_list};
+pub use laws::{held_is_read, no_item_limit, objects_take_bytes, one_list};
 pub use object::Object;
 pub use writer::{Property, Writer};
 

@@ -10,3 +10,4 @@ pub mod Alike
 pub mod Whole
 pub mod Contents
 pub mod Few
+pub mod Held

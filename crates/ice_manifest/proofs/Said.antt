@@ -1,5 +1,6 @@
 -- What objects say, and that reading them gives this and nothing else.
-use Rattle.std.proofs.Common.{◌≡◌, ◌⊎◌, inl, inr, ℕ, ℤ, pos, ◌+◌, Bool, List, [], ◌∷◌, map, Option, Some, None, Result, Ok, Err, refl, sym, ap, subst, ◌∙◌, ◌==◌, eqb-true}
+use Rattle.std.proofs.Common.{◌≡◌, ◌≢◌, ◌⊎◌, inl, inr, ℕ, ℤ, pos, ◌+◌, Bool, List, [], ◌∷◌, map, Option, Some, None, Result, Ok, Err, refl, sym, ap, subst, ◌∙◌, ◌==◌, eqb-true}
+use Rattle.std.specs.Prelude.{unwrap_or}
 use Rattle.std.specs.List.{enumerate_from}
 use Rattle.contract_words.specs.Outcome.{◌>>=◌}
 use Rattle.avro_schema.specs.Tree.{structure, Fields}
@@ -23,9 +24,9 @@ use Rattle.ice_manifest.specs.Naming.{in_list, in_manifest, told}
 use Rattle.ice_manifest.specs.Fields.{at, there, long_at, int_at, number_at, path_at, record_at, ints_at, optional_number}
 use Rattle.ice_manifest.specs.Lists as Lists
 use Rattle.ice_manifest.specs.Lists.{row_of, counts_at, summaries_in, says_row}
-use Rattle.ice_manifest.specs.Manifests.{content_at, file_of, status_at, snapshot_at, inherited, sequence_at, file_sequence_at, no_bounds, live_at, unless_deleted, entry_of, says_entry}
-use Rattle.ice_manifest.specs.Laws.{SaysRow, SaysFile, SaysLive, SaysEntry, SayRows, SayEntries, KeepsItsNumber, InheritsTheRows, NeedsItsOwn}
-use Rattle.ice_manifest.proofs.Guards.{passed, ok_is, went_on}
+use Rattle.ice_manifest.specs.Manifests.{content_at, file_of, status_at, snapshot_at, inherited, file_inherited, sequence_at, file_sequence_at, no_bounds, live_at, unless_deleted, entry_of, says_entry}
+use Rattle.ice_manifest.specs.Laws.{SaysRow, SaysFile, SaysLive, SaysEntry, SayRows, SayEntries, KeepsItsNumber, InheritsTheRows, NeedsItsOwn, KeepsItsFileNumber, InheritsTheRowsForItsFile, HasNoFileNumber, KeepsItsSnapshot, InheritsItsSnapshot}
+use Rattle.ice_manifest.proofs.Guards.{passed, either, ok_is, went_on}
 use Rattle.ice_manifest.proofs.Reading.{told_ok}
 
 -- ---- a row
@@ -236,3 +237,29 @@ zero_given of_row n h =
 pub needs_its_own : NeedsItsOwn
 unfolding sequence_at
 needs_its_own row x n none h = zero_given row.sequence_number n (sym (rw none refl) ∙ h)
+
+pub keeps_its_file_number : KeepsItsFileNumber
+unfolding file_sequence_at
+keeps_its_file_number row status x m n own h = let is : Some m ≡ n = ok_is (Some m) n (sym (rw own refl) ∙ h) in sym is
+
+pub inherits_the_rows_for_its_file : InheritsTheRowsForItsFile
+unfolding file_sequence_at
+inherits_the_rows_for_its_file row x n none h = let is : Some row.sequence_number ≡ n = ok_is (Some row.sequence_number) n (sym (rw none refl) ∙ h) in sym is
+
+none_given : (of_row : ℕ) (n : Option ℕ) → of_row ≢ 0 → file_inherited of_row Existing None ≡ n → n ≡ None
+none_given of_row n other h = elim (either (of_row == 0) (Some 0) None n h) as (λ _. n ≡ None) [
+  | inl p ↦ absurd (other (eqb-true of_row 0 p.0))
+  | inr p ↦ sym p.1
+]
+
+pub has_no_file_number : HasNoFileNumber
+unfolding file_sequence_at
+has_no_file_number row x n none other h = none_given row.sequence_number n other (ok_is (file_inherited row.sequence_number Existing None) n (sym (rw none refl) ∙ h))
+
+-- ---- snapshots
+
+pub keeps_its_snapshot : KeepsItsSnapshot
+keeps_its_snapshot row x id own = ap (λ (o : Option ℤ). unwrap_or o row.added_snapshot_id) own
+
+pub inherits_its_snapshot : InheritsItsSnapshot
+inherits_its_snapshot row x none = ap (λ (o : Option ℤ). unwrap_or o row.added_snapshot_id) none

@@ -1,6 +1,6 @@
 -- What reading lists and manifests comes to, in words of rows and entries alone. Apache Iceberg table spec v2,
 -- "Manifest Lists" and "Manifests".
-use Rattle.std.specs.Prelude.{◌≡◌, ◌≢◌, ◌↔◌, ℕ, pos, ◌+◌, ◌<◌, ◌≤◌, ◌⊎◌, Bool, false, List, [], ◌∷◌, ◌++◌, length, map, Option, Some, None, Result, Ok, Err}
+use Rattle.std.specs.Prelude.{◌≡◌, ◌≢◌, ◌↔◌, ℕ, ℤ, pos, ◌+◌, ◌^◌, ◌<◌, ◌≤◌, ◌⊎◌, Bool, false, List, [], ◌∷◌, ◌++◌, length, map, Option, Some, None, Result, Ok, Err}
 use Rattle.std.specs.Cmp.Lexicographic.{slice_cmp}
 use Rattle.std.specs.Ordering.{nat_cmp, is_lt}
 use Rattle.std.specs.List.{Contains, AllByRecursion}
@@ -9,7 +9,8 @@ use Rattle.avro_schema.specs.Tree.{Tree, structure, Fields}
 use Rattle.avro_file.specs.declared.fault.AvroFault.{AvroFault}
 use Rattle.avro_file.specs.Value.{Value}
 use Rattle.avro_file.specs.Ahead.{running}
-use Rattle.avro_file.specs.Files.{opened_at}
+use Rattle.avro_file.specs.Holding.{AreWithinLimits}
+use Rattle.avro_file.specs.Files.{opened_at, HoldsFile}
 use Rattle.avro_file.specs.Picking.{Typed}
 use Rattle.ice_value.specs.declared.file_content.FileContent.{FileContent}
 use Rattle.ice_value.specs.declared.file_content.FileContent.TheVariants as holds
@@ -25,7 +26,7 @@ use Rattle.ice_manifest.specs.declared.entry.Live.{Live}
 use Rattle.ice_manifest.specs.declared.status.Status.{Status}
 use Rattle.ice_manifest.specs.declared.status.Status.TheVariants.{Existing, Added, Deleted}
 use Rattle.ice_manifest.specs.Schemas.{Fault, fields_in, row_fields, entry_fields}
-use Rattle.ice_manifest.specs.Fields.{at, there, long_at, int_at, number_at, path_at, record_at, ints_at, optional_number}
+use Rattle.ice_manifest.specs.Fields.{at, there, long_at, int_at, number_at, path_at, record_at, ints_at, optional_long, optional_number}
 use Rattle.ice_manifest.specs.Lists as Lists
 use Rattle.ice_manifest.specs.Lists.{row_of, counts_at, summaries_in, same_row, checked, in_order, rows_of}
 use Rattle.ice_manifest.specs.Manifests.{content_at, status_at, snapshot_at, sequence_at, file_sequence_at, no_bounds, kept, live_of, entries_of}
@@ -44,6 +45,12 @@ IsList bytes fs vs ending = IsFile row_fields bytes fs vs ending
 
 abbrev pub IsManifest : List ℕ → Fields → List Value → Option AvroFault → Type 0
 IsManifest bytes fs vs ending = IsFile entry_fields bytes fs vs ending
+
+-- A file holds these objects up to its end, as the format says it, and they have these fields, with which nothing is at
+-- fault.
+abbrev pub HoldsObjects : (Fields → Fault) → List ℕ → Fields → List Value → Type 0
+HoldsObjects check bytes fs vs = (s : Tree) × HoldsFile s vs bytes × AreWithinLimits vs × (fields_in s ≡ fs)
+    × (check fs ≡ Ok tt)
 
 -- ---- what an object says
 
@@ -104,12 +111,22 @@ SayEntries row unpartitioned fs k vs read = ⊥
 
 -- ---- entries
 
+-- a manifest holds objects of which none is at fault, and these are the live entries that they say, in their order
+abbrev pub HoldsEntries : Row → Spec → List ℕ → List Live → Type 0
+HoldsEntries row spec bytes found = (fs : Fields) × (vs : List Value) × (read : List (Option Live))
+    × HoldsObjects entry_fields bytes fs vs × SayEntries row (is_unpartitioned spec) fs 0 vs read × (found ≡ kept read)
+
 -- the entries of a manifest are these exactly where its file holds objects up to its end of which none is at fault, and
 -- these are the live ones that they say, in their order
 abbrev pub ReadsEntriesExactly : Type 0
 ReadsEntriesExactly = (row : Row) (spec : Spec) (bytes : List ℕ) (found : List Live) → live_of row spec bytes ≡ Ok found
     ↔ ((fs : Fields) × (vs : List Value) × (read : List (Option Live)) × IsManifest bytes fs vs None
     × SayEntries row (is_unpartitioned spec) fs 0 vs read × (found ≡ kept read))
+
+-- the entries of a manifest are these exactly where its file holds objects that say them
+abbrev pub GivesHeldEntries : Type 0
+GivesHeldEntries = (row : Row) (spec : Spec) (bytes : List ℕ) (found : List Live) → length bytes < 2 ^ 64
+    → live_of row spec bytes ≡ Ok found ↔ HoldsEntries row spec bytes found
 
 -- an entry keeps the number that it has
 abbrev pub KeepsItsNumber : Type 0
@@ -125,6 +142,28 @@ InheritsTheRows = (row : Row) (x : Typed) (n : ℕ) → optional_number (pos 3) 
 abbrev pub NeedsItsOwn : Type 0
 NeedsItsOwn = (row : Row) (x : Typed) (n : ℕ) → optional_number (pos 3) x ≡ Ok None
     → sequence_at row Existing x ≡ Ok n → (row.sequence_number ≡ 0) × (n ≡ 0)
+
+-- the same of the number of its file
+abbrev pub KeepsItsFileNumber : Type 0
+KeepsItsFileNumber = (row : Row) (status : Status) (x : Typed) (m : ℕ) (n : Option ℕ)
+    → optional_number (pos 4) x ≡ Ok (Some m) → file_sequence_at row status x ≡ Ok n → n ≡ Some m
+
+abbrev pub InheritsTheRowsForItsFile : Type 0
+InheritsTheRowsForItsFile = (row : Row) (x : Typed) (n : Option ℕ) → optional_number (pos 4) x ≡ Ok None
+    → file_sequence_at row Added x ≡ Ok n → n ≡ Some row.sequence_number
+
+-- but an existing one that has none is given without one, unless its row's number is 0
+abbrev pub HasNoFileNumber : Type 0
+HasNoFileNumber = (row : Row) (x : Typed) (n : Option ℕ) → optional_number (pos 4) x ≡ Ok None
+    → row.sequence_number ≢ 0 → file_sequence_at row Existing x ≡ Ok n → n ≡ None
+
+-- an entry is of the snapshot that it names
+abbrev pub KeepsItsSnapshot : Type 0
+KeepsItsSnapshot = (row : Row) (x : Typed) (id : ℤ) → optional_long (pos 1) x ≡ Some id → snapshot_at row x ≡ id
+
+-- one that names none, whether it was added or exists, of the one that added its manifest
+abbrev pub InheritsItsSnapshot : Type 0
+InheritsItsSnapshot = (row : Row) (x : Typed) → optional_long (pos 1) x ≡ None → snapshot_at row x ≡ row.added_snapshot_id
 
 -- what the files of a row's manifest may hold
 abbrev pub MayHold : ManifestContent → FileContent → Type 0
@@ -155,6 +194,12 @@ HasRows bytes rows = (fs : Fields) × (vs : List Value) × IsList bytes fs vs No
 abbrev pub HasEachPathOnce : List Row → Type 0
 HasEachPathOnce rows = (r s : Row) → Contains rows r → Contains rows s → r.path ≡ s.path → r ≡ s
 
+-- a list holds objects of which none is at fault, no two different rows that they say have one path, at most 65,536 are
+-- different, and these are the rows, each once and in the order of their paths
+abbrev pub HoldsRows : List ℕ → List Row → Type 0
+HoldsRows bytes found = (fs : Fields) × (vs : List Value) × (rows : List Row) × HoldsObjects row_fields bytes fs vs
+    × SayRows fs vs rows × HasEachPathOnce rows × (distinct_count same_row rows ≤ 65536) × (found ≡ in_order rows)
+
 -- the rows of a list are these exactly where its file has no fault up to its end, and these are the rows that its
 -- objects say, each once and in the order of their paths; no two different ones have one path, and at most 65,536 are
 -- different
@@ -162,6 +207,11 @@ abbrev pub ReadsRowsExactly : Type 0
 ReadsRowsExactly = (bytes : List ℕ) (found : List Row) → rows_of bytes ≡ Ok found
     ↔ ((rows : List Row) × HasRows bytes rows × HasEachPathOnce rows
     × (distinct_count same_row rows ≤ 65536) × (found ≡ in_order rows))
+
+-- the rows of a list are these exactly where its file holds objects that say them
+abbrev pub GivesHeldRows : Type 0
+GivesHeldRows = (bytes : List ℕ) (found : List Row) → length bytes < 2 ^ 64
+    → rows_of bytes ≡ Ok found ↔ HoldsRows bytes found
 
 -- the rows that are given are the rows of the file, as a set
 abbrev pub GivesTheRows : Type 0

@@ -1,23 +1,31 @@
 //! What the definitions of rows and entries come to.
 
-ghost use Rattle.ice_manifest.specs.Laws.{ReadsRowsExactly, GivesTheRows, RefusesTwo, RefusesTheLeast, ReadsEntriesExactly, KeepsItsNumber, InheritsTheRows, NeedsItsOwn, FitsItsRow, AreOfTheirSpec};
+ghost use Rattle.ice_manifest.specs.Laws.{ReadsRowsExactly, GivesHeldRows, GivesTheRows, RefusesTwo, RefusesTheLeast, ReadsEntriesExactly, GivesHeldEntries, KeepsItsNumber, InheritsTheRows, NeedsItsOwn, KeepsItsFileNumber, InheritsTheRowsForItsFile, HasNoFileNumber, KeepsItsSnapshot, InheritsItsSnapshot, FitsItsRow, AreOfTheirSpec};
 ghost use Rattle.ice_manifest.specs.Faults.{TellsTheFirstRow, TellsTheListsEnd, TellsTheFirstEntry, TellsTheManifestsEnd, RefusesAPathExactly, RefusesManyExactly};
 ghost use Rattle.ice_manifest.specs.Same.{SkipsOtherFieldsOfEntries, SkipsOtherFieldsOfRows};
+
+use avro_file::held_is_read;
 
 /// The rows of a list are the set of the rows that its objects say. It is refused for a path only where two different
 /// rows have it, and then for the least such path.
 pub fn rows_are_a_set()
     ensures exactly { ReadsRowsExactly }
+    ensures held { GivesHeldRows }
     ensures same { GivesTheRows }
     ensures twice { RefusesTwo }
     ensures least { RefusesTheLeast }
-{}
+{
+    held_is_read();
+}
 
 /// The entries of a manifest are those that its objects say, each with the position that its object has among all.
 /// An object of a deleted entry says none.
 pub fn entries_are_the_live_ones()
-    ensures { ReadsEntriesExactly }
-{}
+    ensures exactly { ReadsEntriesExactly }
+    ensures held { GivesHeldEntries }
+{
+    held_is_read();
+}
 
 /// An entry keeps the sequence number that it has. Without one an added entry has its row's, and an existing one is
 /// refused, but has 0 where its row has 0.
@@ -25,6 +33,20 @@ pub fn numbers_are_inherited()
     ensures own { KeepsItsNumber }
     ensures added { InheritsTheRows }
     ensures existing { NeedsItsOwn }
+{}
+
+/// A file keeps the sequence number that its entry gives it. Without one the file of an added entry has the row's, and
+/// that of an existing one has none, unless the row has 0.
+pub fn file_numbers_are_inherited()
+    ensures own { KeepsItsFileNumber }
+    ensures added { InheritsTheRowsForItsFile }
+    ensures existing { HasNoFileNumber }
+{}
+
+/// An entry is of the snapshot that it names, and else, also where it exists already, of that which added its manifest.
+pub fn snapshots_are_inherited()
+    ensures own { KeepsItsSnapshot }
+    ensures none { InheritsItsSnapshot }
 {}
 
 /// The fault of a list or a manifest that opens and has its fields is that of its first object at fault, whatever comes

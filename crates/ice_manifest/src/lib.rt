@@ -21,8 +21,9 @@ pub use entry::{Entry, Live};
 pub use fault::{FieldFault, ListFault, ManifestFault};
 pub use kind::Kind;
 pub use laws::{
-    contents_fit, entries_are_the_live_ones, first_faults_are_told, numbers_are_inherited,
-    other_fields_are_skipped, rows_are_a_set, rows_are_refused_together,
+    contents_fit, entries_are_the_live_ones, file_numbers_are_inherited, first_faults_are_told,
+    numbers_are_inherited, other_fields_are_skipped, rows_are_a_set, rows_are_refused_together,
+    snapshots_are_inherited,
 };
 pub use list::read_list;
 pub use manifest::read_manifest;
