@@ -11,5 +11,11 @@ pub mod Mapped
 pub mod Tokens
 pub mod Utf
 pub mod Answering
+pub mod Lexed
 pub mod Lists
+pub mod Pieced
 pub mod Unique
+pub mod Names
+pub mod Origins
+pub mod Printed
+pub mod Spelled

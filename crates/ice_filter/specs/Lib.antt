@@ -3,8 +3,10 @@ pub mod Binding
 pub mod Grammar
 pub mod Lexing
 pub mod Parsing
+pub mod Pieces
 pub mod Reads
 pub mod Rebuilding
 pub mod Rows
+pub mod Texts
 pub mod Trees
 pub mod Truths

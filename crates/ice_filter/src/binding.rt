@@ -364,10 +364,10 @@ fn bind_parts(
 /// The filter over the columns of a schema: each of its names is the name of a column, may be asked what is asked, and
 /// takes the literals, or the first leaf for which this is not so is refused.
 pub fn bind(alloc: Global, filter: &Filter, schema: &Schema) -> Result<Bound, FilterFault>
-    ensures exact { Gives FilterFault.Memory (λ b. b.parts) result (bound_parts schema.now filter.now.parts) }
-    ensures meaning { IfOk result (λ b. (row : Row) → row_meets b.parts row ≡ meaning (leaf_meets schema.now row) (tree_of filter.now.parts)) }
+    ensures exact { Gives FilterFault.Memory (λ b. b.parts) result (bound_parts schema.now filter.now) }
+    ensures meaning { IfOk result (λ b. (row : Row) → row_meets b.parts row ≡ meaning (leaf_meets schema.now row) (tree_of filter.now)) }
 {
-    let parts = bind_parts(alloc, filter.parts.as_slice(), schema)?;
+    let parts = bind_parts(alloc, filter.parts().as_slice(), schema)?;
     Ok(Bound {
         parts: Parts::from_items(parts),
     })

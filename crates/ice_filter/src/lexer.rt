@@ -21,7 +21,7 @@ fn is_digit(byte: u8) -> bool
     byte >= b'0' && byte <= b'9'
 }
 
-fn is_letter(byte: u8) -> bool
+pub fn is_letter(byte: u8) -> bool
     ensures { result ≡ is_letter byte }
 {
     byte >= b'a' && byte <= b'z' || byte >= b'A' && byte <= b'Z' || byte == b'_'
@@ -35,7 +35,7 @@ fn is_name_byte(byte: u8) -> bool
 
 /// How many bytes in front can stand in a name.
 #[tactic(auto, unfolding(crate::specs::Lexing::run_from))]
-fn name_length(bytes: &[u8]) -> usize
+pub fn name_length(bytes: &[u8]) -> usize
     ensures found { result ≡ run_from is_name_byte 0 bytes.now }
     ensures within { result ≤ length bytes.now }
 {

@@ -12,9 +12,11 @@ mod leaf;
 mod lexer;
 mod parser;
 mod parts;
+mod phrase;
 mod readings;
 #[cfg(test)]
 mod tests;
+mod text;
 mod token;
 mod truths;
 
@@ -26,5 +28,7 @@ pub use laws::{filters_of_parts, filters_over_other_leaves};
 pub use leaf::{Choices, Column, Leaf, Literal, Question};
 pub use parser::parse;
 pub use parts::{LeafTest, Part, Parts};
-pub use readings::{and_binds_closer_than_or, texts_have_one_reading, tokens_say_one_filter};
+pub use readings::{
+    and_binds_closer_than_or, shown_filters_are_read, texts_have_one_reading, tokens_say_one_filter,
+};
 pub use token::Comparison;

@@ -14,7 +14,7 @@ use crate::fault::FilterFault;
 use crate::filter::Filter;
 use crate::leaf::{Column, Leaf, Partial, Progress, leaf_step};
 use crate::lexer::{behind, is_separator, token_at};
-use crate::parts::{Part, Parts};
+use crate::parts::Part;
 use crate::token::Token;
 use contract_words::{Items, Text};
 use std::alloc::{AllocError, Global};
@@ -299,15 +299,14 @@ impl Parser {
     }
 }
 
-/// The filter of a text.
+/// The filter of a text. `Syntax` gives the offset, in bytes, of the first token that cannot stand where it stands, or the
+/// text's length where it ends too early; `TooBig` comes with the first leaf, parenthesis or literal over its limit.
 pub fn parse(alloc: Global, text: &str) -> Result<Filter, FilterFault>
-    ensures exact { Gives FilterFault.Memory (λ f. tree_of f.parts) result (filter_of text.now) }
+    ensures exact { Gives FilterFault.Memory (λ f. tree_of f) result (filter_of text.now) }
     ensures grammar { IsReadAs text.now (filter_of text.now) }
 {
     let mut parser = Parser::new(alloc);
     parser.read(alloc, text)?;
     let parts = parser.into_parts();
-    Ok(Filter {
-        parts: Parts::from_items(parts),
-    })
+    Ok(Filter::from_items(alloc, parts)?)
 }

@@ -6,4 +6,4 @@ from_items-requires c = bound_filter c.args.schema.now c.as_slice.result.now c.i
 
 pub returns-clause-meaning : goal.returns-clause-meaning
 returns-clause-meaning c =
-    rw c.from_items.ensures (bound_means c.args.schema.now c.args.filter.now.parts c.in_ok-parts.parts (rw c.as_slice.ensures.parts at c.in_ok-parts.ensures))
+    rw c.from_items.ensures (bound_means c.args.schema.now c.args.filter.now c.in_ok-parts.parts (rw (c.as_slice.ensures.parts, c.parts.ensures) at c.in_ok-parts.ensures))
