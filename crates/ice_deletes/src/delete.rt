@@ -33,7 +33,7 @@ impl<'a> Delete<'a> {
             spec_id: file.spec_id,
             unpartitioned: file.unpartitioned,
             tuple: file.tuple,
-            sequence_number: file.sequence_number.get(),
+            sequence_number: file.sequence_number,
             number,
         }
     }

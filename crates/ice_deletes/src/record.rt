@@ -1,6 +1,6 @@
 //! What the index is told of a file.
 
-use ice_value::{Cell, FileContent, SequenceNumber};
+use ice_value::{Cell, FileContent};
 
 /// A data file or a delete file, as the rules of applying see it. Its number is its place among the records.
 #[derive(Clone, Copy, Debug)]
@@ -14,5 +14,5 @@ pub struct Record<'a> {
     /// The partition values.
     pub tuple: &'a [Cell],
     /// The sequence number, inherited already.
-    pub sequence_number: SequenceNumber,
+    pub sequence_number: u64,
 }

@@ -20,7 +20,7 @@ fn file<'a>(
         spec_id,
         unpartitioned,
         tuple,
-        sequence_number: number(sequence_number),
+        sequence_number,
     }
 }
 

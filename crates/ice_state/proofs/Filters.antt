@@ -96,18 +96,3 @@ all_put lt P x (y ∷ ys) p all = elim (lt y x) as (λ b. AllByRecursion P (cond
 pub all_sorted : {X : Type 0} (lt : X → X → Bool) (P : X → Type 0) (xs : List X) → AllByRecursion P xs → AllByRecursion P (sorted lt xs)
 all_sorted lt P [] all = tt
 all_sorted lt P (x ∷ xs) all = all_put lt P x (sorted lt xs) all.0 (all_sorted lt P xs all.1)
-
--- one more element
-pub filter-push : {X : Type 0} (q : X → Bool) (xs : List X) (x : X) (b : Bool) → q x ≡ b → filter q (xs ++ x ∷ []) ≡ filter q xs ++ cond b (x ∷ []) []
-filter-push q [] x b h = rw h refl
-filter-push {X} q (y ∷ ys) x b h =
-    elim (q y) as (λ v. cond v (y ∷ filter q (ys ++ x ∷ [])) (filter q (ys ++ x ∷ [])) ≡ cond v (y ∷ filter q ys) (filter q ys) ++ cond b (x ∷ []) []) [
-      | true ↦ ap (λ (zs : List X). y ∷ zs) (filter-push q ys x b h)
-      | false ↦ filter-push q ys x b h
-    ]
-
-pub filter-hit : {X : Type 0} (q : X → Bool) (xs found new : List X) (x : X) → q x ≡ true → new ≡ found ++ x ∷ [] → found ≡ filter q xs → new ≡ filter q (xs ++ x ∷ [])
-filter-hit {X} q xs found new x h is so_far = is ∙ ap (λ (ys : List X). ys ++ x ∷ []) so_far ∙ sym (filter-push q xs x true h)
-
-pub filter-miss : {X : Type 0} (q : X → Bool) (xs found : List X) (x : X) → q x ≡ false → found ≡ filter q xs → found ≡ filter q (xs ++ x ∷ [])
-filter-miss q xs found x h so_far = so_far ∙ sym (append-nil (filter q xs)) ∙ sym (filter-push q xs x false h)

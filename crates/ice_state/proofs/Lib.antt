@@ -1,5 +1,7 @@
+pub mod Ascending
 pub mod Contents
 pub mod Covered
+pub mod Hits
 pub mod Elements
 pub mod Filters
 pub mod Gains

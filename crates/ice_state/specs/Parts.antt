@@ -1,10 +1,13 @@
 -- What the functions within this crate say of their parts. No public contract cites these words.
-use Rattle.std.specs.Prelude.{◌≡◌, ℕ, zero, suc, Bool, true, false, not, List, [], ◌∷◌, Option, Some, None, option_and_then, slice_get, ℤ, if◌then◌else◌}
+use Rattle.std.specs.Prelude.{◌≡◌, ℕ, zero, suc, Bool, true, false, not, ◌&&◌, List, [], ◌∷◌, Option, Some, None, option_and_then, slice_get, ℤ, if◌then◌else◌}
 use Rattle.std.specs.Ordering.{int_eq}
 use Rattle.std.specs.List.Sorted.{IsSortedBy}
 use Rattle.ice_meta.specs.declared.spec.Spec.{Spec}
 use Rattle.ice_manifest.specs.declared.entry.Entry.{Entry}
-use Rattle.ice_value.specs.declared.file_content.FileContent.TheVariants.{Data}
+use Rattle.ice_value.specs.declared.file_content.FileContent.{FileContent}
+use Rattle.ice_value.specs.declared.file_content.FileContent.TheVariants.{Data, PositionDeletes, EqualityDeletes}
+use Rattle.ice_value.specs.Applying.{FileKey, applies as key_applies}
+use Rattle.ice_deletes.specs.Found.{holds as key_holds, numbers_where}
 use Rattle.ice_manifest.specs.declared.fault.ManifestFault.{ManifestFault}
 use Rattle.ice_manifest.specs.declared.row.Row.{Row}
 use Rattle.ice_manifest.specs.Manifests.{live_of}
@@ -12,6 +15,7 @@ use Rattle.ice_state.specs.declared.fault.FinishFault.{FinishFault}
 use Rattle.ice_state.specs.declared.fault.FinishFault.TheVariants as faults
 use Rattle.ice_state.specs.declared.fault.ScanFault.{ScanFault}
 use Rattle.ice_state.specs.declared.fault.ScanFault.TheVariants.{NoSuchSpec}
+use Rattle.ice_state.specs.declared.lines.Places.{Places}
 use Rattle.ice_state.specs.declared.reading.Reading.{Reading}
 use Rattle.ice_state.specs.declared.reading.Reading.TheVariants.{Good, Bad}
 use Rattle.ice_state.specs.Contents.{Content, or_else, reading}
@@ -44,6 +48,14 @@ if_of id (Some spec) = if int_eq spec.id id then Some spec else None
 -- the entry's file holds deletes
 abbrev pub holds_deletes : Entry → Bool
 holds_deletes d = not (holds Data d)
+
+-- the numbers of the delete files that hold this and apply to x
+abbrev pub numbers_of : FileContent → List FileKey → FileKey → List ℕ
+numbers_of content deletes x = numbers_where (λ d. key_holds content d && key_applies x d) deletes
+
+-- the places of the delete files that apply to x
+abbrev pub places_of : List FileKey → FileKey → Places
+places_of deletes x = record { positions = numbers_of PositionDeletes deletes x; equalities = numbers_of EqualityDeletes deletes x }
 
 -- the content with one more row, by what it gave
 abbrev pub with_row : Content → ℕ → Reading → Content

@@ -1,22 +1,20 @@
 //! The plan of a content, or its first fault.
 
-ghost use Rattle.std.specs.Prelude.{◌≡◌, [], ◌++◌, ◌&&◌, length, map, IfOk, OnOk, MatchResult, filter};
-ghost use Rattle.std.specs.List.{AllByRecursion};
+ghost use Rattle.std.specs.Prelude.{◌≡◌, [], ◌++◌, length, map, IfOk, OnOk, MatchResult, filter};
 ghost use Rattle.std.specs.Option.{option_copied};
 ghost use Rattle.contract_words.specs.Outcome.{Gives};
 ghost use Rattle.ice_value.specs.declared.file_content.FileContent.TheVariants.{Data};
-ghost use Rattle.ice_state.specs.Applying.{applies};
-ghost use Rattle.ice_state.specs.Outcomes.{missing, bad, twice, kept_in, by_path, line_of, plan_over, outcome_of};
-ghost use Rattle.ice_state.specs.Lines.{entries_at, line_at, lines_at, AreWithin, IsLineWithin};
-ghost use Rattle.ice_state.specs.Parts.{fault_of, Stops, holds_deletes};
+ghost use Rattle.ice_state.specs.Applying.{key_of};
+ghost use Rattle.ice_state.specs.Outcomes.{missing, bad, twice, kept_in, by_path, plan_over, outcome_of};
+ghost use Rattle.ice_state.specs.Parts.{fault_of, Stops, holds_deletes, places_of};
 ghost use Rattle.ice_state.specs.Pruning.{holds};
 
-use crate::applying::does_apply;
+use crate::deletes::{places_for, records};
 use crate::fault::FinishFault;
 use crate::lines::Places;
 use crate::plan::Plan;
 use crate::reading::Reading;
-use contract_words::Items;
+use ice_deletes::DeleteIndex;
 use ice_manifest::{Entry, ManifestFault, Row};
 use ice_value::FileContent;
 use std::alloc::{AllocError, Global};
@@ -126,52 +124,27 @@ fn delete_files<'a>(alloc: Global, entries: &[&'a Entry]) -> Result<Vec<&'a Entr
     Ok(found)
 }
 
-/// The places of those delete files that hold this and apply to the data file.
-fn applying(
-    alloc: Global,
-    deletes: &[&Entry],
-    content: FileContent,
-    x: &Entry,
-) -> Result<Items<usize>, AllocError>
-    ensures at { IfOk result (λ places. entries_at (map (λ d. d.now) deletes.now) places ≡ filter (λ d. holds content d && applies x.now d) (map (λ d. d.now) deletes.now)) }
-    ensures within { IfOk result (λ places. AreWithin (length deletes.now) places) }
-{
-    let mut places = Items::new(alloc);
-    for i in 0..deletes.len() {
-        if is_hit(deletes[i], content, x) {
-            places.push(i)?;
-        }
-    }
-    Ok(places)
-}
-
-/// Whether the delete file holds this and applies to the data file.
-fn is_hit(d: &Entry, content: FileContent, x: &Entry) -> bool
-    ensures { result ≡ (holds content d.now && applies x.now d.now) }
-{
-    d.file.content == content && does_apply(x, d)
-}
-
-/// The places of the delete files that apply to the data file.
-fn line(alloc: Global, deletes: &[&Entry], x: &Entry) -> Result<Places, AllocError>
-    ensures line { IfOk result (λ places. line_at (map (λ d. d.now) deletes.now) x.now places ≡ line_of (map (λ d. d.now) deletes.now) x.now) }
-    ensures within { IfOk result (λ places. IsLineWithin (length deletes.now) places) }
-{
-    Ok(Places {
-        positions: applying(alloc, deletes, FileContent::PositionDeletes, x)?,
-        equalities: applying(alloc, deletes, FileContent::EqualityDeletes, x)?,
-    })
-}
-
 /// The places of the delete files that apply, for each of the data files.
 fn lines(alloc: Global, files: &[&Entry], deletes: &[&Entry]) -> Result<Vec<Places>, AllocError>
-    ensures lines { IfOk result (λ places. lines_at (map (λ d. d.now) deletes.now) (map (λ x. x.now) files.now) places.items ≡ map (line_of (map (λ d. d.now) deletes.now)) (map (λ x. x.now) files.now)) }
-    ensures each { IfOk result (λ places. length places.items ≡ length files.now) }
-    ensures within { IfOk result (λ places. AllByRecursion (IsLineWithin (length deletes.now)) places.items) }
+    ensures { IfOk result (λ places. places.items
+        ≡ map (λ x. places_of (map (λ d. key_of d.now) deletes.now) (key_of x.now)) files.now) }
+{
+    let records = records(alloc, deletes)?;
+    let index = DeleteIndex::build(alloc, &records)?;
+    looked_up(alloc, files, &index)
+}
+
+/// The places of the delete files of the index that apply, for each of the data files.
+fn looked_up(
+    alloc: Global,
+    files: &[&Entry],
+    index: &DeleteIndex,
+) -> Result<Vec<Places>, AllocError>
+    ensures { IfOk result (λ places. places.items ≡ map (λ x. places_of index.now (key_of x.now)) files.now) }
 {
     let mut places = Vec::with_capacity(alloc, files.len())?;
     'files: for x in files {
-        places.push(line(alloc, deletes, x)?)?;
+        places.push(places_for(alloc, index, x)?)?;
     }
     Ok(places)
 }

@@ -1,7 +1,7 @@
 //! The core of a scan: what partial states contain, and the plan that they finish with.
 #![tactic(auto)]
 
-mod applying;
+mod deletes;
 mod fault;
 mod finish;
 mod keep;

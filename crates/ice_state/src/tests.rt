@@ -264,7 +264,15 @@ fn plans_no_file_of_no_row(rt: HostRuntime) -> Result<(), Fail> {
 fn plans_a_data_file_with_its_deletes(rt: HostRuntime) -> Result<(), Fail> {
     let alloc = rt.alloc();
     let case = data_and_deletes(alloc)?;
-    let orders: [&[usize]; 3] = [&[2, 0, 1, 0], &[0, 1, 2], &[2, 1, 0]];
+    let orders: [&[usize]; 7] = [
+        &[0, 1, 2],
+        &[0, 2, 1],
+        &[1, 0, 2],
+        &[1, 2, 0],
+        &[2, 0, 1],
+        &[2, 1, 0],
+        &[2, 0, 1, 0],
+    ];
     for order in orders {
         let state = state_after(alloc, &case, order)?;
         assert!(rt; has_plan(&state, &case.scan)?);
@@ -276,16 +284,40 @@ fn plans_a_data_file_with_its_deletes(rt: HostRuntime) -> Result<(), Fail> {
 fn plans_the_same_however_states_are_merged(rt: HostRuntime) -> Result<(), Fail> {
     let alloc = rt.alloc();
     let case = data_and_deletes(alloc)?;
-    let shares: [(&[usize], &[usize]); 5] = [
+    let shares: [(&[usize], &[usize]); 10] = [
         (&[0], &[1, 2]),
         (&[2, 1], &[0]),
+        (&[1], &[2, 0]),
+        (&[0, 2], &[1]),
+        (&[2], &[0, 1]),
+        (&[1, 0], &[2]),
         (&[1, 0], &[0, 2]),
         (&[], &[2, 1, 0]),
         (&[0, 1, 2], &[]),
+        (&[0, 1, 2], &[2, 1, 0]),
     ];
     for (order, other) in shares {
         let state = merged(alloc, &case, order, other)?;
         assert!(rt; has_plan(&state, &case.scan)?);
+    }
+    Ok(())
+}
+
+#[test]
+fn names_what_no_merged_state_took(rt: HostRuntime) -> Result<(), Fail> {
+    let alloc = rt.alloc();
+    let case = data_and_deletes(alloc)?;
+    let shares: [(&[usize], &[usize], &str); 6] = [
+        (&[1], &[2], "mem://t/m1"),
+        (&[2], &[1], "mem://t/m1"),
+        (&[0], &[2], "mem://t/m2"),
+        (&[2], &[0], "mem://t/m2"),
+        (&[0], &[1], "mem://t/m3"),
+        (&[1], &[0], "mem://t/m3"),
+    ];
+    for (order, other, path) in shares {
+        let state = merged(alloc, &case, order, other)?;
+        assert!(rt; is_missing(&state, &case.scan, path));
     }
     Ok(())
 }

@@ -1,0 +1,83 @@
+//! Which delete files apply to a data file, looked up in the index.
+
+ghost use Rattle.std.specs.Prelude.{◌≡◌, ◌≤◌, ◌↔◌, ◌++◌, ◌&&◌, ◌==◌, ℕ, map, IfOk, Contains, count_by};
+ghost use Rattle.std.specs.List.Sorted.{IsPermutation, IsSorted};
+ghost use Rattle.std.specs.Ordering.{nat_cmp};
+ghost use Rattle.ice_value.specs.declared.file_content.FileContent.TheVariants.{PositionDeletes, EqualityDeletes};
+ghost use Rattle.ice_deletes.specs.Found.{AppliesAt};
+ghost use Rattle.ice_deletes.specs.Keys.{key_of as record_key};
+ghost use Rattle.ice_state.specs.Applying.{key_of};
+ghost use Rattle.ice_state.specs.Parts.{places_of, numbers_of};
+
+use crate::lines::Places;
+use contract_words::Items;
+use ice_deletes::{DeleteIndex, Hits, Record};
+use ice_manifest::Entry;
+use std::alloc::{AllocError, Global};
+
+/// What the index is told of a delete file.
+fn record<'a>(d: &'a Entry) -> Record<'a>
+    ensures { record_key result ≡ key_of d.now }
+{
+    Record {
+        content: d.file.content,
+        spec_id: d.spec_id,
+        unpartitioned: d.unpartitioned,
+        tuple: d.file.tuple.as_slice(),
+        sequence_number: d.sequence_number.get(),
+    }
+}
+
+/// What the index is told of the delete files, each at its place.
+pub fn records<'a>(alloc: Global, deletes: &[&'a Entry]) -> Result<Vec<Record<'a>>, AllocError>
+    ensures { IfOk result (λ records. map record_key records.items ≡ map (λ d. key_of d.now) deletes.now) }
+{
+    let mut records = Vec::with_capacity(alloc, deletes.len())?;
+    'deletes: for d in deletes {
+        records.push(record(d))?;
+    }
+    Ok(records)
+}
+
+/// The numbers of the delete files that apply to the data file.
+fn deletes_for<'i>(index: &'i DeleteIndex, x: &Entry) -> Hits<'i>
+    ensures positions { IsPermutation (numbers_of PositionDeletes index.now (key_of x.now)) result.positions.now }
+    ensures equalities { IsPermutation (numbers_of EqualityDeletes index.now (key_of x.now))
+        (result.equalities.now ++ result.everywhere.now) }
+
+    // Exactly those, each once.
+    ensures exact { (n : ℕ) → Contains (result.positions.now ++ (result.equalities.now ++ result.everywhere.now)) n
+        ↔ AppliesAt index.now (key_of x.now) n }
+    ensures once { (n : ℕ)
+        → count_by (λ m. m == n) (result.positions.now ++ (result.equalities.now ++ result.everywhere.now)) ≤ 1 }
+{
+    index.for_data(
+        x.spec_id,
+        x.file.tuple.as_slice(),
+        x.sequence_number,
+        x.file.path.as_slice(),
+    )
+}
+
+/// The numbers of both lists, the lower ones first.
+fn in_order(alloc: Global, numbers: &[usize], others: &[usize]) -> Result<Items<usize>, AllocError>
+    ensures same { IfOk result (λ ordered. IsPermutation (numbers.now ++ others.now) ordered) }
+    ensures rising { IfOk result (λ ordered. IsSorted nat_cmp ordered) }
+{
+    let mut ordered = Vec::with_capacity(alloc, numbers.len() + others.len())?;
+    ordered.extend_from_slice(numbers)?;
+    ordered.extend_from_slice(others)?;
+    ordered.sort_unstable();
+    Ok(Items::from_vec(ordered))
+}
+
+/// The places of the delete files that apply to the data file.
+pub fn places_for(alloc: Global, index: &DeleteIndex, x: &Entry) -> Result<Places, AllocError>
+    ensures { IfOk result (λ places. places ≡ places_of index.now (key_of x.now)) }
+{
+    let hits = deletes_for(index, x);
+    Ok(Places {
+        positions: in_order(alloc, hits.positions, &[])?,
+        equalities: in_order(alloc, hits.equalities, hits.everywhere)?,
+    })
+}
