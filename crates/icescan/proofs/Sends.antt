@@ -1,6 +1,6 @@
 -- Lemmas on what was sent, piece by piece.
 use Rattle.std.proofs.lemmas.List.Sums.{sum_by-cons}
-use Rattle.std.proofs.Common.{◌≡◌, ◌<◌, ◌≤◌, ◌+◌, ℕ, zero, suc, List, [], ◌∷◌, ◌++◌, arith, get_or, length, take, drop, slice_get, Option, Some, None, Result, Ok, Err, refl, sym, ap, subst, ◌∙◌, add_assoc, append_assoc}
+use Rattle.std.proofs.Common.{◌≡◌, ◌<◌, ◌≤◌, ◌+◌, ℕ, zero, suc, List, [], ◌∷◌, ◌++◌, arith, get_or, length, map, take, drop, slice_get, Option, Some, None, Result, Ok, Err, refl, sym, ap, subst, ◌∙◌, add_assoc, append_assoc}
 use Rattle.std.specs.List.{flat_map}
 use Rattle.std.specs.Prelude.{ℤ, pos, sum_by}
 use Rattle.std.specs.Fmt.{signed_decimal}
@@ -100,3 +100,14 @@ number_at (x ∷ xs) (suc i) l = number_at xs i (omega arith)
 pub ids_first : (ids : List ℤ) → 1 ≤ length ids → ids_text ids ≡ signed_decimal (get_or ids 0 (pos 0)) ++ flat_map (λ i. 44 ∷ signed_decimal i) (drop 1 ids)
 ids_first [] l = absurd (omega arith)
 ids_first (x ∷ xs) l = refl
+
+-- the texts of what some things refer to
+pub flat_map-map : {X Y : Type 0} (f : Y → List ℕ) (g : X → Y) (xs : List X) → flat_map f (map g xs) ≡ flat_map (λ x. f (g x)) xs
+flat_map-map f g [] = refl
+flat_map-map f g (x ∷ xs) = ap (λ l. f (g x) ++ l) (flat_map-map f g xs)
+
+-- what stands at a place
+pub stands_at : {X : Type 0} (xs : List X) (i : ℕ) (x : X) → i < length xs → x ≡ get_or xs i x → slice_get xs i ≡ Some x
+stands_at [] i x l h = absurd (omega arith)
+stands_at (y ∷ ys) zero x l h = ap Some (sym h)
+stands_at (y ∷ ys) (suc i) x l h = stands_at ys i x (omega arith) h

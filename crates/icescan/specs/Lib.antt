@@ -6,4 +6,7 @@ pub mod ListPlans
 pub mod Pieces
 pub mod PlanTexts
 pub mod Runs
+pub mod Shown
+pub mod Shows
+pub mod TableTexts
 pub mod Written

@@ -12,7 +12,10 @@ mod pieces;
 mod plan_text;
 mod report;
 mod run_list_plan;
+mod show;
 mod sink;
+mod table_lines;
+mod table_text;
 #[cfg(test)]
 mod tests;
 mod unescape;
