@@ -6,10 +6,11 @@ use crate::{
 };
 use contract_words::{Items, Text};
 use ice_meta::Spec;
-use ice_value::SequenceNumber;
+use ice_value::{SequenceNumber, Summary};
 use std::alloc::{AllocError, Global};
 use std::test::*;
 
+mod faults;
 mod lists;
 mod manifests;
 mod whole;
@@ -22,6 +23,21 @@ const NO_COUNTS: Counts = Counts {
     existing_rows: None,
     deleted_rows: None,
 };
+
+/// A row of a manifest of spec 7, which snapshot 1 added.
+fn row(alloc: Global, content: ManifestContent, sequence_number: u64) -> Result<Row, Fail> {
+    Ok(Row {
+        path: Text::from_string(String::from_str(alloc, "mem://t/m1")?),
+        length: 100,
+        spec_id: 7,
+        content,
+        sequence_number: SequenceNumber::new(sequence_number).ok_or("a long")?,
+        min_sequence_number: SequenceNumber::zero(),
+        added_snapshot_id: 1,
+        counts: NO_COUNTS,
+        partitions: None,
+    })
+}
 
 const MARKER: [u8; 16] = [0, 1, 2, 3, 4, 5, 6, 7, 8, 9, 10, 11, 12, 13, 14, 15];
 

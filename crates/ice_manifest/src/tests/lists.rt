@@ -109,37 +109,14 @@ fn two_rows_with_one_path(rt: HostRuntime) -> Result<(), Fail> {
 }
 
 /// Fields in place of those at some positions, a row, and what reading a list of it gives.
-const TYPES: &str = r#"0 {"name":"p","type":"string"} | 02 61 00 00 00 00 00 00 = MissingField(500)
-6 {"name":"added_snapshot_id","type":"long","field-id":504} | 02 61 00 00 00 00 00 00 = MissingField(503)
-0 {"name":"p","type":"bytes","field-id":500} | 02 61 00 00 00 00 00 00 = WrongFieldType(500)
-2 {"name":"p","type":"null","field-id":502} | 02 61 00 00 00 00 00 = WrongFieldType(502)
-2 {"name":"p","type":["null"],"field-id":502} | 02 61 00 00 00 00 00 00 = WrongFieldType(502)
-2 {"name":"p","type":["int","string"],"field-id":502} | 02 61 00 00 00 00 00 00 = WrongFieldType(502)
-1 {"name":"p","type":"int","field-id":501} | 02 61 00 00 00 00 00 00 = a 0 0 Data 0 0 0
+const TYPES: &str =
+    r#"1 {"name":"p","type":"int","field-id":501} | 02 61 00 00 00 00 00 00 = a 0 0 Data 0 0 0
 2 {"name":"p","type":"long","field-id":502} | 02 61 00 00 00 00 00 00 = a 0 0 Data 0 0 0
-2 {"name":"p","type":"long","field-id":502} | 02 61 00 80 80 80 80 10 00 00 00 00 = OutOfRange(502)
-3 {"name":"p","type":"long","field-id":517} | 02 61 00 00 80 80 80 80 10 00 00 00 = OutOfRange(517)
 1 {"name":"p","type":["null","int","long"],"field-id":501} | 02 61 04 0a 00 00 00 00 00 = a 5 0 Data 0 0 0
-1 {"name":"p","type":["null","int","long"],"field-id":501} | 02 61 00 00 00 00 00 00 = MissingField(501)
-0 {"name":"p","type":["null","string"],"field-id":500} | 00 00 00 00 00 00 00 = MissingField(500)
-0 {"name":"p","type":["null","string"],"field-id":500} | 00 00 00 04 01 01 00 = MissingField(500)
-0 {"name":"p","type":["null","string"],"field-id":500} & 1 {"name":"q","type":["null","long"],"field-id":501} | 00 00 00 00 00 00 00 = MissingField(500)
-1 {"name":"p","type":["null","long"],"field-id":501} & 2 {"name":"q","type":"long","field-id":502} | 02 61 00 80 80 80 80 10 00 00 00 00 = MissingField(501)
-2 {"name":"p","type":["null","int"],"field-id":502} | 02 61 00 00 04 00 00 00 = MissingField(502)
-2 {"name":"p","type":"long","field-id":502} | 02 61 00 80 80 80 80 10 04 00 00 00 = OutOfRange(502)
-2 {"name":"p","type":"long","field-id":502} & 3 {"name":"q","type":"long","field-id":517} | 02 61 00 80 80 80 80 10 80 80 80 80 10 00 00 00 = OutOfRange(502)
-2 {"name":"p","type":"long","field-id":502} & 4 {"name":"q","type":["null","long"],"field-id":515} | 02 61 00 80 80 80 80 10 00 00 00 00 = OutOfRange(502)
-3 {"name":"p","type":["null","int"],"field-id":517} | 02 61 00 00 00 01 00 00 = MissingField(517)
-3 {"name":"p","type":"long","field-id":517} & 4 {"name":"q","type":["null","long"],"field-id":515} | 02 61 00 00 80 80 80 80 10 00 00 00 = OutOfRange(517)
-4 {"name":"p","type":["null","long"],"field-id":515} | 02 61 00 00 04 00 00 00 = BadContent
-4 {"name":"p","type":["null","long"],"field-id":515} | 02 61 00 00 00 00 01 00 = MissingField(515)
-5 {"name":"p","type":["null","long"],"field-id":516} | 02 61 00 00 00 01 00 00 = OutOfRange(515)
-5 {"name":"p","type":["null","long"],"field-id":516} & 6 {"name":"q","type":["null","long"],"field-id":503} | 02 61 00 00 00 00 00 00 = MissingField(516)
-6 {"name":"p","type":["null","long"],"field-id":503} | 02 61 00 00 00 00 01 00 = OutOfRange(516)
-6 {"name":"p","type":["null","long"],"field-id":503} | 02 61 00 00 04 00 00 00 = BadContent
 6 {"name":"p","type":["null","long"],"field-id":503} | 02 61 00 00 04 01 00 04 = Avro(BadUnion)
-6 {"name":"p","type":"long","field-id":504} | 02 61 00 00 04 00 00 00 = MissingField(503)
-6 {"name":"p","type":"string","field-id":503} | 02 61 00 00 04 00 00 00 = WrongFieldType(503)"#;
+6 {"name":"added_snapshot_id","type":"long","field-id":504} | 02 61 00 00 00 00 00 00 = MissingField(503)
+6 {"name":"p","type":"string","field-id":503} | 02 61 00 00 04 00 00 00 = WrongFieldType(503)
+2 {"name":"p","type":["int","string"],"field-id":502} | 02 61 00 00 00 00 00 00 = WrongFieldType(502)"#;
 
 #[test]
 fn types_of_fields(rt: HostRuntime) -> Result<(), Fail> {
@@ -154,37 +131,6 @@ fn types_of_fields(rt: HostRuntime) -> Result<(), Fail> {
     let longs = file(rt.alloc(), "\"long\"", &[])?;
     assert_eq!(rt; outcome(rt.alloc(), &longs)?.as_str(), "MissingField(500)");
     assert_eq!(rt; outcome(rt.alloc(), b"Obj")?.as_str(), "Avro(NotAvro)");
-    Ok(())
-}
-
-/// Two fields that are not as they have to be, and the fault, which is that of the first in the order of the tables.
-const TWO_TYPES: &str =
-    r#"0 {"name":"p","type":"string"} & 1 {"name":"q","type":"string","field-id":501} = MissingField(500)
-0 {"name":"p","type":"long","field-id":500} & 6 {"name":"q","type":"long"} = WrongFieldType(500)
-1 {"name":"p","type":"boolean","field-id":501} & 2 {"name":"q","type":"int"} = WrongFieldType(501)
-2 {"name":"p","type":"int"} & 3 {"name":"q","type":"string","field-id":517} = MissingField(502)
-3 {"name":"p","type":"bytes","field-id":517} & 4 {"name":"q","type":"long"} = WrongFieldType(517)
-4 {"name":"p","type":"long"} & 5 {"name":"q","type":"null","field-id":516} = MissingField(515)
-5 {"name":"p","type":"double","field-id":516} & 6 {"name":"q","type":"long"} = WrongFieldType(516)"#;
-
-/// The faults are in the order of the tables also where the file has its fields in another.
-#[test]
-fn first_of_two_types_at_fault(rt: HostRuntime) -> Result<(), Fail> {
-    for line in TWO_TYPES.lines() {
-        let (changes, expected) = line.split_once(" = ").ok_or("changes")?;
-        let changes = changes_of(rt.alloc(), changes)?;
-        let mut fields = Vec::new(rt.alloc());
-        for (position, field) in FIELDS.iter().enumerate() {
-            fields.push(change_at(position, &changes).unwrap_or(*field))?;
-        }
-        let schema = record(rt.alloc(), "manifest_file", &fields, 0, &[])?;
-        let found = outcome(rt.alloc(), &file(rt.alloc(), &schema, &[])?)?;
-        assert_eq!(rt; found.as_str(), expected, "{line}");
-        fields.reverse();
-        let schema = record(rt.alloc(), "manifest_file", &fields, 0, &[])?;
-        let found = outcome(rt.alloc(), &file(rt.alloc(), &schema, &[])?)?;
-        assert_eq!(rt; found.as_str(), expected, "{line}");
-    }
     Ok(())
 }
 

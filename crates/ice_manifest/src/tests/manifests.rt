@@ -22,20 +22,6 @@ const F: &[u8] = b"\x02\x00\x04\x22mem://t/f.parquet\x14\xc8\x01\x02\x02\x02\x00
 
 const P: &[u8] = b"\x02\x00\x02\x22mem://t/p.parquet\x14\xc8\x01\x00";
 
-fn row(alloc: Global, content: ManifestContent, sequence_number: u64) -> Result<Row, Fail> {
-    Ok(Row {
-        path: Text::from_string(String::from_str(alloc, "mem://t/m1")?),
-        length: 100,
-        spec_id: 7,
-        content,
-        sequence_number: SequenceNumber::new(sequence_number).ok_or("a long")?,
-        min_sequence_number: SequenceNumber::zero(),
-        added_snapshot_id: 1,
-        counts: NO_COUNTS,
-        partitions: None,
-    })
-}
-
 /// An entry's type with this field for its data file.
 fn with_file(alloc: Global, field: &str) -> Result<String, AllocError> {
     let [status, sequence] = ENTRY;
@@ -184,47 +170,18 @@ fn first_of_two_entries_at_fault(rt: HostRuntime) -> Result<(), Fail> {
 }
 
 /// Fields in place of those at some positions, an entry, and what reading a manifest of it gives.
-const TYPES: &str = r#"0 {"name":"status","type":"int"} | 02 00 00 02 61 00 00 00 = MissingField(0)
-0 {"name":"p","type":"string","field-id":0} | 02 00 00 02 61 00 00 00 = WrongFieldType(0)
-0 {"name":"p","type":["null","int"],"field-id":0} | 00 00 00 02 61 00 00 00 = MissingField(0)
-0 {"name":"p","type":"long","field-id":0} | 80 80 80 80 10 00 00 02 61 00 00 00 = OutOfRange(0)
-1 {"name":"sequence_number","type":["null","long"]} | 02 00 00 02 61 00 00 00 = 0 a Data 7 0 0 [] 7 true
-1 {"name":"p","type":["null","string"],"field-id":3} | 02 00 00 02 61 00 00 00 = WrongFieldType(3)
+const TYPES: &str =
+    r#"1 {"name":"sequence_number","type":["null","long"]} | 02 00 00 02 61 00 00 00 = 0 a Data 7 0 0 [] 7 true
 1 {"name":"p","type":"int","field-id":3} | 00 0a 00 02 61 00 00 00 = 0 a Data 5 0 0 [] 7 true
-10 {"name":"content","type":"int"} | 02 00 00 02 61 00 00 00 = MissingField(134)
-10 {"name":"p","type":"boolean","field-id":134} | 02 00 00 02 61 00 00 00 = WrongFieldType(134)
-10 {"name":"p","type":["null","int"],"field-id":134} | 02 00 00 02 61 00 00 00 = MissingField(134)
-10 {"name":"p","type":"long","field-id":134} | 02 00 80 80 80 80 10 02 61 00 00 00 = OutOfRange(134)
-11 {"name":"p","type":"bytes","field-id":100} | 02 00 00 02 61 00 00 00 = WrongFieldType(100)
-11 {"name":"p","type":["null","string"],"field-id":100} | 02 00 00 00 00 00 00 = MissingField(100)
 11 {"name":"p","type":["string","null"],"field-id":100} | 02 00 00 00 02 61 00 00 00 = 0 a Data 7 0 0 [] 7 true
-12 {"name":"p","type":"double","field-id":103} | 02 00 00 02 61 00 00 00 = WrongFieldType(103)
-12 {"name":"p","type":["null","long"],"field-id":103} | 02 00 00 02 61 00 00 00 = MissingField(103)
-13 {"name":"p","type":["null","long"],"field-id":104} | 02 00 00 02 61 00 00 00 = MissingField(104)
 13 {"name":"p","type":"long","field-id":103} | 02 00 00 02 61 00 00 00 = Avro(Schema(FieldTwice(103)))
 14 {"name":"p","type":"null"} | 02 00 00 02 61 00 00 = 0 a Data 7 0 0 [] 7 true
 14 {"name":"p","type":{"type":"array","items":"long"},"field-id":135} | 02 00 00 02 61 00 00 03 04 36 00 00 = 0 a Data 7 0 0 [27, 0] 7 true
-14 {"name":"p","type":{"type":"array","items":"long"},"field-id":135} | 02 00 00 02 61 00 00 02 80 80 80 80 10 00 = OutOfRange(136)
-14 {"name":"p","type":{"type":"array","items":["null","int"]},"field-id":135} | 02 00 00 02 61 00 00 04 02 06 00 00 = MissingField(136)
-14 {"name":"p","type":{"type":"array","items":"string"},"field-id":135} | 02 00 00 02 61 00 00 00 = WrongFieldType(136)
-14 {"name":"p","type":{"type":"map","values":"int"},"field-id":135} | 02 00 00 02 61 00 00 00 = WrongFieldType(135)
-14 {"name":"p","type":{"type":"array","logicalType":"map","items":"int"},"field-id":135} | 02 00 00 02 61 00 00 00 = WrongFieldType(135)
-0 {"name":"p","type":["null","int"],"field-id":0} | 00 02 01 02 02 61 00 00 00 = MissingField(0)
-0 {"name":"p","type":"long","field-id":0} | 80 80 80 80 10 02 01 02 02 61 00 00 00 = OutOfRange(0)
-0 {"name":"p","type":"string","field-id":0} | 00 02 01 02 02 61 00 00 00 = WrongFieldType(0)
 10 {"name":"p","type":["null","int"],"field-id":134} | 00 00 00 02 61 00 00 00 = NoSequence
-10 {"name":"p","type":["null","int"],"field-id":134} | 02 02 01 00 02 61 00 00 00 = OutOfRange(3)
-10 {"name":"p","type":["null","int"],"field-id":134} & 11 {"name":"q","type":["null","string"],"field-id":100} | 02 00 00 00 00 00 00 = MissingField(134)
-10 {"name":"p","type":"long","field-id":134} & 11 {"name":"q","type":["null","string"],"field-id":100} | 02 00 80 80 80 80 10 00 00 00 00 = OutOfRange(134)
-11 {"name":"p","type":["null","string"],"field-id":100} | 02 00 02 00 00 00 00 = BadContent
-11 {"name":"p","type":["null","string"],"field-id":100} & 12 {"name":"q","type":["null","long"],"field-id":103} | 02 00 00 00 00 00 00 = MissingField(100)
-12 {"name":"p","type":["null","long"],"field-id":103} | 02 00 02 02 61 00 00 00 = BadContent
-12 {"name":"p","type":["null","long"],"field-id":103} & 13 {"name":"q","type":["null","long"],"field-id":104} | 02 00 00 02 61 00 00 00 = MissingField(103)
-12 {"name":"p","type":["null","long"],"field-id":103} & 14 {"name":"q","type":{"type":"array","items":"long"},"field-id":135} | 02 00 00 02 61 00 00 02 80 80 80 80 10 00 = MissingField(103)
-13 {"name":"p","type":["null","long"],"field-id":104} & 14 {"name":"q","type":{"type":"array","items":"long"},"field-id":135} | 02 00 00 02 61 00 00 02 80 80 80 80 10 00 = MissingField(104)
+14 {"name":"p","type":{"type":"array","items":["null","long"]},"field-id":135} | 02 00 00 02 61 00 00 04 00 04 00 = Avro(BadUnion)
+14 {"name":"p","type":{"type":"array","logicalType":"map","items":"int"},"field-id":135} | 02 00 00 02 61 00 00 00 = WrongFieldType(135)
 14 {"name":"p","type":{"type":"array","items":["null","long"]},"field-id":135} | 02 00 00 02 61 00 00 04 02 80 80 80 80 10 00 00 = OutOfRange(136)
 14 {"name":"p","type":{"type":"array","items":["null","long"]},"field-id":135} | 02 00 00 02 61 00 00 04 00 02 80 80 80 80 10 00 = MissingField(136)
-14 {"name":"p","type":{"type":"array","items":["null","long"]},"field-id":135} | 02 00 00 02 61 00 00 04 00 04 00 = Avro(BadUnion)
 14 {"name":"p","type":"string","field-id":135} | 06 00 00 02 61 00 00 00 = WrongFieldType(135)
 14 {"name":"p","type":{"type":"array","items":"string"},"field-id":135} | 06 00 00 02 61 00 00 00 = WrongFieldType(136)"#;
 
@@ -293,31 +250,6 @@ fn types_of_data_files(rt: HostRuntime) -> Result<(), Fail> {
     for line in FILES.lines() {
         let (field, expected) = line.split_once(" = ").ok_or("a field")?;
         let schema = with_file(rt.alloc(), field)?;
-        let found = outcome(rt.alloc(), &data, &file(rt.alloc(), &schema, &[])?)?;
-        assert_eq!(rt; found.as_str(), expected, "{line}");
-    }
-    Ok(())
-}
-
-/// Two fields that are not as they have to be, and the fault, which is that of the first in the order of the tables.
-const TWO_TYPES: &str =
-    r#"0 {"name":"p","type":"int"} & 1 {"name":"q","type":"string","field-id":3} = MissingField(0)
-0 {"name":"p","type":"string","field-id":0} & 2 {"name":"q","type":"long"} = WrongFieldType(0)
-1 {"name":"p","type":"string","field-id":3} & 2 {"name":"q","type":"long"} = WrongFieldType(3)
-1 {"name":"p","type":"string","field-id":3} & 10 {"name":"q","type":"int"} = WrongFieldType(3)
-2 {"name":"p","type":"long"} & 10 {"name":"q","type":"int"} = MissingField(2)
-10 {"name":"p","type":"string","field-id":134} & 11 {"name":"q","type":"string"} = WrongFieldType(134)
-11 {"name":"p","type":"string"} & 12 {"name":"q","type":"string","field-id":103} = MissingField(100)
-12 {"name":"p","type":"string","field-id":103} & 13 {"name":"q","type":"long"} = WrongFieldType(103)
-13 {"name":"p","type":"long"} & 14 {"name":"q","type":"string","field-id":135} = MissingField(104)
-13 {"name":"p","type":"bytes","field-id":104} & 14 {"name":"q","type":{"type":"array","items":"string"},"field-id":135} = WrongFieldType(104)"#;
-
-#[test]
-fn first_of_two_types_at_fault(rt: HostRuntime) -> Result<(), Fail> {
-    let data = row(rt.alloc(), ManifestContent::Data, 7)?;
-    for line in TWO_TYPES.lines() {
-        let (changes, expected) = line.split_once(" = ").ok_or("changes")?;
-        let schema = schema(rt.alloc(), &changes_of(rt.alloc(), changes)?)?;
         let found = outcome(rt.alloc(), &data, &file(rt.alloc(), &schema, &[])?)?;
         assert_eq!(rt; found.as_str(), expected, "{line}");
     }

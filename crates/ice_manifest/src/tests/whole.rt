@@ -129,23 +129,10 @@ fn rows_that_differ_in_one_field_alone(rt: HostRuntime) -> Result<(), Fail> {
 /// Fields in place of those at some positions, what stands behind a row's start, and what reading a list of it gives.
 const ROW_TYPES: &str =
     r#"7 {"name":"p","type":"string"} | 00 00 00 00 00 00 00 = None None None None None None none
-7 {"name":"p","type":["null","string"],"field-id":504} | 00 00 00 00 00 00 00 = WrongFieldType(504)
-7 {"name":"p","type":"long","field-id":504} | 80 80 80 80 10 00 00 00 00 00 00 = OutOfRange(504)
-8 {"name":"p","type":"long","field-id":505} & 9 {"name":"q","type":"long","field-id":506} | 00 80 80 80 80 10 80 80 80 80 10 00 00 00 00 = OutOfRange(505)
 10 {"name":"p","type":"int","field-id":512} | 00 00 00 0a 00 00 00 = None None None Some(5) None None none
-10 {"name":"p","type":"boolean","field-id":512} & 11 {"name":"q","type":"boolean","field-id":513} | 00 00 00 00 00 00 00 = WrongFieldType(512)
-12 {"name":"p","type":"bytes","field-id":514} & 13 {"name":"q","type":"bytes","field-id":507} | 00 00 00 00 00 00 00 = WrongFieldType(514)
-13 {"name":"p","type":{"type":"map","values":"int"},"field-id":507} | 00 00 00 00 00 00 00 = WrongFieldType(507)
-13 {"name":"p","type":{"type":"array","items":"int"},"field-id":507} | 00 00 00 00 00 00 00 = WrongFieldType(508)
-13 {"name":"p","type":{"type":"array","items":{"type":"record","name":"s","fields":[{"name":"a","type":"boolean"}]}},"field-id":507} | 00 00 00 00 00 00 00 = MissingField(509)
-13 {"name":"p","type":{"type":"array","items":{"type":"record","name":"s","fields":[{"name":"a","type":"int","field-id":509},{"name":"b","type":"int","field-id":518}]}},"field-id":507} | 00 00 00 00 00 00 00 = WrongFieldType(509)
-13 {"name":"p","type":{"type":"array","items":{"type":"record","name":"s","fields":[{"name":"a","type":"boolean","field-id":509},{"name":"b","type":"int","field-id":518},{"name":"c","type":"int","field-id":510}]}},"field-id":507} | 00 00 00 00 00 00 00 = WrongFieldType(518)
-13 {"name":"p","type":{"type":"array","items":{"type":"record","name":"s","fields":[{"name":"a","type":"boolean","field-id":509},{"name":"c","type":"int","field-id":511},{"name":"b","type":"string","field-id":510}]}},"field-id":507} | 00 00 00 00 00 00 00 = WrongFieldType(510)
-13 {"name":"p","type":{"type":"array","items":{"type":"record","name":"s","fields":[{"name":"a","type":"boolean","field-id":509},{"name":"c","type":"int","field-id":511}]}},"field-id":507} | 00 00 00 00 00 00 00 = WrongFieldType(511)
 13 {"name":"p","type":{"type":"array","items":{"type":"record","name":"s","fields":[{"name":"u","type":["null","string"],"field-id":511},{"name":"a","type":["null","boolean"],"field-id":509}]}},"field-id":507} | 00 00 00 00 00 00 02 00 02 01 00 = WrongFieldType(511)
 13 {"name":"p","type":{"type":"array","items":{"type":"record","name":"s","fields":[{"name":"u","type":"bytes","field-id":511},{"name":"a","type":["null","boolean"],"field-id":509},{"name":"x","type":"string"}]}},"field-id":507} | 00 00 00 00 00 00 02 02 05 02 01 02 78 00 = None None None None None None, true None - f
-13 {"name":"p","type":{"type":"array","items":{"type":"record","name":"s","fields":[{"name":"u","type":"bytes","field-id":511},{"name":"a","type":["null","boolean"],"field-id":509}]}},"field-id":507} | 00 00 00 00 00 00 02 02 05 00 00 = MissingField(509)
-13 {"name":"p","type":{"type":"array","items":["null",{"type":"record","name":"s","fields":[{"name":"a","type":"boolean","field-id":509}]}]},"field-id":507} | 00 00 00 00 00 00 04 02 01 00 00 = MissingField(508)"#;
+13 {"name":"p","type":{"type":"array","items":{"type":"record","name":"s","fields":[{"name":"u","type":"bytes","field-id":511},{"name":"a","type":["null","boolean"],"field-id":509}]}},"field-id":507} | 00 00 00 00 00 00 02 02 05 00 00 = MissingField(509)"#;
 
 #[test]
 fn types_of_counts_and_summaries(rt: HostRuntime) -> Result<(), Fail> {
@@ -181,19 +168,9 @@ fn entry_of(
     let [status, snapshot, sequence, file_sequence] = ENTRY;
     let fields = [status, snapshot, sequence, file_sequence, FILE];
     let schema = record(alloc, "manifest_entry", &fields, 0, changes)?;
-    let row = Row {
-        path: Text::from_string(String::from_str(alloc, "mem://t/m1")?),
-        length: 100,
-        spec_id: 7,
-        content: ManifestContent::Data,
-        sequence_number: SequenceNumber::new(sequence_number).ok_or("a long")?,
-        min_sequence_number: SequenceNumber::zero(),
-        added_snapshot_id: 1,
-        counts: NO_COUNTS,
-        partitions: None,
-    };
+    let row = row(alloc, ManifestContent::Data, sequence_number)?;
     let bytes = file(alloc, &schema, &[object])?;
-    let found = match read_manifest(alloc, &row, &Spec::empty(alloc, 7), &bytes) {
+    let found = match read_manifest(alloc, &row, &Spec::empty(alloc, row.spec_id), &bytes) {
         Ok(found) => found,
         Err(fault) => return Ok(format!(in alloc; "{fault:?}")?),
     };
@@ -237,12 +214,8 @@ fn snapshots_and_numbers_are_inherited(rt: HostRuntime) -> Result<(), Fail> {
 const ENTRY_TYPES: &str =
     r#"1 {"name":"snapshot_id","type":["null","long"]} | 02 00 00 00 02 00 02 61 00 00 = 1 7 Some(7)
 1 {"name":"p","type":"int","field-id":1} | 02 0a 00 00 02 00 02 61 00 00 = 5 7 Some(7)
-1 {"name":"p","type":"string","field-id":1} & 2 {"name":"q","type":"string","field-id":3} | 02 00 00 00 00 = WrongFieldType(1)
-2 {"name":"p","type":"string","field-id":3} & 3 {"name":"q","type":"string","field-id":4} | 02 00 00 00 00 = WrongFieldType(3)
-3 {"name":"p","type":"string","field-id":4} & 4 {"name":"q","type":"string","field-id":2} | 02 00 00 00 00 = WrongFieldType(4)
 3 {"name":"p","type":"null"} | 02 00 00 02 00 02 61 00 00 = 1 7 Some(7)
-3 {"name":"p","type":"null"} | 00 00 02 0a 02 00 02 61 00 00 = 1 5 None
-0 {"name":"p","type":"string","field-id":0} & 1 {"name":"q","type":"string","field-id":1} | 00 00 00 00 00 = WrongFieldType(0)"#;
+3 {"name":"p","type":"null"} | 00 00 02 0a 02 00 02 61 00 00 = 1 5 None"#;
 
 #[test]
 fn types_of_snapshots_and_numbers(rt: HostRuntime) -> Result<(), Fail> {
@@ -254,5 +227,144 @@ fn types_of_snapshots_and_numbers(rt: HostRuntime) -> Result<(), Fail> {
         let found = entry_of(rt.alloc(), 7, &changes, &object)?;
         assert_eq!(rt; found.as_str(), expected, "{line}");
     }
+    Ok(())
+}
+
+/// An entry with each field that writers give it.
+const WHOLE_ENTRY: &str =
+    r#"{"type":"record","name":"manifest_entry","fields":[{"name":"status","type":"int","field-id":0},{"name":"snapshot_id","type":["null","long"],"field-id":1},{"name":"sequence_number","type":["null","long"],"field-id":3},{"name":"file_sequence_number","type":["null","long"],"field-id":4},{"name":"data_file","type":{"type":"record","name":"r2","fields":[{"name":"content","type":"int","field-id":134},{"name":"file_path","type":"string","field-id":100},{"name":"file_format","type":"string","field-id":101},{"name":"partition","type":{"type":"record","name":"r102","fields":[]},"field-id":102},{"name":"record_count","type":"long","field-id":103},{"name":"file_size_in_bytes","type":"long","field-id":104},{"name":"value_counts","type":["null",{"type":"array","items":{"type":"record","name":"k119_v120","fields":[{"name":"key","type":"int","field-id":119},{"name":"value","type":"long","field-id":120}]},"logicalType":"map"}],"default":null,"field-id":109},{"name":"lower_bounds","type":["null",{"type":"array","items":{"type":"record","name":"k126_v127","fields":[{"name":"key","type":"int","field-id":126},{"name":"value","type":"bytes","field-id":127}]},"logicalType":"map"}],"default":null,"field-id":125},{"name":"equality_ids","type":["null",{"type":"array","items":"int","element-id":136}],"default":null,"field-id":135}]},"field-id":2}]}"#;
+
+/// The same by other names, with documentation, a map that nobody knows and a field without an id.
+const ODD_ENTRY: &str =
+    r#"{"type":"record","name":"a","doc":"text","fields":[{"name":"new","type":{"type":"map","values":"string"},"field-id":9000},{"name":"file_path","type":"int","field-id":0,"doc":"text"},{"name":"b","type":["null","long"],"field-id":1},{"name":"c","type":["null","long"],"field-id":3},{"name":"d","type":["null","long"],"field-id":4,"doc":"text"},{"name":"e","type":{"type":"record","name":"f","doc":"text","fields":[{"name":"g","type":"int","field-id":134},{"name":"h","type":"string","field-id":100,"doc":"text"},{"name":"i","type":"string","field-id":101},{"name":"status","type":"string"},{"name":"j","type":{"type":"record","name":"k","fields":[]},"field-id":102},{"name":"l","type":"long","field-id":103},{"name":"m","type":"long","field-id":104},{"name":"n","type":["null",{"type":"array","items":{"type":"record","name":"o","fields":[{"name":"p","type":"int","field-id":119},{"name":"q","type":"long","field-id":120}]},"logicalType":"map"}],"field-id":109},{"name":"r","type":["null",{"type":"array","items":{"type":"record","name":"s","fields":[{"name":"t","type":"int","field-id":126},{"name":"u","type":"bytes","field-id":127}]},"logicalType":"map"}],"field-id":125},{"name":"v","type":["null",{"type":"array","items":"int","element-id":136,"doc":"text"}],"field-id":135}]},"field-id":2}]}"#;
+
+/// Two entries by the first of these types, a line each: equality deletes that were added, position deletes that exist.
+const WHOLE_ENTRIES: &str = "\
+02 00 00 00 04 02 65 06 61 76 72 14 c8 01 02 04 02 14 04 28 00 02 02 02 04 01 02 00 02 04 02 04 00
+00 02 12 02 0a 02 08 02 02 70 06 61 76 72 06 0e 00 00 00";
+
+/// The same by the second, with blocks that tell their sizes.
+const ODD_ENTRIES: &str = "\
+01 08 02 6b 02 76 00 02 00 00 00 04 02 65 06 61 76 72 02 78 14 c8 01 02 03 08 02 14 04 28 00 02 01 08 02 04 01 02 00 02 03 04 02 04 00
+03 10 02 6b 02 76 02 6c 02 77 00 00 02 12 02 0a 02 08 02 02 70 06 61 76 72 00 06 0e 00 00 02 00";
+
+/// A file of these objects, with these further keys and a block for each.
+fn file_of(
+    alloc: Global,
+    further: &[(&str, &str)],
+    schema: &str,
+    objects: &str,
+) -> Result<Vec<u8>, Fail> {
+    let mut bytes = header(alloc, further, schema)?;
+    for line in objects.lines() {
+        let object = bytes_of(alloc, line)?;
+        push_block(&mut bytes, alloc, &[object.as_slice()])?;
+    }
+    Ok(bytes)
+}
+
+/// What a manifest of deletes under row number 7 gives: a line for each entry with all that is read of it.
+fn entries_of(alloc: Global, bytes: &[u8]) -> Result<String, Fail> {
+    let row = row(alloc, ManifestContent::Deletes, 7)?;
+    let found = read_manifest(alloc, &row, &Spec::empty(alloc, row.spec_id), bytes)
+        .ok()
+        .ok_or("entries")?;
+    let mut text = String::new(alloc);
+    for Live { entry, .. } in &found {
+        let Entry {
+            position,
+            snapshot_id,
+            file,
+            ..
+        } = entry;
+        let sequence = entry.sequence_number.get();
+        let file_sequence = entry.file_sequence_number.map(|number| number.get());
+        let DataFile {
+            content,
+            record_count,
+            file_size,
+            ..
+        } = file;
+        let path = std::str::from_utf8(file.path.as_slice())?;
+        let ids = file.equality_ids.as_slice();
+        let line = format!(in alloc;
+            "{position} {path} {content:?} {snapshot_id} {sequence} {file_sequence:?} {record_count} {file_size} {ids:?}\n"
+        )?;
+        text.push_str(&line)?;
+    }
+    Ok(text)
+}
+
+#[test]
+fn the_whole_schema_of_entries_written_otherwise(rt: HostRuntime) -> Result<(), Fail> {
+    let expected =
+        "0 e EqualityDeletes 1 7 Some(7) 10 100 [1, 2]\n1 p PositionDeletes 9 5 Some(4) 3 7 []\n";
+    let whole = file_of(rt.alloc(), &[], WHOLE_ENTRY, WHOLE_ENTRIES)?;
+    assert_eq!(rt; entries_of(rt.alloc(), &whole)?.as_str(), expected);
+    let odd = file_of(rt.alloc(), &FURTHER_KEYS, ODD_ENTRY, ODD_ENTRIES)?;
+    assert_eq!(rt; entries_of(rt.alloc(), &odd)?.as_str(), expected);
+    Ok(())
+}
+
+/// A row by other names, with documentation, a map that nobody knows and a field without an id.
+const ODD_ROW: &str =
+    r#"{"type":"record","name":"a","doc":"text","fields":[{"name":"partitions","type":{"type":"map","values":"string"},"field-id":9000},{"name":"b","type":"string","field-id":500,"doc":"text"},{"name":"c","type":"long","field-id":501},{"name":"d","type":"int","field-id":502},{"name":"e","type":"int","field-id":517},{"name":"f","type":"long","field-id":515},{"name":"g","type":"long","field-id":516},{"name":"h","type":"long","field-id":503},{"name":"manifest_path","type":"string"},{"name":"i","type":["null","int"],"field-id":504},{"name":"j","type":["null","int"],"field-id":505},{"name":"k","type":["null","int"],"field-id":506},{"name":"l","type":["null","long"],"field-id":512},{"name":"m","type":["null","long"],"field-id":513},{"name":"n","type":["null","long"],"field-id":514,"doc":"text"},{"name":"o","type":["null",{"type":"array","items":{"type":"record","name":"q","doc":"text","fields":[{"name":"r","type":"boolean","field-id":509},{"name":"s","type":["null","boolean"],"field-id":518,"doc":"text"},{"name":"t","type":["null","bytes"],"field-id":510},{"name":"u","type":["null","bytes"],"field-id":511}]},"element-id":508}],"field-id":507},{"name":"v","type":["null","bytes"],"field-id":519}]}"#;
+
+/// Two rows, a line each: of data with two summaries, of deletes with none.
+const WHOLE_ROWS: &str = "\
+02 64 c8 01 04 00 0a 08 02 02 02 02 04 02 06 02 08 02 0a 02 0c 02 04 01 02 00 02 02 01 02 02 02 00 00 00 00 00
+02 66 02 02 02 0c 08 04 00 00 00 00 00 00 00";
+
+const ODD_ROWS: &str = "\
+01 08 02 6b 02 76 00 02 64 c8 01 04 00 0a 08 02 02 78 02 02 02 04 02 06 02 08 02 0a 02 0c 02 03 1a 01 02 00 02 02 01 02 02 02 00 00 00 00 00 02 02 09
+00 02 66 02 02 02 0c 08 04 00 00 00 00 00 00 00 00 00";
+
+/// The rows that stand in both files.
+fn two_rows(alloc: Global) -> Result<Vec<Row>, Fail> {
+    let mut data = row(alloc, ManifestContent::Data, 5)?;
+    data.path = Text::from_string(String::from_str(alloc, "d")?);
+    data.spec_id = 2;
+    data.min_sequence_number = SequenceNumber::new(4).ok_or("a long")?;
+    data.counts = Counts {
+        added_files: Some(1),
+        existing_files: Some(2),
+        deleted_files: Some(3),
+        added_rows: Some(4),
+        existing_rows: Some(5),
+        deleted_rows: Some(6),
+    };
+    let mut summaries = Items::new(alloc);
+    summaries.push(Summary {
+        contains_null: true,
+        contains_nan: Some(false),
+        lower: Some(Items::from_vec(vec![in alloc; 1]?)),
+        upper: Some(Items::from_vec(vec![in alloc; 2]?)),
+    })?;
+    summaries.push(Summary {
+        contains_null: false,
+        contains_nan: None,
+        lower: None,
+        upper: None,
+    })?;
+    data.partitions = Some(summaries);
+    let mut deletes = row(alloc, ManifestContent::Deletes, 6)?;
+    deletes.path = Text::from_string(String::from_str(alloc, "f")?);
+    deletes.length = 1;
+    deletes.spec_id = 1;
+    deletes.min_sequence_number = SequenceNumber::new(4).ok_or("a long")?;
+    deletes.added_snapshot_id = 2;
+    Ok(vec![in alloc; data, deletes]?)
+}
+
+#[test]
+fn the_whole_schema_of_rows_written_otherwise(rt: HostRuntime) -> Result<(), Fail> {
+    let expected = two_rows(rt.alloc())?;
+    let schema = record(rt.alloc(), "manifest_file", &ROW, 0, &[])?;
+    let whole = file_of(rt.alloc(), &[], &schema, WHOLE_ROWS)?;
+    let found = read_list(rt.alloc(), &whole).ok().ok_or("rows")?;
+    assert!(rt; found == expected);
+    let odd = file_of(rt.alloc(), &FURTHER_KEYS, ODD_ROW, ODD_ROWS)?;
+    let found = read_list(rt.alloc(), &odd).ok().ok_or("rows")?;
+    assert!(rt; found == expected);
     Ok(())
 }
