@@ -1,6 +1,6 @@
 //! Texts, their filters, and the columns that they ask.
 
-use crate::{Bound, FilterFault, bind, parse};
+use crate::{Bound, FilterFault, Part, bind, parse};
 use contract_words::{Items, Text};
 use ice_meta::{Column, Schema};
 use ice_value::ColumnType;
@@ -62,6 +62,7 @@ fn texts_names_and_blanks(rt: HostRuntime) {
     assert_eq!(rt; fault(alloc, "a = 'x'''"), None);
     assert_eq!(rt; fault(alloc, "a = x'0'"), Some(FilterFault::Syntax(4)));
     assert_eq!(rt; fault(alloc, "a = x'0g'"), Some(FilterFault::Syntax(4)));
+    assert_eq!(rt; fault(alloc, "a = x'0a0'"), Some(FilterFault::Syntax(4)));
     assert_eq!(rt; fault(alloc, "a = x''"), None);
     assert_eq!(rt; fault(alloc, "größe = 1"), Some(FilterFault::Syntax(2)));
     assert_eq!(rt; fault(alloc, "\"größe\" = 'größe'"), None);
@@ -144,6 +145,30 @@ fn schema(alloc: Global) -> Result<Schema, Fail> {
         "float",
         Some(ColumnType::Float),
     )?;
+    push(
+        alloc,
+        &mut columns,
+        15,
+        None,
+        "double",
+        Some(ColumnType::Double),
+    )?;
+    push(
+        alloc,
+        &mut columns,
+        16,
+        None,
+        "clock",
+        Some(ColumnType::Time),
+    )?;
+    push(
+        alloc,
+        &mut columns,
+        17,
+        None,
+        "instant",
+        Some(ColumnType::Timestamp),
+    )?;
     push(alloc, &mut columns, 5, None, "day", Some(ColumnType::Date))?;
     push(
         alloc,
@@ -188,7 +213,7 @@ fn schema(alloc: Global) -> Result<Schema, Fail> {
         alloc,
         &mut columns,
         13,
-        Some(11),
+        Some(14),
         "int",
         Some(ColumnType::Long),
     )?;
@@ -279,13 +304,211 @@ fn columns_and_literals(rt: HostRuntime) -> Result<(), Fail> {
     Ok(())
 }
 
-#[test]
-fn bound_parts(rt: HostRuntime) -> Result<(), Fail> {
-    let alloc = rt.alloc();
-    let schema = schema(alloc)?;
-    match bound(alloc, &schema, "int = 1 or (flag is null and true)") {
-        Ok(bound) => assert_eq!(rt; bound.parts.as_slice().len(), 5),
-        Err(_) => assert!(rt; false),
+/// The parts, a letter each: operands before their operators.
+fn shape(alloc: Global, bound: &Bound) -> Result<String, Fail> {
+    let mut letters = String::new(alloc);
+    'parts: for part in bound.parts.as_slice() {
+        letters.push_str(match part {
+            Part::True => "T",
+            Part::False => "F",
+            Part::Leaf(_) => "L",
+            Part::And => "&",
+            Part::Or => "|",
+        })?;
     }
+    Ok(letters)
+}
+
+fn has_shape(alloc: Global, text: &str, letters: &str) -> Result<bool, Fail> {
+    let schema = schema(alloc)?;
+    match bound(alloc, &schema, text) {
+        Ok(bound) => Ok(shape(alloc, &bound)?.as_str() == letters),
+        Err(_) => Ok(false),
+    }
+}
+
+#[test]
+fn operands_stand_before_operators(rt: HostRuntime) -> Result<(), Fail> {
+    let alloc = rt.alloc();
+    assert!(rt; has_shape(alloc, "int = 1 or (flag is null and true)", "LLT&|")?);
+    assert!(rt; has_shape(alloc, "int = 1 or flag is null and false", "LLF&|")?);
+    assert!(rt; has_shape(alloc, "(int = 1 or flag is null) and true", "LL|T&")?);
+    Ok(())
+}
+
+/// What the answer to a question is: asked, or the number of the fault.
+fn mark(refusal: Option<FilterFault>) -> &'static str {
+    match refusal {
+        None => ".",
+        Some(FilterFault::NoSuchColumn) => "2",
+        Some(FilterFault::WrongLiteral) => "3",
+        Some(FilterFault::NotComparable) => "4",
+        Some(_) => "?",
+    }
+}
+
+/// The six comparisons of a column with a literal, `starts with`, `in`, `not in`, `is null` and `is not null`.
+fn answers(alloc: Global, column: &str, literal: &str) -> Result<String, Fail> {
+    let schema = schema(alloc)?;
+    let mut marks = String::new(alloc);
+    let signs = ["<", "<=", ">", ">=", "=", "!=", "starts with"];
+    'signs: for sign in signs.as_slice() {
+        let text = format!(in alloc; "{column} {sign} {literal}")?;
+        marks.push_str(mark(refusal(alloc, &schema, text.as_str())))?;
+    }
+    let lists = ["in", "not in"];
+    'lists: for words in lists.as_slice() {
+        let text = format!(in alloc; "{column} {words} ({literal})")?;
+        marks.push_str(mark(refusal(alloc, &schema, text.as_str())))?;
+    }
+    let nulls = ["is null", "is not null"];
+    'nulls: for words in nulls.as_slice() {
+        let text = format!(in alloc; "{column} {words}")?;
+        marks.push_str(mark(refusal(alloc, &schema, text.as_str())))?;
+    }
+    Ok(marks)
+}
+
+fn answer_is(alloc: Global, column: &str, literal: &str, marks: &str) -> Result<bool, Fail> {
+    Ok(answers(alloc, column, literal)?.as_str() == marks)
+}
+
+#[test]
+fn numbers_of_columns(rt: HostRuntime) -> Result<(), Fail> {
+    let alloc = rt.alloc();
+    'columns: for column in ["int", "long", "day", "clock", "instant", "time"].as_slice() {
+        assert!(rt; answer_is(alloc, column, "1", "......4....")?);
+        assert!(rt; answer_is(alloc, column, "'1'", "333333433..")?);
+        assert!(rt; answer_is(alloc, column, "true", "333333433..")?);
+        assert!(rt; answer_is(alloc, column, "x'01'", "333333433..")?);
+    }
+    Ok(())
+}
+
+#[test]
+fn other_literals_of_columns(rt: HostRuntime) -> Result<(), Fail> {
+    let alloc = rt.alloc();
+    assert!(rt; answer_is(alloc, "flag", "false", "......4....")?);
+    assert!(rt; answer_is(alloc, "flag", "0", "333333433..")?);
+    assert!(rt; answer_is(alloc, "text", "''", "...........")?);
+    assert!(rt; answer_is(alloc, "text", "0", "333333333..")?);
+    assert!(rt;
+        answer_is(
+            alloc,
+            "uuid",
+            "'f79c3e09-677c-4bbd-a479-3f349cb785e7'",
+            "4444..4...."
+        )?
+    );
+    assert!(rt;
+        answer_is(
+            alloc,
+            "uuid",
+            "x'f79c3e09677c4bbda4793f349cb785e7'",
+            "444433433.."
+        )?
+    );
+    assert!(rt; answer_is(alloc, "pair", "x'0a0b'", "......4....")?);
+    assert!(rt; answer_is(alloc, "pair", "x'0a0b0c'", "333333433..")?);
+    assert!(rt; answer_is(alloc, "bytes", "x''", "......4....")?);
+    assert!(rt; answer_is(alloc, "bytes", "''", "333333433..")?);
+    Ok(())
+}
+
+#[test]
+fn columns_that_answer_nothing(rt: HostRuntime) -> Result<(), Fail> {
+    let alloc = rt.alloc();
+    'columns: for column in ["float", "double", "price", "inner"].as_slice() {
+        assert!(rt; answer_is(alloc, column, "1", "44444444444")?);
+    }
+    assert!(rt; answer_is(alloc, "none", "1", "22222222222")?);
+    Ok(())
+}
+
+#[test]
+fn uuids(rt: HostRuntime) -> Result<(), Fail> {
+    let alloc = rt.alloc();
+    assert!(rt;
+        answer_is(
+            alloc,
+            "uuid",
+            "'g79c3e09-677c-4bbd-a479-3f349cb785e7'",
+            "444433433.."
+        )?
+    );
+    assert!(rt;
+        answer_is(
+            alloc,
+            "uuid",
+            "'f79c3e09-677c-4bbd-a479-3f349cb785e'",
+            "444433433.."
+        )?
+    );
+    assert!(rt; answer_is(alloc, "uuid", "''", "444433433..")?);
+    Ok(())
+}
+
+/// Whether the text's filter is shown as the other text, and that one's too.
+fn is_shown(alloc: Global, text: &str, shown: &str) -> Result<bool, Fail> {
+    match parse(alloc, text) {
+        Ok(filter) => Ok(format!(in alloc; "{filter}")?.as_str() == shown),
+        Err(_) => Ok(false),
+    }
+}
+
+#[test]
+fn shown_filters(rt: HostRuntime) -> Result<(), Fail> {
+    let alloc = rt.alloc();
+    assert!(rt;
+        is_shown(
+            alloc,
+            "(a=1)and((b<=2or c!=-7))",
+            "a = 1 and (b <= 2 or c != -7)"
+        )?
+    );
+    assert!(rt; is_shown(alloc, "(a=1 and b>2)or(c>=3)", "a = 1 and b > 2 or c >= 3")?);
+    assert!(rt; is_shown(alloc, "true or(false or true)", "true or (false or true)")?);
+    assert!(rt;
+        is_shown(
+            alloc,
+            "(true and false)and(true and true)",
+            "true and false and (true and true)"
+        )?
+    );
+    assert!(rt;
+        is_shown(
+            alloc,
+            "\"a\".\"or\" . \"9\" is null",
+            "a.\"or\".\"9\" is null"
+        )?
+    );
+    assert!(rt; is_shown(alloc, "\"a\"\"b\" is not null", "\"a\"\"b\" is not null")?);
+    assert!(rt; is_shown(alloc, "\"\" in(1,007,-0)", "\"\" in (1, 7, 0)")?);
+    assert!(rt;
+        is_shown(
+            alloc,
+            "c not in(x'0aFF','it''s')",
+            "c not in (x'0aff', 'it''s')"
+        )?
+    );
+    assert!(rt; is_shown(alloc, "c starts with'größe'", "c starts with 'größe'")?);
+    Ok(())
+}
+
+#[test]
+fn words_as_names(rt: HostRuntime) -> Result<(), Fail> {
+    let alloc = rt.alloc();
+    'words: for word in [
+        "and", "or", "not", "in", "is", "null", "starts", "with", "true", "false",
+    ]
+    .as_slice()
+    {
+        let text = format!(in alloc; "\"{word}\" is null")?;
+        assert!(rt; is_shown(alloc, text.as_str(), text.as_str())?);
+        let bare = format!(in alloc; "{word} is null")?;
+        assert!(rt; fault(alloc, bare.as_str()).is_some());
+    }
+    assert!(rt; is_shown(alloc, "\"c\" is not null", "c is not null")?);
+    assert!(rt; is_shown(alloc, "\"And\" is null", "And is null")?);
     Ok(())
 }
