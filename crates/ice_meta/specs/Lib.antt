@@ -6,3 +6,5 @@ pub mod Reading
 pub mod Schemas
 pub mod Tables
 pub mod Targets
+pub mod Order
+pub mod Different

@@ -1,10 +1,13 @@
 //! Table metadata: the JSON value that it is, and what it says.
 
 ghost use Rattle.std.specs.Prelude.{◌≡◌, IfOk, Some, map};
+ghost use Rattle.std.specs.List.{All};
 ghost use Rattle.std.specs.Option.{option_copied, option_map};
 ghost use Rattle.contract_words.specs.Outcome.{Gives};
 ghost use Rattle.serde_json.specs.View.{view};
 ghost use Rattle.ice_meta.specs.Tables.{HasCurrentSchema, HasDefaultSpec, HasDifferentSchemas, HasDifferentSpecs, HasDifferentSnapshots, text_json, json_of};
+ghost use Rattle.ice_meta.specs.Different.{HasDifferentColumns, HasDifferentFields};
+ghost use Rattle.ice_meta.specs.Order.{IsFirst, metadata_fault};
 ghost use Rattle.ice_meta.specs.Targets.{described, metadata_of, schema_with, spec_with, snapshot_with, ref_with, bound_field, bound_spec, is_main, current_id, named_id, target_id, resolved, if_tag, pinned_id, own_schema, pinned_schema, schema_for};
 
 use crate::fault::{Member, MetaFault};
@@ -65,15 +68,19 @@ fn object_from(alloc: Global, bytes: &[u8]) -> Result<Value, MetaFault>
 }
 
 impl Metadata {
-    /// Reads metadata. What of it isn't read is kept as it is.
-    #[tactic(auto, unfolding(crate::specs::Targets::metadata_of))]
+    /// Reads metadata, or answers its first fault in the order in which the members are checked. What of it isn't read is
+    /// kept as it is.
+    #[tactic(auto, using(crate::proofs::FirstFault::no_json), unfolding(crate::specs::Targets::metadata_of))]
     pub fn read(alloc: Global, bytes: &[u8]) -> Result<Metadata, MetaFault>
         ensures read { Gives MetaFault.Memory (λ metadata. described metadata.json metadata.table) result (metadata_of bytes.now) }
+        ensures order { IsFirst result (metadata_fault bytes.now) }
         ensures current_schema { IfOk result (λ metadata. HasCurrentSchema metadata.table) }
         ensures default_spec { IfOk result (λ metadata. HasDefaultSpec metadata.table) }
         ensures schemas { IfOk result (λ metadata. HasDifferentSchemas metadata.table) }
         ensures specs { IfOk result (λ metadata. HasDifferentSpecs metadata.table) }
         ensures snapshots { IfOk result (λ metadata. HasDifferentSnapshots metadata.table) }
+        ensures columns { IfOk result (λ metadata. All HasDifferentColumns metadata.table.schemas) }
+        ensures fields { IfOk result (λ metadata. All HasDifferentFields metadata.table.specs) }
     {
         let json = object_from(alloc, bytes)?;
         let table = table_of(alloc, &json)?;
