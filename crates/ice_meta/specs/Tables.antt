@@ -1,6 +1,6 @@
 -- Table metadata (Apache Iceberg table spec v2, "Table Metadata" and "Appendix C: JSON serialization"). What is read of
 -- an object is read member by member in the order of the lines; the first line that has a fault gives it.
-use Rattle.std.specs.Prelude.{◌≡◌, true, ℕ, pos, negsuc, ◌^◌, ℤ, List, [], ◌∷◌, ◌++◌, length, Bool, Option, None, Some, option_and_then, map, Result, Ok, Err, if◌then◌else◌, codes, nat_lt}
+use Rattle.std.specs.Prelude.{◌≡◌, true, ℕ, pos, negsuc, ℤ, List, [], ◌∷◌, ◌++◌, length, Bool, Option, None, Some, map, Result, Ok, Err, if◌then◌else◌, codes, nat_lt}
 use Rattle.std.specs.Str.{bytes_eq, is_utf8}
 use Rattle.std.specs.List.{list_any, IsDistinct}
 use Rattle.std.specs.Ordering.{int_eq}
@@ -24,7 +24,7 @@ use Rattle.ice_meta.specs.declared.snapshot.Ref.{Ref}
 use Rattle.ice_meta.specs.declared.snapshot.RefKind.{RefKind}
 use Rattle.ice_meta.specs.declared.snapshot.RefKind.TheVariants as kind
 use Rattle.ice_meta.specs.declared.table.Table.{Table}
-use Rattle.ice_meta.specs.Members.{asked, perhaps, if_there, objects_of, long_in, int_in, sequence_number_in, text_in, objects_in, optional_long, optional_int, optional_text}
+use Rattle.ice_meta.specs.Members.{asked, perhaps, objects_of, long_in, int_in, sequence_number_in, text_in, objects_in, optional_long, optional_int, optional_text}
 use Rattle.ice_meta.specs.Reading.{each, once}
 use Rattle.ice_meta.specs.Schemas.{schema_of}
 

@@ -1,5 +1,5 @@
 -- Metadata, and what of a table is asked for (Apache Iceberg table spec v2, "Table Metadata" and "Snapshot References").
-use Rattle.std.specs.Prelude.{ℕ, ℤ, List, Bool, Option, None, Some, option_and_then, option_map, Result, Ok, Err, if◌then◌else◌, find, map, codes}
+use Rattle.std.specs.Prelude.{ℕ, ℤ, List, Bool, Option, None, Some, option_and_then, option_map, Result, Ok, if◌then◌else◌, find, map, codes}
 use Rattle.std.specs.Option.{option_or}
 use Rattle.std.specs.Str.{bytes_eq}
 use Rattle.std.specs.Ordering.{int_eq}
