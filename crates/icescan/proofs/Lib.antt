@@ -2,6 +2,7 @@ pub mod Escapes
 pub mod Lines
 pub mod Lookups
 pub mod Refusals
+pub mod Segments
 pub mod Sends
 pub mod Shows
 pub mod Steps

@@ -36,13 +36,14 @@ module _ (r : List ℕ → Type 0) (w : Type 0) where
   first_ends s read next run.Memory stops h = tt
   first_ends s read next (run.Device path) stops h = stops path h
   first_ends s read next run.Write stops h = absurd h
-  first_ends s read next run.Words stops h = ap (λ x. x >>= next) h
+  first_ends s read next (run.Words t) stops h = ap (λ x. x >>= next) h
   first_ends s read next run.Input stops h = ap (λ x. x >>= next) h
   first_ends s read next (run.Bundle n) stops h = ap (λ x. x >>= next) h
   first_ends s read next (run.Absent path) stops h = ap (λ x. x >>= next) h
   first_ends s read next (run.List f) stops h = ap (λ x. x >>= next) h
   first_ends s read next (run.Scan f) stops h = ap (λ x. x >>= next) h
   first_ends s read next (run.Finish f) stops h = ap (λ x. x >>= next) h
+  first_ends s read next (run.Metadata f) stops h = ap (λ x. x >>= next) h
 
   pub list_ends : {A : Type 0} (read : Result A ListFault) (f : ListFault) → (f ≢ list.Memory → read ≡ Err f) → MayEnd (as_run of_list read) r w (of_list f)
   list_ends read list.Memory h = tt

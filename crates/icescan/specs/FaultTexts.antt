@@ -1,6 +1,6 @@
 -- The program's own line for a fault: number, name and arguments, with a nested fault in place of its argument.
--- S is a fault of a schema, V of a container, N of a list or a manifest, X of a scan, Z of a plan, B of the bundle, P of a
--- read, W of a write.
+-- S is a fault of a schema, V of a container, M of metadata, N of a list or a manifest, X of a scan, Z of a plan, B of the
+-- bundle, P of a read, W of a write.
 use Rattle.std.specs.Prelude.{ℕ, List, [], ◌∷◌, ◌++◌, codes}
 use Rattle.avro_schema.specs.declared.fault.SchemaFault.{SchemaFault}
 use Rattle.avro_schema.specs.declared.fault.SchemaFault.TheVariants as schema
@@ -10,6 +10,9 @@ use Rattle.ice_manifest.specs.declared.fault.ListFault.{ListFault}
 use Rattle.ice_manifest.specs.declared.fault.ListFault.TheVariants as list
 use Rattle.ice_manifest.specs.declared.fault.ManifestFault.{ManifestFault}
 use Rattle.ice_manifest.specs.declared.fault.ManifestFault.TheVariants as manifest
+use Rattle.ice_meta.specs.declared.fault.MetaFault.{MetaFault}
+use Rattle.ice_meta.specs.declared.fault.MetaFault.TheVariants as meta
+use Rattle.ice_meta.specs.Members.{member_name}
 use Rattle.ice_state.specs.declared.fault.ScanFault.{ScanFault}
 use Rattle.ice_state.specs.declared.fault.ScanFault.TheVariants as scan
 use Rattle.ice_state.specs.declared.fault.FinishFault.{FinishFault}
@@ -72,8 +75,22 @@ finish_text (finish.Bad path fault) = named_path (codes "Z2 Bad ") path ++ (code
 finish_text (finish.PathTwice path) = named_path (codes "Z3 PathTwice ") path
 finish_text finish.Memory = codes "Z4 Memory"
 
+unfoldable pub meta_text : MetaFault → List ℕ
+meta_text meta.NotJson = codes "M1 NotJson"
+meta_text (meta.Version n) = named_signed (codes "M2 Version ") n
+meta_text (meta.Missing member) = codes "M3 Missing " ++ member_name member
+meta_text (meta.WrongKind member) = codes "M4 WrongKind " ++ member_name member
+meta_text (meta.UnknownType text) = named_path (codes "M5 UnknownType ") text
+meta_text meta.NoSuchRef = codes "M6 NoSuchRef"
+meta_text meta.NoSuchSnapshot = codes "M7 NoSuchSnapshot"
+meta_text meta.NoSnapshot = codes "M8 NoSnapshot"
+meta_text (meta.IdTwice id) = named_signed (codes "M9 IdTwice ") id
+meta_text meta.Memory = codes "M10 Memory"
+meta_text (meta.Dangling member) = codes "M11 Dangling " ++ member_name member
+meta_text meta.TooBig = codes "M12 TooBig"
+
 unfoldable pub run_text : RunFault → List ℕ
-run_text run.Words = codes "usage: icescan [list-plan --bundle]"
+run_text (run.Words text) = text
 run_text run.Input = codes "P3 Device -"
 run_text (run.Bundle line) = named_number (codes "B1 Bundle ") line
 run_text (run.Absent path) = named_path (codes "P2 Absent ") path
@@ -81,9 +98,15 @@ run_text (run.Device path) = named_path (codes "P3 Device ") path
 run_text (run.List fault) = list_text fault
 run_text (run.Scan fault) = scan_text fault
 run_text (run.Finish fault) = finish_text fault
+run_text (run.Metadata fault) = meta_text fault
 run_text run.Write = codes "W1 Write"
 run_text run.Memory = codes "Memory"
 
 -- the whole line, with its line feed
+unfoldable pub line_text : RunFault → List ℕ
+line_text fault = codes "icescan: " ++ (run_text fault ++ 10 ∷ [])
+
+-- what is told of a fault: its line, or the text that says why the words are not understood
 unfoldable pub fault_text : RunFault → List ℕ
-fault_text fault = codes "icescan: " ++ (run_text fault ++ 10 ∷ [])
+fault_text (run.Words text) = text
+fault_text fault = line_text fault

@@ -2,6 +2,7 @@ pub mod Bundles
 pub mod Escaping
 pub mod FaultTexts
 pub mod Faults
+pub mod Folders
 pub mod ListPlans
 pub mod Pieces
 pub mod PlanTexts

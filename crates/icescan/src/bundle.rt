@@ -28,7 +28,7 @@ impl Model for Bundle {
 }
 
 /// Where a text first has a byte.
-fn find_byte(text: &[u8], byte: u8) -> Option<usize>
+pub fn find_byte(text: &[u8], byte: u8) -> Option<usize>
     ensures { result ≡ position (λ b. b == byte) text.now }
 {
     text.iter().position(|b| *b == byte)

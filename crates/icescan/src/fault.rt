@@ -1,7 +1,7 @@
 //! Why the program ends without a plan.
 
 ghost use Rattle.std.specs.Prelude.{◌≡◌};
-ghost use Rattle.icescan.specs.Faults.{of_list, of_scan, of_finish, of_wanted, refused_status, schema_wants_memory, avro_wants_memory, list_wants_memory, manifest_wants_memory, scan_wants_memory, finish_wants_memory, status_of};
+ghost use Rattle.icescan.specs.Faults.{of_list, of_scan, of_finish, of_wanted, of_meta, refused_status, meta_wants_memory, schema_wants_memory, avro_wants_memory, list_wants_memory, manifest_wants_memory, scan_wants_memory, finish_wants_memory, status_of};
 ghost use Rattle.icescan.specs.declared.fault.RunFault.TheVariants as run;
 
 use crate::sink::SinkFault;
@@ -10,14 +10,15 @@ use avro_schema::SchemaFault;
 use contract_words::Text;
 use ice_desk::WantedFault;
 use ice_manifest::{ListFault, ManifestFault};
+use ice_meta::MetaFault;
 use ice_state::{FinishFault, ScanFault};
 use std::alloc::{AllocError, AllocFailed};
 
 /// The first fault of a run.
 #[derive(Debug, Drop)]
 pub enum RunFault {
-    /// The words on the command line are none of the program's.
-    Words,
+    /// The words on the command line are none of the program's, for the reason that this text tells.
+    Words(Text),
     /// Standard input can't be read.
     Input,
     /// This line of the bundle, counted from 1, is no path and bytes, or has a path that an earlier line has.
@@ -32,7 +33,9 @@ pub enum RunFault {
     Scan(ScanFault),
     /// There is no plan.
     Finish(FinishFault),
-    /// The plan can't be written.
+    /// The table's metadata is refused.
+    Metadata(MetaFault),
+    /// What is asked for can't be written.
     Write,
     /// A growth was refused.
     Memory,
@@ -95,6 +98,17 @@ impl From<FinishFault> for RunFault {
     }
 }
 
+impl From<MetaFault> for RunFault {
+    ghost from_gives = { λ fault e. e ≡ of_meta fault };
+
+    fn from(fault: MetaFault) -> RunFault {
+        match fault {
+            MetaFault::Memory => RunFault::Memory,
+            fault => RunFault::Metadata(fault),
+        }
+    }
+}
+
 impl From<WantedFault> for RunFault {
     ghost from_gives = { λ fault e. e ≡ of_wanted fault };
 
@@ -114,11 +128,12 @@ impl RunFault {
         ensures { result ≡ status_of self.now }
     {
         match self {
-            RunFault::Words | RunFault::Bundle(_) => 2,
+            RunFault::Words(_) | RunFault::Bundle(_) => 2,
             RunFault::Input | RunFault::Absent(_) | RunFault::Device(_) | RunFault::Write => 3,
             RunFault::List(fault) => refused_status(list_wants_memory(fault)),
             RunFault::Scan(fault) => refused_status(scan_wants_memory(*fault)),
             RunFault::Finish(fault) => refused_status(finish_wants_memory(fault)),
+            RunFault::Metadata(fault) => refused_status(meta_wants_memory(fault)),
             RunFault::Memory => 5,
         }
     }
@@ -184,6 +199,15 @@ fn finish_wants_memory(fault: &FinishFault) -> bool
     match fault {
         FinishFault::Memory => true,
         FinishFault::Bad(_, fault) => manifest_wants_memory(fault),
+        _ => false,
+    }
+}
+
+fn meta_wants_memory(fault: &MetaFault) -> bool
+    ensures { result ≡ meta_wants_memory fault.now }
+{
+    match fault {
+        MetaFault::Memory => true,
         _ => false,
     }
 }

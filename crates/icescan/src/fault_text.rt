@@ -1,20 +1,34 @@
 //! The text of a fault: its number, name and arguments.
 
-ghost use Rattle.icescan.specs.FaultTexts.{schema_text, avro_text, list_text, manifest_text, scan_text, finish_text, run_text, fault_text};
+ghost use Rattle.std.specs.Prelude.{◌++◌};
+ghost use Rattle.ice_meta.specs.Members.{member_name};
+ghost use Rattle.icescan.specs.FaultTexts.{schema_text, avro_text, list_text, manifest_text, scan_text, finish_text, meta_text, run_text, line_text, fault_text};
 ghost use Rattle.icescan.specs.Written.{Wrote};
 
 use crate::fault::RunFault;
-use crate::pieces::{put_named_int, put_named_number, put_named_path};
+use crate::pieces::{put_named_int, put_named_long, put_named_number, put_named_path};
 use crate::sink::{Sink, SinkFault, write_all};
 use avro_file::AvroFault;
 use avro_schema::SchemaFault;
 use ice_manifest::{ListFault, ManifestFault};
+use ice_meta::{Member, MetaFault};
 use ice_state::{FinishFault, ScanFault};
 
-/// Writes the line of a fault.
+/// Writes the line of a fault, or the text that says why the words are not understood.
 #[tactic(auto, unfolding(crate::specs::FaultTexts::fault_text))]
 pub fn put_fault<S: Sink>(sink: &mut S, fault: &RunFault) -> Result<(), SinkFault>
     ensures { Wrote S.taken S.may_fail sink.old result sink.new (fault_text fault.now) }
+{
+    match fault {
+        RunFault::Words(text) => write_all(sink, text.as_bytes()),
+        fault => put_line(sink, fault),
+    }
+}
+
+/// Writes the line of a fault.
+#[tactic(auto, unfolding(crate::specs::FaultTexts::line_text))]
+fn put_line<S: Sink>(sink: &mut S, fault: &RunFault) -> Result<(), SinkFault>
+    ensures { Wrote S.taken S.may_fail sink.old result sink.new (line_text fault.now) }
 {
     write_all(sink, b"icescan: ")?;
     put_run_fault(sink, fault)?;
@@ -26,7 +40,7 @@ fn put_run_fault<S: Sink>(sink: &mut S, fault: &RunFault) -> Result<(), SinkFaul
     ensures { Wrote S.taken S.may_fail sink.old result sink.new (run_text fault.now) }
 {
     match fault {
-        RunFault::Words => write_all(sink, b"usage: icescan [list-plan --bundle]"),
+        RunFault::Words(text) => write_all(sink, text.as_bytes()),
         RunFault::Input => write_all(sink, b"P3 Device -"),
         RunFault::Bundle(line) => put_named_number(sink, b"B1 Bundle ", *line),
         RunFault::Absent(path) => put_named_path(sink, b"P2 Absent ", path.as_bytes()),
@@ -34,9 +48,38 @@ fn put_run_fault<S: Sink>(sink: &mut S, fault: &RunFault) -> Result<(), SinkFaul
         RunFault::List(fault) => put_list_fault(sink, fault),
         RunFault::Scan(fault) => put_scan_fault(sink, *fault),
         RunFault::Finish(fault) => put_finish_fault(sink, fault),
+        RunFault::Metadata(fault) => put_meta_fault(sink, fault),
         RunFault::Write => write_all(sink, b"W1 Write"),
         RunFault::Memory => write_all(sink, b"Memory"),
     }
+}
+
+#[tactic(auto, unfolding(crate::specs::FaultTexts::meta_text))]
+fn put_meta_fault<S: Sink>(sink: &mut S, fault: &MetaFault) -> Result<(), SinkFault>
+    ensures { Wrote S.taken S.may_fail sink.old result sink.new (meta_text fault.now) }
+{
+    match fault {
+        MetaFault::NotJson => write_all(sink, b"M1 NotJson"),
+        MetaFault::Version(n) => put_named_long(sink, b"M2 Version ", *n),
+        MetaFault::Missing(member) => put_member(sink, b"M3 Missing ", *member),
+        MetaFault::WrongKind(member) => put_member(sink, b"M4 WrongKind ", *member),
+        MetaFault::UnknownType(text) => put_named_path(sink, b"M5 UnknownType ", text.as_bytes()),
+        MetaFault::NoSuchRef => write_all(sink, b"M6 NoSuchRef"),
+        MetaFault::NoSuchSnapshot => write_all(sink, b"M7 NoSuchSnapshot"),
+        MetaFault::NoSnapshot => write_all(sink, b"M8 NoSnapshot"),
+        MetaFault::IdTwice(id) => put_named_long(sink, b"M9 IdTwice ", *id),
+        MetaFault::Memory => write_all(sink, b"M10 Memory"),
+        MetaFault::Dangling(member) => put_member(sink, b"M11 Dangling ", *member),
+        MetaFault::TooBig => write_all(sink, b"M12 TooBig"),
+    }
+}
+
+/// Writes a name and the member that it is about.
+fn put_member<S: Sink>(sink: &mut S, name: &[u8], member: Member) -> Result<(), SinkFault>
+    ensures { Wrote S.taken S.may_fail sink.old result sink.new (name.now ++ member_name member) }
+{
+    write_all(sink, name)?;
+    write_all(sink, member.name().as_bytes())
 }
 
 #[tactic(auto, unfolding(crate::specs::FaultTexts::finish_text))]

@@ -3,9 +3,11 @@
 #![tactic(auto)]
 
 mod bundle;
+mod command_line;
 mod escape;
 mod fault;
 mod fault_text;
+mod folder;
 mod input;
 mod page;
 mod pieces;
@@ -26,6 +28,8 @@ use crate::fault::RunFault;
 use crate::report::report;
 use crate::sink::Output;
 use crate::words::run_words;
+use contract_words::Text;
+use std::alloc::Global;
 use std::process::ExitCode;
 use std::{env, io};
 
@@ -44,6 +48,7 @@ fn main(rt: HostRuntime) -> ExitCode {
         Ok(words) => {
             let mut output = Output::new(rt.stdout());
             run_words(
+                &rt,
                 rt.alloc(),
                 &words,
                 &mut rt.stdin(),
@@ -51,15 +56,18 @@ fn main(rt: HostRuntime) -> ExitCode {
                 &mut errors,
             )
         }
-        Err(e) => report(&words_fault(&e), &mut errors),
+        Err(e) => report(&words_fault(rt.alloc(), &e), &mut errors),
     };
     ExitCode::from(status)
 }
 
 /// Why the words could not be taken: memory ran out, or one of them is no text.
-fn words_fault(e: &io::Error) -> RunFault {
-    match e.kind() {
-        io::ErrorKind::OutOfMemory => RunFault::Memory,
-        _ => RunFault::Words,
+fn words_fault(alloc: Global, e: &io::Error) -> RunFault {
+    if e.kind() == io::ErrorKind::OutOfMemory {
+        return RunFault::Memory;
+    }
+    match String::from_str(alloc, "error: a word on the command line is not UTF-8\n") {
+        Ok(text) => RunFault::Words(Text::from_string(text)),
+        Err(_) => RunFault::Memory,
     }
 }

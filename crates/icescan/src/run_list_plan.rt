@@ -27,7 +27,7 @@ fn text_of(alloc: Global, path: &str) -> Result<Text, AllocError>
 }
 
 /// The bytes of the file at a path: `Absent` where there is none, `Device` where reading it failed.
-fn read_file<F: Files>(alloc: Global, files: &F, path: &str) -> Result<Vec<u8>, RunFault>
+pub fn read_file<F: Files>(alloc: Global, files: &F, path: &str) -> Result<Vec<u8>, RunFault>
     ensures found { (world : World) → F.world files.now ≡ Some world → IfOk result (λ bytes. file_in world path.now ≡ Ok bytes.items) }
     ensures refused { (world : World) → F.world files.now ≡ Some world → IfErr result (MayEnd (file_in world path.now) (EndsAt world (F.may_fail files.now) (path.now ∷ [])) ⊥) }
     ensures absent { (path : List ℕ) → IsErrOf result (RunFault.Absent path) → HasAt (F.world files.now) path None }

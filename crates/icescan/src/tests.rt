@@ -95,11 +95,12 @@ impl Case {
     }
 
     /// Whether the program ends with this status on the table, and writes just these lines.
-    fn ends(&self, alloc: Global, status: &str) -> bool {
+    fn ends(&self, rt: &HostRuntime, status: &str) -> bool {
+        let alloc = rt.alloc();
         let mut input = self.bundle.as_slice();
         let mut written = Vec::new(alloc);
         let mut told = Vec::new(alloc);
-        let ended = run_words(alloc, &[], &mut input, &mut written, &mut told);
+        let ended = run_words(rt, alloc, &[], &mut input, &mut written, &mut told);
         status.parse() == Ok(ended) && written == self.output && told == self.errors
     }
 }
@@ -129,7 +130,7 @@ fn tables(rt: HostRuntime) -> Result<(), Fail> {
     let mut cases: usize = 0;
     for line in CASES.lines() {
         if let Some(status) = line.strip_prefix("ends ") {
-            assert!(rt; case.ends(alloc, status), "case {cases}");
+            assert!(rt; case.ends(&rt, status), "case {cases}");
             case = Case::new(alloc);
             cases = cases.saturating_add(1);
         } else {
@@ -141,18 +142,12 @@ fn tables(rt: HostRuntime) -> Result<(), Fail> {
 }
 
 /// Whether the program ends with this status, and writes just these texts.
-fn ends(
-    alloc: Global,
-    words: &[String],
-    text: &[u8],
-    status: u8,
-    output: &str,
-    errors: &str,
-) -> bool {
+fn ends(rt: &HostRuntime, text: &[u8], status: u8, output: &str, errors: &str) -> bool {
+    let alloc = rt.alloc();
     let mut input = text;
     let mut written = Vec::new(alloc);
     let mut told = Vec::new(alloc);
-    let ended = run_words(alloc, words, &mut input, &mut written, &mut told);
+    let ended = run_words(rt, alloc, &[], &mut input, &mut written, &mut told);
     ended == status
         && written.as_slice() == output.as_bytes()
         && told.as_slice() == errors.as_bytes()
@@ -173,9 +168,8 @@ static BUNDLES: [(&[u8], u8, &str); 9] = [
 
 #[test]
 fn bundles(rt: HostRuntime) {
-    let alloc = rt.alloc();
     for (text, status, errors) in &BUNDLES {
-        assert!(rt; ends(alloc, &[], text, *status, "", errors), "{errors}");
+        assert!(rt; ends(&rt, text, *status, "", errors), "{errors}");
     }
 }
 

@@ -1,43 +1,65 @@
-//! The program over its words, standard input, output and errors.
+//! The program over its words, standard input, the files of the system, output and errors.
 
-ghost use Rattle.std.specs.Prelude.{◌≡◌, ◌⊎◌, ℕ, List, map, string_bytes, Err, IfOk, IfErr, false};
-ghost use Rattle.icescan.specs.Runs.{Answered, IsInput, Ran, Refused, Told, asks_list_plan, bundle_text, run_of, words_in};
+ghost use Rattle.std.specs.Prelude.{◌≡◌, ◌≢◌, ◌⊎◌, ℕ, List, Option, Some, None, Result, Ok, Err, map, string_bytes, IfOk, IfErr};
+ghost use Rattle.icescan.specs.Runs.{Answered, IsInput, Ran, ReadAs, Refused, answer_to, bundle_text, list_in, run_of, shown_text};
+ghost use Rattle.icescan.specs.declared.command_line.Words.{Words};
+ghost use Rattle.icescan.specs.declared.fault.RunFault.{RunFault};
 
 use crate::bundle::Bundle;
+use crate::command_line::{Lists, Place, Source, Words, parse_words};
 use crate::fault::RunFault;
+use crate::folder::Folder;
 use crate::input::read_all;
 use crate::report::report;
 use crate::run_list_plan::run_list_plan;
-use crate::sink::Sink;
+use crate::show::show_file;
+use crate::sink::{Sink, write_all};
+use contract_words::Text;
 use ice_desk::ReadFault;
 use std::alloc::Global;
 use std::io::Read;
+use std::rt::Files;
 
 /// How many reads of standard input are made at most.
 const MOST_READS: u64 = 16_777_216;
 
-/// That the words ask for what the program does: `list-plan --bundle`, which is also what no words ask for.
-fn check_words(words: &[String]) -> Result<(), RunFault>
-    ensures { result ≡ words_in (map string_bytes words.now) }
+/// The path of the list: the one that is asked for, else the bundle's first.
+fn list_in<'a>(bundle: &'a Bundle, list: &'a Option<Text>) -> Result<&'a str, RunFault>
+    ensures ok { IfOk result (λ path. list_in bundle.now list.now ≡ Ok path.now) }
+    ensures err { IfErr result (λ e. list_in bundle.now list.now ≡ Err e) }
 {
-    match words {
-        [] => Ok(()),
-        [command, source] if command.as_str() == "list-plan" && source.as_str() == "--bundle" => Ok(
-            (),
-        ),
-        _ => Err(RunFault::Words),
+    if let Some(list) = list {
+        return Ok(list.as_str());
     }
+    bundle.first_path().ok_or(RunFault::Bundle(1))
 }
 
-/// Writes the plan of a bundle's first file.
-fn plan_bundle<W: Sink>(alloc: Global, text: &[u8], output: &mut W) -> Result<(), RunFault>
-    ensures { Ran (bundle_text text.now) (W.may_fail output.old) result (W.taken output.old) (W.taken output.new) }
+/// Writes the plan of a list in a bundle.
+fn plan_bundle<W: Sink>(
+    alloc: Global,
+    text: &[u8],
+    list: &Option<Text>,
+    output: &mut W,
+) -> Result<(), RunFault>
+    ensures { Ran (Some (bundle_text list.now text.now)) (W.may_fail output.old) result (W.taken output.old) (W.taken output.new) }
 {
     let bundle = Bundle::read(alloc, text)?;
-    let Some(list) = bundle.first_path() else {
-        return Err(RunFault::Bundle(1));
-    };
-    run_list_plan(alloc, &bundle, list, output)
+    let path = list_in(&bundle, list)?;
+    run_list_plan(alloc, &bundle, path, output)
+}
+
+/// Writes the plan of a list in a folder.
+fn plan_folder<H: Files, W: Sink>(
+    host: &H,
+    alloc: Global,
+    place: &Place,
+    list: &Text,
+    output: &mut W,
+) -> Result<(), RunFault>
+    ensures { Ran None (W.may_fail output.old) result (W.taken output.old) (W.taken output.new) }
+{
+    let files = Folder::new(host, place.folder.as_str(), place.prefix.as_str());
+    run_list_plan(alloc, &files, list.as_str(), output)
 }
 
 /// All that standard input has left.
@@ -52,43 +74,128 @@ fn read_input<R: Read>(alloc: Global, input: &mut R) -> Result<Vec<u8>, RunFault
     }
 }
 
+/// Writes the plan of a list in the bundle on standard input.
+fn plan_input<R: Read, W: Sink>(
+    alloc: Global,
+    list: &Option<Text>,
+    input: &mut R,
+    output: &mut W,
+) -> Result<(), RunFault>
+    ensures { (text : List ℕ) × IsInput (R.remaining input.old) text ×
+        Ran (Some (bundle_text list.now text)) (W.may_fail output.old) result (W.taken output.old) (W.taken output.new) }
+{
+    let text = read_input(alloc, input)?;
+    plan_bundle(alloc, &text, list, output)
+}
+
+/// Writes the text of the metadata at a path of a bundle.
+fn show_bundle<W: Sink>(
+    alloc: Global,
+    text: &[u8],
+    path: &Text,
+    output: &mut W,
+) -> Result<(), RunFault>
+    ensures { Ran (Some (shown_text path.now text.now)) (W.may_fail output.old) result (W.taken output.old) (W.taken output.new) }
+{
+    let bundle = Bundle::read(alloc, text)?;
+    show_file(alloc, &bundle, path.as_str(), output)
+}
+
+/// Writes the text of the metadata at a path of the bundle on standard input.
+fn show_input<R: Read, W: Sink>(
+    alloc: Global,
+    path: &Text,
+    input: &mut R,
+    output: &mut W,
+) -> Result<(), RunFault>
+    ensures { (text : List ℕ) × IsInput (R.remaining input.old) text ×
+        Ran (Some (shown_text path.now text)) (W.may_fail output.old) result (W.taken output.old) (W.taken output.new) }
+{
+    let text = read_input(alloc, input)?;
+    show_bundle(alloc, &text, path, output)
+}
+
+/// Writes the text of the metadata at a path of a folder.
+fn show_folder<H: Files, W: Sink>(
+    host: &H,
+    alloc: Global,
+    place: &Place,
+    path: &Text,
+    output: &mut W,
+) -> Result<(), RunFault>
+    ensures { Ran None (W.may_fail output.old) result (W.taken output.old) (W.taken output.new) }
+{
+    let files = Folder::new(host, place.folder.as_str(), place.prefix.as_str());
+    show_file(alloc, &files, path.as_str(), output)
+}
+
+/// Writes a text.
+fn tell<W: Sink>(text: &Text, output: &mut W) -> Result<(), RunFault>
+    ensures { Ran (Some (Ok text.now)) (W.may_fail output.old) result (W.taken output.old) (W.taken output.new) }
+{
+    write_all(output, text.as_bytes())?;
+    Ok(())
+}
+
+/// Writes what is asked for.
+fn run_asked<H: Files, R: Read, W: Sink>(
+    host: &H,
+    alloc: Global,
+    asked: &Words,
+    input: &mut R,
+    output: &mut W,
+) -> Result<(), RunFault>
+    ensures { (text : List ℕ) × IsInput (R.remaining input.old) text ×
+        Ran (answer_to asked.now text) (W.may_fail output.old) result (W.taken output.old) (W.taken output.new) }
+{
+    match asked {
+        Words::ListPlan(Lists::Bundle(list)) => plan_input(alloc, list, input, output),
+        Words::ListPlan(Lists::Folder(place, list)) => plan_folder(
+            host, alloc, place, list, output,
+        ),
+        Words::Show(Source::Bundle, path) => show_input(alloc, path, input, output),
+        Words::Show(Source::Folder(place), path) => show_folder(host, alloc, place, path, output),
+        Words::Text(text) => tell(text, output),
+    }
+}
+
 /// Writes what the words ask for.
-fn run<R: Read, W: Sink>(
+fn run<H: Files, R: Read, W: Sink>(
+    host: &H,
     alloc: Global,
     words: &[String],
     input: &mut R,
     output: &mut W,
 ) -> Result<(), RunFault>
-    ensures words { asks_list_plan (map string_bytes words.now) ≡ false → result ≡ Err RunFault.Words }
-    ensures ran { (text : List ℕ) × IsInput (R.remaining input.old) text ×
-        Ran (run_of (map string_bytes words.now) text) (W.may_fail output.old) result (W.taken output.old) (W.taken output.new) }
+    ensures { (asked : Result Words RunFault) × ReadAs (map string_bytes words.now) asked ×
+        (text : List ℕ) × IsInput (R.remaining input.old) text ×
+        Ran (run_of asked text) (W.may_fail output.old) result (W.taken output.old) (W.taken output.new) }
 {
-    check_words(words)?;
-    let text = read_input(alloc, input)?;
-    plan_bundle(alloc, &text, output)
+    let asked = parse_words(alloc, words)?;
+    run_asked(host, alloc, &asked, input, output)
 }
 
-/// Runs the program: it writes the plan to `output` and ends with 0, or it writes the line of the first fault to
-/// `errors` and ends with the fault's status. Faults are found in this order: of the words, of reading standard input,
-/// of the bundle, of the plan.
-pub fn run_words<R: Read, W: Sink, E: Sink>(
+/// Runs the program: it writes what the words ask for to `output` and ends with 0, or it writes the line of the first
+/// fault to `errors` and ends with the fault's status. Faults are found in this order: of the words, of reading standard
+/// input where it holds a bundle, of the bundle, of what is asked for.
+pub fn run_words<H: Files, R: Read, W: Sink, E: Sink>(
+    host: &H,
     alloc: Global,
     words: &[String],
     input: &mut R,
     output: &mut W,
     errors: &mut E,
 ) -> u8
-    // Other words are refused whatever standard input holds.
-    ensures words { asks_list_plan (map string_bytes words.now) ≡ false →
-        (result ≡ 2) × (W.taken output.new ≡ W.taken output.old) × Told (E.may_fail errors.old) (E.taken errors.old) (E.taken errors.new) RunFault.Words }
-
-    // For some text, which is all that standard input had left where that is told: what is asked of that text was
-    // written, or the fault is that of the words and that text, or reading, writing or memory failed.
-    ensures run { (text : List ℕ) × IsInput (R.remaining input.old) text ×
-        (Answered (run_of (map string_bytes words.now) text) result (W.taken output.old) (W.taken output.new) (E.taken errors.old) (E.taken errors.new)
-        ⊎ Refused (run_of (map string_bytes words.now) text) (W.may_fail output.old) (E.may_fail errors.old) result (W.taken output.old) (W.taken output.new) (E.taken errors.old) (E.taken errors.new)) }
+    // The words were read as one of the commands, or they were refused; no words, and `list-plan --bundle`, were read as
+    // the plan of a bundle's first file. For some text, which is all that standard input had left where that is told: what
+    // is asked of that text was written, or the fault is that of the words and that text, or reading, writing or memory
+    // failed.
+    ensures run { (asked : Result Words RunFault) × ReadAs (map string_bytes words.now) asked ×
+        (text : List ℕ) × IsInput (R.remaining input.old) text ×
+        (Answered (run_of asked text) result (W.taken output.old) (W.taken output.new) (E.taken errors.old) (E.taken errors.new)
+        ⊎ Refused (run_of asked text) (W.may_fail output.old) (E.may_fail errors.old) result (W.taken output.old) (W.taken output.new) (E.taken errors.old) (E.taken errors.new)) }
 {
-    match run(alloc, words, input, output) {
+    match run(host, alloc, words, input, output) {
         Ok(()) => 0,
         Err(fault) => report(&fault, errors),
     }

@@ -81,7 +81,7 @@ fn a_failed_read_ends_the_run(rt: HostRuntime) {
     let mut broken = Faltering::new(b"mem://t/list 00\n", 5, ErrorKind::ConnectionReset);
     let mut output = Vec::new(alloc);
     let mut errors = Vec::new(alloc);
-    let status = run_words(alloc, &[], &mut broken, &mut output, &mut errors);
+    let status = run_words(&rt, alloc, &[], &mut broken, &mut output, &mut errors);
     assert_eq!(rt; status, 3);
     assert_eq!(rt; output.len(), 0);
     assert_eq!(rt; errors.as_slice(), b"icescan: P3 Device -\n".as_slice());

@@ -6,6 +6,7 @@ use avro_file::{AvroFault, CodecName};
 use avro_schema::SchemaFault;
 use contract_words::{Items, Text};
 use ice_manifest::{ListFault, ManifestFault};
+use ice_meta::{Member, MetaFault};
 use ice_state::{FinishFault, ScanFault};
 use std::alloc::{AllocError, Global};
 use std::test::Fail;
@@ -67,6 +68,50 @@ fn lines_of_a_run(rt: HostRuntime) {
     for (fault, line, status) in &rows {
         assert!(rt; prints(alloc, fault, line, *status), "{line}");
     }
+}
+
+#[test]
+fn lines_of_metadata(rt: HostRuntime) {
+    let alloc = rt.alloc();
+    let rows = [
+        (MetaFault::NotJson, "M1 NotJson\n", 1),
+        (MetaFault::Version(3), "M2 Version 3\n", 1),
+        (
+            MetaFault::Missing(Member::Location),
+            "M3 Missing location\n",
+            1,
+        ),
+        (
+            MetaFault::WrongKind(Member::LastSequenceNumber),
+            "M4 WrongKind last-sequence-number\n",
+            1,
+        ),
+        (MetaFault::NoSuchRef, "M6 NoSuchRef\n", 1),
+        (MetaFault::NoSuchSnapshot, "M7 NoSuchSnapshot\n", 1),
+        (MetaFault::NoSnapshot, "M8 NoSnapshot\n", 1),
+        (MetaFault::IdTwice(-7), "M9 IdTwice -7\n", 1),
+        (MetaFault::Memory, "M10 Memory\n", 5),
+        (
+            MetaFault::Dangling(Member::DefaultSpecId),
+            "M11 Dangling default-spec-id\n",
+            1,
+        ),
+        (MetaFault::TooBig, "M12 TooBig\n", 1),
+    ];
+    for (fault, line, status) in rows {
+        assert!(rt;
+            prints(alloc, &RunFault::Metadata(fault), line, status),
+            "{line}"
+        );
+    }
+}
+
+#[test]
+fn a_type_that_is_unknown(rt: HostRuntime) -> Result<(), AllocError> {
+    let alloc = rt.alloc();
+    let fault = RunFault::Metadata(MetaFault::UnknownType(text(alloc, "int 8")?));
+    assert!(rt; prints(alloc, &fault, "M5 UnknownType int\\x208\n", 1));
+    Ok(())
 }
 
 #[test]

@@ -72,18 +72,19 @@ fn outputs_of_the_system(rt: HostRuntime) {
 }
 
 /// What a sink of this many bytes at a time and in all has taken of the first case's plan, and the run's status.
-fn run_slow(alloc: Global, step: usize, room: usize) -> Result<(u8, Vec<u8>), AllocError> {
+fn run_slow(rt: &HostRuntime, step: usize, room: usize) -> Result<(u8, Vec<u8>), AllocError> {
+    let alloc = rt.alloc();
     let bundle = first_bundle(alloc)?;
     let mut input = bundle.as_slice();
     let mut output = Slow::new(alloc, step, room);
     let mut errors = Vec::new(alloc);
-    let status = run_words(alloc, &[], &mut input, &mut output, &mut errors);
+    let status = run_words(rt, alloc, &[], &mut input, &mut output, &mut errors);
     Ok((status, output.taken))
 }
 
 #[test]
 fn plan_of_one_byte_at_a_time(rt: HostRuntime) -> Result<(), Fail> {
-    let (status, taken) = run_slow(rt.alloc(), 1, 1000)?;
+    let (status, taken) = run_slow(&rt, 1, 1000)?;
     assert_eq!(rt; status, 0);
     assert_eq!(rt; taken.as_slice(), PLAN.as_bytes());
     Ok(())
@@ -92,7 +93,7 @@ fn plan_of_one_byte_at_a_time(rt: HostRuntime) -> Result<(), Fail> {
 #[test]
 fn plan_cut_by_a_failing_write(rt: HostRuntime) -> Result<(), Fail> {
     for (room, byte) in PLAN.as_bytes().iter().enumerate() {
-        let (status, taken) = run_slow(rt.alloc(), 1000, room)?;
+        let (status, taken) = run_slow(&rt, 1000, room)?;
         assert_eq!(rt; status, 3, "{byte}");
         assert_eq!(rt; Some(taken.as_slice()), PLAN.as_bytes().get(..room));
     }

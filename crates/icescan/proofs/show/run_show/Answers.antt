@@ -6,7 +6,7 @@ use Rattle.icescan.proofs.show.run_show.Goals as goal
 pub returns-in_err-metadata-clause-refused : goal.returns-in_err-metadata-clause-refused
 returns-in_err-metadata-clause-refused g c =
     let p = err_from_is_err_and c.from_residual.result c.from_residual.ensures.1 in
-    rw (p.1, p.2) (refused (g.W.Sink.may_fail c.args.output.now) c.args.metadata.now c.in_err-metadata.field-0.0 c.in_err-metadata.ensures.read)
+    rw (p.1, p.2) (refused (λ _. ⊥) (g.W.Sink.may_fail c.args.output.now) c.args.metadata.now c.in_err-metadata.field-0.0 c.in_err-metadata.ensures.read)
 
 pub returns-clause-written : goal.returns-clause-written
 returns-clause-written g c =

@@ -1,0 +1,249 @@
+//! The words on the command line.
+
+ghost use Rattle.std.specs.Prelude.{◌≡◌, map, string_bytes, IfErr};
+ghost use Rattle.icescan.specs.Runs.{IsWordsFault, ReadAs, asks_first_list};
+
+#[cfg(test)]
+mod tests;
+
+use crate::fault::RunFault;
+use clap::builder::ValueParser;
+use clap::error::ErrorKind;
+use clap::{Arg, ArgAction, ArgGroup, ArgMatches, Command, Error};
+use contract_words::Text;
+use std::alloc::{AllocError, Global};
+
+/// A folder, and how the paths of the files below it begin.
+#[derive(Debug, Drop)]
+pub struct Place {
+    pub folder: Text,
+    pub prefix: Text,
+}
+
+/// Where a manifest list is.
+#[derive(Debug, Drop)]
+pub enum Lists {
+    /// At this path of a bundle; where there is none, it is the bundle's first file.
+    Bundle(Option<Text>),
+    /// Below a folder, at this path.
+    Folder(Place, Text),
+}
+
+/// Where a file is.
+#[derive(Debug, Drop)]
+pub enum Source {
+    /// In a bundle.
+    Bundle,
+    /// Below a folder.
+    Folder(Place),
+}
+
+/// What the words ask for.
+#[derive(Debug, Drop)]
+pub enum Words {
+    /// The plan of a manifest list.
+    ListPlan(Lists),
+    /// The text of the metadata at this path.
+    Show(Source, Text),
+    /// A text of help, or the version.
+    Text(Text),
+}
+
+const ABOUT: &str =
+    "Plans scans of Apache Iceberg tables: which data files are live, and which delete files apply to each";
+
+const LIST_EXAMPLE: &str = "Example, at the top of icescan's repository:
+  icescan list-plan --dir examples/plain-java/table --prefix s3://warehouse/db/plain \\
+    s3://warehouse/db/plain/metadata/snap-5787346651261761729-1-2833c2eb-01d6-02bb-4299-f66acae4221d.avro
+
+Without any word icescan does the same as `icescan list-plan --bundle`.
+
+Exit status: 0 done, 1 the table is refused, 2 the command line or the bundle is, 3 a read or a write failed,
+5 memory ran out. A refusal is one line on standard error.";
+
+const SHOW_EXAMPLE: &str = "Example, at the top of icescan's repository:
+  icescan show --dir examples/plain-java/table --prefix s3://warehouse/db/plain \\
+    s3://warehouse/db/plain/metadata/00005-c64aaab7-8283-c18e-53ea-99e6e56da046.metadata.json
+
+Exit status: 0 done, 1 the metadata is refused, 2 the command line or the bundle is, 3 a read or a write failed,
+5 memory ran out. A refusal is one line on standard error.";
+
+/// The options that say where files come from: just one of the two ways has to be taken.
+fn with_source<'a>(alloc: Global, command: Command<'a>) -> Result<Command<'a>, AllocError> {
+    let bundle = Arg::new(alloc, "bundle")
+        .long("bundle")
+        .action(ArgAction::SetTrue)
+        .help(
+            "Read the files from standard input: a line each, its path, a space and its bytes in hexadecimal",
+        );
+    let dir = Arg::new(alloc, "dir")
+        .long("dir")
+        .value_name("DIR")
+        .value_parser(ValueParser::NonEmptyString)
+        .requires_arg("prefix")?
+        .help("Read the files below this folder");
+    let prefix = Arg::new(alloc, "prefix")
+        .long("prefix")
+        .value_name("TEXT")
+        .requires_arg("dir")?
+        .help(
+            "The front of the table's paths that the folder stands for: PREFIX/a is the file DIR/a",
+        );
+    let ways = ArgGroup::new(alloc, "files")
+        .arg("bundle")?
+        .arg("dir")?
+        .required(true);
+    command.arg(bundle)?.arg(dir)?.arg(prefix)?.group(ways)
+}
+
+/// The command `list-plan`.
+fn list_plan_command<'a>(alloc: Global) -> Result<Command<'a>, AllocError> {
+    let list = Arg::new(alloc, "list")
+        .value_name("LIST")
+        .required_unless_present("bundle")?
+        .help("The path of the manifest list; without it, the bundle's first file is one");
+    let command = Command::new(alloc, "list-plan")
+        .about("Print the plan of a manifest list, of a table without partitions")
+        .after_long_help(LIST_EXAMPLE)
+        .arg(list)?;
+    with_source(alloc, command)
+}
+
+/// The command `show`.
+fn show_command<'a>(alloc: Global) -> Result<Command<'a>, AllocError> {
+    let metadata = Arg::new(alloc, "metadata")
+        .value_name("METADATA")
+        .required(true)
+        .help("The path of the table's metadata");
+    let command = Command::new(alloc, "show")
+        .about("Print what a table's metadata says: schemas, partition specs, snapshots and refs")
+        .after_long_help(SHOW_EXAMPLE)
+        .arg(metadata)?;
+    with_source(alloc, command)
+}
+
+/// All commands.
+fn program<'a>(alloc: Global) -> Result<Command<'a>, AllocError> {
+    Command::new(alloc, "icescan")
+        .no_binary_name(true)
+        .bin_name("icescan")?
+        .version("0.1.0")
+        .about(ABOUT)
+        .after_long_help(LIST_EXAMPLE)
+        .subcommand_required(true)
+        .subcommand(list_plan_command(alloc)?)?
+        .subcommand(show_command(alloc)?)
+}
+
+/// A text of its own.
+fn text_of(alloc: Global, text: &str) -> Result<Text, AllocError> {
+    Ok(Text::from_string(String::from_str(alloc, text)?))
+}
+
+/// Where the files come from.
+fn source_of(alloc: Global, matches: &ArgMatches<'_>) -> Result<Source, AllocError> {
+    let (Some(folder), Some(prefix)) = (matches.get_str("dir"), matches.get_str("prefix")) else {
+        return Ok(Source::Bundle);
+    };
+    Ok(Source::Folder(Place {
+        folder: text_of(alloc, folder)?,
+        prefix: text_of(alloc, prefix)?,
+    }))
+}
+
+/// The path of this name, where it is given.
+fn path_of(
+    alloc: Global,
+    matches: &ArgMatches<'_>,
+    name: &str,
+) -> Result<Option<Text>, AllocError> {
+    match matches.get_str(name) {
+        Some(path) => Ok(Some(text_of(alloc, path)?)),
+        None => Ok(None),
+    }
+}
+
+/// Where the manifest list is.
+fn lists_of(alloc: Global, matches: &ArgMatches<'_>) -> Result<Lists, AllocError> {
+    let list = path_of(alloc, matches, "list")?;
+    match (source_of(alloc, matches)?, list) {
+        (Source::Folder(place), Some(list)) => Ok(Lists::Folder(place, list)),
+        (_, list) => Ok(Lists::Bundle(list)),
+    }
+}
+
+/// The metadata to show; its path is required, so it is there.
+fn metadata_of(alloc: Global, matches: &ArgMatches<'_>) -> Result<Words, AllocError> {
+    let path = text_of(alloc, matches.get_str("metadata").unwrap_or(""))?;
+    Ok(Words::Show(source_of(alloc, matches)?, path))
+}
+
+/// What the words were found to ask for.
+fn asked_of(alloc: Global, matches: &ArgMatches<'_>) -> Result<Words, RunFault>
+    ensures { IfErr result IsWordsFault }
+{
+    let Some((command, matches)) = matches.subcommand() else {
+        return Ok(Words::ListPlan(Lists::Bundle(None)));
+    };
+    if command == "show" {
+        return Ok(metadata_of(alloc, matches)?);
+    }
+    Ok(Words::ListPlan(lists_of(alloc, matches)?))
+}
+
+/// The same, of matches that are not needed any more.
+fn matched(alloc: Global, matches: ArgMatches<'_>) -> Result<Words, RunFault>
+    ensures { IfErr result IsWordsFault }
+{
+    asked_of(alloc, &matches)
+}
+
+/// What is shown in place of an answer: a text that was asked for, or why the words are not understood.
+fn shown(alloc: Global, error: &Error) -> Result<Words, RunFault>
+    ensures { IfErr result IsWordsFault }
+{
+    if error.kind() == ErrorKind::OutOfMemory {
+        return Err(RunFault::Memory);
+    }
+    let Ok(text) = format!(in alloc; "{error}") else {
+        return Err(RunFault::Memory);
+    };
+    let text = Text::from_string(text);
+    if error.use_stderr() {
+        Err(RunFault::Words(text))
+    } else {
+        Ok(Words::Text(text))
+    }
+}
+
+/// What some words ask for.
+fn parse_some(alloc: Global, words: &[String]) -> Result<Words, RunFault>
+    ensures { IfErr result IsWordsFault }
+{
+    match program(alloc)?.try_get_matches_from(words) {
+        Ok(matches) => matched(alloc, matches),
+        Err(error) => shown(alloc, &error),
+    }
+}
+
+/// Whether the words are none, or `list-plan --bundle`.
+fn asks_first_list(words: &[String]) -> bool
+    ensures { result ≡ asks_first_list (map string_bytes words.now) }
+{
+    match words {
+        [] => true,
+        [command, way] => command.as_str() == "list-plan" && way.as_str() == "--bundle",
+        _ => false,
+    }
+}
+
+/// What the words ask for. No words, and `list-plan --bundle`, ask for the plan of a bundle's first file. The refusal is
+/// `Words` with the text that says why, or `Memory`.
+pub fn parse_words(alloc: Global, words: &[String]) -> Result<Words, RunFault>
+    ensures { ReadAs (map string_bytes words.now) result }
+{
+    if asks_first_list(words) {
+        return Ok(Words::ListPlan(Lists::Bundle(None)));
+    }
+    parse_some(alloc, words)
+}

@@ -1,0 +1,78 @@
+//! What words ask for.
+
+use super::{Lists, Source, Words, parse_words};
+use crate::fault::RunFault;
+use std::alloc::{AllocError, Global};
+use std::test::Fail;
+
+/// How words are read.
+fn reading(alloc: Global, words: &[&str]) -> Result<Result<Words, RunFault>, AllocError> {
+    let mut texts = Vec::new(alloc);
+    for word in words {
+        texts.push(String::from_str(alloc, word)?)?;
+    }
+    Ok(parse_words(alloc, &texts))
+}
+
+/// A name for what words ask for.
+fn kind(read: &Result<Words, RunFault>) -> &'static str {
+    match read {
+        Ok(Words::ListPlan(Lists::Bundle(None))) => "first",
+        Ok(Words::ListPlan(Lists::Bundle(Some(_)))) => "named",
+        Ok(Words::ListPlan(Lists::Folder(_, _))) => "folder",
+        Ok(Words::Show(Source::Bundle, _)) => "shown",
+        Ok(Words::Show(Source::Folder(_), _)) => "shown from a folder",
+        Ok(Words::Text(_)) => "text",
+        Err(RunFault::Words(_)) => "refused",
+        Err(_) => "memory",
+    }
+}
+
+static ASKED: [(&[&str], &str); 9] = [
+    (&[], "first"),
+    (&["list-plan", "--bundle"], "first"),
+    (&["list-plan", "--bundle", "a"], "named"),
+    (&["list-plan", "--dir", "d", "--prefix", "p", "a"], "folder"),
+    (&["list-plan", "a", "--prefix=p", "--dir=d"], "folder"),
+    (&["show", "--bundle", "a"], "shown"),
+    (
+        &["show", "a", "--dir=d", "--prefix="],
+        "shown from a folder",
+    ),
+    (&["--version"], "text"),
+    (&["list-plan", "--help"], "text"),
+];
+
+static REFUSED: [&[&str]; 13] = [
+    &["frobnicate"],
+    &["--bundle", "list-plan"],
+    &["list-plan"],
+    &["list-plan", "a"],
+    &["list-plan", "--bundle", "--bundle"],
+    &["list-plan", "--bundle", "a", "b"],
+    &["list-plan", "--bundle", "--dir", "d", "--prefix", "p"],
+    &["list-plan", "--dir", "d", "a"],
+    &["list-plan", "--prefix", "p", "a"],
+    &["list-plan", "--dir", "d", "--prefix", "p"],
+    &["list-plan", "--dir", "", "--prefix", "p", "a"],
+    &["show", "--bundle"],
+    &["show", "a"],
+];
+
+#[test]
+fn words_that_are_understood(rt: HostRuntime) -> Result<(), Fail> {
+    for (words, expected) in &ASKED {
+        let read = reading(rt.alloc(), words)?;
+        assert_eq!(rt; kind(&read), *expected);
+    }
+    Ok(())
+}
+
+#[test]
+fn words_that_are_refused(rt: HostRuntime) -> Result<(), Fail> {
+    for words in &REFUSED {
+        let read = reading(rt.alloc(), words)?;
+        assert_eq!(rt; kind(&read), "refused");
+    }
+    Ok(())
+}

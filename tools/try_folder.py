@@ -1,0 +1,102 @@
+#!/usr/bin/env python3
+"""try_folder.py PROGRAM: runs `PROGRAM list-plan` over real folders, and over words, and says what was not as it should be.
+
+The folders have segments `..`, links in a circle, a folder in a file's place, and a file that may not be read; the table of
+`examples/plain-java` is planned as well, and compared with its expected plan.
+"""
+import os
+import subprocess
+import sys
+import tempfile
+
+TOP = os.path.join(os.path.dirname(os.path.abspath(__file__)), "..", "examples", "plain-java")
+LIST = "s3://warehouse/db/plain/metadata/snap-5787346651261761729-1-2833c2eb-01d6-02bb-4299-f66acae4221d.avro"
+
+
+def as_nobody():
+    if os.geteuid() == 0:
+        os.setgroups([])
+        os.setgid(65534)
+        os.setuid(65534)
+
+
+def run(program, words):
+    done = subprocess.run([program, *words], stdin=subprocess.DEVNULL, capture_output=True, preexec_fn=as_nobody, timeout=60)
+    return done.returncode, done.stdout.decode(), done.stderr.decode()
+
+
+def make(folder):
+    os.chmod(folder, 0o755)
+    os.mkdir(os.path.join(folder, "t"))
+    os.mkdir(os.path.join(folder, "t", "s"))
+    os.symlink("b", os.path.join(folder, "t", "a"))
+    os.symlink("a", os.path.join(folder, "t", "b"))
+    for place in ["list", "t/list", "t/secret"]:
+        with open(os.path.join(folder, place), "wb") as file:
+            file.write(b"no container")
+    os.chmod(os.path.join(folder, "t", "secret"), 0)
+
+
+# a path, the status and the line
+PATHS = [
+    ("mem://t/list", 1, "N1 Avro V1 NotAvro"),
+    ("mem://t//list", 1, "N1 Avro V1 NotAvro"),
+    ("mem://t/s/../list", 3, "P2 Absent mem://t/s/../list"),
+    ("mem://t/../list", 3, "P2 Absent mem://t/../list"),
+    ("mem://t/..", 3, "P2 Absent mem://t/.."),
+    ("mem://u/list", 3, "P2 Absent mem://u/list"),
+    ("x/mem://t/list", 3, "P2 Absent x/mem://t/list"),
+    ("mem://t/none", 3, "P2 Absent mem://t/none"),
+    ("mem://t/none/list", 3, "P2 Absent mem://t/none/list"),
+    ("mem://t/s", 3, "P3 Device mem://t/s"),
+    ("mem://t", 3, "P3 Device mem://t"),
+    ("mem://t/a", 3, "P3 Device mem://t/a"),
+    ("mem://t/list/x", 3, "P3 Device mem://t/list/x"),
+    ("mem://t/secret", 3, "P3 Device mem://t/secret"),
+]
+
+# words that are refused with status 2 and a text on standard error
+REFUSED = [
+    ["frobnicate"],
+    ["list-plan"],
+    ["list-plan", "mem://t/list"],
+    ["list-plan", "--bundle", "--bundle"],
+    ["list-plan", "--bundle", "--dir", "x", "--prefix", "y"],
+    ["list-plan", "--dir", "x", "mem://t/list"],
+    ["list-plan", "--prefix", "y", "mem://t/list"],
+    ["list-plan", "--dir", "x", "--prefix", "y"],
+    ["list-plan", "--dir", "x", "--dir", "x", "--prefix", "y", "mem://t/list"],
+]
+
+
+def main():
+    if len(sys.argv) != 2:
+        sys.exit(__doc__.split("\n", 1)[0])
+    program, wrong = os.path.abspath(sys.argv[1]), []
+    with tempfile.TemporaryDirectory() as folder:
+        make(folder)
+        way = ["--dir", os.path.join(folder, "t"), "--prefix", "mem://t"]
+        for path, status, line in PATHS:
+            got = run(program, ["list-plan", *way, path])
+            if got != (status, "", f"icescan: {line}\n"):
+                wrong.append((path, got))
+    for words in REFUSED:
+        status, out, errors = run(program, words)
+        if status != 2 or out or not errors.startswith("error: ") or "Usage: icescan" not in errors:
+            wrong.append((words, (status, out, errors)))
+    for words, start in [(["--version"], "icescan "), (["--help"], "Plans scans"), (["list-plan", "--help"], "Print the plan")]:
+        status, out, errors = run(program, words)
+        if status or errors or not out.startswith(start):
+            wrong.append((words, (status, out, errors)))
+    way = ["--dir", os.path.join(TOP, "table"), "--prefix", "s3://warehouse/db/plain"]
+    with open(os.path.join(TOP, "expected", "list-plan.txt")) as file:
+        if run(program, ["list-plan", *way, LIST]) != (0, file.read(), ""):
+            wrong.append("examples/plain-java")
+    for case in wrong:
+        print("WRONG", *case)
+    print(f"{len(PATHS) + len(REFUSED) + 4 - len(wrong)} passed, {len(wrong)} failed")
+    sys.exit(1 if wrong else 0)
+
+
+if __name__ == "__main__":
+    main()
