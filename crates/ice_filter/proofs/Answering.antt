@@ -1,7 +1,5 @@
 -- A bound filter means on a row what the filter over names means.
-use Rattle.std.proofs.Common.{◌≡◌, ℕ, ℤ, Bool, true, false, not, ◌&&◌, ◌||◌, cond, List, [], ◌∷◌, ◌++◌, length, Option, None, Some, Result, Ok, Err, refl, sym, ◌∙◌, ap, append_assoc, drop, get_or, add-one, drop-cons, arith}
-use Rattle.std.proofs.lemmas.List.{append-nil}
-use Rattle.std.proofs.Math.ListN.{drop_of_length-le}
+use Rattle.std.proofs.Common.{◌≡◌, ℕ, ℤ, Bool, true, false, not, ◌&&◌, ◌||◌, cond, List, [], ◌∷◌, Option, None, Some, Result, Ok, Err, refl, sym, ◌∙◌, ap}
 use Rattle.std.specs.List.{list_any}
 use Rattle.std.specs.Option.{option_map, option_and_then}
 use Rattle.contract_words.specs.Outcome.{◌>>=◌}
@@ -26,10 +24,10 @@ use Rattle.ice_filter.specs.declared.token.Comparison.{Comparison}
 use Rattle.ice_filter.specs.declared.token.Comparison.TheVariants as comparison
 use Rattle.ice_filter.specs.declared.parts.Part.{Part}
 use Rattle.ice_filter.specs.declared.parts.Part.TheVariants as part
-use Rattle.ice_filter.specs.Rows.{Row, is_null, equals, begins, holds, leaf_holds, row_meets}
+use Rattle.ice_filter.specs.Rows.{Row, is_null, equals, holds, leaf_holds, row_meets}
 use Rattle.ice_filter.specs.Trees.{meaning, tree_of, operands_after, operands_after_part, is_one_filter, is_filter}
 use Rattle.ice_filter.specs.Truths.{judge_part, judge_parts, top}
-use Rattle.ice_filter.specs.Binding.{cell_of, cells_of, with_cell, compared_to, among, starts, test_of, path, or_fault, may_ask, type_for, asked, bound_leaf, bound_part, bound_parts, is_so, is_literal, passes, answers, leaf_meets}
+use Rattle.ice_filter.specs.Binding.{cell_of, cells_of, with_cell, compared_to, among, starts, test_of, path, or_fault, may_ask, asked, bound_leaf, bound_part, bound_parts, is_so, is_literal, passes, answers, leaf_meets}
 use Rattle.ice_filter.proofs.Stacks.{judged_tree}
 
 -- ---- a leaf

@@ -1,11 +1,8 @@
 -- What is in the grammar is read: the tokens of a filter lead to it.
-use Rattle.std.proofs.Common.{◌≡◌, ℕ, suc, ◌+◌, ◌-◌, ◌<◌, ◌≤◌, Bool, true, false, cond, nat_lt, List, [], ◌∷◌, ◌++◌, length, map, flat_map, Option, None, Some, Result, Ok, Err, refl, sym, ◌∙◌, ap, append_assoc, arith, rules}
+use Rattle.std.proofs.Common.{◌≡◌, ℕ, ◌+◌, ◌-◌, ◌<◌, ◌≤◌, Bool, true, false, nat_lt, List, [], ◌∷◌, ◌++◌, length, flat_map, Some, Ok, refl, append_assoc, arith, rules}
 use Rattle.std.proofs.lemmas.List.{append-nil, length-append}
-use Rattle.ice_filter.specs.declared.fault.FilterFault.{FilterFault}
-use Rattle.ice_filter.specs.declared.fault.FilterFault.TheVariants.{TooBig}
 use Rattle.ice_filter.specs.declared.token.Token.{Token}
 use Rattle.ice_filter.specs.declared.token.Token.TheVariants as token
-use Rattle.ice_filter.specs.declared.token.Comparison.{Comparison}
 use Rattle.ice_filter.specs.declared.leaf.Leaf.{Leaf}
 use Rattle.ice_filter.specs.declared.leaf.Column.{Column}
 use Rattle.ice_filter.specs.declared.leaf.Choices.{Choices}
@@ -15,13 +12,11 @@ use Rattle.ice_filter.specs.declared.leaf.Question.{Question}
 use Rattle.ice_filter.specs.declared.leaf.Question.TheVariants as question
 use Rattle.ice_filter.specs.declared.leaf.Partial.{Partial}
 use Rattle.ice_filter.specs.declared.leaf.Partial.TheVariants as partial
-use Rattle.ice_filter.specs.declared.leaf.Progress.TheVariants as progress
 use Rattle.ice_filter.specs.declared.parser.Pending.{Pending}
 use Rattle.ice_filter.specs.declared.parser.Place.TheVariants.{Wants, After, Inside}
-use Rattle.ice_filter.specs.Grammar.{Written, truth, leaf, group, both, either, Limits, Level, unit, conj, filter, Stands, Says, tokens_in, leaf_tokens, column_tokens, question_tokens, choices_tokens, literal_token, in_tokens, dotted, listed, leaves_in, IsShort, IsShallow, IsWithin}
-use Rattle.contract_words.specs.Outcome.{◌>>=◌}
-use Rattle.ice_filter.specs.Rebuilding.{Reading, top, below, put}
-use Rattle.ice_filter.specs.Parsing.{State, literal_of, behind_column, behind_dot, compared, behind_not, behind_in, chosen, behind_listed, chosen_too, behind_is, behind_is_not, behind_starts, begun, leaf_step, joined, joined_and, opened, began, held, anded, ored, at_unit, closed, after_unit, moved, step, step_at, ended, finish, outcome, start, none}
+use Rattle.ice_filter.specs.Grammar.{Written, truth, leaf, group, both, either, Limits, Level, unit, conj, filter, Stands, tokens_in, leaf_tokens, question_tokens, literal_token, in_tokens, dotted, listed, leaves_in, IsShort, IsShallow, IsWithin}
+use Rattle.ice_filter.specs.Rebuilding.{Reading, put}
+use Rattle.ice_filter.specs.Parsing.{literal_of, behind_column, behind_dot, compared, behind_not, behind_in, chosen, behind_listed, chosen_too, behind_is, behind_is_not, behind_starts, begun, leaf_step, joined, joined_and, opened, began, held, anded, ored, at_unit, closed, after_unit, moved, step, step_at, ended, finish, start, none}
 
 -- The tokens of a text without their offsets, as a list of tokens with any offsets. Walking goes through them.
 abbrev pub Walks : Limits → Reading → List Token → Reading → Type 0

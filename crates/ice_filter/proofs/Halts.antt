@@ -1,6 +1,6 @@
 -- What reading gives in the words of the grammar: a filter, or where the tokens stop being one.
-use Rattle.std.proofs.Common.{◌≡◌, ◌≢◌, ℕ, suc, ◌+◌, ◌-◌, ◌<◌, ◌≤◌, Bool, true, false, cond, nat_lt, List, [], ◌∷◌, ◌++◌, length, map, Option, None, Some, Result, Ok, Err, inl, inr, ◌⊎◌, refl, sym, ◌∙◌, ap, append_assoc, arith, rules}
-use Rattle.std.proofs.lemmas.List.{append-nil, length-append}
+use Rattle.std.proofs.Common.{◌≡◌, ◌≢◌, ℕ, ◌+◌, ◌-◌, ◌<◌, ◌≤◌, Bool, true, false, nat_lt, List, [], ◌∷◌, ◌++◌, length, Result, Ok, Err, inl, inr, refl, sym, ◌∙◌, ap, append_assoc, arith, rules}
+use Rattle.std.proofs.lemmas.List.{append-nil}
 use Rattle.contract_words.specs.Outcome.{◌>>=◌}
 use Rattle.ice_filter.specs.declared.fault.FilterFault.{FilterFault}
 use Rattle.ice_filter.specs.declared.fault.FilterFault.TheVariants.{Syntax, TooBig}
@@ -18,13 +18,13 @@ use Rattle.ice_filter.specs.declared.leaf.Partial.TheVariants as partial
 use Rattle.ice_filter.specs.declared.parser.Pending.{Pending}
 use Rattle.ice_filter.specs.declared.parser.Place.{Place}
 use Rattle.ice_filter.specs.declared.parser.Place.TheVariants.{Wants, After, Inside}
-use Rattle.ice_filter.specs.Grammar.{Written, truth, leaf, group, both, either, filter, Stands, Says, tokens_in, choices_tokens, literal_token, in_tokens, column_tokens, leaves_in, IsShort, IsShallow, IsWithin, Limits, Begins, BeginsWithin, IsInLimits, IsMisplaced, EndsEarly, PassesLimit, Reads, words}
+use Rattle.ice_filter.specs.Grammar.{Written, truth, leaf, group, both, either, Says, leaves_in, IsShort, IsShallow, IsWithin, Limits, Begins, BeginsWithin, IsInLimits, EndsEarly, Reads, words}
 use Rattle.ice_filter.specs.Parsing.{State, literal_of, behind_column, behind_dot, compared, behind_not, behind_in, chosen, behind_listed, chosen_too, behind_is, behind_is_not, behind_starts, begun, leaf_step, joined, joined_and, opened, began, held, at_unit, closed, after_unit, moved, step, step_at, ended, finish, outcome, start, none}
 use Rattle.ice_filter.specs.Parsing as parsing
-use Rattle.ice_filter.specs.Rebuilding.{Reading, top, below, put, partial_tokens, read_tokens, place_tokens, fronts, IsShortSoFar, Placed, leaves_of, Good}
-use Rattle.ice_filter.proofs.Complete.{Walks, Behind, ends, join, filter_walk, filter_ends}
+use Rattle.ice_filter.specs.Rebuilding.{Reading, top, put, read_tokens, place_tokens, Placed, leaves_of, Good}
+use Rattle.ice_filter.proofs.Complete.{Walks, Behind, ends, join, filter_walk}
 use Rattle.ice_filter.proofs.Sound.{StepAdds, step_adds, starts_good, finish_says}
-use Rattle.ice_filter.proofs.Steps.{IsUp, IsMore, Told, IsListWithin, IsPlaceWithin, step_told}
+use Rattle.ice_filter.proofs.Steps.{IsUp, IsMore, Told, IsPlaceWithin, step_told}
 
 -- ---- walks
 

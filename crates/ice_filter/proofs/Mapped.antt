@@ -1,9 +1,9 @@
 -- Filters over other leaves, and filters read from their parts.
-use Rattle.std.proofs.Common.{◌≡◌, ℕ, ◌+◌, Bool, true, false, List, [], ◌∷◌, ◌++◌, Option, None, Some, map, refl, ap, sym, ◌∙◌}
+use Rattle.std.proofs.Common.{◌≡◌, ℕ, Bool, true, false, List, [], ◌∷◌, ◌++◌, Option, None, Some, refl, ap, sym, ◌∙◌}
 use Rattle.std.specs.Option.{option_and_then}
 use Rattle.ice_filter.specs.declared.parts.Part.{Part}
 use Rattle.ice_filter.specs.declared.parts.Part.TheVariants.{True, False, Leaf, And, Or}
-use Rattle.ice_filter.specs.Trees.{Tree, truth, leaf, both, either, meaning, parts_of, truth_part, read_part, read_parts, top, tree_of, map_part, map_leaves, operands_after_part, operands_after, is_one_filter, is_filter}
+use Rattle.ice_filter.specs.Trees.{Tree, truth, leaf, both, either, meaning, parts_of, read_part, read_parts, top, tree_of, map_part, map_leaves, operands_after_part, operands_after, is_one_filter, is_filter}
 use Rattle.ice_filter.specs.Truths.{judge_part, judge_parts, top as top_truth}
 use Rattle.ice_filter.proofs.Stacks.{judged_tree}
 

@@ -1,5 +1,5 @@
 -- The stack of texts stands for the stack of filters.
-use Rattle.std.proofs.Common.{◌≡◌, ℕ, suc, ◌+◌, ◌<◌, Bool, true, false, List, [], ◌∷◌, ◌++◌, length, get_or, map, refl, ap, ◌∙◌, ◌≢◌, ◌==◌, append_assoc, Result, Ok, Err, OnOk, arith}
+use Rattle.std.proofs.Common.{◌≡◌, ℕ, suc, ◌<◌, Bool, true, false, List, [], ◌∷◌, ◌++◌, length, get_or, map, refl, ap, ◌∙◌, ◌≢◌, ◌==◌, append_assoc, Result, Ok, Err, OnOk, arith}
 use Rattle.std.proofs.lemmas.Bool.{eq-eqb, eqb-true}
 use Rattle.ice_filter.specs.declared.leaf.Leaf.{Leaf}
 use Rattle.ice_filter.specs.declared.parts.Part as parts
@@ -8,7 +8,7 @@ use Rattle.ice_filter.specs.declared.parts.Part.TheVariants as part
 use Rattle.ice_filter.specs.declared.text.Piece.{Piece}
 use Rattle.ice_filter.specs.Pieces.{put, put_all, top, rest}
 use Rattle.ice_filter.specs.Texts.{shown, is_either, is_operator, doubled}
-use Rattle.ice_filter.specs.Trees.{Tree, either, read_part, read_parts, tree_of, top as top_tree, rest as rest_trees}
+use Rattle.ice_filter.specs.Trees.{Tree, read_part, read_parts, tree_of, top as top_tree, rest as rest_trees}
 
 abbrev pub piece_of : Tree Leaf → Piece
 piece_of t = record { text = shown t; either = is_either t; operator = is_operator t }

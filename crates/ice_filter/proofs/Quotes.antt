@@ -1,5 +1,5 @@
 -- Reading between quotes, as the loops do.
-use Rattle.std.proofs.Common.{◌≡◌, ℕ, ◌+◌, ◌*◌, ◌≤◌, ◌==◌, Bool, true, false, List, [], ◌∷◌, ◌++◌, length, get_or, drop, refl, arith}
+use Rattle.std.proofs.Common.{◌≡◌, ℕ, ◌+◌, ◌*◌, ◌≤◌, ◌==◌, true, false, List, [], ◌∷◌, ◌++◌, length, get_or, drop, refl, arith}
 use Rattle.ice_filter.specs.Lexing.{quoted_from, hex_from, is_hex, nibble}
 
 pub plain_on : (q n : ℕ) (text rest : List ℕ) → 2 ≤ length rest → (get_or rest 0 0 == q) ≡ false → quoted_from q text n rest ≡ quoted_from q (text ++ get_or rest 0 0 ∷ []) (n + 1) (drop 1 rest)

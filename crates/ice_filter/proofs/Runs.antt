@@ -1,5 +1,5 @@
 -- How many bytes pass a test.
-use Rattle.std.proofs.Common.{◌≡◌, ℕ, ◌+◌, ◌<◌, ◌≤◌, Bool, true, false, List, [], ◌∷◌, refl, arith, cond, length, get_or}
+use Rattle.std.proofs.Common.{◌≡◌, ℕ, ◌+◌, ◌<◌, ◌≤◌, Bool, true, false, List, [], ◌∷◌, arith, cond, length, get_or}
 use Rattle.ice_filter.specs.Lexing.{run_from}
 
 chosen : (n m : ℕ) (t : Bool) → n + 1 ≤ m → n ≤ cond t m n

@@ -1,9 +1,9 @@
 -- What is read as parts is what is read as written filters, without their parentheses; and the parts are those of a filter.
-use Rattle.std.proofs.Common.{◌≡◌, ℕ, zero, suc, ◌+◌, ◌*◌, ◌<◌, ◌≤◌, Bool, true, false, cond, nat_lt, List, [], ◌∷◌, ◌++◌, length, map, Option, None, Some, Result, Ok, Err, refl, sym, ◌∙◌, ap, arith, rules}
+use Rattle.std.proofs.Common.{◌≡◌, ℕ, suc, ◌+◌, ◌*◌, ◌<◌, ◌≤◌, Bool, true, false, cond, nat_lt, List, [], ◌∷◌, ◌++◌, length, map, Option, None, Some, Result, Ok, Err, refl, sym, ◌∙◌, ap, arith, rules}
 use Rattle.std.specs.Option.{option_and_then}
 use Rattle.contract_words.specs.Outcome.{◌>>=◌}
 use Rattle.ice_filter.specs.declared.fault.FilterFault.{FilterFault}
-use Rattle.ice_filter.specs.declared.fault.FilterFault.TheVariants.{Syntax, TooBig}
+use Rattle.ice_filter.specs.declared.fault.FilterFault.TheVariants.{TooBig}
 use Rattle.ice_filter.specs.declared.token.Token.{Token}
 use Rattle.ice_filter.specs.declared.token.Token.TheVariants as token
 use Rattle.ice_filter.specs.declared.leaf.Leaf.{Leaf}
@@ -13,7 +13,7 @@ use Rattle.ice_filter.specs.declared.parts.Part.TheVariants as part
 use Rattle.ice_filter.specs.declared.parser.Pending.{Pending}
 use Rattle.ice_filter.specs.declared.parser.Place.{Place}
 use Rattle.ice_filter.specs.declared.parser.Place.TheVariants.{Wants, After, Inside}
-use Rattle.ice_filter.specs.Grammar.{Written, Limits, limits, bare, words, IsWithin, Says, Reads}
+use Rattle.ice_filter.specs.Grammar.{Written, Limits, limits, bare, Reads}
 use Rattle.ice_filter.specs.Trees.{Tree, read_part, read_parts, tree_of, operands_after, operands_after_part, operands_after_operand, operands_after_operator, is_filter, most_operands}
 use Rattle.ice_filter.specs.Trees as trees
 use Rattle.ice_filter.specs.Lexing.{tokens_of}

@@ -1,27 +1,24 @@
 -- What is read from left to right is in the grammar: each token is the next one of what was read.
-use Rattle.std.proofs.Common.{◌≡◌, ℕ, ◌+◌, ◌-◌, ◌<◌, ◌≤◌, Bool, true, false, cond, nat_lt, List, [], ◌∷◌, ◌++◌, length, map, flat_map, Option, None, Some, Result, Ok, Err, inl, inr, ◌⊎◌, refl, sym, ◌∙◌, ap, append_assoc, arith, rules}
+use Rattle.std.proofs.Common.{◌≡◌, ℕ, ◌+◌, ◌-◌, ◌<◌, ◌≤◌, Bool, true, false, cond, nat_lt, List, [], ◌∷◌, ◌++◌, length, flat_map, Option, None, Some, Result, Ok, Err, refl, sym, ◌∙◌, ap, append_assoc, arith, rules}
 use Rattle.std.proofs.lemmas.Grind.{flat_map-append}
 use Rattle.std.proofs.lemmas.List.{append-nil, length-append}
 use Rattle.ice_filter.specs.declared.fault.FilterFault.{FilterFault}
-use Rattle.ice_filter.specs.declared.fault.FilterFault.TheVariants.{Syntax, TooBig}
+use Rattle.ice_filter.specs.declared.fault.FilterFault.TheVariants.{TooBig}
 use Rattle.ice_filter.specs.declared.token.Token.{Token}
 use Rattle.ice_filter.specs.declared.token.Token.TheVariants as token
 use Rattle.ice_filter.specs.declared.token.Comparison.{Comparison}
-use Rattle.ice_filter.specs.declared.leaf.Leaf.{Leaf}
 use Rattle.ice_filter.specs.declared.leaf.Column.{Column}
 use Rattle.ice_filter.specs.declared.leaf.Choices.{Choices}
 use Rattle.ice_filter.specs.declared.leaf.Literal.{Literal}
 use Rattle.ice_filter.specs.declared.leaf.Literal.TheVariants as literal
 use Rattle.ice_filter.specs.declared.leaf.Partial.{Partial}
 use Rattle.ice_filter.specs.declared.leaf.Partial.TheVariants as partial
-use Rattle.ice_filter.specs.declared.leaf.Progress.{Progress}
 use Rattle.ice_filter.specs.declared.leaf.Progress.TheVariants as progress
 use Rattle.ice_filter.specs.declared.parser.Pending.{Pending}
 use Rattle.ice_filter.specs.declared.parser.Place.{Place}
 use Rattle.ice_filter.specs.declared.parser.Place.TheVariants.{Wants, After, Inside}
-use Rattle.ice_filter.specs.Grammar.{Written, truth, leaf, group, both, either, Limits, Level, unit, conj, filter, Stands, IsShort, IsShallow, IsWithin, leaves_in, tokens_in, leaf_tokens, column_tokens, choices_tokens, literal_token, in_tokens, dotted, listed, Says}
-use Rattle.contract_words.specs.Outcome.{◌>>=◌}
-use Rattle.ice_filter.specs.Rebuilding.{Reading, top, below, put, partial_tokens, past, rest, operand, front, outside, fronts, read_tokens, place_tokens, Fits, OperandFits, OperandsFit, AroundFits, FrontsFit, IsShortSoFar, HasTop, Placed, leaves_at, leaves_of, Good}
+use Rattle.ice_filter.specs.Grammar.{Written, truth, leaf, group, both, either, Limits, Level, unit, conj, filter, IsShort, IsWithin, leaves_in, tokens_in, leaf_tokens, column_tokens, choices_tokens, literal_token, in_tokens, dotted, listed, Says}
+use Rattle.ice_filter.specs.Rebuilding.{Reading, top, below, put, partial_tokens, past, rest, operand, front, outside, fronts, read_tokens, place_tokens, Fits, FrontsFit, IsShortSoFar, HasTop, Placed, leaves_at, leaves_of, Good}
 use Rattle.ice_filter.specs.Parsing.{State, Read, literal_of, behind_column, behind_dot, compared, behind_not, behind_in, chosen, behind_listed, chosen_too, behind_is, behind_is_not, behind_starts, begun, leaf_step, joined, joined_and, opened, began, held, anded, ored, at_unit, closed, after_unit, moved, step, step_at, ended, finish, outcome, start, none, Act}
 use Rattle.ice_filter.specs.Parsing as parsing
 

@@ -1,9 +1,9 @@
 -- The stack of truth values stands for the stack of filters.
-use Rattle.std.proofs.Common.{◌≡◌, ℕ, zero, suc, ◌+◌, ◌<◌, ◌≤◌, Bool, true, false, ◌&&◌, ◌||◌, List, [], ◌∷◌, Option, None, Some, length, map, get_or, set, refl, ap, arith, rules, sym, ◌∙◌, is_some}
+use Rattle.std.proofs.Common.{◌≡◌, ℕ, zero, suc, ◌+◌, ◌<◌, ◌≤◌, Bool, false, List, [], ◌∷◌, length, map, set, refl, ap, arith, ◌∙◌}
 use Rattle.std.proofs.lemmas.List.{get_or-set_same, get_or-set_other}
 use Rattle.ice_filter.specs.declared.parts.Part.{Part}
 use Rattle.ice_filter.specs.declared.parts.Part.TheVariants.{True, False, Leaf, And, Or}
-use Rattle.ice_filter.specs.Trees.{Tree, truth, leaf, both, either, meaning, top, rest, read_part, read_parts, tree_of, operands_after_part, operands_after, is_one_filter}
+use Rattle.ice_filter.specs.Trees.{Tree, meaning, top, rest, read_part, read_parts, tree_of}
 use Rattle.ice_filter.specs.Truths.{last_of, judge_part, judge_parts, top as top_truth, rest as rest_truths}
 
 pub last_of_length : (n : ℕ) (held : List Bool) → length (last_of n held) ≡ n

@@ -1,13 +1,12 @@
 -- One token after the other, as the loop takes them.
-use Rattle.std.proofs.Common.{◌≡◌, ℕ, zero, suc, ◌+◌, ◌-◌, ◌<◌, ◌≤◌, Bool, true, false, cond, List, [], ◌∷◌, length, get_or, drop, Result, Ok, Err, refl, sym, ◌∙◌, ap, add-one, drop-cons, drop-drop, arith}
+use Rattle.std.proofs.Common.{◌≡◌, ℕ, zero, suc, ◌+◌, ◌-◌, ◌<◌, ◌≤◌, true, false, List, [], ◌∷◌, length, get_or, drop, Ok, Err, refl, ◌∙◌, ap, add-one, drop-cons, drop-drop, arith}
 use Rattle.std.proofs.Math.ListN.{drop_of_length-le}
 use Rattle.std.proofs.Common.{length-drop}
 use Rattle.ice_filter.specs.declared.fault.FilterFault.{FilterFault}
-use Rattle.contract_words.specs.Outcome.{◌>>=◌}
 use Rattle.ice_filter.specs.Grammar.{Limits}
 use Rattle.ice_filter.specs.Parsing.{State, Act, step, outcome, finish}
 use Rattle.ice_filter.specs.declared.token.Token.{Token}
-use Rattle.ice_filter.specs.Lexing.{Sized, tokens_from, is_separator, front_at}
+use Rattle.ice_filter.specs.Lexing.{Sized, tokens_from, is_separator}
 use Rattle.ice_filter.specs.Reads.{IsFront}
 
 -- the bytes that belong to a token are passed

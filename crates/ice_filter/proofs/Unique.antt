@@ -1,5 +1,5 @@
 -- A text is one thing alone: one filter, or one refusal.
-use Rattle.std.proofs.Common.{◌≡◌, ℕ, ◌+◌, Bool, true, false, List, [], ◌∷◌, ◌++◌, map, Result, Ok, Err, inl, inr, ◌⊎◌, refl, sym, ◌∙◌, ap, append_assoc, arith}
+use Rattle.std.proofs.Common.{◌≡◌, ℕ, List, [], ◌∷◌, ◌++◌, Result, Ok, Err, inl, inr, ◌⊎◌, refl, sym, ◌∙◌, ap, append_assoc, arith}
 use Rattle.std.proofs.lemmas.List.{append-nil}
 use Rattle.ice_filter.specs.declared.fault.FilterFault.{FilterFault}
 use Rattle.ice_filter.specs.declared.fault.FilterFault.TheVariants.{Syntax, TooBig, NoSuchColumn, WrongLiteral, NotComparable, Memory}
@@ -7,8 +7,8 @@ use Rattle.ice_filter.specs.declared.token.Token.{Token}
 use Rattle.ice_filter.specs.declared.token.Token.TheVariants as token
 use Rattle.ice_filter.specs.declared.leaf.Leaf.{Leaf}
 use Rattle.ice_filter.specs.Trees.{Tree}
-use Rattle.ice_filter.specs.Grammar.{Written, truth, leaf, group, both, either, unit, conj, filter, Stands, Says, tokens_in, leaves_in, bare, IsWithin, Limits, limits, Begins, BeginsWithin, IsInLimits, IsMisplaced, EndsEarly, PassesLimit, Reads, words}
-use Rattle.ice_filter.specs.Parsing.{finish, start, none, IsReadAs}
+use Rattle.ice_filter.specs.Grammar.{Written, truth, leaf, group, both, either, unit, conj, filter, Stands, Says, tokens_in, leaves_in, bare, IsWithin, Limits, limits, Begins, BeginsWithin, IsInLimits, IsMisplaced, PassesLimit, Reads, words}
+use Rattle.ice_filter.specs.Parsing.{finish, start, none}
 use Rattle.ice_filter.specs.Rebuilding.{Reading, put}
 use Rattle.ice_filter.proofs.Complete.{Walks, Behind, ends, filter_walk, filter_ends}
 use Rattle.ice_filter.proofs.Steps.{IsUp}

@@ -1,7 +1,7 @@
 -- From the names of columns to their ids (Apache Iceberg table spec v2, "Schemas and Data Types": columns are known by id).
-use Rattle.std.specs.Prelude.{◌≡◌, ℕ, ℤ, ◌==◌, ◌&&◌, not, Bool, true, false, List, [], ◌∷◌, ◌++◌, length, Option, None, Some, Result, Ok, Err, if◌then◌else◌}
+use Rattle.std.specs.Prelude.{ℕ, ℤ, ◌==◌, ◌&&◌, not, Bool, true, false, List, [], ◌∷◌, length, Option, None, Some, Result, Ok, Err, if◌then◌else◌}
 use Rattle.std.specs.List.{list_any}
-use Rattle.std.specs.Option.{option_map, option_and_then}
+use Rattle.std.specs.Option.{option_map}
 use Rattle.std.specs.Ordering.{is_lt, is_le, is_gt, is_ge, is_some_and}
 use Rattle.uuid.specs.Text.{parsed as uuid_in}
 use Rattle.contract_words.specs.Outcome.{◌>>=◌}
@@ -29,7 +29,7 @@ use Rattle.ice_filter.specs.declared.token.Comparison.{Comparison}
 use Rattle.ice_filter.specs.declared.token.Comparison.TheVariants as comparison
 use Rattle.ice_filter.specs.declared.parts.Part.{Part}
 use Rattle.ice_filter.specs.declared.parts.Part.TheVariants as part
-use Rattle.ice_filter.specs.Rows.{Row, is_null, equals, begins, holds, leaf_holds}
+use Rattle.ice_filter.specs.Rows.{Row, is_null, equals, begins}
 
 -- ---- what a column takes
 

@@ -1,10 +1,10 @@
 -- A file whose counts and bounds are those of its rows isn't left out where a row meets.
-use Rattle.std.proofs.Common.{◌≡◌, ℕ, zero, suc, ◌+◌, ◌<◌, ◌≤◌, ℤ, pos, Bool, true, false, not, ◌&&◌, ◌||◌, List, [], ◌∷◌, length, map, Option, None, Some, cond, refl, ap, arith, sym, ◌∙◌, ◌⊎◌, inl, inr, subst, negsuc}
-use Rattle.std.specs.List.{list_any, AllByRecursion}
-use Rattle.std.specs.Ordering.{int_eq, is_lt, is_le, is_gt, is_ge}
+use Rattle.std.proofs.Common.{◌≡◌, ℕ, suc, ◌+◌, ◌<◌, ◌≤◌, ℤ, pos, Bool, true, false, not, ◌&&◌, List, [], ◌∷◌, length, map, Option, None, Some, cond, refl, ap, arith, sym, ◌∙◌, ◌⊎◌, inl, inr, subst, negsuc}
+use Rattle.std.specs.List.{AllByRecursion}
+use Rattle.std.specs.Ordering.{is_lt, is_le, is_gt, is_ge}
 use Rattle.std.proofs.lemmas.Bool.{and_parts}
 use Rattle.std.proofs.lemmas.Bool.Decides.{Decides-int_eq}
-use Rattle.ice_value.specs.Columns.{count_of, bound_of}
+use Rattle.ice_value.specs.Columns.{count_of}
 use Rattle.ice_value.specs.declared.cell.Cell.{Cell}
 use Rattle.ice_value.specs.declared.cell.Cell.TheVariants.{Null, Bool as Flag, Whole, Text, Bytes}
 use Rattle.ice_value.specs.declared.file_bounds.FileBounds.{FileBounds}

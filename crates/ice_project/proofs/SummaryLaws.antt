@@ -1,5 +1,5 @@
 -- A manifest whose summaries are those of its tuples isn't left out where a tuple meets.
-use Rattle.std.proofs.Common.{◌≡◌, ℕ, zero, suc, ◌+◌, ◌==◌, Bool, true, false, ◌&&◌, List, [], ◌∷◌, length, Option, None, Some, cond, refl, ap, arith, sym, ◌∙◌, slice_get}
+use Rattle.std.proofs.Common.{◌≡◌, ℕ, suc, ◌+◌, ◌==◌, Bool, true, false, List, [], ◌∷◌, length, Option, None, Some, cond, refl, ap, arith, sym, ◌∙◌, slice_get}
 use Rattle.std.specs.Option.{option_map, option_and_then}
 use Rattle.std.specs.Ordering.{int_eq}
 use Rattle.std.proofs.lemmas.Bool.{and_parts}
@@ -12,7 +12,7 @@ use Rattle.ice_transform.specs.Values.{type_of}
 use Rattle.ice_transform.specs.declared.transform.Transform.{Transform}
 use Rattle.ice_meta.specs.declared.spec.Spec.{Spec}
 use Rattle.ice_filter.specs.declared.bound.Test.{Test}
-use Rattle.ice_filter.specs.declared.bound.Test.TheVariants.{Less, AtMost, More, AtLeast, Among, NotAmong, IsNull, IsPresent, StartsWith}
+use Rattle.ice_filter.specs.declared.bound.Test.TheVariants.{IsNull}
 use Rattle.ice_filter.specs.declared.bound.BoundLeaf.{BoundLeaf}
 use Rattle.ice_filter.specs.declared.parts.Part.{Part}
 use Rattle.ice_filter.specs.Rows.{is_null}

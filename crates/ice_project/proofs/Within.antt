@@ -1,10 +1,10 @@
 -- The bounds of a value don't exclude a test that it meets.
-use Rattle.std.proofs.Common.{◌≡◌, ℕ, ℤ, Bool, true, false, not, ◌&&◌, ◌||◌, List, [], ◌∷◌, Option, None, Some, cond, refl, ap, sym, ◌∙◌, nat_eq, ◌⊎◌, inl, inr}
-use Rattle.std.specs.List.{list_any, list_all, starts_with}
-use Rattle.std.specs.Option.{option_map, option_and_then}
+use Rattle.std.proofs.Common.{◌≡◌, ℕ, ℤ, Bool, true, false, not, ◌&&◌, ◌||◌, List, [], ◌∷◌, Option, None, Some, refl, ap, sym, ◌∙◌, nat_eq, ◌⊎◌, inl, inr}
+use Rattle.std.specs.List.{list_any, starts_with}
+use Rattle.std.specs.Option.{option_map}
 use Rattle.std.specs.declared.cmp.Ordering.{Ordering}
 use Rattle.std.specs.declared.cmp.Ordering.TheVariants.{Less as Below, Equal, Greater}
-use Rattle.std.specs.Ordering.{is_lt, is_le, is_gt, is_ge, is_eq, is_ne, is_some_and, nat_cmp, ordering_reverse}
+use Rattle.std.specs.Ordering.{is_lt, is_le, is_gt, is_ge, is_eq, is_some_and, nat_cmp, ordering_reverse}
 use Rattle.std.specs.Cmp.Lexicographic.{slice_cmp}
 use Rattle.ice_value.specs.Cells.{order, is_at_most, AreOfOneKind}
 use Rattle.ice_value.specs.declared.cell.Cell.{Cell}
@@ -13,7 +13,7 @@ use Rattle.ice_filter.specs.declared.bound.Test.{Test}
 use Rattle.ice_filter.specs.declared.bound.Test.TheVariants.{Less, AtMost, More, AtLeast, Among, NotAmong, IsNull, IsPresent, StartsWith}
 use Rattle.ice_filter.specs.Rows.{is_null}
 use Rattle.ice_project.specs.Tuples.{passes, may, may_present, may_begin}
-use Rattle.ice_project.specs.Limits.{limit_is, text_of, text_is, text_begins, is_within, may_begin_within, in_bounds, LiesIn}
+use Rattle.ice_project.specs.Limits.{limit_is, text_of, text_is, text_begins, is_within, in_bounds, LiesIn}
 use Rattle.ice_project.proofs.Begins.{begins_above, between}
 use Rattle.ice_project.proofs.Lines.{or_left, or_right}
 use Rattle.ice_project.proofs.Orders.{Ordered, at_most_turned, some_passes}

@@ -1,6 +1,6 @@
 -- What the summaries of a manifest say of a filter over partition values (Apache Iceberg table spec v2, "Manifest Lists":
 -- a field summary for each field of the spec).
-use Rattle.std.specs.Prelude.{◌≡◌, ℕ, Bool, true, false, ◌==◌, List, [], ◌∷◌, length, Option, None, Some, if◌then◌else◌}
+use Rattle.std.specs.Prelude.{◌≡◌, Bool, true, false, ◌==◌, List, [], ◌∷◌, length, Option, None, Some, if◌then◌else◌}
 use Rattle.std.specs.List.{list_all, slice_get}
 use Rattle.std.specs.Option.{option_and_then}
 use Rattle.ice_value.specs.declared.column_type.ColumnType.{ColumnType}

@@ -1,4 +1,4 @@
-use Rattle.std.proofs.Common.{◌≡◌, ◌∷◌, ◌++◌, take}
+use Rattle.std.proofs.Common.{◌≡◌, ◌∷◌, take}
 use Rattle.ice_filter.proofs.binding.path_of.Given as goal
 
 abbrev pub invariant-names : goal.invariant-names

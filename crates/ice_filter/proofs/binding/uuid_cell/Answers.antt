@@ -1,4 +1,4 @@
-use Rattle.std.proofs.Common.{◌≡◌, ◌∙◌, ap, ℕ, Bool, true, false, List, Option, None, Some, refl}
+use Rattle.std.proofs.Common.{◌≡◌, ◌∙◌, ap, ℕ, true, false, List, Option, None, Some, refl}
 use Rattle.std.specs.Option.{option_map}
 use Rattle.uuid.specs.Text.{parsed as uuid_in}
 use Rattle.ice_value.specs.declared.cell.Cell.TheVariants.{Bytes}

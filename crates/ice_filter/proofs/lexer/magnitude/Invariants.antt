@@ -1,4 +1,4 @@
-use Rattle.std.proofs.Common.{◌≡◌, ◌+◌, ◌≤◌, length}
+use Rattle.std.proofs.Common.{◌≡◌, ◌≤◌, length}
 use Rattle.ice_filter.specs.Lexing.{magnitude_from}
 use Rattle.ice_filter.proofs.lexer.magnitude.Given as goal
 

@@ -1,4 +1,4 @@
-use Rattle.std.proofs.Common.{◌≡◌, sym, ◌∙◌, arith, rules, length-drop}
+use Rattle.std.proofs.Common.{sym, ◌∙◌, arith, rules, length-drop}
 use Rattle.ice_filter.proofs.Quotes.{plain_on, doubled_on}
 use Rattle.ice_filter.proofs.lexer.unquoted.Goals as goal
 

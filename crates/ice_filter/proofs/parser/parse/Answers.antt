@@ -1,4 +1,3 @@
-use Rattle.std.proofs.Common.{rules}
 use Rattle.ice_filter.proofs.Shapes.{text_reads, parsed_filter}
 use Rattle.ice_filter.proofs.parser.parse.Goals as goal
 

@@ -1,4 +1,4 @@
-use Rattle.std.proofs.Common.{◌≡◌, sym, ◌∙◌}
+use Rattle.std.proofs.Common.{sym, ◌∙◌}
 use Rattle.ice_project.proofs.files.bounds_may.Goals as goal
 
 pub returns-clause-sound : goal.returns-clause-sound

@@ -1,4 +1,4 @@
-use Rattle.std.proofs.Common.{◌≡◌, ap, sym, ◌∙◌}
+use Rattle.std.proofs.Common.{ap, sym, ◌∙◌}
 use Rattle.ice_project.specs.declared.part_filter.PartFilter.{PartFilter}
 use Rattle.ice_project.specs.Summaries.{summaries_may}
 use Rattle.ice_project.specs.Tuples.{part_meets}

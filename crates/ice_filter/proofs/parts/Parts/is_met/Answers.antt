@@ -1,4 +1,4 @@
-use Rattle.std.proofs.Common.{◌≡◌, [], length, drop, ap, sym, ◌∙◌}
+use Rattle.std.proofs.Common.{[], ap, sym, ◌∙◌}
 use Rattle.std.proofs.lemmas.List.{drop_all}
 use Rattle.ice_filter.specs.Truths.{judge_parts, top}
 use Rattle.ice_filter.proofs.Stacks.{judged_tree}

@@ -1,4 +1,4 @@
-use Rattle.std.proofs.Common.{◌≡◌, ◌<◌, ◌≤◌, ◌∷◌, length, ap, sym, ◌∙◌, arith}
+use Rattle.std.proofs.Common.{◌≡◌, ◌∷◌, length, ap, sym, ◌∙◌, arith}
 use Rattle.ice_filter.proofs.Stacks.{last_of_pushed, last_of_length}
 use Rattle.ice_filter.proofs.truths.Truths.push.Goals as goal
 
