@@ -1,9 +1,11 @@
 #!/usr/bin/env python3
-"""generate.py ENTRIES [PER_MANIFEST [data|deletes]]: a bundle for `icescan list-plan --bundle` on standard output.
+"""generate.py ENTRIES [PER_MANIFEST [data|deletes|both]]: a bundle for `icescan list-plan --bundle` on standard output.
 
 The bundle holds a manifest list and manifests of an unpartitioned table: so many entries in all (default
-1,000,000), PER_MANIFEST of them in a manifest (default 10,000), of data files or of equality deletes, each with the column statistics of eight columns, in
-Avro containers with codec null. The same arguments give the same bytes.
+1,000,000), PER_MANIFEST of them in a manifest (default 10,000), of data files or of equality deletes, each with the
+column statistics of eight columns, in Avro containers with codec null. With `both` each manifest of data files has a
+partition spec of its own, and beside it stands a manifest of a tenth as many position deletes of that spec, of which
+one is young enough to apply. The same arguments give the same bytes.
 """
 import json
 import sys
@@ -75,26 +77,42 @@ def statistics(index):
     return b"".join(out)
 
 
-def entry(index, content):
+def entry(index, content, sequence=None):
     path = f"s3://warehouse/events/data/part-{index:010}-0e7c2b1a.parquet".encode()
-    return b"".join([number(1), number(1), number(7), number(0), number(0), number(content), run(path), run(b"PARQUET"),
-                     number(1000), number(1 << 20), statistics(index), number(0) if content == 0 else number(1) + number(1) + number(1) + number(0)])
+    own = number(0) if sequence is None else number(1) + number(sequence)
+    ids = number(1) + number(1) + number(1) + number(0) if content == 2 else number(0)
+    return b"".join([number(1), number(1), number(7), own, number(0), number(content), run(path), run(b"PARQUET"),
+                     number(1000), number(1 << 20), statistics(index), ids])
+
+
+def row(path, spec, content):
+    return run(path.encode()) + number(0) + number(spec) + number(content) + number(3) + number(3) + number(7)
+
+
+def manifests(entries, each, kind):
+    """Path, row and objects of each manifest."""
+    for at, start in enumerate(range(0, entries, each)):
+        indexes = range(start, min(start + each, entries))
+        path = f"s3://warehouse/events/metadata/m{at:06}.avro"
+        spec = at if kind == "both" else 0
+        content = 2 if kind == "deletes" else 0
+        yield path, row(path, spec, content // 2), lambda: [entry(index, content) for index in indexes]
+        if kind == "both":
+            path = f"s3://warehouse/events/metadata/d{at:06}.avro"
+            deletes = range(0, len(indexes), 10)
+            yield path, row(path, spec, 1), lambda: [
+                entry(entries + start + at, 1, 3 if at == 0 else 2) for at in deletes]
 
 
 def main():
     entries = int(sys.argv[1]) if len(sys.argv) > 1 else 1_000_000
     each = int(sys.argv[2]) if len(sys.argv) > 2 else 10_000
-    content = 2 if sys.argv[3:] == ["deletes"] else 0
+    kind = sys.argv[3] if len(sys.argv) > 3 else "data"
     out = sys.stdout
-    rows = []
-    starts = range(0, entries, each)
-    for at, start in enumerate(starts):
-        path = f"s3://warehouse/events/metadata/m{at:06}.avro".encode()
-        rows.append(run(path) + number(0) + number(0) + number(content // 2) + number(3) + number(3) + number(7))
+    rows = [row for _, row, _ in manifests(entries, each, kind)]
     out.write("s3://warehouse/events/metadata/list.avro " + container(ROW, rows).hex() + "\n")
-    for at, start in enumerate(starts):
-        objects = [entry(index, content) for index in range(start, min(start + each, entries))]
-        out.write(f"s3://warehouse/events/metadata/m{at:06}.avro " + container(ENTRY, objects).hex() + "\n")
+    for path, _, objects in manifests(entries, each, kind):
+        out.write(f"{path} " + container(ENTRY, objects()).hex() + "\n")
 
 
 main()
