@@ -1,6 +1,6 @@
 -- When the summaries of a manifest list's rows tell the truth: Apache Iceberg table spec, version 2, "Manifest Lists"
 -- (`field_summary`). This is of the data alone, and of no filter.
-use Rattle.std.specs.Prelude.{◌≡◌, ℕ, true, List, ◌∷◌, length, map, Option, Some, None, ◌⊎◌}
+use Rattle.std.specs.Prelude.{◌≡◌, ℕ, true, List, [], ◌∷◌, length, map, Option, Some, None, ◌⊎◌}
 use Rattle.std.specs.List.{AllByRecursion}
 use Rattle.std.specs.declared.cmp.Ordering.TheVariants.{Less, Equal}
 use Rattle.ice_value.specs.declared.cell.Cell.{Cell}
@@ -51,10 +51,12 @@ abbrev pub CoversCell : Option ColumnType → Summary → Cell → Type 0
 CoversCell type summary cells.Null = summary.contains_null ≡ true
 CoversCell type summary cell = LiesWithin type summary cell
 
--- field by field
+-- Field by field: a tuple that lacks the value of a field is not covered.
 abbrev pub CoversFields : List (Option ColumnType) → List Summary → List Cell → Type 0
+CoversFields [] summaries tuple = Unit {0}
+CoversFields (type ∷ types) [] tuple = Unit {0}
+CoversFields (type ∷ types) (summary ∷ summaries) [] = ⊥
 CoversFields (type ∷ types) (summary ∷ summaries) (cell ∷ tuple) = CoversCell type summary cell × CoversFields types summaries tuple
-CoversFields _ _ _ = Unit {0}
 
 -- summaries that are absent, or not one for each field of the spec, say nothing
 abbrev pub Covers : FieldType → Spec → Option (List Summary) → List Cell → Type 0

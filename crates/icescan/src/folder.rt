@@ -28,7 +28,9 @@ pub struct Folder<'a, H> {
 
 impl<'a, H: std::rt::Files> Folder<'a, H> {
     /// The files of `host` below a folder, of the paths that begin with a prefix.
-    pub fn new(host: &'a H, folder: &'a str, prefix: &'a str) -> Self {
+    pub fn new(host: &'a H, folder: &'a str, prefix: &'a str) -> Self
+        ensures { (result.folder.now ≡ folder.now) × (result.prefix.now ≡ prefix.now) }
+    {
         Folder {
             host,
             folder,
