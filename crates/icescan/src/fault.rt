@@ -13,31 +13,43 @@ use ice_manifest::{ListFault, ManifestFault};
 use ice_meta::MetaFault;
 use ice_state::{FinishFault, ScanFault};
 use std::alloc::{AllocError, AllocFailed};
+use thiserror::Error;
 
 /// The first fault of a run.
-#[derive(Debug, Drop)]
+#[derive(Debug, Drop, Error)]
 pub enum RunFault {
     /// The words on the command line are none of the program's, for the reason that this text tells.
+    #[error("the words on the command line are not understood: {}", .0.as_str())]
     Words(Text),
     /// Standard input can't be read.
+    #[error("standard input can't be read")]
     Input,
     /// This line of the bundle, counted from 1, is no path and bytes, or has a path that an earlier line has.
+    #[error("line {0} of the bundle is no path with bytes in hexadecimal, or has a path that an earlier line has")]
     Bundle(u64),
     /// There is no file at this path.
+    #[error("there is no file at {}", .0.as_str())]
     Absent(Text),
     /// The file at this path can't be read.
+    #[error("the file at {} can't be read", .0.as_str())]
     Device(Text),
     /// The manifest list is refused.
+    #[error("the manifest list is refused: {0:?}")]
     List(ListFault),
     /// There is no scan of the list's rows.
+    #[error("there is no scan of the list's rows: {0:?}")]
     Scan(ScanFault),
     /// There is no plan.
+    #[error("there is no plan: {0:?}")]
     Finish(FinishFault),
     /// The table's metadata is refused.
+    #[error("the table's metadata is refused: {0:?}")]
     Metadata(MetaFault),
     /// What is asked for can't be written.
+    #[error("what is asked for can't be written")]
     Write,
     /// A growth was refused.
+    #[error("memory ran out")]
     Memory,
 }
 

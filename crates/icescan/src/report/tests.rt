@@ -264,3 +264,27 @@ fn lines_with_names(rt: HostRuntime) -> Result<(), Fail> {
     }
     Ok(())
 }
+
+#[test]
+fn sentences_of_faults(rt: HostRuntime) -> Result<(), Fail> {
+    let alloc = rt.alloc();
+    let rows = [
+        (RunFault::Memory, "memory ran out"),
+        (RunFault::Input, "standard input can't be read"),
+        (
+            RunFault::Absent(text(alloc, "mem://t/m2")?),
+            "there is no file at mem://t/m2",
+        ),
+        (
+            of_list(ListFault::MissingField(500)),
+            "the manifest list is refused: MissingField(500)",
+        ),
+    ];
+    for (fault, sentence) in &rows {
+        assert!(rt;
+            format!(in alloc; "{fault}")?.as_str() == *sentence,
+            "{sentence}"
+        );
+    }
+    Ok(())
+}
