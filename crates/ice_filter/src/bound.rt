@@ -1,6 +1,6 @@
 //! Filters whose leaves name columns by id.
 
-ghost use Rattle.std.specs.Prelude.{◌≡◌, true};
+ghost use Rattle.std.specs.Prelude.{◌≡◌, [], true};
 ghost use Rattle.ice_filter.specs.Rows.{Row, row_meets};
 
 use crate::parts::Parts;
@@ -66,9 +66,10 @@ pub struct Bound {
 }
 
 impl Bound {
-    /// The filter that every row meets. It takes no memory.
+    /// The filter that every row meets: it has no parts. It takes no memory.
     pub fn always(alloc: Global) -> Bound
-        ensures { (row : Row) → row_meets result.parts row ≡ true }
+        ensures parts { result.parts ≡ [] }
+        ensures met { (row : Row) → row_meets result.parts row ≡ true }
     {
         Bound {
             parts: Parts::always(alloc),

@@ -14,7 +14,7 @@ mod tests;
 mod tuples;
 
 pub use files::bounds_may;
-pub use laws::{projections_of_same_tuples, projections_of_unpartitioned_specs};
+pub use laws::{projections_of_same_tuples, projections_of_unpartitioned_specs, summary_soundness};
 pub use part_filter::{FieldTest, PartFilter};
 pub use projection::project;
 pub use summaries::summary_may;

@@ -8,6 +8,11 @@ use Rattle.ice_value.specs.declared.file_content.FileContent.{FileContent}
 use Rattle.ice_value.specs.declared.file_content.FileContent.TheVariants.{Data, PositionDeletes, EqualityDeletes}
 use Rattle.ice_value.specs.Applying.{FileKey, applies as key_applies}
 use Rattle.ice_deletes.specs.Found.{holds as key_holds, numbers_where}
+use Rattle.ice_filter.specs.declared.bound.BoundLeaf.{BoundLeaf}
+use Rattle.ice_filter.specs.declared.parts.Part.{Part}
+use Rattle.ice_project.specs.Files.{file_may}
+use Rattle.ice_project.specs.Projection.{projection}
+use Rattle.ice_project.specs.Tuples.{part_meets}
 use Rattle.ice_manifest.specs.declared.fault.ManifestFault.{ManifestFault}
 use Rattle.ice_manifest.specs.declared.row.Row.{Row}
 use Rattle.ice_manifest.specs.Manifests.{live_of}
@@ -19,7 +24,7 @@ use Rattle.ice_state.specs.declared.lines.Places.{Places}
 use Rattle.ice_state.specs.declared.reading.Reading.{Reading}
 use Rattle.ice_state.specs.declared.reading.Reading.TheVariants.{Good, Bad}
 use Rattle.ice_state.specs.Contents.{Content, or_else, reading}
-use Rattle.ice_state.specs.Pruning.{Pruner, holds}
+use Rattle.ice_state.specs.Pruning.{Pruner, holds, summaries_allow}
 use Rattle.ice_state.specs.Scans.{Scanned}
 use Rattle.ice_state.specs.Specs.{spec_of, id_before}
 
@@ -32,9 +37,30 @@ abbrev pub NamesFirst : ScanFault → List Row → Type 0
 NamesFirst fault [] = ⊥
 NamesFirst fault (row ∷ rows) = fault ≡ NoSuchSpec row.spec_id
 
--- what a manifest gives that is read by this spec
-abbrev pub reading_by : Pruner → Spec → Row → List ℕ → Reading
-reading_by p spec row bytes = reading p (live_of row spec bytes)
+-- the partition specs of a table, and a filter
+pub record Filtered : Type 0 where
+  pub specs : List Spec
+  pub filter : List (Part BoundLeaf)
+
+-- one of the specs, and the filter
+pub record OfSpec : Type 0 where
+  pub spec : Spec
+  pub filter : List (Part BoundLeaf)
+
+abbrev pub filtered_by : List (Part BoundLeaf) → Spec → OfSpec
+filtered_by parts spec = record { spec = spec; filter = parts }
+
+-- what the filter keeps of the manifests of the spec
+abbrev pub pruner_by : OfSpec → Pruner
+pruner_by f = record {
+  meets = λ id tuple. part_meets (projection f.filter f.spec) tuple;
+  bounds = file_may f.filter;
+  wants = λ row. summaries_allow (projection f.filter f.spec) row.partitions;
+}
+
+-- what a manifest gives that is read by this spec and filter
+abbrev pub reading_by : OfSpec → Row → List ℕ → Reading
+reading_by f row bytes = reading (pruner_by f) (live_of row f.spec bytes)
 
 -- specs in the order of their ids
 abbrev pub AreById : List Spec → Type 0

@@ -1,17 +1,23 @@
 -- What a filter lets a scan leave out: Apache Iceberg table spec, version 2, "Scan Planning".
-use Rattle.std.specs.Prelude.{◌≡◌, ℤ, Bool, true, false, ◌&&◌, ◌||◌, not, List, filter, Some, option_map}
+use Rattle.std.specs.Prelude.{◌≡◌, ℤ, Bool, true, false, ◌&&◌, ◌||◌, not, List, [], filter, Option, Some, None, option_map}
 use Rattle.ice_value.specs.declared.cell.Cell.{Cell}
-use Rattle.ice_meta.specs.declared.spec.Spec.{Spec}
-use Rattle.ice_meta.specs.Partitioning.{is_unpartitioned}
 use Rattle.ice_value.specs.declared.file_bounds.FileBounds.{FileBounds}
-use Rattle.ice_manifest.specs.declared.entry.Entry.{Entry}
-use Rattle.ice_manifest.specs.declared.entry.Live.{Live}
-use Rattle.ice_manifest.specs.Manifests.{entries}
+use Rattle.ice_value.specs.declared.file_bounds.Summary.{Summary}
 use Rattle.ice_value.specs.declared.file_content.FileContent.{FileContent}
 use Rattle.ice_value.specs.declared.file_content.FileContent.TheVariants.{Data, PositionDeletes, EqualityDeletes}
+use Rattle.ice_meta.specs.declared.spec.Spec.{Spec}
+use Rattle.ice_meta.specs.Partitioning.{is_unpartitioned}
+use Rattle.ice_filter.specs.declared.bound.BoundLeaf.{BoundLeaf}
+use Rattle.ice_filter.specs.declared.parts.Part.{Part}
+use Rattle.ice_project.specs.declared.part_filter.PartFilter.{PartFilter}
+use Rattle.ice_project.specs.Files.{file_may}
+use Rattle.ice_project.specs.Projection.{projection}
+use Rattle.ice_project.specs.Summaries.{summaries_may}
+use Rattle.ice_project.specs.Tuples.{part_meets}
+use Rattle.ice_manifest.specs.declared.entry.Entry.{Entry}
+use Rattle.ice_manifest.specs.declared.entry.Live.{Live}
 use Rattle.ice_manifest.specs.declared.row.Row.{Row}
-use Rattle.ice_state.specs.declared.pruning.Pruning.{Pruning}
-use Rattle.ice_state.specs.declared.pruning.Pruning.TheVariants.{Nothing}
+use Rattle.ice_manifest.specs.Manifests.{entries}
 use Rattle.ice_state.specs.Specs.{spec_of}
 
 -- a filter's projection on the tuples of a spec, its test of the bounds of a data file, and its test of a row's summaries
@@ -20,13 +26,28 @@ pub record Pruner : Type 0 where
   pub bounds : FileBounds → Bool
   pub wants : Row → Bool
 
+-- a row whose list says nothing of the partition values may have any
+abbrev pub summaries_allow : PartFilter → Option (List Summary) → Bool
+summaries_allow part None = true
+summaries_allow part (Some summaries) = summaries_may part summaries
+
+-- the test of the filter's projection through the spec; nothing is of a spec that is missing
+abbrev pub by_projection : List (Part BoundLeaf) → (PartFilter → Bool) → Option Spec → Bool
+by_projection parts test None = false
+by_projection parts test (Some spec) = test (projection parts spec)
+
+-- what a filter of rows keeps of a table with these specs
+abbrev pub pruner_of : List (Part BoundLeaf) → List Spec → Pruner
+pruner_of parts specs =
+    record {
+      meets = λ id tuple. by_projection parts (λ part. part_meets part tuple) (spec_of specs id);
+      bounds = file_may parts;
+      wants = λ row. by_projection parts (λ part. summaries_allow part row.partitions) (spec_of specs row.spec_id);
+    }
+
 -- without a filter every row is wanted and every live entry is kept
 abbrev pub everything : Pruner
 everything = record { meets = λ spec tuple. true; bounds = λ bounds. true; wants = λ row. true }
-
--- what is kept where this is left out
-abbrev pub pruner_of : Pruning → Pruner
-pruner_of Nothing = everything
 
 abbrev pub same_content : FileContent → FileContent → Bool
 same_content Data Data = true

@@ -5,22 +5,23 @@ use Rattle.std.specs.Cmp.Lexicographic.{slice_cmp}
 use Rattle.std.specs.Ordering.{nat_cmp, is_lt}
 use Rattle.contract_words.specs.Sorting.{sorted}
 use Rattle.ice_meta.specs.declared.spec.Spec.{Spec}
+use Rattle.ice_filter.specs.declared.bound.BoundLeaf.{BoundLeaf}
+use Rattle.ice_filter.specs.declared.parts.Part.{Part}
 use Rattle.ice_manifest.specs.declared.row.Row.{Row}
 use Rattle.ice_state.specs.declared.fault.ScanFault.{ScanFault}
 use Rattle.ice_state.specs.declared.fault.ScanFault.TheVariants.{NoSuchSpec}
-use Rattle.ice_state.specs.declared.pruning.Pruning.{Pruning}
 use Rattle.ice_state.specs.Pruning.{Pruner, pruner_of}
 use Rattle.ice_state.specs.Specs.{spec_of, by_id}
 
--- the wanted rows, by the bytes of their paths, the partition specs of the table, by their ids, and what is left out
+-- the wanted rows, by the bytes of their paths, the partition specs of the table, by their ids, and the filter
 pub record Scanned : Type 0 where
   pub wanted : List Row
   pub specs : List Spec
-  pub pruning : Pruning
+  pub filter : List (Part BoundLeaf)
 
 -- what the scan keeps
 abbrev pub pruner : Scanned → Pruner
-pruner scan = pruner_of scan.pruning
+pruner scan = pruner_of scan.filter scan.specs
 
 -- in the order of their paths
 abbrev pub row_before : Row → Row → Bool
@@ -45,13 +46,17 @@ abbrev pub unless_missing : List Row → Scanned → Result Scanned ScanFault
 unless_missing [] scan = Ok scan
 unless_missing (row ∷ rows) scan = Err (NoSuchSpec row.spec_id)
 
--- the scan of these rows by these specs, or the missing spec of the row with the least path
-abbrev pub scan_of : List Row → List Spec → Pruning → Result Scanned ScanFault
-scan_of rows specs pruning = unless_missing (without_spec specs (by_row_path rows)) (record { wanted = wanted_rows (pruner_of pruning) (by_row_path rows); specs = by_id specs; pruning = pruning })
+-- the scan of these rows by these specs, with this filter
+abbrev pub scan_with : List Row → List Spec → List (Part BoundLeaf) → Scanned
+scan_with rows specs parts = record { wanted = wanted_rows (pruner_of parts specs) (by_row_path rows); specs = by_id specs; filter = parts }
+
+-- that scan, or the missing spec of the row with the least path
+abbrev pub scan_of : List Row → List Spec → List (Part BoundLeaf) → Result Scanned ScanFault
+scan_of rows specs parts = unless_missing (without_spec specs (by_row_path rows)) (scan_with rows specs parts)
 
 -- the scan is that of these rows by these specs
 abbrev pub IsScanOf : List Row → List Spec → Scanned → Type 0
-IsScanOf rows specs scan = scan_of rows specs scan.pruning ≡ Ok scan
+IsScanOf rows specs scan = scan_of rows specs scan.filter ≡ Ok scan
 
 -- the row with the least path among those whose spec is missing, and that spec's id
 pub record IsFirstUnknown (specs : List Spec) (rows : List Row) (id : ℤ) (row : Row) : Type 0 where

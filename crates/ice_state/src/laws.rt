@@ -1,8 +1,10 @@
 //! Laws of contents and plans, in words of their own. Their functions do nothing.
 
-ghost use Rattle.std.specs.Prelude.{◌≡◌, ◌<◌, ◌≤◌, ◌↔◌, ℕ, ℤ, Err, IsSome, List, [], ◌∷◌, Bool, true, false, length, map, filter, slice_index_or, Contains};
+ghost use Rattle.std.specs.Prelude.{◌≡◌, ◌<◌, ◌≤◌, ◌↔◌, ℕ, ℤ, Ok, Err, IsSome, IsTrue, List, [], ◌∷◌, Bool, true, false, length, map, filter, slice_index_or, Contains};
 ghost use Rattle.std.specs.List.{flat_map, AllByRecursion};
 ghost use Rattle.std.specs.List.Sorted.{IsSortedBy};
+ghost use Rattle.ice_filter.specs.declared.bound.BoundLeaf.{BoundLeaf};
+ghost use Rattle.ice_filter.specs.declared.parts.Part.{Part};
 ghost use Rattle.ice_meta.specs.declared.spec.Spec.{Spec};
 ghost use Rattle.ice_manifest.specs.declared.entry.Entry.{Entry};
 ghost use Rattle.ice_manifest.specs.declared.entry.Live.{Live};
@@ -12,23 +14,30 @@ ghost use Rattle.ice_manifest.specs.declared.row.Row.{Row};
 ghost use Rattle.ice_state.specs.declared.fault.FinishFault.{FinishFault};
 ghost use Rattle.ice_state.specs.declared.fault.FinishFault.TheVariants.{PathTwice};
 ghost use Rattle.ice_state.specs.declared.fault.ScanFault.TheVariants.{NoSuchSpec};
-ghost use Rattle.ice_state.specs.declared.pruning.Pruning.{Pruning};
-ghost use Rattle.ice_state.specs.Applying.{Applies, applies};
+ghost use Rattle.ice_value.specs.Applying.{same_partition};
+ghost use Rattle.ice_state.specs.Applying.{Applies, applies, key_of};
 ghost use Rattle.ice_state.specs.Contents.{Content, World, content};
-ghost use Rattle.ice_state.specs.Covering.{FieldType, AreCovered, HasSoundSummaries};
+ghost use Rattle.ice_state.specs.Covering.{AreCovered, HasSoundSummaries};
 ghost use Rattle.ice_state.specs.Joins.{Agree, join, either};
 ghost use Rattle.ice_state.specs.Lines.{OwnedLine};
 ghost use Rattle.ice_state.specs.Outcomes.{by_path, plan_over, twice, outcome};
-ghost use Rattle.ice_state.specs.Pruning.{Pruner, pruner_of, holds, kept, IsOpen};
+ghost use Rattle.ice_state.specs.Pruning.{Pruner, pruner_of, everything, holds, keeps, kept, SaysItsSpec, IsOpen};
 ghost use Rattle.ice_state.specs.Runs.{Run, IsIn, TakeTheSame, takes, taken, after};
 ghost use Rattle.ice_state.specs.Scans.{Scanned, pruner, row_before, scan_of, IsScanOf, IsFirstUnknown};
 ghost use Rattle.ice_state.specs.Shares.{IsLeastShared, count_at};
-ghost use Rattle.ice_state.specs.Snapshots.{live, AreKeptWanted, kept_of_wanted};
+ghost use Rattle.ice_state.specs.Snapshots.{live, AreKeptWanted, kept_of_wanted, plan_of_snapshot};
 ghost use Rattle.ice_state.specs.Specs.{spec_of};
 
+use ice_project::{
+    projections_of_same_tuples, projections_of_unpartitioned_specs, summary_soundness,
+};
+
 /// A scan wants exactly the rows that its filter wants, in the order of their paths, and each of its rows has a spec. It
-/// is refused for the row with the least path among those whose spec is missing.
+/// is refused for the row with the least path among those whose spec is missing. It finds the specs that the caller's
+/// list has, whatever their order, and so keeps the same.
 pub fn scanning()
+    ensures made { (rows : List Row) (specs : List Spec) (filter : List (Part BoundLeaf)) (scan : Scanned) →
+        scan_of rows specs filter ≡ Ok scan → (scan.filter ≡ filter) × IsScanOf rows specs scan }
     ensures wanted { (rows : List Row) (specs : List Spec) (scan : Scanned) (row : Row) → IsScanOf rows specs scan →
         (Contains scan.wanted row ↔ (Contains rows row × ((pruner scan).wants row ≡ true))) }
     ensures sorted { (rows : List Row) (specs : List Spec) (scan : Scanned) → IsScanOf rows specs scan →
@@ -37,8 +46,10 @@ pub fn scanning()
         Contains rows row → IsSome (spec_of specs row.spec_id) }
     ensures same_specs { (rows : List Row) (specs : List Spec) (scan : Scanned) (id : ℤ) → IsScanOf rows specs scan →
         spec_of scan.specs id ≡ spec_of specs id }
-    ensures refused { (rows : List Row) (specs : List Spec) (pruning : Pruning) (id : ℤ) →
-        scan_of rows specs pruning ≡ Err (NoSuchSpec id) → (row : Row) × IsFirstUnknown specs rows id row }
+    ensures same_pruner { (rows : List Row) (specs : List Spec) (scan : Scanned) → IsScanOf rows specs scan →
+        pruner scan ≡ pruner_of scan.filter specs }
+    ensures refused { (rows : List Row) (specs : List Spec) (filter : List (Part BoundLeaf)) (id : ℤ) →
+        scan_of rows specs filter ≡ Err (NoSuchSpec id) → (row : Row) × IsFirstUnknown specs rows id row }
 {}
 
 /// What was taken fixes the content: after a tree of takes and merges over any number of states it is the content of the
@@ -92,19 +103,43 @@ pub fn pruning()
         plan_over (by_path (kept_of_wanted p (live world specs) rows)) (by_path (kept_of_wanted p (live world specs) rows)) }
 {}
 
-/// Where the summaries tell the truth and the test of summaries is right, each row with a kept entry is wanted. What a
-/// scan leaves out is tested so, and its projection through a spec without partitions is true wherever another is.
+/// What a filter of rows keeps of a table. Wherever its projection keeps a data file it keeps each delete file of the
+/// same spec and partition values, and each one of a spec that partitions nothing: so each delete file that applies. And
+/// of a row whose summaries tell the truth it doesn't say no where it keeps an entry.
+pub fn filtering()
+    ensures same_partition { (filter : List (Part BoundLeaf)) (specs : List Spec) (x d : Entry) →
+        IsTrue (same_partition (key_of x) (key_of d)) →
+        (pruner_of filter specs).meets x.spec_id x.file.tuple ≡ true →
+        (pruner_of filter specs).meets d.spec_id d.file.tuple ≡ true }
+    ensures open_where_unpartitioned { (filter : List (Part BoundLeaf)) (specs : List Spec) → IsOpen specs (pruner_of filter specs) }
+    ensures deletes { (filter : List (Part BoundLeaf)) (specs : List Spec) (x : Entry) (l : Live) →
+        SaysItsSpec specs l.entry → Applies x l.entry →
+        (pruner_of filter specs).meets x.spec_id x.file.tuple ≡ true → keeps (pruner_of filter specs) l ≡ true }
+    ensures sound { (filter : List (Part BoundLeaf)) (specs : List Spec) → HasSoundSummaries specs (pruner_of filter specs) }
+{
+    projections_of_same_tuples();
+    projections_of_unpartitioned_specs();
+    summary_soundness();
+}
+
+/// With the filter that is always met every row is wanted and every live entry is kept.
+pub fn unfiltered()
+    ensures rows { (specs : List Spec) (row : Row) → IsSome (spec_of specs row.spec_id) → (pruner_of [] specs).wants row ≡ true }
+    ensures entries { (specs : List Spec) (l : Live) → IsSome (spec_of specs l.entry.spec_id) → keeps (pruner_of [] specs) l ≡ true }
+    ensures plans { (world : World) (rows : List Row) (specs : List Spec) (scan : Scanned) → scan_of rows specs [] ≡ Ok scan →
+        plan_of_snapshot (pruner_of [] specs) world specs rows ≡ plan_of_snapshot everything world specs rows }
+{}
+
+/// Where the summaries tell the truth and the test of summaries is right, each row with a kept entry is wanted.
 pub fn covering()
-    ensures wanted { (type_of : FieldType) (p : Pruner) (world : World) (specs : List Spec) (rows : List Row) →
-        HasSoundSummaries type_of specs p → AreCovered type_of world specs rows → AreKeptWanted p (live world specs) rows }
-    ensures sound { (type_of : FieldType) (specs : List Spec) (p : Pruning) → HasSoundSummaries type_of specs (pruner_of p) }
-    ensures open_where_unpartitioned { (specs : List Spec) (p : Pruning) → IsOpen specs (pruner_of p) }
+    ensures { (p : Pruner) (world : World) (specs : List Spec) (rows : List Row) →
+        HasSoundSummaries specs p → AreCovered world specs rows → AreKeptWanted p (live world specs) rows }
 {}
 
 /// Specs without fields have rows that tell the truth, whatever their summaries say.
 pub fn covering_without_fields()
-    ensures { (type_of : FieldType) (world : World) (specs : List Spec) (rows : List Row) →
-        AllByRecursion (λ spec. spec.fields ≡ []) specs → AreCovered type_of world specs rows }
+    ensures { (world : World) (specs : List Spec) (rows : List Row) →
+        AllByRecursion (λ spec. spec.fields ≡ []) specs → AreCovered world specs rows }
 {}
 
 /// The first of the paths that neighbours share is the least that two entries share, and there is none only where no

@@ -19,5 +19,4 @@ pub use fault::{FinishFault, ScanFault};
 pub use lines::{Line, Lines, PlanFile, PlanFiles};
 pub use partial::Partial;
 pub use plan::{OwnedPlan, Plan};
-pub use pruning::Pruning;
 pub use scan::Scan;

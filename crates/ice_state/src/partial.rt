@@ -6,7 +6,7 @@ ghost use Rattle.ice_meta.specs.declared.spec.Spec.{Spec};
 ghost use Rattle.ice_manifest.specs.declared.row.Row.{Row};
 ghost use Rattle.ice_state.specs.Contents.{World, IsOf, is_row_taken, took, content, no_row, every_row, add, HasBytes, HasEach};
 ghost use Rattle.ice_state.specs.Outcomes.{outcome};
-ghost use Rattle.ice_state.specs.Covering.{FieldType, AreCovered};
+ghost use Rattle.ice_state.specs.Covering.{AreCovered};
 ghost use Rattle.ice_state.specs.Joins.{join, either, TookAllOf};
 ghost use Rattle.ice_state.specs.Parts.{with_row, gain_of, gains, is_gain};
 ghost use Rattle.ice_state.specs.Pruning.{pruner_of};
@@ -81,7 +81,7 @@ impl Partial {
             return Ok(());
         }
         let row = &scan.wanted()[i];
-        let reading = read(self.alloc, scan.pruning(), row, scan.spec_of(i), bytes)?;
+        let reading = read(self.alloc, row, &scan.filter_of(i), bytes)?;
         put_row(&mut self.slots, i, reading);
         Ok(())
     }
@@ -116,12 +116,12 @@ impl Partial {
         ensures outcome { Gives FinishFault.Memory (λ plan. plan) result (outcome scan.now self.now) }
 
         // Where every wanted manifest was taken: the plan of the snapshot, over all its rows.
-        ensures snapshot { (world : World) (rows : List Row) (specs : List Spec) (type_of : FieldType) →
+        ensures snapshot { (world : World) (rows : List Row) (specs : List Spec) →
             IsScanOf rows specs scan.now →
-            AreCovered type_of world specs rows →
+            AreCovered world specs rows →
             HasEach world scan.now.wanted →
             self.now ≡ content world scan.now (every_row scan.now) →
-            Gives FinishFault.Memory (λ plan. plan) result (plan_of_snapshot (pruner_of scan.now.pruning) world specs rows) }
+            Gives FinishFault.Memory (λ plan. plan) result (plan_of_snapshot (pruner_of scan.now.filter specs) world specs rows) }
     {
         plan_or_fault(self.alloc, scan.wanted(), &self.slots)
     }

@@ -1,13 +1,12 @@
 //! What a manifest gave.
 
 ghost use Rattle.std.specs.Prelude.{◌≡◌, IfOk};
-ghost use Rattle.ice_state.specs.Parts.{reading_by};
-ghost use Rattle.ice_state.specs.Pruning.{pruner_of, kept};
+ghost use Rattle.ice_state.specs.Parts.{reading_by, pruner_by};
+ghost use Rattle.ice_state.specs.Pruning.{kept};
 
-use crate::pruning::Pruning;
+use crate::pruning::SpecFilter;
 use contract_words::Items;
 use ice_manifest::{Entry, Live, ManifestFault, Row, read_manifest};
-use ice_meta::Spec;
 use std::alloc::{AllocError, Global};
 
 /// What a manifest gave: its kept entries in the order of their positions, or why it can't be read.
@@ -39,19 +38,18 @@ fn copied_entries(alloc: Global, entries: &[Entry]) -> Result<Items<Entry>, Allo
     Ok(Items::from_vec(copied))
 }
 
-/// What a row's manifest with these bytes gives, read by its spec.
+/// What a row's manifest with these bytes gives, read by the filter through its spec.
 pub fn read(
     alloc: Global,
-    pruning: &Pruning,
     row: &Row,
-    spec: &Spec,
+    filter: &SpecFilter<'_>,
     bytes: &[u8],
 ) -> Result<Reading, AllocError>
-    requires { spec.now.id ≡ row.now.spec_id }
-    ensures { IfOk result (λ reading. reading ≡ reading_by (pruner_of pruning.now) spec.now row.now bytes.now) }
+    requires { filter.now.spec.id ≡ row.now.spec_id }
+    ensures { IfOk result (λ reading. reading ≡ reading_by filter.now row.now bytes.now) }
 {
-    match read_manifest(alloc, row, spec, bytes) {
-        Ok(live) => Ok(Reading::Good(kept_entries(alloc, pruning, live)?)),
+    match read_manifest(alloc, row, filter.spec(), bytes) {
+        Ok(live) => Ok(Reading::Good(kept_entries(alloc, filter, live)?)),
         Err(ManifestFault::Memory) => Err(AllocError),
         Err(fault) => Ok(Reading::Bad(fault)),
     }
@@ -60,14 +58,14 @@ pub fn read(
 /// Those of the live entries that are kept, without their bounds.
 fn kept_entries(
     alloc: Global,
-    pruning: &Pruning,
+    filter: &SpecFilter<'_>,
     live: Vec<Live>,
 ) -> Result<Items<Entry>, AllocError>
-    ensures { IfOk result (λ entries. entries ≡ kept (pruner_of pruning.now) live.items) }
+    ensures { IfOk result (λ entries. entries ≡ kept (pruner_by filter.now) live.items) }
 {
-    let mut entries = Vec::with_capacity(alloc, live.len())?;
+    let mut entries = Vec::new(alloc);
     'live: for found in live {
-        if pruning.keeps(&found) {
+        if filter.keeps(&found) {
             entries.push(found.entry)?;
         }
     }

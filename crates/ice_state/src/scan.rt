@@ -1,27 +1,24 @@
-//! What a scan reads: the rows that it wants, and the specs of their entries.
+//! What a scan reads: the rows that it wants, and what they are read by.
 
-ghost use Rattle.std.specs.Prelude.{◌≡◌, ◌<◌, [], length, OnOk, Some, MatchResult, IfOk, slice_get, int_lt};
-ghost use Rattle.std.specs.Option.{option_copied};
-ghost use Rattle.std.specs.Ordering.{int_eq};
+ghost use Rattle.std.specs.Prelude.{◌≡◌, ◌<◌, [], length, OnOk, Some, MatchResult, IfOk};
 ghost use Rattle.contract_words.specs.Outcome.{Gives};
-ghost use Rattle.ice_state.specs.Parts.{spec_at, NamesFirst, AreById, if_of};
+ghost use Rattle.ice_state.specs.Parts.{spec_at, NamesFirst};
 ghost use Rattle.ice_state.specs.Pruning.{pruner_of};
 ghost use Rattle.ice_state.specs.Scans.{by_row_path, without_spec, wanted_rows};
-ghost use Rattle.ice_state.specs.Specs.{spec_of, by_id};
 
 use crate::fault::ScanFault;
-use crate::pruning::Pruning;
+use crate::pruning::{Pruning, SpecFilter};
+use ice_filter::Bound;
 use ice_manifest::Row;
 use ice_meta::Spec;
 use std::alloc::{AllocError, Global};
 use std::marker::Model;
 
-/// The rows that a scan wants, sorted by the bytes of their paths, the partition specs of the table, sorted by their
-/// ids, and what the scan leaves out.
+/// The rows that a scan wants, sorted by the bytes of their paths, and the partition specs of the table and the filter
+/// by which their manifests are read.
 #[derive(Debug, Drop)]
 pub struct Scan {
     wanted: Vec<Row>,
-    specs: Vec<Spec>,
     pruning: Pruning,
 }
 
@@ -30,36 +27,33 @@ impl Model for Scan {
 
     ghost Value = { Scanned };
 
-    ghost view = { λ s. record { wanted = s.wanted.items; specs = s.specs.items; pruning = s.pruning } };
+    ghost view = { λ s. record { wanted = s.wanted.items; specs = s.pruning.specs; filter = s.pruning.filter } };
 
     ghost use Rattle.ice_state.specs.Scans.{AllHaveSpec};
-    ghost use Rattle.ice_state.specs.Parts.{AreById};
 
-    ghost invariant = { λ s. record { known : AllHaveSpec s.specs.items s.wanted.items; by_id : AreById s.specs.items } };
+    ghost invariant = { λ s. AllHaveSpec s.pruning.specs s.wanted.items };
 }
 
 impl Scan {
     ghost use Rattle.ice_state.specs.Scans.{scan_of};
 
-    /// A scan of a snapshot's rows, in whatever order they come. Each manifest is read by the spec whose id its row
-    /// has, the first of those that share the id: `NoSuchSpec` where there is none.
+    /// A scan of a snapshot's rows, in whatever order they come, for the files that may have a row that meets the
+    /// filter: `Bound::always` leaves nothing out. Each manifest is read by the spec whose id its row has, the first of
+    /// those that share the id: `NoSuchSpec` where there is none. A row is wanted unless its summaries show that no
+    /// tuple in its manifest meets the filter's projection through that spec.
     pub fn new(
         alloc: Global,
         mut rows: Vec<Row>,
-        mut specs: Vec<Spec>,
-        pruning: Pruning,
+        specs: Vec<Spec>,
+        filter: Bound,
     ) -> Result<Scan, ScanFault>
-        ensures { Gives ScanFault.Memory (λ scan. scan) result (scan_of rows.items specs.items pruning) }
+        ensures { Gives ScanFault.Memory (λ scan. scan) result (scan_of rows.items specs.items filter.parts) }
     {
-        sort_by_id(&mut specs)?;
+        let pruning = Pruning::new(alloc, specs, filter)?;
         sort_by_path(&mut rows)?;
-        check_specs(&rows, &specs)?;
+        check_specs(&rows, &pruning)?;
         let wanted = wanted(alloc, rows, &pruning)?;
-        Ok(Scan {
-            wanted,
-            specs,
-            pruning,
-        })
+        Ok(Scan { wanted, pruning })
     }
 
     /// The rows whose manifests have to be taken, each at its place.
@@ -69,20 +63,14 @@ impl Scan {
         &self.wanted
     }
 
-    /// What the scan leaves out.
-    pub(crate) fn pruning(&self) -> &Pruning
-        ensures { result.now ≡ self.now.pruning }
-    {
-        &self.pruning
-    }
-
-    /// The spec by which the manifest of the wanted row `i` is read.
-    pub(crate) fn spec_of(&self, i: usize) -> &Spec
+    /// What the manifest of the wanted row `i` is read by.
+    pub(crate) fn filter_of(&self, i: usize) -> SpecFilter<'_>
         requires { i < length self.now.wanted }
-        ensures { spec_at self.now i ≡ Some result.now }
+        ensures spec { spec_at self.now i ≡ Some result.spec }
+        ensures filter { result.filter ≡ self.now.filter }
     {
-        match find_spec(&self.specs, &self.wanted[i]) {
-            Some(spec) => spec,
+        match self.pruning.of_row(&self.wanted[i]) {
+            Some(filter) => filter,
             None => unreachable!(),
         }
     }
@@ -96,54 +84,9 @@ fn sort_by_path(rows: &mut Vec<Row>) -> Result<(), AllocError>
     Ok(())
 }
 
-/// Puts specs in the order of their ids.
-fn sort_by_id(specs: &mut Vec<Spec>) -> Result<(), AllocError>
-    ensures { OnOk result (specs.new.items ≡ by_id specs.old.items) }
-{
-    specs.sort_by(|a, b| a.id.cmp(&b.id))?;
-    Ok(())
-}
-
-/// The first spec whose id the row has.
-fn find_spec<'a>(specs: &'a [Spec], row: &Row) -> Option<&'a Spec>
-    requires { AreById specs.now }
-    ensures { option_copied result ≡ spec_of specs.now row.now.spec_id }
-{
-    match spec_at(specs, place_of(specs, row)) {
-        Some(spec) => { if is_of(row, spec) { Some(spec) } else { None } }
-        None => None,
-    }
-}
-
-/// The place of the first spec whose id isn't below the row's: where any has the row's id, this one has.
-fn place_of(specs: &[Spec], row: &Row) -> usize
-    requires { AreById specs.now }
-    ensures { spec_of specs.now row.now.spec_id ≡ if_of row.now.spec_id (slice_get specs.now result) }
-{
-    specs.partition_point(
-        |spec: &Spec| -> bool
-            ensures { result ≡ int_lt spec.now.id row.entry.now.spec_id }
-        { spec.id < row.spec_id },
-    )
-}
-
-/// The spec at a place, where there is one.
-fn spec_at(specs: &[Spec], at: usize) -> Option<&Spec>
-    ensures { option_copied result ≡ slice_get specs.now at }
-{
-    specs.get(at)
-}
-
-/// Whether the row has the spec's id.
-fn is_of(row: &Row, spec: &Spec) -> bool
-    ensures { result ≡ int_eq spec.now.id row.now.spec_id }
-{
-    spec.id == row.spec_id
-}
-
 /// Those of the rows that are wanted.
 fn wanted(alloc: Global, rows: Vec<Row>, pruning: &Pruning) -> Result<Vec<Row>, AllocError>
-    ensures { IfOk result (λ wanted. wanted.items ≡ wanted_rows (pruner_of pruning.now) rows.items) }
+    ensures { IfOk result (λ wanted. wanted.items ≡ wanted_rows (pruner_of pruning.now.filter pruning.now.specs) rows.items) }
 {
     let mut wanted = Vec::new(alloc);
     'rows: for row in rows {
@@ -155,12 +98,11 @@ fn wanted(alloc: Global, rows: Vec<Row>, pruning: &Pruning) -> Result<Vec<Row>, 
 }
 
 /// Stops at the first row whose spec is missing.
-fn check_specs(rows: &[Row], specs: &[Spec]) -> Result<(), ScanFault>
-    requires { AreById specs.now }
-    ensures { MatchResult result (λ _. without_spec specs.now rows.now ≡ []) (λ f. NamesFirst f (without_spec specs.now rows.now)) }
+fn check_specs(rows: &[Row], pruning: &Pruning) -> Result<(), ScanFault>
+    ensures { MatchResult result (λ _. without_spec pruning.now.specs rows.now ≡ []) (λ f. NamesFirst f (without_spec pruning.now.specs rows.now)) }
 {
     'rows: for row in rows {
-        if find_spec(specs, row).is_none() {
+        if pruning.of_row(row).is_none() {
             return Err(ScanFault::NoSuchSpec(row.spec_id));
         }
     }

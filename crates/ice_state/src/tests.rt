@@ -4,8 +4,9 @@
 ghost use Rattle.std.specs.Prelude.{◌<◌, IfOk, length, vec_len};
 ghost use Rattle.ice_state.specs.Contents.{IsOf};
 
-use crate::{FinishFault, Partial, PlanFiles, Pruning, Scan, ScanFault};
+use crate::{FinishFault, Partial, PlanFiles, Scan, ScanFault};
 use contract_words::Text;
+use ice_filter::Bound;
 use ice_manifest::{Counts, ManifestContent, ManifestFault, Row};
 use ice_meta::Spec;
 use ice_value::SequenceNumber;
@@ -110,7 +111,7 @@ fn data_and_deletes(alloc: Global) -> Result<Case, ScanFault> {
     let mut deletes = row(alloc, "mem://t/m3", 0, 4)?;
     deletes.content = ManifestContent::Deletes;
     rows.push(deletes)?;
-    let scan = Scan::new(alloc, rows, specs(alloc)?, Pruning::Nothing)?;
+    let scan = Scan::new(alloc, rows, specs(alloc)?, Bound::always(alloc))?;
     let mut manifests = Vec::new(alloc);
     manifests.push(manifest(alloc, UNCOMPRESSED, DATA)?)?;
     manifests.push(manifest(alloc, UNCOMPRESSED, DELETES)?)?;
@@ -121,7 +122,7 @@ fn data_and_deletes(alloc: Global) -> Result<Case, ScanFault> {
 /// Rows `mem://t/m1` and `mem://t/m2`, which share a path, and `mem://t/m3`, which can't be read.
 fn shared_and_bad(alloc: Global) -> Result<Case, ScanFault> {
     let rows = data_rows(alloc, &["mem://t/m1", "mem://t/m2", "mem://t/m3"])?;
-    let scan = Scan::new(alloc, rows, specs(alloc)?, Pruning::Nothing)?;
+    let scan = Scan::new(alloc, rows, specs(alloc)?, Bound::always(alloc))?;
     let mut manifests = Vec::new(alloc);
     manifests.push(manifest(alloc, UNCOMPRESSED, X_AND_Y)?)?;
     manifests.push(manifest(alloc, UNCOMPRESSED, Z_W_AND_X)?)?;
@@ -132,7 +133,7 @@ fn shared_and_bad(alloc: Global) -> Result<Case, ScanFault> {
 /// Rows `mem://t/m1` and `mem://t/m2`, which share a path.
 fn shared(alloc: Global) -> Result<Case, ScanFault> {
     let rows = data_rows(alloc, &["mem://t/m1", "mem://t/m2"])?;
-    let scan = Scan::new(alloc, rows, specs(alloc)?, Pruning::Nothing)?;
+    let scan = Scan::new(alloc, rows, specs(alloc)?, Bound::always(alloc))?;
     let mut manifests = Vec::new(alloc);
     manifests.push(manifest(alloc, UNCOMPRESSED, X_AND_Y)?)?;
     manifests.push(manifest(alloc, UNCOMPRESSED, Z_W_AND_X)?)?;
@@ -229,7 +230,7 @@ fn is_twice(state: &Partial, scan: &Scan, path: &str) -> bool
 fn wants_every_row_by_path(rt: HostRuntime) -> Result<(), Fail> {
     let alloc = rt.alloc();
     let rows = data_rows(alloc, &["mem://t/m2", "mem://t/m10", "mem://t/m1"])?;
-    let scan = Scan::new(alloc, rows, specs(alloc)?, Pruning::Nothing)?;
+    let scan = Scan::new(alloc, rows, specs(alloc)?, Bound::always(alloc))?;
     let wanted = scan.wanted();
     assert_eq!(rt; wanted.len(), 3);
     assert_eq!(rt; wanted[0].path.as_str(), "mem://t/m1");
@@ -244,7 +245,7 @@ fn names_the_spec_of_the_least_path(rt: HostRuntime) -> Result<(), Fail> {
     let mut rows = data_rows(alloc, &["mem://t/a"])?;
     rows.push(row(alloc, "mem://t/c", 7, 3)?)?;
     rows.push(row(alloc, "mem://t/b", -5, 3)?)?;
-    let fault = Scan::new(alloc, rows, specs(alloc)?, Pruning::Nothing).err();
+    let fault = Scan::new(alloc, rows, specs(alloc)?, Bound::always(alloc)).err();
     assert_eq!(rt; fault, Some(ScanFault::NoSuchSpec(-5)));
     Ok(())
 }
@@ -252,7 +253,7 @@ fn names_the_spec_of_the_least_path(rt: HostRuntime) -> Result<(), Fail> {
 #[test]
 fn plans_no_file_of_no_row(rt: HostRuntime) -> Result<(), Fail> {
     let alloc = rt.alloc();
-    let scan = Scan::new(alloc, Vec::new(alloc), specs(alloc)?, Pruning::Nothing)?;
+    let scan = Scan::new(alloc, Vec::new(alloc), specs(alloc)?, Bound::always(alloc))?;
     let state = Partial::empty(alloc, &scan)?;
     let plan = state.finish(&scan)?;
     assert_eq!(rt; plan.lines().len(), 0);

@@ -9,7 +9,6 @@ use Rattle.ice_meta.specs.Partitioning.{without_fields}
 use Rattle.ice_manifest.specs.declared.row.Row.{Row}
 use Rattle.ice_manifest.specs.Lists.{rows_of}
 use Rattle.ice_state.specs.Lines.{OwnedLine}
-use Rattle.ice_state.specs.declared.pruning.Pruning.TheVariants.{Nothing}
 use Rattle.ice_state.specs.Pruning.{everything}
 use Rattle.ice_state.specs.Scans.{Scanned, scan_of}
 use Rattle.ice_state.specs.Snapshots.{plan_of_snapshot}
@@ -39,7 +38,7 @@ abbrev pub specs_of : List Row → List Spec
 specs_of rows = map (λ row. without_fields row.spec_id) rows
 
 unfoldable pub scan_in : List Row → Result Scanned RunFault
-scan_in rows = as_run of_scan (scan_of rows (specs_of rows) Nothing)
+scan_in rows = as_run of_scan (scan_of rows (specs_of rows) [])
 
 -- the manifests of these rows are there, or the first that is absent
 unfoldable pub all_present : World → List Row → Result Unit RunFault

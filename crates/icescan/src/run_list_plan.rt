@@ -13,10 +13,11 @@ use crate::sink::Sink;
 use crate::write::write_plan;
 use contract_words::Text;
 use ice_desk::{Files, ReadFault, take_wanted};
+use ice_filter::Bound;
 use ice_manifest::{Row, read_list};
 use ice_meta::Spec;
 use ice_state::laws::covering_without_fields;
-use ice_state::{Partial, Pruning, Scan};
+use ice_state::{Partial, Scan};
 use std::alloc::{AllocError, Global};
 
 /// A text of its own.
@@ -82,7 +83,7 @@ pub fn run_list_plan<F: Files, W: Sink>(
     let bytes = read_file(alloc, files, list)?;
     let rows = read_list(alloc, &bytes)?;
     let specs = specs_of(alloc, &rows)?;
-    let scan = Scan::new(alloc, rows, specs, Pruning::Nothing)?;
+    let scan = Scan::new(alloc, rows, specs, Bound::always(alloc))?;
     let mut state = Partial::empty(alloc, &scan)?;
     take_wanted(alloc, files, &scan, &mut state)?;
     // Specs without fields have summaries that tell the truth, so the state's outcome is the plan of the snapshot.
