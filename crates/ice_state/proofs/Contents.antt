@@ -2,13 +2,13 @@
 use Rattle.std.proofs.Common.{◌≡◌, ◌<◌, ℕ, zero, suc, List, [], ◌∷◌, refl, ap, ◌∙◌, Bool, true, false, length, get_or, Option, Some, None, is_some, replicate, slice_set, arith}
 use Rattle.std.specs.List.{slice_get}
 use Rattle.std.specs.Option.{option_and_then}
-use Rattle.ice_meta.specs.declared.spec.Spec.{Spec}
 use Rattle.ice_manifest.specs.declared.row.Row.{Row}
 use Rattle.ice_state.specs.declared.reading.Reading.{Reading}
-use Rattle.ice_state.specs.Scans.{Scanned, pruner}
+use Rattle.ice_state.specs.Scans.{Scanned}
 use Rattle.ice_state.specs.Specs.{spec_of}
-use Rattle.ice_state.specs.Contents.{Content, World, slot_of, slots_of, content, add, took_at, took, HasBytesAt, HasBytes}
-use Rattle.ice_state.specs.Parts.{reading_by, with_row}
+use Rattle.ice_state.specs.Contents.{Content, World, slot_of, slots_of, content, add, or_else, took_at, took, HasBytesAt, HasBytes}
+use Rattle.ice_state.specs.Parts.{OfSpec, reading_by, with_row}
+use Rattle.ice_state.proofs.OfSpecs.{reading_is}
 
 -- a row that was taken stays as it is
 pub with_row-kept : (c : Content) (i : ℕ) (r : Reading) (s : Option Reading) → s ≡ get_or c i s → is_some s ≡ true → c ≡ with_row c i r
@@ -32,12 +32,13 @@ with_row-new (None ∷ ss) zero r s h k = refl
 with_row-new (t ∷ ss) (suc i) r s h k = ap (λ x. t ∷ x) (with_row-new ss i r s h k)
 
 -- by the row's manifest, or by what it gave
-pub with_row-took : (scan : Scanned) (c : Content) (rows : List Row) (i : ℕ) (bytes : List ℕ) (row : Row) (spec : Spec) → i < length rows → row ≡ get_or rows i row →
-    option_and_then (λ (r : Row). spec_of scan.specs r.spec_id) (slice_get rows i) ≡ Some spec → with_row c i (reading_by (pruner scan) spec row bytes) ≡ took_at scan c rows i bytes
-with_row-took scan [] rows i bytes row spec l h k = refl
-with_row-took scan (s ∷ ss) [] i bytes row spec l h k = absurd (omega arith)
-with_row-took scan (s ∷ ss) (r ∷ rs) zero bytes row spec l h k = rw (k, h) refl
-with_row-took scan (s ∷ ss) (r ∷ rs) (suc i) bytes row spec l h k = ap (λ x. s ∷ x) (with_row-took scan ss rs i bytes row spec (omega arith) h k)
+pub with_row-took : (scan : Scanned) (c : Content) (rows : List Row) (i : ℕ) (bytes : List ℕ) (row : Row) (f : OfSpec) → f.filter ≡ scan.filter → i < length rows → row ≡ get_or rows i row →
+    option_and_then (λ (r : Row). spec_of scan.specs r.spec_id) (slice_get rows i) ≡ Some f.spec → with_row c i (reading_by f row bytes) ≡ took_at scan c rows i bytes
+with_row-took scan [] rows i bytes row f same l h k = refl
+with_row-took scan (s ∷ ss) [] i bytes row f same l h k = absurd (omega arith)
+with_row-took scan (s ∷ ss) (r ∷ rs) zero bytes row f same l h k =
+    ap (λ (q : Row). or_else s (Some (reading_by f q bytes)) ∷ ss) h ∙ ap (λ (x : Reading). or_else s (Some x) ∷ ss) (reading_is scan r f bytes same k)
+with_row-took scan (s ∷ ss) (r ∷ rs) (suc i) bytes row f same l h k = ap (λ x. s ∷ x) (with_row-took scan ss rs i bytes row f same (omega arith) h k)
 
 -- in a world, taking a row adds it to the set
 pub took-content : (world : World) (scan : Scanned) (ts : List Bool) (rows : List Row) (i : ℕ) (bytes : List ℕ) → HasBytesAt world rows i bytes → took_at scan (slots_of world scan ts rows) rows i bytes ≡ slots_of world scan (add ts i) rows

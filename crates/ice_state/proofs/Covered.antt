@@ -6,36 +6,30 @@ use Rattle.ice_value.specs.declared.cell.Cell.{Cell}
 use Rattle.ice_value.specs.declared.file_bounds.Summary.{Summary}
 use Rattle.ice_meta.specs.declared.spec.PartitionField.{PartitionField}
 use Rattle.ice_meta.specs.declared.spec.Spec.{Spec}
+use Rattle.ice_project.specs.Fields.{field_of}
+use Rattle.ice_project.specs.Summaries.{AreSummariesOf}
 use Rattle.ice_manifest.specs.declared.entry.Live.{Live}
 use Rattle.ice_manifest.specs.declared.row.Row.{Row}
-use Rattle.ice_state.specs.declared.pruning.Pruning.{Pruning}
-use Rattle.ice_state.specs.declared.pruning.Pruning.TheVariants.{Nothing}
 use Rattle.ice_state.specs.Contents.{World}
-use Rattle.ice_state.specs.Covering.{FieldType, CoversFields, Covers, RowCovers, AreCovered, HasSoundSummaries}
-use Rattle.ice_state.specs.Pruning.{Pruner, pruner_of, keeps, IsOpen}
+use Rattle.ice_state.specs.Covering.{Covers, RowCovers, AreCovered, HasSoundSummaries}
+use Rattle.ice_state.specs.Pruning.{Pruner, keeps}
 use Rattle.ice_state.specs.Snapshots.{live, AreKeptWanted}
 use Rattle.ice_state.proofs.Filters.{or_true, and_true}
 use Rattle.ice_state.proofs.OfSpecs.{live_of_row}
 
-pub open_of : (specs : List Spec) (p : Pruning) → IsOpen specs (pruner_of p)
-open_of specs Nothing = λ x d says u h. refl
-
-pub sound_of : (type_of : FieldType) (specs : List Spec) (p : Pruning) → HasSoundSummaries type_of specs (pruner_of p)
-sound_of type_of specs Nothing = λ row tuple covers h. refl
-
-wanted_by : (type_of : FieldType) (p : Pruner) (specs : List Spec) (row : Row) → HasSoundSummaries type_of specs p → (xs : List Live) → AllByRecursion (λ (l : Live). l.entry.spec_id ≡ row.spec_id) xs →
-    AllByRecursion (λ (l : Live). RowCovers type_of specs row l.entry.file.tuple) xs → list_any (keeps p) xs ≡ true → p.wants row ≡ true
-wanted_by type_of p specs row sound [] of covers h = cc
-wanted_by type_of p specs row sound (x ∷ xs) of covers h =
+wanted_by : (p : Pruner) (specs : List Spec) (row : Row) → HasSoundSummaries specs p → (xs : List Live) → AllByRecursion (λ (l : Live). l.entry.spec_id ≡ row.spec_id) xs →
+    AllByRecursion (λ (l : Live). RowCovers specs row l.entry.file.tuple) xs → list_any (keeps p) xs ≡ true → p.wants row ≡ true
+wanted_by p specs row sound [] of covers h = cc
+wanted_by p specs row sound (x ∷ xs) of covers h =
     elim (or_true (keeps p x) (list_any (keeps p) xs) h) as (λ _. p.wants row ≡ true) [
       | inl k ↦ sound row x.entry.file.tuple covers.0 (ap (λ id. p.meets id x.entry.file.tuple) (sym of.0) ∙ (and_true _ _ k).0)
-      | inr r ↦ wanted_by type_of p specs row sound xs of.1 covers.1 r
+      | inr r ↦ wanted_by p specs row sound xs of.1 covers.1 r
     ]
 
-pub kept_wanted_of : (type_of : FieldType) (p : Pruner) (world : World) (specs : List Spec) (rows : List Row) → HasSoundSummaries type_of specs p → AreCovered type_of world specs rows → AreKeptWanted p (live world specs) rows
-kept_wanted_of type_of p world specs [] sound covered = tt
-kept_wanted_of type_of p world specs (row ∷ rows) sound covered =
-    (wanted_by type_of p specs row sound (live world specs row) (live_of_row world specs row) covered.0, kept_wanted_of type_of p world specs rows sound covered.1)
+pub kept_wanted_of : (p : Pruner) (world : World) (specs : List Spec) (rows : List Row) → HasSoundSummaries specs p → AreCovered world specs rows → AreKeptWanted p (live world specs) rows
+kept_wanted_of p world specs [] sound covered = tt
+kept_wanted_of p world specs (row ∷ rows) sound covered =
+    (wanted_by p specs row sound (live world specs row) (live_of_row world specs row) covered.0, kept_wanted_of p world specs rows sound covered.1)
 
 -- ---- specs without fields
 
@@ -49,14 +43,14 @@ found_without (x ∷ xs) id spec all h =
     ] in
     P (int_eq x.id id) h
 
-covers_nothing : (type_of : FieldType) (spec : Spec) (summaries : Option (List Summary)) (tuple : List Cell) → spec.fields ≡ [] → Covers type_of spec summaries tuple
-covers_nothing type_of spec None tuple none = tt
-covers_nothing type_of spec (Some summaries) tuple none = λ same. subst (λ (fields : List PartitionField). CoversFields (map type_of fields) summaries tuple) (sym none) tt
+covers_nothing : (spec : Spec) (summaries : Option (List Summary)) (tuple : List Cell) → spec.fields ≡ [] → Covers spec summaries tuple
+covers_nothing spec None tuple none = tt
+covers_nothing spec (Some summaries) tuple none = λ same. subst (λ (fields : List PartitionField). AreSummariesOf (map field_of fields) summaries tuple) (sym none) tt
 
-covers_all : (type_of : FieldType) (specs : List Spec) (row : Row) → AllByRecursion (λ (s : Spec). s.fields ≡ []) specs → (xs : List Live) → AllByRecursion (λ (l : Live). RowCovers type_of specs row l.entry.file.tuple) xs
-covers_all type_of specs row all [] = tt
-covers_all type_of specs row all (x ∷ xs) = (λ spec is. covers_nothing type_of spec row.partitions x.entry.file.tuple (found_without specs row.spec_id spec all is), covers_all type_of specs row all xs)
+covers_all : (specs : List Spec) (row : Row) → AllByRecursion (λ (s : Spec). s.fields ≡ []) specs → (xs : List Live) → AllByRecursion (λ (l : Live). RowCovers specs row l.entry.file.tuple) xs
+covers_all specs row all [] = tt
+covers_all specs row all (x ∷ xs) = (λ spec is. covers_nothing spec row.partitions x.entry.file.tuple (found_without specs row.spec_id spec all is), covers_all specs row all xs)
 
-pub covered_without_fields : (type_of : FieldType) (world : World) (specs : List Spec) (rows : List Row) → AllByRecursion (λ (s : Spec). s.fields ≡ []) specs → AreCovered type_of world specs rows
-covered_without_fields type_of world specs [] all = tt
-covered_without_fields type_of world specs (row ∷ rows) all = (covers_all type_of specs row all (live world specs row), covered_without_fields type_of world specs rows all)
+pub covered_without_fields : (world : World) (specs : List Spec) (rows : List Row) → AllByRecursion (λ (s : Spec). s.fields ≡ []) specs → AreCovered world specs rows
+covered_without_fields world specs [] all = tt
+covered_without_fields world specs (row ∷ rows) all = (covers_all specs row all (live world specs row), covered_without_fields world specs rows all)

@@ -3,6 +3,7 @@ pub mod Contents
 pub mod Covered
 pub mod Hits
 pub mod Elements
+pub mod Filtered
 pub mod Filters
 pub mod Gains
 pub mod Joins
@@ -17,3 +18,4 @@ pub mod Scans
 pub mod Sharing
 pub mod Snapshots
 pub mod Specs
+pub mod Unfiltered

@@ -1,5 +1,5 @@
 -- The live entries of a manifest are of its row's spec.
-use Rattle.std.proofs.Common.{◌≡◌, ℕ, ◌+◌, Bool, List, [], ◌∷◌, refl, sym, ap, subst, ◌∙◌, Option, Some, None, option_map, Result, Ok, Err}
+use Rattle.std.proofs.Common.{◌≡◌, ℕ, ◌+◌, Bool, true, false, not, ◌&&◌, ◌||◌, cond, filter, List, [], ◌∷◌, refl, sym, ap, subst, ◌∙◌, Option, Some, None, option_map, Result, Ok, Err}
 use Rattle.std.specs.List.{AllByRecursion}
 use Rattle.ice_meta.specs.declared.spec.Spec.{Spec}
 use Rattle.ice_meta.specs.Partitioning.{is_unpartitioned}
@@ -9,8 +9,15 @@ use Rattle.ice_manifest.specs.declared.entry.Live.{Live}
 use Rattle.ice_manifest.specs.Laws.{IsOfSpec}
 use Rattle.ice_manifest.specs.Manifests.{entries, entries_of, live_of}
 use Rattle.ice_manifest.proofs.Contents.{are_of_their_spec}
-use Rattle.ice_state.specs.Contents.{World, live_by, manifest_of}
-use Rattle.ice_state.specs.Pruning.{SaysItsSpec}
+use Rattle.ice_value.specs.declared.file_content.FileContent.TheVariants.{Data}
+use Rattle.ice_project.specs.Files.{file_may}
+use Rattle.ice_project.specs.Tuples.{part_meets}
+use Rattle.ice_state.specs.declared.reading.Reading.{Reading}
+use Rattle.ice_state.specs.declared.reading.Reading.TheVariants.{Good}
+use Rattle.ice_state.specs.Contents.{World, live_by, manifest_of, reading, reading_of}
+use Rattle.ice_state.specs.Parts.{OfSpec, filtered_by, pruner_by, reading_by}
+use Rattle.ice_state.specs.Pruning.{Pruner, by_projection, holds, keeps, SaysItsSpec}
+use Rattle.ice_state.specs.Scans.{Scanned, pruner}
 use Rattle.ice_state.specs.Snapshots.{live, live_or_none}
 use Rattle.ice_state.specs.Specs.{spec_of}
 use Rattle.ice_state.proofs.Filters.{all_implies}
@@ -50,3 +57,26 @@ live_says world specs row = of_live (λ l. SaysItsSpec specs l.entry) world spec
 -- each live entry has its row's spec id
 pub live_of_row : (world : World) (specs : List Spec) (row : Row) → AllByRecursion (λ (l : Live). l.entry.spec_id ≡ row.spec_id) (live world specs row)
 live_of_row world specs row = of_live (λ l. l.entry.spec_id ≡ row.spec_id) world specs row (λ spec l e of. of.0)
+
+-- what the filter keeps of a row's manifest, by the row's spec
+filter_same : {X : Type 0} (p q : X → Bool) (xs : List X) → AllByRecursion (λ x. p x ≡ q x) xs → filter p xs ≡ filter q xs
+filter_same p q [] all = refl
+filter_same p q (x ∷ xs) all = rw (all.0, filter_same p q xs all.1) refl
+
+reading_by_spec : (scan : Scanned) (row : Row) (spec : Spec) (bytes : List ℕ) → spec_of scan.specs row.spec_id ≡ Some spec → reading_by (filtered_by scan.filter spec) row bytes ≡ reading (pruner scan) (live_of row spec bytes)
+reading_by_spec scan row spec bytes h = of (live_of row spec bytes) refl where
+  by = pruner_by (filtered_by scan.filter spec)
+
+  same : (l : Live) → IsOfSpec row spec l.entry → keeps by l ≡ keeps (pruner scan) l
+  same l of =
+      ap (λ (o : Option Spec). by_projection scan.filter (λ part. part_meets part l.entry.file.tuple) o && (not (holds Data l.entry) || file_may scan.filter l.bounds)) (sym (ap (spec_of scan.specs) of.0 ∙ h))
+
+  of : (m : Result (List Live) ManifestFault) → live_of row spec bytes ≡ m → reading by m ≡ reading (pruner scan) m
+  of (Err fault) e = refl
+  of (Ok found) e = ap (λ (ls : List Live). Good (entries ls)) (filter_same (keeps by) (keeps (pruner scan)) found (all_implies (λ (l : Live). IsOfSpec row spec l.entry) (λ (l : Live). keeps by l ≡ keeps (pruner scan) l) found same (manifest_of_spec row spec bytes found e)))
+
+pub reading_is : (scan : Scanned) (row : Row) (f : OfSpec) (bytes : List ℕ) → f.filter ≡ scan.filter → spec_of scan.specs row.spec_id ≡ Some f.spec → reading_by f row bytes ≡ reading_of scan row bytes
+reading_is scan row f bytes same h =
+    ap (λ ps. reading_by (filtered_by ps f.spec) row bytes) same
+    ∙ reading_by_spec scan row f.spec bytes h
+    ∙ ap (λ (o : Option Spec). reading (pruner scan) (live_by o row bytes)) (sym h)

@@ -4,15 +4,16 @@ use Rattle.std.specs.List.{Contains}
 use Rattle.std.specs.List.Sorted.{IsSortedBy}
 use Rattle.std.specs.Option.{IsSome}
 use Rattle.contract_words.proofs.Sorted.{Rises, sorted_rises, filter-sorted, irreflexive}
+use Rattle.ice_filter.specs.declared.bound.BoundLeaf.{BoundLeaf}
+use Rattle.ice_filter.specs.declared.parts.Part.{Part}
 use Rattle.ice_meta.specs.declared.spec.Spec.{Spec}
 use Rattle.ice_manifest.specs.declared.row.Row.{Row}
 use Rattle.ice_state.specs.declared.fault.ScanFault.TheVariants.{NoSuchSpec}
-use Rattle.ice_state.specs.declared.pruning.Pruning.{Pruning}
 use Rattle.ice_state.specs.Pruning.{pruner_of}
-use Rattle.ice_state.specs.Scans.{Scanned, pruner, row_before, by_row_path, without_spec, wanted_rows, unless_missing, scan_of, IsScanOf, IsFirstUnknown}
+use Rattle.ice_state.specs.Scans.{Scanned, pruner, row_before, by_row_path, without_spec, wanted_rows, unless_missing, scan_with, scan_of, IsScanOf, IsFirstUnknown}
 use Rattle.ice_state.specs.Specs.{spec_of, by_id}
 use Rattle.ice_state.proofs.Elements.{filtered, refiltered, all_at, sorted_contains, contains_sorted, sorted_from_rises}
-use Rattle.ice_state.proofs.Scans.{row_order, scan_is}
+use Rattle.ice_state.proofs.Scans.{row_order, scan_is, same_pruner}
 use Rattle.ice_state.proofs.Specs.{spec_of-by_id}
 
 abbrev unknown_row : List Spec → Row → Bool
@@ -42,7 +43,7 @@ pub same_specs : (rows : List Row) (specs : List Spec) (scan : Scanned) (id : �
 same_specs rows specs scan id h = ap (λ (s : Scanned). spec_of s.specs id) (sym (scan_is rows specs scan h).1) ∙ spec_of-by_id specs id
 
 wanted_is : (rows : List Row) (specs : List Spec) (scan : Scanned) → IsScanOf rows specs scan → wanted_rows (pruner scan) (by_row_path rows) ≡ scan.wanted
-wanted_is rows specs scan h = ap (λ (s : Scanned). s.wanted) (scan_is rows specs scan h).1
+wanted_is rows specs scan h = ap (λ p. wanted_rows p (by_row_path rows)) (same_pruner rows specs scan h) ∙ ap (λ (s : Scanned). s.wanted) (scan_is rows specs scan h).1
 
 pub members : (rows : List Row) (specs : List Spec) (scan : Scanned) (row : Row) → IsScanOf rows specs scan → Contains scan.wanted row ↔ (Contains rows row × ((pruner scan).wants row ≡ true))
 members rows specs scan row h = (
@@ -58,9 +59,9 @@ in_order rows specs scan h =
     subst (Rises row_before row_order) (sym (filter-sorted row_before row_order (pruner scan).wants rows)) (sorted_rises row_before row_order (filter (pruner scan).wants rows)) in
     subst (IsSortedBy row_before) (wanted_is rows specs scan h) (sorted_from_rises row_before row_order (wanted_rows (pruner scan) (by_row_path rows)) rises)
 
-pub refused : (rows : List Row) (specs : List Spec) (pruning : Pruning) (id : ℤ) → scan_of rows specs pruning ≡ Err (NoSuchSpec id) → (row : Row) × IsFirstUnknown specs rows id row
-refused rows specs pruning id h =
-    let made : Scanned = record { wanted = wanted_rows (pruner_of pruning) (by_row_path rows); specs = by_id specs; pruning = pruning } in
+pub refused : (rows : List Row) (specs : List Spec) (parts : List (Part BoundLeaf)) (id : ℤ) → scan_of rows specs parts ≡ Err (NoSuchSpec id) → (row : Row) × IsFirstUnknown specs rows id row
+refused rows specs parts id h =
+    let made : Scanned = scan_with rows specs parts in
     let rises : Rises row_before row_order (without_spec specs (by_row_path rows)) =
     subst (Rises row_before row_order) (sym (filter-sorted row_before row_order (unknown_row specs) rows)) (sorted_rises row_before row_order (filter (unknown_row specs) rows)) in
     let P : (xs : List Row) → without_spec specs (by_row_path rows) ≡ xs → Rises row_before row_order xs → unless_missing xs made ≡ Err (NoSuchSpec id) → (row : Row) × IsFirstUnknown specs rows id row =

@@ -1,17 +1,21 @@
 -- Lemmas on scans.
-use Rattle.std.proofs.Common.{◌≡◌, ◌<◌, ℕ, zero, suc, List, [], ◌∷◌, refl, sym, ap, ◌∙◌, Bool, true, false, length, get_or, arith, cond, filter, is_none, Ok, Err, subst}
+use Rattle.std.proofs.Common.{◌≡◌, ◌<◌, ℕ, ℤ, zero, suc, List, [], ◌∷◌, refl, sym, ap, ◌∙◌, Bool, true, false, length, get_or, arith, cond, filter, is_none, Option, Ok, Err, subst}
 use Rattle.std.specs.List.{slice_get}
 use Rattle.std.specs.Option.{option_and_then}
 use Rattle.std.specs.Cmp.{IsStrictWeakOrder}
 use Rattle.std.proofs.lemmas.Cmp.{nat_list_cmp_total}
 use Rattle.std.proofs.lemmas.List.Sorted.{ranks_by}
+use Rattle.std.proofs.Math.Path.{fun_ext}
+use Rattle.ice_filter.specs.declared.bound.BoundLeaf.{BoundLeaf}
+use Rattle.ice_filter.specs.declared.parts.Part.{Part}
+use Rattle.ice_project.specs.Files.{file_may}
+use Rattle.ice_project.specs.Tuples.{part_meets}
 use Rattle.ice_meta.specs.declared.spec.Spec.{Spec}
 use Rattle.ice_manifest.specs.declared.row.Row.{Row}
 use Rattle.ice_state.specs.declared.fault.ScanFault.{ScanFault}
-use Rattle.ice_state.specs.declared.pruning.Pruning.{Pruning}
 use Rattle.ice_state.specs.Parts.{NamesFirst}
-use Rattle.ice_state.specs.Pruning.{pruner_of}
-use Rattle.ice_state.specs.Scans.{Scanned, row_before, by_row_path, without_spec, AllHaveSpec, wanted_rows, unless_missing, scan_of, IsScanOf}
+use Rattle.ice_state.specs.Pruning.{Pruner, by_projection, summaries_allow, pruner_of}
+use Rattle.ice_state.specs.Scans.{Scanned, pruner, row_before, by_row_path, without_spec, AllHaveSpec, wanted_rows, unless_missing, scan_with, scan_of, IsScanOf}
 use Rattle.ice_state.specs.Specs.{spec_of, by_id}
 use Rattle.ice_state.proofs.Specs.{spec_of-by_id}
 
@@ -57,31 +61,59 @@ none_without specs p (row ∷ rows) h =
 pub wanted_known : (specs : List Spec) (p : Row → Bool) (rows : List Row) → without_spec specs rows ≡ [] → AllHaveSpec specs (filter p rows)
 wanted_known specs p rows h = none_without specs p rows h
 
+-- what is kept depends on the spec of each id alone
+abbrev pruner_from : List (Part BoundLeaf) → (ℤ → Option Spec) → Pruner
+pruner_from parts found =
+    record {
+      meets = λ id tuple. by_projection parts (λ part. part_meets part tuple) (found id);
+      bounds = file_may parts;
+      wants = λ row. by_projection parts (λ part. summaries_allow part row.partitions) (found row.spec_id);
+    }
+
+pub pruner-by_id : (parts : List (Part BoundLeaf)) (specs : List Spec) → pruner_of parts (by_id specs) ≡ pruner_of parts specs
+pruner-by_id parts specs = ap (pruner_from parts) (fun_ext (spec_of-by_id specs))
+
 -- where each row has a spec, the scan has the wanted rows
-pub scan_of-sorted : (rows found : List Row) (specs ids : List Spec) (pruning : Pruning) (wanted : List Row) → found ≡ by_row_path rows → ids ≡ by_id specs → without_spec ids found ≡ [] → wanted ≡ wanted_rows (pruner_of pruning) found →
-    scan_of rows specs pruning ≡ Ok (record { wanted = wanted; specs = ids; pruning = pruning })
-scan_of-sorted rows found specs ids pruning wanted sorted' by none is =
+pub scan_of-sorted : (rows found : List Row) (specs ids : List Spec) (parts given : List (Part BoundLeaf)) (wanted : List Row) → found ≡ by_row_path rows → ids ≡ by_id specs → given ≡ parts → without_spec ids found ≡ [] → wanted ≡ wanted_rows (pruner_of given ids) found →
+    scan_of rows specs parts ≡ Ok (record { wanted = wanted; specs = ids; filter = given })
+scan_of-sorted rows found specs ids parts given wanted sorted' by same none is =
     let none' : without_spec specs (by_row_path rows) ≡ [] = sym (without-by_id specs (by_row_path rows)) ∙ ap (λ rs. without_spec (by_id specs) rs) (sym sorted') ∙ ap (λ ss. without_spec ss found) (sym by) ∙ none in
-    let same : wanted_rows (pruner_of pruning) (by_row_path rows) ≡ wanted =
-    ap (λ rs. wanted_rows (pruner_of pruning) rs) (sym sorted') ∙ sym is in
-    ap (λ (rs : List Row). unless_missing rs (record { wanted = wanted_rows (pruner_of pruning) (by_row_path rows); specs = by_id specs; pruning = pruning })) none'
-    ∙ ap (λ (ws : List Row). Ok (record { wanted = ws; specs = by_id specs; pruning = pruning })) same
-    ∙ ap (λ (ss : List Spec). Ok (record { wanted = wanted; specs = ss; pruning = pruning })) (sym by)
+    let keeps : pruner_of given ids ≡ pruner_of parts specs = ap (λ ss. pruner_of given ss) by ∙ pruner-by_id given specs ∙ ap (λ ps. pruner_of ps specs) same in
+    let wants : wanted_rows (pruner_of parts specs) (by_row_path rows) ≡ wanted =
+    ap (λ rs. wanted_rows (pruner_of parts specs) rs) (sym sorted') ∙ ap (λ p. wanted_rows p found) (sym keeps) ∙ sym is in
+    ap (λ (rs : List Row). unless_missing rs (scan_with rows specs parts)) none'
+    ∙ ap (λ (ws : List Row). Ok (record { wanted = ws; specs = by_id specs; filter = parts })) wants
+    ∙ ap (λ (ss : List Spec). Ok (record { wanted = wanted; specs = ss; filter = parts })) (sym by)
+    ∙ ap (λ (ps : List (Part BoundLeaf)). Ok (record { wanted = wanted; specs = ids; filter = ps })) (sym same)
 
 first_missing : (f : ScanFault) (xs : List Row) (scan : Scanned) → NamesFirst f xs → unless_missing xs scan ≡ Err f
 first_missing f [] scan h = absurd h
 first_missing f (row ∷ rows) scan h = ap Err (sym h)
 
 -- where a row has none, there is no scan
-pub scan_of-missing : (rows found : List Row) (specs ids : List Spec) (pruning : Pruning) (f : ScanFault) → found ≡ by_row_path rows → ids ≡ by_id specs → NamesFirst f (without_spec ids found) → scan_of rows specs pruning ≡ Err f
-scan_of-missing rows found specs ids pruning f sorted' by first =
+pub scan_of-missing : (rows found : List Row) (specs ids : List Spec) (parts : List (Part BoundLeaf)) (f : ScanFault) → found ≡ by_row_path rows → ids ≡ by_id specs → NamesFirst f (without_spec ids found) → scan_of rows specs parts ≡ Err f
+scan_of-missing rows found specs ids parts f sorted' by first =
     let same : without_spec ids found ≡ without_spec specs (by_row_path rows) = ap (λ ss. without_spec ss found) by ∙ ap (λ rs. without_spec (by_id specs) rs) sorted' ∙ without-by_id specs (by_row_path rows) in
     first_missing f (without_spec specs (by_row_path rows)) _ (subst (NamesFirst f) same first)
 
 -- what a scan is that there is
-pub scan_is : (rows : List Row) (specs : List Spec) (scan : Scanned) → IsScanOf rows specs scan → (without_spec specs (by_row_path rows) ≡ []) × (record { wanted = wanted_rows (pruner_of scan.pruning) (by_row_path rows); specs = by_id specs; pruning = scan.pruning } ≡ scan)
-scan_is rows specs scan h =
-    let made : Scanned = record { wanted = wanted_rows (pruner_of scan.pruning) (by_row_path rows); specs = by_id specs; pruning = scan.pruning } in
+pub scan_made : (rows : List Row) (specs : List Spec) (parts : List (Part BoundLeaf)) (scan : Scanned) → scan_of rows specs parts ≡ Ok scan → (without_spec specs (by_row_path rows) ≡ []) × (scan_with rows specs parts ≡ scan)
+scan_made rows specs parts scan h =
+    let made : Scanned = scan_with rows specs parts in
     let P : (xs : List Row) → unless_missing xs made ≡ Ok scan → (xs ≡ []) × (made ≡ scan) =
     λ xs. elim xs as (λ v. unless_missing v made ≡ Ok scan → (v ≡ []) × (made ≡ scan)) [ [] ↦ λ e. (refl, cc) | row ∷ rest ↦ λ e. cc ] in
     P (without_spec specs (by_row_path rows)) h
+
+pub scan_is : (rows : List Row) (specs : List Spec) (scan : Scanned) → IsScanOf rows specs scan → (without_spec specs (by_row_path rows) ≡ []) × (scan_with rows specs scan.filter ≡ scan)
+scan_is rows specs scan h = scan_made rows specs scan.filter scan h
+
+-- the scan that was made is one of its own filter
+pub made : (rows : List Row) (specs : List Spec) (parts : List (Part BoundLeaf)) (scan : Scanned) → scan_of rows specs parts ≡ Ok scan → (scan.filter ≡ parts) × IsScanOf rows specs scan
+made rows specs parts scan h =
+    let same : parts ≡ scan.filter = ap (λ (s : Scanned). s.filter) (scan_made rows specs parts scan h).1 in
+    (sym same, subst (λ (ps : List (Part BoundLeaf)). scan_of rows specs ps ≡ Ok scan) same h)
+
+-- it keeps the same by the sorted specs
+pub same_pruner : (rows : List Row) (specs : List Spec) (scan : Scanned) → IsScanOf rows specs scan → pruner scan ≡ pruner_of scan.filter specs
+same_pruner rows specs scan h =
+    ap (λ (ss : List Spec). pruner_of scan.filter ss) (sym (ap (λ (s : Scanned). s.specs) (scan_is rows specs scan h).1)) ∙ pruner-by_id scan.filter specs

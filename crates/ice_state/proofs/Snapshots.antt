@@ -4,16 +4,18 @@ use Rattle.std.specs.List.{flat_map, list_any}
 use Rattle.ice_meta.specs.declared.spec.Spec.{Spec}
 use Rattle.ice_manifest.specs.declared.row.Row.{Row}
 use Rattle.ice_state.specs.Contents.{Content, World, live_by, manifest_of, reading, reading_of, slots_of, content, every_row, HasEach}
-use Rattle.ice_state.specs.Covering.{FieldType, AreCovered}
+use Rattle.ice_filter.specs.declared.bound.BoundLeaf.{BoundLeaf}
+use Rattle.ice_filter.specs.declared.parts.Part.{Part}
+use Rattle.ice_state.specs.Covering.{AreCovered, HasSoundSummaries}
 use Rattle.ice_state.specs.Outcomes.{missing, missing_at, bad, bad_at, entries_in, kept_in, outcome_of, outcome}
-use Rattle.ice_state.specs.Pruning.{Pruner, pruner_of, keeps, kept}
+use Rattle.ice_state.specs.Pruning.{Pruner, pruner_of, keeps, kept, IsOpen}
 use Rattle.ice_state.specs.Scans.{Scanned, pruner, by_row_path, row_before, wanted_rows, IsScanOf}
 use Rattle.ice_state.specs.Snapshots.{live, live_or_none, fault_or_none, bad_row, AreKeptWanted, plan_of_rows, plan_of_snapshot}
 use Rattle.ice_state.specs.Specs.{by_id}
-use Rattle.ice_state.proofs.Covered.{open_of, sound_of, kept_wanted_of}
+use Rattle.ice_state.proofs.Covered.{kept_wanted_of}
 use Rattle.ice_state.proofs.Filters.{all_sorted}
 use Rattle.ice_state.proofs.Pruned.{kept_wanted, pruned}
-use Rattle.ice_state.proofs.Scans.{scan_is}
+use Rattle.ice_state.proofs.Scans.{scan_is, same_pruner}
 use Rattle.ice_state.proofs.Specs.{spec_of-by_id}
 
 missing-slot : (scan : Scanned) (row : Row) (bytes : Option (List ℕ)) → is_some bytes ≡ true → missing_at row (option_map (reading_of scan row) bytes) ≡ []
@@ -42,11 +44,11 @@ kept-every world scan [] = refl
 kept-every world scan (row ∷ rows) = rw (kept-slot scan row (world row.path), kept-every world scan rows) refl
 
 -- over rows in their order
-of_rows : (world : World) (scan : Scanned) (rows : List Row) → AreKeptWanted (pruner scan) (live world scan.specs) rows → HasEach world (wanted_rows (pruner scan) rows) →
+of_rows : (world : World) (scan : Scanned) (rows : List Row) → IsOpen scan.specs (pruner scan) → AreKeptWanted (pruner scan) (live world scan.specs) rows → HasEach world (wanted_rows (pruner scan) rows) →
     outcome_of (wanted_rows (pruner scan) rows) (slots_of world scan (replicate (length (wanted_rows (pruner scan) rows)) true) (wanted_rows (pruner scan) rows)) ≡ plan_of_rows (pruner scan) world scan.specs rows
-of_rows world scan rows covered has =
+of_rows world scan rows opens covered has =
     let w = wanted_rows (pruner scan) rows in
-    rw (missing-every world scan w has, bad-every world scan w, kept-every world scan w, kept_wanted (pruner scan) (live world scan.specs) rows covered, pruned (pruner scan) world scan.specs rows (open_of scan.specs scan.pruning) covered) refl
+    rw (missing-every world scan w has, bad-every world scan w, kept-every world scan w, kept_wanted (pruner scan) (live world scan.specs) rows covered, pruned (pruner scan) world scan.specs rows opens covered) refl
 
 -- by the sorted specs as by those that were handed in
 manifest-by_id : (specs : List Spec) (row : Row) (bytes : List ℕ) → manifest_of (by_id specs) row bytes ≡ manifest_of specs row bytes
@@ -78,19 +80,25 @@ kept_wanted-by_id : (p : Pruner) (world : World) (specs : List Spec) (rows : Lis
 kept_wanted-by_id p world specs [] all = tt
 kept_wanted-by_id p world specs (row ∷ rows) all = (λ h. all.0 (ap (λ es. list_any (keeps p) es) (sym (live-by_id world specs row)) ∙ h), kept_wanted-by_id p world specs rows all.1)
 
-pub of_snapshot : (type_of : FieldType) (world : World) (scan : Scanned) (rows : List Row) (specs : List Spec) (c : Content) → IsScanOf rows specs scan → AreCovered type_of world specs rows → HasEach world scan.wanted → c ≡ content world scan (every_row scan) →
-    outcome scan c ≡ plan_of_snapshot (pruner_of scan.pruning) world specs rows
-of_snapshot type_of world scan rows specs c is covered has taken =
-    let p = pruner scan in
-    let same = (scan_is rows specs scan is).1 in
-    let ids : by_id specs ≡ scan.specs = ap (λ (s : Scanned). s.specs) same in
-    let w : wanted_rows p (by_row_path rows) ≡ scan.wanted = ap (λ (s : Scanned). s.wanted) same in
-    let wanted : AreKeptWanted p (live world specs) (by_row_path rows) =
-    all_sorted row_before _ rows (kept_wanted_of type_of p world specs rows (sound_of type_of specs scan.pruning) covered) in
-    let kept' : AreKeptWanted p (live world scan.specs) (by_row_path rows) =
-    subst (λ (ss : List Spec). AreKeptWanted p (live world ss) (by_row_path rows)) ids (kept_wanted-by_id p world specs (by_row_path rows) wanted) in
-    ap (λ (s : Content). outcome_of scan.wanted s) taken
-    ∙ ap (λ (ws : List Row). outcome_of ws (slots_of world scan (replicate (length ws) true) ws)) (sym w)
-    ∙ of_rows world scan (by_row_path rows) kept' (subst (HasEach world) (sym w) has)
-    ∙ ap (λ (ss : List Spec). plan_of_rows p world ss (by_row_path rows)) (sym ids)
-    ∙ plan-by_id p world specs (by_row_path rows)
+-- what the law of filters says
+module _ (opens : (parts : List (Part BoundLeaf)) (specs : List Spec) → IsOpen specs (pruner_of parts specs)) (sound : (parts : List (Part BoundLeaf)) (specs : List Spec) → HasSoundSummaries specs (pruner_of parts specs)) where
+  pub of_snapshot : (world : World) (scan : Scanned) (rows : List Row) (specs : List Spec) (c : Content) → IsScanOf rows specs scan → AreCovered world specs rows → HasEach world scan.wanted → c ≡ content world scan (every_row scan) →
+      outcome scan c ≡ plan_of_snapshot (pruner_of scan.filter specs) world specs rows
+  of_snapshot world scan rows specs c is covered has taken =
+      let p = pruner_of scan.filter specs in
+      let own : pruner scan ≡ p = same_pruner rows specs scan is in
+      let same = (scan_is rows specs scan is).1 in
+      let ids : by_id specs ≡ scan.specs = ap (λ (s : Scanned). s.specs) same in
+      let w : wanted_rows (pruner scan) (by_row_path rows) ≡ scan.wanted = ap (λ q. wanted_rows q (by_row_path rows)) own ∙ ap (λ (s : Scanned). s.wanted) same in
+      let wanted : AreKeptWanted p (live world specs) (by_row_path rows) =
+      all_sorted row_before _ rows (kept_wanted_of p world specs rows (sound scan.filter specs) covered) in
+      let kept' : AreKeptWanted p (live world scan.specs) (by_row_path rows) =
+      subst (λ (ss : List Spec). AreKeptWanted p (live world ss) (by_row_path rows)) ids (kept_wanted-by_id p world specs (by_row_path rows) wanted) in
+      let kept'' : AreKeptWanted (pruner scan) (live world scan.specs) (by_row_path rows) =
+      subst (λ (q : Pruner). AreKeptWanted q (live world scan.specs) (by_row_path rows)) (sym own) kept' in
+      ap (λ (s : Content). outcome_of scan.wanted s) taken
+      ∙ ap (λ (ws : List Row). outcome_of ws (slots_of world scan (replicate (length ws) true) ws)) (sym w)
+      ∙ of_rows world scan (by_row_path rows) (opens scan.filter scan.specs) kept'' (subst (HasEach world) (sym w) has)
+      ∙ ap (λ (q : Pruner). plan_of_rows q world scan.specs (by_row_path rows)) own
+      ∙ ap (λ (ss : List Spec). plan_of_rows p world ss (by_row_path rows)) (sym ids)
+      ∙ plan-by_id p world specs (by_row_path rows)

@@ -10,10 +10,11 @@ use Rattle.std.proofs.lemmas.Bool.Decides.{Decides-int_eq}
 use Rattle.std.proofs.lemmas.Cmp.{int_cmp_total}
 use Rattle.std.proofs.lemmas.List.Sorted.{ranks_by, sorted_far}
 use Rattle.contract_words.specs.Sorting.{put}
-use Rattle.contract_words.proofs.Sorted.{Rises, irreflexive, rises_from}
+use Rattle.contract_words.proofs.Sorted.{Rises, irreflexive, rises_from, sorted_rises}
 use Rattle.ice_meta.specs.declared.spec.Spec.{Spec}
-use Rattle.ice_state.specs.Parts.{if_of}
+use Rattle.ice_state.specs.Parts.{AreById, if_of}
 use Rattle.ice_state.specs.Specs.{spec_of, id_before, by_id}
+use Rattle.ice_state.proofs.Elements.{sorted_from_rises}
 
 pub id_order : IsStrictWeakOrder id_before
 id_order = ranks_by int_cmp_total (λ (s : Spec). s.id)
@@ -59,6 +60,10 @@ find-put id x (y ∷ ys) =
 pub spec_of-by_id : (specs : List Spec) (id : ℤ) → spec_of (by_id specs) id ≡ spec_of specs id
 spec_of-by_id [] id = refl
 spec_of-by_id (x ∷ xs) id = find-put id x (by_id xs) ∙ ap (λ (o : Option Spec). cond (has id x) (Some x) o) (spec_of-by_id xs id)
+
+-- the sorted specs are in order
+pub in_order : (specs found : List Spec) → found ≡ by_id specs → AreById found
+in_order specs found is = subst AreById (sym is) (sorted_from_rises id_before id_order (by_id specs) (sorted_rises id_before id_order specs))
 
 -- ---- the search
 

@@ -15,6 +15,7 @@ ghost use Rattle.ice_state.specs.Snapshots.{plan_of_snapshot};
 
 use crate::fault::FinishFault;
 use crate::finish::plan_or_fault;
+use crate::laws::filtering;
 use crate::plan::Plan;
 use crate::reading::{Reading, read};
 use crate::scan::Scan;
@@ -123,6 +124,7 @@ impl Partial {
             self.now ≡ content world scan.now (every_row scan.now) →
             Gives FinishFault.Memory (λ plan. plan) result (plan_of_snapshot (pruner_of scan.now.filter specs) world specs rows) }
     {
+        filtering();
         plan_or_fault(self.alloc, scan.wanted(), &self.slots)
     }
 }

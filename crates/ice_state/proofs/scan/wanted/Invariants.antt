@@ -4,4 +4,4 @@ use Rattle.ice_state.specs.Scans.{wanted_rows}
 use Rattle.ice_state.proofs.scan.wanted.Given as goal
 
 abbrev pub invariant-rows : goal.invariant-rows
-invariant-rows l = l.wanted.items ≡ wanted_rows (pruner_of l.pruning) l.yielded
+invariant-rows l = l.wanted.items ≡ wanted_rows (pruner_of l.pruning.filter l.pruning.specs) l.yielded

@@ -1,5 +1,5 @@
 use Rattle.std.proofs.Common.{refl}
 use Rattle.ice_filter.proofs.bound.Bound.always.Goals as goal
 
-pub returns : goal.returns
-returns c = λ row. rw c.always.ensures refl
+pub returns-clause-met : goal.returns-clause-met
+returns-clause-met c = λ row. rw c.always.ensures refl

@@ -10,7 +10,7 @@ pub read-requires : goal.read-requires
 read-requires c =
     let row = c.index-wanted-i.is ∙ ap (λ (rs : List Row). get_or rs c.args.i c.index-wanted-i.result) c.wanted.ensures in
     let scan = c.args.scan.now in
-    spec_has_id scan.specs c.index-wanted-i.result.spec_id c.spec_of.result.now (sym (spec_at-row scan.specs scan.wanted c.args.i c.index-wanted-i.result c.requires.row row) ∙ c.spec_of.ensures)
+    spec_has_id scan.specs c.index-wanted-i.result.spec_id c.filter_of.result.spec (sym (spec_at-row scan.specs scan.wanted c.args.i c.index-wanted-i.result c.requires.row row) ∙ c.filter_of.ensures.spec)
 
 pub returns-then-is_slot_taken-clause-ok : goal.returns-then-is_slot_taken-clause-ok
 returns-then-is_slot_taken-clause-ok c =
@@ -22,8 +22,8 @@ returns-then-is_slot_taken-clause-world c = λ world ts is has. took-in_world wo
 pub returns-clause-ok : goal.returns-clause-ok
 returns-clause-ok c =
     let row = c.index-wanted-i.is ∙ ap (λ (rs : List Row). get_or rs c.args.i c.index-wanted-i.result) c.wanted.ensures in
-    let step = with_row-took c.args.scan.now c.self.inside.slots.items c.args.scan.now.wanted c.args.i c.args.bytes.now c.index-wanted-i.result c.spec_of.result.now c.requires.row row c.spec_of.ensures in
-    rw (c.put_row.ensures, c.in_ok-reading.ensures, c.pruning.ensures, step, c.self.view_is) refl
+    let step = with_row-took c.args.scan.now c.self.inside.slots.items c.args.scan.now.wanted c.args.i c.args.bytes.now c.index-wanted-i.result c.filter_of.result c.filter_of.ensures.filter c.requires.row row c.filter_of.ensures.spec in
+    rw (c.put_row.ensures, c.in_ok-reading.ensures, step, c.self.view_is) refl
 
 pub returns-clause-world : goal.returns-clause-world
 returns-clause-world c = λ world ts is has. took-in_world world _ ts _ _ _ _ (returns-clause-ok c) is has

@@ -4,7 +4,7 @@ use Rattle.ice_meta.specs.declared.spec.Spec.{Spec}
 use Rattle.ice_state.specs.Specs.{id_before}
 use Rattle.contract_words.proofs.Sorted.{sorted_from_sort}
 use Rattle.ice_state.proofs.Specs.{id_order}
-use Rattle.ice_state.proofs.scan.sort_by_id.Goals as goal
+use Rattle.ice_state.proofs.pruning.sort_by_id.Goals as goal
 
 pub returns : goal.returns
 returns c =

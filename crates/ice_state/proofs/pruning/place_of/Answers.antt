@@ -2,7 +2,7 @@ use Rattle.std.proofs.Common.{rules, of_calls}
 use Rattle.std.specs.Prelude.{int_lt}
 use Rattle.std.proofs.lemmas.Fn.{always_returns_same}
 use Rattle.ice_state.proofs.Specs.{found, parted}
-use Rattle.ice_state.proofs.scan.place_of.Goals as goal
+use Rattle.ice_state.proofs.pruning.place_of.Goals as goal
 
 pub returns : goal.returns
 returns c =
