@@ -63,20 +63,21 @@ filter_same : {X : Type 0} (p q : X → Bool) (xs : List X) → AllByRecursion (
 filter_same p q [] all = refl
 filter_same p q (x ∷ xs) all = rw (all.0, filter_same p q xs all.1) refl
 
-reading_by_spec : (scan : Scanned) (row : Row) (spec : Spec) (bytes : List ℕ) → spec_of scan.specs row.spec_id ≡ Some spec → reading_by (filtered_by scan.filter spec) row bytes ≡ reading (pruner scan) (live_of row spec bytes)
-reading_by_spec scan row spec bytes h = of (live_of row spec bytes) refl where
+module _ (scan : Scanned) (row : Row) (spec : Spec) (bytes : List ℕ) (is : spec_of scan.specs row.spec_id ≡ Some spec) where
+  abbrev by : Pruner
   by = pruner_by (filtered_by scan.filter spec)
 
-  same : (l : Live) → IsOfSpec row spec l.entry → keeps by l ≡ keeps (pruner scan) l
-  same l of =
-      ap (λ (o : Option Spec). by_projection scan.filter (λ part. part_meets part l.entry.file.tuple) o && (not (holds Data l.entry) || file_may scan.filter l.bounds)) (sym (ap (spec_of scan.specs) of.0 ∙ h))
+  same_test : (l : Live) → IsOfSpec row spec l.entry → keeps by l ≡ keeps (pruner scan) l
+  same_test l of =
+      ap (λ (o : Option Spec). by_projection scan.filter (λ part. part_meets part l.entry.file.tuple) o && (not (holds Data l.entry) || file_may scan.filter l.bounds)) (sym (ap (spec_of scan.specs) of.0 ∙ is))
 
-  of : (m : Result (List Live) ManifestFault) → live_of row spec bytes ≡ m → reading by m ≡ reading (pruner scan) m
-  of (Err fault) e = refl
-  of (Ok found) e = ap (λ (ls : List Live). Good (entries ls)) (filter_same (keeps by) (keeps (pruner scan)) found (all_implies (λ (l : Live). IsOfSpec row spec l.entry) (λ (l : Live). keeps by l ≡ keeps (pruner scan) l) found same (manifest_of_spec row spec bytes found e)))
+  same_reading : (m : Result (List Live) ManifestFault) → live_of row spec bytes ≡ m → reading by m ≡ reading (pruner scan) m
+  same_reading (Err fault) e = refl
+  same_reading (Ok found) e =
+      ap (λ (ls : List Live). Good (entries ls)) (filter_same (keeps by) (keeps (pruner scan)) found (all_implies (λ (l : Live). IsOfSpec row spec l.entry) (λ (l : Live). keeps by l ≡ keeps (pruner scan) l) found same_test (manifest_of_spec row spec bytes found e)))
 
 pub reading_is : (scan : Scanned) (row : Row) (f : OfSpec) (bytes : List ℕ) → f.filter ≡ scan.filter → spec_of scan.specs row.spec_id ≡ Some f.spec → reading_by f row bytes ≡ reading_of scan row bytes
 reading_is scan row f bytes same h =
     ap (λ ps. reading_by (filtered_by ps f.spec) row bytes) same
-    ∙ reading_by_spec scan row f.spec bytes h
+    ∙ same_reading scan row f.spec bytes h (live_of row f.spec bytes) refl
     ∙ ap (λ (o : Option Spec). reading (pruner scan) (live_by o row bytes)) (sym h)

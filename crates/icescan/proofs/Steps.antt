@@ -18,12 +18,9 @@ use Rattle.ice_state.specs.declared.fault.FinishFault.{FinishFault}
 use Rattle.ice_state.specs.declared.fault.FinishFault.TheVariants as finish
 use Rattle.ice_state.specs.Lines.{OwnedLine}
 use Rattle.ice_state.specs.Contents.{Content, HasEach, content, no_row}
-use Rattle.ice_state.specs.declared.pruning.Pruning.{Pruning}
-use Rattle.ice_state.specs.declared.pruning.Pruning.TheVariants.{Nothing}
-use Rattle.ice_state.specs.Pruning.{everything, pruner_of}
-use Rattle.ice_state.specs.Specs.{by_id}
+use Rattle.ice_state.specs.Pruning.{everything}
 use Rattle.std.specs.List.{AllByRecursion}
-use Rattle.ice_state.specs.Scans.{Scanned, IsScanOf, scan_of, unless_missing, without_spec, by_row_path, wanted_rows}
+use Rattle.ice_state.specs.Scans.{Scanned, scan_of}
 use Rattle.ice_state.specs.Snapshots.{plan_of_snapshot}
 use Rattle.icescan.specs.declared.fault.RunFault.{RunFault}
 use Rattle.icescan.specs.declared.fault.RunFault.TheVariants as run
@@ -68,17 +65,6 @@ module _ (r : List ℕ → Type 0) (w : Type 0) where
   -- where a step gave its value, the next one's fault is the run's
   pub then_ends : {A B : Type 0} (read : Result A RunFault) (next : A → Result B RunFault) (x : A) (e : RunFault) → read ≡ Ok x → MayEnd (next x) r w e → MayEnd (read >>= next) r w e
   then_ends read next x e is h = subst (λ s. MayEnd (s >>= next) r w e) (sym is) h
-
--- the scan leaves out what it was made to leave out
-pub scan_again : (rows : List Row) (specs : List Spec) (made : Scanned) → scan_of rows specs Nothing ≡ Ok made → made.pruning ≡ Nothing
-scan_again rows specs made h = kept (without_spec specs (by_row_path rows)) (record { wanted = wanted_rows (pruner_of Nothing) (by_row_path rows); specs = by_id specs; pruning = Nothing }) refl h
-  where
-    kept : (xs : List Row) (all : Scanned) → all.pruning ≡ Nothing → unless_missing xs all ≡ Ok made → made.pruning ≡ Nothing
-    kept [] all p e = let q : all ≡ made = cc in subst (λ (s : Scanned). s.pruning ≡ Nothing) q p
-    kept (row ∷ rest) all p e = absurd cc
-
-pub is_scan_of : (rows : List Row) (specs : List Spec) (made : Scanned) → scan_of rows specs Nothing ≡ Ok made → IsScanOf rows specs made
-is_scan_of rows specs made h = subst (λ (p : Pruning). scan_of rows specs p ≡ Ok made) (sym (scan_again rows specs made h)) h
 
 -- specs without fields
 pub are_without_fields : (rows : List Row) → AllByRecursion (λ spec. spec.fields ≡ []) (specs_of rows)
@@ -193,13 +179,13 @@ module _ (f : List ℕ → Type 0) (w : Type 0) (world : World) (path : List ℕ
       unfolding rows_in
       rows_are = ap (as_run of_list) is
 
-      pub scan_end : (e : ScanFault) → (e ≢ scan.Memory → scan_of rows (specs_of rows) Nothing ≡ Err e) → MayEnd (answer world path) stops w (of_scan e)
+      pub scan_end : (e : ScanFault) → (e ≢ scan.Memory → scan_of rows (specs_of rows) [] ≡ Err e) → MayEnd (answer world path) stops w (of_scan e)
       unfolding answer scan_in
       scan_end e h =
           then_ends stops w (file_in world path) _ bytes (of_scan e) has
-          (then_ends stops w (rows_in bytes) _ rows (of_scan e) rows_are (first_ends stops w stops (scan_in rows) _ (of_scan e) same (scan_ends stops ⊥ (scan_of rows (specs_of rows) Nothing) e h)))
+          (then_ends stops w (rows_in bytes) _ rows (of_scan e) rows_are (first_ends stops w stops (scan_in rows) _ (of_scan e) same (scan_ends stops ⊥ (scan_of rows (specs_of rows) []) e h)))
 
-      module _ (made : Scanned) (scanned : scan_of rows (specs_of rows) Nothing ≡ Ok made) where
+      module _ (made : Scanned) (scanned : scan_of rows (specs_of rows) [] ≡ Ok made) where
         scan_is : scan_in rows ≡ Ok made
         unfolding scan_in
         scan_is = ap (as_run of_scan) scanned

@@ -16,7 +16,7 @@ use ice_desk::{Files, ReadFault, take_wanted};
 use ice_filter::Bound;
 use ice_manifest::{Row, read_list};
 use ice_meta::Spec;
-use ice_state::laws::covering_without_fields;
+use ice_state::laws::{covering_without_fields, scanning, unfiltered};
 use ice_state::{Partial, Scan};
 use std::alloc::{AllocError, Global};
 
@@ -86,8 +86,11 @@ pub fn run_list_plan<F: Files, W: Sink>(
     let scan = Scan::new(alloc, rows, specs, Bound::always(alloc))?;
     let mut state = Partial::empty(alloc, &scan)?;
     take_wanted(alloc, files, &scan, &mut state)?;
-    // Specs without fields have summaries that tell the truth, so the state's outcome is the plan of the snapshot.
+    // Specs without fields have summaries that tell the truth, and no filter leaves nothing out: so the state's outcome
+    // is the plan of the snapshot.
+    scanning();
     covering_without_fields();
+    unfiltered();
     let plan = state.finish(&scan)?;
     write_plan(alloc, &plan.lines(), output)
 }

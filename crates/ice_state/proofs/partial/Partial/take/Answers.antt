@@ -17,7 +17,7 @@ returns-then-is_slot_taken-clause-ok c =
     subst (λ (s : Content). s ≡ took c.args.scan.now s c.args.i c.args.bytes.now) (c.deref.ensures.value ∙ c.self.view_is) (c.is_slot_taken.ensures.kept (search rules) c.args.scan.now c.args.bytes.now)
 
 pub returns-then-is_slot_taken-clause-world : goal.returns-then-is_slot_taken-clause-world
-returns-then-is_slot_taken-clause-world c = λ world ts is has. took-in_world world _ ts _ _ _ _ (returns-then-is_slot_taken-clause-ok c) is has
+returns-then-is_slot_taken-clause-world c = λ world ts is has. took-in_world world c.args.scan.now ts _ _ _ _ (returns-then-is_slot_taken-clause-ok c) is has
 
 pub returns-clause-ok : goal.returns-clause-ok
 returns-clause-ok c =
@@ -26,7 +26,7 @@ returns-clause-ok c =
     rw (c.put_row.ensures, c.in_ok-reading.ensures, step, c.self.view_is) refl
 
 pub returns-clause-world : goal.returns-clause-world
-returns-clause-world c = λ world ts is has. took-in_world world _ ts _ _ _ _ (returns-clause-ok c) is has
+returns-clause-world c = λ world ts is has. took-in_world world c.args.scan.now ts _ _ _ _ (returns-clause-ok c) is has
 
 pub returns-clause-of_scan : goal.returns-clause-of_scan
 returns-clause-of_scan c = ap length (returns-clause-ok c) ∙ length-took c.args.scan.now _ _ c.args.i c.args.bytes.now ∙ c.requires.of_scan
