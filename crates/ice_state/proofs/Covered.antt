@@ -1,5 +1,5 @@
 -- Where the summaries tell the truth, rows with kept entries are wanted.
-use Rattle.std.proofs.Common.{◌≡◌, ℤ, List, [], ◌∷◌, refl, sym, ap, ◌∙◌, Bool, true, false, cond, map, inl, inr, Option, Some, None, subst}
+use Rattle.std.proofs.Common.{◌≡◌, ℤ, List, [], ◌∷◌, sym, ap, ◌∙◌, Bool, true, false, cond, map, inl, inr, Option, Some, None, subst}
 use Rattle.std.specs.List.{list_any, find, AllByRecursion}
 use Rattle.std.specs.Ordering.{int_eq}
 use Rattle.ice_value.specs.declared.cell.Cell.{Cell}

@@ -1,5 +1,5 @@
 -- What a filter keeps, by the laws of its projections.
-use Rattle.std.proofs.Common.{◌≡◌, ℤ, List, [], refl, sym, ap, ◌∙◌, Bool, true, false, IsTrue, Option, Some, None, is_none, option_map}
+use Rattle.std.proofs.Common.{◌≡◌, List, refl, sym, ap, ◌∙◌, Bool, true, IsTrue, Option, Some, None, is_none, option_map}
 use Rattle.std.specs.Ordering.{int_eq}
 use Rattle.std.proofs.lemmas.Bool.Decides.{Decides-int_eq}
 use Rattle.ice_value.specs.Applying.{same_partition}

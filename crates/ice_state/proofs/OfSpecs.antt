@@ -1,5 +1,5 @@
 -- The live entries of a manifest are of its row's spec.
-use Rattle.std.proofs.Common.{◌≡◌, ℕ, ◌+◌, Bool, true, false, not, ◌&&◌, ◌||◌, cond, filter, List, [], ◌∷◌, refl, sym, ap, subst, ◌∙◌, Option, Some, None, option_map, Result, Ok, Err}
+use Rattle.std.proofs.Common.{◌≡◌, ℕ, Bool, not, ◌&&◌, ◌||◌, filter, List, [], ◌∷◌, refl, sym, ap, subst, ◌∙◌, Option, Some, None, option_map, Result, Ok, Err}
 use Rattle.std.specs.List.{AllByRecursion}
 use Rattle.ice_meta.specs.declared.spec.Spec.{Spec}
 use Rattle.ice_meta.specs.Partitioning.{is_unpartitioned}
@@ -12,7 +12,6 @@ use Rattle.ice_manifest.proofs.Contents.{are_of_their_spec}
 use Rattle.ice_value.specs.declared.file_content.FileContent.TheVariants.{Data}
 use Rattle.ice_project.specs.Files.{file_may}
 use Rattle.ice_project.specs.Tuples.{part_meets}
-use Rattle.ice_state.specs.declared.reading.Reading.{Reading}
 use Rattle.ice_state.specs.declared.reading.Reading.TheVariants.{Good}
 use Rattle.ice_state.specs.Contents.{World, live_by, manifest_of, reading, reading_of}
 use Rattle.ice_state.specs.Parts.{OfSpec, filtered_by, pruner_by, reading_by}

@@ -1,5 +1,5 @@
 -- Lines by the places of their files.
-use Rattle.std.proofs.Common.{◌≡◌, ◌<◌, ℕ, zero, suc, List, [], ◌∷◌, refl, sym, ap, ◌∙◌, Bool, true, false, not, ◌&&◌, length, get_or, arith, map, filter, Some}
+use Rattle.std.proofs.Common.{◌≡◌, ◌<◌, ℕ, zero, suc, List, [], ◌∷◌, refl, sym, ap, ◌∙◌, true, not, ◌&&◌, length, get_or, arith, map, filter, Some}
 use Rattle.std.specs.List.{slice_get, AllByRecursion}
 use Rattle.ice_manifest.specs.declared.entry.Entry.{Entry}
 use Rattle.ice_value.specs.declared.file_content.FileContent.{FileContent}

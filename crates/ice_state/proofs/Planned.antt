@@ -1,9 +1,8 @@
 -- The test of applying says what the rules say, and a plan's lines have exactly the delete files that apply.
-use Rattle.std.proofs.Common.{◌≡◌, ◌<◌, ◌≤◌, ◌↔◌, ℕ, List, [], ◌∷◌, refl, ap, true, false, map, filter, cond, ◌&&◌, ◌||◌, nat_le, nat_lt, arith, subst}
+use Rattle.std.proofs.Common.{◌≡◌, ◌↔◌, List, [], ◌∷◌, refl, ap, true, false, map, filter, cond, ◌&&◌, subst}
 use Rattle.std.specs.Bool.{Decides}
 use Rattle.std.specs.List.{Contains}
-use Rattle.std.specs.Ordering.{int_eq}
-use Rattle.std.proofs.lemmas.Bool.Decides.{Decides-int_eq, Decides-and, Decides-or, nat_tests}
+use Rattle.std.proofs.lemmas.Bool.Decides.{Decides-and}
 use Rattle.ice_manifest.specs.declared.entry.Entry.{Entry}
 use Rattle.ice_value.specs.declared.file_content.FileContent.{FileContent}
 use Rattle.ice_value.specs.declared.file_content.FileContent.TheVariants.{Data, PositionDeletes, EqualityDeletes}

@@ -9,9 +9,8 @@ use Rattle.ice_filter.specs.declared.parts.Part.{Part}
 use Rattle.ice_meta.specs.declared.spec.Spec.{Spec}
 use Rattle.ice_manifest.specs.declared.row.Row.{Row}
 use Rattle.ice_state.specs.declared.fault.ScanFault.TheVariants.{NoSuchSpec}
-use Rattle.ice_state.specs.Pruning.{pruner_of}
 use Rattle.ice_state.specs.Scans.{Scanned, pruner, row_before, by_row_path, without_spec, wanted_rows, unless_missing, scan_with, scan_of, IsScanOf, IsFirstUnknown}
-use Rattle.ice_state.specs.Specs.{spec_of, by_id}
+use Rattle.ice_state.specs.Specs.{spec_of}
 use Rattle.ice_state.proofs.Elements.{filtered, refiltered, all_at, sorted_contains, contains_sorted, sorted_from_rises}
 use Rattle.ice_state.proofs.Scans.{row_order, scan_is, same_pruner}
 use Rattle.ice_state.proofs.Specs.{spec_of-by_id}

@@ -1,5 +1,5 @@
 -- With the filter that is always met nothing is left out.
-use Rattle.std.proofs.Common.{◌≡◌, ◌==◌, List, [], ◌∷◌, ◌++◌, refl, sym, ap, ◌∙◌, Bool, true, false, not, ◌&&◌, ◌||◌, cond, length, filter, Option, Some, None, is_none, Ok}
+use Rattle.std.proofs.Common.{◌≡◌, ◌==◌, List, [], ◌∷◌, refl, ap, Bool, true, false, not, ◌||◌, cond, length, filter, Option, Some, None, is_none, Ok}
 use Rattle.std.specs.List.{flat_map, AllByRecursion}
 use Rattle.std.specs.Option.{IsSome, option_map}
 use Rattle.ice_value.specs.declared.cell.Cell.{Cell}
@@ -8,11 +8,10 @@ use Rattle.ice_value.specs.declared.file_content.FileContent.TheVariants.{Data}
 use Rattle.ice_meta.specs.Partitioning.{is_unpartitioned}
 use Rattle.ice_meta.specs.declared.spec.Spec.{Spec}
 use Rattle.ice_project.specs.Tuples.{part_meets}
-use Rattle.ice_manifest.specs.Manifests.{entries}
 use Rattle.ice_manifest.specs.declared.entry.Live.{Live}
 use Rattle.ice_manifest.specs.declared.row.Row.{Row}
 use Rattle.ice_state.specs.Contents.{World}
-use Rattle.ice_state.specs.Pruning.{by_projection, summaries_allow, pruner_of, everything, holds, keeps, kept, SaysItsSpec}
+use Rattle.ice_state.specs.Pruning.{by_projection, summaries_allow, pruner_of, everything, holds, keeps, SaysItsSpec}
 use Rattle.ice_state.specs.Scans.{Scanned, by_row_path, without_spec, scan_of}
 use Rattle.ice_state.specs.Snapshots.{live, plan_of_rows, plan_of_snapshot}
 use Rattle.ice_state.specs.Specs.{spec_of}

@@ -1,5 +1,5 @@
 -- What a filter lets a scan leave out: Apache Iceberg table spec, version 2, "Scan Planning".
-use Rattle.std.specs.Prelude.{◌≡◌, ℤ, Bool, true, false, ◌&&◌, ◌||◌, not, List, [], filter, Option, Some, None, option_map}
+use Rattle.std.specs.Prelude.{◌≡◌, ℤ, Bool, true, false, ◌&&◌, ◌||◌, not, List, filter, Option, Some, None, option_map}
 use Rattle.ice_value.specs.declared.cell.Cell.{Cell}
 use Rattle.ice_value.specs.declared.file_bounds.FileBounds.{FileBounds}
 use Rattle.ice_value.specs.declared.file_bounds.Summary.{Summary}

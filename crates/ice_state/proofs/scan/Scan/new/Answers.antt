@@ -1,4 +1,4 @@
-use Rattle.std.proofs.Common.{◌≡◌, List, [], sym, subst, rules}
+use Rattle.std.proofs.Common.{◌≡◌, [], sym, subst, rules}
 use Rattle.ice_state.specs.Parts.{NamesFirst}
 use Rattle.ice_state.specs.Pruning.{pruner_of}
 use Rattle.ice_state.specs.Scans.{without_spec, AllHaveSpec}
