@@ -1,13 +1,12 @@
 -- The steps of a list plan, and why each of them may end the run.
 use Rattle.std.proofs.Common.{◌≡◌, ◌≢◌, ◌⊎◌, ℕ, zero, suc, false, List, [], ◌∷◌, length, replicate, refl, sym, ap, subst, ◌∙◌, true, Option, Some, None, is_some, inl, inr}
-use Rattle.std.specs.Prelude.{Result, Ok, Err, filter}
+use Rattle.std.specs.Prelude.{Result, Ok, Err}
 use Rattle.contract_words.specs.Outcome.{◌>>=◌}
 use Rattle.ice_desk.specs.declared.fault.WantedFault.{WantedFault}
 use Rattle.ice_desk.specs.declared.fault.WantedFault.TheVariants as wanted
 use Rattle.ice_desk.specs.Wanted.{IsContentOf, MayStop, paths_of, reads_of, untaken}
 use Rattle.ice_desk.specs.Worlds.{EndsAt, EndsAtAbsent}
 use Rattle.ice_state.specs.Contents.{World}
-use Rattle.ice_meta.specs.declared.spec.Spec.{Spec}
 use Rattle.ice_manifest.specs.declared.fault.ListFault.{ListFault}
 use Rattle.ice_manifest.specs.declared.fault.ListFault.TheVariants as list
 use Rattle.ice_manifest.specs.declared.row.Row.{Row}
