@@ -1,14 +1,17 @@
 -- What the steps of writing a value leave.
-use Rattle.std.proofs.Common.{◌≡◌, ℕ, zero, suc, ◌+◌, ◌*◌, ◌/◌, ◌%◌, ◌^◌, ◌<◌, ◌≤◌, pos, List, [], ◌∷◌, ◌++◌, length, get_or, drop, refl, sym, ap, ◌∙◌, append_assoc, add-one, drop-cons, arith, rules, Vec, Box, String, Global, string_bytes}
+use Rattle.std.proofs.Common.{◌≡◌, ℕ, zero, suc, ◌+◌, ◌*◌, ◌/◌, ◌%◌, ◌^◌, ◌<◌, ◌≤◌, pos, ℤ, List, [], ◌∷◌, ◌++◌, length, get_or, drop, refl, sym, ap, ◌∙◌, append_assoc, add-one, map, drop-cons, arith, rules, Vec, Box, Global}
+use Rattle.std.proofs.lemmas.List.{append-nil}
 use Rattle.std.proofs.lemmas.Bool.{lt-ltb, le-ltb}
 use Rattle.std.proofs.Math.Nat.{pow-suc}
 use Rattle.std.proofs.Math.ListN.{drop_of_length-le}
+use denote.Ref.{Bor}
 use Rattle.avro_file.specs.declared.datum.Datum as datum
 use Rattle.avro_file.specs.declared.datum.Datum.{Datum}
-use Rattle.avro_file.specs.Value.{items, values_of, entries_of}
-use Rattle.avro_file.specs.View.{view, views, entry_views}
+use Rattle.avro_file.specs.Value.{Value, items, values_of, entries_of}
+use Rattle.avro_file.specs.View.{view, views, entry_views, pair_with, long_pairs, bytes_pairs}
 use Rattle.avro_file.specs.Writing.{groups_of, long_bytes, run_bytes, block_bytes, written, all_written, entries_written}
 use Rattle.avro_file.proofs.Views.{view-Union, view-Map}
+use Rattle.avro_file.proofs.Paired.{view-LongPairs, view-BytesPairs, long_pairs_len, bytes_pairs_len}
 use Rattle.avro_file.proofs.Taken.{values_len-values_of, entries_len-entries_of}
 
 -- ---- numbers
@@ -52,7 +55,7 @@ views_len : (ds : List Datum) → length (views ds) ≡ length ds
 views_len [] = refl
 views_len (d ∷ ds) = ap suc (views_len ds)
 
-entry_views_len : (es : List (String Global × Datum)) → length (entry_views es) ≡ length es
+entry_views_len : (es : List (Bor (List ℕ) × Datum)) → length (entry_views es) ≡ length es
 entry_views_len [] = refl
 entry_views_len (e ∷ es) = ap suc (entry_views_len es)
 
@@ -60,7 +63,7 @@ pub array_written : (v : Vec Datum Global) → written (view (datum.Array v)) �
 unfolding written
 array_written v = rw (view-Array v, values_len-values_of (views v.items), views_len v.items) refl
 
-pub map_written : (v : Vec (String Global × Datum) Global) → written (view (datum.Map v)) ≡ block_bytes (length v.items) (entries_written (entries_of (entry_views v.items)))
+pub map_written : (v : Vec (Bor (List ℕ) × Datum) Global) → written (view (datum.Map v)) ≡ block_bytes (length v.items) (entries_written (entries_of (entry_views v.items)))
 unfolding written
 map_written v = rw (view-Map v, entries_len-entries_of (entry_views v.items), entry_views_len v.items) refl
 
@@ -68,36 +71,62 @@ pub union_written : (n : ℕ) (b : Box Datum Global) → written (view (datum.Un
 unfolding written
 union_written n b = rw (view-Union n b) refl
 
-all_next : (ds : List Datum) (i : ℕ) (d : Datum) → i < length ds → d ≡ get_or ds i d → all_written (values_of (views (drop i ds))) ≡ written (view d) ++ all_written (values_of (views (drop (i + 1) ds)))
+-- values that are made of what a loop goes over
+made_next : {A : Type 0} (make : A → Value) (xs : List A) (i : ℕ) (x : A) → i < length xs → x ≡ get_or xs i x → all_written (values_of (map make (drop i xs))) ≡ written (make x) ++ all_written (values_of (map make (drop (i + 1) xs)))
 unfolding all_written
-all_next ds i d lt is =
-    let k : drop i ds ≡ d ∷ drop (i + 1) ds = drop-cons ds i d lt ∙ rw (← is, add-one) refl in
+made_next {A} make xs i x lt is =
+    let k : drop i xs ≡ x ∷ drop (i + 1) xs = drop-cons xs i x lt ∙ rw (← is, add-one) refl in
     rw k refl
 
-pub all_on : (ds : List Datum) (i : ℕ) (d : Datum) (old new total : List ℕ) → i < length ds → d ≡ get_or ds i d → new ≡ old ++ written (view d)
-    → old ++ all_written (values_of (views (drop i ds))) ≡ total → new ++ all_written (values_of (views (drop (i + 1) ds))) ≡ total
-all_on ds i d old new total lt is e so_far =
-    let rest = all_written (values_of (views (drop (i + 1) ds))) in
-    ap (λ (s : List ℕ). s ++ rest) e ∙ append_assoc old (written (view d)) rest ∙ ap (λ (s : List ℕ). old ++ s) (sym (all_next ds i d lt is)) ∙ so_far
+pub made_on : {A : Type 0} (make : A → Value) (xs : List A) (i : ℕ) (x : A) (old new total : List ℕ) → i < length xs → x ≡ get_or xs i x → new ≡ old ++ written (make x)
+    → old ++ all_written (values_of (map make (drop i xs))) ≡ total → new ++ all_written (values_of (map make (drop (i + 1) xs))) ≡ total
+made_on {A} make xs i x old new total lt is e so_far =
+    let rest = all_written (values_of (map make (drop (i + 1) xs))) in
+    ap (λ (s : List ℕ). s ++ rest) e ∙ append_assoc old (written (make x)) rest ∙ ap (λ (s : List ℕ). old ++ s) (sym (made_next make xs i x lt is)) ∙ so_far
 
-pub all_over : (ds : List Datum) (i : ℕ) → length ds ≤ i → all_written (values_of (views (drop i ds))) ≡ []
+pub made_over : {A : Type 0} (make : A → Value) (xs : List A) (i : ℕ) → length xs ≤ i → all_written (values_of (map make (drop i xs))) ≡ []
 unfolding all_written
-all_over ds i le = let k : drop i ds ≡ [] = drop_of_length-le ds le in rw k refl
+made_over {A} make xs i le = let k : drop i xs ≡ [] = drop_of_length-le xs le in rw k refl
 
-pairs_next : (es : List (String Global × Datum)) (i : ℕ) (e : String Global × Datum) → i < length es → e ≡ get_or es i e
-    → entries_written (entries_of (entry_views (drop i es))) ≡ (run_bytes (string_bytes e.0) ++ written (view e.1)) ++ entries_written (entries_of (entry_views (drop (i + 1) es)))
+any_default : {A : Type 0} (xs : List A) (i : ℕ) (d e : A) → i < length xs → get_or xs i d ≡ get_or xs i e
+any_default {A} [] i d e lt = absurd (omega arith)
+any_default {A} (x ∷ xs) zero d e lt = refl
+any_default {A} (x ∷ xs) (suc i) d e lt = any_default xs i d e (omega arith)
+
+pub copied_on : {A : Type 0} (make : A → Value) (xs : List A) (i : ℕ) (d : A) (old new total : List ℕ) → i < length xs → new ≡ old ++ written (make (get_or xs i d))
+    → old ++ all_written (values_of (map make (drop i xs))) ≡ total → new ++ all_written (values_of (map make (drop (i + 1) xs))) ≡ total
+copied_on {A} make xs i d old new total lt e so_far = made_on make xs i (get_or xs i d) old new total lt (any_default xs i d (get_or xs i d) lt) e so_far
+
+-- ---- pairs
+
+pub long_pairs_written : (v : Vec (ℤ × ℤ) Global) → written (view (datum.LongPairs v)) ≡ block_bytes (length v.items) (all_written (values_of (long_pairs v.items)))
+unfolding written
+long_pairs_written v = rw (view-LongPairs v, values_len-values_of (long_pairs v.items), long_pairs_len v.items) refl
+
+pub bytes_pairs_written : (v : Vec (ℤ × Bor (List ℕ)) Global) → written (view (datum.BytesPairs v)) ≡ block_bytes (length v.items) (all_written (values_of (bytes_pairs v.items)))
+unfolding written
+bytes_pairs_written v = rw (view-BytesPairs v, values_len-values_of (bytes_pairs v.items), bytes_pairs_len v.items) refl
+
+pub pair_written : (k : ℤ) (v : Value) (old : List ℕ) → old ++ written (pair_with k v) ≡ (old ++ long_bytes k) ++ written v
+unfolding written
+pair_written k v old = ap (λ (s : List ℕ). old ++ (long_bytes k ++ s)) (append-nil (written v)) ∙ sym (append_assoc old (long_bytes k) (written v))
+
+-- ---- keys and values
+
+pairs_next : (es : List (Bor (List ℕ) × Datum)) (i : ℕ) (e : Bor (List ℕ) × Datum) → i < length es → e ≡ get_or es i e
+    → entries_written (entries_of (entry_views (drop i es))) ≡ (run_bytes (e.0.now) ++ written (view e.1)) ++ entries_written (entries_of (entry_views (drop (i + 1) es)))
 unfolding entries_written
 pairs_next es i e lt is =
     let k : drop i es ≡ e ∷ drop (i + 1) es = drop-cons es i e lt ∙ rw (← is, add-one) refl in
     rw k refl
 
-pub pairs_on : (es : List (String Global × Datum)) (i : ℕ) (e : String Global × Datum) (key old mid new total : List ℕ) → i < length es → e ≡ get_or es i e → key ≡ string_bytes e.0 → mid ≡ old ++ run_bytes key → new ≡ mid ++ written (view e.1)
+pub pairs_on : (es : List (Bor (List ℕ) × Datum)) (i : ℕ) (e : Bor (List ℕ) × Datum) (key old mid new total : List ℕ) → i < length es → e ≡ get_or es i e → key ≡ e.0.now → mid ≡ old ++ run_bytes key → new ≡ mid ++ written (view e.1)
     → old ++ entries_written (entries_of (entry_views (drop i es))) ≡ total → new ++ entries_written (entries_of (entry_views (drop (i + 1) es))) ≡ total
 pairs_on es i e key old mid new total lt is k f g so_far =
     let rest = entries_written (entries_of (entry_views (drop (i + 1) es))) in
-    let here : new ≡ old ++ (run_bytes (string_bytes e.0) ++ written (view e.1)) = g ∙ ap (λ (s : List ℕ). s ++ written (view e.1)) (f ∙ ap (λ (s : List ℕ). old ++ run_bytes s) k) ∙ append_assoc old (run_bytes (string_bytes e.0)) (written (view e.1)) in
-    ap (λ (s : List ℕ). s ++ rest) here ∙ append_assoc old (run_bytes (string_bytes e.0) ++ written (view e.1)) rest ∙ ap (λ (s : List ℕ). old ++ s) (sym (pairs_next es i e lt is)) ∙ so_far
+    let here : new ≡ old ++ (run_bytes (e.0.now) ++ written (view e.1)) = g ∙ ap (λ (s : List ℕ). s ++ written (view e.1)) (f ∙ ap (λ (s : List ℕ). old ++ run_bytes s) k) ∙ append_assoc old (run_bytes (e.0.now)) (written (view e.1)) in
+    ap (λ (s : List ℕ). s ++ rest) here ∙ append_assoc old (run_bytes (e.0.now) ++ written (view e.1)) rest ∙ ap (λ (s : List ℕ). old ++ s) (sym (pairs_next es i e lt is)) ∙ so_far
 
-pub pairs_over : (es : List (String Global × Datum)) (i : ℕ) → length es ≤ i → entries_written (entries_of (entry_views (drop i es))) ≡ []
+pub pairs_over : (es : List (Bor (List ℕ) × Datum)) (i : ℕ) → length es ≤ i → entries_written (entries_of (entry_views (drop i es))) ≡ []
 unfolding entries_written
 pairs_over es i le = let k : drop i es ≡ [] = drop_of_length-le es le in rw k refl

@@ -1,6 +1,7 @@
 pub mod Groups
 pub mod Texts
 pub mod Views
+pub mod Paired
 pub mod Leaves
 pub mod Steps
 pub mod Taken

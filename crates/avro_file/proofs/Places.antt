@@ -1,14 +1,13 @@
 -- Reading by places in the bytes.
-use Rattle.std.proofs.Common.{◌≡◌, ◌≢◌, ℕ, zero, suc, ◌+◌, ◌-◌, ◌*◌, ◌/◌, ◌%◌, ◌^◌, ◌<◌, ◌≤◌, ℤ, pos, negsuc, true, false, ltb, List, [], ◌∷◌, ◌++◌, length, get_or, take, drop, Option, Some, None, IfSome, Result, Ok, Err, refl, sym, ap, ◌∙◌, add-one, drop-cons, arith}
+use Rattle.std.proofs.Common.{◌≡◌, ◌≢◌, ℕ, zero, suc, ◌+◌, ◌-◌, ◌*◌, ◌/◌, ◌%◌, ◌^◌, ◌<◌, ◌≤◌, ℤ, pos, negsuc, false, ltb, List, ◌∷◌, ◌++◌, length, get_or, take, drop, Option, Some, None, IfSome, Result, Ok, Err, refl, sym, ap, ◌∙◌, add-one, drop-cons, arith}
 use Rattle.std.proofs.lemmas.Bool.{eq-eqb, ne_eqb, lt-ltb, le-ltb}
 use Rattle.std.specs.Str.{IsUtf8}
 use Rattle.std.proofs.lemmas.Str.{is_utf8-from_IsUtf8}
 use Rattle.std.proofs.lemmas.List.{length-drop, length-append}
 use Rattle.std.proofs.Math.Seq.{drop-drop, take-length, drop-append_seam}
 use Rattle.std.proofs.Math.Nat.{pow-le-pow_right}
-use Rattle.contract_words.specs.Outcome.{◌>>=◌}
 use Rattle.avro_file.specs.declared.refusal.Refusal.{Refusal}
-use Rattle.avro_file.specs.Number.{IsNumber, groups_at, number_at, long_at, int_at, signed_of}
+use Rattle.avro_file.specs.Number.{groups_at, number_at, long_at, int_at, signed_of}
 use Rattle.avro_file.specs.Reading.{Position, Read, behind, leaf, boolean_at, run_at, bytes_at, string_at, symbol_at, count_at, values_at, blocks_at, datum_at, fields_at, branch_at}
 use Rattle.avro_file.specs.Blocks.{max_items, object_at}
 use Rattle.avro_file.specs.Ending.{standing, EndsWith, Ends, EndsCounted}
@@ -111,7 +110,7 @@ short_long bytes at lt small = long_ends bytes at 0 at (no_groups bytes at (omeg
 pub short_int : (bytes : List ℕ) (at : ℕ) → at < length bytes → get_or bytes at 0 < 128 → Ends int_at bytes at (at + 1)
 short_int bytes at lt small = int_ends bytes at 0 at (no_groups bytes at (omega (arith, lt))) (omega arith) lt small
 
-to_end : (bytes : List ℕ) (at : ℕ) → take (length bytes - at) (drop at bytes) ≡ drop at bytes
+pub to_end : (bytes : List ℕ) (at : ℕ) → take (length bytes - at) (drop at bytes) ≡ drop at bytes
 to_end bytes at = rw (← length-drop at bytes) (take-length (drop at bytes))
 
 -- where a number ends, by what is left behind it

@@ -1,6 +1,7 @@
 -- One level of a schema, as a tree.
-use Rattle.std.proofs.Common.{◌≡◌, ℕ, zero, suc, ◌<◌, ◌≤◌, List, [], ◌∷◌, length, get_or, ℤ, pos, negsuc, ◌<ℤ◌, Ok, Err, refl, arith, rules, Vec, Box, String, Global, string_bytes, map, ap, ◌∙◌}
+use Rattle.std.proofs.Common.{◌≡◌, ℕ, zero, suc, ◌<◌, ◌≤◌, List, [], ◌∷◌, length, get_or, ℤ, pos, negsuc, ◌<ℤ◌, Ok, Err, refl, arith, rules, Vec, Box, Global, map, ap, ◌∙◌}
 use Rattle.std.proofs.lemmas.Int.{ints}
+use denote.Ref.{Bor}
 use Rattle.std.specs.declared.sync.Arc.{Arc}
 use Rattle.avro_file.specs.declared.refusal.Refusal.{Refusal}
 use Rattle.avro_file.specs.declared.refusal.Refusal.TheVariants.{BadUnion}
@@ -69,14 +70,14 @@ map_read s p es q h = rw h refl
 pub tree-Map : (a : Arc Schema Global) → tree (Map a) ≡ Tree.map (tree a.value)
 tree-Map a = search (rules, the_lemmas)
 
-view-Map_inside : (v : Vec (String Global × datum.Datum) Global) → view (datum.Map v) ≡ entries (entries_of (map (λ (e : String Global × Value). (string_bytes e.0, e.1)) (map (λ (e : String Global × datum.Datum). (e.0, view e.1)) v.items)))
+view-Map_inside : (v : Vec (Bor (List ℕ) × datum.Datum) Global) → view (datum.Map v) ≡ entries (entries_of (map (λ (e : Bor (List ℕ) × Value). (e.0.now, e.1)) (map (λ (e : Bor (List ℕ) × datum.Datum). (e.0, view e.1)) v.items)))
 view-Map_inside v = search (rules, datum.the_lemmas)
 
-twice : (es : List (String Global × datum.Datum)) → map (λ (e : String Global × Value). (string_bytes e.0, e.1)) (map (λ (e : String Global × datum.Datum). (e.0, view e.1)) es) ≡ entry_views es
+twice : (es : List (Bor (List ℕ) × datum.Datum)) → map (λ (e : Bor (List ℕ) × Value). (e.0.now, e.1)) (map (λ (e : Bor (List ℕ) × datum.Datum). (e.0, view e.1)) es) ≡ entry_views es
 twice [] = refl
-twice (e ∷ es) = ap (λ (more : List Pair). (string_bytes e.0, view e.1) ∷ more) (twice es)
+twice (e ∷ es) = ap (λ (more : List Pair). (e.0.now, view e.1) ∷ more) (twice es)
 
-pub view-Map : (v : Vec (String Global × datum.Datum) Global) → view (datum.Map v) ≡ entries (entries_of (entry_views v.items))
+pub view-Map : (v : Vec (Bor (List ℕ) × datum.Datum) Global) → view (datum.Map v) ≡ entries (entries_of (entry_views v.items))
 view-Map v = view-Map_inside v ∙ ap (λ (es : List Pair). entries (entries_of es)) (twice v.items)
 
 pub entry_read : (read : Position → Read Value) (p : Position) (k rest : List ℕ) (v : Value) (q : Position) → string_at p.bytes ≡ Ok (k, rest) → read (record { bytes = rest; left = p.left }) ≡ Ok (v, q) → entry_at read p ≡ Ok ((k, v), q)

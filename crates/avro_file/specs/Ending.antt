@@ -1,7 +1,6 @@
 -- Where values end, by places in the bytes.
-use Rattle.std.specs.Prelude.{◌≡◌, ◌≤◌, ◌<◌, ◌^◌, ℕ, List, length, drop, Result, Ok}
+use Rattle.std.specs.Prelude.{◌≡◌, ◌≤◌, ◌<◌, ℕ, List, length, drop, Result, Ok}
 use Rattle.avro_file.specs.declared.refusal.Refusal.{Refusal}
-use Rattle.avro_file.specs.Number.{number_at}
 use Rattle.avro_file.specs.Reading.{Position, Read, behind}
 
 -- a reader at a place in the bytes, which may read so many items more

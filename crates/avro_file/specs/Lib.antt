@@ -3,6 +3,7 @@ pub mod Number
 pub mod Value
 pub mod View
 pub mod Reading
+pub mod Pairs
 pub mod Ending
 pub mod Place
 pub mod Spelling

@@ -80,7 +80,7 @@ pub fn object_of<'a>(
     alloc: Global,
     schema: &Schema,
     block: &'a [u8],
-) -> Result<(Datum, &'a [u8]), Refusal>
+) -> Result<(Datum<'a>, &'a [u8]), Refusal>
     ensures { Gives Refusal.Memory (λ x. (view x.0, x.1.now)) result (object_at (tree schema.now) block.now) }
 {
     let place = Place {

@@ -1,8 +1,10 @@
 //! Values of every schema.
 
-ghost use Rattle.std.specs.Prelude.{◌≡◌, ◌≤◌, ℕ, suc, List, length, Ok, IfOk, map, MatchOption, pos, ◌<ℤ◌};
+ghost use Rattle.std.specs.Prelude.{◌≡◌, ◌≤◌, ℕ, ℤ, Option, suc, List, length, Ok, IfOk, map, MatchOption, pos, ◌<ℤ◌};
 ghost use Rattle.contract_words.specs.Outcome.{Gives};
 ghost use Rattle.avro_file.specs.Exact.{IsRead};
+ghost use Rattle.avro_schema.specs.declared.schema.ArrayKind.{ArrayKind};
+ghost use Rattle.avro_schema.specs.Tree.{array};
 ghost use Rattle.avro_schema.specs.View.{tree, trees, parts, fields_of, branches_of};
 ghost use Rattle.avro_file.specs.View.{view, views, entry_views};
 ghost use Rattle.avro_file.specs.Place.{position_of};
@@ -11,6 +13,7 @@ ghost use Rattle.avro_file.specs.Reading.{IsScalar, IsRunOfBytes, count_at, with
 use crate::datum::Datum;
 use crate::leaf::{boolean_of, bytes_of, run_of_len, symbol_of, text_of};
 use crate::number::{int_of, long_of};
+use crate::pairs::{Second, bytes_pairs_of, long_pairs_of, second_of_pair};
 use crate::place::Place;
 use crate::refusal::Refusal;
 use avro_schema::{Field, Schema};
@@ -36,7 +39,7 @@ pub fn count_of(place: Place<'_>) -> Result<(u64, Place<'_>), Refusal>
 
 /// The value at the front of the bytes, which is a number, a truth value or nothing.
 #[tactic(auto, unfolding(crate::specs::Reading::datum_at))]
-fn scalar_datum_of<'a>(schema: &Schema, bytes: &'a [u8]) -> Result<(Datum, &'a [u8]), Refusal>
+fn scalar_datum_of<'a>(schema: &Schema, bytes: &'a [u8]) -> Result<(Datum<'a>, &'a [u8]), Refusal>
     requires { IsScalar (tree schema.now) }
     ensures { (left : ℕ) → IsRead (λ x. (view x.0, record { bytes = x.1.now; left = left })) result (datum_at (tree schema.now) (record { bytes = bytes.now; left = left })) }
 {
@@ -64,34 +67,30 @@ fn scalar_datum_of<'a>(schema: &Schema, bytes: &'a [u8]) -> Result<(Datum, &'a [
 
 /// The value at the front of the bytes, which is a run of bytes.
 #[tactic(auto, unfolding(crate::specs::Reading::datum_at))]
-fn run_datum_of<'a>(
-    alloc: Global,
-    schema: &Schema,
-    bytes: &'a [u8],
-) -> Result<(Datum, &'a [u8]), Refusal>
+fn run_datum_of<'a>(schema: &Schema, bytes: &'a [u8]) -> Result<(Datum<'a>, &'a [u8]), Refusal>
     requires { IsRunOfBytes (tree schema.now) }
-    ensures { (left : ℕ) → Gives Refusal.Memory (λ x. (view x.0, record { bytes = x.1.now; left = left })) result (datum_at (tree schema.now) (record { bytes = bytes.now; left = left })) }
+    ensures { (left : ℕ) → IsRead (λ x. (view x.0, record { bytes = x.1.now; left = left })) result (datum_at (tree schema.now) (record { bytes = bytes.now; left = left })) }
 {
     match schema {
         Schema::Float => {
             let (run, rest) = run_of_len(4, bytes)?;
-            Ok((Datum::Float(Vec::from_slice(alloc, run)?), rest))
+            Ok((Datum::Float(run), rest))
         }
         Schema::Double => {
             let (run, rest) = run_of_len(8, bytes)?;
-            Ok((Datum::Double(Vec::from_slice(alloc, run)?), rest))
+            Ok((Datum::Double(run), rest))
         }
         Schema::Bytes(_) => {
             let (run, rest) = bytes_of(bytes)?;
-            Ok((Datum::Bytes(Vec::from_slice(alloc, run)?), rest))
+            Ok((Datum::Bytes(run), rest))
         }
         Schema::String => {
             let (text, rest) = text_of(bytes)?;
-            Ok((Datum::String(String::from_str(alloc, text)?), rest))
+            Ok((Datum::String(text), rest))
         }
         Schema::Fixed(len, _) => {
             let (run, rest) = run_of_len(u64::from(*len), bytes)?;
-            Ok((Datum::Fixed(Vec::from_slice(alloc, run)?), rest))
+            Ok((Datum::Fixed(run), rest))
         }
         _ => unreachable!(),
     }
@@ -104,7 +103,7 @@ pub fn datum_of<'a>(
     alloc: Global,
     schema: &Schema,
     place: Place<'a>,
-) -> Result<(Datum, Place<'a>), Refusal>
+) -> Result<(Datum<'a>, Place<'a>), Refusal>
     ensures { Gives Refusal.Memory (λ x. (view x.0, position_of x.1)) result (datum_at (tree schema.now) (position_of place.entry)) }
 {
     let left = place.left;
@@ -115,17 +114,14 @@ pub fn datum_of<'a>(
         }
         Schema::Float | Schema::Double | Schema::Bytes(_) | Schema::String | Schema::Fixed(_, _) =>
             {
-                let (datum, bytes) = run_datum_of(alloc, schema, place.bytes)?;
+                let (datum, bytes) = run_datum_of(schema, place.bytes)?;
                 Ok((datum, Place { bytes, left }))
             }
         Schema::Record(fields) => {
             let (values, place) = record_of(alloc, fields, place)?;
             Ok((Datum::Record(values), place))
         }
-        Schema::Array(items, _, _) => {
-            let (values, place) = array_of(alloc, items, place)?;
-            Ok((Datum::Array(values), place))
-        }
+        Schema::Array(items, _, _) => array_datum_of(alloc, items, place),
         Schema::Map(values) => {
             let (entries, place) = map_of(alloc, values, place)?;
             Ok((Datum::Map(entries), place))
@@ -155,7 +151,7 @@ fn union_of<'a>(
     branches: &[Schema],
     position: i64,
     place: Place<'a>,
-) -> Result<(Datum, Place<'a>), Refusal>
+) -> Result<(Datum<'a>, Place<'a>), Refusal>
     ensures { Gives Refusal.Memory (λ x. (view x.0, position_of x.1)) result (chosen_by (branch_at (branches_of (trees branches.now))) position (position_of place.entry)) }
 {
     let Some(position) = natural(position) else {
@@ -165,7 +161,10 @@ fn union_of<'a>(
         return Err(Refusal::BadUnion);
     }
     let (value, place) = datum_of(alloc, &branches[position], place)?;
-    Ok((Datum::Union(position, Box::new(alloc, value)?), place))
+    match value {
+        Datum::Null => Ok((Datum::NullBranch(position), place)),
+        some => Ok((Datum::Union(position, Box::new(alloc, some)?), place)),
+    }
 }
 
 /// The fields of a record, one after the other.
@@ -174,7 +173,7 @@ fn record_of<'a>(
     alloc: Global,
     fields: &[Field],
     place: Place<'a>,
-) -> Result<(Vec<Datum>, Place<'a>), Refusal>
+) -> Result<(Vec<Datum<'a>>, Place<'a>), Refusal>
     ensures { Gives Refusal.Memory (λ x. (views x.0.items, position_of x.1)) result (fields_at (fields_of (parts fields.now)) (position_of place.entry)) }
 {
     let mut values = Vec::with_capacity(alloc, fields.len())?;
@@ -187,13 +186,39 @@ fn record_of<'a>(
     Ok((values, here))
 }
 
+/// An array. Pairs of an int and a long or bytes are kept without a datum for each.
+#[cycle(datum)]
+#[tactic(auto, unfolding(crate::specs::Reading::datum_at))]
+fn array_datum_of<'a>(
+    alloc: Global,
+    schema: &Schema,
+    place: Place<'a>,
+) -> Result<(Datum<'a>, Place<'a>), Refusal>
+    ensures { (id : Option ℤ) (kind : ArrayKind) → Gives Refusal.Memory (λ x. (view x.0, position_of x.1)) result (datum_at (array (tree schema.now) id kind) (position_of place.entry)) }
+{
+    match second_of_pair(schema) {
+        Some(Second::Long) => {
+            let (pairs, place) = long_pairs_of(alloc, place)?;
+            Ok((Datum::LongPairs(pairs), place))
+        }
+        Some(Second::Bytes) => {
+            let (pairs, place) = bytes_pairs_of(alloc, place)?;
+            Ok((Datum::BytesPairs(pairs), place))
+        }
+        None => {
+            let (values, place) = array_of(alloc, schema, place)?;
+            Ok((Datum::Array(values), place))
+        }
+    }
+}
+
 /// The blocks of an array, up to the one that is empty.
 #[cycle(datum)]
 fn array_of<'a>(
     alloc: Global,
     schema: &Schema,
     place: Place<'a>,
-) -> Result<(Vec<Datum>, Place<'a>), Refusal>
+) -> Result<(Vec<Datum<'a>>, Place<'a>), Refusal>
     ensures { Gives Refusal.Memory (λ x. (views x.0.items, position_of x.1)) result (blocks_at (datum_at (tree schema.now)) (suc (length (position_of place.entry).bytes)) (position_of place.entry)) }
 {
     let mut values = Vec::new(alloc);
@@ -215,10 +240,10 @@ fn items_of<'a>(
     alloc: Global,
     schema: &Schema,
     count: u64,
-    values: Vec<Datum>,
+    values: Vec<Datum<'a>>,
     place: Place<'a>,
-) -> Result<(Vec<Datum>, Place<'a>), Refusal>
-    ensures { Gives Refusal.Memory (λ x. (views x.0.items, position_of x.1)) result (with_front (views values.items) (values_at (datum_at (tree schema.now)) count (position_of place.entry))) }
+) -> Result<(Vec<Datum<'a>>, Place<'a>), Refusal>
+    ensures { Gives Refusal.Memory (λ x. (views x.0.items, position_of x.1)) result (with_front (views values.entry.items) (values_at (datum_at (tree schema.now)) count (position_of place.entry))) }
 {
     let mut values = values;
     let mut here = place;
@@ -236,7 +261,7 @@ fn map_of<'a>(
     alloc: Global,
     schema: &Schema,
     place: Place<'a>,
-) -> Result<(Vec<(String, Datum)>, Place<'a>), Refusal>
+) -> Result<(Vec<(&'a str, Datum<'a>)>, Place<'a>), Refusal>
     ensures { Gives Refusal.Memory (λ x. (entry_views x.0.items, position_of x.1)) result (blocks_at (entry_at (datum_at (tree schema.now))) (suc (length (position_of place.entry).bytes)) (position_of place.entry)) }
 {
     let mut values = Vec::new(alloc);
@@ -258,16 +283,15 @@ fn entries_of<'a>(
     alloc: Global,
     schema: &Schema,
     count: u64,
-    values: Vec<(String, Datum)>,
+    values: Vec<(&'a str, Datum<'a>)>,
     place: Place<'a>,
-) -> Result<(Vec<(String, Datum)>, Place<'a>), Refusal>
-    ensures { Gives Refusal.Memory (λ x. (entry_views x.0.items, position_of x.1)) result (with_front (entry_views values.items) (values_at (entry_at (datum_at (tree schema.now))) count (position_of place.entry))) }
+) -> Result<(Vec<(&'a str, Datum<'a>)>, Place<'a>), Refusal>
+    ensures { Gives Refusal.Memory (λ x. (entry_views x.0.items, position_of x.1)) result (with_front (entry_views values.entry.items) (values_at (entry_at (datum_at (tree schema.now))) count (position_of place.entry))) }
 {
     let mut values = values;
     let mut here = place;
     'items: for _ in 0..count {
-        let (text, rest) = text_of(here.bytes)?;
-        let key = String::from_str(alloc, text)?;
+        let (key, rest) = text_of(here.bytes)?;
         let (value, after) = datum_of(
             alloc,
             schema,

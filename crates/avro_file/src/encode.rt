@@ -1,8 +1,8 @@
 //! Values as bytes.
 
 ghost use Rattle.std.specs.Prelude.{◌≡◌, ◌++◌, ◌∷◌, [], ◌<◌, ◌^◌, pos, length, IfOk};
-ghost use Rattle.avro_file.specs.View.{view, views, entry_views};
-ghost use Rattle.avro_file.specs.Value.{values_of, entries_of};
+ghost use Rattle.avro_file.specs.View.{view, views, entry_views, pair_with, long_pairs, bytes_pairs};
+ghost use Rattle.avro_file.specs.Value.{whole, run, values_of, entries_of};
 ghost use Rattle.avro_file.specs.Writing.{groups_of, unsigned_of, long_bytes, run_bytes, block_bytes, written, all_written, entries_written};
 
 use crate::datum::Datum;
@@ -84,10 +84,72 @@ pub fn push_byte(bytes: Vec<u8>, byte: u8) -> Result<Vec<u8>, AllocError>
     Ok(bytes)
 }
 
+/// Puts an int and a long last.
+fn push_long_pair(bytes: Vec<u8>, pair: &(i32, i64)) -> Result<Vec<u8>, AllocError>
+    ensures { IfOk result (λ all. all.items ≡ bytes.items ++ written (pair_with pair.now.0 (whole pair.now.1))) }
+{
+    let bytes = push_long(bytes, i64::from(pair.0))?;
+    push_long(bytes, pair.1)
+}
+
+/// Puts ints and longs last, one after the other.
+fn push_each_long_pair(bytes: Vec<u8>, pairs: &[(i32, i64)]) -> Result<Vec<u8>, AllocError>
+    ensures { IfOk result (λ all. all.items ≡ bytes.items ++ all_written (values_of (long_pairs pairs.now))) }
+{
+    let mut bytes = bytes;
+    'pairs: for pair in pairs {
+        bytes = push_long_pair(bytes, pair)?;
+    }
+    Ok(bytes)
+}
+
+/// Puts an array of ints and longs last.
+fn push_long_pairs(bytes: Vec<u8>, pairs: &[(i32, i64)]) -> Result<Vec<u8>, AllocError>
+    ensures { IfOk result (λ all. all.items ≡ bytes.items ++ block_bytes (length pairs.now) (all_written (values_of (long_pairs pairs.now)))) }
+{
+    if pairs.is_empty() {
+        return push_byte(bytes, 0);
+    }
+    let bytes = push_count(bytes, pairs.len() as u64)?;
+    let bytes = push_each_long_pair(bytes, pairs)?;
+    push_byte(bytes, 0)
+}
+
+/// Puts an int and bytes last.
+fn push_bytes_pair(bytes: Vec<u8>, pair: &(i32, &[u8])) -> Result<Vec<u8>, AllocError>
+    ensures { IfOk result (λ all. all.items ≡ bytes.items ++ written (pair_with pair.now.0 (run pair.now.1.now))) }
+{
+    let bytes = push_long(bytes, i64::from(pair.0))?;
+    push_run(bytes, pair.1)
+}
+
+/// Puts ints and bytes last, one after the other.
+fn push_each_bytes_pair(bytes: Vec<u8>, pairs: &[(i32, &[u8])]) -> Result<Vec<u8>, AllocError>
+    ensures { IfOk result (λ all. all.items ≡ bytes.items ++ all_written (values_of (bytes_pairs pairs.now))) }
+{
+    let mut bytes = bytes;
+    'pairs: for pair in pairs {
+        bytes = push_bytes_pair(bytes, pair)?;
+    }
+    Ok(bytes)
+}
+
+/// Puts an array of ints and bytes last.
+fn push_bytes_pairs(bytes: Vec<u8>, pairs: &[(i32, &[u8])]) -> Result<Vec<u8>, AllocError>
+    ensures { IfOk result (λ all. all.items ≡ bytes.items ++ block_bytes (length pairs.now) (all_written (values_of (bytes_pairs pairs.now)))) }
+{
+    if pairs.is_empty() {
+        return push_byte(bytes, 0);
+    }
+    let bytes = push_count(bytes, pairs.len() as u64)?;
+    let bytes = push_each_bytes_pair(bytes, pairs)?;
+    push_byte(bytes, 0)
+}
+
 /// Puts a value last.
 #[cycle(write)]
 #[tactic(auto, unfolding(crate::specs::Writing::written))]
-pub fn push_datum(bytes: Vec<u8>, datum: &Datum) -> Result<Vec<u8>, AllocError>
+pub fn push_datum(bytes: Vec<u8>, datum: &Datum<'_>) -> Result<Vec<u8>, AllocError>
     ensures { IfOk result (λ all. all.items ≡ bytes.items ++ written (view datum.now)) }
 {
     match datum {
@@ -104,17 +166,20 @@ pub fn push_datum(bytes: Vec<u8>, datum: &Datum) -> Result<Vec<u8>, AllocError>
         Datum::Enum(position) => push_position(bytes, *position),
         Datum::Record(values) => push_all(bytes, values),
         Datum::Array(items) => push_items(bytes, items),
+        Datum::LongPairs(pairs) => push_long_pairs(bytes, pairs),
+        Datum::BytesPairs(pairs) => push_bytes_pairs(bytes, pairs),
         Datum::Map(entries) => push_entries(bytes, entries),
         Datum::Union(position, value) => {
             let bytes = push_position(bytes, *position)?;
             push_datum(bytes, value)
         }
+        Datum::NullBranch(position) => push_position(bytes, *position),
     }
 }
 
 /// Puts values last, one after the other.
 #[cycle(write)]
-fn push_all(bytes: Vec<u8>, values: &[Datum]) -> Result<Vec<u8>, AllocError>
+fn push_all(bytes: Vec<u8>, values: &[Datum<'_>]) -> Result<Vec<u8>, AllocError>
     ensures { IfOk result (λ all. all.items ≡ bytes.items ++ all_written (values_of (views values.now))) }
 {
     let mut bytes = bytes;
@@ -126,7 +191,7 @@ fn push_all(bytes: Vec<u8>, values: &[Datum]) -> Result<Vec<u8>, AllocError>
 
 /// Puts an array last.
 #[cycle(write)]
-fn push_items(bytes: Vec<u8>, items: &[Datum]) -> Result<Vec<u8>, AllocError>
+fn push_items(bytes: Vec<u8>, items: &[Datum<'_>]) -> Result<Vec<u8>, AllocError>
     ensures { IfOk result (λ all. all.items ≡ bytes.items ++ block_bytes (length items.now) (all_written (values_of (views items.now)))) }
 {
     if items.is_empty() {
@@ -139,7 +204,7 @@ fn push_items(bytes: Vec<u8>, items: &[Datum]) -> Result<Vec<u8>, AllocError>
 
 /// Puts keys and values last, one after the other.
 #[cycle(write)]
-fn push_pairs(bytes: Vec<u8>, pairs: &[(String, Datum)]) -> Result<Vec<u8>, AllocError>
+fn push_pairs(bytes: Vec<u8>, pairs: &[(&str, Datum<'_>)]) -> Result<Vec<u8>, AllocError>
     ensures { IfOk result (λ all. all.items ≡ bytes.items ++ entries_written (entries_of (entry_views pairs.now))) }
 {
     let mut bytes = bytes;
@@ -152,7 +217,7 @@ fn push_pairs(bytes: Vec<u8>, pairs: &[(String, Datum)]) -> Result<Vec<u8>, Allo
 
 /// Puts a map last.
 #[cycle(write)]
-fn push_entries(bytes: Vec<u8>, entries: &[(String, Datum)]) -> Result<Vec<u8>, AllocError>
+fn push_entries(bytes: Vec<u8>, entries: &[(&str, Datum<'_>)]) -> Result<Vec<u8>, AllocError>
     ensures { IfOk result (λ all. all.items ≡ bytes.items ++ block_bytes (length entries.now) (entries_written (entries_of (entry_views entries.now)))) }
 {
     if entries.is_empty() {

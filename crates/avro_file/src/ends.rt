@@ -4,7 +4,7 @@ ghost use Rattle.std.specs.Prelude.{◌≡◌, ◌≤◌, ℕ, suc, List, length
 ghost use Rattle.avro_schema.specs.View.{tree, trees, parts, fields_of, branches_of};
 ghost use Rattle.avro_file.specs.Exact.{IsRead};
 ghost use Rattle.avro_file.specs.Place.{position_of};
-ghost use Rattle.avro_file.specs.Reading.{behind, values_at, blocks_at, entry_at, datum_at, fields_at, branch_at, chosen_by};
+ghost use Rattle.avro_file.specs.Reading.{IsScalar, IsRunOfBytes, behind, values_at, blocks_at, entry_at, datum_at, fields_at, branch_at, chosen_by};
 ghost use Rattle.avro_file.specs.Spelling.{takes_bytes as takes_some, some_takes_bytes as one_takes_some};
 
 use crate::decode::{count_of, natural};
@@ -41,6 +41,38 @@ fn one_takes_bytes(fields: &Vec<Field>) -> bool
     false
 }
 
+/// What follows a number, a truth value or nothing.
+#[tactic(auto, unfolding(crate::specs::Reading::datum_at))]
+fn behind_scalar<'a>(schema: &Schema, bytes: &'a [u8]) -> Result<&'a [u8], Refusal>
+    requires { IsScalar (tree schema.now) }
+    ensures { (left : ℕ) → IsRead (λ rest. record { bytes = rest.now; left = left }) result (behind (datum_at (tree schema.now) (record { bytes = bytes.now; left = left }))) }
+{
+    match schema {
+        Schema::Null => Ok(bytes),
+        Schema::Boolean => Ok(boolean_of(bytes)?.1),
+        Schema::Int => Ok(int_of(bytes)?.1),
+        Schema::Long => Ok(long_of(bytes)?.1),
+        Schema::Enum(count) => Ok(symbol_of(*count, bytes)?.1),
+        _ => unreachable!(),
+    }
+}
+
+/// What follows a run of bytes.
+#[tactic(auto, unfolding(crate::specs::Reading::datum_at))]
+fn behind_run<'a>(schema: &Schema, bytes: &'a [u8]) -> Result<&'a [u8], Refusal>
+    requires { IsRunOfBytes (tree schema.now) }
+    ensures { (left : ℕ) → IsRead (λ rest. record { bytes = rest.now; left = left }) result (behind (datum_at (tree schema.now) (record { bytes = bytes.now; left = left }))) }
+{
+    match schema {
+        Schema::Float => Ok(run_of_len(4, bytes)?.1),
+        Schema::Double => Ok(run_of_len(8, bytes)?.1),
+        Schema::Bytes(_) => Ok(bytes_of(bytes)?.1),
+        Schema::String => Ok(text_of(bytes)?.1),
+        Schema::Fixed(len, _) => Ok(run_of_len(u64::from(*len), bytes)?.1),
+        _ => unreachable!(),
+    }
+}
+
 /// Where the value at the front of the bytes ends.
 #[cycle(end)]
 #[tactic(auto, unfolding(crate::specs::Reading::datum_at))]
@@ -49,43 +81,15 @@ pub fn end_of<'a>(schema: &Schema, place: Place<'a>) -> Result<Place<'a>, Refusa
 {
     let left = place.left;
     match schema {
-        Schema::Null => Ok(place),
-        Schema::Boolean => {
-            let (_, bytes) = boolean_of(place.bytes)?;
+        Schema::Null | Schema::Boolean | Schema::Int | Schema::Long | Schema::Enum(_) => {
+            let bytes = behind_scalar(schema, place.bytes)?;
             Ok(Place { bytes, left })
         }
-        Schema::Int => {
-            let (_, bytes) = int_of(place.bytes)?;
-            Ok(Place { bytes, left })
-        }
-        Schema::Long => {
-            let (_, bytes) = long_of(place.bytes)?;
-            Ok(Place { bytes, left })
-        }
-        Schema::Float => {
-            let (_, bytes) = run_of_len(4, place.bytes)?;
-            Ok(Place { bytes, left })
-        }
-        Schema::Double => {
-            let (_, bytes) = run_of_len(8, place.bytes)?;
-            Ok(Place { bytes, left })
-        }
-        Schema::Bytes(_) => {
-            let (_, bytes) = bytes_of(place.bytes)?;
-            Ok(Place { bytes, left })
-        }
-        Schema::String => {
-            let (_, bytes) = text_of(place.bytes)?;
-            Ok(Place { bytes, left })
-        }
-        Schema::Fixed(len, _) => {
-            let (_, bytes) = run_of_len(u64::from(*len), place.bytes)?;
-            Ok(Place { bytes, left })
-        }
-        Schema::Enum(count) => {
-            let (_, bytes) = symbol_of(*count, place.bytes)?;
-            Ok(Place { bytes, left })
-        }
+        Schema::Float | Schema::Double | Schema::Bytes(_) | Schema::String | Schema::Fixed(_, _) =>
+            {
+                let bytes = behind_run(schema, place.bytes)?;
+                Ok(Place { bytes, left })
+            }
         Schema::Record(fields) => end_of_fields(fields, place),
         Schema::Array(items, _, _) => end_of_items(items, place),
         Schema::Map(values) => end_of_entries(values, place),

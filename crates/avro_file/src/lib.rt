@@ -13,6 +13,7 @@ mod laws;
 mod leaf;
 mod number;
 mod object;
+mod pairs;
 mod place;
 mod quick;
 mod refusal;

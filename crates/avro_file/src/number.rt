@@ -10,7 +10,8 @@ use crate::refusal::Refusal;
 const LAST_PLACE: u64 = 1 << 63;
 
 /// An unsigned number of 64 bits, in at most ten groups, and the bytes after it.
-pub fn unsigned_of(bytes: &[u8]) -> Result<(u64, &[u8]), Refusal>
+#[inline(never)]
+fn longer_unsigned_of(bytes: &[u8]) -> Result<(u64, &[u8]), Refusal>
     ensures { IsRead (λ x. (x.0, x.1.now)) result (number_at (2 ^ 64) bytes.now) }
 {
     let mut value: u64 = 0;
@@ -36,6 +37,17 @@ pub fn unsigned_of(bytes: &[u8]) -> Result<(u64, &[u8]), Refusal>
         return Err(Refusal::BadNumber);
     }
     Ok((value + LAST_PLACE * u64::from(*last), after))
+}
+
+/// The same, at once where it has one group.
+#[inline(always)]
+pub fn unsigned_of(bytes: &[u8]) -> Result<(u64, &[u8]), Refusal>
+    ensures { IsRead (λ x. (x.0, x.1.now)) result (number_at (2 ^ 64) bytes.now) }
+{
+    match bytes {
+        [first, rest @ ..] if *first < 128 => Ok((u64::from(*first), rest)),
+        _ => longer_unsigned_of(bytes),
+    }
 }
 
 fn signed(value: u64) -> i64

@@ -19,8 +19,8 @@ impl<'a> Object<'a> {
     ghost use Rattle.avro_file.specs.View.{view};
     ghost use Rattle.avro_file.specs.Value.{Value};
 
-    /// The object as a tree, which is built now.
-    pub fn datum(self, alloc: Global) -> Result<Datum, AllocError>
+    /// The object as a tree, which is built now. Its texts and bytes are those of the file.
+    pub fn datum(self, alloc: Global) -> Result<Datum<'a>, AllocError>
         ensures { (v : Value) → Shows self.entry v → IfOk result (λ datum. view datum ≡ v) }
     {
         match object_of(alloc, self.schema, self.bytes) {

@@ -4,11 +4,14 @@ ghost use Rattle.std.specs.Prelude.{◌≡◌, ◌≢◌, ◌≤◌, ◌<◌, �
 ghost use Rattle.avro_schema.specs.View.{tree, trees, parts, fields_of, branches_of};
 ghost use Rattle.avro_file.specs.Number.{number_at, long_at, int_at};
 ghost use Rattle.avro_file.specs.Reading.{boolean_at, run_at, bytes_at, string_at, symbol_at, count_at as items_at, values_at, blocks_at, datum_at, fields_at};
-ghost use Rattle.avro_schema.specs.Tree.{union};
+ghost use Rattle.avro_schema.specs.declared.schema.BytesKind.TheVariants.{Plain};
+ghost use Rattle.avro_schema.specs.Tree.{long, octets, union};
+ghost use Rattle.avro_file.specs.Pairs.{pair};
 ghost use Rattle.avro_file.specs.Ending.{standing, EndsWith, Ends, EndsCounted};
 
 use crate::ends::takes_bytes;
 use crate::number::unsigned_of;
+use crate::pairs::{Second, second_of_pair};
 use avro_schema::{Field, Schema};
 
 /// The number at a place, and its end. An end of 0 stands for none.
@@ -209,6 +212,34 @@ fn count_at(bytes: &[u8], at: usize) -> (u64, usize)
     }
 }
 
+/// Where so many ints and longs end.
+#[inline(never)]
+fn long_pairs_end(count: u64, bytes: &[u8], at: usize) -> Option<usize>
+    requires { at ≤ length bytes.now }
+    ensures { IfSome result (λ end. (left : ℕ) → EndsCounted (values_at (datum_at (pair long)) count) bytes.now at left end left) }
+{
+    let mut here = at;
+    'items: for _ in 0..count {
+        let value = int_end(bytes, here)?;
+        here = long_end(bytes, value)?;
+    }
+    Some(here)
+}
+
+/// Where so many ints and byte strings end.
+#[inline(never)]
+fn bytes_pairs_end(count: u64, bytes: &[u8], at: usize) -> Option<usize>
+    requires { at ≤ length bytes.now }
+    ensures { IfSome result (λ end. (left : ℕ) → EndsCounted (values_at (datum_at (pair (octets Plain))) count) bytes.now at left end left) }
+{
+    let mut here = at;
+    'items: for _ in 0..count {
+        let value = int_end(bytes, here)?;
+        here = bytes_end(bytes, value)?;
+    }
+    Some(here)
+}
+
 /// Where a value ends, and how many items are left then.
 #[cycle(quick)]
 #[inline(always)]
@@ -281,6 +312,11 @@ fn some_end(schema: &Schema, count: u64, bytes: &[u8], at: usize, left: &mut u64
     requires { at ≤ length bytes.now }
     ensures { IfSome result (λ end. EndsCounted (values_at (datum_at (tree schema.now)) count) bytes.now at left.old end left.new) }
 {
+    match second_of_pair(schema) {
+        Some(Second::Long) => return long_pairs_end(count, bytes, at),
+        Some(Second::Bytes) => return bytes_pairs_end(count, bytes, at),
+        None => {}
+    }
     if !takes_bytes(schema) {
         return Some(at);
     }

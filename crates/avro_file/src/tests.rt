@@ -40,19 +40,38 @@ fn file(alloc: Global, schema: &[u8], count: &[u8], content: &[u8]) -> Result<Ve
     Ok(bytes)
 }
 
-/// The first object of a file.
-fn first(alloc: Global, bytes: &[u8]) -> Result<Datum, AvroFault> {
+/// The first object of a file, as a text.
+fn first(alloc: Global, bytes: &[u8]) -> Result<String, AvroFault> {
     let file = Container::open(alloc, bytes)?;
     match file.objects().next()? {
-        Some(object) => Ok(object.datum(alloc)?),
+        Some(object) => {
+            let datum = object.datum(alloc)?;
+            Ok(format!(in alloc; "{datum:?}")?)
+        }
         None => Err(AvroFault::NotAvro),
     }
 }
 
-/// The only object of a file with this content.
-fn only(alloc: Global, schema: &[u8], content: &[u8]) -> Result<Result<Datum, AvroFault>, Fail> {
+/// The only object of a file with this content, as a text.
+fn only(alloc: Global, schema: &[u8], content: &[u8]) -> Result<Result<String, AvroFault>, Fail> {
     let bytes = file(alloc, schema, &[2], content)?;
     Ok(first(alloc, &bytes))
+}
+
+/// Whether an object is this.
+fn is(found: Result<String, AvroFault>, want: &str) -> bool {
+    match found {
+        Ok(text) => text.as_str() == want,
+        Err(_fault) => false,
+    }
+}
+
+/// A record of an int and this.
+fn pair<'a>(alloc: Global, key: i32, value: Datum<'a>) -> Result<Datum<'a>, Fail> {
+    let mut fields = Vec::with_capacity(alloc, 2)?;
+    fields.push(Datum::Int(key))?;
+    fields.push(value)?;
+    Ok(Datum::Record(fields))
 }
 
 /// How many objects come, and the fault behind them. There may be up to five.

@@ -144,7 +144,7 @@ impl Writer {
     }
 
     /// Puts an object last. After want of memory the objects are those of before.
-    pub fn push(&mut self, alloc: Global, datum: &Datum) -> Result<(), AllocError>
+    pub fn push(&mut self, alloc: Global, datum: &Datum<'_>) -> Result<(), AllocError>
         ensures { (ps : List Shown) (s : Tree) (vs : List Value) → WasGiven self.old ps s vs → MatchResult result (λ _. WasGiven self.new ps s (vs ++ view datum.now ∷ [])) (λ _. WasGiven self.new ps s vs) }
     {
         if self.count >= i64::MAX as u64 {

@@ -294,6 +294,43 @@ Record([String("s3://warehouse/db/plain/metadata/m2.avro"), Long(5318), Int(0), 
     ],
 };
 
+/// The same value, with a datum for each value in it.
+fn whole(alloc: Global, datum: Datum<'_>) -> Result<Datum<'_>, Fail> {
+    let mut all = Vec::new(alloc);
+    match datum {
+        Datum::LongPairs(pairs) => {
+            for (key, number) in pairs {
+                all.push(pair(alloc, key, Datum::Long(number))?)?;
+            }
+            Ok(Datum::Array(all))
+        }
+        Datum::BytesPairs(pairs) => {
+            for (key, bytes) in pairs {
+                all.push(pair(alloc, key, Datum::Bytes(bytes))?)?;
+            }
+            Ok(Datum::Array(all))
+        }
+        Datum::NullBranch(position) => Ok(Datum::Union(position, Box::new(alloc, Datum::Null)?)),
+        Datum::Union(position, value) => {
+            let value = whole(alloc, Box::into_inner(value))?;
+            Ok(Datum::Union(position, Box::new(alloc, value)?))
+        }
+        Datum::Record(values) => {
+            for value in values {
+                all.push(whole(alloc, value)?)?;
+            }
+            Ok(Datum::Record(all))
+        }
+        Datum::Array(values) => {
+            for value in values {
+                all.push(whole(alloc, value)?)?;
+            }
+            Ok(Datum::Array(all))
+        }
+        other => Ok(other),
+    }
+}
+
 /// The objects of a file, a line each.
 fn lines_of(alloc: Global, bytes: &[u8]) -> Result<String, Fail> {
     let file = Container::open(alloc, bytes).ok().ok_or("a file")?;
@@ -306,7 +343,7 @@ fn lines_of(alloc: Global, bytes: &[u8]) -> Result<String, Fail> {
         if count > 0 {
             lines.push('\n')?;
         }
-        let datum = object.datum(alloc)?;
+        let datum = whole(alloc, object.datum(alloc)?)?;
         let line = format!(in alloc; "{datum:?}")?;
         lines.push_str(&line)?;
     }

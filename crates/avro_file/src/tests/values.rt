@@ -20,7 +20,7 @@ fn longs(rt: HostRuntime) -> Result<(), Fail> {
     for (content, want) in rows {
         let found = only(rt.alloc(), b"\"long\"", content)?;
         assert!(rt;
-            matches!(found, Ok(Datum::Long(number)) if number == want),
+            is(found, &format!(in rt.alloc(); "Long({want})")?),
             "{want}"
         );
     }
@@ -52,11 +52,11 @@ fn longs_that_do_not_fit(rt: HostRuntime) -> Result<(), Fail> {
 #[test]
 fn ints_and_enums(rt: HostRuntime) -> Result<(), Fail> {
     let least = only(rt.alloc(), b"\"int\"", &[0xff, 0xff, 0xff, 0xff, 0x0f])?;
-    assert!(rt; matches!(least, Ok(Datum::Int(i32::MIN))));
+    assert!(rt; is(least, "Int(-2147483648)"));
     let past = only(rt.alloc(), b"\"int\"", &[0x80, 0x80, 0x80, 0x80, 0x10])?;
     assert!(rt; matches!(past, Err(AvroFault::BadNumber)));
     let kinds = b"{\"type\":\"enum\",\"name\":\"e\",\"symbols\":[\"a\",\"b\"]}";
-    assert!(rt; matches!(only(rt.alloc(), kinds, &[2])?, Ok(Datum::Enum(1))));
+    assert!(rt; is(only(rt.alloc(), kinds, &[2])?, "Enum(1)"));
     assert!(rt; matches!(only(rt.alloc(), kinds, &[4])?, Err(AvroFault::BadNumber)));
     assert!(rt; matches!(only(rt.alloc(), kinds, &[1])?, Err(AvroFault::BadNumber)));
     Ok(())
@@ -64,12 +64,7 @@ fn ints_and_enums(rt: HostRuntime) -> Result<(), Fail> {
 
 #[test]
 fn booleans_and_unions(rt: HostRuntime) -> Result<(), Fail> {
-    assert!(rt;
-        matches!(
-            only(rt.alloc(), b"\"boolean\"", &[1])?,
-            Ok(Datum::Boolean(true))
-        )
-    );
+    assert!(rt; is(only(rt.alloc(), b"\"boolean\"", &[1])?, "Boolean(true)"));
     assert!(rt;
         matches!(
             only(rt.alloc(), b"\"boolean\"", &[2])?,
@@ -77,11 +72,8 @@ fn booleans_and_unions(rt: HostRuntime) -> Result<(), Fail> {
         )
     );
     let union = b"[\"null\",\"long\"]";
-    let Ok(Datum::Union(position, value)) = only(rt.alloc(), union, &[2, 3])? else {
-        return Err("no union")?;
-    };
-    assert_eq!(rt; position, 1);
-    assert!(rt; matches!(*value, Datum::Long(-2)));
+    assert!(rt; is(only(rt.alloc(), union, &[2, 3])?, "Union(1, Long(-2))"));
+    assert!(rt; is(only(rt.alloc(), union, &[0])?, "NullBranch(0)"));
     assert!(rt; matches!(only(rt.alloc(), union, &[4])?, Err(AvroFault::BadUnion)));
     assert!(rt; matches!(only(rt.alloc(), union, &[1])?, Err(AvroFault::BadUnion)));
     Ok(())
@@ -89,10 +81,8 @@ fn booleans_and_unions(rt: HostRuntime) -> Result<(), Fail> {
 
 #[test]
 fn texts(rt: HostRuntime) -> Result<(), Fail> {
-    let Ok(Datum::String(text)) = only(rt.alloc(), b"\"string\"", b"\x04\xc3\xa9")? else {
-        return Err("no text")?;
-    };
-    assert_eq!(rt; text.as_str(), "é");
+    let text = only(rt.alloc(), b"\"string\"", b"\x04\xc3\xa9")?;
+    assert!(rt; is(text, "String(\"é\")"));
     assert!(rt;
         matches!(
             only(rt.alloc(), b"\"string\"", &[2, 0xff])?,
@@ -115,40 +105,21 @@ fn texts(rt: HostRuntime) -> Result<(), Fail> {
     Ok(())
 }
 
-/// The bytes that a value consists of.
-fn run_of(found: Result<Datum, AvroFault>) -> Option<Vec<u8>> {
-    match found {
-        Ok(Datum::Bytes(run)) => Some(run),
-        Ok(Datum::Fixed(run)) => Some(run),
-        Ok(Datum::Float(run)) => Some(run),
-        Ok(Datum::Double(run)) => Some(run),
-        Ok(_other) => None,
-        Err(_fault) => None,
-    }
-}
-
 #[test]
 fn runs_of_bytes(rt: HostRuntime) -> Result<(), Fail> {
-    let bytes = run_of(only(rt.alloc(), b"\"bytes\"", &[2, 0xff])?).ok_or("bytes")?;
-    assert_eq!(rt; bytes.as_slice(), [0xff].as_slice());
+    assert!(rt; is(only(rt.alloc(), b"\"bytes\"", &[2, 0xff])?, "Bytes([255])"));
     let schema = b"{\"type\":\"fixed\",\"name\":\"f\",\"size\":2}";
-    let fixed = run_of(only(rt.alloc(), schema, &[7, 8])?).ok_or("fixed")?;
-    assert_eq!(rt; fixed.as_slice(), [7, 8].as_slice());
-    let one = [0, 0, 0x80, 0x3f];
-    let float = run_of(only(rt.alloc(), b"\"float\"", &one)?).ok_or("float")?;
-    assert_eq!(rt; float.as_slice(), one.as_slice());
-    let one = [0, 0, 0, 0, 0, 0, 0xf0, 0x3f];
-    let double = run_of(only(rt.alloc(), b"\"double\"", &one)?).ok_or("double")?;
-    assert_eq!(rt; double.as_slice(), one.as_slice());
+    assert!(rt; is(only(rt.alloc(), schema, &[7, 8])?, "Fixed([7, 8])"));
+    let float = only(rt.alloc(), b"\"float\"", &[0, 0, 0x80, 0x3f])?;
+    assert!(rt; is(float, "Float([0, 0, 128, 63])"));
+    let double = only(rt.alloc(), b"\"double\"", &[0, 0, 0, 0, 0, 0, 0xf0, 0x3f])?;
+    assert!(rt; is(double, "Double([0, 0, 0, 0, 0, 0, 240, 63])"));
     Ok(())
 }
 
 /// Whether these are 3 and 27.
-fn are_3_and_27(found: Result<Datum, AvroFault>) -> bool {
-    let Ok(Datum::Array(items)) = found else {
-        return false;
-    };
-    matches!(items.as_slice(), [Datum::Long(3), Datum::Long(27)])
+fn are_3_and_27(found: Result<String, AvroFault>) -> bool {
+    is(found, "Array([Long(3), Long(27)])")
 }
 
 #[test]
@@ -160,13 +131,8 @@ fn arrays_and_maps(rt: HostRuntime) -> Result<(), Fail> {
     assert!(rt; are_3_and_27(only(rt.alloc(), array, &[3, 1, 6, 0x36, 0])?));
     assert!(rt; are_3_and_27(only(rt.alloc(), array, &[2, 6, 1, 2, 0x36, 0])?));
     let map = b"{\"type\":\"map\",\"values\":\"long\"}";
-    let Ok(Datum::Map(entries)) = only(rt.alloc(), map, b"\x02\x02k\x06\x00")? else {
-        return Err("no map")?;
-    };
-    let [(key, Datum::Long(3))] = entries.as_slice() else {
-        return Err("other entries")?;
-    };
-    assert_eq!(rt; key.as_str(), "k");
+    let entries = only(rt.alloc(), map, b"\x02\x02k\x06\x00")?;
+    assert!(rt; is(entries, "Map([(\"k\", Long(3))])"));
     Ok(())
 }
 

@@ -63,43 +63,86 @@ const EVERY: &[u8] = b"{\"type\":\"record\",\"name\":\"r\",\"fields\":[\
 {\"name\":\"j\",\"type\":{\"type\":\"enum\",\"name\":\"y\",\"symbols\":[\"A\",\"B\"]}},\
 {\"name\":\"k\",\"type\":{\"type\":\"array\",\"items\":\"int\"}},\
 {\"name\":\"l\",\"type\":{\"type\":\"map\",\"values\":\"long\"}},\
-{\"name\":\"m\",\"type\":[\"null\",\"string\"]}]}";
+{\"name\":\"m\",\"type\":[\"null\",\"string\"]},{\"name\":\"n\",\"type\":[\"null\",\"string\"]},\
+{\"name\":\"o\",\"type\":{\"type\":\"array\",\"items\":{\"type\":\"record\",\"name\":\"p\",\"fields\":[\
+{\"name\":\"k\",\"type\":\"int\"},{\"name\":\"v\",\"type\":\"long\"}]}}},\
+{\"name\":\"q\",\"type\":{\"type\":\"array\",\"items\":{\"type\":\"record\",\"name\":\"s\",\"fields\":[\
+{\"name\":\"k\",\"type\":\"int\"},{\"name\":\"v\",\"type\":\"bytes\"}]}}},\
+{\"name\":\"t\",\"type\":{\"type\":\"array\",\"items\":\"p\"}}]}";
 
-/// An object of that type.
-fn every(alloc: Global) -> Result<Datum, Fail> {
+/// The last fields of an object of that type, as a reader gives them.
+fn push_flat(alloc: Global, fields: &mut Vec<Datum<'static>>) -> Result<(), Fail> {
+    fields.push(Datum::NullBranch(0))?;
+    let mut longs = Vec::new(alloc);
+    longs.push((-2, 300))?;
+    longs.push((200, i64::MIN))?;
+    fields.push(Datum::LongPairs(longs))?;
+    let mut bytes: Vec<(i32, &'static [u8])> = Vec::new(alloc);
+    bytes.push((1, &[3, 0xff]))?;
+    bytes.push((i32::MAX, &[]))?;
+    fields.push(Datum::BytesPairs(bytes))?;
+    fields.push(Datum::LongPairs(Vec::new(alloc)))?;
+    Ok(())
+}
+
+/// The same fields, with a datum for each value.
+fn push_whole(alloc: Global, fields: &mut Vec<Datum<'static>>) -> Result<(), Fail> {
+    fields.push(Datum::Union(0, Box::new(alloc, Datum::Null)?))?;
+    let mut longs = Vec::new(alloc);
+    longs.push(pair(alloc, -2, Datum::Long(300))?)?;
+    longs.push(pair(alloc, 200, Datum::Long(i64::MIN))?)?;
+    fields.push(Datum::Array(longs))?;
+    let mut bytes = Vec::new(alloc);
+    bytes.push(pair(alloc, 1, Datum::Bytes(&[3, 0xff]))?)?;
+    bytes.push(pair(alloc, i32::MAX, Datum::Bytes(&[]))?)?;
+    fields.push(Datum::Array(bytes))?;
+    fields.push(Datum::Array(Vec::new(alloc)))?;
+    Ok(())
+}
+
+/// The first fields of an object of that type.
+fn every(alloc: Global) -> Result<Vec<Datum<'static>>, Fail> {
     let mut items = Vec::new(alloc);
     items.push(Datum::Int(-3))?;
     items.push(Datum::Int(200))?;
     let mut entries = Vec::new(alloc);
-    entries.push((String::from_str(alloc, "k")?, Datum::Long(7)))?;
+    entries.push(("k", Datum::Long(7)))?;
     let mut fields = Vec::new(alloc);
     fields.push(Datum::Null)?;
     fields.push(Datum::Boolean(true))?;
     fields.push(Datum::Int(i32::MIN))?;
     fields.push(Datum::Long(i64::MAX))?;
-    fields.push(Datum::Float([0, 0, 0x80, 0x3f].to_vec(alloc)?))?;
-    fields.push(Datum::Double([0, 0, 0, 0, 0, 0, 0, 0xc0].to_vec(alloc)?))?;
-    fields.push(Datum::Bytes([0xff].to_vec(alloc)?))?;
-    fields.push(Datum::String(String::from_str(alloc, "\u{e9}")?))?;
-    fields.push(Datum::Fixed([1, 2].to_vec(alloc)?))?;
+    fields.push(Datum::Float(&[0, 0, 0x80, 0x3f]))?;
+    fields.push(Datum::Double(&[0, 0, 0, 0, 0, 0, 0, 0xc0]))?;
+    fields.push(Datum::Bytes(&[0xff]))?;
+    fields.push(Datum::String("\u{e9}"))?;
+    fields.push(Datum::Fixed(&[1, 2]))?;
     fields.push(Datum::Enum(1))?;
     fields.push(Datum::Array(items))?;
     fields.push(Datum::Map(entries))?;
-    fields.push(Datum::Union(
-        1,
-        Box::new(alloc, Datum::String(String::from_str(alloc, "s")?))?,
-    ))?;
-    Ok(Datum::Record(fields))
+    fields.push(Datum::Union(1, Box::new(alloc, Datum::String("s"))?))?;
+    Ok(fields)
+}
+
+/// A file of an object of that type.
+fn file_of(alloc: Global, datum: &Datum) -> Result<Vec<u8>, Fail> {
+    let mut writer = Writer::new(alloc, EVERY, &[], MARKER)
+        .ok()
+        .ok_or("a schema")?;
+    writer.push(alloc, datum)?;
+    Ok(writer.finish()?)
 }
 
 #[test]
 fn every_type_read_back(rt: HostRuntime) -> Result<(), Fail> {
-    let datum = every(rt.alloc())?;
-    let mut writer = Writer::new(rt.alloc(), EVERY, &[], MARKER)
-        .ok()
-        .ok_or("a schema")?;
-    writer.push(rt.alloc(), &datum)?;
-    let bytes = writer.finish()?;
+    let mut fields = every(rt.alloc())?;
+    push_flat(rt.alloc(), &mut fields)?;
+    let datum = Datum::Record(fields);
+    let bytes = file_of(rt.alloc(), &datum)?;
+    let mut fields = every(rt.alloc())?;
+    push_whole(rt.alloc(), &mut fields)?;
+    let whole = file_of(rt.alloc(), &Datum::Record(fields))?;
+    assert_eq!(rt; bytes.as_slice(), whole.as_slice());
     let file = Container::open(rt.alloc(), &bytes).ok().ok_or("a file")?;
     let mut objects = file.objects();
     let object = objects.next().ok().ok_or("no fault")?.ok_or("an object")?;

@@ -1,12 +1,17 @@
-use Rattle.std.proofs.Common.{◌≡◌, pos, string_bytes, [], ◌∷◌, ◌++◌, Ok, refl, ◌∙◌, arith}
+use Rattle.std.proofs.Common.{◌≡◌, pos, [], ◌∷◌, ◌++◌, Ok, refl, ap, ◌∙◌, arith}
 use Rattle.std.proofs.lemmas.Result.{err_from_is_err_and}
 use Rattle.std.proofs.lemmas.List.{map_push}
 use Rattle.std.proofs.lemmas.Int.{ints}
 use Rattle.avro_schema.specs.View.{tree}
 use Rattle.avro_file.specs.View.{view, views, entry_views}
 use Rattle.avro_file.specs.Place.{position_of}
-use Rattle.avro_file.specs.Reading.{string_at, entry_at, datum_at, branch_at}
+use Rattle.avro_file.specs.Reading.{entry_at, datum_at, branch_at}
 use Rattle.avro_file.proofs.Views.{field_trees, branch_trees, tree-Record, branch_there, no_branch, structure_fails, structure_read, chosen_fails, is_chosen, view-Record, view-Union, tree-Map, view-Map, map_read, entry_read, key_fails, value_fails}
+use Rattle.avro_file.specs.Value.{Value, nothing}
+use Rattle.avro_file.specs.declared.pairs.Second.TheVariants as Second
+use Rattle.avro_file.specs.Pairs.{IsPair}
+use Rattle.avro_file.proofs.Leaves.{tree-Array}
+use Rattle.avro_file.proofs.Paired.{as_bytes_pair, array_fails, view-Null, view-NullBranch}
 use Rattle.avro_file.proofs.Loop.{values_on, values_fail, values_done, fields_on, fields_fail, fields_done, blocks_done, count_fails, block_fails, blocks_on, shorter}
 use Rattle.avro_file.proofs.Taken.{datum_takes, entry_takes}
 use Rattle.avro_file.proofs.decode.+datum.Goals as goal
@@ -60,12 +65,31 @@ union_of-returns-in_err-value t c =
     let same = rw (← c.index-branches-position.is) at there in
     rw (p.1, p.2, is) (λ m. chosen_fails c.in_err-value.field-0.0 (branch_at (branch_trees c.args.branches.now)) c.in-Some.position (position_of c.args.place) (rw same (c.in_err-value.ensures m)))
 
-pub union_of-returns : goal.union_of-returns
-union_of-returns t c =
+pub union_of-returns-in-Null : goal.union_of-returns-in-Null
+union_of-returns-in-Null t c =
     let is : c.args.position ≡ pos c.in-Some.position = omega (arith, ints, c.in-Some.ensures) in
     let there = branch_there c.args.branches.now c.in-Some.position c.index-branches-position.result (position_of c.args.place) (omega arith) in
     let same = rw (← c.index-branches-position.is) at there in
-    rw (is, view-Union c.in-Some.position c.in_ok-new.field-0, c.in_ok-new.ensures.ok) (is_chosen (branch_at (branch_trees c.args.branches.now)) c.in-Some.position (position_of c.args.place) _ _ (same ∙ c.in_ok-value.ensures))
+    let null = ap (λ (v : Value). Ok (v, position_of c.in_ok-value.place)) (ap view c.in-Null.is ∙ view-Null) in
+    rw (is, view-NullBranch c.in-Some.position) (is_chosen (branch_at (branch_trees c.args.branches.now)) c.in-Some.position (position_of c.args.place) nothing _ (same ∙ c.in_ok-value.ensures ∙ null))
+
+pub union_of-returns-in_ok-new-in_default-value : goal.union_of-returns-in_ok-new-in_default-value
+union_of-returns-in_ok-new-in_default-value t c =
+    let is : c.args.position ≡ pos c.in-Some.position = omega (arith, ints, c.in-Some.ensures) in
+    let there = branch_there c.args.branches.now c.in-Some.position c.index-branches-position.result (position_of c.args.place) (omega arith) in
+    let same = rw (← c.index-branches-position.is) at there in
+    rw (is, view-Union c.in-Some.position c.in_ok-new-in_default-value.field-0, c.in_ok-new-in_default-value.ensures.ok) (is_chosen (branch_at (branch_trees c.args.branches.now)) c.in-Some.position (position_of c.args.place) _ _ (same ∙ c.in_ok-value.ensures))
+
+pub array_datum_of-returns-in_err-pairs-in-Some-Bytes : goal.array_datum_of-returns-in_err-pairs-in-Some-Bytes
+array_datum_of-returns-in_err-pairs-in-Some-Bytes t c =
+    let is : IsPair (tree c.args.schema.now) Second.Bytes = rw c.in-Some-Bytes.field-0-is at c.in-Some-Bytes.ensures in
+    let p = err_from_is_err_and c.from_residual-in_err-pairs-in-Some-Bytes.result c.from_residual-in_err-pairs-in-Some-Bytes.ensures.1 in
+    rw (p.1, p.2) (λ id kind m. array_fails c.in_err-pairs-in-Some-Bytes.field-0.0 (tree c.args.schema.now) id kind (position_of c.args.place) (rw (as_bytes_pair (tree c.args.schema.now) is) (c.in_err-pairs-in-Some-Bytes.ensures m)))
+
+pub datum_of-returns-in-Array : goal.datum_of-returns-in-Array
+datum_of-returns-in-Array t c =
+    let here : c.deref-in-Array.result.now ≡ c.in-Array.items.value = c.deref-in-Array.ensures in
+    rw (c.in-Array.is, tree-Array c.in-Array.items c.in-Array.field-1 c.in-Array.field-2, ← here) (c.array_datum_of.ensures c.in-Array.field-1 c.in-Array.field-2)
 
 pub datum_of-returns-in_err-values-in-Record : goal.datum_of-returns-in_err-values-in-Record
 datum_of-returns-in_err-values-in-Record t c =
@@ -93,9 +117,8 @@ record_of-returns t c = fields_done c.args.fields.now c.fields.field-index _ _ _
 
 pub entries_of-items-preserved : goal.entries_of-items-preserved
 entries_of-items-preserved t c =
-    let e : entry_views c.push.new.self.items ≡ entry_views c.items.values.items ++ (string_bytes c.in_ok-key.key, view c.in_ok-value.value) ∷ [] = rw c.in_ok-push.ensures.items (map_push _ c.items.values.items (c.in_ok-key.key, c.in_ok-value.value)) in
-    let key : string_at c.items.here.bytes.now ≡ Ok (string_bytes c.in_ok-key.key, c.in_ok-text.rest.now) = rw c.in_ok-key.ensures.ok c.in_ok-text.ensures in
-    let one = entry_read (datum_at (tree c.args.schema.now)) (position_of c.items.here) _ _ _ _ key c.in_ok-value.ensures in
+    let e : entry_views c.push.new.self.items ≡ entry_views c.items.values.items ++ (c.in_ok-key.key.now, view c.in_ok-value.value) ∷ [] = rw c.in_ok-push.ensures.items (map_push _ c.items.values.items (c.in_ok-key.key, c.in_ok-value.value)) in
+    let one = entry_read (datum_at (tree c.args.schema.now)) (position_of c.items.here) _ _ _ _ c.in_ok-key.ensures c.in_ok-value.ensures in
     rw e (values_on (entry_at (datum_at (tree c.args.schema.now))) _ c.args.count c.items.counter _ _ _ _ c.items-test.true one c.items.invariant)
 
 pub entries_of-returns : goal.entries_of-returns
@@ -124,15 +147,15 @@ map_of-each_block-preserved t c =
     let less = shorter (entry_at (datum_at (tree c.args.schema.now))) _ _ (entry_takes (datum_at (tree c.args.schema.now)) _ (datum_takes (tree c.args.schema.now))) _ _ _ _ _ _ c.in_ok-count.ensures c.in_ok-more.ensures in
     (on.fewer, omega (arith, i.1, less, on.one_less), on.so_far)
 
-pub entries_of-returns-in_err-text : goal.entries_of-returns-in_err-text
-entries_of-returns-in_err-text t c =
+pub entries_of-returns-in_err-key : goal.entries_of-returns-in_err-key
+entries_of-returns-in_err-key t c =
     let p = err_from_is_err_and c.from_residual.result c.from_residual.ensures.1 in
-    rw (p.1, p.2) (λ m. values_fail c.in_err-text.field-0.0 (entry_at (datum_at (tree c.args.schema.now))) _ c.args.count c.items.counter _ _ c.items-test.true (key_fails c.in_err-text.field-0.0 (datum_at (tree c.args.schema.now)) (position_of c.items.here) c.in_err-text.ensures) c.items.invariant)
+    rw (p.1, p.2) (λ m. values_fail c.in_err-key.field-0.0 (entry_at (datum_at (tree c.args.schema.now))) _ c.args.count c.items.counter _ _ c.items-test.true (key_fails c.in_err-key.field-0.0 (datum_at (tree c.args.schema.now)) (position_of c.items.here) c.in_err-key.ensures) c.items.invariant)
 
 pub entries_of-returns-in_err-value : goal.entries_of-returns-in_err-value
 entries_of-returns-in_err-value t c =
     let p = err_from_is_err_and c.from_residual-in_err-value.result c.from_residual-in_err-value.ensures.1 in
-    rw (p.1, p.2) (λ m. values_fail c.in_err-value.field-0.0 (entry_at (datum_at (tree c.args.schema.now))) _ c.args.count c.items.counter _ _ c.items-test.true (value_fails c.in_err-value.field-0.0 (datum_at (tree c.args.schema.now)) (position_of c.items.here) _ _ c.in_ok-text.ensures (c.in_err-value.ensures m)) c.items.invariant)
+    rw (p.1, p.2) (λ m. values_fail c.in_err-value.field-0.0 (entry_at (datum_at (tree c.args.schema.now))) _ c.args.count c.items.counter _ _ c.items-test.true (value_fails c.in_err-value.field-0.0 (datum_at (tree c.args.schema.now)) (position_of c.items.here) _ _ c.in_ok-key.ensures (c.in_err-value.ensures m)) c.items.invariant)
 
 pub datum_of-returns-in_ok-entries-in-Map : goal.datum_of-returns-in_ok-entries-in-Map
 datum_of-returns-in_ok-entries-in-Map t c =

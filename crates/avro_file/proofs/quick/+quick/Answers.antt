@@ -6,7 +6,10 @@ use Rattle.avro_file.proofs.Views.{field_trees, tree-Record}
 use Rattle.avro_file.proofs.Leaves.{tree-Array}
 use Rattle.avro_file.proofs.Loop.{values_on, values_done, fields_on, fields_done}
 use Rattle.avro_file.proofs.Behind.{behind_ok, behind_all, empty_values}
-use Rattle.avro_file.proofs.Places.{structure_ends_there, array_ends_there, union_ends_there, no_items, one_block}
+use Rattle.avro_file.specs.declared.pairs.Second.TheVariants as Second
+use Rattle.avro_file.specs.Pairs.{IsPair}
+use Rattle.avro_file.proofs.Paired.{as_long_pair, as_bytes_pair}
+use Rattle.avro_file.proofs.Places.{some_weaker, structure_ends_there, array_ends_there, union_ends_there, no_items, one_block}
 use Rattle.avro_file.proofs.quick.+quick.Goals as goal
 
 pub value_end-returns-in-Record : goal.value_end-returns-in-Record
@@ -56,3 +59,13 @@ some_end-items-preserved t c =
 
 pub some_end-returns : goal.some_end-returns
 some_end-returns t c = let i = c.items.invariant in (i.0, behind_all i.1 _ _ (values_done (datum_at (tree c.args.schema.now)) i.1 c.args.count c.items.counter _ _ c.items-test.false i.2))
+
+pub some_end-returns-in-Some-Long : goal.some_end-returns-in-Some-Long
+some_end-returns-in-Some-Long t c =
+    let is : IsPair (tree c.args.schema.now) Second.Long = rw c.in-Some-Long.field-0-is at c.in-Some-Long.ensures in
+    rw (as_long_pair (tree c.args.schema.now) is) (some_weaker c.long_pairs_end.result _ _ (λ end ends. ends c.args.left.now) c.long_pairs_end.ensures)
+
+pub some_end-returns-in-Some-Bytes : goal.some_end-returns-in-Some-Bytes
+some_end-returns-in-Some-Bytes t c =
+    let is : IsPair (tree c.args.schema.now) Second.Bytes = rw c.in-Some-Bytes.field-0-is at c.in-Some-Bytes.ensures in
+    rw (as_bytes_pair (tree c.args.schema.now) is) (some_weaker c.bytes_pairs_end.result _ _ (λ end ends. ends c.args.left.now) c.bytes_pairs_end.ensures)

@@ -1,4 +1,3 @@
-use Rattle.std.proofs.Common.{arith}
 use Rattle.avro_file.proofs.Places.{count_ends, negative_count_ends}
 use Rattle.avro_file.proofs.quick.count_at.Goals as goal
 use Rattle.avro_file.proofs.quick.count_at.Goals.{then-end-eq0-via-then-end-eq0, then-end-eq0-via-else-end-eq0+then-value-eq0}
