@@ -1,10 +1,10 @@
 -- An entry has a status, so a manifest has no more entries than bytes.
-use Rattle.std.proofs.Common.{◌≡◌, ℤ, pos, Bool, true, false, cond, Option, Some, None, Result, Ok, Err, refl, sym, ap, subst, ◌||◌}
+use Rattle.std.proofs.Common.{◌≡◌, ℤ, pos, Bool, true, false, cond, Option, Some, None, Ok, refl, sym, ap, subst, ◌||◌}
 use Rattle.std.specs.Ordering.{int_eq}
 use Rattle.std.specs.Option.{option_eq}
 use Rattle.avro_schema.specs.Tree.{Tree, null, boolean, int, long, float, double, symbols, octets, string, fixed, structure, array, map, union, Fields, no_fields, field}
 use Rattle.avro_file.specs.Spelling.{takes_bytes, some_takes_bytes}
-use Rattle.ice_manifest.specs.declared.fault.FieldFault.{FieldFault}
+use Rattle.ice_meta.specs.declared.spec.Spec.{Spec}
 use Rattle.ice_manifest.specs.declared.fault.FieldFault.TheVariants.{WrongType}
 use Rattle.ice_manifest.specs.Types.{is_whole, fits}
 use Rattle.ice_manifest.specs.Schemas.{fields_in, type_at, must_fit, required, entry_fields}
@@ -69,9 +69,9 @@ must_have (Some u) t e =
     (ap Some same, subst (λ (v : Tree). fits is_whole v ≡ true) same g.0)
 
 -- a schema that has the fields of entries
-pub entries_take_bytes : (s : Tree) → entry_fields (fields_in s) ≡ Ok tt → takes_bytes s ≡ true
+pub entries_take_bytes : (spec : Spec) (s : Tree) → entry_fields spec (fields_in s) ≡ Ok tt → takes_bytes s ≡ true
 unfolding entry_fields required
-entries_take_bytes s e =
+entries_take_bytes spec s e =
     let status = went_on (required is_whole (pos 0) (fields_in s)) _ tt e in
     let there = must_have (type_at (pos 0) (fields_in s)) status.0 status.1 in
     tree_takes_bytes s status.0 there.0 there.1

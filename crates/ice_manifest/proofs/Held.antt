@@ -36,6 +36,6 @@ pub gives_held_entries : ReadsHeld → ReadsOnlyHeld → GivesHeldEntries
 gives_held_entries read only row spec bytes found short = (
   λ e.
       let h = (reads_entries_exactly row spec bytes found).0 e in
-      (h.0, h.1, h.2, held_so only entry_fields bytes h.0 h.1 h.3, h.4, h.5),
-  λ h. (reads_entries_exactly row spec bytes found).1 (h.0, h.1, h.2, opened_so read entry_fields bytes h.0 h.1 short h.3, h.4, h.5),
+      (h.0, h.1, h.2, held_so only (entry_fields spec) bytes h.0 h.1 h.3, h.4, h.5),
+  λ h. (reads_entries_exactly row spec bytes found).1 (h.0, h.1, h.2, opened_so read (entry_fields spec) bytes h.0 h.1 short h.3, h.4, h.5),
 )

@@ -2,6 +2,8 @@ pub mod Guards
 pub mod Reading
 pub mod Steps
 pub mod Records
+pub mod Cells
+pub mod Decimals
 pub mod Rising
 pub mod Sets
 pub mod Said
@@ -11,3 +13,4 @@ pub mod Whole
 pub mod Contents
 pub mod Few
 pub mod Held
+pub mod Built

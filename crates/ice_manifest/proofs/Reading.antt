@@ -1,5 +1,5 @@
 -- Reading one thing after the other, after what was read before.
-use Rattle.std.proofs.Common.{◌≡◌, ℕ, Bool, ◌+◌, ◌<◌, List, [], ◌∷◌, ◌++◌, Option, Some, None, Result, Ok, Err, refl, sym, ap, ◌∙◌, arith}
+use Rattle.std.proofs.Common.{◌≡◌, ℕ, ◌+◌, ◌<◌, List, [], ◌∷◌, ◌++◌, Option, Some, None, Result, Ok, Err, refl, sym, ap, ◌∙◌, arith}
 use Rattle.std.specs.List.{enumerate_from}
 use Rattle.std.proofs.lemmas.List.{append-nil}
 use Rattle.contract_words.specs.Outcome.{◌>>=◌}
@@ -9,6 +9,7 @@ use Rattle.avro_file.specs.declared.object.Object.{Object}
 use Rattle.avro_file.specs.Value.{Value}
 use Rattle.avro_file.specs.Ahead.{Ahead, running, refusing, still_ahead}
 use Rattle.avro_file.specs.Files.{Next, Shows}
+use Rattle.ice_meta.specs.declared.spec.Spec.{Spec}
 use Rattle.ice_manifest.specs.declared.fault.FieldFault.{FieldFault}
 use Rattle.ice_manifest.specs.declared.fault.ListFault.{ListFault}
 use Rattle.ice_manifest.specs.declared.fault.ManifestFault.{ManifestFault}
@@ -122,25 +123,25 @@ entry_more front (Some l) (Ok xs) None = sym (joined_push front l (Ok (kept xs))
 entry_more front (Some l) (Ok xs) (Some f) = sym (joined_push front l (Err (in_manifest.of_container f)))
 entry_more front (Some l) (Err e) ending = sym (joined_push front l (Err e))
 
-pub next_entry : (row : Row) (unpartitioned : Bool) (fs : Fields) (k : ℕ) (front : List Live) (now new : Ahead) (o : Object) (v : Value) (x : Option Live) → Next Shows now (Ok (Some o)) new → Is o v → says_entry row unpartitioned fs (k, v) ≡ Ok x
-    → joined front (entries_ahead row unpartitioned fs k now) ≡ joined (front ++ kept (x ∷ [])) (entries_ahead row unpartitioned fs (k + 1) new)
+pub next_entry : (row : Row) (spec : Spec) (fs : Fields) (k : ℕ) (front : List Live) (now new : Ahead) (o : Object) (v : Value) (x : Option Live) → Next Shows now (Ok (Some o)) new → Is o v → says_entry row spec fs (k, v) ≡ Ok x
+    → joined front (entries_ahead row spec fs k now) ≡ joined (front ++ kept (x ∷ [])) (entries_ahead row spec fs (k + 1) new)
 unfolding entries_ahead each
-next_entry row unpartitioned fs k front (running vs ending) new o v x h shown is = rw (h.3, h.4, sym (shown h.0 h.2), is) (entry_more front x (each (says_entry row unpartitioned fs) (enumerate_from (k + 1) h.1)) ending)
-next_entry row unpartitioned fs k front (refusing f) new o v x h shown is = absurd (cc (h.0))
+next_entry row spec fs k front (running vs ending) new o v x h shown is = rw (h.3, h.4, sym (shown h.0 h.2), is) (entry_more front x (each (says_entry row spec fs) (enumerate_from (k + 1) h.1)) ending)
+next_entry row spec fs k front (refusing f) new o v x h shown is = absurd (cc (h.0))
 
-pub entry_fails : (row : Row) (unpartitioned : Bool) (fs : Fields) (k : ℕ) (front : List Live) (now new : Ahead) (o : Object) (v : Value) (f : ManifestFault) → Next Shows now (Ok (Some o)) new → Is o v → says_entry row unpartitioned fs (k, v) ≡ Err f
-    → joined front (entries_ahead row unpartitioned fs k now) ≡ Err f
+pub entry_fails : (row : Row) (spec : Spec) (fs : Fields) (k : ℕ) (front : List Live) (now new : Ahead) (o : Object) (v : Value) (f : ManifestFault) → Next Shows now (Ok (Some o)) new → Is o v → says_entry row spec fs (k, v) ≡ Err f
+    → joined front (entries_ahead row spec fs k now) ≡ Err f
 unfolding entries_ahead each
-entry_fails row unpartitioned fs k front (running vs ending) new o v f h shown is = rw (h.3, sym (shown h.0 h.2), is) (joined_err front f)
-entry_fails row unpartitioned fs k front (refusing g) new o v f h shown is = absurd (cc (h.0))
+entry_fails row spec fs k front (running vs ending) new o v f h shown is = rw (h.3, sym (shown h.0 h.2), is) (joined_err front f)
+entry_fails row spec fs k front (refusing g) new o v f h shown is = absurd (cc (h.0))
 
-pub no_entry : (row : Row) (unpartitioned : Bool) (fs : Fields) (k : ℕ) (front : List Live) (now new : Ahead) (x : Option Object) → Next Shows now (Ok x) new → ((o : Object) → x ≡ Some o → ⊥) → joined front (entries_ahead row unpartitioned fs k now) ≡ Ok front
+pub no_entry : (row : Row) (spec : Spec) (fs : Fields) (k : ℕ) (front : List Live) (now new : Ahead) (x : Option Object) → Next Shows now (Ok x) new → ((o : Object) → x ≡ Some o → ⊥) → joined front (entries_ahead row spec fs k now) ≡ Ok front
 unfolding entries_ahead each
-no_entry row unpartitioned fs k front (running vs ending) new None h none = rw (h.0, h.1) (joined_end front)
-no_entry row unpartitioned fs k front (running vs ending) new (Some o) h none = absurd (none o refl)
-no_entry row unpartitioned fs k front (refusing f) new x h none = absurd (cc (h.0))
+no_entry row spec fs k front (running vs ending) new None h none = rw (h.0, h.1) (joined_end front)
+no_entry row spec fs k front (running vs ending) new (Some o) h none = absurd (none o refl)
+no_entry row spec fs k front (refusing f) new x h none = absurd (cc (h.0))
 
-pub entries_end : (row : Row) (unpartitioned : Bool) (fs : Fields) (k : ℕ) (front : List Live) (now new : Ahead) (f : AvroFault) → Next Shows now (Err f) new → joined front (entries_ahead row unpartitioned fs k now) ≡ Err (in_manifest.of_container f)
+pub entries_end : (row : Row) (spec : Spec) (fs : Fields) (k : ℕ) (front : List Live) (now new : Ahead) (f : AvroFault) → Next Shows now (Err f) new → joined front (entries_ahead row spec fs k now) ≡ Err (in_manifest.of_container f)
 unfolding entries_ahead each
-entries_end row unpartitioned fs k front (running vs ending) new f h = rw (h.0, h.1) (joined_err front (in_manifest.of_container f))
-entries_end row unpartitioned fs k front (refusing g) new f h = let e : g ≡ f = cc (h.0) in rw e (joined_err front (in_manifest.of_container f))
+entries_end row spec fs k front (running vs ending) new f h = rw (h.0, h.1) (joined_err front (in_manifest.of_container f))
+entries_end row spec fs k front (refusing g) new f h = let e : g ≡ f = cc (h.0) in rw e (joined_err front (in_manifest.of_container f))

@@ -1,7 +1,8 @@
 -- Objects that are no records.
-use Rattle.std.proofs.Common.{◌≡◌, ℕ, pos, Bool, Option, Some, None, Result, Ok, Err, refl}
+use Rattle.std.proofs.Common.{◌≡◌, ℕ, pos, Some, None, Err, refl}
 use Rattle.avro_schema.specs.Tree.{structure, Fields}
 use Rattle.avro_file.specs.Value.{Value, nothing, truth, small, whole, single, twice, text, run, raw, symbol, fields, items, entries, chosen}
+use Rattle.ice_meta.specs.declared.spec.Spec.{Spec}
 use Rattle.ice_manifest.specs.declared.fault.FieldFault.TheVariants.{Missing}
 use Rattle.ice_manifest.specs.declared.fault.ManifestFault.TheVariants.{MissingField}
 use Rattle.ice_manifest.specs.declared.row.Row.{Row}
@@ -44,19 +45,19 @@ no_record_row fs (items vs) h = refl
 no_record_row fs (entries es) h = refl
 no_record_row fs (chosen n v) h = refl
 
-pub no_record_entry : (row : Row) (unpartitioned : Bool) (k : ℕ) (fs : Fields) (v : Value) → None ≡ as_record v → entry_of row unpartitioned k (structure fs, v) ≡ Err (MissingField (pos 0))
+pub no_record_entry : (row : Row) (spec : Spec) (k : ℕ) (fs : Fields) (v : Value) → None ≡ as_record v → entry_of row spec k (structure fs, v) ≡ Err (MissingField (pos 0))
 unfolding entry_of status_at int_at
-no_record_entry row unpartitioned k fs nothing h = refl
-no_record_entry row unpartitioned k fs (truth b) h = refl
-no_record_entry row unpartitioned k fs (small z) h = refl
-no_record_entry row unpartitioned k fs (whole z) h = refl
-no_record_entry row unpartitioned k fs (single s) h = refl
-no_record_entry row unpartitioned k fs (twice s) h = refl
-no_record_entry row unpartitioned k fs (text s) h = refl
-no_record_entry row unpartitioned k fs (run s) h = refl
-no_record_entry row unpartitioned k fs (raw s) h = refl
-no_record_entry row unpartitioned k fs (symbol n) h = refl
-no_record_entry row unpartitioned k fs (fields vs) h = absurd cc
-no_record_entry row unpartitioned k fs (items vs) h = refl
-no_record_entry row unpartitioned k fs (entries es) h = refl
-no_record_entry row unpartitioned k fs (chosen n v) h = refl
+no_record_entry row spec k fs nothing h = refl
+no_record_entry row spec k fs (truth b) h = refl
+no_record_entry row spec k fs (small z) h = refl
+no_record_entry row spec k fs (whole z) h = refl
+no_record_entry row spec k fs (single s) h = refl
+no_record_entry row spec k fs (twice s) h = refl
+no_record_entry row spec k fs (text s) h = refl
+no_record_entry row spec k fs (run s) h = refl
+no_record_entry row spec k fs (raw s) h = refl
+no_record_entry row spec k fs (symbol n) h = refl
+no_record_entry row spec k fs (fields vs) h = absurd cc
+no_record_entry row spec k fs (items vs) h = refl
+no_record_entry row spec k fs (entries es) h = refl
+no_record_entry row spec k fs (chosen n v) h = refl

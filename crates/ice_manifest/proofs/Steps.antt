@@ -1,5 +1,5 @@
 -- Going through lists, as the loops do.
-use Rattle.std.proofs.Common.{◌≡◌, ℕ, zero, suc, ◌+◌, ◌≤◌, ◌<◌, Bool, true, false, ◌||◌, ◌&&◌, List, [], ◌∷◌, ◌++◌, length, get_or, drop, map, Option, Some, None, Result, Ok, Err, ℤ, cond, refl, sym, ap, ◌∙◌, add-one, drop-cons, arith, rules}
+use Rattle.std.proofs.Common.{◌≡◌, ℕ, zero, suc, ◌+◌, ◌≤◌, ◌<◌, Bool, true, false, ◌||◌, ◌&&◌, List, [], ◌∷◌, ◌++◌, length, get_or, drop, Option, Some, None, Result, Ok, Err, ℤ, cond, refl, sym, ◌∙◌, add-one, drop-cons, arith, rules}
 use Rattle.std.proofs.Math.ListN.{drop_of_length-le}
 use Rattle.std.proofs.Common.{Vec, Global}
 use Rattle.std.specs.declared.sync.Arc.{Arc}
@@ -8,7 +8,7 @@ use Rattle.avro_schema.specs.declared.schema.Schema.{Schema, the_lemmas}
 use Rattle.avro_schema.specs.declared.schema.Schema.TheVariants.{Array}
 use Rattle.avro_schema.specs.declared.schema.ArrayKind.{ArrayKind}
 use Rattle.avro_schema.specs.declared.schema.Field.{Field}
-use Rattle.avro_schema.specs.Tree.{Tree, array, Fields, no_fields, field, Branches}
+use Rattle.avro_schema.specs.Tree.{Tree, array, Fields, no_fields, field}
 use Rattle.avro_schema.specs.View.{tree, trees, parts, fields_of, branches_of}
 use Rattle.avro_file.specs.declared.datum.Datum as datum
 use Rattle.avro_file.specs.declared.datum.Datum.{Datum}
@@ -18,7 +18,7 @@ use Rattle.avro_file.specs.Picking.{Typed, field_value, of_branch}
 use Rattle.ice_manifest.specs.declared.fault.FieldFault.{FieldFault}
 use Rattle.ice_manifest.specs.Types.{is_null, each_is, some_is}
 use Rattle.ice_manifest.specs.Schemas.{type_at, each_branch, Fault}
-use Rattle.ice_manifest.specs.Places.{place_from, place_of}
+use Rattle.ice_manifest.specs.Places.{place_from}
 use Rattle.ice_manifest.specs.Each.{each}
 use Rattle.ice_manifest.specs.Naming.{Naming, told}
 use Rattle.ice_manifest.specs.Seen.{values, fields_seen, items_seen}

@@ -1,12 +1,11 @@
 -- The first fault of a list or a manifest is the one that is told.
-use Rattle.std.proofs.Common.{◌≡◌, ℕ, ◌+◌, Bool, List, [], ◌∷◌, ◌++◌, length, Option, Some, None, Result, Ok, Err, refl, sym, ap, ◌∙◌, arith}
+use Rattle.std.proofs.Common.{◌≡◌, ℕ, ◌+◌, List, [], ◌∷◌, ◌++◌, length, Option, Some, None, Err, refl, sym, ◌∙◌, arith}
 use Rattle.std.specs.List.{enumerate_from}
 use Rattle.contract_words.specs.Outcome.{◌>>=◌}
-use Rattle.avro_schema.specs.Tree.{Tree, structure, Fields}
+use Rattle.avro_schema.specs.Tree.{structure, Fields}
 use Rattle.avro_file.specs.declared.fault.AvroFault.{AvroFault}
 use Rattle.avro_file.specs.Value.{Value}
 use Rattle.ice_meta.specs.declared.spec.Spec.{Spec}
-use Rattle.ice_meta.specs.Partitioning.{is_unpartitioned}
 use Rattle.ice_manifest.specs.declared.fault.ListFault.{ListFault}
 use Rattle.ice_manifest.specs.declared.fault.ManifestFault.{ManifestFault}
 use Rattle.ice_manifest.specs.declared.row.Row.{Row}
@@ -43,21 +42,21 @@ by_rows bytes rows h = opened_list bytes h.0 h.1 None h.2 ∙ rw (rows_by h.0 h.
 
 -- ---- entries
 
-entries_until : (row : Row) (unpartitioned : Bool) (fs : Fields) (k n : ℕ) (before after : List Value) (v : Value) (read : List (Option Live)) (f : ManifestFault) → n ≡ k + length before
-    → SayEntries row unpartitioned fs k before read → entry_of row unpartitioned n (structure fs, v) ≡ Err f → each (says_entry row unpartitioned fs) (enumerate_from k (before ++ v ∷ after)) ≡ Err f
+entries_until : (row : Row) (spec : Spec) (fs : Fields) (k n : ℕ) (before after : List Value) (v : Value) (read : List (Option Live)) (f : ManifestFault) → n ≡ k + length before
+    → SayEntries row spec fs k before read → entry_of row spec n (structure fs, v) ≡ Err f → each (says_entry row spec fs) (enumerate_from k (before ++ v ∷ after)) ≡ Err f
 unfolding each
-entries_until row unpartitioned fs k n [] after v read f is said e = let here : n ≡ k = omega arith in rw (sym here, e) refl
-entries_until row unpartitioned fs k n (w ∷ ws) after v [] f is said e = absurd said
-entries_until row unpartitioned fs k n (w ∷ ws) after v (x ∷ read) f is said e = rw (entry_by row unpartitioned k (structure fs, w) x said.0, entries_until row unpartitioned fs (k + 1) n ws after v read f (omega arith) said.1 e) refl
+entries_until row spec fs k n [] after v read f is said e = let here : n ≡ k = omega arith in rw (sym here, e) refl
+entries_until row spec fs k n (w ∷ ws) after v [] f is said e = absurd said
+entries_until row spec fs k n (w ∷ ws) after v (x ∷ read) f is said e = rw (entry_by row spec k (structure fs, w) x said.0, entries_until row spec fs (k + 1) n ws after v read f (omega arith) said.1 e) refl
 
-pub opened_manifest : (row : Row) (spec : Spec) (bytes : List ℕ) (fs : Fields) (vs : List Value) (ending : Option AvroFault) → IsManifest bytes fs vs ending
-    → live_of row spec bytes ≡ (each (says_entry row (is_unpartitioned spec) fs) (enumerate_from 0 vs) >>= λ read. ended in_manifest ending (kept read))
+pub opened_manifest : (row : Row) (spec : Spec) (bytes : List ℕ) (fs : Fields) (vs : List Value) (ending : Option AvroFault) → IsManifest spec bytes fs vs ending
+    → live_of row spec bytes ≡ (each (says_entry row spec fs) (enumerate_from 0 vs) >>= λ read. ended in_manifest ending (kept read))
 unfolding live_of entries_ahead
 opened_manifest row spec bytes fs vs ending h = rw (h.1, h.2, h.3) refl
 
 pub tells_the_first_entry : TellsTheFirstEntry
 tells_the_first_entry row spec bytes fs before after v ending read f is said e =
-    opened_manifest row spec bytes fs (before ++ v ∷ after) ending is ∙ rw (entries_until row (is_unpartitioned spec) fs 0 (length before) before after v read f (omega arith) said e) refl
+    opened_manifest row spec bytes fs (before ++ v ∷ after) ending is ∙ rw (entries_until row spec fs 0 (length before) before after v read f (omega arith) said e) refl
 
 pub tells_the_manifests_end : TellsTheManifestsEnd
-tells_the_manifests_end row spec bytes fs vs read f is said = opened_manifest row spec bytes fs vs (Some f) is ∙ rw (entries_by row (is_unpartitioned spec) fs 0 vs read said) refl
+tells_the_manifests_end row spec bytes fs vs read f is said = opened_manifest row spec bytes fs vs (Some f) is ∙ rw (entries_by row spec fs 0 vs read said) refl

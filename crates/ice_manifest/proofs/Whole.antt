@@ -20,7 +20,6 @@ use Rattle.avro_file.specs.Value.{Value}
 use Rattle.avro_file.specs.Ahead.{Ahead, running, refusing}
 use Rattle.avro_file.specs.Files.{opened_at}
 use Rattle.ice_meta.specs.declared.spec.Spec.{Spec}
-use Rattle.ice_meta.specs.Partitioning.{is_unpartitioned}
 use Rattle.ice_manifest.specs.declared.fault.FieldFault.{FieldFault}
 use Rattle.ice_manifest.specs.declared.fault.FieldFault.TheVariants as field
 use Rattle.ice_manifest.specs.declared.fault.ListFault.{ListFault}
@@ -67,6 +66,7 @@ of_field_first (field.Missing id) h = h
 of_field_first (field.WrongType id) h = h
 of_field_first (field.OutOfRange id) h = h
 of_field_first field.BadContent h = h
+of_field_first (field.FloatPartition id) h = h
 
 -- a step whose fault, if it has one, is none of all rows together
 abbrev Early : {A : Type 0} → Result A ListFault → Type 0
@@ -289,15 +289,15 @@ reads_rows_exactly bytes found = (
 
 -- ---- what a manifest gives
 
-entries_of_objects : (row : Row) (spec : Spec) (bytes : List ℕ) (s : Tree) (a : Ahead) (found : List Live) → opened_at bytes ≡ Ok (record { schema = s; ahead = a }) → entry_fields (fields_in s) ≡ Ok tt
-    → entries_ahead row (is_unpartitioned spec) (fields_in s) 0 a ≡ Ok found
-    → (fs : Fields) × (vs : List Value) × (read : List (Option Live)) × IsManifest bytes fs vs None × SayEntries row (is_unpartitioned spec) fs 0 vs read × (found ≡ kept read)
+entries_of_objects : (row : Row) (spec : Spec) (bytes : List ℕ) (s : Tree) (a : Ahead) (found : List Live) → opened_at bytes ≡ Ok (record { schema = s; ahead = a }) → entry_fields spec (fields_in s) ≡ Ok tt
+    → entries_ahead row spec (fields_in s) 0 a ≡ Ok found
+    → (fs : Fields) × (vs : List Value) × (read : List (Option Live)) × IsManifest spec bytes fs vs None × SayEntries row spec fs 0 vs read × (found ≡ kept read)
 unfolding entries_ahead
 entries_of_objects row spec bytes s (running vs ending) found opens fits h =
-    let read = went_on (each (says_entry row (is_unpartitioned spec) (fields_in s)) (enumerate_from 0 vs)) (λ read. ended in_manifest ending (kept read)) found h in
+    let read = went_on (each (says_entry row spec (fields_in s)) (enumerate_from 0 vs)) (λ read. ended in_manifest ending (kept read)) found h in
     let last = to_the_end in_manifest ending (kept read.0) found read.2 in
     let P : Option AvroFault → Type 0 = λ x. opened_at bytes ≡ Ok (record { schema = s; ahead = running vs x }) in
-    (fields_in s, vs, read.0, (s, subst P last.0 opens, refl, fits), entries_said row (is_unpartitioned spec) (fields_in s) 0 vs read.0 read.1, sym last.1)
+    (fields_in s, vs, read.0, (s, subst P last.0 opens, refl, fits), entries_said row spec (fields_in s) 0 vs read.0 read.1, sym last.1)
 entries_of_objects row spec bytes s (refusing f) found opens fits h = absurd (cc)
 
 pub reads_entries_exactly : ReadsEntriesExactly
@@ -305,7 +305,7 @@ unfolding live_of
 reads_entries_exactly row spec bytes found = (
   λ h.
       let file = went_on (contained in_manifest (opened_at bytes)) _ found h in
-      let fits = went_on (told in_manifest (entry_fields (fields_in file.0.schema))) _ found file.2 in
-      entries_of_objects row spec bytes file.0.schema file.0.ahead found (opened_is in_manifest (opened_at bytes) file.0 file.1) (told_ok in_manifest (entry_fields (fields_in file.0.schema)) tt fits.1) fits.2,
-  λ g. opened_manifest row spec bytes g.0 g.1 None g.3 ∙ rw (entries_by row (is_unpartitioned spec) g.0 0 g.1 g.2 g.4) (ap Ok (sym g.5)),
+      let fits = went_on (told in_manifest (entry_fields spec (fields_in file.0.schema))) _ found file.2 in
+      entries_of_objects row spec bytes file.0.schema file.0.ahead found (opened_is in_manifest (opened_at bytes) file.0 file.1) (told_ok in_manifest (entry_fields spec (fields_in file.0.schema)) tt fits.1) fits.2,
+  λ g. opened_manifest row spec bytes g.0 g.1 None g.3 ∙ rw (entries_by row spec g.0 0 g.1 g.2 g.4) (ap Ok (sym g.5)),
 )

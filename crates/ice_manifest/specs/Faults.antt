@@ -1,5 +1,5 @@
 -- Which fault is told of a manifest list or a manifest. The order of the faults is this program's own.
-use Rattle.std.specs.Prelude.{◌≡◌, ◌↔◌, ℕ, ◌<◌, false, List, ◌∷◌, ◌++◌, length, Option, Some, None, Err}
+use Rattle.std.specs.Prelude.{◌≡◌, ◌↔◌, ℕ, ◌<◌, false, List, ◌∷◌, ◌++◌, length, Option, Some, Err}
 use Rattle.std.specs.Cmp.Lexicographic.{slice_cmp}
 use Rattle.std.specs.Ordering.{nat_cmp, is_lt}
 use Rattle.std.specs.Set.{distinct_count}
@@ -7,7 +7,6 @@ use Rattle.avro_schema.specs.Tree.{Fields, structure}
 use Rattle.avro_file.specs.declared.fault.AvroFault.{AvroFault}
 use Rattle.avro_file.specs.Value.{Value}
 use Rattle.ice_meta.specs.declared.spec.Spec.{Spec}
-use Rattle.ice_meta.specs.Partitioning.{is_unpartitioned}
 use Rattle.ice_manifest.specs.declared.fault.ListFault.{ListFault}
 use Rattle.ice_manifest.specs.declared.fault.ListFault.TheVariants.{ManifestTwice, TooManyRows}
 use Rattle.ice_manifest.specs.declared.fault.ManifestFault.{ManifestFault}
@@ -36,15 +35,15 @@ TellsTheListsEnd = (bytes : List ℕ) (fs : Fields) (vs : List Value) (rows : Li
 abbrev pub TellsTheFirstEntry : Type 0
 TellsTheFirstEntry = (row : Row) (spec : Spec) (bytes : List ℕ) (fs : Fields) (before after : List Value) (v : Value)
     (ending : Option AvroFault) (read : List (Option Live)) (f : ManifestFault)
-    → IsManifest bytes fs (before ++ v ∷ after) ending → SayEntries row (is_unpartitioned spec) fs 0 before read
-    → entry_of row (is_unpartitioned spec) (length before) (structure fs, v) ≡ Err f
+    → IsManifest spec bytes fs (before ++ v ∷ after) ending → SayEntries row spec fs 0 before read
+    → entry_of row spec (length before) (structure fs, v) ≡ Err f
     → live_of row spec bytes ≡ Err f
 
 -- where no object of a manifest is at fault, the container's fault is told that comes after them
 abbrev pub TellsTheManifestsEnd : Type 0
 TellsTheManifestsEnd = (row : Row) (spec : Spec) (bytes : List ℕ) (fs : Fields) (vs : List Value)
     (read : List (Option Live)) (f : AvroFault)
-    → IsManifest bytes fs vs (Some f) → SayEntries row (is_unpartitioned spec) fs 0 vs read
+    → IsManifest spec bytes fs vs (Some f) → SayEntries row spec fs 0 vs read
     → live_of row spec bytes ≡ Err (in_manifest.of_container f)
 
 -- ---- the faults of all rows together

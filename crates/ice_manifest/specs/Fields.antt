@@ -3,7 +3,7 @@
 use Rattle.std.specs.Prelude.{ℕ, ℤ, pos, negsuc, ◌^◌, List, [], ◌∷◌, length, Bool, Option, Some, None, Result, Ok, Err, nat_lt, nat_le, if◌then◌else◌}
 use Rattle.contract_words.specs.Outcome.{◌>>=◌}
 use Rattle.avro_schema.specs.Tree.{Tree, structure, array}
-use Rattle.avro_file.specs.Value.{Value, truth, small, whole, text, run, fields, items, Values, no_values, value}
+use Rattle.avro_file.specs.Value.{truth, small, whole, text, run, fields, items, Values, no_values, value}
 use Rattle.avro_file.specs.Picking.{Typed, Picked, absent, null_met, present, pick}
 use Rattle.ice_manifest.specs.declared.fault.FieldFault.{FieldFault}
 use Rattle.ice_manifest.specs.declared.fault.FieldFault.TheVariants.{Missing, OutOfRange}

@@ -3,7 +3,7 @@ use Rattle.std.specs.Prelude.{Bool}
 use Rattle.avro_schema.specs.Tree.{Tree}
 use Rattle.ice_manifest.specs.declared.kind.Kind.{Kind}
 use Rattle.ice_manifest.specs.declared.kind.Kind.TheVariants as kind
-use Rattle.ice_manifest.specs.Types.{is_whole, is_truth, is_text, is_binary, is_list, is_record}
+use Rattle.ice_manifest.specs.Types.{is_whole, is_truth, is_text, is_binary, is_list, is_array, is_record}
 
 unfoldable pub wanted : Kind → Tree → Bool
 wanted kind.Whole = is_whole
@@ -11,4 +11,5 @@ wanted kind.Truth = is_truth
 wanted kind.Text = is_text
 wanted kind.Binary = is_binary
 wanted kind.List = is_list
+wanted kind.Array = is_array
 wanted kind.Record = is_record

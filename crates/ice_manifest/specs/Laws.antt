@@ -1,6 +1,6 @@
 -- What reading lists and manifests comes to, in words of rows and entries alone. Apache Iceberg table spec v2,
 -- "Manifest Lists" and "Manifests".
-use Rattle.std.specs.Prelude.{◌≡◌, ◌≢◌, ◌↔◌, ℕ, ℤ, pos, ◌+◌, ◌^◌, ◌<◌, ◌≤◌, ◌⊎◌, Bool, false, List, [], ◌∷◌, ◌++◌, length, map, Option, Some, None, Result, Ok, Err}
+use Rattle.std.specs.Prelude.{◌≡◌, ◌≢◌, ◌↔◌, ℕ, ℤ, pos, ◌+◌, ◌^◌, ◌<◌, ◌≤◌, ◌⊎◌, false, List, [], ◌∷◌, length, Option, Some, None, Ok, Err}
 use Rattle.std.specs.Cmp.Lexicographic.{slice_cmp}
 use Rattle.std.specs.Ordering.{nat_cmp, is_lt}
 use Rattle.std.specs.List.{Contains, AllByRecursion}
@@ -14,6 +14,8 @@ use Rattle.avro_file.specs.Files.{opened_at, HoldsFile}
 use Rattle.avro_file.specs.Picking.{Typed}
 use Rattle.ice_value.specs.declared.file_content.FileContent.{FileContent}
 use Rattle.ice_value.specs.declared.file_content.FileContent.TheVariants as holds
+use Rattle.ice_value.specs.declared.file_bounds.FileBounds.{FileBounds}
+use Rattle.ice_meta.specs.declared.spec.PartitionField.{PartitionField}
 use Rattle.ice_meta.specs.declared.spec.Spec.{Spec}
 use Rattle.ice_meta.specs.Partitioning.{is_unpartitioned}
 use Rattle.ice_manifest.specs.declared.fault.ListFault.TheVariants.{ManifestTwice}
@@ -25,11 +27,15 @@ use Rattle.ice_manifest.specs.declared.entry.Entry.{Entry}
 use Rattle.ice_manifest.specs.declared.entry.Live.{Live}
 use Rattle.ice_manifest.specs.declared.status.Status.{Status}
 use Rattle.ice_manifest.specs.declared.status.Status.TheVariants.{Existing, Added, Deleted}
+use Rattle.ice_manifest.specs.Partitions.{tuple_at}
+use Rattle.ice_manifest.specs.ColumnMaps.{value_counts, null_value_counts, lower_bounds, upper_bounds}
+use Rattle.ice_manifest.specs.Maps as Maps
+use Rattle.ice_manifest.specs.Maps.{bounds_at}
 use Rattle.ice_manifest.specs.Schemas.{Fault, fields_in, row_fields, entry_fields}
 use Rattle.ice_manifest.specs.Fields.{at, there, long_at, int_at, number_at, path_at, record_at, ints_at, optional_long, optional_number}
 use Rattle.ice_manifest.specs.Lists as Lists
 use Rattle.ice_manifest.specs.Lists.{row_of, counts_at, summaries_in, same_row, checked, in_order, rows_of}
-use Rattle.ice_manifest.specs.Manifests.{content_at, status_at, snapshot_at, sequence_at, file_sequence_at, no_bounds, kept, live_of, entries_of}
+use Rattle.ice_manifest.specs.Manifests.{content_at, status_at, snapshot_at, sequence_at, file_sequence_at, kept, live_of, entries_of}
 
 -- ---- files by their objects
 
@@ -43,8 +49,8 @@ IsFile check bytes fs vs ending = (s : Tree)
 abbrev pub IsList : List ℕ → Fields → List Value → Option AvroFault → Type 0
 IsList bytes fs vs ending = IsFile row_fields bytes fs vs ending
 
-abbrev pub IsManifest : List ℕ → Fields → List Value → Option AvroFault → Type 0
-IsManifest bytes fs vs ending = IsFile entry_fields bytes fs vs ending
+abbrev pub IsManifest : Spec → List ℕ → Fields → List Value → Option AvroFault → Type 0
+IsManifest spec bytes fs vs ending = IsFile (entry_fields spec) bytes fs vs ending
 
 -- A file holds these objects up to its end, as the format says it, and they have these fields, with which nothing is at
 -- fault.
@@ -66,35 +72,39 @@ pub record SaysRow (x : Typed) (r : Row) : Type 0 where
   pub counts : counts_at x ≡ Ok r.counts
   pub partitions : summaries_in (there (at (pos 507) x)) ≡ Ok r.partitions
 
--- a record in a manifest of this content and its data file, field by field
-pub record SaysFile (of_row : ManifestContent) (x : Typed) (d : DataFile) : Type 0 where
+-- a record in a manifest of this content, whose spec has these partition fields, and its data file and what is said of
+-- its columns, field by field
+pub record SaysFile (of_row : ManifestContent) (ps : List PartitionField) (x : Typed) (d : DataFile) (b : FileBounds) : Type 0 where
   pub content : content_at of_row x ≡ Ok d.content
   pub path : path_at (pos 100) x ≡ Ok d.path
+  pub tuple : tuple_at ps x ≡ Ok d.tuple
   pub record_count : long_at (pos 103) x ≡ Ok d.record_count
   pub file_size : long_at (pos 104) x ≡ Ok d.file_size
+  pub value_counts : Maps.counts_at value_counts x ≡ Ok b.value_counts
+  pub null_counts : Maps.counts_at null_value_counts x ≡ Ok b.null_counts
+  pub lower_bounds : bounds_at lower_bounds x ≡ Ok b.lower_bounds
+  pub upper_bounds : bounds_at upper_bounds x ≡ Ok b.upper_bounds
   pub equality_ids : ints_at (pos 135) (pos 136) x ≡ Ok d.equality_ids
-  pub tuple : d.tuple ≡ []
 
 -- the object at a position of a manifest and its live entry, field by field
-pub record SaysLive (row : Row) (unpartitioned : Bool) (k : ℕ) (x : Typed) (l : Live) : Type 0 where
+pub record SaysLive (row : Row) (spec : Spec) (k : ℕ) (x : Typed) (l : Live) : Type 0 where
   pub status : Status
   pub inner : Typed
   pub status_is : status_at x ≡ Ok status
   pub lives : (status ≡ Existing) ⊎ (status ≡ Added)
   pub position : l.entry.position ≡ k
   pub spec_id : l.entry.spec_id ≡ row.spec_id
-  pub partitions_nothing : l.entry.unpartitioned ≡ unpartitioned
+  pub partitions_nothing : l.entry.unpartitioned ≡ is_unpartitioned spec
   pub snapshot_id : l.entry.snapshot_id ≡ snapshot_at row x
   pub sequence_number : sequence_at row status x ≡ Ok l.entry.sequence_number
   pub file_sequence_number : file_sequence_at row status x ≡ Ok l.entry.file_sequence_number
   pub inner_is : record_at (pos 2) x ≡ Ok inner
-  pub file : SaysFile row.content inner l.entry.file
-  pub bounds : l.bounds ≡ no_bounds
+  pub file : SaysFile row.content spec.fields inner l.entry.file l.bounds
 
 -- an object says its live entry, or that there is none: its status is deleted, whatever else it has
-abbrev pub SaysEntry : Row → Bool → ℕ → Typed → Option Live → Type 0
-SaysEntry row unpartitioned k x (Some l) = SaysLive row unpartitioned k x l
-SaysEntry row unpartitioned k x None = status_at x ≡ Ok Deleted
+abbrev pub SaysEntry : Row → Spec → ℕ → Typed → Option Live → Type 0
+SaysEntry row spec k x (Some l) = SaysLive row spec k x l
+SaysEntry row spec k x None = status_at x ≡ Ok Deleted
 
 -- each object of a list says its row
 abbrev pub SayRows : Fields → List Value → List Row → Type 0
@@ -103,25 +113,25 @@ SayRows fs (v ∷ vs) (r ∷ rows) = SaysRow (structure fs, v) r × SayRows fs v
 SayRows fs vs rows = ⊥
 
 -- each object of a manifest says its entry, where the first has a position
-abbrev pub SayEntries : Row → Bool → Fields → ℕ → List Value → List (Option Live) → Type 0
-SayEntries row unpartitioned fs k [] [] = Unit {0}
-SayEntries row unpartitioned fs k (v ∷ vs) (e ∷ read) = SaysEntry row unpartitioned k (structure fs, v) e
-    × SayEntries row unpartitioned fs (k + 1) vs read
-SayEntries row unpartitioned fs k vs read = ⊥
+abbrev pub SayEntries : Row → Spec → Fields → ℕ → List Value → List (Option Live) → Type 0
+SayEntries row spec fs k [] [] = Unit {0}
+SayEntries row spec fs k (v ∷ vs) (e ∷ read) = SaysEntry row spec k (structure fs, v) e
+    × SayEntries row spec fs (k + 1) vs read
+SayEntries row spec fs k vs read = ⊥
 
 -- ---- entries
 
 -- a manifest holds objects of which none is at fault, and these are the live entries that they say, in their order
 abbrev pub HoldsEntries : Row → Spec → List ℕ → List Live → Type 0
 HoldsEntries row spec bytes found = (fs : Fields) × (vs : List Value) × (read : List (Option Live))
-    × HoldsObjects entry_fields bytes fs vs × SayEntries row (is_unpartitioned spec) fs 0 vs read × (found ≡ kept read)
+    × HoldsObjects (entry_fields spec) bytes fs vs × SayEntries row spec fs 0 vs read × (found ≡ kept read)
 
 -- the entries of a manifest are these exactly where its file holds objects up to its end of which none is at fault, and
 -- these are the live ones that they say, in their order
 abbrev pub ReadsEntriesExactly : Type 0
 ReadsEntriesExactly = (row : Row) (spec : Spec) (bytes : List ℕ) (found : List Live) → live_of row spec bytes ≡ Ok found
-    ↔ ((fs : Fields) × (vs : List Value) × (read : List (Option Live)) × IsManifest bytes fs vs None
-    × SayEntries row (is_unpartitioned spec) fs 0 vs read × (found ≡ kept read))
+    ↔ ((fs : Fields) × (vs : List Value) × (read : List (Option Live)) × IsManifest spec bytes fs vs None
+    × SayEntries row spec fs 0 vs read × (found ≡ kept read))
 
 -- the entries of a manifest are these exactly where its file holds objects that say them
 abbrev pub GivesHeldEntries : Type 0
@@ -174,6 +184,11 @@ MayHold Deletes c = (c ≡ holds.PositionDeletes) ⊎ (c ≡ holds.EqualityDelet
 abbrev pub FitsItsRow : Type 0
 FitsItsRow = (row : Row) (spec : Spec) (bytes : List ℕ) (found : List Live) (l : Live)
     → live_of row spec bytes ≡ Ok found → Contains found l → MayHold row.content l.entry.file.content
+
+-- each entry that is given has a partition value for each field of the spec
+abbrev pub HasACellForEach : Type 0
+HasACellForEach = (row : Row) (spec : Spec) (bytes : List ℕ) (found : List Live) (l : Live)
+    → live_of row spec bytes ≡ Ok found → Contains found l → length l.entry.file.tuple ≡ length spec.fields
 
 -- an entry has its row's spec id, and partitions nothing where the spec does not
 abbrev pub IsOfSpec : Row → Spec → Entry → Type 0

@@ -3,6 +3,10 @@ pub mod Fields
 pub mod Naming
 pub mod Each
 pub mod Schemas
+pub mod ColumnMaps
+pub mod Decimals
+pub mod Partitions
+pub mod Maps
 pub mod Lists
 pub mod Manifests
 pub mod Laws

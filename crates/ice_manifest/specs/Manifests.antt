@@ -1,6 +1,6 @@
 -- The live entries of a manifest, or its first fault. Apache Iceberg table spec v2, "Manifests", "Manifest Entry
 -- Fields" and "Sequence Number Inheritance".
-use Rattle.std.specs.Prelude.{ℕ, ℤ, pos, List, [], map, Bool, Option, Some, None, Result, Ok, Err, unwrap_or, ◌==◌, if◌then◌else◌}
+use Rattle.std.specs.Prelude.{ℕ, ℤ, pos, List, map, Option, Some, None, Result, Ok, Err, unwrap_or, ◌==◌, if◌then◌else◌}
 use Rattle.std.specs.Ordering.{int_eq}
 use Rattle.std.specs.List.{enumerate_from, filter_map}
 use Rattle.contract_words.specs.Outcome.{◌>>=◌}
@@ -12,6 +12,7 @@ use Rattle.avro_file.specs.Picking.{Typed}
 use Rattle.ice_value.specs.declared.file_bounds.FileBounds.{FileBounds}
 use Rattle.ice_value.specs.declared.file_content.FileContent.{FileContent}
 use Rattle.ice_value.specs.declared.file_content.FileContent.TheVariants as holds
+use Rattle.ice_meta.specs.declared.spec.PartitionField.{PartitionField}
 use Rattle.ice_meta.specs.declared.spec.Spec.{Spec}
 use Rattle.ice_meta.specs.Partitioning.{is_unpartitioned}
 use Rattle.ice_manifest.specs.declared.fault.FieldFault.{FieldFault}
@@ -28,6 +29,8 @@ use Rattle.ice_manifest.specs.declared.status.Status.{Status}
 use Rattle.ice_manifest.specs.declared.status.Status.TheVariants.{Existing, Added, Deleted}
 use Rattle.ice_manifest.specs.Each.{each}
 use Rattle.ice_manifest.specs.Naming.{in_manifest, contained, told, ended}
+use Rattle.ice_manifest.specs.Partitions.{tuple_at}
+use Rattle.ice_manifest.specs.Maps.{columns_of}
 use Rattle.ice_manifest.specs.Schemas.{fields_in, entry_fields}
 use Rattle.ice_manifest.specs.Fields.{long_at, int_at, path_at, record_at, ints_at, optional_long, optional_number}
 
@@ -44,15 +47,21 @@ content_of Deletes z =
 unfoldable pub content_at : ManifestContent → Typed → Result FileContent FieldFault
 content_at of_row x = int_at (pos 134) x >>= content_of of_row
 
--- the file that a record says, in a manifest of this content
-unfoldable pub file_of : ManifestContent → Typed → Result DataFile FieldFault
-file_of of_row x = do
+-- the file that a record says, in a manifest of this content whose spec has these partition fields, and what it says of
+-- the file's columns
+unfoldable pub file_of : ManifestContent → List PartitionField → Typed → Result (DataFile × FileBounds) FieldFault
+file_of of_row ps x = do
   content ← content_at of_row x
   path ← path_at (pos 100) x
+  tuple ← tuple_at ps x
   count ← long_at (pos 103) x
   size ← long_at (pos 104) x
+  columns ← columns_of x
   ids ← ints_at (pos 135) (pos 136) x
-  Ok (record { content = content; path = path; tuple = []; record_count = count; file_size = size; equality_ids = ids })
+  Ok (
+    record { content = content; path = path; tuple = tuple; record_count = count; file_size = size; equality_ids = ids },
+    columns,
+  )
 
 -- ---- an entry
 
@@ -88,28 +97,24 @@ file_inherited of_row status None = if of_row == 0 then Some 0 else None
 unfoldable pub file_sequence_at : Row → Status → Typed → Result (Option ℕ) FieldFault
 file_sequence_at row status x = optional_number (pos 4) x >>= λ own. Ok (file_inherited row.sequence_number status own)
 
--- Bounds and counts of columns aren't read so far.
-abbrev pub no_bounds : FileBounds
-no_bounds = record { value_counts = []; null_counts = []; lower_bounds = []; upper_bounds = [] }
-
--- the entry at a position, which exists or was added, of a row whose spec partitions nothing or something
-unfoldable pub live_at : Row → Bool → ℕ → Status → Typed → Result Live ManifestFault
-live_at row unpartitioned position status x = do
+-- the entry at a position, which exists or was added, of a row of this spec
+unfoldable pub live_at : Row → Spec → ℕ → Status → Typed → Result Live ManifestFault
+live_at row spec position status x = do
   sequence ← sequence_at row status x
   file_sequence ← told in_manifest (file_sequence_at row status x)
   inner ← told in_manifest (record_at (pos 2) x)
-  file ← told in_manifest (file_of row.content inner)
+  said ← told in_manifest (file_of row.content spec.fields inner)
   Ok (record {
     entry = record {
       position = position;
       spec_id = row.spec_id;
-      unpartitioned = unpartitioned;
+      unpartitioned = is_unpartitioned spec;
       snapshot_id = snapshot_at row x;
       sequence_number = sequence;
       file_sequence_number = file_sequence;
-      file = file;
+      file = said.0;
     };
-    bounds = no_bounds;
+    bounds = said.1;
   })
 
 -- of a deleted entry nothing but the status is looked at
@@ -118,16 +123,16 @@ unless_deleted Deleted live = Ok None
 unless_deleted status live = live >>= λ l. Ok (Some l)
 
 -- the entry that an object says, unless it was deleted
-unfoldable pub entry_of : Row → Bool → ℕ → Typed → Result (Option Live) ManifestFault
-entry_of row unpartitioned position x = do
+unfoldable pub entry_of : Row → Spec → ℕ → Typed → Result (Option Live) ManifestFault
+entry_of row spec position x = do
   status ← status_at x
-  unless_deleted status (live_at row unpartitioned position status x)
+  unless_deleted status (live_at row spec position status x)
 
 -- ---- all entries
 
 -- the entry of an object, with its position among all, in a file of these fields
-abbrev pub says_entry : Row → Bool → Fields → ℕ × Value → Result (Option Live) ManifestFault
-says_entry row unpartitioned fs p = entry_of row unpartitioned p.0 (structure fs, p.1)
+abbrev pub says_entry : Row → Spec → Fields → ℕ × Value → Result (Option Live) ManifestFault
+says_entry row spec fs p = entry_of row spec p.0 (structure fs, p.1)
 
 -- the live ones among entries and deleted ones
 abbrev pub kept : List (Option Live) → List Live
@@ -135,18 +140,18 @@ kept read = filter_map (λ x. x) read
 
 -- The live entries of the objects that a file holds, of which the first has a position; or the first fault, which the
 -- file's end may be. Positions are counted over all objects.
-unfoldable pub entries_ahead : Row → Bool → Fields → ℕ → Ahead → Result (List Live) ManifestFault
-entries_ahead row unpartitioned fs position (running vs ending) = do
-  read ← each (says_entry row unpartitioned fs) (enumerate_from position vs)
+unfoldable pub entries_ahead : Row → Spec → Fields → ℕ → Ahead → Result (List Live) ManifestFault
+entries_ahead row spec fs position (running vs ending) = do
+  read ← each (says_entry row spec fs) (enumerate_from position vs)
   ended in_manifest ending (kept read)
-entries_ahead row unpartitioned fs position (refusing f) = Err (in_manifest.of_container f)
+entries_ahead row spec fs position (refusing f) = Err (in_manifest.of_container f)
 
 -- the live entries of a row's manifest, in the order of their positions, with the bounds of their files
 unfoldable pub live_of : Row → Spec → List ℕ → Result (List Live) ManifestFault
 live_of row spec bytes = do
   file ← contained in_manifest (opened_at bytes)
-  fits ← told in_manifest (entry_fields (fields_in file.schema))
-  entries_ahead row (is_unpartitioned spec) (fields_in file.schema) 0 file.ahead
+  fits ← told in_manifest (entry_fields spec (fields_in file.schema))
+  entries_ahead row spec (fields_in file.schema) 0 file.ahead
 
 -- the same without the bounds
 abbrev pub entries : List Live → List Entry

@@ -1,9 +1,9 @@
 -- What lists and manifests call the faults of their containers and of their fields.
-use Rattle.std.specs.Prelude.{List, Option, Some, None, Result, Ok, Err}
+use Rattle.std.specs.Prelude.{Option, Some, None, Result, Ok, Err}
 use Rattle.avro_file.specs.declared.fault.AvroFault.{AvroFault}
 use Rattle.avro_file.specs.declared.fault.AvroFault.TheVariants as container
 use Rattle.ice_manifest.specs.declared.fault.FieldFault.{FieldFault}
-use Rattle.ice_manifest.specs.declared.fault.FieldFault.TheVariants.{Missing, WrongType, OutOfRange, BadContent}
+use Rattle.ice_manifest.specs.declared.fault.FieldFault.TheVariants.{Missing, WrongType, OutOfRange, BadContent, FloatPartition}
 use Rattle.ice_manifest.specs.declared.fault.ListFault.{ListFault}
 use Rattle.ice_manifest.specs.declared.fault.ListFault.TheVariants as list
 use Rattle.ice_manifest.specs.declared.fault.ManifestFault.{ManifestFault}
@@ -24,6 +24,8 @@ lists_field (Missing id) = list.MissingField id
 lists_field (WrongType id) = list.WrongFieldType id
 lists_field (OutOfRange id) = list.OutOfRange id
 lists_field BadContent = list.BadContent
+-- a list has no partition values
+lists_field (FloatPartition id) = list.WrongFieldType id
 
 abbrev pub in_list : Naming ListFault
 in_list = record { of_container = lists_container; of_field = lists_field }
@@ -37,6 +39,7 @@ manifests_field (Missing id) = manifest.MissingField id
 manifests_field (WrongType id) = manifest.WrongFieldType id
 manifests_field (OutOfRange id) = manifest.OutOfRange id
 manifests_field BadContent = manifest.BadContent
+manifests_field (FloatPartition id) = manifest.FloatPartition id
 
 abbrev pub in_manifest : Naming ManifestFault
 in_manifest = record { of_container = manifests_container; of_field = manifests_field }

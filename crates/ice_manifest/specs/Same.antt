@@ -1,39 +1,76 @@
 -- What is read of a file is what its fields with the ids of this crate say, whatever else it holds: other fields,
 -- names, documentation, and how its objects lie in blocks. Apache Iceberg table spec v2, "Column Projection".
-use Rattle.std.specs.Prelude.{◌≡◌, ℕ, pos, List, [], ◌∷◌, Option, Some, None, Result, Ok, Err}
+use Rattle.std.specs.Prelude.{◌≡◌, ℕ, pos, List, [], ◌∷◌, Option, Some, None}
+use Rattle.std.specs.List.{AllByRecursion}
 use Rattle.avro_schema.specs.Tree.{structure, Fields}
 use Rattle.avro_file.specs.declared.fault.AvroFault.{AvroFault}
 use Rattle.avro_file.specs.Value.{Value}
 use Rattle.avro_file.specs.Picking.{Typed, pick}
+use Rattle.ice_meta.specs.declared.spec.PartitionField.{PartitionField}
 use Rattle.ice_meta.specs.declared.spec.Spec.{Spec}
 use Rattle.ice_manifest.specs.declared.row.Row.{Row}
+use Rattle.ice_manifest.specs.declared.columns.ColumnMap.{ColumnMap}
+use Rattle.ice_manifest.specs.ColumnMaps.{value_counts, null_value_counts, lower_bounds, upper_bounds}
 use Rattle.ice_manifest.specs.Fields.{at, there, text_of, record_of, items_of, optional_long, optional_truth, optional_binary}
+use Rattle.ice_manifest.specs.Partitions.{cell_at}
 use Rattle.ice_manifest.specs.Lists.{rows_of}
 use Rattle.ice_manifest.specs.Manifests.{live_of}
 use Rattle.ice_manifest.specs.Laws.{IsList, IsManifest}
 
 -- ---- entries
 
--- records that say the same in each field of a data file that is read
-pub record SameFile (x y : Typed) : Type 0 where
-  pub content : optional_long (pos 134) x ≡ optional_long (pos 134) y
-  pub path : text_of (there (at (pos 100) x)) ≡ text_of (there (at (pos 100) y))
-  pub record_count : optional_long (pos 103) x ≡ optional_long (pos 103) y
-  pub file_size : optional_long (pos 104) x ≡ optional_long (pos 104) y
-  pub equality_ids : items_of (there (at (pos 135) x)) ≡ items_of (there (at (pos 135) y))
-
 abbrev pub BothSame : (Typed → Typed → Type 0) → Option Typed → Option Typed → Type 0
 BothSame Same None None = Unit {0}
 BothSame Same (Some x) (Some y) = Same x y
 BothSame Same x y = ⊥
 
--- objects that say the same in each field of an entry that is read
-pub record SameEntry (x y : Typed) : Type 0 where
+-- item by item
+abbrev pub SameItems : (Typed → Typed → Type 0) → List Typed → List Typed → Type 0
+SameItems Same [] [] = Unit {0}
+SameItems Same (x ∷ xs) (y ∷ ys) = BothSame Same (record_of (there (pick [] x))) (record_of (there (pick [] y)))
+    × SameItems Same xs ys
+SameItems Same xs ys = ⊥
+
+-- records that say the same in each of these partition fields
+abbrev pub SameCells : List PartitionField → Typed → Typed → Type 0
+SameCells ps x y = AllByRecursion (λ (p : PartitionField). cell_at p.field_id x ≡ cell_at p.field_id y) ps
+
+-- the records of partition values say the same; they are not read where the spec has no field
+abbrev pub SameTuple : List PartitionField → Typed → Typed → Type 0
+SameTuple [] x y = Unit {0}
+SameTuple (p ∷ ps) x y = BothSame (SameCells (p ∷ ps)) (record_of (there (at (pos 102) x))) (record_of (there (at (pos 102) y)))
+
+-- pairs that say the same count, or the same bytes, of the same column
+abbrev pub SameCount : ColumnMap → Typed → Typed → Type 0
+SameCount m x y = (optional_long m.key x ≡ optional_long m.key y) × (optional_long m.said x ≡ optional_long m.said y)
+
+abbrev pub SameBound : ColumnMap → Typed → Typed → Type 0
+SameBound m x y = (optional_long m.key x ≡ optional_long m.key y) × (optional_binary m.said x ≡ optional_binary m.said y)
+
+-- maps of which one after the other the pairs say the same
+abbrev pub SameMap : (ColumnMap → Typed → Typed → Type 0) → ColumnMap → Typed → Typed → Type 0
+SameMap Same m x y = SameItems (Same m) (items_of (there (at m.id x))) (items_of (there (at m.id y)))
+
+-- records that say the same in each field of a data file that is read, of a spec with these partition fields
+pub record SameFile (ps : List PartitionField) (x y : Typed) : Type 0 where
+  pub content : optional_long (pos 134) x ≡ optional_long (pos 134) y
+  pub path : text_of (there (at (pos 100) x)) ≡ text_of (there (at (pos 100) y))
+  pub tuple : SameTuple ps x y
+  pub record_count : optional_long (pos 103) x ≡ optional_long (pos 103) y
+  pub file_size : optional_long (pos 104) x ≡ optional_long (pos 104) y
+  pub value_counts : SameMap SameCount value_counts x y
+  pub null_counts : SameMap SameCount null_value_counts x y
+  pub lower_bounds : SameMap SameBound lower_bounds x y
+  pub upper_bounds : SameMap SameBound upper_bounds x y
+  pub equality_ids : items_of (there (at (pos 135) x)) ≡ items_of (there (at (pos 135) y))
+
+-- objects that say the same in each field of an entry that is read, of a spec with these partition fields
+pub record SameEntry (ps : List PartitionField) (x y : Typed) : Type 0 where
   pub status : optional_long (pos 0) x ≡ optional_long (pos 0) y
   pub snapshot_id : optional_long (pos 1) x ≡ optional_long (pos 1) y
   pub sequence_number : optional_long (pos 3) x ≡ optional_long (pos 3) y
   pub file_sequence_number : optional_long (pos 4) x ≡ optional_long (pos 4) y
-  pub file : BothSame SameFile (record_of (there (at (pos 2) x))) (record_of (there (at (pos 2) y)))
+  pub file : BothSame (SameFile ps) (record_of (there (at (pos 2) x))) (record_of (there (at (pos 2) y)))
 
 -- object by object
 abbrev pub EachSame : (Typed → Typed → Type 0) → Fields → Fields → List Value → List Value → Type 0
@@ -45,7 +82,7 @@ EachSame Same fs gs vs ws = ⊥
 abbrev pub SkipsOtherFieldsOfEntries : Type 0
 SkipsOtherFieldsOfEntries = (row : Row) (spec : Spec) (bytes other : List ℕ) (fs gs : Fields) (vs ws : List Value)
     (ending : Option AvroFault)
-    → IsManifest bytes fs vs ending → IsManifest other gs ws ending → EachSame SameEntry fs gs vs ws
+    → IsManifest spec bytes fs vs ending → IsManifest spec other gs ws ending → EachSame (SameEntry spec.fields) fs gs vs ws
     → live_of row spec bytes ≡ live_of row spec other
 
 -- ---- rows
@@ -57,15 +94,8 @@ pub record SameSummary (x y : Typed) : Type 0 where
   pub lower : optional_binary (pos 510) x ≡ optional_binary (pos 510) y
   pub upper : optional_binary (pos 511) x ≡ optional_binary (pos 511) y
 
--- item by item
-abbrev pub SameItems : List Typed → List Typed → Type 0
-SameItems [] [] = Unit {0}
-SameItems (x ∷ xs) (y ∷ ys) = BothSame SameSummary (record_of (there (pick [] x))) (record_of (there (pick [] y)))
-    × SameItems xs ys
-SameItems xs ys = ⊥
-
 abbrev pub SameList : Typed → Typed → Type 0
-SameList x y = SameItems (items_of (Some x)) (items_of (Some y))
+SameList x y = SameItems SameSummary (items_of (Some x)) (items_of (Some y))
 
 -- objects that say the same in each field of a row that is read
 pub record SameRow (x y : Typed) : Type 0 where

@@ -1,13 +1,18 @@
 -- Which fields the schema of a list or a manifest must have, of which types, and the first that is missing or does not
 -- fit. Apache Iceberg table spec v2, "Manifest Lists" and "Manifests"; the order is this program's own.
-use Rattle.std.specs.Prelude.{ℤ, pos, Bool, true, Option, Some, None, Result, Ok, Err, if◌then◌else◌}
+use Rattle.std.specs.Prelude.{ℤ, pos, Bool, true, List, [], ◌∷◌, Option, Some, None, Result, Ok, Err, if◌then◌else◌}
 use Rattle.std.specs.Ordering.{int_eq}
 use Rattle.std.specs.Option.{option_eq}
 use Rattle.contract_words.specs.Outcome.{◌>>=◌}
-use Rattle.avro_schema.specs.Tree.{Tree, structure, array, union, Fields, no_fields, field, Branches, no_branches, branch}
+use Rattle.avro_schema.specs.Tree.{Tree, null, boolean, int, long, float, double, octets, string, fixed, structure, array, union, Fields, no_fields, field, Branches, no_branches, branch}
+use Rattle.ice_meta.specs.declared.spec.PartitionField.{PartitionField}
+use Rattle.ice_meta.specs.declared.spec.Spec.{Spec}
 use Rattle.ice_manifest.specs.declared.fault.FieldFault.{FieldFault}
-use Rattle.ice_manifest.specs.declared.fault.FieldFault.TheVariants.{Missing, WrongType}
-use Rattle.ice_manifest.specs.Types.{is_whole, is_truth, is_text, is_binary, is_list, is_record, fits}
+use Rattle.ice_manifest.specs.declared.fault.FieldFault.TheVariants.{Missing, WrongType, FloatPartition}
+use Rattle.ice_manifest.specs.declared.columns.ColumnMap.{ColumnMap}
+use Rattle.ice_manifest.specs.Kinds.{wanted}
+use Rattle.ice_manifest.specs.ColumnMaps.{value_counts, null_value_counts, lower_bounds, upper_bounds}
+use Rattle.ice_manifest.specs.Types.{is_whole, is_truth, is_text, is_binary, is_list, is_array, is_record, fits}
 
 -- nothing is at fault
 abbrev pub Fault : Type 0
@@ -114,27 +119,94 @@ row_fields fs = do
   partitions ← optional is_list (pos 507) fs
   inside lists_summaries partitions
 
+-- ---- partition values
+
+-- which types a partition value may have
+abbrev pub is_cell : ℤ → Tree → Fault
+is_cell id null = Ok tt
+is_cell id boolean = Ok tt
+is_cell id int = Ok tt
+is_cell id long = Ok tt
+is_cell id string = Ok tt
+is_cell id (octets kind) = Ok tt
+is_cell id (fixed size kind) = Ok tt
+is_cell id float = Err (FloatPartition id)
+is_cell id double = Err (FloatPartition id)
+is_cell id t = Err (WrongType id)
+
+abbrev pub each_is_cell : ℤ → Option Tree → Fault
+each_is_cell id None = Err (Missing id)
+each_is_cell id (Some t) = each_branch (is_cell id) (branches_in t)
+
+-- the field of each partition field's own id is there, and may be a partition value
+unfoldable pub cells_fit : List PartitionField → Fields → Fault
+cells_fit [] fs = Ok tt
+cells_fit (p ∷ ps) fs = each_is_cell p.field_id (type_at p.field_id fs) >>= λ ok. cells_fit ps fs
+
+abbrev pub is_tuple : List PartitionField → Tree → Fault
+is_tuple ps (structure fs) = cells_fit ps fs
+is_tuple ps t = Ok tt
+
+-- the record of the partition values, which is looked for only where the spec has a field
+unfoldable pub tuple_in : List PartitionField → Fields → Result (Option Tree) FieldFault
+tuple_in [] fs = Ok None
+tuple_in (p ∷ ps) fs = required is_record (pos 102) fs >>= λ t. Ok (Some t)
+
+-- ---- counts and bounds of columns
+
+unfoldable pub pair_fields : ColumnMap → Fields → Fault
+pair_fields m fs = do
+  column ← required is_whole m.key fs
+  said ← required (wanted m.kind) m.said fs
+  Ok tt
+
+abbrev pub is_pair : ColumnMap → Tree → Fault
+is_pair m (structure fs) = pair_fields m fs
+is_pair m t = Ok tt
+
+-- the items of an array are pairs: of a column's id and what is said of the column
+abbrev pub lists_pairs : ColumnMap → Tree → Fault
+lists_pairs m t = if has_items is_record t then each_branch (is_pair m) (items_in t) else Err (WrongType m.id)
+
+-- a map fits if it is there: an array of pairs
+unfoldable pub map_fits : ColumnMap → Fields → Fault
+map_fits m fs = optional is_array m.id fs >>= inside (lists_pairs m)
+
+unfoldable pub column_fields : Fields → Fault
+column_fields fs = do
+  values ← map_fits value_counts fs
+  nulls ← map_fits null_value_counts fs
+  lower ← map_fits lower_bounds fs
+  map_fits upper_bounds fs
+
 -- ---- entries
 
-unfoldable pub file_fields : Fields → Fault
-file_fields fs = do
+-- the equality ids
+unfoldable pub ids_fit : Fields → Fault
+ids_fit fs = optional is_list (pos 135) fs >>= inside lists_wholes
+
+-- a data file, of a spec that has these partition fields; their types come last
+unfoldable pub file_fields : List PartitionField → Fields → Fault
+file_fields ps fs = do
   content ← required is_whole (pos 134) fs
   path ← required is_text (pos 100) fs
+  tuple ← tuple_in ps fs
   count ← required is_whole (pos 103) fs
   size ← required is_whole (pos 104) fs
-  ids ← optional is_list (pos 135) fs
-  inside lists_wholes ids
+  columns ← column_fields fs
+  ids ← ids_fit fs
+  inside (is_tuple ps) tuple
 
-abbrev pub is_file : Tree → Fault
-is_file (structure fs) = file_fields fs
-is_file t = Ok tt
+abbrev pub is_file : List PartitionField → Tree → Fault
+is_file ps (structure fs) = file_fields ps fs
+is_file ps t = Ok tt
 
--- a manifest's entry
-unfoldable pub entry_fields : Fields → Fault
-entry_fields fs = do
+-- an entry of a manifest of this spec
+unfoldable pub entry_fields : Spec → Fields → Fault
+entry_fields spec fs = do
   status ← required is_whole (pos 0) fs
   snapshot ← optional is_whole (pos 1) fs
   sequence ← optional is_whole (pos 3) fs
   file_sequence ← optional is_whole (pos 4) fs
   file ← required is_record (pos 2) fs
-  inside is_file (Some file)
+  inside (is_file spec.fields) (Some file)

@@ -1,14 +1,13 @@
 -- What the code's values are.
-use Rattle.std.specs.Prelude.{ℕ, zero, suc, List, map, Option, Some, None, Result, Ok, Err, Vec}
-use Rattle.std.specs.declared.alloc.Global.{Global}
+use Rattle.std.specs.Prelude.{List, [], map, Option, Some, None, Result, Ok, Err}
 use denote.Ref.{Bor}
 use Rattle.avro_schema.specs.declared.schema.Schema.{Schema}
 use Rattle.avro_schema.specs.declared.schema.Field.{Field}
 use Rattle.avro_schema.specs.Tree.{Tree, structure, Fields}
 use Rattle.avro_schema.specs.View.{tree, parts, fields_of}
-use Rattle.avro_file.specs.declared.datum.Datum.{Datum}
-use Rattle.avro_file.specs.Value.{Value, fields, Values, no_values, value, values_of}
-use Rattle.avro_file.specs.View.{view, views}
+use Rattle.avro_file.specs.declared.datum.Datum.{Datum, LongPairs, BytesPairs}
+use Rattle.avro_file.specs.Value.{Value, fields, Values, values_of}
+use Rattle.avro_file.specs.View.{view, views, long_pairs, bytes_pairs}
 use Rattle.avro_file.specs.Picking.{Typed}
 
 abbrev pub result_map : {A B E : Type 0} → (A → B) → Result A E → Result B E
@@ -31,18 +30,20 @@ object fs ds = (structure (fields_seen fs), fields (values ds))
 abbrev pub typed : Bor Schema × Bor Datum → Typed
 typed p = (tree p.0.now, view p.1.now)
 
--- a type and a value that was moved out
-abbrev pub typed_out : Bor Schema × Datum → Typed
-typed_out p = (tree p.0.now, view p.1)
-
--- a record that was moved out
-abbrev pub record_out : Bor (List Field) × Vec Datum Global → Typed
-record_out p = object p.0.now p.1.items
+-- a record
+abbrev pub record_lent : Bor (List Field) × Bor (List Datum) → Typed
+record_lent p = object p.0.now p.1.now
 
 -- a value, where it is a record
 abbrev pub as_record : Value → Option Value
 as_record (fields vs) = Some (fields vs)
 as_record v = None
+
+-- the items of an array of pairs, which has no datum for each
+abbrev pub pairs_in : Datum → List Value
+pairs_in (LongPairs v) = long_pairs v.items
+pairs_in (BytesPairs v) = bytes_pairs v.items
+pairs_in d = []
 
 -- items of one type
 abbrev pub items_seen : Tree → List Datum → List Typed

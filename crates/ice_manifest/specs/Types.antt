@@ -28,6 +28,11 @@ abbrev pub is_list : Tree → Bool
 is_list (array t id stands_for.List) = true
 is_list t = false
 
+-- a list or a map by numbers: an array, whether or not it is marked as a map
+abbrev pub is_array : Tree → Bool
+is_array (array t id kind) = true
+is_array t = false
+
 abbrev pub is_record : Tree → Bool
 is_record (structure fs) = true
 is_record t = false

@@ -19,6 +19,8 @@ pub enum FieldFault {
     OutOfRange(i32),
     /// A content number is none, or does not fit where it stands.
     BadContent,
+    /// A partition value is a float or a double.
+    FloatPartition(i32),
 }
 
 /// The first fault of a manifest list.
@@ -59,6 +61,8 @@ pub enum ManifestFault {
     BadContent,
     /// An existing entry has no sequence number of its own, under a row whose number is not 0.
     NoSequence,
+    /// The partition field of this id is a float or a double.
+    FloatPartition(i32),
     /// A growth was refused.
     Memory,
 }
@@ -74,6 +78,8 @@ impl From<FieldFault> for ListFault {
             FieldFault::WrongType(id) => ListFault::WrongFieldType(id),
             FieldFault::OutOfRange(id) => ListFault::OutOfRange(id),
             FieldFault::BadContent => ListFault::BadContent,
+            // A list has no partition values.
+            FieldFault::FloatPartition(id) => ListFault::WrongFieldType(id),
         }
     }
 }
@@ -118,6 +124,7 @@ impl From<FieldFault> for ManifestFault {
             FieldFault::WrongType(id) => ManifestFault::WrongFieldType(id),
             FieldFault::OutOfRange(id) => ManifestFault::OutOfRange(id),
             FieldFault::BadContent => ManifestFault::BadContent,
+            FieldFault::FloatPartition(id) => ManifestFault::FloatPartition(id),
         }
     }
 }
@@ -164,6 +171,7 @@ impl ManifestFault {
             ManifestFault::BadStatus => ManifestFault::BadStatus,
             ManifestFault::BadContent => ManifestFault::BadContent,
             ManifestFault::NoSequence => ManifestFault::NoSequence,
+            ManifestFault::FloatPartition(id) => ManifestFault::FloatPartition(*id),
             ManifestFault::Memory => ManifestFault::Memory,
         })
     }

@@ -1,16 +1,17 @@
 //! What the fields of an object hold.
 
-ghost use Rattle.std.specs.Prelude.{◌≡◌, [], ◌∷◌, option_map, string_bytes, Some, IfOk};
+ghost use Rattle.std.specs.Prelude.{◌≡◌, [], ◌∷◌, option_map, Some, IfOk};
 ghost use Rattle.contract_words.specs.Outcome.{Gives};
 ghost use Rattle.avro_schema.specs.View.{tree};
-ghost use Rattle.avro_file.specs.View.{view};
+ghost use Rattle.avro_file.specs.Value.{whole, run};
+ghost use Rattle.avro_file.specs.View.{view, views, pair_with, long_pairs, bytes_pairs};
 ghost use Rattle.ice_manifest.specs.Each.{each};
 ghost use Rattle.ice_manifest.specs.Naming.{in_manifest, told};
 ghost use Rattle.ice_manifest.specs.Fields.{asked, whole_of as whole_value, truth_of as truth_value, binary_of as binary_value, items_of as items_value, there, at, long_at as long_said, int_at as int_said, number_at as number_said, path_at as path_said, truth_at as truth_said, optional_long as long_if_there, optional_int as int_if_there, optional_number as number_if_there, optional_truth as truth_if_there, optional_binary as binary_if_there, int_item as int_of_item, ints_at as ints_said, within_32 as within, not_negative as natural};
-ghost use Rattle.ice_manifest.specs.Seen.{result_map, object, listed};
+ghost use Rattle.ice_manifest.specs.Seen.{result_map, object, pairs_in, listed};
 
 use crate::fault::{FieldFault, ManifestFault};
-use crate::pick::{itself, pick, take};
+use crate::pick::{itself, pick};
 use avro_file::Datum;
 use avro_schema::{Field, Schema};
 use contract_words::Items;
@@ -134,19 +135,21 @@ pub fn optional_binary(
     ensures { IfOk result (λ bytes. bytes ≡ binary_if_there id (object fields.now values.now)) }
 {
     match pick(fields, values, id) {
-        Some((_, Datum::Bytes(bytes))) => Ok(Some(Items::from_vec(
-            bytes.as_slice().to_vec(alloc)?,
-        ))),
+        Some((_, Datum::Bytes(bytes))) => Ok(Some(Items::from_vec(bytes.to_vec(alloc)?))),
         _ => Ok(None),
     }
 }
 
-/// A path of at most 65,535 bytes, moved out.
+/// A path of at most 65,535 bytes.
 #[tactic(auto, unfolding(crate::specs::Fields::path_at))]
-pub fn take_path(fields: &[Field], values: Vec<Datum>, id: i32) -> Result<String, FieldFault>
-    ensures { result_map string_bytes result ≡ path_said id (object fields.now values.items) }
+pub fn path_at<'a, 'd>(
+    fields: &'a [Field],
+    values: &'a [Datum<'d>],
+    id: i32,
+) -> Result<&'d str, FieldFault>
+    ensures { result_map (λ path. path.now) result ≡ path_said id (object fields.now values.now) }
 {
-    let Some((_, Datum::String(text))) = take(fields, values, id) else {
+    let Some((_, Datum::String(text))) = pick(fields, values, id) else {
         return Err(FieldFault::Missing(id));
     };
     if text.len() <= 65535 {
@@ -156,13 +159,74 @@ pub fn take_path(fields: &[Field], values: Vec<Datum>, id: i32) -> Result<String
     }
 }
 
-/// The items of a list and their type. Any other value has none.
-pub fn items_of<'a>(schema: &'a Schema, datum: &'a Datum) -> (&'a Schema, &'a [Datum])
+/// A record of an int and a long.
+fn long_pair_built<'a>(alloc: Global, pair: &(i32, i64)) -> Result<Datum<'a>, AllocError>
+    ensures { IfOk result (λ built. view built ≡ pair_with pair.now.0 (whole pair.now.1)) }
+{
+    let mut values = Vec::with_capacity(alloc, 2)?;
+    values.push(Datum::Int(pair.0))?;
+    values.push(Datum::Long(pair.1))?;
+    Ok(Datum::Record(values))
+}
+
+/// A record of an int and bytes.
+fn bytes_pair_built<'a>(alloc: Global, pair: &(i32, &'a [u8])) -> Result<Datum<'a>, AllocError>
+    ensures { IfOk result (λ built. view built ≡ pair_with pair.now.0 (run pair.now.1.now)) }
+{
+    let mut values = Vec::with_capacity(alloc, 2)?;
+    values.push(Datum::Int(pair.0))?;
+    values.push(Datum::Bytes(pair.1))?;
+    Ok(Datum::Record(values))
+}
+
+fn long_pairs_built<'a>(alloc: Global, pairs: &[(i32, i64)]) -> Result<Vec<Datum<'a>>, AllocError>
+    ensures { IfOk result (λ built. views built.items ≡ long_pairs pairs.now) }
+{
+    let mut built = Vec::with_capacity(alloc, pairs.len())?;
+    'pairs: for pair in pairs {
+        built.push(long_pair_built(alloc, pair)?)?;
+    }
+    Ok(built)
+}
+
+fn bytes_pairs_built<'a>(
+    alloc: Global,
+    pairs: &[(i32, &'a [u8])],
+) -> Result<Vec<Datum<'a>>, AllocError>
+    ensures { IfOk result (λ built. views built.items ≡ bytes_pairs pairs.now) }
+{
+    let mut built = Vec::with_capacity(alloc, pairs.len())?;
+    'pairs: for pair in pairs {
+        built.push(bytes_pair_built(alloc, pair)?)?;
+    }
+    Ok(built)
+}
+
+/// A datum for each item of an array of pairs. Any other value gives none.
+pub fn pairs_built<'d>(alloc: Global, datum: &Datum<'d>) -> Result<Vec<Datum<'d>>, AllocError>
+    ensures { IfOk result (λ built. views built.items ≡ pairs_in datum.now) }
+{
+    match datum {
+        Datum::LongPairs(pairs) => long_pairs_built(alloc, pairs),
+        Datum::BytesPairs(pairs) => bytes_pairs_built(alloc, pairs),
+        _ => Ok(Vec::new(alloc)),
+    }
+}
+
+/// The items of a list and their type, where its pairs were built. Any other value has none.
+pub fn items_of<'a, 'd>(
+    schema: &'a Schema,
+    datum: &'a Datum<'d>,
+    built: &'a [Datum<'d>],
+) -> (&'a Schema, &'a [Datum<'d>])
+    requires { views built.now ≡ pairs_in datum.now }
     ensures { listed result ≡ items_value (Some (tree schema.now, view datum.now)) }
 {
     match (schema, datum) {
         (Schema::Array(items, _, _), Datum::Array(data)) => (items, data),
-        _ => (schema, &[]),
+        (Schema::Array(items, _, _), Datum::LongPairs(_)) => (items, built),
+        (Schema::Array(items, _, _), Datum::BytesPairs(_)) => (items, built),
+        _ => (schema, &built[..0]),
     }
 }
 
@@ -207,7 +271,8 @@ pub fn ints_at(
 {
     match pick(fields, values, id) {
         Some((schema, datum)) => {
-            let (schema, items) = items_of(schema, datum);
+            let built = pairs_built(alloc, datum)?;
+            let (schema, items) = items_of(schema, datum, &built);
             int_items(alloc, schema, items, item)
         }
         None => Ok(Items::new(alloc)),

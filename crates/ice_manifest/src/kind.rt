@@ -18,6 +18,8 @@ pub enum Kind {
     Binary,
     /// A list, and no map.
     List,
+    /// A list or a map by numbers.
+    Array,
     Record,
 }
 
@@ -32,6 +34,7 @@ fn is_of(kind: Kind, schema: &Schema) -> bool
         (Kind::Text, Schema::String) => true,
         (Kind::Binary, Schema::Bytes(_)) => true,
         (Kind::List, Schema::Array(_, _, ArrayKind::List)) => true,
+        (Kind::Array, Schema::Array(_, _, _)) => true,
         (Kind::Record, Schema::Record(_)) => true,
         _ => false,
     }

@@ -1,7 +1,8 @@
 //! What the definitions of rows and entries come to.
 
-ghost use Rattle.ice_manifest.specs.Laws.{ReadsRowsExactly, GivesHeldRows, GivesTheRows, RefusesTwo, RefusesTheLeast, ReadsEntriesExactly, GivesHeldEntries, KeepsItsNumber, InheritsTheRows, NeedsItsOwn, KeepsItsFileNumber, InheritsTheRowsForItsFile, HasNoFileNumber, KeepsItsSnapshot, InheritsItsSnapshot, FitsItsRow, AreOfTheirSpec};
+ghost use Rattle.ice_manifest.specs.Laws.{ReadsRowsExactly, GivesHeldRows, GivesTheRows, RefusesTwo, RefusesTheLeast, ReadsEntriesExactly, GivesHeldEntries, KeepsItsNumber, InheritsTheRows, NeedsItsOwn, KeepsItsFileNumber, InheritsTheRowsForItsFile, HasNoFileNumber, KeepsItsSnapshot, InheritsItsSnapshot, FitsItsRow, AreOfTheirSpec, HasACellForEach};
 ghost use Rattle.ice_manifest.specs.Faults.{TellsTheFirstRow, TellsTheListsEnd, TellsTheFirstEntry, TellsTheManifestsEnd, RefusesAPathExactly, RefusesManyExactly};
+ghost use Rattle.ice_manifest.specs.Decimals.{KeepsTheNumber, LeavesNoneRedundant};
 ghost use Rattle.ice_manifest.specs.Same.{SkipsOtherFieldsOfEntries, SkipsOtherFieldsOfRows};
 
 use avro_file::held_is_read;
@@ -66,10 +67,17 @@ pub fn rows_are_refused_together()
 {}
 
 /// Each entry holds what its row's content allows: data under a row of data, deletes under one of deletes. It is of its
-/// row's spec.
+/// row's spec, and has a partition value for each field of the spec.
 pub fn contents_fit()
     ensures content { FitsItsRow }
     ensures spec { AreOfTheirSpec }
+    ensures cells { HasACellForEach }
+{}
+
+/// The bytes that are kept of a decimal are the same number in two's complement, and the first of them is not redundant.
+pub fn decimals_are_kept_shortest()
+    ensures number { KeepsTheNumber }
+    ensures front { LeavesNoneRedundant }
 {}
 
 /// Two files whose objects say the same in the fields that are read give the same, whatever else they hold: other

@@ -1,8 +1,10 @@
 //! Manifest lists and manifests: their rows and live entries, found by field id, or the first fault.
 #![tactic(auto)]
 
+mod columns;
 mod counts;
 mod data_file;
+mod decimal;
 mod entry;
 mod fault;
 mod field;
@@ -14,6 +16,7 @@ mod pick;
 mod row;
 mod shape;
 mod status;
+mod tuple;
 
 pub use counts::Counts;
 pub use data_file::DataFile;
@@ -21,9 +24,9 @@ pub use entry::{Entry, Live};
 pub use fault::{FieldFault, ListFault, ManifestFault};
 pub use kind::Kind;
 pub use laws::{
-    contents_fit, entries_are_the_live_ones, file_numbers_are_inherited, first_faults_are_told,
-    numbers_are_inherited, other_fields_are_skipped, rows_are_a_set, rows_are_refused_together,
-    snapshots_are_inherited,
+    contents_fit, decimals_are_kept_shortest, entries_are_the_live_ones,
+    file_numbers_are_inherited, first_faults_are_told, numbers_are_inherited,
+    other_fields_are_skipped, rows_are_a_set, rows_are_refused_together, snapshots_are_inherited,
 };
 pub use list::read_list;
 pub use manifest::read_manifest;

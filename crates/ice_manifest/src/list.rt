@@ -17,7 +17,7 @@ use crate::counts::Counts;
 use crate::fault::{FieldFault, ListFault};
 use crate::field::{
     int_at, items_of, long_at, number_at, optional_binary, optional_int, optional_long,
-    optional_truth, take_path, truth_at,
+    optional_truth, pairs_built, path_at, truth_at,
 };
 use crate::pick::{itself, pick, record_values};
 use crate::row::{ManifestContent, Row};
@@ -107,40 +107,33 @@ fn partitions_at(
     let Some((schema, datum)) = pick(fields, values, 507) else {
         return Ok(None);
     };
-    let (schema, items) = items_of(schema, datum);
+    let built = pairs_built(alloc, datum)?;
+    let (schema, items) = items_of(schema, datum, &built);
     Ok(Some(summaries_of(alloc, schema, items)?))
 }
 
 /// The row that a record's fields say.
 #[tactic(auto, unfolding(crate::specs::Lists::row_of))]
-fn row_at(alloc: Global, fields: &[Field], values: Vec<Datum>) -> Result<Row, ListFault>
-    ensures { Gives ListFault.Memory (λ x. x) result (told in_list (row_said (object fields.now values.items))) }
+fn row_at(alloc: Global, fields: &[Field], values: &[Datum]) -> Result<Row, ListFault>
+    ensures { Gives ListFault.Memory (λ x. x) result (told in_list (row_said (object fields.now values.now))) }
 {
-    let length = long_at(fields, &values, 501);
-    let spec_id = int_at(fields, &values, 502);
-    let content = content_at(fields, &values);
-    let sequence_number = number_at(fields, &values, 515);
-    let min_sequence_number = number_at(fields, &values, 516);
-    let added_snapshot_id = long_at(fields, &values, 503);
-    let counts = counts_at(fields, &values);
-    let partitions = partitions_at(alloc, fields, &values);
-    // The faults in the order of the fields: the path's comes first, though it is moved out last.
+    let path = path_at(fields, values, 500)?;
     Ok(Row {
-        path: Text::from_string(take_path(fields, values, 500)?),
-        length: length?,
-        spec_id: spec_id?,
-        content: content?,
-        sequence_number: sequence_number?,
-        min_sequence_number: min_sequence_number?,
-        added_snapshot_id: added_snapshot_id?,
-        counts: counts?,
-        partitions: partitions?,
+        path: Text::from_string(String::from_str(alloc, path)?),
+        length: long_at(fields, values, 501)?,
+        spec_id: int_at(fields, values, 502)?,
+        content: content_at(fields, values)?,
+        sequence_number: number_at(fields, values, 515)?,
+        min_sequence_number: number_at(fields, values, 516)?,
+        added_snapshot_id: long_at(fields, values, 503)?,
+        counts: counts_at(fields, values)?,
+        partitions: partitions_at(alloc, fields, values)?,
     })
 }
 
 /// The row that an object of these fields says.
-fn row_of(alloc: Global, fields: &[Field], datum: Datum) -> Result<Row, ListFault>
-    ensures { Gives ListFault.Memory (λ x. x) result (told in_list (row_said (structure (fields_seen fields.now), view datum))) }
+fn row_of(alloc: Global, fields: &[Field], datum: &Datum) -> Result<Row, ListFault>
+    ensures { Gives ListFault.Memory (λ x. x) result (told in_list (row_said (structure (fields_seen fields.now), view datum.now))) }
 {
     match record_values(datum) {
         Some(values) => row_at(alloc, fields, values),
@@ -155,7 +148,9 @@ fn all_rows(alloc: Global, fields: &[Field], mut reader: Objects<'_>) -> Result<
     let mut rows = Vec::new(alloc);
     'objects: while let Some(object) = reader.next()? {
         let datum = object.datum(alloc)?;
-        rows.push(row_of(alloc, fields, datum)?)?;
+        let row = row_of(alloc, fields, &datum)?;
+        drop(datum);
+        rows.push(row)?;
     }
     Ok(rows)
 }

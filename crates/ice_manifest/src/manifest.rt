@@ -8,20 +8,22 @@ ghost use Rattle.avro_file.specs.Ahead.{still_ahead};
 ghost use Rattle.avro_file.specs.Files.{ahead};
 ghost use Rattle.ice_manifest.specs.Naming.{in_manifest, told};
 ghost use Rattle.ice_manifest.specs.Seen.{fields_seen, object};
-ghost use Rattle.ice_manifest.specs.Manifests.{live_of, no_bounds as empty_bounds, status_of as status_in, status_at as status_said, content_of as content_in, content_at as content_said, inherited as inherited_in, file_inherited as file_inherited_in, sequence_at as sequence_said, file_sequence_at as file_sequence_said, snapshot_at as snapshot_said, file_of as file_said, live_at as live_said, entry_of as entry_said, entries_ahead, kept};
+ghost use Rattle.ice_manifest.specs.Manifests.{live_of, status_of as status_in, status_at as status_said, content_of as content_in, content_at as content_said, inherited as inherited_in, file_inherited as file_inherited_in, sequence_at as sequence_said, file_sequence_at as file_sequence_said, snapshot_at as snapshot_said, file_of as file_said, live_at as live_said, entry_of as entry_said, entries_ahead, kept};
 
+use crate::columns::columns_of;
 use crate::data_file::DataFile;
 use crate::entry::{Entry, Live};
 use crate::fault::{FieldFault, ManifestFault};
-use crate::field::{int_at, ints_at, long_at, optional_long, optional_number, take_path};
-use crate::pick::{record_values, take_record};
+use crate::field::{int_at, ints_at, long_at, optional_long, optional_number, path_at};
+use crate::pick::{pick_record, record_values};
 use crate::row::{ManifestContent, Row};
 use crate::shape::{check_entry_fields, fields_of};
 use crate::status::Status;
+use crate::tuple::tuple_at;
 use avro_file::{Container, Datum, Objects, objects_take_bytes};
 use avro_schema::Field;
 use contract_words::Items;
-use ice_meta::Spec;
+use ice_meta::{PartitionField, Spec};
 use ice_value::{FileBounds, FileContent, SequenceNumber};
 use std::alloc::{AllocError, Global};
 
@@ -66,29 +68,34 @@ fn content_at(
     content_of(of_row, int_at(fields, values, 134)?)
 }
 
-/// The file that a record's fields say, in a manifest of this content.
+/// The file that a record's fields say, in a manifest of this content whose spec has these partition fields, and what is
+/// said of the file's columns.
 #[tactic(auto, unfolding(crate::specs::Manifests::file_of))]
 fn file_of(
     alloc: Global,
     of_row: ManifestContent,
+    partition: &[PartitionField],
     fields: &[Field],
-    values: Vec<Datum>,
-) -> Result<DataFile, ManifestFault>
-    ensures { Gives ManifestFault.Memory (λ x. x) result (told in_manifest (file_said of_row (object fields.now values.items))) }
+    values: &[Datum],
+) -> Result<(DataFile, FileBounds), ManifestFault>
+    ensures { Gives ManifestFault.Memory (λ x. x) result (told in_manifest (file_said of_row partition.now (object fields.now values.now))) }
 {
-    let content = content_at(of_row, fields, &values)?;
-    let record_count = long_at(fields, &values, 103);
-    let file_size = long_at(fields, &values, 104);
-    let equality_ids = ints_at(alloc, fields, &values, 135, 136);
-    // The faults in the order of the fields: the path's comes before those of the numbers, though it is moved out last.
-    Ok(DataFile {
+    let content = content_at(of_row, fields, values)?;
+    let path = path_at(fields, values, 100)?;
+    let tuple = tuple_at(alloc, partition, fields, values)?;
+    let record_count = long_at(fields, values, 103)?;
+    let file_size = long_at(fields, values, 104)?;
+    let columns = columns_of(alloc, fields, values)?;
+    let equality_ids = ints_at(alloc, fields, values, 135, 136)?;
+    let file = DataFile {
         content,
-        path: Items::from_vec(take_path(fields, values, 100)?.into_bytes()),
-        tuple: Items::new(alloc),
-        record_count: record_count?,
-        file_size: file_size?,
-        equality_ids: equality_ids?,
-    })
+        path: Items::from_vec(path.as_bytes().to_vec(alloc)?),
+        tuple,
+        record_count,
+        file_size,
+        equality_ids,
+    };
+    Ok((file, columns))
 }
 
 /// An entry's sequence number: its own, or that of its manifest's row.
@@ -159,48 +166,43 @@ fn snapshot_at(row: &Row, fields: &[Field], values: &[Datum]) -> i64
     optional_long(fields, values, 1).unwrap_or(row.added_snapshot_id)
 }
 
-/// No bounds and no counts.
-fn no_bounds(alloc: Global) -> FileBounds
-    ensures { result ≡ empty_bounds }
-{
-    FileBounds {
-        value_counts: Items::new(alloc),
-        null_counts: Items::new(alloc),
-        lower_bounds: Items::new(alloc),
-        upper_bounds: Items::new(alloc),
-    }
-}
-
 /// An entry that exists or was added.
 #[tactic(auto, unfolding(crate::specs::Manifests::live_at))]
 fn live_at(
     alloc: Global,
     row: &Row,
-    unpartitioned: bool,
+    spec: &Spec,
     position: u64,
     status: Status,
     fields: &[Field],
-    values: Vec<Datum>,
+    values: &[Datum],
 ) -> Result<Live, ManifestFault>
-    ensures { Gives ManifestFault.Memory (λ x. x) result (live_said row.now unpartitioned position status (object fields.now values.items)) }
+    ensures { Gives ManifestFault.Memory (λ x. x) result (live_said row.now spec.now position status (object fields.now values.now)) }
 {
-    let snapshot_id = snapshot_at(row, fields, &values);
-    let sequence_number = sequence_at(row, status, fields, &values)?;
-    let file_sequence_number = file_sequence_at(row, status, fields, &values)?;
-    let Some((file_fields, file_values)) = take_record(fields, values, 2) else {
+    let snapshot_id = snapshot_at(row, fields, values);
+    let sequence_number = sequence_at(row, status, fields, values)?;
+    let file_sequence_number = file_sequence_at(row, status, fields, values)?;
+    let Some((file_fields, file_values)) = pick_record(fields, values, 2) else {
         return Err(ManifestFault::MissingField(2));
     };
+    let (file, bounds) = file_of(
+        alloc,
+        row.content,
+        spec.fields.as_slice(),
+        file_fields,
+        file_values,
+    )?;
     Ok(Live {
         entry: Entry {
             position,
             spec_id: row.spec_id,
-            unpartitioned,
+            unpartitioned: spec.is_unpartitioned(),
             snapshot_id,
             sequence_number,
             file_sequence_number,
-            file: file_of(alloc, row.content, file_fields, file_values)?,
+            file,
         },
-        bounds: no_bounds(alloc),
+        bounds,
     })
 }
 
@@ -209,33 +211,33 @@ fn live_at(
 fn entry_at(
     alloc: Global,
     row: &Row,
-    unpartitioned: bool,
+    spec: &Spec,
     position: u64,
     fields: &[Field],
-    values: Vec<Datum>,
+    values: &[Datum],
 ) -> Result<Option<Live>, ManifestFault>
-    ensures { Gives ManifestFault.Memory (λ x. x) result (entry_said row.now unpartitioned position (object fields.now values.items)) }
+    ensures { Gives ManifestFault.Memory (λ x. x) result (entry_said row.now spec.now position (object fields.now values.now)) }
 {
-    let status = status_at(fields, &values)?;
+    let status = status_at(fields, values)?;
     if status == Status::Deleted {
         return Ok(None);
     }
-    Ok(Some(live_at(alloc, row, unpartitioned, position, status, fields, values)?))
+    Ok(Some(live_at(alloc, row, spec, position, status, fields, values)?))
 }
 
 /// The entry that an object of these fields says.
 fn entry_of(
     alloc: Global,
     row: &Row,
-    unpartitioned: bool,
+    spec: &Spec,
     position: u64,
     fields: &[Field],
-    datum: Datum,
+    datum: &Datum,
 ) -> Result<Option<Live>, ManifestFault>
-    ensures { Gives ManifestFault.Memory (λ x. x) result (entry_said row.now unpartitioned position (structure (fields_seen fields.now), view datum)) }
+    ensures { Gives ManifestFault.Memory (λ x. x) result (entry_said row.now spec.now position (structure (fields_seen fields.now), view datum.now)) }
 {
     match record_values(datum) {
-        Some(values) => entry_at(alloc, row, unpartitioned, position, fields, values),
+        Some(values) => entry_at(alloc, row, spec, position, fields, values),
         None => Err(ManifestFault::MissingField(0)),
     }
 }
@@ -254,18 +256,19 @@ fn push_live(found: &mut Vec<Live>, live: Option<Live>) -> Result<(), AllocError
 fn all_entries(
     alloc: Global,
     row: &Row,
-    unpartitioned: bool,
+    spec: &Spec,
     fields: &[Field],
     mut reader: Objects<'_>,
 ) -> Result<Vec<Live>, ManifestFault>
     requires { still_ahead (ahead reader) < 2 ^ 64 }
-    ensures { Gives ManifestFault.Memory (λ found. found.items) result (entries_ahead row.now unpartitioned (fields_seen fields.now) 0 (ahead reader.entry)) }
+    ensures { Gives ManifestFault.Memory (λ found. found.items) result (entries_ahead row.now spec.now (fields_seen fields.now) 0 (ahead reader.entry)) }
 {
     let mut found = Vec::new(alloc);
     let mut position: u64 = 0;
     'objects: while let Some(object) = reader.next()? {
         let datum = object.datum(alloc)?;
-        let live = entry_of(alloc, row, unpartitioned, position, fields, datum)?;
+        let live = entry_of(alloc, row, spec, position, fields, &datum)?;
+        drop(datum);
         push_live(&mut found, live)?;
         position += 1;
     }
@@ -290,9 +293,8 @@ pub fn read_manifest(
 {
     let container = Container::open(alloc, bytes)?;
     let fields = fields_of(container.schema());
-    check_entry_fields(fields)?;
+    check_entry_fields(spec, fields)?;
     // An entry takes a byte at least, so there are no more of them than bytes.
     objects_take_bytes();
-    let unpartitioned = spec.is_unpartitioned();
-    all_entries(alloc, row, unpartitioned, fields, container.objects())
+    all_entries(alloc, row, spec, fields, container.objects())
 }

@@ -4,9 +4,9 @@ ghost use Rattle.std.specs.Prelude.{◌≡◌, ◌<◌, [], ◌∷◌, length, o
 ghost use Rattle.avro_schema.specs.View.{tree, trees, branches_of};
 ghost use Rattle.avro_file.specs.Value.{Value, fields};
 ghost use Rattle.avro_file.specs.View.{view};
-ghost use Rattle.avro_file.specs.Picking.{bare as bare_value, of_branch, field_value, pick as pick_value};
+ghost use Rattle.avro_file.specs.Picking.{present, of_branch, field_value, unless_null as unless_null_value, pick as pick_value};
 ghost use Rattle.ice_manifest.specs.Fields.{at, there, record_of};
-ghost use Rattle.ice_manifest.specs.Seen.{fields_seen, values as values_seen, object, typed, typed_out, record_out, as_record};
+ghost use Rattle.ice_manifest.specs.Seen.{fields_seen, values as values_seen, object, typed, record_lent, as_record};
 ghost use Rattle.ice_manifest.specs.Places.{place_of};
 
 use avro_file::Datum;
@@ -26,7 +26,11 @@ fn position_of(fields: &[Field], id: i32) -> Option<usize>
 }
 
 /// The field with this id, its type and its value.
-fn find<'a>(fields: &'a [Field], values: &'a [Datum], id: i32) -> Option<(&'a Schema, &'a Datum)>
+fn find<'a, 'd>(
+    fields: &'a [Field],
+    values: &'a [Datum<'d>],
+    id: i32,
+) -> Option<(&'a Schema, &'a Datum<'d>)>
     ensures { option_map typed result ≡ field_value id (fields_seen fields.now) (values_seen values.now) }
 {
     let position = position_of(fields, id)?;
@@ -48,101 +52,69 @@ fn branch_at(branches: &[Schema], branch: usize) -> Option<&Schema>
     }
 }
 
-/// The value itself; of a union that of the branch that it chose.
-fn bare<'a>(schema: &'a Schema, datum: &'a Datum) -> Option<(&'a Schema, &'a Datum)>
-    ensures { option_map typed result ≡ bare_value (tree schema.now, view datum.now) }
+/// The value, unless it is null.
+fn unless_null<'a, 'd>(
+    schema: &'a Schema,
+    datum: &'a Datum<'d>,
+) -> Option<(&'a Schema, &'a Datum<'d>)>
+    ensures { option_map typed result ≡ there (unless_null_value present (tree schema.now, view datum.now)) }
 {
-    match (schema, datum) {
-        (Schema::Union(branches), Datum::Union(branch, chosen)) => {
-            Some((branch_at(branches, *branch)?, chosen))
-        }
-        _ => Some((schema, datum)),
-    }
-}
-
-/// The same, unless it is null.
-pub fn itself<'a>(schema: &'a Schema, datum: &'a Datum) -> Option<(&'a Schema, &'a Datum)>
-    ensures { option_map typed result ≡ there (pick_value [] (tree schema.now, view datum.now)) }
-{
-    let (schema, datum) = bare(schema, datum)?;
     match datum {
         Datum::Null => None,
         _ => Some((schema, datum)),
     }
 }
 
+/// The value itself, of a union that of the branch that it chose; none where it is null.
+pub fn itself<'a, 'd>(
+    schema: &'a Schema,
+    datum: &'a Datum<'d>,
+) -> Option<(&'a Schema, &'a Datum<'d>)>
+    ensures { option_map typed result ≡ there (pick_value [] (tree schema.now, view datum.now)) }
+{
+    match (schema, datum) {
+        (_, Datum::Null) => None,
+        (Schema::Union(_), Datum::NullBranch(_)) => None,
+        (Schema::Union(branches), Datum::Union(branch, chosen)) => {
+            let schema = branch_at(branches, *branch)?;
+            unless_null(schema, chosen)
+        }
+        _ => Some((schema, datum)),
+    }
+}
+
 /// What stands at the field with this id; none where it is absent or null.
-pub fn pick<'a>(
+pub fn pick<'a, 'd>(
     fields: &'a [Field],
-    values: &'a [Datum],
+    values: &'a [Datum<'d>],
     id: i32,
-) -> Option<(&'a Schema, &'a Datum)>
+) -> Option<(&'a Schema, &'a Datum<'d>)>
     ensures { option_map typed result ≡ there (at id (object fields.now values.now)) }
 {
     let (schema, datum) = find(fields, values, id)?;
     itself(schema, datum)
 }
 
-/// The field with this id, its type and its value, moved out.
-fn take_field<'a>(
+/// The record at the field with this id.
+pub fn pick_record<'a, 'd>(
     fields: &'a [Field],
-    mut values: Vec<Datum>,
+    values: &'a [Datum<'d>],
     id: i32,
-) -> Option<(&'a Schema, Datum)>
-    ensures { option_map typed_out result ≡ field_value id (fields_seen fields.now) (values_seen values.items) }
+) -> Option<(&'a [Field], &'a [Datum<'d>])>
+    ensures { option_map record_lent result ≡ record_of (there (at id (object fields.now values.now))) }
 {
-    let position = position_of(fields, id)?;
-    if position < values.len() {
-        Some((&fields[position].schema, values.swap_remove(position)))
-    } else {
-        None
-    }
-}
-
-/// The value itself, moved out; of a union that of the branch that it chose.
-fn bared(schema: &Schema, datum: Datum) -> Option<(&Schema, Datum)>
-    ensures { option_map typed_out result ≡ bare_value (tree schema.now, view datum) }
-{
-    match (schema, datum) {
-        (Schema::Union(branches), Datum::Union(branch, chosen)) => {
-            Some((branch_at(branches, branch)?, Box::into_inner(chosen)))
-        }
-        (_, datum) => Some((schema, datum)),
-    }
-}
-
-/// What stands at the field with this id, moved out; none where it is absent or null.
-pub fn take<'a>(fields: &'a [Field], values: Vec<Datum>, id: i32) -> Option<(&'a Schema, Datum)>
-    ensures { option_map typed_out result ≡ there (at id (object fields.now values.items)) }
-{
-    let (schema, datum) = take_field(fields, values, id)?;
-    let (schema, datum) = bared(schema, datum)?;
-    match datum {
-        Datum::Null => None,
-        datum => Some((schema, datum)),
-    }
-}
-
-/// The values of a record, moved out.
-pub fn record_values(datum: Datum) -> Option<Vec<Datum>>
-    ensures { option_map (λ v. fields (values_seen v.items)) result ≡ as_record (view datum) }
-{
-    match datum {
-        Datum::Record(values) => Some(values),
+    match pick(fields, values, id)? {
+        (Schema::Record(fields), Datum::Record(values)) => Some((fields, values)),
         _ => None,
     }
 }
 
-/// The record at the field with this id, moved out.
-pub fn take_record<'a>(
-    fields: &'a [Field],
-    values: Vec<Datum>,
-    id: i32,
-) -> Option<(&'a [Field], Vec<Datum>)>
-    ensures { option_map record_out result ≡ record_of (there (at id (object fields.now values.items))) }
+/// The values of a record.
+pub fn record_values<'a, 'd>(datum: &'a Datum<'d>) -> Option<&'a [Datum<'d>]>
+    ensures { option_map (λ v. fields (values_seen v.now)) result ≡ as_record (view datum.now) }
 {
-    match take(fields, values, id)? {
-        (Schema::Record(fields), Datum::Record(values)) => Some((fields, values)),
+    match datum {
+        Datum::Record(values) => Some(values),
         _ => None,
     }
 }

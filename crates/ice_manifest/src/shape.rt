@@ -4,11 +4,14 @@ ghost use Rattle.std.specs.Prelude.{◌≡◌, [], ◌∷◌, option_map, Some};
 ghost use Rattle.avro_schema.specs.View.{tree, trees, branches_of as branches_of_trees};
 ghost use Rattle.ice_manifest.specs.Kinds.{wanted};
 ghost use Rattle.ice_manifest.specs.Seen.{result_map, fields_seen};
-ghost use Rattle.ice_manifest.specs.Schemas.{type_at as type_said, required as required_type, optional as optional_type, has_items as has_items_wanted, items_in, branches_in, each_branch, lists_wholes as list_of_wholes, summary_fields as fields_of_summary, is_summary, lists_summaries as list_of_summaries, count_fields as fields_of_counts, row_fields as fields_of_row, file_fields as fields_of_file, is_file, entry_fields as fields_of_entry, fields_in};
+ghost use Rattle.ice_manifest.specs.Schemas.{type_at as type_said, required as required_type, optional as optional_type, has_items as has_items_wanted, items_in, branches_in, each_branch, lists_wholes as list_of_wholes, summary_fields as fields_of_summary, is_summary, lists_summaries as list_of_summaries, count_fields as fields_of_counts, row_fields as fields_of_row, ids_fit, file_fields as fields_of_file, is_file, entry_fields as fields_of_entry, fields_in};
 
+use crate::columns::check_column_fields;
 use crate::fault::FieldFault;
 use crate::kind::{Kind, fits};
+use crate::tuple::{check_tuples, tuple_in};
 use avro_schema::{Field, Schema};
+use ice_meta::{PartitionField, Spec};
 
 /// The fields of a record. Any other type has none.
 pub fn fields_of(schema: &Schema) -> &[Field]
@@ -21,7 +24,7 @@ pub fn fields_of(schema: &Schema) -> &[Field]
 }
 
 /// The type of the field with this id.
-fn type_at(fields: &[Field], id: i32) -> Option<&Schema>
+pub fn type_at(fields: &[Field], id: i32) -> Option<&Schema>
     ensures { option_map (λ s. tree s.now) result ≡ type_said id (fields_seen fields.now) }
 {
     'fields: for field in fields {
@@ -34,7 +37,7 @@ fn type_at(fields: &[Field], id: i32) -> Option<&Schema>
 
 /// The type of the field with this id, which has to be there and to be of the kind.
 #[tactic(auto, unfolding(crate::specs::Schemas::required))]
-fn required(fields: &[Field], kind: Kind, id: i32) -> Result<&Schema, FieldFault>
+pub fn required(fields: &[Field], kind: Kind, id: i32) -> Result<&Schema, FieldFault>
     ensures { result_map (λ s. tree s.now) result ≡ required_type (wanted kind) id (fields_seen fields.now) }
 {
     let Some(schema) = type_at(fields, id) else {
@@ -49,7 +52,7 @@ fn required(fields: &[Field], kind: Kind, id: i32) -> Result<&Schema, FieldFault
 
 /// The type of the field with this id, which has to be of the kind if it is there.
 #[tactic(auto, unfolding(crate::specs::Schemas::optional))]
-fn optional(fields: &[Field], kind: Kind, id: i32) -> Result<Option<&Schema>, FieldFault>
+pub fn optional(fields: &[Field], kind: Kind, id: i32) -> Result<Option<&Schema>, FieldFault>
     ensures { result_map (option_map (λ s. tree s.now)) result ≡ optional_type (wanted kind) id (fields_seen fields.now) }
 {
     let Some(schema) = type_at(fields, id) else {
@@ -63,7 +66,7 @@ fn optional(fields: &[Field], kind: Kind, id: i32) -> Result<Option<&Schema>, Fi
 }
 
 /// The branches of a union. Any other type is its own one branch.
-fn branches_of(schema: &Schema) -> &[Schema]
+pub fn branches_of(schema: &Schema) -> &[Schema]
     ensures { branches_of_trees (trees result.now) ≡ branches_in (tree schema.now) }
 {
     match schema {
@@ -73,7 +76,7 @@ fn branches_of(schema: &Schema) -> &[Schema]
 }
 
 /// Whether the items of a list are of the kind.
-fn has_items(kind: Kind, schema: &Schema) -> bool
+pub fn has_items(kind: Kind, schema: &Schema) -> bool
     ensures { result ≡ has_items_wanted (wanted kind) (tree schema.now) }
 {
     match schema {
@@ -83,7 +86,7 @@ fn has_items(kind: Kind, schema: &Schema) -> bool
 }
 
 /// The types of the items of a list. Any other type has none.
-fn items_of(schema: &Schema) -> &[Schema]
+pub fn items_of(schema: &Schema) -> &[Schema]
     ensures { branches_of_trees (trees result.now) ≡ items_in (tree schema.now) }
 {
     match schema {
@@ -111,6 +114,17 @@ fn check_lists_of_wholes(branches: &[Schema]) -> Result<(), FieldFault>
         check_wholes(branch)?;
     }
     Ok(())
+}
+
+/// The equality ids fit, if they are there.
+#[tactic(auto, unfolding(crate::specs::Schemas::ids_fit, crate::specs::Kinds::wanted))]
+fn check_ids(fields: &[Field]) -> Result<(), FieldFault>
+    ensures { result ≡ ids_fit (fields_seen fields.now) }
+{
+    match optional(fields, Kind::List, 135)? {
+        Some(ids) => check_lists_of_wholes(branches_of(ids)),
+        None => Ok(()),
+    }
 }
 
 #[tactic(auto, unfolding(crate::specs::Schemas::summary_fields, crate::specs::Kinds::wanted))]
@@ -196,46 +210,49 @@ pub fn check_row_fields(fields: &[Field]) -> Result<(), FieldFault>
 }
 
 #[tactic(auto, unfolding(crate::specs::Schemas::file_fields, crate::specs::Kinds::wanted))]
-fn check_file_fields(fields: &[Field]) -> Result<(), FieldFault>
-    ensures { result ≡ fields_of_file (fields_seen fields.now) }
+fn check_file_fields(partition: &[PartitionField], fields: &[Field]) -> Result<(), FieldFault>
+    ensures { result ≡ fields_of_file partition.now (fields_seen fields.now) }
 {
     required(fields, Kind::Whole, 134)?;
     required(fields, Kind::Text, 100)?;
+    let tuple = tuple_in(partition, fields)?;
     required(fields, Kind::Whole, 103)?;
     required(fields, Kind::Whole, 104)?;
-    match optional(fields, Kind::List, 135)? {
-        Some(ids) => check_lists_of_wholes(branches_of(ids)),
+    check_column_fields(fields)?;
+    check_ids(fields)?;
+    match tuple {
+        Some(tuple) => check_tuples(partition, branches_of(tuple)),
         None => Ok(()),
     }
 }
 
-fn check_file(schema: &Schema) -> Result<(), FieldFault>
-    ensures { result ≡ is_file (tree schema.now) }
+fn check_file(partition: &[PartitionField], schema: &Schema) -> Result<(), FieldFault>
+    ensures { result ≡ is_file partition.now (tree schema.now) }
 {
     match schema {
-        Schema::Record(fields) => check_file_fields(fields),
+        Schema::Record(fields) => check_file_fields(partition, fields),
         _ => Ok(()),
     }
 }
 
-fn check_files(branches: &[Schema]) -> Result<(), FieldFault>
-    ensures { result ≡ each_branch is_file (branches_of_trees (trees branches.now)) }
+fn check_files(partition: &[PartitionField], branches: &[Schema]) -> Result<(), FieldFault>
+    ensures { result ≡ each_branch (is_file partition.now) (branches_of_trees (trees branches.now)) }
 {
     'branches: for branch in branches {
-        check_file(branch)?;
+        check_file(partition, branch)?;
     }
     Ok(())
 }
 
-/// The fields of a manifest's entry are there and fit; or the first fault.
+/// The fields of an entry of a manifest of this spec are there and fit; or the first fault.
 #[tactic(auto, unfolding(crate::specs::Schemas::entry_fields, crate::specs::Kinds::wanted))]
-pub fn check_entry_fields(fields: &[Field]) -> Result<(), FieldFault>
-    ensures { result ≡ fields_of_entry (fields_seen fields.now) }
+pub fn check_entry_fields(spec: &Spec, fields: &[Field]) -> Result<(), FieldFault>
+    ensures { result ≡ fields_of_entry spec.now (fields_seen fields.now) }
 {
     required(fields, Kind::Whole, 0)?;
     optional(fields, Kind::Whole, 1)?;
     optional(fields, Kind::Whole, 3)?;
     optional(fields, Kind::Whole, 4)?;
     let file = required(fields, Kind::Record, 2)?;
-    check_files(branches_of(file))
+    check_files(spec.fields.as_slice(), branches_of(file))
 }

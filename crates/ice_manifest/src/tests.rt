@@ -5,14 +5,16 @@ use crate::{
     read_manifest,
 };
 use contract_words::{Items, Text};
-use ice_meta::Spec;
+use ice_meta::{PartitionField, Spec};
 use ice_value::{SequenceNumber, Summary};
 use std::alloc::{AllocError, Global};
 use std::test::*;
 
+mod columns;
 mod faults;
 mod lists;
 mod manifests;
+mod tuples;
 mod whole;
 
 const NO_COUNTS: Counts = Counts {
@@ -36,6 +38,17 @@ fn row(alloc: Global, content: ManifestContent, sequence_number: u64) -> Result<
         added_snapshot_id: 1,
         counts: NO_COUNTS,
         partitions: None,
+    })
+}
+
+/// A partition field that has the values of this column.
+fn field_of(alloc: Global, source_id: i32, field_id: i32) -> Result<PartitionField, AllocError> {
+    Ok(PartitionField {
+        source_id,
+        field_id,
+        name: Text::from_string(String::from_str(alloc, "p")?),
+        transform: Text::from_string(String::from_str(alloc, "identity")?),
+        source_type: None,
     })
 }
 

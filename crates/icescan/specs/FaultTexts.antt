@@ -63,6 +63,7 @@ manifest_text (manifest.OutOfRange id) = named_signed (codes "N4 OutOfRange ") i
 manifest_text manifest.BadStatus = codes "N5 BadStatus"
 manifest_text manifest.BadContent = codes "N6 BadContent"
 manifest_text manifest.NoSequence = codes "N7 NoSequence"
+manifest_text (manifest.FloatPartition id) = named_signed (codes "N8 FloatPartition ") id
 manifest_text manifest.Memory = codes "N10 Memory"
 
 unfoldable pub scan_text : ScanFault → List ℕ

@@ -146,6 +146,7 @@ fn put_manifest_fault<S: Sink>(sink: &mut S, fault: &ManifestFault) -> Result<()
         ManifestFault::BadStatus => write_all(sink, b"N5 BadStatus"),
         ManifestFault::BadContent => write_all(sink, b"N6 BadContent"),
         ManifestFault::NoSequence => write_all(sink, b"N7 NoSequence"),
+        ManifestFault::FloatPartition(id) => put_named_int(sink, b"N8 FloatPartition ", *id),
         ManifestFault::Memory => write_all(sink, b"N10 Memory"),
     }
 }

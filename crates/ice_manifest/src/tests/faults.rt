@@ -2,10 +2,11 @@
 
 use super::*;
 
-/// When a fault is found: as the types are looked at, in an object after that, or never.
+/// When a fault is found: as the types are looked at, at last those of partition values, in an object after that, or never.
 #[derive(Clone, Copy, Debug, PartialEq, Eq, PartialOrd, Ord)]
 enum Stage {
     Types,
+    Cells,
     Objects,
     Never,
 }
@@ -26,6 +27,7 @@ struct Case<'a> {
 fn stage_of(name: &str) -> Result<Stage, Fail> {
     match name {
         "types" => Ok(Stage::Types),
+        "cells" => Ok(Stage::Cells),
         "objects" => Ok(Stage::Objects),
         "never" => Ok(Stage::Never),
         _ => Err("a stage")?,
@@ -301,9 +303,14 @@ const USUAL_ENTRY: &str = r#"0 0 "int" | 02 | never
 
 const USUAL_FILE: &str = r#"5 134 "int" | 00 | never
 6 100 "string" | 02 61 | never
-7 103 "long" | 00 | never
-8 104 "long" | 00 | never
-9 135 ["null",{"type":"array","items":"int"}] | 00 | never"#;
+7 102 {"type":"record","name":"p","fields":[{"name":"a","type":"int","field-id":1000},{"name":"b","type":["null","string"],"field-id":1001}]} | 02 00 | never
+8 103 "long" | 00 | never
+9 104 "long" | 00 | never
+10 109 ["null",{"type":"array","items":{"type":"record","name":"m109","fields":[{"name":"k","type":"int","field-id":119},{"name":"v","type":"long","field-id":120}]},"logicalType":"map"}] | 00 | never
+11 110 ["null",{"type":"array","items":{"type":"record","name":"m110","fields":[{"name":"k","type":"int","field-id":121},{"name":"v","type":"long","field-id":122}]},"logicalType":"map"}] | 00 | never
+12 125 ["null",{"type":"array","items":{"type":"record","name":"m125","fields":[{"name":"k","type":"int","field-id":126},{"name":"v","type":"bytes","field-id":127}]},"logicalType":"map"}] | 00 | never
+13 128 ["null",{"type":"array","items":{"type":"record","name":"m128","fields":[{"name":"k","type":"int","field-id":129},{"name":"v","type":"bytes","field-id":130}]},"logicalType":"map"}] | 00 | never
+14 135 ["null",{"type":"array","items":"int"}] | 00 | never"#;
 
 const ENTRIES: &str = r#"0 - "int" | 02 | types MissingField(0)
 0 0 "string" | 00 | types WrongFieldType(0)
@@ -332,20 +339,85 @@ const ENTRIES: &str = r#"0 - "int" | 02 | types MissingField(0)
 6 - "string" | 02 61 | types MissingField(100)
 6 100 "bytes" | 00 | types WrongFieldType(100)
 6 100 ["string","null"] | 02 | objects MissingField(100)
-7 - "long" | 00 | types MissingField(103)
-7 103 "string" | 00 | types WrongFieldType(103)
-7 103 ["null","long"] | 00 | objects MissingField(103)
-7 103 "long" | 01 | never
-8 - "long" | 00 | types MissingField(104)
-8 104 ["long","boolean"] | 00 00 | types WrongFieldType(104)
-8 104 ["null","long"] | 00 | objects MissingField(104)
-8 104 "int" | 01 | never
-9 - "bytes" | 00 | never
-9 135 {"type":"map","values":"int"} | 00 | types WrongFieldType(135)
-9 135 {"type":"array","items":"string"} | 00 | types WrongFieldType(136)
-9 135 {"type":"array","items":["null","int"]} | 04 02 06 00 00 | objects MissingField(136)
-9 135 {"type":"array","items":"long"} | 04 02 80 80 80 80 10 00 | objects OutOfRange(136)
-9 135 {"type":"array","items":"long"} | 02 81 80 80 80 10 00 | objects OutOfRange(136)"#;
+7 - {"type":"record","name":"p","fields":[{"name":"a","type":"int","field-id":1000},{"name":"b","type":["null","string"],"field-id":1001}]} | 02 00 | types MissingField(102)
+7 102 "int" | 02 | types WrongFieldType(102)
+7 102 ["null"] | 00 | types WrongFieldType(102)
+7 102 ["null",{"type":"record","name":"p","fields":[{"name":"a","type":"int","field-id":1000},{"name":"b","type":["null","string"],"field-id":1001}]}] | 00 | objects MissingField(102)
+7 102 {"type":"record","name":"p","fields":[{"name":"a","type":"int","field-id":1000}]} | 02 | cells MissingField(1001)
+7 102 {"type":"record","name":"p","fields":[{"name":"b","type":["null","string"],"field-id":1001}]} | 00 | cells MissingField(1000)
+7 102 {"type":"record","name":"p","fields":[{"name":"a","type":"int","field-id":1},{"name":"b","type":"string","field-id":2}]} | 02 00 | cells MissingField(1000)
+7 102 {"type":"record","name":"p","fields":[{"name":"a","type":"double","field-id":1000},{"name":"b","type":["null","string"],"field-id":1001}]} | 00 00 00 00 00 00 00 00 00 | cells FloatPartition(1000)
+7 102 {"type":"record","name":"p","fields":[{"name":"a","type":"int","field-id":1000},{"name":"b","type":["null","float"],"field-id":1001}]} | 02 00 | cells FloatPartition(1001)
+7 102 {"type":"record","name":"p","fields":[{"name":"b","type":"double","field-id":1001},{"name":"a","type":{"type":"array","items":"int"},"field-id":1000}]} | 00 00 00 00 00 00 00 00 00 | cells WrongFieldType(1000)
+7 102 {"type":"record","name":"p","fields":[{"name":"a","type":["null","double",{"type":"map","values":"int"}],"field-id":1000},{"name":"b","type":["null","string"],"field-id":1001}]} | 00 00 | cells FloatPartition(1000)
+7 102 {"type":"record","name":"p","fields":[{"name":"a","type":["null",{"type":"map","values":"int"},"double"],"field-id":1000},{"name":"b","type":["null","string"],"field-id":1001}]} | 00 00 | cells WrongFieldType(1000)
+7 102 {"type":"record","name":"p","fields":[{"name":"a","type":"null","field-id":1000},{"name":"b","type":["null"],"field-id":1001}]} | 00 | never
+8 - "long" | 00 | types MissingField(103)
+8 103 "string" | 00 | types WrongFieldType(103)
+8 103 ["null","long"] | 00 | objects MissingField(103)
+8 103 "long" | 01 | never
+9 - "long" | 00 | types MissingField(104)
+9 104 ["long","boolean"] | 00 00 | types WrongFieldType(104)
+9 104 ["null","long"] | 00 | objects MissingField(104)
+9 104 "int" | 01 | never
+10 - "bytes" | 00 | never
+10 109 "bytes" | 00 | types WrongFieldType(109)
+10 109 {"type":"map","values":"long"} | 00 | types WrongFieldType(109)
+10 109 {"type":"array","items":"long","logicalType":"map"} | 00 | types WrongFieldType(109)
+10 109 {"type":"array","items":{"type":"record","name":"m109","fields":[{"name":"v","type":"long","field-id":120}]},"logicalType":"map"} | 00 | types MissingField(119)
+10 109 {"type":"array","items":{"type":"record","name":"m109","fields":[{"name":"v","type":"string","field-id":120},{"name":"k","type":"string","field-id":119}]},"logicalType":"map"} | 00 | types WrongFieldType(119)
+10 109 {"type":"array","items":{"type":"record","name":"m109","fields":[{"name":"k","type":"int","field-id":119}]},"logicalType":"map"} | 00 | types MissingField(120)
+10 109 {"type":"array","items":{"type":"record","name":"m109","fields":[{"name":"v","type":"string","field-id":120},{"name":"k","type":"int","field-id":119}]},"logicalType":"map"} | 00 | types WrongFieldType(120)
+10 109 {"type":"array","items":{"type":"record","name":"m109","fields":[{"name":"k","type":["null","int"],"field-id":119},{"name":"v","type":"long","field-id":120}]},"logicalType":"map"} | 02 00 00 00 | objects MissingField(119)
+10 109 {"type":"array","items":{"type":"record","name":"m109","fields":[{"name":"k","type":"long","field-id":119},{"name":"v","type":"long","field-id":120}]},"logicalType":"map"} | 02 80 80 80 80 10 00 00 | objects OutOfRange(119)
+10 109 {"type":"array","items":{"type":"record","name":"m109","fields":[{"name":"k","type":"int","field-id":119},{"name":"v","type":["null","long"],"field-id":120}]},"logicalType":"map"} | 02 02 00 00 | objects MissingField(120)
+10 109 {"type":"array","items":["null",{"type":"record","name":"m109","fields":[{"name":"k","type":"int","field-id":119},{"name":"v","type":"long","field-id":120}]}],"logicalType":"map"} | 02 00 00 | objects MissingField(119)
+10 109 {"type":"array","items":{"type":"record","name":"m109","fields":[{"name":"k","type":"long","field-id":119},{"name":"v","type":"long","field-id":120}]}} | 04 02 00 01 00 00 | never
+11 - "bytes" | 00 | never
+11 110 "bytes" | 00 | types WrongFieldType(110)
+11 110 {"type":"map","values":"long"} | 00 | types WrongFieldType(110)
+11 110 {"type":"array","items":"long","logicalType":"map"} | 00 | types WrongFieldType(110)
+11 110 {"type":"array","items":{"type":"record","name":"m110","fields":[{"name":"v","type":"long","field-id":122}]},"logicalType":"map"} | 00 | types MissingField(121)
+11 110 {"type":"array","items":{"type":"record","name":"m110","fields":[{"name":"v","type":"bytes","field-id":122},{"name":"k","type":"string","field-id":121}]},"logicalType":"map"} | 00 | types WrongFieldType(121)
+11 110 {"type":"array","items":{"type":"record","name":"m110","fields":[{"name":"k","type":"int","field-id":121}]},"logicalType":"map"} | 00 | types MissingField(122)
+11 110 {"type":"array","items":{"type":"record","name":"m110","fields":[{"name":"v","type":"bytes","field-id":122},{"name":"k","type":"int","field-id":121}]},"logicalType":"map"} | 00 | types WrongFieldType(122)
+11 110 {"type":"array","items":{"type":"record","name":"m110","fields":[{"name":"k","type":["null","int"],"field-id":121},{"name":"v","type":"long","field-id":122}]},"logicalType":"map"} | 02 00 00 00 | objects MissingField(121)
+11 110 {"type":"array","items":{"type":"record","name":"m110","fields":[{"name":"k","type":"long","field-id":121},{"name":"v","type":"long","field-id":122}]},"logicalType":"map"} | 02 80 80 80 80 10 00 00 | objects OutOfRange(121)
+11 110 {"type":"array","items":{"type":"record","name":"m110","fields":[{"name":"k","type":"int","field-id":121},{"name":"v","type":["null","long"],"field-id":122}]},"logicalType":"map"} | 02 02 00 00 | objects MissingField(122)
+11 110 {"type":"array","items":["null",{"type":"record","name":"m110","fields":[{"name":"k","type":"int","field-id":121},{"name":"v","type":"long","field-id":122}]}],"logicalType":"map"} | 02 00 00 | objects MissingField(121)
+11 110 {"type":"array","items":{"type":"record","name":"m110","fields":[{"name":"k","type":"long","field-id":121},{"name":"v","type":"long","field-id":122}]}} | 04 02 00 01 00 00 | never
+12 - "bytes" | 00 | never
+12 125 "bytes" | 00 | types WrongFieldType(125)
+12 125 {"type":"map","values":"long"} | 00 | types WrongFieldType(125)
+12 125 {"type":"array","items":"long","logicalType":"map"} | 00 | types WrongFieldType(125)
+12 125 {"type":"array","items":{"type":"record","name":"m125","fields":[{"name":"v","type":"bytes","field-id":127}]},"logicalType":"map"} | 00 | types MissingField(126)
+12 125 {"type":"array","items":{"type":"record","name":"m125","fields":[{"name":"v","type":"long","field-id":127},{"name":"k","type":"string","field-id":126}]},"logicalType":"map"} | 00 | types WrongFieldType(126)
+12 125 {"type":"array","items":{"type":"record","name":"m125","fields":[{"name":"k","type":"int","field-id":126}]},"logicalType":"map"} | 00 | types MissingField(127)
+12 125 {"type":"array","items":{"type":"record","name":"m125","fields":[{"name":"v","type":"long","field-id":127},{"name":"k","type":"int","field-id":126}]},"logicalType":"map"} | 00 | types WrongFieldType(127)
+12 125 {"type":"array","items":{"type":"record","name":"m125","fields":[{"name":"k","type":["null","int"],"field-id":126},{"name":"v","type":"bytes","field-id":127}]},"logicalType":"map"} | 02 00 00 00 | objects MissingField(126)
+12 125 {"type":"array","items":{"type":"record","name":"m125","fields":[{"name":"k","type":"long","field-id":126},{"name":"v","type":"bytes","field-id":127}]},"logicalType":"map"} | 02 80 80 80 80 10 00 00 | objects OutOfRange(126)
+12 125 {"type":"array","items":{"type":"record","name":"m125","fields":[{"name":"k","type":"int","field-id":126},{"name":"v","type":["null","bytes"],"field-id":127}]},"logicalType":"map"} | 02 02 00 00 | objects MissingField(127)
+12 125 {"type":"array","items":["null",{"type":"record","name":"m125","fields":[{"name":"k","type":"int","field-id":126},{"name":"v","type":"bytes","field-id":127}]}],"logicalType":"map"} | 02 00 00 | objects MissingField(126)
+12 125 {"type":"array","items":{"type":"record","name":"m125","fields":[{"name":"k","type":"long","field-id":126},{"name":"v","type":"bytes","field-id":127}]}} | 04 02 00 01 00 00 | never
+13 - "bytes" | 00 | never
+13 128 "bytes" | 00 | types WrongFieldType(128)
+13 128 {"type":"map","values":"long"} | 00 | types WrongFieldType(128)
+13 128 {"type":"array","items":"long","logicalType":"map"} | 00 | types WrongFieldType(128)
+13 128 {"type":"array","items":{"type":"record","name":"m128","fields":[{"name":"v","type":"bytes","field-id":130}]},"logicalType":"map"} | 00 | types MissingField(129)
+13 128 {"type":"array","items":{"type":"record","name":"m128","fields":[{"name":"v","type":"string","field-id":130},{"name":"k","type":"string","field-id":129}]},"logicalType":"map"} | 00 | types WrongFieldType(129)
+13 128 {"type":"array","items":{"type":"record","name":"m128","fields":[{"name":"k","type":"int","field-id":129}]},"logicalType":"map"} | 00 | types MissingField(130)
+13 128 {"type":"array","items":{"type":"record","name":"m128","fields":[{"name":"v","type":"string","field-id":130},{"name":"k","type":"int","field-id":129}]},"logicalType":"map"} | 00 | types WrongFieldType(130)
+13 128 {"type":"array","items":{"type":"record","name":"m128","fields":[{"name":"k","type":["null","int"],"field-id":129},{"name":"v","type":"bytes","field-id":130}]},"logicalType":"map"} | 02 00 00 00 | objects MissingField(129)
+13 128 {"type":"array","items":{"type":"record","name":"m128","fields":[{"name":"k","type":"long","field-id":129},{"name":"v","type":"bytes","field-id":130}]},"logicalType":"map"} | 02 80 80 80 80 10 00 00 | objects OutOfRange(129)
+13 128 {"type":"array","items":{"type":"record","name":"m128","fields":[{"name":"k","type":"int","field-id":129},{"name":"v","type":["null","bytes"],"field-id":130}]},"logicalType":"map"} | 02 02 00 00 | objects MissingField(130)
+13 128 {"type":"array","items":["null",{"type":"record","name":"m128","fields":[{"name":"k","type":"int","field-id":129},{"name":"v","type":"bytes","field-id":130}]}],"logicalType":"map"} | 02 00 00 | objects MissingField(129)
+13 128 {"type":"array","items":{"type":"record","name":"m128","fields":[{"name":"k","type":"long","field-id":129},{"name":"v","type":"bytes","field-id":130}]}} | 04 02 00 01 00 00 | never
+14 - "bytes" | 00 | never
+14 135 {"type":"map","values":"int"} | 00 | types WrongFieldType(135)
+14 135 {"type":"array","items":"string"} | 00 | types WrongFieldType(136)
+14 135 {"type":"array","items":["null","int"]} | 04 02 06 00 00 | objects MissingField(136)
+14 135 {"type":"array","items":"long"} | 04 02 80 80 80 80 10 00 | objects OutOfRange(136)
+14 135 {"type":"array","items":"long"} | 02 81 80 80 80 10 00 | objects OutOfRange(136)"#;
 
 /// The usual fields of an entry and of its data file, and the row of their manifest.
 #[derive(Drop)]
@@ -353,6 +425,16 @@ struct Usual<'a> {
     entry: Vec<Case<'a>>,
     file: Vec<Case<'a>>,
     row: Row,
+    spec: Spec,
+}
+
+/// A spec of two partition fields, whose ids are those of no columns.
+fn two_fields(alloc: Global, id: i32) -> Result<Spec, Fail> {
+    let mut fields = Items::new(alloc);
+    for (source_id, field_id) in [(1, 1000), (2, 1001)] {
+        fields.push(field_of(alloc, source_id, field_id)?)?;
+    }
+    Ok(Spec { id, fields })
 }
 
 /// What is wrong with a manifest of one such entry; nothing where it is read.
@@ -364,15 +446,14 @@ fn fault_of_entry<'a>(
 ) -> Result<String, Fail> {
     let file = with_cases(alloc, &usual.file, (one, other), &nothing(alloc))?;
     let entry = with_cases(alloc, &usual.entry, (one, other), &file)?;
-    let row = &usual.row;
-    let spec = Spec::empty(alloc, row.spec_id);
-    match read_manifest(alloc, row, &spec, &file_of(alloc, &entry)?) {
+    match read_manifest(alloc, &usual.row, &usual.spec, &file_of(alloc, &entry)?) {
         Ok(_) => Ok(String::new(alloc)),
         Err(fault) => Ok(format!(in alloc; "{fault:?}")?),
     }
 }
 
-/// What is read otherwise than it should be of one case alone, and before each of those that stand behind it.
+/// What is read otherwise than it should be of one case alone, before each of those of the next field, and before every
+/// seventh of those that stand behind them.
 fn wrong_entry<'a>(
     alloc: Global,
     usual: &Usual<'a>,
@@ -382,8 +463,9 @@ fn wrong_entry<'a>(
     let mut wrong = String::new(alloc);
     let found = fault_of_entry(alloc, usual, one, one)?;
     push_unless(&mut wrong, &found, one, one)?;
-    for other in cases {
-        if one.position < other.position {
+    for (i, other) in cases.iter().enumerate() {
+        let further = other.position.wrapping_sub(one.position);
+        if further == 1 || one.position < other.position && i % 7 == 0 {
             let found = fault_of_entry(alloc, usual, one, other)?;
             push_unless(&mut wrong, &found, one, other)?;
         }
@@ -398,6 +480,7 @@ fn faults_of_entries(rt: HostRuntime) -> Result<(), Fail> {
         entry: cases_of(rt.alloc(), USUAL_ENTRY)?,
         file: cases_of(rt.alloc(), USUAL_FILE)?,
         row: row(rt.alloc(), ManifestContent::Data, 7)?,
+        spec: two_fields(rt.alloc(), 7)?,
     };
     let cases = cases_of(rt.alloc(), ENTRIES)?;
     for _ in 0..2 {

@@ -213,6 +213,11 @@ fn lines_of_a_manifest(rt: HostRuntime) -> Result<(), Fail> {
         (ManifestFault::BadStatus, "Z2 Bad m N5 BadStatus\n", 1),
         (ManifestFault::BadContent, "Z2 Bad m N6 BadContent\n", 1),
         (ManifestFault::NoSequence, "Z2 Bad m N7 NoSequence\n", 1),
+        (
+            ManifestFault::FloatPartition(1000),
+            "Z2 Bad m N8 FloatPartition 1000\n",
+            1,
+        ),
         (ManifestFault::Memory, "Z2 Bad m N10 Memory\n", 5),
     ];
     for (fault, line, status) in rows {

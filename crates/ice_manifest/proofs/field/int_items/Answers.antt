@@ -4,7 +4,6 @@ use Rattle.std.proofs.lemmas.Int.{to_z-of_z}
 use Rattle.std.proofs.lemmas.Result.{err_from_is_err_and}
 use Rattle.avro_schema.specs.View.{tree}
 use Rattle.ice_manifest.specs.Naming.{in_manifest, told}
-use Rattle.ice_manifest.specs.Fields.{int_item}
 use Rattle.ice_manifest.proofs.Reading.{joined}
 use Rattle.ice_manifest.proofs.Steps.{item_next, item_stops_at, items_done}
 use Rattle.ice_manifest.proofs.field.int_items.Goals as goal

@@ -8,7 +8,7 @@ use Rattle.ice_manifest.proofs.manifest.all_entries.Given as goal
 
 abbrev pub invariant-objects : goal.invariant-objects
 invariant-objects l =
-    (joined l.found.items (entries_ahead l.row l.unpartitioned (fields_seen l.fields) l.position (ahead l.reader)) ≡ entries_ahead l.row l.unpartitioned (fields_seen l.fields) 0 (ahead l.initial.reader))
+    (joined l.found.items (entries_ahead l.row l.spec (fields_seen l.fields) l.position (ahead l.reader)) ≡ entries_ahead l.row l.spec (fields_seen l.fields) 0 (ahead l.initial.reader))
     × (l.position + still_ahead (ahead l.reader) ≤ still_ahead (ahead l.initial.reader))
 
 abbrev pub decreases-objects : goal.decreases-objects

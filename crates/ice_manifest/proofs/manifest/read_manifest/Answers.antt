@@ -7,8 +7,8 @@ use Rattle.ice_manifest.proofs.manifest.read_manifest.Goals as goal
 
 pub all_entries-requires : goal.all_entries-requires
 all_entries-requires c =
-    let fits : entry_fields (fields_in (tree_of c.in_ok-container.container)) ≡ Ok tt = ap entry_fields (sym (c.fields_of-fields.ensures ∙ ap fields_in c.schema.ensures)) ∙ sym c.in_ok-check_entry_fields.ensures in
-    let takes = entries_take_bytes (tree_of c.in_ok-container.container) fits in
+    let fits : entry_fields c.args.spec.now (fields_in (tree_of c.in_ok-container.container)) ≡ Ok tt = ap (entry_fields c.args.spec.now) (sym (c.fields_of-fields.ensures ∙ ap fields_in c.schema.ensures)) ∙ sym c.in_ok-check_entry_fields.ensures in
+    let takes = entries_take_bytes c.args.spec.now (tree_of c.in_ok-container.container) fits in
     let few = c.objects_take_bytes.ensures c.args.bytes.now (opened c.in_ok-container.container) c.in_ok-container.ensures.exact takes in
     let here : still_ahead (ahead c.objects.result) ≤ length c.args.bytes.now = rw c.objects.ensures.ahead few in
     omega (arith, here, c.well_formed)

@@ -1,4 +1,4 @@
-use Rattle.std.proofs.Common.{◌≡◌, sym, refl, arith, rules, w32}
+use Rattle.std.proofs.Common.{◌≡◌, sym, arith, rules, w32}
 use mir.Val.{to_z, of_z}
 use Rattle.std.proofs.lemmas.Int.{to_z-of_z}
 use Rattle.ice_manifest.proofs.Steps.{found_nowhere, found_past, found_there}

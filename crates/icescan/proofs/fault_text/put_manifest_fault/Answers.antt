@@ -35,3 +35,7 @@ returns-in-BadContent g c = rw c.in-BadContent.is c.write_all-in-BadContent.ensu
 pub returns-in-NoSequence : goal.returns-in-NoSequence
 unfolding manifest_text
 returns-in-NoSequence g c = rw c.in-NoSequence.is c.write_all-in-NoSequence.ensures
+
+pub returns-in-FloatPartition : goal.returns-in-FloatPartition
+unfolding manifest_text
+returns-in-FloatPartition g c = let fits : SFits w32 c.in-FloatPartition.id = search rules in rw c.in-FloatPartition.is (simp to_z-of_z at c.put_named_int-in-FloatPartition.ensures)

@@ -1,0 +1,5 @@
+use Rattle.ice_manifest.proofs.Decimals.{keeps_the_number, leaves_none_redundant}
+use Rattle.ice_manifest.proofs.laws.decimals_are_kept_shortest.Goals as goal
+
+pub returns : goal.returns
+returns c = record { number = keeps_the_number; front = leaves_none_redundant }
