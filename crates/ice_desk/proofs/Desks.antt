@@ -7,15 +7,13 @@ use Rattle.std.proofs.lemmas.List.Sums.{sum_by-cons, sum_by-append, sum_by_push}
 use Rattle.std.proofs.lemmas.Option.{slice_get_within, get_or_from_slice_get}
 use Rattle.std.proofs.Math.Nat.{mul-le-mul}
 use Rattle.std.proofs.Math.Seq.{get_or-append_seam}
-use mathlib.Core.Option.{none, some, some-injective, some-ne-none}
+use mathlib.Core.Option.{some, some-injective, some-ne-none}
 use lib.ListN.{get_elem?}
-use Rattle.atomic_table.specs.Table.{Me, step, Allows}
 use Rattle.ice_desk.specs.declared.hand.Hand.{Hand}
 use Rattle.ice_desk.specs.declared.desk.Desk.{Desk}
 use Rattle.ice_desk.specs.declared.desk.Seat.{Seat}
 use Rattle.ice_desk.specs.Tickets.{late, times, once_below, one_seat}
 use Rattle.ice_desk.specs.Seats.{limit_of, hand_of, drawn_in, IsSeatOf}
-use Rattle.ice_desk.proofs.Keeps.{Rules}
 
 pub limit_is : (desk : Desk) → desk.table.shared.key.limit ≡ limit_of desk
 limit_is desk = ap (λ k. k.limit) desk.size

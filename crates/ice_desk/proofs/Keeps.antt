@@ -1,15 +1,15 @@
 -- Each step keeps the desk's rule.
-use Rattle.std.proofs.Common.{◌≡◌, ◌≢◌, ⊎_elim, ℕ, zero, suc, ◌+◌, ◌-◌, ◌%◌, ◌^◌, ◌<◌, ◌≤◌, ◌==◌, Bool, true, false, cond, List, [], ◌∷◌, ◌++◌, length, set, replicate, min, sym, refl, ap, ◌∙◌, subst, arith, eq-eqb, ne_eqb, nat_le, slice_index}
+use Rattle.std.proofs.Common.{◌≡◌, ⊎_elim, ℕ, zero, suc, ◌+◌, ◌-◌, ◌%◌, ◌^◌, ◌<◌, ◌≤◌, ◌==◌, Bool, true, false, cond, List, [], ◌∷◌, ◌++◌, length, set, replicate, sym, refl, ap, ◌∙◌, subst, arith, eq-eqb, ne_eqb, nat_le, slice_index}
 use Rattle.std.specs.List.{sum_by}
 use Rattle.std.proofs.lemmas.Bool.{cases_lt, cases_eq, lt-ltb, le-ltb, le-leb}
-use Rattle.std.proofs.lemmas.List.{length-set, get_or-set_same, get_or-set_other, set-get_or, get_or-replicate, get_or_past, length-replicate, length-append}
+use Rattle.std.proofs.lemmas.List.{length-set, get_or-set_same, get_or-replicate, get_or_past, length-replicate, length-append}
 use Rattle.std.proofs.lemmas.List.Sums.{sum_by-cons, sum_by-append, sum_by_push}
 use Rattle.std.proofs.Math.Nat.{mod-eq_of_lt}
 use Rattle.std.proofs.Math.Seq.{take-append_seam}
 use mathlib.Core.Option.{none, some, some-injective, some-ne-none}
 use lib.ListN.{get_elem?}
 use Rattle.atomic_table.specs.Table.{State, Me, step, keeps, Allows, Splits, Joins, Final, Seen}
-use Rattle.atomic_table.proofs.Lists.{at_set, at_snoc, set_else, set_again}
+use Rattle.atomic_table.proofs.Lists.{at_set, at_snoc, set_else}
 use Rattle.ice_desk.specs.declared.hand.Hand.{Hand}
 use Rattle.ice_desk.specs.declared.hand.Size.{Size}
 use Rattle.ice_desk.specs.Tickets.{hand, times, late, once_below, but_last, IsHand, IsKept, opening_hand, one_seat, no_seat, without_one, gathered, drawing, Draws}

@@ -1,12 +1,12 @@
 -- Taking the rows that were not taken, in turn.
-use Rattle.std.proofs.Common.{◌≡◌, ◌<◌, ◌≤◌, ◌⊎◌, inl, inr, ℕ, zero, suc, Bool, true, false, List, [], ◌∷◌, refl, sym, ap, ◌∙◌, length, get_or, replicate, drop, arith, Option, Some, None, is_some, map}
-use Rattle.std.specs.List.{AllByRecursion}
+use Rattle.std.proofs.Common.{◌≡◌, ◌+◌, ◌<◌, ◌≤◌, ◌⊎◌, ⊎_elim, inl, inr, ℕ, zero, suc, Bool, true, false, List, [], ◌∷◌, refl, sym, ap, ◌∙◌, length, get_or, replicate, drop, arith, Some, None, is_some}
+use Rattle.std.proofs.lemmas.Bool.{cases_lt}
 use Rattle.ice_manifest.specs.declared.row.Row.{Row}
-use Rattle.ice_state.specs.Contents.{Content, World, add, content, every_row, is_row_taken, slot_of, slots_of, took_at, HasBytesAt, HasEach, reading_of}
+use Rattle.ice_state.specs.Contents.{Content, World, add, content, every_row, is_row_taken, slot_of, slots_of, took_at, HasBytesAt, HasEach}
 use Rattle.ice_state.specs.Scans.{Scanned}
 use Rattle.ice_desk.specs.declared.fault.WantedFault.{WantedFault}
 use Rattle.ice_desk.specs.declared.fault.WantedFault.TheVariants.{Absent, Device, Memory}
-use Rattle.ice_desk.specs.Wanted.{IsContentOf, MayStop, paths_of, untaken}
+use Rattle.ice_desk.specs.Wanted.{IsContentOf, MayStop, untaken}
 use Rattle.ice_desk.specs.Worlds.{EndsAt}
 
 -- the set with the first k rows too
@@ -153,3 +153,37 @@ ends world scan c ts e h = record { flags = every_length (length scan.wanted); i
     every_length : (n : ℕ) → length (replicate n true) ≡ n
     every_length zero = refl
     every_length (suc n) = ap suc (every_length n)
+
+-- a row that was taken, and one that is taken
+
+pub took_length : (scan : Scanned) (c : Content) (rows : List Row) (i : ℕ) (bytes : List ℕ) → length (took_at scan c rows i bytes) ≡ length c
+took_length scan [] rows i bytes = refl
+took_length scan (s ∷ ss) [] i bytes = refl
+took_length scan (s ∷ ss) (row ∷ rows) zero bytes = refl
+took_length scan (s ∷ ss) (row ∷ rows) (suc i) bytes = ap suc (took_length scan ss rows i bytes)
+
+pub taken_here : (scan : Scanned) (c : Content) (rows : List Row) (i : ℕ) (bytes : List ℕ) → length c ≡ length rows → i < length c → is_row_taken (took_at scan c rows i bytes) i ≡ true
+taken_here scan [] rows i bytes e l = absurd (omega arith)
+taken_here scan (s ∷ ss) [] i bytes e l = absurd cc
+taken_here scan (Some r ∷ ss) (row ∷ rows) zero bytes e l = refl
+taken_here scan (None ∷ ss) (row ∷ rows) zero bytes e l = refl
+taken_here scan (s ∷ ss) (row ∷ rows) (suc i) bytes e l = let k : length ss ≡ length rows = cc in taken_here scan ss rows i bytes k (omega arith)
+
+pub taken_before : (scan : Scanned) (c : Content) (rows : List Row) (i j : ℕ) (bytes : List ℕ) → is_row_taken c j ≡ true → is_row_taken (took_at scan c rows i bytes) j ≡ true
+taken_before scan [] rows i j bytes h = h
+taken_before scan (s ∷ ss) [] i j bytes h = h
+taken_before scan (Some r ∷ ss) (row ∷ rows) zero zero bytes h = refl
+taken_before scan (None ∷ ss) (row ∷ rows) zero zero bytes h = refl
+taken_before scan (s ∷ ss) (row ∷ rows) zero (suc j) bytes h = h
+taken_before scan (s ∷ ss) (row ∷ rows) (suc i) zero bytes h = h
+taken_before scan (s ∷ ss) (row ∷ rows) (suc i) (suc j) bytes h = taken_before scan ss rows i j bytes h
+
+pub below_or_at : (j i : ℕ) → j < i + 1 → (j < i) ⊎ (j ≡ i)
+below_or_at j i l = ⊎_elim (λ below. inl below) (λ le. inr (omega (arith, l, le))) (cases_lt j i)
+
+-- where each row was taken, none is left
+pub none_untaken : (c : Content) (rows : List Row) → length c ≡ length rows → ((j : ℕ) → j < length rows → is_row_taken c j ≡ true) → untaken c rows ≡ []
+none_untaken [] rows e h = refl
+none_untaken (s ∷ ss) [] e h = refl
+none_untaken (Some r ∷ ss) (row ∷ rows) e h = none_untaken ss rows (omega (arith, e)) (λ j l. h (suc j) (omega (arith, l)))
+none_untaken (None ∷ ss) (row ∷ rows) e h = let f : false ≡ true = h 0 (omega arith) in absurd cc

@@ -1,6 +1,6 @@
 -- One more ticket of a worker.
-use Rattle.std.proofs.Common.{◌≡◌, ◌⊎◌, ⊎_elim, inl, inr, ℕ, zero, suc, ◌+◌, ◌*◌, ◌%◌, ◌<◌, ◌≤◌, ◌==◌, Bool, true, false, ◌&&◌, not, cond, nat_lt, IsTrue, List, [], ◌∷◌, ◌++◌, length, get_or, Option, Some, None, sym, refl, ap, ◌∙◌, subst, arith, append_assoc, append-nil, eq-eqb}
-use Rattle.std.proofs.lemmas.Bool.{cases_eq, cases_lt, le-ltb}
+use Rattle.std.proofs.Common.{◌≡◌, ◌⊎◌, ⊎_elim, inl, inr, ℕ, zero, suc, ◌+◌, ◌*◌, ◌%◌, ◌^◌, ◌<◌, ◌≤◌, ◌==◌, Bool, true, false, ◌&&◌, not, cond, nat_lt, IsTrue, List, [], ◌∷◌, ◌++◌, length, get_or, Option, Some, sym, refl, ap, ◌∙◌, subst, arith, append_assoc, append-nil, eq-eqb}
+use Rattle.std.proofs.lemmas.Bool.{cases_lt, le-ltb}
 use Rattle.std.proofs.lemmas.Nat.{mod_below}
 use Rattle.std.proofs.lemmas.List.{length-append, length-set}
 use Rattle.std.proofs.lemmas.List.Sums.{sum_by-cons, sum_by_push}
@@ -15,35 +15,12 @@ use Rattle.ice_desk.specs.declared.left.Left.{Left}
 use Rattle.ice_desk.specs.declared.left.Served.{Served}
 use Rattle.ice_desk.specs.declared.left.Served.TheVariants as served
 use Rattle.ice_desk.specs.Left.{all_left, counted}
-use Rattle.ice_desk.specs.Tickets.{times, drawing}
+use Rattle.ice_desk.specs.Tickets.{drawing}
 use Rattle.ice_desk.specs.Seats.{hand_of, limit_of, Claims}
 use Rattle.ice_desk.specs.Wanted.{IsContentOf}
 use Rattle.ice_desk.specs.Works.{AtLeast, IsPathAt, Lacks, MayFailAt, Serves, Worked, missed}
 use Rattle.ice_desk.proofs.Keeps.{times_more}
-
--- a row that was taken, and one that is taken
-
-took_length : (scan : Scanned) (c : Content) (rows : List Row) (i : ℕ) (bytes : List ℕ) → length (took_at scan c rows i bytes) ≡ length c
-took_length scan [] rows i bytes = refl
-took_length scan (s ∷ ss) [] i bytes = refl
-took_length scan (s ∷ ss) (row ∷ rows) zero bytes = refl
-took_length scan (s ∷ ss) (row ∷ rows) (suc i) bytes = ap suc (took_length scan ss rows i bytes)
-
-taken_here : (scan : Scanned) (c : Content) (rows : List Row) (i : ℕ) (bytes : List ℕ) → length c ≡ length rows → i < length c → is_row_taken (took_at scan c rows i bytes) i ≡ true
-taken_here scan [] rows i bytes e l = absurd (omega arith)
-taken_here scan (s ∷ ss) [] i bytes e l = absurd cc
-taken_here scan (Some r ∷ ss) (row ∷ rows) zero bytes e l = refl
-taken_here scan (None ∷ ss) (row ∷ rows) zero bytes e l = refl
-taken_here scan (s ∷ ss) (row ∷ rows) (suc i) bytes e l = let k : length ss ≡ length rows = cc in taken_here scan ss rows i bytes k (omega arith)
-
-taken_before : (scan : Scanned) (c : Content) (rows : List Row) (i j : ℕ) (bytes : List ℕ) → is_row_taken c j ≡ true → is_row_taken (took_at scan c rows i bytes) j ≡ true
-taken_before scan [] rows i j bytes h = h
-taken_before scan (s ∷ ss) [] i j bytes h = h
-taken_before scan (Some r ∷ ss) (row ∷ rows) zero zero bytes h = refl
-taken_before scan (None ∷ ss) (row ∷ rows) zero zero bytes h = refl
-taken_before scan (s ∷ ss) (row ∷ rows) zero (suc j) bytes h = h
-taken_before scan (s ∷ ss) (row ∷ rows) (suc i) zero bytes h = h
-taken_before scan (s ∷ ss) (row ∷ rows) (suc i) (suc j) bytes h = taken_before scan ss rows i j bytes h
+use Rattle.ice_desk.proofs.Taking.{taken_before, taken_here, took_length}
 
 taken_after : (scan : Scanned) (c : Content) (rows : List Row) (i j : ℕ) (bytes : List ℕ) → is_row_taken (took_at scan c rows i bytes) j ≡ true → (is_row_taken c j ≡ true) ⊎ (i ≡ j)
 taken_after scan [] rows i j bytes h = inl h
@@ -71,7 +48,7 @@ module _ (P : ℕ → Type 0) where
   at_least_one [] k t p is = inr (0, omega (arith, is), p, refl)
   at_least_one (x ∷ xs) k t p is = ⊎_elim (λ r. inl (at_least_one xs k t p r)) (λ r. inr (r.0 + 1, omega (arith, r.1), r.2, at_least_one xs r.0 t p r.3)) is
 
-abbrev miss : Bool → Bool → ℕ
+abbrev pub miss : Bool → Bool → ℕ
 miss ticket taken = cond (ticket && not taken) 1 0
 
 miss_less : (a b c : Bool) → (IsTrue b → IsTrue c) → miss a c ≤ miss a b
@@ -89,10 +66,10 @@ miss_taken : (a : Bool) → miss a true ≡ 0
 miss_taken false = refl
 miss_taken true = refl
 
-abbrev miss_at : Desk → Content → ℕ → ℕ
+abbrev pub miss_at : Desk → Content → ℕ → ℕ
 miss_at desk taken t = miss (nat_lt t (limit_of desk)) (is_row_taken taken (t % desk.manifests))
 
-missed_less : (desk : Desk) (before after : Content) → ((i : ℕ) → IsTrue (is_row_taken before i) → IsTrue (is_row_taken after i)) → (ts : List ℕ) → missed desk after ts ≤ missed desk before ts
+pub missed_less : (desk : Desk) (before after : Content) → ((i : ℕ) → IsTrue (is_row_taken before i) → IsTrue (is_row_taken after i)) → (ts : List ℕ) → missed desk after ts ≤ missed desk before ts
 missed_less desk before after more [] = omega arith
 missed_less desk before after more (t ∷ ts) =
     omega (
@@ -250,3 +227,15 @@ index_below desk t i ticket is = ⊎_elim
     let empty : limit_of desk ≡ 0 * desk.rounds = ap (λ (n : ℕ). n * desk.rounds) (omega (arith, le)) in
     absurd (omega (arith, ticket, empty)))
     (cases_lt 0 desk.manifests)
+
+-- a worker left no more tickets than it drew
+pub left_few : (world : Option World) (may_fail : List ℕ → Type 0) (desk : Desk) (scan : Scanned) (old new : Seat) (before after : Content) (left : Left)
+    → Worked world may_fail desk scan old new before after left → all_left left ≤ length (hand_of new).drawn
+left_few world may_fail desk scan old new before after left w =
+    omega (arith, w.few, ap length w.drawn ∙ length-append (hand_of old).drawn w.tickets)
+
+pub few_counted : (left : Left) (s : Served) (t : ℕ) → all_left left ≤ t → t + 1 < 2 ^ 32 → all_left (counted left s) < 2 ^ 32
+few_counted left served.Taken t few small = omega (arith, few, small)
+few_counted left served.Absent t few small = omega (arith, few, small)
+few_counted left served.Device t few small = omega (arith, few, small)
+few_counted left served.Memory t few small = omega (arith, few, small)

@@ -13,3 +13,7 @@ counted left Memory = record left { memory = left.memory + 1 }
 
 abbrev pub all_left : Left → ℕ
 all_left left = left.absent + left.device + left.memory
+
+-- what two left together
+abbrev pub left_by_both : Left → Left → Left
+left_by_both a b = record { absent = a.absent + b.absent; device = a.device + b.device; memory = a.memory + b.memory }

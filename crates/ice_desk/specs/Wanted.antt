@@ -1,5 +1,5 @@
 -- Reading the manifests of a scan that were not taken yet.
-use Rattle.std.specs.Prelude.{◌≡◌, ℕ, Bool, List, [], ◌∷◌, length, map, Option, Some, None}
+use Rattle.std.specs.Prelude.{◌≡◌, ℕ, Bool, List, [], ◌∷◌, length, map, Some, None}
 use Rattle.ice_manifest.specs.declared.row.Row.{Row}
 use Rattle.ice_state.specs.Contents.{Content, World, content}
 use Rattle.ice_state.specs.Scans.{Scanned}

@@ -1,8 +1,8 @@
 -- What one worker does: it draws tickets, and reads and takes their manifests.
-use Rattle.std.specs.Prelude.{◌≡◌, ◌⊎◌, ℕ, zero, suc, ◌+◌, ◌%◌, ◌<◌, ◌≤◌, Bool, ◌&&◌, not, cond, nat_lt, IsTrue, List, [], ◌∷◌, ◌++◌, Option, Some, None, length}
+use Rattle.std.specs.Prelude.{◌≡◌, ◌⊎◌, ℕ, zero, suc, ◌%◌, ◌<◌, ◌≤◌, Bool, ◌&&◌, not, cond, nat_lt, IsTrue, List, [], ◌∷◌, ◌++◌, Option, Some, None, length}
 use Rattle.std.specs.List.{sum_by}
 use Rattle.ice_manifest.specs.declared.row.Row.{Row}
-use Rattle.ice_state.specs.Contents.{Content, World, IsOf, add, content, is_row_taken, took}
+use Rattle.ice_state.specs.Contents.{Content, World, IsOf, add, is_row_taken, took}
 use Rattle.ice_state.specs.Scans.{Scanned}
 use Rattle.ice_desk.specs.declared.desk.Desk.{Desk}
 use Rattle.ice_desk.specs.declared.desk.Seat.{Seat}

@@ -1,7 +1,7 @@
 //! What a worker left.
 
-ghost use Rattle.std.specs.Prelude.{◌≡◌, ◌<◌, ◌^◌};
-ghost use Rattle.ice_desk.specs.Left.{all_left, counted};
+ghost use Rattle.std.specs.Prelude.{◌≡◌, ◌+◌, ◌<◌, ◌^◌};
+ghost use Rattle.ice_desk.specs.Left.{all_left, counted, left_by_both};
 
 /// What became of a manifest that a worker drew.
 #[derive(Clone, Copy, Debug, PartialEq, Eq)]
@@ -49,6 +49,18 @@ impl Left {
             Served::Absent => self.absent += 1,
             Served::Device => self.device += 1,
             Served::Memory => self.memory += 1,
+        }
+    }
+
+    /// What two workers left together.
+    pub fn plus(self, other: Left) -> Left
+        requires { all_left self + all_left other < 2 ^ 64 }
+        ensures { result ≡ left_by_both self other }
+    {
+        Left {
+            absent: self.absent + other.absent,
+            device: self.device + other.device,
+            memory: self.memory + other.memory,
         }
     }
 }

@@ -1,4 +1,4 @@
-//! What a scan reads its files from, reading them, and the desk where workers draw tickets for them.
+//! Where a scan's files come from, the desk where workers draw tickets for them, and the plan of a scan by workers.
 #![tactic(auto)]
 
 mod claims;
@@ -7,6 +7,7 @@ mod fault;
 mod files;
 mod hand;
 mod left;
+mod plan;
 #[cfg(test)]
 mod tests;
 mod tickets;
@@ -14,10 +15,11 @@ mod wanted;
 mod workers;
 
 pub use desk::{Claim, Desk, Seat};
-pub use fault::WantedFault;
+pub use fault::{PlanFault, WantedFault};
 pub use files::{Files, ReadFault};
 pub use hand::{Hand, Size};
 pub use left::{Left, Served};
+pub use plan::{plan_scan, take_by_workers};
 pub use tickets::Tickets;
 pub use wanted::take_wanted;
 pub use workers::{Gate, work};

@@ -4,6 +4,10 @@ ghost use Rattle.std.specs.Prelude.{◌≡◌, vec_len};
 ghost use Rattle.std.specs.List.{All};
 ghost use Rattle.ice_desk.specs.Seats.{IsSeatOf};
 
+mod plans;
+mod table;
+mod threads;
+
 use crate::{Claim, Desk, Seat};
 use std::alloc::{AllocError, Global};
 use std::test::Fail;

@@ -54,6 +54,7 @@ pub fn take_wanted<F: Files>(
         IfErr result (MayStop world (F.may_fail files.now) (reads_of scan.now state.old)) }
 
     // Over all files.
+    ensures whole { OnOk result (untaken state.new scan.now.wanted ≡ []) }
     ensures absent { (path : List ℕ) → IsErrOf result (WantedFault.Absent path) → HasAt (F.world files.now) path None }
     ensures device { (path : List ℕ) → IsErrOf result (WantedFault.Device path) → F.may_fail files.now path }
 {

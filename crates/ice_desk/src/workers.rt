@@ -1,7 +1,8 @@
 //! The run of one worker.
 
-ghost use Rattle.std.specs.Prelude.{◌≡◌, ◌<◌, IsTrue, length};
+ghost use Rattle.std.specs.Prelude.{◌≡◌, ◌<◌, ◌^◌, IsTrue, length};
 ghost use Rattle.ice_state.specs.Contents.{IsOf};
+ghost use Rattle.ice_desk.specs.Left.{all_left};
 ghost use Rattle.ice_desk.specs.Seats.{IsSeatOf, had_done};
 ghost use Rattle.ice_desk.specs.Works.{Serves, Worked};
 
@@ -62,6 +63,7 @@ pub fn work<F: Files, G: Gate>(
     requires desk { desk.now.manifests ≡ length scan.now.wanted }
     ensures seat { IsSeatOf desk.now seat.new }
     ensures done { IsTrue (had_done desk.now seat.new) }
+    ensures small { all_left result < 2 ^ 32 }
     ensures worked { Worked (F.world files.now) (F.may_fail files.now) desk.now scan.now seat.old seat.new state.old state.new result }
 {
     let mut left = Left::none();

@@ -1,4 +1,4 @@
-use Rattle.std.proofs.Common.{◌≡◌, ◌<◌, ◌∙◌, None, get_or, length, refl, ap}
+use Rattle.std.proofs.Common.{◌∙◌, None, refl}
 use Rattle.ice_desk.specs.Worlds.{HasAt}
 use Rattle.ice_desk.proofs.Taking.{has_bytes}
 use Rattle.ice_desk.proofs.Works.{add_length, path_at}

@@ -1,12 +1,13 @@
-use Rattle.std.proofs.Common.{◌<◌, length, arith, sym, subst, ◌∙◌}
+use Rattle.std.proofs.Common.{◌<◌, length, arith, sym, subst}
 use Rattle.ice_desk.specs.Works.{Worked}
-use Rattle.ice_desk.proofs.Works.{began, served_one, ended, index_below}
+use Rattle.ice_desk.proofs.Works.{began, served_one, ended, few_counted, index_below, left_few}
 use Rattle.ice_desk.proofs.workers.work.Goals as goal
 
 pub loop-i-init : goal.loop-i-init
 loop-i-init g c = record {
   seat = c.requires.seat;
   of_scan = c.requires.state;
+  small = rw c.none-left.ensures (omega arith);
   worked = subst (Worked (g.F.Files.world c.args.files.now) (g.F.Files.may_fail c.args.files.now) c.args.desk.now c.args.scan.now c.args.seat.now c.args.seat.now c.args.state.now c.args.state.now)
       (sym c.none-left.ensures) (began _ _ _ _ _ _ c.requires.state);
 }
@@ -19,6 +20,7 @@ loop-i-preserved g c =
     record {
       seat = c.in-Index.ensures.seat;
       of_scan = c.serve-served.ensures.state;
+      small = rw c.count.ensures (few_counted c.loop-i.left c.serve-served.result drew.0 (omega (arith, left_few _ _ _ _ _ _ _ _ _ c.loop-i.invariant.worked, drew.1.1)) drew.1.2);
       worked = subst (Worked (g.F.Files.world c.args.files.now) (g.F.Files.may_fail c.args.files.now) c.args.desk.now c.args.scan.now c.args.seat.now c.claim.new.seat c.args.state.now c.serve-served.new.state)
           (sym c.count.ensures) one;
     }
