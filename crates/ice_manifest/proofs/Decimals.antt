@@ -38,7 +38,7 @@ ones_first b c bs is large =
     let p : 256 ^ length (b ∷ c ∷ bs) ≡ 256 * 256 ^ length (c ∷ bs) = pow-succ' 256 (length (c ∷ bs)) in
     rw (is, large, p) (omega (arith, ints))
 
-same_number : (b c : ℕ) (bs : List ℕ) → is_redundant b c ≡ true → twos_complement (c ∷ bs) ≡ twos_complement (b ∷ c ∷ bs)
+pub same_number : (b c : ℕ) (bs : List ℕ) → is_redundant b c ≡ true → twos_complement (c ∷ bs) ≡ twos_complement (b ∷ c ∷ bs)
 same_number b c bs h =
     let P : (z l o : Bool) → b == 0x00 ≡ z → nat_lt c 0x80 ≡ l → b == 0xff ≡ o → (z && l || o && not l) ≡ true → twos_complement (c ∷ bs) ≡ twos_complement (b ∷ c ∷ bs) =
     λ z l o. elim z as (λ y. b == 0x00 ≡ y → nat_lt c 0x80 ≡ l → b == 0xff ≡ o → (y && l || o && not l) ≡ true → twos_complement (c ∷ bs) ≡ twos_complement (b ∷ c ∷ bs)) [

@@ -4,6 +4,7 @@ pub mod Steps
 pub mod Records
 pub mod Cells
 pub mod Decimals
+pub mod OneSpelling
 pub mod Rising
 pub mod Sets
 pub mod Said

@@ -1,6 +1,7 @@
 -- Decimal numbers in bytes: two's complement, the highest byte first (Avro 1.11.1 specification, "Decimal"; Apache
 -- Iceberg table spec v2, "Appendix A: Avro"). A writer may put more bytes than the number needs.
-use Rattle.std.specs.Prelude.{◌≡◌, ℕ, ◌+◌, ◌*◌, ◌^◌, ◌==◌, ℤ, pos, ◌-ℤ◌, Bool, false, nat_lt, ◌&&◌, ◌||◌, not, List, [], ◌∷◌, length, if◌then◌else◌}
+use Rattle.std.specs.Prelude.{◌≡◌, ℕ, ◌+◌, ◌*◌, ◌^◌, ◌<◌, ◌==◌, ℤ, pos, ◌-ℤ◌, Bool, false, nat_lt, ◌&&◌, ◌||◌, not, List, [], ◌∷◌, length, if◌then◌else◌}
+use Rattle.std.specs.List.{AllByRecursion}
 
 -- the number of bytes without a sign
 abbrev pub magnitude : List ℕ → ℕ
@@ -39,3 +40,11 @@ IsShortest bs = Unit {0}
 -- no byte that is redundant stays at the front
 abbrev pub LeavesNoneRedundant : Type 0
 LeavesNoneRedundant = (bs : List ℕ) → IsShortest (shortest bs)
+
+abbrev pub AreBytes : List ℕ → Type 0
+AreBytes bs = AllByRecursion (λ (b : ℕ). b < 256) bs
+
+-- one number is kept as the same bytes, however many bytes it was written with
+abbrev pub KeepsOneSpelling : Type 0
+KeepsOneSpelling = (xs ys : List ℕ) → 0 < length xs → 0 < length ys → AreBytes xs → AreBytes ys
+    → twos_complement xs ≡ twos_complement ys → shortest xs ≡ shortest ys

@@ -2,7 +2,7 @@
 
 ghost use Rattle.ice_manifest.specs.Laws.{ReadsRowsExactly, GivesHeldRows, GivesTheRows, RefusesTwo, RefusesTheLeast, ReadsEntriesExactly, GivesHeldEntries, KeepsItsNumber, InheritsTheRows, NeedsItsOwn, KeepsItsFileNumber, InheritsTheRowsForItsFile, HasNoFileNumber, KeepsItsSnapshot, InheritsItsSnapshot, FitsItsRow, AreOfTheirSpec, HasACellForEach};
 ghost use Rattle.ice_manifest.specs.Faults.{TellsTheFirstRow, TellsTheListsEnd, TellsTheFirstEntry, TellsTheManifestsEnd, RefusesAPathExactly, RefusesManyExactly};
-ghost use Rattle.ice_manifest.specs.Decimals.{KeepsTheNumber, LeavesNoneRedundant};
+ghost use Rattle.ice_manifest.specs.Decimals.{KeepsTheNumber, LeavesNoneRedundant, KeepsOneSpelling};
 ghost use Rattle.ice_manifest.specs.Same.{SkipsOtherFieldsOfEntries, SkipsOtherFieldsOfRows};
 
 use avro_file::held_is_read;
@@ -75,9 +75,11 @@ pub fn contents_fit()
 {}
 
 /// The bytes that are kept of a decimal are the same number in two's complement, and the first of them is not redundant.
+/// So two cells of one number are the same, however many bytes each was written with.
 pub fn decimals_are_kept_shortest()
     ensures number { KeepsTheNumber }
     ensures front { LeavesNoneRedundant }
+    ensures spelling { KeepsOneSpelling }
 {}
 
 /// Two files whose objects say the same in the fields that are read give the same, whatever else they hold: other
