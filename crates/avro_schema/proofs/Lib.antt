@@ -10,3 +10,14 @@ pub mod Kept
 pub mod Recursion
 pub mod Closed
 pub mod Accepted
+pub mod Holding
+pub mod Trace
+pub mod Traced
+pub mod Ids
+pub mod Whole
+pub mod Known
+pub mod Faulty
+pub mod Refused
+pub mod Same
+pub mod Takes
+pub mod Places

@@ -25,13 +25,13 @@ abbrev Below : ℕ → ℕ → Tree × Seen → Type 0
 Below n left x = (x.1.left + below x.0 ≡ left) × (height x.0 ≤ n)
 
 -- the same, where its root counts too
-abbrev Within : ℕ → ℕ → Tree × Seen → Type 0
+abbrev pub Within : ℕ → ℕ → Tree × Seen → Type 0
 Within n left x = (x.1.left + nodes x.0 ≡ left) × (depth x.0 ≤ n)
 
-abbrev ReadsWithin : ℕ → (Data → Seen → Read Tree) → Type 0
+abbrev pub ReadsWithin : ℕ → (Data → Seen → Read Tree) → Type 0
 ReadsWithin n read = (d : Data) (s : Seen) → IfOk (read d s) (Within n s.left)
 
-abbrev AlwaysWithin : ℕ → Reader → Type 0
+abbrev pub AlwaysWithin : ℕ → Reader → Type 0
 AlwaysWithin n read = (at : Place) (space : List ℕ) → ReadsWithin n (read at space)
 
 -- ---- names
@@ -209,7 +209,7 @@ counted_less : (b : Bool) (s : Seen) → nat_lt 0 s.left ≡ b → IfOk (counted
 counted_less true s h = let k : 0 < s.left = ltb-true 0 s.left h in rw h (omega (arith, k))
 counted_less false s h = rw h tt
 
-tree_within : (n : ℕ) → AlwaysWithin n (tree_at n)
+pub tree_within : (n : ℕ) → AlwaysWithin n (tree_at n)
 unfolding tree_at
 tree_within zero at space d s = tt
 tree_within (suc n) at space d s =

@@ -55,7 +55,7 @@ found_before space d es fs grows (inr (open_use {name} i u l)) = inr (open_use i
 
 -- ---- steps that find nothing
 
-asked_is : {A : Type 0} (o : Option A) → IfOk (asked o) (λ x. o ≡ Some x)
+pub asked_is : {A : Type 0} (o : Option A) → IfOk (asked o) (λ x. o ≡ Some x)
 asked_is None = tt
 asked_is (Some x) = refl
 
@@ -113,7 +113,7 @@ last_of_six false false false false true b h = absurd cc
 last_of_six false false false false false true h = refl
 last_of_six false false false false false false h = absurd cc
 
-bytes_text : (word : List ℕ) → kind_of word ≡ kind.Bytes → word ≡ codes "bytes"
+pub bytes_text : (word : List ℕ) → kind_of word ≡ kind.Bytes → word ≡ codes "bytes"
 bytes_text word is = (bytes_eq-Decides word (codes "bytes")).0 (last_of_six (bytes_eq word (codes "array")) (bytes_eq word (codes "map")) (bytes_eq word (codes "record")) (bytes_eq word (codes "enum")) (bytes_eq word (codes "fixed")) (bytes_eq word (codes "bytes")) is)
 
 bytes_found : (X : Type 0) (n : ℕ) (space : List ℕ) (s : Seen) → IfErr (named n space (codes "bytes") s) (Finds X)

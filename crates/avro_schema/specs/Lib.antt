@@ -9,3 +9,6 @@ pub mod Shape
 pub mod Met
 pub mod Texts
 pub mod Inside
+pub mod Order
+pub mod Stands
+pub mod Faults
