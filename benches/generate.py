@@ -1,11 +1,13 @@
 #!/usr/bin/env python3
-"""generate.py ENTRIES [PER_MANIFEST [data|deletes|both]]: a bundle for `icescan list-plan --bundle` on standard output.
+"""generate.py ENTRIES [PER_MANIFEST [data|deletes|both|days]]: a bundle for `icescan list-plan --bundle` on standard output.
 
 The bundle holds a manifest list and manifests of an unpartitioned table: so many entries in all (default
 1,000,000), PER_MANIFEST of them in a manifest (default 10,000), of data files or of equality deletes, each with the
 column statistics of eight columns, in Avro containers with codec null. With `both` each manifest of data files has a
 partition spec of its own, and beside it stands a manifest of a tenth as many position deletes of that spec, of which
-one is young enough to apply. The same arguments give the same bytes.
+one is young enough to apply. With `days` the table is partitioned by `day`, a number from 0 to 99 that is one in each
+manifest, with summaries in the list, and the bundle also holds the metadata, at METADATA; column `c1` of the entry I is
+8 times I in all rows. The same arguments give the same bytes.
 """
 import json
 import sys
@@ -14,6 +16,9 @@ STATISTICS = [(109, 119, 120, "long", "value_counts"), (110, 121, 122, "long", "
               (125, 126, 127, "bytes", "lower_bounds"), (128, 129, 130, "bytes", "upper_bounds")]
 COLUMNS = 8
 MARKER = bytes(range(16))
+METADATA = "s3://warehouse/events/metadata/v1.metadata.json"
+LIST = "s3://warehouse/events/metadata/list.avro"
+DAYS = 100
 OBJECTS_PER_BLOCK = 500
 
 
@@ -40,20 +45,30 @@ def statistics_type(key_id, value_id, kind):
     return ["null", {"type": "array", "items": pair, "logicalType": "map"}]
 
 
-ENTRY = {"type": "record", "name": "manifest_entry", "fields": [
-    field(0, "status", "int"), field(1, "snapshot_id", ["null", "long"]), field(3, "sequence_number", ["null", "long"]),
-    field(4, "file_sequence_number", ["null", "long"]),
-    field(2, "data_file", {"type": "record", "name": "r2", "fields": [
-        field(134, "content", "int"), field(100, "file_path", "string"), field(101, "file_format", "string"),
-        field(102, "partition", {"type": "record", "name": "r102", "fields": []}),
-        field(103, "record_count", "long"), field(104, "file_size_in_bytes", "long"),
-        *[field(i, name, statistics_type(k, v, kind)) for i, k, v, kind, name in STATISTICS],
-        field(135, "equality_ids", ["null", {"type": "array", "items": "int", "element-id": 136}])]})]}
+def entry_type(partition):
+    return {"type": "record", "name": "manifest_entry", "fields": [
+        field(0, "status", "int"), field(1, "snapshot_id", ["null", "long"]), field(3, "sequence_number", ["null", "long"]),
+        field(4, "file_sequence_number", ["null", "long"]),
+        field(2, "data_file", {"type": "record", "name": "r2", "fields": [
+            field(134, "content", "int"), field(100, "file_path", "string"), field(101, "file_format", "string"),
+            field(102, "partition", {"type": "record", "name": "r102", "fields": partition}),
+            field(103, "record_count", "long"), field(104, "file_size_in_bytes", "long"),
+            *[field(i, name, statistics_type(k, v, kind)) for i, k, v, kind, name in STATISTICS],
+            field(135, "equality_ids", ["null", {"type": "array", "items": "int", "element-id": 136}])]})]}
+
+ENTRY = entry_type([])
+ENTRY_OF_DAY = entry_type([field(1000, "day", ["null", "int"])])
 
 ROW = {"type": "record", "name": "manifest_file", "fields": [
     field(500, "manifest_path", "string"), field(501, "manifest_length", "long"), field(502, "partition_spec_id", "int"),
     field(517, "content", "int"), field(515, "sequence_number", "long"), field(516, "min_sequence_number", "long"),
     field(503, "added_snapshot_id", "long")]}
+
+SUMMARY = {"type": "record", "name": "r508", "fields": [
+    field(509, "contains_null", "boolean"), field(510, "lower_bound", ["null", "bytes"]),
+    field(511, "upper_bound", ["null", "bytes"])]}
+ROW_OF_DAY = {"type": "record", "name": "manifest_file", "fields": [
+    *ROW["fields"], field(507, "partitions", ["null", {"type": "array", "items": SUMMARY, "element-id": 508}])]}
 
 
 def container(schema, objects):
@@ -66,23 +81,24 @@ def container(schema, objects):
     return b"".join(out)
 
 
-def statistics(index):
+def statistics(index, nulls):
     out = []
-    for _, _, _, kind, _ in STATISTICS:
+    for kind_id, _, _, kind, _ in STATISTICS:
         out += [number(1), number(COLUMNS)]
         for column in range(COLUMNS):
-            value = number(1000 + column) if kind == "long" else run((index * 8 + column).to_bytes(8, "little"))
+            count = nulls if kind_id == 110 else 1000
+            value = number(count + column) if kind == "long" else run((index * 8 + column).to_bytes(8, "little"))
             out += [number(column + 1), value]
         out.append(number(0))
     return b"".join(out)
 
 
-def entry(index, content, sequence=None):
+def entry(index, content, sequence=None, partition=b"", nulls=1000):
     path = f"s3://warehouse/events/data/part-{index:010}-0e7c2b1a.parquet".encode()
     own = number(0) if sequence is None else number(1) + number(sequence)
     ids = number(1) + number(1) + number(1) + number(0) if content == 2 else number(0)
-    return b"".join([number(1), number(1), number(7), own, number(0), number(content), run(path), run(b"PARQUET"),
-                     number(1000), number(1 << 20), statistics(index), ids])
+    return b"".join([number(1), number(1), number(7), own, number(0), number(content), run(path), run(b"PARQUET"), partition,
+                     number(1000), number(1 << 20), statistics(index, nulls), ids])
 
 
 def row(path, spec, content):
@@ -96,6 +112,13 @@ def manifests(entries, each, kind):
         path = f"s3://warehouse/events/metadata/m{at:06}.avro"
         spec = at if kind == "both" else 0
         content = 2 if kind == "deletes" else 0
+        if kind == "days":
+            day = start * DAYS // entries
+            bound = number(1) + run(day.to_bytes(4, "little"))
+            summary = number(1) + number(1) + b"\0" + bound + bound + number(0)
+            partition = number(1) + number(day)
+            yield path, row(path, 0, 0) + summary, lambda: [entry(index, 0, None, partition, 0) for index in indexes]
+            continue
         yield path, row(path, spec, content // 2), lambda: [entry(index, content) for index in indexes]
         if kind == "both":
             path = f"s3://warehouse/events/metadata/d{at:06}.avro"
@@ -104,15 +127,30 @@ def manifests(entries, each, kind):
                 entry(entries + start + at, 1, 3 if at == 0 else 2) for at in deletes]
 
 
+def metadata():
+    columns = [{"id": column + 1, "name": f"c{column + 1}", "required": False, "type": "long"} for column in range(COLUMNS)]
+    columns.append({"id": COLUMNS + 1, "name": "day", "required": False, "type": "int"})
+    day = {"source-id": COLUMNS + 1, "field-id": 1000, "name": "day", "transform": "identity"}
+    return json.dumps({
+        "format-version": 2, "table-uuid": "f79c3e09-677c-4bbd-a479-3f349cb785e7", "location": "s3://warehouse/events",
+        "last-sequence-number": 3, "last-updated-ms": 0, "last-column-id": COLUMNS + 1, "current-schema-id": 0,
+        "schemas": [{"type": "struct", "schema-id": 0, "fields": columns}], "default-spec-id": 0,
+        "partition-specs": [{"spec-id": 0, "fields": [day]}], "last-partition-id": 1000, "current-snapshot-id": 7,
+        "snapshots": [{"snapshot-id": 7, "sequence-number": 3, "timestamp-ms": 0, "manifest-list": LIST}]}).encode()
+
+
 def main():
     entries = int(sys.argv[1]) if len(sys.argv) > 1 else 1_000_000
     each = int(sys.argv[2]) if len(sys.argv) > 2 else 10_000
     kind = sys.argv[3] if len(sys.argv) > 3 else "data"
     out = sys.stdout
     rows = [row for _, row, _ in manifests(entries, each, kind)]
-    out.write("s3://warehouse/events/metadata/list.avro " + container(ROW, rows).hex() + "\n")
+    row_type, entries_type = (ROW_OF_DAY, ENTRY_OF_DAY) if kind == "days" else (ROW, ENTRY)
+    out.write(f"{LIST} " + container(row_type, rows).hex() + "\n")
     for path, _, objects in manifests(entries, each, kind):
-        out.write(f"{path} " + container(ENTRY, objects()).hex() + "\n")
+        out.write(f"{path} " + container(entries_type, objects()).hex() + "\n")
+    if kind == "days":
+        out.write(f"{METADATA} " + metadata().hex() + "\n")
 
 
 main()

@@ -5,7 +5,7 @@ ghost use Rattle.contract_words.specs.Outcome.{Gives};
 ghost use Rattle.ice_filter.specs.Automaton.{state_of};
 ghost use Rattle.ice_filter.specs.declared.leaf.Partial.{Partial};
 ghost use Rattle.ice_filter.specs.Grammar.{limits};
-ghost use Rattle.ice_filter.specs.Parsing.{add_part, joined, joined_and, opened, began, held, anded, ored, moved, at_unit, after_unit, closed, step, finish, outcome, filter_of, IsReadAs};
+ghost use Rattle.ice_filter.specs.Parsing.{add_part, joined, joined_and, opened, began, held, anded, ored, moved, at_unit, after_unit, closed, step, finish, outcome, parsed, filter_of, IsReadAs};
 ghost use Rattle.ice_filter.specs.Lexing.{tokens_of};
 ghost use Rattle.ice_filter.specs.Trees.{tree_of};
 ghost use Rattle.ice_filter.specs.Parsing as parsing;
@@ -303,6 +303,7 @@ impl Parser {
 /// text's length where it ends too early; `TooBig` comes with the first leaf, parenthesis or literal over its limit.
 pub fn parse(alloc: Global, text: &str) -> Result<Filter, FilterFault>
     ensures exact { Gives FilterFault.Memory (λ f. tree_of f) result (filter_of text.now) }
+    ensures parts { Gives FilterFault.Memory (λ f. f) result (parsed text.now) }
     ensures grammar { IsReadAs text.now (filter_of text.now) }
 {
     let mut parser = Parser::new(alloc);

@@ -1,8 +1,10 @@
 pub mod Escapes
 pub mod Lines
 pub mod Lookups
+pub mod Plans
 pub mod Refusals
 pub mod Segments
+pub mod Selections
 pub mod Sends
 pub mod Shows
 pub mod Steps

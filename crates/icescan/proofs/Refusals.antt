@@ -7,8 +7,10 @@ use Rattle.icescan.specs.declared.fault.RunFault.{RunFault}
 use Rattle.icescan.specs.declared.fault.RunFault.TheVariants as run
 use Rattle.icescan.specs.Bundles.{File, added, bundle_of, bytes_at, file_of, first_path, with_lines}
 use Rattle.icescan.specs.ListPlans.{MayEnd, answer}
-use Rattle.icescan.specs.Runs.{IsInput, IsWordsFault, MayRefuse, Ran, ReadAs, as_text, bundle_text, list_in, or_first_line, shown_text}
+use Rattle.icescan.specs.Runs.{IsInput, IsWordsFault, MayRefuse, Ran, ReadAs, as_text, bundle_text, list_in, or_first_line, planned_text, shown_text}
+use Rattle.icescan.specs.Plans.{answer_at, over_wanted_rows}
 use Rattle.icescan.specs.Shows.{shown_at}
+use Rattle.icescan.specs.declared.selection.Request.{Request}
 
 -- a bundle is refused for a line of it
 there : (n : ℕ) (b : Bool) (files : List File) (e : RunFault) → ◌≡◌ {A = Result (List File) RunFault} (if b then Err (run.Bundle n) else Ok files) (Err e) → e ≡ run.Bundle n
@@ -48,6 +50,10 @@ pub no_show : (path text : List ℕ) (e : RunFault) → bundle_of text ≡ Err e
 unfolding shown_text
 no_show path text e h = rw h refl
 
+pub no_request : (path : List ℕ) (request : Request) (text : List ℕ) (e : RunFault) → bundle_of text ≡ Err e → planned_text path request text ≡ Err e
+unfolding planned_text
+no_request path request text e h = rw h refl
+
 module _ (text : List ℕ) (w : Type 0) (read : Result (List ℕ) RunFault) (passed : (e : RunFault) → bundle_of text ≡ Err e → read ≡ Err e) where
   bundle_refused : (e : RunFault) → (e ≢ run.Memory → bundle_of text ≡ Err e) → MayRefuse read w e
   bundle_refused run.Input h = tt
@@ -61,6 +67,7 @@ module _ (text : List ℕ) (w : Type 0) (read : Result (List ℕ) RunFault) (pas
   bundle_refused (run.Scan f) h = passed (run.Scan f) (h (λ m. cc))
   bundle_refused (run.Finish f) h = passed (run.Finish f) (h (λ m. cc))
   bundle_refused (run.Metadata f) h = passed (run.Metadata f) (h (λ m. cc))
+  bundle_refused (run.Filter f) h = passed (run.Filter f) (h (λ m. cc))
 
   -- no bundle is refused for a failed write
   no_write : (e : RunFault) → (e ≢ run.Memory → bundle_of text ≡ Err e) → e ≡ run.Write → ⊥
@@ -92,6 +99,10 @@ module _ (text : List ℕ) (files : List File) (is : bundle_of text ≡ Ok files
   unfolding shown_text
   shown_from path = rw is refl
 
+  pub request_from : (path : List ℕ) (request : Request) → planned_text path request text ≡ as_text (answer_at over_wanted_rows (λ p. bytes_at files p) path request)
+  unfolding planned_text
+  request_from path request = rw is refl
+
 -- over files whose reads can't fail
 pub ends_refused : {A : Type 0} (told : Result A RunFault → Result (List ℕ) RunFault) (read : Result A RunFault) (other : Result (List ℕ) RunFault) (r : List ℕ → Type 0) (w : Type 0) (e : RunFault) → ((f : RunFault) → told (Err f) ≡ Err f) → ((path : List ℕ) → r path → ⊥) → other ≡ told read → MayEnd read r w e → MayRefuse other w e
 ends_refused told read other r w run.Input keeps never q h = tt
@@ -105,6 +116,7 @@ ends_refused told read other r w (run.List f) keeps never q h = q ∙ ap told h 
 ends_refused told read other r w (run.Scan f) keeps never q h = q ∙ ap told h ∙ keeps _
 ends_refused told read other r w (run.Finish f) keeps never q h = q ∙ ap told h ∙ keeps _
 ends_refused told read other r w (run.Metadata f) keeps never q h = q ∙ ap told h ∙ keeps _
+ends_refused told read other r w (run.Filter f) keeps never q h = q ∙ ap told h ∙ keeps _
 
 -- before anything was read: any text may be what was left
 abbrev pub left_of : Option (List ℕ) → List ℕ

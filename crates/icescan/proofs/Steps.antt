@@ -40,6 +40,7 @@ module _ (r : List ℕ → Type 0) (w : Type 0) where
   first_ends s read next (run.Scan f) stops h = ap (λ x. x >>= next) h
   first_ends s read next (run.Finish f) stops h = ap (λ x. x >>= next) h
   first_ends s read next (run.Metadata f) stops h = ap (λ x. x >>= next) h
+  first_ends s read next (run.Filter f) stops h = ap (λ x. x >>= next) h
 
   pub list_ends : {A : Type 0} (read : Result A ListFault) (f : ListFault) → (f ≢ list.Memory → read ≡ Err f) → MayEnd (as_run of_list read) r w (of_list f)
   list_ends read list.Memory h = tt
@@ -133,7 +134,7 @@ absent_of world (row ∷ rows) path (inl h) = absent_next world row.path path (w
 absent_of world (row ∷ rows) path (inr h) = absent_next world row.path path (world row.path) (all_present world rows) (inr (h.0, absent_of world rows path h.1))
 
 -- where the first of these reads fails
-only_first : (world : World) (f : List ℕ → Type 0) (next : List ℕ) (paths : List (List ℕ)) (path : List ℕ) → EndsAt world f (next ∷ []) path → EndsAt world f (next ∷ paths) path
+pub only_first : (world : World) (f : List ℕ → Type 0) (next : List ℕ) (paths : List (List ℕ)) (path : List ℕ) → EndsAt world f (next ∷ []) path → EndsAt world f (next ∷ paths) path
 only_first world f next paths path (inl h) = inl h
 only_first world f next paths path (inr h) = absurd h.1
 

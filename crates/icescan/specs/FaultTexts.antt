@@ -1,6 +1,6 @@
 -- The program's own line for a fault: number, name and arguments, with a nested fault in place of its argument.
--- S is a fault of a schema, V of a container, M of metadata, N of a list or a manifest, X of a scan, Z of a plan, B of the
--- bundle, P of a read, W of a write.
+-- S is a fault of a schema, V of a container, M of metadata, N of a list or a manifest, F of a filter, X of a scan, Z of a
+-- plan, B of the bundle, P of a read, W of a write.
 use Rattle.std.specs.Prelude.{ℕ, List, [], ◌∷◌, ◌++◌, codes}
 use Rattle.avro_schema.specs.declared.fault.SchemaFault.{SchemaFault}
 use Rattle.avro_schema.specs.declared.fault.SchemaFault.TheVariants as schema
@@ -13,6 +13,8 @@ use Rattle.ice_manifest.specs.declared.fault.ManifestFault.TheVariants as manife
 use Rattle.ice_meta.specs.declared.fault.MetaFault.{MetaFault}
 use Rattle.ice_meta.specs.declared.fault.MetaFault.TheVariants as meta
 use Rattle.ice_meta.specs.Members.{member_name}
+use Rattle.ice_filter.specs.declared.fault.FilterFault.{FilterFault}
+use Rattle.ice_filter.specs.declared.fault.FilterFault.TheVariants as filter
 use Rattle.ice_state.specs.declared.fault.ScanFault.{ScanFault}
 use Rattle.ice_state.specs.declared.fault.ScanFault.TheVariants as scan
 use Rattle.ice_state.specs.declared.fault.FinishFault.{FinishFault}
@@ -90,6 +92,15 @@ meta_text meta.Memory = codes "M10 Memory"
 meta_text (meta.Dangling member) = codes "M11 Dangling " ++ member_name member
 meta_text meta.TooBig = codes "M12 TooBig"
 
+-- the offset is that of a byte of the filter's text
+unfoldable pub filter_text : FilterFault → List ℕ
+filter_text (filter.Syntax offset) = named_number (codes "F1 Syntax ") offset
+filter_text filter.NoSuchColumn = codes "F2 NoSuchColumn"
+filter_text filter.WrongLiteral = codes "F3 WrongLiteral"
+filter_text filter.NotComparable = codes "F4 NotComparable"
+filter_text filter.TooBig = codes "F5 TooBig"
+filter_text filter.Memory = codes "F6 Memory"
+
 unfoldable pub run_text : RunFault → List ℕ
 run_text (run.Words text) = text
 run_text run.Input = codes "P3 Device -"
@@ -100,6 +111,7 @@ run_text (run.List fault) = list_text fault
 run_text (run.Scan fault) = scan_text fault
 run_text (run.Finish fault) = finish_text fault
 run_text (run.Metadata fault) = meta_text fault
+run_text (run.Filter fault) = filter_text fault
 run_text run.Write = codes "W1 Write"
 run_text run.Memory = codes "Memory"
 

@@ -10,6 +10,8 @@ use Rattle.ice_manifest.specs.declared.fault.ManifestFault.{ManifestFault}
 use Rattle.ice_manifest.specs.declared.fault.ManifestFault.TheVariants as manifest
 use Rattle.ice_meta.specs.declared.fault.MetaFault.{MetaFault}
 use Rattle.ice_meta.specs.declared.fault.MetaFault.TheVariants as meta
+use Rattle.ice_filter.specs.declared.fault.FilterFault.{FilterFault}
+use Rattle.ice_filter.specs.declared.fault.FilterFault.TheVariants as filter
 use Rattle.ice_state.specs.declared.fault.ScanFault.{ScanFault}
 use Rattle.ice_state.specs.declared.fault.ScanFault.TheVariants as scan
 use Rattle.ice_state.specs.declared.fault.FinishFault.{FinishFault}
@@ -35,6 +37,10 @@ of_finish fault = run.Finish fault
 abbrev pub of_meta : MetaFault → RunFault
 of_meta meta.Memory = run.Memory
 of_meta fault = run.Metadata fault
+
+abbrev pub of_filter : FilterFault → RunFault
+of_filter filter.Memory = run.Memory
+of_filter fault = run.Filter fault
 
 abbrev pub of_wanted : WantedFault → RunFault
 of_wanted (wanted.Absent path) = run.Absent path
@@ -74,9 +80,13 @@ abbrev pub meta_wants_memory : MetaFault → Bool
 meta_wants_memory meta.Memory = true
 meta_wants_memory _ = false
 
--- 1: the table is refused; 2: the words or the bundle; 3: a read or a write failed; 5: memory ran out
+-- 1: the table is refused; 2: the words, the bundle or the filter; 3: a read or a write failed; 5: memory ran out
 abbrev pub refused_status : Bool → ℕ
 refused_status wants_memory = if wants_memory then 5 else 1
+
+abbrev pub filter_status : FilterFault → ℕ
+filter_status filter.Memory = 5
+filter_status _ = 2
 
 abbrev pub status_of : RunFault → ℕ
 status_of (run.Bundle line) = 2
@@ -85,6 +95,7 @@ status_of (run.List fault) = refused_status (list_wants_memory fault)
 status_of (run.Scan fault) = refused_status (scan_wants_memory fault)
 status_of (run.Finish fault) = refused_status (finish_wants_memory fault)
 status_of (run.Metadata fault) = refused_status (meta_wants_memory fault)
+status_of (run.Filter fault) = filter_status fault
 status_of (run.Absent path) = 3
 status_of (run.Device path) = 3
 status_of run.Input = 3

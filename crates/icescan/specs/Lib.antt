@@ -6,7 +6,9 @@ pub mod Folders
 pub mod ListPlans
 pub mod Pieces
 pub mod PlanTexts
+pub mod Plans
 pub mod Runs
+pub mod Selections
 pub mod Shown
 pub mod Shows
 pub mod TableTexts

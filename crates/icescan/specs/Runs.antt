@@ -5,6 +5,7 @@ use Rattle.contract_words.specs.Outcome.{◌>>=◌}
 use Rattle.ice_state.specs.Lines.{OwnedLine}
 use Rattle.icescan.specs.Bundles.{File, bundle_of, bytes_at, first_path}
 use Rattle.icescan.specs.ListPlans.{answer}
+use Rattle.icescan.specs.Plans.{answer_at, over_wanted_rows}
 use Rattle.icescan.specs.Faults.{status_of}
 use Rattle.icescan.specs.FaultTexts.{fault_text}
 use Rattle.icescan.specs.PlanTexts.{plan_text}
@@ -16,6 +17,7 @@ use Rattle.icescan.specs.declared.command_line.Words.{Words}
 use Rattle.icescan.specs.declared.command_line.Words.TheVariants as words
 use Rattle.icescan.specs.declared.fault.RunFault.{RunFault}
 use Rattle.icescan.specs.declared.fault.RunFault.TheVariants as run
+use Rattle.icescan.specs.declared.selection.Request.{Request}
 
 -- the words that ask for the plan of a bundle's first file, before any others are read: none, or these two
 abbrev pub asks_first_list : List (List ℕ) → Bool
@@ -62,11 +64,18 @@ bundle_text list input = do
 unfoldable pub shown_text : List ℕ → List ℕ → Result (List ℕ) RunFault
 shown_text path input = bundle_of input >>= λ files. shown_at (λ path. bytes_at files path) path
 
+-- the text of the plan that is asked of a table in a bundle, or the first fault: of the bundle, of the file with the
+-- metadata, of the plan
+unfoldable pub planned_text : List ℕ → Request → List ℕ → Result (List ℕ) RunFault
+planned_text path request input = bundle_of input >>= λ files. as_text (answer_at over_wanted_rows (λ path. bytes_at files path) path request)
+
 -- The text that a command asks for, or the first fault, where its files are told: those of a bundle are what standard
 -- input had, those of a folder are not told.
 abbrev pub answer_to : Words → List ℕ → Option (Result (List ℕ) RunFault)
 answer_to (words.ListPlan (lists.Bundle list)) input = Some (bundle_text list input)
 answer_to (words.ListPlan (lists.Folder place list)) input = None
+answer_to (words.Plan source.Bundle request path) input = Some (planned_text path request input)
+answer_to (words.Plan (source.Folder place) request path) input = None
 answer_to (words.Show source.Bundle path) input = Some (shown_text path input)
 answer_to (words.Show (source.Folder place) path) input = None
 answer_to (words.Text text) input = Some (Ok text)

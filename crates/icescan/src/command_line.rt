@@ -7,10 +7,12 @@ ghost use Rattle.icescan.specs.Runs.{IsWordsFault, ReadAs, asks_first_list};
 mod tests;
 
 use crate::fault::RunFault;
+use crate::selection::Request;
 use clap::builder::ValueParser;
 use clap::error::ErrorKind;
-use clap::{Arg, ArgAction, ArgGroup, ArgMatches, Command, Error};
+use clap::{Arg, ArgAction, ArgGroup, ArgMatches, Command, Error, value_parser};
 use contract_words::Text;
+use ice_meta::Target;
 use std::alloc::{AllocError, Global};
 
 /// A folder, and how the paths of the files below it begin.
@@ -43,6 +45,8 @@ pub enum Source {
 pub enum Words {
     /// The plan of a manifest list.
     ListPlan(Lists),
+    /// The plan that is asked of the table whose metadata is at this path.
+    Plan(Source, Request, Text),
     /// The text of the metadata at this path.
     Show(Source, Text),
     /// A text of help, or the version.
@@ -52,11 +56,37 @@ pub enum Words {
 const ABOUT: &str =
     "Plans scans of Apache Iceberg tables: which data files are live, and which delete files apply to each";
 
-const LIST_EXAMPLE: &str = "Example, at the top of icescan's repository:
+const PLAN_EXAMPLE: &str =
+    "A filter says which rows are asked for. A data file is left out only where none of its rows can meet it:
+  id = 42 and cat != 'books'        also <, <=, > and >=; texts stand in single quotes, a quote in them twice
+  id in (1, 2, 3)                   or: id not in (1, 2, 3)
+  cat is null                       or: cat is not null; any other comparison with null is false
+  note starts with 'note 4'         of texts alone
+  id < 10 or (id > 20 and id < 30)  `and` binds closer than `or`
+  flag = true                       `true` and `false` alone are filters too
+  ts >= 1709856000000000            times are microseconds, dates are days, since 1970-01-01 00:00 UTC
+  key = x'00ff'                     bytes in hexadecimal digits; a uuid is a text
+  place.\"post code\" = '0150'        a dot leads into a struct; double quotes stand round a name that is no plain word
+Floats, doubles, decimals, lists and maps are not compared.
+
+Example, at the top of icescan's repository:
+  icescan plan --dir examples/events-java/table --prefix s3://warehouse/db/events --filter \"id = 42\" \\
+    s3://warehouse/db/events/metadata/00009-ea5012f5-592b-59fd-6564-e953f439e682.metadata.json
+
+Exit status: 0 done, 1 the table is refused, 2 the command line, the bundle or the filter is, 3 a read or a write failed,
+5 memory ran out. A refusal is one line on standard error.";
+
+const PROGRAM_EXAMPLE: &str = "Each command's long help has an example, as `icescan plan --help`.
+
+Without any word icescan does the same as `icescan list-plan --bundle`.";
+
+const LIST_EXAMPLE: &str =
+    "Right for tables without partitions alone: every partition spec is taken as one without fields. For any other
+table use `icescan plan`.
+
+Example, at the top of icescan's repository:
   icescan list-plan --dir examples/plain-java/table --prefix s3://warehouse/db/plain \\
     s3://warehouse/db/plain/metadata/snap-5787346651261761729-1-2833c2eb-01d6-02bb-4299-f66acae4221d.avro
-
-Without any word icescan does the same as `icescan list-plan --bundle`.
 
 Exit status: 0 done, 1 the table is refused, 2 the command line or the bundle is, 3 a read or a write failed,
 5 memory ran out. A refusal is one line on standard error.";
@@ -103,10 +133,47 @@ fn list_plan_command<'a>(alloc: Global) -> Result<Command<'a>, AllocError> {
         .required_unless_present("bundle")?
         .help("The path of the manifest list; without it, the bundle's first file is one");
     let command = Command::new(alloc, "list-plan")
-        .about("Print the plan of a manifest list, of a table without partitions")
+        .about("Right for tables without partitions alone: print the plan of a manifest list")
         .after_long_help(LIST_EXAMPLE)
         .arg(list)?;
     with_source(alloc, command)
+}
+
+/// The options that say what is asked of a table: at most one of the two ways to name a snapshot.
+fn with_request<'a>(alloc: Global, command: Command<'a>) -> Result<Command<'a>, AllocError> {
+    let named = Arg::new(alloc, "ref")
+        .long("ref")
+        .value_name("NAME")
+        .conflicts_with("snapshot")?
+        .help("Plan the snapshot of this branch or tag, and not the current one");
+    let snapshot = Arg::new(alloc, "snapshot")
+        .long("snapshot")
+        .value_name("ID")
+        .value_parser(value_parser!(i64))
+        .allow_negative_numbers(true)
+        .help("Plan the snapshot of this id");
+    let filter = Arg::new(alloc, "filter")
+        .long("filter")
+        .value_name("TEXT")
+        .help(
+            "Leave out the files that have no row that meets this; `plan --help` shows how it is written",
+        );
+    command.arg(named)?.arg(snapshot)?.arg(filter)
+}
+
+/// The command `plan`.
+fn plan_command<'a>(alloc: Global) -> Result<Command<'a>, AllocError> {
+    let metadata = Arg::new(alloc, "metadata")
+        .value_name("METADATA")
+        .required(true)
+        .help("The path of the table's metadata");
+    let command = Command::new(alloc, "plan")
+        .about(
+            "Print the plan of a table's snapshot: its data files, and the delete files that apply to each",
+        )
+        .after_long_help(PLAN_EXAMPLE)
+        .arg(metadata)?;
+    with_source(alloc, with_request(alloc, command)?)
 }
 
 /// The command `show`.
@@ -129,8 +196,9 @@ fn program<'a>(alloc: Global) -> Result<Command<'a>, AllocError> {
         .bin_name("icescan")?
         .version("0.1.0")
         .about(ABOUT)
-        .after_long_help(LIST_EXAMPLE)
+        .after_long_help(PROGRAM_EXAMPLE)
         .subcommand_required(true)
+        .subcommand(plan_command(alloc)?)?
         .subcommand(list_plan_command(alloc)?)?
         .subcommand(show_command(alloc)?)
 }
@@ -151,8 +219,8 @@ fn source_of(alloc: Global, matches: &ArgMatches<'_>) -> Result<Source, AllocErr
     }))
 }
 
-/// The path of this name, where it is given.
-fn path_of(
+/// The text of this name, where it is given.
+fn text_at(
     alloc: Global,
     matches: &ArgMatches<'_>,
     name: &str,
@@ -165,17 +233,35 @@ fn path_of(
 
 /// Where the manifest list is.
 fn lists_of(alloc: Global, matches: &ArgMatches<'_>) -> Result<Lists, AllocError> {
-    let list = path_of(alloc, matches, "list")?;
+    let list = text_at(alloc, matches, "list")?;
     match (source_of(alloc, matches)?, list) {
         (Source::Folder(place), Some(list)) => Ok(Lists::Folder(place, list)),
         (_, list) => Ok(Lists::Bundle(list)),
     }
 }
 
-/// The metadata to show; its path is required, so it is there.
-fn metadata_of(alloc: Global, matches: &ArgMatches<'_>) -> Result<Words, AllocError> {
-    let path = text_of(alloc, matches.get_str("metadata").unwrap_or(""))?;
-    Ok(Words::Show(source_of(alloc, matches)?, path))
+/// The path of the metadata; it is required, so it is there.
+fn metadata_of(alloc: Global, matches: &ArgMatches<'_>) -> Result<Text, AllocError> {
+    text_of(alloc, matches.get_str("metadata").unwrap_or(""))
+}
+
+/// The snapshot that is asked for.
+fn target_of(alloc: Global, matches: &ArgMatches<'_>) -> Result<Target, AllocError> {
+    if let Some(name) = matches.get_str("ref") {
+        return Ok(Target::Ref(text_of(alloc, name)?));
+    }
+    match matches.get_one::<i64>("snapshot") {
+        Some(id) => Ok(Target::Snapshot(id)),
+        None => Ok(Target::Main),
+    }
+}
+
+/// What is asked of a table.
+fn request_of(alloc: Global, matches: &ArgMatches<'_>) -> Result<Request, AllocError> {
+    Ok(Request {
+        target: target_of(alloc, matches)?,
+        filter: text_at(alloc, matches, "filter")?,
+    })
 }
 
 /// What the words were found to ask for.
@@ -185,10 +271,15 @@ fn asked_of(alloc: Global, matches: &ArgMatches<'_>) -> Result<Words, RunFault>
     let Some((command, matches)) = matches.subcommand() else {
         return Ok(Words::ListPlan(Lists::Bundle(None)));
     };
-    if command == "show" {
-        return Ok(metadata_of(alloc, matches)?);
+    match command {
+        "plan" => Ok(Words::Plan(
+            source_of(alloc, matches)?,
+            request_of(alloc, matches)?,
+            metadata_of(alloc, matches)?,
+        )),
+        "show" => Ok(Words::Show(source_of(alloc, matches)?, metadata_of(alloc, matches)?)),
+        _ => Ok(Words::ListPlan(lists_of(alloc, matches)?)),
     }
-    Ok(Words::ListPlan(lists_of(alloc, matches)?))
 }
 
 /// The same, of matches that are not needed any more.

@@ -1,7 +1,7 @@
-//! Why the program ends without a plan.
+//! Why the program ends without an answer.
 
 ghost use Rattle.std.specs.Prelude.{◌≡◌};
-ghost use Rattle.icescan.specs.Faults.{of_list, of_scan, of_finish, of_wanted, of_meta, refused_status, meta_wants_memory, schema_wants_memory, avro_wants_memory, list_wants_memory, manifest_wants_memory, scan_wants_memory, finish_wants_memory, status_of};
+ghost use Rattle.icescan.specs.Faults.{of_list, of_scan, of_finish, of_wanted, of_meta, of_filter, filter_status, refused_status, meta_wants_memory, schema_wants_memory, avro_wants_memory, list_wants_memory, manifest_wants_memory, scan_wants_memory, finish_wants_memory, status_of};
 ghost use Rattle.icescan.specs.declared.fault.RunFault.TheVariants as run;
 
 use crate::sink::SinkFault;
@@ -9,6 +9,7 @@ use avro_file::AvroFault;
 use avro_schema::SchemaFault;
 use contract_words::Text;
 use ice_desk::WantedFault;
+use ice_filter::FilterFault;
 use ice_manifest::{ListFault, ManifestFault};
 use ice_meta::MetaFault;
 use ice_state::{FinishFault, ScanFault};
@@ -45,6 +46,9 @@ pub enum RunFault {
     /// The table's metadata is refused.
     #[error("the table's metadata is refused: {0:?}")]
     Metadata(MetaFault),
+    /// The filter is refused.
+    #[error("the filter is refused: {0:?}")]
+    Filter(FilterFault),
     /// What is asked for can't be written.
     #[error("what is asked for can't be written")]
     Write,
@@ -121,6 +125,17 @@ impl From<MetaFault> for RunFault {
     }
 }
 
+impl From<FilterFault> for RunFault {
+    ghost from_gives = { λ fault e. e ≡ of_filter fault };
+
+    fn from(fault: FilterFault) -> RunFault {
+        match fault {
+            FilterFault::Memory => RunFault::Memory,
+            fault => RunFault::Filter(fault),
+        }
+    }
+}
+
 impl From<WantedFault> for RunFault {
     ghost from_gives = { λ fault e. e ≡ of_wanted fault };
 
@@ -134,8 +149,8 @@ impl From<WantedFault> for RunFault {
 }
 
 impl RunFault {
-    /// The status that the program ends with: 1 where the table is refused, 2 for the words or the bundle, 3 where a
-    /// read or a write failed, and 5 where memory ran out.
+    /// The status that the program ends with: 1 where the table is refused, 2 for the words, the bundle or the filter,
+    /// 3 where a read or a write failed, and 5 where memory ran out.
     pub fn status(&self) -> u8
         ensures { result ≡ status_of self.now }
     {
@@ -146,6 +161,7 @@ impl RunFault {
             RunFault::Scan(fault) => refused_status(scan_wants_memory(*fault)),
             RunFault::Finish(fault) => refused_status(finish_wants_memory(fault)),
             RunFault::Metadata(fault) => refused_status(meta_wants_memory(fault)),
+            RunFault::Filter(fault) => filter_status(*fault),
             RunFault::Memory => 5,
         }
     }
@@ -155,6 +171,15 @@ fn refused_status(wants_memory: bool) -> u8
     ensures { result ≡ refused_status wants_memory }
 {
     if wants_memory { 5 } else { 1 }
+}
+
+fn filter_status(fault: FilterFault) -> u8
+    ensures { result ≡ filter_status fault }
+{
+    match fault {
+        FilterFault::Memory => 5,
+        _ => 2,
+    }
 }
 
 fn schema_wants_memory(fault: SchemaFault) -> bool

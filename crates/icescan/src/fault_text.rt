@@ -2,7 +2,7 @@
 
 ghost use Rattle.std.specs.Prelude.{◌++◌};
 ghost use Rattle.ice_meta.specs.Members.{member_name};
-ghost use Rattle.icescan.specs.FaultTexts.{schema_text, avro_text, list_text, manifest_text, scan_text, finish_text, meta_text, run_text, line_text, fault_text};
+ghost use Rattle.icescan.specs.FaultTexts.{schema_text, avro_text, list_text, manifest_text, scan_text, finish_text, meta_text, filter_text, run_text, line_text, fault_text};
 ghost use Rattle.icescan.specs.Written.{Wrote};
 
 use crate::fault::RunFault;
@@ -10,6 +10,7 @@ use crate::pieces::{put_named_int, put_named_long, put_named_number, put_named_p
 use crate::sink::{Sink, SinkFault, write_all};
 use avro_file::AvroFault;
 use avro_schema::SchemaFault;
+use ice_filter::FilterFault;
 use ice_manifest::{ListFault, ManifestFault};
 use ice_meta::{Member, MetaFault};
 use ice_state::{FinishFault, ScanFault};
@@ -49,6 +50,7 @@ fn put_run_fault<S: Sink>(sink: &mut S, fault: &RunFault) -> Result<(), SinkFaul
         RunFault::Scan(fault) => put_scan_fault(sink, *fault),
         RunFault::Finish(fault) => put_finish_fault(sink, fault),
         RunFault::Metadata(fault) => put_meta_fault(sink, fault),
+        RunFault::Filter(fault) => put_filter_fault(sink, *fault),
         RunFault::Write => write_all(sink, b"W1 Write"),
         RunFault::Memory => write_all(sink, b"Memory"),
     }
@@ -71,6 +73,20 @@ fn put_meta_fault<S: Sink>(sink: &mut S, fault: &MetaFault) -> Result<(), SinkFa
         MetaFault::Memory => write_all(sink, b"M10 Memory"),
         MetaFault::Dangling(member) => put_member(sink, b"M11 Dangling ", *member),
         MetaFault::TooBig => write_all(sink, b"M12 TooBig"),
+    }
+}
+
+#[tactic(auto, unfolding(crate::specs::FaultTexts::filter_text))]
+fn put_filter_fault<S: Sink>(sink: &mut S, fault: FilterFault) -> Result<(), SinkFault>
+    ensures { Wrote S.taken S.may_fail sink.old result sink.new (filter_text fault) }
+{
+    match fault {
+        FilterFault::Syntax(offset) => put_named_number(sink, b"F1 Syntax ", offset),
+        FilterFault::NoSuchColumn => write_all(sink, b"F2 NoSuchColumn"),
+        FilterFault::WrongLiteral => write_all(sink, b"F3 WrongLiteral"),
+        FilterFault::NotComparable => write_all(sink, b"F4 NotComparable"),
+        FilterFault::TooBig => write_all(sink, b"F5 TooBig"),
+        FilterFault::Memory => write_all(sink, b"F6 Memory"),
     }
 }
 

@@ -14,6 +14,8 @@ mod pieces;
 mod plan_text;
 mod report;
 mod run_list_plan;
+mod run_plan;
+mod selection;
 mod show;
 mod sink;
 mod table_lines;

@@ -1,6 +1,7 @@
 //! The program over bundles, as its users run it.
 
 mod cases;
+mod requests;
 mod sinks;
 
 use crate::bundle::Bundle;

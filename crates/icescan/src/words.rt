@@ -1,7 +1,7 @@
 //! The program over its words, standard input, the files of the system, output and errors.
 
 ghost use Rattle.std.specs.Prelude.{◌≡◌, ◌≢◌, ◌⊎◌, ℕ, List, Option, Some, None, Result, Ok, Err, map, string_bytes, IfOk, IfErr};
-ghost use Rattle.icescan.specs.Runs.{Answered, IsInput, Ran, ReadAs, Refused, answer_to, bundle_text, list_in, run_of, shown_text};
+ghost use Rattle.icescan.specs.Runs.{Answered, IsInput, Ran, ReadAs, Refused, answer_to, bundle_text, list_in, planned_text, run_of, shown_text};
 ghost use Rattle.icescan.specs.declared.command_line.Words.{Words};
 ghost use Rattle.icescan.specs.declared.fault.RunFault.{RunFault};
 
@@ -12,6 +12,8 @@ use crate::folder::Folder;
 use crate::input::read_all;
 use crate::report::report;
 use crate::run_list_plan::run_list_plan;
+use crate::run_plan::plan_file;
+use crate::selection::Request;
 use crate::show::show_file;
 use crate::sink::{Sink, write_all};
 use contract_words::Text;
@@ -88,6 +90,50 @@ fn plan_input<R: Read, W: Sink>(
     plan_bundle(alloc, &text, list, output)
 }
 
+/// Writes the plan that is asked of the table whose metadata is at a path of a bundle.
+fn request_bundle<W: Sink>(
+    alloc: Global,
+    text: &[u8],
+    request: &Request,
+    path: &Text,
+    output: &mut W,
+) -> Result<(), RunFault>
+    ensures { Ran (Some (planned_text path.now request.now text.now)) (W.may_fail output.old) result (W.taken output.old) (W.taken output.new) }
+{
+    let bundle = Bundle::read(alloc, text)?;
+    plan_file(alloc, &bundle, path.as_str(), request, output)
+}
+
+/// Writes the plan that is asked of the table whose metadata is at a path of the bundle on standard input.
+fn request_input<R: Read, W: Sink>(
+    alloc: Global,
+    request: &Request,
+    path: &Text,
+    input: &mut R,
+    output: &mut W,
+) -> Result<(), RunFault>
+    ensures { (text : List ℕ) × IsInput (R.remaining input.old) text ×
+        Ran (Some (planned_text path.now request.now text)) (W.may_fail output.old) result (W.taken output.old) (W.taken output.new) }
+{
+    let text = read_input(alloc, input)?;
+    request_bundle(alloc, &text, request, path, output)
+}
+
+/// Writes the plan that is asked of the table whose metadata is at a path of a folder.
+fn request_folder<H: Files, W: Sink>(
+    host: &H,
+    alloc: Global,
+    place: &Place,
+    request: &Request,
+    path: &Text,
+    output: &mut W,
+) -> Result<(), RunFault>
+    ensures { Ran None (W.may_fail output.old) result (W.taken output.old) (W.taken output.new) }
+{
+    let files = Folder::new(host, place.folder.as_str(), place.prefix.as_str());
+    plan_file(alloc, &files, path.as_str(), request, output)
+}
+
 /// Writes the text of the metadata at a path of a bundle.
 fn show_bundle<W: Sink>(
     alloc: Global,
@@ -152,6 +198,12 @@ fn run_asked<H: Files, R: Read, W: Sink>(
         Words::ListPlan(Lists::Bundle(list)) => plan_input(alloc, list, input, output),
         Words::ListPlan(Lists::Folder(place, list)) => plan_folder(
             host, alloc, place, list, output,
+        ),
+        Words::Plan(Source::Bundle, request, path) => request_input(
+            alloc, request, path, input, output,
+        ),
+        Words::Plan(Source::Folder(place), request, path) => request_folder(
+            host, alloc, place, request, path, output,
         ),
         Words::Show(Source::Bundle, path) => show_input(alloc, path, input, output),
         Words::Show(Source::Folder(place), path) => show_folder(host, alloc, place, path, output),

@@ -2,6 +2,8 @@
 
 use super::{Lists, Source, Words, parse_words};
 use crate::fault::RunFault;
+use crate::selection::Request;
+use ice_meta::Target;
 use std::alloc::{AllocError, Global};
 use std::test::Fail;
 
@@ -14,12 +16,40 @@ fn reading(alloc: Global, words: &[&str]) -> Result<Result<Words, RunFault>, All
     Ok(parse_words(alloc, &texts))
 }
 
+/// A name for what is asked of a table.
+fn asked(request: &Request) -> &'static str {
+    match request {
+        Request {
+            target: Target::Main,
+            filter: None,
+        } => "planned",
+        Request {
+            target: Target::Main,
+            filter: Some(_),
+        } => "filtered",
+        Request {
+            target: Target::Ref(_),
+            ..
+        } => "planned by name",
+        Request {
+            target: Target::Snapshot(-1),
+            ..
+        } => "planned by an id of -1",
+        Request {
+            target: Target::Snapshot(_),
+            ..
+        } => "planned by an id",
+    }
+}
+
 /// A name for what words ask for.
 fn kind(read: &Result<Words, RunFault>) -> &'static str {
     match read {
         Ok(Words::ListPlan(Lists::Bundle(None))) => "first",
         Ok(Words::ListPlan(Lists::Bundle(Some(_)))) => "named",
         Ok(Words::ListPlan(Lists::Folder(_, _))) => "folder",
+        Ok(Words::Plan(Source::Bundle, request, _)) => asked(request),
+        Ok(Words::Plan(Source::Folder(_), _, _)) => "planned from a folder",
         Ok(Words::Show(Source::Bundle, _)) => "shown",
         Ok(Words::Show(Source::Folder(_), _)) => "shown from a folder",
         Ok(Words::Text(_)) => "text",
@@ -28,7 +58,7 @@ fn kind(read: &Result<Words, RunFault>) -> &'static str {
     }
 }
 
-static ASKED: [(&[&str], &str); 9] = [
+static ASKED: [(&[&str], &str); 19] = [
     (&[], "first"),
     (&["list-plan", "--bundle"], "first"),
     (&["list-plan", "--bundle", "a"], "named"),
@@ -39,11 +69,42 @@ static ASKED: [(&[&str], &str); 9] = [
         &["show", "a", "--dir=d", "--prefix="],
         "shown from a folder",
     ),
+    (&["plan", "--bundle", "a"], "planned"),
+    (
+        &["plan", "a", "--dir=d", "--prefix="],
+        "planned from a folder",
+    ),
+    (&["plan", "--bundle", "--filter", "", "a"], "filtered"),
+    (&["plan", "--bundle", "--filter=-1", "a"], "filtered"),
+    (&["plan", "--bundle", "--ref", "", "a"], "planned by name"),
+    (
+        &["plan", "--bundle", "--snapshot", "-1", "a"],
+        "planned by an id of -1",
+    ),
+    (
+        &["plan", "--bundle", "--snapshot=-1", "a"],
+        "planned by an id of -1",
+    ),
+    (
+        &[
+            "plan",
+            "--bundle",
+            "--snapshot",
+            "-9223372036854775808",
+            "a",
+        ],
+        "planned by an id",
+    ),
+    (
+        &["plan", "--bundle", "--snapshot", "9223372036854775807", "a"],
+        "planned by an id",
+    ),
+    (&["plan", "--help"], "text"),
     (&["--version"], "text"),
     (&["list-plan", "--help"], "text"),
 ];
 
-static REFUSED: [&[&str]; 13] = [
+static REFUSED: [&[&str]; 20] = [
     &["frobnicate"],
     &["--bundle", "list-plan"],
     &["list-plan"],
@@ -55,6 +116,15 @@ static REFUSED: [&[&str]; 13] = [
     &["list-plan", "--prefix", "p", "a"],
     &["list-plan", "--dir", "d", "--prefix", "p"],
     &["list-plan", "--dir", "", "--prefix", "p", "a"],
+    &["plan", "--bundle"],
+    &["plan", "a"],
+    &["plan", "--bundle", "--ref", "x", "--snapshot", "1", "a"],
+    &["plan", "--bundle", "--snapshot", "9223372036854775808", "a"],
+    &["plan", "--bundle", "--snapshot", "x", "a"],
+    &[
+        "plan", "--bundle", "--filter", "true", "--filter", "true", "a",
+    ],
+    &["plan", "--bundle", "--filter", "a"],
     &["show", "--bundle"],
     &["show", "a"],
 ];

@@ -5,6 +5,7 @@ use crate::fault::RunFault;
 use avro_file::{AvroFault, CodecName};
 use avro_schema::SchemaFault;
 use contract_words::{Items, Text};
+use ice_filter::FilterFault;
 use ice_manifest::{ListFault, ManifestFault};
 use ice_meta::{Member, MetaFault};
 use ice_state::{FinishFault, ScanFault};
@@ -101,6 +102,22 @@ fn lines_of_metadata(rt: HostRuntime) {
     for (fault, line, status) in rows {
         assert!(rt;
             prints(alloc, &RunFault::Metadata(fault), line, status),
+            "{line}"
+        );
+    }
+}
+
+#[test]
+fn lines_of_a_filter(rt: HostRuntime) {
+    let alloc = rt.alloc();
+    let rows = [
+        (FilterFault::Syntax(3), "F1 Syntax 3\n", 2),
+        (FilterFault::TooBig, "F5 TooBig\n", 2),
+        (FilterFault::Memory, "F6 Memory\n", 5),
+    ];
+    for (fault, line, status) in rows {
+        assert!(rt;
+            prints(alloc, &RunFault::Filter(fault), line, status),
             "{line}"
         );
     }

@@ -1,0 +1,103 @@
+//! Plans that are asked for of a table.
+
+use super::cases::PLAN;
+use super::first_bundle;
+use crate::words::run_words;
+use std::alloc::{AllocError, Global};
+use std::test::Fail;
+
+/// A table whose current snapshot is that of the first case. The tag `old` has an older schema, `bare` no manifest list and
+/// `lost` one that is not there.
+const METADATA: &str =
+    r#"{"format-version":2,"table-uuid":"f79c3e09-677c-4bbd-a479-3f349cb785e7","location":"mem://t","last-sequence-number":4,"last-updated-ms":0,"last-column-id":3,"schemas":[{"type":"struct","schema-id":0,"fields":[{"id":1,"name":"b","required":false,"type":"int"}]},{"type":"struct","schema-id":1,"fields":[{"id":1,"name":"c","required":false,"type":"int"},{"id":2,"name":"price","required":false,"type":"decimal(9, 2)"}]}],"current-schema-id":1,"partition-specs":[{"spec-id":0,"fields":[]}],"default-spec-id":0,"last-partition-id":999,"current-snapshot-id":5,"snapshots":[{"snapshot-id":5,"sequence-number":4,"timestamp-ms":2,"schema-id":1,"manifest-list":"mem://t/list"},{"snapshot-id":-4,"sequence-number":3,"timestamp-ms":1,"schema-id":0,"manifest-list":"mem://t/list"},{"snapshot-id":3,"sequence-number":2,"timestamp-ms":1},{"snapshot-id":2,"sequence-number":1,"timestamp-ms":1,"manifest-list":"mem://t/none"}],"refs":{"old":{"snapshot-id":-4,"type":"tag"},"branch":{"snapshot-id":-4,"type":"branch"},"bare":{"snapshot-id":3,"type":"tag"},"lost":{"snapshot-id":2,"type":"tag"}}}"#;
+
+/// The same without a snapshot.
+const EMPTY: &str =
+    r#"{"format-version":2,"table-uuid":"f79c3e09-677c-4bbd-a479-3f349cb785e7","location":"mem://t","last-sequence-number":0,"last-updated-ms":0,"last-column-id":1,"schemas":[{"type":"struct","schema-id":0,"fields":[{"id":1,"name":"c","required":false,"type":"int"}]}],"current-schema-id":0,"partition-specs":[{"spec-id":0,"fields":[]}],"default-spec-id":0,"last-partition-id":999,"current-snapshot-id":-1}"#;
+
+/// What is asked of the table: the words behind `plan --bundle`, with `|` between them, and then the refusal, or nothing
+/// where it is the plan, or `-` where it is the plan of no file.
+const REQUESTS: &str = "\
+t||0
+t|--ref|main||0
+t|--ref|old||0
+t|--snapshot|5||0
+t|--snapshot|-4||0
+t|--snapshot=-4||0
+t|--filter|c = 7 or c is null||0
+t|--filter|false|-|0
+t|--ref|old|--filter|b = 7||0
+t|--ref|branch|--filter|c = 7||0
+e|M8 NoSnapshot|1
+e|--ref|main|M8 NoSnapshot|1
+t|--ref|nope|M6 NoSuchRef|1
+t|--snapshot|8|M7 NoSuchSnapshot|1
+t|--ref|bare|M3 Missing manifest-list|1
+t|--ref|lost|P2 Absent mem://t/none|3
+x|P2 Absent x|3
+mem://t/m1|--filter|c <|M1 NotJson|1
+e|--filter|c <|F1 Syntax 3|2
+t|--ref|nope|--filter|c <|F1 Syntax 3|2
+t|--ref|nope|--filter|d = 7|M6 NoSuchRef|1
+t|--ref|lost|--filter|d = 7|F2 NoSuchColumn|2
+t|--ref|old|--filter|c = 7|F2 NoSuchColumn|2
+t|--ref|branch|--filter|b = 7|F2 NoSuchColumn|2
+t|--filter|c = 99999999999|F3 WrongLiteral|2
+t|--filter|price = 1|F4 NotComparable|2
+t|--filter|c in (1,|F1 Syntax 8|2
+";
+
+/// Both tables.
+fn tables(alloc: Global) -> Result<Vec<u8>, AllocError> {
+    let mut bundle = first_bundle(alloc)?;
+    for (path, metadata) in [("t", METADATA), ("e", EMPTY)] {
+        bundle.extend_from_slice(path.as_bytes())?;
+        bundle.push(b' ')?;
+        bundle.extend_from_slice(hex::encode(alloc, metadata.as_bytes())?.as_bytes())?;
+        bundle.push(b'\n')?;
+    }
+    Ok(bundle)
+}
+
+/// Whether the program writes what a line says, and ends with its status.
+fn answers(rt: &HostRuntime, bundle: &[u8], line: &str) -> Result<bool, AllocError> {
+    let alloc = rt.alloc();
+    let mut words = Vec::new(alloc);
+    words.push(String::from_str(alloc, "plan")?)?;
+    words.push(String::from_str(alloc, "--bundle")?)?;
+    for word in line.split('|') {
+        words.push(String::from_str(alloc, word)?)?;
+    }
+    let status = words.pop();
+    let expected = words.pop();
+    let (Some(status), Some(expected)) = (status, expected) else {
+        return Ok(false);
+    };
+    let mut input = bundle;
+    let mut written = Vec::new(alloc);
+    let mut told = Vec::new(alloc);
+    let ended = run_words(rt, alloc, &words, &mut input, &mut written, &mut told);
+    let is_right = match expected.as_str() {
+        "" => written.as_slice() == PLAN.as_bytes() && told.is_empty(),
+        "-" => written.as_slice() == b"files 0 deletes 0\n".as_slice() && told.is_empty(),
+        fault => {
+            written.is_empty()
+                && told
+                    .as_slice()
+                    .strip_prefix(b"icescan: ")
+                    .and_then(|l| l.strip_suffix(b"\n"))
+                    == Some(fault.as_bytes())
+        }
+    };
+    Ok(is_right && status.parse() == Ok(ended))
+}
+
+#[test]
+fn requests(rt: HostRuntime) -> Result<(), Fail> {
+    let bundle = tables(rt.alloc())?;
+    for line in REQUESTS.lines() {
+        let is_right = answers(&rt, &bundle, line)?;
+        assert!(rt; is_right, "{line}");
+    }
+    Ok(())
+}
