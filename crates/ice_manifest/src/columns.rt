@@ -1,10 +1,12 @@
 //! What a data file says of its columns.
 
-ghost use Rattle.std.specs.Prelude.{◌≡◌, [], ◌∷◌};
+ghost use Rattle.std.specs.Prelude.{◌≡◌, [], ◌∷◌, Some};
 ghost use Rattle.contract_words.specs.Outcome.{Gives};
 ghost use Rattle.avro_schema.specs.View.{tree, trees, branches_of as branches_of_trees};
-ghost use Rattle.avro_file.specs.View.{view};
+ghost use Rattle.avro_file.specs.Value.{whole, run, values_of};
+ghost use Rattle.avro_file.specs.View.{view, pair_with, long_pairs, bytes_pairs};
 ghost use Rattle.ice_manifest.specs.Each.{each};
+ghost use Rattle.ice_manifest.specs.Fields.{items_as, items_of as items_value};
 ghost use Rattle.ice_manifest.specs.Naming.{in_manifest, told};
 ghost use Rattle.ice_manifest.specs.Seen.{fields_seen, object, listed};
 ghost use Rattle.ice_manifest.specs.Schemas.{each_branch, pair_fields, is_pair, lists_pairs, map_fits, column_fields as fields_of_columns};
@@ -166,6 +168,57 @@ fn counts_of(
     Ok(counts)
 }
 
+/// The count that an item of a map says, where it is a pair.
+#[tactic(auto, unfolding(crate::specs::Maps::count_of))]
+fn count_of_pair(
+    schema: &Schema,
+    pair: &(i32, i64),
+    map: ColumnMap,
+) -> Result<ColumnCount, FieldFault>
+    ensures { result ≡ count_of_item map (tree schema.now, pair_with pair.now.0 (whole pair.now.1)) }
+{
+    match schema {
+        Schema::Record(fields) => count_in(fields, &[Datum::Int(pair.0), Datum::Long(pair.1)], map),
+        _ => Err(FieldFault::Missing(map.key)),
+    }
+}
+
+fn counts_of_pairs(
+    alloc: Global,
+    schema: &Schema,
+    pairs: &[(i32, i64)],
+    map: ColumnMap,
+) -> Result<Items<ColumnCount>, ManifestFault>
+    ensures { Gives ManifestFault.Memory (λ x. x) result (told in_manifest (each (count_of_item map) (items_as (tree schema.now) (values_of (long_pairs pairs.now))))) }
+{
+    let mut counts = Items::with_capacity(alloc, pairs.len())?;
+    'pairs: for pair in pairs {
+        counts.push(count_of_pair(schema, pair, map)?)?;
+    }
+    Ok(counts)
+}
+
+/// The counts that a map says. No datum is built for an item of an array of pairs.
+fn counts_of_map(
+    alloc: Global,
+    schema: &Schema,
+    datum: &Datum,
+    map: ColumnMap,
+) -> Result<Items<ColumnCount>, ManifestFault>
+    ensures { Gives ManifestFault.Memory (λ x. x) result (told in_manifest (each (count_of_item map) (items_value (Some (tree schema.now, view datum.now))))) }
+{
+    match (schema, datum) {
+        (Schema::Array(items, _, _), Datum::LongPairs(pairs)) => counts_of_pairs(
+            alloc, items, pairs, map,
+        ),
+        _ => {
+            let built = pairs_built(alloc, datum)?;
+            let (schema, items) = items_of(schema, datum, &built);
+            counts_of(alloc, schema, items, map)
+        }
+    }
+}
+
 /// The counts of the map at a field; none where there is no map.
 #[tactic(auto, unfolding(crate::specs::Maps::counts_at, crate::specs::Each::each))]
 fn counts_at(
@@ -177,11 +230,7 @@ fn counts_at(
     ensures { Gives ManifestFault.Memory (λ x. x) result (told in_manifest (counts_said map (object fields.now values.now))) }
 {
     match pick(fields, values, map.id) {
-        Some((schema, datum)) => {
-            let built = pairs_built(alloc, datum)?;
-            let (schema, items) = items_of(schema, datum, &built);
-            counts_of(alloc, schema, items, map)
-        }
+        Some((schema, datum)) => counts_of_map(alloc, schema, datum, map),
         None => Ok(Items::new(alloc)),
     }
 }
@@ -236,6 +285,63 @@ fn bounds_of(
     Ok(bounds)
 }
 
+/// The bound that an item of a map says, where it is a pair.
+#[tactic(auto, unfolding(crate::specs::Maps::bound_of))]
+fn bound_of_pair(
+    alloc: Global,
+    schema: &Schema,
+    pair: &(i32, &[u8]),
+    map: ColumnMap,
+) -> Result<ColumnBound, ManifestFault>
+    ensures { Gives ManifestFault.Memory (λ x. x) result (told in_manifest (bound_of_item map (tree schema.now, pair_with pair.now.0 (run pair.now.1.now)))) }
+{
+    match schema {
+        Schema::Record(fields) => bound_in(
+            alloc,
+            fields,
+            &[Datum::Int(pair.0), Datum::Bytes(pair.1)],
+            map,
+        ),
+        _ => Err(ManifestFault::MissingField(map.key)),
+    }
+}
+
+fn bounds_of_pairs(
+    alloc: Global,
+    schema: &Schema,
+    pairs: &[(i32, &[u8])],
+    map: ColumnMap,
+) -> Result<Items<ColumnBound>, ManifestFault>
+    ensures { Gives ManifestFault.Memory (λ x. x) result (told in_manifest (each (bound_of_item map) (items_as (tree schema.now) (values_of (bytes_pairs pairs.now))))) }
+{
+    let mut bounds = Items::with_capacity(alloc, pairs.len())?;
+    'pairs: for pair in pairs {
+        bounds.push(bound_of_pair(alloc, schema, pair, map)?)?;
+    }
+    Ok(bounds)
+}
+
+/// The bounds that a map says. No datum is built for an item of an array of pairs.
+fn bounds_of_map(
+    alloc: Global,
+    schema: &Schema,
+    datum: &Datum,
+    map: ColumnMap,
+) -> Result<Items<ColumnBound>, ManifestFault>
+    ensures { Gives ManifestFault.Memory (λ x. x) result (told in_manifest (each (bound_of_item map) (items_value (Some (tree schema.now, view datum.now))))) }
+{
+    match (schema, datum) {
+        (Schema::Array(items, _, _), Datum::BytesPairs(pairs)) => bounds_of_pairs(
+            alloc, items, pairs, map,
+        ),
+        _ => {
+            let built = pairs_built(alloc, datum)?;
+            let (schema, items) = items_of(schema, datum, &built);
+            bounds_of(alloc, schema, items, map)
+        }
+    }
+}
+
 /// The bounds of the map at a field; none where there is no map.
 #[tactic(auto, unfolding(crate::specs::Maps::bounds_at, crate::specs::Each::each))]
 fn bounds_at(
@@ -247,11 +353,7 @@ fn bounds_at(
     ensures { Gives ManifestFault.Memory (λ x. x) result (told in_manifest (bounds_said map (object fields.now values.now))) }
 {
     match pick(fields, values, map.id) {
-        Some((schema, datum)) => {
-            let built = pairs_built(alloc, datum)?;
-            let (schema, items) = items_of(schema, datum, &built);
-            bounds_of(alloc, schema, items, map)
-        }
+        Some((schema, datum)) => bounds_of_map(alloc, schema, datum, map),
         None => Ok(Items::new(alloc)),
     }
 }

@@ -14,15 +14,9 @@ const MAPS: [(i32, i32, i32, &str); 4] = [
     (128, 129, 130, "bytes"),
 ];
 
-/// A manifest of one data file with the four maps, in this order or the other one.
-fn manifest(alloc: Global, turned: bool, bytes: &str) -> Result<Vec<u8>, Fail> {
+/// A manifest of one data file with these maps.
+fn manifest(alloc: Global, maps: [(i32, i32, i32, &str); 4], bytes: &str) -> Result<Vec<u8>, Fail> {
     let mut schema = String::from_str(alloc, START)?;
-    let [first, second, third, fourth] = MAPS;
-    let maps = if turned {
-        [fourth, third, second, first]
-    } else {
-        MAPS
-    };
     for (id, key, said, kind) in maps {
         let field = format!(in alloc;
             ",{{\"name\":\"m{id}\",\"field-id\":{id},\"type\":[\"null\",{{\"type\":\"array\",\"logicalType\":\"map\",\"items\":{{\"type\":\"record\",\"name\":\"k{id}\",\"fields\":[{{\"name\":\"k\",\"type\":\"int\",\"field-id\":{key}}},{{\"name\":\"v\",\"type\":\"{kind}\",\"field-id\":{said}}}]}}}}]}}"
@@ -37,7 +31,7 @@ fn manifest(alloc: Global, turned: bool, bytes: &str) -> Result<Vec<u8>, Fail> {
 /// What a manifest says of the columns of its one file.
 fn bounds(alloc: Global, bytes: &[u8]) -> Result<FileBounds, Fail> {
     let row = row(alloc, ManifestContent::Data, 7)?;
-    let spec = Spec::empty(alloc, 7);
+    let spec = Spec::empty(alloc, row.spec_id);
     let mut found = read_manifest(alloc, &row, &spec, bytes)
         .ok()
         .ok_or("a file")?;
@@ -53,9 +47,10 @@ fn counts_and_bounds_by_their_ids(rt: HostRuntime) -> Result<(), Fail> {
     let upper = "02 04 02 02 06 06 04 07 08 00";
     let written = format!(in rt.alloc(); "{values} {nulls} {lower} {upper}")?;
     let turned = format!(in rt.alloc(); "{upper} {lower} {nulls} {values}")?;
+    let [first, second, third, fourth] = MAPS;
     for bytes in [
-        manifest(rt.alloc(), false, &written)?,
-        manifest(rt.alloc(), true, &turned)?,
+        manifest(rt.alloc(), MAPS, &written)?,
+        manifest(rt.alloc(), [fourth, third, second, first], &turned)?,
     ] {
         let found = bounds(rt.alloc(), &bytes)?;
         assert_eq!(rt; found.value_count(1), Some(10));
@@ -70,13 +65,27 @@ fn counts_and_bounds_by_their_ids(rt: HostRuntime) -> Result<(), Fail> {
     Ok(())
 }
 
+/// A key that is written behind its count, as the long of the two.
+#[test]
+fn keys_by_their_ids(rt: HostRuntime) -> Result<(), Fail> {
+    let [(id, key, said, kind), nulls, lower, upper] = MAPS;
+    let maps = [(id, said, key, kind), nulls, lower, upper];
+    let found = bounds(
+        rt.alloc(),
+        &manifest(rt.alloc(), maps, "02 02 14 04 00 00 00 00")?,
+    )?;
+    assert_eq!(rt; found.value_count(2), Some(10));
+    assert_eq!(rt; found.value_count(10), None);
+    Ok(())
+}
+
 /// Of a key that stands twice the last counts, also where it stands in another block.
 #[test]
 fn keys_twice(rt: HostRuntime) -> Result<(), Fail> {
     let twice = "02 06 02 14 04 28 02 1e 00";
     let blocks = "02 02 02 02 05 02 02 00 00";
     let written = format!(in rt.alloc(); "{twice} {twice} {blocks} {blocks}")?;
-    let found = bounds(rt.alloc(), &manifest(rt.alloc(), false, &written)?)?;
+    let found = bounds(rt.alloc(), &manifest(rt.alloc(), MAPS, &written)?)?;
     assert_eq!(rt; found.value_count(1), Some(15));
     assert_eq!(rt; found.value_count(2), Some(20));
     assert_eq!(rt; found.null_count(1), Some(15));
@@ -89,7 +98,7 @@ fn keys_twice(rt: HostRuntime) -> Result<(), Fail> {
 
 #[test]
 fn null_maps_say_nothing(rt: HostRuntime) -> Result<(), Fail> {
-    let found = bounds(rt.alloc(), &manifest(rt.alloc(), false, "00 00 00 00")?)?;
+    let found = bounds(rt.alloc(), &manifest(rt.alloc(), MAPS, "00 00 00 00")?)?;
     assert!(rt; found.value_counts.as_slice().is_empty());
     assert!(rt; found.null_counts.as_slice().is_empty());
     assert!(rt; found.lower_bounds.as_slice().is_empty());

@@ -446,6 +446,9 @@ fn fault_of_entry<'a>(
 ) -> Result<String, Fail> {
     let file = with_cases(alloc, &usual.file, (one, other), &nothing(alloc))?;
     let entry = with_cases(alloc, &usual.entry, (one, other), &file)?;
+    if usual.spec.id != usual.row.spec_id {
+        return Ok(String::from_str(alloc, "another spec")?);
+    }
     match read_manifest(alloc, &usual.row, &usual.spec, &file_of(alloc, &entry)?) {
         Ok(_) => Ok(String::new(alloc)),
         Err(fault) => Ok(format!(in alloc; "{fault:?}")?),

@@ -45,7 +45,12 @@ fn push_cell(text: &mut String, alloc: Global, cell: &Cell) -> Result<(), Fail> 
 /// The cells of the one file of a manifest, or the fault.
 fn cells(alloc: Global, field_ids: &[i32], bytes: &[u8]) -> Result<String, Fail> {
     let row = row(alloc, ManifestContent::Data, 7)?;
-    let found = match read_manifest(alloc, &row, &spec_of(alloc, field_ids)?, bytes) {
+    let Spec { fields, .. } = spec_of(alloc, field_ids)?;
+    let spec = Spec {
+        id: row.spec_id,
+        fields,
+    };
+    let found = match read_manifest(alloc, &row, &spec, bytes) {
         Ok(found) => found,
         Err(fault) => return Ok(format!(in alloc; "{fault:?}")?),
     };
