@@ -40,7 +40,7 @@ each_all {A = A} P read h (json.item d ds) front xs all e = here (read d) refl e
     here (Err fault) was now rest = absurd cc
 
 -- a list of which no id comes again is given as it is
-once_is : {A : Type 0} (id : A → ℤ) (xs ys : List A) → once id xs ≡ Ok ys → (xs ≡ ys) × (again (map id xs) ≡ None)
+pub once_is : {A : Type 0} (id : A → ℤ) (xs ys : List A) → once id xs ≡ Ok ys → (xs ≡ ys) × (again (map id xs) ≡ None)
 once_is id xs ys e = here (again (map id xs)) refl e
   where
     here : (o : Option ℤ) → again (map id xs) ≡ o → or_twice o xs ≡ Ok ys → (xs ≡ ys) × (again (map id xs) ≡ None)

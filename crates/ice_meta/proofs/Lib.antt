@@ -3,3 +3,9 @@ pub mod Refused
 pub mod Different
 pub mod Kept
 pub mod FirstFault
+pub mod Appended
+pub mod Committed
+pub mod Nesting
+pub mod Following
+pub mod Longs
+pub mod Tabled

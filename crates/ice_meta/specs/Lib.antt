@@ -8,3 +8,5 @@ pub mod Tables
 pub mod Targets
 pub mod Order
 pub mod Different
+pub mod Committing
+pub mod Laws

@@ -2,9 +2,12 @@
 #![tactic(auto)]
 
 mod columns;
+mod commit;
 mod fault;
+mod laws;
 mod members;
 mod metadata;
+mod next;
 mod numbered;
 mod schema;
 mod snapshot;
@@ -13,7 +16,9 @@ mod table;
 mod tables;
 mod types;
 
+pub use commit::{NewSnapshot, Operation};
 pub use fault::{Member, MetaFault};
+pub use laws::{a_commit_adds_its_snapshot, a_commit_keeps_the_rest, a_commit_says_the_next_table};
 pub use metadata::{Metadata, Target};
 pub use schema::{Column, Schema};
 pub use snapshot::{Ref, RefKind, Snapshot};

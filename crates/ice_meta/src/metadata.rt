@@ -1,16 +1,23 @@
 //! Table metadata: the JSON value that it is, and what it says.
 
-ghost use Rattle.std.specs.Prelude.{◌≡◌, IfOk, Some, map};
+ghost use Rattle.std.specs.Prelude.{◌≡◌, ◌≤◌, IfOk, Some, Ok, map, true, false};
 ghost use Rattle.std.specs.List.{All};
-ghost use Rattle.std.specs.Option.{option_copied, option_map};
+ghost use Rattle.std.specs.Option.{option_copied, option_map, is_some};
 ghost use Rattle.contract_words.specs.Outcome.{Gives};
+ghost use Rattle.serde_json.specs.Data.{depth};
+ghost use Rattle.serde_json.specs.Find.{as_object};
+ghost use Rattle.serde_json.specs.Read.{max_depth};
 ghost use Rattle.serde_json.specs.View.{view};
-ghost use Rattle.ice_meta.specs.Tables.{HasCurrentSchema, HasDefaultSpec, HasDifferentSchemas, HasDifferentSpecs, HasDifferentSnapshots, text_json, json_of};
+ghost use Rattle.serde_json.specs.Written.{has_float, compact_text, IsInOrder};
+ghost use Rattle.ice_meta.specs.Committing.{CanFollow, committed, next_metadata};
+ghost use Rattle.ice_meta.specs.Tables.{HasCurrentSchema, HasDefaultSpec, HasDifferentSchemas, HasDifferentSpecs, HasDifferentSnapshots, text_json, json_of, table_of};
 ghost use Rattle.ice_meta.specs.Different.{HasDifferentColumns, HasDifferentFields};
 ghost use Rattle.ice_meta.specs.Order.{IsFirst, metadata_fault};
 ghost use Rattle.ice_meta.specs.Targets.{described, metadata_of, schema_with, spec_with, snapshot_with, ref_with, bound_field, bound_spec, is_main, current_id, named_id, target_id, resolved, if_tag, pinned_id, own_schema, pinned_schema, schema_for};
 
+use crate::commit::NewSnapshot;
 use crate::fault::{Member, MetaFault};
+use crate::next::next_json;
 use crate::schema::Schema;
 use crate::snapshot::{Ref, RefKind, Snapshot};
 use crate::spec::{PartitionField, Spec};
@@ -37,11 +44,15 @@ pub struct Metadata {
     json: Value,
     table: Table,
     ghost named: { HasCurrentSchema table },
+    ghost object: { is_some (as_object (view json)) ≡ true },
+    ghost nests: { depth (view json) ≤ max_depth },
+    ghost says: { table_of (view json) ≡ Ok table },
 }
 
 /// The JSON of a text in UTF-8.
 fn json_from(alloc: Global, bytes: &[u8]) -> Result<Value, MetaFault>
-    ensures { Gives MetaFault.Memory view result (text_json bytes.now) }
+    ensures nests { IfOk result (λ json. depth (view json) ≤ max_depth) }
+    ensures read { Gives MetaFault.Memory view result (text_json bytes.now) }
 {
     let Ok(text) = str::from_utf8(bytes) else {
         return Err(MetaFault::NotJson);
@@ -57,7 +68,9 @@ fn json_from(alloc: Global, bytes: &[u8]) -> Result<Value, MetaFault>
 
 /// The JSON object of a text in UTF-8.
 fn object_from(alloc: Global, bytes: &[u8]) -> Result<Value, MetaFault>
-    ensures { Gives MetaFault.Memory view result (json_of bytes.now) }
+    ensures nests { IfOk result (λ json. depth (view json) ≤ max_depth) }
+    ensures object { IfOk result (λ json. is_some (as_object (view json)) ≡ true) }
+    ensures read { Gives MetaFault.Memory view result (json_of bytes.now) }
 {
     let json = json_from(alloc, bytes)?;
     if json.is_object() {
@@ -85,6 +98,30 @@ impl Metadata {
         let json = object_from(alloc, bytes)?;
         let table = table_of(alloc, &json)?;
         Ok(Metadata { json, table })
+    }
+
+    /// The text of the metadata file: the JSON object, also what of it isn't read, without white space and with the
+    /// members of each object in the order of their names' bytes. It reads as this metadata.
+    pub fn write(&self, alloc: Global) -> Result<Vec<u8>, AllocError>
+        ensures text { IfOk result (λ bytes. has_float (view self.now.json) ≡ false → bytes.items ≡ compact_text (view self.now.json)) }
+        ensures order { IfOk result (λ bytes. IsInOrder bytes.items (view self.now.json)) }
+        ensures read_back { IfOk result (λ bytes. metadata_of bytes.items ≡ Ok (described self.now.json self.now.table)) }
+    {
+        let text = self.json.to_vec(alloc)?;
+        Ok(text)
+    }
+
+    /// The metadata after a commit to this table: with the new snapshot, which is made from the current one and under the
+    /// current schema, as the current one and as the branch `main`, the next sequence number, and one more element of the
+    /// snapshot log. All else is kept. It is refused where the table has a snapshot of this id, and after the last of all
+    /// sequence numbers.
+    pub fn with_snapshot(&self, alloc: Global, added: &NewSnapshot) -> Result<Metadata, MetaFault>
+        ensures json { Gives MetaFault.Memory (λ next. described next.json next.table) result (committed (described self.now.json self.now.table) added.now) }
+        ensures table { CanFollow self.now.table added.now → Gives MetaFault.Memory (λ next. described next.json next.table) result (Ok (next_metadata (described self.now.json self.now.table) added.now)) }
+    {
+        let json = next_json(alloc, &self.json, &self.table, added)?;
+        let table = table_of(alloc, &json)?;
+        Ok(Self { json, table })
     }
 
     /// The whole JSON object, with the members that aren't read.

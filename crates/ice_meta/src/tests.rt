@@ -2,3 +2,4 @@ mod faults;
 mod files;
 mod specs;
 mod tables;
+mod writing;

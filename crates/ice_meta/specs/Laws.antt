@@ -1,0 +1,58 @@
+-- What a commit comes to, in words of tables alone (Apache Iceberg table spec v2, "Snapshots" and "Snapshot
+-- References").
+use Rattle.std.specs.Prelude.{◌≡◌, ◌≢◌, ℤ, List, ℕ, Some, Ok, codes}
+use Rattle.serde_json.specs.Data.{Data}
+use Rattle.ice_meta.specs.declared.commit.NewSnapshot.{NewSnapshot}
+use Rattle.ice_meta.specs.declared.metadata.Target.TheVariants as target
+use Rattle.ice_meta.specs.declared.table.Table.{Table}
+use Rattle.ice_meta.specs.Tables.{table_of}
+use Rattle.ice_meta.specs.Targets.{schema_with, spec_with, snapshot_with, ref_with, resolved}
+use Rattle.ice_meta.specs.Committing.{new_snapshot, main_at, next_json, next_table, CanFollow, AreLongs}
+
+-- Where the table can have the snapshot, the JSON after the commit says the table after the commit.
+abbrev pub SaysTheNext : Type 0
+SaysTheNext = (d : Data) (t : Table) (s : NewSnapshot) → table_of d ≡ Ok t → CanFollow t s → AreLongs t s
+    → table_of (next_json t s d) ≡ Ok (next_table t s)
+
+-- ---- what is new
+
+-- the snapshot is there under its id
+abbrev pub HasTheNew : Type 0
+HasTheNew = (t : Table) (s : NewSnapshot) → CanFollow t s
+    → snapshot_with s.id (next_table t s) ≡ Some (new_snapshot t s)
+
+-- it is the current one
+abbrev pub MakesItCurrent : Type 0
+MakesItCurrent = (t : Table) (s : NewSnapshot) → CanFollow t s → resolved target.Main (next_table t s) ≡ Ok s.id
+
+-- the branch main names it
+abbrev pub MovesMain : Type 0
+MovesMain = (t : Table) (s : NewSnapshot) → ref_with (codes "main") (next_table t s) ≡ Some (main_at s)
+
+-- ---- what stays
+
+-- each other snapshot, none new under another id
+abbrev pub KeepsOtherSnapshots : Type 0
+KeepsOtherSnapshots = (t : Table) (s : NewSnapshot) (id : ℤ) → id ≢ s.id
+    → snapshot_with id (next_table t s) ≡ snapshot_with id t
+
+-- each other branch and each tag
+abbrev pub KeepsOtherRefs : Type 0
+KeepsOtherRefs = (t : Table) (s : NewSnapshot) (name : List ℕ) → name ≢ codes "main"
+    → ref_with name (next_table t s) ≡ ref_with name t
+
+-- a branch or tag that led to a snapshot leads to it still
+abbrev pub KeepsOtherTargets : Type 0
+KeepsOtherTargets = (t : Table) (s : NewSnapshot) (name : List ℕ) (id : ℤ) → name ≢ codes "main"
+    → resolved (target.Ref name) t ≡ Ok id → resolved (target.Ref name) (next_table t s) ≡ Ok id
+
+-- a snapshot that could be planned can be planned still
+abbrev pub KeepsHistory : Type 0
+KeepsHistory = (t : Table) (s : NewSnapshot) (id : ℤ) → resolved (target.Snapshot id) t ≡ Ok id
+    → resolved (target.Snapshot id) (next_table t s) ≡ Ok id
+
+abbrev pub KeepsSchemas : Type 0
+KeepsSchemas = (t : Table) (s : NewSnapshot) (id : ℤ) → schema_with id (next_table t s) ≡ schema_with id t
+
+abbrev pub KeepsSpecs : Type 0
+KeepsSpecs = (t : Table) (s : NewSnapshot) (id : ℤ) → spec_with id (next_table t s) ≡ spec_with id t

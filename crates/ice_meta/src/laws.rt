@@ -1,0 +1,25 @@
+//! What a commit comes to.
+
+ghost use Rattle.ice_meta.specs.Laws.{SaysTheNext, HasTheNew, MakesItCurrent, MovesMain, KeepsOtherSnapshots, KeepsOtherRefs, KeepsOtherTargets, KeepsHistory, KeepsSchemas, KeepsSpecs};
+
+/// The metadata after a commit says what the metadata before it said, and the commit.
+pub fn a_commit_says_the_next_table()
+    ensures { SaysTheNext }
+{}
+
+/// After a commit the new snapshot is there, is the current one, and is what the branch `main` names.
+pub fn a_commit_adds_its_snapshot()
+    ensures there { HasTheNew }
+    ensures current { MakesItCurrent }
+    ensures main { MovesMain }
+{}
+
+/// A commit leaves the other snapshots, branches and tags, what they lead to, the schemas and the partition specs.
+pub fn a_commit_keeps_the_rest()
+    ensures snapshots { KeepsOtherSnapshots }
+    ensures refs { KeepsOtherRefs }
+    ensures targets { KeepsOtherTargets }
+    ensures history { KeepsHistory }
+    ensures schemas { KeepsSchemas }
+    ensures specs { KeepsSpecs }
+{}

@@ -1,0 +1,215 @@
+//! The JSON of the metadata that a commit leaves.
+
+ghost use Rattle.std.specs.Prelude.{◌≡◌, IfOk, IfSome};
+ghost use Rattle.serde_json.specs.View.{view, items_view};
+ghost use Rattle.ice_meta.specs.Committing.{IsLong, AreLongs, whole, inside, set, items_of, one_more, with_parent, summary_json, snapshot_json, log_json, branch_to, refs_json, with_refs, with_log, with_snapshots, next_json};
+
+use crate::commit::NewSnapshot;
+use crate::fault::Member;
+use crate::table::Table;
+use serde_json::{Map, Value, push, put};
+use std::alloc::{AllocError, Global};
+
+/// The name of the branch whose snapshot is the current one.
+const MAIN: &str = "main";
+
+/// The member with the snapshots that were current, in the order of time.
+const SNAPSHOT_LOG: &str = "snapshot-log";
+
+/// A number as JSON.
+#[tactic(auto, using(crate::proofs::Longs::is_long))]
+fn whole(number: i64) -> Value
+    ensures json { view result ≡ whole number }
+    ensures long { IsLong number }
+{
+    Value::from(number)
+}
+
+/// A copy of a member's value; null where it is left out.
+fn inside(json: &Value, name: &str) -> Result<Value, AllocError>
+    ensures { IfOk result (λ value. view value ≡ inside name.now (view json.now)) }
+{
+    match json.get(name) {
+        Some(value) => value.clone(),
+        None => Ok(Value::Null),
+    }
+}
+
+/// The object in which a member has this value; what was no object has this member alone.
+fn set(alloc: Global, json: Value, name: &str, value: Value) -> Result<Value, AllocError>
+    ensures { IfOk result (λ object. view object ≡ set name.now (view value) (view json)) }
+{
+    let mut members = match json {
+        Value::Object(members) => members,
+        _ => Map::new(alloc),
+    };
+    put(&mut members, alloc, name, value)?;
+    Ok(Value::from(members))
+}
+
+/// The items of an array; what is no array has none.
+fn items_of(alloc: Global, json: Value) -> Vec<Value>
+    ensures { items_view result.items ≡ items_of (view json) }
+{
+    match json {
+        Value::Array(items) => items,
+        _ => Vec::new(alloc),
+    }
+}
+
+/// The array with one more item at its end; what was no array has this item alone.
+#[tactic(auto, using(crate::proofs::Appended::items_at_end), unfolding(crate::specs::Committing::one_more))]
+fn one_more(alloc: Global, json: Value, item: Value) -> Result<Value, AllocError>
+    ensures { IfOk result (λ array. view array ≡ one_more (view item) (view json)) }
+{
+    let mut items = items_of(alloc, json);
+    push(&mut items, item)?;
+    Ok(Value::from(items))
+}
+
+/// The snapshot with the one that it was made from, where there is one.
+fn with_parent(alloc: Global, json: Value, parent: Option<i64>) -> Result<Value, AllocError>
+    ensures json { IfOk result (λ snapshot. view snapshot ≡ with_parent parent (view json)) }
+    ensures long { IfSome parent IsLong }
+{
+    match parent {
+        Some(id) => set(alloc, json, Member::ParentSnapshotId.name(), whole(id)),
+        None => Ok(json),
+    }
+}
+
+fn summary_json(alloc: Global, added: &NewSnapshot) -> Result<Value, AllocError>
+    ensures { IfOk result (λ summary. view summary ≡ summary_json added.now) }
+{
+    let operation = Value::try_from_str(alloc, added.operation.name())?;
+    let summary = Value::from(Map::new(alloc));
+    set(alloc, summary, Member::Operation.name(), operation)
+}
+
+/// The new snapshot, among the snapshots of the table.
+#[tactic(auto, unfolding(crate::specs::Committing::snapshot_json))]
+fn snapshot_json(alloc: Global, table: &Table, added: &NewSnapshot) -> Result<Value, AllocError>
+    ensures json { IfOk result (λ snapshot. view snapshot ≡ snapshot_json table.now added.now) }
+    ensures longs { IfOk result (λ _. AreLongs table.now added.now) }
+{
+    let sequence_number = Value::from(table.last_sequence_number.get() + 1);
+    let manifest_list = Value::try_from_str(alloc, added.manifest_list.as_str())?;
+    let schema_id = Value::from(table.current_schema_id);
+    let json = Value::from(Map::new(alloc));
+    let json = set(alloc, json, Member::SnapshotId.name(), whole(added.id))?;
+    let json = set(alloc, json, Member::SequenceNumber.name(), sequence_number)?;
+    let json = set(
+        alloc,
+        json,
+        Member::TimestampMs.name(),
+        whole(added.timestamp_ms),
+    )?;
+    let json = set(alloc, json, Member::ManifestList.name(), manifest_list)?;
+    let json = set(alloc, json, Member::SchemaId.name(), schema_id)?;
+    let json = set(
+        alloc,
+        json,
+        Member::Summary.name(),
+        summary_json(alloc, added)?,
+    )?;
+    with_parent(alloc, json, table.current_snapshot_id)
+}
+
+/// The element of the snapshot log.
+#[tactic(auto, unfolding(crate::specs::Committing::log_json))]
+fn log_json(alloc: Global, added: &NewSnapshot) -> Result<Value, AllocError>
+    ensures { IfOk result (λ element. view element ≡ log_json added.now) }
+{
+    let json = Value::from(Map::new(alloc));
+    let json = set(
+        alloc,
+        json,
+        Member::TimestampMs.name(),
+        whole(added.timestamp_ms),
+    )?;
+    set(alloc, json, Member::SnapshotId.name(), whole(added.id))
+}
+
+/// The branch, moved to a snapshot.
+fn branch_to(alloc: Global, branch: Value, id: i64) -> Result<Value, AllocError>
+    ensures { IfOk result (λ moved. view moved ≡ branch_to id (view branch)) }
+{
+    let kind = Value::try_from_str(alloc, "branch")?;
+    let branch = set(alloc, branch, Member::SnapshotId.name(), whole(id))?;
+    set(alloc, branch, Member::Type.name(), kind)
+}
+
+/// The branches and tags, with `main` at the new snapshot.
+#[tactic(auto, unfolding(crate::specs::Committing::refs_json))]
+fn refs_json(alloc: Global, refs: Value, added: &NewSnapshot) -> Result<Value, AllocError>
+    ensures { IfOk result (λ moved. view moved ≡ refs_json added.now (view refs)) }
+{
+    let main = branch_to(alloc, inside(&refs, MAIN)?, added.id)?;
+    set(alloc, refs, MAIN, main)
+}
+
+/// Moves `main` to the new snapshot.
+fn with_refs(alloc: Global, json: Value, added: &NewSnapshot) -> Result<Value, AllocError>
+    ensures { IfOk result (λ next. view next ≡ with_refs added.now (view json)) }
+{
+    let refs = refs_json(alloc, inside(&json, Member::Refs.name())?, added)?;
+    set(alloc, json, Member::Refs.name(), refs)
+}
+
+/// Adds the element of the snapshot log.
+fn with_log(alloc: Global, json: Value, added: &NewSnapshot) -> Result<Value, AllocError>
+    ensures { IfOk result (λ next. view next ≡ with_log added.now (view json)) }
+{
+    let log = one_more(alloc, inside(&json, SNAPSHOT_LOG)?, log_json(alloc, added)?)?;
+    set(alloc, json, SNAPSHOT_LOG, log)
+}
+
+/// Adds the snapshot.
+fn with_snapshots(
+    alloc: Global,
+    json: Value,
+    table: &Table,
+    added: &NewSnapshot,
+) -> Result<Value, AllocError>
+    ensures json { IfOk result (λ next. view next ≡ with_snapshots table.now added.now (view json)) }
+    ensures longs { IfOk result (λ _. AreLongs table.now added.now) }
+{
+    let snapshot = snapshot_json(alloc, table, added)?;
+    let snapshots = one_more(alloc, inside(&json, Member::Snapshots.name())?, snapshot)?;
+    set(alloc, json, Member::Snapshots.name(), snapshots)
+}
+
+/// The metadata after the commit.
+#[tactic(auto, unfolding(crate::specs::Committing::next_json))]
+pub fn next_json(
+    alloc: Global,
+    json: &Value,
+    table: &Table,
+    added: &NewSnapshot,
+) -> Result<Value, AllocError>
+    ensures json { IfOk result (λ next. view next ≡ next_json table.now added.now (view json.now)) }
+    ensures longs { IfOk result (λ _. AreLongs table.now added.now) }
+{
+    let sequence_number = Value::from(table.last_sequence_number.get() + 1);
+    let next = with_refs(alloc, json.clone()?, added)?;
+    let next = with_log(alloc, next, added)?;
+    let next = with_snapshots(alloc, next, table, added)?;
+    let next = set(
+        alloc,
+        next,
+        Member::CurrentSnapshotId.name(),
+        whole(added.id),
+    )?;
+    let next = set(
+        alloc,
+        next,
+        Member::LastUpdatedMs.name(),
+        whole(added.timestamp_ms),
+    )?;
+    set(
+        alloc,
+        next,
+        Member::LastSequenceNumber.name(),
+        sequence_number,
+    )
+}
