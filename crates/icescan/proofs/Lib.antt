@@ -1,3 +1,4 @@
+pub mod Crews
 pub mod Escapes
 pub mod Lines
 pub mod Lookups

@@ -33,7 +33,7 @@ use Rattle.icescan.specs.declared.selection.Request.{Request}
 use Rattle.icescan.specs.declared.selection.Selection.{Selection}
 use Rattle.icescan.specs.Faults.{of_finish, of_list, of_scan, of_wanted}
 use Rattle.icescan.specs.ListPlans.{MayEnd, all_present, as_run, file_in, rows_in, wanted_of}
-use Rattle.icescan.specs.Plans.{Answers, TellsTheTruth, answer_at, answer_by, manifests, manifests_of, over_all_rows, over_wanted_rows, reads, reads_at, reads_behind, reads_of, rows_at, rows_plan, scan_in}
+use Rattle.icescan.specs.Plans.{Answers, TellsTheTruth, answer_at, answer_by, by_workers, manifests, manifests_of, over_all_rows, over_wanted_rows, reads, reads_at, reads_behind, reads_of, rows_at, rows_plan, scan_in}
 use Rattle.icescan.specs.Selections.{IsOfRequest, selected}
 use Rattle.icescan.proofs.Steps.{fails_later, finish_ends, first_ends, has_each, list_ends, only_first, scan_ends, stops_end, then_ends, untaken_all}
 
@@ -51,6 +51,7 @@ request_ends read r w (run.Absent path) is h = absurd is
 request_ends read r w (run.List f) is h = absurd is
 request_ends read r w (run.Scan f) is h = absurd is
 request_ends read r w (run.Finish f) is h = absurd is
+request_ends read r w run.Workers is h = absurd is
 
 -- more reads may fail
 pub more_reads : {A : Type 0} (read : Result A RunFault) (r s : List ℕ → Type 0) (w : Type 0) (e : RunFault) → ((path : List ℕ) → r path → s path) → MayEnd read r w e → MayEnd read s w e
@@ -66,6 +67,7 @@ more_reads read r s w (run.Scan f) more h = h
 more_reads read r s w (run.Finish f) more h = h
 more_reads read r s w (run.Metadata f) more h = h
 more_reads read r s w (run.Filter f) more h = h
+more_reads read r s w run.Workers more h = h
 
 -- the same answer, and more reads that may fail
 pub answers_as : (read other : Result (List OwnedLine) RunFault) (r s : List ℕ → Type 0) (w : Type 0) (result : Result Unit RunFault) (o o' : Option (List ℕ)) → other ≡ read → ((path : List ℕ) → r path → s path) → Answers read r w result o o' → Answers other s w result o o'
@@ -175,15 +177,15 @@ not_asked f w world metadata request e own h =
 
 -- ---- the metadata of a file
 
-module _ (f : List ℕ → Type 0) (world : World) (path : List ℕ) (request : Request) where
-  pub no_metadata : (w : Type 0) (e : RunFault) → MayEnd (file_in world path) (EndsAt world f (path ∷ [])) ⊥ e → MayEnd (answer_at over_wanted_rows world path request) (EndsAt world f (reads_at world path request)) w e
+module _ (f : List ℕ → Type 0) (world : World) (path : List ℕ) (request : Request) (workers : ℕ) where
+  pub no_metadata : (w : Type 0) (e : RunFault) → MayEnd (file_in world path) (EndsAt world f (path ∷ [])) ⊥ e → MayEnd (answer_at over_wanted_rows world path request workers) (EndsAt world f (reads_at world path request)) w e
   unfolding answer_at reads_at
   no_metadata w e h =
       first_ends (EndsAt world f (reads_at world path request)) w (EndsAt world f (path ∷ [])) (file_in world path) _ e
       (λ p m. only_first world f path (reads_behind world request (file_in world path)) p m) h
 
   module _ (metadata : List ℕ) (has : file_in world path ≡ Ok metadata) where
-    pub answer_behind : answer_at over_wanted_rows world path request ≡ answer_by over_wanted_rows world metadata request
+    pub answer_behind : answer_at over_wanted_rows world path request workers ≡ by_workers workers (answer_by over_wanted_rows world metadata request)
     unfolding answer_at
     answer_behind = rw has refl
 

@@ -50,9 +50,9 @@ pub no_show : (path text : List ℕ) (e : RunFault) → bundle_of text ≡ Err e
 unfolding shown_text
 no_show path text e h = rw h refl
 
-pub no_request : (path : List ℕ) (request : Request) (text : List ℕ) (e : RunFault) → bundle_of text ≡ Err e → planned_text path request text ≡ Err e
+pub no_request : (path : List ℕ) (request : Request) (workers : ℕ) (text : List ℕ) (e : RunFault) → bundle_of text ≡ Err e → planned_text path request workers text ≡ Err e
 unfolding planned_text
-no_request path request text e h = rw h refl
+no_request path request workers text e h = rw h refl
 
 module _ (text : List ℕ) (w : Type 0) (read : Result (List ℕ) RunFault) (passed : (e : RunFault) → bundle_of text ≡ Err e → read ≡ Err e) where
   bundle_refused : (e : RunFault) → (e ≢ run.Memory → bundle_of text ≡ Err e) → MayRefuse read w e
@@ -68,6 +68,7 @@ module _ (text : List ℕ) (w : Type 0) (read : Result (List ℕ) RunFault) (pas
   bundle_refused (run.Finish f) h = passed (run.Finish f) (h (λ m. cc))
   bundle_refused (run.Metadata f) h = passed (run.Metadata f) (h (λ m. cc))
   bundle_refused (run.Filter f) h = passed (run.Filter f) (h (λ m. cc))
+  bundle_refused run.Workers h = passed run.Workers (h (λ m. cc))
 
   -- no bundle is refused for a failed write
   no_write : (e : RunFault) → (e ≢ run.Memory → bundle_of text ≡ Err e) → e ≡ run.Write → ⊥
@@ -99,9 +100,9 @@ module _ (text : List ℕ) (files : List File) (is : bundle_of text ≡ Ok files
   unfolding shown_text
   shown_from path = rw is refl
 
-  pub request_from : (path : List ℕ) (request : Request) → planned_text path request text ≡ as_text (answer_at over_wanted_rows (λ p. bytes_at files p) path request)
+  pub request_from : (path : List ℕ) (request : Request) (workers : ℕ) → planned_text path request workers text ≡ as_text (answer_at over_wanted_rows (λ p. bytes_at files p) path request workers)
   unfolding planned_text
-  request_from path request = rw is refl
+  request_from path request workers = rw is refl
 
 -- over files whose reads can't fail
 pub ends_refused : {A : Type 0} (told : Result A RunFault → Result (List ℕ) RunFault) (read : Result A RunFault) (other : Result (List ℕ) RunFault) (r : List ℕ → Type 0) (w : Type 0) (e : RunFault) → ((f : RunFault) → told (Err f) ≡ Err f) → ((path : List ℕ) → r path → ⊥) → other ≡ told read → MayEnd read r w e → MayRefuse other w e
@@ -117,6 +118,7 @@ ends_refused told read other r w (run.Scan f) keeps never q h = q ∙ ap told h 
 ends_refused told read other r w (run.Finish f) keeps never q h = q ∙ ap told h ∙ keeps _
 ends_refused told read other r w (run.Metadata f) keeps never q h = q ∙ ap told h ∙ keeps _
 ends_refused told read other r w (run.Filter f) keeps never q h = q ∙ ap told h ∙ keeps _
+ends_refused told read other r w run.Workers keeps never q h = q ∙ ap told h ∙ keeps _
 
 -- before anything was read: any text may be what was left
 abbrev pub left_of : Option (List ℕ) → List ℕ

@@ -54,6 +54,7 @@ module _ (r : List ℕ → Type 0) (w : Type 0) where
   any_reads read (run.Finish f) h = h
   any_reads read (run.Metadata f) h = h
   any_reads read (run.Filter f) h = h
+  any_reads read run.Workers h = h
 
 module _ (world : World) (path : List ℕ) where
   pub file_ends : (r : List ℕ → Type 0) (w : Type 0) (e : RunFault) → MayEnd (file_in world path) r ⊥ e → MayEnd (shown_at world path) r w e

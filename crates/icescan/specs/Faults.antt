@@ -18,6 +18,8 @@ use Rattle.ice_state.specs.declared.fault.FinishFault.{FinishFault}
 use Rattle.ice_state.specs.declared.fault.FinishFault.TheVariants as finish
 use Rattle.ice_desk.specs.declared.fault.WantedFault.{WantedFault}
 use Rattle.ice_desk.specs.declared.fault.WantedFault.TheVariants as wanted
+use Rattle.ice_desk.specs.declared.fault.PlanFault.{PlanFault}
+use Rattle.ice_desk.specs.declared.fault.PlanFault.TheVariants as plan
 use Rattle.icescan.specs.declared.fault.RunFault.{RunFault}
 use Rattle.icescan.specs.declared.fault.RunFault.TheVariants as run
 
@@ -46,6 +48,13 @@ abbrev pub of_wanted : WantedFault → RunFault
 of_wanted (wanted.Absent path) = run.Absent path
 of_wanted (wanted.Device path) = run.Device path
 of_wanted wanted.Memory = run.Memory
+
+abbrev pub of_plan : PlanFault → RunFault
+of_plan (plan.Finish fault) = of_finish fault
+of_plan (plan.Absent path) = run.Absent path
+of_plan (plan.Device path) = run.Device path
+of_plan plan.Memory = run.Memory
+of_plan plan.Workers = run.Workers
 
 -- a fault in which memory ran out, however deep
 abbrev pub schema_wants_memory : SchemaFault → Bool
@@ -80,7 +89,8 @@ abbrev pub meta_wants_memory : MetaFault → Bool
 meta_wants_memory meta.Memory = true
 meta_wants_memory _ = false
 
--- 1: the table is refused; 2: the words, the bundle or the filter; 3: a read or a write failed; 5: memory ran out
+-- 1: the table is refused; 2: the words, the number of workers, the bundle or the filter; 3: a read or a write failed;
+-- 5: memory ran out
 abbrev pub refused_status : Bool → ℕ
 refused_status wants_memory = if wants_memory then 5 else 1
 
@@ -91,6 +101,7 @@ filter_status _ = 2
 abbrev pub status_of : RunFault → ℕ
 status_of (run.Bundle line) = 2
 status_of (run.Words text) = 2
+status_of run.Workers = 2
 status_of (run.List fault) = refused_status (list_wants_memory fault)
 status_of (run.Scan fault) = refused_status (scan_wants_memory fault)
 status_of (run.Finish fault) = refused_status (finish_wants_memory fault)

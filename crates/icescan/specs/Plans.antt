@@ -1,5 +1,5 @@
 -- The plan of a table's snapshot under a filter: Apache Iceberg table spec, version 2, "Scan Planning".
-use Rattle.std.specs.Prelude.{◌≡◌, ℕ, List, [], ◌∷◌, Option, Result, Ok, Err, OnOk, IfErr, IsErrOf}
+use Rattle.std.specs.Prelude.{◌≡◌, ℕ, List, [], ◌∷◌, Option, Result, Ok, Err, OnOk, IfErr, IsErrOf, nat_le, ◌&&◌, if◌then◌else◌}
 use Rattle.contract_words.specs.Outcome.{◌>>=◌}
 use Rattle.ice_filter.specs.declared.bound.BoundLeaf.{BoundLeaf}
 use Rattle.ice_filter.specs.declared.parts.Part.{Part}
@@ -74,6 +74,10 @@ answer = answer_by over_all_rows
 abbrev pub wanted_answer : World → List ℕ → Request → Result (List OwnedLine) RunFault
 wanted_answer = answer_by over_wanted_rows
 
+-- what is planned by so many workers: there have to be from 1 to 64, and before that is settled nothing else is
+abbrev pub by_workers : {A : Type 0} → ℕ → Result A RunFault → Result A RunFault
+by_workers workers read = if nat_le 1 workers && nat_le workers 64 then read else Err run.Workers
+
 -- the summaries of all rows of the snapshot tell the truth; then both are the same
 abbrev pub TellsTheTruth : World → List ℕ → Request → Type 0
 TellsTheTruth world metadata request =
@@ -92,9 +96,11 @@ reads_of world (Err fault) = []
 unfoldable pub reads : World → List ℕ → Request → List (List ℕ)
 reads world metadata request = reads_of world (selected metadata request)
 
--- the same of the metadata in the file at a path
-unfoldable pub answer_at : Ending → World → List ℕ → Request → Result (List OwnedLine) RunFault
-answer_at ending world path request = file_in world path >>= λ metadata. answer_by ending world metadata request
+-- the same of the metadata in the file at a path, by so many workers
+unfoldable pub answer_at : Ending → World → List ℕ → Request → ℕ → Result (List OwnedLine) RunFault
+answer_at ending world path request workers = do
+  metadata ← file_in world path
+  by_workers workers (answer_by ending world metadata request)
 
 abbrev pub reads_behind : World → Request → Result (List ℕ) RunFault → List (List ℕ)
 reads_behind world request (Ok metadata) = reads world metadata request

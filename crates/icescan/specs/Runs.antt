@@ -64,18 +64,20 @@ bundle_text list input = do
 unfoldable pub shown_text : List ℕ → List ℕ → Result (List ℕ) RunFault
 shown_text path input = bundle_of input >>= λ files. shown_at (λ path. bytes_at files path) path
 
--- the text of the plan that is asked of a table in a bundle, or the first fault: of the bundle, of the file with the
--- metadata, of the plan
-unfoldable pub planned_text : List ℕ → Request → List ℕ → Result (List ℕ) RunFault
-planned_text path request input = bundle_of input >>= λ files. as_text (answer_at over_wanted_rows (λ path. bytes_at files path) path request)
+-- the text of the plan that is asked of a table in a bundle, by so many workers, or the first fault: of the bundle, of the
+-- file with the metadata, of the number of workers, of the plan
+unfoldable pub planned_text : List ℕ → Request → ℕ → List ℕ → Result (List ℕ) RunFault
+planned_text path request workers input = do
+  files ← bundle_of input
+  as_text (answer_at over_wanted_rows (λ path. bytes_at files path) path request workers)
 
 -- The text that a command asks for, or the first fault, where its files are told: those of a bundle are what standard
 -- input had, those of a folder are not told.
 abbrev pub answer_to : Words → List ℕ → Option (Result (List ℕ) RunFault)
 answer_to (words.ListPlan (lists.Bundle list)) input = Some (bundle_text list input)
 answer_to (words.ListPlan (lists.Folder place list)) input = None
-answer_to (words.Plan source.Bundle request path) input = Some (planned_text path request input)
-answer_to (words.Plan (source.Folder place) request path) input = None
+answer_to (words.Plan source.Bundle request workers path) input = Some (planned_text path request workers input)
+answer_to (words.Plan (source.Folder place) request workers path) input = None
 answer_to (words.Show source.Bundle path) input = Some (shown_text path input)
 answer_to (words.Show (source.Folder place) path) input = None
 answer_to (words.Text text) input = Some (Ok text)

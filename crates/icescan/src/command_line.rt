@@ -45,8 +45,8 @@ pub enum Source {
 pub enum Words {
     /// The plan of a manifest list.
     ListPlan(Lists),
-    /// The plan that is asked of the table whose metadata is at this path.
-    Plan(Source, Request, Text),
+    /// The plan, by so many workers, that is asked of the table whose metadata is at this path.
+    Plan(Source, Request, usize, Text),
     /// The text of the metadata at this path.
     Show(Source, Text),
     /// A text of help, or the version.
@@ -161,6 +161,17 @@ fn with_request<'a>(alloc: Global, command: Command<'a>) -> Result<Command<'a>, 
     command.arg(named)?.arg(snapshot)?.arg(filter)
 }
 
+/// The option that says how many workers plan.
+fn with_workers<'a>(alloc: Global, command: Command<'a>) -> Result<Command<'a>, AllocError> {
+    let workers = Arg::new(alloc, "workers")
+        .long("workers")
+        .value_name("N")
+        .value_parser(value_parser!(usize))
+        .default_value("1")
+        .help("How many workers read manifests at once, each in a thread of its own: from 1 to 64");
+    command.arg(workers)
+}
+
 /// The command `plan`.
 fn plan_command<'a>(alloc: Global) -> Result<Command<'a>, AllocError> {
     let metadata = Arg::new(alloc, "metadata")
@@ -173,7 +184,7 @@ fn plan_command<'a>(alloc: Global) -> Result<Command<'a>, AllocError> {
         )
         .after_long_help(PLAN_EXAMPLE)
         .arg(metadata)?;
-    with_source(alloc, with_request(alloc, command)?)
+    with_source(alloc, with_workers(alloc, with_request(alloc, command)?)?)
 }
 
 /// The command `show`.
@@ -264,6 +275,11 @@ fn request_of(alloc: Global, matches: &ArgMatches<'_>) -> Result<Request, AllocE
     })
 }
 
+/// How many workers are asked for.
+fn workers_of(matches: &ArgMatches<'_>) -> usize {
+    matches.get_one::<usize>("workers").unwrap_or(1)
+}
+
 /// What the words were found to ask for.
 fn asked_of(alloc: Global, matches: &ArgMatches<'_>) -> Result<Words, RunFault>
     ensures { IfErr result IsWordsFault }
@@ -275,6 +291,7 @@ fn asked_of(alloc: Global, matches: &ArgMatches<'_>) -> Result<Words, RunFault>
         "plan" => Ok(Words::Plan(
             source_of(alloc, matches)?,
             request_of(alloc, matches)?,
+            workers_of(matches),
             metadata_of(alloc, matches)?,
         )),
         "show" => Ok(Words::Show(source_of(alloc, matches)?, metadata_of(alloc, matches)?)),

@@ -1,14 +1,14 @@
 //! Why the program ends without an answer.
 
 ghost use Rattle.std.specs.Prelude.{◌≡◌};
-ghost use Rattle.icescan.specs.Faults.{of_list, of_scan, of_finish, of_wanted, of_meta, of_filter, filter_status, refused_status, meta_wants_memory, schema_wants_memory, avro_wants_memory, list_wants_memory, manifest_wants_memory, scan_wants_memory, finish_wants_memory, status_of};
+ghost use Rattle.icescan.specs.Faults.{of_list, of_scan, of_finish, of_wanted, of_plan, of_meta, of_filter, filter_status, refused_status, meta_wants_memory, schema_wants_memory, avro_wants_memory, list_wants_memory, manifest_wants_memory, scan_wants_memory, finish_wants_memory, status_of};
 ghost use Rattle.icescan.specs.declared.fault.RunFault.TheVariants as run;
 
 use crate::sink::SinkFault;
 use avro_file::AvroFault;
 use avro_schema::SchemaFault;
 use contract_words::Text;
-use ice_desk::WantedFault;
+use ice_desk::{PlanFault, WantedFault};
 use ice_filter::FilterFault;
 use ice_manifest::{ListFault, ManifestFault};
 use ice_meta::MetaFault;
@@ -49,6 +49,9 @@ pub enum RunFault {
     /// The filter is refused.
     #[error("the filter is refused: {0:?}")]
     Filter(FilterFault),
+    /// There are to be from 1 to 64 workers.
+    #[error("there have to be from 1 to 64 workers")]
+    Workers,
     /// What is asked for can't be written.
     #[error("what is asked for can't be written")]
     Write,
@@ -148,14 +151,28 @@ impl From<WantedFault> for RunFault {
     }
 }
 
+impl From<PlanFault> for RunFault {
+    ghost from_gives = { λ fault e. e ≡ of_plan fault };
+
+    fn from(fault: PlanFault) -> RunFault {
+        match fault {
+            PlanFault::Finish(fault) => fault.into(),
+            PlanFault::Absent(path) => RunFault::Absent(path),
+            PlanFault::Device(path) => RunFault::Device(path),
+            PlanFault::Memory => RunFault::Memory,
+            PlanFault::Workers => RunFault::Workers,
+        }
+    }
+}
+
 impl RunFault {
-    /// The status that the program ends with: 1 where the table is refused, 2 for the words, the bundle or the filter,
-    /// 3 where a read or a write failed, and 5 where memory ran out.
+    /// The status that the program ends with: 1 where the table is refused, 2 for the words, the number of workers, the
+    /// bundle or the filter, 3 where a read or a write failed, and 5 where memory ran out.
     pub fn status(&self) -> u8
         ensures { result ≡ status_of self.now }
     {
         match self {
-            RunFault::Words(_) | RunFault::Bundle(_) => 2,
+            RunFault::Words(_) | RunFault::Bundle(_) | RunFault::Workers => 2,
             RunFault::Input | RunFault::Absent(_) | RunFault::Device(_) | RunFault::Write => 3,
             RunFault::List(fault) => refused_status(list_wants_memory(fault)),
             RunFault::Scan(fault) => refused_status(scan_wants_memory(*fault)),

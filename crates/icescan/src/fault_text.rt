@@ -51,6 +51,7 @@ fn put_run_fault<S: Sink>(sink: &mut S, fault: &RunFault) -> Result<(), SinkFaul
         RunFault::Finish(fault) => put_finish_fault(sink, fault),
         RunFault::Metadata(fault) => put_meta_fault(sink, fault),
         RunFault::Filter(fault) => put_filter_fault(sink, *fault),
+        RunFault::Workers => write_all(sink, b"P5 Workers"),
         RunFault::Write => write_all(sink, b"W1 Write"),
         RunFault::Memory => write_all(sink, b"Memory"),
     }

@@ -15,6 +15,7 @@ mod plan_text;
 mod report;
 mod run_list_plan;
 mod run_plan;
+mod run_plan_with;
 mod selection;
 mod show;
 mod sink;

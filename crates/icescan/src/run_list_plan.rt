@@ -34,6 +34,7 @@ pub fn read_file<F: Files>(alloc: Global, files: &F, path: &str) -> Result<Vec<u
     ensures absent { (path : List ℕ) → IsErrOf result (RunFault.Absent path) → HasAt (F.world files.now) path None }
     ensures device { (path : List ℕ) → IsErrOf result (RunFault.Device path) → F.may_fail files.now path }
     ensures write { IsErrOf result RunFault.Write → ⊥ }
+    ensures workers { IsErrOf result RunFault.Workers → ⊥ }
 {
     match files.read(alloc, path) {
         Ok(bytes) => Ok(bytes),

@@ -1,10 +1,10 @@
 //! The plan of a table's snapshot, under a filter.
 
-ghost use Rattle.std.specs.Prelude.{◌≡◌, ◌≢◌, ℕ, List, ◌∷◌, [], Some, None, Ok, IfOk, IfErr, OnOk, IsErrOf};
+ghost use Rattle.std.specs.Prelude.{◌≡◌, ◌≢◌, ◌≤◌, ℕ, List, ◌∷◌, [], length, Some, None, Ok, IfOk, IfErr, OnOk, IsErrOf};
 ghost use Rattle.ice_desk.specs.Worlds.{EndsAt, HasAt};
 ghost use Rattle.ice_state.specs.Contents.{World};
 ghost use Rattle.icescan.specs.ListPlans.{MayEnd};
-ghost use Rattle.icescan.specs.Plans.{Answers, TellsTheTruth, answer, answer_at, manifests, over_wanted_rows, reads, reads_at, rows_at, rows_plan, wanted_answer};
+ghost use Rattle.icescan.specs.Plans.{Answers, TellsTheTruth, answer, manifests, over_wanted_rows, reads, rows_at, rows_plan, wanted_answer};
 ghost use Rattle.icescan.specs.Selections.{selected};
 ghost use Rattle.icescan.specs.declared.selection.Request.{Request};
 ghost use Rattle.icescan.specs.declared.selection.Selection.{Selection};
@@ -30,6 +30,8 @@ pub fn read_rows<F: Files>(alloc: Global, files: &F, list: &str) -> Result<Vec<R
     ensures absent { (path : List ℕ) → IsErrOf result (RunFault.Absent path) → HasAt (F.world files.now) path None }
     ensures device { (path : List ℕ) → IsErrOf result (RunFault.Device path) → F.may_fail files.now path }
     ensures write { IsErrOf result RunFault.Write → ⊥ }
+    ensures few { IfOk result (λ rows. length rows.items ≤ 65536) }
+    ensures workers { IsErrOf result RunFault.Workers → ⊥ }
 {
     let bytes = read_file(alloc, files, list)?;
     Ok(read_list(alloc, &bytes)?)
@@ -106,29 +108,4 @@ pub fn run_plan<F: Files, W: Sink>(
     } = select(alloc, metadata, request)?;
     let rows = read_rows(alloc, files, list.as_str())?;
     plan_rows(alloc, files, rows, specs.into_vec(), filter, output)
-}
-
-/// Writes the plan that a request asks for, of the table whose metadata is in the file at a path.
-///
-/// The refusal is `Absent` where there is no such file, `Device` where reading it failed, else as `run_plan`'s.
-pub fn plan_file<F: Files, W: Sink>(
-    alloc: Global,
-    files: &F,
-    path: &str,
-    request: &Request,
-    output: &mut W,
-) -> Result<(), RunFault>
-    // Over files that tell their world.
-    ensures wanted { (world : World) → F.world files.now ≡ Some world →
-        Answers (answer_at over_wanted_rows world path.now request.now) (EndsAt world (F.may_fail files.now) (reads_at world path.now request.now))
-        (W.may_fail output.old) result (W.taken output.old) (W.taken output.new) }
-
-    // Over all files.
-    ensures nothing { IfErr result (λ fault. fault ≢ RunFault.Write → W.taken output.new ≡ W.taken output.old) }
-    ensures absent { (path : List ℕ) → IsErrOf result (RunFault.Absent path) → HasAt (F.world files.now) path None }
-    ensures device { (path : List ℕ) → IsErrOf result (RunFault.Device path) → F.may_fail files.now path }
-    ensures write { IsErrOf result RunFault.Write → W.may_fail output.old }
-{
-    let metadata = read_file(alloc, files, path)?;
-    run_plan(alloc, files, &metadata, request, output)
 }

@@ -13,6 +13,7 @@ use cases::{CASES, PLAN};
 use ice_desk::{Files, ReadFault};
 use std::alloc::{AllocError, Global};
 use std::test::Fail;
+use std::thread::Threads;
 
 /// The head of a manifest list up to its codec.
 const LIST: &[u8] =
@@ -96,8 +97,12 @@ impl Case {
     }
 
     /// Whether the program ends with this status on the table, and writes just these lines.
-    fn ends(&self, rt: &HostRuntime, status: &str) -> bool {
-        let alloc = rt.alloc();
+    fn ends<H: std::rt::Files<File: Send, Dir: Send> + Threads + Sync>(
+        &self,
+        rt: &H,
+        alloc: Global,
+        status: &str,
+    ) -> bool {
         let mut input = self.bundle.as_slice();
         let mut written = Vec::new(alloc);
         let mut told = Vec::new(alloc);
@@ -131,7 +136,7 @@ fn tables(rt: HostRuntime) -> Result<(), Fail> {
     let mut cases: usize = 0;
     for line in CASES.lines() {
         if let Some(status) = line.strip_prefix("ends ") {
-            assert!(rt; case.ends(&rt, status), "case {cases}");
+            assert!(rt; case.ends(&rt, alloc, status), "case {cases}");
             case = Case::new(alloc);
             cases = cases.saturating_add(1);
         } else {
@@ -143,8 +148,14 @@ fn tables(rt: HostRuntime) -> Result<(), Fail> {
 }
 
 /// Whether the program ends with this status, and writes just these texts.
-fn ends(rt: &HostRuntime, text: &[u8], status: u8, output: &str, errors: &str) -> bool {
-    let alloc = rt.alloc();
+fn ends<H: std::rt::Files<File: Send, Dir: Send> + Threads + Sync>(
+    rt: &H,
+    alloc: Global,
+    text: &[u8],
+    status: u8,
+    output: &str,
+    errors: &str,
+) -> bool {
     let mut input = text;
     let mut written = Vec::new(alloc);
     let mut told = Vec::new(alloc);
@@ -170,7 +181,10 @@ static BUNDLES: [(&[u8], u8, &str); 9] = [
 #[test]
 fn bundles(rt: HostRuntime) {
     for (text, status, errors) in &BUNDLES {
-        assert!(rt; ends(&rt, text, *status, "", errors), "{errors}");
+        assert!(rt;
+            ends(&rt, rt.alloc(), text, *status, "", errors),
+            "{errors}"
+        );
     }
 }
 

@@ -12,7 +12,7 @@ use crate::folder::Folder;
 use crate::input::read_all;
 use crate::report::report;
 use crate::run_list_plan::run_list_plan;
-use crate::run_plan::plan_file;
+use crate::run_plan_with::plan_file;
 use crate::selection::Request;
 use crate::show::show_file;
 use crate::sink::{Sink, write_all};
@@ -21,6 +21,7 @@ use ice_desk::ReadFault;
 use std::alloc::Global;
 use std::io::Read;
 use std::rt::Files;
+use std::thread::Threads;
 
 /// How many reads of standard input are made at most.
 const MOST_READS: u64 = 16_777_216;
@@ -91,47 +92,60 @@ fn plan_input<R: Read, W: Sink>(
 }
 
 /// Writes the plan that is asked of the table whose metadata is at a path of a bundle.
-fn request_bundle<W: Sink>(
+fn request_bundle<H: Threads + Sync, W: Sink>(
+    host: &H,
     alloc: Global,
     text: &[u8],
     request: &Request,
+    workers: usize,
     path: &Text,
     output: &mut W,
 ) -> Result<(), RunFault>
-    ensures { Ran (Some (planned_text path.now request.now text.now)) (W.may_fail output.old) result (W.taken output.old) (W.taken output.new) }
+    ensures { Ran (Some (planned_text path.now request.now workers text.now)) (W.may_fail output.old) result (W.taken output.old) (W.taken output.new) }
 {
     let bundle = Bundle::read(alloc, text)?;
-    plan_file(alloc, &bundle, path.as_str(), request, output)
+    plan_file(
+        host,
+        alloc,
+        &bundle,
+        path.as_str(),
+        request,
+        workers,
+        output,
+    )
 }
 
 /// Writes the plan that is asked of the table whose metadata is at a path of the bundle on standard input.
-fn request_input<R: Read, W: Sink>(
+fn request_input<H: Threads + Sync, R: Read, W: Sink>(
+    host: &H,
     alloc: Global,
     request: &Request,
+    workers: usize,
     path: &Text,
     input: &mut R,
     output: &mut W,
 ) -> Result<(), RunFault>
     ensures { (text : List ℕ) × IsInput (R.remaining input.old) text ×
-        Ran (Some (planned_text path.now request.now text)) (W.may_fail output.old) result (W.taken output.old) (W.taken output.new) }
+        Ran (Some (planned_text path.now request.now workers text)) (W.may_fail output.old) result (W.taken output.old) (W.taken output.new) }
 {
     let text = read_input(alloc, input)?;
-    request_bundle(alloc, &text, request, path, output)
+    request_bundle(host, alloc, &text, request, workers, path, output)
 }
 
 /// Writes the plan that is asked of the table whose metadata is at a path of a folder.
-fn request_folder<H: Files, W: Sink>(
+fn request_folder<H: Files<File: Send, Dir: Send> + Threads + Sync, W: Sink>(
     host: &H,
     alloc: Global,
     place: &Place,
     request: &Request,
+    workers: usize,
     path: &Text,
     output: &mut W,
 ) -> Result<(), RunFault>
     ensures { Ran None (W.may_fail output.old) result (W.taken output.old) (W.taken output.new) }
 {
     let files = Folder::new(host, place.folder.as_str(), place.prefix.as_str());
-    plan_file(alloc, &files, path.as_str(), request, output)
+    plan_file(host, alloc, &files, path.as_str(), request, workers, output)
 }
 
 /// Writes the text of the metadata at a path of a bundle.
@@ -184,7 +198,7 @@ fn tell<W: Sink>(text: &Text, output: &mut W) -> Result<(), RunFault>
 }
 
 /// Writes what is asked for.
-fn run_asked<H: Files, R: Read, W: Sink>(
+fn run_asked<H: Files<File: Send, Dir: Send> + Threads + Sync, R: Read, W: Sink>(
     host: &H,
     alloc: Global,
     asked: &Words,
@@ -199,11 +213,11 @@ fn run_asked<H: Files, R: Read, W: Sink>(
         Words::ListPlan(Lists::Folder(place, list)) => plan_folder(
             host, alloc, place, list, output,
         ),
-        Words::Plan(Source::Bundle, request, path) => request_input(
-            alloc, request, path, input, output,
+        Words::Plan(Source::Bundle, request, workers, path) => request_input(
+            host, alloc, request, *workers, path, input, output,
         ),
-        Words::Plan(Source::Folder(place), request, path) => request_folder(
-            host, alloc, place, request, path, output,
+        Words::Plan(Source::Folder(place), request, workers, path) => request_folder(
+            host, alloc, place, request, *workers, path, output,
         ),
         Words::Show(Source::Bundle, path) => show_input(alloc, path, input, output),
         Words::Show(Source::Folder(place), path) => show_folder(host, alloc, place, path, output),
@@ -212,7 +226,7 @@ fn run_asked<H: Files, R: Read, W: Sink>(
 }
 
 /// Writes what the words ask for.
-fn run<H: Files, R: Read, W: Sink>(
+fn run<H: Files<File: Send, Dir: Send> + Threads + Sync, R: Read, W: Sink>(
     host: &H,
     alloc: Global,
     words: &[String],
@@ -230,7 +244,7 @@ fn run<H: Files, R: Read, W: Sink>(
 /// Runs the program: it writes what the words ask for to `output` and ends with 0, or it writes the line of the first
 /// fault to `errors` and ends with the fault's status. Faults are found in this order: of the words, of reading standard
 /// input where it holds a bundle, of the bundle, of what is asked for.
-pub fn run_words<H: Files, R: Read, W: Sink, E: Sink>(
+pub fn run_words<H: Files<File: Send, Dir: Send> + Threads + Sync, R: Read, W: Sink, E: Sink>(
     host: &H,
     alloc: Global,
     words: &[String],

@@ -48,8 +48,10 @@ fn kind(read: &Result<Words, RunFault>) -> &'static str {
         Ok(Words::ListPlan(Lists::Bundle(None))) => "first",
         Ok(Words::ListPlan(Lists::Bundle(Some(_)))) => "named",
         Ok(Words::ListPlan(Lists::Folder(_, _))) => "folder",
-        Ok(Words::Plan(Source::Bundle, request, _)) => asked(request),
-        Ok(Words::Plan(Source::Folder(_), _, _)) => "planned from a folder",
+        Ok(Words::Plan(Source::Bundle, request, 1, _)) => asked(request),
+        Ok(Words::Plan(Source::Bundle, _, 0, _)) => "planned by nobody",
+        Ok(Words::Plan(Source::Bundle, _, _, _)) => "planned by many",
+        Ok(Words::Plan(Source::Folder(_), _, _, _)) => "planned from a folder",
         Ok(Words::Show(Source::Bundle, _)) => "shown",
         Ok(Words::Show(Source::Folder(_), _)) => "shown from a folder",
         Ok(Words::Text(_)) => "text",
@@ -58,7 +60,7 @@ fn kind(read: &Result<Words, RunFault>) -> &'static str {
     }
 }
 
-static ASKED: [(&[&str], &str); 19] = [
+static ASKED: [(&[&str], &str); 22] = [
     (&[], "first"),
     (&["list-plan", "--bundle"], "first"),
     (&["list-plan", "--bundle", "a"], "named"),
@@ -99,12 +101,24 @@ static ASKED: [(&[&str], &str); 19] = [
         &["plan", "--bundle", "--snapshot", "9223372036854775807", "a"],
         "planned by an id",
     ),
+    (
+        &["plan", "--bundle", "--workers", "0", "a"],
+        "planned by nobody",
+    ),
+    (
+        &["plan", "--bundle", "--workers=65", "a"],
+        "planned by many",
+    ),
+    (
+        &["plan", "--bundle", "--workers", "18446744073709551615", "a"],
+        "planned by many",
+    ),
     (&["plan", "--help"], "text"),
     (&["--version"], "text"),
     (&["list-plan", "--help"], "text"),
 ];
 
-static REFUSED: [&[&str]; 20] = [
+static REFUSED: [&[&str]; 24] = [
     &["frobnicate"],
     &["--bundle", "list-plan"],
     &["list-plan"],
@@ -125,6 +139,10 @@ static REFUSED: [&[&str]; 20] = [
         "plan", "--bundle", "--filter", "true", "--filter", "true", "a",
     ],
     &["plan", "--bundle", "--filter", "a"],
+    &["plan", "--bundle", "--workers", "x", "a"],
+    &["plan", "--bundle", "--workers", "-1", "a"],
+    &["plan", "--bundle", "--workers", "18446744073709551616", "a"],
+    &["list-plan", "--bundle", "--workers", "1", "a"],
     &["show", "--bundle"],
     &["show", "a"],
 ];

@@ -41,6 +41,7 @@ fn lines_of_a_run(rt: HostRuntime) {
     let rows = [
         (RunFault::Bundle(3), "B1 Bundle 3\n", 2),
         (RunFault::Input, "P3 Device -\n", 3),
+        (RunFault::Workers, "P5 Workers\n", 2),
         (RunFault::Write, "W1 Write\n", 3),
         (RunFault::Memory, "Memory\n", 5),
         (

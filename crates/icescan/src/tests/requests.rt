@@ -4,7 +4,9 @@ use super::cases::PLAN;
 use super::first_bundle;
 use crate::words::run_words;
 use std::alloc::{AllocError, Global};
+use std::rt::Files;
 use std::test::Fail;
+use std::thread::Threads;
 
 /// A table whose current snapshot is that of the first case. The tag `old` has an older schema, `bare` no manifest list and
 /// `lost` one that is not there.
@@ -45,6 +47,18 @@ t|--ref|branch|--filter|b = 7|F2 NoSuchColumn|2
 t|--filter|c = 99999999999|F3 WrongLiteral|2
 t|--filter|price = 1|F4 NotComparable|2
 t|--filter|c in (1,|F1 Syntax 8|2
+t|--workers|1||0
+t|--workers|2||0
+t|--workers|4||0
+t|--workers|64||0
+t|--workers|2|--filter|false|-|0
+t|--workers|2|--ref|lost|P2 Absent mem://t/none|3
+t|--workers|0|P5 Workers|2
+t|--workers|65|P5 Workers|2
+e|--workers|65|P5 Workers|2
+mem://t/m1|--workers|0|P5 Workers|2
+t|--workers|0|--filter|c <|P5 Workers|2
+x|--workers|0|P2 Absent x|3
 ";
 
 /// Both tables.
@@ -60,8 +74,12 @@ fn tables(alloc: Global) -> Result<Vec<u8>, AllocError> {
 }
 
 /// Whether the program writes what a line says, and ends with its status.
-fn answers(rt: &HostRuntime, bundle: &[u8], line: &str) -> Result<bool, AllocError> {
-    let alloc = rt.alloc();
+fn answers<H: Files<File: Send, Dir: Send> + Threads + Sync>(
+    rt: &H,
+    alloc: Global,
+    bundle: &[u8],
+    line: &str,
+) -> Result<bool, AllocError> {
     let mut words = Vec::new(alloc);
     words.push(String::from_str(alloc, "plan")?)?;
     words.push(String::from_str(alloc, "--bundle")?)?;
@@ -96,7 +114,7 @@ fn answers(rt: &HostRuntime, bundle: &[u8], line: &str) -> Result<bool, AllocErr
 fn requests(rt: HostRuntime) -> Result<(), Fail> {
     let bundle = tables(rt.alloc())?;
     for line in REQUESTS.lines() {
-        let is_right = answers(&rt, &bundle, line)?;
+        let is_right = answers(&rt, rt.alloc(), &bundle, line)?;
         assert!(rt; is_right, "{line}");
     }
     Ok(())

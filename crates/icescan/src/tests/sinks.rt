@@ -7,7 +7,9 @@ use crate::report::report;
 use crate::sink::{Output, Sink, SinkFault, write_all};
 use crate::words::run_words;
 use std::alloc::{AllocError, Global};
+use std::rt::Files;
 use std::test::Fail;
+use std::thread::Threads;
 
 /// Memory that takes at most so many bytes at a time, and only so many in all.
 #[derive(Drop)]
@@ -72,8 +74,12 @@ fn outputs_of_the_system(rt: HostRuntime) {
 }
 
 /// What a sink of this many bytes at a time and in all has taken of the first case's plan, and the run's status.
-fn run_slow(rt: &HostRuntime, step: usize, room: usize) -> Result<(u8, Vec<u8>), AllocError> {
-    let alloc = rt.alloc();
+fn run_slow<H: Files<File: Send, Dir: Send> + Threads + Sync>(
+    rt: &H,
+    alloc: Global,
+    step: usize,
+    room: usize,
+) -> Result<(u8, Vec<u8>), AllocError> {
     let bundle = first_bundle(alloc)?;
     let mut input = bundle.as_slice();
     let mut output = Slow::new(alloc, step, room);
@@ -84,7 +90,7 @@ fn run_slow(rt: &HostRuntime, step: usize, room: usize) -> Result<(u8, Vec<u8>),
 
 #[test]
 fn plan_of_one_byte_at_a_time(rt: HostRuntime) -> Result<(), Fail> {
-    let (status, taken) = run_slow(&rt, 1, 1000)?;
+    let (status, taken) = run_slow(&rt, rt.alloc(), 1, 1000)?;
     assert_eq!(rt; status, 0);
     assert_eq!(rt; taken.as_slice(), PLAN.as_bytes());
     Ok(())
@@ -93,7 +99,7 @@ fn plan_of_one_byte_at_a_time(rt: HostRuntime) -> Result<(), Fail> {
 #[test]
 fn plan_cut_by_a_failing_write(rt: HostRuntime) -> Result<(), Fail> {
     for (room, byte) in PLAN.as_bytes().iter().enumerate() {
-        let (status, taken) = run_slow(&rt, 1000, room)?;
+        let (status, taken) = run_slow(&rt, rt.alloc(), 1000, room)?;
         assert_eq!(rt; status, 3, "{byte}");
         assert_eq!(rt; Some(taken.as_slice()), PLAN.as_bytes().get(..room));
     }

@@ -13,4 +13,4 @@ returns-in_err-text g c =
 pub returns : goal.returns
 returns g c =
     let text = c.in_ok-text.text.items in
-    (text, c.in_ok-text.ensures.all, ran_as _ _ (g.W.Sink.may_fail c.args.output.now) c.request_bundle.result _ _ (ap (λ t. Some (planned_text c.args.path.now c.args.request.now t)) (sym c.deref.ensures.value)) c.request_bundle.ensures)
+    (text, c.in_ok-text.ensures.all, ran_as _ _ (g.W.Sink.may_fail c.args.output.now) c.request_bundle.result _ _ (ap (λ t. Some (planned_text c.args.path.now c.args.request.now c.args.workers t)) (sym c.deref.ensures.value)) c.request_bundle.ensures)

@@ -11,10 +11,10 @@ returns-in-ListPlan-Folder g c =
     let asked : c.args.asked.now ≡ words.ListPlan (lists.Folder c.in-ListPlan-Folder.place c.in-ListPlan-Folder.list) = search rules in
     rw asked (left_of left, is_left left, c.plan_folder.ensures)
 
-pub returns-in-Plan-Folder-default-default : goal.returns-in-Plan-Folder-default-default
-returns-in-Plan-Folder-default-default g c =
+pub returns-in-Plan-Folder-default-default-default : goal.returns-in-Plan-Folder-default-default-default
+returns-in-Plan-Folder-default-default-default g c =
     let left = g.R.Read.remaining c.args.input.now in
-    let asked : c.args.asked.now ≡ words.Plan (source.Folder c.in-Plan-Folder-default-default.place) c.in-Plan-Folder-default-default.request c.in-Plan-Folder-default-default.path = search rules in
+    let asked : c.args.asked.now ≡ words.Plan (source.Folder c.in-Plan-Folder-default-default-default.place) c.in-Plan-Folder-default-default-default.request c.in-Plan-Folder-default-default-default.workers c.in-Plan-Folder-default-default-default.path = search rules in
     rw asked (left_of left, is_left left, c.request_folder.ensures)
 
 pub returns-in-Show-Folder-default : goal.returns-in-Show-Folder-default

@@ -2,13 +2,13 @@ use Rattle.std.proofs.Common.{ap, sym, ◌∙◌}
 use Rattle.std.specs.Prelude.{Ok, Err}
 use Rattle.std.proofs.lemmas.Result.{err_from_is_err_and}
 use Rattle.icescan.proofs.Plans.{answer_behind, answers_as, no_metadata, reads_of_plan, refused_answers}
-use Rattle.icescan.proofs.run_plan.plan_file.Goals as goal
+use Rattle.icescan.proofs.run_plan_with.plan_file.Goals as goal
 
 pub returns-in_err-metadata-clause-wanted : goal.returns-in_err-metadata-clause-wanted
 returns-in_err-metadata-clause-wanted g c =
     let p = err_from_is_err_and c.from_residual.result c.from_residual.ensures.1 in
     let w = g.W.Sink.may_fail c.args.output.now in
-    λ world told. rw (p.1, p.2) (refused_answers _ _ w _ _ _ (no_metadata (g.F.Files.may_fail c.args.files.now) world c.args.path.now c.args.request.now w c.in_err-metadata.field-0.0 (c.in_err-metadata.ensures.refused world told)) (λ is. c.in_err-metadata.ensures.write (ap Err is)))
+    λ world told. rw (p.1, p.2) (refused_answers _ _ w _ _ _ (no_metadata (g.F.Files.may_fail c.args.files.now) world c.args.path.now c.args.request.now c.args.workers w c.in_err-metadata.field-0.0 (c.in_err-metadata.ensures.refused world told)) (λ is. c.in_err-metadata.ensures.write (ap Err is)))
 
 pub returns-clause-wanted : goal.returns-clause-wanted
 returns-clause-wanted g c =
@@ -17,4 +17,4 @@ returns-clause-wanted g c =
     let metadata = c.deref.result.now in
     λ world told.
     let has = c.in_ok-metadata.ensures.found world told ∙ ap Ok (sym c.deref.ensures.value) in
-    answers_as _ _ _ _ w c.run_plan.result _ _ (answer_behind f world c.args.path.now c.args.request.now metadata has) (reads_of_plan f world c.args.path.now c.args.request.now metadata has) (c.run_plan.ensures.wanted world told)
+    answers_as _ _ _ _ w c.plan_bytes.result _ _ (answer_behind f world c.args.path.now c.args.request.now c.args.workers metadata has) (reads_of_plan f world c.args.path.now c.args.request.now c.args.workers metadata has) (c.plan_bytes.ensures.wanted world told)
