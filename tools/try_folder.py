@@ -84,7 +84,7 @@ def main():
         status, out, errors = run(program, words)
         if status != 2 or out or not errors.startswith("error: ") or "Usage: icescan" not in errors:
             wrong.append((words, (status, out, errors)))
-    for words, start in [(["--version"], "icescan "), (["--help"], "Plans scans"), (["list-plan", "--help"], "Print the plan")]:
+    for words, start in [(["--version"], "icescan "), (["--help"], "Plans scans"), (["list-plan", "--help"], "Right for tables without partitions alone")]:
         status, out, errors = run(program, words)
         if status or errors or not out.startswith(start):
             wrong.append((words, (status, out, errors)))
