@@ -63,7 +63,7 @@ fn kept_entries(
 ) -> Result<Items<Entry>, AllocError>
     ensures { IfOk result (λ entries. entries ≡ kept (pruner_by filter.now) live.items) }
 {
-    let mut entries = Vec::new(alloc);
+    let mut entries = Vec::with_capacity(alloc, live.len())?;
     'live: for found in live {
         if filter.keeps(&found) {
             entries.push(found.entry)?;
