@@ -21,7 +21,7 @@ use Rattle.avro_file.specs.Spelling.{IsRun, AreJoined, Spells}
 use Rattle.avro_file.specs.Holding.{AreWithinLimits}
 use Rattle.avro_file.specs.Header.{Property, schema_key, codec_key, last_under, IsProperty, AreProperties}
 use Rattle.avro_file.specs.Files.{magic, null_codec, IsUncompressed, HoldsFile}
-use Rattle.avro_file.specs.Writing.{long_bytes, run_bytes, block_bytes, written, all_written, properties_written, key_before, in_order}
+use Rattle.avro_file.specs.Writing.{long_bytes, run_bytes, block_bytes, written, all_written, properties_written, key_before, in_order, header_bytes, blocks_bytes, file_bytes}
 use Rattle.avro_file.specs.Writers.{AreOf, HasMetadata, IsHeader}
 use Rattle.avro_file.proofs.Heads.{same_bytes}
 use Rattle.avro_file.proofs.Written.{count_written, zero_written, datum_written}
@@ -221,3 +221,26 @@ if_ok P Q (Err e) turn h = tt
 pub has_metadata : (ps : List Property) (s : Tree) (sync header rest bytes : List ℕ) → IsHeader ps s sync header → bytes ≡ header ++ rest → HasMetadata ps bytes
 has_metadata ps s sync header rest bytes is e =
     (is.1, sync ++ rest, is.2, e ∙ ap (λ (t : List ℕ). t ++ rest) is.7 ∙ append_assoc magic (is.1 ++ sync) rest ∙ ap (λ (t : List ℕ). magic ++ t) (append_assoc is.1 sync rest))
+
+-- ---- the bytes themselves
+
+pub header_again : (all : List declared.Property) (ps : List Property) (sync header : List ℕ) → shown_properties all ≡ ps
+    → header ≡ magic ++ (block_bytes (length all) (properties_written (shown_properties all)) ++ sync) → header ≡ header_bytes ps sync
+header_again all ps sync header shown made =
+    made ∙ ap (λ (n : ℕ). magic ++ (block_bytes n (properties_written (shown_properties all)) ++ sync)) (sym (shown_len all))
+    ∙ ap (λ (qs : List Property). header_bytes qs sync) shown
+
+pub header_alone : (ps : List Property) (sync : List ℕ) (vs : List Value) (header : List ℕ) → header ≡ header_bytes ps sync → length vs ≡ 0 → header ≡ file_bytes ps sync vs
+unfolding file_bytes
+header_alone ps sync vs header e none = rw (no_values vs none) (e ∙ sym (append-nil (header_bytes ps sync)))
+
+some_blocks : (sync : List ℕ) (vs : List Value) → 0 < length vs → blocks_bytes sync vs ≡ long_bytes (pos (length vs)) ++ (run_bytes (all_written (values_of vs)) ++ sync)
+some_blocks sync [] some = absurd (omega arith)
+some_blocks sync (v ∷ vs) some = refl
+
+pub file_written : (ps : List Property) (sync : List ℕ) (vs : List Value) (header own body bytes : List ℕ) (count size : ℕ) → header ≡ header_bytes ps sync → own ≡ sync → count ≡ length vs → body ≡ all_written (values_of vs)
+    → 0 < count → size ≡ length body → bytes ≡ (((header ++ long_bytes (pos count)) ++ long_bytes (pos size)) ++ body) ++ own → bytes ≡ file_bytes ps sync vs
+unfolding file_bytes
+file_written ps sync vs header own body bytes count size made same many content some len e =
+    let whole : bytes ≡ header ++ (long_bytes (pos count) ++ ((long_bytes (pos size) ++ body) ++ own)) = e ∙ simp append_assoc in
+    whole ∙ rw (made, same, many, len, content) (ap (λ (t : List ℕ). header_bytes ps sync ++ t) (sym (some_blocks sync vs (omega (arith, many, some)))))

@@ -38,20 +38,20 @@ object_again s v front rest is few =
     let found : datum_at s p ≡ Ok (v, q) = datum_again s v front p q is refl (omega arith) in
     rw found refl
 
-abbrev joined_run : List Value → Run → Run
+abbrev pub joined_run : List Value → Run → Run
 joined_run vs r = record { found = vs ++ r.found; ending = r.ending }
 
-objects_again : (s : Tree) (total : ℕ) (after : Run) (here : List Value) (body : List ℕ) → AreJoined (Spells s) here body → AreWithinLimits here → objects_run s total after (length here) body ≡ joined_run here after
+pub objects_again : (s : Tree) (total : ℕ) (after : Run) (here : List Value) (body : List ℕ) → AreJoined (Spells s) here body → AreWithinLimits here → objects_run s total after (length here) body ≡ joined_run here after
 unfolding objects_run
 objects_again s total after [] body is few = rw is refl
 objects_again s total after (v ∷ here) body is few =
     rw (is.4, object_again s v is.0 is.1 is.2 few.0) (ap (preceded v) (objects_again s total after here is.1 is.3 few.1))
 
-limits-left : (vs ws : List Value) → AreWithinLimits (vs ++ ws) → AreWithinLimits vs × AreWithinLimits ws
+pub limits-left : (vs ws : List Value) → AreWithinLimits (vs ++ ws) → AreWithinLimits vs × AreWithinLimits ws
 limits-left [] ws h = (tt, h)
 limits-left (v ∷ vs) ws h = let more = limits-left vs ws h.1 in ((h.0, more.0), more.1)
 
-limits-both : (vs ws : List Value) → AreWithinLimits vs → AreWithinLimits ws → AreWithinLimits (vs ++ ws)
+pub limits-both : (vs ws : List Value) → AreWithinLimits vs → AreWithinLimits ws → AreWithinLimits (vs ++ ws)
 limits-both [] ws h k = k
 limits-both (v ∷ vs) ws h k = (h.0, limits-both vs ws h.1 k)
 
@@ -90,7 +90,7 @@ blocks_again s sync total sixteen (suc blocks) turns vs bytes is few le =
 
 -- ---- what is read is held
 
-object_held : (s : Tree) (block : List ℕ) (x : Value × List ℕ) → object_at s block ≡ Ok x → (front : List ℕ) × Spells s x.0 front × (block ≡ front ++ x.1) × (item_count x.0 ≤ max_items)
+pub object_held : (s : Tree) (block : List ℕ) (x : Value × List ℕ) → object_at s block ≡ Ok x → (front : List ℕ) × Spells s x.0 front × (block ≡ front ++ x.1) × (item_count x.0 ≤ max_items)
 unfolding object_at
 object_held s block x e =
     let p : Position = record { bytes = block; left = max_items } in

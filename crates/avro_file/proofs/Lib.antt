@@ -21,3 +21,6 @@ pub mod Once
 pub mod Unlimited
 pub mod Unasked
 pub mod Few
+pub mod Cuts
+pub mod CutFiles
+pub mod Fronts

@@ -26,7 +26,7 @@ use Rattle.avro_file.proofs.Metadata.{HeaderTakes, header_takes, header_again}
 begun_parts : (bytes first rest tail : List ℕ) → bytes ≡ first ++ rest → first ≡ magic → rest ≡ tail → bytes ≡ magic ++ tail
 begun_parts bytes first rest tail e f g = e ∙ rw (f, g) refl
 
-begun_takes : (bytes : List ℕ) (h : FileHeader) → begun_at bytes ≡ Ok h → HeaderTakes (drop 4 bytes) h × (bytes ≡ magic ++ drop 4 bytes)
+pub begun_takes : (bytes : List ℕ) (h : FileHeader) → begun_at bytes ≡ Ok h → HeaderTakes (drop 4 bytes) h × (bytes ≡ magic ++ drop 4 bytes)
 unfolding begun_at
 begun_takes bytes h e =
     let inner : Result FileHeader AvroFault = refused (fault_of (length bytes)) (header_at (drop 4 bytes)) in
@@ -35,7 +35,7 @@ begun_takes bytes h e =
     let taken = header_takes (drop 4 bytes) h (refused_ok (fault_of (length bytes)) (header_at (drop 4 bytes)) h b.1) in
     (taken, begun_parts bytes (take 4 bytes) (drop 4 bytes) (drop 4 bytes) (sym (take-append-drop 4 bytes)) (same_bytes (take 4 bytes) magic b.0) refl)
 
-begun_again : (ps : List Property) (front sync rest bytes : List ℕ) → length bytes < 2 ^ 64 → AreProperties ps front → length sync ≡ 16 → bytes ≡ magic ++ (front ++ (sync ++ rest))
+pub begun_again : (ps : List Property) (front sync rest bytes : List ℕ) → length bytes < 2 ^ 64 → AreProperties ps front → length sync ≡ 16 → bytes ≡ magic ++ (front ++ (sync ++ rest))
     → begun_at bytes ≡ Ok (record { wanted = wanted_with none_wanted ps; sync = sync; rest = rest })
 unfolding begun_at
 begun_again ps front sync rest bytes short is sixteen e =
@@ -49,21 +49,21 @@ begun_again ps front sync rest bytes short is sixteen e =
 
 -- ---- the schema's text and the codec
 
-text_is : (found : Option (List ℕ)) (text : List ℕ) → schema_text found ≡ Ok text → found ≡ Some text
+pub text_is : (found : Option (List ℕ)) (text : List ℕ) → schema_text found ≡ Ok text → found ≡ Some text
 text_is (Some t) text e = ap (λ (x : List ℕ). Some x) (ok_is t text e)
 text_is None text e = absurd cc
 
-codec_is : (found : Option (List ℕ)) (u : Unit {0}) → uncompressed found ≡ Ok u → IsUncompressed found
+pub codec_is : (found : Option (List ℕ)) (u : Unit {0}) → uncompressed found ≡ Ok u → IsUncompressed found
 codec_is None u e = tt
 codec_is (Some name) u e = let p = passed (bytes_eq name null_codec) (Codec name) (Ok tt) u e in same_bytes name null_codec p.0
 
-codec_again : (found : Option (List ℕ)) → IsUncompressed found → uncompressed found ≡ Ok tt
+pub codec_again : (found : Option (List ℕ)) → IsUncompressed found → uncompressed found ≡ Ok tt
 codec_again None is = refl
 codec_again (Some name) is = let same : bytes_eq name null_codec ≡ true = rw is (same_test null_codec) in rw same refl
 
 -- ---- whole files
 
-starts : (s : Tree) (sync : List ℕ) (total : ℕ) (bytes : List ℕ) → run_from s sync total (record { count = 0; block = []; bytes = bytes }) ≡ blocks_run s sync total (length bytes) bytes
+pub starts : (s : Tree) (sync : List ℕ) (total : ℕ) (bytes : List ℕ) → run_from s sync total (record { count = 0; block = []; bytes = bytes }) ≡ blocks_run s sync total (length bytes) bytes
 unfolding run_from objects_run
 starts s sync total bytes = refl
 

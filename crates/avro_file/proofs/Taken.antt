@@ -43,7 +43,7 @@ groups_take (suc turns) (b ∷ bytes) x e =
           })
     ]
 
-begins_ok : (bytes : List ℕ) (r : Result (ℕ × List ℕ) Refusal) (x : ℕ × List ℕ) → from_start bytes r ≡ Ok x → r ≡ Ok x
+pub begins_ok : (bytes : List ℕ) (r : Result (ℕ × List ℕ) Refusal) (x : ℕ × List ℕ) → from_start bytes r ≡ Ok x → r ≡ Ok x
 begins_ok bytes (Ok y) x e = e
 begins_ok bytes (Err (Short n)) x e = absurd cc
 begins_ok bytes (Err BadNumber) x e = absurd cc

@@ -36,11 +36,11 @@ unsigned_either n false e = let odd = eqb-false _ _ e in omega (arith, odd)
 unsigned_again : (n : ℕ) → unsigned_of (signed_of n) ≡ n
 unsigned_again n = unsigned_either n (eqb (n % 2) 0) refl
 
-signed_either : (n : ℕ) (b : Bool) → eqb ((2 * n) % 2) 0 ≡ b → cond b (pos ((2 * n) / 2)) (negsuc ((2 * n) / 2)) ≡ pos n
+pub signed_either : (n : ℕ) (b : Bool) → eqb ((2 * n) % 2) 0 ≡ b → cond b (pos ((2 * n) / 2)) (negsuc ((2 * n) / 2)) ≡ pos n
 signed_either n true e = ap pos (omega arith)
 signed_either n false e = absurd (eqb-false _ _ e (omega arith))
 
-number_written : (limit n : ℕ) → n < 2 ^ 64 → n < limit → IsNumber limit (groups_of 10 n) n
+pub number_written : (limit n : ℕ) → n < 2 ^ 64 → n < limit → IsNumber limit (groups_of 10 n) n
 number_written limit n lt below = let g = groups_spelled 9 n (ten_groups n lt) in (g.0, g.1, below)
 
 long_written : (front : List ℕ) (z : ℤ) → IsLong front z → IsLong (long_bytes z) z

@@ -38,11 +38,11 @@ ahead_of total (Some e) r = refusing (fault_of total e)
 ahead_of total None r = running r.found r.ending
 
 abbrev pub tree_of : Container → Tree
-tree_of c = tree c.schema
+tree_of c = tree c.named.schema
 
 -- what the objects of a file are, from the first on
 abbrev pub at_start : Container → Ahead
-at_start c = ahead_of c.total None (run_from (tree c.schema) c.sync.now c.total (record { count = 0; block = []; bytes = c.rest.now }))
+at_start c = ahead_of c.total None (run_from (tree_of c) c.sync.now c.total (record { count = 0; block = []; bytes = c.rest.now }))
 
 abbrev pub type_of : Objects → Tree
 type_of o = tree o.schema.now

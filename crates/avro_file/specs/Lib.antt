@@ -12,8 +12,11 @@ pub mod Where
 pub mod Holding
 pub mod Header
 pub mod Ahead
+pub mod Sets
+pub mod Known
 pub mod Files
 pub mod Picking
 pub mod Writing
 pub mod Property
 pub mod Writers
+pub mod Fronts

@@ -10,7 +10,7 @@ use Rattle.avro_file.specs.Spelling.{Spells, item_count}
 use Rattle.avro_file.specs.Blocks.{max_items}
 use Rattle.avro_file.specs.Header.{Property, schema_key, codec_key, last_under, AreProperties}
 use Rattle.avro_file.specs.Files.{magic, IsUncompressed}
-use Rattle.avro_file.specs.Writing.{all_written}
+use Rattle.avro_file.specs.Writing.{header_bytes, all_written}
 
 -- Which data a type has: those that some bytes spell. And no object has more items than are read.
 abbrev pub IsOf : Tree → Value → Type 0
@@ -30,5 +30,9 @@ IsHeader ps s sync bytes =
     × (length sync ≡ 16) × (bytes ≡ magic ++ (front ++ sync))
 
 -- a writer of a file of this schema with these metadata, to which these data were pushed
-abbrev pub WasGiven : Writer → List Property → Tree → List Value → Type 0
+unfoldable pub WasGiven : Writer → List Property → Tree → List Value → Type 0
 WasGiven w ps s vs = IsHeader ps s w.sync w.header.items × (w.count ≡ length vs) × (w.count < 2 ^ 63) × (w.content.items ≡ all_written (values_of vs))
+
+-- a writer of a file with these metadata and this marker, to which these data were pushed
+unfoldable pub WillWrite : Writer → List Property → List ℕ → List Value → Type 0
+WillWrite w ps sync vs = (w.header.items ≡ header_bytes ps sync) × (w.sync ≡ sync) × (w.count ≡ length vs) × (w.content.items ≡ all_written (values_of vs))

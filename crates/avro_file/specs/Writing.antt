@@ -4,10 +4,10 @@ use Rattle.std.specs.Prelude.{ℕ, zero, suc, ◌+◌, ◌*◌, ◌/◌, ◌%◌
 use Rattle.std.specs.Ordering.{is_lt, nat_cmp}
 use Rattle.std.specs.Cmp.Lexicographic.{slice_cmp}
 use Rattle.contract_words.specs.Sorting.{sorted}
-use Rattle.avro_file.specs.Value.{Value, nothing, truth, small, whole, single, twice, symbol, text, run, raw, fields, items, entries, chosen, Values, no_values, value, Entries, no_entries, entry}
+use Rattle.avro_file.specs.Value.{Value, nothing, truth, small, whole, single, twice, symbol, text, run, raw, fields, items, entries, chosen, Values, no_values, value, values_of, Entries, no_entries, entry}
 use Rattle.avro_file.specs.Spelling.{bit, values_len, entries_len}
 use Rattle.avro_file.specs.Header.{Property, schema_key, codec_key}
-use Rattle.avro_file.specs.Files.{null_codec}
+use Rattle.avro_file.specs.Files.{magic, null_codec}
 
 -- groups of seven bits, lowest first, so many at most
 unfoldable pub groups_of : ℕ → ℕ → List ℕ
@@ -69,3 +69,18 @@ key_before p q = is_lt (slice_cmp nat_cmp p.0 q.0)
 -- the metadata of a file of this schema, with what else it has; equal keys as they stood
 abbrev pub in_order : List ℕ → List Property → List Property
 in_order schema ps = sorted key_before (ps ++ (codec_key, null_codec) ∷ (schema_key, schema) ∷ [])
+
+-- ---- files
+
+-- the magic number, the metadata and the marker
+abbrev pub header_bytes : List Property → List ℕ → List ℕ
+header_bytes ps sync = magic ++ (block_bytes (length ps) (properties_written ps) ++ sync)
+
+-- all data in one block: how many, the length of their bytes, these, and the marker; where there are none, no block
+abbrev pub blocks_bytes : List ℕ → List Value → List ℕ
+blocks_bytes sync [] = []
+blocks_bytes sync (v ∷ vs) = long_bytes (pos (length (v ∷ vs))) ++ (run_bytes (all_written (values_of (v ∷ vs))) ++ sync)
+
+-- the bytes of a file with these metadata, this marker and these data
+unfoldable pub file_bytes : List Property → List ℕ → List Value → List ℕ
+file_bytes ps sync vs = header_bytes ps sync ++ blocks_bytes sync vs

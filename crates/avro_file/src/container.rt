@@ -1,6 +1,6 @@
 //! A whole file: its header, and the objects one after the other.
 
-ghost use Rattle.std.specs.Prelude.{◌≡◌, List, length, IfOk, Ok, None};
+ghost use Rattle.std.specs.Prelude.{◌≡◌, List, length, IfOk, IsTrue, Ok, None};
 ghost use Rattle.contract_words.specs.Outcome.{Gives};
 ghost use Rattle.avro_file.specs.Exact.{IsRead};
 ghost use Rattle.avro_schema.specs.View.{tree};
@@ -12,10 +12,12 @@ ghost use Rattle.avro_file.specs.Files.{begun_at, uncompressed};
 use crate::blocks::{Spot, step};
 use crate::fault::{AvroFault, CodecName};
 use crate::header::{Header, header_of};
+use crate::known::schema_once;
+use crate::named::{KnownSchema, NamedSchema};
 use crate::object::Object;
 use crate::refusal::Refusal;
 use avro_schema::{Schema, SchemaFault};
-use std::alloc::Global;
+use std::alloc::{AllocError, Global};
 
 const MAGIC: &[u8] = b"Obj\x01";
 
@@ -70,7 +72,7 @@ pub fn schema_named(alloc: Global, text: &[u8]) -> Result<Schema, AvroFault>
 /// A file: its schema, and where its objects begin.
 #[derive(Debug, Drop)]
 pub struct Container<'a> {
-    schema: Schema,
+    named: NamedSchema<'a>,
     sync: &'a [u8],
     total: usize,
     rest: &'a [u8],
@@ -82,6 +84,7 @@ impl<'a> Container<'a> {
     ghost use Rattle.avro_file.specs.Ahead.{running};
     ghost use Rattle.avro_file.specs.Holding.{AreWithinLimits};
     ghost use Rattle.std.specs.Result.{IfErr};
+    ghost use Rattle.avro_file.specs.Known.{known_tree};
     ghost use Rattle.avro_file.specs.Files.{HasHeader, ahead, at_start, tree_of, type_of, opened, opened_at, reader_of, HoldsFile};
 
     /// The file of these bytes, of which nothing is copied.
@@ -99,11 +102,30 @@ impl<'a> Container<'a> {
         // No memory is asked for before the header was whole and named a schema.
         ensures memory { IfErr result (λ e. e ≡ AvroFault.Memory → HasHeader bytes.now) }
     {
-        Container::read_header(alloc, bytes)
+        Container::read_header(alloc, None, bytes)
     }
 
+    /// The same, where a caller knows a schema: if the file's has the same text, it is not read again.
+    pub fn open_with(
+        alloc: Global,
+        known: &KnownSchema,
+        bytes: &'a [u8],
+    ) -> Result<Container<'a>, AvroFault>
+        ensures held { (s : Tree) (vs : List Value) → HoldsFile s vs bytes.now → AreWithinLimits vs → Gives AvroFault.Memory opened result (Ok (reader_of s vs)) }
+        ensures only { IfOk result (λ c. (vs : List Value) → at_start c ≡ running vs None → HoldsFile (tree_of c) vs bytes.now × AreWithinLimits vs) }
+        ensures exact { Gives AvroFault.Memory opened result (opened_at bytes.now) }
+        ensures memory { IfErr result (λ e. e ≡ AvroFault.Memory → HasHeader bytes.now) }
+    {
+        Container::read_header(alloc, Some(known), bytes)
+    }
+
+    /// The header, the codec and the schema, which is not read where it is known.
     #[tactic(auto, unfolding(crate::specs::Files::opened_at))]
-    fn read_header(alloc: Global, bytes: &'a [u8]) -> Result<Container<'a>, AvroFault>
+    fn read_header(
+        alloc: Global,
+        known: Option<&KnownSchema>,
+        bytes: &'a [u8],
+    ) -> Result<Container<'a>, AvroFault>
         ensures exact { Gives AvroFault.Memory opened result (opened_at bytes.now) }
         ensures memory { IfErr result (λ e. e ≡ AvroFault.Memory → HasHeader bytes.now) }
     {
@@ -112,9 +134,9 @@ impl<'a> Container<'a> {
             return Err(AvroFault::NotAvro);
         };
         check_codec(alloc, header.wanted.codec)?;
-        let schema = schema_named(alloc, text)?;
+        let schema = schema_once(alloc, known, text)?;
         Ok(Container {
-            schema,
+            named: NamedSchema { text, schema },
             sync: header.sync,
             total: bytes.len(),
             rest: header.rest,
@@ -125,7 +147,23 @@ impl<'a> Container<'a> {
     pub fn schema(&self) -> &Schema
         ensures { tree result.now ≡ tree_of self.now }
     {
-        &self.schema
+        &self.named.schema
+    }
+
+    /// The same schema with its text, to open other files by `open_with`. The text is copied, the schema shared.
+    pub fn keep_schema(&self, alloc: Global) -> Result<KnownSchema, AllocError>
+        ensures { IfOk result (λ known. known_tree known ≡ tree_of self.now) }
+    {
+        let text = self.named.text.to_vec(alloc)?;
+        let schema = self.named.schema.share()?;
+        Ok(KnownSchema { text, schema })
+    }
+
+    /// Whether the file's schema has the text that was kept. What was made of the known schema then fits.
+    pub fn has_schema(&self, known: &KnownSchema) -> bool
+        ensures { IsTrue result → tree_of self.now ≡ known_tree known.now }
+    {
+        self.named.text == known.text.as_slice()
     }
 
     /// The objects, from the first on.
@@ -134,7 +172,7 @@ impl<'a> Container<'a> {
         ensures schema { type_of result ≡ tree_of self.now }
     {
         Objects {
-            schema: &self.schema,
+            schema: &self.named.schema,
             sync: self.sync,
             total: self.total,
             spot: Spot {
@@ -158,15 +196,19 @@ pub struct Objects<'a> {
 }
 
 impl<'a> Objects<'a> {
+    ghost use Rattle.std.specs.Prelude.{[]};
+    ghost use Rattle.avro_file.specs.Ahead.{running};
     ghost use Rattle.avro_file.specs.Files.{ahead, type_of, Next, Shows};
 
     /// The next object, which was checked whole; none at the end of the file. This takes no memory.
     ///
     /// A block's count, size, content and marker are checked before its first object. An object that runs past its
     /// block, or bytes left behind the last one, are `BlockSize`. After a refusal each further call gives the same
-    /// refusal.
+    /// refusal. An object only lends: whether it is built, skipped or dropped changes nothing of what follows.
     pub fn next(&mut self) -> Result<Option<Object<'a>>, AvroFault>
         ensures next { Next Shows (ahead self.old) result (ahead self.new) }
+        // At the end of the file it always answers so, and stays there.
+        ensures end { ahead self.old ≡ running [] None → (result ≡ Ok None) × (ahead self.new ≡ running [] None) }
         ensures schema { type_of self.new ≡ type_of self.old }
     {
         if let Some(refusal) = self.refused {

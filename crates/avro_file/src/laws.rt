@@ -1,12 +1,13 @@
 //! Laws of the format, over its definitions alone.
 
-ghost use Rattle.std.specs.Prelude.{◌≡◌, ◌≢◌, ◌^◌, ◌<◌, ◌≤◌, ℕ, true, List, length, None, Ok, Err};
+ghost use Rattle.std.specs.Prelude.{◌≡◌, ◌≢◌, ◌^◌, ◌<◌, ◌≤◌, ℕ, true, List, ◌++◌, length, Option, Some, None, Ok, Err};
 ghost use Rattle.avro_schema.specs.Tree.{Tree};
 ghost use Rattle.avro_file.specs.Value.{Value};
 ghost use Rattle.avro_file.specs.Spelling.{takes_bytes};
 ghost use Rattle.avro_file.specs.Ahead.{running, still_ahead};
 ghost use Rattle.avro_file.specs.Holding.{AreWithinLimits};
 ghost use Rattle.avro_file.specs.Files.{opened_at, reader_of, HoldsFile, Opened};
+ghost use Rattle.avro_file.specs.Fronts.{FrontHoldsFile, IsCutFile};
 
 use crate::fault::AvroFault;
 
@@ -29,4 +30,20 @@ pub fn objects_take_bytes()
 pub fn held_is_read()
     ensures read { (s : Tree) (vs : List Value) (bytes : List ℕ) → length bytes < 2 ^ 64 → HoldsFile s vs bytes → AreWithinLimits vs → opened_at bytes ≡ Ok (reader_of s vs) }
     ensures only { (bytes : List ℕ) (o : Opened) (vs : List Value) → opened_at bytes ≡ Ok o → o.ahead ≡ running vs None → HoldsFile o.schema vs bytes × AreWithinLimits vs }
+{}
+
+/// What is left of a file whose end was cut off begins as none, is refused as cut, or gives a front of the same data.
+pub fn cut_files()
+    ensures { (s : Tree) (vs : List Value) (bytes front back : List ℕ) → length bytes < 2 ^ 64 → HoldsFile s vs bytes → AreWithinLimits vs → bytes ≡ front ++ back → IsCutFile s vs front }
+{}
+
+/// What a file gives before a fault, or before its end, are data that a front of its blocks holds.
+pub fn before_a_fault()
+    ensures { (bytes : List ℕ) (o : Opened) (vs : List Value) (ending : Option AvroFault) → opened_at bytes ≡ Ok o → o.ahead ≡ running vs ending → FrontHoldsFile o.schema vs bytes × AreWithinLimits vs }
+{}
+
+/// No fault of a file is want of memory: opening answers `Memory` for want of it alone, and `next` never does.
+pub fn no_fault_is_memory()
+    ensures opening { (bytes : List ℕ) → opened_at bytes ≢ Err AvroFault.Memory }
+    ensures objects { (bytes : List ℕ) (o : Opened) (vs : List Value) → opened_at bytes ≡ Ok o → o.ahead ≢ running vs (Some AvroFault.Memory) }
 {}

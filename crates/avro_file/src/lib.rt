@@ -9,8 +9,10 @@ mod encode;
 mod ends;
 mod fault;
 mod header;
+mod known;
 mod laws;
 mod leaf;
+mod named;
 mod number;
 mod object;
 mod pairs;
@@ -22,7 +24,11 @@ mod writer;
 pub use container::{Container, Objects};
 pub use datum::Datum;
 pub use fault::{AvroFault, CodecName};
-pub use laws::{held_is_read, no_item_limit, objects_take_bytes, one_list};
+pub use laws::{
+    before_a_fault, cut_files, held_is_read, no_fault_is_memory, no_item_limit, objects_take_bytes,
+    one_list,
+};
+pub use named::KnownSchema;
 pub use object::Object;
 pub use writer::{Property, Writer};
 

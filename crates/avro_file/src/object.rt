@@ -30,6 +30,7 @@ impl<'a> Object<'a> {
         }
     }
 
-    /// Lets go of the object, of which nothing was built.
+    /// Lets go of the object, of which nothing was built. This takes no memory and cannot fail; the reader gives what
+    /// follows as if the object had been built.
     pub fn skip(self) {}
 }

@@ -1,6 +1,6 @@
 //! Files written.
 
-ghost use Rattle.std.specs.Prelude.{◌≡◌, ◌++◌, ◌∷◌, [], ◌<◌, ◌^◌, List, map, length, IfOk};
+ghost use Rattle.std.specs.Prelude.{◌≡◌, ◌++◌, ◌∷◌, [], ◌<◌, ◌^◌, ℕ, List, map, length, IfOk};
 ghost use Rattle.std.specs.Prelude.{◌≢◌, Ok, Err, OnOk};
 ghost use Rattle.std.specs.Result.{IfErr};
 ghost use Rattle.avro_schema.specs.Tree.{Tree};
@@ -8,7 +8,7 @@ ghost use Rattle.avro_schema.specs.Texts.{schema_of};
 ghost use Rattle.avro_file.specs.Blocks.{refused};
 ghost use Rattle.avro_file.specs.Header.{Property as Shown};
 ghost use Rattle.avro_file.specs.Files.{magic};
-ghost use Rattle.avro_file.specs.Writing.{block_bytes, properties_written, in_order as all_in_order};
+ghost use Rattle.avro_file.specs.Writing.{block_bytes, properties_written, file_bytes, in_order as all_in_order};
 ghost use Rattle.avro_file.specs.Property.{shown_property, shown_properties};
 
 use crate::container::schema_named;
@@ -116,7 +116,7 @@ impl Writer {
     ghost use Rattle.avro_file.specs.Value.{Value};
     ghost use Rattle.avro_file.specs.View.{view};
     ghost use Rattle.avro_file.specs.Files.{HoldsFile, opened_at, reader_of};
-    ghost use Rattle.avro_file.specs.Writers.{WasGiven, AreOf, HasMetadata};
+    ghost use Rattle.avro_file.specs.Writers.{WasGiven, WillWrite, AreOf, HasMetadata};
 
     /// A file of no objects yet, of the type that a schema's text names, with these metadata, the schema and the codec
     /// `null`. The marker should be one that no other file has.
@@ -130,6 +130,7 @@ impl Writer {
     ) -> Result<Writer, AvroFault>
         requires { AllByRecursion (λ p. IsUtf8 p.0) (shown_properties metadata.now) }
         ensures begun { IfOk result (λ w. (s : Tree) × (schema_of schema.now ≡ Ok s) × WasGiven w (all_in_order schema.now (shown_properties metadata.now)) s []) }
+        ensures exact { IfOk result (λ w. WillWrite w (all_in_order schema.now (shown_properties metadata.now)) sync []) }
         ensures refused { IfErr result (λ e. e ≢ AvroFault.Memory → refused AvroFault.Schema (schema_of schema.now) ≡ Err e) }
     {
         check_schema(alloc, schema)?;
@@ -144,8 +145,10 @@ impl Writer {
     }
 
     /// Puts an object last. After want of memory the objects are those of before.
+    #[tactic(auto, unfolding(crate::specs::Writers::WasGiven, crate::specs::Writers::WillWrite))]
     pub fn push(&mut self, alloc: Global, datum: &Datum<'_>) -> Result<(), AllocError>
-        ensures { (ps : List Shown) (s : Tree) (vs : List Value) → WasGiven self.old ps s vs → MatchResult result (λ _. WasGiven self.new ps s (vs ++ view datum.now ∷ [])) (λ _. WasGiven self.new ps s vs) }
+        ensures given { (ps : List Shown) (s : Tree) (vs : List Value) → WasGiven self.old ps s vs → MatchResult result (λ _. WasGiven self.new ps s (vs ++ view datum.now ∷ [])) (λ _. WasGiven self.new ps s vs) }
+        ensures exact { (ps : List Shown) (sync : List ℕ) (vs : List Value) → WillWrite self.old ps sync vs → MatchResult result (λ _. WillWrite self.new ps sync (vs ++ view datum.now ∷ [])) (λ _. WillWrite self.new ps sync vs) }
     {
         if self.count >= i64::MAX as u64 {
             return Err(AllocError);
@@ -158,7 +161,9 @@ impl Writer {
 
     /// The file's bytes, all objects in one block. Where they are of the schema and within the limits, the file holds
     /// exactly them, and a reader gives them back.
+    #[tactic(auto, unfolding(crate::specs::Writers::WasGiven, crate::specs::Writers::WillWrite))]
     pub fn finish(self) -> Result<Vec<u8>, AllocError>
+        ensures exact { (ps : List Shown) (sync : List ℕ) (vs : List Value) → WillWrite self ps sync vs → IfOk result (λ bytes. bytes.items ≡ file_bytes ps sync vs) }
         ensures holds { (ps : List Shown) (s : Tree) (vs : List Value) → WasGiven self ps s vs → AreOf s vs → IfOk result (λ bytes. HoldsFile s vs bytes.items) }
         ensures metadata { (ps : List Shown) (s : Tree) (vs : List Value) → WasGiven self ps s vs → IfOk result (λ bytes. HasMetadata ps bytes.items) }
         ensures read_back { (ps : List Shown) (s : Tree) (vs : List Value) → WasGiven self ps s vs → AreOf s vs → IfOk result (λ bytes. opened_at bytes.items ≡ Ok (reader_of s vs)) }

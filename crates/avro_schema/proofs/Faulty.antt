@@ -5,7 +5,7 @@ use Rattle.std.specs.Prelude.{MatchResult, ℤ}
 use Rattle.serde_json.specs.Data.{Data}
 use Rattle.avro_schema.specs.declared.fault.SchemaFault.{SchemaFault}
 use Rattle.avro_schema.specs.declared.fault.SchemaFault.TheVariants.{UnknownName, FieldTwice, NameTwice}
-use Rattle.avro_schema.specs.declared.reading.Place.TheVariants as place
+use Rattle.avro_schema.specs.declared.reading.Role.TheVariants as role
 use Rattle.avro_schema.specs.Tree.{Tree}
 use Rattle.avro_schema.specs.Names.{Entry, lookup, put}
 use Rattle.avro_schema.specs.Reading.{tree_at}
@@ -44,18 +44,18 @@ data UnknownIn : List ℕ → Data → List Entry → Type 0 where
 data UnknownAmong : List Node → List Entry → Type 0 where
   unknown_among : {ns : List Node} {i : ℕ} {n : Node} {place last name : List ℕ} {u : Data} {es : List Entry} → Nth i n ns → At place n.0 n.1 last u → Uses last u name → lookup name es ≡ None → (BeforeAmong ns i place name → ⊥) → UnknownAmong ns es
 
-none_before_root : (space : List ℕ) (d : Data) (place name : List ℕ) → place ≡ [] → DefinedBefore place space d name → ⊥
+pub none_before_root : (space : List ℕ) (d : Data) (place name : List ℕ) → place ≡ [] → DefinedBefore place space d name → ⊥
 none_before_root space d place name e (defined_before {earlier} order at h) = before_root earlier place e order
 
-none_below : (space : List ℕ) (d : Data) (i : ℕ) (place name : List ℕ) → (Defines space d name → ⊥) → (BeforeAmong (parts_in space d) i place name → ⊥) → DefinedBefore (i ∷ place) space d name → ⊥
+pub none_below : (space : List ℕ) (d : Data) (i : ℕ) (place name : List ℕ) → (Defines space d name → ⊥) → (BeforeAmong (parts_in space d) i place name → ⊥) → DefinedBefore (i ∷ place) space d name → ⊥
 none_below space d i place name own before (defined_before order root h) = own h
 none_below space d i place name own before (defined_before order (below nth at) h) = before (before_among order nth at h)
 
-none_first : (n : Node) (ns : List Node) (place name : List ℕ) → (DefinedBefore place n.0 n.1 name → ⊥) → BeforeAmong (n ∷ ns) 0 place name → ⊥
+pub none_first : (n : Node) (ns : List Node) (place name : List ℕ) → (DefinedBefore place n.0 n.1 name → ⊥) → BeforeAmong (n ∷ ns) 0 place name → ⊥
 none_first n ns place name before (before_among (left_of lt) nth at h) = absurd (omega (arith, lt))
 none_first n ns place name before (before_among (in_one order) first_part at h) = before (defined_before order at h)
 
-none_later : (n : Node) (ns : List Node) (es fs : List Entry) (t : Tree) (i : ℕ) (place name : List ℕ) → Took n.0 n.1 es t fs → lookup name fs ≡ None → (BeforeAmong ns i place name → ⊥) → BeforeAmong (n ∷ ns) (suc i) place name → ⊥
+pub none_later : (n : Node) (ns : List Node) (es fs : List Entry) (t : Tree) (i : ℕ) (place name : List ℕ) → Took n.0 n.1 es t fs → lookup name fs ≡ None → (BeforeAmong ns i place name → ⊥) → BeforeAmong (n ∷ ns) (suc i) place name → ⊥
 none_later n ns es fs t i place name one none before (before_among {earlier} {last} {e} order first_part at h) =
     let left : Left last e name fs = took_defined one earlier last e name at h in not_both (lookup name fs) (Some left.0) none left.1.0
 none_later n ns es fs t i place name one none before (before_among (left_of lt) (later_part {i = j} nth) at h) = let less : j < i = omega (arith, lt) in before (before_among (left_of less) nth at h)
@@ -169,7 +169,7 @@ mutual
 pub schema_tells : (text : List ℕ) (d : Data) → json_of text ≡ Ok d → MatchResult (schema_of text) (λ t. (fs : List Entry) × Took [] d [] t fs) (Failed [] d [])
 unfolding schema_of
 schema_tells text d is =
-    rw is (both_bind (TookAt place.Elsewhere [] d (record { names = []; left = most_nodes })) (Failed [] d []) _ (tree_at most_levels place.Elsewhere [] d (record { names = []; left = most_nodes })) _ (tree_tells most_levels place.Elsewhere [] d (record { names = []; left = most_nodes })) (λ x p. (x.1.names, p.1)))
+    rw is (both_bind (TookAt role.Elsewhere [] d (record { names = []; left = most_nodes })) (Failed [] d []) _ (tree_at most_levels role.Elsewhere [] d (record { names = []; left = most_nodes })) _ (tree_tells most_levels role.Elsewhere [] d (record { names = []; left = most_nodes })) (λ x p. (x.1.names, p.1)))
 
 at_ok : {A E : Type 0} (r : Result A E) (x : A) (P : A → Type 0) (F : E → Type 0) → r ≡ Ok x → MatchResult r P F → P x
 at_ok r x P F is h = rw is at h

@@ -9,12 +9,12 @@ use Rattle.std.proofs.lemmas.Result.{IfOk-weaker}
 use Rattle.serde_json.specs.Data as json
 use Rattle.serde_json.specs.Data.{Data, Items}
 use Rattle.serde_json.specs.Find.{get}
-use Rattle.avro_schema.specs.declared.reading.Place.{Place}
-use Rattle.avro_schema.specs.declared.reading.Place.TheVariants as place
+use Rattle.avro_schema.specs.declared.reading.Role.{Role}
+use Rattle.avro_schema.specs.declared.reading.Role.TheVariants as role
 use Rattle.avro_schema.specs.declared.attributes.Kind.{Kind}
 use Rattle.avro_schema.specs.declared.attributes.Kind.TheVariants as kind
 use Rattle.avro_schema.specs.Tree.{Tree, symbols, fixed}
-use Rattle.avro_schema.specs.Size.{less, below, height}
+use Rattle.avro_schema.specs.Size.{left_after, below, height}
 use Rattle.avro_schema.specs.View.{Part}
 use Rattle.avro_schema.specs.Names.{Entry, lookup, put, full, space_of}
 use Rattle.avro_schema.specs.Attributes.{name_in, id_in, items_in, is_object, symbols_in, size_in, bytes_kind, plain, text_in, kind_of}
@@ -139,7 +139,7 @@ abbrev pub Keeps : (Data → Seen → Read Tree) → Type 0
 Keeps read = (d : Data) (s : Seen) → IfOk (read d s) (λ x. Grows s.names x.1.names)
 
 abbrev pub AlwaysKeeps : Reader → Type 0
-AlwaysKeeps read = (at : Place) (space : List ℕ) → Keeps (read at space)
+AlwaysKeeps read = (at : Role) (space : List ℕ) → Keeps (read at space)
 
 if_left_keeps : (n : ℕ) (t : Tree) (o : Option ℕ) (b : Bool) (s : Seen) → nat_lt n (height t) ≡ b → IfOk (if_left n t o s) (λ x. Grows s.names x.1.names)
 if_left_keeps n t None b s h = tt
@@ -149,7 +149,7 @@ if_left_keeps n t (Some left) false s h = rw h (grows_same s.names)
 used_keeps : (n : ℕ) (o : Option (Option Tree)) (s : Seen) → IfOk (used n o s) (λ x. Grows s.names x.1.names)
 used_keeps n None s = tt
 used_keeps n (Some None) s = tt
-used_keeps n (Some (Some t)) s = if_left_keeps n t (less s.left (below t)) (nat_lt n (height t)) s refl
+used_keeps n (Some (Some t)) s = if_left_keeps n t (left_after s.left (below t)) (nat_lt n (height t)) s refl
 
 plain_or_used_keeps : (n : ℕ) (o : Option Tree) (name : List ℕ) (s : Seen) → IfOk (plain_or_used n o name s) (λ x. Grows s.names x.1.names)
 plain_or_used_keeps n (Some t) name s = grows_same s.names
@@ -181,8 +181,8 @@ unfolding record_at
 record_defines read h space name d s is =
     rw is (bind_any _ (asked (items_in is_object (codes "fields") d)) _ (λ items.
     bind_if (New (defines space name d) None s) _ (defined (defines space name d) None s) _ (defined_new (defines space name d) None s) (λ opened new.
-    bind_if (λ x. Grows opened.names x.1.names) _ (fields_at (read place.Elsewhere (space_of (defines space name d))) [] items opened) _
-    (each_keeps (field_at (read place.Elsewhere (space_of (defines space name d)))) (field_keeps (read place.Elsewhere (space_of (defines space name d))) (h place.Elsewhere (space_of (defines space name d)))) [] items opened)
+    bind_if (λ x. Grows opened.names x.1.names) _ (fields_at (read role.Elsewhere (space_of (defines space name d))) [] items opened) _
+    (each_keeps (field_at (read role.Elsewhere (space_of (defines space name d)))) (field_keeps (read role.Elsewhere (space_of (defines space name d))) (h role.Elsewhere (space_of (defines space name d)))) [] items opened)
     (λ x p. (closes (defines space name d) _ s.names x.1.names new.0 (rw new.1 at p), lookup-put_same (defines space name d) _ x.1.names)))))
 
 enum_defines : (space name : List ℕ) (d : Data) (s : Seen) → name_in d ≡ Some name → IfOk (enum_at space d s) (LeavesDefined (defines space name d) s)
@@ -216,11 +216,11 @@ fixed_keeps space d s (Some name) is = IfOk-weaker (fixed_at space d s) (LeavesD
 
 array_keeps : (read : Reader) → AlwaysKeeps read → (space : List ℕ) (d : Data) (s : Seen) → IfOk (array_at read space d s) (λ x. Grows s.names x.1.names)
 unfolding array_at
-array_keeps read h space d s = bind_any _ (asked (get (codes "items") d)) _ (λ items. bind_if (λ x. Grows s.names x.1.names) _ (read place.Elsewhere space items s) _ (h place.Elsewhere space items s) (λ x p. p))
+array_keeps read h space d s = bind_any _ (asked (get (codes "items") d)) _ (λ items. bind_if (λ x. Grows s.names x.1.names) _ (read role.Elsewhere space items s) _ (h role.Elsewhere space items s) (λ x p. p))
 
 map_keeps : (read : Reader) → AlwaysKeeps read → (space : List ℕ) (d : Data) (s : Seen) → IfOk (map_at read space d s) (λ x. Grows s.names x.1.names)
 unfolding map_at
-map_keeps read h space d s = bind_any _ (asked (get (codes "values") d)) _ (λ values. bind_if (λ x. Grows s.names x.1.names) _ (read place.Elsewhere space values s) _ (h place.Elsewhere space values s) (λ x p. p))
+map_keeps read h space d s = bind_any _ (asked (get (codes "values") d)) _ (λ values. bind_if (λ x. Grows s.names x.1.names) _ (read role.Elsewhere space values s) _ (h role.Elsewhere space values s) (λ x p. p))
 
 of_kind_keeps : (n : ℕ) (read : Reader) → AlwaysKeeps read → (space : List ℕ) (k : Kind) (word : List ℕ) (d : Data) (s : Seen) → IfOk (of_kind read n space k word d s) (λ x. Grows s.names x.1.names)
 of_kind_keeps n read h space kind.Array word d s = array_keeps read h space d s
@@ -240,13 +240,13 @@ of_word_keeps n space kind.Fixed word s = tt
 of_word_keeps n space kind.Bytes word s = named_keeps n space word s
 of_word_keeps n space kind.Word word s = named_keeps n space word s
 
-union_keeps : (read : Reader) → AlwaysKeeps read → (at : Place) (space : List ℕ) (ds : Items) (s : Seen) → IfOk (union_at read at space ds s) (λ x. Grows s.names x.1.names)
+union_keeps : (read : Reader) → AlwaysKeeps read → (at : Role) (space : List ℕ) (ds : Items) (s : Seen) → IfOk (union_at read at space ds s) (λ x. Grows s.names x.1.names)
 unfolding union_at
-union_keeps read h place.Branch space ds s = tt
-union_keeps read h place.Elsewhere space ds s =
-    bind_if (λ x. Grows s.names x.1.names) _ (branches_at (read place.Branch space) [] ds s) _ (each_keeps (whatever_before (read place.Branch space)) (λ front d t. h place.Branch space d t) [] ds s) (λ x p. p)
+union_keeps read h role.Branch space ds s = tt
+union_keeps read h role.Elsewhere space ds s =
+    bind_if (λ x. Grows s.names x.1.names) _ (branches_at (read role.Branch space) [] ds s) _ (each_keeps (whatever_before (read role.Branch space)) (λ front d t. h role.Branch space d t) [] ds s) (λ x p. p)
 
-node_keeps : (n : ℕ) (read : Reader) → AlwaysKeeps read → (at : Place) (space : List ℕ) (d : Data) (s : Seen) → IfOk (node_at read n at space d s) (λ x. Grows s.names x.1.names)
+node_keeps : (n : ℕ) (read : Reader) → AlwaysKeeps read → (at : Role) (space : List ℕ) (d : Data) (s : Seen) → IfOk (node_at read n at space d s) (λ x. Grows s.names x.1.names)
 unfolding node_at text_at object_at
 node_keeps n read h at space json.null s = tt
 node_keeps n read h at space (json.boolean b) s = tt
@@ -268,12 +268,12 @@ tree_keeps (suc n) at space d s =
     bind_if (λ now. now.names ≡ s.names) _ (counted s) _ (counted_same (nat_lt 0 s.left) s refl) (λ now e.
     rw (← e) (node_keeps n (tree_at n) (tree_keeps n) at space d now))
 
-node_defines : (n : ℕ) (read : Reader) → AlwaysKeeps read → (at : Place) (space : List ℕ) (d : Data) (s : Seen) (name : List ℕ) → Defines space d name → IfOk (node_at read n at space d s) (LeavesDefined name s)
+node_defines : (n : ℕ) (read : Reader) → AlwaysKeeps read → (at : Role) (space : List ℕ) (d : Data) (s : Seen) (name : List ℕ) → Defines space d name → IfOk (node_at read n at space d s) (LeavesDefined name s)
 node_defines n read h at space d s name (a_record {name = short} is has_name) = let k = kind_is read n at space d s kind.Record is in rw k.1 (record_defines read h space short d s has_name)
 node_defines n read h at space d s name (an_enum {name = short} is has_name) = let k = kind_is read n at space d s kind.Enum is in rw k.1 (enum_defines space short d s has_name)
 node_defines n read h at space d s name (a_fixed {name = short} is has_name) = let k = kind_is read n at space d s kind.Fixed is in rw k.1 (fixed_defines space short d s has_name)
 
-pub tree_defines : (n : ℕ) (at : Place) (space : List ℕ) (d : Data) (s : Seen) (name : List ℕ) → Defines space d name → IfOk (tree_at n at space d s) (λ x. lookup name x.1.names ≡ Some (Some x.0))
+pub tree_defines : (n : ℕ) (at : Role) (space : List ℕ) (d : Data) (s : Seen) (name : List ℕ) → Defines space d name → IfOk (tree_at n at space d s) (λ x. lookup name x.1.names ≡ Some (Some x.0))
 unfolding tree_at
 tree_defines zero at space d s name makes = tt
 tree_defines (suc n) at space d s name makes =
@@ -289,18 +289,18 @@ used_is n t (Some left) false s h = rw h refl
 used_stands : (n : ℕ) (o : Option (Option Tree)) (s : Seen) → IfOk (used n o s) (λ x. o ≡ Some (Some x.0))
 used_stands n None s = tt
 used_stands n (Some None) s = tt
-used_stands n (Some (Some t)) s = IfOk-weaker (if_left n t (less s.left (below t)) s) (λ x. x.0 ≡ t) (λ x. Some (Some t) ≡ Some (Some x.0)) (λ x e. rw e refl) (used_is n t (less s.left (below t)) (nat_lt n (height t)) s refl)
+used_stands n (Some (Some t)) s = IfOk-weaker (if_left n t (left_after s.left (below t)) s) (λ x. x.0 ≡ t) (λ x. Some (Some t) ≡ Some (Some x.0)) (λ x e. rw e refl) (used_is n t (left_after s.left (below t)) (nat_lt n (height t)) s refl)
 
 named_stands : (n : ℕ) (space word : List ℕ) (s : Seen) → plain word ≡ None → IfOk (named n space word s) (λ x. lookup (full space word) s.names ≡ Some (Some x.0))
 unfolding named
 named_stands n space word s h = rw h (used_stands n (lookup (full space word) s.names) s)
 
-node_uses : (n : ℕ) (read : Reader) (at : Place) (space : List ℕ) (d : Data) (s : Seen) (name : List ℕ) → Uses space d name → IfOk (node_at read n at space d s) (λ x. lookup name s.names ≡ Some (Some x.0))
+node_uses : (n : ℕ) (read : Reader) (at : Role) (space : List ℕ) (d : Data) (s : Seen) (name : List ℕ) → Uses space d name → IfOk (node_at read n at space d s) (λ x. lookup name s.names ≡ Some (Some x.0))
 unfolding node_at text_at
 node_uses n read at space d s name (a_text {word} is none) = rw is (named_stands n space word s none)
 node_uses n read at space d s name (a_type {word} type is none) = rw (object_is read n at space d s word type, is) (named_stands n space word s none)
 
-pub tree_uses : (n : ℕ) (at : Place) (space : List ℕ) (d : Data) (s : Seen) (name : List ℕ) → Uses space d name → IfOk (tree_at n at space d s) (λ x. lookup name s.names ≡ Some (Some x.0))
+pub tree_uses : (n : ℕ) (at : Role) (space : List ℕ) (d : Data) (s : Seen) (name : List ℕ) → Uses space d name → IfOk (tree_at n at space d s) (λ x. lookup name s.names ≡ Some (Some x.0))
 unfolding tree_at
 tree_uses zero at space d s name used = tt
 tree_uses (suc n) at space d s name used =

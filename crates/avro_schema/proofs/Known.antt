@@ -246,7 +246,7 @@ one_use space d name other (a_type {word} type w p) (a_type {word = same} again 
 abbrev pub UseKnown : List ℕ → Data → List Entry → List ℕ → List ℕ → Type 0
 UseKnown space d es place name = Known name es ⊎ DefinedBefore place space d name
 
-plain_known : (space : List ℕ) (d : Data) (es : List Entry) (i : ℕ) (place name : List ℕ) → Known name es ⊎ BeforeAmong (parts_in space d) i place name → UseKnown space d es (i ∷ place) name
+pub plain_known : (space : List ℕ) (d : Data) (es : List Entry) (i : ℕ) (place name : List ℕ) → Known name es ⊎ BeforeAmong (parts_in space d) i place name → UseKnown space d es (i ∷ place) name
 plain_known space d es i place name (inl h) = inl h
 plain_known space d es i place name (inr h) = inr (before_below space d i place name h)
 
@@ -254,11 +254,11 @@ outer_known : (space own : List ℕ) (d : Data) (es : List Entry) (i : ℕ) (pla
 outer_known space own d es i place name x makes (inl same) = inr (defined_before around root (rw same makes))
 outer_known space own d es i place name x makes (inr h) = inl (x, h)
 
-named_known : (space own : List ℕ) (d : Data) (es : List Entry) (i : ℕ) (place name : List ℕ) → Defines space d own → Known name (put own None es) ⊎ BeforeAmong (parts_in space d) i place name → UseKnown space d es (i ∷ place) name
+pub named_known : (space own : List ℕ) (d : Data) (es : List Entry) (i : ℕ) (place name : List ℕ) → Defines space d own → Known name (put own None es) ⊎ BeforeAmong (parts_in space d) i place name → UseKnown space d es (i ∷ place) name
 named_known space own d es i place name makes (inl h) = outer_known space own d es i place name h.0 makes (known_outside own name es h.0 h.1)
 named_known space own d es i place name makes (inr h) = inr (before_below space d i place name h)
 
-first_known : (n : Node) (ns : List Node) (es : List Entry) (place name : List ℕ) → UseKnown n.0 n.1 es place name → Known name es ⊎ BeforeAmong (n ∷ ns) 0 place name
+pub first_known : (n : Node) (ns : List Node) (es : List Entry) (place name : List ℕ) → UseKnown n.0 n.1 es place name → Known name es ⊎ BeforeAmong (n ∷ ns) 0 place name
 first_known n ns es place name (inl h) = inl h
 first_known n ns es place name (inr h) = inr (before_first n ns place name h)
 
@@ -266,7 +266,7 @@ from_first : (n : Node) (ns : List Node) (es : List Entry) (i : ℕ) (place name
 from_first n ns es i place name x (inl h) = inl (x, h)
 from_first n ns es i place name x (inr h) = inr (whole_first n ns i place name h)
 
-later_known : (n : Node) (ns : List Node) (es fs : List Entry) (t : Tree) (i : ℕ) (place name : List ℕ) → Took n.0 n.1 es t fs → Known name fs ⊎ BeforeAmong ns i place name → Known name es ⊎ BeforeAmong (n ∷ ns) (suc i) place name
+pub later_known : (n : Node) (ns : List Node) (es fs : List Entry) (t : Tree) (i : ℕ) (place name : List ℕ) → Took n.0 n.1 es t fs → Known name fs ⊎ BeforeAmong ns i place name → Known name es ⊎ BeforeAmong (n ∷ ns) (suc i) place name
 later_known n ns es fs t i place name one (inl h) = from_first n ns es i place name h.0 (took_origin one name h.0 h.1)
 later_known n ns es fs t i place name one (inr h) = inr (before_later n ns i place name h)
 

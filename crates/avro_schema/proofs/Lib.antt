@@ -21,3 +21,5 @@ pub mod Refused
 pub mod Same
 pub mod Takes
 pub mod Places
+pub mod First
+pub mod Unasked

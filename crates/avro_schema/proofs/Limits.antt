@@ -7,12 +7,12 @@ use Rattle.std.specs.Str.{bytes_eq}
 use Rattle.serde_json.specs.Data as json
 use Rattle.serde_json.specs.Data.{Data, Items}
 use Rattle.serde_json.specs.Find.{get}
-use Rattle.avro_schema.specs.declared.reading.Place.{Place}
-use Rattle.avro_schema.specs.declared.reading.Place.TheVariants as place
+use Rattle.avro_schema.specs.declared.reading.Role.{Role}
+use Rattle.avro_schema.specs.declared.reading.Role.TheVariants as role
 use Rattle.avro_schema.specs.declared.attributes.Kind.{Kind}
 use Rattle.avro_schema.specs.declared.attributes.Kind.TheVariants as kind
 use Rattle.avro_schema.specs.Tree.{Tree}
-use Rattle.avro_schema.specs.Size.{below, in_fields, in_branches, height, deepest_field, deepest_branch, nodes, depth, less}
+use Rattle.avro_schema.specs.Size.{below, in_fields, in_branches, height, deepest_field, deepest_branch, nodes, depth, left_after}
 use Rattle.avro_schema.specs.View.{Part, fields_of, branches_of}
 use Rattle.avro_schema.specs.Names.{lookup, full, space_of}
 use Rattle.avro_schema.specs.Attributes.{name_in, id_in, items_in, is_object, symbols_in, size_in, plain, text_in, kind_of}
@@ -32,7 +32,7 @@ abbrev pub ReadsWithin : ℕ → (Data → Seen → Read Tree) → Type 0
 ReadsWithin n read = (d : Data) (s : Seen) → IfOk (read d s) (Within n s.left)
 
 abbrev pub AlwaysWithin : ℕ → Reader → Type 0
-AlwaysWithin n read = (at : Place) (space : List ℕ) → ReadsWithin n (read at space)
+AlwaysWithin n read = (at : Role) (space : List ℕ) → ReadsWithin n (read at space)
 
 -- ---- names
 
@@ -67,12 +67,12 @@ plain_leaf s =
     if_leaf (bytes_eq s (codes "bytes")) _ _ (refl, refl) (
     if_leaf (bytes_eq s (codes "string")) _ _ (refl, refl) tt)))))))
 
-less_back : (l n m : ℕ) → less l n ≡ Some m → m + n ≡ l
+less_back : (l n m : ℕ) → left_after l n ≡ Some m → m + n ≡ l
 less_back l zero m h = let k : l ≡ m = cc in omega (arith, k)
 less_back zero (suc n) m h = absurd cc
 less_back (suc l) (suc n) m h = let k : m + n ≡ l = less_back l n m h in omega (arith, k)
 
-repeated_below : (n : ℕ) (t : Tree) (o : Option ℕ) (b : Bool) (s : Seen) → less s.left (below t) ≡ o → nat_lt n (height t) ≡ b → IfOk (if_left n t o s) (Below n s.left)
+repeated_below : (n : ℕ) (t : Tree) (o : Option ℕ) (b : Bool) (s : Seen) → left_after s.left (below t) ≡ o → nat_lt n (height t) ≡ b → IfOk (if_left n t o s) (Below n s.left)
 repeated_below n t None b s h k = tt
 repeated_below n t (Some left) true s h k = rw k tt
 repeated_below n t (Some left) false s h k = rw k (less_back s.left (below t) left h, ltb-false n (height t) k)
@@ -80,7 +80,7 @@ repeated_below n t (Some left) false s h k = rw k (less_back s.left (below t) le
 used_below : (n : ℕ) (o : Option (Option Tree)) (s : Seen) → IfOk (used n o s) (Below n s.left)
 used_below n None s = tt
 used_below n (Some None) s = tt
-used_below n (Some (Some t)) s = repeated_below n t (less s.left (below t)) (nat_lt n (height t)) s refl refl
+used_below n (Some (Some t)) s = repeated_below n t (left_after s.left (below t)) (nat_lt n (height t)) s refl refl
 
 plain_or_used_below : (n : ℕ) (o : Option Tree) (name : List ℕ) (s : Seen) → IfLeaf o → IfOk (plain_or_used n o name s) (Below n s.left)
 plain_or_used_below n (Some t) name s h = (omega (arith, h.0), omega (arith, h.1))
@@ -145,17 +145,17 @@ unfolding record_at below height in_fields deepest_field
 record_below n read h space d s =
     bind_any _ (asked (name_in d)) _ (λ name. bind_any _ (asked (items_in is_object (codes "fields") d)) _ (λ items.
     bind_if (λ q. q.left ≡ s.left) _ (defined (defines space name d) None s) _ (defined_left _ _ _) (λ opened e.
-    bind_if (FieldsBelow n s.left) _ (fields_at (read place.Elsewhere (space_of (defines space name d))) [] items opened) _
-    (fields_below n s.left (read place.Elsewhere (space_of (defines space name d))) (h place.Elsewhere (space_of (defines space name d))) [] items opened (omega (arith, e), omega arith))
+    bind_if (FieldsBelow n s.left) _ (fields_at (read role.Elsewhere (space_of (defines space name d))) [] items opened) _
+    (fields_below n s.left (read role.Elsewhere (space_of (defines space name d))) (h role.Elsewhere (space_of (defines space name d))) [] items opened (omega (arith, e), omega arith))
     (λ x p. p))))
 
 array_below : (n : ℕ) (read : Reader) → AlwaysWithin n read → (space : List ℕ) (d : Data) (s : Seen) → IfOk (array_at read space d s) (Below n s.left)
 unfolding array_at below height
-array_below n read h space d s = bind_any _ (asked (get (codes "items") d)) _ (λ items. bind_if (Within n s.left) _ (read place.Elsewhere space items s) _ (h place.Elsewhere space items s) (λ x p. p))
+array_below n read h space d s = bind_any _ (asked (get (codes "items") d)) _ (λ items. bind_if (Within n s.left) _ (read role.Elsewhere space items s) _ (h role.Elsewhere space items s) (λ x p. p))
 
 map_below : (n : ℕ) (read : Reader) → AlwaysWithin n read → (space : List ℕ) (d : Data) (s : Seen) → IfOk (map_at read space d s) (Below n s.left)
 unfolding map_at below height
-map_below n read h space d s = bind_any _ (asked (get (codes "values") d)) _ (λ values. bind_if (Within n s.left) _ (read place.Elsewhere space values s) _ (h place.Elsewhere space values s) (λ x p. p))
+map_below n read h space d s = bind_any _ (asked (get (codes "values") d)) _ (λ values. bind_if (Within n s.left) _ (read role.Elsewhere space values s) _ (h role.Elsewhere space values s) (λ x p. p))
 
 enum_below : (n : ℕ) (space : List ℕ) (d : Data) (s : Seen) → IfOk (enum_at space d s) (Below n s.left)
 unfolding enum_at below height
@@ -188,13 +188,13 @@ of_word_below n space kind.Fixed word s = tt
 of_word_below n space kind.Bytes word s = named_below n space word s
 of_word_below n space kind.Word word s = named_below n space word s
 
-union_below : (n : ℕ) (read : Reader) → AlwaysWithin n read → (at : Place) (space : List ℕ) (ds : Items) (s : Seen) → IfOk (union_at read at space ds s) (Below n s.left)
+union_below : (n : ℕ) (read : Reader) → AlwaysWithin n read → (at : Role) (space : List ℕ) (ds : Items) (s : Seen) → IfOk (union_at read at space ds s) (Below n s.left)
 unfolding union_at below height in_branches deepest_branch
-union_below n read h place.Branch space ds s = tt
-union_below n read h place.Elsewhere space ds s =
-    bind_if (BranchesBelow n s.left) _ (branches_at (read place.Branch space) [] ds s) _ (branches_below n s.left (read place.Branch space) (h place.Branch space) [] ds s (omega arith, omega arith)) (λ x p. p)
+union_below n read h role.Branch space ds s = tt
+union_below n read h role.Elsewhere space ds s =
+    bind_if (BranchesBelow n s.left) _ (branches_at (read role.Branch space) [] ds s) _ (branches_below n s.left (read role.Branch space) (h role.Branch space) [] ds s (omega arith, omega arith)) (λ x p. p)
 
-node_below : (n : ℕ) (read : Reader) → AlwaysWithin n read → (at : Place) (space : List ℕ) (d : Data) (s : Seen) → IfOk (node_at read n at space d s) (Below n s.left)
+node_below : (n : ℕ) (read : Reader) → AlwaysWithin n read → (at : Role) (space : List ℕ) (d : Data) (s : Seen) → IfOk (node_at read n at space d s) (Below n s.left)
 unfolding node_at text_at object_at
 node_below n read h at space json.null s = tt
 node_below n read h at space (json.boolean b) s = tt
@@ -219,4 +219,4 @@ tree_within (suc n) at space d s =
 pub schema_small : (text : List ℕ) → IfOk (schema_of text) (λ t. (nodes t ≤ most_nodes) × (depth t ≤ most_levels))
 unfolding schema_of
 schema_small text =
-    bind_any _ (json_of text) _ (λ d. bind_if (Within most_levels most_nodes) _ (tree_at most_levels place.Elsewhere [] d (record { names = []; left = most_nodes })) _ (tree_within most_levels place.Elsewhere [] d (record { names = []; left = most_nodes })) (λ x p. (omega (arith, p.0), p.1)))
+    bind_any _ (json_of text) _ (λ d. bind_if (Within most_levels most_nodes) _ (tree_at most_levels role.Elsewhere [] d (record { names = []; left = most_nodes })) _ (tree_within most_levels role.Elsewhere [] d (record { names = []; left = most_nodes })) (λ x p. (omega (arith, p.0), p.1)))

@@ -9,7 +9,7 @@ use Rattle.avro_schema.specs.declared.attributes.Kind.TheVariants as kind
 use Rattle.avro_schema.specs.Names.{space_of}
 use Rattle.avro_schema.specs.Attributes.{name_in, items_in, is_object}
 use Rattle.avro_schema.specs.Reading.{defines}
-use Rattle.avro_schema.specs.Inside.{kind_in, Among, first, later, Holds, its_items, its_values, a_branch, a_field, Inside, itself, further}
+use Rattle.avro_schema.specs.Inside.{kind_in, Among, first, later, HasPart, its_items, its_values, a_branch, a_field, Inside, itself, further}
 use Rattle.avro_schema.specs.Order.{Node, before_others, branch_nodes, field_nodes, record_nodes, nodes_of, parts_in, Nth, first_part, later_part, At, root, below}
 use Rattle.avro_schema.proofs.Holding.{parts_items, parts_values, parts_fields}
 use Rattle.avro_schema.proofs.Whole.{nodes_on}
@@ -32,7 +32,7 @@ field_number : (space : List ℕ) (f e : Data) (ds : Items) → Among f ds → g
 field_number space f e ds (first {ds = more}) there = rw (nodes_on space f e more there) (0, first_part)
 field_number space f e ds (later {e = other} {ds = more} among) there = behind space (space, e) (get (codes "type") other) (field_nodes space more) (field_number space f e more among there)
 
-holds_number : (space : List ℕ) (d : Data) (next : List ℕ) (e : Data) → Holds space d next e → Numbered (next, e) (parts_in space d)
+holds_number : (space : List ℕ) (d : Data) (next : List ℕ) (e : Data) → HasPart space d next e → Numbered (next, e) (parts_in space d)
 unfolding parts_in
 holds_number space d next e (its_items is there) = rw (parts_items space d e is there) (0, first_part)
 holds_number space d next e (its_values is there) = rw (parts_values space d e is there) (0, first_part)
@@ -72,12 +72,12 @@ one_held space i n None nth = absurd (no_nth i n [] refl nth)
 one_held space i n (Some e) first_part = (refl, refl)
 one_held space i n (Some e) (later_part {i = j} nth) = absurd (no_nth j n [] refl nth)
 
-record_held : (space : List ℕ) (d : Data) (i : ℕ) (n : Node) (o : Option (List ℕ)) (p : Option Items) → kind_in d ≡ Some kind.Record → name_in d ≡ o → items_in is_object (codes "fields") d ≡ p → Nth i n (record_nodes space o p d) → Holds space d n.0 n.1
+record_held : (space : List ℕ) (d : Data) (i : ℕ) (n : Node) (o : Option (List ℕ)) (p : Option Items) → kind_in d ≡ Some kind.Record → name_in d ≡ o → items_in is_object (codes "fields") d ≡ p → Nth i n (record_nodes space o p d) → HasPart space d n.0 n.1
 record_held space d i n None p is named there nth = absurd (no_nth i n [] refl nth)
 record_held space d i n (Some name) None is named there nth = absurd (no_nth i n [] refl nth)
 record_held space d i n (Some name) (Some ds) is named there nth = let r = field_held (space_of (defines space name d)) i n ds nth in rw r.1.0 (a_field is named there r.1.1.0 r.1.1.1)
 
-kind_held : (space : List ℕ) (d : Data) (i : ℕ) (n : Node) (o : Option Kind) → kind_in d ≡ o → Nth i n (nodes_of o space d) → Holds space d n.0 n.1
+kind_held : (space : List ℕ) (d : Data) (i : ℕ) (n : Node) (o : Option Kind) → kind_in d ≡ o → Nth i n (nodes_of o space d) → HasPart space d n.0 n.1
 kind_held space d i n None is nth = absurd (no_nth i n [] refl nth)
 kind_held space d i n (Some kind.Array) is nth = let r = one_held space i n (get (codes "items") d) nth in rw r.0 (its_items is r.1)
 kind_held space d i n (Some kind.Map) is nth = let r = one_held space i n (get (codes "values") d) nth in rw r.0 (its_values is r.1)
@@ -87,7 +87,7 @@ kind_held space d i n (Some kind.Fixed) is nth = absurd (no_nth i n [] refl nth)
 kind_held space d i n (Some kind.Bytes) is nth = absurd (no_nth i n [] refl nth)
 kind_held space d i n (Some kind.Word) is nth = absurd (no_nth i n [] refl nth)
 
-number_held : (space : List ℕ) (d : Data) (i : ℕ) (n : Node) → Nth i n (parts_in space d) → Holds space d n.0 n.1
+number_held : (space : List ℕ) (d : Data) (i : ℕ) (n : Node) → Nth i n (parts_in space d) → HasPart space d n.0 n.1
 unfolding parts_in
 number_held space json.null i n nth = absurd (no_nth i n [] refl nth)
 number_held space (json.boolean b) i n nth = absurd (no_nth i n [] refl nth)

@@ -13,17 +13,17 @@ use Rattle.serde_json.specs.Data.{Data, Items}
 use Rattle.serde_json.specs.Find.{get}
 use Rattle.avro_schema.specs.declared.fault.SchemaFault.{SchemaFault}
 use Rattle.avro_schema.specs.declared.fault.SchemaFault.TheVariants.{Recursive, FieldTwice}
-use Rattle.avro_schema.specs.declared.reading.Place.{Place}
-use Rattle.avro_schema.specs.declared.reading.Place.TheVariants as place
+use Rattle.avro_schema.specs.declared.reading.Role.{Role}
+use Rattle.avro_schema.specs.declared.reading.Role.TheVariants as role
 use Rattle.avro_schema.specs.declared.attributes.Kind.{Kind}
 use Rattle.avro_schema.specs.declared.attributes.Kind.TheVariants as kind
 use Rattle.avro_schema.specs.Tree.{Tree, symbols, fixed}
-use Rattle.avro_schema.specs.Size.{less, below, height}
+use Rattle.avro_schema.specs.Size.{left_after, below, height}
 use Rattle.avro_schema.specs.View.{Part}
 use Rattle.avro_schema.specs.Names.{Entry, lookup, put, full, space_of}
 use Rattle.avro_schema.specs.Attributes.{name_in, id_in, items_in, is_object, symbols_in, size_in, bytes_kind, plain, text_in, kind_of}
 use Rattle.avro_schema.specs.Reading.{Seen, Read, Reader, asked, has_id, fresh, if_left, used, plain_or_used, named, if_new, defined, defines, each_at, branches_at, whatever_before, field_at, fields_at, record_at, array_at, map_at, enum_at, fixed_at, of_kind, object_at, of_word, text_at, union_at, node_at, counted, tree_at}
-use Rattle.avro_schema.specs.Inside.{kind_in, Among, first, later, Holds, its_items, its_values, a_branch, a_field, Inside, itself, further, Uses, a_text, a_type, a_record, HasRecursion, recursion}
+use Rattle.avro_schema.specs.Inside.{kind_in, Among, first, later, HasPart, its_items, its_values, a_branch, a_field, Inside, itself, further, Uses, a_text, a_type, a_record, HasRecursion, recursion}
 use Rattle.avro_schema.specs.Texts.{json_of, schema_of, most_nodes, most_levels}
 use Rattle.avro_schema.proofs.Binds.{bind_err, bind_err_any, err_weaker}
 use Rattle.avro_schema.proofs.Kept.{Grown, Grows, AlwaysKeeps, New, lookup-put, defined_new, field_keeps, tree_keeps, counted_same}
@@ -41,7 +41,7 @@ Found space d es = HasRecursion space d ⊎ OpenUse space d es
 abbrev Finds : Type 0 → SchemaFault → Type 0
 Finds X e = e ≡ Recursive → X
 
-found_further : (space next : List ℕ) (d e : Data) (es : List Entry) → Holds space d next e → Found next e es → Found space d es
+found_further : (space next : List ℕ) (d e : Data) (es : List Entry) → HasPart space d next e → Found next e es → Found space d es
 found_further space next d e es holds (inl (recursion i m h j u)) = inl (recursion (further holds i) m h j u)
 found_further space next d e es holds (inr (open_use i u l)) = inr (open_use (further holds i) u l)
 
@@ -93,7 +93,7 @@ if_left_finds X n t (Some left) false s h = rw h tt
 used_finds : (n : ℕ) (o : Option (Option Tree)) (s : Seen) → IfErr (used n o s) (Finds (o ≡ Some None))
 used_finds n None s = λ h. absurd cc
 used_finds n (Some None) s = λ h. refl
-used_finds n (Some (Some t)) s = if_left_finds (Some (Some t) ≡ Some None) n t (less s.left (below t)) (nat_lt n (height t)) s refl
+used_finds n (Some (Some t)) s = if_left_finds (Some (Some t) ≡ Some None) n t (left_after s.left (below t)) (nat_lt n (height t)) s refl
 
 plain_or_used_finds : (n : ℕ) (o : Option Tree) (name : List ℕ) (s : Seen) → IfErr (plain_or_used n o name s) (Finds ((o ≡ None) × (lookup name s.names ≡ Some None)))
 plain_or_used_finds n (Some t) name s = tt
@@ -133,7 +133,7 @@ of_word_finds n space kind.Word word s is =
 -- ---- the kinds of types
 
 abbrev AlwaysFinds : Reader → Type 0
-AlwaysFinds read = (at : Place) (space : List ℕ) (d : Data) (s : Seen) → IfErr (read at space d s) (Finds (Found space d s.names))
+AlwaysFinds read = (at : Role) (space : List ℕ) (d : Data) (s : Seen) → IfErr (read at space d s) (Finds (Found space d s.names))
 
 -- what is found in one of the items
 abbrev AmongFound : (Data → List Entry → Type 0) → Items → List Entry → Type 0
@@ -162,14 +162,14 @@ FieldFound space f es = (e : Data) × ((get (codes "type") f ≡ Some e) × Foun
 field_before : (space : List ℕ) (f : Data) (es fs : List Entry) → Grows es fs → FieldFound space f fs → FieldFound space f es
 field_before space f es fs grows found = (found.0, (found.1.0, found_before space found.0 es fs grows found.1.1))
 
-field_finds : (read : Reader) → AlwaysFinds read → (space : List ℕ) (front : List Part) (f : Data) (s : Seen) → IfErr (field_at (read place.Elsewhere space) front f s) (Finds (FieldFound space f s.names))
+field_finds : (read : Reader) → AlwaysFinds read → (space : List ℕ) (front : List Part) (f : Data) (s : Seen) → IfErr (field_at (read role.Elsewhere space) front f s) (Finds (FieldFound space f s.names))
 unfolding field_at
 field_finds read h space front f s =
     bind_err_any _ (asked (name_in f)) _ (asked_finds _ (name_in f)) (λ name.
     bind_err (λ x. get (codes "type") f ≡ Some x) _ (asked (get (codes "type") f)) _ (asked_is (get (codes "type") f)) (asked_finds _ (get (codes "type") f)) (λ type is.
     bind_err_any _ (fresh (id_in (codes "field-id") f) front) _ (fresh_finds _ (id_in (codes "field-id") f) front) (λ id.
-    bind_err_any _ (read place.Elsewhere space type s) _
-    (err_weaker (read place.Elsewhere space type s) (Finds (Found space type s.names)) (Finds (FieldFound space f s.names)) (λ e g r. (type, (is, g r))) (h place.Elsewhere space type s))
+    bind_err_any _ (read role.Elsewhere space type s) _
+    (err_weaker (read role.Elsewhere space type s) (Finds (Found space type s.names)) (Finds (FieldFound space f s.names)) (λ e g r. (type, (is, g r))) (h role.Elsewhere space type s))
     (λ x. tt))))
 
 -- the names inside a record, where its own is open
@@ -178,12 +178,12 @@ opened Less a h = inr h
 opened Equal a h = inl refl
 opened Greater a h = inr h
 
-own_or_open : (space name last used : List ℕ) (d e u : Data) (next : List ℕ) (es : List Entry) → kind_in d ≡ Some kind.Record → name_in d ≡ Some name → Holds space d next e → Inside next e last u → Uses last u used
+own_or_open : (space name last used : List ℕ) (d e u : Data) (next : List ℕ) (es : List Entry) → kind_in d ≡ Some kind.Record → name_in d ≡ Some name → HasPart space d next e → Inside next e last u → Uses last u used
     → (slice_cmp nat_cmp used (defines space name d) ≡ Equal) ⊎ (lookup used es ≡ Some None) → Found space d es
 own_or_open space name last used d e u next es is named holds inside made (inl same) = inl (recursion itself (a_record is named) holds inside (rw (exact_bytes used (defines space name d) same) at made))
 own_or_open space name last used d e u next es is named holds inside made (inr l) = inr (open_use (further holds inside) made l)
 
-found_outside : (space name next : List ℕ) (d e : Data) (es fs : List Entry) → kind_in d ≡ Some kind.Record → name_in d ≡ Some name → Holds space d next e → fs ≡ put (defines space name d) None es → Found next e fs → Found space d es
+found_outside : (space name next : List ℕ) (d e : Data) (es fs : List Entry) → kind_in d ≡ Some kind.Record → name_in d ≡ Some name → HasPart space d next e → fs ≡ put (defines space name d) None es → Found next e fs → Found space d es
 found_outside space name next d e es fs is named holds same (inl (recursion i m h j u)) = inl (recursion (further holds i) m h j u)
 found_outside space name next d e es fs is named holds same (inr (open_use {last} {name = used} {u = type} i u l)) =
     let k : match_ordering (slice_cmp nat_cmp used (defines space name d)) (lookup used es) (Some None) (lookup used es) ≡ Some None = sym (lookup-put used (defines space name d) None es) ∙ rw same at l in
@@ -195,12 +195,12 @@ record_finds read keeps h space d s is =
     bind_err (λ x. name_in d ≡ Some x) _ (asked (name_in d)) _ (asked_is (name_in d)) (asked_finds _ (name_in d)) (λ name named.
     bind_err (λ x. items_in is_object (codes "fields") d ≡ Some x) _ (asked (items_in is_object (codes "fields") d)) _ (asked_is (items_in is_object (codes "fields") d)) (asked_finds _ (items_in is_object (codes "fields") d)) (λ items there.
     bind_err (New (defines space name d) None s) _ (defined (defines space name d) None s) _ (defined_new (defines space name d) None s) (defined_finds _ (defines space name d) None s) (λ opened new.
-    bind_err_any _ (fields_at (read place.Elsewhere (space_of (defines space name d))) [] items opened) _
-    (err_weaker (fields_at (read place.Elsewhere (space_of (defines space name d))) [] items opened) (Finds (AmongFound (FieldFound (space_of (defines space name d))) items opened.names)) (Finds (Found space d s.names))
+    bind_err_any _ (fields_at (read role.Elsewhere (space_of (defines space name d))) [] items opened) _
+    (err_weaker (fields_at (read role.Elsewhere (space_of (defines space name d))) [] items opened) (Finds (AmongFound (FieldFound (space_of (defines space name d))) items opened.names)) (Finds (Found space d s.names))
     (λ e f r. let a : AmongFound (FieldFound (space_of (defines space name d))) items opened.names = f r in
     found_outside space name (space_of (defines space name d)) d a.1.1.0 s.names opened.names is named (a_field is named there a.1.0 a.1.1.1.0) new.1 a.1.1.1.1)
-    (each_finds (FieldFound (space_of (defines space name d))) (field_before (space_of (defines space name d))) (field_at (read place.Elsewhere (space_of (defines space name d))))
-    (field_keeps (read place.Elsewhere (space_of (defines space name d))) (keeps place.Elsewhere (space_of (defines space name d))))
+    (each_finds (FieldFound (space_of (defines space name d))) (field_before (space_of (defines space name d))) (field_at (read role.Elsewhere (space_of (defines space name d))))
+    (field_keeps (read role.Elsewhere (space_of (defines space name d))) (keeps role.Elsewhere (space_of (defines space name d))))
     (field_finds read h (space_of (defines space name d))) [] items opened))
     (λ x. tt))))
 
@@ -208,16 +208,16 @@ array_finds : (read : Reader) → AlwaysFinds read → (space : List ℕ) (d : D
 unfolding array_at
 array_finds read h space d s is =
     bind_err (λ x. get (codes "items") d ≡ Some x) _ (asked (get (codes "items") d)) _ (asked_is (get (codes "items") d)) (asked_finds _ (get (codes "items") d)) (λ items there.
-    bind_err_any _ (read place.Elsewhere space items s) _
-    (err_weaker (read place.Elsewhere space items s) (Finds (Found space items s.names)) (Finds (Found space d s.names)) (λ e f r. found_further space space d items s.names (its_items is there) (f r)) (h place.Elsewhere space items s))
+    bind_err_any _ (read role.Elsewhere space items s) _
+    (err_weaker (read role.Elsewhere space items s) (Finds (Found space items s.names)) (Finds (Found space d s.names)) (λ e f r. found_further space space d items s.names (its_items is there) (f r)) (h role.Elsewhere space items s))
     (λ x. tt))
 
 map_finds : (read : Reader) → AlwaysFinds read → (space : List ℕ) (d : Data) (s : Seen) → kind_in d ≡ Some kind.Map → IfErr (map_at read space d s) (Finds (Found space d s.names))
 unfolding map_at
 map_finds read h space d s is =
     bind_err (λ x. get (codes "values") d ≡ Some x) _ (asked (get (codes "values") d)) _ (asked_is (get (codes "values") d)) (asked_finds _ (get (codes "values") d)) (λ values there.
-    bind_err_any _ (read place.Elsewhere space values s) _
-    (err_weaker (read place.Elsewhere space values s) (Finds (Found space values s.names)) (Finds (Found space d s.names)) (λ e f r. found_further space space d values s.names (its_values is there) (f r)) (h place.Elsewhere space values s))
+    bind_err_any _ (read role.Elsewhere space values s) _
+    (err_weaker (read role.Elsewhere space values s) (Finds (Found space values s.names)) (Finds (Found space d s.names)) (λ e f r. found_further space space d values s.names (its_values is there) (f r)) (h role.Elsewhere space values s))
     (λ x. tt))
 
 enum_finds : (X : Type 0) (space : List ℕ) (d : Data) (s : Seen) → IfErr (enum_at space d s) (Finds X)
@@ -244,17 +244,17 @@ of_kind_finds n read keeps h space kind.Bytes word d s type is = tt
 of_kind_finds n read keeps h space kind.Word word d s type is =
     err_weaker (named n space word s) (Finds ((plain word ≡ None) × (lookup (full space word) s.names ≡ Some None))) (Finds (Found space d s.names)) (λ e f r. inr (open_use itself (a_type type is (f r).0) (f r).1)) (named_finds n space word s)
 
-union_finds : (read : Reader) → AlwaysKeeps read → AlwaysFinds read → (at : Place) (space : List ℕ) (ds : Items) (s : Seen) → IfErr (union_at read at space ds s) (Finds (Found space (json.array ds) s.names))
+union_finds : (read : Reader) → AlwaysKeeps read → AlwaysFinds read → (at : Role) (space : List ℕ) (ds : Items) (s : Seen) → IfErr (union_at read at space ds s) (Finds (Found space (json.array ds) s.names))
 unfolding union_at
-union_finds read keeps h place.Branch space ds s = λ k. absurd cc
-union_finds read keeps h place.Elsewhere space ds s =
-    bind_err_any _ (branches_at (read place.Branch space) [] ds s) _
-    (err_weaker (branches_at (read place.Branch space) [] ds s) (Finds (AmongFound (Found space) ds s.names)) (Finds (Found space (json.array ds) s.names))
+union_finds read keeps h role.Branch space ds s = λ k. absurd cc
+union_finds read keeps h role.Elsewhere space ds s =
+    bind_err_any _ (branches_at (read role.Branch space) [] ds s) _
+    (err_weaker (branches_at (read role.Branch space) [] ds s) (Finds (AmongFound (Found space) ds s.names)) (Finds (Found space (json.array ds) s.names))
     (λ e f r. let a : AmongFound (Found space) ds s.names = f r in found_further space space (json.array ds) a.0 s.names (a_branch a.1.0) a.1.1)
-    (each_finds (Found space) (found_before space) (whatever_before (read place.Branch space)) (λ front d t. keeps place.Branch space d t) (λ front d t. h place.Branch space d t) [] ds s))
+    (each_finds (Found space) (found_before space) (whatever_before (read role.Branch space)) (λ front d t. keeps role.Branch space d t) (λ front d t. h role.Branch space d t) [] ds s))
     (λ x. tt)
 
-node_finds : (n : ℕ) (read : Reader) → AlwaysKeeps read → AlwaysFinds read → (at : Place) (space : List ℕ) (d : Data) (s : Seen) → IfErr (node_at read n at space d s) (Finds (Found space d s.names))
+node_finds : (n : ℕ) (read : Reader) → AlwaysKeeps read → AlwaysFinds read → (at : Role) (space : List ℕ) (d : Data) (s : Seen) → IfErr (node_at read n at space d s) (Finds (Found space d s.names))
 unfolding node_at text_at object_at
 node_finds n read keeps h at space json.null s = λ k. absurd cc
 node_finds n read keeps h at space (json.boolean b) s = λ k. absurd cc
@@ -281,6 +281,6 @@ nothing_open d (inr (open_use i u l)) = absurd cc
 pub schema_finds : (text : List ℕ) (d : Data) → json_of text ≡ Ok d → IfErr (schema_of text) (Finds (HasRecursion [] d))
 unfolding schema_of
 schema_finds text d is =
-    rw is (bind_err_any _ (tree_at most_levels place.Elsewhere [] d (record { names = []; left = most_nodes })) _
-    (err_weaker (tree_at most_levels place.Elsewhere [] d (record { names = []; left = most_nodes })) (Finds (Found [] d [])) (Finds (HasRecursion [] d)) (λ e f r. nothing_open d (f r)) (tree_finds most_levels place.Elsewhere [] d (record { names = []; left = most_nodes })))
+    rw is (bind_err_any _ (tree_at most_levels role.Elsewhere [] d (record { names = []; left = most_nodes })) _
+    (err_weaker (tree_at most_levels role.Elsewhere [] d (record { names = []; left = most_nodes })) (Finds (Found [] d [])) (Finds (HasRecursion [] d)) (λ e f r. nothing_open d (f r)) (tree_finds most_levels role.Elsewhere [] d (record { names = []; left = most_nodes })))
     (λ t. tt))

@@ -7,8 +7,8 @@ use Rattle.serde_json.specs.Data as json
 use Rattle.serde_json.specs.Data.{Data, Items}
 use Rattle.serde_json.specs.Find.{get}
 use Rattle.avro_schema.specs.declared.attributes.Kind.{Kind}
-use Rattle.avro_schema.specs.declared.reading.Place.{Place}
-use Rattle.avro_schema.specs.declared.reading.Place.TheVariants as place
+use Rattle.avro_schema.specs.declared.reading.Role.{Role}
+use Rattle.avro_schema.specs.declared.reading.Role.TheVariants as role
 use Rattle.avro_schema.specs.Tree.{Tree, symbols, fixed, structure, union, array, map, Fields, no_fields, field, Branches, no_branches, branch}
 use Rattle.avro_schema.specs.View.{Part, fields_of, branches_of}
 use Rattle.avro_schema.specs.Names.{space_of}
@@ -55,7 +55,7 @@ abbrev Agrees : (Data → Seen → Read Tree) → Type 0
 Agrees read = (d : Data) (s : Seen) (t : Tree) → Shape d t → IfOk (read d s) (λ x. x.0 ≡ t)
 
 abbrev AlwaysAgrees : Reader → Type 0
-AlwaysAgrees read = (at : Place) (space : List ℕ) → Agrees (read at space)
+AlwaysAgrees read = (at : Role) (space : List ℕ) → Agrees (read at space)
 
 named_agrees : (n : ℕ) (space s : List ℕ) (t : Tree) (seen : Seen) → plain s ≡ Some t → IfOk (named n space s seen) (λ x. x.0 ≡ t)
 unfolding named
@@ -95,19 +95,19 @@ unfolding record_at before_fields
 record_agrees read h space d s ds fs there shapes =
     bind_any _ (asked (name_in d)) _ (λ name. rw there (
     bind_any _ (defined (defines space name d) None s) _ (λ opened.
-    bind_if (λ x. fields_of x.0 ≡ fs) _ (fields_at (read place.Elsewhere (space_of (defines space name d))) [] ds opened) _
-    (fields_agree (read place.Elsewhere (space_of (defines space name d))) (h place.Elsewhere (space_of (defines space name d))) [] ds fs opened shapes)
+    bind_if (λ x. fields_of x.0 ≡ fs) _ (fields_at (read role.Elsewhere (space_of (defines space name d))) [] ds opened) _
+    (fields_agree (read role.Elsewhere (space_of (defines space name d))) (h role.Elsewhere (space_of (defines space name d))) [] ds fs opened shapes)
     (λ x e. ap structure e))))
 
 array_agrees : (read : Reader) → AlwaysAgrees read → (space : List ℕ) (d items : Data) (s : Seen) (t : Tree) → get (codes "items") d ≡ Some items → Shape items t → IfOk (array_at read space d s) (λ x. x.0 ≡ array t (id_in (codes "element-id") d) (array_kind d))
 unfolding array_at
 array_agrees read h space d items s t there shape =
-    rw there (bind_if (λ x. x.0 ≡ t) _ (read place.Elsewhere space items s) _ (h place.Elsewhere space items s t shape) (λ x e. rw e refl))
+    rw there (bind_if (λ x. x.0 ≡ t) _ (read role.Elsewhere space items s) _ (h role.Elsewhere space items s t shape) (λ x e. rw e refl))
 
 map_agrees : (read : Reader) → AlwaysAgrees read → (space : List ℕ) (d values : Data) (s : Seen) (t : Tree) → get (codes "values") d ≡ Some values → Shape values t → IfOk (map_at read space d s) (λ x. x.0 ≡ map t)
 unfolding map_at
 map_agrees read h space d values s t there shape =
-    rw there (bind_if (λ x. x.0 ≡ t) _ (read place.Elsewhere space values s) _ (h place.Elsewhere space values s t shape) (λ x e. ap map e))
+    rw there (bind_if (λ x. x.0 ≡ t) _ (read role.Elsewhere space values s) _ (h role.Elsewhere space values s t shape) (λ x e. ap map e))
 
 enum_agrees : (space : List ℕ) (d : Data) (s : Seen) (n : ℕ) → symbols_in d ≡ Some n → IfOk (enum_at space d s) (λ x. x.0 ≡ symbols n)
 unfolding enum_at
@@ -119,14 +119,14 @@ unfolding fixed_at
 fixed_agrees space d s n there =
     bind_any _ (asked (name_in d)) _ (λ name. rw there (bind_any _ (defined (defines space name d) (Some (fixed n (bytes_kind d))) s) _ (λ now. refl)))
 
-union_agrees : (read : Reader) → AlwaysAgrees read → (at : Place) (space : List ℕ) (ds : Items) (s : Seen) (bs : Branches) → BranchShapes ds bs → IfOk (union_at read at space ds s) (λ x. x.0 ≡ union bs)
+union_agrees : (read : Reader) → AlwaysAgrees read → (at : Role) (space : List ℕ) (ds : Items) (s : Seen) (bs : Branches) → BranchShapes ds bs → IfOk (union_at read at space ds s) (λ x. x.0 ≡ union bs)
 unfolding union_at before_branches
-union_agrees read h place.Branch space ds s bs shapes = tt
-union_agrees read h place.Elsewhere space ds s bs shapes =
-    bind_if (λ x. branches_of x.0 ≡ bs) _ (branches_at (read place.Branch space) [] ds s) _ (branches_agree (read place.Branch space) (h place.Branch space) [] ds bs s shapes) (λ x e. ap union e)
+union_agrees read h role.Branch space ds s bs shapes = tt
+union_agrees read h role.Elsewhere space ds s bs shapes =
+    bind_if (λ x. branches_of x.0 ≡ bs) _ (branches_at (read role.Branch space) [] ds s) _ (branches_agree (read role.Branch space) (h role.Branch space) [] ds bs s shapes) (λ x e. ap union e)
 
 -- an object whose type is a text
-pub object_is : (read : Reader) (n : ℕ) (at : Place) (space : List ℕ) (d : Data) (s : Seen) (w : List ℕ) → text_in (codes "type") d ≡ Some w → node_at read n at space d s ≡ of_kind read n space (kind_of w) w d s
+pub object_is : (read : Reader) (n : ℕ) (at : Role) (space : List ℕ) (d : Data) (s : Seen) (w : List ℕ) → text_in (codes "type") d ≡ Some w → node_at read n at space d s ≡ of_kind read n space (kind_of w) w d s
 unfolding node_at object_at
 object_is read n at space json.null s w h = absurd cc
 object_is read n at space (json.boolean b) s w h = absurd cc
@@ -140,12 +140,12 @@ kind_text : (k : Kind) (o : Option (List ℕ)) → option_map kind_of o ≡ Some
 kind_text k None h = absurd cc
 kind_text k (Some w) h = (w, (refl, cc))
 
-pub kind_is : (read : Reader) (n : ℕ) (at : Place) (space : List ℕ) (d : Data) (s : Seen) (k : Kind) → kind_in d ≡ Some k → (w : List ℕ) × (node_at read n at space d s ≡ of_kind read n space k w d s)
+pub kind_is : (read : Reader) (n : ℕ) (at : Role) (space : List ℕ) (d : Data) (s : Seen) (k : Kind) → kind_in d ≡ Some k → (w : List ℕ) × (node_at read n at space d s ≡ of_kind read n space k w d s)
 kind_is read n at space d s k is =
     let t = kind_text k (text_in (codes "type") d) is in
     (t.0, object_is read n at space d s t.0 t.1.0 ∙ ap (λ (j : Kind). of_kind read n space j t.0 d s) t.1.1)
 
-node_agrees : (n : ℕ) (read : Reader) → AlwaysAgrees read → (at : Place) (space : List ℕ) (d : Data) (s : Seen) (t : Tree) → Shape d t → IfOk (node_at read n at space d s) (λ x. x.0 ≡ t)
+node_agrees : (n : ℕ) (read : Reader) → AlwaysAgrees read → (at : Role) (space : List ℕ) (d : Data) (s : Seen) (t : Tree) → Shape d t → IfOk (node_at read n at space d s) (λ x. x.0 ≡ t)
 unfolding node_at text_at
 node_agrees n read h at space d s t (word {s = w} kind is) = rw kind (named_agrees n space w t s is)
 node_agrees n read h at space d s t bytes_word = named_agrees n space (codes "bytes") t s refl
@@ -166,4 +166,4 @@ tree_agrees (suc n) at space d s t shape = bind_any _ (counted s) _ (λ now. nod
 pub schema_agrees : (text : List ℕ) (d : Data) (t : Tree) → json_of text ≡ Ok d → Shape d t → IfOk (schema_of text) (λ u. u ≡ t)
 unfolding schema_of
 schema_agrees text d t is shape =
-    rw is (bind_if (λ x. x.0 ≡ t) _ (tree_at most_levels place.Elsewhere [] d (record { names = []; left = most_nodes })) _ (tree_agrees most_levels place.Elsewhere [] d (record { names = []; left = most_nodes }) t shape) (λ x e. e))
+    rw is (bind_if (λ x. x.0 ≡ t) _ (tree_at most_levels role.Elsewhere [] d (record { names = []; left = most_nodes })) _ (tree_agrees most_levels role.Elsewhere [] d (record { names = []; left = most_nodes }) t shape) (λ x e. e))

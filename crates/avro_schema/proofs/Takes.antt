@@ -9,12 +9,12 @@ use Rattle.serde_json.specs.Data.{Data, Items}
 use Rattle.serde_json.specs.Find.{get}
 use Rattle.avro_schema.specs.declared.fault.SchemaFault.{SchemaFault}
 use Rattle.avro_schema.specs.declared.fault.SchemaFault.TheVariants.{NotJson, UnknownType, UnknownName, Recursive, TooBig, FieldTwice, Memory, NameTwice}
-use Rattle.avro_schema.specs.declared.reading.Place.{Place}
-use Rattle.avro_schema.specs.declared.reading.Place.TheVariants as place
+use Rattle.avro_schema.specs.declared.reading.Role.{Role}
+use Rattle.avro_schema.specs.declared.reading.Role.TheVariants as role
 use Rattle.avro_schema.specs.declared.attributes.Kind.TheVariants as kind
 use Rattle.contract_words.specs.Outcome.{◌>>=◌}
 use Rattle.avro_schema.specs.Tree.{Tree, symbols, fixed, Fields, Branches}
-use Rattle.avro_schema.specs.Size.{below, in_fields, in_branches, height, deepest_field, deepest_branch, nodes, depth, less}
+use Rattle.avro_schema.specs.Size.{below, in_fields, in_branches, height, deepest_field, deepest_branch, nodes, depth, left_after}
 use Rattle.avro_schema.specs.View.{Part}
 use Rattle.avro_schema.specs.Names.{lookup, put, full, space_of}
 use Rattle.avro_schema.specs.Attributes.{name_in, id_in, items_in, is_object, symbols_in, size_in, bytes_kind, plain}
@@ -51,12 +51,12 @@ bind_on P (Ok x) f h k = k x h
 bind_on P (Err e) f h k = h
 
 abbrev Accepts : ℕ → Reader → Type 0
-Accepts n read = (at : Place) (space : List ℕ) (d : Data) (s : Seen) (t : Tree) (names : Meaning) → Single at d → Stands names space d t → Complete names space d → Agrees names s.names → depth t ≤ n → nodes t ≤ s.left
+Accepts n read = (at : Role) (space : List ℕ) (d : Data) (s : Seen) (t : Tree) (names : Meaning) → Single at d → Stands names space d t → Complete names space d → Agrees names s.names → depth t ≤ n → nodes t ≤ s.left
     → MatchResult (read at space d s) (λ x. (x.1.left + nodes t ≡ s.left) × Agrees names x.1.names) Naming
 
 -- ---- names
 
-less_there : (l n : ℕ) → n ≤ l → (m : ℕ) × (less l n ≡ Some m)
+less_there : (l n : ℕ) → n ≤ l → (m : ℕ) × (left_after l n ≡ Some m)
 less_there l zero h = (l, refl)
 less_there zero (suc n) h = absurd (omega (arith, h))
 less_there (suc l) (suc n) h = less_there l n (omega (arith, h))
@@ -71,7 +71,7 @@ used_names n names name t (Some None) s is agree l deep many = tt
 used_names n names name t (Some (Some u)) s is agree l deep many =
     let same : t ≡ u = some_is (names name) t u is (agree name u l) in
     let there = less_there s.left (below u) (rw same at many) in
-    if_left_names n u (less s.left (below u)) there.0 s there.1 (rw same at deep)
+    if_left_names n u (left_after s.left (below u)) there.0 s there.1 (rw same at deep)
 
 named_names : (n : ℕ) (names : Meaning) (space word : List ℕ) (t : Tree) (s : Seen) → plain word ≡ None → names (full space word) ≡ Some t → Agrees names s.names → height t ≤ n → below t ≤ s.left → IfErr (named n space word s) Naming
 unfolding named
@@ -81,7 +81,7 @@ plain_names : (n : ℕ) (space word : List ℕ) (t : Tree) (s : Seen) → plain 
 unfolding named
 plain_names n space word t s p = rw p tt
 
-use_names : (n : ℕ) (read : Reader) (names : Meaning) (at : Place) (space name : List ℕ) (d : Data) (t : Tree) (s : Seen) → Uses space d name → names name ≡ Some t → Agrees names s.names → height t ≤ n → below t ≤ s.left → IfErr (node_at read n at space d s) Naming
+use_names : (n : ℕ) (read : Reader) (names : Meaning) (at : Role) (space name : List ℕ) (d : Data) (t : Tree) (s : Seen) → Uses space d name → names name ≡ Some t → Agrees names s.names → height t ≤ n → below t ≤ s.left → IfErr (node_at read n at space d s) Naming
 unfolding node_at text_at
 use_names n read names at space name d t s (a_text {word} w none) is agree deep many = rw w (named_names n names space word t s none is agree deep many)
 use_names n read names at space name d t s (a_type {word} type w none) is agree deep many = rw (object_is read n at space d s word type, w) (named_names n names space word t s none is agree deep many)
@@ -113,28 +113,28 @@ array_names : (n : ℕ) (read : Reader) → Accepts n read → (names : Meaning)
 unfolding array_at
 array_names n read h names space d e s t is there stands complete agree deep many =
     let inner = one_complete names space d e (parts_items space d e is there) complete in
-    rw there (bind_on (λ x. (x.1.left + nodes t ≡ s.left) × Agrees names x.1.names) (read place.Elsewhere space e s) _ (h place.Elsewhere space e s t names tt stands inner agree deep many) (λ x p. tt))
+    rw there (bind_on (λ x. (x.1.left + nodes t ≡ s.left) × Agrees names x.1.names) (read role.Elsewhere space e s) _ (h role.Elsewhere space e s t names tt stands inner agree deep many) (λ x p. tt))
 
 map_names : (n : ℕ) (read : Reader) → Accepts n read → (names : Meaning) (space : List ℕ) (d e : Data) (s : Seen) (t : Tree) → kind_in d ≡ Some kind.Map → get (codes "values") d ≡ Some e → Stands names space e t → Complete names space d → Agrees names s.names → depth t ≤ n → nodes t ≤ s.left → IfErr (map_at read space d s) Naming
 unfolding map_at
 map_names n read h names space d e s t is there stands complete agree deep many =
     let inner = one_complete names space d e (parts_values space d e is there) complete in
-    rw there (bind_on (λ x. (x.1.left + nodes t ≡ s.left) × Agrees names x.1.names) (read place.Elsewhere space e s) _ (h place.Elsewhere space e s t names tt stands inner agree deep many) (λ x p. tt))
+    rw there (bind_on (λ x. (x.1.left + nodes t ≡ s.left) × Agrees names x.1.names) (read role.Elsewhere space e s) _ (h role.Elsewhere space e s t names tt stands inner agree deep many) (λ x p. tt))
 
 branches_names : (n : ℕ) (read : Reader) → Accepts n read → (names : Meaning) (space : List ℕ) (front : List Tree) (ds : Items) (bs : Branches) (s : Seen) → BranchesStand names space ds bs → CompleteAmong names (branch_nodes space ds) → Agrees names s.names → deepest_branch bs ≤ n → in_branches bs ≤ s.left
-    → IfErr (branches_at (read place.Branch space) front ds s) Naming
+    → IfErr (branches_at (read role.Branch space) front ds s) Naming
 unfolding each_at in_branches deepest_branch
 branches_names n read h names space front ds bs s no_branch complete agree deep many = tt
 branches_names n read h names space front ds bs s (next_branch {d} {ds = more} {t} {bs = others} single here rest) complete agree deep many =
-    bind_on (λ x. (x.1.left + nodes t ≡ s.left) × Agrees names x.1.names) (read place.Branch space d s) _ (h place.Branch space d s t names single here (complete_first names (space, d) (branch_nodes space more) complete) agree (omega (arith, deep)) (omega (arith, many))) (λ x p.
+    bind_on (λ x. (x.1.left + nodes t ≡ s.left) × Agrees names x.1.names) (read role.Branch space d s) _ (h role.Branch space d s t names single here (complete_first names (space, d) (branch_nodes space more) complete) agree (omega (arith, deep)) (omega (arith, many))) (λ x p.
     branches_names n read h names space (front ++ x.0 ∷ []) more others x.1 rest (complete_later names (space, d) (branch_nodes space more) complete) p.1 (omega (arith, deep)) (omega (arith, many, p.0)))
 
-union_names : (n : ℕ) (read : Reader) → Accepts n read → (names : Meaning) (at : Place) (space : List ℕ) (ds : Items) (bs : Branches) (s : Seen) → Single at (json.array ds) → BranchesStand names space ds bs → Complete names space (json.array ds) → Agrees names s.names → deepest_branch bs ≤ n → in_branches bs ≤ s.left
+union_names : (n : ℕ) (read : Reader) → Accepts n read → (names : Meaning) (at : Role) (space : List ℕ) (ds : Items) (bs : Branches) (s : Seen) → Single at (json.array ds) → BranchesStand names space ds bs → Complete names space (json.array ds) → Agrees names s.names → deepest_branch bs ≤ n → in_branches bs ≤ s.left
     → IfErr (union_at read at space ds s) Naming
 unfolding union_at parts_in
-union_names n read h names place.Branch space ds bs s single stands complete agree deep many = absurd cc
-union_names n read h names place.Elsewhere space ds bs s single stands complete agree deep many =
-    bind_err_any Naming (branches_at (read place.Branch space) [] ds s) _ (branches_names n read h names space [] ds bs s stands (complete_below names space (json.array ds) complete) agree deep many) (λ x. tt)
+union_names n read h names role.Branch space ds bs s single stands complete agree deep many = absurd cc
+union_names n read h names role.Elsewhere space ds bs s single stands complete agree deep many =
+    bind_err_any Naming (branches_at (read role.Branch space) [] ds s) _ (branches_names n read h names space [] ds bs s stands (complete_below names space (json.array ds) complete) agree deep many) (λ x. tt)
 
 fresh_names : (o : Option ℤ) (front : List Part) → IfErr (fresh o front) Naming
 fresh_names None front = tt
@@ -149,20 +149,20 @@ any_on Q (Ok x) f h k = k x
 any_on Q (Err e) f h k = h
 
 field_names : (n : ℕ) (read : Reader) → Accepts n read → (names : Meaning) (space name : List ℕ) (front : List Part) (d e : Data) (s : Seen) (t : Tree) → name_in d ≡ Some name → get (codes "type") d ≡ Some e → Stands names space e t → Complete names space e → Agrees names s.names → depth t ≤ n → nodes t ≤ s.left
-    → MatchResult (field_at (read place.Elsewhere space) front d s) (λ x. (x.1.left + nodes t ≡ s.left) × Agrees names x.1.names) Naming
+    → MatchResult (field_at (read role.Elsewhere space) front d s) (λ x. (x.1.left + nodes t ≡ s.left) × Agrees names x.1.names) Naming
 unfolding field_at
 field_names n read h names space name front d e s t named there stands complete agree deep many =
     rw (named, there) (
     any_on (λ x. (x.1.left + nodes t ≡ s.left) × Agrees names x.1.names) (fresh (id_in (codes "field-id") d) front) _ (fresh_names (id_in (codes "field-id") d) front) (λ id.
-    both_bind (λ x. (x.1.left + nodes t ≡ s.left) × Agrees names x.1.names) Naming _ (read place.Elsewhere space e s) _ (h place.Elsewhere space e s t names tt stands complete agree deep many) (λ x p. p)))
+    both_bind (λ x. (x.1.left + nodes t ≡ s.left) × Agrees names x.1.names) Naming _ (read role.Elsewhere space e s) _ (h role.Elsewhere space e s t names tt stands complete agree deep many) (λ x p. p)))
 
 fields_names : (n : ℕ) (read : Reader) → Accepts n read → (names : Meaning) (space : List ℕ) (front : List Part) (ds : Items) (fs : Fields) (s : Seen) → FieldsStand names space ds fs → CompleteAmong names (field_nodes space ds) → Agrees names s.names → deepest_field fs ≤ n → in_fields fs ≤ s.left
-    → IfErr (fields_at (read place.Elsewhere space) front ds s) Naming
+    → IfErr (fields_at (read role.Elsewhere space) front ds s) Naming
 unfolding each_at in_fields deepest_field
 fields_names n read h names space front ds fs s no_field complete agree deep many = tt
 fields_names n read h names space front ds fs s (next_field {name} {d} {e} {ds = more} {t} {fs = others} named there here rest) complete agree deep many =
     let whole : CompleteAmong names ((space, e) ∷ field_nodes space more) = rw (nodes_on space d e more there) at complete in
-    bind_on (λ x. (x.1.left + nodes t ≡ s.left) × Agrees names x.1.names) (field_at (read place.Elsewhere space) front d s) _ (field_names n read h names space name front d e s t named there here (complete_first names (space, e) (field_nodes space more) whole) agree (omega (arith, deep)) (omega (arith, many))) (λ x p.
+    bind_on (λ x. (x.1.left + nodes t ≡ s.left) × Agrees names x.1.names) (field_at (read role.Elsewhere space) front d s) _ (field_names n read h names space name front d e s t named there here (complete_first names (space, e) (field_nodes space more) whole) agree (omega (arith, deep)) (omega (arith, many))) (λ x p.
     fields_names n read h names space (front ++ x.0 ∷ []) more others x.1 rest (complete_later names (space, e) (field_nodes space more) whole) p.1 (omega (arith, deep)) (omega (arith, many, p.0)))
 
 record_names : (n : ℕ) (read : Reader) → Accepts n read → (names : Meaning) (space name : List ℕ) (d : Data) (ds : Items) (fs : Fields) (s : Seen) → kind_in d ≡ Some kind.Record → name_in d ≡ Some name → items_in is_object (codes "fields") d ≡ Some ds → FieldsStand names (space_of (defines space name d)) ds fs → Complete names space d → Agrees names s.names → deepest_field fs ≤ n → in_fields fs ≤ s.left
@@ -172,13 +172,13 @@ record_names n read h names space name d ds fs s is named there stands complete 
     let whole : CompleteAmong names (field_nodes (space_of (defines space name d)) ds) = rw (parts_fields space name d ds is named there) at (complete_below names space d complete) in
     rw (named, there) (
     bind_on (λ q. q ≡ record s { names = put (defines space name d) None s.names }) (defined (defines space name d) None s) _ (defined_names (defines space name d) None s) (λ opened e.
-    bind_err_any Naming (fields_at (read place.Elsewhere (space_of (defines space name d))) [] ds opened) _
+    bind_err_any Naming (fields_at (read role.Elsewhere (space_of (defines space name d))) [] ds opened) _
     (fields_names n read h names (space_of (defines space name d)) [] ds fs opened stands whole (rw e (agrees_open names (defines space name d) s.names agree)) deep (rw e many))
     (λ x. tt)))
 
 -- ---- every type
 
-node_names : (n : ℕ) (read : Reader) → Accepts n read → (at : Place) (space : List ℕ) (d : Data) (s : Seen) (t : Tree) (names : Meaning) → Single at d → Stands names space d t → Complete names space d → Agrees names s.names → height t ≤ n → below t ≤ s.left → IfErr (node_at read n at space d s) Naming
+node_names : (n : ℕ) (read : Reader) → Accepts n read → (at : Role) (space : List ℕ) (d : Data) (s : Seen) (t : Tree) (names : Meaning) → Single at d → Stands names space d t → Complete names space d → Agrees names s.names → height t ≤ n → below t ≤ s.left → IfErr (node_at read n at space d s) Naming
 unfolding node_at text_at below height
 node_names n read h at space d s t names single (used_name {name} u is) complete agree deep many = use_names n read names at space name d t s u is agree deep many
 node_names n read h at space d s t names single (plain_text {s = w} k p) complete agree deep many = rw k (plain_names n space w t s p)
@@ -200,12 +200,12 @@ both_of (Err e) P Q R F G h k g f = g
 counted_names : (s : Seen) → 0 < s.left → MatchResult (counted s) (λ now. (suc now.left ≡ s.left) × (now.names ≡ s.names)) Naming
 counted_names s some = let e : nat_lt 0 s.left ≡ true = lt-ltb 0 s.left some in rw e (omega (arith, some), refl)
 
-met : (names : Meaning) (at : Place) (space : List ℕ) (d : Data) (t : Tree) (s : Seen) (n : ℕ) (x : Tree × Seen) → Stands names space d t → Complete names space d → Agrees names s.names → TookAt at space d s x → Within n s.left x → (x.1.left + nodes t ≡ s.left) × Agrees names x.1.names
+met : (names : Meaning) (at : Role) (space : List ℕ) (d : Data) (t : Tree) (s : Seen) (n : ℕ) (x : Tree × Seen) → Stands names space d t → Complete names space d → Agrees names s.names → TookAt at space d s x → Within n s.left x → (x.1.left + nodes t ≡ s.left) × Agrees names x.1.names
 met names at space d t s n x stands complete agree took within =
     let same = took_same took.1 names complete agree in
     (rw (same.0 t stands) within.0, same.1)
 
-level : (n : ℕ) (at : Place) (space : List ℕ) (d : Data) (s : Seen) (t : Tree) (names : Meaning) → Single at d → Stands names space d t → Complete names space d → Agrees names s.names → depth t ≤ suc n → nodes t ≤ s.left → Accepts n (tree_at n) → IfErr (tree_at (suc n) at space d s) Naming
+level : (n : ℕ) (at : Role) (space : List ℕ) (d : Data) (s : Seen) (t : Tree) (names : Meaning) → Single at d → Stands names space d t → Complete names space d → Agrees names s.names → depth t ≤ suc n → nodes t ≤ s.left → Accepts n (tree_at n) → IfErr (tree_at (suc n) at space d s) Naming
 unfolding tree_at
 level n at space d s t names single stands complete agree deep many h =
     bind_on (λ now. (suc now.left ≡ s.left) × (now.names ≡ s.names)) (counted s) _ (counted_names s (omega (arith, many))) (λ now e.
@@ -222,8 +222,8 @@ schema_names : (text : List ℕ) (d : Data) (names : Meaning) (t : Tree) → jso
 unfolding schema_of
 schema_names text d names t is of stands many deep =
     let agree : Agrees names [] = λ name u h. absurd cc in
-    rw is (bind_on (λ x. (x.1.left + nodes t ≡ most_nodes) × Agrees names x.1.names) (tree_at most_levels place.Elsewhere [] d (record { names = []; left = most_nodes })) _
-    (tree_names most_levels place.Elsewhere [] d (record { names = []; left = most_nodes }) t names tt stands (λ place last name e at h. of.0 place last name e at h) agree deep many) (λ x p. tt))
+    rw is (bind_on (λ x. (x.1.left + nodes t ≡ most_nodes) × Agrees names x.1.names) (tree_at most_levels role.Elsewhere [] d (record { names = []; left = most_nodes })) _
+    (tree_names most_levels role.Elsewhere [] d (record { names = []; left = most_nodes }) t names tt stands (λ place last name e at h. of.0 place last name e at h) agree deep many) (λ x p. tt))
 
 accepts : (text : List ℕ) (d : Data) (names : Meaning) (t : Tree) (r : Result Tree SchemaFault) → schema_of text ≡ r → json_of text ≡ Ok d → NamesOf d names → Stands names [] d t → IfErr r Naming
     → (HasUnknownName [] d → ⊥) → (HasRecursion [] d → ⊥) → (HasNameTwice [] d → ⊥) → ((id : ℤ) → HasIdTwice id [] d → ⊥) → r ≡ Ok t

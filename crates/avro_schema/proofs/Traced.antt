@@ -10,14 +10,14 @@ use Rattle.serde_json.specs.Data.{Data, Items}
 use Rattle.serde_json.specs.Find.{get, as_array}
 use Rattle.avro_schema.specs.declared.fault.SchemaFault.{SchemaFault}
 use Rattle.avro_schema.specs.declared.fault.SchemaFault.TheVariants.{UnknownType}
-use Rattle.avro_schema.specs.declared.reading.Place.{Place}
-use Rattle.avro_schema.specs.declared.reading.Place.TheVariants as place
+use Rattle.avro_schema.specs.declared.reading.Role.{Role}
+use Rattle.avro_schema.specs.declared.reading.Role.TheVariants as role
 use Rattle.avro_schema.specs.declared.attributes.Kind.{Kind}
 use Rattle.avro_schema.specs.declared.attributes.Kind.TheVariants as kind
 use Rattle.avro_schema.specs.declared.schema.BytesKind.TheVariants as of_bytes
 use Rattle.contract_words.specs.Outcome.{◌>>=◌}
 use Rattle.avro_schema.specs.Tree.{Tree, octets, symbols, fixed, union, array, map}
-use Rattle.avro_schema.specs.Size.{less, below, height}
+use Rattle.avro_schema.specs.Size.{left_after, below, height}
 use Rattle.avro_schema.specs.View.{branches_of}
 use Rattle.avro_schema.specs.Names.{Entry, lookup, put, full}
 use Rattle.avro_schema.specs.Attributes.{name_in, id_in, symbols_in, size_in, array_kind, bytes_kind, plain, text_in, kind_of}
@@ -48,25 +48,25 @@ asked_tells F h (Some x) = refl
 -- ---- what is read
 
 -- a branch is no union
-abbrev pub Single : Place → Data → Type 0
-Single place.Branch d = as_array d ≡ None
-Single place.Elsewhere d = ⊤
+abbrev pub Single : Role → Data → Type 0
+Single role.Branch d = as_array d ≡ None
+Single role.Elsewhere d = ⊤
 
-pub single : (at : Place) (d : Data) → as_array d ≡ None → Single at d
-single place.Branch d h = h
-single place.Elsewhere d h = tt
+pub single : (at : Role) (d : Data) → as_array d ≡ None → Single at d
+single role.Branch d h = h
+single role.Elsewhere d h = tt
 
 abbrev pub TookIt : List ℕ → Data → Seen → Tree × Seen → Type 0
 TookIt space d s x = Took space d s.names x.0 x.1.names
 
-abbrev pub TookAt : Place → List ℕ → Data → Seen → Tree × Seen → Type 0
+abbrev pub TookAt : Role → List ℕ → Data → Seen → Tree × Seen → Type 0
 TookAt at space d s x = Single at d × Took space d s.names x.0 x.1.names
 
 abbrev pub FailedIt : List ℕ → Data → Seen → SchemaFault → Type 0
 FailedIt space d s = Failed space d s.names
 
 abbrev pub Tells : Reader → Type 0
-Tells read = (at : Place) (space : List ℕ) (d : Data) (s : Seen) → MatchResult (read at space d s) (TookAt at space d s) (FailedIt space d s)
+Tells read = (at : Role) (space : List ℕ) (d : Data) (s : Seen) → MatchResult (read at space d s) (TookAt at space d s) (FailedIt space d s)
 
 pub leaf : (space : List ℕ) (d : Data) (es : List Entry) (t : Tree) → parts_in space d ≡ [] → NoUse space d → NoDefinition space d → NoIdTwice d → ((names : Meaning) → Stands names space d t) → Took space d es t es
 leaf space d es t none unused definition ids stands =
@@ -86,7 +86,7 @@ if_left_tells n space name d t (Some left) false s h u l = rw h (took_use u l)
 used_tells : (n : ℕ) (space name : List ℕ) (d : Data) (o : Option (Option Tree)) (s : Seen) → Uses space d name → lookup name s.names ≡ o → MatchResult (used n o s) (TookIt space d s) (FailedIt space d s)
 used_tells n space name d None s u l = failed_use refl u l
 used_tells n space name d (Some None) s u l = failed_other tt
-used_tells n space name d (Some (Some t)) s u l = if_left_tells n space name d t (less s.left (below t)) (nat_lt n (height t)) s refl u l
+used_tells n space name d (Some (Some t)) s u l = if_left_tells n space name d t (left_after s.left (below t)) (nat_lt n (height t)) s refl u l
 
 plain_or_used_tells : (n : ℕ) (space word : List ℕ) (d : Data) (o : Option Tree) (s : Seen) → ((t : Tree) → o ≡ Some t → Took space d s.names t s.names) → (o ≡ None → Uses space d (full space word)) → MatchResult (plain_or_used n o (full space word) s) (TookIt space d s) (FailedIt space d s)
 plain_or_used_tells n space word d (Some t) s h u = h t refl
@@ -195,16 +195,16 @@ pub array_tells : (read : Reader) → Tells read → (space : List ℕ) (d : Dat
 unfolding array_at
 array_tells read h space d s is =
     both_bind (λ e. get (codes "items") d ≡ Some e) _ _ (asked (get (codes "items") d)) _ (asked_tells _ (failed_other tt) (get (codes "items") d)) (λ e there.
-    both_bind (λ x. Took space e s.names x.0 x.1.names) _ _ (read place.Elsewhere space e s) _
-    (both_weaker (read place.Elsewhere space e s) (TookAt place.Elsewhere space e s) (TookIt space e s) (FailedIt space e s) (FailedIt space d s) (λ x p. p.1) (λ f p. one_failed space d e s.names kind.Array f is (λ z. z) (λ z. z) (parts_items space d e is there) p) (h place.Elsewhere space e s))
+    both_bind (λ x. Took space e s.names x.0 x.1.names) _ _ (read role.Elsewhere space e s) _
+    (both_weaker (read role.Elsewhere space e s) (TookAt role.Elsewhere space e s) (TookIt space e s) (FailedIt space e s) (FailedIt space d s) (λ x p. p.1) (λ f p. one_failed space d e s.names kind.Array f is (λ z. z) (λ z. z) (parts_items space d e is there) p) (h role.Elsewhere space e s))
     (λ x p. one_part space d e s.names x.1.names kind.Array x.0 (array x.0 (id_in (codes "element-id") d) (array_kind d)) is (λ z. z) (λ z. z) (parts_items space d e is there) p (λ names q. array_object is there q)))
 
 pub map_tells : (read : Reader) → Tells read → (space : List ℕ) (d : Data) (s : Seen) → kind_in d ≡ Some kind.Map → MatchResult (map_at read space d s) (TookIt space d s) (FailedIt space d s)
 unfolding map_at
 map_tells read h space d s is =
     both_bind (λ e. get (codes "values") d ≡ Some e) _ _ (asked (get (codes "values") d)) _ (asked_tells _ (failed_other tt) (get (codes "values") d)) (λ e there.
-    both_bind (λ x. Took space e s.names x.0 x.1.names) _ _ (read place.Elsewhere space e s) _
-    (both_weaker (read place.Elsewhere space e s) (TookAt place.Elsewhere space e s) (TookIt space e s) (FailedIt space e s) (FailedIt space d s) (λ x p. p.1) (λ f p. one_failed space d e s.names kind.Map f is (λ z. z) (λ z. z) (parts_values space d e is there) p) (h place.Elsewhere space e s))
+    both_bind (λ x. Took space e s.names x.0 x.1.names) _ _ (read role.Elsewhere space e s) _
+    (both_weaker (read role.Elsewhere space e s) (TookAt role.Elsewhere space e s) (TookIt space e s) (FailedIt space e s) (FailedIt space d s) (λ x p. p.1) (λ f p. one_failed space d e s.names kind.Map f is (λ z. z) (λ z. z) (parts_values space d e is there) p) (h role.Elsewhere space e s))
     (λ x p. one_part space d e s.names x.1.names kind.Map x.0 (map x.0) is (λ z. z) (λ z. z) (parts_values space d e is there) p (λ names q. map_object is there q)))
 
 -- ---- branches
@@ -221,13 +221,13 @@ branch_on space d ds es fs gs front all t alone took (branches_took {ts} more sa
     branches_took (took_next took more) (same ∙ before_branches-push front t (branches_of ts)) (λ names h. next_stands names space d ds t ts alone so h)
 
 branches_tell : (read : Reader) → Tells read → (space : List ℕ) (front : List Tree) (ds : Items) (s : Seen)
-    → MatchResult (branches_at (read place.Branch space) front ds s) (λ x. BranchesTook space ds s.names front x.0 x.1.names) (FailedIn (branch_nodes space ds) s.names)
+    → MatchResult (branches_at (read role.Branch space) front ds s) (λ x. BranchesTook space ds s.names front x.0 x.1.names) (FailedIn (branch_nodes space ds) s.names)
 unfolding each_at
 branches_tell read h space front json.no_items s = branches_took took_none (before_branches-none front) (λ names _. no_branch)
 branches_tell read h space front (json.item d ds) s =
-    both_bind (TookAt place.Branch space d s) _ _ (read place.Branch space d s) _
-    (both_weaker (read place.Branch space d s) (TookAt place.Branch space d s) (TookAt place.Branch space d s) (FailedIt space d s) (FailedIn (branch_nodes space (json.item d ds)) s.names) (λ x p. p) (λ f p. failed_first p) (h place.Branch space d s)) (λ x took.
-    both_weaker (branches_at (read place.Branch space) (front ++ x.0 ∷ []) ds x.1) (λ y. BranchesTook space ds x.1.names (front ++ x.0 ∷ []) y.0 y.1.names) (λ y. BranchesTook space (json.item d ds) s.names front y.0 y.1.names) (FailedIn (branch_nodes space ds) x.1.names) (FailedIn (branch_nodes space (json.item d ds)) s.names)
+    both_bind (TookAt role.Branch space d s) _ _ (read role.Branch space d s) _
+    (both_weaker (read role.Branch space d s) (TookAt role.Branch space d s) (TookAt role.Branch space d s) (FailedIt space d s) (FailedIn (branch_nodes space (json.item d ds)) s.names) (λ x p. p) (λ f p. failed_first p) (h role.Branch space d s)) (λ x took.
+    both_weaker (branches_at (read role.Branch space) (front ++ x.0 ∷ []) ds x.1) (λ y. BranchesTook space ds x.1.names (front ++ x.0 ∷ []) y.0 y.1.names) (λ y. BranchesTook space (json.item d ds) s.names front y.0 y.1.names) (FailedIn (branch_nodes space ds) x.1.names) (FailedIn (branch_nodes space (json.item d ds)) s.names)
     (λ y p. branch_on space d ds s.names x.1.names y.1.names front y.0 x.0 took.0 took.1 p) (λ f p. failed_later took.1 p)
     (branches_tell read h space (front ++ x.0 ∷ []) ds x.1))
 
@@ -239,11 +239,11 @@ unfolding parts_in before_branches
 union_took space ds es fs all (branches_took took same so) =
     took_plain (λ name u. union_no_use space name ds u) (λ name h. defines_no_kind space (json.array ds) name refl h) (no_record (json.array ds) (λ h. absurd cc)) took (λ names h. rw same (union_array (so names h)))
 
-pub union_tells : (read : Reader) → Tells read → (at : Place) (space : List ℕ) (ds : Items) (s : Seen) → MatchResult (union_at read at space ds s) (TookAt at space (json.array ds) s) (FailedIt space (json.array ds) s)
+pub union_tells : (read : Reader) → Tells read → (at : Role) (space : List ℕ) (ds : Items) (s : Seen) → MatchResult (union_at read at space ds s) (TookAt at space (json.array ds) s) (FailedIt space (json.array ds) s)
 unfolding union_at parts_in
-union_tells read h place.Branch space ds s = failed_other tt
-union_tells read h place.Elsewhere space ds s =
-    both_bind (λ x. BranchesTook space ds s.names [] x.0 x.1.names) _ _ (branches_at (read place.Branch space) [] ds s) _
-    (both_weaker (branches_at (read place.Branch space) [] ds s) (λ x. BranchesTook space ds s.names [] x.0 x.1.names) (λ x. BranchesTook space ds s.names [] x.0 x.1.names) (FailedIn (branch_nodes space ds) s.names) (FailedIt space (json.array ds) s) (λ x p. p)
+union_tells read h role.Branch space ds s = failed_other tt
+union_tells read h role.Elsewhere space ds s =
+    both_bind (λ x. BranchesTook space ds s.names [] x.0 x.1.names) _ _ (branches_at (read role.Branch space) [] ds s) _
+    (both_weaker (branches_at (read role.Branch space) [] ds s) (λ x. BranchesTook space ds s.names [] x.0 x.1.names) (λ x. BranchesTook space ds s.names [] x.0 x.1.names) (FailedIn (branch_nodes space ds) s.names) (FailedIt space (json.array ds) s) (λ x p. p)
     (λ f p. failed_plain (λ name u. union_no_use space name ds u) (λ name h. defines_no_kind space (json.array ds) name refl h) p) (branches_tell read h space [] ds s))
     (λ x p. (tt, union_took space ds s.names x.1.names x.0 p))

@@ -17,7 +17,7 @@ use Rattle.avro_schema.specs.declared.schema.Schema.{Schema}
 use Rattle.avro_schema.specs.declared.schema.Field.{Field}
 use Rattle.avro_schema.specs.Attributes.{all_items}
 use Rattle.avro_schema.specs.Names.{dotted, space_of}
-use Rattle.avro_schema.specs.Size.{less, below, in_fields, in_branches, height, deepest_field, deepest_branch}
+use Rattle.avro_schema.specs.Size.{left_after, below, in_fields, in_branches, height, deepest_field, deepest_branch}
 use Rattle.avro_schema.specs.View.{tree, trees, parts, fields_of, branches_of}
 
 pub step_of : {A : Type 0} (xs : List A) (i : ℕ) (x : A) → i < length xs → x ≡ get_or xs i x → drop i xs ≡ x ∷ drop (i + 1) xs
@@ -36,15 +36,15 @@ all_done test vs i total le so_far = sym so_far ∙ rw (end_of vs i le) refl
 
 -- ---- what is left of the nodes
 
-less_add : (l a b : ℕ) → less l (a + b) ≡ option_and_then (λ m. less m b) (less l a)
+less_add : (l a b : ℕ) → left_after l (a + b) ≡ option_and_then (λ m. left_after m b) (left_after l a)
 less_add l zero b = let e : 0 + b ≡ b = omega arith in rw e refl
 less_add zero (suc a) b = let e : suc a + b ≡ suc (a + b) = omega arith in rw e refl
 less_add (suc l) (suc a) b = let e : suc a + b ≡ suc (a + b) = omega arith in rw e (less_add l a b)
 
-pub less_on : (now a b next : ℕ) (total : Option ℕ) → less now (a + b) ≡ total → Some next ≡ less now a → less next b ≡ total
+pub less_on : (now a b next : ℕ) (total : Option ℕ) → left_after now (a + b) ≡ total → Some next ≡ left_after now a → left_after next b ≡ total
 less_on now a b next total so_far h = (rw (sym h) refl) ∙ sym (less_add now a b) ∙ so_far
 
-pub less_fails : (now a b : ℕ) (total : Option ℕ) → less now (a + b) ≡ total → None ≡ less now a → None ≡ total
+pub less_fails : (now a b : ℕ) (total : Option ℕ) → left_after now (a + b) ≡ total → None ≡ left_after now a → None ≡ total
 less_fails now a b total so_far h = (rw (sym h) refl) ∙ sym (less_add now a b) ∙ so_far
 
 pub fields_step : (fs : List Field) (i : ℕ) (f : Field) → i < length fs → f ≡ get_or fs i f → in_fields (fields_of (parts (drop i fs))) ≡ suc (below (tree f.schema)) + in_fields (fields_of (parts (drop (i + 1) fs)))
@@ -55,11 +55,11 @@ pub branches_step : (ss : List Schema) (i : ℕ) (s : Schema) → i < length ss 
 unfolding in_branches
 branches_step ss i s lt is = rw (step_of ss i s lt is) refl
 
-pub fields_end : (fs : List Field) (i : ℕ) (now : ℕ) → length fs ≤ i → less now (in_fields (fields_of (parts (drop i fs)))) ≡ Some now
+pub fields_end : (fs : List Field) (i : ℕ) (now : ℕ) → length fs ≤ i → left_after now (in_fields (fields_of (parts (drop i fs)))) ≡ Some now
 unfolding in_fields
 fields_end fs i now le = rw (end_of fs i le) refl
 
-pub branches_end : (ss : List Schema) (i : ℕ) (now : ℕ) → length ss ≤ i → less now (in_branches (branches_of (trees (drop i ss)))) ≡ Some now
+pub branches_end : (ss : List Schema) (i : ℕ) (now : ℕ) → length ss ≤ i → left_after now (in_branches (branches_of (trees (drop i ss)))) ≡ Some now
 unfolding in_branches
 branches_end ss i now le = rw (end_of ss i le) refl
 

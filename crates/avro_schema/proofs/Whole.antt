@@ -7,8 +7,8 @@ use Rattle.serde_json.specs.Data.{Data, Items}
 use Rattle.serde_json.specs.Find.{get, as_array}
 use Rattle.avro_schema.specs.declared.fault.SchemaFault.{SchemaFault}
 use Rattle.avro_schema.specs.declared.fault.SchemaFault.TheVariants.{TooBig}
-use Rattle.avro_schema.specs.declared.reading.Place.{Place}
-use Rattle.avro_schema.specs.declared.reading.Place.TheVariants as place
+use Rattle.avro_schema.specs.declared.reading.Role.{Role}
+use Rattle.avro_schema.specs.declared.reading.Role.TheVariants as role
 use Rattle.avro_schema.specs.declared.attributes.Kind.{Kind}
 use Rattle.avro_schema.specs.declared.attributes.Kind.TheVariants as kind
 use Rattle.avro_schema.specs.Tree.{Tree, octets, structure, Fields, no_fields, field}
@@ -41,15 +41,15 @@ data FieldFailed : List ℕ → Data → List Part → List Entry → SchemaFaul
   field_had : {space : List ℕ} {d : Data} {front : List Part} {es : List Entry} {f : SchemaFault} → HadId d front f → FieldFailed space d front es f
   field_other : {space : List ℕ} {d : Data} {front : List Part} {es : List Entry} {f : SchemaFault} → Another f → FieldFailed space d front es f
 
-field_tells : (read : Reader) → Tells read → (space : List ℕ) (front : List Part) (d : Data) (s : Seen) → MatchResult (field_at (read place.Elsewhere space) front d s) (λ x. FieldTook space d front s.names x.0 x.1.names) (FieldFailed space d front s.names)
+field_tells : (read : Reader) → Tells read → (space : List ℕ) (front : List Part) (d : Data) (s : Seen) → MatchResult (field_at (read role.Elsewhere space) front d s) (λ x. FieldTook space d front s.names x.0 x.1.names) (FieldFailed space d front s.names)
 unfolding field_at
 field_tells read h space front d s =
     both_bind (λ name. name_in d ≡ Some name) _ _ (asked (name_in d)) _ (asked_tells _ (field_other tt) (name_in d)) (λ name named.
     both_bind (λ e. get (codes "type") d ≡ Some e) _ _ (asked (get (codes "type") d)) _ (asked_tells _ (field_other tt) (get (codes "type") d)) (λ e there.
     both_bind (λ id. (id ≡ id_in (codes "field-id") d) × FreshIn d front) _ _ (fresh (id_in (codes "field-id") d) front) _
     (both_weaker (fresh (id_in (codes "field-id") d) front) (λ id. (id ≡ id_in (codes "field-id") d) × FreshIn d front) (λ id. (id ≡ id_in (codes "field-id") d) × FreshIn d front) (HadId d front) (FieldFailed space d front s.names) (λ x p. p) (λ f p. field_had p) (fresh_tells d (id_in (codes "field-id") d) front refl)) (λ id new.
-    both_bind (TookAt place.Elsewhere space e s) _ _ (read place.Elsewhere space e s) _
-    (both_weaker (read place.Elsewhere space e s) (TookAt place.Elsewhere space e s) (TookAt place.Elsewhere space e s) (FailedIt space e s) (FieldFailed space d front s.names) (λ x p. p) (λ f p. field_failed there p) (h place.Elsewhere space e s)) (λ x took.
+    both_bind (TookAt role.Elsewhere space e s) _ _ (read role.Elsewhere space e s) _
+    (both_weaker (read role.Elsewhere space e s) (TookAt role.Elsewhere space e s) (TookAt role.Elsewhere space e s) (FailedIt space e s) (FieldFailed space d front s.names) (λ x p. p) (λ f p. field_failed there p) (h role.Elsewhere space e s)) (λ x took.
     field_took named there new.0 new.1 took.1))))
 
 data FieldsTook : List ℕ → Items → List Part → List Entry → List Part → List Entry → Type 0 where
@@ -92,14 +92,14 @@ fields_fail space d ds front p es fs f (field_took named there id new took) (fie
 fields_fail space d ds front p es fs f took (fields_other h) = fields_other h
 
 fields_tell : (read : Reader) → Tells read → (space : List ℕ) (front : List Part) (ds : Items) (s : Seen)
-    → MatchResult (fields_at (read place.Elsewhere space) front ds s) (λ x. FieldsTook space ds front s.names x.0 x.1.names) (FieldsFailed space ds front s.names)
+    → MatchResult (fields_at (read role.Elsewhere space) front ds s) (λ x. FieldsTook space ds front s.names x.0 x.1.names) (FieldsFailed space ds front s.names)
 unfolding each_at
 fields_tell read h space front json.no_items s = let none : TookAll [] s.names [] s.names = took_none in fields_took none (before_fields-none front) (λ names _. no_field) (none_apart front)
 fields_tell read h space front (json.item d ds) s =
-    both_bind (λ x. FieldTook space d front s.names x.0 x.1.names) _ _ (field_at (read place.Elsewhere space) front d s) _
-    (both_weaker (field_at (read place.Elsewhere space) front d s) (λ x. FieldTook space d front s.names x.0 x.1.names) (λ x. FieldTook space d front s.names x.0 x.1.names) (FieldFailed space d front s.names) (FieldsFailed space (json.item d ds) front s.names) (λ x p. p)
+    both_bind (λ x. FieldTook space d front s.names x.0 x.1.names) _ _ (field_at (read role.Elsewhere space) front d s) _
+    (both_weaker (field_at (read role.Elsewhere space) front d s) (λ x. FieldTook space d front s.names x.0 x.1.names) (λ x. FieldTook space d front s.names x.0 x.1.names) (FieldFailed space d front s.names) (FieldsFailed space (json.item d ds) front s.names) (λ x p. p)
     (λ f p. field_fails space d ds front s.names f p) (field_tells read h space front d s)) (λ x took.
-    both_weaker (fields_at (read place.Elsewhere space) (front ++ x.0 ∷ []) ds x.1) (λ y. FieldsTook space ds (front ++ x.0 ∷ []) x.1.names y.0 y.1.names) (λ y. FieldsTook space (json.item d ds) front s.names y.0 y.1.names) (FieldsFailed space ds (front ++ x.0 ∷ []) x.1.names) (FieldsFailed space (json.item d ds) front s.names)
+    both_weaker (fields_at (read role.Elsewhere space) (front ++ x.0 ∷ []) ds x.1) (λ y. FieldsTook space ds (front ++ x.0 ∷ []) x.1.names y.0 y.1.names) (λ y. FieldsTook space (json.item d ds) front s.names y.0 y.1.names) (FieldsFailed space ds (front ++ x.0 ∷ []) x.1.names) (FieldsFailed space (json.item d ds) front s.names)
     (λ y p. field_on space d ds front y.0 x.0 s.names x.1.names y.1.names took p) (λ f p. fields_fail space d ds front x.0 s.names x.1.names f took p)
     (fields_tell read h space (front ++ x.0 ∷ []) ds x.1))
 
@@ -134,8 +134,8 @@ record_tells read h space d s is =
     both_bind (λ name. name_in d ≡ Some name) _ _ (asked (name_in d)) _ (asked_tells _ (failed_other tt) (name_in d)) (λ name named.
     both_bind (λ ds. items_in is_object (codes "fields") d ≡ Some ds) _ _ (asked (items_in is_object (codes "fields") d)) _ (asked_tells _ (failed_other tt) (items_in is_object (codes "fields") d)) (λ ds there.
     both_bind (New (defines space name d) None s) _ _ (defined (defines space name d) None s) _ (defined_tells space (defines space name d) d None s (a_record is named)) (λ opened new.
-    both_bind (λ x. FieldsTook (space_of (defines space name d)) ds [] opened.names x.0 x.1.names) _ _ (fields_at (read place.Elsewhere (space_of (defines space name d))) [] ds opened) _
-    (both_weaker (fields_at (read place.Elsewhere (space_of (defines space name d))) [] ds opened) (λ x. FieldsTook (space_of (defines space name d)) ds [] opened.names x.0 x.1.names) (λ x. FieldsTook (space_of (defines space name d)) ds [] opened.names x.0 x.1.names) (FieldsFailed (space_of (defines space name d)) ds [] opened.names) (FailedIt space d s) (λ x p. p)
+    both_bind (λ x. FieldsTook (space_of (defines space name d)) ds [] opened.names x.0 x.1.names) _ _ (fields_at (read role.Elsewhere (space_of (defines space name d))) [] ds opened) _
+    (both_weaker (fields_at (read role.Elsewhere (space_of (defines space name d))) [] ds opened) (λ x. FieldsTook (space_of (defines space name d)) ds [] opened.names x.0 x.1.names) (λ x. FieldsTook (space_of (defines space name d)) ds [] opened.names x.0 x.1.names) (FieldsFailed (space_of (defines space name d)) ds [] opened.names) (FailedIt space d s) (λ x p. p)
     (λ f p. record_failed space name d ds s opened f is named there new p) (fields_tell read h (space_of (defines space name d)) [] ds opened))
     (λ x p. record_took space name d ds s opened x.0 x.1.names is named there new p))))
 
@@ -159,10 +159,10 @@ of_kind_tells n read h space kind.Fixed word d s type is = fixed_tells space d s
 of_kind_tells n read h space kind.Bytes word d s type is = bytes_leaf space d s.names (rw (type, is) refl)
 of_kind_tells n read h space kind.Word word d s type is = named_tells n space word d s (λ t p. word_leaf space word d s.names t type is p) (λ none. a_type type is none)
 
-at_place : (at : Place) (space : List ℕ) (d : Data) (s : Seen) (r : Read Tree) → as_array d ≡ None → MatchResult r (TookIt space d s) (FailedIt space d s) → MatchResult r (TookAt at space d s) (FailedIt space d s)
+at_place : (at : Role) (space : List ℕ) (d : Data) (s : Seen) (r : Read Tree) → as_array d ≡ None → MatchResult r (TookIt space d s) (FailedIt space d s) → MatchResult r (TookAt at space d s) (FailedIt space d s)
 at_place at space d s r alone h = both_weaker r (TookIt space d s) (TookAt at space d s) (FailedIt space d s) (FailedIt space d s) (λ x p. (single at d alone, p)) (λ f p. p) h
 
-node_tells : (n : ℕ) (read : Reader) → Tells read → (at : Place) (space : List ℕ) (d : Data) (s : Seen) → MatchResult (node_at read n at space d s) (TookAt at space d s) (FailedIt space d s)
+node_tells : (n : ℕ) (read : Reader) → Tells read → (at : Role) (space : List ℕ) (d : Data) (s : Seen) → MatchResult (node_at read n at space d s) (TookAt at space d s) (FailedIt space d s)
 unfolding node_at text_at object_at
 node_tells n read h at space json.null s = failed_other tt
 node_tells n read h at space (json.boolean b) s = failed_other tt

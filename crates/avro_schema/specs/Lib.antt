@@ -12,3 +12,4 @@ pub mod Inside
 pub mod Order
 pub mod Stands
 pub mod Faults
+pub mod First

@@ -11,13 +11,13 @@ use Rattle.serde_json.specs.Data.{Data, Items}
 use Rattle.serde_json.specs.Find.{get}
 use Rattle.avro_schema.specs.declared.fault.SchemaFault.{SchemaFault}
 use Rattle.avro_schema.specs.declared.fault.SchemaFault.TheVariants.{UnknownType, UnknownName, Recursive, TooBig, FieldTwice, NameTwice}
-use Rattle.avro_schema.specs.declared.reading.Place.{Place}
-use Rattle.avro_schema.specs.declared.reading.Place.TheVariants as place
+use Rattle.avro_schema.specs.declared.reading.Role.{Role}
+use Rattle.avro_schema.specs.declared.reading.Role.TheVariants as role
 use Rattle.avro_schema.specs.declared.attributes.Kind.{Kind}
 use Rattle.avro_schema.specs.declared.attributes.Kind.TheVariants as kind
 use Rattle.contract_words.specs.Outcome.{◌>>=◌}
 use Rattle.avro_schema.specs.Tree.{Tree, octets, fixed, symbols, structure, array, map, union}
-use Rattle.avro_schema.specs.Size.{below, height, less}
+use Rattle.avro_schema.specs.Size.{below, height, left_after}
 use Rattle.avro_schema.specs.View.{Part, fields_of, branches_of}
 use Rattle.avro_schema.specs.Names.{full, space_of, or_around, Entry, lookup, put}
 use Rattle.avro_schema.specs.Attributes.{text_in, name_in, is_object, items_in, symbols_in, id_in, array_kind, bytes_kind, size_in, plain, kind_of}
@@ -31,9 +31,9 @@ pub record Seen : Type 0 where
 abbrev pub Read : Type 0 → Type 0
 Read A = Result (A × Seen) SchemaFault
 
--- how a type inside another is read: where it stands, and the namespace around it
+-- how a type inside another is read: its role there, and the namespace around it
 abbrev pub Reader : Type 0
-Reader = Place → List ℕ → Data → Seen → Read Tree
+Reader = Role → List ℕ → Data → Seen → Read Tree
 
 -- an attribute that must be there
 abbrev pub asked : {A : Type 0} → Option A → Result A SchemaFault
@@ -50,7 +50,7 @@ if_left most t (Some left) seen = if nat_lt most (height t) then Err TooBig else
 -- the tree of a definition once more, at a node that was counted and that may have so many levels below it: all nodes
 -- below the root count again
 abbrev pub repeated : ℕ → Tree → Seen → Read Tree
-repeated most t seen = if_left most t (less seen.left (below t)) seen
+repeated most t seen = if_left most t (left_after seen.left (below t)) seen
 
 -- a name that is used: never defined, defined around the place of use, or defined before
 abbrev pub used : ℕ → Option (Option Tree) → Seen → Read Tree
@@ -119,19 +119,19 @@ record_at read space d seen = do
   name ← asked (name_in d)
   items ← asked (items_in is_object (codes "fields") d)
   opened ← defined (defines space name d) None seen
-  fields ← fields_at (read place.Elsewhere (space_of (defines space name d))) [] items opened
+  fields ← fields_at (read role.Elsewhere (space_of (defines space name d))) [] items opened
   Ok (structure (fields_of fields.0), record { names = put (defines space name d) (Some (structure (fields_of fields.0))) fields.1.names; left = fields.1.left })
 
 unfoldable pub array_at : Reader → List ℕ → Data → Seen → Read Tree
 array_at read space d seen = do
   items ← asked (get (codes "items") d)
-  t ← read place.Elsewhere space items seen
+  t ← read role.Elsewhere space items seen
   Ok (array t.0 (id_in (codes "element-id") d) (array_kind d), t.1)
 
 unfoldable pub map_at : Reader → List ℕ → Data → Seen → Read Tree
 map_at read space d seen = do
   values ← asked (get (codes "values") d)
-  t ← read place.Elsewhere space values seen
+  t ← read role.Elsewhere space values seen
   Ok (map t.0, t.1)
 
 unfoldable pub enum_at : List ℕ → Data → Seen → Read Tree
@@ -175,11 +175,11 @@ unfoldable pub text_at : ℕ → List ℕ → List ℕ → Seen → Read Tree
 text_at most space s seen = of_word most space (kind_of s) s seen
 
 -- a union is no branch of a union
-unfoldable pub union_at : Reader → Place → List ℕ → Items → Seen → Read Tree
-union_at read place.Branch space ds seen = Err UnknownType
-union_at read place.Elsewhere space ds seen = branches_at (read place.Branch space) [] ds seen >>= λ x. Ok (union (branches_of x.0), x.1)
+unfoldable pub union_at : Reader → Role → List ℕ → Items → Seen → Read Tree
+union_at read role.Branch space ds seen = Err UnknownType
+union_at read role.Elsewhere space ds seen = branches_at (read role.Branch space) [] ds seen >>= λ x. Ok (union (branches_of x.0), x.1)
 
-unfoldable pub node_at : Reader → ℕ → Place → List ℕ → Data → Seen → Read Tree
+unfoldable pub node_at : Reader → ℕ → Role → List ℕ → Data → Seen → Read Tree
 node_at read most at space json.null seen = Err UnknownType
 node_at read most at space (json.boolean b) seen = Err UnknownType
 node_at read most at space (json.number n) seen = Err UnknownType

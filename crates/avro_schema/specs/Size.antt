@@ -62,7 +62,7 @@ abbrev pub depth : Tree → ℕ
 depth t = suc (height t)
 
 -- what is left after so many
-abbrev pub less : ℕ → ℕ → Option ℕ
-less left zero = Some left
-less zero (suc n) = None
-less (suc left) (suc n) = less left n
+abbrev pub left_after : ℕ → ℕ → Option ℕ
+left_after left zero = Some left
+left_after zero (suc n) = None
+left_after (suc left) (suc n) = left_after left n

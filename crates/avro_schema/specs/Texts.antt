@@ -8,7 +8,7 @@ use Rattle.avro_schema.specs.declared.fault.SchemaFault.{SchemaFault}
 use Rattle.avro_schema.specs.declared.fault.SchemaFault.TheVariants.{NotJson}
 use Rattle.contract_words.specs.Outcome.{◌>>=◌}
 use Rattle.avro_schema.specs.Tree.{Tree}
-use Rattle.avro_schema.specs.declared.reading.Place.TheVariants as place
+use Rattle.avro_schema.specs.declared.reading.Role.TheVariants as role
 use Rattle.avro_schema.specs.Reading.{tree_at}
 
 -- a text that is no JSON is read as nothing
@@ -28,5 +28,5 @@ most_nodes = 10000
 unfoldable pub schema_of : List ℕ → Result Tree SchemaFault
 schema_of text = do
   d ← json_of text
-  t ← tree_at most_levels place.Elsewhere [] d (record { names = []; left = most_nodes })
+  t ← tree_at most_levels role.Elsewhere [] d (record { names = []; left = most_nodes })
   Ok t.0

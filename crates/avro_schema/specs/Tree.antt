@@ -19,11 +19,14 @@ mutual
     array : Tree → Option ℤ → ArrayKind → Tree
     map : Tree → Tree
     union : Branches → Tree
+    deriving IsSet as Tree-set
 
   pub data Fields : Type 0 where
     no_fields : Fields
     field : Option ℤ → Tree → Fields → Fields
+    deriving IsSet as Fields-set
 
   pub data Branches : Type 0 where
     no_branches : Branches
     branch : Tree → Branches → Branches
+    deriving IsSet as Branches-set

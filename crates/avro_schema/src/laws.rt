@@ -1,10 +1,11 @@
 //! What follows from the definition of a schema's tree, said in its own words. Each function is a law: its contract is
 //! the statement, and there is nothing to run.
 
-ghost use Rattle.std.specs.Prelude.{◌≡◌, ◌≤◌, ℕ, ℤ, List, [], Ok, Err, Some, Option, MatchResult};
+ghost use Rattle.std.specs.Prelude.{◌≡◌, ◌≢◌, ◌≤◌, ℕ, ℤ, List, [], Ok, Err, Some, Option, MatchResult};
 ghost use Rattle.serde_json.specs.Data.{Data};
-ghost use Rattle.avro_schema.specs.declared.fault.SchemaFault.TheVariants.{Recursive, UnknownName, NameTwice, FieldTwice};
-ghost use Rattle.avro_schema.specs.declared.reading.Place.{Place};
+ghost use Rattle.avro_schema.specs.declared.fault.SchemaFault.{SchemaFault};
+ghost use Rattle.avro_schema.specs.declared.fault.SchemaFault.TheVariants.{Recursive, UnknownName, NameTwice, FieldTwice, Memory};
+ghost use Rattle.avro_schema.specs.declared.reading.Role.{Role};
 ghost use Rattle.avro_schema.specs.Tree.{Tree};
 ghost use Rattle.avro_schema.specs.Size.{nodes as node_count, depth as level_count};
 ghost use Rattle.avro_schema.specs.Names.{lookup};
@@ -14,6 +15,7 @@ ghost use Rattle.avro_schema.specs.Reading.{Seen, tree_at};
 ghost use Rattle.avro_schema.specs.Shape.{Shape, IsTwice};
 ghost use Rattle.avro_schema.specs.Stands.{Meaning, Stands, NamesOf};
 ghost use Rattle.avro_schema.specs.Faults.{HasUnknownName, HasNameTwice, HasIdTwice};
+ghost use Rattle.avro_schema.specs.First.{HasFirst};
 ghost use Rattle.avro_schema.specs.Texts.{json_of, schema_of, most_nodes, most_levels};
 
 /// An accepted tree has at most 10,000 nodes and at most 32 levels.
@@ -25,13 +27,13 @@ pub fn accepted_tree_is_small()
 /// A name that is used stands for the tree of its definition: a definition gives its name its tree, what is known of a
 /// name stays whatever is read next, and a use of a name is the tree that it was given.
 pub fn used_name_stands_for_its_definition()
-    ensures given { (n : ℕ) (at : Place) (space : List ℕ) (d : Data) (s q : Seen) (t : Tree) (name : List ℕ)
+    ensures given { (n : ℕ) (at : Role) (space : List ℕ) (d : Data) (s q : Seen) (t : Tree) (name : List ℕ)
         → Defines space d name → tree_at n at space d s ≡ Ok (t, q)
         → lookup name q.names ≡ Some (Some t) }
-    ensures stays { (n : ℕ) (at : Place) (space : List ℕ) (d : Data) (s q : Seen) (t : Tree) (name : List ℕ)
+    ensures stays { (n : ℕ) (at : Role) (space : List ℕ) (d : Data) (s q : Seen) (t : Tree) (name : List ℕ)
         (x : Option Tree) → lookup name s.names ≡ Some x → tree_at n at space d s ≡ Ok (t, q)
         → lookup name q.names ≡ Some x }
-    ensures used { (n : ℕ) (at : Place) (space : List ℕ) (d : Data) (s q : Seen) (t : Tree) (name : List ℕ)
+    ensures used { (n : ℕ) (at : Role) (space : List ℕ) (d : Data) (s q : Seen) (t : Tree) (name : List ℕ)
         → Uses space d name → tree_at n at space d s ≡ Ok (t, q)
         → lookup name s.names ≡ Some (Some t) }
 {}
@@ -100,4 +102,16 @@ pub fn id_twice_is_refused()
         → json_of text ≡ Ok d → HasIdTwice id [] d → schema_of text ≡ Ok t → ⊥ }
     ensures nothing_else { (text : List ℕ) (d : Data) (id : ℤ)
         → json_of text ≡ Ok d → schema_of text ≡ Err (FieldTwice id) → HasIdTwice id [] d }
+{}
+
+/// The fault of a refused schema is the first: it stands at a place before which each name that is used was defined, none is
+/// defined twice, and no record has an id twice. A fault of names or ids is that of the type at the place.
+pub fn fault_is_the_first()
+    ensures { (text : List ℕ) (d : Data) (e : SchemaFault)
+        → json_of text ≡ Ok d → schema_of text ≡ Err e → HasFirst d e }
+{}
+
+/// No fault of a schema is want of memory: `Memory` is answered for want of it alone.
+pub fn no_fault_is_memory()
+    ensures { (text : List ℕ) → schema_of text ≢ Err Memory }
 {}

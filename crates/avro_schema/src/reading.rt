@@ -9,7 +9,7 @@ ghost use Rattle.contract_words.specs.Outcome.{Gives};
 ghost use Rattle.avro_schema.specs.View.{tree, trees, parts};
 ghost use Rattle.avro_schema.specs.Reading.{fresh, defines, branches_at, field_at, fields_at, record_at, array_at, map_at, enum_at, fixed_at, object_at, text_at as tree_of_word, union_at, node_at, tree_at};
 ghost use Rattle.avro_schema.specs.Met.{met, Reads};
-ghost use Rattle.avro_schema.specs.declared.reading.Place.TheVariants.{Branch, Elsewhere};
+ghost use Rattle.avro_schema.specs.declared.reading.Role.TheVariants.{Branch, Elsewhere};
 
 use crate::attributes::{
     Kind, array_kind_of, bytes_kind_of, fields_in, fixed_size, id_at, kind_from, name_of,
@@ -24,9 +24,9 @@ use serde_json::Value;
 use std::alloc::Global;
 use std::sync::Arc;
 
-/// Where a type stands.
+/// What a type is in the one around it.
 #[derive(Clone, Copy, Debug, PartialEq, Eq)]
-pub enum Place {
+pub enum Role {
     /// It is a branch of a union.
     Branch,
     Elsewhere,
@@ -38,11 +38,11 @@ pub fn schema_of<'a>(
     alloc: Global,
     json: &'a Value,
     levels: u32,
-    place: Place,
+    role: Role,
     space: &'a [u8],
     seen: Seen<'a>,
 ) -> Result<(Schema, Seen<'a>), SchemaFault>
-    ensures { Reads result (tree_at levels place space.now (view json.now) (met seen.entry)) }
+    ensures { Reads result (tree_at levels role space.now (view json.now) (met seen.entry)) }
 {
     if levels == 0 {
         return Err(SchemaFault::TooBig);
@@ -55,7 +55,7 @@ pub fn schema_of<'a>(
         names,
         left: left - 1,
     };
-    node_of(alloc, json, levels - 1, place, space, now)
+    node_of(alloc, json, levels - 1, role, space, now)
 }
 
 /// The tree of a type that was counted, where so many levels may be below it.
@@ -65,15 +65,15 @@ fn node_of<'a>(
     alloc: Global,
     json: &'a Value,
     most: u32,
-    place: Place,
+    role: Role,
     space: &'a [u8],
     seen: Seen<'a>,
 ) -> Result<(Schema, Seen<'a>), SchemaFault>
-    ensures { Reads result (node_at (tree_at most) most place space.now (view json.now) (met seen.entry)) }
+    ensures { Reads result (node_at (tree_at most) most role space.now (view json.now) (met seen.entry)) }
 {
     match json {
         Value::String(text) => word_of(text.as_str(), most, space, seen),
-        Value::Array(items) => union_of(alloc, items, most, place, space, seen),
+        Value::Array(items) => union_of(alloc, items, most, role, space, seen),
         Value::Object(_) => object_of(alloc, json, most, space, seen),
         _ => Err(SchemaFault::UnknownType),
     }
@@ -102,15 +102,15 @@ fn union_of<'a>(
     alloc: Global,
     items: &'a Vec<Value>,
     most: u32,
-    place: Place,
+    role: Role,
     space: &'a [u8],
     seen: Seen<'a>,
 ) -> Result<(Schema, Seen<'a>), SchemaFault>
-    ensures { Reads result (union_at (tree_at most) place space.now (items_view items.now.items) (met seen.entry)) }
+    ensures { Reads result (union_at (tree_at most) role space.now (items_view items.now.items) (met seen.entry)) }
 {
-    match place {
-        Place::Branch => Err(SchemaFault::UnknownType),
-        Place::Elsewhere => {
+    match role {
+        Role::Branch => Err(SchemaFault::UnknownType),
+        Role::Elsewhere => {
             let (branches, seen) = branches_of(alloc, items, most, space, seen)?;
             Ok((Schema::Union(Arc::new(alloc, branches)?), seen))
         }
@@ -132,7 +132,7 @@ fn branches_of<'a>(
     let mut branches = Vec::new(alloc);
     let mut now = seen;
     'branches: for item in items {
-        let (schema, after) = schema_of(alloc, item, most, Place::Branch, space, now)?;
+        let (schema, after) = schema_of(alloc, item, most, Role::Branch, space, now)?;
         branches.push(schema)?;
         now = after;
     }
@@ -180,7 +180,7 @@ fn array_of<'a>(
     let Some(items) = json.get("items") else {
         return Err(SchemaFault::UnknownType);
     };
-    let (schema, seen) = schema_of(alloc, items, most, Place::Elsewhere, space, seen)?;
+    let (schema, seen) = schema_of(alloc, items, most, Role::Elsewhere, space, seen)?;
     Ok((
         Schema::Array(
             Arc::new(alloc, schema)?,
@@ -206,7 +206,7 @@ fn map_of<'a>(
     let Some(values) = json.get("values") else {
         return Err(SchemaFault::UnknownType);
     };
-    let (schema, seen) = schema_of(alloc, values, most, Place::Elsewhere, space, seen)?;
+    let (schema, seen) = schema_of(alloc, values, most, Role::Elsewhere, space, seen)?;
     Ok((Schema::Map(Arc::new(alloc, schema)?), seen))
 }
 
@@ -356,6 +356,6 @@ fn field_of<'a>(
         return Err(SchemaFault::UnknownType);
     };
     let id = fresh_id(id_at(json, "field-id"), front)?;
-    let (schema, after) = schema_of(alloc, inner, most, Place::Elsewhere, space, seen)?;
+    let (schema, after) = schema_of(alloc, inner, most, Role::Elsewhere, space, seen)?;
     Ok((Field { id, schema }, after))
 }

@@ -1,7 +1,7 @@
 //! What it takes to let a tree stand once more: its nodes, its levels, and a share in it.
 
 ghost use Rattle.std.specs.Prelude.{◌≡◌, nat_lt, IfOk};
-ghost use Rattle.avro_schema.specs.Size.{less, below, nodes, in_fields, in_branches, height, depth, deepest_field, deepest_branch};
+ghost use Rattle.avro_schema.specs.Size.{left_after, below, nodes, in_fields, in_branches, height, depth, deepest_field, deepest_branch};
 ghost use Rattle.avro_schema.specs.View.{tree, trees, parts, fields_of, branches_of};
 
 use crate::schema::{Field, Schema};
@@ -34,7 +34,7 @@ pub fn copy(schema: &Schema) -> Result<Schema, AllocError>
 #[cycle(nodes)]
 #[tactic(auto, unfolding(crate::specs::Size::below))]
 pub fn spend_below(schema: &Schema, left: u32) -> Option<u32>
-    ensures { result ≡ less left (below (tree schema.now)) }
+    ensures { result ≡ left_after left (below (tree schema.now)) }
 {
     match schema {
         Schema::Record(fields) => spend_fields(fields, left),
@@ -48,7 +48,7 @@ pub fn spend_below(schema: &Schema, left: u32) -> Option<u32>
 /// How many are left after this one and those below it.
 #[cycle(nodes)]
 fn spend(schema: &Schema, left: u32) -> Option<u32>
-    ensures { result ≡ less left (nodes (tree schema.now)) }
+    ensures { result ≡ left_after left (nodes (tree schema.now)) }
 {
     if left == 0 {
         return None;
@@ -59,7 +59,7 @@ fn spend(schema: &Schema, left: u32) -> Option<u32>
 /// How many are left after the fields' types and all below them.
 #[cycle(nodes)]
 fn spend_fields(fields: &Vec<Field>, left: u32) -> Option<u32>
-    ensures { result ≡ less left (in_fields (fields_of (parts fields.now.items))) }
+    ensures { result ≡ left_after left (in_fields (fields_of (parts fields.now.items))) }
 {
     let mut now = left;
     'fields: for field in fields {
@@ -71,7 +71,7 @@ fn spend_fields(fields: &Vec<Field>, left: u32) -> Option<u32>
 /// How many are left after the branches and all below them.
 #[cycle(nodes)]
 fn spend_branches(branches: &Vec<Schema>, left: u32) -> Option<u32>
-    ensures { result ≡ less left (in_branches (branches_of (trees branches.now.items))) }
+    ensures { result ≡ left_after left (in_branches (branches_of (trees branches.now.items))) }
 {
     let mut now = left;
     'branches: for branch in branches {
@@ -130,4 +130,14 @@ fn any_branch_deeper(branches: &Vec<Schema>, most: u32) -> bool
         }
     }
     false
+}
+
+impl Schema {
+    /// The same tree once more, which shares what is below its root. This takes no memory, and is refused only where
+    /// 2^63 others share it.
+    pub fn share(&self) -> Result<Schema, AllocError>
+        ensures { IfOk result (λ shared. tree shared ≡ tree self.now) }
+    {
+        copy(self)
+    }
 }

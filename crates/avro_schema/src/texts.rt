@@ -7,7 +7,7 @@ ghost use Rattle.avro_schema.specs.Texts.{json_of, schema_of as tree_of_text};
 
 use crate::fault::SchemaFault;
 use crate::names::Seen;
-use crate::reading::{Place, schema_of};
+use crate::reading::{Role, schema_of};
 use crate::schema::Schema;
 use serde_json::{Category, Value};
 use std::alloc::Global;
@@ -49,7 +49,7 @@ impl Schema {
             names: BTreeMap::new(alloc),
             left: MOST_NODES,
         };
-        let (schema, _) = schema_of(alloc, &json, MOST_LEVELS, Place::Elsewhere, &[], seen)?;
+        let (schema, _) = schema_of(alloc, &json, MOST_LEVELS, Role::Elsewhere, &[], seen)?;
         Ok(schema)
     }
 }

@@ -19,7 +19,7 @@ pub use fault::{PlanFault, WantedFault};
 pub use files::{Files, ReadFault};
 pub use hand::{Hand, Size};
 pub use left::{Left, Served};
-pub use plan::{plan_scan, take_by_workers};
+pub use plan::{MOST_WORKERS, plan_scan, take_by_workers};
 pub use tickets::Tickets;
 pub use wanted::take_wanted;
 pub use workers::{Gate, work};

@@ -1,6 +1,7 @@
 //! The plan of a scan by workers.
 
-ghost use Rattle.std.specs.Prelude.{◌≡◌, ◌⊎◌, ◌+◌, ◌^◌, ◌<◌, ◌≤◌, ◌++◌, ◌↔◌, ℕ, List, [], Bool, IfOk, IfErr, IsErrOf, None, Some, vec_len, length};
+ghost use Rattle.std.specs.Prelude.{◌≡◌, ◌⊎◌, ◌+◌, ◌^◌, ◌<◌, ◌≤◌, ◌++◌, ◌↔◌, ℕ, List, [], Bool, IfOk, IfErr, IsErrOf};
+ghost use Rattle.std.specs.Prelude.{None, Some, vec_len, length};
 ghost use Rattle.std.specs.Thread.{IsSync};
 ghost use Rattle.ice_meta.specs.declared.spec.Spec.{Spec};
 ghost use Rattle.ice_manifest.specs.declared.row.Row.{Row};
@@ -32,7 +33,7 @@ use std::thread::{Threads, join};
 const ROUNDS: usize = 1;
 
 /// How many workers there may be.
-const MOST_WORKERS: usize = 64;
+pub const MOST_WORKERS: usize = 64;
 
 /// Workers that are done: their seats, what they took together, and how many tickets they left.
 #[derive(Drop)]

@@ -1,4 +1,5 @@
--- From the names of columns to their ids (Apache Iceberg table spec v2, "Schemas and Data Types": columns are known by id).
+-- From the names of columns to their ids (Apache Iceberg table spec v2, "Schemas and Data Types": columns are known by
+-- id).
 use Rattle.std.specs.Prelude.{ℕ, ℤ, ◌==◌, ◌&&◌, not, Bool, true, false, List, [], ◌∷◌, length, Option, None, Some, Result, Ok, Err, if◌then◌else◌}
 use Rattle.std.specs.List.{list_any}
 use Rattle.std.specs.Option.{option_map}
@@ -132,7 +133,8 @@ asked id type q =
 
 -- the leaf over its column's id: first of all there is such a column
 unfoldable pub bound_leaf : Schema → Leaf → Result BoundLeaf FilterFault
-bound_leaf schema l = or_fault NoSuchColumn (column_on (path l.column) schema) >>= λ column. asked column.id column.column_type l.question
+bound_leaf schema l = or_fault NoSuchColumn (column_on (path l.column) schema) >>=
+    λ column. asked column.id column.column_type l.question
 
 unfoldable pub bound_part : Schema → Part Leaf → Result (Part BoundLeaf) FilterFault
 bound_part schema part.True = Ok part.True
@@ -178,4 +180,5 @@ answers t (question.Begins l) c = false
 -- the row meets the leaf: what is asked is so of the cell of the column to which its names lead
 abbrev pub leaf_meets : Schema → Row → Leaf → Bool
 leaf_meets schema row l =
-    passes (λ (column : meta.Column). passes (λ t. answers t l.question (row column.id)) column.column_type) (column_on (path l.column) schema)
+    passes (λ (column : meta.Column). passes (λ t. answers t l.question (row column.id)) column.column_type)
+        (column_on (path l.column) schema)

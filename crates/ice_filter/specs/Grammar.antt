@@ -138,14 +138,15 @@ BeginsWithin m front = (rest : List Token) × (t : Written) × (Says (front ++ r
 
 -- no leaf, parenthesis or literal of the tokens passes a limit; a comma that asks for one literal too many does not yet
 abbrev pub IsInLimits : Limits → List Token → Type 0
-IsInLimits m front = BeginsWithin m front ⊎ ((before : List Token) × ((front ≡ before ++ token.Comma ∷ []) × BeginsWithin m before))
+IsInLimits m front = BeginsWithin m front ⊎
+    ((before : List Token) × ((front ≡ before ++ token.Comma ∷ []) × BeginsWithin m before))
 
 -- tokens without their offsets
 abbrev pub words : List (ℕ × Token) → List Token
 words ts = map (λ x. x.1) ts
 
--- The token at the offset is the first that cannot stand where it stands: the tokens before it begin a filter, with it they
--- begin none. None before it passes a limit.
+-- The token at the offset is the first that cannot stand where it stands: the tokens before it begin a filter, with it
+-- they begin none. None before it passes a limit.
 pub record IsMisplaced (m : Limits) (tokens : List (ℕ × Token)) (at : ℕ) : Type 0 where
   pub front : List (ℕ × Token)
   pub next : Token
@@ -172,8 +173,8 @@ pub record PassesLimit (m : Limits) (tokens : List (ℕ × Token)) : Type 0 wher
   pub begins : Begins (words front ++ next ∷ [])
   pub over : IsInLimits m (words front ++ next ∷ []) → ⊥
 
--- What a text of this length with these tokens is: the filter that they say, without its parentheses; or the offset of the
--- token that cannot stand, the length where they end too early; or too big.
+-- What a text of this length with these tokens is: the filter that they say, without its parentheses; or the offset of
+-- the token that cannot stand, the length where they end too early; or too big.
 abbrev pub Reads : Limits → ℕ → List (ℕ × Token) → Result (Tree Leaf) FilterFault → Type 0
 Reads m end tokens (Ok f) = (t : Written) × (Says (words tokens) t × IsWithin m t × (f ≡ bare t))
 Reads m end tokens (Err (Syntax at)) = IsMisplaced m tokens at ⊎ ((at ≡ end) × EndsEarly m tokens)

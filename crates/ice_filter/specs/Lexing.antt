@@ -35,8 +35,10 @@ named (Some n) = Name n
 -- the word that the bytes are, or the name
 unfoldable pub word_of : List ℕ → Token
 word_of name =
-    if bytes_eq name (codes "and") then And else if bytes_eq name (codes "or") then Or else if bytes_eq name (codes "not") then Not
-    else if bytes_eq name (codes "in") then In else if bytes_eq name (codes "is") then Is else if bytes_eq name (codes "null") then Null
+    if bytes_eq name (codes "and") then And else if bytes_eq name (codes "or") then Or
+        else if bytes_eq name (codes "not") then Not
+    else if bytes_eq name (codes "in") then In else if bytes_eq name (codes "is") then Is
+        else if bytes_eq name (codes "null") then Null
     else if bytes_eq name (codes "starts") then Starts else if bytes_eq name (codes "with") then With
     else if bytes_eq name (codes "true") then Truth true else if bytes_eq name (codes "false") then Truth false
     else named (text_in name)
@@ -44,7 +46,8 @@ word_of name =
 -- the number that the digits write after those of n, where it is at most 2 ^ 63
 unfoldable pub magnitude_from : ℕ → List ℕ → Option ℕ
 magnitude_from n [] = Some n
-magnitude_from n (d ∷ ds) = if nat_lt 0x8000_0000_0000_0000 (n * 10 + (d - 48)) then None else magnitude_from (n * 10 + (d - 48)) ds
+magnitude_from n (d ∷ ds) = if nat_lt 0x8000_0000_0000_0000 (n * 10 + (d - 48)) then None
+    else magnitude_from (n * 10 + (d - 48)) ds
 
 -- a number of 64 bits
 abbrev pub number_of : Bool → Option ℕ → Token
@@ -58,13 +61,16 @@ Sized = Token × ℕ
 
 -- n bytes, and then digits
 abbrev pub digits_at : Bool → ℕ → List ℕ → Sized
-digits_at minus n bytes = (number_of minus (magnitude_from 0 (take (run_from is_digit 0 bytes) bytes)), n + run_from is_digit 0 bytes)
+digits_at minus n bytes =
+    (number_of minus (magnitude_from 0 (take (run_from is_digit 0 bytes) bytes)), n + run_from is_digit 0 bytes)
 
 -- what stands before the closing quote, where a quote is written twice, and how many bytes were read with it
 unfoldable pub quoted_from : ℕ → List ℕ → ℕ → List ℕ → Option (List ℕ × ℕ)
 quoted_from q text n [] = None
 quoted_from q text n (b ∷ []) = if b == q then Some (text, n + 1) else None
-quoted_from q text n (b ∷ c ∷ bs) = if b == q then (if c == q then quoted_from q (text ++ q ∷ []) (n + 2) bs else Some (text, n + 1)) else quoted_from q (text ++ b ∷ []) (n + 1) (c ∷ bs)
+quoted_from q text n (b ∷ c ∷ bs) =
+    if b == q then (if c == q then quoted_from q (text ++ q ∷ []) (n + 2) bs else Some (text, n + 1))
+    else quoted_from q (text ++ b ∷ []) (n + 1) (c ∷ bs)
 
 abbrev pub is_hex : ℕ → Bool
 is_hex b = is_digit b || nat_lt 96 b && nat_lt b 103 || nat_lt 64 b && nat_lt b 71
@@ -77,7 +83,9 @@ nibble b = if nat_lt b 58 then b - 48 else if nat_lt b 71 then b - 55 else b - 8
 unfoldable pub hex_from : List ℕ → ℕ → List ℕ → Option (List ℕ × ℕ)
 hex_from found n [] = None
 hex_from found n (b ∷ []) = if b == 39 then Some (found, n + 1) else None
-hex_from found n (b ∷ c ∷ bs) = if b == 39 then Some (found, n + 1) else if is_hex b && is_hex c then hex_from (found ++ (nibble b * 16 + nibble c) ∷ []) (n + 2) bs else None
+hex_from found n (b ∷ c ∷ bs) =
+    if b == 39 then Some (found, n + 1)
+    else if is_hex b && is_hex c then hex_from (found ++ (nibble b * 16 + nibble c) ∷ []) (n + 2) bs else None
 
 -- what was read between quotes, where it is a text
 abbrev pub sized_text : ℕ → Option (List ℕ) → Option (List ℕ × ℕ)
@@ -124,7 +132,8 @@ is_equals b = b == 61
 -- the token of one or two bytes
 unfoldable pub mark_at : ℕ → List ℕ → Sized
 mark_at b bytes =
-    if b == 40 then (Open, 1) else if b == 41 then (Close, 1) else if b == 44 then (Comma, 1) else if b == 46 then (Dot, 1)
+    if b == 40 then (Open, 1) else if b == 41 then (Close, 1) else if b == 44 then (Comma, 1)
+        else if b == 46 then (Dot, 1)
     else if b == 61 then (Sign Equal, 1)
     else if b == 60 then (if second_is is_equals bytes then (Sign AtMost, 2) else (Sign Less, 1))
     else if b == 62 then (if second_is is_equals bytes then (Sign AtLeast, 2) else (Sign Greater, 1))
@@ -148,8 +157,8 @@ front_at b bytes =
     else if b == 34 then as_name (quoted 34 (drop 1 bytes))
     else mark_at b bytes
 
--- The tokens of the bytes, each with its offset, where at is the offset of the first byte and so many bytes belong to the
--- token before. After a token the next one begins at the first byte behind it that is no separator.
+-- The tokens of the bytes, each with its offset, where at is the offset of the first byte and so many bytes belong to
+-- the token before. After a token the next one begins at the first byte behind it that is no separator.
 unfoldable pub tokens_from : ℕ → ℕ → List ℕ → List (ℕ × Token)
 tokens_from at skip [] = []
 tokens_from at (suc n) (b ∷ bs) = tokens_from (at + 1) n bs

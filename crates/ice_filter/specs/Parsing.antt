@@ -71,14 +71,16 @@ chosen at c negated (Some l) = going (partial.Listed c negated (record { first =
 
 unfoldable pub behind_listed : ℕ → Column → Bool → Choices → Token → Read
 behind_listed at c negated ls token.Comma = going (partial.Comma c negated ls)
-behind_listed at c negated ls token.Close = Ok (progress.Done (record { column = c; question = question.Among negated ls }))
+behind_listed at c negated ls token.Close =
+    Ok (progress.Done (record { column = c; question = question.Among negated ls }))
 behind_listed at c negated ls _ = Err (Syntax at)
 
 -- a list of most literals takes no further one
 unfoldable pub chosen_too : ℕ → ℕ → Column → Bool → Choices → Option Literal → Read
 chosen_too most at c negated ls None = Err (Syntax at)
 chosen_too most at c negated ls (Some l) =
-    if nat_lt (length ls.more + 1) most then going (partial.Listed c negated (record ls { more = ls.more ++ l ∷ [] })) else Err TooBig
+    if nat_lt (length ls.more + 1) most then going (partial.Listed c negated (record ls { more = ls.more ++ l ∷ [] }))
+        else Err TooBig
 
 unfoldable pub behind_is : ℕ → Column → Token → Read
 behind_is at c token.Null = Ok (progress.Done (record { column = c; question = question.Missing }))
@@ -114,8 +116,8 @@ leaf_step most at (partial.With c) t = begun at c (literal_of t)
 
 -- ---- a filter
 
--- What is read of a filter, operands before their operator: true or false, a leaf, that parentheses stand round the operand
--- before, `and` of the two before, `or` of the two before.
+-- What is read of a filter, operands before their operator: true or false, a leaf, that parentheses stand round the
+-- operand before, `and` of the two before, `or` of the two before.
 pub data Act : Type 0 where
   truth : Bool → Act
   leaf : Leaf → Act
@@ -145,11 +147,13 @@ joined add p r = if p.either then add (joined_and add p r) either else joined_an
 
 unfoldable pub opened : {R : Type 0} → Limits → State R → Result (State R) FilterFault
 opened m s = if nat_lt (length s.outer) m.groups
-    then Ok (record { place = Wants; now = none; outer = s.now ∷ s.outer; read = s.read; leaves = s.leaves }) else Err TooBig
+    then Ok (record { place = Wants; now = none; outer = s.now ∷ s.outer; read = s.read; leaves = s.leaves })
+        else Err TooBig
 
 unfoldable pub began : {R : Type 0} → Limits → State R → List ℕ → Result (State R) FilterFault
 began m s n = if nat_lt s.leaves m.leaves
-    then Ok (record s { place = Inside (partial.Column (record { first = n; more = [] })); leaves = s.leaves + 1 }) else Err TooBig
+    then Ok (record s { place = Inside (partial.Column (record { first = n; more = [] })); leaves = s.leaves + 1 })
+        else Err TooBig
 
 -- a whole operand
 unfoldable pub held : {R : Type 0} → (R → Act → R) → State R → Act → Result (State R) FilterFault
@@ -168,10 +172,12 @@ closed add at s (p ∷ ps) =
 
 -- an operand of `and`, of `or`
 unfoldable pub anded : {R : Type 0} → (R → Act → R) → State R → Result (State R) FilterFault
-anded add s = Ok (record s { place = Wants; now = record { either = s.now.either; both = true }; read = joined_and add s.now s.read })
+anded add s = Ok (record s {
+    place = Wants; now = record { either = s.now.either; both = true }; read = joined_and add s.now s.read })
 
 unfoldable pub ored : {R : Type 0} → (R → Act → R) → State R → Result (State R) FilterFault
-ored add s = Ok (record s { place = Wants; now = record { either = true; both = false }; read = joined add s.now s.read })
+ored add s = Ok (record s {
+    place = Wants; now = record { either = true; both = false }; read = joined add s.now s.read })
 
 unfoldable pub after_unit : {R : Type 0} → (R → Act → R) → ℕ → State R → Token → Result (State R) FilterFault
 after_unit add at s token.And = anded add s
@@ -184,7 +190,8 @@ moved add s (Ok (progress.Going p)) = Ok (record s { place = Inside p })
 moved add s (Ok (progress.Done l)) = held add s (leaf l)
 moved add s (Err e) = Err e
 
-unfoldable pub step_at : {R : Type 0} → (R → Act → R) → Limits → ℕ → State R → Place → Token → Result (State R) FilterFault
+unfoldable pub step_at : {R : Type 0} → (R → Act → R) → Limits → ℕ → State R → Place → Token →
+    Result (State R) FilterFault
 step_at add m at s Wants t = at_unit add m at s t
 step_at add m at s After t = after_unit add at s t
 step_at add m at s (Inside p) t = moved add (record s { place = Wants }) (leaf_step m.literals at p t)

@@ -40,7 +40,8 @@ partial_tokens (partial.Not c) = column_tokens c ++ token.Not ∷ []
 partial_tokens (partial.In c negated) = column_tokens c ++ in_tokens negated
 partial_tokens (partial.Open c negated) = column_tokens c ++ (in_tokens negated ++ token.Open ∷ [])
 partial_tokens (partial.Listed c negated ls) = column_tokens c ++ (in_tokens negated ++ token.Open ∷ choices_tokens ls)
-partial_tokens (partial.Comma c negated ls) = column_tokens c ++ (in_tokens negated ++ token.Open ∷ (choices_tokens ls ++ token.Comma ∷ []))
+partial_tokens (partial.Comma c negated ls) = column_tokens c ++
+    (in_tokens negated ++ token.Open ∷ (choices_tokens ls ++ token.Comma ∷ []))
 partial_tokens (partial.Is c) = column_tokens c ++ token.Is ∷ []
 partial_tokens (partial.IsNot c) = column_tokens c ++ token.Is ∷ token.Not ∷ []
 partial_tokens (partial.Starts c) = column_tokens c ++ token.Starts ∷ []

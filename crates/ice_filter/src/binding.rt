@@ -237,7 +237,8 @@ fn list_test(
     negated: bool,
     choices: &Choices,
 ) -> Result<Option<Test>, AllocError>
-    ensures { IfOk result (λ test. test ≡ option_map (among negated) (cells_of column_type (choices.now.first ∷ choices.now.more))) }
+    ensures { IfOk result (λ test. test ≡
+        option_map (among negated) (cells_of column_type (choices.now.first ∷ choices.now.more))) }
 {
     match cells_of(alloc, column_type, &choices.first, choices.more.as_slice())? {
         Some(values) => Ok(Some(among(negated, values))),
@@ -365,7 +366,8 @@ fn bind_parts(
 /// takes the literals, or the first leaf for which this is not so is refused.
 pub fn bind(alloc: Global, filter: &Filter, schema: &Schema) -> Result<Bound, FilterFault>
     ensures exact { Gives FilterFault.Memory (λ b. b.parts) result (bound_parts schema.now filter.now) }
-    ensures meaning { IfOk result (λ b. (row : Row) → row_meets b.parts row ≡ meaning (leaf_meets schema.now row) (tree_of filter.now)) }
+    ensures meaning { IfOk result (λ b. (row : Row) → row_meets b.parts row ≡
+        meaning (leaf_meets schema.now row) (tree_of filter.now)) }
 {
     let parts = bind_parts(alloc, filter.parts().as_slice(), schema)?;
     Ok(Bound {

@@ -1,4 +1,5 @@
-//! Filters of rows: their language, and what is kept of a filter once its columns are known, and what it means on a row.
+//! Filters of rows: their language, and what is kept of a filter once its columns are known, and what it means on a
+//! row.
 #![tactic(auto)]
 
 mod binding;

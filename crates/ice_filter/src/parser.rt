@@ -79,7 +79,8 @@ impl Parser {
     /// Ends the operands of `and`.
     #[tactic(auto, unfolding(crate::specs::Parsing::joined_and))]
     fn join_and(&mut self) -> Result<(), AllocError>
-        ensures { IfOk result (λ _. self.new ≡ record self.old { parts = joined_and add_part self.old.now self.old.parts }) }
+        ensures { IfOk result (λ _. self.new ≡
+            record self.old { parts = joined_and add_part self.old.now self.old.parts }) }
     {
         if self.now.both {
             self.parts.push(Part::And)?;
@@ -90,7 +91,8 @@ impl Parser {
     /// Ends the operands of `or`.
     #[tactic(auto, unfolding(crate::specs::Parsing::joined))]
     fn join(&mut self) -> Result<(), AllocError>
-        ensures { IfOk result (λ _. self.new ≡ record self.old { parts = joined add_part self.old.now self.old.parts }) }
+        ensures { IfOk result (λ _. self.new ≡
+            record self.old { parts = joined add_part self.old.now self.old.parts }) }
     {
         self.join_and()?;
         if self.now.either {
@@ -130,7 +132,8 @@ impl Parser {
     /// Takes `true` or `false`.
     #[tactic(auto, unfolding(crate::specs::Parsing::held))]
     fn hold_truth(&mut self, truth: bool) -> Result<(), FilterFault>
-        ensures { Gives FilterFault.Memory (λ _. state_of self.new) result (held add_part (state_of self.old) (parsing.truth truth)) }
+        ensures { Gives FilterFault.Memory (λ _. state_of self.new) result
+            (held add_part (state_of self.old) (parsing.truth truth)) }
     {
         let part = if truth { Part::True } else { Part::False };
         self.parts.push(part)?;
@@ -141,7 +144,8 @@ impl Parser {
     /// Takes a leaf.
     #[tactic(auto, unfolding(crate::specs::Parsing::held))]
     fn hold_leaf(&mut self, leaf: Leaf) -> Result<(), FilterFault>
-        ensures { Gives FilterFault.Memory (λ _. state_of self.new) result (held add_part (state_of self.old) (parsing.leaf leaf)) }
+        ensures { Gives FilterFault.Memory (λ _. state_of self.new) result
+            (held add_part (state_of self.old) (parsing.leaf leaf)) }
     {
         self.parts.push(Part::Leaf(leaf))?;
         self.place = Place::After;
@@ -151,7 +155,8 @@ impl Parser {
     /// What a token makes where an operand comes next.
     #[tactic(auto, unfolding(crate::specs::Parsing::at_unit))]
     fn at_unit(&mut self, alloc: Global, at: usize, token: Token) -> Result<(), FilterFault>
-        ensures { Gives FilterFault.Memory (λ _. state_of self.new) result (at_unit add_part limits at (state_of self.old) token) }
+        ensures { Gives FilterFault.Memory (λ _. state_of self.new) result
+            (at_unit add_part limits at (state_of self.old) token) }
     {
         match token {
             Token::Open => self.open(),
@@ -164,7 +169,8 @@ impl Parser {
     /// What a closing parenthesis makes behind an operand.
     #[tactic(auto, using(crate::proofs::Frames::pushed_first), unfolding(crate::specs::Parsing::closed))]
     fn close(&mut self, at: usize) -> Result<(), FilterFault>
-        ensures { Gives FilterFault.Memory (λ _. state_of self.new) result (closed add_part at (state_of self.old) (reverse self.old.outer.items)) }
+        ensures { Gives FilterFault.Memory (λ _. state_of self.new) result
+            (closed add_part at (state_of self.old) (reverse self.old.outer.items)) }
     {
         match self.outer.pop() {
             None => Err(FilterFault::Syntax(at)),
@@ -205,7 +211,8 @@ impl Parser {
     /// What a token makes behind an operand.
     #[tactic(auto, unfolding(crate::specs::Parsing::after_unit))]
     fn after_unit(&mut self, at: usize, token: Token) -> Result<(), FilterFault>
-        ensures { Gives FilterFault.Memory (λ _. state_of self.new) result (after_unit add_part at (state_of self.old) token) }
+        ensures { Gives FilterFault.Memory (λ _. state_of self.new) result
+            (after_unit add_part at (state_of self.old) token) }
     {
         match token {
             Token::And => self.and(),
@@ -218,7 +225,8 @@ impl Parser {
     /// What was made of a leaf.
     #[tactic(auto, unfolding(crate::specs::Parsing::moved))]
     fn go_on(&mut self, progress: Progress) -> Result<(), FilterFault>
-        ensures { Gives FilterFault.Memory (λ _. state_of self.new) result (moved add_part (state_of self.old) (Ok progress)) }
+        ensures { Gives FilterFault.Memory (λ _. state_of self.new) result
+            (moved add_part (state_of self.old) (Ok progress)) }
     {
         match progress {
             Progress::Going(partial) => {
@@ -232,7 +240,10 @@ impl Parser {
     /// What the token at the offset makes of a leaf that is not whole.
     #[tactic(auto, unfolding(crate::specs::Parsing::moved))]
     fn inside(&mut self, alloc: Global, at: usize, token: Token) -> Result<(), FilterFault>
-        ensures { (p : Partial) → self.old.place ≡ Place.Inside p → Gives FilterFault.Memory (λ _. state_of self.new) result (moved add_part (record (state_of self.old) { place = Place.Wants }) (parsing.leaf_step limits.literals at p token)) }
+        ensures { (p : Partial) → self.old.place ≡ Place.Inside p →
+            Gives FilterFault.Memory (λ _. state_of self.new) result
+            (moved add_part (record (state_of self.old) { place = Place.Wants })
+            (parsing.leaf_step limits.literals at p token)) }
     {
         match std::mem::replace(&mut self.place, Place::Wants) {
             Place::Inside(partial) => match leaf_step(alloc, at, partial, token) {
@@ -246,7 +257,8 @@ impl Parser {
     /// What the token at the offset makes of what was read before it.
     #[tactic(auto, unfolding(crate::specs::Parsing::step, crate::specs::Parsing::step_at))]
     fn step(&mut self, alloc: Global, at: usize, token: Token) -> Result<(), FilterFault>
-        ensures { Gives FilterFault.Memory (λ _. state_of self.new) result (step add_part limits at (state_of self.old) token) }
+        ensures { Gives FilterFault.Memory (λ _. state_of self.new) result
+            (step add_part limits at (state_of self.old) token) }
     {
         match self.place {
             Place::Wants => self.at_unit(alloc, at, token),
@@ -274,7 +286,8 @@ impl Parser {
 
     /// Reads a text.
     fn read(&mut self, alloc: Global, text: &str) -> Result<(), FilterFault>
-        ensures { Gives FilterFault.Memory (λ _. self.new.parts) result (outcome add_part limits (length text.now) (state_of self.old) (tokens_of text.now)) }
+        ensures { Gives FilterFault.Memory (λ _. self.new.parts) result
+            (outcome add_part limits (length text.now) (state_of self.old) (tokens_of text.now)) }
     {
         let bytes = text.as_bytes();
         let mut at = 0;
@@ -299,8 +312,9 @@ impl Parser {
     }
 }
 
-/// The filter of a text. `Syntax` gives the offset, in bytes, of the first token that cannot stand where it stands, or the
-/// text's length where it ends too early; `TooBig` comes with the first leaf, parenthesis or literal over its limit.
+/// The filter of a text. `Syntax` gives the offset, in bytes, of the first token that cannot stand where it stands, or
+/// the text's length where it ends too early; `TooBig` comes with the first leaf, parenthesis or literal over its
+/// limit.
 pub fn parse(alloc: Global, text: &str) -> Result<Filter, FilterFault>
     ensures exact { Gives FilterFault.Memory (λ f. tree_of f) result (filter_of text.now) }
     ensures parts { Gives FilterFault.Memory (λ f. f) result (parsed text.now) }

@@ -12,7 +12,8 @@ ghost use Rattle.ice_filter.specs.Trees.{Tree};
 
 /// A text is one thing: one filter, or one refusal.
 pub fn texts_have_one_reading()
-    ensures { (text : List ℕ) (one other : Result (Tree Leaf) FilterFault) → IsReadAs text one → IsReadAs text other → one ≡ other }
+    ensures { (text : List ℕ) (one other : Result (Tree Leaf) FilterFault) → IsReadAs text one → IsReadAs text other →
+        one ≡ other }
 {}
 
 /// The same tokens say one filter, parentheses and all.

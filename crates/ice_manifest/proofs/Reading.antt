@@ -35,10 +35,10 @@ unfolding joined
 joined_ok {X} {E} [] xs = refl
 joined_ok {X} {E} (y ∷ front) xs = rw (joined_ok {E = E} front xs) refl
 
-joined_end : {X E : Type 0} (front : List X) → joined {E = E} front (Ok []) ≡ Ok front
+pub joined_end : {X E : Type 0} (front : List X) → joined {E = E} front (Ok []) ≡ Ok front
 joined_end {X} {E} front = joined_ok {E = E} front [] ∙ ap Ok (append-nil front)
 
-joined_err : {X E : Type 0} (front : List X) (e : E) → joined front (Err e) ≡ Err e
+pub joined_err : {X E : Type 0} (front : List X) (e : E) → joined front (Err e) ≡ Err e
 unfolding joined
 joined_err {X} {E} [] e = refl
 joined_err {X} {E} (y ∷ front) e = rw (joined_err front e) refl

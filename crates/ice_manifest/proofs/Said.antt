@@ -8,8 +8,7 @@ use Rattle.avro_file.specs.Value.{Value}
 use Rattle.avro_file.specs.Picking.{Typed}
 use Rattle.ice_value.specs.declared.file_bounds.Summary.{Summary}
 use Rattle.ice_value.specs.declared.cell.Cell.{Cell}
-use Rattle.ice_value.specs.declared.file_bounds.ColumnCount.{ColumnCount}
-use Rattle.ice_value.specs.declared.file_bounds.ColumnBound.{ColumnBound}
+use Rattle.ice_value.specs.Columns.{ColumnCount, ColumnBound}
 use Rattle.ice_value.specs.declared.file_bounds.FileBounds.{FileBounds}
 use Rattle.ice_meta.specs.declared.spec.PartitionField.{PartitionField}
 use Rattle.ice_meta.specs.Partitioning.{is_unpartitioned}

@@ -105,7 +105,7 @@ type_end id fs i le = rw (end_of fs i le) refl
 
 -- ---- a field's value stands where the field does
 
-beyond : (n : ℕ) (id : ℤ) (fs : Fields) (m : ℕ) → place_from n id fs ≡ Some m → n ≤ m
+pub beyond : (n : ℕ) (id : ℤ) (fs : Fields) (m : ℕ) → place_from n id fs ≡ Some m → n ≤ m
 unfolding place_from
 beyond n id no_fields m h = absurd cc
 beyond n id (field own t fs) m h =

@@ -15,3 +15,11 @@ pub mod Same
 pub mod Kinds
 pub mod Seen
 pub mod Places
+pub mod Json
+pub mod WrittenTypes
+pub mod WrittenSchemas
+pub mod WrittenValues
+pub mod Adding
+pub mod NewRows
+pub mod Writing
+pub mod Fitting

@@ -1,6 +1,6 @@
 -- The live entries of a manifest, or its first fault. Apache Iceberg table spec v2, "Manifests", "Manifest Entry
 -- Fields" and "Sequence Number Inheritance".
-use Rattle.std.specs.Prelude.{ℕ, ℤ, pos, List, map, Option, Some, None, Result, Ok, Err, unwrap_or, ◌==◌, if◌then◌else◌}
+use Rattle.std.specs.Prelude.{ℕ, ℤ, pos, Bool, List, [], ◌∷◌, ◌++◌, map, filter, Option, Some, None, Result, Ok, Err, unwrap_or, ◌==◌, if◌then◌else◌}
 use Rattle.std.specs.Ordering.{int_eq}
 use Rattle.std.specs.List.{enumerate_from, filter_map}
 use Rattle.contract_words.specs.Outcome.{◌>>=◌}
@@ -161,3 +161,18 @@ unfoldable pub entries_of : Row → Spec → List ℕ → Result (List Entry) Ma
 entries_of row spec bytes = do
   found ← live_of row spec bytes
   Ok (entries found)
+
+-- ---- the entries that are kept
+
+-- those of the live entries that are kept
+abbrev pub entries_kept : (Live → Bool) → List Live → List Entry
+entries_kept keeps found = entries (filter keeps found)
+
+-- what is kept of the live entries; a fault is one also where it is that of an entry that would not be kept
+abbrev pub kept_of : (Live → Bool) → Result (List Live) ManifestFault → Result (List Entry) ManifestFault
+kept_of keeps read = read >>= λ found. Ok (entries_kept keeps found)
+
+-- what is kept once an object was read, behind what was kept before it
+abbrev pub kept_behind :
+    (Live → Bool) → List Entry → Result (Option Live) ManifestFault → Result (List Entry) ManifestFault
+kept_behind keeps front read = read >>= λ live. Ok (front ++ entries_kept keeps (kept (live ∷ [])))

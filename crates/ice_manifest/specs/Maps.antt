@@ -4,8 +4,7 @@
 use Rattle.std.specs.Prelude.{ℕ, ℤ, List, [], Result, Ok}
 use Rattle.contract_words.specs.Outcome.{◌>>=◌}
 use Rattle.avro_file.specs.Picking.{Typed, pick}
-use Rattle.ice_value.specs.declared.file_bounds.ColumnCount.{ColumnCount}
-use Rattle.ice_value.specs.declared.file_bounds.ColumnBound.{ColumnBound}
+use Rattle.ice_value.specs.Columns.{ColumnCount, ColumnBound}
 use Rattle.ice_value.specs.declared.file_bounds.FileBounds.{FileBounds}
 use Rattle.ice_manifest.specs.declared.fault.FieldFault.{FieldFault}
 use Rattle.ice_manifest.specs.declared.columns.ColumnMap.{ColumnMap}

@@ -1,26 +1,26 @@
 //! What a data file says of its columns.
 
-ghost use Rattle.std.specs.Prelude.{◌≡◌, [], ◌∷◌, Some};
+ghost use Rattle.std.specs.Prelude.{◌≡◌, [], ◌∷◌, Some, All};
 ghost use Rattle.contract_words.specs.Outcome.{Gives};
 ghost use Rattle.avro_schema.specs.View.{tree, trees, branches_of as branches_of_trees};
-ghost use Rattle.avro_file.specs.Value.{whole, run, values_of};
-ghost use Rattle.avro_file.specs.View.{view, pair_with, long_pairs, bytes_pairs};
+ghost use Rattle.avro_file.specs.View.{view};
+ghost use Rattle.ice_value.specs.Pairs.{count_said, counts_said, bound_said, bounds_said};
 ghost use Rattle.ice_manifest.specs.Each.{each};
-ghost use Rattle.ice_manifest.specs.Fields.{items_as, items_of as items_value};
+ghost use Rattle.ice_manifest.specs.Fields.{items_of as items_value};
 ghost use Rattle.ice_manifest.specs.Naming.{in_manifest, told};
-ghost use Rattle.ice_manifest.specs.Seen.{fields_seen, object, listed};
+ghost use Rattle.ice_manifest.specs.Seen.{result_map, fields_seen, object, listed};
+ghost use Rattle.ice_manifest.specs.Places.{lies_as_pairs, IsKey};
 ghost use Rattle.ice_manifest.specs.Schemas.{each_branch, pair_fields, is_pair, lists_pairs, map_fits, column_fields as fields_of_columns};
-ghost use Rattle.ice_manifest.specs.Maps.{count_in as count_within, count_of as count_of_item, counts_at as counts_said, bound_in as bound_within, bound_of as bound_of_item, bounds_at as bounds_said, columns_of as columns_said};
+ghost use Rattle.ice_manifest.specs.Maps.{count_in as count_within, count_of as count_of_item, counts_at as counts_said_at, bound_in as bound_within, bound_of as bound_of_item, bounds_at as bounds_said_at, columns_of as columns_said};
 
 use crate::fault::{FieldFault, ManifestFault};
-use crate::field::{int_at, items_of, long_at, optional_binary, pairs_built};
+use crate::field::{int_at, items_of, lent_binary, long_at, pairs_built};
 use crate::kind::Kind;
-use crate::pick::{itself, pick};
+use crate::pick::{itself, pick, position_of};
 use crate::shape::{branches_of, has_items, items_of as types_of_items, optional, required};
 use avro_file::Datum;
 use avro_schema::{Field, Schema};
-use contract_words::Items;
-use ice_value::{ColumnBound, ColumnCount, FileBounds};
+use ice_value::{ColumnBounds, ColumnCounts, FileBounds};
 use std::alloc::Global;
 
 /// A map from column ids, which is written as an array of pairs: its field id, those of a pair's key and of what the pair
@@ -131,21 +131,50 @@ pub fn check_column_fields(fields: &[Field]) -> Result<(), FieldFault>
     check_map(fields, UPPER_BOUNDS)
 }
 
+/// The pairs of this type are lent as they lie: a pair's first field is its key, and its second what is said.
+fn is_lent(schema: &Schema, map: ColumnMap) -> bool
+    ensures { result ≡ lies_as_pairs map (tree schema.now) }
+{
+    match schema {
+        Schema::Record(fields) => {
+            let fields: &[Field] = fields;
+            position_of(fields, map.key) == Some(0) && position_of(fields, map.said) == Some(1)
+        }
+        _ => false,
+    }
+}
+
+/// The key of a pair is a number of 32 bits.
+fn see_key<T>(pair: &(i32, T))
+    ensures { IsKey pair.now }
+{
+    let _key = pair.0;
+}
+
+/// The keys of pairs are numbers of 32 bits. That is for a proof to see, and nothing is done when it runs.
+fn see_keys<T>(pairs: &[(i32, T)])
+    ensures { All IsKey pairs.now }
+{
+    'pairs: for pair in pairs {
+        see_key(pair);
+    }
+}
+
 /// The count that a pair says.
 #[tactic(auto, unfolding(crate::specs::Maps::count_in))]
-fn count_in(fields: &[Field], values: &[Datum], map: ColumnMap) -> Result<ColumnCount, FieldFault>
-    ensures { result ≡ count_within map (object fields.now values.now) }
+fn count_in(fields: &[Field], values: &[Datum], map: ColumnMap) -> Result<(i32, i64), FieldFault>
+    ensures { result_map count_said result ≡ count_within map (object fields.now values.now) }
 {
-    Ok(ColumnCount {
-        column: int_at(fields, values, map.key)?,
-        count: long_at(fields, values, map.said)?,
-    })
+    Ok((
+        int_at(fields, values, map.key)?,
+        long_at(fields, values, map.said)?,
+    ))
 }
 
 /// The count that an item of a map says.
 #[tactic(auto, unfolding(crate::specs::Maps::count_of))]
-fn count_of(schema: &Schema, datum: &Datum, map: ColumnMap) -> Result<ColumnCount, FieldFault>
-    ensures { result ≡ count_of_item map (tree schema.now, view datum.now) }
+fn count_of(schema: &Schema, datum: &Datum, map: ColumnMap) -> Result<(i32, i64), FieldFault>
+    ensures { result_map count_said result ≡ count_of_item map (tree schema.now, view datum.now) }
 {
     match itself(schema, datum) {
         Some((Schema::Record(fields), Datum::Record(values))) => count_in(fields, values, map),
@@ -158,213 +187,145 @@ fn counts_of(
     schema: &Schema,
     items: &[Datum],
     map: ColumnMap,
-) -> Result<Items<ColumnCount>, ManifestFault>
-    ensures { Gives ManifestFault.Memory (λ x. x) result (told in_manifest (each (count_of_item map) (listed (schema.entry, items.entry)))) }
+) -> Result<Vec<(i32, i64)>, ManifestFault>
+    ensures { Gives ManifestFault.Memory (λ counts. counts_said counts.items) result (told in_manifest (each (count_of_item map) (listed (schema.entry, items.entry)))) }
 {
-    let mut counts = Items::with_capacity(alloc, items.len())?;
+    let mut counts = Vec::with_capacity(alloc, items.len())?;
     'items: for item in items {
         counts.push(count_of(schema, item, map)?)?;
     }
     Ok(counts)
 }
 
-/// The count that an item of a map says, where it is a pair.
-#[tactic(auto, unfolding(crate::specs::Maps::count_of))]
-fn count_of_pair(
-    schema: &Schema,
-    pair: &(i32, i64),
-    map: ColumnMap,
-) -> Result<ColumnCount, FieldFault>
-    ensures { result ≡ count_of_item map (tree schema.now, pair_with pair.now.0 (whole pair.now.1)) }
-{
-    match schema {
-        Schema::Record(fields) => count_in(fields, &[Datum::Int(pair.0), Datum::Long(pair.1)], map),
-        _ => Err(FieldFault::Missing(map.key)),
-    }
-}
-
-fn counts_of_pairs(
+/// The counts that a map says, lent where they lie as pairs.
+fn counts_of_map<'a, 'd>(
     alloc: Global,
     schema: &Schema,
-    pairs: &[(i32, i64)],
+    datum: &'a Datum<'d>,
     map: ColumnMap,
-) -> Result<Items<ColumnCount>, ManifestFault>
-    ensures { Gives ManifestFault.Memory (λ x. x) result (told in_manifest (each (count_of_item map) (items_as (tree schema.now) (values_of (long_pairs pairs.now))))) }
-{
-    let mut counts = Items::with_capacity(alloc, pairs.len())?;
-    'pairs: for pair in pairs {
-        counts.push(count_of_pair(schema, pair, map)?)?;
-    }
-    Ok(counts)
-}
-
-/// The counts that a map says. No datum is built for an item of an array of pairs.
-fn counts_of_map(
-    alloc: Global,
-    schema: &Schema,
-    datum: &Datum,
-    map: ColumnMap,
-) -> Result<Items<ColumnCount>, ManifestFault>
+) -> Result<ColumnCounts<'a>, ManifestFault>
     ensures { Gives ManifestFault.Memory (λ x. x) result (told in_manifest (each (count_of_item map) (items_value (Some (tree schema.now, view datum.now))))) }
 {
     match (schema, datum) {
-        (Schema::Array(items, _, _), Datum::LongPairs(pairs)) => counts_of_pairs(
-            alloc, items, pairs, map,
-        ),
+        (Schema::Array(items, _, _), Datum::LongPairs(pairs)) if is_lent(items, map) => {
+            see_keys(pairs);
+            Ok(ColumnCounts::lent(pairs))
+        }
         _ => {
             let built = pairs_built(alloc, datum)?;
             let (schema, items) = items_of(schema, datum, &built);
-            counts_of(alloc, schema, items, map)
+            Ok(ColumnCounts::made(counts_of(alloc, schema, items, map)?))
         }
     }
 }
 
 /// The counts of the map at a field; none where there is no map.
 #[tactic(auto, unfolding(crate::specs::Maps::counts_at, crate::specs::Each::each))]
-fn counts_at(
+fn counts_at<'a, 'd>(
     alloc: Global,
-    fields: &[Field],
-    values: &[Datum],
+    fields: &'a [Field],
+    values: &'a [Datum<'d>],
     map: ColumnMap,
-) -> Result<Items<ColumnCount>, ManifestFault>
-    ensures { Gives ManifestFault.Memory (λ x. x) result (told in_manifest (counts_said map (object fields.now values.now))) }
+) -> Result<ColumnCounts<'a>, ManifestFault>
+    ensures { Gives ManifestFault.Memory (λ x. x) result (told in_manifest (counts_said_at map (object fields.now values.now))) }
 {
     match pick(fields, values, map.id) {
         Some((schema, datum)) => counts_of_map(alloc, schema, datum, map),
-        None => Ok(Items::new(alloc)),
+        None => Ok(ColumnCounts::none(alloc)),
     }
 }
 
 /// The bound that a pair says.
 #[tactic(auto, unfolding(crate::specs::Maps::bound_in))]
-fn bound_in(
-    alloc: Global,
+fn bound_in<'d>(
     fields: &[Field],
-    values: &[Datum],
+    values: &[Datum<'d>],
     map: ColumnMap,
-) -> Result<ColumnBound, ManifestFault>
-    ensures { Gives ManifestFault.Memory (λ x. x) result (told in_manifest (bound_within map (object fields.now values.now))) }
+) -> Result<(i32, &'d [u8]), FieldFault>
+    ensures { result_map bound_said result ≡ bound_within map (object fields.now values.now) }
 {
     let column = int_at(fields, values, map.key)?;
-    match optional_binary(alloc, fields, values, map.said)? {
-        Some(bytes) => Ok(ColumnBound { column, bytes }),
-        None => Err(ManifestFault::MissingField(map.said)),
+    match lent_binary(fields, values, map.said) {
+        Some(bytes) => Ok((column, bytes)),
+        None => Err(FieldFault::Missing(map.said)),
     }
 }
 
 /// The bound that an item of a map says.
 #[tactic(auto, unfolding(crate::specs::Maps::bound_of))]
-fn bound_of(
-    alloc: Global,
+fn bound_of<'d>(
     schema: &Schema,
-    datum: &Datum,
+    datum: &Datum<'d>,
     map: ColumnMap,
-) -> Result<ColumnBound, ManifestFault>
-    ensures { Gives ManifestFault.Memory (λ x. x) result (told in_manifest (bound_of_item map (tree schema.now, view datum.now))) }
+) -> Result<(i32, &'d [u8]), FieldFault>
+    ensures { result_map bound_said result ≡ bound_of_item map (tree schema.now, view datum.now) }
 {
     match itself(schema, datum) {
-        Some((Schema::Record(fields), Datum::Record(values))) => bound_in(
-            alloc, fields, values, map,
-        ),
-        _ => Err(ManifestFault::MissingField(map.key)),
+        Some((Schema::Record(fields), Datum::Record(values))) => bound_in(fields, values, map),
+        _ => Err(FieldFault::Missing(map.key)),
     }
 }
 
-fn bounds_of(
+fn bounds_of<'d>(
     alloc: Global,
     schema: &Schema,
-    items: &[Datum],
+    items: &[Datum<'d>],
     map: ColumnMap,
-) -> Result<Items<ColumnBound>, ManifestFault>
-    ensures { Gives ManifestFault.Memory (λ x. x) result (told in_manifest (each (bound_of_item map) (listed (schema.entry, items.entry)))) }
+) -> Result<Vec<(i32, &'d [u8])>, ManifestFault>
+    ensures { Gives ManifestFault.Memory (λ bounds. bounds_said bounds.items) result (told in_manifest (each (bound_of_item map) (listed (schema.entry, items.entry)))) }
 {
-    let mut bounds = Items::with_capacity(alloc, items.len())?;
+    let mut bounds = Vec::with_capacity(alloc, items.len())?;
     'items: for item in items {
-        bounds.push(bound_of(alloc, schema, item, map)?)?;
+        bounds.push(bound_of(schema, item, map)?)?;
     }
     Ok(bounds)
 }
 
-/// The bound that an item of a map says, where it is a pair.
-#[tactic(auto, unfolding(crate::specs::Maps::bound_of))]
-fn bound_of_pair(
+/// The bounds that a map says, lent where they lie as pairs.
+fn bounds_of_map<'a, 'd>(
     alloc: Global,
     schema: &Schema,
-    pair: &(i32, &[u8]),
+    datum: &'a Datum<'d>,
     map: ColumnMap,
-) -> Result<ColumnBound, ManifestFault>
-    ensures { Gives ManifestFault.Memory (λ x. x) result (told in_manifest (bound_of_item map (tree schema.now, pair_with pair.now.0 (run pair.now.1.now)))) }
-{
-    match schema {
-        Schema::Record(fields) => bound_in(
-            alloc,
-            fields,
-            &[Datum::Int(pair.0), Datum::Bytes(pair.1)],
-            map,
-        ),
-        _ => Err(ManifestFault::MissingField(map.key)),
-    }
-}
-
-fn bounds_of_pairs(
-    alloc: Global,
-    schema: &Schema,
-    pairs: &[(i32, &[u8])],
-    map: ColumnMap,
-) -> Result<Items<ColumnBound>, ManifestFault>
-    ensures { Gives ManifestFault.Memory (λ x. x) result (told in_manifest (each (bound_of_item map) (items_as (tree schema.now) (values_of (bytes_pairs pairs.now))))) }
-{
-    let mut bounds = Items::with_capacity(alloc, pairs.len())?;
-    'pairs: for pair in pairs {
-        bounds.push(bound_of_pair(alloc, schema, pair, map)?)?;
-    }
-    Ok(bounds)
-}
-
-/// The bounds that a map says. No datum is built for an item of an array of pairs.
-fn bounds_of_map(
-    alloc: Global,
-    schema: &Schema,
-    datum: &Datum,
-    map: ColumnMap,
-) -> Result<Items<ColumnBound>, ManifestFault>
+) -> Result<ColumnBounds<'a, 'd>, ManifestFault>
     ensures { Gives ManifestFault.Memory (λ x. x) result (told in_manifest (each (bound_of_item map) (items_value (Some (tree schema.now, view datum.now))))) }
 {
     match (schema, datum) {
-        (Schema::Array(items, _, _), Datum::BytesPairs(pairs)) => bounds_of_pairs(
-            alloc, items, pairs, map,
-        ),
+        (Schema::Array(items, _, _), Datum::BytesPairs(pairs)) if is_lent(items, map) => {
+            see_keys(pairs);
+            Ok(ColumnBounds::lent(pairs))
+        }
         _ => {
             let built = pairs_built(alloc, datum)?;
             let (schema, items) = items_of(schema, datum, &built);
-            bounds_of(alloc, schema, items, map)
+            Ok(ColumnBounds::made(bounds_of(alloc, schema, items, map)?))
         }
     }
 }
 
 /// The bounds of the map at a field; none where there is no map.
 #[tactic(auto, unfolding(crate::specs::Maps::bounds_at, crate::specs::Each::each))]
-fn bounds_at(
+fn bounds_at<'a, 'd>(
     alloc: Global,
-    fields: &[Field],
-    values: &[Datum],
+    fields: &'a [Field],
+    values: &'a [Datum<'d>],
     map: ColumnMap,
-) -> Result<Items<ColumnBound>, ManifestFault>
-    ensures { Gives ManifestFault.Memory (λ x. x) result (told in_manifest (bounds_said map (object fields.now values.now))) }
+) -> Result<ColumnBounds<'a, 'd>, ManifestFault>
+    ensures { Gives ManifestFault.Memory (λ x. x) result (told in_manifest (bounds_said_at map (object fields.now values.now))) }
 {
     match pick(fields, values, map.id) {
         Some((schema, datum)) => bounds_of_map(alloc, schema, datum, map),
-        None => Ok(Items::new(alloc)),
+        None => Ok(ColumnBounds::none(alloc)),
     }
 }
 
 /// The counts and bounds of a data file's columns.
 #[tactic(auto, unfolding(crate::specs::Maps::columns_of))]
-pub fn columns_of(
+pub fn columns_of<'a, 'd>(
     alloc: Global,
-    fields: &[Field],
-    values: &[Datum],
-) -> Result<FileBounds, ManifestFault>
+    fields: &'a [Field],
+    values: &'a [Datum<'d>],
+) -> Result<FileBounds<'a, 'd>, ManifestFault>
     ensures { Gives ManifestFault.Memory (λ x. x) result (told in_manifest (columns_said (object fields.now values.now))) }
 {
     Ok(FileBounds {

@@ -5,6 +5,7 @@ ghost use Rattle.std.specs.Prelude.{◌≡◌, IfOk};
 use contract_words::Items;
 use ice_value::{Cell, FileContent};
 use std::alloc::{AllocError, Global};
+use std::marker::Model;
 
 /// What a live entry says of its file.
 #[derive(Debug, Drop)]
@@ -33,6 +34,68 @@ impl DataFile {
             record_count: self.record_count,
             file_size: self.file_size,
             equality_ids: self.equality_ids.copy(alloc)?,
+        })
+    }
+}
+
+/// A file whose path lies in the manifest still.
+#[derive(Debug, Drop)]
+pub(crate) struct FileView<'a> {
+    pub(crate) content: FileContent,
+    pub(crate) path: &'a str,
+    pub(crate) tuple: Items<Cell>,
+    pub(crate) record_count: i64,
+    pub(crate) file_size: i64,
+    pub(crate) equality_ids: Items<i32>,
+}
+
+impl<'a> Model for FileView<'a> {
+    ghost use Rattle.ice_manifest.specs.declared.data_file.DataFile.{DataFile};
+
+    ghost Value = { DataFile };
+
+    ghost view = { λ f. record {
+      content = f.content;
+      path = f.path.now;
+      tuple = f.tuple;
+      record_count = f.record_count;
+      file_size = f.file_size;
+      equality_ids = f.equality_ids;
+    } };
+}
+
+impl<'a> FileView<'a> {
+    pub(crate) fn content(&self) -> FileContent
+        ensures { result ≡ self.now.content }
+    {
+        self.content
+    }
+
+    pub(crate) fn tuple(&self) -> &[Cell]
+        ensures { result.now ≡ self.now.tuple }
+    {
+        self.tuple.as_slice()
+    }
+
+    /// The file, with a copy of the path.
+    pub(crate) fn owned(self, alloc: Global) -> Result<DataFile, AllocError>
+        ensures { IfOk result (λ file. file ≡ self.entry) }
+    {
+        let FileView {
+            content,
+            path,
+            tuple,
+            record_count,
+            file_size,
+            equality_ids,
+        } = self;
+        Ok(DataFile {
+            content,
+            path: Items::from_vec(path.as_bytes().to_vec(alloc)?),
+            tuple,
+            record_count,
+            file_size,
+            equality_ids,
         })
     }
 }

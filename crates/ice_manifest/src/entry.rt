@@ -2,9 +2,10 @@
 
 ghost use Rattle.std.specs.Prelude.{◌≡◌, IfOk};
 
-use crate::data_file::DataFile;
-use ice_value::{FileBounds, SequenceNumber};
+use crate::data_file::{DataFile, FileView};
+use ice_value::{Cell, FileBounds, FileContent, SequenceNumber};
 use std::alloc::{AllocError, Global};
+use std::marker::Model;
 
 /// A live entry of a manifest: one that exists or was added. Its snapshot and numbers are inherited already.
 #[derive(Debug, Drop)]
@@ -39,9 +40,78 @@ impl Entry {
     }
 }
 
-/// A live entry, and what its manifest says of the columns of its file: enough to tell whether a filter needs the file.
+/// An entry of whose file the path lies in the manifest still.
 #[derive(Debug, Drop)]
-pub struct Live {
-    pub entry: Entry,
-    pub bounds: FileBounds,
+pub struct EntryView<'a> {
+    pub(crate) position: u64,
+    pub(crate) spec_id: i32,
+    pub(crate) unpartitioned: bool,
+    pub(crate) snapshot_id: i64,
+    pub(crate) sequence_number: SequenceNumber,
+    pub(crate) file_sequence_number: Option<SequenceNumber>,
+    pub(crate) file: FileView<'a>,
+}
+
+impl<'a> Model for EntryView<'a> {
+    ghost use Rattle.ice_manifest.specs.declared.entry.Entry.{Entry};
+
+    ghost Value = { Entry };
+
+    ghost view = { λ e. record {
+      position = e.position;
+      spec_id = e.spec_id;
+      unpartitioned = e.unpartitioned;
+      snapshot_id = e.snapshot_id;
+      sequence_number = e.sequence_number;
+      file_sequence_number = e.file_sequence_number;
+      file = e.file;
+    } };
+}
+
+impl<'a> EntryView<'a> {
+    /// What the file holds.
+    pub fn content(&self) -> FileContent
+        ensures { result ≡ self.now.file.content }
+    {
+        self.file.content()
+    }
+
+    /// The partition values of the file, in the order of the spec's fields.
+    pub fn tuple(&self) -> &[Cell]
+        ensures { result.now ≡ self.now.file.tuple }
+    {
+        self.file.tuple()
+    }
+
+    /// The entry, with a copy of the path.
+    pub(crate) fn owned(self, alloc: Global) -> Result<Entry, AllocError>
+        ensures { IfOk result (λ entry. entry ≡ self.entry) }
+    {
+        let EntryView {
+            position,
+            spec_id,
+            unpartitioned,
+            snapshot_id,
+            sequence_number,
+            file_sequence_number,
+            file,
+        } = self;
+        Ok(Entry {
+            position,
+            spec_id,
+            unpartitioned,
+            snapshot_id,
+            sequence_number,
+            file_sequence_number,
+            file: file.owned(alloc)?,
+        })
+    }
+}
+
+/// A live entry and what its manifest says of the columns of its file: enough to tell whether it is kept. It lends what
+/// lies in the manifest.
+#[derive(Debug, Drop)]
+pub struct Live<'a, 'd> {
+    pub entry: EntryView<'d>,
+    pub bounds: FileBounds<'a, 'd>,
 }

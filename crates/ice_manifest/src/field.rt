@@ -1,6 +1,7 @@
 //! What the fields of an object hold.
 
 ghost use Rattle.std.specs.Prelude.{◌≡◌, [], ◌∷◌, option_map, Some, IfOk};
+ghost use Rattle.std.specs.Option.{option_copied};
 ghost use Rattle.contract_words.specs.Outcome.{Gives};
 ghost use Rattle.avro_schema.specs.View.{tree};
 ghost use Rattle.avro_file.specs.Value.{whole, run};
@@ -125,6 +126,16 @@ pub fn truth_at(fields: &[Field], values: &[Datum], id: i32) -> Result<bool, Fie
     }
 }
 
+/// Bytes; none where they are absent or null.
+pub fn lent_binary<'d>(fields: &[Field], values: &[Datum<'d>], id: i32) -> Option<&'d [u8]>
+    ensures { option_copied result ≡ binary_if_there id (object fields.now values.now) }
+{
+    match pick(fields, values, id)? {
+        (_, Datum::Bytes(bytes)) => Some(bytes),
+        _ => None,
+    }
+}
+
 /// A copy of bytes; none where they are absent or null.
 pub fn optional_binary(
     alloc: Global,
@@ -134,9 +145,9 @@ pub fn optional_binary(
 ) -> Result<Option<Items<u8>>, AllocError>
     ensures { IfOk result (λ bytes. bytes ≡ binary_if_there id (object fields.now values.now)) }
 {
-    match pick(fields, values, id) {
-        Some((_, Datum::Bytes(bytes))) => Ok(Some(Items::from_vec(bytes.to_vec(alloc)?))),
-        _ => Ok(None),
+    match lent_binary(fields, values, id) {
+        Some(bytes) => Ok(Some(Items::from_vec(bytes.to_vec(alloc)?))),
+        None => Ok(None),
     }
 }
 

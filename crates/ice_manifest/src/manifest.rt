@@ -8,13 +8,15 @@ ghost use Rattle.avro_file.specs.Ahead.{still_ahead};
 ghost use Rattle.avro_file.specs.Files.{ahead};
 ghost use Rattle.ice_manifest.specs.Naming.{in_manifest, told};
 ghost use Rattle.ice_manifest.specs.Seen.{fields_seen, object};
-ghost use Rattle.ice_manifest.specs.Manifests.{live_of, status_of as status_in, status_at as status_said, content_of as content_in, content_at as content_said, inherited as inherited_in, file_inherited as file_inherited_in, sequence_at as sequence_said, file_sequence_at as file_sequence_said, snapshot_at as snapshot_said, file_of as file_said, live_at as live_said, entry_of as entry_said, entries_ahead, kept};
+ghost use Rattle.ice_manifest.specs.Manifests.{live_of, status_of as status_in, status_at as status_said, content_of as content_in, content_at as content_said, inherited as inherited_in, file_inherited as file_inherited_in, sequence_at as sequence_said, file_sequence_at as file_sequence_said, snapshot_at as snapshot_said, file_of as file_said, live_at as live_said, entry_of as entry_said, entries_ahead, kept_of, kept_behind, entries_kept, entries_of};
+ghost use Rattle.ice_meta.specs.Partitioning.{is_unpartitioned};
 
 use crate::columns::columns_of;
-use crate::data_file::DataFile;
-use crate::entry::{Entry, Live};
+use crate::data_file::FileView;
+use crate::entry::{Entry, EntryView, Live};
 use crate::fault::{FieldFault, ManifestFault};
 use crate::field::{int_at, ints_at, long_at, optional_long, optional_number, path_at};
+use crate::keep::{Everything, Keep};
 use crate::pick::{pick_record, record_values};
 use crate::row::{ManifestContent, Row};
 use crate::shape::{check_entry_fields, fields_of};
@@ -22,7 +24,6 @@ use crate::status::Status;
 use crate::tuple::tuple_at;
 use avro_file::{Container, Datum, Objects, objects_take_bytes};
 use avro_schema::Field;
-use contract_words::Items;
 use ice_meta::{PartitionField, Spec};
 use ice_value::{FileBounds, FileContent, SequenceNumber};
 use std::alloc::{AllocError, Global};
@@ -71,13 +72,13 @@ fn content_at(
 /// The file that a record's fields say, in a manifest of this content whose spec has these partition fields, and what is
 /// said of the file's columns.
 #[tactic(auto, unfolding(crate::specs::Manifests::file_of))]
-fn file_of(
+fn file_of<'a, 'd>(
     alloc: Global,
     of_row: ManifestContent,
     partition: &[PartitionField],
-    fields: &[Field],
-    values: &[Datum],
-) -> Result<(DataFile, FileBounds), ManifestFault>
+    fields: &'a [Field],
+    values: &'a [Datum<'d>],
+) -> Result<(FileView<'d>, FileBounds<'a, 'd>), ManifestFault>
     ensures { Gives ManifestFault.Memory (λ x. x) result (told in_manifest (file_said of_row partition.now (object fields.now values.now))) }
 {
     let content = content_at(of_row, fields, values)?;
@@ -87,9 +88,9 @@ fn file_of(
     let file_size = long_at(fields, values, 104)?;
     let columns = columns_of(alloc, fields, values)?;
     let equality_ids = ints_at(alloc, fields, values, 135, 136)?;
-    let file = DataFile {
+    let file = FileView {
         content,
-        path: Items::from_vec(path.as_bytes().to_vec(alloc)?),
+        path,
         tuple,
         record_count,
         file_size,
@@ -166,135 +167,180 @@ fn snapshot_at(row: &Row, fields: &[Field], values: &[Datum]) -> i64
     optional_long(fields, values, 1).unwrap_or(row.added_snapshot_id)
 }
 
+/// The row of a manifest and its spec, and whether that partitions nothing.
+#[derive(Drop)]
+struct Source<'a> {
+    row: &'a Row,
+    spec: &'a Spec,
+    unpartitioned: bool,
+    ghost known: { unpartitioned ≡ is_unpartitioned spec.now },
+}
+
 /// An entry that exists or was added.
 #[tactic(auto, unfolding(crate::specs::Manifests::live_at))]
-fn live_at(
+fn live_at<'a, 'd>(
     alloc: Global,
-    row: &Row,
-    spec: &Spec,
+    source: &Source<'_>,
     position: u64,
     status: Status,
-    fields: &[Field],
-    values: &[Datum],
-) -> Result<Live, ManifestFault>
-    ensures { Gives ManifestFault.Memory (λ x. x) result (live_said row.now spec.now position status (object fields.now values.now)) }
+    fields: &'a [Field],
+    values: &'a [Datum<'d>],
+) -> Result<Live<'a, 'd>, ManifestFault>
+    ensures { Gives ManifestFault.Memory (λ x. x) result (live_said source.now.row.now source.now.spec.now position status (object fields.now values.now)) }
 {
+    let row = source.row;
     let snapshot_id = snapshot_at(row, fields, values);
     let sequence_number = sequence_at(row, status, fields, values)?;
     let file_sequence_number = file_sequence_at(row, status, fields, values)?;
     let Some((file_fields, file_values)) = pick_record(fields, values, 2) else {
         return Err(ManifestFault::MissingField(2));
     };
-    let (file, bounds) = file_of(
-        alloc,
-        row.content,
-        spec.fields.as_slice(),
-        file_fields,
-        file_values,
-    )?;
-    Ok(Live {
-        entry: Entry {
-            position,
-            spec_id: row.spec_id,
-            unpartitioned: spec.is_unpartitioned(),
-            snapshot_id,
-            sequence_number,
-            file_sequence_number,
-            file,
-        },
-        bounds,
-    })
+    let partition = source.spec.fields.as_slice();
+    let (file, bounds) = file_of(alloc, row.content, partition, file_fields, file_values)?;
+    let entry = EntryView {
+        position,
+        spec_id: row.spec_id,
+        unpartitioned: source.unpartitioned,
+        snapshot_id,
+        sequence_number,
+        file_sequence_number,
+        file,
+    };
+    Ok(Live { entry, bounds })
 }
 
 /// The entry that a record's fields say. Of a deleted one nothing but the status is looked at.
 #[tactic(auto, unfolding(crate::specs::Manifests::entry_of))]
-fn entry_at(
+fn entry_at<'a, 'd>(
     alloc: Global,
-    row: &Row,
-    spec: &Spec,
+    source: &Source<'_>,
     position: u64,
-    fields: &[Field],
-    values: &[Datum],
-) -> Result<Option<Live>, ManifestFault>
-    ensures { Gives ManifestFault.Memory (λ x. x) result (entry_said row.now spec.now position (object fields.now values.now)) }
+    fields: &'a [Field],
+    values: &'a [Datum<'d>],
+) -> Result<Option<Live<'a, 'd>>, ManifestFault>
+    ensures { Gives ManifestFault.Memory (λ x. x) result (entry_said source.now.row.now source.now.spec.now position (object fields.now values.now)) }
 {
     let status = status_at(fields, values)?;
     if status == Status::Deleted {
         return Ok(None);
     }
-    Ok(Some(live_at(alloc, row, spec, position, status, fields, values)?))
+    Ok(Some(live_at(alloc, source, position, status, fields, values)?))
 }
 
 /// The entry that an object of these fields says.
-fn entry_of(
+fn entry_of<'a, 'd>(
     alloc: Global,
-    row: &Row,
-    spec: &Spec,
+    source: &Source<'_>,
     position: u64,
-    fields: &[Field],
-    datum: &Datum,
-) -> Result<Option<Live>, ManifestFault>
-    ensures { Gives ManifestFault.Memory (λ x. x) result (entry_said row.now spec.now position (structure (fields_seen fields.now), view datum.now)) }
+    fields: &'a [Field],
+    datum: &'a Datum<'d>,
+) -> Result<Option<Live<'a, 'd>>, ManifestFault>
+    ensures { Gives ManifestFault.Memory (λ x. x) result (entry_said source.now.row.now source.now.spec.now position (structure (fields_seen fields.now), view datum.now)) }
 {
     match record_values(datum) {
-        Some(values) => entry_at(alloc, row, spec, position, fields, values),
+        Some(values) => entry_at(alloc, source, position, fields, values),
         None => Err(ManifestFault::MissingField(0)),
     }
 }
 
-/// Puts an entry last, if there is one.
-fn push_live(found: &mut Vec<Live>, live: Option<Live>) -> Result<(), AllocError>
-    ensures { OnOk result (found.new.items ≡ found.old.items ++ kept (live ∷ [])) }
+/// Puts a live entry last, if it is kept.
+fn push_kept<K: Keep>(
+    alloc: Global,
+    keep: &K,
+    found: &mut Vec<Entry>,
+    live: Live<'_, '_>,
+) -> Result<(), AllocError>
+    ensures { OnOk result (found.new.items ≡ found.old.items ++ entries_kept (K.kept keep.now) (live.entry ∷ [])) }
 {
-    if let Some(live) = live {
-        found.push(live)?;
+    if keep.keeps(&live) {
+        found.push(live.entry.owned(alloc)?)?;
     }
     Ok(())
 }
 
-/// The live entries of all objects that are to come, which are few enough to be numbered.
-fn all_entries(
+/// Puts the entry that an object of these fields says last, if it is live and kept.
+fn read_object<K: Keep>(
     alloc: Global,
-    row: &Row,
-    spec: &Spec,
+    source: &Source<'_>,
+    keep: &K,
+    found: &mut Vec<Entry>,
+    position: u64,
+    fields: &[Field],
+    datum: &Datum<'_>,
+) -> Result<(), ManifestFault>
+    ensures { Gives ManifestFault.Memory (λ _. found.new.items) result (kept_behind (K.kept keep.now) found.old.items (entry_said source.now.row.now source.now.spec.now position (structure (fields_seen fields.now), view datum.now))) }
+{
+    if let Some(live) = entry_of(alloc, source, position, fields, datum)? {
+        push_kept(alloc, keep, found, live)?;
+    }
+    Ok(())
+}
+
+/// The kept entries of all objects that are to come, which are few enough to be numbered.
+fn all_entries<K: Keep>(
+    alloc: Global,
+    source: &Source<'_>,
+    keep: &K,
     fields: &[Field],
     mut reader: Objects<'_>,
-) -> Result<Vec<Live>, ManifestFault>
+) -> Result<Vec<Entry>, ManifestFault>
     requires { still_ahead (ahead reader) < 2 ^ 64 }
-    ensures { Gives ManifestFault.Memory (λ found. found.items) result (entries_ahead row.now spec.now (fields_seen fields.now) 0 (ahead reader.entry)) }
+    ensures { Gives ManifestFault.Memory (λ found. found.items) result (kept_of (K.kept keep.now) (entries_ahead source.now.row.now source.now.spec.now (fields_seen fields.now) 0 (ahead reader.entry))) }
 {
     let mut found = Vec::new(alloc);
     let mut position: u64 = 0;
     'objects: while let Some(object) = reader.next()? {
         let datum = object.datum(alloc)?;
-        let live = entry_of(alloc, row, spec, position, fields, &datum)?;
+        read_object(alloc, source, keep, &mut found, position, fields, &datum)?;
         drop(datum);
-        push_live(&mut found, live)?;
         position += 1;
     }
+    found.shrink_to_fit();
     Ok(found)
 }
 
-/// The live entries of a row's manifest, in the order of their positions, with their numbers inherited.
+/// Those live entries of a row's manifest that are kept, in the order of their positions, with their numbers inherited.
+/// Nothing is copied of an entry that is not kept.
 ///
 /// The fault is the first of these: the file's as it is opened; that of the first field that the schema lacks or has
-/// with another type; entry by entry the file's, or that of the entry's first field at fault. Of a deleted entry
-/// nothing but the status is looked at.
+/// with another type; entry by entry, also of entries that are not kept, the file's, or that of the entry's first field
+/// at fault. Of a deleted entry nothing but the status is looked at.
 #[tactic(auto, unfolding(crate::specs::Manifests::live_of))]
+pub fn read_kept<K: Keep>(
+    alloc: Global,
+    row: &Row,
+    spec: &Spec,
+    keep: &K,
+    bytes: &[u8],
+) -> Result<Vec<Entry>, ManifestFault>
+    // The spec is that of the row's id.
+    requires { spec.now.id ≡ row.now.spec_id }
+    ensures { Gives ManifestFault.Memory (λ found. found.items) result (kept_of (K.kept keep.now) (live_of row.now spec.now bytes.now)) }
+{
+    let container = Container::open(alloc, bytes)?;
+    let fields = fields_of(container.schema());
+    check_entry_fields(spec, fields)?;
+    let source = Source {
+        row,
+        spec,
+        unpartitioned: spec.is_unpartitioned(),
+    };
+    // An entry takes a byte at least, so there are no more of them than bytes.
+    objects_take_bytes();
+    all_entries(alloc, &source, keep, fields, container.objects())
+}
+
+/// All live entries of a row's manifest, in the order of their positions, with their numbers inherited. The fault is
+/// that of `read_kept`.
 pub fn read_manifest(
     alloc: Global,
     row: &Row,
     spec: &Spec,
     bytes: &[u8],
-) -> Result<Vec<Live>, ManifestFault>
+) -> Result<Vec<Entry>, ManifestFault>
     // The spec is that of the row's id.
     requires { spec.now.id ≡ row.now.spec_id }
-    ensures { Gives ManifestFault.Memory (λ found. found.items) result (live_of row.now spec.now bytes.now) }
+    ensures { Gives ManifestFault.Memory (λ found. found.items) result (entries_of row.now spec.now bytes.now) }
 {
-    let container = Container::open(alloc, bytes)?;
-    let fields = fields_of(container.schema());
-    check_entry_fields(spec, fields)?;
-    // An entry takes a byte at least, so there are no more of them than bytes.
-    objects_take_bytes();
-    all_entries(alloc, row, spec, fields, container.objects())
+    read_kept(alloc, row, spec, &Everything, bytes)
 }

@@ -13,7 +13,7 @@ use avro_file::Datum;
 use avro_schema::{Field, Schema};
 
 /// The position of the field with this id.
-fn position_of(fields: &[Field], id: i32) -> Option<usize>
+pub fn position_of(fields: &[Field], id: i32) -> Option<usize>
     ensures place { result ≡ place_of id (fields_seen fields.now) }
     ensures within { IfSome result (λ position. position < length fields.now) }
 {

@@ -1,8 +1,8 @@
 //! Files that were written by hand from the specification, field by field.
 
 use crate::{
-    Counts, DataFile, Entry, ListFault, Live, ManifestContent, ManifestFault, Row, read_list,
-    read_manifest,
+    Counts, DataFile, Entry, Keep, ListFault, Live, ManifestContent, ManifestFault, Row, read_kept,
+    read_list, read_manifest,
 };
 use contract_words::{Items, Text};
 use ice_meta::{PartitionField, Spec};

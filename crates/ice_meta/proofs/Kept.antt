@@ -1,13 +1,16 @@
 -- What holds of every schema and every spec that was read.
-use Rattle.std.proofs.Common.{◌≡◌, List, [], ◌∷◌, ◌++◌, map, Option, None, Some, Ok, Err, refl, ap}
-use Rattle.std.specs.Prelude.{ℤ, Result}
+use Rattle.std.proofs.Common.{◌≡◌, ◌≤◌, ◌+◌, suc, Bool, true, false, cond, length, arith, length-append, ◌∙◌, List, [], ◌∷◌, ◌++◌, map, Option, None, Some, Ok, Err, refl, sym, ap}
+use Rattle.std.specs.Prelude.{ℤ, Result, nat_lt}
 use Rattle.std.specs.List.{All, IsDistinct}
 use Rattle.std.specs.Ordering.{int_eq}
+use Rattle.std.proofs.lemmas.Bool.{ltb-false}
 use Rattle.std.proofs.lemmas.List.Elements.{All-nil, All-cons, All-append}
 use Rattle.contract_words.specs.Outcome.{◌>>=◌}
 use Rattle.serde_json.specs.Data as json
 use Rattle.serde_json.specs.Data.{Data, Items}
+use Rattle.serde_json.specs.Events.{items_len}
 use Rattle.ice_meta.specs.declared.fault.MetaFault.{MetaFault}
+use Rattle.ice_meta.specs.declared.fault.MetaFault.TheVariants.{TooBig}
 use Rattle.ice_meta.specs.declared.schema.Schema.{Schema}
 use Rattle.ice_meta.specs.declared.spec.Spec.{Spec}
 use Rattle.ice_meta.specs.Reading.{each, each_into, one_more, again, or_twice, once}
@@ -115,3 +118,49 @@ table_columns d t e = all_columns_differ d t.schemas (table_parts d t e).0
 
 pub table_fields : (d : Data) (t : Table) → table_of d ≡ Ok t → All HasDifferentFields t.specs
 table_fields d t e = all_fields_differ d t.specs (table_parts d t e).1
+
+-- ---- how many fields a spec has
+
+each_len : {A : Type 0} (read : Data → Result A MetaFault) (items : Items) (front xs : List A) → each_into (one_more read) items front ≡ Ok xs → length xs ≡ length front + items_len items
+each_len read json.no_items front xs e = let same : front ≡ xs = cc in rw same (omega arith)
+each_len {A = A} read (json.item d ds) front xs e = here (read d) e (λ x. each_len read ds (front ++ x ∷ []) xs)
+  where
+    here : (r : Result A MetaFault) → ((r >>= λ x. Ok (front ++ x ∷ [])) >>= each_into (one_more read) ds) ≡ Ok xs
+        → ((x : A) → each_into (one_more read) ds (front ++ x ∷ []) ≡ Ok xs → length xs ≡ length (front ++ x ∷ []) + items_len ds) → length xs ≡ length front + suc (items_len ds)
+    here (Ok x) now rest = let n = rest x now in let m = length-append front (x ∷ []) in omega arith
+    here (Err fault) now rest = absurd cc
+
+few_of : (items x : Items) → if_few items ≡ Ok x → (items ≡ x) × (items_len items ≤ 64)
+few_of items x e = here (nat_lt 64 (items_len items)) refl e
+  where
+    here : (b : Bool) → nat_lt 64 (items_len items) ≡ b → cond b (Err TooBig) (Ok items) ≡ Ok x → (items ≡ x) × (items_len items ≤ 64)
+    here true was now = absurd cc
+    here false was now = (cc, ltb-false 64 (items_len items) was)
+
+few_fields : (d : Data) (s : Spec) → spec_of d ≡ Ok s → length s.fields ≤ 64
+unfolding spec_of
+few_fields d s e =
+    let id = parts (int_in member.SpecId d) _ s e in
+    let items = parts (objects_in member.Fields d) _ s id.1.1 in
+    let few = parts (if_few items.0) _ s items.1.1 in
+    let fields = parts (each partition_field_of few.0) _ s few.1.1 in
+    let different = last (once field_id fields.0) _ s fields.1.1 in
+    let same : different.0 ≡ s.fields = ap (λ (x : Spec). x.fields) different.1.1 in
+    let kept = (once_is field_id fields.0 different.0 different.1.0).0 in
+    let n = each_len partition_field_of few.0 [] fields.0 fields.1.0 in
+    let m = few_of items.0 few.0 few.1.0 in
+    let k : length s.fields ≡ length fields.0 = ap length (sym (kept ∙ same)) in
+    let j : items_len few.0 ≡ items_len items.0 = ap items_len (sym m.0) in
+    let le = m.1 in
+    omega arith
+
+all_few : (d : Data) (ss : List Spec) → specs_in d ≡ Ok ss → All (λ (s : Spec). length s.fields ≤ 64) ss
+unfolding specs_in
+all_few d ss e =
+    let items = parts (objects_in member.PartitionSpecs d) _ ss e in
+    let specs = parts (each spec_of items.0) _ ss items.1.1 in
+    rw (once_is spec_id specs.0 ss specs.1.1).0 at
+    (each_all (λ (s : Spec). length s.fields ≤ 64) spec_of few_fields items.0 [] specs.0 (All-nil _) specs.1.0)
+
+pub table_few : (d : Data) (t : Table) → table_of d ≡ Ok t → All (λ (s : Spec). length s.fields ≤ 64) t.specs
+table_few d t e = all_few d t.specs (table_parts d t e).1

@@ -9,3 +9,4 @@ pub mod Nesting
 pub mod Following
 pub mod Longs
 pub mod Tabled
+pub mod SchemaText

@@ -10,3 +10,4 @@ pub mod Order
 pub mod Different
 pub mod Committing
 pub mod Laws
+pub mod SchemaTexts

@@ -67,6 +67,10 @@ bound_field schema field = record {
 abbrev pub bound_spec : Schema → Spec → Spec
 bound_spec schema spec = record { id = spec.id; fields = map (bound_field schema) spec.fields }
 
+-- all partition specs, so
+abbrev pub bound_specs : Schema → Table → List Spec
+bound_specs schema t = map (bound_spec schema) t.specs
+
 -- ---- targets
 
 -- `main` always is the current snapshot
@@ -94,6 +98,13 @@ checked_id id t = do
 
 unfoldable pub resolved : Target → Table → Result ℤ MetaFault
 resolved target t = target_id target t >>= λ id. checked_id id t
+
+-- the path of the manifest list of that snapshot
+unfoldable pub list_of : Target → Table → Result (List ℕ) MetaFault
+list_of target t = do
+  id ← target_id target t
+  snapshot ← asked NoSuchSnapshot (snapshot_with id t)
+  asked (Missing member.ManifestList) snapshot.manifest_list
 
 -- a tag stays with its snapshot, a branch moves on
 abbrev pub if_tag : Ref → Option ℤ

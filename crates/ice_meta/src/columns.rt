@@ -17,7 +17,7 @@ use serde_json::Value;
 use std::alloc::Global;
 
 /// How many levels a type may have: JSON nests no deeper.
-const MOST_LEVELS: u32 = 127;
+pub const MOST_LEVELS: u32 = 127;
 
 impl Numbered for Column {
     ghost use Rattle.ice_meta.specs.Schemas.{column_id};

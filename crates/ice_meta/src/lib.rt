@@ -10,6 +10,7 @@ mod metadata;
 mod next;
 mod numbered;
 mod schema;
+mod schema_text;
 mod snapshot;
 mod spec;
 mod table;

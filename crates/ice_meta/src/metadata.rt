@@ -13,12 +13,14 @@ ghost use Rattle.ice_meta.specs.Committing.{CanFollow, committed, next_metadata}
 ghost use Rattle.ice_meta.specs.Tables.{HasCurrentSchema, HasDefaultSpec, HasDifferentSchemas, HasDifferentSpecs, HasDifferentSnapshots, text_json, json_of, table_of};
 ghost use Rattle.ice_meta.specs.Different.{HasDifferentColumns, HasDifferentFields};
 ghost use Rattle.ice_meta.specs.Order.{IsFirst, metadata_fault};
-ghost use Rattle.ice_meta.specs.Targets.{described, metadata_of, schema_with, spec_with, snapshot_with, ref_with, bound_field, bound_spec, is_main, current_id, named_id, target_id, resolved, if_tag, pinned_id, own_schema, pinned_schema, schema_for};
+ghost use Rattle.ice_meta.specs.SchemaTexts.{schema_in, schema_text};
+ghost use Rattle.ice_meta.specs.Targets.{described, metadata_of, schema_with, spec_with, snapshot_with, ref_with, bound_field, bound_spec, bound_specs, is_main, current_id, named_id, target_id, resolved, list_of, if_tag, pinned_id, own_schema, pinned_schema, schema_for};
 
 use crate::commit::NewSnapshot;
 use crate::fault::{Member, MetaFault};
 use crate::next::next_json;
 use crate::schema::Schema;
+use crate::schema_text::text_of_schema;
 use crate::snapshot::{Ref, RefKind, Snapshot};
 use crate::spec::{PartitionField, Spec};
 use crate::table::Table;
@@ -124,6 +126,19 @@ impl Metadata {
         Ok(Self { json, table })
     }
 
+    /// The same metadata.
+    pub fn copy(&self, alloc: Global) -> Result<Metadata, AllocError>
+        ensures { IfOk result (λ copied. described copied.json copied.table ≡ described self.now.json self.now.table) }
+    {
+        let json = self.json.clone()?;
+        match table_of(alloc, &json) {
+            Ok(table) => Ok(Self { json, table }),
+            Err(MetaFault::Memory) => Err(AllocError),
+            // What says a table once says it again.
+            Err(_) => unreachable!(),
+        }
+    }
+
     /// The whole JSON object, with the members that aren't read.
     pub fn json(&self) -> &Value
         ensures { result.now ≡ self.now.json }
@@ -149,6 +164,15 @@ impl Metadata {
             .find(|schema| schema.id == id)
     }
 
+    /// The JSON text of the current schema, with the members that are read alone: without white space and with the
+    /// members of each object in the order of their names' bytes.
+    pub fn current_schema_text(&self, alloc: Global) -> Result<Text, AllocError>
+        ensures { IfOk result (λ text. text ≡
+            schema_text (schema_in self.now.table.current_schema_id (view self.now.json))) }
+    {
+        text_of_schema(alloc, &self.json, self.table.current_schema_id)
+    }
+
     /// The spec of this id as it is written, without source types.
     fn written_spec(&self, id: i32) -> Option<&Spec>
         ensures { option_copied result ≡ spec_with id self.now.table }
@@ -165,12 +189,16 @@ impl Metadata {
         ensures { IfOk result (λ spec. spec ≡ option_map (bound_spec schema.now) (spec_with id self.now.table)) }
     {
         match self.written_spec(id) {
-            Some(spec) => Ok(Some(Spec {
-                id: spec.id,
-                fields: bound_fields(alloc, spec.fields.as_slice(), schema)?,
-            })),
+            Some(spec) => Ok(Some(bound_spec(alloc, spec, schema)?)),
             None => Ok(None),
         }
+    }
+
+    /// All partition specs in the order of the file, with the types that their source columns have in the schema.
+    pub fn specs(&self, alloc: Global, schema: &Schema) -> Result<Items<Spec>, AllocError>
+        ensures { IfOk result (λ specs. specs ≡ bound_specs schema.now self.now.table) }
+    {
+        bound_specs(alloc, self.table.specs.as_slice(), schema)
     }
 
     /// The snapshot of this id.
@@ -235,6 +263,21 @@ impl Metadata {
                 None => Err(MetaFault::Missing(Member::ManifestList)),
             },
             None => Err(MetaFault::NoSuchSnapshot),
+        }
+    }
+
+    /// The path of the manifest list of the snapshot that is asked for.
+    #[tactic(auto, unfolding(crate::specs::Targets::list_of))]
+    pub fn manifest_list(&self, target: &Target) -> Result<&Text, MetaFault>
+        ensures { Gives MetaFault.Memory (λ list. list.now) result (list_of target.now self.now.table) }
+    {
+        let id = self.target_id(target)?;
+        let Some(snapshot) = self.snapshot(id) else {
+            return Err(MetaFault::NoSuchSnapshot);
+        };
+        match &snapshot.manifest_list {
+            Some(list) => Ok(list),
+            None => Err(MetaFault::Missing(Member::ManifestList)),
         }
     }
 
@@ -328,6 +371,27 @@ fn bound_fields(
     let mut bound = Items::new(alloc);
     'fields: for field in fields {
         bound.push(bound_field(alloc, field, schema)?)?;
+    }
+    Ok(bound)
+}
+
+/// The spec, with the types that its source columns have in the schema.
+fn bound_spec(alloc: Global, spec: &Spec, schema: &Schema) -> Result<Spec, AllocError>
+    ensures { IfOk result (λ bound. bound ≡ bound_spec schema.now spec.now) }
+{
+    Ok(Spec {
+        id: spec.id,
+        fields: bound_fields(alloc, spec.fields.as_slice(), schema)?,
+    })
+}
+
+/// The specs, with the types that their source columns have in the schema.
+fn bound_specs(alloc: Global, specs: &[Spec], schema: &Schema) -> Result<Items<Spec>, AllocError>
+    ensures { IfOk result (λ bound. bound ≡ map (bound_spec schema.now) specs.now) }
+{
+    let mut bound = Items::new(alloc);
+    'specs: for spec in specs {
+        bound.push(bound_spec(alloc, spec, schema)?)?;
     }
     Ok(bound)
 }

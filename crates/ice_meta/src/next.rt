@@ -36,7 +36,7 @@ fn inside(json: &Value, name: &str) -> Result<Value, AllocError>
 }
 
 /// The object in which a member has this value; what was no object has this member alone.
-fn set(alloc: Global, json: Value, name: &str, value: Value) -> Result<Value, AllocError>
+pub fn set(alloc: Global, json: Value, name: &str, value: Value) -> Result<Value, AllocError>
     ensures { IfOk result (λ object. view object ≡ set name.now (view value) (view json)) }
 {
     let mut members = match json {

@@ -13,7 +13,7 @@ use ice_filter::{Bound, BoundLeaf, LeafTest, Test};
 use ice_value::FileBounds;
 
 /// Whether all values of the column are null.
-fn is_all_null(bounds: &FileBounds, column: i32) -> bool
+fn is_all_null(bounds: &FileBounds<'_, '_>, column: i32) -> bool
     ensures { result ≡ is_all_null bounds.now column }
 {
     match (bounds.value_count(column), bounds.null_count(column)) {
@@ -23,7 +23,7 @@ fn is_all_null(bounds: &FileBounds, column: i32) -> bool
 }
 
 /// Whether the bounds of the leaf's column allow a value that meets it.
-fn is_within(bounds: &FileBounds, leaf: &BoundLeaf) -> bool
+fn is_within(bounds: &FileBounds<'_, '_>, leaf: &BoundLeaf) -> bool
     ensures { result ≡ in_bounds leaf.now.test (lower_limit bounds.now leaf.now.column_type leaf.now.column)
         (upper_limit bounds.now leaf.now.column_type leaf.now.column) }
 {
@@ -36,7 +36,7 @@ fn is_within(bounds: &FileBounds, leaf: &BoundLeaf) -> bool
 }
 
 /// Whether the file may have a null in the column.
-fn may_have_null(bounds: &FileBounds, column: i32) -> bool
+fn may_have_null(bounds: &FileBounds<'_, '_>, column: i32) -> bool
     ensures { result ≡ not (is_zero (count_of column bounds.now.null_counts)) }
 {
     match bounds.null_count(column) {
@@ -48,7 +48,7 @@ fn may_have_null(bounds: &FileBounds, column: i32) -> bool
 /// The test of a file.
 #[derive(Drop)]
 struct OfFile<'a> {
-    bounds: &'a FileBounds,
+    bounds: &'a FileBounds<'a, 'a>,
 }
 
 impl<'a> LeafTest<BoundLeaf> for OfFile<'a> {
@@ -66,7 +66,7 @@ impl<'a> LeafTest<BoundLeaf> for OfFile<'a> {
 }
 
 /// Whether a file with these counts and bounds may have a row that meets the filter. It takes no memory.
-pub fn bounds_may(filter: &Bound, bounds: &FileBounds) -> bool
+pub fn bounds_may(filter: &Bound, bounds: &FileBounds<'_, '_>) -> bool
     ensures test { result ≡ file_may filter.now.parts bounds.now }
 
     // Where the answer is no, and the counts and bounds are those of the rows, no row meets the filter.

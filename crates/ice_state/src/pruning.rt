@@ -9,7 +9,7 @@ ghost use Rattle.ice_state.specs.Pruning.{pruner_of, keeps, summaries_allow};
 ghost use Rattle.ice_state.specs.Specs.{spec_of, by_id};
 
 use ice_filter::Bound;
-use ice_manifest::{Live, Row};
+use ice_manifest::{Keep, Live, Row};
 use ice_meta::Spec;
 use ice_project::{PartFilter, bounds_may, project, summary_may};
 use ice_value::FileContent;
@@ -53,14 +53,14 @@ impl<'a> SpecFilter<'a> {
             None => true,
         }
     }
+}
 
-    /// Whether a live entry of the spec is kept.
-    pub(crate) fn keeps(&self, live: &Live) -> bool
-        ensures { result ≡ keeps (pruner_by self.now) live.now }
-    {
-        self.part.meets(live.entry.file.tuple.as_slice())
-            && (live.entry.file.content != FileContent::Data
-                || bounds_may(self.filter, &live.bounds))
+impl<'a> Keep for SpecFilter<'a> {
+    ghost kept = { λ f. keeps (pruner_by f) };
+
+    fn keeps(&self, live: &Live<'_, '_>) -> bool {
+        self.part.meets(live.entry.tuple())
+            && (live.entry.content() != FileContent::Data || bounds_may(self.filter, &live.bounds))
     }
 }
 

@@ -1,12 +1,11 @@
 //! What a manifest gave.
 
 ghost use Rattle.std.specs.Prelude.{◌≡◌, IfOk};
-ghost use Rattle.ice_state.specs.Parts.{reading_by, pruner_by};
-ghost use Rattle.ice_state.specs.Pruning.{kept};
+ghost use Rattle.ice_state.specs.Parts.{reading_by};
 
 use crate::pruning::SpecFilter;
 use contract_words::Items;
-use ice_manifest::{Entry, Live, ManifestFault, Row, read_manifest};
+use ice_manifest::{Entry, ManifestFault, Row, read_kept};
 use std::alloc::{AllocError, Global};
 
 /// What a manifest gave: its kept entries in the order of their positions, or why it can't be read.
@@ -48,26 +47,9 @@ pub fn read(
     requires { filter.now.spec.id ≡ row.now.spec_id }
     ensures { IfOk result (λ reading. reading ≡ reading_by filter.now row.now bytes.now) }
 {
-    match read_manifest(alloc, row, filter.spec(), bytes) {
-        Ok(live) => Ok(Reading::Good(kept_entries(alloc, filter, live)?)),
+    match read_kept(alloc, row, filter.spec(), filter, bytes) {
+        Ok(entries) => Ok(Reading::Good(Items::from_vec(entries))),
         Err(ManifestFault::Memory) => Err(AllocError),
         Err(fault) => Ok(Reading::Bad(fault)),
     }
-}
-
-/// Those of the live entries that are kept, without their bounds.
-fn kept_entries(
-    alloc: Global,
-    filter: &SpecFilter<'_>,
-    live: Vec<Live>,
-) -> Result<Items<Entry>, AllocError>
-    ensures { IfOk result (λ entries. entries ≡ kept (pruner_by filter.now) live.items) }
-{
-    let mut entries = Vec::with_capacity(alloc, live.len())?;
-    'live: for found in live {
-        if filter.keeps(&found) {
-            entries.push(found.entry)?;
-        }
-    }
-    Ok(Items::from_vec(entries))
 }

@@ -11,7 +11,8 @@ use Rattle.ice_transform.specs.declared.transform.Transform.TheVariants.{Identit
 
 -- the number after one more digit, where it stays below 2 ^ 32
 abbrev pub with_digit : ℕ → ℕ → Option ℕ
-with_digit n b = if nat_lt 47 b && nat_lt b 58 && nat_lt (n * 10 + (b - 48)) 0x1_0000_0000 then Some (n * 10 + (b - 48)) else None
+with_digit n b = if nat_lt 47 b && nat_lt b 58 && nat_lt (n * 10 + (b - 48)) 0x1_0000_0000 then Some (n * 10 + (b - 48))
+    else None
 
 -- the number that the digits write after those of n, where a closing bracket follows them and ends the text
 abbrev pub number_after : ℕ → List ℕ → Option ℕ
@@ -26,18 +27,21 @@ parameter_before_bracket (b ∷ bs) = if b == 48 then None else option_and_then 
 
 -- the number of a transform whose text begins so
 abbrev pub parameter_in : List ℕ → List ℕ → Option ℕ
-parameter_in front text = if starts_with nat_eq text front then parameter_before_bracket (drop (length front) text) else None
+parameter_in front text = if starts_with nat_eq text front then parameter_before_bracket (drop (length front) text)
+    else None
 
 -- a known transform without a number has this text
 abbrev pub is_plain_name : List ℕ → Bool
 is_plain_name text =
-    bytes_eq text (codes "identity") || bytes_eq text (codes "year") || bytes_eq text (codes "month") || bytes_eq text (codes "day")
+    bytes_eq text (codes "identity") || bytes_eq text (codes "year") || bytes_eq text (codes "month") ||
+        bytes_eq text (codes "day")
     || bytes_eq text (codes "hour") || bytes_eq text (codes "void")
 
 -- a known transform has this text
 abbrev pub is_name : List ℕ → Bool
 is_name text =
-    is_plain_name text || is_some (parameter_in (codes "bucket[") text) || is_some (parameter_in (codes "truncate[") text)
+    is_plain_name text || is_some (parameter_in (codes "bucket[") text) ||
+        is_some (parameter_in (codes "truncate[") text)
 
 -- the transform of a text; a text that no known transform has is kept
 abbrev pub IsNamed : Transform → List ℕ → Type 0

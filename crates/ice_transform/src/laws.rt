@@ -21,9 +21,9 @@ pub fn values_of_transforms()
     ensures { (f : Transform) (t : ColumnType) (c p : Cell) → IsValueOf f t c p ↔ (value_of f t c ≡ Some p) }
 {}
 
-/// A value of a cell of the source type is null or of the transform's result type, so there a transform that doesn't take
-/// the source type has no other value. Of a cell that is neither null nor of the source type, identity and void alone have
-/// a value.
+/// A value of a cell of the source type is null or of the transform's result type, so there a transform that doesn't
+/// take the source type has no other value. Of a cell that is neither null nor of the source type, identity and void
+/// alone have a value.
 pub fn typed_values()
     ensures of_source { (f : Transform) (t : ColumnType) (c p : Cell) → is_cell t c ≡ true → value_of f t c ≡ Some p
         → (p ≡ Cell.Null) ⊎ ((r : ColumnType) × (type_of f t ≡ Some r) × (is_cell r p ≡ true)) }
@@ -31,8 +31,8 @@ pub fn typed_values()
         → c ≢ Cell.Null → value_of f t c ≡ None }
 {}
 
-/// What is written of a transform is read as that transform, what was read is written as the text that it was read from,
-/// and a text names one transform.
+/// What is written of a transform is read as that transform, what was read is written as the text that it was read
+/// from, and a text names one transform.
 pub fn texts_of_transforms()
     ensures read_back { (f : Transform) → IsOfText f → IsNamed f (name_of f) }
     ensures written_back { (f : Transform) (text : List ℕ) → IsNamed f text → name_of f ≡ text }

@@ -48,8 +48,8 @@ const MICROSECONDS_PER_DAY: i64 = 86_400_000_000;
 const MICROSECONDS_PER_HOUR: i64 = 3_600_000_000;
 
 impl Transform {
-    /// The transform that a partition spec names so: `identity`, `bucket[N]`, `truncate[W]`, `year`, `month`, `day`, `hour`
-    /// or `void`, with N and W in decimal digits from 1 to 2147483647. Any other text is kept as `Unknown`.
+    /// The transform that a partition spec names so: `identity`, `bucket[N]`, `truncate[W]`, `year`, `month`, `day`,
+    /// `hour` or `void`, with N and W in decimal digits from 1 to 2147483647. Any other text is kept as `Unknown`.
     pub fn parse(alloc: Global, text: &str) -> Result<Transform, AllocError>
         ensures { IfOk result (λ transform. IsNamed transform text.now) }
     {
@@ -78,8 +78,8 @@ impl Transform {
 
     /// The value of a cell, null for null. `Identity` gives every cell itself, and `Void` null for every cell, whatever
     /// the source type is. Of the others none where the cell isn't of the source type, where the transform is unknown,
-    /// where it doesn't take the source type, and where the value would leave the type of its values: a truncated number
-    /// below the least one, an hour outside 32 bits, the year or month of a day outside the years -9999 to 9999.
+    /// where it doesn't take the source type, and where the value would leave the type of its values: a truncated
+    /// number below the least one, an hour outside 32 bits, the year or month of a day outside the years -9999 to 9999.
     pub fn apply(
         &self,
         alloc: Global,

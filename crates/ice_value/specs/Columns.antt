@@ -3,8 +3,16 @@
 use Rattle.std.specs.Prelude.{ℕ, ℤ, List, Option, find, reverse}
 use Rattle.std.specs.Option.{option_map}
 use Rattle.std.specs.Ordering.{int_eq}
-use Rattle.ice_value.specs.declared.file_bounds.ColumnCount.{ColumnCount}
-use Rattle.ice_value.specs.declared.file_bounds.ColumnBound.{ColumnBound}
+
+-- a number of values of a column
+pub record ColumnCount : Type 0 where
+  pub column : ℤ
+  pub count : ℤ
+
+-- a bound of a column: a single value in bytes
+pub record ColumnBound : Type 0 where
+  pub column : ℤ
+  pub bytes : List ℕ
 
 -- the column's count; of several the last counts
 abbrev pub count_of : ℤ → List ColumnCount → Option ℤ

@@ -3,3 +3,4 @@ pub mod Bounds
 pub mod Cells
 pub mod Columns
 pub mod Equality
+pub mod Pairs

@@ -4,6 +4,7 @@ ghost use Rattle.std.specs.Prelude.{◌≡◌, IfOk};
 ghost use Rattle.std.specs.Option.{option_copied};
 ghost use Rattle.ice_value.specs.Columns.{count_of, bound_of};
 
+use crate::columns::{ColumnBounds, ColumnCounts};
 use contract_words::{Duplicate, Items};
 use std::alloc::{AllocError, Global};
 
@@ -41,83 +42,45 @@ fn copied_bound(alloc: Global, bound: &Option<Items<u8>>) -> Result<Option<Items
     }
 }
 
-/// A number of values of a column.
-#[derive(Clone, Copy, Debug, PartialEq)]
-pub struct ColumnCount {
-    /// The column's id.
-    pub column: i32,
-    /// How many values.
-    pub count: i64,
-}
-
-/// A bound of a column: a single value in bytes.
-#[derive(Debug, PartialEq, Drop)]
-pub struct ColumnBound {
-    /// The column's id.
-    pub column: i32,
-    /// The value in bytes.
-    pub bytes: Items<u8>,
-}
-
-/// What a manifest says about the columns of a file, by column id. Where an id stands twice the last entry counts.
-#[derive(Debug, PartialEq, Drop)]
-pub struct FileBounds {
+/// What a manifest says about the columns of a file, by column id. It lends what lies in the file.
+#[derive(Debug, Drop)]
+pub struct FileBounds<'a, 'd> {
     /// How many values each column has, null ones among them.
-    pub value_counts: Items<ColumnCount>,
+    pub value_counts: ColumnCounts<'a>,
     /// How many values of each column are null.
-    pub null_counts: Items<ColumnCount>,
+    pub null_counts: ColumnCounts<'a>,
     /// No value of the column is below its lower bound.
-    pub lower_bounds: Items<ColumnBound>,
+    pub lower_bounds: ColumnBounds<'a, 'd>,
     /// No value of the column is above its upper bound.
-    pub upper_bounds: Items<ColumnBound>,
+    pub upper_bounds: ColumnBounds<'a, 'd>,
 }
 
-impl FileBounds {
+impl<'a, 'd> FileBounds<'a, 'd> {
     /// How many values the column has, null ones among them.
     pub fn value_count(&self, column: i32) -> Option<i64>
         ensures { result ≡ count_of column self.now.value_counts }
     {
-        find_count(self.value_counts.as_slice(), column)
+        self.value_counts.get(column)
     }
 
     /// How many values of the column are null.
     pub fn null_count(&self, column: i32) -> Option<i64>
         ensures { result ≡ count_of column self.now.null_counts }
     {
-        find_count(self.null_counts.as_slice(), column)
+        self.null_counts.get(column)
     }
 
     /// The bytes of the column's lower bound.
     pub fn lower_bound(&self, column: i32) -> Option<&[u8]>
         ensures { option_copied result ≡ bound_of column self.now.lower_bounds }
     {
-        find_bound(self.lower_bounds.as_slice(), column)
+        self.lower_bounds.get(column)
     }
 
     /// The bytes of the column's upper bound.
     pub fn upper_bound(&self, column: i32) -> Option<&[u8]>
         ensures { option_copied result ≡ bound_of column self.now.upper_bounds }
     {
-        find_bound(self.upper_bounds.as_slice(), column)
+        self.upper_bounds.get(column)
     }
-}
-
-fn find_count(counts: &[ColumnCount], column: i32) -> Option<i64>
-    ensures { result ≡ count_of column counts.now }
-{
-    counts
-        .iter()
-        .rev()
-        .find(|count| count.column == column)
-        .map(|count| count.count)
-}
-
-fn find_bound(bounds: &[ColumnBound], column: i32) -> Option<&[u8]>
-    ensures { option_copied result ≡ bound_of column bounds.now }
-{
-    bounds
-        .iter()
-        .rev()
-        .find(|bound| bound.column == column)
-        .map(|bound| bound.bytes.as_slice())
 }

@@ -6,6 +6,7 @@ mod applying;
 mod bound;
 mod cell;
 mod column_type;
+mod columns;
 mod file_bounds;
 mod file_content;
 mod sequence_number;
@@ -19,6 +20,7 @@ pub use cell::{
     total_order_of_cells,
 };
 pub use column_type::ColumnType;
-pub use file_bounds::{ColumnBound, ColumnCount, FileBounds, Summary};
+pub use columns::{ColumnBounds, ColumnCounts};
+pub use file_bounds::{FileBounds, Summary};
 pub use file_content::FileContent;
 pub use sequence_number::SequenceNumber;

@@ -1,6 +1,6 @@
 use crate::{
-    Cell, ColumnBound, ColumnCount, ColumnType, FileBounds, SequenceNumber, Summary, compare_bound,
-    is_same_tuple, read_bound, write_bound,
+    Cell, ColumnBounds, ColumnCounts, ColumnType, FileBounds, SequenceNumber, Summary,
+    compare_bound, is_same_tuple, read_bound, write_bound,
 };
 use contract_words::{Duplicate, Items, Text};
 use std::alloc::{AllocError, Global};
@@ -411,46 +411,41 @@ fn copies(rt: HostRuntime) -> Result<(), Fail> {
     Ok(())
 }
 
+/// A file with these counts of values and these lower bounds.
+fn file_of<'a>(
+    alloc: Global,
+    counts: &'a [(i32, i64)],
+    bounds: &'a [(i32, &'a [u8])],
+) -> FileBounds<'a, 'a> {
+    FileBounds {
+        value_counts: ColumnCounts::lent(counts),
+        null_counts: ColumnCounts::none(alloc),
+        lower_bounds: ColumnBounds::lent(bounds),
+        upper_bounds: ColumnBounds::none(alloc),
+    }
+}
+
+/// Whether the file has this lower bound of the column.
+fn has_bound(file: &FileBounds<'_, '_>, column: i32, bytes: &[u8]) -> bool {
+    match file.lower_bound(column) {
+        Some(bound) => bound == bytes,
+        None => false,
+    }
+}
+
 #[test]
 fn columns_by_id(rt: HostRuntime) -> Result<(), Fail> {
     let alloc = rt.alloc();
-    let counts = [
-        ColumnCount {
-            column: 1,
-            count: 10,
-        },
-        ColumnCount {
-            column: 2,
-            count: 20,
-        },
-        ColumnCount {
-            column: 1,
-            count: 30,
-        },
-    ];
-    let mut bounds = Items::new(alloc);
-    bounds.push(ColumnBound {
-        column: 3,
-        bytes: Items::from_vec([1].to_vec(alloc)?),
-    })?;
-    bounds.push(ColumnBound {
-        column: 3,
-        bytes: Items::from_vec([2, 3].to_vec(alloc)?),
-    })?;
-    let file = FileBounds {
-        value_counts: Items::from_vec(counts.to_vec(alloc)?),
-        null_counts: Items::new(alloc),
-        lower_bounds: bounds,
-        upper_bounds: Items::new(alloc),
-    };
+    let file = file_of(
+        alloc,
+        &[(1, 10), (2, 20), (1, 30)],
+        &[(3, b"a"), (3, b"bc")],
+    );
     assert!(rt; file.value_count(1) == Some(30));
     assert!(rt; file.value_count(2) == Some(20));
     assert!(rt; file.value_count(3) == None);
     assert!(rt; file.null_count(1) == None);
-    match file.lower_bound(3) {
-        Some(bytes) => assert!(rt; bytes == [2, 3].as_slice()),
-        None => assert!(rt; false),
-    }
+    assert!(rt; has_bound(&file, 3, b"bc"));
     assert!(rt; file.upper_bound(3).is_none());
     Ok(())
 }

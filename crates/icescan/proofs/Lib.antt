@@ -1,11 +1,11 @@
 pub mod Crews
 pub mod Escapes
 pub mod Lines
+pub mod Listed
 pub mod Lookups
 pub mod Plans
 pub mod Refusals
 pub mod Segments
-pub mod Selections
 pub mod Sends
 pub mod Shows
 pub mod Steps

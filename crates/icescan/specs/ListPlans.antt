@@ -33,6 +33,10 @@ file_in world path = or_absent path (world path)
 unfoldable pub rows_in : List ℕ → Result (List Row) RunFault
 rows_in bytes = as_run of_list (rows_of bytes)
 
+-- the rows of the manifest list at a path
+unfoldable pub rows_at : World → List ℕ → Result (List Row) RunFault
+rows_at world list = file_in world list >>= rows_in
+
 -- for each row a spec without fields, of the row's spec id
 abbrev pub specs_of : List Row → List Spec
 specs_of rows = map (λ row. without_fields row.spec_id) rows
@@ -48,13 +52,13 @@ all_present world (row ∷ rows) = file_in world row.path >>= λ _. all_present 
 unfoldable pub plan_in : World → List Row → Result (List OwnedLine) RunFault
 plan_in world rows = as_run of_finish (plan_of_snapshot everything world (specs_of rows) rows)
 
--- The plan of the list at a path, or the first refusal: there is no such list, it can't be read, there is no scan of its
+-- The plan of the list at a path, or the first refusal: there is no such list, it can't be read, there is no scan of
+-- its
 -- rows, a wanted manifest is absent (that of the least path: the wanted rows stand in the order of their paths), or the
 -- rows have no plan.
 unfoldable pub answer : World → List ℕ → Result (List OwnedLine) RunFault
 answer world list = do
-  bytes ← file_in world list
-  rows ← rows_in bytes
+  rows ← rows_at world list
   scan ← scan_in rows
   _ ← all_present world scan.wanted
   plan_in world rows
@@ -66,16 +70,14 @@ wanted_of (Err fault) = []
 
 -- the scan of the list at a path
 unfoldable pub scan_at : World → List ℕ → Result Scanned RunFault
-scan_at world list = do
-  bytes ← file_in world list
-  rows ← rows_in bytes
-  scan_in rows
+scan_at world list = rows_at world list >>= scan_in
 
 -- the paths that are read, in this order: the list's, and then those of the wanted manifests
 unfoldable pub reads : World → List ℕ → List (List ℕ)
 reads world list = list ∷ wanted_of (scan_at world list)
 
--- Why a run ends with a fault: memory ran out, a read failed at a path where it may, a write failed that may fail, or the
+-- Why a run ends with a fault: memory ran out, a read failed at a path where it may, a write failed that may fail, or
+-- the
 -- fault is the answer's.
 abbrev pub MayEnd : {A : Type 0} → Result A RunFault → (List ℕ → Type 0) → Type 0 → RunFault → Type 0
 MayEnd read may_fail_at write_may_fail run.Memory = Unit {0}

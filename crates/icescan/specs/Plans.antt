@@ -1,5 +1,6 @@
 -- The plan of a table's snapshot under a filter: Apache Iceberg table spec, version 2, "Scan Planning".
-use Rattle.std.specs.Prelude.{◌≡◌, ℕ, List, [], ◌∷◌, Option, Result, Ok, Err, OnOk, IfErr, IsErrOf, nat_le, ◌&&◌, if◌then◌else◌}
+use Rattle.std.specs.Prelude.{◌≡◌, ℕ, List, [], ◌∷◌, Option, Result, Ok, Err, OnOk, IfErr, IsErrOf, nat_le, ◌&&◌}
+use Rattle.std.specs.Prelude.{if◌then◌else◌}
 use Rattle.contract_words.specs.Outcome.{◌>>=◌}
 use Rattle.ice_filter.specs.declared.bound.BoundLeaf.{BoundLeaf}
 use Rattle.ice_filter.specs.declared.parts.Part.{Part}
@@ -14,7 +15,7 @@ use Rattle.ice_state.specs.Scans.{Scanned, scan_of}
 use Rattle.ice_state.specs.Snapshots.{plan_of_snapshot}
 use Rattle.ice_state.specs.declared.fault.FinishFault.{FinishFault}
 use Rattle.icescan.specs.Faults.{of_finish, of_scan}
-use Rattle.icescan.specs.ListPlans.{MayEnd, all_present, as_run, file_in, rows_in, wanted_of}
+use Rattle.icescan.specs.ListPlans.{MayEnd, all_present, as_run, file_in, rows_at, wanted_of}
 use Rattle.icescan.specs.PlanTexts.{plan_text}
 use Rattle.icescan.specs.Selections.{selected}
 use Rattle.icescan.specs.Written.{Appends, AppendsFront}
@@ -24,10 +25,6 @@ use Rattle.icescan.specs.declared.selection.Request.{Request}
 use Rattle.icescan.specs.declared.selection.Selection.{Selection}
 
 -- ---- the plan of a list's rows
-
--- the rows of the manifest list at a path
-unfoldable pub rows_at : World → List ℕ → Result (List Row) RunFault
-rows_at world list = file_in world list >>= rows_in
 
 -- what the rows of a scan come to
 abbrev pub Ending : Type 0
@@ -46,7 +43,8 @@ scan_in specs filter rows = as_run of_scan (scan_of rows specs filter)
 
 -- The plan of these rows, or the first refusal: a row's spec is missing, a wanted manifest is absent (that of the least
 -- path: the wanted rows stand in the order of their paths), or the rows have no plan.
-unfoldable pub rows_plan : Ending → World → List Spec → List (Part BoundLeaf) → List Row → Result (List OwnedLine) RunFault
+unfoldable pub rows_plan : Ending → World → List Spec → List (Part BoundLeaf) → List Row
+    → Result (List OwnedLine) RunFault
 rows_plan ending world specs filter rows = do
   scan ← scan_in specs filter rows
   _ ← all_present world scan.wanted
@@ -81,7 +79,8 @@ by_workers workers read = if nat_le 1 workers && nat_le workers 64 then read els
 -- the summaries of all rows of the snapshot tell the truth; then both are the same
 abbrev pub TellsTheTruth : World → List ℕ → Request → Type 0
 TellsTheTruth world metadata request =
-    (selection : Selection) (rows : List Row) → selected metadata request ≡ Ok selection → rows_at world selection.list ≡ Ok rows →
+    (selection : Selection) (rows : List Row) → selected metadata request ≡ Ok selection → rows_at world selection.list
+    ≡ Ok rows →
     AreCovered world selection.specs rows
 
 -- the paths that are read, in this order: the list's, and then those of the wanted manifests
@@ -102,6 +101,11 @@ answer_at ending world path request workers = do
   metadata ← file_in world path
   by_workers workers (answer_by ending world metadata request)
 
+-- the summaries of all rows of its snapshot tell the truth, where there is such a file
+abbrev pub TellsTheTruthAt : World → List ℕ → Request → Type 0
+TellsTheTruthAt world path request =
+    (metadata : List ℕ) → file_in world path ≡ Ok metadata → TellsTheTruth world metadata request
+
 abbrev pub reads_behind : World → Request → Result (List ℕ) RunFault → List (List ℕ)
 reads_behind world request (Ok metadata) = reads world metadata request
 reads_behind world request (Err fault) = []
@@ -116,11 +120,13 @@ abbrev pub WrotePlan : Result (List OwnedLine) RunFault → Option (List ℕ) �
 WrotePlan read output output' = (plan : List OwnedLine) × (read ≡ Ok plan) × Appends output output' (plan_text plan)
 
 abbrev pub WrotePlanFront : Result (List OwnedLine) RunFault → Option (List ℕ) → Option (List ℕ) → Type 0
-WrotePlanFront read output output' = (plan : List OwnedLine) × (read ≡ Ok plan) × AppendsFront output output' (plan_text plan)
+WrotePlanFront read output output' = (plan : List OwnedLine) × (read ≡ Ok plan)
+    × AppendsFront output output' (plan_text plan)
 
 -- What a run gives, where this is the answer over files that tell their world: the text of the plan is written, or the
 -- fault is the answer's, or one of reading at these paths in turn, of writing or of memory.
-pub record Answers (read : Result (List OwnedLine) RunFault) (may_fail_at : List ℕ → Type 0) (write_may_fail : Type 0) (result : Result Unit RunFault) (output output' : Option (List ℕ)) : Type 0 where
+pub record Answers (read : Result (List OwnedLine) RunFault) (may_fail_at : List ℕ → Type 0) (write_may_fail : Type 0)
+    (result : Result Unit RunFault) (output output' : Option (List ℕ)) : Type 0 where
   pub written : OnOk result (WrotePlan read output output')
   pub refused : IfErr result (MayEnd read may_fail_at write_may_fail)
   pub front : IsErrOf result run.Write → WrotePlanFront read output output'

@@ -1,6 +1,6 @@
 -- What a request selects of a table: Apache Iceberg table spec, version 2, "Snapshot References", "Partition Specs" and
 -- "Scan Planning".
-use Rattle.std.specs.Prelude.{ℕ, List, [], map, Option, Some, None, Result, Ok, Err}
+use Rattle.std.specs.Prelude.{ℕ, List, [], Option, Some, None, Result, Ok}
 use Rattle.contract_words.specs.Outcome.{◌>>=◌}
 use Rattle.ice_filter.specs.Binding.{bound_parts}
 use Rattle.ice_filter.specs.Parsing.{mapped, parsed}
@@ -10,13 +10,12 @@ use Rattle.ice_filter.specs.declared.leaf.Leaf.{Leaf}
 use Rattle.ice_filter.specs.declared.parts.Part.{Part}
 use Rattle.ice_meta.specs.declared.fault.Member.TheVariants as member
 use Rattle.ice_meta.specs.declared.fault.MetaFault.{MetaFault}
-use Rattle.ice_meta.specs.declared.fault.MetaFault.TheVariants.{Missing, NoSuchSnapshot, Dangling}
+use Rattle.ice_meta.specs.declared.fault.MetaFault.TheVariants.{Dangling}
 use Rattle.ice_meta.specs.declared.metadata.Target.{Target}
 use Rattle.ice_meta.specs.declared.schema.Schema.{Schema}
-use Rattle.ice_meta.specs.declared.spec.Spec.{Spec}
 use Rattle.ice_meta.specs.declared.table.Table.{Table}
 use Rattle.ice_meta.specs.Members.{asked}
-use Rattle.ice_meta.specs.Targets.{bound_spec, metadata_of, resolved, schema_for, snapshot_with}
+use Rattle.ice_meta.specs.Targets.{bound_specs, list_of, metadata_of, schema_for}
 use Rattle.icescan.specs.Faults.{of_filter, of_meta}
 use Rattle.icescan.specs.ListPlans.{as_run}
 use Rattle.icescan.specs.declared.fault.RunFault.{RunFault}
@@ -34,22 +33,12 @@ abbrev pub bound_in : Schema → Option (List (Part Leaf)) → Result (List (Par
 bound_in schema None = Ok []
 bound_in schema (Some parts) = bound_parts schema parts
 
--- the path of the manifest list of the target's snapshot
-unfoldable pub list_of : Target → Table → Result (List ℕ) MetaFault
-list_of target table = do
-  id ← resolved target table
-  snapshot ← asked NoSuchSnapshot (snapshot_with id table)
-  asked (Missing member.ManifestList) snapshot.manifest_list
-
 -- the schema whose columns the filter names; metadata that was read has one
 abbrev pub schema_of : Target → Table → Result Schema MetaFault
 schema_of target table = asked (Dangling member.CurrentSchemaId) (schema_for target table)
 
--- all partition specs, with the types that their source columns have in the schema
-abbrev pub specs_of : Schema → Table → List Spec
-specs_of schema table = map (bound_spec schema) table.specs
-
--- What a request selects, or the first refusal: of the metadata, of the filter's text, of the snapshot that is asked for,
+-- What a request selects, or the first refusal: of the metadata, of the filter's text, of the snapshot that is asked
+-- for,
 -- of what the filter asks of the schema.
 unfoldable pub selected : List ℕ → Request → Result Selection RunFault
 selected metadata request = do
@@ -58,7 +47,7 @@ selected metadata request = do
   list ← as_run of_meta (list_of request.target described.table)
   schema ← as_run of_meta (schema_of request.target described.table)
   filter ← as_run of_filter (bound_in schema parts)
-  Ok (record { list = list; specs = specs_of schema described.table; filter = record { parts = filter } })
+  Ok (record { list = list; specs = bound_specs schema described.table; filter = record { parts = filter } })
 
 -- the faults of a request and its metadata
 abbrev pub IsOfRequest : RunFault → Type 0

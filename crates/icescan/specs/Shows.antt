@@ -1,7 +1,7 @@
 -- What `show` makes of the bytes of a table's metadata: the table's text, or the metadata's first fault.
-use Rattle.std.specs.Prelude.{ℕ, List, Result, Ok, Err}
+use Rattle.std.specs.Prelude.{ℕ, List, Result, Ok}
 use Rattle.contract_words.specs.Outcome.{◌>>=◌}
-use Rattle.ice_meta.specs.Targets.{Described, metadata_of}
+use Rattle.ice_meta.specs.Targets.{metadata_of}
 use Rattle.icescan.specs.Faults.{of_meta}
 use Rattle.ice_state.specs.Contents.{World}
 use Rattle.icescan.specs.ListPlans.{as_run, file_in}

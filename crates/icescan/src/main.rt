@@ -12,6 +12,7 @@ mod input;
 mod page;
 mod pieces;
 mod plan_text;
+mod reading;
 mod report;
 mod run_list_plan;
 mod run_plan;

@@ -1,18 +1,19 @@
 //! The text of a plan, sent to a sink piece by piece.
 
-ghost use Rattle.std.specs.Prelude.{◌≡◌, ◌∷◌, sum_by, IfSome};
+ghost use Rattle.std.specs.Prelude.{◌≡◌, ◌≤◌, ◌^◌, ◌∷◌, sum_by, MatchOption};
 ghost use Rattle.std.specs.List.{flat_map};
 ghost use Rattle.std.specs.Fmt.{signed_decimal};
-ghost use Rattle.icescan.specs.PlanTexts.{ids_text, numbered_path, size_text, file_text, position_text, equality_text, line_text, deletes_of, plan_text};
+ghost use Rattle.icescan.specs.PlanTexts.{ids_text, numbered_path, size_text, file_text, position_text, equality_text};
+ghost use Rattle.icescan.specs.PlanTexts.{line_text, deletes_of, plan_text};
 ghost use Rattle.icescan.specs.Written.{Sent};
 
 use crate::page::Page;
 use crate::sink::{Sink, SinkFault};
 use ice_state::{Line, Lines, PlanFile, PlanFiles};
 
-/// How many lines of delete files a plan has, where that is a number of 64 bits, as it is in any memory.
+/// How many lines of delete files a plan has; none where that takes more than 64 bits, as it does in no memory.
 pub fn count_deletes(lines: &Lines<'_>) -> Option<u64>
-    ensures { IfSome result (λ n. n ≡ sum_by deletes_of lines.now) }
+    ensures { MatchOption result (2 ^ 64 ≤ sum_by deletes_of lines.now) (λ n. n ≡ sum_by deletes_of lines.now) }
 {
     let mut deletes: u64 = 0;
     for i in 0..lines.len() {
@@ -23,7 +24,8 @@ pub fn count_deletes(lines: &Lines<'_>) -> Option<u64>
     Some(deletes)
 }
 
-/// Sends the text of a plan: a line for each data file, each with the lines of its delete files, and then their numbers.
+/// Sends the text of a plan: a line for each data file, each with the lines of its delete files, and then their
+/// numbers.
 #[tactic(auto, unfolding(crate::specs::PlanTexts::plan_text))]
 pub fn put_plan<S: Sink>(
     page: &mut Page,
@@ -154,7 +156,8 @@ fn put_ids<S: Sink>(page: &mut Page, sink: &mut S, ids: &[i32]) -> Result<(), Si
 }
 
 fn put_more_ids<S: Sink>(page: &mut Page, sink: &mut S, ids: &[i32]) -> Result<(), SinkFault>
-    ensures { Sent S.taken S.may_fail sink.old page.old result sink.new page.new (flat_map (λ i. 44 ∷ signed_decimal i) ids.now) }
+    ensures { Sent S.taken S.may_fail sink.old page.old result sink.new page.new
+        (flat_map (λ i. 44 ∷ signed_decimal i) ids.now) }
 {
     for id in ids {
         page.put_named_int(sink, b",", *id)?;

@@ -1,28 +1,25 @@
 //! The plan of a table's snapshot by workers.
 
-ghost use Rattle.std.specs.Prelude.{◌≡◌, ◌≢◌, ◌⊎◌, ◌<◌, ◌≤◌, ◌↔◌, ℕ, List, length, None, Some, Ok, IfErr, OnOk, IsErrOf};
+ghost use Rattle.std.specs.Prelude.{◌≡◌, ◌≢◌, ◌⊎◌, ◌<◌, ◌≤◌, ◌↔◌, ℕ, List, length, None, Some, Ok, IfErr, OnOk};
+ghost use Rattle.std.specs.Prelude.{IsErrOf};
 ghost use Rattle.ice_desk.specs.Worlds.{EndsAt, HasAt};
 ghost use Rattle.ice_state.specs.Contents.{World};
-ghost use Rattle.icescan.specs.Plans.{Answers, TellsTheTruth, answer, answer_at, by_workers, manifests, over_wanted_rows, reads, reads_at, rows_plan, wanted_answer};
+ghost use Rattle.icescan.specs.Plans.{Answers, TellsTheTruth, TellsTheTruthAt, answer, answer_at, by_workers};
+ghost use Rattle.icescan.specs.Plans.{manifests, over_all_rows, over_wanted_rows, reads, reads_at, rows_plan};
+ghost use Rattle.icescan.specs.Plans.{wanted_answer};
 ghost use Rattle.icescan.specs.Selections.{selected};
 ghost use Rattle.icescan.specs.declared.selection.Selection.{Selection};
 
 use crate::fault::RunFault;
-use crate::run_list_plan::read_file;
-use crate::run_plan::{plans_of_true_summaries, read_rows, run_plan};
+use crate::reading::{read_file, read_rows};
+use crate::run_plan::{Listed, plans_of_true_summaries, run_plan};
 use crate::selection::{Request, Selection, select};
 use crate::sink::Sink;
 use crate::write::write_plan;
-use ice_desk::{Files, Gate, plan_scan};
-use ice_filter::Bound;
-use ice_manifest::Row;
-use ice_meta::Spec;
+use ice_desk::{Files, Gate, MOST_WORKERS, plan_scan};
 use ice_state::Scan;
 use std::alloc::Global;
 use std::thread::Threads;
-
-/// How many workers there may be.
-const MOST_WORKERS: usize = 64;
 
 /// A gate at which no worker is held up, and that nobody watches.
 #[derive(Drop)]
@@ -37,18 +34,16 @@ fn plan_rows_with<R: Threads + Sync, F: Files + Sync, G: Gate + Sync, W: Sink>(
     rt: &R,
     alloc: Global,
     files: &F,
-    rows: Vec<Row>,
-    specs: Vec<Spec>,
-    filter: Bound,
+    listed: Listed,
     workers: usize,
     gate: &G,
     output: &mut W,
 ) -> Result<(), RunFault>
-    requires rows { length rows.items ≤ 65536 }
+    requires rows { length listed.rows.items ≤ 65536 }
     requires workers { (0 < workers) × (workers ≤ 64) }
     ensures answers { (world : World) → F.world files.now ≡ Some world →
-        Answers (rows_plan over_wanted_rows world specs.items filter.parts rows.items)
-        (EndsAt world (F.may_fail files.now) (manifests specs.items filter.parts rows.items))
+        Answers (rows_plan over_wanted_rows world listed.specs.items listed.filter.parts listed.rows.items)
+        (EndsAt world (F.may_fail files.now) (manifests listed.specs.items listed.filter.parts listed.rows.items))
         (W.may_fail output.old) result (W.taken output.old) (W.taken output.new) }
     ensures nothing { IfErr result (λ fault. fault ≢ RunFault.Write → W.taken output.new ≡ W.taken output.old) }
     ensures absent { (path : List ℕ) → IsErrOf result (RunFault.Absent path) → HasAt (F.world files.now) path None }
@@ -56,13 +51,15 @@ fn plan_rows_with<R: Threads + Sync, F: Files + Sync, G: Gate + Sync, W: Sink>(
     ensures write { IsErrOf result RunFault.Write → W.may_fail output.old }
     ensures workers { IsErrOf result RunFault.Workers → ⊥ }
 {
-    let scan = Scan::new(alloc, rows, specs, filter)?;
+    let scan = Scan::new(alloc, listed.rows, listed.specs, listed.filter)?;
     let plan = plan_scan(rt, alloc, files, &scan, workers, gate)?;
     write_plan(alloc, &plan.lines(), output)
 }
 
-/// Writes the plan that a request asks for, of the table whose metadata these are the bytes of: by so many workers, from
-/// 1 to 64, each in a thread of its own where one can be started. They read and take the wanted manifests at once; `gate`
+/// Writes the plan that a request asks for, of the table whose metadata these are the bytes of: by so many workers,
+/// from
+/// 1 to 64, each in a thread of its own where one can be started. They read and take the wanted manifests at once;
+/// `gate`
 /// is told of each of their reads.
 ///
 /// The refusal is `Workers` where there are to be none, or more than 64; it comes before all others. Else plan and
@@ -107,17 +104,13 @@ pub fn run_plan_with<R: Threads + Sync, F: Files + Sync, G: Gate + Sync, W: Sink
         filter,
     } = select(alloc, metadata, request)?;
     let rows = read_rows(alloc, files, list.as_str())?;
-    plan_rows_with(
-        rt,
-        alloc,
-        files,
+    let specs = specs.into_vec();
+    let listed = Listed {
         rows,
-        specs.into_vec(),
+        specs,
         filter,
-        workers,
-        gate,
-        output,
-    )
+    };
+    plan_rows_with(rt, alloc, files, listed, workers, gate, output)
 }
 
 /// Writes the plan that a request asks for, of the table whose metadata these are the bytes of, by so many workers. One
@@ -131,6 +124,10 @@ fn plan_bytes<R: Threads + Sync, F: Files + Sync, W: Sink>(
     workers: usize,
     output: &mut W,
 ) -> Result<(), RunFault>
+    ensures plan { (world : World) → F.world files.now ≡ Some world → TellsTheTruth world metadata.now request.now →
+        Answers (by_workers workers (answer world metadata.now request.now))
+        (EndsAt world (F.may_fail files.now) (reads world metadata.now request.now))
+        (W.may_fail output.old) result (W.taken output.old) (W.taken output.new) }
     ensures wanted { (world : World) → F.world files.now ≡ Some world →
         Answers (by_workers workers (wanted_answer world metadata.now request.now))
         (EndsAt world (F.may_fail files.now) (reads world metadata.now request.now))
@@ -160,7 +157,12 @@ pub fn plan_file<R: Threads + Sync, F: Files + Sync, W: Sink>(
     workers: usize,
     output: &mut W,
 ) -> Result<(), RunFault>
-    // Over files that tell their world.
+    // Over files that tell their world, where the summaries of the rows tell the truth: the answer over all rows.
+    ensures plan { (world : World) → F.world files.now ≡ Some world → TellsTheTruthAt world path.now request.now →
+        Answers (answer_at over_all_rows world path.now request.now workers)
+        (EndsAt world (F.may_fail files.now) (reads_at world path.now request.now))
+        (W.may_fail output.old) result (W.taken output.old) (W.taken output.new) }
+    // Whatever the summaries say: the answer over the wanted rows.
     ensures wanted { (world : World) → F.world files.now ≡ Some world →
         Answers (answer_at over_wanted_rows world path.now request.now workers)
         (EndsAt world (F.may_fail files.now) (reads_at world path.now request.now))

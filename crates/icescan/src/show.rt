@@ -14,7 +14,7 @@ mod tests;
 
 use crate::fault::RunFault;
 use crate::page::Page;
-use crate::run_list_plan::read_file;
+use crate::reading::read_file;
 use crate::sink::Sink;
 use crate::table_text::{Shown, main_of, put_table};
 use ice_desk::Files;
@@ -27,7 +27,8 @@ fn write_table<S: Sink>(alloc: Global, table: &Table, sink: &mut S) -> Result<()
     ensures all { OnOk result (Appends (S.taken sink.old) (S.taken sink.new) (table_text table.now)) }
     ensures causes { IfErr result (λ e. (e ≡ RunFault.Memory) ⊎ (e ≡ RunFault.Write)) }
     ensures nothing { IsErrOf result RunFault.Memory → S.taken sink.new ≡ S.taken sink.old }
-    ensures front { IsErrOf result RunFault.Write → AppendsFront (S.taken sink.old) (S.taken sink.new) (table_text table.now) }
+    ensures front { IsErrOf result RunFault.Write →
+        AppendsFront (S.taken sink.old) (S.taken sink.new) (table_text table.now) }
     ensures cause { IsErrOf result RunFault.Write → S.may_fail sink.old }
 {
     let main = main_of(alloc, table.current_snapshot_id)?;
@@ -46,7 +47,8 @@ pub fn run_show<W: Sink>(alloc: Global, metadata: &[u8], output: &mut W) -> Resu
     ensures written { OnOk result (WroteText (show_of metadata.now) (W.taken output.old) (W.taken output.new)) }
     ensures refused { IfErr result (MayEnd (show_of metadata.now) (λ _. ⊥) (W.may_fail output.old)) }
     ensures nothing { IfErr result (λ fault. fault ≢ RunFault.Write → W.taken output.new ≡ W.taken output.old) }
-    ensures front { IsErrOf result RunFault.Write → WroteFront (show_of metadata.now) (W.taken output.old) (W.taken output.new) }
+    ensures front { IsErrOf result RunFault.Write →
+        WroteFront (show_of metadata.now) (W.taken output.old) (W.taken output.new) }
 {
     let metadata = Metadata::read(alloc, metadata)?;
     write_table(alloc, metadata.table(), output)
@@ -65,7 +67,8 @@ pub fn show_file<F: Files, W: Sink>(
     ensures written { (world : World) → F.world files.now ≡ Some world →
         OnOk result (WroteText (shown_at world path.now) (W.taken output.old) (W.taken output.new)) }
     ensures refused { (world : World) → F.world files.now ≡ Some world →
-        IfErr result (MayEnd (shown_at world path.now) (EndsAt world (F.may_fail files.now) (path.now ∷ [])) (W.may_fail output.old)) }
+        IfErr result (MayEnd (shown_at world path.now) (EndsAt world (F.may_fail files.now) (path.now ∷ []))
+        (W.may_fail output.old)) }
     ensures front { (world : World) → F.world files.now ≡ Some world → IsErrOf result RunFault.Write →
         WroteFront (shown_at world path.now) (W.taken output.old) (W.taken output.new) }
 

@@ -220,3 +220,23 @@ fn each_truncation(rt: HostRuntime) -> Result<(), Fail> {
     }
     Ok(())
 }
+
+#[test]
+fn known_schema(rt: HostRuntime) -> Result<(), Fail> {
+    let longs = Container::open(rt.alloc(), &LONGS).ok().ok_or("a file")?;
+    let known = longs.keep_schema(rt.alloc())?;
+    assert!(rt; matches!(known.schema(), Schema::Long));
+    // the same text, and another
+    let same = Container::open_with(rt.alloc(), &known, &LONGS)
+        .ok()
+        .ok_or("a file")?;
+    assert!(rt; same.has_schema(&known));
+    assert_eq!(rt; next_long(rt.alloc(), &mut same.objects())?, 64);
+    let bytes = file(rt.alloc(), b"\"int\"", &[2], &[6])?;
+    let ints = Container::open_with(rt.alloc(), &known, &bytes)
+        .ok()
+        .ok_or("a file")?;
+    assert!(rt; !ints.has_schema(&known));
+    assert!(rt; matches!(ints.schema(), Schema::Int));
+    Ok(())
+}

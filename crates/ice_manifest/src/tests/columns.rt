@@ -1,7 +1,11 @@
 //! Counts and bounds of columns.
 
 use super::*;
-use ice_value::FileBounds;
+use crate::columns::columns_of;
+use crate::pick::{pick_record, record_values};
+use crate::shape::fields_of;
+use avro_file::{Container, Datum};
+use avro_schema::Field;
 
 /// Four maps with their ids, as an entry of a data file has them; `%` stands for the maps' fields.
 const START: &str =
@@ -28,14 +32,30 @@ fn manifest(alloc: Global, maps: [(i32, i32, i32, &str); 4], bytes: &str) -> Res
     Ok(file(alloc, &schema, &[bytes_of(alloc, &object)?.as_slice()])?)
 }
 
-/// What a manifest says of the columns of its one file.
-fn bounds(alloc: Global, bytes: &[u8]) -> Result<FileBounds, Fail> {
-    let row = row(alloc, ManifestContent::Data, 7)?;
-    let spec = Spec::empty(alloc, row.spec_id);
-    let mut found = read_manifest(alloc, &row, &spec, bytes)
-        .ok()
-        .ok_or("a file")?;
-    Ok(found.pop().ok_or("an entry")?.bounds)
+/// What a file says of a column: its counts of values and of nulls, and its lower and its upper bound.
+fn line<'a>(
+    alloc: Global,
+    fields: &'a [Field],
+    datum: &'a Datum<'_>,
+    column: i32,
+) -> Result<String, Fail> {
+    let values = record_values(datum).ok_or("an entry")?;
+    let (fields, values) = pick_record(fields, values, 2).ok_or("a file")?;
+    let file = columns_of(alloc, fields, values).ok().ok_or("columns")?;
+    let values = file.value_count(column);
+    let nulls = file.null_count(column);
+    let lower = file.lower_bound(column);
+    let upper = file.upper_bound(column);
+    Ok(format!(in alloc; "{values:?} {nulls:?} {lower:?} {upper:?}")?)
+}
+
+/// The same of the one file of a manifest.
+fn said(alloc: Global, bytes: &[u8], column: i32) -> Result<String, Fail> {
+    let container = Container::open(alloc, bytes).ok().ok_or("a container")?;
+    let mut objects = container.objects();
+    let object = objects.next().ok().ok_or("a block")?.ok_or("an object")?;
+    let datum = object.datum(alloc)?;
+    line(alloc, fields_of(container.schema()), &datum, column)
 }
 
 /// Each map by its own ids, wherever it stands.
@@ -52,15 +72,16 @@ fn counts_and_bounds_by_their_ids(rt: HostRuntime) -> Result<(), Fail> {
         manifest(rt.alloc(), MAPS, &written)?,
         manifest(rt.alloc(), [fourth, third, second, first], &turned)?,
     ] {
-        let found = bounds(rt.alloc(), &bytes)?;
-        assert_eq!(rt; found.value_count(1), Some(10));
-        assert_eq!(rt; found.value_count(2), Some(20));
-        assert_eq!(rt; found.null_count(1), Some(-1));
-        assert_eq!(rt; found.null_count(2), None);
-        assert_eq!(rt; found.lower_bound(1), Some([5].as_slice()));
-        assert_eq!(rt; found.lower_bound(3), None);
-        assert_eq!(rt; found.upper_bound(1), Some([6].as_slice()));
-        assert_eq!(rt; found.upper_bound(3), Some([7, 8].as_slice()));
+        let one = said(rt.alloc(), &bytes, 1)?;
+        assert_eq!(rt; one.as_str(), "Some(10) Some(-1) Some([5]) Some([6])");
+        assert_eq!(rt;
+            said(rt.alloc(), &bytes, 2)?.as_str(),
+            "Some(20) None None None"
+        );
+        assert_eq!(rt;
+            said(rt.alloc(), &bytes, 3)?.as_str(),
+            "None None None Some([7, 8])"
+        );
     }
     Ok(())
 }
@@ -68,14 +89,17 @@ fn counts_and_bounds_by_their_ids(rt: HostRuntime) -> Result<(), Fail> {
 /// A key that is written behind its count, as the long of the two.
 #[test]
 fn keys_by_their_ids(rt: HostRuntime) -> Result<(), Fail> {
-    let [(id, key, said, kind), nulls, lower, upper] = MAPS;
-    let maps = [(id, said, key, kind), nulls, lower, upper];
-    let found = bounds(
-        rt.alloc(),
-        &manifest(rt.alloc(), maps, "02 02 14 04 00 00 00 00")?,
-    )?;
-    assert_eq!(rt; found.value_count(2), Some(10));
-    assert_eq!(rt; found.value_count(10), None);
+    let [(id, key, said_id, kind), nulls, lower, upper] = MAPS;
+    let maps = [(id, said_id, key, kind), nulls, lower, upper];
+    let bytes = manifest(rt.alloc(), maps, "02 02 14 04 00 00 00 00")?;
+    assert_eq!(rt;
+        said(rt.alloc(), &bytes, 2)?.as_str(),
+        "Some(10) None None None"
+    );
+    assert_eq!(rt;
+        said(rt.alloc(), &bytes, 10)?.as_str(),
+        "None None None None"
+    );
     Ok(())
 }
 
@@ -85,23 +109,22 @@ fn keys_twice(rt: HostRuntime) -> Result<(), Fail> {
     let twice = "02 06 02 14 04 28 02 1e 00";
     let blocks = "02 02 02 02 05 02 02 00 00";
     let written = format!(in rt.alloc(); "{twice} {twice} {blocks} {blocks}")?;
-    let found = bounds(rt.alloc(), &manifest(rt.alloc(), MAPS, &written)?)?;
-    assert_eq!(rt; found.value_count(1), Some(15));
-    assert_eq!(rt; found.value_count(2), Some(20));
-    assert_eq!(rt; found.null_count(1), Some(15));
-    assert_eq!(rt; found.lower_bound(1), Some([].as_slice()));
-    assert_eq!(rt; found.upper_bound(1), Some([].as_slice()));
-    assert_eq!(rt; found.value_counts.as_slice().len(), 3);
-    assert_eq!(rt; found.upper_bounds.as_slice().len(), 2);
+    let bytes = manifest(rt.alloc(), MAPS, &written)?;
+    let one = said(rt.alloc(), &bytes, 1)?;
+    assert_eq!(rt; one.as_str(), "Some(15) Some(15) Some([]) Some([])");
+    assert_eq!(rt;
+        said(rt.alloc(), &bytes, 2)?.as_str(),
+        "Some(20) Some(20) None None"
+    );
     Ok(())
 }
 
 #[test]
 fn null_maps_say_nothing(rt: HostRuntime) -> Result<(), Fail> {
-    let found = bounds(rt.alloc(), &manifest(rt.alloc(), MAPS, "00 00 00 00")?)?;
-    assert!(rt; found.value_counts.as_slice().is_empty());
-    assert!(rt; found.null_counts.as_slice().is_empty());
-    assert!(rt; found.lower_bounds.as_slice().is_empty());
-    assert!(rt; found.upper_bounds.as_slice().is_empty());
+    let bytes = manifest(rt.alloc(), MAPS, "00 00 00 00")?;
+    assert_eq!(rt;
+        said(rt.alloc(), &bytes, 1)?.as_str(),
+        "None None None None"
+    );
     Ok(())
 }

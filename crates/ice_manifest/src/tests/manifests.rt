@@ -1,3 +1,5 @@
+ghost use Rattle.std.specs.Prelude.{false};
+
 use super::*;
 
 /// The fields of an entry that are read before the data file.
@@ -47,7 +49,7 @@ fn outcome(alloc: Global, row: &Row, bytes: &[u8]) -> Result<String, Fail> {
         Err(fault) => return Ok(format!(in alloc; "{fault:?}")?),
     };
     let mut text = String::new(alloc);
-    for Live { entry, bounds } in &found {
+    for entry in &found {
         let Entry {
             position,
             spec_id,
@@ -64,9 +66,7 @@ fn outcome(alloc: Global, row: &Row, bytes: &[u8]) -> Result<String, Fail> {
             ..
         } = file;
         let ids = file.equality_ids.as_slice();
-        let whole = *unpartitioned
-            && file.tuple.as_slice().is_empty()
-            && bounds.lower_bound(1).is_none();
+        let whole = *unpartitioned && file.tuple.as_slice().is_empty();
         let line = format!(in alloc;
             "{position} {path} {content:?} {sequence} {record_count} {file_size} {ids:?} {spec_id} {whole}\n"
         )?;
@@ -351,6 +351,40 @@ fn the_same_entries_written_otherwise(rt: HostRuntime) -> Result<(), Fail> {
     Ok(())
 }
 
+/// Keeps no entry.
+struct Nothing;
+
+impl Keep for Nothing {
+    ghost kept = { λ nothing live. false };
+
+    fn keeps(&self, _live: &Live<'_, '_>) -> bool {
+        false
+    }
+}
+
+/// What reading a manifest of these deletes gives of which none is kept.
+fn none_of(alloc: Global, objects: &[&[u8]]) -> Result<Result<Vec<Entry>, ManifestFault>, Fail> {
+    let row = row(alloc, ManifestContent::Deletes, 3)?;
+    let bytes = file(alloc, &schema(alloc, &[])?, objects)?;
+    Ok(read_kept(
+        alloc,
+        &row,
+        &Spec::empty(alloc, row.spec_id),
+        &Nothing,
+        &bytes,
+    ))
+}
+
+#[test]
+fn faults_of_what_is_not_kept(rt: HostRuntime) -> Result<(), Fail> {
+    let found = none_of(rt.alloc(), &[P, F])?.ok().ok_or("entries")?;
+    assert!(rt; found.is_empty());
+    // A data file among deletes.
+    let fault = none_of(rt.alloc(), &[P, A])?.err().ok_or("a fault")?;
+    assert!(rt; matches!(fault, ManifestFault::BadContent));
+    Ok(())
+}
+
 #[test]
 fn copies(rt: HostRuntime) -> Result<(), Fail> {
     let data = row(rt.alloc(), ManifestContent::Data, 3)?;
@@ -364,7 +398,7 @@ fn copies(rt: HostRuntime) -> Result<(), Fail> {
     )
     .ok()
     .ok_or("entries")?;
-    let entry = found.first().ok_or("an entry")?.entry.copy(rt.alloc())?;
+    let entry = found.first().ok_or("an entry")?.copy(rt.alloc())?;
     assert_eq!(rt; entry.file.path.as_slice(), b"mem://t/a.parquet".as_slice());
     let fault = ManifestFault::OutOfRange(3).copy(rt.alloc())?;
     assert!(rt; matches!(fault, ManifestFault::OutOfRange(3)));

@@ -55,8 +55,8 @@ fn cells(alloc: Global, field_ids: &[i32], bytes: &[u8]) -> Result<String, Fail>
         Err(fault) => return Ok(format!(in alloc; "{fault:?}")?),
     };
     let mut text = String::new(alloc);
-    for live in &found {
-        for cell in live.entry.file.tuple.as_slice() {
+    for entry in &found {
+        for cell in entry.file.tuple.as_slice() {
             push_cell(&mut text, alloc, cell)?;
         }
     }

@@ -174,7 +174,7 @@ fn entry_of(
         Ok(found) => found,
         Err(fault) => return Ok(format!(in alloc; "{fault:?}")?),
     };
-    let entry = &found.first().ok_or("an entry")?.entry;
+    let entry = found.first().ok_or("an entry")?;
     let snapshot = entry.snapshot_id;
     let sequence = entry.sequence_number.get();
     let file_sequence = entry.file_sequence_number.map(|number| number.get());
@@ -270,7 +270,7 @@ fn entries_of(alloc: Global, bytes: &[u8]) -> Result<String, Fail> {
         .ok()
         .ok_or("entries")?;
     let mut text = String::new(alloc);
-    for Live { entry, .. } in &found {
+    for entry in &found {
         let Entry {
             position,
             snapshot_id,

@@ -1,63 +1,63 @@
 //! Counts and bounds of files.
 
 use crate::bounds_may;
-use crate::tests::cases::{Ask, bytes, bytes_cell, filter_of, test_of, text_cell};
-use contract_words::Items;
+use crate::tests::cases::{Ask, bytes_cell, filter_of, test_of, text_cell};
 use ice_filter::Test;
-use ice_value::{Cell, ColumnBound, ColumnCount, ColumnType, FileBounds};
+use ice_value::{Cell, ColumnBounds, ColumnCounts, ColumnType, FileBounds};
 use std::alloc::{AllocError, Global};
 use std::process::Abort;
 use std::test::Fail;
 
 /// The count of a column, where there is one.
-fn count(alloc: Global, column: i32, count: Option<i64>) -> Result<Items<ColumnCount>, AllocError> {
-    let mut counts = Items::new(alloc);
+fn count<'a>(
+    alloc: Global,
+    column: i32,
+    count: Option<i64>,
+) -> Result<ColumnCounts<'a>, AllocError> {
+    let mut counts = Vec::new(alloc);
     if let Some(count) = count {
-        counts.push(ColumnCount { column, count })?;
+        counts.push((column, count))?;
     }
-    Ok(counts)
+    Ok(ColumnCounts::made(counts))
 }
 
 /// The bound of a column, where there is one.
-fn bound(
+fn bound<'a>(
     alloc: Global,
     column: i32,
-    held: Option<&[u8]>,
-) -> Result<Items<ColumnBound>, AllocError> {
-    let mut bounds = Items::new(alloc);
+    held: Option<&'a [u8]>,
+) -> Result<ColumnBounds<'a, 'a>, AllocError> {
+    let mut bounds = Vec::new(alloc);
     if let Some(held) = held {
-        bounds.push(ColumnBound {
-            column,
-            bytes: bytes(alloc, held)?,
-        })?;
+        bounds.push((column, held))?;
     }
-    Ok(bounds)
+    Ok(ColumnBounds::made(bounds))
 }
 
 /// A file with these counts of values and of nulls in column 1.
-fn counted(
+fn counted<'a>(
     alloc: Global,
     values: Option<i64>,
     nulls: Option<i64>,
-) -> Result<FileBounds, AllocError> {
+) -> Result<FileBounds<'a, 'a>, AllocError> {
     Ok(FileBounds {
         value_counts: count(alloc, 1, values)?,
         null_counts: count(alloc, 1, nulls)?,
-        lower_bounds: Items::new(alloc),
-        upper_bounds: Items::new(alloc),
+        lower_bounds: ColumnBounds::none(alloc),
+        upper_bounds: ColumnBounds::none(alloc),
     })
 }
 
 /// A file with these bounds of a column.
-fn bounded(
+fn bounded<'a>(
     alloc: Global,
     column: i32,
-    low: Option<&[u8]>,
-    high: Option<&[u8]>,
-) -> Result<FileBounds, AllocError> {
+    low: Option<&'a [u8]>,
+    high: Option<&'a [u8]>,
+) -> Result<FileBounds<'a, 'a>, AllocError> {
     Ok(FileBounds {
-        value_counts: Items::new(alloc),
-        null_counts: Items::new(alloc),
+        value_counts: ColumnCounts::none(alloc),
+        null_counts: ColumnCounts::none(alloc),
         lower_bounds: bound(alloc, column, low)?,
         upper_bounds: bound(alloc, column, high)?,
     })
@@ -68,7 +68,7 @@ fn may(
     alloc: Global,
     column_type: ColumnType,
     test: Test,
-    file: &FileBounds,
+    file: &FileBounds<'_, '_>,
 ) -> Result<bool, AllocError> {
     Ok(bounds_may(&filter_of(alloc, column_type, test)?, file))
 }
@@ -79,7 +79,7 @@ fn may_be(
     column_type: ColumnType,
     ask: Ask,
     literal: i64,
-    file: &FileBounds,
+    file: &FileBounds<'_, '_>,
 ) -> Result<bool, AllocError> {
     may(
         alloc,

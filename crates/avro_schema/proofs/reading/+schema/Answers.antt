@@ -4,7 +4,7 @@ use Rattle.std.proofs.lemmas.List.{map_push}
 use Rattle.avro_schema.specs.View.{tree, trees, parts}
 use Rattle.avro_schema.specs.Reading.{whatever_before, field_at, tree_at}
 use Rattle.avro_schema.specs.Met.{met}
-use Rattle.avro_schema.specs.declared.reading.Place.TheVariants.{Branch, Elsewhere}
+use Rattle.avro_schema.specs.declared.reading.Role.TheVariants.{Branch, Elsewhere}
 use Rattle.avro_schema.proofs.Loop.{each_on, each_fails, each_done, one_more, no_level, none_left}
 use Rattle.avro_schema.proofs.reading.+schema.Goals as goal
 
@@ -35,10 +35,10 @@ pub fields_of-returns : goal.fields_of-returns
 fields_of-returns t c = rw (← c.deref-item-items.ensures.value) (each_done (field_at (tree_at c.args.most Elsewhere c.args.space.now)) _ c.deref-item-items.result.now c.fields.item-index _ _ c.fields-test.false c.fields.invariant)
 
 pub schema_of-returns-then-levels-eq0 : goal.schema_of-returns-then-levels-eq0
-schema_of-returns-then-levels-eq0 t c = λ _. no_level c.args.levels c.args.place c.args.space.now _ (met c.args.seen) c.if-levels-eq0.true
+schema_of-returns-then-levels-eq0 t c = λ _. no_level c.args.levels c.args.role c.args.space.now _ (met c.args.seen) c.if-levels-eq0.true
 
 pub schema_of-returns-then-seen-eq0 : goal.schema_of-returns-then-seen-eq0
-schema_of-returns-then-seen-eq0 t c = λ _. none_left c.args.levels c.args.place c.args.space.now _ (met c.args.seen) c.if-seen-eq0.true
+schema_of-returns-then-seen-eq0 t c = λ _. none_left c.args.levels c.args.role c.args.space.now _ (met c.args.seen) c.if-seen-eq0.true
 
 pub schema_of-returns : goal.schema_of-returns
-schema_of-returns t c = rw (one_more c.args.levels c.args.place c.args.space.now _ (met c.args.seen) (omega arith) (omega arith)) c.node_of.ensures
+schema_of-returns t c = rw (one_more c.args.levels c.args.role c.args.space.now _ (met c.args.seen) (omega arith) (omega arith)) c.node_of.ensures

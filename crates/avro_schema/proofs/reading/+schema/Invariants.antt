@@ -3,7 +3,7 @@ use Rattle.serde_json.specs.View.{items_view}
 use Rattle.avro_schema.specs.View.{trees, parts}
 use Rattle.avro_schema.specs.Reading.{branches_at, fields_at, tree_at}
 use Rattle.avro_schema.specs.Met.{met}
-use Rattle.avro_schema.specs.declared.reading.Place.TheVariants.{Branch, Elsewhere}
+use Rattle.avro_schema.specs.declared.reading.Role.TheVariants.{Branch, Elsewhere}
 use Rattle.avro_schema.proofs.reading.+schema.Given as goal
 
 abbrev pub invariant-branches_of-branches : goal.invariant-branches_of-branches

@@ -1,5 +1,6 @@
 use Rattle.std.proofs.Common.{◌≡◌, drop}
 use Rattle.avro_schema.specs.View.{tree}
+use Rattle.ice_value.specs.Pairs.{bounds_said}
 use Rattle.ice_manifest.specs.Seen.{items_seen}
 use Rattle.ice_manifest.specs.Each.{each}
 use Rattle.ice_manifest.specs.Maps.{bound_of}
@@ -7,4 +8,4 @@ use Rattle.ice_manifest.proofs.Reading.{joined}
 use Rattle.ice_manifest.proofs.columns.bounds_of.Given as goal
 
 abbrev pub invariant-items : goal.invariant-items
-invariant-items l = joined l.bounds (each (bound_of l.map) (items_seen (tree l.schema) (drop l.item-index l.items))) ≡ each (bound_of l.map) (items_seen (tree l.schema) l.items)
+invariant-items l = joined (bounds_said l.bounds.items) (each (bound_of l.map) (items_seen (tree l.schema) (drop l.item-index l.items))) ≡ each (bound_of l.map) (items_seen (tree l.schema) l.items)

@@ -1,5 +1,6 @@
 use Rattle.std.proofs.Common.{◌≡◌, drop}
 use Rattle.avro_schema.specs.View.{tree}
+use Rattle.ice_value.specs.Pairs.{counts_said}
 use Rattle.ice_manifest.specs.Seen.{items_seen}
 use Rattle.ice_manifest.specs.Each.{each}
 use Rattle.ice_manifest.specs.Maps.{count_of}
@@ -7,4 +8,4 @@ use Rattle.ice_manifest.proofs.Reading.{joined}
 use Rattle.ice_manifest.proofs.columns.counts_of.Given as goal
 
 abbrev pub invariant-items : goal.invariant-items
-invariant-items l = joined l.counts (each (count_of l.map) (items_seen (tree l.schema) (drop l.item-index l.items))) ≡ each (count_of l.map) (items_seen (tree l.schema) l.items)
+invariant-items l = joined (counts_said l.counts.items) (each (count_of l.map) (items_seen (tree l.schema) (drop l.item-index l.items))) ≡ each (count_of l.map) (items_seen (tree l.schema) l.items)

@@ -1,14 +1,12 @@
-use Rattle.std.proofs.Common.{◌≡◌, ◌≤◌, Ok, length, sym, ap, ◌∙◌, arith}
-use Rattle.avro_file.specs.Ahead.{still_ahead}
-use Rattle.avro_file.specs.Files.{ahead, tree_of, opened}
-use Rattle.ice_manifest.specs.Schemas.{fields_in, entry_fields}
-use Rattle.ice_manifest.proofs.Few.{entries_take_bytes}
+use Rattle.std.proofs.Common.{List, Result, subst}
+use Rattle.contract_words.specs.Outcome.{Gives}
+use Rattle.ice_manifest.specs.declared.fault.ManifestFault.{ManifestFault}
+use Rattle.ice_manifest.specs.declared.fault.ManifestFault.TheVariants.{Memory}
+use Rattle.ice_manifest.specs.declared.entry.Entry.{Entry}
+use Rattle.ice_manifest.specs.Manifests.{live_of, entries_of}
+use Rattle.ice_manifest.proofs.Keeping.{all_kept}
 use Rattle.ice_manifest.proofs.manifest.read_manifest.Goals as goal
 
-pub all_entries-requires : goal.all_entries-requires
-all_entries-requires c =
-    let fits : entry_fields c.args.spec.now (fields_in (tree_of c.in_ok-container.container)) ≡ Ok tt = ap (entry_fields c.args.spec.now) (sym (c.fields_of-fields.ensures ∙ ap fields_in c.schema.ensures)) ∙ sym c.in_ok-check_entry_fields.ensures in
-    let takes = entries_take_bytes c.args.spec.now (tree_of c.in_ok-container.container) fits in
-    let few = c.objects_take_bytes.ensures c.args.bytes.now (opened c.in_ok-container.container) c.in_ok-container.ensures.exact takes in
-    let here : still_ahead (ahead c.objects.result) ≤ length c.args.bytes.now = rw c.objects.ensures.ahead few in
-    omega (arith, here, c.well_formed)
+pub returns : goal.returns
+unfolding entries_of
+returns c = subst (λ (read : Result (List Entry) ManifestFault). Gives Memory (λ found. found.items) c.read_kept.result read) (all_kept (live_of c.args.row.now c.args.spec.now c.args.bytes.now)) c.read_kept.ensures

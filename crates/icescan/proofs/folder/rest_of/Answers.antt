@@ -1,6 +1,6 @@
-use Rattle.std.proofs.Common.{rules, sym, arith, ◌≡◌, ◌++◌, List, ℕ, false, None}
+use Rattle.std.proofs.Common.{rules, sym, arith, ◌≡◌, ◌++◌, false, None}
 use Rattle.std.proofs.lemmas.Str.Pattern.{strip_prefix_char}
-use Rattle.icescan.specs.Folders.{Inside, climbs}
+use Rattle.icescan.specs.Folders.{climbs}
 use Rattle.icescan.proofs.Segments.{no_slash}
 use Rattle.icescan.proofs.folder.rest_of.Goals as goal
 
@@ -9,4 +9,10 @@ returns-in-None c =
     let behind = c.in_ok-behind.behind.now in
     let begins : c.args.path.now ≡ c.args.prefix.now ++ behind = search rules in
     let stays : climbs behind ≡ false = search rules in
-    record { behind = behind; begins = begins; stays = stays; rest_is = sym (no_slash behind (strip_prefix_char 47 behind None c.in-None.ensures.cases (omega arith))) }
+    record {
+      behind = behind;
+      begins = begins;
+      stays = stays;
+      rest_is =
+          sym (no_slash behind (strip_prefix_char 47 behind None c.in-None.ensures.cases (omega arith)));
+    }

@@ -1,4 +1,4 @@
-use Rattle.std.proofs.Common.{◌≤◌, add-one, length, refl}
+use Rattle.std.proofs.Common.{◌≤◌, add-one, length}
 use Rattle.icescan.specs.PlanTexts.{line_text}
 use Rattle.icescan.proofs.Sends.{flat_all, flat_cut, flat_next, sent_less, sent_more, sent_none}
 use Rattle.icescan.proofs.plan_text.put_lines.Goals as goal
@@ -9,7 +9,8 @@ loop-i-init g c = sent_none _ _ _ _ _
 pub returns-in_err-put_line : goal.returns-in_err-put_line
 returns-in_err-put_line g c =
     rw (flat_cut line_text c.args.lines.now c.loop-i.i c.line.result c.line.ensures)
-    (sent_more _ _ _ _ _ _ _ _ _ _ _ _ c.loop-i.invariant (sent_less _ _ _ _ _ _ _ _ _ _ _ c.from_residual.ensures.0 c.in_err-put_line.ensures))
+    (sent_more _ _ _ _ _ _ _ _ _ _ _ _ c.loop-i.invariant
+    (sent_less _ _ _ _ _ _ _ _ _ _ _ c.from_residual.ensures.0 c.in_err-put_line.ensures))
 
 pub loop-i-preserved : goal.loop-i-preserved
 loop-i-preserved g c =

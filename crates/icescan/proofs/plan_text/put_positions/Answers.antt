@@ -1,4 +1,4 @@
-use Rattle.std.proofs.Common.{◌≤◌, add-one, length, refl}
+use Rattle.std.proofs.Common.{◌≤◌, add-one, length}
 use Rattle.icescan.specs.PlanTexts.{position_text}
 use Rattle.icescan.proofs.Sends.{flat_all, flat_cut, flat_next, sent_less, sent_more, sent_none}
 use Rattle.icescan.proofs.plan_text.put_positions.Goals as goal
@@ -9,7 +9,8 @@ loop-i-init g c = sent_none _ _ _ _ _
 pub returns-in_err-put_position : goal.returns-in_err-put_position
 returns-in_err-put_position g c =
     rw (flat_cut position_text c.args.files.now c.loop-i.i c.file.result c.file.ensures)
-    (sent_more _ _ _ _ _ _ _ _ _ _ _ _ c.loop-i.invariant (sent_less _ _ _ _ _ _ _ _ _ _ _ c.from_residual.ensures.0 c.in_err-put_position.ensures))
+    (sent_more _ _ _ _ _ _ _ _ _ _ _ _ c.loop-i.invariant
+    (sent_less _ _ _ _ _ _ _ _ _ _ _ c.from_residual.ensures.0 c.in_err-put_position.ensures))
 
 pub loop-i-preserved : goal.loop-i-preserved
 loop-i-preserved g c =

@@ -1,0 +1,17 @@
+pub mod Apart
+pub mod Accepting
+pub mod Commits
+pub mod Fits
+pub mod Headings
+pub mod Leasts
+pub mod Manifests
+pub mod Reasons
+pub mod Specs
+pub mod Writable
+pub mod Replays
+pub mod Steps
+pub mod Taken
+pub mod Whole
+pub mod Searches
+pub mod Walks
+pub mod Worlds

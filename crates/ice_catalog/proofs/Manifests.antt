@@ -1,0 +1,18 @@
+-- One manifest after the other.
+use Rattle.std.proofs.Common.{◌≡◌, ◌+◌, ◌<◌, ◌≤◌, ℕ, List, [], ◌∷◌, ◌++◌, length, get_or, drop, map, refl, sym, ap, ◌∙◌, append_assoc}
+use Rattle.ice_meta.specs.Targets.{Described}
+use Rattle.ice_catalog.specs.declared.change.Ids.{Ids}
+use Rattle.ice_catalog.specs.declared.groups.Group as kept
+use Rattle.ice_catalog.specs.Adding.{manifest_of, manifests_from}
+use Rattle.ice_catalog.specs.Seen.{seen, all_seen}
+use Rattle.ice_catalog.proofs.Walks.{step_of, end_of}
+
+pub seen_more : (gs : List kept.Group) (i : ℕ) (g : kept.Group) → i < length gs → g ≡ get_or gs i g → all_seen (drop i gs) ≡ seen g ∷ all_seen (drop (i + 1) gs)
+seen_more gs i g lt is = ap all_seen (step_of gs i g lt is)
+
+pub seen_end : (gs : List kept.Group) (i : ℕ) → length gs ≤ i → all_seen (drop i gs) ≡ []
+seen_end gs i le = ap all_seen (end_of gs i le)
+
+-- what was put last moves from the rest
+pub moved : {A B : Type 0} (f : A → B) (old new whole : List B) (x : A) (rest : List A) → new ≡ old ++ f x ∷ [] → old ++ map f (x ∷ rest) ≡ whole → new ++ map f rest ≡ whole
+moved f old new whole x rest n h = ap (λ ys. ys ++ map f rest) n ∙ (append_assoc old (f x ∷ []) (map f rest) ∙ h)

@@ -1,0 +1,18 @@
+use Rattle.std.proofs.Common.{◌≡◌, Some, ap, ◌∙◌, sym, map}
+use Rattle.std.specs.Arc.{arc_value}
+use Rattle.ice_meta.specs.Targets.{described}
+use Rattle.ice_catalog.specs.declared.opening.Opening.{Opening}
+use Rattle.ice_catalog.specs.Histories.{state_of}
+use Rattle.ice_catalog.proofs.Replays.{state_at_start}
+use Rattle.ice_catalog.proofs.version.Version.open.Goals as goal
+
+pub invariant_of-result : goal.invariant_of-result
+invariant_of-result c =
+    let o : Opening = record { bytes = c.args.bytes.now; world = c.args.world } in
+    let m = c.in_ok-metadata.metadata in
+    let p : arc_value c.in_ok-opening.opening ≡ o =
+    c.in_ok-opening.ensures.ok ∙ ap (λ bs. let o : Opening = record { bytes = bs; world = c.args.world } in o) (c.from_vec-bytes.ensures ∙ c.in_ok-from_slice.ensures.items) in
+    let files : c.args.world ≡ c.in_ok-files.files = sym c.in_ok-files.ensures in
+    ap state_of (λ i. record { opening = p i; journal = map (λ e. arc_value e) (c.new-2.ensures.items i) })
+    ∙ (state_at_start o (described m.json m.table) c.in_ok-metadata.ensures
+    ∙ λ i. Some (record { metadata = described m.json m.table; world = files i }))

@@ -1,0 +1,17 @@
+//! What replaying comes to.
+
+ghost use Rattle.ice_catalog.specs.Replaying.{AddsAStep, IsTakenOff, HasEarlier, IsInParts};
+
+/// A history of one commit more leaves what that commit makes of what the history before it left; so each history
+/// before one that leaves a state leaves one too, and two journals in a row leave what the second makes of what the
+/// first left.
+pub fn a_commit_is_one_step()
+    ensures step { AddsAStep }
+    ensures earlier { HasEarlier }
+    ensures parts { IsInParts }
+{}
+
+/// The base of a history with one commit more is the history.
+pub fn the_last_commit_is_taken_off()
+    ensures { IsTakenOff }
+{}

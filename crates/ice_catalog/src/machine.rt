@@ -1,0 +1,144 @@
+//! A machine of scans and commits.
+
+ghost use Rattle.std.specs.Prelude.{◌≡◌, IfOk, length, vec_len};
+ghost use Rattle.ice_catalog.specs.Machines.{commit, event, finish_in, in_scan, merge, pin, replies_to, started, take};
+
+use crate::book::Book;
+use crate::change::{Change, Ids};
+use crate::event::{Event, Reply};
+use crate::fault::PrepareFault;
+use crate::preparing::prepare;
+use crate::scanning::Scanning;
+use crate::version::Version;
+use ice_filter::Filter;
+use std::alloc::{AllocError, Global};
+use std::marker::Model;
+use std::sync::Arc;
+
+/// The newest version, and what was pinned, with nothing for an unpinned one.
+#[derive(Drop)]
+struct Machine {
+    book: Book,
+    pins: Vec<Option<Scanning>>,
+    alloc: Global,
+}
+
+impl Model for Machine {
+    ghost use Rattle.ice_catalog.specs.Machines.{Machine as Seen};
+    ghost use Rattle.ice_catalog.specs.PinCodes.{machine_code};
+
+    ghost Value = { Seen };
+
+    ghost coded = { machine_code };
+
+    ghost view = { λ m. record { history = m.book; pins = m.pins.items } };
+}
+
+impl Machine {
+    /// One event.
+    fn step(&mut self, happens: &Event) -> Result<Reply, AllocError>
+        ensures { IfOk result (λ reply. (reply, self.new) ≡ event self.old happens.now) }
+    {
+        match happens {
+            Event::Pin { filter } => self.pin(filter),
+            Event::Commit { base, change, ids } => self.commit(*base, change, *ids),
+            Event::Take { pin, worker, i } => match self.pins.get_mut(*pin) {
+                Some(scan) => take(scan, *worker, *i),
+                None => Ok(Reply::NoSuch),
+            },
+            Event::Merge { pin, into, from } => match self.pins.get_mut(*pin) {
+                Some(scan) => merge(scan, *into, *from),
+                None => Ok(Reply::NoSuch),
+            },
+            Event::Finish { pin, worker } => match self.pins.get(*pin) {
+                Some(scan) => finish(scan, *worker),
+                None => Ok(Reply::NoSuch),
+            },
+        }
+    }
+
+    /// A scan of the newest version begins.
+    fn pin(&mut self, filter: &Filter) -> Result<Reply, AllocError>
+        ensures { IfOk result (λ reply. (reply, self.new) ≡ pin self.old filter.now) }
+    {
+        let k = self.pins.len();
+        let scan = Scanning::new(self.alloc, Arc::try_clone(self.book.current())?, filter)?;
+        let reply = match &scan {
+            Some(_) => Reply::Pinned(k),
+            None => Reply::Unpinned(k),
+        };
+        self.pins.push(scan)?;
+        Ok(reply)
+    }
+
+    /// A commit is made on the version of this number.
+    fn commit(&mut self, base: u64, change: &Change, ids: Ids) -> Result<Reply, AllocError>
+        ensures { IfOk result (λ reply. (reply, self.new) ≡ commit self.old base (record { change = change.now; ids = ids })) }
+    {
+        let number = self.book.current().number();
+        if base != number {
+            return Ok(Reply::Conflict(number));
+        }
+        let version: &Version = &**self.book.current();
+        match prepare(self.alloc, version, change, ids) {
+            Ok(prepared) => match self.book.swap_in(prepared) {
+                Ok(receipt) => Ok(Reply::Committed(receipt)),
+                Err(_) => unreachable!(),
+            },
+            Err(PrepareFault::Memory) => Err(AllocError),
+            Err(fault) => Ok(Reply::NotPrepared(fault)),
+        }
+    }
+}
+
+/// A worker takes a wanted row, where there is a scan.
+fn take(scan: &mut Option<Scanning>, worker: usize, i: usize) -> Result<Reply, AllocError>
+    ensures { IfOk result (λ reply. (reply, scan.new) ≡ in_scan (λ p. take p worker i) scan.old) }
+{
+    match scan {
+        Some(scan) => scan.take(worker, i),
+        None => Ok(Reply::NoSuch),
+    }
+}
+
+/// A worker takes over what another one took, where there is a scan.
+fn merge(scan: &mut Option<Scanning>, into: usize, from: usize) -> Result<Reply, AllocError>
+    ensures { IfOk result (λ reply. (reply, scan.new) ≡ in_scan (λ p. merge p into from) scan.old) }
+{
+    match scan {
+        Some(scan) => scan.merge(into, from),
+        None => Ok(Reply::NoSuch),
+    }
+}
+
+/// A worker finishes, where there is a scan.
+fn finish(scan: &Option<Scanning>, worker: usize) -> Result<Reply, AllocError>
+    ensures { IfOk result (λ reply. reply ≡ finish_in scan.now worker) }
+{
+    match scan {
+        Some(scan) => scan.finish(worker),
+        None => Ok(Reply::NoSuch),
+    }
+}
+
+/// Runs events in order on a table that is at this version, and answers the reply to each. The version itself never
+/// changes. It is refused for want of memory alone.
+pub fn run_events(
+    alloc: Global,
+    version: &Version,
+    events: &[Event],
+) -> Result<Vec<Reply>, AllocError>
+    ensures replies { IfOk result (λ replies. replies.items ≡ replies_to (started version.now) events.now) }
+    ensures one_each { IfOk result (λ replies. vec_len replies ≡ length events.now) }
+{
+    let mut machine = Machine {
+        book: Book::new(alloc, version.copy(alloc)?)?,
+        pins: Vec::new(alloc),
+        alloc,
+    };
+    let mut replies = Vec::new(alloc);
+    'events: for happens in events {
+        replies.push(machine.step(happens)?)?;
+    }
+    Ok(replies)
+}

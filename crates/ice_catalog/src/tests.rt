@@ -1,0 +1,63 @@
+//! What no clause says: that calls succeed, and what they give.
+
+ghost use Rattle.std.specs.Prelude.{◌≡◌, [], IfOk};
+
+mod books;
+mod seats;
+mod threads;
+
+use crate::{Change, Ids, NewFile, PrepareFault, Prepared, Version, World, prepare};
+use contract_words::{Items, Text};
+use ice_meta::MetaFault;
+use ice_value::FileContent;
+use std::alloc::{AllocError, Global};
+use uuid::Uuid;
+
+/// A table without partitions or snapshots, whose last sequence number is 4.
+const TABLE: &[u8] =
+    br#"{"format-version":2,"table-uuid":"00000000-0000-0000-0000-000000000001","location":"mem://t","last-sequence-number":4,"last-updated-ms":0,"last-column-id":1,"schemas":[{"type":"struct","schema-id":0,"fields":[{"id":1,"name":"c","required":false,"type":"int"}]}],"current-schema-id":0,"partition-specs":[{"spec-id":0,"fields":[]}],"default-spec-id":0,"last-partition-id":999}"#;
+
+/// The table as it is opened.
+fn table(alloc: Global) -> Result<Version, MetaFault>
+    ensures { IfOk result (λ version. version.journal ≡ []) }
+{
+    Version::open(alloc, TABLE, World::new(alloc))
+}
+
+/// A change that adds one data file, of 10 rows and 100 bytes.
+fn adding(alloc: Global, path: &str) -> Result<Change, AllocError> {
+    let mut files = Items::new(alloc);
+    files.push(NewFile {
+        content: FileContent::Data,
+        path: Text::from_string(String::from_str(alloc, path)?),
+        format: Text::from_string(String::from_str(alloc, "parquet")?),
+        spec_id: 0,
+        tuple: Items::new(alloc),
+        record_count: 10,
+        file_size: 100,
+        equality_ids: Items::new(alloc),
+    })?;
+    Ok(Change {
+        files,
+        deletes: Items::new(alloc),
+    })
+}
+
+/// Names of a commit that no commit of another number has.
+fn ids(number: u8) -> Ids {
+    Ids {
+        snapshot: i64::from(number),
+        uuid: Uuid::from_bytes([number; 16]),
+        now_ms: 0,
+    }
+}
+
+/// A commit that adds a file to this version.
+fn prepared(
+    alloc: Global,
+    base: &Version,
+    path: &str,
+    number: u8,
+) -> Result<Prepared, PrepareFault> {
+    prepare(alloc, base, &adding(alloc, path)?, ids(number))
+}
