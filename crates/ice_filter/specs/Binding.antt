@@ -181,4 +181,4 @@ answers t (question.Begins l) c = false
 abbrev pub leaf_meets : Schema → Row → Leaf → Bool
 leaf_meets schema row l =
     passes (λ (column : meta.Column). passes (λ t. answers t l.question (row column.id)) column.column_type)
-        (column_on (path l.column) schema)
+    (column_on (path l.column) schema)

@@ -36,9 +36,9 @@ named (Some n) = Name n
 unfoldable pub word_of : List ℕ → Token
 word_of name =
     if bytes_eq name (codes "and") then And else if bytes_eq name (codes "or") then Or
-        else if bytes_eq name (codes "not") then Not
+    else if bytes_eq name (codes "not") then Not
     else if bytes_eq name (codes "in") then In else if bytes_eq name (codes "is") then Is
-        else if bytes_eq name (codes "null") then Null
+    else if bytes_eq name (codes "null") then Null
     else if bytes_eq name (codes "starts") then Starts else if bytes_eq name (codes "with") then With
     else if bytes_eq name (codes "true") then Truth true else if bytes_eq name (codes "false") then Truth false
     else named (text_in name)
@@ -133,7 +133,7 @@ is_equals b = b == 61
 unfoldable pub mark_at : ℕ → List ℕ → Sized
 mark_at b bytes =
     if b == 40 then (Open, 1) else if b == 41 then (Close, 1) else if b == 44 then (Comma, 1)
-        else if b == 46 then (Dot, 1)
+    else if b == 46 then (Dot, 1)
     else if b == 61 then (Sign Equal, 1)
     else if b == 60 then (if second_is is_equals bytes then (Sign AtMost, 2) else (Sign Less, 1))
     else if b == 62 then (if second_is is_equals bytes then (Sign AtLeast, 2) else (Sign Greater, 1))

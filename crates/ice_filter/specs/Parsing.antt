@@ -80,7 +80,7 @@ unfoldable pub chosen_too : ℕ → ℕ → Column → Bool → Choices → Opti
 chosen_too most at c negated ls None = Err (Syntax at)
 chosen_too most at c negated ls (Some l) =
     if nat_lt (length ls.more + 1) most then going (partial.Listed c negated (record ls { more = ls.more ++ l ∷ [] }))
-        else Err TooBig
+    else Err TooBig
 
 unfoldable pub behind_is : ℕ → Column → Token → Read
 behind_is at c token.Null = Ok (progress.Done (record { column = c; question = question.Missing }))
@@ -148,12 +148,12 @@ joined add p r = if p.either then add (joined_and add p r) either else joined_an
 unfoldable pub opened : {R : Type 0} → Limits → State R → Result (State R) FilterFault
 opened m s = if nat_lt (length s.outer) m.groups
     then Ok (record { place = Wants; now = none; outer = s.now ∷ s.outer; read = s.read; leaves = s.leaves })
-        else Err TooBig
+    else Err TooBig
 
 unfoldable pub began : {R : Type 0} → Limits → State R → List ℕ → Result (State R) FilterFault
 began m s n = if nat_lt s.leaves m.leaves
     then Ok (record s { place = Inside (partial.Column (record { first = n; more = [] })); leaves = s.leaves + 1 })
-        else Err TooBig
+    else Err TooBig
 
 -- a whole operand
 unfoldable pub held : {R : Type 0} → (R → Act → R) → State R → Act → Result (State R) FilterFault
@@ -173,11 +173,17 @@ closed add at s (p ∷ ps) =
 -- an operand of `and`, of `or`
 unfoldable pub anded : {R : Type 0} → (R → Act → R) → State R → Result (State R) FilterFault
 anded add s = Ok (record s {
-    place = Wants; now = record { either = s.now.either; both = true }; read = joined_and add s.now s.read })
+  place = Wants;
+  now = record { either = s.now.either; both = true };
+  read = joined_and add s.now s.read;
+})
 
 unfoldable pub ored : {R : Type 0} → (R → Act → R) → State R → Result (State R) FilterFault
 ored add s = Ok (record s {
-    place = Wants; now = record { either = true; both = false }; read = joined add s.now s.read })
+  place = Wants;
+  now = record { either = true; both = false };
+  read = joined add s.now s.read;
+})
 
 unfoldable pub after_unit : {R : Type 0} → (R → Act → R) → ℕ → State R → Token → Result (State R) FilterFault
 after_unit add at s token.And = anded add s

@@ -40,7 +40,7 @@ abbrev pub IsPresentValue : Transform → ColumnType → Cell → Cell → Type 
 IsPresentValue Identity t c p = p ≡ c
 IsPresentValue (Bucket buckets) t c p =
     (bs : List ℕ) × (has_buckets t ≡ true) × (hashed_bytes c ≡ Some bs) ×
-        (p ≡ Whole (pos (bucket_of buckets.number bs)))
+    (p ≡ Whole (pos (bucket_of buckets.number bs)))
 IsPresentValue (Truncate width) t c p = IsTruncated width.number t c p
 IsPresentValue Year t c p = (day : ℤ) × (year : ℤ) × IsDayOf t c day × IsYearUnit day year × (p ≡ Whole year)
 IsPresentValue Month t c p = (day : ℤ) × (month : ℤ) × IsDayOf t c day × IsMonthUnit day month × (p ≡ Whole month)

@@ -34,14 +34,14 @@ parameter_in front text = if starts_with nat_eq text front then parameter_before
 abbrev pub is_plain_name : List ℕ → Bool
 is_plain_name text =
     bytes_eq text (codes "identity") || bytes_eq text (codes "year") || bytes_eq text (codes "month") ||
-        bytes_eq text (codes "day")
+    bytes_eq text (codes "day")
     || bytes_eq text (codes "hour") || bytes_eq text (codes "void")
 
 -- a known transform has this text
 abbrev pub is_name : List ℕ → Bool
 is_name text =
     is_plain_name text || is_some (parameter_in (codes "bucket[") text) ||
-        is_some (parameter_in (codes "truncate[") text)
+    is_some (parameter_in (codes "truncate[") text)
 
 -- the transform of a text; a text that no known transform has is kept
 abbrev pub IsNamed : Transform → List ℕ → Type 0
