@@ -3,6 +3,9 @@
 ghost use Rattle.std.specs.Prelude.{◌≡◌, [], IfOk};
 
 mod books;
+mod machine;
+mod names;
+mod refusals;
 mod seats;
 mod threads;
 
@@ -11,6 +14,7 @@ use contract_words::{Items, Text};
 use ice_meta::MetaFault;
 use ice_value::FileContent;
 use std::alloc::{AllocError, Global};
+use std::test::Fail;
 use uuid::Uuid;
 
 /// A table without partitions or snapshots, whose last sequence number is 4.
@@ -24,19 +28,29 @@ fn table(alloc: Global) -> Result<Version, MetaFault>
     Version::open(alloc, TABLE, World::new(alloc))
 }
 
-/// A change that adds one data file, of 10 rows and 100 bytes.
-fn adding(alloc: Global, path: &str) -> Result<Change, AllocError> {
-    let mut files = Items::new(alloc);
-    files.push(NewFile {
-        content: FileContent::Data,
+/// A file of 10 rows and 100 bytes, without partition values.
+fn file(
+    alloc: Global,
+    content: FileContent,
+    path: &str,
+    spec_id: i32,
+) -> Result<NewFile, AllocError> {
+    Ok(NewFile {
+        content,
         path: Text::from_string(String::from_str(alloc, path)?),
         format: Text::from_string(String::from_str(alloc, "parquet")?),
-        spec_id: 0,
+        spec_id,
         tuple: Items::new(alloc),
         record_count: 10,
         file_size: 100,
         equality_ids: Items::new(alloc),
-    })?;
+    })
+}
+
+/// A change that adds one data file.
+fn adding(alloc: Global, path: &str) -> Result<Change, AllocError> {
+    let mut files = Items::new(alloc);
+    files.push(file(alloc, FileContent::Data, path, 0)?)?;
     Ok(Change {
         files,
         deletes: Items::new(alloc),
@@ -60,4 +74,22 @@ fn prepared(
     number: u8,
 ) -> Result<Prepared, PrepareFault> {
     prepare(alloc, base, &adding(alloc, path)?, ids(number))
+}
+
+/// A fault in words: where it names a path, that stands last.
+fn fault_in_words(alloc: Global, fault: &PrepareFault) -> Result<Vec<u8>, Fail> {
+    match fault {
+        PrepareFault::PathTwice(path) => in_words(alloc, "twice ", path),
+        PrepareFault::BadFile(path) => in_words(alloc, "bad file ", path),
+        PrepareFault::WrongTuple(path) => in_words(alloc, "wrong tuple ", path),
+        PrepareFault::BaseBad(path) => in_words(alloc, "bad ", path),
+        PrepareFault::PathTaken(path) => in_words(alloc, "taken ", path),
+        fault => Ok(format!(in alloc; "{fault:?}")?.into_bytes()),
+    }
+}
+
+fn in_words(alloc: Global, words: &str, path: &Text) -> Result<Vec<u8>, Fail> {
+    let mut said = words.as_bytes().to_vec(alloc)?;
+    said.extend_from_slice(path.as_bytes())?;
+    Ok(said)
 }

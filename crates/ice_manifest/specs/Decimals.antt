@@ -1,6 +1,7 @@
 -- Decimal numbers in bytes: two's complement, the highest byte first (Avro 1.11.1 specification, "Decimal"; Apache
 -- Iceberg table spec v2, "Appendix A: Avro"). A writer may put more bytes than the number needs.
-use Rattle.std.specs.Prelude.{◌≡◌, ℕ, ◌+◌, ◌*◌, ◌^◌, ◌<◌, ◌==◌, ℤ, pos, ◌-ℤ◌, Bool, false, nat_lt, ◌&&◌, ◌||◌, not, List, [], ◌∷◌, length, if◌then◌else◌}
+use Rattle.std.specs.Prelude.{◌≡◌, ℕ, ◌+◌, ◌*◌, ◌^◌, ◌<◌, ◌==◌, ℤ, pos, ◌-ℤ◌, Bool, false, nat_lt, ◌&&◌, ◌||◌, not}
+use Rattle.std.specs.Prelude.{List, [], ◌∷◌, length, if◌then◌else◌}
 use Rattle.std.specs.List.{AllByRecursion}
 
 -- the number of bytes without a sign

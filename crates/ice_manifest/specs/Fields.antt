@@ -1,6 +1,7 @@
 -- What the fields of an object hold: fields are found by their ids, never by their names, and fields that no id asks
 -- for are skipped. Apache Iceberg table spec v2, "Column Projection", "Manifests" and "Appendix A: Avro".
-use Rattle.std.specs.Prelude.{ℕ, ℤ, pos, negsuc, ◌^◌, List, [], ◌∷◌, length, Bool, Option, Some, None, Result, Ok, Err, nat_lt, nat_le, if◌then◌else◌}
+use Rattle.std.specs.Prelude.{ℕ, ℤ, pos, negsuc, ◌^◌, List, [], ◌∷◌, length, Bool, Option, Some, None, Result, Ok, Err}
+use Rattle.std.specs.Prelude.{nat_lt, nat_le, if◌then◌else◌}
 use Rattle.contract_words.specs.Outcome.{◌>>=◌}
 use Rattle.avro_schema.specs.Tree.{Tree, structure, array}
 use Rattle.avro_file.specs.Value.{truth, small, whole, text, run, fields, items, Values, no_values, value}

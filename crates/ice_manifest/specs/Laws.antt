@@ -1,6 +1,7 @@
 -- What reading lists and manifests comes to, in words of rows and entries alone. Apache Iceberg table spec v2,
 -- "Manifest Lists" and "Manifests".
-use Rattle.std.specs.Prelude.{◌≡◌, ◌≢◌, ◌↔◌, ℕ, ℤ, pos, ◌+◌, ◌^◌, ◌<◌, ◌≤◌, ◌⊎◌, false, List, [], ◌∷◌, length, Option, Some, None, Ok, Err}
+use Rattle.std.specs.Prelude.{◌≡◌, ◌≢◌, ◌↔◌, ℕ, ℤ, pos, ◌+◌, ◌^◌, ◌<◌, ◌≤◌, ◌⊎◌, false, List, [], ◌∷◌, length, Option}
+use Rattle.std.specs.Prelude.{Some, None, Ok, Err}
 use Rattle.std.specs.Cmp.Lexicographic.{slice_cmp}
 use Rattle.std.specs.Ordering.{nat_cmp, is_lt}
 use Rattle.std.specs.List.{Contains, AllByRecursion}
@@ -32,10 +33,12 @@ use Rattle.ice_manifest.specs.ColumnMaps.{value_counts, null_value_counts, lower
 use Rattle.ice_manifest.specs.Maps as Maps
 use Rattle.ice_manifest.specs.Maps.{bounds_at}
 use Rattle.ice_manifest.specs.Schemas.{Fault, fields_in, row_fields, entry_fields}
-use Rattle.ice_manifest.specs.Fields.{at, there, long_at, int_at, number_at, path_at, record_at, ints_at, optional_long, optional_number}
+use Rattle.ice_manifest.specs.Fields.{at, there, long_at, int_at, number_at, path_at, record_at, ints_at, optional_long}
+use Rattle.ice_manifest.specs.Fields.{optional_number}
 use Rattle.ice_manifest.specs.Lists as Lists
 use Rattle.ice_manifest.specs.Lists.{row_of, counts_at, summaries_in, same_row, checked, in_order, rows_of}
-use Rattle.ice_manifest.specs.Manifests.{content_at, status_at, snapshot_at, sequence_at, file_sequence_at, kept, live_of, entries_of}
+use Rattle.ice_manifest.specs.Manifests.{content_at, status_at, snapshot_at, sequence_at, file_sequence_at, kept}
+use Rattle.ice_manifest.specs.Manifests.{live_of, entries_of}
 
 -- ---- files by their objects
 
@@ -74,7 +77,8 @@ pub record SaysRow (x : Typed) (r : Row) : Type 0 where
 
 -- a record in a manifest of this content, whose spec has these partition fields, and its data file and what is said of
 -- its columns, field by field
-pub record SaysFile (of_row : ManifestContent) (ps : List PartitionField) (x : Typed) (d : DataFile) (b : FileBounds) : Type 0 where
+pub record SaysFile (of_row : ManifestContent) (ps : List PartitionField) (x : Typed) (d : DataFile) (b : FileBounds)
+    : Type 0 where
   pub content : content_at of_row x ≡ Ok d.content
   pub path : path_at (pos 100) x ≡ Ok d.path
   pub tuple : tuple_at ps x ≡ Ok d.tuple
@@ -173,7 +177,8 @@ KeepsItsSnapshot = (row : Row) (x : Typed) (id : ℤ) → optional_long (pos 1) 
 
 -- one that names none, whether it was added or exists, of the one that added its manifest
 abbrev pub InheritsItsSnapshot : Type 0
-InheritsItsSnapshot = (row : Row) (x : Typed) → optional_long (pos 1) x ≡ None → snapshot_at row x ≡ row.added_snapshot_id
+InheritsItsSnapshot =
+    (row : Row) (x : Typed) → optional_long (pos 1) x ≡ None → snapshot_at row x ≡ row.added_snapshot_id
 
 -- what the files of a row's manifest may hold
 abbrev pub MayHold : ManifestContent → FileContent → Type 0

@@ -1,5 +1,6 @@
 -- The rows of a manifest list, or its first fault. Apache Iceberg table spec v2, "Manifest Lists".
-use Rattle.std.specs.Prelude.{ℕ, ℤ, pos, List, [], ◌∷◌, length, Bool, true, false, ◌&&◌, Option, Some, None, Result, Ok, Err, nat_le, ◌==◌, if◌then◌else◌}
+use Rattle.std.specs.Prelude.{ℕ, ℤ, pos, List, [], ◌∷◌, length, Bool, true, false, ◌&&◌, Option, Some, None, Result, Ok}
+use Rattle.std.specs.Prelude.{Err, nat_le, ◌==◌, if◌then◌else◌}
 use Rattle.std.specs.declared.cmp.Ordering.{Ordering}
 use Rattle.std.proofs.Math.Bool.{beq}
 use Rattle.std.specs.Ordering.{int_eq, nat_cmp, is_lt}
@@ -26,7 +27,8 @@ use Rattle.ice_manifest.specs.declared.row.ManifestContent.TheVariants.{Data, De
 use Rattle.ice_manifest.specs.Each.{each}
 use Rattle.ice_manifest.specs.Naming.{in_list, contained, told, ended}
 use Rattle.ice_manifest.specs.Schemas.{fields_in, row_fields}
-use Rattle.ice_manifest.specs.Fields.{at, there, items_of, asked, record_of, long_at, int_at, number_at, path_at, truth_at, optional_long, optional_int, optional_truth, optional_binary}
+use Rattle.ice_manifest.specs.Fields.{at, there, items_of, asked, record_of, long_at, int_at, number_at, path_at}
+use Rattle.ice_manifest.specs.Fields.{truth_at, optional_long, optional_int, optional_truth, optional_binary}
 
 -- ---- a row
 

@@ -1,6 +1,7 @@
 -- The live entries of a manifest, or its first fault. Apache Iceberg table spec v2, "Manifests", "Manifest Entry
 -- Fields" and "Sequence Number Inheritance".
-use Rattle.std.specs.Prelude.{ℕ, ℤ, pos, Bool, List, [], ◌∷◌, ◌++◌, map, filter, Option, Some, None, Result, Ok, Err, unwrap_or, ◌==◌, if◌then◌else◌}
+use Rattle.std.specs.Prelude.{ℕ, ℤ, pos, Bool, List, [], ◌∷◌, ◌++◌, map, filter, Option, Some, None, Result, Ok, Err}
+use Rattle.std.specs.Prelude.{unwrap_or, ◌==◌, if◌then◌else◌}
 use Rattle.std.specs.Ordering.{int_eq}
 use Rattle.std.specs.List.{enumerate_from, filter_map}
 use Rattle.contract_words.specs.Outcome.{◌>>=◌}
@@ -59,7 +60,14 @@ file_of of_row ps x = do
   columns ← columns_of x
   ids ← ints_at (pos 135) (pos 136) x
   Ok (
-    record { content = content; path = path; tuple = tuple; record_count = count; file_size = size; equality_ids = ids },
+    record {
+      content = content;
+      path = path;
+      tuple = tuple;
+      record_count = count;
+      file_size = size;
+      equality_ids = ids;
+    },
     columns,
   )
 

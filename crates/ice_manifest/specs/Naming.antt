@@ -3,7 +3,8 @@ use Rattle.std.specs.Prelude.{Option, Some, None, Result, Ok, Err}
 use Rattle.avro_file.specs.declared.fault.AvroFault.{AvroFault}
 use Rattle.avro_file.specs.declared.fault.AvroFault.TheVariants as container
 use Rattle.ice_manifest.specs.declared.fault.FieldFault.{FieldFault}
-use Rattle.ice_manifest.specs.declared.fault.FieldFault.TheVariants.{Missing, WrongType, OutOfRange, BadContent, FloatPartition}
+use Rattle.ice_manifest.specs.declared.fault.FieldFault.TheVariants.{Missing, WrongType, OutOfRange, BadContent}
+use Rattle.ice_manifest.specs.declared.fault.FieldFault.TheVariants.{FloatPartition}
 use Rattle.ice_manifest.specs.declared.fault.ListFault.{ListFault}
 use Rattle.ice_manifest.specs.declared.fault.ListFault.TheVariants as list
 use Rattle.ice_manifest.specs.declared.fault.ManifestFault.{ManifestFault}

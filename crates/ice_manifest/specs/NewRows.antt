@@ -1,6 +1,7 @@
--- The row of a manifest that a commit adds (Apache Iceberg table spec v2, "Manifest Lists": its counts and the summaries of
--- its partition fields).
-use Rattle.std.specs.Prelude.{ℕ, suc, ℤ, pos, ◌+ℤ◌, Bool, true, false, List, [], ◌∷◌, length, map, Option, Some, None, unwrap_or, option_and_then, if◌then◌else◌}
+-- The row of a manifest that a commit adds (Apache Iceberg table spec v2, "Manifest Lists": its counts and the
+-- summaries of its partition fields).
+use Rattle.std.specs.Prelude.{ℕ, suc, ℤ, pos, ◌+ℤ◌, Bool, true, false, List, [], ◌∷◌, length, map, Option, Some, None}
+use Rattle.std.specs.Prelude.{unwrap_or, option_and_then, if◌then◌else◌}
 use Rattle.std.specs.List.{list_any, slice_get}
 use Rattle.std.specs.Ordering.{is_lt}
 use Rattle.ice_value.specs.declared.column_type.ColumnType.{ColumnType}

@@ -1,5 +1,5 @@
--- The partition values of a file, a cell for each field of its manifest's spec, in the spec's order. Apache Iceberg table
--- spec v2, "Manifests" (partition: field ids are those of the partition fields) and "Appendix A: Avro".
+-- The partition values of a file, a cell for each field of its manifest's spec, in the spec's order. Apache Iceberg
+-- table spec v2, "Manifests" (partition: field ids are those of the partition fields) and "Appendix A: Avro".
 use Rattle.std.specs.Prelude.{ℕ, ℤ, pos, List, [], ◌∷◌, map, Option, Some, Result, Ok}
 use Rattle.contract_words.specs.Outcome.{◌>>=◌}
 use Rattle.avro_schema.specs.declared.schema.BytesKind.{BytesKind}

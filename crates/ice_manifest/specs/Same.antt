@@ -11,7 +11,8 @@ use Rattle.ice_meta.specs.declared.spec.Spec.{Spec}
 use Rattle.ice_manifest.specs.declared.row.Row.{Row}
 use Rattle.ice_manifest.specs.declared.columns.ColumnMap.{ColumnMap}
 use Rattle.ice_manifest.specs.ColumnMaps.{value_counts, null_value_counts, lower_bounds, upper_bounds}
-use Rattle.ice_manifest.specs.Fields.{at, there, text_of, record_of, items_of, optional_long, optional_truth, optional_binary}
+use Rattle.ice_manifest.specs.Fields.{at, there, text_of, record_of, items_of, optional_long, optional_truth}
+use Rattle.ice_manifest.specs.Fields.{optional_binary}
 use Rattle.ice_manifest.specs.Partitions.{cell_at}
 use Rattle.ice_manifest.specs.Lists.{rows_of}
 use Rattle.ice_manifest.specs.Manifests.{live_of}
@@ -38,14 +39,16 @@ SameCells ps x y = AllByRecursion (λ (p : PartitionField). cell_at p.field_id x
 -- the records of partition values say the same; they are not read where the spec has no field
 abbrev pub SameTuple : List PartitionField → Typed → Typed → Type 0
 SameTuple [] x y = Unit {0}
-SameTuple (p ∷ ps) x y = BothSame (SameCells (p ∷ ps)) (record_of (there (at (pos 102) x))) (record_of (there (at (pos 102) y)))
+SameTuple (p ∷ ps) x y =
+    BothSame (SameCells (p ∷ ps)) (record_of (there (at (pos 102) x))) (record_of (there (at (pos 102) y)))
 
 -- pairs that say the same count, or the same bytes, of the same column
 abbrev pub SameCount : ColumnMap → Typed → Typed → Type 0
 SameCount m x y = (optional_long m.key x ≡ optional_long m.key y) × (optional_long m.said x ≡ optional_long m.said y)
 
 abbrev pub SameBound : ColumnMap → Typed → Typed → Type 0
-SameBound m x y = (optional_long m.key x ≡ optional_long m.key y) × (optional_binary m.said x ≡ optional_binary m.said y)
+SameBound m x y =
+    (optional_long m.key x ≡ optional_long m.key y) × (optional_binary m.said x ≡ optional_binary m.said y)
 
 -- maps of which one after the other the pairs say the same
 abbrev pub SameMap : (ColumnMap → Typed → Typed → Type 0) → ColumnMap → Typed → Typed → Type 0
@@ -82,7 +85,8 @@ EachSame Same fs gs vs ws = ⊥
 abbrev pub SkipsOtherFieldsOfEntries : Type 0
 SkipsOtherFieldsOfEntries = (row : Row) (spec : Spec) (bytes other : List ℕ) (fs gs : Fields) (vs ws : List Value)
     (ending : Option AvroFault)
-    → IsManifest spec bytes fs vs ending → IsManifest spec other gs ws ending → EachSame (SameEntry spec.fields) fs gs vs ws
+    → IsManifest spec bytes fs vs ending → IsManifest spec other gs ws ending
+    → EachSame (SameEntry spec.fields) fs gs vs ws
     → live_of row spec bytes ≡ live_of row spec other
 
 -- ---- rows

@@ -4,7 +4,8 @@ use Rattle.std.specs.Prelude.{ℤ, pos, Bool, true, List, [], ◌∷◌, Option,
 use Rattle.std.specs.Ordering.{int_eq}
 use Rattle.std.specs.Option.{option_eq}
 use Rattle.contract_words.specs.Outcome.{◌>>=◌}
-use Rattle.avro_schema.specs.Tree.{Tree, null, boolean, int, long, float, double, octets, string, fixed, structure, array, union, Fields, no_fields, field, Branches, no_branches, branch}
+use Rattle.avro_schema.specs.Tree.{Tree, null, boolean, int, long, float, double, octets, string, fixed, structure}
+use Rattle.avro_schema.specs.Tree.{array, union, Fields, no_fields, field, Branches, no_branches, branch}
 use Rattle.ice_meta.specs.declared.spec.PartitionField.{PartitionField}
 use Rattle.ice_meta.specs.declared.spec.Spec.{Spec}
 use Rattle.ice_manifest.specs.declared.fault.FieldFault.{FieldFault}

@@ -3,7 +3,8 @@
 -- is a union with null.
 use Rattle.std.specs.Prelude.{Bool, true, false, ◌&&◌, ◌||◌}
 use Rattle.avro_schema.specs.declared.schema.ArrayKind.TheVariants as stands_for
-use Rattle.avro_schema.specs.Tree.{Tree, null, boolean, int, long, octets, string, structure, array, union, Branches, no_branches, branch}
+use Rattle.avro_schema.specs.Tree.{Tree, null, boolean, int, long, octets, string, structure, array, union, Branches}
+use Rattle.avro_schema.specs.Tree.{no_branches, branch}
 
 -- a whole number, of either width
 abbrev pub is_whole : Tree → Bool

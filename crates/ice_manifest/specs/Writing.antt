@@ -55,7 +55,7 @@ abbrev pub content_name : ManifestContent → List ℕ
 content_name contains.Data = codes "data"
 content_name contains.Deletes = codes "deletes"
 
--- the metadata of a file with entries of this content: the texts of the table's schema and of the spec, and of their ids
+-- the metadata of a file with entries of this content: the texts of the table's schema, of the spec, and of their ids
 abbrev pub properties_with : List ℕ → List ℕ → List ℕ → List ℕ → ManifestContent → List Property
 properties_with schema schema_id spec spec_id content =
     (codes "schema", schema)
@@ -68,14 +68,16 @@ properties_with schema schema_id spec spec_id content =
 
 -- the metadata of a manifest's file
 abbrev pub manifest_properties : Heading → List Property
-manifest_properties h = properties_with h.schema (signed_decimal h.schema_id) (spec_text h.spec) (signed_decimal h.spec.id) h.content
+manifest_properties h =
+    properties_with h.schema (signed_decimal h.schema_id) (spec_text h.spec) (signed_decimal h.spec.id) h.content
 
 abbrev pub manifest_type : Heading → Written
 manifest_type h = entry_type (partition_fields h.spec.fields h.types)
 
 -- the bytes of a manifest of these files, in their order
 abbrev pub manifest_bytes : Heading → List NewFile → List ℕ
-manifest_bytes h fs = file_bytes (in_order (schema_text (manifest_type h)) (manifest_properties h)) h.sync (map (entry_value h) fs)
+manifest_bytes h fs =
+    file_bytes (in_order (schema_text (manifest_type h)) (manifest_properties h)) h.sync (map (entry_value h) fs)
 
 -- ---- what is read of a manifest that was written
 

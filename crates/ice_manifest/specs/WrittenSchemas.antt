@@ -7,7 +7,8 @@ use Rattle.ice_value.specs.declared.column_type.ColumnType.{ColumnType}
 use Rattle.ice_value.specs.declared.column_type.ColumnType.TheVariants as column
 use Rattle.ice_meta.specs.declared.spec.PartitionField.{PartitionField}
 use Rattle.ice_manifest.specs.WrittenTypes as written
-use Rattle.ice_manifest.specs.WrittenTypes.{Written, WrittenFields, word, date, time, timestamp, fixed, uuid, list, map, structure, no_more, required, optional, optional_json, json_of}
+use Rattle.ice_manifest.specs.WrittenTypes.{Written, WrittenFields, word, date, time, timestamp, fixed, uuid, list, map}
+use Rattle.ice_manifest.specs.WrittenTypes.{structure, no_more, required, optional, optional_json, json_of}
 use Rattle.serde_json.specs.Data.{Data}
 
 -- ---- lists
@@ -90,7 +91,8 @@ pair_type name key said w =
 abbrev pub column_fields : WrittenFields
 column_fields =
     optional (codes "value_counts") (pos 109) (map (pair_type (codes "k119_v120") (pos 119) (pos 120) written.long))
-    (optional (codes "null_value_counts") (pos 110) (map (pair_type (codes "k121_v122") (pos 121) (pos 122) written.long))
+    (optional (codes "null_value_counts") (pos 110)
+    (map (pair_type (codes "k121_v122") (pos 121) (pos 122) written.long))
     (optional (codes "lower_bounds") (pos 125) (map (pair_type (codes "k126_v127") (pos 126) (pos 127) written.bytes))
     (optional (codes "upper_bounds") (pos 128) (map (pair_type (codes "k129_v130") (pos 129) (pos 130) written.bytes))
     (optional (codes "equality_ids") (pos 135) (list (pos 136) (word written.int)) no_more))))

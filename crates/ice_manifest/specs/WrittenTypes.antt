@@ -1,5 +1,5 @@
--- Avro schemas as they are written: types with the names and ids that they are given, as JSON and as trees (Avro 1.11.1,
--- "Schema Declaration"; ids and logical types by the Apache Iceberg table spec v2, "Appendix A: Avro").
+-- Avro schemas as they are written: types with the names and ids that they are given, as JSON and as trees (Avro
+-- 1.11.1, "Schema Declaration"; ids and logical types by the Apache Iceberg table spec v2, "Appendix A: Avro").
 use Rattle.std.specs.Prelude.{ℕ, ℤ, pos, Bool, List, [], ◌∷◌, ◌++◌, Some, None, codes}
 use Rattle.serde_json.specs.Data as json
 use Rattle.serde_json.specs.Data.{Data, Items}
@@ -59,10 +59,13 @@ abbrev pub logical_json : List ℕ → List ℕ → Data
 logical_json type logical = set (codes "logicalType") (json.string logical) (typed_json type)
 
 abbrev pub timestamp_json : Bool → Data
-timestamp_json adjusted = set (codes "adjust-to-utc") (json.boolean adjusted) (logical_json (codes "long") (codes "timestamp-micros"))
+timestamp_json adjusted =
+    set (codes "adjust-to-utc") (json.boolean adjusted) (logical_json (codes "long") (codes "timestamp-micros"))
 
 abbrev pub fixed_json : List ℕ → ℕ → Data
-fixed_json name size = set (codes "name") (json.string name) (set (codes "size") (json.number (json.unsigned size)) (typed_json (codes "fixed")))
+fixed_json name size =
+    set (codes "name") (json.string name)
+    (set (codes "size") (json.number (json.unsigned size)) (typed_json (codes "fixed")))
 
 abbrev pub uuid_json : List ℕ → Data
 uuid_json name = set (codes "logicalType") (json.string (codes "uuid")) (fixed_json name 16)
@@ -77,11 +80,13 @@ abbrev pub map_json : Data → Data
 map_json items = set (codes "logicalType") (json.string (codes "map")) (array_json items)
 
 abbrev pub structure_json : List ℕ → Items → Data
-structure_json name fields = set (codes "name") (json.string name) (set (codes "fields") (json.array fields) (typed_json (codes "record")))
+structure_json name fields =
+    set (codes "name") (json.string name) (set (codes "fields") (json.array fields) (typed_json (codes "record")))
 
 -- a field of a record
 abbrev pub required_json : List ℕ → ℤ → Data → Data
-required_json name id type = set (codes "name") (json.string name) (set (codes "field-id") (whole id) (set (codes "type") type no_object))
+required_json name id type =
+    set (codes "name") (json.string name) (set (codes "field-id") (whole id) (set (codes "type") type no_object))
 
 -- null or of this type
 abbrev pub or_null : Data → Data

@@ -27,7 +27,8 @@ if_some value (Some x) = chosen 1 (value x)
 
 abbrev pub summary_value : Summary → Value
 summary_value s =
-    fields (values_of (truth s.contains_null ∷ if_some truth s.contains_nan ∷ if_some run s.lower ∷ if_some run s.upper ∷ []))
+    fields (values_of (
+    truth s.contains_null ∷ if_some truth s.contains_nan ∷ if_some run s.lower ∷ if_some run s.upper ∷ []))
 
 abbrev pub summaries_value : List Summary → Value
 summaries_value ss = items (values_of (map summary_value ss))
@@ -116,4 +117,5 @@ file_value types f =
 -- the entry of a file that is added: its sequence numbers are left to be inherited
 unfoldable pub entry_value : Heading → NewFile → Value
 entry_value h f =
-    fields (values_of (small (pos 1) ∷ chosen 1 (whole h.snapshot_id) ∷ no_value ∷ no_value ∷ file_value h.types f ∷ []))
+    fields (values_of (
+    small (pos 1) ∷ chosen 1 (whole h.snapshot_id) ∷ no_value ∷ no_value ∷ file_value h.types f ∷ []))

@@ -1,12 +1,13 @@
 //! What can be added to a table.
 
 ghost use Rattle.std.specs.Prelude.{◌≡◌};
-ghost use Rattle.ice_manifest.specs.Adding.{is_partition_type as type_is_written, is_null_or_of as null_or_of, is_tuple_of as tuple_is_of};
+ghost use Rattle.ice_manifest.specs.Adding.{is_partition_type as type_is_written, is_null_or_of as null_or_of};
+ghost use Rattle.ice_manifest.specs.Adding.{is_tuple_of as tuple_is_of};
 
 use ice_value::{Cell, ColumnType};
 
-/// Whether partition values of this type can be written: of each type but float, double and decimal, and fixed ones of at
-/// most 2,147,483,647 bytes.
+/// Whether partition values of this type can be written: of each type but float, double and decimal, and fixed ones of
+/// at most 2,147,483,647 bytes.
 pub fn is_partition_type(column_type: &ColumnType) -> bool
     ensures { result ≡ type_is_written column_type.now }
 {

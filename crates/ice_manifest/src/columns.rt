@@ -10,8 +10,12 @@ ghost use Rattle.ice_manifest.specs.Fields.{items_of as items_value};
 ghost use Rattle.ice_manifest.specs.Naming.{in_manifest, told};
 ghost use Rattle.ice_manifest.specs.Seen.{result_map, fields_seen, object, listed};
 ghost use Rattle.ice_manifest.specs.Places.{lies_as_pairs, IsKey};
-ghost use Rattle.ice_manifest.specs.Schemas.{each_branch, pair_fields, is_pair, lists_pairs, map_fits, column_fields as fields_of_columns};
-ghost use Rattle.ice_manifest.specs.Maps.{count_in as count_within, count_of as count_of_item, counts_at as counts_said_at, bound_in as bound_within, bound_of as bound_of_item, bounds_at as bounds_said_at, columns_of as columns_said};
+ghost use Rattle.ice_manifest.specs.Schemas.{each_branch, pair_fields, is_pair, lists_pairs, map_fits};
+ghost use Rattle.ice_manifest.specs.Schemas.{column_fields as fields_of_columns};
+ghost use Rattle.ice_manifest.specs.Maps.{count_in as count_within, count_of as count_of_item};
+ghost use Rattle.ice_manifest.specs.Maps.{counts_at as counts_said_at, bound_in as bound_within};
+ghost use Rattle.ice_manifest.specs.Maps.{bound_of as bound_of_item, bounds_at as bounds_said_at};
+ghost use Rattle.ice_manifest.specs.Maps.{columns_of as columns_said};
 
 use crate::fault::{FieldFault, ManifestFault};
 use crate::field::{int_at, items_of, lent_binary, long_at, pairs_built};
@@ -23,8 +27,8 @@ use avro_schema::{Field, Schema};
 use ice_value::{ColumnBounds, ColumnCounts, FileBounds};
 use std::alloc::Global;
 
-/// A map from column ids, which is written as an array of pairs: its field id, those of a pair's key and of what the pair
-/// says of the column, and what this has to be.
+/// A map from column ids, which is written as an array of pairs: its field id, those of a pair's key and of what the
+/// pair says of the column, and what this has to be.
 #[derive(Clone, Copy, Debug)]
 pub struct ColumnMap {
     pub id: i32,
@@ -188,7 +192,8 @@ fn counts_of(
     items: &[Datum],
     map: ColumnMap,
 ) -> Result<Vec<(i32, i64)>, ManifestFault>
-    ensures { Gives ManifestFault.Memory (λ counts. counts_said counts.items) result (told in_manifest (each (count_of_item map) (listed (schema.entry, items.entry)))) }
+    ensures { Gives ManifestFault.Memory (λ counts. counts_said counts.items) result
+        (told in_manifest (each (count_of_item map) (listed (schema.entry, items.entry)))) }
 {
     let mut counts = Vec::with_capacity(alloc, items.len())?;
     'items: for item in items {
@@ -204,7 +209,8 @@ fn counts_of_map<'a, 'd>(
     datum: &'a Datum<'d>,
     map: ColumnMap,
 ) -> Result<ColumnCounts<'a>, ManifestFault>
-    ensures { Gives ManifestFault.Memory (λ x. x) result (told in_manifest (each (count_of_item map) (items_value (Some (tree schema.now, view datum.now))))) }
+    ensures { Gives ManifestFault.Memory (λ x. x) result
+        (told in_manifest (each (count_of_item map) (items_value (Some (tree schema.now, view datum.now))))) }
 {
     match (schema, datum) {
         (Schema::Array(items, _, _), Datum::LongPairs(pairs)) if is_lent(items, map) => {
@@ -227,7 +233,8 @@ fn counts_at<'a, 'd>(
     values: &'a [Datum<'d>],
     map: ColumnMap,
 ) -> Result<ColumnCounts<'a>, ManifestFault>
-    ensures { Gives ManifestFault.Memory (λ x. x) result (told in_manifest (counts_said_at map (object fields.now values.now))) }
+    ensures { Gives ManifestFault.Memory (λ x. x) result
+        (told in_manifest (counts_said_at map (object fields.now values.now))) }
 {
     match pick(fields, values, map.id) {
         Some((schema, datum)) => counts_of_map(alloc, schema, datum, map),
@@ -272,7 +279,8 @@ fn bounds_of<'d>(
     items: &[Datum<'d>],
     map: ColumnMap,
 ) -> Result<Vec<(i32, &'d [u8])>, ManifestFault>
-    ensures { Gives ManifestFault.Memory (λ bounds. bounds_said bounds.items) result (told in_manifest (each (bound_of_item map) (listed (schema.entry, items.entry)))) }
+    ensures { Gives ManifestFault.Memory (λ bounds. bounds_said bounds.items) result
+        (told in_manifest (each (bound_of_item map) (listed (schema.entry, items.entry)))) }
 {
     let mut bounds = Vec::with_capacity(alloc, items.len())?;
     'items: for item in items {
@@ -288,7 +296,8 @@ fn bounds_of_map<'a, 'd>(
     datum: &'a Datum<'d>,
     map: ColumnMap,
 ) -> Result<ColumnBounds<'a, 'd>, ManifestFault>
-    ensures { Gives ManifestFault.Memory (λ x. x) result (told in_manifest (each (bound_of_item map) (items_value (Some (tree schema.now, view datum.now))))) }
+    ensures { Gives ManifestFault.Memory (λ x. x) result
+        (told in_manifest (each (bound_of_item map) (items_value (Some (tree schema.now, view datum.now))))) }
 {
     match (schema, datum) {
         (Schema::Array(items, _, _), Datum::BytesPairs(pairs)) if is_lent(items, map) => {
@@ -311,7 +320,8 @@ fn bounds_at<'a, 'd>(
     values: &'a [Datum<'d>],
     map: ColumnMap,
 ) -> Result<ColumnBounds<'a, 'd>, ManifestFault>
-    ensures { Gives ManifestFault.Memory (λ x. x) result (told in_manifest (bounds_said_at map (object fields.now values.now))) }
+    ensures { Gives ManifestFault.Memory (λ x. x) result
+        (told in_manifest (bounds_said_at map (object fields.now values.now))) }
 {
     match pick(fields, values, map.id) {
         Some((schema, datum)) => bounds_of_map(alloc, schema, datum, map),
@@ -326,7 +336,8 @@ pub fn columns_of<'a, 'd>(
     fields: &'a [Field],
     values: &'a [Datum<'d>],
 ) -> Result<FileBounds<'a, 'd>, ManifestFault>
-    ensures { Gives ManifestFault.Memory (λ x. x) result (told in_manifest (columns_said (object fields.now values.now))) }
+    ensures { Gives ManifestFault.Memory (λ x. x) result
+        (told in_manifest (columns_said (object fields.now values.now))) }
 {
     Ok(FileBounds {
         value_counts: counts_at(alloc, fields, values, VALUE_COUNTS)?,

@@ -8,7 +8,14 @@ ghost use Rattle.avro_file.specs.Value.{whole, run};
 ghost use Rattle.avro_file.specs.View.{view, views, pair_with, long_pairs, bytes_pairs};
 ghost use Rattle.ice_manifest.specs.Each.{each};
 ghost use Rattle.ice_manifest.specs.Naming.{in_manifest, told};
-ghost use Rattle.ice_manifest.specs.Fields.{asked, whole_of as whole_value, truth_of as truth_value, binary_of as binary_value, items_of as items_value, there, at, long_at as long_said, int_at as int_said, number_at as number_said, path_at as path_said, truth_at as truth_said, optional_long as long_if_there, optional_int as int_if_there, optional_number as number_if_there, optional_truth as truth_if_there, optional_binary as binary_if_there, int_item as int_of_item, ints_at as ints_said, within_32 as within, not_negative as natural};
+ghost use Rattle.ice_manifest.specs.Fields.{asked, whole_of as whole_value, truth_of as truth_value};
+ghost use Rattle.ice_manifest.specs.Fields.{binary_of as binary_value, items_of as items_value, there, at};
+ghost use Rattle.ice_manifest.specs.Fields.{long_at as long_said, int_at as int_said, number_at as number_said};
+ghost use Rattle.ice_manifest.specs.Fields.{path_at as path_said, truth_at as truth_said};
+ghost use Rattle.ice_manifest.specs.Fields.{optional_long as long_if_there, optional_int as int_if_there};
+ghost use Rattle.ice_manifest.specs.Fields.{optional_number as number_if_there, optional_truth as truth_if_there};
+ghost use Rattle.ice_manifest.specs.Fields.{optional_binary as binary_if_there, int_item as int_of_item};
+ghost use Rattle.ice_manifest.specs.Fields.{ints_at as ints_said, within_32 as within, not_negative as natural};
 ghost use Rattle.ice_manifest.specs.Seen.{result_map, object, pairs_in, listed};
 
 use crate::fault::{FieldFault, ManifestFault};
@@ -260,7 +267,8 @@ fn int_items(
     items: &[Datum],
     id: i32,
 ) -> Result<Items<i32>, ManifestFault>
-    ensures { Gives ManifestFault.Memory (λ ids. ids) result (told in_manifest (each (int_of_item id) (listed (schema.entry, items.entry)))) }
+    ensures { Gives ManifestFault.Memory (λ ids. ids) result
+        (told in_manifest (each (int_of_item id) (listed (schema.entry, items.entry)))) }
 {
     let mut ids = Items::new(alloc);
     'items: for item in items {
@@ -278,7 +286,8 @@ pub fn ints_at(
     id: i32,
     item: i32,
 ) -> Result<Items<i32>, ManifestFault>
-    ensures { Gives ManifestFault.Memory (λ ids. ids) result (told in_manifest (ints_said id item (object fields.now values.now))) }
+    ensures { Gives ManifestFault.Memory (λ ids. ids) result
+        (told in_manifest (ints_said id item (object fields.now values.now))) }
 {
     match pick(fields, values, id) {
         Some((schema, datum)) => {

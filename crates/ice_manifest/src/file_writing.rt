@@ -21,7 +21,8 @@ pub fn begun(
 ) -> Result<Writer, AllocError>
     requires keys { AllByRecursion (λ p. IsUtf8 p.0) (shown_properties metadata.now) }
     requires named { (t : Tree) × (schema_of schema.now ≡ Ok t) }
-    ensures given { IfOk result (λ w. (t : Tree) → schema_of schema.now ≡ Ok t → WasGiven w (in_order schema.now (shown_properties metadata.now)) t []) }
+    ensures given { IfOk result (λ w. (t : Tree) → schema_of schema.now ≡ Ok t
+        → WasGiven w (in_order schema.now (shown_properties metadata.now)) t []) }
     ensures exact { IfOk result (λ w. WillWrite w (in_order schema.now (shown_properties metadata.now)) sync []) }
 {
     match Writer::new(alloc, schema.as_bytes(), metadata, sync) {

@@ -13,7 +13,8 @@ pub struct Heading {
     /// The id of that schema.
     pub schema_id: i32,
     pub spec: Spec,
-    /// The type of the values of each partition field, in the order of the spec's fields; of a field without values, `Int`.
+    /// The type of the values of each partition field, in the order of the spec's fields; of a field without values,
+    /// `Int`.
     pub types: Items<ColumnType>,
     pub content: ManifestContent,
     /// The snapshot that adds the files.

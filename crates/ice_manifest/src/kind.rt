@@ -2,7 +2,8 @@
 
 ghost use Rattle.std.specs.Prelude.{◌≡◌, ◌||◌};
 ghost use Rattle.avro_schema.specs.View.{tree, trees, branches_of};
-ghost use Rattle.ice_manifest.specs.Types.{each_is as each_branch, some_is as some_branch, fits as fits_wanted, is_null as is_null_type};
+ghost use Rattle.ice_manifest.specs.Types.{each_is as each_branch, some_is as some_branch, fits as fits_wanted};
+ghost use Rattle.ice_manifest.specs.Types.{is_null as is_null_type};
 ghost use Rattle.ice_manifest.specs.Kinds.{wanted};
 
 use avro_schema::{ArrayKind, Schema};

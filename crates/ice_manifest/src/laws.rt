@@ -1,7 +1,12 @@
 //! What the definitions of rows and entries come to.
 
-ghost use Rattle.ice_manifest.specs.Laws.{ReadsRowsExactly, GivesHeldRows, GivesTheRows, RefusesTwo, RefusesTheLeast, ReadsEntriesExactly, GivesHeldEntries, KeepsItsNumber, InheritsTheRows, NeedsItsOwn, KeepsItsFileNumber, InheritsTheRowsForItsFile, HasNoFileNumber, KeepsItsSnapshot, InheritsItsSnapshot, FitsItsRow, AreOfTheirSpec, HasACellForEach};
-ghost use Rattle.ice_manifest.specs.Faults.{TellsTheFirstRow, TellsTheListsEnd, TellsTheFirstEntry, TellsTheManifestsEnd, RefusesAPathExactly, RefusesManyExactly};
+ghost use Rattle.ice_manifest.specs.Laws.{ReadsRowsExactly, GivesHeldRows, GivesTheRows, RefusesTwo, RefusesTheLeast};
+ghost use Rattle.ice_manifest.specs.Laws.{ReadsEntriesExactly, GivesHeldEntries, KeepsItsNumber, InheritsTheRows};
+ghost use Rattle.ice_manifest.specs.Laws.{NeedsItsOwn, KeepsItsFileNumber, InheritsTheRowsForItsFile, HasNoFileNumber};
+ghost use Rattle.ice_manifest.specs.Laws.{KeepsItsSnapshot, InheritsItsSnapshot, FitsItsRow, AreOfTheirSpec};
+ghost use Rattle.ice_manifest.specs.Laws.{HasACellForEach};
+ghost use Rattle.ice_manifest.specs.Faults.{TellsTheFirstRow, TellsTheListsEnd, TellsTheFirstEntry};
+ghost use Rattle.ice_manifest.specs.Faults.{TellsTheManifestsEnd, RefusesAPathExactly, RefusesManyExactly};
 ghost use Rattle.ice_manifest.specs.Decimals.{KeepsTheNumber, LeavesNoneRedundant, KeepsOneSpelling};
 ghost use Rattle.ice_manifest.specs.Same.{SkipsOtherFieldsOfEntries, SkipsOtherFieldsOfRows};
 
@@ -74,8 +79,8 @@ pub fn contents_fit()
     ensures cells { HasACellForEach }
 {}
 
-/// The bytes that are kept of a decimal are the same number in two's complement, and the first of them is not redundant.
-/// So two cells of one number are the same, however many bytes each was written with.
+/// The bytes that are kept of a decimal are the same number in two's complement, and the first of them is not
+/// redundant. So two cells of one number are the same, however many bytes each was written with.
 pub fn decimals_are_kept_shortest()
     ensures number { KeepsTheNumber }
     ensures front { LeavesNoneRedundant }

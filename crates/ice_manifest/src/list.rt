@@ -11,7 +11,11 @@ ghost use Rattle.ice_manifest.specs.Each.{each};
 ghost use Rattle.ice_manifest.specs.Fields.{at, there};
 ghost use Rattle.ice_manifest.specs.Naming.{in_list, told};
 ghost use Rattle.ice_manifest.specs.Seen.{fields_seen, object, listed};
-ghost use Rattle.ice_manifest.specs.Lists.{rows_of, row_of as row_said, row_content as content_in, content_at as content_said, counts_at as counts_said, summary_in as summary_said, summary_of as summary_of_item, summaries_in, rows_ahead, path_twice as twice_in, in_order as ordered, checked as checked_in, path_order};
+ghost use Rattle.ice_manifest.specs.Lists.{rows_of, row_of as row_said, row_content as content_in};
+ghost use Rattle.ice_manifest.specs.Lists.{content_at as content_said, counts_at as counts_said};
+ghost use Rattle.ice_manifest.specs.Lists.{summary_in as summary_said, summary_of as summary_of_item, summaries_in};
+ghost use Rattle.ice_manifest.specs.Lists.{rows_ahead, path_twice as twice_in, in_order as ordered};
+ghost use Rattle.ice_manifest.specs.Lists.{checked as checked_in, path_order};
 
 use crate::counts::Counts;
 use crate::fault::{FieldFault, ListFault};
@@ -75,7 +79,8 @@ fn summary_in(alloc: Global, fields: &[Field], values: &[Datum]) -> Result<Summa
 /// The summary that an item of a list says.
 #[tactic(auto, unfolding(crate::specs::Lists::summary_of))]
 fn summary_of(alloc: Global, schema: &Schema, datum: &Datum) -> Result<Summary, ListFault>
-    ensures { Gives ListFault.Memory (λ x. x) result (told in_list (summary_of_item (tree schema.now, view datum.now))) }
+    ensures { Gives ListFault.Memory (λ x. x) result
+        (told in_list (summary_of_item (tree schema.now, view datum.now))) }
 {
     match itself(schema, datum) {
         Some((Schema::Record(fields), Datum::Record(values))) => summary_in(alloc, fields, values),
@@ -88,7 +93,8 @@ fn summaries_of(
     schema: &Schema,
     items: &[Datum],
 ) -> Result<Items<Summary>, ListFault>
-    ensures { Gives ListFault.Memory (λ x. x) result (told in_list (each summary_of_item (listed (schema.entry, items.entry)))) }
+    ensures { Gives ListFault.Memory (λ x. x) result
+        (told in_list (each summary_of_item (listed (schema.entry, items.entry)))) }
 {
     let mut summaries = Items::new(alloc);
     'items: for item in items {
@@ -102,7 +108,8 @@ fn partitions_at(
     fields: &[Field],
     values: &[Datum],
 ) -> Result<Option<Items<Summary>>, ListFault>
-    ensures { Gives ListFault.Memory (λ x. x) result (told in_list (summaries_in (there (at (pos 507) (object fields.now values.now))))) }
+    ensures { Gives ListFault.Memory (λ x. x) result
+        (told in_list (summaries_in (there (at (pos 507) (object fields.now values.now))))) }
 {
     let Some((schema, datum)) = pick(fields, values, 507) else {
         return Ok(None);
@@ -133,7 +140,8 @@ fn row_at(alloc: Global, fields: &[Field], values: &[Datum]) -> Result<Row, List
 
 /// The row that an object of these fields says.
 fn row_of(alloc: Global, fields: &[Field], datum: &Datum) -> Result<Row, ListFault>
-    ensures { Gives ListFault.Memory (λ x. x) result (told in_list (row_said (structure (fields_seen fields.now), view datum.now))) }
+    ensures { Gives ListFault.Memory (λ x. x) result
+        (told in_list (row_said (structure (fields_seen fields.now), view datum.now))) }
 {
     match record_values(datum) {
         Some(values) => row_at(alloc, fields, values),
@@ -143,7 +151,8 @@ fn row_of(alloc: Global, fields: &[Field], datum: &Datum) -> Result<Row, ListFau
 
 /// The rows of all objects that are to come, in the file's order.
 fn all_rows(alloc: Global, fields: &[Field], mut reader: Objects<'_>) -> Result<Vec<Row>, ListFault>
-    ensures { Gives ListFault.Memory (λ rows. rows.items) result (rows_ahead (fields_seen fields.now) (ahead reader.entry)) }
+    ensures { Gives ListFault.Memory (λ rows. rows.items) result
+        (rows_ahead (fields_seen fields.now) (ahead reader.entry)) }
 {
     let mut rows = Vec::new(alloc);
     'objects: while let Some(object) = reader.next()? {

@@ -33,8 +33,10 @@ fn list_schema(alloc: Global) -> Result<String, AllocError>
 
 /// A list without rows.
 fn without_rows(alloc: Global, sync: [u8; 16]) -> Result<Writer, AllocError>
-    ensures given { IfOk result (λ w. WasGiven w (in_order (schema_text type_of_row) (version_property ∷ [])) (written_tree type_of_row) []) }
-    ensures exact { IfOk result (λ w. WillWrite w (in_order (schema_text type_of_row) (version_property ∷ [])) sync []) }
+    ensures given { IfOk result (λ w. WasGiven w (in_order (schema_text type_of_row) (version_property ∷ []))
+        (written_tree type_of_row) []) }
+    ensures exact { IfOk result (λ w.
+        WillWrite w (in_order (schema_text type_of_row) (version_property ∷ [])) sync []) }
 {
     let schema = list_schema(alloc)?;
     let version = Property {
@@ -46,8 +48,10 @@ fn without_rows(alloc: Global, sync: [u8; 16]) -> Result<Writer, AllocError>
 
 /// The list with these rows.
 fn with_rows(alloc: Global, writer: Writer, rows: &[Row]) -> Result<Writer, AllocError>
-    ensures given { (ps : List Shown) (s : Tree) → WasGiven writer ps s [] → IfOk result (λ w. WasGiven w ps s (map row_value rows.now)) }
-    ensures exact { (ps : List Shown) (sync : List ℕ) → WillWrite writer ps sync [] → IfOk result (λ w. WillWrite w ps sync (map row_value rows.now)) }
+    ensures given { (ps : List Shown) (s : Tree) → WasGiven writer ps s []
+        → IfOk result (λ w. WasGiven w ps s (map row_value rows.now)) }
+    ensures exact { (ps : List Shown) (sync : List ℕ) → WillWrite writer ps sync []
+        → IfOk result (λ w. WillWrite w ps sync (map row_value rows.now)) }
     ensures fits { IfOk result (λ _. AllByRecursion RowFits rows.now) }
 {
     let mut writer = writer;
@@ -62,8 +66,10 @@ fn with_rows(alloc: Global, writer: Writer, rows: &[Row]) -> Result<Writer, Allo
 /// rows that can be read are read again, where no two of them have one path and they are in the order of the paths.
 pub fn write_list(alloc: Global, rows: &[Row], sync: [u8; 16]) -> Result<Vec<u8>, AllocError>
     ensures bytes { IfOk result (λ bytes. bytes.items ≡ list_bytes rows.now sync) }
-    ensures holds { AllByRecursion IsReadable rows.now → IfOk result (λ bytes. HoldsFile (written_tree type_of_row) (map row_value rows.now) bytes.items) }
-    ensures read_back { AllByRecursion IsReadable rows.now → IsStrictlySortedBy path_order rows.now → length rows.now ≤ 65536 → IfOk result (λ bytes. rows_of bytes.items ≡ Ok rows.now) }
+    ensures holds { AllByRecursion IsReadable rows.now
+        → IfOk result (λ bytes. HoldsFile (written_tree type_of_row) (map row_value rows.now) bytes.items) }
+    ensures read_back { AllByRecursion IsReadable rows.now → IsStrictlySortedBy path_order rows.now
+        → length rows.now ≤ 65536 → IfOk result (λ bytes. rows_of bytes.items ≡ Ok rows.now) }
 {
     let writer = with_rows(alloc, without_rows(alloc, sync)?, rows)?;
     writer.finish()

@@ -8,7 +8,13 @@ ghost use Rattle.avro_file.specs.Ahead.{still_ahead};
 ghost use Rattle.avro_file.specs.Files.{ahead};
 ghost use Rattle.ice_manifest.specs.Naming.{in_manifest, told};
 ghost use Rattle.ice_manifest.specs.Seen.{fields_seen, object};
-ghost use Rattle.ice_manifest.specs.Manifests.{live_of, status_of as status_in, status_at as status_said, content_of as content_in, content_at as content_said, inherited as inherited_in, file_inherited as file_inherited_in, sequence_at as sequence_said, file_sequence_at as file_sequence_said, snapshot_at as snapshot_said, file_of as file_said, live_at as live_said, entry_of as entry_said, entries_ahead, kept_of, kept_behind, entries_kept, entries_of};
+ghost use Rattle.ice_manifest.specs.Manifests.{live_of, status_of as status_in, status_at as status_said};
+ghost use Rattle.ice_manifest.specs.Manifests.{content_of as content_in, content_at as content_said};
+ghost use Rattle.ice_manifest.specs.Manifests.{inherited as inherited_in, file_inherited as file_inherited_in};
+ghost use Rattle.ice_manifest.specs.Manifests.{sequence_at as sequence_said, file_sequence_at as file_sequence_said};
+ghost use Rattle.ice_manifest.specs.Manifests.{snapshot_at as snapshot_said, file_of as file_said};
+ghost use Rattle.ice_manifest.specs.Manifests.{live_at as live_said, entry_of as entry_said, entries_ahead, kept_of};
+ghost use Rattle.ice_manifest.specs.Manifests.{kept_behind, entries_kept, entries_of};
 ghost use Rattle.ice_meta.specs.Partitioning.{is_unpartitioned};
 
 use crate::columns::columns_of;
@@ -69,8 +75,8 @@ fn content_at(
     content_of(of_row, int_at(fields, values, 134)?)
 }
 
-/// The file that a record's fields say, in a manifest of this content whose spec has these partition fields, and what is
-/// said of the file's columns.
+/// The file that a record's fields say, in a manifest of this content whose spec has these partition fields, and what
+/// is said of the file's columns.
 #[tactic(auto, unfolding(crate::specs::Manifests::file_of))]
 fn file_of<'a, 'd>(
     alloc: Global,
@@ -79,7 +85,8 @@ fn file_of<'a, 'd>(
     fields: &'a [Field],
     values: &'a [Datum<'d>],
 ) -> Result<(FileView<'d>, FileBounds<'a, 'd>), ManifestFault>
-    ensures { Gives ManifestFault.Memory (λ x. x) result (told in_manifest (file_said of_row partition.now (object fields.now values.now))) }
+    ensures { Gives ManifestFault.Memory (λ x. x) result
+        (told in_manifest (file_said of_row partition.now (object fields.now values.now))) }
 {
     let content = content_at(of_row, fields, values)?;
     let path = path_at(fields, values, 100)?;
@@ -186,7 +193,8 @@ fn live_at<'a, 'd>(
     fields: &'a [Field],
     values: &'a [Datum<'d>],
 ) -> Result<Live<'a, 'd>, ManifestFault>
-    ensures { Gives ManifestFault.Memory (λ x. x) result (live_said source.now.row.now source.now.spec.now position status (object fields.now values.now)) }
+    ensures { Gives ManifestFault.Memory (λ x. x) result
+        (live_said source.now.row.now source.now.spec.now position status (object fields.now values.now)) }
 {
     let row = source.row;
     let snapshot_id = snapshot_at(row, fields, values);
@@ -218,7 +226,8 @@ fn entry_at<'a, 'd>(
     fields: &'a [Field],
     values: &'a [Datum<'d>],
 ) -> Result<Option<Live<'a, 'd>>, ManifestFault>
-    ensures { Gives ManifestFault.Memory (λ x. x) result (entry_said source.now.row.now source.now.spec.now position (object fields.now values.now)) }
+    ensures { Gives ManifestFault.Memory (λ x. x) result
+        (entry_said source.now.row.now source.now.spec.now position (object fields.now values.now)) }
 {
     let status = status_at(fields, values)?;
     if status == Status::Deleted {
@@ -235,7 +244,9 @@ fn entry_of<'a, 'd>(
     fields: &'a [Field],
     datum: &'a Datum<'d>,
 ) -> Result<Option<Live<'a, 'd>>, ManifestFault>
-    ensures { Gives ManifestFault.Memory (λ x. x) result (entry_said source.now.row.now source.now.spec.now position (structure (fields_seen fields.now), view datum.now)) }
+    ensures { Gives ManifestFault.Memory (λ x. x) result
+        (entry_said source.now.row.now source.now.spec.now position
+        (structure (fields_seen fields.now), view datum.now)) }
 {
     match record_values(datum) {
         Some(values) => entry_at(alloc, source, position, fields, values),
@@ -268,7 +279,10 @@ fn read_object<K: Keep>(
     fields: &[Field],
     datum: &Datum<'_>,
 ) -> Result<(), ManifestFault>
-    ensures { Gives ManifestFault.Memory (λ _. found.new.items) result (kept_behind (K.kept keep.now) found.old.items (entry_said source.now.row.now source.now.spec.now position (structure (fields_seen fields.now), view datum.now))) }
+    ensures { Gives ManifestFault.Memory (λ _. found.new.items) result
+        (kept_behind (K.kept keep.now) found.old.items
+        (entry_said source.now.row.now source.now.spec.now position
+        (structure (fields_seen fields.now), view datum.now))) }
 {
     if let Some(live) = entry_of(alloc, source, position, fields, datum)? {
         push_kept(alloc, keep, found, live)?;
@@ -285,7 +299,9 @@ fn all_entries<K: Keep>(
     mut reader: Objects<'_>,
 ) -> Result<Vec<Entry>, ManifestFault>
     requires { still_ahead (ahead reader) < 2 ^ 64 }
-    ensures { Gives ManifestFault.Memory (λ found. found.items) result (kept_of (K.kept keep.now) (entries_ahead source.now.row.now source.now.spec.now (fields_seen fields.now) 0 (ahead reader.entry))) }
+    ensures { Gives ManifestFault.Memory (λ found. found.items) result
+        (kept_of (K.kept keep.now) (entries_ahead source.now.row.now source.now.spec.now (fields_seen fields.now) 0
+        (ahead reader.entry))) }
 {
     let mut found = Vec::new(alloc);
     let mut position: u64 = 0;
@@ -315,7 +331,8 @@ pub fn read_kept<K: Keep>(
 ) -> Result<Vec<Entry>, ManifestFault>
     // The spec is that of the row's id.
     requires { spec.now.id ≡ row.now.spec_id }
-    ensures { Gives ManifestFault.Memory (λ found. found.items) result (kept_of (K.kept keep.now) (live_of row.now spec.now bytes.now)) }
+    ensures { Gives ManifestFault.Memory (λ found. found.items) result
+        (kept_of (K.kept keep.now) (live_of row.now spec.now bytes.now)) }
 {
     let container = Container::open(alloc, bytes)?;
     let fields = fields_of(container.schema());

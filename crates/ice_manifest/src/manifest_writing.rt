@@ -21,7 +21,10 @@ ghost use Rattle.ice_manifest.specs.Fitting.{FileFits};
 ghost use Rattle.ice_manifest.specs.Manifests.{entries_of};
 ghost use Rattle.ice_manifest.specs.WrittenTypes.{json_of, written_tree};
 ghost use Rattle.ice_manifest.specs.WrittenValues.{entry_value};
-ghost use Rattle.ice_manifest.specs.Writing.{schema_text, version_property, partition_field_json as json_of_field, partition_fields_json as json_of_fields, spec_text as text_of_spec, content_name, manifest_type as type_of_manifest, properties_with, manifest_properties, manifest_bytes, new_entries};
+ghost use Rattle.ice_manifest.specs.Writing.{schema_text, version_property, partition_field_json as json_of_field};
+ghost use Rattle.ice_manifest.specs.Writing.{partition_fields_json as json_of_fields, spec_text as text_of_spec};
+ghost use Rattle.ice_manifest.specs.Writing.{content_name, manifest_type as type_of_manifest, properties_with};
+ghost use Rattle.ice_manifest.specs.Writing.{manifest_properties, manifest_bytes, new_entries};
 
 use crate::file_writing::begun;
 use crate::heading::Heading;
@@ -112,7 +115,8 @@ fn texts_of(alloc: Global, heading: &Heading) -> Result<Texts, AllocError>
 
 /// The metadata of a manifest's file.
 fn properties_of<'a>(texts: &'a Texts, content: ManifestContent) -> [Property<'a>; 6]
-    ensures { shown_properties result ≡ properties_with texts.now.schema texts.now.schema_id texts.now.spec texts.now.spec_id content }
+    ensures { shown_properties result ≡ properties_with texts.now.schema texts.now.schema_id texts.now.spec
+        texts.now.spec_id content }
 {
     [
         Property {
@@ -145,8 +149,11 @@ fn properties_of<'a>(texts: &'a Texts, content: ManifestContent) -> [Property<'a
 /// A manifest without entries.
 fn without_entries(alloc: Global, heading: &Heading) -> Result<Writer, AllocError>
     requires { IsHeading heading.now }
-    ensures given { IfOk result (λ w. WasGiven w (in_order (schema_text (type_of_manifest heading.now)) (manifest_properties heading.now)) (written_tree (type_of_manifest heading.now)) []) }
-    ensures exact { IfOk result (λ w. WillWrite w (in_order (schema_text (type_of_manifest heading.now)) (manifest_properties heading.now)) heading.now.sync []) }
+    ensures given { IfOk result (λ w. WasGiven w
+        (in_order (schema_text (type_of_manifest heading.now)) (manifest_properties heading.now))
+        (written_tree (type_of_manifest heading.now)) []) }
+    ensures exact { IfOk result (λ w. WillWrite w
+        (in_order (schema_text (type_of_manifest heading.now)) (manifest_properties heading.now)) heading.now.sync []) }
     ensures ids { IfOk result (λ _. AllByRecursion (λ (p : FieldValue). IsId p.field_id) heading.now.spec.fields) }
 {
     let schema = manifest_schema(alloc, heading)?;
@@ -163,8 +170,10 @@ fn with_files(
     files: &[&NewFile],
 ) -> Result<Writer, AllocError>
     requires { AllByRecursion (λ (f : FileValue). is_tuple_of heading.now.types f.tuple ≡ true) (lent files.now) }
-    ensures given { (ps : List Shown) (s : Tree) → WasGiven writer ps s [] → IfOk result (λ w. WasGiven w ps s (map (entry_value heading.now) (lent files.now))) }
-    ensures exact { (ps : List Shown) (sync : List ℕ) → WillWrite writer ps sync [] → IfOk result (λ w. WillWrite w ps sync (map (entry_value heading.now) (lent files.now))) }
+    ensures given { (ps : List Shown) (s : Tree) → WasGiven writer ps s []
+        → IfOk result (λ w. WasGiven w ps s (map (entry_value heading.now) (lent files.now))) }
+    ensures exact { (ps : List Shown) (sync : List ℕ) → WillWrite writer ps sync []
+        → IfOk result (λ w. WillWrite w ps sync (map (entry_value heading.now) (lent files.now))) }
     ensures fits { IfOk result (λ _. AllByRecursion FileFits (lent files.now)) }
     ensures snapshot { IsLong heading.now.snapshot_id }
 {
@@ -177,9 +186,9 @@ fn with_files(
     Ok(writer)
 }
 
-/// The bytes of a manifest with an entry for each of these files, in their order: each is added by the heading's snapshot
-/// and has no sequence numbers, so that it inherits those of its manifest's row. The entries are read again under a row of
-/// the heading's content.
+/// The bytes of a manifest with an entry for each of these files, in their order: each is added by the heading's
+/// snapshot and has no sequence numbers, so that it inherits those of its manifest's row. The entries are read again
+/// under a row of the heading's content.
 pub fn write_manifest(
     alloc: Global,
     heading: &Heading,
@@ -188,8 +197,10 @@ pub fn write_manifest(
     requires heading { IsHeading heading.now }
     requires files { AreNewFiles heading.now (lent files.now) }
     ensures bytes { IfOk result (λ bytes. bytes.items ≡ manifest_bytes heading.now (lent files.now)) }
-    ensures holds { IfOk result (λ bytes. HoldsFile (written_tree (type_of_manifest heading.now)) (map (entry_value heading.now) (lent files.now)) bytes.items) }
-    ensures read_back { IfOk result (λ bytes. (row : RowValue) → row.content ≡ heading.now.content → entries_of row heading.now.spec bytes.items ≡ Ok (new_entries row heading.now 0 (lent files.now))) }
+    ensures holds { IfOk result (λ bytes. HoldsFile (written_tree (type_of_manifest heading.now))
+        (map (entry_value heading.now) (lent files.now)) bytes.items) }
+    ensures read_back { IfOk result (λ bytes. (row : RowValue) → row.content ≡ heading.now.content
+        → entries_of row heading.now.spec bytes.items ≡ Ok (new_entries row heading.now 0 (lent files.now))) }
 {
     let writer = without_entries(alloc, heading)?;
     let writer = with_files(alloc, writer, heading, files)?;

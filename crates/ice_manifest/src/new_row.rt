@@ -1,12 +1,17 @@
 //! The row of a manifest that a commit adds.
 
-ghost use Rattle.std.specs.Prelude.{◌≡◌, ◌≤◌, ◌^◌, ◌+◌, ◌+ℤ◌, ℕ, pos, map, length, true, not, Option, Some, IfOk, unwrap_or};
+ghost use Rattle.std.specs.Prelude.{◌≡◌, ◌≤◌, ◌^◌, ◌+◌, ◌+ℤ◌, ℕ, pos, map, length, true, not, Option, Some, IfOk};
+ghost use Rattle.std.specs.Prelude.{unwrap_or};
 ghost use Rattle.std.specs.List.{AllByRecursion, list_any, slice_get};
 ghost use Rattle.std.specs.Option.{option_copied, is_some};
 ghost use Rattle.ice_value.specs.declared.cell.Cell.TheVariants.{Null};
 ghost use Rattle.ice_manifest.specs.declared.new_file.NewFile.{NewFile as FileValue};
 ghost use Rattle.ice_manifest.specs.Adding.{AreNewFiles, IsAmount, lent};
-ghost use Rattle.ice_manifest.specs.NewRows.{is_null as null_cell, lesser as lesser_of, greater as greater_of, unless_null, least as least_value, greatest as greatest_value, bound_of as bound_for, summary_of as summary_with, cell_at as cell_in, column_of, summaries_from, records_in as records_within, new_counts as counts_of, new_row};
+ghost use Rattle.ice_manifest.specs.NewRows.{is_null as null_cell, lesser as lesser_of, greater as greater_of};
+ghost use Rattle.ice_manifest.specs.NewRows.{unless_null, least as least_value, greatest as greatest_value};
+ghost use Rattle.ice_manifest.specs.NewRows.{bound_of as bound_for, summary_of as summary_with, cell_at as cell_in};
+ghost use Rattle.ice_manifest.specs.NewRows.{column_of, summaries_from, records_in as records_within};
+ghost use Rattle.ice_manifest.specs.NewRows.{new_counts as counts_of, new_row};
 
 use crate::counts::Counts;
 use crate::heading::Heading;
@@ -193,8 +198,8 @@ fn new_counts(files: &[&NewFile]) -> Counts
 }
 
 impl Row {
-    /// The row of a new manifest of these files, which lies at this path, has so many bytes, and is added by a commit of
-    /// this sequence number.
+    /// The row of a new manifest of these files, which lies at this path, has so many bytes, and is added by a commit
+    /// of this sequence number.
     #[tactic(auto, unfolding(crate::specs::NewRows::new_row))]
     pub fn of_new(
         alloc: Global,

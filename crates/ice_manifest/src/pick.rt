@@ -4,7 +4,8 @@ ghost use Rattle.std.specs.Prelude.{◌≡◌, ◌<◌, [], ◌∷◌, length, o
 ghost use Rattle.avro_schema.specs.View.{tree, trees, branches_of};
 ghost use Rattle.avro_file.specs.Value.{Value, fields};
 ghost use Rattle.avro_file.specs.View.{view};
-ghost use Rattle.avro_file.specs.Picking.{present, of_branch, field_value, unless_null as unless_null_value, pick as pick_value};
+ghost use Rattle.avro_file.specs.Picking.{present, of_branch, field_value, unless_null as unless_null_value};
+ghost use Rattle.avro_file.specs.Picking.{pick as pick_value};
 ghost use Rattle.ice_manifest.specs.Fields.{at, there, record_of};
 ghost use Rattle.ice_manifest.specs.Seen.{fields_seen, values as values_seen, object, typed, record_lent, as_record};
 ghost use Rattle.ice_manifest.specs.Places.{place_of};
@@ -43,7 +44,8 @@ fn find<'a, 'd>(
 
 /// The type of a branch.
 fn branch_at(branches: &[Schema], branch: usize) -> Option<&Schema>
-    ensures { (v : Value) → option_map (λ s. (tree s.now, v)) result ≡ of_branch (branches_of (trees branches.now)) branch v }
+    ensures { (v : Value) → option_map (λ s. (tree s.now, v)) result ≡
+        of_branch (branches_of (trees branches.now)) branch v }
 {
     if branch < branches.len() {
         Some(&branches[branch])

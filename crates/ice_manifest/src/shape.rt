@@ -4,7 +4,13 @@ ghost use Rattle.std.specs.Prelude.{◌≡◌, [], ◌∷◌, option_map, Some};
 ghost use Rattle.avro_schema.specs.View.{tree, trees, branches_of as branches_of_trees};
 ghost use Rattle.ice_manifest.specs.Kinds.{wanted};
 ghost use Rattle.ice_manifest.specs.Seen.{result_map, fields_seen};
-ghost use Rattle.ice_manifest.specs.Schemas.{type_at as type_said, required as required_type, optional as optional_type, has_items as has_items_wanted, items_in, branches_in, each_branch, lists_wholes as list_of_wholes, summary_fields as fields_of_summary, is_summary, lists_summaries as list_of_summaries, count_fields as fields_of_counts, row_fields as fields_of_row, ids_fit, file_fields as fields_of_file, is_file, entry_fields as fields_of_entry, fields_in};
+ghost use Rattle.ice_manifest.specs.Schemas.{type_at as type_said, required as required_type};
+ghost use Rattle.ice_manifest.specs.Schemas.{optional as optional_type, has_items as has_items_wanted, items_in};
+ghost use Rattle.ice_manifest.specs.Schemas.{branches_in, each_branch, lists_wholes as list_of_wholes};
+ghost use Rattle.ice_manifest.specs.Schemas.{summary_fields as fields_of_summary, is_summary};
+ghost use Rattle.ice_manifest.specs.Schemas.{lists_summaries as list_of_summaries, count_fields as fields_of_counts};
+ghost use Rattle.ice_manifest.specs.Schemas.{row_fields as fields_of_row, ids_fit, file_fields as fields_of_file};
+ghost use Rattle.ice_manifest.specs.Schemas.{is_file, entry_fields as fields_of_entry, fields_in};
 
 use crate::columns::check_column_fields;
 use crate::fault::FieldFault;
@@ -53,7 +59,8 @@ pub fn required(fields: &[Field], kind: Kind, id: i32) -> Result<&Schema, FieldF
 /// The type of the field with this id, which has to be of the kind if it is there.
 #[tactic(auto, unfolding(crate::specs::Schemas::optional))]
 pub fn optional(fields: &[Field], kind: Kind, id: i32) -> Result<Option<&Schema>, FieldFault>
-    ensures { result_map (option_map (λ s. tree s.now)) result ≡ optional_type (wanted kind) id (fields_seen fields.now) }
+    ensures { result_map (option_map (λ s. tree s.now)) result ≡
+        optional_type (wanted kind) id (fields_seen fields.now) }
 {
     let Some(schema) = type_at(fields, id) else {
         return Ok(None);

@@ -5,8 +5,10 @@ ghost use Rattle.contract_words.specs.Outcome.{Gives};
 ghost use Rattle.avro_schema.specs.View.{tree, trees, branches_of as branches_of_trees};
 ghost use Rattle.ice_manifest.specs.Naming.{in_manifest, told};
 ghost use Rattle.ice_manifest.specs.Seen.{result_map, fields_seen, object};
-ghost use Rattle.ice_manifest.specs.Schemas.{each_branch, is_cell, each_is_cell, cells_fit, is_tuple, tuple_in as tuple_within, type_at as type_said};
-ghost use Rattle.ice_manifest.specs.Partitions.{bytes_kind as kind_of_bytes, kept_bytes as bytes_to_keep, cell_at as cell_said, cells_of as cells_said, tuple_at as tuple_said};
+ghost use Rattle.ice_manifest.specs.Schemas.{each_branch, is_cell, each_is_cell, cells_fit, is_tuple};
+ghost use Rattle.ice_manifest.specs.Schemas.{tuple_in as tuple_within, type_at as type_said};
+ghost use Rattle.ice_manifest.specs.Partitions.{bytes_kind as kind_of_bytes, kept_bytes as bytes_to_keep};
+ghost use Rattle.ice_manifest.specs.Partitions.{cell_at as cell_said, cells_of as cells_said, tuple_at as tuple_said};
 
 use crate::decimal::shortest;
 use crate::fault::{FieldFault, ManifestFault};
@@ -174,7 +176,8 @@ pub fn tuple_at(
     fields: &[Field],
     values: &[Datum],
 ) -> Result<Items<Cell>, ManifestFault>
-    ensures { Gives ManifestFault.Memory (λ x. x) result (told in_manifest (tuple_said partition.now (object fields.now values.now))) }
+    ensures { Gives ManifestFault.Memory (λ x. x) result
+        (told in_manifest (tuple_said partition.now (object fields.now values.now))) }
 {
     if partition.is_empty() {
         return Ok(Items::new(alloc));

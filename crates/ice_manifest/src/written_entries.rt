@@ -9,7 +9,9 @@ ghost use Rattle.ice_value.specs.declared.cell.Cell.{Cell as CellValue};
 ghost use Rattle.ice_meta.specs.Committing.{IsLong};
 ghost use Rattle.ice_manifest.specs.Adding.{IsId, is_null_or_of, is_tuple_of};
 ghost use Rattle.ice_manifest.specs.Fitting.{IsShort, CellFits, FileFits};
-ghost use Rattle.ice_manifest.specs.WrittenValues.{whole_value, bytes_value, cell_value, tuple_values, file_content, ids_value, column_values, file_value as value_of_file, entry_value as value_of_entry};
+ghost use Rattle.ice_manifest.specs.WrittenValues.{whole_value, bytes_value, cell_value, tuple_values, file_content};
+ghost use Rattle.ice_manifest.specs.WrittenValues.{ids_value, column_values, file_value as value_of_file};
+ghost use Rattle.ice_manifest.specs.WrittenValues.{entry_value as value_of_entry};
 
 use crate::heading::Heading;
 use crate::new_file::NewFile;

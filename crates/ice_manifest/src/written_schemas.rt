@@ -7,9 +7,15 @@ ghost use Rattle.serde_json.specs.Data.{string};
 ghost use Rattle.serde_json.specs.View.{view, items_view};
 ghost use Rattle.ice_meta.specs.declared.spec.PartitionField.{PartitionField as DeclaredField};
 ghost use Rattle.ice_manifest.specs.Adding.{IsId};
-ghost use Rattle.ice_manifest.specs.WrittenTypes.{Word, map as map_of, json_of, fields_json, required_json, optional_json};
+ghost use Rattle.ice_manifest.specs.WrittenTypes.{Word, map as map_of, json_of, fields_json, required_json};
+ghost use Rattle.ice_manifest.specs.WrittenTypes.{optional_json};
 ghost use Rattle.ice_manifest.specs.Writing.{manifest_type as type_of_manifest};
-ghost use Rattle.ice_manifest.specs.WrittenSchemas.{summary_type as type_of_summary, count_fields as fields_of_counts, list_type as type_of_row, fixed_name as name_of_fixed, partition_name as name_of_field, value_type as type_of_value, partition_field_type as field_of_partition, partition_fields as fields_of_partition, pair_type as type_of_pair, column_fields as fields_of_columns, file_type as type_of_file};
+ghost use Rattle.ice_manifest.specs.WrittenSchemas.{summary_type as type_of_summary, count_fields as fields_of_counts};
+ghost use Rattle.ice_manifest.specs.WrittenSchemas.{list_type as type_of_row, fixed_name as name_of_fixed};
+ghost use Rattle.ice_manifest.specs.WrittenSchemas.{partition_name as name_of_field, value_type as type_of_value};
+ghost use Rattle.ice_manifest.specs.WrittenSchemas.{partition_field_type as field_of_partition};
+ghost use Rattle.ice_manifest.specs.WrittenSchemas.{partition_fields as fields_of_partition, pair_type as type_of_pair};
+ghost use Rattle.ice_manifest.specs.WrittenSchemas.{column_fields as fields_of_columns, file_type as type_of_file};
 
 use crate::heading::Heading;
 use crate::json::text;
@@ -192,7 +198,8 @@ fn file_type(
     types: &[ColumnType],
 ) -> Result<Value, AllocError>
     requires { length types.now ≡ length partition.now }
-    ensures json { IfOk result (λ json. view json ≡ json_of (type_of_file (fields_of_partition partition.now types.now))) }
+    ensures json { IfOk result (λ json. view json ≡
+        json_of (type_of_file (fields_of_partition partition.now types.now))) }
     ensures ids { IfOk result (λ _. AllByRecursion (λ (p : DeclaredField). IsId p.field_id) partition.now) }
 {
     let partition = structure(alloc, "r102", partition_fields(alloc, partition, types)?)?;

@@ -3,7 +3,9 @@
 ghost use Rattle.std.specs.Prelude.{◌≡◌, ◌∷◌, [], IfOk};
 ghost use Rattle.serde_json.specs.Data.{string};
 ghost use Rattle.serde_json.specs.View.{view, items_view};
-ghost use Rattle.ice_manifest.specs.WrittenTypes.{typed_json, logical_json, timestamp_json, fixed_json, uuid_json, array_json, list_json, map_json, structure_json, required_json, or_null as null_or_json, optional_json};
+ghost use Rattle.ice_manifest.specs.WrittenTypes.{typed_json, logical_json, timestamp_json, fixed_json, uuid_json};
+ghost use Rattle.ice_manifest.specs.WrittenTypes.{array_json, list_json, map_json, structure_json, required_json};
+ghost use Rattle.ice_manifest.specs.WrittenTypes.{or_null as null_or_json, optional_json};
 
 use crate::json::{no_object, set, set_text, text, whole};
 use serde_json::Value;

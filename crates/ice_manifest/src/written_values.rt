@@ -7,7 +7,10 @@ ghost use Rattle.avro_file.specs.View.{view, views};
 ghost use Rattle.ice_meta.specs.Committing.{IsLong};
 ghost use Rattle.ice_manifest.specs.Adding.{IsId};
 ghost use Rattle.ice_manifest.specs.Fitting.{IsShort, IsText, SummaryFits, CountsFit, RowFits};
-ghost use Rattle.ice_manifest.specs.WrittenValues.{no_value as no_value_written, if_some, summary_value as value_of_summary, summaries_value as value_of_summaries, row_content, count_values as values_of_counts, row_value as value_of_row};
+ghost use Rattle.ice_manifest.specs.WrittenValues.{no_value as no_value_written, if_some};
+ghost use Rattle.ice_manifest.specs.WrittenValues.{summary_value as value_of_summary};
+ghost use Rattle.ice_manifest.specs.WrittenValues.{summaries_value as value_of_summaries, row_content};
+ghost use Rattle.ice_manifest.specs.WrittenValues.{count_values as values_of_counts, row_value as value_of_row};
 
 use crate::row::{ManifestContent, Row};
 use avro_file::Datum;

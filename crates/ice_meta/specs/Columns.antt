@@ -1,6 +1,7 @@
--- The columns of a schema (Apache Iceberg table spec v2, "Schemas and Data Types"). A column is a field of the row or of
--- a struct, a list's element, or a map's key or value. A schema has its columns in a row, each at its place.
-use Rattle.std.specs.Prelude.{ℕ, suc, ℤ, Bool, false, ◌&&◌, List, [], ◌∷◌, Option, None, Some, if◌then◌else◌, slice_get, find}
+-- The columns of a schema (Apache Iceberg table spec v2, "Schemas and Data Types"). A column is a field of the row or
+-- of a struct, a list's element, or a map's key or value. A schema has its columns in a row, each at its place.
+use Rattle.std.specs.Prelude.{ℕ, suc, ℤ, Bool, false, ◌&&◌, List, [], ◌∷◌, Option, None, Some, if◌then◌else◌, slice_get}
+use Rattle.std.specs.Prelude.{find}
 use Rattle.std.specs.Option.{option_and_then, option_eq}
 use Rattle.std.specs.Ordering.{int_eq}
 use Rattle.std.specs.Prelude.{nat_eq}

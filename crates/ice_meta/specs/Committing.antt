@@ -1,7 +1,8 @@
 -- The metadata that a commit leaves (Apache Iceberg table spec v2, "Table Metadata Fields", "Snapshots" and "Snapshot
 -- References"): the new snapshot is added, is the current one, and is what the branch `main` names. All else is kept,
 -- also what this crate does not read.
-use Rattle.std.specs.Prelude.{◌≡◌, ◌<◌, ◌^◌, ◌++◌, ℕ, suc, ℤ, pos, negsuc, false, List, [], ◌∷◌, Option, None, Some, IfSome, unwrap_or, codes, Result, Ok}
+use Rattle.std.specs.Prelude.{◌≡◌, ◌<◌, ◌^◌, ◌++◌, ℕ, suc, ℤ, pos, negsuc, false, List, [], ◌∷◌, Option, None, Some}
+use Rattle.std.specs.Prelude.{IfSome, unwrap_or, codes, Result, Ok}
 use Rattle.std.specs.Cmp.Lexicographic.{slice_cmp}
 use Rattle.std.specs.Ordering.{nat_cmp, int_eq, match_ordering}
 use Rattle.contract_words.specs.Outcome.{◌>>=◌}

@@ -1,6 +1,7 @@
 -- The members of table metadata (Apache Iceberg table spec v2, "Table Metadata" and "Appendix C: JSON serialization"),
 -- by name, and how one of them is read: what is needed has to be there, and its value of its kind.
-use Rattle.std.specs.Prelude.{ℕ, ℤ, pos, negsuc, ◌^◌, ◌&&◌, Bool, true, List, Option, None, Some, option_and_then, Result, Ok, Err, if◌then◌else◌, codes, nat_lt}
+use Rattle.std.specs.Prelude.{ℕ, ℤ, pos, negsuc, ◌^◌, ◌&&◌, Bool, true, List, Option, None, Some, option_and_then}
+use Rattle.std.specs.Prelude.{Result, Ok, Err, if◌then◌else◌, codes, nat_lt}
 use Rattle.contract_words.specs.Outcome.{◌>>=◌}
 use Rattle.serde_json.specs.Data as json
 use Rattle.serde_json.specs.Data.{Data, Items}

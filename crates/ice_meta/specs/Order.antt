@@ -7,7 +7,8 @@ use Rattle.ice_meta.specs.declared.fault.Member.TheVariants as member
 use Rattle.ice_meta.specs.declared.fault.MetaFault.{MetaFault}
 use Rattle.ice_meta.specs.declared.fault.MetaFault.TheVariants.{Memory}
 use Rattle.ice_meta.specs.Members.{long_in, int_in, sequence_number_in}
-use Rattle.ice_meta.specs.Tables.{json_of, version_in, uuid_in, location_in, schemas_in, current_schema_in, specs_in, default_spec_in, current_snapshot_in, snapshots_in, refs_in}
+use Rattle.ice_meta.specs.Tables.{json_of, version_in, uuid_in, location_in, schemas_in, current_schema_in, specs_in}
+use Rattle.ice_meta.specs.Tables.{default_spec_in, current_snapshot_in, snapshots_in, refs_in}
 
 -- the fault of what is read, where there is one
 abbrev pub fault_of : {A : Type 0} → Result A MetaFault → Option MetaFault

@@ -1,7 +1,8 @@
 -- The JSON of a schema with the members that are read alone (Apache Iceberg table spec v2, "Appendix C: JSON
 -- serialization", Schemas), as a manifest's file has it ("Manifests": the metadata key `schema`). A member that is not
 -- there, or not of its kind, is null.
-use Rattle.std.specs.Prelude.{ℕ, zero, suc, ℤ, Bool, List, Option, None, Some, option_and_then, option_map, unwrap_or, if◌then◌else◌, codes}
+use Rattle.std.specs.Prelude.{ℕ, zero, suc, ℤ, Bool, List, Option, None, Some, option_and_then, option_map, unwrap_or}
+use Rattle.std.specs.Prelude.{if◌then◌else◌, codes}
 use Rattle.std.specs.Option.{option_eq}
 use Rattle.std.specs.Ordering.{int_eq}
 use Rattle.std.specs.Str.{bytes_eq}
@@ -20,7 +21,8 @@ abbrev pub text_of : Member → Data → Data
 text_of m d = unwrap_or (option_map json.string (option_and_then as_str (get (member_name m) d))) json.null
 
 abbrev pub number_of : Member → Data → Data
-number_of m d = unwrap_or (option_map whole (option_and_then as_i64 (option_and_then as_number (get (member_name m) d)))) json.null
+number_of m d =
+    unwrap_or (option_map whole (option_and_then as_i64 (option_and_then as_number (get (member_name m) d)))) json.null
 
 abbrev pub flag_of : Member → Data → Data
 flag_of m d = unwrap_or (option_map json.boolean (option_and_then as_bool (get (member_name m) d))) json.null
@@ -108,7 +110,9 @@ schema_text d = compact_text (schema_json d)
 
 -- the id of a schema is this number
 abbrev pub has_number : ℤ → Data → Bool
-has_number id d = option_eq int_eq (option_and_then as_i64 (option_and_then as_number (get (member_name member.SchemaId) d))) (Some id)
+has_number id d =
+    option_eq int_eq (option_and_then as_i64 (option_and_then as_number (get (member_name member.SchemaId) d)))
+    (Some id)
 
 abbrev pub first_with : ℤ → Items → Data
 first_with id json.no_items = json.null

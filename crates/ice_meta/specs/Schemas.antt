@@ -1,6 +1,7 @@
 -- Schemas as they are written (Apache Iceberg table spec v2, "Appendix C: JSON serialization", Schemas). A schema is a
 -- struct. The element of a list, and the key and the value of a map, are columns that have an id and no name.
-use Rattle.std.specs.Prelude.{ℕ, zero, suc, ℤ, List, [], ◌∷◌, ◌++◌, length, Option, None, Some, Result, Ok, Err, if◌then◌else◌, codes}
+use Rattle.std.specs.Prelude.{ℕ, zero, suc, ℤ, List, [], ◌∷◌, ◌++◌, length, Option, None, Some, Result, Ok, Err}
+use Rattle.std.specs.Prelude.{if◌then◌else◌, codes}
 use Rattle.std.specs.Str.{bytes_eq}
 use Rattle.contract_words.specs.Outcome.{◌>>=◌}
 use Rattle.serde_json.specs.Data as json
@@ -40,7 +41,8 @@ unfoldable pub added : Reader → Option ℕ → Option (List ℕ) → ℤ → M
 added read around name id m d columns = do
   whole ← there m d
   type ← type_in m whole
-  within read type (length columns) whole (columns ++ record { id = id; around = around; name = name; column_type = type } ∷ [])
+  within read type (length columns) whole
+      (columns ++ record { id = id; around = around; name = name; column_type = type } ∷ [])
 
 -- a field of a struct, or of the row
 unfoldable pub field_at : Reader → Option ℕ → Data → List Column → Columns

@@ -1,6 +1,7 @@
 -- Table metadata (Apache Iceberg table spec v2, "Table Metadata" and "Appendix C: JSON serialization"). What is read of
 -- an object is read member by member in the order of the lines; the first line that has a fault gives it.
-use Rattle.std.specs.Prelude.{◌≡◌, true, ℕ, pos, negsuc, ℤ, List, [], ◌∷◌, ◌++◌, length, Bool, Option, None, Some, map, Result, Ok, Err, if◌then◌else◌, codes, nat_lt}
+use Rattle.std.specs.Prelude.{◌≡◌, true, ℕ, pos, negsuc, ℤ, List, [], ◌∷◌, ◌++◌, length, Bool, Option, None, Some, map}
+use Rattle.std.specs.Prelude.{Result, Ok, Err, if◌then◌else◌, codes, nat_lt}
 use Rattle.std.specs.Str.{bytes_eq, is_utf8}
 use Rattle.std.specs.List.{list_any, IsDistinct}
 use Rattle.std.specs.Ordering.{int_eq}
@@ -24,7 +25,8 @@ use Rattle.ice_meta.specs.declared.snapshot.Ref.{Ref}
 use Rattle.ice_meta.specs.declared.snapshot.RefKind.{RefKind}
 use Rattle.ice_meta.specs.declared.snapshot.RefKind.TheVariants as kind
 use Rattle.ice_meta.specs.declared.table.Table.{Table}
-use Rattle.ice_meta.specs.Members.{asked, perhaps, objects_of, long_in, int_in, sequence_number_in, text_in, objects_in, optional_long, optional_int, optional_text}
+use Rattle.ice_meta.specs.Members.{asked, perhaps, objects_of, long_in, int_in, sequence_number_in, text_in, objects_in}
+use Rattle.ice_meta.specs.Members.{optional_long, optional_int, optional_text}
 use Rattle.ice_meta.specs.Reading.{each, once}
 use Rattle.ice_meta.specs.Schemas.{schema_of}
 
@@ -77,7 +79,8 @@ has_schema id schemas = list_any (λ (s : Schema). int_eq s.id id) schemas
 
 -- the id of one of the schemas
 unfoldable pub current_schema_in : List Schema → Data → Result ℤ MetaFault
-current_schema_in schemas d = int_in member.CurrentSchemaId d >>= λ id. if_among member.CurrentSchemaId (has_schema id schemas) id
+current_schema_in schemas d =
+    int_in member.CurrentSchemaId d >>= λ id. if_among member.CurrentSchemaId (has_schema id schemas) id
 
 abbrev pub field_id : PartitionField → ℤ
 field_id field = field.field_id

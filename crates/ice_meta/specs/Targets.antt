@@ -1,5 +1,7 @@
--- Metadata, and what of a table is asked for (Apache Iceberg table spec v2, "Table Metadata" and "Snapshot References").
-use Rattle.std.specs.Prelude.{ℕ, ℤ, List, Bool, Option, None, Some, option_and_then, option_map, Result, Ok, if◌then◌else◌, find, map, codes}
+-- Metadata, and what of a table is asked for (Apache Iceberg table spec v2, "Table Metadata" and "Snapshot
+-- References").
+use Rattle.std.specs.Prelude.{ℕ, ℤ, List, Bool, Option, None, Some, option_and_then, option_map, Result, Ok}
+use Rattle.std.specs.Prelude.{if◌then◌else◌, find, map, codes}
 use Rattle.std.specs.Option.{option_or}
 use Rattle.std.specs.Str.{bytes_eq}
 use Rattle.std.specs.Ordering.{int_eq}
@@ -122,7 +124,9 @@ pinned_id (target.Snapshot id) t = Some id
 
 -- the schema that a snapshot names, where it is there
 abbrev pub own_schema : ℤ → Table → Option Schema
-own_schema id t = option_and_then (λ schema. schema_with schema t) (option_and_then (λ (s : Snapshot). s.schema_id) (snapshot_with id t))
+own_schema id t =
+    option_and_then (λ schema. schema_with schema t)
+    (option_and_then (λ (s : Snapshot). s.schema_id) (snapshot_with id t))
 
 abbrev pub pinned_schema : Target → Table → Option Schema
 pinned_schema target t = option_and_then (λ id. own_schema id t) (pinned_id target t)

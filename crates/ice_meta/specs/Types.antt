@@ -1,6 +1,7 @@
--- The texts of primitive types (Apache Iceberg table spec v2, "Appendix C: JSON serialization", Schemas): `fixed[L]` and
--- `decimal(P,S)` have their numbers in decimal digits, below 2 ^ 31; a space may follow the comma.
-use Rattle.std.specs.Prelude.{ℕ, ◌+◌, ◌-◌, ◌*◌, ◌^◌, ◌==◌, ◌&&◌, List, [], ◌∷◌, length, drop, codes, Option, None, Some, if◌then◌else◌, nat_lt, nat_eq}
+-- The texts of primitive types (Apache Iceberg table spec v2, "Appendix C: JSON serialization", Schemas): `fixed[L]`
+-- and `decimal(P,S)` have their numbers in decimal digits, below 2 ^ 31; a space may follow the comma.
+use Rattle.std.specs.Prelude.{ℕ, ◌+◌, ◌-◌, ◌*◌, ◌^◌, ◌==◌, ◌&&◌, List, [], ◌∷◌, length, drop, codes, Option, None, Some}
+use Rattle.std.specs.Prelude.{if◌then◌else◌, nat_lt, nat_eq}
 use Rattle.std.specs.Option.{option_and_then, option_or}
 use Rattle.std.specs.List.{starts_with}
 use Rattle.std.specs.Str.{bytes_eq}
@@ -25,12 +26,14 @@ plain s =
 
 -- the number after one more digit, where it stays below 2 ^ 31
 abbrev pub with_digit : ℕ → ℕ → Option ℕ
-with_digit n b = if nat_lt 47 b && nat_lt b 58 && nat_lt (n * 10 + (b - 48)) (2 ^ 31) then Some (n * 10 + (b - 48)) else None
+with_digit n b =
+    if nat_lt 47 b && nat_lt b 58 && nat_lt (n * 10 + (b - 48)) (2 ^ 31) then Some (n * 10 + (b - 48)) else None
 
 -- the number that the digits write after those of n, up to the first end, and what follows it
 abbrev pub digits_until : ℕ → ℕ → List ℕ → Option (ℕ × List ℕ)
 digits_until end n [] = None
-digits_until end n (b ∷ bs) = if b == end then Some (n, bs) else option_and_then (λ m. digits_until end m bs) (with_digit n b)
+digits_until end n (b ∷ bs) =
+    if b == end then Some (n, bs) else option_and_then (λ m. digits_until end m bs) (with_digit n b)
 
 -- the number of one or more digits up to the first end, and what follows it
 abbrev pub number_until : ℕ → List ℕ → Option (ℕ × List ℕ)

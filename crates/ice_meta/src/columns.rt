@@ -4,7 +4,8 @@ ghost use Rattle.std.specs.Prelude.{◌≡◌, None, Some, option_map, IfOk};
 ghost use Rattle.contract_words.specs.Outcome.{Gives};
 ghost use Rattle.serde_json.specs.View.{view, items_view};
 ghost use Rattle.ice_meta.specs.Reading.{each_into};
-ghost use Rattle.ice_meta.specs.Schemas.{type_in, within, added, field_at, fields_at, list_at, map_at, of_name, object_at, inside, if_struct, schema_of};
+ghost use Rattle.ice_meta.specs.Schemas.{type_in, within, added, field_at, fields_at, list_at, map_at, of_name};
+ghost use Rattle.ice_meta.specs.Schemas.{object_at, inside, if_struct, schema_of};
 
 use crate::fault::{Member, MetaFault};
 use crate::members::{flag_at, int_at, kept, kept_text_at, objects_at, text_at, there};
@@ -56,7 +57,8 @@ fn added(
     id: i32,
     columns: Items<Column>,
 ) -> Result<Items<Column>, MetaFault>
-    ensures { Gives MetaFault.Memory (λ columns. columns) result (added (inside levels) around name id member (view json.now) columns) }
+    ensures { Gives MetaFault.Memory (λ columns. columns) result
+        (added (inside levels) around name id member (view json.now) columns) }
 {
     let whole = there(json, member)?;
     let column_type = type_from(alloc, whole, member)?;
@@ -84,7 +86,8 @@ fn field_of(
     around: Option<usize>,
     columns: Items<Column>,
 ) -> Result<Items<Column>, MetaFault>
-    ensures { Gives MetaFault.Memory (λ columns. columns) result (field_at (inside levels) around (view json.now) columns) }
+    ensures { Gives MetaFault.Memory (λ columns. columns) result
+        (field_at (inside levels) around (view json.now) columns) }
 {
     let id = int_at(json, Member::Id)?;
     let name = kept_text_at(alloc, json, Member::Name)?;
@@ -110,7 +113,8 @@ fn each_field(
     around: Option<usize>,
     columns: Items<Column>,
 ) -> Result<Items<Column>, MetaFault>
-    ensures { Gives MetaFault.Memory (λ columns. columns) result (each_into (field_at (inside levels) around) (items_view items.now.items) columns) }
+    ensures { Gives MetaFault.Memory (λ columns. columns) result
+        (each_into (field_at (inside levels) around) (items_view items.now.items) columns) }
 {
     let mut now = columns;
     'fields: for item in items {
@@ -129,7 +133,8 @@ fn fields_of(
     around: Option<usize>,
     columns: Items<Column>,
 ) -> Result<Items<Column>, MetaFault>
-    ensures { Gives MetaFault.Memory (λ columns. columns) result (fields_at (inside levels) around (view json.now) columns) }
+    ensures { Gives MetaFault.Memory (λ columns. columns) result
+        (fields_at (inside levels) around (view json.now) columns) }
 {
     let items = objects_at(json, Member::Fields)?;
     each_field(alloc, items, levels, around, columns)
@@ -145,7 +150,8 @@ fn list_of(
     place: usize,
     columns: Items<Column>,
 ) -> Result<Items<Column>, MetaFault>
-    ensures { Gives MetaFault.Memory (λ columns. columns) result (list_at (inside levels) place (view json.now) columns) }
+    ensures { Gives MetaFault.Memory (λ columns. columns) result
+        (list_at (inside levels) place (view json.now) columns) }
 {
     let id = int_at(json, Member::ElementId)?;
     added(
@@ -170,7 +176,8 @@ fn map_of(
     place: usize,
     columns: Items<Column>,
 ) -> Result<Items<Column>, MetaFault>
-    ensures { Gives MetaFault.Memory (λ columns. columns) result (map_at (inside levels) place (view json.now) columns) }
+    ensures { Gives MetaFault.Memory (λ columns. columns) result
+        (map_at (inside levels) place (view json.now) columns) }
 {
     let key_id = int_at(json, Member::KeyId)?;
     let columns = added(
@@ -206,7 +213,8 @@ fn object_of(
     place: usize,
     columns: Items<Column>,
 ) -> Result<Items<Column>, MetaFault>
-    ensures { Gives MetaFault.Memory (λ columns. columns) result (object_at (inside levels) place (view json.now) columns) }
+    ensures { Gives MetaFault.Memory (λ columns. columns) result
+        (object_at (inside levels) place (view json.now) columns) }
 {
     match text_at(json, Member::Type)? {
         "struct" => fields_of(alloc, json, levels, Some(place), columns),

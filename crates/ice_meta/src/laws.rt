@@ -1,6 +1,7 @@
 //! What a commit comes to.
 
-ghost use Rattle.ice_meta.specs.Laws.{SaysTheNext, HasTheNew, MakesItCurrent, MovesMain, KeepsOtherSnapshots, KeepsOtherRefs, KeepsOtherTargets, KeepsHistory, KeepsSchemas, KeepsSpecs};
+ghost use Rattle.ice_meta.specs.Laws.{SaysTheNext, HasTheNew, MakesItCurrent, MovesMain, KeepsOtherSnapshots};
+ghost use Rattle.ice_meta.specs.Laws.{KeepsOtherRefs, KeepsOtherTargets, KeepsHistory, KeepsSchemas, KeepsSpecs};
 
 /// The metadata after a commit says what the metadata before it said, and the commit.
 pub fn a_commit_says_the_next_table()

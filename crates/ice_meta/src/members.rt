@@ -3,7 +3,10 @@
 ghost use Rattle.std.specs.Prelude.{◌≡◌, option_map, IfOk};
 ghost use Rattle.contract_words.specs.Outcome.{Gives};
 ghost use Rattle.serde_json.specs.View.{view, items_view};
-ghost use Rattle.ice_meta.specs.Members.{there, perhaps, long_of, if_int, int_of, if_natural, sequence_number_of, text_of, flag_of, all_objects, if_objects, objects_of, long_in, int_in, sequence_number_in, text_in, flag_in, objects_in, optional_long, optional_int, optional_text};
+ghost use Rattle.ice_meta.specs.Members.{there, perhaps, long_of, if_int, int_of, if_natural, sequence_number_of};
+ghost use Rattle.ice_meta.specs.Members.{text_of, flag_of, all_objects, if_objects, objects_of, long_in, int_in};
+ghost use Rattle.ice_meta.specs.Members.{sequence_number_in, text_in, flag_in, objects_in, optional_long, optional_int};
+ghost use Rattle.ice_meta.specs.Members.{optional_text};
 
 use crate::fault::{Member, MetaFault};
 use contract_words::Text;

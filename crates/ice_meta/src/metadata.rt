@@ -10,11 +10,15 @@ ghost use Rattle.serde_json.specs.Read.{max_depth};
 ghost use Rattle.serde_json.specs.View.{view};
 ghost use Rattle.serde_json.specs.Written.{has_float, compact_text, IsInOrder};
 ghost use Rattle.ice_meta.specs.Committing.{CanFollow, committed, next_metadata};
-ghost use Rattle.ice_meta.specs.Tables.{HasCurrentSchema, HasDefaultSpec, HasDifferentSchemas, HasDifferentSpecs, HasDifferentSnapshots, text_json, json_of, table_of};
+ghost use Rattle.ice_meta.specs.Tables.{HasCurrentSchema, HasDefaultSpec, HasDifferentSchemas, HasDifferentSpecs};
+ghost use Rattle.ice_meta.specs.Tables.{HasDifferentSnapshots, text_json, json_of, table_of};
 ghost use Rattle.ice_meta.specs.Different.{HasDifferentColumns, HasDifferentFields};
 ghost use Rattle.ice_meta.specs.Order.{IsFirst, metadata_fault};
 ghost use Rattle.ice_meta.specs.SchemaTexts.{schema_in, schema_text};
-ghost use Rattle.ice_meta.specs.Targets.{described, metadata_of, schema_with, spec_with, snapshot_with, ref_with, bound_field, bound_spec, bound_specs, is_main, current_id, named_id, target_id, resolved, list_of, if_tag, pinned_id, own_schema, pinned_schema, schema_for};
+ghost use Rattle.ice_meta.specs.Targets.{described, metadata_of, schema_with, spec_with, snapshot_with, ref_with};
+ghost use Rattle.ice_meta.specs.Targets.{bound_field, bound_spec, bound_specs, is_main, current_id, named_id};
+ghost use Rattle.ice_meta.specs.Targets.{target_id, resolved, list_of, if_tag, pinned_id, own_schema, pinned_schema};
+ghost use Rattle.ice_meta.specs.Targets.{schema_for};
 
 use crate::commit::NewSnapshot;
 use crate::fault::{Member, MetaFault};
@@ -83,11 +87,12 @@ fn object_from(alloc: Global, bytes: &[u8]) -> Result<Value, MetaFault>
 }
 
 impl Metadata {
-    /// Reads metadata, or answers its first fault in the order in which the members are checked. What of it isn't read is
-    /// kept as it is.
+    /// Reads metadata, or answers its first fault in the order in which the members are checked. What of it isn't read
+    /// is kept as it is.
     #[tactic(auto, using(crate::proofs::FirstFault::no_json), unfolding(crate::specs::Targets::metadata_of))]
     pub fn read(alloc: Global, bytes: &[u8]) -> Result<Metadata, MetaFault>
-        ensures read { Gives MetaFault.Memory (λ metadata. described metadata.json metadata.table) result (metadata_of bytes.now) }
+        ensures read { Gives MetaFault.Memory (λ metadata. described metadata.json metadata.table) result
+            (metadata_of bytes.now) }
         ensures order { IsFirst result (metadata_fault bytes.now) }
         ensures current_schema { IfOk result (λ metadata. HasCurrentSchema metadata.table) }
         ensures default_spec { IfOk result (λ metadata. HasDefaultSpec metadata.table) }
@@ -105,21 +110,26 @@ impl Metadata {
     /// The text of the metadata file: the JSON object, also what of it isn't read, without white space and with the
     /// members of each object in the order of their names' bytes. It reads as this metadata.
     pub fn write(&self, alloc: Global) -> Result<Vec<u8>, AllocError>
-        ensures text { IfOk result (λ bytes. has_float (view self.now.json) ≡ false → bytes.items ≡ compact_text (view self.now.json)) }
+        ensures text { IfOk result (λ bytes. has_float (view self.now.json) ≡ false
+            → bytes.items ≡ compact_text (view self.now.json)) }
         ensures order { IfOk result (λ bytes. IsInOrder bytes.items (view self.now.json)) }
-        ensures read_back { IfOk result (λ bytes. metadata_of bytes.items ≡ Ok (described self.now.json self.now.table)) }
+        ensures read_back { IfOk result (λ bytes. metadata_of bytes.items ≡
+            Ok (described self.now.json self.now.table)) }
     {
         let text = self.json.to_vec(alloc)?;
         Ok(text)
     }
 
-    /// The metadata after a commit to this table: with the new snapshot, which is made from the current one and under the
-    /// current schema, as the current one and as the branch `main`, the next sequence number, and one more element of the
-    /// snapshot log. All else is kept. It is refused where the table has a snapshot of this id, and after the last of all
-    /// sequence numbers.
+    /// The metadata after a commit to this table: with the new snapshot, which is made from the current one and under
+    /// the current schema, as the current one and as the branch `main`, the next sequence number, and one more element
+    /// of the snapshot log. All else is kept. It is refused where the table has a snapshot of this id, and after the
+    /// last of all sequence numbers.
     pub fn with_snapshot(&self, alloc: Global, added: &NewSnapshot) -> Result<Metadata, MetaFault>
-        ensures json { Gives MetaFault.Memory (λ next. described next.json next.table) result (committed (described self.now.json self.now.table) added.now) }
-        ensures table { CanFollow self.now.table added.now → Gives MetaFault.Memory (λ next. described next.json next.table) result (Ok (next_metadata (described self.now.json self.now.table) added.now)) }
+        ensures json { Gives MetaFault.Memory (λ next. described next.json next.table) result
+            (committed (described self.now.json self.now.table) added.now) }
+        ensures table { CanFollow self.now.table added.now
+            → Gives MetaFault.Memory (λ next. described next.json next.table) result
+            (Ok (next_metadata (described self.now.json self.now.table) added.now)) }
     {
         let json = next_json(alloc, &self.json, &self.table, added)?;
         let table = table_of(alloc, &json)?;
@@ -314,8 +324,8 @@ impl Metadata {
         self.own_schema(self.pinned_id(target)?)
     }
 
-    /// The schema that filters of the target are bound to: a tag's or a snapshot's own, where the snapshot names one that
-    /// is there, else the current one.
+    /// The schema that filters of the target are bound to: a tag's or a snapshot's own, where the snapshot names one
+    /// that is there, else the current one.
     #[tactic(auto, unfolding(crate::specs::Targets::schema_for))]
     pub fn schema_for(&self, target: &Target) -> &Schema
         ensures { Some result.now ≡ schema_for target.now self.now.table }

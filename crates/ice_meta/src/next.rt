@@ -2,7 +2,9 @@
 
 ghost use Rattle.std.specs.Prelude.{◌≡◌, IfOk, IfSome};
 ghost use Rattle.serde_json.specs.View.{view, items_view};
-ghost use Rattle.ice_meta.specs.Committing.{IsLong, AreLongs, whole, inside, set, items_of, one_more, with_parent, summary_json, snapshot_json, log_json, branch_to, refs_json, with_refs, with_log, with_snapshots, next_json};
+ghost use Rattle.ice_meta.specs.Committing.{IsLong, AreLongs, whole, inside, set, items_of, one_more, with_parent};
+ghost use Rattle.ice_meta.specs.Committing.{summary_json, snapshot_json, log_json, branch_to, refs_json, with_refs};
+ghost use Rattle.ice_meta.specs.Committing.{with_log, with_snapshots, next_json};
 
 use crate::commit::NewSnapshot;
 use crate::fault::Member;

@@ -66,8 +66,8 @@ impl Schema {
         around
     }
 
-    /// The column to which a path of field names leads, from the row through structs. Of several fields of one name it is
-    /// the first. An empty path leads nowhere.
+    /// The column to which a path of field names leads, from the row through structs. Of several fields of one name it
+    /// is the first. An empty path leads nowhere.
     pub fn column(&self, path: &[Text]) -> Option<&Column>
         ensures { option_copied result ≡ column_on path.now self.now }
     {

@@ -4,7 +4,13 @@ ghost use Rattle.std.specs.Prelude.{◌≡◌, IfOk, option_map, unwrap_or};
 ghost use Rattle.serde_json.specs.Data.{null};
 ghost use Rattle.serde_json.specs.View.{view, items_view};
 ghost use Rattle.ice_meta.specs.Committing.{no_object};
-ghost use Rattle.ice_meta.specs.SchemaTexts.{text_of as text_in, number_of as number_in, flag_of as flag_in, type_of as type_with, type_at as type_in, with as with_member, field_of as field_in, each_field as each_in, fields_of as fields_in, struct_of as struct_in, list_of as list_in, map_of as map_in, object_of as object_in, nested_in, schema_json as json_of_schema, schema_text as text_for, has_number as has_number_of, first_with as first_of, schema_in};
+ghost use Rattle.ice_meta.specs.SchemaTexts.{text_of as text_in, number_of as number_in, flag_of as flag_in};
+ghost use Rattle.ice_meta.specs.SchemaTexts.{type_of as type_with, type_at as type_in, with as with_member};
+ghost use Rattle.ice_meta.specs.SchemaTexts.{field_of as field_in, each_field as each_in, fields_of as fields_in};
+ghost use Rattle.ice_meta.specs.SchemaTexts.{struct_of as struct_in, list_of as list_in, map_of as map_in};
+ghost use Rattle.ice_meta.specs.SchemaTexts.{object_of as object_in, nested_in, schema_json as json_of_schema};
+ghost use Rattle.ice_meta.specs.SchemaTexts.{schema_text as text_for, has_number as has_number_of};
+ghost use Rattle.ice_meta.specs.SchemaTexts.{first_with as first_of, schema_in};
 
 use crate::columns::MOST_LEVELS;
 use crate::fault::Member;
@@ -110,7 +116,8 @@ fn field_of(alloc: Global, json: &Value, levels: u32) -> Result<Value, AllocErro
 
 #[cycle(texts)]
 fn each_field(alloc: Global, items: &Vec<Value>, levels: u32) -> Result<Vec<Value>, AllocError>
-    ensures { IfOk result (λ fields. items_view fields.items ≡ each_in (nested_in levels) (items_view items.now.items)) }
+    ensures { IfOk result (λ fields. items_view fields.items ≡
+        each_in (nested_in levels) (items_view items.now.items)) }
 {
     let mut fields = Vec::new(alloc);
     'fields: for item in items {

@@ -7,7 +7,13 @@ ghost use Rattle.contract_words.specs.Outcome.{Gives};
 ghost use Rattle.serde_json.specs.View.{view, items_view, members_view};
 ghost use Rattle.ice_meta.specs.Reading.{each};
 ghost use Rattle.ice_meta.specs.Schemas.{schema_of as schema_in};
-ghost use Rattle.ice_meta.specs.Tables.{if_second, version_in, uuid_in, if_short, location_in, if_among, if_snapshot, current_snapshot_in, schemas_in, has_schema, current_schema_in, partition_field_of, if_few, spec_of, specs_in, has_spec, default_spec_in, object_of, operation_of, operation_in, snapshot_of, snapshots_in, kind_of, ref_of, each_ref, refs_in, HasCurrentSchema, HasDefaultSpec, HasDifferentSchemas, HasDifferentSpecs, HasDifferentSnapshots, schema_id, spec_id, snapshot_id, table_of};
+ghost use Rattle.ice_meta.specs.Tables.{if_second, version_in, uuid_in, if_short, location_in, if_among, if_snapshot};
+ghost use Rattle.ice_meta.specs.Tables.{current_snapshot_in, schemas_in, has_schema, current_schema_in};
+ghost use Rattle.ice_meta.specs.Tables.{partition_field_of, if_few, spec_of, specs_in, has_spec, default_spec_in};
+ghost use Rattle.ice_meta.specs.Tables.{object_of, operation_of, operation_in, snapshot_of, snapshots_in, kind_of};
+ghost use Rattle.ice_meta.specs.Tables.{ref_of, each_ref, refs_in, HasCurrentSchema, HasDefaultSpec};
+ghost use Rattle.ice_meta.specs.Tables.{HasDifferentSchemas, HasDifferentSpecs, HasDifferentSnapshots, schema_id};
+ghost use Rattle.ice_meta.specs.Tables.{spec_id, snapshot_id, table_of};
 
 use crate::columns::schema_of;
 use crate::fault::{Member, MetaFault};

@@ -1,5 +1,6 @@
 mod faults;
 mod files;
+mod schemas;
 mod specs;
 mod tables;
 mod writing;

@@ -1,7 +1,8 @@
 //! The texts of primitive types.
 
 ghost use Rattle.std.specs.Prelude.{◌≡◌, option_map};
-ghost use Rattle.ice_meta.specs.Types.{plain, with_digit, digits_until, number_until, after, behind_space, fixed, decimal, primitive};
+ghost use Rattle.ice_meta.specs.Types.{plain, with_digit, digits_until, number_until, after, behind_space, fixed};
+ghost use Rattle.ice_meta.specs.Types.{decimal, primitive};
 
 use ice_value::ColumnType;
 

@@ -1,4 +1,8 @@
+pub mod Bases
+pub mod Commits
+pub mod Committed
 pub mod Crews
+pub mod Drills
 pub mod Escapes
 pub mod Lines
 pub mod Listed
@@ -9,4 +13,5 @@ pub mod Segments
 pub mod Sends
 pub mod Shows
 pub mod Steps
+pub mod Stored
 pub mod Writes

@@ -55,6 +55,10 @@ request_ends read r w (run.Absent path) is h = absurd is
 request_ends read r w (run.List f) is h = absurd is
 request_ends read r w (run.Scan f) is h = absurd is
 request_ends read r w (run.Finish f) is h = absurd is
+request_ends read r w (run.Drill f) is h = absurd is
+request_ends read r w (run.Change f) is h = absurd is
+request_ends read r w (run.Prepare f) is h = absurd is
+request_ends read r w (run.Conflict path) is h = absurd is
 request_ends read r w run.Workers is h = absurd is
 
 -- more reads may fail
@@ -72,6 +76,10 @@ more_reads read r s w (run.Scan f) more h = h
 more_reads read r s w (run.Finish f) more h = h
 more_reads read r s w (run.Metadata f) more h = h
 more_reads read r s w (run.Filter f) more h = h
+more_reads read r s w (run.Drill f) more h = h
+more_reads read r s w (run.Change f) more h = h
+more_reads read r s w (run.Prepare f) more h = h
+more_reads read r s w (run.Conflict path) more h = h
 more_reads read r s w run.Workers more h = h
 
 -- the same answer, and more reads that may fail

@@ -63,6 +63,13 @@ pub no_request : (path : List ℕ) (request : Request) (workers : ℕ) (text : L
 unfolding planned_text
 no_request path request workers text e h = rw h refl
 
+-- no bundle is refused for a failed write
+pub no_write : (text : List ℕ) (e : RunFault) → (e ≢ run.Memory → bundle_of text ≡ Err e) → e ≡ run.Write → ⊥
+no_write text e h is =
+    let f = lines_fault 1 [] _ e (h (λ m. let n : run.Write ≡ run.Memory = sym is ∙ m in absurd cc)) in
+    let g : run.Write ≡ run.Bundle f.0 = sym is ∙ f.1 in
+    absurd cc
+
 module _ (text : List ℕ) (w : Type 0) (read : Result (List ℕ) RunFault)
     (passed : (e : RunFault) → bundle_of text ≡ Err e → read ≡ Err e) where
   bundle_refused : (e : RunFault) → (e ≢ run.Memory → bundle_of text ≡ Err e) → MayRefuse read w e
@@ -79,14 +86,11 @@ module _ (text : List ℕ) (w : Type 0) (read : Result (List ℕ) RunFault)
   bundle_refused (run.Finish f) h = passed (run.Finish f) (h (λ m. cc))
   bundle_refused (run.Metadata f) h = passed (run.Metadata f) (h (λ m. cc))
   bundle_refused (run.Filter f) h = passed (run.Filter f) (h (λ m. cc))
+  bundle_refused (run.Drill f) h = passed (run.Drill f) (h (λ m. cc))
+  bundle_refused (run.Change f) h = passed (run.Change f) (h (λ m. cc))
+  bundle_refused (run.Prepare f) h = passed (run.Prepare f) (h (λ m. cc))
+  bundle_refused (run.Conflict path) h = passed (run.Conflict path) (h (λ m. cc))
   bundle_refused run.Workers h = passed run.Workers (h (λ m. cc))
-
-  -- no bundle is refused for a failed write
-  no_write : (e : RunFault) → (e ≢ run.Memory → bundle_of text ≡ Err e) → e ≡ run.Write → ⊥
-  no_write e h is =
-      let f = lines_fault 1 [] _ e (h (λ m. let n : run.Write ≡ run.Memory = sym is ∙ m in absurd cc)) in
-      let g : run.Write ≡ run.Bundle f.0 = sym is ∙ f.1 in
-      absurd cc
 
   pub bundle_ran : (o : Option (List ℕ)) (e : RunFault) → (e ≢ run.Memory → bundle_of text ≡ Err e)
       → Ran (Some read) w (Err e) o o
@@ -95,7 +99,7 @@ module _ (text : List ℕ) (w : Type 0) (read : Result (List ℕ) RunFault)
     refused = bundle_refused e h;
     nothing = λ _. refl;
     front = λ is. let q : e
-        ≡ run.Write = cc in absurd (no_write e h q);
+        ≡ run.Write = cc in absurd (no_write text e h q);
   }
 
 module _ (text : List ℕ) (files : List File) (is : bundle_of text ≡ Ok files) where
@@ -143,6 +147,10 @@ ends_refused told read other r w (run.Scan f) keeps never q h = q ∙ ap told h 
 ends_refused told read other r w (run.Finish f) keeps never q h = q ∙ ap told h ∙ keeps _
 ends_refused told read other r w (run.Metadata f) keeps never q h = q ∙ ap told h ∙ keeps _
 ends_refused told read other r w (run.Filter f) keeps never q h = q ∙ ap told h ∙ keeps _
+ends_refused told read other r w (run.Drill f) keeps never q h = q ∙ ap told h ∙ keeps _
+ends_refused told read other r w (run.Change f) keeps never q h = q ∙ ap told h ∙ keeps _
+ends_refused told read other r w (run.Prepare f) keeps never q h = q ∙ ap told h ∙ keeps _
+ends_refused told read other r w (run.Conflict path) keeps never q h = q ∙ ap told h ∙ keeps _
 ends_refused told read other r w run.Workers keeps never q h = q ∙ ap told h ∙ keeps _
 
 -- before anything was read: any text may be what was left

@@ -54,6 +54,10 @@ module _ (r : List ℕ → Type 0) (w : Type 0) where
   any_reads read (run.Finish f) h = h
   any_reads read (run.Metadata f) h = h
   any_reads read (run.Filter f) h = h
+  any_reads read (run.Drill f) h = h
+  any_reads read (run.Change f) h = h
+  any_reads read (run.Prepare f) h = h
+  any_reads read (run.Conflict path) h = h
   any_reads read run.Workers h = h
 
 module _ (world : World) (path : List ℕ) where

@@ -39,6 +39,10 @@ module _ (r : List ℕ → Type 0) (w : Type 0) where
   first_ends s read next (run.Finish f) stops h = ap (λ x. x >>= next) h
   first_ends s read next (run.Metadata f) stops h = ap (λ x. x >>= next) h
   first_ends s read next (run.Filter f) stops h = ap (λ x. x >>= next) h
+  first_ends s read next (run.Drill f) stops h = ap (λ x. x >>= next) h
+  first_ends s read next (run.Change f) stops h = ap (λ x. x >>= next) h
+  first_ends s read next (run.Prepare f) stops h = ap (λ x. x >>= next) h
+  first_ends s read next (run.Conflict path) stops h = ap (λ x. x >>= next) h
   first_ends s read next run.Workers stops h = ap (λ x. x >>= next) h
 
   pub list_ends : {A : Type 0} (read : Result A ListFault) (f : ListFault) → (f ≢ list.Memory → read ≡ Err f)

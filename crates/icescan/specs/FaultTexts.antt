@@ -1,6 +1,6 @@
 -- The program's own line for a fault: number, name and arguments, with a nested fault in place of its argument.
 -- S is a fault of a schema, V of a container, M of metadata, N of a list or a manifest, F of a filter, X of a scan, Z of a
--- plan, B of the bundle, P of a read or of the number of workers, W of a write.
+-- plan, C of a change file, K of a commit, B of the bundle, P of a read or of the number of workers, W of a write.
 use Rattle.std.specs.Prelude.{ℕ, List, [], ◌∷◌, ◌++◌, codes}
 use Rattle.avro_schema.specs.declared.fault.SchemaFault.{SchemaFault}
 use Rattle.avro_schema.specs.declared.fault.SchemaFault.TheVariants as schema
@@ -19,6 +19,13 @@ use Rattle.ice_state.specs.declared.fault.ScanFault.{ScanFault}
 use Rattle.ice_state.specs.declared.fault.ScanFault.TheVariants as scan
 use Rattle.ice_state.specs.declared.fault.FinishFault.{FinishFault}
 use Rattle.ice_state.specs.declared.fault.FinishFault.TheVariants as finish
+use Rattle.icescan.specs.declared.drill_fault.DrillFault.{DrillFault}
+use Rattle.icescan.specs.declared.drill_fault.DrillFault.TheVariants as drill
+use Rattle.ice_catalog.specs.declared.fault.PrepareFault.{PrepareFault}
+use Rattle.ice_catalog.specs.declared.fault.PrepareFault.TheVariants as prepare
+use Rattle.icescan.specs.Changes.{member_name as change_member_name}
+use Rattle.icescan.specs.declared.change.fault.ChangeFault.{ChangeFault}
+use Rattle.icescan.specs.declared.change.fault.ChangeFault.TheVariants as change
 use Rattle.icescan.specs.declared.fault.RunFault.{RunFault}
 use Rattle.icescan.specs.declared.fault.RunFault.TheVariants as run
 use Rattle.icescan.specs.Pieces.{named_path, named_signed, named_number}
@@ -101,6 +108,28 @@ filter_text filter.NotComparable = codes "F4 NotComparable"
 filter_text filter.TooBig = codes "F5 TooBig"
 filter_text filter.Memory = codes "F6 Memory"
 
+unfoldable pub drill_fault_text : DrillFault → List ℕ
+drill_fault_text drill.Conflict = codes "Conflict"
+drill_fault_text (drill.Lost path) = named_path (codes "Lost ") path
+
+unfoldable pub change_text : ChangeFault → List ℕ
+change_text change.NotJson = codes "C1 BadChange -"
+change_text (change.Bad member) = codes "C1 BadChange " ++ change_member_name member
+change_text change.Memory = codes "Memory"
+
+unfoldable pub prepare_text : PrepareFault → List ℕ
+prepare_text prepare.SnapshotTaken = codes "K1 SnapshotTaken"
+prepare_text (prepare.PathTaken path) = named_path (codes "K2 PathTaken ") path
+prepare_text (prepare.PathTwice path) = named_path (codes "K3 PathTwice ") path
+prepare_text prepare.Empty = codes "K4 Empty"
+prepare_text (prepare.NoSuchSpec id) = named_signed (codes "K5 NoSuchSpec ") id
+prepare_text (prepare.WrongTuple path) = named_path (codes "K6 WrongTuple ") path
+prepare_text prepare.SequenceEnd = codes "K7 SequenceEnd"
+prepare_text (prepare.BaseBad path) = named_path (codes "K8 BaseBad ") path
+prepare_text prepare.Memory = codes "K9 Memory"
+prepare_text (prepare.BadFile path) = named_path (codes "K10 BadFile ") path
+prepare_text prepare.TooManyRows = codes "K11 TooManyRows"
+
 unfoldable pub run_text : RunFault → List ℕ
 run_text (run.Words text) = text
 run_text run.Input = codes "P3 Device -"
@@ -112,6 +141,10 @@ run_text (run.Scan fault) = scan_text fault
 run_text (run.Finish fault) = finish_text fault
 run_text (run.Metadata fault) = meta_text fault
 run_text (run.Filter fault) = filter_text fault
+run_text (run.Drill fault) = drill_fault_text fault
+run_text (run.Change fault) = change_text fault
+run_text (run.Prepare fault) = prepare_text fault
+run_text (run.Conflict path) = named_path (codes "Conflict ") path
 run_text run.Workers = codes "P5 Workers"
 run_text run.Write = codes "W1 Write"
 run_text run.Memory = codes "Memory"

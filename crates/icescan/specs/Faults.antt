@@ -20,6 +20,12 @@ use Rattle.ice_desk.specs.declared.fault.WantedFault.{WantedFault}
 use Rattle.ice_desk.specs.declared.fault.WantedFault.TheVariants as wanted
 use Rattle.ice_desk.specs.declared.fault.PlanFault.{PlanFault}
 use Rattle.ice_desk.specs.declared.fault.PlanFault.TheVariants as plan
+use Rattle.icescan.specs.declared.drill_fault.DrillFault.{DrillFault}
+use Rattle.icescan.specs.declared.drill_fault.DrillFault.TheVariants as drill
+use Rattle.ice_catalog.specs.declared.fault.PrepareFault.{PrepareFault}
+use Rattle.ice_catalog.specs.declared.fault.PrepareFault.TheVariants as prepare
+use Rattle.icescan.specs.declared.change.fault.ChangeFault.{ChangeFault}
+use Rattle.icescan.specs.declared.change.fault.ChangeFault.TheVariants as change
 use Rattle.icescan.specs.declared.fault.RunFault.{RunFault}
 use Rattle.icescan.specs.declared.fault.RunFault.TheVariants as run
 
@@ -43,6 +49,14 @@ of_meta fault = run.Metadata fault
 abbrev pub of_filter : FilterFault → RunFault
 of_filter filter.Memory = run.Memory
 of_filter fault = run.Filter fault
+
+abbrev pub of_change : ChangeFault → RunFault
+of_change change.Memory = run.Memory
+of_change fault = run.Change fault
+
+abbrev pub of_prepare : PrepareFault → RunFault
+of_prepare prepare.Memory = run.Memory
+of_prepare fault = run.Prepare fault
 
 abbrev pub of_wanted : WantedFault → RunFault
 of_wanted (wanted.Absent path) = run.Absent path
@@ -89,14 +103,27 @@ abbrev pub meta_wants_memory : MetaFault → Bool
 meta_wants_memory meta.Memory = true
 meta_wants_memory _ = false
 
--- 1: the table is refused; 2: the words, the number of workers, the bundle or the filter; 3: a read or a write failed;
--- 5: memory ran out
+abbrev pub prepare_wants_memory : PrepareFault → Bool
+prepare_wants_memory prepare.Memory = true
+prepare_wants_memory _ = false
+
+-- 1: the table or a commit to it is refused; 2: the words, the number of workers, the bundle, the filter or the change
+-- file; 3: a read or a write failed; 4: the place of a commit's metadata is taken; 5: memory ran out
 abbrev pub refused_status : Bool → ℕ
 refused_status wants_memory = if wants_memory then 5 else 1
 
 abbrev pub filter_status : FilterFault → ℕ
 filter_status filter.Memory = 5
 filter_status _ = 2
+
+-- 4: a commit met another one too often; 1: a file is not there
+abbrev pub drill_status : DrillFault → ℕ
+drill_status drill.Conflict = 4
+drill_status (drill.Lost path) = 1
+
+abbrev pub change_status : ChangeFault → ℕ
+change_status change.Memory = 5
+change_status _ = 2
 
 abbrev pub status_of : RunFault → ℕ
 status_of (run.Bundle line) = 2
@@ -107,8 +134,12 @@ status_of (run.Scan fault) = refused_status (scan_wants_memory fault)
 status_of (run.Finish fault) = refused_status (finish_wants_memory fault)
 status_of (run.Metadata fault) = refused_status (meta_wants_memory fault)
 status_of (run.Filter fault) = filter_status fault
+status_of (run.Change fault) = change_status fault
+status_of (run.Prepare fault) = refused_status (prepare_wants_memory fault)
+status_of (run.Conflict path) = 4
 status_of (run.Absent path) = 3
 status_of (run.Device path) = 3
+status_of (run.Drill fault) = drill_status fault
 status_of run.Input = 3
 status_of run.Write = 3
 status_of run.Memory = 5

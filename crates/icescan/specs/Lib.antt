@@ -1,4 +1,7 @@
 pub mod Bundles
+pub mod Drills
+pub mod Changes
+pub mod Commits
 pub mod Escaping
 pub mod FaultTexts
 pub mod Faults
@@ -11,5 +14,6 @@ pub mod Runs
 pub mod Selections
 pub mod Shown
 pub mod Shows
+pub mod Stores
 pub mod TableTexts
 pub mod Written

@@ -29,6 +29,13 @@ or_absent path (Some bytes) = Ok bytes
 unfoldable pub file_in : World → List ℕ → Result (List ℕ) RunFault
 file_in world path = or_absent path (world path)
 
+-- the faults of reading a file
+abbrev pub IsOfFile : RunFault → Type 0
+IsOfFile (run.Absent path) = Unit {0}
+IsOfFile (run.Device path) = Unit {0}
+IsOfFile run.Memory = Unit {0}
+IsOfFile _ = ⊥
+
 -- the rows of a manifest list
 unfoldable pub rows_in : List ℕ → Result (List Row) RunFault
 rows_in bytes = as_run of_list (rows_of bytes)

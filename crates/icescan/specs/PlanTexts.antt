@@ -39,6 +39,10 @@ line_text l = file_text l.file ++ (flat_map position_text l.positions ++ flat_ma
 abbrev pub deletes_of : OwnedLine → ℕ
 deletes_of l = length l.positions + length l.equalities
 
--- the data files, and then their number and that of the lines of delete files
+-- the last line: how many data files, and how many lines of delete files
+unfoldable pub totals_text : List OwnedLine → List ℕ
+totals_text plan = named_number (codes "files ") (length plan) ++ (named_number (codes " deletes ") (sum_by deletes_of plan) ++ 10 ∷ [])
+
+-- the data files, and then the last line
 unfoldable pub plan_text : List OwnedLine → List ℕ
-plan_text plan = flat_map line_text plan ++ (named_number (codes "files ") (length plan) ++ (named_number (codes " deletes ") (sum_by deletes_of plan) ++ 10 ∷ []))
+plan_text plan = flat_map line_text plan ++ totals_text plan

@@ -4,6 +4,8 @@ use Rattle.std.specs.Str.{bytes_eq}
 use Rattle.contract_words.specs.Outcome.{◌>>=◌}
 use Rattle.ice_state.specs.Lines.{OwnedLine}
 use Rattle.icescan.specs.Bundles.{File, bundle_of, bytes_at, first_path}
+use Rattle.icescan.specs.Drills.{WroteDrill}
+use Rattle.icescan.specs.Commits.{committed_text}
 use Rattle.icescan.specs.ListPlans.{answer}
 use Rattle.icescan.specs.Plans.{answer_at, over_wanted_rows}
 use Rattle.icescan.specs.Faults.{status_of}
@@ -78,9 +80,17 @@ answer_to (words.ListPlan (lists.Bundle list)) input = Some (bundle_text list in
 answer_to (words.ListPlan (lists.Folder place list)) input = None
 answer_to (words.Plan source.Bundle request workers path) input = Some (planned_text path request workers input)
 answer_to (words.Plan (source.Folder place) request workers path) input = None
+answer_to (words.Commit source.Bundle request) input = committed_text request input
+answer_to (words.Commit (source.Folder place) request) input = None
 answer_to (words.Show source.Bundle path) input = Some (shown_text path input)
 answer_to (words.Show (source.Folder place) path) input = None
+answer_to (words.Drill asked) input = None
 answer_to (words.Text text) input = Some (Ok text)
+
+-- a drill reads nothing; what it wrote is that of a table with all its commits
+abbrev pub IsOfDrill : Result Words RunFault → Option (List ℕ) → Option (List ℕ) → Type 0
+IsOfDrill (Ok (words.Drill asked)) output output' = WroteDrill asked output output'
+IsOfDrill _ output output' = Unit {0}
 
 abbrev pub run_of : Result Words RunFault → List ℕ → Option (Result (List ℕ) RunFault)
 run_of (Ok asked) input = answer_to asked input

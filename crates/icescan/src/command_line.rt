@@ -6,14 +6,19 @@ ghost use Rattle.icescan.specs.Runs.{IsWordsFault, ReadAs, asks_first_list};
 #[cfg(test)]
 mod tests;
 
+use crate::change::ChangeKind;
+use crate::committing::CommitRequest;
+use crate::drill::Drill;
 use crate::fault::RunFault;
 use crate::selection::Request;
 use clap::builder::ValueParser;
 use clap::error::ErrorKind;
 use clap::{Arg, ArgAction, ArgGroup, ArgMatches, Command, Error, value_parser};
 use contract_words::Text;
+use ice_catalog::Ids;
 use ice_meta::Target;
 use std::alloc::{AllocError, Global};
+use uuid::Uuid;
 
 /// A folder, and how the paths of the files below it begin.
 #[derive(Debug, Drop)]
@@ -47,8 +52,12 @@ pub enum Words {
     ListPlan(Lists),
     /// The plan, by so many workers, that is asked of the table whose metadata is at this path.
     Plan(Source, Request, usize, Text),
+    /// A commit.
+    Commit(Source, CommitRequest),
     /// The text of the metadata at this path.
     Show(Source, Text),
+    /// A drill.
+    Drill(Drill),
     /// A text of help, or the version.
     Text(Text),
 }
@@ -97,6 +106,66 @@ const SHOW_EXAMPLE: &str = "Example, at the top of icescan's repository:
 
 Exit status: 0 done, 1 the metadata is refused, 2 the command line or the bundle is, 3 a read or a write failed,
 5 memory ran out. A refusal is one line on standard error.";
+
+const DRILL_EXAMPLE: &str =
+    "Each thread appends one file in each of its commits, and tries again on the newer version where another commit came
+before. In the end each sees that the plan of a version that it pins has all its files. Then three lines are printed:
+how many commits the table has, its last sequence number, and the last line of its plan. Nothing is read or kept.
+
+Example:
+  icescan drill --threads 3 --commits 4
+
+Exit status: 0 done, 1 a file is lost, 2 the command line is refused, 3 a write failed, 4 a commit met others too often,
+5 memory ran out. A refusal is one line on standard error.";
+
+const APPEND_EXAMPLE: &str =
+    "CHANGE is a JSON file, as in the example. `partition` has a value for each field of the partition spec: null, true,
+false, a whole number (dates in days and times in microseconds since 1970-01-01 00:00 UTC), a text, or {\"hex\":
+\"00ff\"} for bytes and for a uuid.
+
+With --dir the new files are written below the folder, whose folders have to be there, each whole and none over
+another; the metadata at --out comes last, so that a reader sees all of the commit or none. With --bundle they are
+printed as the lines of a bundle.
+
+Example, at the top of icescan's repository:
+  cp -r examples/plain-java/table /tmp/plain
+  echo '{\"data\": [{\"path\": \"s3://warehouse/db/plain/data/new.parquet\", \"format\": \"parquet\",
+    \"spec-id\": 0, \"partition\": [], \"record-count\": 10, \"file-size\": 1000}], \"deletes\": []}' > /tmp/plain/change.json
+  icescan append --dir /tmp/plain --prefix s3://warehouse/db/plain --snapshot-id 7 \\
+    --uuid f79c3e09-677c-4bbd-a479-3f349cb785e7 --now-ms 1709942400000 \\
+    --out s3://warehouse/db/plain/metadata/00006.metadata.json \\
+    s3://warehouse/db/plain/metadata/00005-c64aaab7-8283-c18e-53ea-99e6e56da046.metadata.json \\
+    s3://warehouse/db/plain/change.json
+
+Exit status: 0 done, 1 the table or the commit is refused, 2 the command line, the bundle or the change file is, 3 a
+read or a write failed, 4 there is a file at the metadata's path already, 5 memory ran out. A refusal is one line on
+standard error.";
+
+const ROW_DELTA_EXAMPLE: &str =
+    "CHANGE is a JSON file, as in the example. `partition` has a value for each field of the partition spec: null, true,
+false, a whole number (dates in days and times in microseconds since 1970-01-01 00:00 UTC), a text, or {\"hex\":
+\"00ff\"} for bytes and for a uuid. What a delete file deletes is by `position` or by `equality`, and then
+`equality-ids` are the ids of the columns to compare.
+
+With --dir the new files are written below the folder, whose folders have to be there, each whole and none over
+another; the metadata at --out comes last, so that a reader sees all of the commit or none. With --bundle they are
+printed as the lines of a bundle.
+
+Example, at the top of icescan's repository:
+  cp -r examples/plain-java/table /tmp/plain
+  echo '{\"data\": [{\"path\": \"s3://warehouse/db/plain/data/new.parquet\", \"format\": \"parquet\",
+    \"spec-id\": 0, \"partition\": [], \"record-count\": 10, \"file-size\": 1000}], \"deletes\": [{\"path\":
+    \"s3://warehouse/db/plain/data/eq.parquet\", \"format\": \"parquet\", \"spec-id\": 0, \"partition\": [], \"record-count\": 1,
+    \"file-size\": 300, \"content\": \"equality\", \"equality-ids\": [1]}]}' > /tmp/plain/change.json
+  icescan row-delta --dir /tmp/plain --prefix s3://warehouse/db/plain --snapshot-id 7 \\
+    --uuid f79c3e09-677c-4bbd-a479-3f349cb785e7 --now-ms 1709942400000 \\
+    --out s3://warehouse/db/plain/metadata/00006.metadata.json \\
+    s3://warehouse/db/plain/metadata/00005-c64aaab7-8283-c18e-53ea-99e6e56da046.metadata.json \\
+    s3://warehouse/db/plain/change.json
+
+Exit status: 0 done, 1 the table or the commit is refused, 2 the command line, the bundle or the change file is, 3 a
+read or a write failed, 4 there is a file at the metadata's path already, 5 memory ran out. A refusal is one line on
+standard error.";
 
 /// The options that say where files come from: just one of the two ways has to be taken.
 fn with_source<'a>(alloc: Global, command: Command<'a>) -> Result<Command<'a>, AllocError> {
@@ -200,6 +269,90 @@ fn show_command<'a>(alloc: Global) -> Result<Command<'a>, AllocError> {
     with_source(alloc, command)
 }
 
+/// The command `drill`.
+fn drill_command<'a>(alloc: Global) -> Result<Command<'a>, AllocError> {
+    let threads = Arg::new(alloc, "threads")
+        .long("threads")
+        .value_name("T")
+        .value_parser(ValueParser::unsigned(1, 64))
+        .required(true)
+        .help("How many threads commit at once: from 1 to 64");
+    let commits = Arg::new(alloc, "commits")
+        .long("commits")
+        .value_name("C")
+        .value_parser(ValueParser::unsigned(1, 100))
+        .required(true)
+        .help("How many commits each of them makes: from 1 to 100");
+    Command::new(alloc, "drill")
+        .about(
+            "Try commits at once: threads that commit to one table in memory, and see that none is lost",
+        )
+        .after_long_help(DRILL_EXAMPLE)
+        .arg(threads)?
+        .arg(commits)
+}
+
+/// The options that name a commit, and the paths that it is about.
+fn with_commit<'a>(alloc: Global, command: Command<'a>) -> Result<Command<'a>, AllocError> {
+    let snapshot = Arg::new(alloc, "snapshot-id")
+        .long("snapshot-id")
+        .value_name("N")
+        .value_parser(value_parser!(i64))
+        .allow_negative_numbers(true)
+        .required(true)
+        .help("The id of the new snapshot; no snapshot of the table may have it");
+    let uuid = Arg::new(alloc, "uuid")
+        .long("uuid")
+        .value_name("U")
+        .required(true)
+        .help("A new UUID, by which the new manifests and the new list are named");
+    let now = Arg::new(alloc, "now-ms")
+        .long("now-ms")
+        .value_name("N")
+        .value_parser(value_parser!(i64))
+        .allow_negative_numbers(true)
+        .required(true)
+        .help("The time of the commit, in milliseconds since 1970-01-01 00:00 UTC");
+    let out = Arg::new(alloc, "out")
+        .long("out")
+        .value_name("PATH")
+        .required(true)
+        .help("The path of the new metadata, where no file may be");
+    let metadata = Arg::new(alloc, "metadata")
+        .value_name("METADATA")
+        .required(true)
+        .help("The path of the table's metadata");
+    let change = Arg::new(alloc, "change")
+        .value_name("CHANGE")
+        .required(true)
+        .help("The path of the change file; the long help shows one");
+    command
+        .arg(snapshot)?
+        .arg(uuid)?
+        .arg(now)?
+        .arg(out)?
+        .arg(metadata)?
+        .arg(change)
+}
+
+/// The command `append`.
+fn append_command<'a>(alloc: Global) -> Result<Command<'a>, AllocError> {
+    let command = Command::new(alloc, "append")
+        .about(
+            "Commit data files to a table: write manifests, a manifest list and, last, new metadata",
+        )
+        .after_long_help(APPEND_EXAMPLE);
+    with_source(alloc, with_commit(alloc, command)?)
+}
+
+/// The command `row-delta`.
+fn row_delta_command<'a>(alloc: Global) -> Result<Command<'a>, AllocError> {
+    let command = Command::new(alloc, "row-delta")
+        .about("Commit data files and delete files to a table, in the same way")
+        .after_long_help(ROW_DELTA_EXAMPLE);
+    with_source(alloc, with_commit(alloc, command)?)
+}
+
 /// All commands.
 fn program<'a>(alloc: Global) -> Result<Command<'a>, AllocError> {
     Command::new(alloc, "icescan")
@@ -211,7 +364,10 @@ fn program<'a>(alloc: Global) -> Result<Command<'a>, AllocError> {
         .subcommand_required(true)
         .subcommand(plan_command(alloc)?)?
         .subcommand(list_plan_command(alloc)?)?
-        .subcommand(show_command(alloc)?)
+        .subcommand(append_command(alloc)?)?
+        .subcommand(row_delta_command(alloc)?)?
+        .subcommand(show_command(alloc)?)?
+        .subcommand(drill_command(alloc)?)
 }
 
 /// A text of its own.
@@ -251,11 +407,6 @@ fn lists_of(alloc: Global, matches: &ArgMatches<'_>) -> Result<Lists, AllocError
     }
 }
 
-/// The path of the metadata; it is required, so it is there.
-fn metadata_of(alloc: Global, matches: &ArgMatches<'_>) -> Result<Text, AllocError> {
-    text_of(alloc, matches.get_str("metadata").unwrap_or(""))
-}
-
 /// The snapshot that is asked for.
 fn target_of(alloc: Global, matches: &ArgMatches<'_>) -> Result<Target, AllocError> {
     if let Some(name) = matches.get_str("ref") {
@@ -280,6 +431,63 @@ fn workers_of(matches: &ArgMatches<'_>) -> usize {
     matches.get_one::<usize>("workers").unwrap_or(1)
 }
 
+/// The drill that is asked for.
+fn drill_of(alloc: Global, matches: &ArgMatches<'_>) -> Result<Drill, RunFault>
+    ensures { IfErr result IsWordsFault }
+{
+    let threads = matches.get_one::<u64>("threads").unwrap_or(0);
+    let commits = matches.get_one::<u64>("commits").unwrap_or(0);
+    match Drill::new(threads, commits) {
+        Some(drill) => Ok(drill),
+        None => Err(RunFault::Words(text_of(
+            alloc,
+            "error: a drill has from 1 to 64 threads, and from 1 to 100 commits of each\n",
+        )?)),
+    }
+}
+
+/// The text of an option or a word that is required, so that it is there.
+fn required_text(alloc: Global, matches: &ArgMatches<'_>, name: &str) -> Result<Text, AllocError> {
+    text_of(alloc, matches.get_str(name).unwrap_or(""))
+}
+
+/// Why a word is no UUID, and how to learn more.
+fn no_uuid(alloc: Global, word: &str) -> RunFault
+    ensures { IsWordsFault result }
+{
+    match format!(in alloc;
+        "error: invalid value '{word}' for '--uuid <U>': it is no UUID\n\nFor more information, try '--help'.\n"
+    ) {
+        Ok(text) => RunFault::Words(Text::from_string(text)),
+        Err(_) => RunFault::Memory,
+    }
+}
+
+/// The commit that is asked for.
+fn commit_of(
+    alloc: Global,
+    matches: &ArgMatches<'_>,
+    kind: ChangeKind,
+) -> Result<CommitRequest, RunFault>
+    ensures { IfErr result IsWordsFault }
+{
+    let word = matches.get_str("uuid").unwrap_or("");
+    let Ok(uuid) = Uuid::parse_str(word) else {
+        return Err(no_uuid(alloc, word));
+    };
+    Ok(CommitRequest {
+        kind,
+        ids: Ids {
+            snapshot: matches.get_one::<i64>("snapshot-id").unwrap_or(0),
+            uuid,
+            now_ms: matches.get_one::<i64>("now-ms").unwrap_or(0),
+        },
+        metadata: required_text(alloc, matches, "metadata")?,
+        change: required_text(alloc, matches, "change")?,
+        out: required_text(alloc, matches, "out")?,
+    })
+}
+
 /// What the words were found to ask for.
 fn asked_of(alloc: Global, matches: &ArgMatches<'_>) -> Result<Words, RunFault>
     ensures { IfErr result IsWordsFault }
@@ -292,9 +500,21 @@ fn asked_of(alloc: Global, matches: &ArgMatches<'_>) -> Result<Words, RunFault>
             source_of(alloc, matches)?,
             request_of(alloc, matches)?,
             workers_of(matches),
-            metadata_of(alloc, matches)?,
+            required_text(alloc, matches, "metadata")?,
         )),
-        "show" => Ok(Words::Show(source_of(alloc, matches)?, metadata_of(alloc, matches)?)),
+        "show" => Ok(Words::Show(
+            source_of(alloc, matches)?,
+            required_text(alloc, matches, "metadata")?,
+        )),
+        "append" => Ok(Words::Commit(
+            source_of(alloc, matches)?,
+            commit_of(alloc, matches, ChangeKind::Append)?,
+        )),
+        "row-delta" => Ok(Words::Commit(
+            source_of(alloc, matches)?,
+            commit_of(alloc, matches, ChangeKind::RowDelta)?,
+        )),
+        "drill" => Ok(Words::Drill(drill_of(alloc, matches)?)),
         _ => Ok(Words::ListPlan(lists_of(alloc, matches)?)),
     }
 }

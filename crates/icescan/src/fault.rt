@@ -1,13 +1,19 @@
 //! Why the program ends without an answer.
 
 ghost use Rattle.std.specs.Prelude.{◌≡◌};
-ghost use Rattle.icescan.specs.Faults.{of_list, of_scan, of_finish, of_wanted, of_plan, of_meta, of_filter, filter_status, refused_status, meta_wants_memory, schema_wants_memory, avro_wants_memory, list_wants_memory, manifest_wants_memory, scan_wants_memory, finish_wants_memory, status_of};
+ghost use Rattle.icescan.specs.Faults.{of_list, of_scan, of_finish, of_wanted, of_plan, of_meta, of_filter, of_change, of_prepare};
+ghost use Rattle.icescan.specs.Faults.{filter_status, change_status, refused_status, status_of};
+ghost use Rattle.icescan.specs.Faults.{meta_wants_memory, schema_wants_memory, avro_wants_memory, list_wants_memory};
+ghost use Rattle.icescan.specs.Faults.{manifest_wants_memory, scan_wants_memory, finish_wants_memory, prepare_wants_memory};
 ghost use Rattle.icescan.specs.declared.fault.RunFault.TheVariants as run;
 
+use crate::change::ChangeFault;
+use crate::drill_fault::DrillFault;
 use crate::sink::SinkFault;
 use avro_file::AvroFault;
 use avro_schema::SchemaFault;
 use contract_words::Text;
+use ice_catalog::PrepareFault;
 use ice_desk::{PlanFault, WantedFault};
 use ice_filter::FilterFault;
 use ice_manifest::{ListFault, ManifestFault};
@@ -49,6 +55,18 @@ pub enum RunFault {
     /// The filter is refused.
     #[error("the filter is refused: {0:?}")]
     Filter(FilterFault),
+    /// The drill is refused.
+    #[error("the drill is refused: {0:?}")]
+    Drill(DrillFault),
+    /// The change file is refused.
+    #[error("the change file is refused: {0:?}")]
+    Change(ChangeFault),
+    /// The change can't be committed.
+    #[error("the change can't be committed: {0:?}")]
+    Prepare(PrepareFault),
+    /// There is a file already at this path, where a commit's metadata was to be.
+    #[error("there is a file at {} already", .0.as_str())]
+    Conflict(Text),
     /// There are to be from 1 to 64 workers.
     #[error("there have to be from 1 to 64 workers")]
     Workers,
@@ -139,6 +157,28 @@ impl From<FilterFault> for RunFault {
     }
 }
 
+impl From<ChangeFault> for RunFault {
+    ghost from_gives = { λ fault e. e ≡ of_change fault };
+
+    fn from(fault: ChangeFault) -> RunFault {
+        match fault {
+            ChangeFault::Memory => RunFault::Memory,
+            fault => RunFault::Change(fault),
+        }
+    }
+}
+
+impl From<PrepareFault> for RunFault {
+    ghost from_gives = { λ fault e. e ≡ of_prepare fault };
+
+    fn from(fault: PrepareFault) -> RunFault {
+        match fault {
+            PrepareFault::Memory => RunFault::Memory,
+            fault => RunFault::Prepare(fault),
+        }
+    }
+}
+
 impl From<WantedFault> for RunFault {
     ghost from_gives = { λ fault e. e ≡ of_wanted fault };
 
@@ -166,8 +206,9 @@ impl From<PlanFault> for RunFault {
 }
 
 impl RunFault {
-    /// The status that the program ends with: 1 where the table is refused, 2 for the words, the number of workers, the
-    /// bundle or the filter, 3 where a read or a write failed, and 5 where memory ran out.
+    /// The status that the program ends with: 1 where the table or a commit to it is refused, or a file of a drill is lost;
+    /// 2 for the words, the number of workers, the bundle, the filter or the change file; 3 where a read or a write failed;
+    /// 4 where the place of a commit's metadata is taken, or a drill's commit met others too often; 5 where memory ran out.
     pub fn status(&self) -> u8
         ensures { result ≡ status_of self.now }
     {
@@ -179,6 +220,10 @@ impl RunFault {
             RunFault::Finish(fault) => refused_status(finish_wants_memory(fault)),
             RunFault::Metadata(fault) => refused_status(meta_wants_memory(fault)),
             RunFault::Filter(fault) => filter_status(*fault),
+            RunFault::Drill(fault) => fault.status(),
+            RunFault::Change(fault) => change_status(*fault),
+            RunFault::Prepare(fault) => refused_status(prepare_wants_memory(fault)),
+            RunFault::Conflict(_) => 4,
             RunFault::Memory => 5,
         }
     }
@@ -195,6 +240,15 @@ fn filter_status(fault: FilterFault) -> u8
 {
     match fault {
         FilterFault::Memory => 5,
+        _ => 2,
+    }
+}
+
+fn change_status(fault: ChangeFault) -> u8
+    ensures { result ≡ change_status fault }
+{
+    match fault {
+        ChangeFault::Memory => 5,
         _ => 2,
     }
 }
@@ -257,11 +311,21 @@ fn finish_wants_memory(fault: &FinishFault) -> bool
     }
 }
 
-fn meta_wants_memory(fault: &MetaFault) -> bool
+/// Whether memory ran out.
+pub fn meta_wants_memory(fault: &MetaFault) -> bool
     ensures { result ≡ meta_wants_memory fault.now }
 {
     match fault {
         MetaFault::Memory => true,
+        _ => false,
+    }
+}
+
+fn prepare_wants_memory(fault: &PrepareFault) -> bool
+    ensures { result ≡ prepare_wants_memory fault.now }
+{
+    match fault {
+        PrepareFault::Memory => true,
         _ => false,
     }
 }

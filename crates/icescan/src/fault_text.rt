@@ -2,14 +2,18 @@
 
 ghost use Rattle.std.specs.Prelude.{◌++◌};
 ghost use Rattle.ice_meta.specs.Members.{member_name};
-ghost use Rattle.icescan.specs.FaultTexts.{schema_text, avro_text, list_text, manifest_text, scan_text, finish_text, meta_text, filter_text, run_text, line_text, fault_text};
+ghost use Rattle.icescan.specs.FaultTexts.{schema_text, avro_text, list_text, manifest_text, scan_text, finish_text};
+ghost use Rattle.icescan.specs.FaultTexts.{meta_text, filter_text, change_text, prepare_text, drill_fault_text, run_text, line_text, fault_text};
 ghost use Rattle.icescan.specs.Written.{Wrote};
 
+use crate::change::ChangeFault;
+use crate::drill_fault::DrillFault;
 use crate::fault::RunFault;
 use crate::pieces::{put_named_int, put_named_long, put_named_number, put_named_path};
 use crate::sink::{Sink, SinkFault, write_all};
 use avro_file::AvroFault;
 use avro_schema::SchemaFault;
+use ice_catalog::PrepareFault;
 use ice_filter::FilterFault;
 use ice_manifest::{ListFault, ManifestFault};
 use ice_meta::{Member, MetaFault};
@@ -51,9 +55,23 @@ fn put_run_fault<S: Sink>(sink: &mut S, fault: &RunFault) -> Result<(), SinkFaul
         RunFault::Finish(fault) => put_finish_fault(sink, fault),
         RunFault::Metadata(fault) => put_meta_fault(sink, fault),
         RunFault::Filter(fault) => put_filter_fault(sink, *fault),
+        RunFault::Drill(fault) => put_drill_fault(sink, fault),
+        RunFault::Change(fault) => put_change_fault(sink, *fault),
+        RunFault::Prepare(fault) => put_prepare_fault(sink, fault),
+        RunFault::Conflict(path) => put_named_path(sink, b"Conflict ", path.as_bytes()),
         RunFault::Workers => write_all(sink, b"P5 Workers"),
         RunFault::Write => write_all(sink, b"W1 Write"),
         RunFault::Memory => write_all(sink, b"Memory"),
+    }
+}
+
+#[tactic(auto, unfolding(crate::specs::FaultTexts::drill_fault_text))]
+fn put_drill_fault<S: Sink>(sink: &mut S, fault: &DrillFault) -> Result<(), SinkFault>
+    ensures { Wrote S.taken S.may_fail sink.old result sink.new (drill_fault_text fault.now) }
+{
+    match fault {
+        DrillFault::Conflict => write_all(sink, b"Conflict"),
+        DrillFault::Lost(path) => put_named_path(sink, b"Lost ", path.as_bytes()),
     }
 }
 
@@ -88,6 +106,39 @@ fn put_filter_fault<S: Sink>(sink: &mut S, fault: FilterFault) -> Result<(), Sin
         FilterFault::NotComparable => write_all(sink, b"F4 NotComparable"),
         FilterFault::TooBig => write_all(sink, b"F5 TooBig"),
         FilterFault::Memory => write_all(sink, b"F6 Memory"),
+    }
+}
+
+#[tactic(auto, unfolding(crate::specs::FaultTexts::change_text))]
+fn put_change_fault<S: Sink>(sink: &mut S, fault: ChangeFault) -> Result<(), SinkFault>
+    ensures { Wrote S.taken S.may_fail sink.old result sink.new (change_text fault) }
+{
+    match fault {
+        ChangeFault::NotJson => write_all(sink, b"C1 BadChange -"),
+        ChangeFault::Bad(member) => {
+            write_all(sink, b"C1 BadChange ")?;
+            write_all(sink, member.name().as_bytes())
+        }
+        ChangeFault::Memory => write_all(sink, b"Memory"),
+    }
+}
+
+#[tactic(auto, unfolding(crate::specs::FaultTexts::prepare_text))]
+fn put_prepare_fault<S: Sink>(sink: &mut S, fault: &PrepareFault) -> Result<(), SinkFault>
+    ensures { Wrote S.taken S.may_fail sink.old result sink.new (prepare_text fault.now) }
+{
+    match fault {
+        PrepareFault::SnapshotTaken => write_all(sink, b"K1 SnapshotTaken"),
+        PrepareFault::PathTaken(path) => put_named_path(sink, b"K2 PathTaken ", path.as_bytes()),
+        PrepareFault::PathTwice(path) => put_named_path(sink, b"K3 PathTwice ", path.as_bytes()),
+        PrepareFault::Empty => write_all(sink, b"K4 Empty"),
+        PrepareFault::NoSuchSpec(id) => put_named_int(sink, b"K5 NoSuchSpec ", *id),
+        PrepareFault::WrongTuple(path) => put_named_path(sink, b"K6 WrongTuple ", path.as_bytes()),
+        PrepareFault::SequenceEnd => write_all(sink, b"K7 SequenceEnd"),
+        PrepareFault::BaseBad(path) => put_named_path(sink, b"K8 BaseBad ", path.as_bytes()),
+        PrepareFault::Memory => write_all(sink, b"K9 Memory"),
+        PrepareFault::BadFile(path) => put_named_path(sink, b"K10 BadFile ", path.as_bytes()),
+        PrepareFault::TooManyRows => write_all(sink, b"K11 TooManyRows"),
     }
 }
 

@@ -3,6 +3,7 @@
 ghost use Rattle.std.specs.Prelude.{◌≡◌, ◌≢◌, ◌++◌, ◌∷◌, ℕ, List, Option, Some, option_map, string_bytes, IfOk, IfErr, MatchOption};
 ghost use Rattle.icescan.specs.Folders.{Inside, IsNamed, climbs};
 
+mod placing;
 #[cfg(test)]
 mod tests;
 

@@ -2,8 +2,16 @@
 //! to it.
 #![tactic(auto)]
 
+mod base;
 mod bundle;
+mod change;
 mod command_line;
+mod commit_lines;
+mod committing;
+mod drill;
+mod drill_fault;
+mod drilled_table;
+mod drilling;
 mod escape;
 mod fault;
 mod fault_text;
@@ -14,17 +22,20 @@ mod pieces;
 mod plan_text;
 mod reading;
 mod report;
+mod run_drill;
 mod run_list_plan;
 mod run_plan;
 mod run_plan_with;
 mod selection;
 mod show;
 mod sink;
+mod store;
 mod table_lines;
 mod table_text;
 #[cfg(test)]
 mod tests;
 mod unescape;
+mod watch;
 mod words;
 mod write;
 

@@ -3,8 +3,8 @@
 ghost use Rattle.std.specs.Prelude.{◌≡◌, ◌≤◌, ◌^◌, ◌∷◌, sum_by, MatchOption};
 ghost use Rattle.std.specs.List.{flat_map};
 ghost use Rattle.std.specs.Fmt.{signed_decimal};
-ghost use Rattle.icescan.specs.PlanTexts.{ids_text, numbered_path, size_text, file_text, position_text, equality_text};
-ghost use Rattle.icescan.specs.PlanTexts.{line_text, deletes_of, plan_text};
+ghost use Rattle.icescan.specs.PlanTexts.{totals_text, ids_text, numbered_path, size_text, file_text, position_text, equality_text};
+ghost use Rattle.icescan.specs.PlanTexts.{totals_text, line_text, deletes_of, plan_text};
 ghost use Rattle.icescan.specs.Written.{Sent};
 
 use crate::page::Page;
@@ -37,6 +37,20 @@ pub fn put_plan<S: Sink>(
     ensures { Sent S.taken S.may_fail sink.old page.old result sink.new page.new (plan_text lines.now) }
 {
     put_lines(page, sink, lines)?;
+    put_totals(page, sink, lines, deletes)
+}
+
+/// Sends the last line of a plan: how many data files it has, and how many lines of delete files.
+#[tactic(auto, unfolding(crate::specs::PlanTexts::totals_text))]
+pub fn put_totals<S: Sink>(
+    page: &mut Page,
+    sink: &mut S,
+    lines: &Lines<'_>,
+    deletes: u64,
+) -> Result<(), SinkFault>
+    requires { deletes ≡ sum_by deletes_of lines.now }
+    ensures { Sent S.taken S.may_fail sink.old page.old result sink.new page.new (totals_text lines.now) }
+{
     page.put_named_number(sink, b"files ", lines.len())?;
     page.put_named_number(sink, b" deletes ", deletes)?;
     page.put(sink, b"\n")

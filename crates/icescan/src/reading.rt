@@ -3,7 +3,7 @@
 ghost use Rattle.std.specs.Prelude.{◌≡◌, ◌≤◌, ℕ, List, ◌∷◌, [], length, Some, None, Ok, IfOk, IfErr, IsErrOf};
 ghost use Rattle.ice_desk.specs.Worlds.{EndsAt, HasAt};
 ghost use Rattle.ice_state.specs.Contents.{World};
-ghost use Rattle.icescan.specs.ListPlans.{MayEnd, file_in, rows_at};
+ghost use Rattle.icescan.specs.ListPlans.{IsOfFile, MayEnd, file_in, rows_at};
 
 use crate::fault::RunFault;
 use contract_words::Text;
@@ -26,6 +26,7 @@ pub fn read_file<F: Files>(alloc: Global, files: &F, path: &str) -> Result<Vec<u
         IfErr result (MayEnd (file_in world path.now) (EndsAt world (F.may_fail files.now) (path.now ∷ [])) ⊥) }
     ensures absent { (path : List ℕ) → IsErrOf result (RunFault.Absent path) → HasAt (F.world files.now) path None }
     ensures device { (path : List ℕ) → IsErrOf result (RunFault.Device path) → F.may_fail files.now path }
+    ensures causes { IfErr result IsOfFile }
     ensures write { IsErrOf result RunFault.Write → ⊥ }
     ensures workers { IsErrOf result RunFault.Workers → ⊥ }
 {

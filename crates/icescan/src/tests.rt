@@ -1,6 +1,8 @@
 //! The program over bundles, as its users run it.
 
 mod cases;
+mod commits;
+mod drills;
 mod requests;
 mod sinks;
 
@@ -8,10 +10,12 @@ use crate::bundle::Bundle;
 use crate::fault::RunFault;
 use crate::report::report;
 use crate::run_list_plan::run_list_plan;
+use crate::watch::Watch;
 use crate::words::run_words;
 use cases::{CASES, PLAN};
 use ice_desk::{Files, ReadFault};
 use std::alloc::{AllocError, Global};
+use std::sync::Wait;
 use std::test::Fail;
 use std::thread::Threads;
 
@@ -97,7 +101,7 @@ impl Case {
     }
 
     /// Whether the program ends with this status on the table, and writes just these lines.
-    fn ends<H: std::rt::Files<File: Send, Dir: Send> + Threads + Sync>(
+    fn ends<H: std::rt::Files<File: Send, Dir: Send> + Threads + Wait + Watch + Sync>(
         &self,
         rt: &H,
         alloc: Global,
@@ -148,7 +152,7 @@ fn tables(rt: HostRuntime) -> Result<(), Fail> {
 }
 
 /// Whether the program ends with this status, and writes just these texts.
-fn ends<H: std::rt::Files<File: Send, Dir: Send> + Threads + Sync>(
+fn ends<H: std::rt::Files<File: Send, Dir: Send> + Threads + Wait + Watch + Sync>(
     rt: &H,
     alloc: Global,
     text: &[u8],

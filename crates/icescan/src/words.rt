@@ -1,26 +1,34 @@
 //! The program over its words, standard input, the files of the system, output and errors.
 
-ghost use Rattle.std.specs.Prelude.{◌≡◌, ◌≢◌, ◌⊎◌, ℕ, List, Option, Some, None, Result, Ok, Err, map, string_bytes, IfOk, IfErr};
-ghost use Rattle.icescan.specs.Runs.{Answered, IsInput, Ran, ReadAs, Refused, answer_to, bundle_text, list_in, planned_text, run_of, shown_text};
+ghost use Rattle.std.specs.Prelude.{◌≡◌, ◌≢◌, ◌⊎◌, ℕ, List, Option, Some, None, Result, Ok, Err, map, string_bytes, IfOk, IfErr, OnOk};
+ghost use Rattle.icescan.specs.Commits.{committed_text};
+ghost use Rattle.icescan.specs.Drills.{WroteDrill};
+ghost use Rattle.icescan.specs.Runs.{Answered, IsInput, IsOfDrill, Ran, ReadAs, Refused, answer_to, bundle_text, list_in, planned_text, run_of, shown_text};
 ghost use Rattle.icescan.specs.declared.command_line.Words.{Words};
 ghost use Rattle.icescan.specs.declared.fault.RunFault.{RunFault};
 
 use crate::bundle::Bundle;
 use crate::command_line::{Lists, Place, Source, Words, parse_words};
+use crate::commit_lines::commit_lines;
+use crate::committing::{CommitRequest, commit_to, prepare_commit};
+use crate::drill::Drill;
 use crate::fault::RunFault;
 use crate::folder::Folder;
 use crate::input::read_all;
 use crate::report::report;
+use crate::run_drill::run_drill;
 use crate::run_list_plan::run_list_plan;
 use crate::run_plan_with::plan_file;
 use crate::selection::Request;
 use crate::show::show_file;
 use crate::sink::{Sink, write_all};
+use crate::watch::Watch;
 use contract_words::Text;
 use ice_desk::ReadFault;
 use std::alloc::Global;
 use std::io::Read;
 use std::rt::Files;
+use std::sync::Wait;
 use std::thread::Threads;
 
 /// How many reads of standard input are made at most.
@@ -189,6 +197,52 @@ fn show_folder<H: Files, W: Sink>(
     show_file(alloc, &files, path.as_str(), output)
 }
 
+/// Writes the files of a commit to a table in a bundle, as lines of a bundle.
+fn commit_bundle<W: Sink>(
+    alloc: Global,
+    text: &[u8],
+    request: &CommitRequest,
+    output: &mut W,
+) -> Result<(), RunFault>
+    ensures { Ran (committed_text request.now text.now) (W.may_fail output.old) result (W.taken output.old) (W.taken output.new) }
+{
+    let bundle = Bundle::read(alloc, text)?;
+    let prepared = prepare_commit(alloc, &bundle, request)?;
+    let metadata = prepared.version().metadata().write(alloc)?;
+    let lines = commit_lines(alloc, prepared.files(), &request.out, &metadata)?;
+    write_all(output, &lines)?;
+    Ok(())
+}
+
+/// Writes the files of a commit to a table in the bundle on standard input, as lines of a bundle.
+fn commit_input<R: Read, W: Sink>(
+    alloc: Global,
+    request: &CommitRequest,
+    input: &mut R,
+    output: &mut W,
+) -> Result<(), RunFault>
+    ensures { (text : List ℕ) × IsInput (R.remaining input.old) text ×
+        Ran (committed_text request.now text) (W.may_fail output.old) result (W.taken output.old) (W.taken output.new) }
+{
+    let text = read_input(alloc, input)?;
+    commit_bundle(alloc, &text, request, output)
+}
+
+/// Makes a commit to a table in a folder, and tells it.
+fn commit_folder<H: Files, W: Sink>(
+    host: &H,
+    alloc: Global,
+    place: &Place,
+    request: &CommitRequest,
+    output: &mut W,
+) -> Result<(), RunFault>
+    ensures { Ran None (W.may_fail output.old) result (W.taken output.old) (W.taken output.new) }
+{
+    let files = Folder::new(host, place.folder.as_str(), place.prefix.as_str());
+    let mut store = Folder::new(host, place.folder.as_str(), place.prefix.as_str());
+    commit_to(alloc, &files, request, &mut store, output)
+}
+
 /// Writes a text.
 fn tell<W: Sink>(text: &Text, output: &mut W) -> Result<(), RunFault>
     ensures { Ran (Some (Ok text.now)) (W.may_fail output.old) result (W.taken output.old) (W.taken output.new) }
@@ -197,16 +251,30 @@ fn tell<W: Sink>(text: &Text, output: &mut W) -> Result<(), RunFault>
     Ok(())
 }
 
+/// Drills, and writes what is told of the table.
+fn drill<H: Threads + Wait + Watch + Sync, W: Sink>(
+    host: &H,
+    alloc: Global,
+    drill: Drill,
+    output: &mut W,
+) -> Result<(), RunFault>
+    ensures ran { Ran None (W.may_fail output.old) result (W.taken output.old) (W.taken output.new) }
+    ensures drilled { OnOk result (WroteDrill drill (W.taken output.old) (W.taken output.new)) }
+{
+    run_drill(host, alloc, drill, output)
+}
+
 /// Writes what is asked for.
-fn run_asked<H: Files<File: Send, Dir: Send> + Threads + Sync, R: Read, W: Sink>(
+fn run_asked<H: Files<File: Send, Dir: Send> + Threads + Wait + Watch + Sync, R: Read, W: Sink>(
     host: &H,
     alloc: Global,
     asked: &Words,
     input: &mut R,
     output: &mut W,
 ) -> Result<(), RunFault>
-    ensures { (text : List ℕ) × IsInput (R.remaining input.old) text ×
+    ensures ran { (text : List ℕ) × IsInput (R.remaining input.old) text ×
         Ran (answer_to asked.now text) (W.may_fail output.old) result (W.taken output.old) (W.taken output.new) }
+    ensures drilled { OnOk result (IsOfDrill (Ok asked.now) (W.taken output.old) (W.taken output.new)) }
 {
     match asked {
         Words::ListPlan(Lists::Bundle(list)) => plan_input(alloc, list, input, output),
@@ -219,14 +287,19 @@ fn run_asked<H: Files<File: Send, Dir: Send> + Threads + Sync, R: Read, W: Sink>
         Words::Plan(Source::Folder(place), request, workers, path) => request_folder(
             host, alloc, place, request, *workers, path, output,
         ),
+        Words::Commit(Source::Bundle, request) => commit_input(alloc, request, input, output),
+        Words::Commit(Source::Folder(place), request) => commit_folder(
+            host, alloc, place, request, output,
+        ),
         Words::Show(Source::Bundle, path) => show_input(alloc, path, input, output),
         Words::Show(Source::Folder(place), path) => show_folder(host, alloc, place, path, output),
+        Words::Drill(asked) => drill(host, alloc, *asked, output),
         Words::Text(text) => tell(text, output),
     }
 }
 
 /// Writes what the words ask for.
-fn run<H: Files<File: Send, Dir: Send> + Threads + Sync, R: Read, W: Sink>(
+fn run<H: Files<File: Send, Dir: Send> + Threads + Wait + Watch + Sync, R: Read, W: Sink>(
     host: &H,
     alloc: Global,
     words: &[String],
@@ -234,6 +307,7 @@ fn run<H: Files<File: Send, Dir: Send> + Threads + Sync, R: Read, W: Sink>(
     output: &mut W,
 ) -> Result<(), RunFault>
     ensures { (asked : Result Words RunFault) × ReadAs (map string_bytes words.now) asked ×
+        OnOk result (IsOfDrill asked (W.taken output.old) (W.taken output.new)) ×
         (text : List ℕ) × IsInput (R.remaining input.old) text ×
         Ran (run_of asked text) (W.may_fail output.old) result (W.taken output.old) (W.taken output.new) }
 {
@@ -244,7 +318,7 @@ fn run<H: Files<File: Send, Dir: Send> + Threads + Sync, R: Read, W: Sink>(
 /// Runs the program: it writes what the words ask for to `output` and ends with 0, or it writes the line of the first
 /// fault to `errors` and ends with the fault's status. Faults are found in this order: of the words, of reading standard
 /// input where it holds a bundle, of the bundle, of what is asked for.
-pub fn run_words<H: Files<File: Send, Dir: Send> + Threads + Sync, R: Read, W: Sink, E: Sink>(
+pub fn run_words<H, R: Read, W: Sink, E: Sink>(
     host: &H,
     alloc: Global,
     words: &[String],
@@ -252,14 +326,16 @@ pub fn run_words<H: Files<File: Send, Dir: Send> + Threads + Sync, R: Read, W: S
     output: &mut W,
     errors: &mut E,
 ) -> u8
+where
+    H: Files<File: Send, Dir: Send> + Threads + Wait + Watch + Sync,
     // The words were read as one of the commands, or they were refused; no words, and `list-plan --bundle`, were read as
     // the plan of a bundle's first file. For some text, which is all that standard input had left where that is told: what
     // is asked of that text was written, or the fault is that of the words and that text, or reading, writing or memory
     // failed.
     ensures run { (asked : Result Words RunFault) × ReadAs (map string_bytes words.now) asked ×
         (text : List ℕ) × IsInput (R.remaining input.old) text ×
-        (Answered (run_of asked text) result (W.taken output.old) (W.taken output.new) (E.taken errors.old) (E.taken errors.new)
-        ⊎ Refused (run_of asked text) (W.may_fail output.old) (E.may_fail errors.old) result (W.taken output.old) (W.taken output.new) (E.taken errors.old) (E.taken errors.new)) }
+        ((Answered (run_of asked text) result (W.taken output.old) (W.taken output.new) (E.taken errors.old) (E.taken errors.new)
+        × IsOfDrill asked (W.taken output.old) (W.taken output.new)) ⊎ Refused (run_of asked text) (W.may_fail output.old) (E.may_fail errors.old) result (W.taken output.old) (W.taken output.new) (E.taken errors.old) (E.taken errors.new)) }
 {
     match run(host, alloc, words, input, output) {
         Ok(()) => 0,

@@ -25,16 +25,40 @@ fn added(alloc: Global, id: i64, now: i64, operation: Operation) -> Result<NewSn
     })
 }
 
-/// The metadata after an append, as snapshot 7 at time 5.
-fn after(alloc: Global, text: &str) -> Result<Metadata, Fail> {
-    match metadata(alloc, text)?.with_snapshot(alloc, &added(alloc, 7, 5, Operation::Append)?) {
+/// The metadata after a commit of this snapshot.
+fn committed(alloc: Global, base: &Metadata, added: &NewSnapshot) -> Result<Metadata, Fail> {
+    match base.with_snapshot(alloc, added) {
         Ok(next) => Ok(next),
         Err(fault) => Err(format!(in alloc; "{fault:?}")?.into()),
     }
 }
 
+/// The metadata after an append, as snapshot 7 at time 5.
+fn after(alloc: Global, text: &str) -> Result<Metadata, Fail> {
+    let base = metadata(alloc, text)?;
+    committed(alloc, &base, &added(alloc, 7, 5, Operation::Append)?)
+}
+
+/// The text that is written is this one.
+fn check_text(alloc: Global, written: &Metadata, want: &str) -> Result<(), Fail> {
+    let text = text_of(alloc, written)?;
+    if text.as_str() == want {
+        return Ok(());
+    }
+    Err(text.into())
+}
+
+/// The text that is written is read as the same table.
+fn check_read_back(alloc: Global, written: &Metadata) -> Result<(), Fail> {
+    let text = text_of(alloc, written)?;
+    if metadata(alloc, text.as_str())?.table() == written.table() {
+        return Ok(());
+    }
+    Err(text.into())
+}
+
 /// The text without its line breaks.
-fn joined(alloc: Global, text: &str) -> Result<String, Fail> {
+pub fn joined(alloc: Global, text: &str) -> Result<String, Fail> {
     let mut whole = String::new(alloc);
     for line in text.lines() {
         whole.push_str(line)?;
@@ -64,10 +88,9 @@ const FIRST: &str =
 #[test]
 fn first_snapshot(rt: HostRuntime) -> Result<(), Fail> {
     let next = after(rt.alloc(), EMPTY)?;
-    let want = joined(rt.alloc(), FIRST)?;
-    assert_eq!(rt; text_of(rt.alloc(), &next)?.as_str(), want.as_str());
     assert!(rt; next.resolve(&Target::Main) == Ok(7));
-    Ok(())
+    let want = joined(rt.alloc(), FIRST)?;
+    check_text(rt.alloc(), &next, want.as_str())
 }
 
 /// What a second commit, of deletes, changes in the text of the first.
@@ -83,14 +106,10 @@ NEXT => "schema-id":0,"sequence-number":2,"snapshot-id":-3,"summary":{"operation
 fn second_snapshot(rt: HostRuntime) -> Result<(), Fail> {
     let alloc = rt.alloc();
     let first = after(alloc, EMPTY)?;
-    let second = first.with_snapshot(alloc, &added(alloc, -3, -1, Operation::Delete)?);
-    let second = second.ok().ok_or("the second")?;
+    let second = committed(alloc, &first, &added(alloc, -3, -1, Operation::Delete)?)?;
     let want = all_changed(alloc, joined(alloc, FIRST)?.as_str(), SECOND)?;
-    assert_eq!(rt; text_of(alloc, &second)?.as_str(), want.as_str());
-    let again = metadata(alloc, want.as_str())?;
-    assert!(rt; again.table() == second.table());
-    assert_eq!(rt; text_of(alloc, &again)?.as_str(), want.as_str());
-    Ok(())
+    check_text(alloc, &second, want.as_str())?;
+    check_read_back(alloc, &second)
 }
 
 /// The file of a table without partitions, as Python's `json` writes it with its keys sorted.
@@ -152,14 +171,10 @@ NEXT => "snapshot-id":7,"summary":{"operation":"append"},"timestamp-ms":5}]"#;
 #[test]
 fn file_of_another_writer(rt: HostRuntime) -> Result<(), Fail> {
     let sorted = joined(rt.alloc(), PLAIN_SORTED)?;
-    assert_eq!(rt;
-        text_of(rt.alloc(), &metadata(rt.alloc(), PLAIN)?)?.as_str(),
-        sorted.as_str()
-    );
+    check_text(rt.alloc(), &metadata(rt.alloc(), PLAIN)?, sorted.as_str())?;
     let next = after(rt.alloc(), PLAIN)?;
     let want = all_changed(rt.alloc(), sorted.as_str(), PLAIN_CHANGES)?;
-    assert_eq!(rt; text_of(rt.alloc(), &next)?.as_str(), want.as_str());
-    Ok(())
+    check_text(rt.alloc(), &next, want.as_str())
 }
 
 /// The new snapshot is of the current schema, and its summary says what the change is.
@@ -177,14 +192,10 @@ NEXT => "snapshot-id":9,"summary":{"operation":"overwrite"},"timestamp-ms":17096
 fn table_with_partitions(rt: HostRuntime) -> Result<(), Fail> {
     let alloc = rt.alloc();
     let base = metadata(alloc, EVENTS)?;
-    let next = base.with_snapshot(
-        alloc,
-        &added(alloc, 9, 1709629200000, Operation::Overwrite)?,
-    );
-    let next = next.ok().ok_or("the next")?;
+    let ninth = added(alloc, 9, 1709629200000, Operation::Overwrite)?;
+    let next = committed(alloc, &base, &ninth)?;
     let want = all_changed(alloc, text_of(alloc, &base)?.as_str(), EVENTS_CHANGES)?;
-    assert_eq!(rt; text_of(alloc, &next)?.as_str(), want.as_str());
-    Ok(())
+    check_text(alloc, &next, want.as_str())
 }
 
 /// What the empty table has in the place of its snapshots, and what it has there after an append.
@@ -197,35 +208,41 @@ const OTHER_MEMBERS: &str =
 "refs": {"main": {"type": "tag", "snapshot-id": 4, "x": 1}} gives "refs":{"main":{"snapshot-id":7,"type":"branch","x":1}}
 "y": {"z": [1.5, null, {}], "é": -0.25} gives "y":{"z":[1.5,null,{}],"é":-0.25}"#;
 
+/// The empty table with these members in the place of its snapshots.
+fn empty_with(alloc: Global, members: &str) -> Result<String, Fail> {
+    let (front, _) = EMPTY.split_once("\"snapshots\"").ok_or("the place")?;
+    Ok(format!(in alloc; "{front}{members}}}")?)
+}
+
 #[test]
 fn other_members_of_the_base(rt: HostRuntime) -> Result<(), Fail> {
     for line in OTHER_MEMBERS.lines() {
         let (members, want) = line.split_once(" gives ").ok_or("a line")?;
-        let (front, _) = EMPTY.split_once("\"snapshots\"").ok_or("the place")?;
-        let base = format!(in rt.alloc(); "{front}{members}}}")?;
+        let base = empty_with(rt.alloc(), members)?;
         let next = after(rt.alloc(), base.as_str())?;
         let text = text_of(rt.alloc(), &next)?;
         assert!(rt; text.as_str().contains(want), "{line} {text}");
-        assert!(rt;
-            metadata(rt.alloc(), text.as_str())?.table() == next.table(),
-            "{line}"
-        );
+        check_read_back(rt.alloc(), &next)?;
     }
     Ok(())
 }
 
+/// Why an append to the table is refused.
+fn refusal(alloc: Global, text: &str, id: i64) -> Result<Option<MetaFault>, Fail> {
+    let base = metadata(alloc, text)?;
+    Ok(
+        base.with_snapshot(alloc, &added(alloc, id, 5, Operation::Append)?)
+            .err(),
+    )
+}
+
 #[test]
 fn refused_snapshots(rt: HostRuntime) -> Result<(), Fail> {
-    let alloc = rt.alloc();
-    let base = metadata(alloc, PLAIN)?;
-    let taken = added(alloc, 2283605302977256481, 5, Operation::Append)?;
-    let fault = base.with_snapshot(alloc, &taken).err();
-    assert!(rt; fault == Some(MetaFault::IdTwice(2283605302977256481)));
+    let taken = refusal(rt.alloc(), PLAIN, 2283605302977256481)?;
+    assert!(rt; taken == Some(MetaFault::IdTwice(2283605302977256481)));
     let line = "\"last-sequence-number\": 0 => \"last-sequence-number\": 9223372036854775807";
-    let last = metadata(alloc, changed(alloc, EMPTY, line)?.as_str())?;
-    let fault = last
-        .with_snapshot(alloc, &added(alloc, 7, 5, Operation::Append)?)
-        .err();
-    assert!(rt; fault == Some(MetaFault::WrongKind(Member::LastSequenceNumber)));
+    let last = changed(rt.alloc(), EMPTY, line)?;
+    let past_the_last = refusal(rt.alloc(), last.as_str(), 7)?;
+    assert!(rt; past_the_last == Some(MetaFault::WrongKind(Member::LastSequenceNumber)));
     Ok(())
 }

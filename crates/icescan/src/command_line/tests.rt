@@ -1,8 +1,11 @@
 //! What words ask for.
 
 use super::{Lists, Source, Words, parse_words};
+use crate::change::ChangeKind;
+use crate::committing::CommitRequest;
 use crate::fault::RunFault;
 use crate::selection::Request;
+use ice_catalog::Ids;
 use ice_meta::Target;
 use std::alloc::{AllocError, Global};
 use std::test::Fail;
@@ -42,6 +45,25 @@ fn asked(request: &Request) -> &'static str {
     }
 }
 
+/// A name for a commit that is asked for.
+fn committed(request: &CommitRequest) -> &'static str {
+    match request {
+        CommitRequest {
+            kind: ChangeKind::RowDelta,
+            ..
+        } => "changed",
+        CommitRequest {
+            ids: Ids {
+                snapshot: -1,
+                now_ms: -2,
+                ..
+            },
+            ..
+        } => "appended as -1",
+        _ => "appended",
+    }
+}
+
 /// A name for what words ask for.
 fn kind(read: &Result<Words, RunFault>) -> &'static str {
     match read {
@@ -52,15 +74,18 @@ fn kind(read: &Result<Words, RunFault>) -> &'static str {
         Ok(Words::Plan(Source::Bundle, _, 0, _)) => "planned by nobody",
         Ok(Words::Plan(Source::Bundle, _, _, _)) => "planned by many",
         Ok(Words::Plan(Source::Folder(_), _, _, _)) => "planned from a folder",
+        Ok(Words::Commit(Source::Bundle, request)) => committed(request),
+        Ok(Words::Commit(Source::Folder(_), _)) => "committed to a folder",
         Ok(Words::Show(Source::Bundle, _)) => "shown",
         Ok(Words::Show(Source::Folder(_), _)) => "shown from a folder",
+        Ok(Words::Drill(_)) => "drilled",
         Ok(Words::Text(_)) => "text",
         Err(RunFault::Words(_)) => "refused",
         Err(_) => "memory",
     }
 }
 
-static ASKED: [(&[&str], &str); 22] = [
+static ASKED: [(&[&str], &str); 24] = [
     (&[], "first"),
     (&["list-plan", "--bundle"], "first"),
     (&["list-plan", "--bundle", "a"], "named"),
@@ -113,12 +138,14 @@ static ASKED: [(&[&str], &str); 22] = [
         &["plan", "--bundle", "--workers", "18446744073709551615", "a"],
         "planned by many",
     ),
+    (&["drill", "--threads", "64", "--commits", "100"], "drilled"),
     (&["plan", "--help"], "text"),
+    (&["drill", "--help"], "text"),
     (&["--version"], "text"),
     (&["list-plan", "--help"], "text"),
 ];
 
-static REFUSED: [&[&str]; 24] = [
+static REFUSED: [&[&str]; 27] = [
     &["frobnicate"],
     &["--bundle", "list-plan"],
     &["list-plan"],
@@ -145,7 +172,46 @@ static REFUSED: [&[&str]; 24] = [
     &["list-plan", "--bundle", "--workers", "1", "a"],
     &["show", "--bundle"],
     &["show", "a"],
+    &["drill", "--threads", "65", "--commits", "1"],
+    &["drill", "--threads", "1", "--commits", "0"],
+    &["drill", "--threads", "1"],
 ];
+
+/// Words of commits, and what they are read as.
+const COMMITS: &str = "\
+append --bundle --snapshot-id 7 --uuid f79c3e09-677c-4bbd-a479-3f349cb785e7 --now-ms 9 --out o m c|appended
+append m c --out=o --now-ms=9 --uuid=F79C3E09677C4BBDA4793F349CB785E7 --snapshot-id=7 --bundle|appended
+append --bundle --snapshot-id -1 --uuid f79c3e09-677c-4bbd-a479-3f349cb785e7 --now-ms=-2 --out o m c|appended as -1
+row-delta --bundle --snapshot-id 7 --uuid f79c3e09-677c-4bbd-a479-3f349cb785e7 --now-ms 9 --out o m c|changed
+append --dir d --prefix p --snapshot-id 7 --uuid f79c3e09-677c-4bbd-a479-3f349cb785e7 --now-ms 9 --out o m c|committed to a folder
+append --help|text
+row-delta --help|text
+append --snapshot-id 7 --uuid f79c3e09-677c-4bbd-a479-3f349cb785e7 --now-ms 9 --out o m c|refused
+append --bundle --snapshot-id 7 --uuid f79c3e09-677c-4bbd-a479-3f349cb785e --now-ms 9 --out o m c|refused
+append --bundle --snapshot-id x --uuid f79c3e09-677c-4bbd-a479-3f349cb785e7 --now-ms 9 --out o m c|refused
+append --bundle --snapshot-id 7 --uuid f79c3e09-677c-4bbd-a479-3f349cb785e7 --now-ms 9223372036854775808 --out o m c|refused
+append --bundle --uuid f79c3e09-677c-4bbd-a479-3f349cb785e7 --now-ms 9 --out o m c|refused
+append --bundle --snapshot-id 7 --now-ms 9 --out o m c|refused
+append --bundle --snapshot-id 7 --uuid f79c3e09-677c-4bbd-a479-3f349cb785e7 --out o m c|refused
+append --bundle --snapshot-id 7 --uuid f79c3e09-677c-4bbd-a479-3f349cb785e7 --now-ms 9 m c|refused
+append --bundle --snapshot-id 7 --uuid f79c3e09-677c-4bbd-a479-3f349cb785e7 --now-ms 9 --out o m|refused
+";
+
+#[test]
+fn words_of_commits(rt: HostRuntime) -> Result<(), Fail> {
+    let alloc = rt.alloc();
+    for line in COMMITS.lines() {
+        let mut texts = Vec::new(alloc);
+        let Some((words, expected)) = line.split_once('|') else {
+            continue;
+        };
+        for word in words.split(' ') {
+            texts.push(String::from_str(alloc, word)?)?;
+        }
+        assert_eq!(rt; kind(&parse_words(alloc, &texts)), expected);
+    }
+    Ok(())
+}
 
 #[test]
 fn words_that_are_understood(rt: HostRuntime) -> Result<(), Fail> {

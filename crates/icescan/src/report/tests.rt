@@ -1,10 +1,12 @@
 //! The printed lines and their statuses.
 
 use super::report;
+use crate::change::{ChangeFault, ChangeMember};
 use crate::fault::RunFault;
 use avro_file::{AvroFault, CodecName};
 use avro_schema::SchemaFault;
 use contract_words::{Items, Text};
+use ice_catalog::PrepareFault;
 use ice_filter::FilterFault;
 use ice_manifest::{ListFault, ManifestFault};
 use ice_meta::{Member, MetaFault};
@@ -106,6 +108,81 @@ fn lines_of_metadata(rt: HostRuntime) {
             "{line}"
         );
     }
+}
+
+#[test]
+fn lines_of_a_commit(rt: HostRuntime) {
+    let alloc = rt.alloc();
+    let rows = [
+        (
+            RunFault::Change(ChangeFault::NotJson),
+            "C1 BadChange -\n",
+            2,
+        ),
+        (
+            RunFault::Change(ChangeFault::Bad(ChangeMember::EqualityIds)),
+            "C1 BadChange equality-ids\n",
+            2,
+        ),
+        (RunFault::Change(ChangeFault::Memory), "Memory\n", 5),
+        (
+            RunFault::Prepare(PrepareFault::SnapshotTaken),
+            "K1 SnapshotTaken\n",
+            1,
+        ),
+        (RunFault::Prepare(PrepareFault::Empty), "K4 Empty\n", 1),
+        (
+            RunFault::Prepare(PrepareFault::NoSuchSpec(-3)),
+            "K5 NoSuchSpec -3\n",
+            1,
+        ),
+        (
+            RunFault::Prepare(PrepareFault::SequenceEnd),
+            "K7 SequenceEnd\n",
+            1,
+        ),
+        (RunFault::Prepare(PrepareFault::Memory), "K9 Memory\n", 5),
+        (
+            RunFault::Prepare(PrepareFault::TooManyRows),
+            "K11 TooManyRows\n",
+            1,
+        ),
+    ];
+    for (fault, line, status) in &rows {
+        assert!(rt; prints(alloc, fault, line, *status), "{line}");
+    }
+}
+
+/// The faults of a commit that name a path.
+fn of_path(number: usize, path: Text) -> RunFault {
+    match number {
+        0 => RunFault::Prepare(PrepareFault::PathTaken(path)),
+        1 => RunFault::Prepare(PrepareFault::PathTwice(path)),
+        2 => RunFault::Prepare(PrepareFault::WrongTuple(path)),
+        3 => RunFault::Prepare(PrepareFault::BaseBad(path)),
+        4 => RunFault::Prepare(PrepareFault::BadFile(path)),
+        _ => RunFault::Conflict(path),
+    }
+}
+
+#[test]
+fn lines_of_a_commit_with_paths(rt: HostRuntime) -> Result<(), Fail> {
+    let alloc = rt.alloc();
+    let rows = [
+        ("K2 PathTaken a\\x20b\n", 1),
+        ("K3 PathTwice a\\x20b\n", 1),
+        ("K6 WrongTuple a\\x20b\n", 1),
+        ("K8 BaseBad a\\x20b\n", 1),
+        ("K10 BadFile a\\x20b\n", 1),
+        ("Conflict a\\x20b\n", 4),
+    ];
+    let mut number: usize = 0;
+    for (line, status) in &rows {
+        let fault = of_path(number, text(alloc, "a b")?);
+        assert!(rt; prints(alloc, &fault, line, *status), "{line}");
+        number = number.saturating_add(1);
+    }
+    Ok(())
 }
 
 #[test]

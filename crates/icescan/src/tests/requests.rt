@@ -2,15 +2,17 @@
 
 use super::cases::PLAN;
 use super::first_bundle;
+use crate::watch::Watch;
 use crate::words::run_words;
 use std::alloc::{AllocError, Global};
 use std::rt::Files;
+use std::sync::Wait;
 use std::test::Fail;
 use std::thread::Threads;
 
 /// A table whose current snapshot is that of the first case. The tag `old` has an older schema, `bare` no manifest list and
 /// `lost` one that is not there.
-const METADATA: &str =
+pub const METADATA: &str =
     r#"{"format-version":2,"table-uuid":"f79c3e09-677c-4bbd-a479-3f349cb785e7","location":"mem://t","last-sequence-number":4,"last-updated-ms":0,"last-column-id":3,"schemas":[{"type":"struct","schema-id":0,"fields":[{"id":1,"name":"b","required":false,"type":"int"}]},{"type":"struct","schema-id":1,"fields":[{"id":1,"name":"c","required":false,"type":"int"},{"id":2,"name":"price","required":false,"type":"decimal(9, 2)"}]}],"current-schema-id":1,"partition-specs":[{"spec-id":0,"fields":[]}],"default-spec-id":0,"last-partition-id":999,"current-snapshot-id":5,"snapshots":[{"snapshot-id":5,"sequence-number":4,"timestamp-ms":2,"schema-id":1,"manifest-list":"mem://t/list"},{"snapshot-id":-4,"sequence-number":3,"timestamp-ms":1,"schema-id":0,"manifest-list":"mem://t/list"},{"snapshot-id":3,"sequence-number":2,"timestamp-ms":1},{"snapshot-id":2,"sequence-number":1,"timestamp-ms":1,"manifest-list":"mem://t/none"}],"refs":{"old":{"snapshot-id":-4,"type":"tag"},"branch":{"snapshot-id":-4,"type":"branch"},"bare":{"snapshot-id":3,"type":"tag"},"lost":{"snapshot-id":2,"type":"tag"}}}"#;
 
 /// The same without a snapshot.
@@ -74,7 +76,7 @@ fn tables(alloc: Global) -> Result<Vec<u8>, AllocError> {
 }
 
 /// Whether the program writes what a line says, and ends with its status.
-fn answers<H: Files<File: Send, Dir: Send> + Threads + Sync>(
+fn answers<H: Files<File: Send, Dir: Send> + Threads + Wait + Watch + Sync>(
     rt: &H,
     alloc: Global,
     bundle: &[u8],

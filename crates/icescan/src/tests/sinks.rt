@@ -5,9 +5,11 @@ use super::first_bundle;
 use crate::fault::RunFault;
 use crate::report::report;
 use crate::sink::{Output, Sink, SinkFault, write_all};
+use crate::watch::Watch;
 use crate::words::run_words;
 use std::alloc::{AllocError, Global};
 use std::rt::Files;
+use std::sync::Wait;
 use std::test::Fail;
 use std::thread::Threads;
 
@@ -74,7 +76,7 @@ fn outputs_of_the_system(rt: HostRuntime) {
 }
 
 /// What a sink of this many bytes at a time and in all has taken of the first case's plan, and the run's status.
-fn run_slow<H: Files<File: Send, Dir: Send> + Threads + Sync>(
+fn run_slow<H: Files<File: Send, Dir: Send> + Threads + Wait + Watch + Sync>(
     rt: &H,
     alloc: Global,
     step: usize,

@@ -6,14 +6,6 @@ pub returns-in_err-put_lines : goal.returns-in_err-put_lines
 unfolding plan_text
 returns-in_err-put_lines g c = sent_less _ _ _ _ _ _ _ _ _ _ _ c.from_residual.ensures.0 c.in_err-put_lines.ensures
 
-pub returns-in_err-put_named_number : goal.returns-in_err-put_named_number
-unfolding plan_text
-returns-in_err-put_named_number g c = sent_more _ _ _ _ _ _ _ _ _ _ _ _ c.in_ok-put_lines.ensures (sent_less _ _ _ _ _ _ _ _ _ _ _ c.from_residual-in_err-put_named_number.ensures.0 (rw c.len.ensures at c.in_err-put_named_number.ensures))
-
-pub returns-in_err-put_named_number-2 : goal.returns-in_err-put_named_number-2
-unfolding plan_text
-returns-in_err-put_named_number-2 g c = sent_more _ _ _ _ _ _ _ _ _ _ _ _ c.in_ok-put_lines.ensures (sent_more _ _ _ _ _ _ _ _ _ _ _ _ (rw c.len.ensures at c.in_ok-put_named_number.ensures) (sent_less _ _ _ _ _ _ _ _ _ _ _ c.from_residual-in_err-put_named_number-2.ensures.0 (rw c.requires at c.in_err-put_named_number-2.ensures)))
-
 pub returns : goal.returns
 unfolding plan_text
-returns g c = sent_more _ _ _ _ _ _ _ _ _ _ _ _ c.in_ok-put_lines.ensures (sent_more _ _ _ _ _ _ _ _ _ _ _ _ (rw c.len.ensures at c.in_ok-put_named_number.ensures) (sent_more _ _ _ _ _ _ _ _ _ _ _ _ (rw c.requires at c.in_ok-put_named_number-2.ensures) c.put.ensures))
+returns g c = sent_more _ _ _ _ _ _ _ _ _ _ _ _ c.in_ok-put_lines.ensures c.put_totals.ensures

@@ -1,0 +1,286 @@
+-- A request to commit: why each of its steps may end it, and what a prepared commit writes.
+use Rattle.std.proofs.Common.{◌≡◌, ◌≢◌, ℕ, List, [], ◌∷◌, Option, Some, None, refl, sym, ap, subst, ◌∙◌, inl, inr}
+use Rattle.std.specs.Prelude.{Result, Ok, Err, IsErrOf}
+use Rattle.contract_words.specs.Outcome.{◌>>=◌}
+use Rattle.ice_catalog.specs.declared.change.Change.{Change}
+use Rattle.ice_catalog.specs.declared.change.Commit.{Commit}
+use Rattle.ice_catalog.specs.declared.fault.PrepareFault.{PrepareFault}
+use Rattle.ice_catalog.specs.declared.fault.PrepareFault.TheVariants as prepare
+use Rattle.ice_catalog.specs.declared.opening.Opening.{Opening}
+use Rattle.ice_catalog.specs.declared.world.World.{World as Kept}
+use Rattle.ice_catalog.specs.Adding.{added}
+use Rattle.ice_catalog.specs.Applying.{apply}
+use Rattle.ice_catalog.specs.Histories.{History, Step, after, opened, openable, prepared_on, prepared_from, state_of}
+use Rattle.ice_catalog.specs.States.{State}
+use Rattle.ice_desk.specs.Worlds.{EndsAt}
+use Rattle.ice_meta.specs.declared.fault.MetaFault.{MetaFault}
+use Rattle.ice_meta.specs.declared.fault.MetaFault.TheVariants as meta
+use Rattle.ice_meta.specs.declared.metadata.Target.TheVariants.{Main}
+use Rattle.ice_meta.specs.Targets.{Described, list_of}
+use Rattle.ice_state.specs.Contents.{World}
+use Rattle.icescan.specs.declared.change.fault.ChangeFault.{ChangeFault}
+use Rattle.icescan.specs.declared.change.fault.ChangeFault.TheVariants as change
+use Rattle.icescan.specs.declared.committing.CommitRequest.{CommitRequest}
+use Rattle.icescan.specs.declared.fault.RunFault.{RunFault}
+use Rattle.icescan.specs.declared.fault.RunFault.TheVariants as run
+use Rattle.icescan.specs.Changes.{change_of}
+use Rattle.icescan.specs.Commits.{Commitment, IsOfPreparing, IsReadFault, MayEndCommit, Writes, base_files, base_of, commitment, commitment_on}
+use Rattle.icescan.specs.Faults.{of_change, of_meta, of_prepare}
+use Rattle.icescan.specs.ListPlans.{MayEnd, as_run, file_in}
+use Rattle.icescan.proofs.Steps.{first_ends, then_ends}
+
+-- ---- a part's fault is the run's
+
+module _ (r : List ℕ → Type 0) (w : Type 0) where
+  change_ends : {A : Type 0} (read : Result A ChangeFault) (f : ChangeFault) → (f ≢ change.Memory → read ≡ Err f)
+      → MayEnd (as_run of_change read) r w (of_change f)
+  change_ends read change.Memory h = tt
+  change_ends read change.NotJson h = ap (as_run of_change) (h (λ m. cc))
+  change_ends read (change.Bad member) h = ap (as_run of_change) (h (λ m. cc))
+
+  meta_ends : {A : Type 0} (read : Result A MetaFault) (f : MetaFault) → (f ≢ meta.Memory → read ≡ Err f)
+      → MayEnd (as_run of_meta read) r w (of_meta f)
+  meta_ends read meta.Memory h = tt
+  meta_ends read meta.NotJson h = ap (as_run of_meta) (h (λ m. cc))
+  meta_ends read (meta.Version n) h = ap (as_run of_meta) (h (λ m. cc))
+  meta_ends read (meta.Missing member) h = ap (as_run of_meta) (h (λ m. cc))
+  meta_ends read (meta.WrongKind member) h = ap (as_run of_meta) (h (λ m. cc))
+  meta_ends read (meta.UnknownType text) h = ap (as_run of_meta) (h (λ m. cc))
+  meta_ends read meta.NoSuchRef h = ap (as_run of_meta) (h (λ m. cc))
+  meta_ends read meta.NoSuchSnapshot h = ap (as_run of_meta) (h (λ m. cc))
+  meta_ends read meta.NoSnapshot h = ap (as_run of_meta) (h (λ m. cc))
+  meta_ends read (meta.IdTwice id) h = ap (as_run of_meta) (h (λ m. cc))
+  meta_ends read (meta.Dangling member) h = ap (as_run of_meta) (h (λ m. cc))
+  meta_ends read meta.TooBig h = ap (as_run of_meta) (h (λ m. cc))
+
+  prepare_ends : {A : Type 0} (read : Result A PrepareFault) (f : PrepareFault) → (f ≢ prepare.Memory → read ≡ Err f)
+      → MayEnd (as_run of_prepare read) r w (of_prepare f)
+  prepare_ends read prepare.Memory h = tt
+  prepare_ends read prepare.SnapshotTaken h = ap (as_run of_prepare) (h (λ m. cc))
+  prepare_ends read (prepare.PathTaken path) h = ap (as_run of_prepare) (h (λ m. cc))
+  prepare_ends read (prepare.PathTwice path) h = ap (as_run of_prepare) (h (λ m. cc))
+  prepare_ends read prepare.Empty h = ap (as_run of_prepare) (h (λ m. cc))
+  prepare_ends read (prepare.NoSuchSpec id) h = ap (as_run of_prepare) (h (λ m. cc))
+  prepare_ends read (prepare.WrongTuple path) h = ap (as_run of_prepare) (h (λ m. cc))
+  prepare_ends read prepare.SequenceEnd h = ap (as_run of_prepare) (h (λ m. cc))
+  prepare_ends read (prepare.BaseBad path) h = ap (as_run of_prepare) (h (λ m. cc))
+  prepare_ends read (prepare.BadFile path) h = ap (as_run of_prepare) (h (λ m. cc))
+  prepare_ends read prepare.TooManyRows h = ap (as_run of_prepare) (h (λ m. cc))
+
+  read_ends : {A : Type 0} (read : Result A RunFault) (e : RunFault) → IsReadFault r e → MayEnd read r w e
+  read_ends read run.Memory h = tt
+  read_ends read (run.Device path) h = h
+  read_ends read run.Write h = absurd h
+  read_ends read run.Input h = absurd h
+  read_ends read (run.Words t) h = absurd h
+  read_ends read (run.Bundle n) h = absurd h
+  read_ends read (run.Absent path) h = absurd h
+  read_ends read (run.List f) h = absurd h
+  read_ends read (run.Scan f) h = absurd h
+  read_ends read (run.Finish f) h = absurd h
+  read_ends read (run.Metadata f) h = absurd h
+  read_ends read (run.Filter f) h = absurd h
+  read_ends read (run.Drill f) h = absurd h
+  read_ends read (run.Change f) h = absurd h
+  read_ends read (run.Prepare f) h = absurd h
+  read_ends read (run.Conflict path) h = absurd h
+  read_ends read run.Workers h = absurd h
+
+-- ---- a version that was just opened
+
+module _ (o : Opening) (m : Described) (is : openable o.bytes ≡ Ok m) (c : Commit) where
+  abbrev base : State
+  base = record { metadata = m; world = o.world }
+
+  abbrev version : History
+  version = record { opening = o; journal = [] }
+
+  is_opened : opened o ≡ Ok version
+  is_opened = rw is refl
+
+  abbrev done : Result Step PrepareFault
+  done = Ok (record { base = version; commit = c })
+
+  pub version_is : (v : History) → opened o ≡ Ok v → v ≡ version
+  version_is v h = let same : ◌≡◌ {A = Result History MetaFault} (Ok v) (Ok version) = sym h ∙ is_opened in cc
+
+  pub opens : (e : MetaFault) → opened o ≡ Err e → ⊥
+  opens e h = let wrong : ◌≡◌ {A = Result History MetaFault} (Ok version) (Err e) = sym is_opened ∙ h in absurd cc
+
+  state_is : state_of version ≡ Some base
+  unfolding state_of
+  state_is = rw is refl
+
+  next_is : (n : State) → apply base c ≡ Ok n → state_of (after version c) ≡ Some n
+  unfolding state_of
+  next_is n h = rw (is, h) refl
+
+  fault_is : (found : Result State PrepareFault) (e : PrepareFault)
+      → (found >>= λ _. done) ≡ Err e → found ≡ Err e
+  fault_is (Ok n) e h = absurd cc
+  fault_is (Err f) e h = cc
+
+  pub refused_by : (e : PrepareFault) → prepared_on version c ≡ Err e → apply base c ≡ Err e
+  refused_by e h = fault_is (apply base c) e (rw state_is at h)
+
+  made_of : (found : Result State PrepareFault) (p : Step) → apply base c ≡ found
+      → (found >>= λ _. done) ≡ Ok p
+      → (x : Commitment) × (commitment_on base c ≡ Ok x) × Writes p x
+  unfolding commitment_on
+  made_of (Err f) p is_found h = absurd cc
+  made_of (Ok n) p is_found h =
+      let same : p ≡ record { base = version; commit = c } = cc in
+      let x : Commitment = record { added = added base c; metadata = n.metadata } in
+      let writes : Writes (record { base = version; commit = c }) x =
+      record { added = rw state_is refl; metadata = rw (next_is n is_found) refl } in
+      (x, rw is_found refl, subst (λ q. Writes q x) (sym same) writes)
+
+  pub made_by : (p : Step) → prepared_on version c ≡ Ok p → (x : Commitment) × (commitment_on base c ≡ Ok x) × Writes p x
+  made_by p h = made_of (apply base c) p refl (rw state_is at h)
+
+-- ---- the request
+
+module _ (f : List ℕ → Type 0) (world : World) (request : CommitRequest) where
+  abbrev answer : Result Commitment RunFault
+  answer = commitment world request
+
+  fails : (path p : List ℕ) → EndsAt world f (path ∷ []) p → f p
+  fails path p (inl h) = subst f (sym h.0) (subst f h.0 h.1)
+  fails path p (inr h) = absurd h.1
+
+  pub no_metadata : (e : RunFault) → MayEnd (file_in world request.metadata) (EndsAt world f (request.metadata ∷ [])) ⊥ e
+      → MayEnd answer f ⊥ e
+  unfolding commitment
+  no_metadata e h =
+      first_ends f ⊥ (EndsAt world f (request.metadata ∷ [])) (file_in world request.metadata) _ e (fails request.metadata) h
+
+  module _ (bytes : List ℕ) (has : file_in world request.metadata ≡ Ok bytes) where
+    pub no_change : (e : RunFault) → MayEnd (file_in world request.change) (EndsAt world f (request.change ∷ [])) ⊥ e
+        → MayEnd answer f ⊥ e
+    unfolding commitment
+    no_change e h =
+        then_ends f ⊥ (file_in world request.metadata) _ bytes e has
+        (first_ends f ⊥ (EndsAt world f (request.change ∷ [])) (file_in world request.change) _ e (fails request.change) h)
+
+    module _ (text : List ℕ) (found : file_in world request.change ≡ Ok text) where
+      pub bad_change : (e : ChangeFault) → (e ≢ change.Memory → change_of request.kind text ≡ Err e)
+          → MayEnd answer f ⊥ (of_change e)
+      unfolding commitment
+      bad_change e h =
+          then_ends f ⊥ (file_in world request.metadata) _ bytes (of_change e) has
+          (then_ends f ⊥ (file_in world request.change) _ text (of_change e) found
+          (first_ends f ⊥ f (as_run of_change (change_of request.kind text)) _ (of_change e) (λ p m. m)
+          (change_ends f ⊥ (change_of request.kind text) e h)))
+
+      module _ (files : Change) (says : change_of request.kind text ≡ Ok files) where
+        change_is : as_run of_change (change_of request.kind text) ≡ Ok files
+        change_is = ap (as_run of_change) says
+
+        behind_change : (e : RunFault)
+            → MayEnd (as_run of_meta (openable bytes) >>= λ m. commitment_on (base_of world m) (record { change = files; ids = request.ids })) f ⊥ e
+            → MayEnd answer f ⊥ e
+        unfolding commitment
+        behind_change e h =
+            then_ends f ⊥ (file_in world request.metadata) _ bytes e has
+            (then_ends f ⊥ (file_in world request.change) _ text e found
+            (then_ends f ⊥ (as_run of_change (change_of request.kind text)) _ files e change_is h))
+
+        pub bad_metadata : (e : MetaFault) → (e ≢ meta.Memory → openable bytes ≡ Err e) → MayEnd answer f ⊥ (of_meta e)
+        bad_metadata e h =
+            behind_change (of_meta e)
+            (first_ends f ⊥ f (as_run of_meta (openable bytes)) _ (of_meta e) (λ p m. m) (meta_ends f ⊥ (openable bytes) e h))
+
+        module _ (m : Described) (is : openable bytes ≡ Ok m) where
+          abbrev commit : Commit
+          commit = record { change = files; ids = request.ids }
+
+          pub bad_base : (e : RunFault) → IsReadFault f e → MayEnd answer f ⊥ e
+          bad_base e h = read_ends f ⊥ answer e h
+
+          answer_is : answer ≡ commitment_on (base_of world m) commit
+          unfolding commitment
+          answer_is = rw (has, found, says, is) refl
+
+          module _ (kept : Kept) (base_is : kept ≡ base_files world (list_of Main m.table)) (v : History)
+              (opens_as : opened (record { bytes = bytes; world = kept }) ≡ Ok v) where
+            abbrev opening : Opening
+            opening = record { bytes = bytes; world = kept }
+
+            answer_on : answer ≡ commitment_on (record { metadata = m; world = kept }) commit
+            answer_on = answer_is ∙ ap (λ w. commitment_on (record { metadata = m; world = w }) commit) (sym base_is)
+
+            version_at : v ≡ record { opening = opening; journal = [] }
+            version_at = version_is opening m is commit v opens_as
+
+            ends_on : (e : PrepareFault) → (e ≢ prepare.Memory → apply (record { metadata = m; world = kept }) commit ≡ Err e)
+                → MayEnd (commitment_on (record { metadata = m; world = kept }) commit) f ⊥ (of_prepare e)
+            unfolding commitment_on
+            ends_on e h =
+                first_ends f ⊥ f (as_run of_prepare (apply (record { metadata = m; world = kept }) commit)) _ (of_prepare e) (λ p m. m)
+                (prepare_ends f ⊥ (apply (record { metadata = m; world = kept }) commit) e h)
+
+            pub not_prepared : (e : PrepareFault) → (e ≢ prepare.Memory → prepared_on v commit ≡ Err e)
+                → MayEnd answer f ⊥ (of_prepare e)
+            not_prepared e h =
+                subst (λ a. MayEnd a f ⊥ (of_prepare e)) (sym answer_on)
+                (ends_on e (λ no. refused_by opening m is commit e (rw version_at at (h no))))
+
+            pub prepared : (p : Step) → prepared_on v commit ≡ Ok p → (x : Commitment) × (answer ≡ Ok x) × Writes p x
+            prepared p h =
+                let made = made_by opening m is commit p (rw version_at at h) in
+                (made.0, answer_on ∙ made.1, made.2)
+
+          pub not_opened : (kept : Kept) (e : MetaFault)
+              → (e ≢ meta.Memory → opened (record { bytes = bytes; world = kept }) ≡ Err e) → MayEnd answer f ⊥ (of_meta e)
+          not_opened kept meta.Memory h = tt
+          not_opened kept meta.NotJson h = absurd (opens _ m is commit _ (h (λ m. cc)))
+          not_opened kept (meta.Version n) h = absurd (opens _ m is commit _ (h (λ m. cc)))
+          not_opened kept (meta.Missing member) h = absurd (opens _ m is commit _ (h (λ m. cc)))
+          not_opened kept (meta.WrongKind member) h = absurd (opens _ m is commit _ (h (λ m. cc)))
+          not_opened kept (meta.UnknownType text) h = absurd (opens _ m is commit _ (h (λ m. cc)))
+          not_opened kept meta.NoSuchRef h = absurd (opens _ m is commit _ (h (λ m. cc)))
+          not_opened kept meta.NoSuchSnapshot h = absurd (opens _ m is commit _ (h (λ m. cc)))
+          not_opened kept meta.NoSnapshot h = absurd (opens _ m is commit _ (h (λ m. cc)))
+          not_opened kept (meta.IdTwice id) h = absurd (opens _ m is commit _ (h (λ m. cc)))
+          not_opened kept (meta.Dangling member) h = absurd (opens _ m is commit _ (h (λ m. cc)))
+          not_opened kept meta.TooBig h = absurd (opens _ m is commit _ (h (λ m. cc)))
+
+-- ---- the causes of preparing
+
+pub fault_prepares : (e : PrepareFault) → IsOfPreparing (of_prepare e)
+fault_prepares prepare.Memory = tt
+fault_prepares prepare.SnapshotTaken = tt
+fault_prepares (prepare.PathTaken path) = tt
+fault_prepares (prepare.PathTwice path) = tt
+fault_prepares prepare.Empty = tt
+fault_prepares (prepare.NoSuchSpec id) = tt
+fault_prepares (prepare.WrongTuple path) = tt
+fault_prepares prepare.SequenceEnd = tt
+fault_prepares (prepare.BaseBad path) = tt
+fault_prepares (prepare.BadFile path) = tt
+fault_prepares prepare.TooManyRows = tt
+
+-- a refusal of preparing ends the commit
+pub prepare_refuses : (read : Result Commitment RunFault) (f : List ℕ → Type 0) (e : RunFault) → IsOfPreparing e
+    → MayEnd read f ⊥ e → MayEndCommit read f e
+prepare_refuses read f (run.Absent path) of h = h
+prepare_refuses read f (run.Device path) of h = h
+prepare_refuses read f run.Memory of h = tt
+prepare_refuses read f (run.Metadata m) of h = h
+prepare_refuses read f (run.Change m) of h = h
+prepare_refuses read f (run.Prepare m) of h = h
+prepare_refuses read f run.Write of h = absurd of
+prepare_refuses read f run.Input of h = absurd of
+prepare_refuses read f (run.Words t) of h = absurd of
+prepare_refuses read f (run.Bundle n) of h = absurd of
+prepare_refuses read f (run.List m) of h = absurd of
+prepare_refuses read f (run.Scan m) of h = absurd of
+prepare_refuses read f (run.Finish m) of h = absurd of
+prepare_refuses read f (run.Filter m) of h = absurd of
+prepare_refuses read f (run.Conflict path) of h = absurd of
+prepare_refuses read f (run.Drill m) of h = absurd of
+prepare_refuses read f run.Workers of h = absurd of
+
+-- two answers of one request
+pub one_answer : (read : Result Commitment RunFault) (x y : Commitment) → read ≡ Ok x → read ≡ Ok y → x ≡ y
+one_answer read x y h k = let same : ◌≡◌ {A = Result Commitment RunFault} (Ok x) (Ok y) = sym h ∙ k in cc

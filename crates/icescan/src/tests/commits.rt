@@ -1,0 +1,258 @@
+//! Commits to a table, by the program and to stores that refuse.
+
+use super::requests::METADATA;
+use crate::bundle::Bundle;
+use crate::change::ChangeKind;
+use crate::committing::{CommitRequest, commit_to};
+use crate::fault::RunFault;
+use crate::store::{Store, StoreFault};
+use crate::watch::Watch;
+use crate::words::run_words;
+use contract_words::Text;
+use ice_catalog::Ids;
+use std::alloc::{AllocError, Global};
+use std::rt::Files;
+use std::sync::Wait;
+use std::test::Fail;
+use std::thread::Threads;
+use uuid::Uuid;
+
+/// Tables, one without a snapshot, and changes.
+const FILES: [(&str, &str); 5] = [
+    ("t", METADATA),
+    (
+        "e",
+        r#"{"format-version":2,"table-uuid":"f79c3e09-677c-4bbd-a479-3f349cb785e7","location":"mem://t","last-sequence-number":4,"last-updated-ms":0,"last-column-id":1,"schemas":[{"type":"struct","schema-id":0,"fields":[{"id":1,"name":"c","required":false,"type":"int"}]}],"current-schema-id":0,"partition-specs":[{"spec-id":0,"fields":[]}],"default-spec-id":0,"last-partition-id":999}"#,
+    ),
+    (
+        "c",
+        r#"{"data":[{"path":"mem://t/a.parquet","format":"parquet","spec-id":0,"partition":[],"record-count":10,"file-size":100}],"deletes":[]}"#,
+    ),
+    (
+        "d",
+        r#"{"data":[],"deletes":[{"path":"mem://t/e.parquet","format":"parquet","spec-id":0,"partition":[],"record-count":1,"file-size":2,"content":"equality","equality-ids":[1]}]}"#,
+    ),
+    ("x", "{}"),
+];
+
+/// The words of each commit but the first three.
+const OPTIONS: &str =
+    "--bundle --snapshot-id 7 --uuid f79c3e09-677c-4bbd-a479-3f349cb785e7 --now-ms 99 --out mem://t/v5.json";
+
+/// Commits that are refused: the command, the metadata, the change, and the refusal with its status.
+const REFUSED: &str = "\
+append no no|P2 Absent no|3
+append e no|P2 Absent no|3
+append x x|C1 BadChange data|2
+append c c|M3 Missing format-version|1
+append e d|C1 BadChange deletes|2
+append t c|K8 BaseBad mem://t/list|1
+";
+
+fn bundle_of(alloc: Global) -> Result<Vec<u8>, AllocError> {
+    let mut bundle = Vec::new(alloc);
+    for (path, text) in &FILES {
+        bundle.extend_from_slice(path.as_bytes())?;
+        bundle.push(b' ')?;
+        bundle.extend_from_slice(hex::encode(alloc, text.as_bytes())?.as_bytes())?;
+        bundle.push(b'\n')?;
+    }
+    Ok(bundle)
+}
+
+/// Runs the program on a bundle and the words `COMMAND --bundle`, the options of a commit, `METADATA CHANGE`.
+fn run_commit<H: Files<File: Send, Dir: Send> + Threads + Wait + Watch + Sync>(
+    rt: &H,
+    alloc: Global,
+    what: &str,
+    output: &mut Vec<u8>,
+    errors: &mut Vec<u8>,
+) -> Result<u8, AllocError> {
+    let mut words = Vec::new(alloc);
+    for word in what.split(' ').chain(OPTIONS.split(' ')) {
+        words.push(String::from_str(alloc, word)?)?;
+    }
+    let bundle = bundle_of(alloc)?;
+    let mut input = bundle.as_slice();
+    Ok(run_words(rt, alloc, &words, &mut input, output, errors))
+}
+
+/// Whether a commit is refused as the line says.
+fn refuses<H: Files<File: Send, Dir: Send> + Threads + Wait + Watch + Sync>(
+    rt: &H,
+    alloc: Global,
+    line: &str,
+) -> Result<bool, AllocError> {
+    let (Some((rest, status)), Some((what, _))) = (line.rsplit_once('|'), line.split_once('|'))
+    else {
+        return Ok(false);
+    };
+    let mut output = Vec::new(alloc);
+    let mut errors = Vec::new(alloc);
+    let ended = run_commit(rt, alloc, what, &mut output, &mut errors)?;
+    let told = errors
+        .as_slice()
+        .strip_prefix(b"icescan: ")
+        .and_then(|l| l.strip_suffix(b"\n"));
+    let expected = rest.split_once('|').map(|(_, fault)| fault.as_bytes());
+    Ok(output.is_empty() && told == expected && status.parse() == Ok(ended))
+}
+
+#[test]
+fn refused_commits(rt: HostRuntime) -> Result<(), Fail> {
+    for line in REFUSED.lines() {
+        let is_right = refuses(&rt, rt.alloc(), line)?;
+        assert!(rt; is_right, "{line}");
+    }
+    Ok(())
+}
+
+/// The files of a commit that adds data files of one spec, in the order in which they are written.
+static WRITTEN: [&str; 3] = [
+    "mem://t/metadata/f79c3e09-677c-4bbd-a479-3f349cb785e7-m0.avro",
+    "mem://t/metadata/snap-7-f79c3e09-677c-4bbd-a479-3f349cb785e7.avro",
+    "mem://t/v5.json",
+];
+
+/// Whether the lines of a text begin with these paths, and there are no more.
+fn has_lines(text: &[u8], paths: &[&str]) -> bool {
+    let Ok(text) = str::from_utf8(text) else {
+        return false;
+    };
+    let mut lines = text.lines();
+    for path in paths {
+        let is_next = match lines.next().and_then(|line| line.split_once(' ')) {
+            Some((first, _)) => first == *path,
+            None => false,
+        };
+        if !is_next {
+            return false;
+        }
+    }
+    lines.next().is_none()
+}
+
+/// What a commit writes is the rest of a bundle of the table as it is then.
+#[test]
+fn a_commit_is_planned(rt: HostRuntime) -> Result<(), Fail> {
+    let alloc = rt.alloc();
+    let mut output = Vec::new(alloc);
+    let mut errors = Vec::new(alloc);
+    let status = run_commit(&rt, alloc, "append e c", &mut output, &mut errors)?;
+    assert_eq!(rt; status, 0);
+    assert!(rt; errors.is_empty());
+    assert!(rt; has_lines(&output, &WRITTEN));
+    let mut words = Vec::new(alloc);
+    for word in ["plan", "--bundle", "mem://t/v5.json"] {
+        words.push(String::from_str(alloc, word)?)?;
+    }
+    let mut input = output.as_slice();
+    let mut plan = Vec::new(alloc);
+    let status = run_words(&rt, alloc, &words, &mut input, &mut plan, &mut errors);
+    assert_eq!(rt; status, 0);
+    assert_eq!(rt;
+        plan.as_slice(),
+        b"data mem://t/a.parquet seq 5 spec 0 rows 10 size 100\nfiles 1 deletes 0\n".as_slice()
+    );
+    Ok(())
+}
+
+/// A store with room for so many files, and something at one path.
+#[derive(Drop)]
+struct Shelf {
+    paths: Vec<String>,
+    room: usize,
+    taken: &'static str,
+}
+
+impl Store for Shelf {
+    ghost use Rattle.std.specs.Prelude.{None};
+
+    ghost files = { λ _. None };
+
+    ghost may_fail = { λ _. Unit {0} };
+
+    fn create_new(&mut self, alloc: Global, path: &str, _bytes: &[u8]) -> Result<(), StoreFault> {
+        if path == self.taken {
+            return Err(StoreFault::There);
+        }
+        if self.paths.len() >= self.room {
+            return Err(StoreFault::Failed);
+        }
+        let Ok(path) = String::from_str(alloc, path) else {
+            return Err(StoreFault::Memory);
+        };
+        match self.paths.push(path) {
+            Ok(()) => Ok(()),
+            Err(_) => Err(StoreFault::Memory),
+        }
+    }
+}
+
+/// A name for how a commit to a store ends, and how many of its files the store has then.
+fn put_on(
+    alloc: Global,
+    room: usize,
+    taken: &'static str,
+) -> Result<(&'static str, usize), RunFault> {
+    let files = Bundle::read(alloc, &bundle_of(alloc)?)?;
+    let Ok(uuid) = Uuid::parse_str("f79c3e09-677c-4bbd-a479-3f349cb785e7") else {
+        return Err(RunFault::Input);
+    };
+    let request = CommitRequest {
+        kind: ChangeKind::Append,
+        ids: Ids {
+            snapshot: 7,
+            uuid,
+            now_ms: 99,
+        },
+        metadata: Text::from_string(String::from_str(alloc, "e")?),
+        change: Text::from_string(String::from_str(alloc, "c")?),
+        out: Text::from_string(String::from_str(alloc, "mem://t/v5.json")?),
+    };
+    let mut shelf = Shelf {
+        paths: Vec::new(alloc),
+        room,
+        taken,
+    };
+    let mut output = Vec::new(alloc);
+    let ended = match commit_to(alloc, &files, &request, &mut shelf, &mut output) {
+        Ok(()) if output.as_slice() == b"committed snapshot 7 seq 5\n".as_slice() => "done",
+        Err(RunFault::Write) if output.is_empty() => "write",
+        Err(RunFault::Conflict(path)) if path.as_str() == taken && output.is_empty() => "conflict",
+        _ => "other",
+    };
+    for (path, expected) in shelf.paths.iter().zip(WRITTEN.iter()) {
+        if path.as_str() != *expected {
+            return Ok(("other files", 0));
+        }
+    }
+    Ok((ended, shelf.paths.len()))
+}
+
+/// Stores, by their room and the place among `WRITTEN` of the path that is taken, and how a commit ends on each, with so
+/// many files.
+static SHELVES: [(usize, usize, &str, usize); 7] = [
+    (3, 3, "done", 3),
+    (2, 3, "write", 2),
+    (1, 3, "write", 1),
+    (0, 3, "write", 0),
+    (3, 0, "write", 0),
+    (3, 1, "write", 1),
+    (3, 2, "conflict", 2),
+];
+
+#[test]
+fn stores_that_refuse(rt: HostRuntime) {
+    for (room, place, ended, count) in &SHELVES {
+        let taken = match WRITTEN.get(*place) {
+            Some(path) => *path,
+            None => "",
+        };
+        let put = put_on(rt.alloc(), *room, taken);
+        assert!(rt;
+            matches!(put, Ok((e, n)) if e == *ended && n == *count),
+            "{ended} {count}"
+        );
+    }
+}
