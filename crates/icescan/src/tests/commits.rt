@@ -189,6 +189,16 @@ impl Store for Shelf {
     }
 }
 
+/// A name for how a commit ended.
+fn end_of(made: &Result<(), RunFault>, output: &[u8], taken: &str) -> &'static str {
+    match made {
+        Ok(()) if output == b"committed snapshot 7 seq 5\n".as_slice() => "done",
+        Err(RunFault::Write) if output.is_empty() => "write",
+        Err(RunFault::Conflict(path)) if path.as_str() == taken && output.is_empty() => "conflict",
+        _ => "other",
+    }
+}
+
 /// A name for how a commit to a store ends, and how many of its files the store has then.
 fn put_on(
     alloc: Global,
@@ -216,12 +226,8 @@ fn put_on(
         taken,
     };
     let mut output = Vec::new(alloc);
-    let ended = match commit_to(alloc, &files, &request, &mut shelf, &mut output) {
-        Ok(()) if output.as_slice() == b"committed snapshot 7 seq 5\n".as_slice() => "done",
-        Err(RunFault::Write) if output.is_empty() => "write",
-        Err(RunFault::Conflict(path)) if path.as_str() == taken && output.is_empty() => "conflict",
-        _ => "other",
-    };
+    let made = commit_to(alloc, &files, &request, &mut shelf, &mut output);
+    let ended = end_of(&made, output.as_slice(), taken);
     for (path, expected) in shelf.paths.iter().zip(WRITTEN.iter()) {
         if path.as_str() != *expected {
             return Ok(("other files", 0));
