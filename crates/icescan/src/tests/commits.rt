@@ -199,6 +199,17 @@ fn end_of(made: &Result<(), RunFault>, output: &[u8], taken: &str) -> &'static s
     }
 }
 
+/// Whether these are the first of `WRITTEN`, in their order.
+fn are_first_written(paths: &[String]) -> bool {
+    for index in 0..paths.len() {
+        match WRITTEN.get(index) {
+            Some(path) if paths[index].as_str() == *path => {}
+            _ => return false,
+        }
+    }
+    true
+}
+
 /// A name for how a commit to a store ends, and how many of its files the store has then.
 fn put_on(
     alloc: Global,
@@ -228,10 +239,8 @@ fn put_on(
     let mut output = Vec::new(alloc);
     let made = commit_to(alloc, &files, &request, &mut shelf, &mut output);
     let ended = end_of(&made, output.as_slice(), taken);
-    for (path, expected) in shelf.paths.iter().zip(WRITTEN.iter()) {
-        if path.as_str() != *expected {
-            return Ok(("other files", 0));
-        }
+    if !are_first_written(shelf.paths.as_slice()) {
+        return Ok(("other files", 0));
     }
     Ok((ended, shelf.paths.len()))
 }
