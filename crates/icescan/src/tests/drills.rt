@@ -21,9 +21,9 @@ const DRILLS: [(&str, &str, &str); 3] = [
         "commits 12\nlast-sequence-number 12\nfiles 12 deletes 0\n",
     ),
     (
-        "8",
+        "64",
         "2",
-        "commits 16\nlast-sequence-number 16\nfiles 16 deletes 0\n",
+        "commits 128\nlast-sequence-number 128\nfiles 128 deletes 0\n",
     ),
 ];
 
