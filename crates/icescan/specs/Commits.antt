@@ -1,7 +1,7 @@
 -- What a commit to a table writes: Apache Iceberg table spec, version 2, "Optimistic Concurrency" and "File System Tables".
 -- It is made on the table's current snapshot; the metadata that names the new files comes last, so that whoever reads the
 -- table has all of the commit or none of it.
-use Rattle.std.specs.Prelude.{◌≡◌, false, ℕ, ℤ, List, [], ◌∷◌, ◌++◌, map, codes, Option, Some, None, option_map, Result, Ok, Err, if◌then◌else◌}
+use Rattle.std.specs.Prelude.{◌≡◌, ◌⊎◌, false, ℕ, ℤ, List, [], ◌∷◌, ◌++◌, map, codes, Option, Some, None, option_map, Result, Ok, Err, if◌then◌else◌}
 use Rattle.std.specs.FinMap.{empty, insert}
 use Rattle.std.specs.List.{flat_map}
 use Rattle.hex.specs.Hex.{encode_lower}
@@ -122,6 +122,10 @@ receipt_text id number = named_signed (codes "committed snapshot ") id ++ (named
 
 -- ---- what a commit leaves in a store
 
+-- the whole of a commit was put: its files in their order, and then its metadata at this path
+abbrev pub IsPut : Commitment → List ℕ → Option (List File) → Option (List File) → Type 0
+IsPut c out files files' = (bytes : List ℕ) × IsTextOf c.metadata bytes × PutsAll files files' (in_order c.added out bytes)
+
 -- a commit was made: its files were put in their order, and it was told
 pub record Made (c : Commitment) (request : CommitRequest) (files files' : Option (List File)) (output output' : Option (List ℕ)) : Type 0 where
   pub bytes : List ℕ
@@ -132,6 +136,11 @@ pub record Made (c : Commitment) (request : CommitRequest) (files files' : Optio
 -- It was not: a front of the files that it adds was put, and its metadata was not.
 abbrev pub Stopped : Commitment → Option (List File) → Option (List File) → Type 0
 Stopped c files files' = PutsFront files files' c.added
+
+-- What a commit that ends with a fault leaves: a front of its files without the metadata, or all, where only telling of it
+-- failed.
+abbrev pub IsLeft : Commitment → List ℕ → Option (List File) → Option (List File) → Type 0
+IsLeft c out files files' = Stopped c files files' ⊎ IsPut c out files files'
 
 -- A file stands where the metadata was to be: all other files were put.
 pub record IsTaken (c : Commitment) (out path : List ℕ) (files files' : Option (List File)) : Type 0 where

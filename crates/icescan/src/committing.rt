@@ -3,11 +3,10 @@
 
 ghost use Rattle.std.specs.Prelude.{◌≡◌, ◌≢◌, ℕ, List, Some, Ok, Err, OnOk, OnErr, IfOk, IfErr, IsErrOf};
 ghost use Rattle.ice_state.specs.Contents.{World};
-ghost use Rattle.icescan.specs.Commits.{Commitment, IsOfPreparing, IsPutFault, IsTaken, IsTextOf, Made, MayEndCommit, Stopped, Writes};
-ghost use Rattle.icescan.specs.Commits.{commitment, in_order, receipt_text};
+ghost use Rattle.icescan.specs.Commits.{Commitment, IsLeft, IsOfPreparing, IsPut, IsPutFault, IsTaken, Made, MayEndCommit, Stopped, Writes};
+ghost use Rattle.icescan.specs.Commits.{commitment, receipt_text};
 ghost use Rattle.icescan.specs.declared.fault.RunFault.{RunFault};
 ghost use Rattle.icescan.specs.ListPlans.{MayEnd};
-ghost use Rattle.icescan.specs.Stores.{PutsAll};
 ghost use Rattle.icescan.specs.Written.{Wrote};
 
 use crate::base::{read_base, read_metadata};
@@ -72,8 +71,7 @@ pub fn put_commit<S: Store>(
     out: &Text,
 ) -> Result<(), RunFault>
     ensures all { (c : Commitment) → Writes prepared.now c →
-        OnOk result ((bytes : List ℕ) × IsTextOf c.metadata bytes ×
-        PutsAll (S.files store.old) (S.files store.new) (in_order c.added out.now bytes)) }
+        OnOk result (IsPut c out.now (S.files store.old) (S.files store.new)) }
     ensures front { (c : Commitment) → Writes prepared.now c →
         OnErr result (Stopped c (S.files store.old) (S.files store.new)) }
     ensures taken { (c : Commitment) (path : List ℕ) → Writes prepared.now c → IsErrOf result (RunFault.Conflict path) →
@@ -123,6 +121,8 @@ pub fn commit_to<F: Files, S: Store, W: Sink>(
         IfErr result (MayEndCommit (commitment world request.now) (F.may_fail files.now)) }
     ensures unchanged { (world : World) (fault : RunFault) → F.world files.now ≡ Some world →
         commitment world request.now ≡ Err fault → S.files store.new ≡ S.files store.old }
+    ensures left { (world : World) (c : Commitment) → F.world files.now ≡ Some world → commitment world request.now ≡ Ok c →
+        OnErr result (IsLeft c request.now.out (S.files store.old) (S.files store.new)) }
     ensures taken { (world : World) (c : Commitment) (path : List ℕ) → F.world files.now ≡ Some world →
         commitment world request.now ≡ Ok c → IsErrOf result (RunFault.Conflict path) →
         IsTaken c request.now.out path (S.files store.old) (S.files store.new) }
