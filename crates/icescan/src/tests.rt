@@ -4,20 +4,18 @@ mod cases;
 mod commits;
 mod drills;
 mod requests;
+pub mod running;
 mod sinks;
 
 use crate::bundle::Bundle;
 use crate::fault::RunFault;
 use crate::report::report;
 use crate::run_list_plan::run_list_plan;
-use crate::watch::Watch;
-use crate::words::run_words;
-use cases::{CASES, PLAN};
+use cases::CASES;
 use ice_desk::{Files, ReadFault};
+use running::{Ended, run};
 use std::alloc::{AllocError, Global};
-use std::sync::Wait;
 use std::test::Fail;
-use std::thread::Threads;
 
 /// The head of a manifest list up to its codec.
 const LIST: &[u8] =
@@ -100,18 +98,9 @@ impl Case {
         }
     }
 
-    /// Whether the program ends with this status on the table, and writes just these lines.
-    fn ends<H: std::rt::Files<File: Send, Dir: Send> + Threads + Wait + Watch + Sync>(
-        &self,
-        rt: &H,
-        alloc: Global,
-        status: &str,
-    ) -> bool {
-        let mut input = self.bundle.as_slice();
-        let mut written = Vec::new(alloc);
-        let mut told = Vec::new(alloc);
-        let ended = run_words(rt, alloc, &[], &mut input, &mut written, &mut told);
-        status.parse() == Ok(ended) && written == self.output && told == self.errors
+    /// Whether a run on the table ended with this status, and wrote just these lines.
+    fn is_of(&self, ended: &Ended, status: &str) -> bool {
+        ended.has_status(status) && ended.is(ended.status, &self.output, &self.errors)
     }
 }
 
@@ -140,7 +129,8 @@ fn tables(rt: HostRuntime) -> Result<(), Fail> {
     let mut cases: usize = 0;
     for line in CASES.lines() {
         if let Some(status) = line.strip_prefix("ends ") {
-            assert!(rt; case.ends(&rt, alloc, status), "case {cases}");
+            let ended = run(&rt, alloc, &[], &mut case.bundle.as_slice());
+            assert!(rt; case.is_of(&ended, status), "case {cases}");
             case = Case::new(alloc);
             cases = cases.saturating_add(1);
         } else {
@@ -149,24 +139,6 @@ fn tables(rt: HostRuntime) -> Result<(), Fail> {
     }
     assert_eq!(rt; cases, 39);
     Ok(())
-}
-
-/// Whether the program ends with this status, and writes just these texts.
-fn ends<H: std::rt::Files<File: Send, Dir: Send> + Threads + Wait + Watch + Sync>(
-    rt: &H,
-    alloc: Global,
-    text: &[u8],
-    status: u8,
-    output: &str,
-    errors: &str,
-) -> bool {
-    let mut input = text;
-    let mut written = Vec::new(alloc);
-    let mut told = Vec::new(alloc);
-    let ended = run_words(rt, alloc, &[], &mut input, &mut written, &mut told);
-    ended == status
-        && written.as_slice() == output.as_bytes()
-        && told.as_slice() == errors.as_bytes()
 }
 
 /// Texts that are no bundles, or bundles of no list, and what is told of them.
@@ -185,20 +157,18 @@ static BUNDLES: [(&[u8], u8, &str); 9] = [
 #[test]
 fn bundles(rt: HostRuntime) {
     for (text, status, errors) in &BUNDLES {
-        assert!(rt;
-            ends(&rt, rt.alloc(), text, *status, "", errors),
-            "{errors}"
-        );
+        let ended = run(&rt, rt.alloc(), &[], &mut &text[..]);
+        assert!(rt; ended.is(*status, b"", errors.as_bytes()), "{errors}");
     }
 }
 
-/// Files of which one can't be read.
+/// A bundle of which the list alone can be read.
 #[derive(Drop)]
-struct Broken<'a> {
-    list: &'a [u8],
+struct Broken {
+    bundle: Bundle,
 }
 
-impl Files for Broken<'_> {
+impl Files for Broken {
     ghost use Rattle.std.specs.Prelude.{None};
 
     ghost world = { λ _. None };
@@ -207,7 +177,7 @@ impl Files for Broken<'_> {
 
     fn read(&self, alloc: Global, path: &str) -> Result<Vec<u8>, ReadFault> {
         if path == "mem://t/list" {
-            self.list.to_vec(alloc).map_err(|_| ReadFault::Memory)
+            self.bundle.read(alloc, path)
         } else {
             Err(ReadFault::Device)
         }
@@ -217,11 +187,8 @@ impl Files for Broken<'_> {
 /// The faults' lines and the status of a run on a table whose manifests can't be read.
 fn run_broken(alloc: Global, errors: &mut Vec<u8>) -> Result<u8, RunFault> {
     let bundle = Bundle::read(alloc, &first_bundle(alloc)?)?;
-    let list = bundle
-        .read(alloc, "mem://t/list")
-        .map_err(|_| RunFault::Memory)?;
     let mut output = Vec::new(alloc);
-    match run_list_plan(alloc, &Broken { list: &list }, "mem://t/list", &mut output) {
+    match run_list_plan(alloc, &Broken { bundle }, "mem://t/list", &mut output) {
         Ok(()) => Ok(0),
         Err(fault) => Ok(report(&fault, errors)),
     }

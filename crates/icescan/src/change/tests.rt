@@ -1,11 +1,9 @@
 //! Change files, and what is told of those that are none.
 
 use super::{ChangeFault, ChangeKind, read_change};
-use contract_words::{Items, Text};
 use ice_catalog::NewFile;
 use ice_value::{Cell, FileContent};
-use std::alloc::{AllocError, Global};
-use std::test::Fail;
+use std::alloc::Global;
 
 /// Changes: the command, the member at fault (`-` where there is no object, nothing where there is no fault), and the text.
 const CHANGES: &str = r#"
@@ -86,40 +84,40 @@ fn a_change_in_no_utf8(rt: HostRuntime) {
 const DELETES: &str =
     r#"{"data":[],"x":1,"deletes":[{"content":"equality","equality-ids":[3,-1],"path":"p/d","format":"puffin","spec-id":-7,"partition":[null,true,-5,"t",{"hex":"00fF"}],"record-count":0,"file-size":9223372036854775807}]}"#;
 
-fn text(alloc: Global, text: &str) -> Result<Text, AllocError> {
-    Ok(Text::from_string(String::from_str(alloc, text)?))
+/// Whether the partition values are those of that file.
+fn are_expected(cells: &[Cell]) -> bool {
+    match cells {
+        [
+            Cell::Null,
+            Cell::Bool(true),
+            Cell::Whole(-5),
+            Cell::Text(text),
+            Cell::Bytes(bytes),
+        ] => text.as_str() == "t" && bytes.as_slice() == [0, 255].as_slice(),
+        _ => false,
+    }
 }
 
-/// The partition values of that file.
-fn cells(alloc: Global) -> Result<Items<Cell>, Fail> {
-    let mut cells = Items::new(alloc);
-    cells.push(Cell::Null)?;
-    cells.push(Cell::Bool(true))?;
-    cells.push(Cell::Whole(-5))?;
-    cells.push(Cell::Text(text(alloc, "t")?))?;
-    cells.push(Cell::Bytes(Items::from_vec([0, 255].to_vec(alloc)?)))?;
-    Ok(cells)
+/// Whether it is that file.
+fn is_expected(file: &NewFile) -> bool {
+    file.content == FileContent::EqualityDeletes
+        && file.path.as_str() == "p/d"
+        && file.format.as_str() == "puffin"
+        && file.spec_id == -7
+        && are_expected(file.tuple.as_slice())
+        && file.record_count == 0
+        && file.file_size == 9223372036854775807
+        && file.equality_ids.as_slice() == [3, -1].as_slice()
 }
 
 #[test]
-fn each_member_is_read(rt: HostRuntime) -> Result<(), Fail> {
-    let alloc = rt.alloc();
-    let expected = NewFile {
-        content: FileContent::EqualityDeletes,
-        path: text(alloc, "p/d")?,
-        format: text(alloc, "puffin")?,
-        spec_id: -7,
-        tuple: cells(alloc)?,
-        record_count: 0,
-        file_size: 9223372036854775807,
-        equality_ids: Items::from_vec([3, -1].to_vec(alloc)?),
-    };
-    let is_right = match read_change(alloc, DELETES.as_bytes(), ChangeKind::RowDelta) {
-        Ok(change) => {
-            change.files.as_slice().is_empty() && change.deletes.as_slice() == [expected].as_slice()
-        }
+fn each_member_is_read(rt: HostRuntime) {
+    let is_right = match read_change(rt.alloc(), DELETES.as_bytes(), ChangeKind::RowDelta) {
+        Ok(change) => match change.deletes.as_slice() {
+            [delete] => change.files.as_slice().is_empty() && is_expected(delete),
+            _ => false,
+        },
         Err(_) => false,
     };
     assert!(rt; is_right);
-    Ok(())
 }

@@ -5,19 +5,11 @@ use crate::change::ChangeKind;
 use crate::committing::CommitRequest;
 use crate::fault::RunFault;
 use crate::selection::Request;
+use crate::tests::running::words_of;
 use ice_catalog::Ids;
 use ice_meta::Target;
 use std::alloc::{AllocError, Global};
 use std::test::Fail;
-
-/// How words are read.
-fn reading(alloc: Global, words: &[&str]) -> Result<Result<Words, RunFault>, AllocError> {
-    let mut texts = Vec::new(alloc);
-    for word in words {
-        texts.push(String::from_str(alloc, word)?)?;
-    }
-    Ok(parse_words(alloc, &texts))
-}
 
 /// A name for what is asked of a table.
 fn asked(request: &Request) -> &'static str {
@@ -85,100 +77,58 @@ fn kind(read: &Result<Words, RunFault>) -> &'static str {
     }
 }
 
-static ASKED: [(&[&str], &str); 24] = [
-    (&[], "first"),
-    (&["list-plan", "--bundle"], "first"),
-    (&["list-plan", "--bundle", "a"], "named"),
-    (&["list-plan", "--dir", "d", "--prefix", "p", "a"], "folder"),
-    (&["list-plan", "a", "--prefix=p", "--dir=d"], "folder"),
-    (&["show", "--bundle", "a"], "shown"),
-    (
-        &["show", "a", "--dir=d", "--prefix="],
-        "shown from a folder",
-    ),
-    (&["plan", "--bundle", "a"], "planned"),
-    (
-        &["plan", "a", "--dir=d", "--prefix="],
-        "planned from a folder",
-    ),
-    (&["plan", "--bundle", "--filter", "", "a"], "filtered"),
-    (&["plan", "--bundle", "--filter=-1", "a"], "filtered"),
-    (&["plan", "--bundle", "--ref", "", "a"], "planned by name"),
-    (
-        &["plan", "--bundle", "--snapshot", "-1", "a"],
-        "planned by an id of -1",
-    ),
-    (
-        &["plan", "--bundle", "--snapshot=-1", "a"],
-        "planned by an id of -1",
-    ),
-    (
-        &[
-            "plan",
-            "--bundle",
-            "--snapshot",
-            "-9223372036854775808",
-            "a",
-        ],
-        "planned by an id",
-    ),
-    (
-        &["plan", "--bundle", "--snapshot", "9223372036854775807", "a"],
-        "planned by an id",
-    ),
-    (
-        &["plan", "--bundle", "--workers", "0", "a"],
-        "planned by nobody",
-    ),
-    (
-        &["plan", "--bundle", "--workers=65", "a"],
-        "planned by many",
-    ),
-    (
-        &["plan", "--bundle", "--workers", "18446744073709551615", "a"],
-        "planned by many",
-    ),
-    (&["drill", "--threads", "64", "--commits", "100"], "drilled"),
-    (&["plan", "--help"], "text"),
-    (&["drill", "--help"], "text"),
-    (&["--version"], "text"),
-    (&["list-plan", "--help"], "text"),
-];
-
-static REFUSED: [&[&str]; 27] = [
-    &["frobnicate"],
-    &["--bundle", "list-plan"],
-    &["list-plan"],
-    &["list-plan", "a"],
-    &["list-plan", "--bundle", "--bundle"],
-    &["list-plan", "--bundle", "a", "b"],
-    &["list-plan", "--bundle", "--dir", "d", "--prefix", "p"],
-    &["list-plan", "--dir", "d", "a"],
-    &["list-plan", "--prefix", "p", "a"],
-    &["list-plan", "--dir", "d", "--prefix", "p"],
-    &["list-plan", "--dir", "", "--prefix", "p", "a"],
-    &["plan", "--bundle"],
-    &["plan", "a"],
-    &["plan", "--bundle", "--ref", "x", "--snapshot", "1", "a"],
-    &["plan", "--bundle", "--snapshot", "9223372036854775808", "a"],
-    &["plan", "--bundle", "--snapshot", "x", "a"],
-    &[
-        "plan", "--bundle", "--filter", "true", "--filter", "true", "a",
-    ],
-    &["plan", "--bundle", "--filter", "a"],
-    &["plan", "--bundle", "--workers", "x", "a"],
-    &["plan", "--bundle", "--workers", "-1", "a"],
-    &["plan", "--bundle", "--workers", "18446744073709551616", "a"],
-    &["list-plan", "--bundle", "--workers", "1", "a"],
-    &["show", "--bundle"],
-    &["show", "a"],
-    &["drill", "--threads", "65", "--commits", "1"],
-    &["drill", "--threads", "1", "--commits", "0"],
-    &["drill", "--threads", "1"],
-];
-
-/// Words of commits, and what they are read as.
-const COMMITS: &str = "\
+/// Words with blanks between them, and what they are read as. Two blanks in a row have an empty word between them.
+const WORDS: &str = "\
+list-plan --bundle|first
+list-plan --bundle a|named
+list-plan --dir d --prefix p a|folder
+list-plan a --prefix=p --dir=d|folder
+show --bundle a|shown
+show a --dir=d --prefix=|shown from a folder
+plan --bundle a|planned
+plan a --dir=d --prefix=|planned from a folder
+plan --bundle --filter  a|filtered
+plan --bundle --filter=-1 a|filtered
+plan --bundle --ref  a|planned by name
+plan --bundle --snapshot -1 a|planned by an id of -1
+plan --bundle --snapshot=-1 a|planned by an id of -1
+plan --bundle --snapshot -9223372036854775808 a|planned by an id
+plan --bundle --snapshot 9223372036854775807 a|planned by an id
+plan --bundle --workers 0 a|planned by nobody
+plan --bundle --workers=65 a|planned by many
+plan --bundle --workers 18446744073709551615 a|planned by many
+drill --threads 64 --commits 100|drilled
+plan --help|text
+drill --help|text
+--version|text
+list-plan --help|text
+frobnicate|refused
+--bundle list-plan|refused
+list-plan|refused
+list-plan a|refused
+list-plan --bundle --bundle|refused
+list-plan --bundle a b|refused
+list-plan --bundle --dir d --prefix p|refused
+list-plan --dir d a|refused
+list-plan --prefix p a|refused
+list-plan --dir d --prefix p|refused
+list-plan --dir  --prefix p a|refused
+plan --bundle|refused
+plan a|refused
+plan --bundle --ref x --snapshot 1 a|refused
+plan --bundle --snapshot 9223372036854775808 a|refused
+plan --bundle --snapshot x a|refused
+plan --bundle --filter true --filter true a|refused
+plan --bundle --filter a|refused
+plan --bundle --workers x a|refused
+plan --bundle --workers -1 a|refused
+plan --bundle --workers 18446744073709551616 a|refused
+list-plan --bundle --workers 1 a|refused
+show --bundle|refused
+show a|refused
+drill --threads 65 --commits 1|refused
+drill --threads 1 --commits 0|refused
+drill --threads 1|refused
 append --bundle --snapshot-id 7 --uuid f79c3e09-677c-4bbd-a479-3f349cb785e7 --now-ms 9 --out o m c|appended
 append m c --out=o --now-ms=9 --uuid=F79C3E09677C4BBDA4793F349CB785E7 --snapshot-id=7 --bundle|appended
 append --bundle --snapshot-id -1 --uuid f79c3e09-677c-4bbd-a479-3f349cb785e7 --now-ms=-2 --out o m c|appended as -1
@@ -197,36 +147,25 @@ append --bundle --snapshot-id 7 --uuid f79c3e09-677c-4bbd-a479-3f349cb785e7 --no
 append --bundle --snapshot-id 7 --uuid f79c3e09-677c-4bbd-a479-3f349cb785e7 --now-ms 9 --out o m|refused
 ";
 
+/// Whether words are read as their line says.
+fn are_read(alloc: Global, line: &str) -> Result<bool, AllocError> {
+    let Some((words, expected)) = line.split_once('|') else {
+        return Ok(false);
+    };
+    let words = words_of(alloc, words, ' ')?;
+    Ok(kind(&parse_words(alloc, &words)) == expected)
+}
+
 #[test]
-fn words_of_commits(rt: HostRuntime) -> Result<(), Fail> {
-    let alloc = rt.alloc();
-    for line in COMMITS.lines() {
-        let mut texts = Vec::new(alloc);
-        let Some((words, expected)) = line.split_once('|') else {
-            continue;
-        };
-        for word in words.split(' ') {
-            texts.push(String::from_str(alloc, word)?)?;
-        }
-        assert_eq!(rt; kind(&parse_words(alloc, &texts)), expected);
+fn words_are_read(rt: HostRuntime) -> Result<(), Fail> {
+    for line in WORDS.lines() {
+        let is_right = are_read(rt.alloc(), line)?;
+        assert!(rt; is_right, "{line}");
     }
     Ok(())
 }
 
 #[test]
-fn words_that_are_understood(rt: HostRuntime) -> Result<(), Fail> {
-    for (words, expected) in &ASKED {
-        let read = reading(rt.alloc(), words)?;
-        assert_eq!(rt; kind(&read), *expected);
-    }
-    Ok(())
-}
-
-#[test]
-fn words_that_are_refused(rt: HostRuntime) -> Result<(), Fail> {
-    for words in &REFUSED {
-        let read = reading(rt.alloc(), words)?;
-        assert_eq!(rt; kind(&read), "refused");
-    }
-    Ok(())
+fn no_words(rt: HostRuntime) {
+    assert!(rt; kind(&parse_words(rt.alloc(), &[])) == "first");
 }

@@ -1,7 +1,7 @@
 //! Readers that fail, that a signal interrupts, and whose end comes late.
 
 use super::read_all;
-use crate::words::run_words;
+use crate::tests::running::run;
 use ice_desk::ReadFault;
 use std::io::{self, ErrorKind, Read};
 
@@ -74,15 +74,14 @@ fn an_interrupted_read_is_made_again(rt: HostRuntime) {
 }
 
 #[test]
-fn a_failed_read_ends_the_run(rt: HostRuntime) {
-    let alloc = rt.alloc();
+fn a_failed_read_ends_the_reading(rt: HostRuntime) {
     let mut broken = Faltering::new(b"abc", 3, ErrorKind::ConnectionReset);
-    assert!(rt; is_device(read_all(alloc, &mut broken, 9)));
+    assert!(rt; is_device(read_all(rt.alloc(), &mut broken, 9)));
+}
+
+#[test]
+fn a_failed_read_ends_the_run(rt: HostRuntime) {
     let mut broken = Faltering::new(b"mem://t/list 00\n", 5, ErrorKind::ConnectionReset);
-    let mut output = Vec::new(alloc);
-    let mut errors = Vec::new(alloc);
-    let status = run_words(&rt, alloc, &[], &mut broken, &mut output, &mut errors);
-    assert_eq!(rt; status, 3);
-    assert_eq!(rt; output.len(), 0);
-    assert_eq!(rt; errors.as_slice(), b"icescan: P3 Device -\n".as_slice());
+    let ended = run(&rt, rt.alloc(), &[], &mut broken);
+    assert!(rt; ended.is(3, b"", b"icescan: P3 Device -\n"));
 }

@@ -1,13 +1,13 @@
 //! Commits to a table, by the program and to stores that refuse.
 
 use super::requests::METADATA;
+use super::running::{Ended, put_words, run, words_of};
 use crate::bundle::Bundle;
 use crate::change::ChangeKind;
 use crate::committing::{CommitRequest, commit_to};
 use crate::fault::RunFault;
 use crate::store::{Store, StoreFault};
 use crate::watch::Watch;
-use crate::words::run_words;
 use contract_words::Text;
 use ice_catalog::Ids;
 use std::alloc::{AllocError, Global};
@@ -65,16 +65,11 @@ fn run_commit<H: Files<File: Send, Dir: Send> + Threads + Wait + Watch + Sync>(
     rt: &H,
     alloc: Global,
     what: &str,
-    output: &mut Vec<u8>,
-    errors: &mut Vec<u8>,
-) -> Result<u8, AllocError> {
-    let mut words = Vec::new(alloc);
-    for word in what.split(' ').chain(OPTIONS.split(' ')) {
-        words.push(String::from_str(alloc, word)?)?;
-    }
+) -> Result<Ended, AllocError> {
+    let mut words = words_of(alloc, what, ' ')?;
+    put_words(&mut words, alloc, OPTIONS, ' ')?;
     let bundle = bundle_of(alloc)?;
-    let mut input = bundle.as_slice();
-    Ok(run_words(rt, alloc, &words, &mut input, output, errors))
+    Ok(run(rt, alloc, &words, &mut bundle.as_slice()))
 }
 
 /// Whether a commit is refused as the line says.
@@ -83,19 +78,14 @@ fn refuses<H: Files<File: Send, Dir: Send> + Threads + Wait + Watch + Sync>(
     alloc: Global,
     line: &str,
 ) -> Result<bool, AllocError> {
-    let (Some((rest, status)), Some((what, _))) = (line.rsplit_once('|'), line.split_once('|'))
-    else {
+    let Some((rest, status)) = line.rsplit_once('|') else {
         return Ok(false);
     };
-    let mut output = Vec::new(alloc);
-    let mut errors = Vec::new(alloc);
-    let ended = run_commit(rt, alloc, what, &mut output, &mut errors)?;
-    let told = errors
-        .as_slice()
-        .strip_prefix(b"icescan: ")
-        .and_then(|l| l.strip_suffix(b"\n"));
-    let expected = rest.split_once('|').map(|(_, fault)| fault.as_bytes());
-    Ok(output.is_empty() && told == expected && status.parse() == Ok(ended))
+    let Some((what, fault)) = rest.split_once('|') else {
+        return Ok(false);
+    };
+    let ended = run_commit(rt, alloc, what)?;
+    Ok(ended.told(fault) && ended.has_status(status))
 }
 
 #[test]
@@ -132,28 +122,29 @@ fn has_lines(text: &[u8], paths: &[&str]) -> bool {
     lines.next().is_none()
 }
 
+/// Whether a bundle has the table after the commit, whose plan is the file that it adds.
+fn is_planned<H: Files<File: Send, Dir: Send> + Threads + Wait + Watch + Sync>(
+    rt: &H,
+    alloc: Global,
+    bundle: &[u8],
+) -> Result<bool, AllocError> {
+    let words = words_of(alloc, "plan --bundle mem://t/v5.json", ' ')?;
+    let ended = run(rt, alloc, &words, &mut &bundle[..]);
+    Ok(ended.is(
+        0,
+        b"data mem://t/a.parquet seq 5 spec 0 rows 10 size 100\nfiles 1 deletes 0\n",
+        b"",
+    ))
+}
+
 /// What a commit writes is the rest of a bundle of the table as it is then.
 #[test]
 fn a_commit_is_planned(rt: HostRuntime) -> Result<(), Fail> {
-    let alloc = rt.alloc();
-    let mut output = Vec::new(alloc);
-    let mut errors = Vec::new(alloc);
-    let status = run_commit(&rt, alloc, "append e c", &mut output, &mut errors)?;
-    assert_eq!(rt; status, 0);
-    assert!(rt; errors.is_empty());
-    assert!(rt; has_lines(&output, &WRITTEN));
-    let mut words = Vec::new(alloc);
-    for word in ["plan", "--bundle", "mem://t/v5.json"] {
-        words.push(String::from_str(alloc, word)?)?;
-    }
-    let mut input = output.as_slice();
-    let mut plan = Vec::new(alloc);
-    let status = run_words(&rt, alloc, &words, &mut input, &mut plan, &mut errors);
-    assert_eq!(rt; status, 0);
-    assert_eq!(rt;
-        plan.as_slice(),
-        b"data mem://t/a.parquet seq 5 spec 0 rows 10 size 100\nfiles 1 deletes 0\n".as_slice()
-    );
+    let ended = run_commit(&rt, rt.alloc(), "append e c")?;
+    assert!(rt; ended.status == 0 && ended.errors.is_empty());
+    assert!(rt; has_lines(&ended.output, &WRITTEN));
+    let is_planned = is_planned(&rt, rt.alloc(), &ended.output)?;
+    assert!(rt; is_planned);
     Ok(())
 }
 

@@ -1,76 +1,64 @@
 //! Drills, in whatever order their threads commit.
 
+use super::running::{Ended, run, words_of};
 use crate::watch::Watch;
-use crate::words::run_words;
 use std::alloc::{AllocError, Global};
 use std::rt::Files;
 use std::sync::Wait;
 use std::test::Fail;
 use std::thread::Threads;
 
-/// The threads, the commits of each, and what is printed.
-const DRILLS: [(&str, &str, &str); 3] = [
+/// Drills, and what each prints.
+const DRILLS: [(&str, &str); 3] = [
     (
-        "1",
-        "1",
+        "drill --threads 1 --commits 1",
         "commits 1\nlast-sequence-number 1\nfiles 1 deletes 0\n",
     ),
     (
-        "3",
-        "4",
+        "drill --threads 3 --commits 4",
         "commits 12\nlast-sequence-number 12\nfiles 12 deletes 0\n",
     ),
     (
-        "64",
-        "2",
+        "drill --threads 64 --commits 2",
         "commits 128\nlast-sequence-number 128\nfiles 128 deletes 0\n",
     ),
 ];
 
-/// The status of a drill, what it wrote, and whether it told a fault.
+/// Drills that have no such size.
+const REFUSED: &str = "\
+drill --threads 65 --commits 1
+drill --threads 0 --commits 1
+drill --threads 1 --commits 101
+drill --threads 1 --commits 0
+drill --threads x --commits 1
+";
+
 fn drilled<H: Files<File: Send, Dir: Send> + Threads + Wait + Watch + Sync>(
     rt: &H,
     alloc: Global,
-    threads: &str,
-    commits: &str,
-) -> Result<(u8, Vec<u8>, bool), AllocError> {
-    let mut words = Vec::new(alloc);
-    for word in ["drill", "--threads", threads, "--commits", commits] {
-        words.push(String::from_str(alloc, word)?)?;
-    }
+    words: &str,
+) -> Result<Ended, AllocError> {
+    let words = words_of(alloc, words, ' ')?;
     let mut input: &[u8] = &[];
-    let mut written = Vec::new(alloc);
-    let mut told = Vec::new(alloc);
-    let status = run_words(rt, alloc, &words, &mut input, &mut written, &mut told);
-    Ok((status, written, !told.is_empty()))
+    Ok(run(rt, alloc, &words, &mut input))
 }
 
 #[test]
 fn no_commit_is_lost(rt: HostRuntime) -> Result<(), Fail> {
-    for (threads, commits, printed) in DRILLS {
-        let (status, written, is_refused) = drilled(&rt, rt.alloc(), threads, commits)?;
-        assert!(rt; status == 0 && !is_refused, "{threads} {commits}");
-        assert!(rt;
-            written.as_slice() == printed.as_bytes(),
-            "{threads} {commits}"
-        );
+    for (words, printed) in &DRILLS {
+        let ended = drilled(&rt, rt.alloc(), words)?;
+        assert!(rt; ended.is(0, printed.as_bytes(), b""), "{words}");
     }
     Ok(())
 }
 
 #[test]
 fn a_drill_has_a_size(rt: HostRuntime) -> Result<(), Fail> {
-    for (threads, commits) in [
-        ("65", "1"),
-        ("0", "1"),
-        ("1", "101"),
-        ("1", "0"),
-        ("x", "1"),
-    ] {
-        let (status, written, is_refused) = drilled(&rt, rt.alloc(), threads, commits)?;
+    for words in REFUSED.lines() {
+        let ended = drilled(&rt, rt.alloc(), words)?;
         assert!(rt;
-            status == 2 && is_refused && written.is_empty(),
-            "{threads} {commits}"
+            ended.status == 2 && ended.output.is_empty() && !ended.errors.is_empty(),
+            "{words}"
         );
     }
     Ok(())

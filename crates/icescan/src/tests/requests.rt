@@ -2,8 +2,8 @@
 
 use super::cases::PLAN;
 use super::first_bundle;
+use super::running::{Ended, put_words, run, words_of};
 use crate::watch::Watch;
-use crate::words::run_words;
 use std::alloc::{AllocError, Global};
 use std::rt::Files;
 use std::sync::Wait;
@@ -75,6 +75,15 @@ fn tables(alloc: Global) -> Result<Vec<u8>, AllocError> {
     Ok(bundle)
 }
 
+/// Whether a run gave what is expected of it.
+fn gave(ended: &Ended, expected: &str) -> bool {
+    match expected {
+        "" => ended.is(ended.status, PLAN.as_bytes(), b""),
+        "-" => ended.is(ended.status, b"files 0 deletes 0\n", b""),
+        fault => ended.told(fault),
+    }
+}
+
 /// Whether the program writes what a line says, and ends with its status.
 fn answers<H: Files<File: Send, Dir: Send> + Threads + Wait + Watch + Sync>(
     rt: &H,
@@ -82,34 +91,16 @@ fn answers<H: Files<File: Send, Dir: Send> + Threads + Wait + Watch + Sync>(
     bundle: &[u8],
     line: &str,
 ) -> Result<bool, AllocError> {
-    let mut words = Vec::new(alloc);
-    words.push(String::from_str(alloc, "plan")?)?;
-    words.push(String::from_str(alloc, "--bundle")?)?;
-    for word in line.split('|') {
-        words.push(String::from_str(alloc, word)?)?;
-    }
-    let status = words.pop();
-    let expected = words.pop();
-    let (Some(status), Some(expected)) = (status, expected) else {
+    let Some((asked, status)) = line.rsplit_once('|') else {
         return Ok(false);
     };
-    let mut input = bundle;
-    let mut written = Vec::new(alloc);
-    let mut told = Vec::new(alloc);
-    let ended = run_words(rt, alloc, &words, &mut input, &mut written, &mut told);
-    let is_right = match expected.as_str() {
-        "" => written.as_slice() == PLAN.as_bytes() && told.is_empty(),
-        "-" => written.as_slice() == b"files 0 deletes 0\n".as_slice() && told.is_empty(),
-        fault => {
-            written.is_empty()
-                && told
-                    .as_slice()
-                    .strip_prefix(b"icescan: ")
-                    .and_then(|l| l.strip_suffix(b"\n"))
-                    == Some(fault.as_bytes())
-        }
+    let Some((asked, expected)) = asked.rsplit_once('|') else {
+        return Ok(false);
     };
-    Ok(is_right && status.parse() == Ok(ended))
+    let mut words = words_of(alloc, "plan|--bundle", '|')?;
+    put_words(&mut words, alloc, asked, '|')?;
+    let ended = run(rt, alloc, &words, &mut &bundle[..]);
+    Ok(ended.has_status(status) && gave(&ended, expected))
 }
 
 #[test]

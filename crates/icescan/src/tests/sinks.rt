@@ -90,6 +90,16 @@ fn run_slow<H: Files<File: Send, Dir: Send> + Threads + Wait + Watch + Sync>(
     Ok((status, output.taken))
 }
 
+/// Whether a sink with room for less than the plan has taken a front of it, and the run told so by its status.
+fn is_cut<H: Files<File: Send, Dir: Send> + Threads + Wait + Watch + Sync>(
+    rt: &H,
+    alloc: Global,
+    room: usize,
+) -> Result<bool, AllocError> {
+    let (status, taken) = run_slow(rt, alloc, 1000, room)?;
+    Ok(status == 3 && PLAN.as_bytes().get(..room) == Some(taken.as_slice()))
+}
+
 #[test]
 fn plan_of_one_byte_at_a_time(rt: HostRuntime) -> Result<(), Fail> {
     let (status, taken) = run_slow(&rt, rt.alloc(), 1, 1000)?;
@@ -100,10 +110,9 @@ fn plan_of_one_byte_at_a_time(rt: HostRuntime) -> Result<(), Fail> {
 
 #[test]
 fn plan_cut_by_a_failing_write(rt: HostRuntime) -> Result<(), Fail> {
-    for (room, byte) in PLAN.as_bytes().iter().enumerate() {
-        let (status, taken) = run_slow(&rt, rt.alloc(), 1000, room)?;
-        assert_eq!(rt; status, 3, "{byte}");
-        assert_eq!(rt; Some(taken.as_slice()), PLAN.as_bytes().get(..room));
+    for room in 0..PLAN.len() {
+        let is_cut = is_cut(&rt, rt.alloc(), room)?;
+        assert!(rt; is_cut, "{room}");
     }
     Ok(())
 }
