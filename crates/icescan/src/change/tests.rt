@@ -84,27 +84,25 @@ fn a_change_in_no_utf8(rt: HostRuntime) {
 const DELETES: &str =
     r#"{"data":[],"x":1,"deletes":[{"content":"equality","equality-ids":[3,-1],"path":"p/d","format":"puffin","spec-id":-7,"partition":[null,true,-5,"t",{"hex":"00fF"}],"record-count":0,"file-size":9223372036854775807}]}"#;
 
-/// Whether the partition values are those of that file.
-fn are_expected(cells: &[Cell]) -> bool {
-    match cells {
-        [
-            Cell::Null,
-            Cell::Bool(true),
-            Cell::Whole(-5),
-            Cell::Text(text),
-            Cell::Bytes(bytes),
-        ] => text.as_str() == "t" && bytes.as_slice() == [0, 255].as_slice(),
-        _ => false,
+/// What its partition values look like.
+const TUPLE: &str =
+    r#"[Null, Bool(true), Whole(-5), Text(Text { text: "t" }), Bytes(Items { items: [0, 255] })]"#;
+
+/// Whether these partition values look so.
+fn look_like(alloc: Global, tuple: &[Cell], text: &str) -> bool {
+    match format!(in alloc; "{tuple:?}") {
+        Ok(look) => look.as_str() == text,
+        Err(_) => false,
     }
 }
 
 /// Whether it is that file.
-fn is_expected(file: &NewFile) -> bool {
+fn is_expected(alloc: Global, file: &NewFile) -> bool {
     file.content == FileContent::EqualityDeletes
         && file.path.as_str() == "p/d"
         && file.format.as_str() == "puffin"
         && file.spec_id == -7
-        && are_expected(file.tuple.as_slice())
+        && look_like(alloc, file.tuple.as_slice(), TUPLE)
         && file.record_count == 0
         && file.file_size == 9223372036854775807
         && file.equality_ids.as_slice() == [3, -1].as_slice()
@@ -114,7 +112,7 @@ fn is_expected(file: &NewFile) -> bool {
 fn each_member_is_read(rt: HostRuntime) {
     let is_right = match read_change(rt.alloc(), DELETES.as_bytes(), ChangeKind::RowDelta) {
         Ok(change) => match change.deletes.as_slice() {
-            [delete] => change.files.as_slice().is_empty() && is_expected(delete),
+            [delete] => change.files.as_slice().is_empty() && is_expected(rt.alloc(), delete),
             _ => false,
         },
         Err(_) => false,
