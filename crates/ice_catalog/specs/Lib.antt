@@ -17,3 +17,5 @@ pub mod PinCodes
 pub mod Pins
 pub mod Taken
 pub mod Replaying
+pub mod Staying
+pub mod Live
