@@ -4,6 +4,7 @@ pub mod Commits
 pub mod Fits
 pub mod Headings
 pub mod Leasts
+pub mod Locations
 pub mod Manifests
 pub mod Reasons
 pub mod Specs
@@ -16,3 +17,7 @@ pub mod Whole
 pub mod Searches
 pub mod Walks
 pub mod Worlds
+pub mod DifferentPaths
+pub mod Readable
+pub mod Rows
+pub mod Live

@@ -7,8 +7,9 @@ ghost use Rattle.ice_meta.specs.declared.spec.Spec.{Spec};
 ghost use Rattle.ice_meta.specs.Targets.{described};
 ghost use Rattle.ice_manifest.specs.Adding.{lent, IsHeading, AreNewFiles};
 ghost use Rattle.ice_manifest.specs.Lists.{path_before};
-ghost use Rattle.ice_catalog.specs.Adding.{CanWrite, schema_text, types_of, heading_of, manifest_of, manifests_from, file_of, row_of, next_sequence, files_over};
+ghost use Rattle.ice_catalog.specs.Adding.{CanWrite, schema_text, types_of, heading_of, manifest_of, manifests_from, file_of, row_of, next_rows, next_sequence, files_over};
 ghost use Rattle.ice_catalog.specs.Bases.{table_specs, spec_in};
+ghost use Rattle.ice_catalog.specs.Live.{AreReadBack, IsReadBack};
 ghost use Rattle.ice_catalog.specs.Partitionings.{specs_of};
 ghost use Rattle.ice_catalog.specs.Seen.{seen, all_seen};
 ghost use Rattle.ice_catalog.specs.Tuples.{written_type};
@@ -133,6 +134,7 @@ fn add_manifest(
     requires files { AreNewFiles heading.now (lent files.now) }
     ensures rows { OnOk result (additions.new.rows.items ≡ additions.old.rows.items ++ row_of sequence (record { heading = heading.now; path = path; files = lent files.now }) ∷ []) }
     ensures files { OnOk result (additions.new.files.items ≡ additions.old.files.items ++ file_of (record { heading = heading.now; path = path; files = lent files.now }) ∷ []) }
+    ensures read { OnOk result (IsReadBack (record { heading = heading.now; path = path; files = lent files.now })) }
 {
     let bytes = write_manifest(alloc, heading, files)?;
     let row = Row::of_new(
@@ -165,6 +167,7 @@ fn add_group(
     requires writable { CanWrite (described metadata.now.json metadata.now.table) ids.now (seen group.now) }
     ensures rows { OnOk result (additions.new.rows.items ≡ additions.old.rows.items ++ row_of sequence (manifest_of (described metadata.now.json metadata.now.table) ids.now number (seen group.now)) ∷ []) }
     ensures files { OnOk result (additions.new.files.items ≡ additions.old.files.items ++ file_of (manifest_of (described metadata.now.json metadata.now.table) ids.now number (seen group.now)) ∷ []) }
+    ensures read { OnOk result (IsReadBack (manifest_of (described metadata.now.json metadata.now.table) ids.now number (seen group.now))) }
 {
     let heading = heading_of(alloc, metadata, partitionings, schema, ids, group)?;
     let path = manifest_path(alloc, metadata.table(), ids, number)?;
@@ -196,6 +199,7 @@ fn add_manifests(
     requires writable { AllByRecursion (CanWrite (described metadata.now.json metadata.now.table) ids.now) (all_seen groups.now) }
     ensures rows { OnOk result (additions.new.rows.items ≡ additions.old.rows.items ++ map (row_of (next_sequence metadata.now.table)) (manifests_from (described metadata.now.json metadata.now.table) ids.now 0 (all_seen groups.now))) }
     ensures files { OnOk result (additions.new.files.items ≡ additions.old.files.items ++ map file_of (manifests_from (described metadata.now.json metadata.now.table) ids.now 0 (all_seen groups.now))) }
+    ensures read { OnOk result (AllByRecursion IsReadBack (manifests_from (described metadata.now.json metadata.now.table) ids.now 0 (all_seen groups.now))) }
 {
     let schema = current_schema_text(alloc, metadata)?;
     let sequence = next_sequence(metadata.table());
@@ -236,7 +240,9 @@ pub fn added_files(
     requires specs { specs_of partitionings.now ≡ table_specs metadata.now.table }
     requires last { metadata.now.table.last_sequence_number < 0x7fff_ffff_ffff_ffff }
     requires writable { AllByRecursion (CanWrite (described metadata.now.json metadata.now.table) ids.now) (all_seen groups.now) }
-    ensures { IfOk result (λ files. files.items ≡ files_over rows.items (described metadata.now.json metadata.now.table) ids.now (all_seen groups.now)) }
+    ensures files { IfOk result (λ files. files.items ≡ files_over rows.items (described metadata.now.json metadata.now.table) ids.now (all_seen groups.now)) }
+    ensures read { IfOk result (λ _. AllByRecursion IsReadBack (manifests_from (described metadata.now.json metadata.now.table) ids.now 0 (all_seen groups.now))) }
+    ensures list { IfOk result (λ _. AreReadBack (next_rows rows.items (next_sequence metadata.now.table) (manifests_from (described metadata.now.json metadata.now.table) ids.now 0 (all_seen groups.now))) ids.now) }
 {
     let mut additions = Additions {
         rows,

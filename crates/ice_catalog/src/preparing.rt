@@ -5,10 +5,11 @@ ghost use Rattle.std.specs.List.{AllByRecursion};
 ghost use Rattle.contract_words.specs.Outcome.{Gives};
 ghost use Rattle.ice_meta.specs.Committing.{CanFollow};
 ghost use Rattle.ice_meta.specs.Targets.{described};
-ghost use Rattle.ice_catalog.specs.Adding.{CanWrite, added, next, snapshot_of};
+ghost use Rattle.ice_catalog.specs.Adding.{CanWrite, added, next, next_rows, next_sequence, snapshot_of};
 ghost use Rattle.ice_catalog.specs.Bases.{table_specs, base_rows};
 ghost use Rattle.ice_catalog.specs.Groups.{groups};
 ghost use Rattle.ice_catalog.specs.Histories.{prepared_on};
+ghost use Rattle.ice_catalog.specs.Live.{AddsToBase, AreReadBack, IsReadBack, new_manifests};
 ghost use Rattle.ice_catalog.specs.Outcome.{Refuses};
 ghost use Rattle.ice_catalog.specs.Partitionings.{specs_of};
 ghost use Rattle.ice_catalog.specs.Refusals.{refusal};
@@ -100,6 +101,8 @@ fn following_of(
     requires rows { accepted.rows.items ≡ base_rows world.now metadata.now.table }
     requires groups { all_seen accepted.groups.items ≡ groups change.now }
     ensures files { IfOk result (λ f. f.files.items ≡ added (record { metadata = described metadata.now.json metadata.now.table; world = world.now }) (record { change = change.now; ids = ids.now })) }
+    ensures read { IfOk result (λ _. AllByRecursion IsReadBack (new_manifests (record { metadata = described metadata.now.json metadata.now.table; world = world.now }) (record { change = change.now; ids = ids.now }))) }
+    ensures list { IfOk result (λ _. AreReadBack (next_rows (base_rows world.now metadata.now.table) (next_sequence metadata.now.table) (new_manifests (record { metadata = described metadata.now.json metadata.now.table; world = world.now }) (record { change = change.now; ids = ids.now }))) ids.now) }
     ensures state { IfOk result (λ f. next (record { metadata = described metadata.now.json metadata.now.table; world = world.now }) (record { change = change.now; ids = ids.now }) ≡ record { metadata = described f.metadata.json f.metadata.table; world = f.world }) }
 {
     let Accepted { rows, groups } = accepted;
@@ -113,14 +116,17 @@ fn following_of(
 }
 
 /// Prepares a commit of this change on a version: the version after it, with the files that it adds; or the first reason
-/// for which it is refused, in the order of `PrepareFault`.
+/// for which it is refused, in the order of `PrepareFault`. Where none of its files takes the place of one that is there,
+/// as a uuid of its own makes sure, the next version has the rows and the live entries of its base, and those of the
+/// files of the change, with the next sequence number.
 pub fn prepare(
     alloc: Global,
     base: &Version,
     change: &Change,
     ids: Ids,
 ) -> Result<Prepared, PrepareFault>
-    ensures { Gives PrepareFault.Memory (λ p. p) result (prepared_on base.now (record { change = change.now; ids = ids })) }
+    ensures prepared { Gives PrepareFault.Memory (λ p. p) result (prepared_on base.now (record { change = change.now; ids = ids })) }
+    ensures live { IfOk result (λ _. AddsToBase base.now (record { change = change.now; ids = ids })) }
 {
     let (metadata, world) = base.state();
     let specs = table_specs(alloc, metadata)?;
