@@ -47,7 +47,7 @@ use Rattle.ice_catalog.specs.Histories.{History, state_of, step}
 use Rattle.ice_catalog.specs.Refusals.{bad_path, base_bad, refusal, unreadable}
 use Rattle.ice_catalog.specs.States.{Added, State, with_files}
 use Rattle.ice_catalog.specs.Staying.{IsNewTo}
-use Rattle.ice_catalog.specs.Live.{AddsToBase, AreReadBack, HasBaseAndChange, IsReadBack, added_entries, added_row, live_of, new_manifests, rows_in}
+use Rattle.ice_catalog.specs.Live.{AddsToBase, AreReadBack, HasBaseAndChange, HaveNumber, IsReadBack, added_entries, added_row, live_of, new_manifests, rows_after, rows_in}
 use Rattle.ice_catalog.proofs.Accepting.{can_follow, can_write, few_rows}
 use Rattle.ice_catalog.proofs.Leasts.{unmapped}
 use Rattle.ice_catalog.proofs.Locations.{short_location}
@@ -224,11 +224,11 @@ all_entries : (s : State) (w : World) (c : Commit) (n : ℕ) (gs : List Group) �
 all_entries s w c n [] can back there = tt
 all_entries s w c n (g ∷ gs) can back there = (has_entries s w c n g can.0 back.0 there.0, all_entries s w c (n + 1) gs can.1 back.1 there.1)
 
-numbered : (row : Row) (h : Heading) (n : ℕ) (fs : List NewFile) → AllByRecursion (λ (e : Entry). e.sequence_number ≡ row.sequence_number) (new_entries row h n fs)
+numbered : (row : Row) (h : Heading) (n : ℕ) (fs : List NewFile) → HaveNumber row.sequence_number (new_entries row h n fs)
 numbered row h n [] = tt
 numbered row h n (f ∷ fs) = (refl, numbered row h (suc n) fs)
 
-numbers : (s : State) (xs : List NewManifest) → AllByRecursion (λ (x : NewManifest). AllByRecursion (λ (e : Entry). e.sequence_number ≡ next_sequence s.metadata.table) (added_entries s x)) xs
+numbers : (s : State) (xs : List NewManifest) → AllByRecursion (λ (x : NewManifest). HaveNumber (next_sequence s.metadata.table) (added_entries s x)) xs
 unfolding new_row
 numbers s [] = tt
 numbers s (x ∷ xs) = (numbered (added_row s x) x.heading 0 x.files, numbers s xs)
@@ -283,7 +283,7 @@ all_apart_from s sequence (row ∷ rows) xs found new =
 
 module _ (s : State) (c : Commit) (none : refusal s c ≡ None) (said : table_of s.metadata.json ≡ Ok s.metadata.table) (new : IsNewTo s c)
     (back : AllByRecursion IsReadBack (new_manifests s c))
-    (rows_back : AreReadBack (next_rows (base_rows s.world s.metadata.table) (next_sequence s.metadata.table) (new_manifests s c)) c.ids) where
+    (rows_back : AreReadBack (rows_after s c) c.ids) where
   few : 0 + length (groups c.change) ≤ 65536
   few = let all = few_rows s c none in omega (arith, all)
 
@@ -304,7 +304,7 @@ module _ (s : State) (c : Commit) (none : refusal s c ≡ None) (said : table_of
         at (Some rows) e = found_none (λ row. is_none (live_of s row)) rows (none_mapped (λ (row : Row). row.path) (find (λ row. is_none (live_of s row)) rows) e)
 
   -- the list
-  rows_read : rows_of (list_bytes (next_rows (base_rows s.world s.metadata.table) (next_sequence s.metadata.table) (new_manifests s c)) c.ids.uuid) ≡ Ok (next_rows (base_rows s.world s.metadata.table) (next_sequence s.metadata.table) (new_manifests s c))
+  rows_read : rows_of (list_bytes (rows_after s c) c.ids.uuid) ≡ Ok (rows_after s c)
   rows_read =
       let m = s.metadata in
       let gs = groups c.change in
@@ -325,11 +325,11 @@ module _ (s : State) (c : Commit) (none : refusal s c ≡ None) (said : table_of
   unfolding next list_of
   listed = rw (new_is_there s.metadata.table (snapshot_of s.metadata.table c) (can_follow s c none)) refl
 
-  list_there : get (next s c).world (list_path s.metadata.table c.ids) ≡ Some (list_bytes (next_rows (base_rows s.world s.metadata.table) (next_sequence s.metadata.table) (new_manifests s c)) c.ids.uuid)
+  list_there : get (next s c).world (list_path s.metadata.table c.ids) ≡ Some (list_bytes (rows_after s c) c.ids.uuid)
   unfolding next added
   list_there = put_last s.world (map file_of (new_manifests s c)) (list_file (base_rows s.world s.metadata.table) s.metadata c.ids (new_manifests s c))
 
-  has_rows : rows_in (next s c) ≡ Some (next_rows (base_rows s.world s.metadata.table) (next_sequence s.metadata.table) (new_manifests s c))
+  has_rows : rows_in (next s c) ≡ Some (rows_after s c)
   has_rows =
       ap (rows_at (next s c).world) listed
       ∙ (ap (option_and_then (λ bytes. result_ok (rows_of bytes))) list_there ∙ ap result_ok rows_read)
@@ -365,7 +365,7 @@ module _ (s : State) (c : Commit) (none : refusal s c ≡ None) (said : table_of
 
 -- so it is of the history that leaves this state
 pub adds_to_base : (h : History) (s : State) (is : state_of h ≡ Some s) (c : Commit) → refusal s c ≡ None → table_of s.metadata.json ≡ Ok s.metadata.table → AllByRecursion IsReadBack (new_manifests s c)
-    → AreReadBack (next_rows (base_rows s.world s.metadata.table) (next_sequence s.metadata.table) (new_manifests s c)) c.ids → AddsToBase h c
+    → AreReadBack (rows_after s c) c.ids → AddsToBase h c
 adds_to_base h s is c none said back rows_back r t left steps new =
     let same : s ≡ r = cc in
     let P : State → Type 0 = λ q. IsNewTo q c → step (Some q) c ≡ Some t → HasBaseAndChange q c t in
