@@ -15,3 +15,7 @@ pub mod Whole
 pub mod Searches
 pub mod Walks
 pub mod Worlds
+pub mod Extremes
+pub mod NewSummaries
+pub mod NewRows
+pub mod Covered
