@@ -1,5 +1,5 @@
 -- Rows stay covered.
-use Rattle.std.proofs.Common.{◌≡◌, ℕ, suc, Bool, true, false, List, [], ◌∷◌, ◌++◌, map, refl, sym, ◌∙◌, ap, subst}
+use Rattle.std.proofs.Common.{◌≡◌, ℕ, suc, List, [], ◌∷◌, ◌++◌, map, refl, sym, ◌∙◌, ap, subst}
 use Rattle.std.specs.Prelude.{Option, None, Some, Result, Ok, Err, option_map}
 use Rattle.std.specs.FinMap.{get}
 use Rattle.std.specs.List.{AllByRecursion}
@@ -34,11 +34,11 @@ use Rattle.ice_state.specs.Snapshots.{live, live_or_none}
 use Rattle.ice_catalog.specs.declared.change.Commit.{Commit}
 use Rattle.ice_catalog.specs.declared.fault.PrepareFault.{PrepareFault}
 use Rattle.ice_catalog.specs.declared.world.World.{World}
-use Rattle.ice_catalog.specs.Adding.{NewManifest, next, next_rows, next_sequence, snapshot_of}
+use Rattle.ice_catalog.specs.Adding.{next, next_sequence, snapshot_of}
 use Rattle.ice_catalog.specs.Apart.{Reads, TellsTheTruth}
 use Rattle.ice_catalog.specs.Applying.{apply, unless}
-use Rattle.ice_catalog.specs.Bases.{base_rows, current_rows, live_at, rows_at, spec_in, specs_under, table_specs}
-use Rattle.ice_catalog.specs.Covered.{AddInTurn, CoversFiles, EmptyIsCovered, GrewFromCovered, HasCoveredRows, KeepsCovering, StaysCovered}
+use Rattle.ice_catalog.specs.Bases.{base_rows, live_at, rows_at, spec_in, specs_under, table_specs}
+use Rattle.ice_catalog.specs.Covered.{AddInTurn, CoversFiles, EmptyIsCovered, HasCoveredRows, KeepsCovering, StaysCovered}
 use Rattle.ice_catalog.specs.Histories.{History, after, replay, start, state_of, step}
 use Rattle.ice_catalog.specs.Live.{HasBaseAndChange, added_entries, added_row, live_of, new_manifests}
 use Rattle.ice_catalog.specs.Pins.{as_pin, of_list, of_meta, rows_in, there}
@@ -177,9 +177,11 @@ rows_read state rows h = of_path (list_of Main state.metadata.table) h where
   of_rows : (r : Result (List Row) ListFault) → as_pin of_list r ≡ Ok rows → unwrap_or (result_ok r) [] ≡ rows
   of_rows (Ok found) h = cc
   of_rows (Err f) h = absurd cc
+
   of_bytes : (b : Option (List ℕ)) → (there b >>= λ bytes. as_pin of_list (rows_of bytes)) ≡ Ok rows → unwrap_or (option_and_then (λ bytes. result_ok (rows_of bytes)) b) [] ≡ rows
   of_bytes None h = absurd cc
   of_bytes (Some bytes) h = of_rows (rows_of bytes) h
+
   of_path : (r : Result (List ℕ) MetaFault) → (as_pin of_meta r >>= λ path. there (get state.world path) >>= λ bytes. as_pin of_list (rows_of bytes)) ≡ Ok rows → unwrap_or (rows_at state.world (result_ok r)) [] ≡ rows
   of_path (Ok path) h = of_bytes (get state.world path) h
   of_path (Err f) h = absurd cc

@@ -1,12 +1,12 @@
 -- The least and the greatest of cells of one kind, nulls aside.
-use Rattle.std.proofs.Common.{◌≡◌, ◌<◌, ℕ, Bool, true, false, cond, List, [], ◌∷◌, refl, sym, ◌∙◌, ap, subst, arith, Option, Some, None}
+use Rattle.std.proofs.Common.{◌≡◌, ◌<◌, ℕ, Bool, true, false, cond, List, [], ◌∷◌, refl, ◌∙◌, ap, subst, arith, Option, Some, None}
 use Rattle.std.specs.List.{AllByRecursion}
 use Rattle.std.specs.Option.{option_map}
 use Rattle.std.specs.Ordering.{is_le, is_lt, is_some_and, ordering_reverse}
 use Rattle.std.specs.declared.cmp.Ordering.{Ordering}
 use Rattle.std.specs.declared.cmp.Ordering.TheVariants.{Less, Equal, Greater}
 use Rattle.ice_value.specs.declared.cell.Cell.{Cell}
-use Rattle.ice_value.specs.declared.cell.Cell.TheVariants.{Null, Bool as Flag, Whole, Text, Bytes}
+use Rattle.ice_value.specs.declared.cell.Cell.TheVariants.{Bool as Flag, Whole, Text, Bytes}
 use Rattle.ice_value.specs.Cells.{AreOfOneKind, cell_cmp, is_at_most, kind_of}
 use Rattle.ice_value.proofs.Orders.{of_one_kind, turned, up_to_further, up_to_itself}
 use Rattle.ice_manifest.specs.NewRows.{best_of, greater, is_null, least, greatest, lesser}

@@ -1,21 +1,16 @@
 -- The rows of the manifests of a commit that isn't refused cover the tuples of their files.
-use Rattle.std.proofs.Common.{◌≡◌, ℕ, suc, ◌+◌, ℤ, Bool, true, false, cond, List, [], ◌∷◌, ◌++◌, map, filter, find, refl, sym, ◌∙◌, ap, subst}
+use Rattle.std.proofs.Common.{◌≡◌, ℕ, ◌+◌, ℤ, Bool, true, false, cond, List, [], ◌∷◌, filter, find, refl, sym, ◌∙◌, ap, subst}
 use Rattle.std.specs.Prelude.{Option, None, Some}
 use Rattle.std.specs.List.{AllByRecursion}
 use Rattle.std.specs.Ordering.{int_eq}
 use Rattle.std.proofs.lemmas.Bool.Decides.{Decides-int_eq}
-use Rattle.ice_value.specs.declared.cell.Cell.{Cell}
 use Rattle.ice_meta.specs.declared.spec.Spec.{Spec}
 use Rattle.ice_meta.specs.Targets.{Described}
-use Rattle.ice_manifest.specs.declared.entry.Entry.{Entry}
-use Rattle.ice_manifest.specs.declared.heading.Heading.{Heading}
 use Rattle.ice_manifest.specs.declared.new_file.NewFile.{NewFile}
 use Rattle.ice_manifest.specs.declared.row.ManifestContent.{ManifestContent}
 use Rattle.ice_manifest.specs.declared.row.ManifestContent.TheVariants.{Data, Deletes}
-use Rattle.ice_manifest.specs.declared.row.Row.{Row}
 use Rattle.ice_manifest.specs.NewRows.{new_row, summaries_from}
-use Rattle.ice_manifest.specs.Writing.{new_entries}
-use Rattle.ice_state.specs.Covering.{Covers, RowCovers}
+use Rattle.ice_state.specs.Covering.{Covers}
 use Rattle.ice_state.specs.Specs.{spec_of}
 use Rattle.ice_catalog.specs.declared.change.Commit.{Commit}
 use Rattle.ice_catalog.specs.declared.change.Ids.{Ids}
@@ -46,8 +41,8 @@ fitting_of : (specs : List Spec) (content : ManifestContent) (files : List NewFi
 fitting_of specs content files right =
     all_map (HasFitting specs) (group_of content files) (spec_ids files)
     (all_here (λ id. HasFitting specs (group_of content files id)) (spec_ids files) (λ id.
-      all_weaker (λ f. (is_wrong specs f ≡ false) × (is_of_spec id f ≡ true)) (λ f. fits_spec (spec_in specs id) f.tuple ≡ true) (filter (is_of_spec id) files)
-      (fitting_file specs id) (all_filter (λ f. is_wrong specs f ≡ false) (is_of_spec id) files right)))
+    all_weaker (λ f. (is_wrong specs f ≡ false) × (is_of_spec id f ≡ true)) (λ f. fits_spec (spec_in specs id) f.tuple ≡ true) (filter (is_of_spec id) files)
+    (fitting_file specs id) (all_filter (λ f. is_wrong specs f ≡ false) (is_of_spec id) files right)))
 
 fitting : (s : State) (c : Commit) → refusal s c ≡ None → AllByRecursion (HasFitting (table_specs s.metadata.table)) (groups c.change)
 fitting s c none =
@@ -80,9 +75,9 @@ files_covered specs id files (Some own) is fits =
     let named : own.id ≡ id = (Decides-int_eq own.id id).0 (found_passes (λ (spec : Spec). int_eq spec.id id) specs own is) in
     all_weaker _ (FileIsCovered specs own files) files
     (λ f h spec e.
-      let both : Some own ≡ Some spec = sym is ∙ (ap (spec_in specs) (sym named) ∙ e) in
-      let same : own ≡ spec = cc in
-      subst (λ (s : Spec). Covers s (Some (summaries_from 0 (types_of own) files)) f.tuple) same (λ _. h))
+    let both : Some own ≡ Some spec = sym is ∙ (ap (spec_in specs) (sym named) ∙ e) in
+    let same : own ≡ spec = cc in
+    subst (λ (s : Spec). Covers s (Some (summaries_from 0 (types_of own) files)) f.tuple) same (λ _. h))
     (told own.fields files fits)
 
 group_covered : (m : Described) (ids : Ids) (sequence : ℕ) (g : Group) → HasFitting (table_specs m.table) g → (n : ℕ) → CoversFiles (table_specs m.table) sequence (manifest_of m ids n g)

@@ -1,6 +1,6 @@
 -- The summaries of new files are true of their tuples.
-use Rattle.std.proofs.Common.{◌≡◌, ◌<◌, ℕ, zero, suc, Bool, true, false, cond, ◌&&◌, ◌||◌, List, [], ◌∷◌, map, refl, sym, ◌∙◌, ap, subst, arith, Option, Some, None}
-use Rattle.std.specs.Prelude.{drop, slice_get, unwrap_or}
+use Rattle.std.proofs.Common.{◌≡◌, ◌<◌, ℕ, zero, suc, Bool, true, false, cond, ◌||◌, List, [], ◌∷◌, map, refl, sym, ◌∙◌, ap, subst, arith, Option, Some, None}
+use Rattle.std.specs.Prelude.{drop}
 use Rattle.std.specs.List.{AllByRecursion, list_any}
 use Rattle.std.specs.Option.{option_and_then}
 use Rattle.std.proofs.lemmas.Bool.{and_parts}
@@ -25,7 +25,7 @@ use Rattle.ice_manifest.specs.NewRows.{bound_of, cell_at, column_of, greatest, i
 use Rattle.ice_catalog.specs.declared.tuples.Allowed.{Allowed}
 use Rattle.ice_catalog.specs.declared.tuples.Allowed.TheVariants.{Null, Value, Nothing}
 use Rattle.ice_catalog.specs.Tuples.{allowed_of, allowed_of_type, allows, fit, written_type}
-use Rattle.ice_catalog.proofs.Extremes.{AreOfKind, IsBest, greatest_best, least_best}
+use Rattle.ice_catalog.proofs.Extremes.{AreOfKind, greatest_best, least_best}
 use Rattle.ice_catalog.proofs.Writable.{all_both, all_here, all_map, all_weaker}
 
 -- ---- lists

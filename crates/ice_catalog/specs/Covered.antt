@@ -1,6 +1,6 @@
--- Versions whose rows are covered: the summaries of each row are true of the partition values of its live entries (Apache
--- Iceberg table spec v2, "Manifest Lists": `field_summary`).
-use Rattle.std.specs.Prelude.{◌≡◌, ℕ, List, [], ◌∷◌, Option, Some, None}
+-- Versions whose rows are covered: the summaries of each row are true of the partition values of its live entries
+-- (Apache Iceberg table spec v2, "Manifest Lists": `field_summary`).
+use Rattle.std.specs.Prelude.{◌≡◌, ℕ, List, [], ◌∷◌, Some, None}
 use Rattle.std.specs.FinMap.{get}
 use Rattle.std.specs.List.{AllByRecursion}
 use Rattle.ice_meta.specs.declared.spec.Spec.{Spec}
@@ -17,7 +17,8 @@ use Rattle.ice_catalog.specs.Staying.{AreNewTo}
 
 -- the row of a new manifest covers the tuples of its files
 abbrev pub CoversFiles : List Spec → ℕ → NewManifest → Type 0
-CoversFiles specs sequence added = AllByRecursion (λ (f : NewFile). RowCovers specs (row_of sequence added) f.tuple) added.files
+CoversFiles specs sequence added =
+    AllByRecursion (λ (f : NewFile). RowCovers specs (row_of sequence added) f.tuple) added.files
 
 -- each row of the current snapshot covers the tuples of its live entries, by the table's partition specs
 abbrev pub HasCoveredRows : State → Type 0
@@ -29,11 +30,13 @@ EmptyIsCovered = (s : State) → current_list s.metadata.table ≡ None → HasC
 
 -- the row of each manifest that a commit adds covers the tuples of its files
 abbrev pub NewRowsCover : Type 0
-NewRowsCover = (s : State) (c : Commit) → refusal s c ≡ None → AllByRecursion (CoversFiles (table_specs s.metadata.table) (next_sequence s.metadata.table)) (new_manifests s c)
+NewRowsCover = (s : State) (c : Commit) → refusal s c ≡ None
+    → AllByRecursion (CoversFiles (table_specs s.metadata.table) (next_sequence s.metadata.table)) (new_manifests s c)
 
 -- a commit that leaves the base's live entries and adds its own leaves covered rows where the base's were
 abbrev pub KeepsCovering : Type 0
-KeepsCovering = (s t : State) (c : Commit) → step (Some s) c ≡ Some t → HasBaseAndChange s c t → HasCoveredRows s → HasCoveredRows t
+KeepsCovering = (s t : State) (c : Commit) → step (Some s) c ≡ Some t → HasBaseAndChange s c t
+    → HasCoveredRows s → HasCoveredRows t
 
 -- each of these commits adds to what those before it leave
 abbrev pub AddInTurn : History → List Commit → Type 0

@@ -17,12 +17,11 @@ pub fn the_last_commit_is_taken_off()
     ensures { IsTakenOff }
 {}
 
-/// Summaries stay true. The row of each manifest that a commit adds covers the partition values of its files; so a commit
-/// that leaves the live entries of its base as they were and adds those of its files, as `prepare` says of each commit
-/// that it prepares, leaves covered rows where those of its base were covered. Every version has covered rows where those
-/// of the opening are covered, as they are where it has no current snapshot, where each commit since then was prepared on
-/// the version before it, and where the files that it adds have names that were new there, as a uuid of its own makes
-/// sure.
+/// Summaries stay true. The row of each manifest that a commit adds covers the partition values of its files; so a
+/// commit that leaves the live entries of its base as they were and adds those of its files leaves covered rows where
+/// those of its base were covered. Every version has covered rows where those of the opening are covered, as they are
+/// where it has no current snapshot, where each commit since then added to the version before it (`AddsToBase`), and
+/// where the names of its files were new there, as a uuid of its own makes sure.
 pub fn versions_stay_covered()
     ensures rows { NewRowsCover }
     ensures commit { KeepsCovering }

@@ -39,8 +39,8 @@ pub fn pinned_plans()
     filtering();
 }
 
-/// The same where nothing is known of the summaries but that those of the opening are true: each commit since then was
-/// prepared on the version before it, as `prepare` says, and the files that it adds have names that were new there.
+/// The same where nothing is known of the summaries but that those of the opening's rows are true: each commit since
+/// then added to the version before it (`AddsToBase`), and the names of its files were new there.
 pub fn pinned_plans_of_commits()
     ensures { (m : Machine) (state : State) (filter : List (Part Leaf)) (schema : Schema) (rows : List Row) (parts : List (Part BoundLeaf)) (events : List Event) (w : ℕ) →
         GrewFromCovered m.history → state_of m.history ≡ Some state → Reads state filter schema rows parts →
