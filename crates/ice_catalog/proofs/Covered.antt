@@ -10,14 +10,11 @@ use Rattle.ice_value.specs.declared.cell.Cell.{Cell}
 use Rattle.ice_filter.specs.declared.bound.BoundLeaf.{BoundLeaf}
 use Rattle.ice_filter.specs.declared.leaf.Leaf.{Leaf}
 use Rattle.ice_filter.specs.declared.parts.Part.{Part}
-use Rattle.ice_meta.specs.declared.commit.NewSnapshot.{NewSnapshot}
 use Rattle.ice_meta.specs.declared.fault.MetaFault.{MetaFault}
 use Rattle.ice_meta.specs.declared.metadata.Target.TheVariants.{Main}
 use Rattle.ice_meta.specs.declared.schema.Schema.{Schema}
 use Rattle.ice_meta.specs.declared.spec.Spec.{Spec}
-use Rattle.ice_meta.specs.declared.table.Table.{Table}
-use Rattle.ice_meta.specs.Committing.{next_table}
-use Rattle.ice_meta.specs.Targets.{list_of, schema_for}
+use Rattle.ice_meta.specs.Targets.{list_of}
 use Rattle.ice_manifest.specs.declared.entry.Entry.{Entry}
 use Rattle.ice_manifest.specs.declared.entry.Live.{Live}
 use Rattle.ice_manifest.specs.declared.heading.Heading.{Heading}
@@ -34,7 +31,7 @@ use Rattle.ice_state.specs.Snapshots.{live, live_or_none}
 use Rattle.ice_catalog.specs.declared.change.Commit.{Commit}
 use Rattle.ice_catalog.specs.declared.fault.PrepareFault.{PrepareFault}
 use Rattle.ice_catalog.specs.declared.world.World.{World}
-use Rattle.ice_catalog.specs.Adding.{next, next_sequence, snapshot_of}
+use Rattle.ice_catalog.specs.Adding.{next, next_sequence}
 use Rattle.ice_catalog.specs.Apart.{Reads, TellsTheTruth}
 use Rattle.ice_catalog.specs.Applying.{apply, unless}
 use Rattle.ice_catalog.specs.Bases.{base_rows, live_at, rows_at, spec_in, specs_under, table_specs}
@@ -48,6 +45,7 @@ use Rattle.ice_catalog.specs.Staying.{AreNewTo}
 use Rattle.ice_catalog.proofs.NewRows.{new_covered}
 use Rattle.ice_catalog.proofs.Replays.{state_after}
 use Rattle.ice_catalog.proofs.NewSummaries.{all_of_map}
+use Rattle.ice_catalog.proofs.Staying.{from_none, specs_stay}
 use Rattle.ice_catalog.proofs.Writable.{all_append, all_both, all_map, all_sorted, all_weaker}
 
 -- ---- live entries, with their bounds and without
@@ -85,14 +83,6 @@ of_entries w specs row h =
     subst (CoversEntries specs row) (live_entries w specs row) (all_map (λ (e : Entry). RowCovers specs row e.file.tuple) (λ (l : Live). l.entry) (live (get w) specs row) h)
 
 -- ---- one commit
-
-specs_same : (o : Option Schema) (t : Table) (added : NewSnapshot) → specs_under o (next_table t added) ≡ specs_under o t
-specs_same None t added = refl
-specs_same (Some schema) t added = refl
-
-specs_stay : (s : State) (c : Commit) → table_specs (next s c).metadata.table ≡ table_specs s.metadata.table
-unfolding next table_specs schema_for
-specs_stay s c = specs_same (schema_for Main s.metadata.table) s.metadata.table (snapshot_of s.metadata.table c)
 
 stepped : (s t : State) (c : Commit) → step (Some s) c ≡ Some t → (refusal s c ≡ None) × (next s c ≡ t)
 unfolding apply
@@ -144,10 +134,6 @@ pub empty_is_covered : EmptyIsCovered
 empty_is_covered s none = subst (AllByRecursion (IsCoveredAt s.world (table_specs s.metadata.table))) (ap (λ list. unwrap_or (rows_at s.world list) []) (sym none)) tt
 
 -- ---- journals
-
-from_none : (cs : List Commit) → replay None cs ≡ None
-from_none [] = refl
-from_none (c ∷ cs) = from_none cs
 
 grown : (h : History) (cs : List Commit) (s : State) → state_of h ≡ Some s → AddInTurn h cs → AreNewTo (Some s) cs → HasCoveredRows s → (t : State) → replay (Some s) cs ≡ Some t → HasCoveredRows t
 grown h [] s is adds new covered t e = let same : s ≡ t = cc in subst HasCoveredRows same covered

@@ -9,6 +9,7 @@ pub mod Reasons
 pub mod Specs
 pub mod Writable
 pub mod Replays
+pub mod Staying
 pub mod Steps
 pub mod Taken
 pub mod Whole
