@@ -95,7 +95,7 @@ stepped s t c e = here (refusal s c) e where
   here None e = cc
   here (Some f) e = absurd cc
 
-from_none : (cs : List Commit) → replay None cs ≡ None
+pub from_none : (cs : List Commit) → replay None cs ≡ None
 from_none [] = refl
 from_none (c ∷ cs) = from_none cs
 

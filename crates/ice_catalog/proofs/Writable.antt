@@ -45,7 +45,7 @@ pub all_map : {A B : Type 0} (P : B → Type 0) (f : A → B) (xs : List A) → 
 all_map P f [] h = tt
 all_map P f (x ∷ xs) h = (h.0, all_map P f xs h.1)
 
-all_weaker : {A : Type 0} (P Q : A → Type 0) (xs : List A) → ((x : A) → P x → Q x) → AllByRecursion P xs → AllByRecursion Q xs
+pub all_weaker : {A : Type 0} (P Q : A → Type 0) (xs : List A) → ((x : A) → P x → Q x) → AllByRecursion P xs → AllByRecursion Q xs
 all_weaker P Q [] f h = tt
 all_weaker P Q (x ∷ xs) f h = (f x h.0, all_weaker P Q xs f h.1)
 
@@ -58,7 +58,7 @@ all_split P [] ys h = (tt, h)
 all_split P (x ∷ xs) ys h = let k = all_split P xs ys h.1 in ((h.0, k.0), k.1)
 
 -- what passes a test keeps what all have, and passes
-all_filter : {A : Type 0} (P : A → Type 0) (test : A → Bool) (xs : List A) → AllByRecursion P xs → AllByRecursion (λ x. P x × (test x ≡ true)) (filter test xs)
+pub all_filter : {A : Type 0} (P : A → Type 0) (test : A → Bool) (xs : List A) → AllByRecursion P xs → AllByRecursion (λ x. P x × (test x ≡ true)) (filter test xs)
 all_filter P test [] h = tt
 all_filter {A = A} P test (x ∷ xs) h =
     let Q : A → Type 0 = λ x. P x × (test x ≡ true) in
@@ -106,7 +106,7 @@ found_has {A = A} P test (y ∷ xs) x h e =
 
 -- ---- the ranges of a file
 
-not_true : (b : Bool) → not b ≡ false → b ≡ true
+pub not_true : (b : Bool) → not b ≡ false → b ≡ true
 not_true true h = refl
 not_true false h = absurd cc
 
@@ -190,7 +190,7 @@ tuple_fits (a ∷ allowed) (c ∷ cs) w h =
     let parts = and_parts (allows a c) (fit allowed cs) h in
     both_true (is_null_or_of (written_type a) c) (is_tuple_of (map written_type allowed) cs) (cell_fits a c w.0 parts.0) (tuple_fits allowed cs w.1 parts.1)
 
-all_here : {A : Type 0} (P : A → Type 0) (xs : List A) → ((x : A) → P x) → AllByRecursion P xs
+pub all_here : {A : Type 0} (P : A → Type 0) (xs : List A) → ((x : A) → P x) → AllByRecursion P xs
 all_here P [] f = tt
 all_here P (x ∷ xs) f = (f x, all_here P xs f)
 

@@ -19,3 +19,4 @@ pub mod Taken
 pub mod Replaying
 pub mod Staying
 pub mod Live
+pub mod Covered
