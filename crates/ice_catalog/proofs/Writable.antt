@@ -41,11 +41,11 @@ use Rattle.ice_catalog.specs.Tuples.{allowed_of, allowed_of_type, allows, fit, f
 
 -- ---- lists
 
-all_map : {A B : Type 0} (P : B → Type 0) (f : A → B) (xs : List A) → AllByRecursion (λ x. P (f x)) xs → AllByRecursion P (map f xs)
+pub all_map : {A B : Type 0} (P : B → Type 0) (f : A → B) (xs : List A) → AllByRecursion (λ x. P (f x)) xs → AllByRecursion P (map f xs)
 all_map P f [] h = tt
 all_map P f (x ∷ xs) h = (h.0, all_map P f xs h.1)
 
-all_weaker : {A : Type 0} (P Q : A → Type 0) (xs : List A) → ((x : A) → P x → Q x) → AllByRecursion P xs → AllByRecursion Q xs
+pub all_weaker : {A : Type 0} (P Q : A → Type 0) (xs : List A) → ((x : A) → P x → Q x) → AllByRecursion P xs → AllByRecursion Q xs
 all_weaker P Q [] f h = tt
 all_weaker P Q (x ∷ xs) f h = (f x h.0, all_weaker P Q xs f h.1)
 
@@ -58,7 +58,7 @@ all_split P [] ys h = (tt, h)
 all_split P (x ∷ xs) ys h = let k = all_split P xs ys h.1 in ((h.0, k.0), k.1)
 
 -- what passes a test keeps what all have, and passes
-all_filter : {A : Type 0} (P : A → Type 0) (test : A → Bool) (xs : List A) → AllByRecursion P xs → AllByRecursion (λ x. P x × (test x ≡ true)) (filter test xs)
+pub all_filter : {A : Type 0} (P : A → Type 0) (test : A → Bool) (xs : List A) → AllByRecursion P xs → AllByRecursion (λ x. P x × (test x ≡ true)) (filter test xs)
 all_filter P test [] h = tt
 all_filter {A = A} P test (x ∷ xs) h =
     let Q : A → Type 0 = λ x. P x × (test x ≡ true) in
@@ -77,7 +77,7 @@ length_filter test (x ∷ xs) =
       | false ↦ let h = length_filter test xs in omega arith
     ]
 
-all_put : {A : Type 0} (P : A → Type 0) (before : A → A → Bool) (x : A) (ys : List A) → P x → AllByRecursion P ys → AllByRecursion P (put before x ys)
+pub all_put : {A : Type 0} (P : A → Type 0) (before : A → A → Bool) (x : A) (ys : List A) → P x → AllByRecursion P ys → AllByRecursion P (put before x ys)
 all_put P before x [] p h = (p, h)
 all_put P before x (y ∷ ys) p h = elim (before y x) as (λ b. AllByRecursion P (cond b (y ∷ put before x ys) (x ∷ y ∷ ys))) [ true ↦ (h.0, all_put P before x ys p h.1) | false ↦ (p, h) ]
 
@@ -89,12 +89,12 @@ all_dedup_from : {A : Type 0} (P : A → Type 0) (same : A → A → Bool) (k : 
 all_dedup_from P same k [] p h = (p, h)
 all_dedup_from P same k (x ∷ xs) p h = elim (same x k) as (λ b. AllByRecursion P (cond b (dedup_from same k xs) (k ∷ dedup_from same x xs))) [ true ↦ all_dedup_from P same k xs p h.1 | false ↦ (p, all_dedup_from P same x xs h.0 h.1) ]
 
-all_dedup : {A : Type 0} (P : A → Type 0) (same : A → A → Bool) (xs : List A) → AllByRecursion P xs → AllByRecursion P (dedup same xs)
+pub all_dedup : {A : Type 0} (P : A → Type 0) (same : A → A → Bool) (xs : List A) → AllByRecursion P xs → AllByRecursion P (dedup same xs)
 all_dedup P same [] h = h
 all_dedup P same (x ∷ xs) h = all_dedup_from P same x xs h.0 h.1
 
 -- what is found has what all have
-found_has : {A : Type 0} (P : A → Type 0) (test : A → Bool) (xs : List A) (x : A) → AllByRecursion P xs → find test xs ≡ Some x → P x
+pub found_has : {A : Type 0} (P : A → Type 0) (test : A → Bool) (xs : List A) (x : A) → AllByRecursion P xs → find test xs ≡ Some x → P x
 found_has P test [] x h e = absurd cc
 found_has {A = A} P test (y ∷ xs) x h e =
     let R : (b : Bool) → cond b (Some y) (find test xs) ≡ Some x → P x =
@@ -106,7 +106,7 @@ found_has {A = A} P test (y ∷ xs) x h e =
 
 -- ---- the ranges of a file
 
-not_true : (b : Bool) → not b ≡ false → b ≡ true
+pub not_true : (b : Bool) → not b ≡ false → b ≡ true
 not_true true h = refl
 not_true false h = absurd cc
 
@@ -190,7 +190,7 @@ tuple_fits (a ∷ allowed) (c ∷ cs) w h =
     let parts = and_parts (allows a c) (fit allowed cs) h in
     both_true (is_null_or_of (written_type a) c) (is_tuple_of (map written_type allowed) cs) (cell_fits a c w.0 parts.0) (tuple_fits allowed cs w.1 parts.1)
 
-all_here : {A : Type 0} (P : A → Type 0) (xs : List A) → ((x : A) → P x) → AllByRecursion P xs
+pub all_here : {A : Type 0} (P : A → Type 0) (xs : List A) → ((x : A) → P x) → AllByRecursion P xs
 all_here P [] f = tt
 all_here P (x ∷ xs) f = (f x, all_here P xs f)
 
@@ -203,7 +203,7 @@ pub record IsSmall (spec : Spec) : Type 0 where
   pub few : length spec.fields ≤ 64
   pub different : HasDifferentFields spec
 
-some_of : (o : Option Spec) → is_none o ≡ false → (spec : Spec) × (o ≡ Some spec)
+pub some_of : (o : Option Spec) → is_none o ≡ false → (spec : Spec) × (o ≡ Some spec)
 some_of None h = absurd cc
 some_of (Some spec) h = (spec, refl)
 

@@ -17,3 +17,6 @@ pub mod PinCodes
 pub mod Pins
 pub mod Taken
 pub mod Replaying
+pub mod Staying
+pub mod Live
+pub mod Covered

@@ -1,6 +1,8 @@
 //! What replaying comes to.
 
+ghost use Rattle.ice_catalog.specs.Covered.{EmptyIsCovered, KeepsCovering, NewRowsCover, StaysCovered};
 ghost use Rattle.ice_catalog.specs.Replaying.{AddsAStep, IsTakenOff, HasEarlier, IsInParts};
+ghost use Rattle.ice_catalog.specs.Staying.{KeepsFiles, KeepsRows, KeepsEntries};
 
 /// A history of one commit more leaves what that commit makes of what the history before it left; so each history
 /// before one that leaves a state leaves one too, and two journals in a row leave what the second makes of what the
@@ -14,4 +16,24 @@ pub fn a_commit_is_one_step()
 /// The base of a history with one commit more is the history.
 pub fn the_last_commit_is_taken_off()
     ensures { IsTakenOff }
+{}
+
+/// Commits whose files take the place of none leave every file as it was; so each manifest list has the rows that it
+/// had, and each manifest the live entries, with their sequence numbers.
+pub fn commits_leave_what_was_there()
+    ensures files { KeepsFiles }
+    ensures rows { KeepsRows }
+    ensures entries { KeepsEntries }
+{}
+
+/// Summaries stay true. The row of each manifest that a commit adds covers the partition values of its files; so a
+/// commit that leaves the live entries of its base as they were and adds those of its files leaves covered rows where
+/// those of its base were covered. Every version has covered rows where those of the opening are covered, as they are
+/// where it has no current snapshot, where each commit since then added to the version before it (`AddsToBase`), and
+/// where the names of its files were new there, as a uuid of its own makes sure.
+pub fn versions_stay_covered()
+    ensures rows { NewRowsCover }
+    ensures commit { KeepsCovering }
+    ensures empty { EmptyIsCovered }
+    ensures versions { StaysCovered }
 {}

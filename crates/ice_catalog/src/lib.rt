@@ -33,9 +33,12 @@ pub use change::{Change, Commit, Ids};
 pub use event::{Event, Reply};
 pub use fault::PrepareFault;
 pub use ice_manifest::NewFile;
-pub use laws::{a_commit_is_one_step, the_last_commit_is_taken_off};
+pub use laws::{
+    a_commit_is_one_step, commits_leave_what_was_there, the_last_commit_is_taken_off,
+    versions_stay_covered,
+};
 pub use machine::run_events;
-pub use machine_laws::{pinned_plans, pins_stand_apart};
+pub use machine_laws::{pinned_plans, pinned_plans_of_commits, pins_stand_apart};
 pub use opening::Opening;
 pub use prepared::Prepared;
 pub use preparing::prepare;
