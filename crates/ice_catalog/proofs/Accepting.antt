@@ -16,7 +16,7 @@ use Rattle.ice_catalog.specs.declared.change.Commit.{Commit}
 use Rattle.ice_catalog.specs.declared.fault.PrepareFault.{PrepareFault}
 use Rattle.ice_catalog.specs.declared.fault.PrepareFault.TheVariants as fault
 use Rattle.ice_catalog.specs.Adding.{CanWrite, snapshot_of}
-use Rattle.ice_catalog.specs.Bases.{table_specs}
+use Rattle.ice_catalog.specs.Bases.{base_rows, table_specs}
 use Rattle.ice_catalog.specs.Groups.{groups_of, groups}
 use Rattle.ice_catalog.specs.Refusals.{all_files, spec_id_of, paths_where, is_bad, is_unknown, is_wrong, least_path, least_id, bad_file, no_such_spec, wrong_tuple, snapshot_taken, sequence_end, too_many, refusal}
 use Rattle.ice_catalog.specs.States.{State}
@@ -59,6 +59,10 @@ module _ (s : State) (c : Commit) (none : refusal s c ≡ None) where
 
   few : length (all_files c.change) ≤ 1_000_000
   few = ltb-false 1_000_000 (length (all_files c.change)) (or_false _ _ (if_none _ fault.TooManyRows (none_stand s c none).1.1.1.1.1.1.1.1.1.0)).1
+
+  -- the new list has few rows
+  pub few_rows : length (base_rows s.world s.metadata.table) + length (groups c.change) ≤ 65_536
+  few_rows = ltb-false 65_536 (length (base_rows s.world s.metadata.table) + length (groups c.change)) (or_false _ _ (if_none _ fault.TooManyRows (none_stand s c none).1.1.1.1.1.1.1.1.1.0)).0
 
   -- its groups can be written
   pub can_write : table_of s.metadata.json ≡ Ok s.metadata.table → AllByRecursion (CanWrite s.metadata c.ids) (groups c.change)

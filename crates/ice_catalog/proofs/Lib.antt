@@ -4,6 +4,7 @@ pub mod Commits
 pub mod Fits
 pub mod Headings
 pub mod Leasts
+pub mod Locations
 pub mod Manifests
 pub mod Reasons
 pub mod Specs
@@ -20,3 +21,7 @@ pub mod Extremes
 pub mod NewSummaries
 pub mod NewRows
 pub mod Covered
+pub mod DifferentPaths
+pub mod Readable
+pub mod Rows
+pub mod Live

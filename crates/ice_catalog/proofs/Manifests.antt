@@ -3,7 +3,10 @@ use Rattle.std.proofs.Common.{◌≡◌, ◌+◌, ◌<◌, ◌≤◌, ℕ, List,
 use Rattle.ice_meta.specs.Targets.{Described}
 use Rattle.ice_catalog.specs.declared.change.Ids.{Ids}
 use Rattle.ice_catalog.specs.declared.groups.Group as kept
-use Rattle.ice_catalog.specs.Adding.{manifest_of, manifests_from}
+use Rattle.ice_manifest.specs.declared.heading.Heading.{Heading}
+use Rattle.ice_manifest.specs.declared.new_file.NewFile.{NewFile}
+use Rattle.ice_catalog.specs.Adding.{NewManifest, heading_of, manifest_of, manifest_path, manifests_from}
+use Rattle.ice_catalog.specs.Groups.{Group}
 use Rattle.ice_catalog.specs.Seen.{seen, all_seen}
 use Rattle.ice_catalog.proofs.Walks.{step_of, end_of}
 
@@ -16,3 +19,8 @@ seen_end gs i le = ap all_seen (end_of gs i le)
 -- what was put last moves from the rest
 pub moved : {A B : Type 0} (f : A → B) (old new whole : List B) (x : A) (rest : List A) → new ≡ old ++ f x ∷ [] → old ++ map f (x ∷ rest) ≡ whole → new ++ map f rest ≡ whole
 moved f old new whole x rest n h = ap (λ ys. ys ++ map f rest) n ∙ (append_assoc old (f x ∷ []) (map f rest) ∙ h)
+
+-- the manifest of a group is known by its parts
+pub same_manifest : (m : Described) (ids : Ids) (n : ℕ) (g : Group) (h : Heading) (path : List ℕ) (files : List NewFile) → h ≡ heading_of m ids g → path ≡ manifest_path m.table ids n → files ≡ g.files
+    → (let made : NewManifest = record { heading = h; path = path; files = files } in made ≡ manifest_of m ids n g)
+same_manifest m ids n g h path files is_heading is_path are_files = λ i. record { heading = is_heading i; path = is_path i; files = are_files i }

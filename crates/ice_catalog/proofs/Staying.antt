@@ -32,7 +32,7 @@ use Rattle.ice_catalog.specs.Staying.{AreNewTo, IsNewTo, KeepsEntries, KeepsFile
 
 -- ---- one commit
 
-abbrev same_path : List ℕ → List ℕ → Bool
+abbrev pub same_path : List ℕ → List ℕ → Bool
 same_path = eq_by_cmp (slice_cmp nat_cmp)
 
 is_equal : (o : Ordering) → is_eq o ≡ true → o ≡ Equal
@@ -57,7 +57,7 @@ all_apart : (w : World) (path bytes : List ℕ) (fs : Added) → get w path ≡ 
 all_apart w path bytes [] here new = tt
 all_apart w path bytes (f ∷ fs) here new = (apart w path bytes f.0 here new.0, all_apart w path bytes fs here new.1)
 
-untouched : (w : World) (path bytes : List ℕ) (fs : Added) → AllByRecursion (λ (f : List ℕ × List ℕ). same_path path f.0 ≡ false) fs → get w path ≡ Some bytes → get (with_files w fs) path ≡ Some bytes
+pub untouched : (w : World) (path bytes : List ℕ) (fs : Added) → AllByRecursion (λ (f : List ℕ × List ℕ). same_path path f.0 ≡ false) fs → get w path ≡ Some bytes → get (with_files w fs) path ≡ Some bytes
 untouched w path bytes [] other here = here
 untouched w path bytes (f ∷ fs) other here = untouched (insert w f.0 f.1) path bytes fs other.1 (get-insert nat_list_cmp_total w f.0 f.1 path ∙ rw other.0 here)
 
@@ -72,7 +72,7 @@ module _ (s : State) (c : Commit) (new : IsNewTo s c) where
     here None e h = absurd cc
     here (Some bytes) e h = ap (option_and_then (λ bytes. result_ok (read bytes))) (file_stays path bytes e) ∙ h
 
-  entries_stay : (specs : List Spec) (row : Row) (found : List Entry) → manifest_at s.world specs row ≡ Some found → manifest_at (next s c).world specs row ≡ Some found
+  pub entries_stay : (specs : List Spec) (row : Row) (found : List Entry) → manifest_at s.world specs row ≡ Some found → manifest_at (next s c).world specs row ≡ Some found
   entries_stay specs row found h = here (spec_in specs row.spec_id) h where
     here : (o : Option Spec) → option_and_then (λ spec. read_at s.world (entries_of row spec) row.path) o ≡ Some found → option_and_then (λ spec. read_at (next s c).world (entries_of row spec) row.path) o ≡ Some found
     here None h = absurd cc
@@ -88,7 +88,7 @@ specs_stay s c = specs_same (schema_for Main s.metadata.table) s.metadata.table 
 
 -- ---- commits in turn
 
-stepped : (s t : State) (c : Commit) → step (Some s) c ≡ Some t → next s c ≡ t
+pub stepped : (s t : State) (c : Commit) → step (Some s) c ≡ Some t → next s c ≡ t
 unfolding apply
 stepped s t c e = here (refusal s c) e where
   here : (r : Option PrepareFault) → result_ok (unless r (next s c)) ≡ Some t → next s c ≡ t

@@ -77,7 +77,7 @@ length_filter test (x ∷ xs) =
       | false ↦ let h = length_filter test xs in omega arith
     ]
 
-all_put : {A : Type 0} (P : A → Type 0) (before : A → A → Bool) (x : A) (ys : List A) → P x → AllByRecursion P ys → AllByRecursion P (put before x ys)
+pub all_put : {A : Type 0} (P : A → Type 0) (before : A → A → Bool) (x : A) (ys : List A) → P x → AllByRecursion P ys → AllByRecursion P (put before x ys)
 all_put P before x [] p h = (p, h)
 all_put P before x (y ∷ ys) p h = elim (before y x) as (λ b. AllByRecursion P (cond b (y ∷ put before x ys) (x ∷ y ∷ ys))) [ true ↦ (h.0, all_put P before x ys p h.1) | false ↦ (p, h) ]
 
@@ -89,12 +89,12 @@ all_dedup_from : {A : Type 0} (P : A → Type 0) (same : A → A → Bool) (k : 
 all_dedup_from P same k [] p h = (p, h)
 all_dedup_from P same k (x ∷ xs) p h = elim (same x k) as (λ b. AllByRecursion P (cond b (dedup_from same k xs) (k ∷ dedup_from same x xs))) [ true ↦ all_dedup_from P same k xs p h.1 | false ↦ (p, all_dedup_from P same x xs h.0 h.1) ]
 
-all_dedup : {A : Type 0} (P : A → Type 0) (same : A → A → Bool) (xs : List A) → AllByRecursion P xs → AllByRecursion P (dedup same xs)
+pub all_dedup : {A : Type 0} (P : A → Type 0) (same : A → A → Bool) (xs : List A) → AllByRecursion P xs → AllByRecursion P (dedup same xs)
 all_dedup P same [] h = h
 all_dedup P same (x ∷ xs) h = all_dedup_from P same x xs h.0 h.1
 
 -- what is found has what all have
-found_has : {A : Type 0} (P : A → Type 0) (test : A → Bool) (xs : List A) (x : A) → AllByRecursion P xs → find test xs ≡ Some x → P x
+pub found_has : {A : Type 0} (P : A → Type 0) (test : A → Bool) (xs : List A) (x : A) → AllByRecursion P xs → find test xs ≡ Some x → P x
 found_has P test [] x h e = absurd cc
 found_has {A = A} P test (y ∷ xs) x h e =
     let R : (b : Bool) → cond b (Some y) (find test xs) ≡ Some x → P x =
@@ -203,7 +203,7 @@ pub record IsSmall (spec : Spec) : Type 0 where
   pub few : length spec.fields ≤ 64
   pub different : HasDifferentFields spec
 
-some_of : (o : Option Spec) → is_none o ≡ false → (spec : Spec) × (o ≡ Some spec)
+pub some_of : (o : Option Spec) → is_none o ≡ false → (spec : Spec) × (o ≡ Some spec)
 some_of None h = absurd cc
 some_of (Some spec) h = (spec, refl)
 

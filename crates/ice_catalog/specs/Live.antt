@@ -36,30 +36,39 @@ AreReadBack rows ids = AllByRecursion IsReadable rows → IsStrictlySortedBy pat
 abbrev pub new_manifests : State → Commit → List NewManifest
 new_manifests s c = manifests_from s.metadata c.ids 0 (groups c.change)
 
--- the row of one
+-- the rows of the base and theirs, in the order of their paths
+abbrev pub rows_after : State → Commit → List Row
+rows_after s c = next_rows (base_rows s.world s.metadata.table) (next_sequence s.metadata.table) (new_manifests s c)
+
+-- the row of a new manifest
 abbrev pub added_row : State → NewManifest → Row
 added_row s added = row_of (next_sequence s.metadata.table) added
 
--- the entries of its files, with the next sequence number
+-- the entries of its files
 abbrev pub added_entries : State → NewManifest → List Entry
 added_entries s added = new_entries (added_row s added) added.heading 0 added.files
 
--- the live entries of a row's manifest
-abbrev pub live_of : State → Row → Option (List Entry)
-live_of s row = manifest_at s.world (table_specs s.metadata.table) row
+abbrev pub HaveNumber : ℕ → List Entry → Type 0
+HaveNumber number entries = AllByRecursion (λ (entry : Entry). entry.sequence_number ≡ number) entries
 
 -- the rows of the current snapshot
 abbrev pub rows_in : State → Option (List Row)
 rows_in s = current_rows s.world s.metadata.table
 
--- The next state's rows are the base's and those of the new manifests, in the order of their paths. The base's manifests
--- have the live entries that they had; the new ones have an entry for each of their files, with the next sequence number.
+-- the live entries of a row's manifest
+abbrev pub live_of : State → Row → Option (List Entry)
+live_of s row = manifest_at s.world (table_specs s.metadata.table) row
+
+-- The next state's rows are the base's and those of the new manifests. The base's manifests have the live entries that
+-- they had; the new ones have an entry for each of their files, with the next sequence number.
 pub record HasBaseAndChange (s : State) (c : Commit) (t : State) : Type 0 where
-  pub rows : rows_in t ≡ Some (next_rows (base_rows s.world s.metadata.table) (next_sequence s.metadata.table) (new_manifests s c))
+  pub rows : rows_in t ≡ Some (rows_after s c)
   pub base : AllByRecursion (λ row. live_of t row ≡ live_of s row) (base_rows s.world s.metadata.table)
   pub added : AllByRecursion (λ added. live_of t (added_row s added) ≡ Some (added_entries s added)) (new_manifests s c)
-  pub numbers : AllByRecursion (λ added. AllByRecursion (λ (e : Entry). e.sequence_number ≡ next_sequence s.metadata.table) (added_entries s added)) (new_manifests s c)
+  pub numbers : AllByRecursion (λ added. HaveNumber (next_sequence s.metadata.table) (added_entries s added))
+      (new_manifests s c)
 
--- so is what the commit leaves of a base where none of its files takes the place of one that is there
+-- so is what the commit leaves of a history's state where none of its files takes the place of one that is there
 abbrev pub AddsToBase : History → Commit → Type 0
-AddsToBase h c = (s t : State) → state_of h ≡ Some s → step (Some s) c ≡ Some t → IsNewTo s c → HasBaseAndChange s c t
+AddsToBase h c = (s t : State) → state_of h ≡ Some s → step (Some s) c ≡ Some t → IsNewTo s c
+    → HasBaseAndChange s c t

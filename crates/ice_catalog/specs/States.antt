@@ -13,6 +13,10 @@ pub record State : Type 0 where
 abbrev pub seen : Metadata → Described
 seen m = described m.json m.table
 
+-- the state that metadata and files are, however they are kept
+abbrev pub state_now : Metadata → World → State
+state_now metadata world = record { metadata = seen metadata; world = world }
+
 -- paths, each with the bytes of its file, in the order in which they are written
 abbrev pub Added : Type 0
 Added = List (List ℕ × List ℕ)

@@ -1,5 +1,5 @@
 -- What commits leave as it was, where the files that they add take the place of none: so it is where each has a uuid of
--- its own (Apache Iceberg table spec v2, "Specification": files are never changed, and a snapshot's stay as they are).
+-- its own (Apache Iceberg table spec v2, "File System Operations": files are not altered once they are written).
 use Rattle.std.specs.Prelude.{◌≡◌, ℕ, List, [], ◌∷◌, Option, Some, None}
 use Rattle.std.specs.FinMap.{get}
 use Rattle.std.specs.List.{AllByRecursion}

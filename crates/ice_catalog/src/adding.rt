@@ -7,8 +7,10 @@ ghost use Rattle.ice_meta.specs.declared.spec.Spec.{Spec};
 ghost use Rattle.ice_meta.specs.Targets.{described};
 ghost use Rattle.ice_manifest.specs.Adding.{lent, IsHeading, AreNewFiles};
 ghost use Rattle.ice_manifest.specs.Lists.{path_before};
-ghost use Rattle.ice_catalog.specs.Adding.{CanWrite, schema_text, types_of, heading_of, manifest_of, manifests_from, file_of, row_of, next_sequence, files_over};
+ghost use Rattle.ice_catalog.specs.Adding.{CanWrite, schema_text, types_of, heading_of, manifest_of, manifests_from};
+ghost use Rattle.ice_catalog.specs.Adding.{file_of, row_of, next_rows, next_sequence, files_over};
 ghost use Rattle.ice_catalog.specs.Bases.{table_specs, spec_in};
+ghost use Rattle.ice_catalog.specs.Live.{AreReadBack, IsReadBack};
 ghost use Rattle.ice_catalog.specs.Partitionings.{specs_of};
 ghost use Rattle.ice_catalog.specs.Seen.{seen, all_seen};
 ghost use Rattle.ice_catalog.specs.Tuples.{written_type};
@@ -42,7 +44,8 @@ fn group_types(
     id: i32,
 ) -> Result<Items<ColumnType>, AllocError>
     requires { is_some (spec_in (specs_of partitionings.now) id) ≡ true }
-    ensures { IfOk result (λ types. (spec : Spec) → spec_in (specs_of partitionings.now) id ≡ Some spec → types ≡ types_of spec) }
+    ensures { IfOk result (λ types. (spec : Spec) → spec_in (specs_of partitionings.now) id ≡ Some spec
+        → types ≡ types_of spec) }
 {
     match partitioning_of(partitionings, id) {
         Some(partitioning) => types_of(alloc, partitioning.allowed.as_slice()),
@@ -73,7 +76,15 @@ fn heading_with(
     spec: Spec,
     types: Items<ColumnType>,
 ) -> Result<Heading, AllocError>
-    ensures { IfOk result (λ heading. heading ≡ record { schema = schema.now; schema_id = metadata.now.table.current_schema_id; spec = spec; types = types; content = content; snapshot_id = ids.now.snapshot; sync = ids.now.uuid }) }
+    ensures { IfOk result (λ heading. heading ≡ record {
+      schema = schema.now;
+      schema_id = metadata.now.table.current_schema_id;
+      spec = spec;
+      types = types;
+      content = content;
+      snapshot_id = ids.now.snapshot;
+      sync = ids.now.uuid;
+    }) }
 {
     Ok(Heading {
         schema: schema.copy(alloc)?,
@@ -106,7 +117,8 @@ fn heading_of(
     requires specs { specs_of partitionings.now ≡ table_specs metadata.now.table }
     requires known { is_some (spec_in (table_specs metadata.now.table) group.now.spec_id) ≡ true }
     requires schema { schema.now ≡ schema_text (described metadata.now.json metadata.now.table) }
-    ensures { IfOk result (λ heading. heading ≡ heading_of (described metadata.now.json metadata.now.table) ids.now (seen group.now)) }
+    ensures { IfOk result (λ heading.
+        heading ≡ heading_of (described metadata.now.json metadata.now.table) ids.now (seen group.now)) }
 {
     let spec = group_spec(alloc, metadata, group.spec_id)?;
     let types = group_types(alloc, partitionings, group.spec_id)?;
@@ -131,8 +143,11 @@ fn add_manifest(
 ) -> Result<(), AllocError>
     requires heading { IsHeading heading.now }
     requires files { AreNewFiles heading.now (lent files.now) }
-    ensures rows { OnOk result (additions.new.rows.items ≡ additions.old.rows.items ++ row_of sequence (record { heading = heading.now; path = path; files = lent files.now }) ∷ []) }
-    ensures files { OnOk result (additions.new.files.items ≡ additions.old.files.items ++ file_of (record { heading = heading.now; path = path; files = lent files.now }) ∷ []) }
+    ensures rows { OnOk result (additions.new.rows.items ≡ additions.old.rows.items
+        ++ row_of sequence (record { heading = heading.now; path = path; files = lent files.now }) ∷ []) }
+    ensures files { OnOk result (additions.new.files.items ≡ additions.old.files.items
+        ++ file_of (record { heading = heading.now; path = path; files = lent files.now }) ∷ []) }
+    ensures read { OnOk result (IsReadBack (record { heading = heading.now; path = path; files = lent files.now })) }
 {
     let bytes = write_manifest(alloc, heading, files)?;
     let row = Row::of_new(
@@ -163,8 +178,12 @@ fn add_group(
     requires specs { specs_of partitionings.now ≡ table_specs metadata.now.table }
     requires schema { schema.now ≡ schema_text (described metadata.now.json metadata.now.table) }
     requires writable { CanWrite (described metadata.now.json metadata.now.table) ids.now (seen group.now) }
-    ensures rows { OnOk result (additions.new.rows.items ≡ additions.old.rows.items ++ row_of sequence (manifest_of (described metadata.now.json metadata.now.table) ids.now number (seen group.now)) ∷ []) }
-    ensures files { OnOk result (additions.new.files.items ≡ additions.old.files.items ++ file_of (manifest_of (described metadata.now.json metadata.now.table) ids.now number (seen group.now)) ∷ []) }
+    ensures rows { OnOk result (additions.new.rows.items ≡ additions.old.rows.items ++ row_of sequence
+        (manifest_of (described metadata.now.json metadata.now.table) ids.now number (seen group.now)) ∷ []) }
+    ensures files { OnOk result (additions.new.files.items ≡ additions.old.files.items ++ file_of
+        (manifest_of (described metadata.now.json metadata.now.table) ids.now number (seen group.now)) ∷ []) }
+    ensures read { OnOk result (IsReadBack
+        (manifest_of (described metadata.now.json metadata.now.table) ids.now number (seen group.now))) }
 {
     let heading = heading_of(alloc, metadata, partitionings, schema, ids, group)?;
     let path = manifest_path(alloc, metadata.table(), ids, number)?;
@@ -193,9 +212,15 @@ fn add_manifests(
 ) -> Result<(), AllocError>
     requires specs { specs_of partitionings.now ≡ table_specs metadata.now.table }
     requires last { metadata.now.table.last_sequence_number < 0x7fff_ffff_ffff_ffff }
-    requires writable { AllByRecursion (CanWrite (described metadata.now.json metadata.now.table) ids.now) (all_seen groups.now) }
-    ensures rows { OnOk result (additions.new.rows.items ≡ additions.old.rows.items ++ map (row_of (next_sequence metadata.now.table)) (manifests_from (described metadata.now.json metadata.now.table) ids.now 0 (all_seen groups.now))) }
-    ensures files { OnOk result (additions.new.files.items ≡ additions.old.files.items ++ map file_of (manifests_from (described metadata.now.json metadata.now.table) ids.now 0 (all_seen groups.now))) }
+    requires writable { AllByRecursion (CanWrite (described metadata.now.json metadata.now.table) ids.now)
+        (all_seen groups.now) }
+    ensures rows { OnOk result (additions.new.rows.items ≡ additions.old.rows.items ++ map
+        (row_of (next_sequence metadata.now.table))
+        (manifests_from (described metadata.now.json metadata.now.table) ids.now 0 (all_seen groups.now))) }
+    ensures files { OnOk result (additions.new.files.items ≡ additions.old.files.items ++ map file_of
+        (manifests_from (described metadata.now.json metadata.now.table) ids.now 0 (all_seen groups.now))) }
+    ensures read { OnOk result (AllByRecursion IsReadBack
+        (manifests_from (described metadata.now.json metadata.now.table) ids.now 0 (all_seen groups.now))) }
 {
     let schema = current_schema_text(alloc, metadata)?;
     let sequence = next_sequence(metadata.table());
@@ -235,8 +260,15 @@ pub fn added_files(
 ) -> Result<Vec<(Text, Items<u8>)>, AllocError>
     requires specs { specs_of partitionings.now ≡ table_specs metadata.now.table }
     requires last { metadata.now.table.last_sequence_number < 0x7fff_ffff_ffff_ffff }
-    requires writable { AllByRecursion (CanWrite (described metadata.now.json metadata.now.table) ids.now) (all_seen groups.now) }
-    ensures { IfOk result (λ files. files.items ≡ files_over rows.items (described metadata.now.json metadata.now.table) ids.now (all_seen groups.now)) }
+    requires writable { AllByRecursion (CanWrite (described metadata.now.json metadata.now.table) ids.now)
+        (all_seen groups.now) }
+    ensures files { IfOk result (λ files. files.items
+        ≡ files_over rows.items (described metadata.now.json metadata.now.table) ids.now (all_seen groups.now)) }
+    ensures read { IfOk result (λ _. AllByRecursion IsReadBack
+        (manifests_from (described metadata.now.json metadata.now.table) ids.now 0 (all_seen groups.now))) }
+    ensures list { IfOk result (λ _. AreReadBack
+        (next_rows rows.items (next_sequence metadata.now.table)
+        (manifests_from (described metadata.now.json metadata.now.table) ids.now 0 (all_seen groups.now))) ids.now) }
 {
     let mut additions = Additions {
         rows,

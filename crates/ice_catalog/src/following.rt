@@ -2,9 +2,8 @@
 
 ghost use Rattle.std.specs.Prelude.{◌≡◌, IfOk};
 ghost use Rattle.ice_meta.specs.Committing.{CanFollow, next_metadata};
-ghost use Rattle.ice_meta.specs.Targets.{described};
 ghost use Rattle.ice_catalog.specs.Adding.{operation_of, snapshot_of};
-ghost use Rattle.ice_catalog.specs.States.{with_files};
+ghost use Rattle.ice_catalog.specs.States.{seen, with_files};
 
 use crate::change::{Change, Ids};
 use crate::paths::list_path;
@@ -33,8 +32,10 @@ pub fn next_metadata(
     change: &Change,
     ids: &Ids,
 ) -> Result<Metadata, AllocError>
-    requires { CanFollow metadata.now.table (snapshot_of metadata.now.table (record { change = change.now; ids = ids.now })) }
-    ensures { IfOk result (λ next. described next.json next.table ≡ next_metadata (described metadata.now.json metadata.now.table) (snapshot_of metadata.now.table (record { change = change.now; ids = ids.now }))) }
+    requires { CanFollow metadata.now.table
+        (snapshot_of metadata.now.table (record { change = change.now; ids = ids.now })) }
+    ensures { IfOk result (λ next. seen next ≡ next_metadata (seen metadata.now)
+        (snapshot_of metadata.now.table (record { change = change.now; ids = ids.now }))) }
 {
     let added = NewSnapshot {
         id: ids.snapshot,

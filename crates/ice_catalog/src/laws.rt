@@ -18,8 +18,8 @@ pub fn the_last_commit_is_taken_off()
     ensures { IsTakenOff }
 {}
 
-/// Commits whose files take the place of none leave every file as it was; so each manifest list has the rows that it had,
-/// and each manifest the live entries, with their sequence numbers.
+/// Commits whose files take the place of none leave every file as it was; so each manifest list has the rows that it
+/// had, and each manifest the live entries, with their sequence numbers.
 pub fn commits_leave_what_was_there()
     ensures files { KeepsFiles }
     ensures rows { KeepsRows }

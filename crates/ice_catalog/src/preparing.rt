@@ -4,15 +4,16 @@ ghost use Rattle.std.specs.Prelude.{◌≡◌, ◌<◌, None, Some, IfOk};
 ghost use Rattle.std.specs.List.{AllByRecursion};
 ghost use Rattle.contract_words.specs.Outcome.{Gives};
 ghost use Rattle.ice_meta.specs.Committing.{CanFollow};
-ghost use Rattle.ice_meta.specs.Targets.{described};
 ghost use Rattle.ice_catalog.specs.Adding.{CanWrite, added, next, snapshot_of};
 ghost use Rattle.ice_catalog.specs.Bases.{table_specs, base_rows};
 ghost use Rattle.ice_catalog.specs.Groups.{groups};
 ghost use Rattle.ice_catalog.specs.Histories.{prepared_on};
+ghost use Rattle.ice_catalog.specs.Live.{AddsToBase, AreReadBack, IsReadBack, new_manifests, rows_after};
 ghost use Rattle.ice_catalog.specs.Outcome.{Refuses};
 ghost use Rattle.ice_catalog.specs.Partitionings.{specs_of};
 ghost use Rattle.ice_catalog.specs.Refusals.{refusal};
 ghost use Rattle.ice_catalog.specs.Seen.{all_seen};
+ghost use Rattle.ice_catalog.specs.States.{state_now};
 
 use crate::adding::added_files;
 use crate::bases::base_rows;
@@ -51,7 +52,8 @@ fn check<'a>(
     ids: &Ids,
 ) -> Result<Accepted<'a>, PrepareFault>
     requires { specs_of partitionings.now ≡ table_specs metadata.now.table }
-    ensures refuses { Refuses result (refusal (record { metadata = described metadata.now.json metadata.now.table; world = world.now }) (record { change = change.now; ids = ids.now })) }
+    ensures refuses { Refuses result
+        (refusal (state_now metadata.now world.now) (record { change = change.now; ids = ids.now })) }
     ensures rows { IfOk result (λ accepted. accepted.rows.items ≡ base_rows world.now metadata.now.table) }
     ensures groups { IfOk result (λ accepted. all_seen accepted.groups.items ≡ groups change.now) }
 {
@@ -96,11 +98,19 @@ fn following_of(
     accepted: Accepted,
 ) -> Result<Following, AllocError>
     requires specs { specs_of partitionings.now ≡ table_specs metadata.now.table }
-    requires accepted { refusal (record { metadata = described metadata.now.json metadata.now.table; world = world.now }) (record { change = change.now; ids = ids.now }) ≡ None }
+    requires accepted { refusal (state_now metadata.now world.now)
+        (record { change = change.now; ids = ids.now }) ≡ None }
     requires rows { accepted.rows.items ≡ base_rows world.now metadata.now.table }
     requires groups { all_seen accepted.groups.items ≡ groups change.now }
-    ensures files { IfOk result (λ f. f.files.items ≡ added (record { metadata = described metadata.now.json metadata.now.table; world = world.now }) (record { change = change.now; ids = ids.now })) }
-    ensures state { IfOk result (λ f. next (record { metadata = described metadata.now.json metadata.now.table; world = world.now }) (record { change = change.now; ids = ids.now }) ≡ record { metadata = described f.metadata.json f.metadata.table; world = f.world }) }
+    ensures files { IfOk result (λ f. f.files.items
+        ≡ added (state_now metadata.now world.now) (record { change = change.now; ids = ids.now })) }
+    ensures read { IfOk result (λ _. AllByRecursion IsReadBack
+        (new_manifests (state_now metadata.now world.now) (record { change = change.now; ids = ids.now }))) }
+    ensures list { IfOk result (λ _. AreReadBack
+        (rows_after (state_now metadata.now world.now) (record { change = change.now; ids = ids.now })) ids.now) }
+    ensures state { IfOk result (λ f.
+        next (state_now metadata.now world.now) (record { change = change.now; ids = ids.now })
+        ≡ state_now f.metadata f.world) }
 {
     let Accepted { rows, groups } = accepted;
     let files = added_files(alloc, metadata, partitionings, ids, rows, &groups)?;
@@ -112,15 +122,19 @@ fn following_of(
     })
 }
 
-/// Prepares a commit of this change on a version: the version after it, with the files that it adds; or the first reason
-/// for which it is refused, in the order of `PrepareFault`.
+/// Prepares a commit of this change on a version: the version after it, with the files that it adds; or the first
+/// reason for which it is refused, in the order of `PrepareFault`. Where none of its files takes the place of one that
+/// is there, as a uuid of its own makes sure, the next version has the rows and the live entries of its base, and those
+/// of the files of the change, with the next sequence number.
 pub fn prepare(
     alloc: Global,
     base: &Version,
     change: &Change,
     ids: Ids,
 ) -> Result<Prepared, PrepareFault>
-    ensures { Gives PrepareFault.Memory (λ p. p) result (prepared_on base.now (record { change = change.now; ids = ids })) }
+    ensures prepared { Gives PrepareFault.Memory (λ p. p) result
+        (prepared_on base.now (record { change = change.now; ids = ids })) }
+    ensures live { IfOk result (λ _. AddsToBase base.now (record { change = change.now; ids = ids })) }
 {
     let (metadata, world) = base.state();
     let specs = table_specs(alloc, metadata)?;

@@ -1,6 +1,8 @@
-use Rattle.std.proofs.Common.{◌≡◌, ◌+◌, ◌++◌, ◌∷◌, drop, map, ap, ◌∙◌, sym}
+use Rattle.std.proofs.Common.{◌≡◌, ◌+◌, ◌++◌, ◌∷◌, drop, map, ap, ◌∙◌, subst, sym}
 use Rattle.ice_meta.specs.Targets.{Described, described}
 use Rattle.ice_catalog.specs.Adding.{manifest_of, manifests_from, file_of, row_of, next_sequence}
+use Rattle.std.specs.List.{AllByRecursion}
+use Rattle.ice_catalog.specs.Live.{IsReadBack}
 use Rattle.ice_catalog.specs.Seen.{seen, all_seen}
 use Rattle.ice_catalog.proofs.Manifests.{seen_more, moved}
 use Rattle.ice_catalog.proofs.adding.add_manifests.Goals as goal
@@ -21,5 +23,6 @@ groups-preserved c =
           (rw number at c.in_ok-add_group.ensures.rows) (ap (λ ms. c.groups.additions.rows.items ++ map row ms) all ∙ c.groups.invariant.rows);
       files = moved file_of c.groups.additions.files.items c.add_group.new.additions.files.items _ (manifest_of m ids n (seen group)) rest
           c.in_ok-add_group.ensures.files (ap (λ ms. c.groups.additions.files.items ++ map file_of ms) all ∙ c.groups.invariant.files);
+      read = λ others. c.groups.invariant.read (subst (AllByRecursion IsReadBack) all (c.in_ok-add_group.ensures.read, others));
       writable = (rw step at c.groups.invariant.writable).1;
     }

@@ -2,6 +2,7 @@ use Rattle.std.proofs.Common.{◌≡◌, ◌++◌, drop, map}
 use Rattle.std.specs.List.{AllByRecursion}
 use Rattle.ice_meta.specs.Targets.{described}
 use Rattle.ice_catalog.specs.Adding.{CanWrite, manifests_from, file_of, row_of, next_sequence}
+use Rattle.ice_catalog.specs.Live.{IsReadBack}
 use Rattle.ice_catalog.specs.Seen.{all_seen}
 use Rattle.ice_catalog.proofs.adding.add_manifests.Given as goal
 
@@ -12,5 +13,6 @@ invariant-groups l =
     record {
       rows : l.additions.rows.items ++ map (row_of (next_sequence l.metadata.table)) (manifests_from m l.ids l.number rest) ≡ l.fn.additions.rows.items ++ map (row_of (next_sequence l.metadata.table)) (manifests_from m l.ids 0 (all_seen l.groups));
       files : l.additions.files.items ++ map file_of (manifests_from m l.ids l.number rest) ≡ l.fn.additions.files.items ++ map file_of (manifests_from m l.ids 0 (all_seen l.groups));
+      read : AllByRecursion IsReadBack (manifests_from m l.ids l.number rest) → AllByRecursion IsReadBack (manifests_from m l.ids 0 (all_seen l.groups));
       writable : AllByRecursion (CanWrite m l.ids) rest;
     }

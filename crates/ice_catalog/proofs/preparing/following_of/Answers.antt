@@ -1,9 +1,11 @@
-use Rattle.std.proofs.Common.{◌≡◌, sym, ap, ◌∙◌, subst}
+use Rattle.std.proofs.Common.{List, sym, ap, ◌∙◌, subst}
 use Rattle.std.specs.List.{AllByRecursion}
 use Rattle.ice_meta.specs.Targets.{Described, described}
 use Rattle.ice_catalog.specs.declared.change.Commit.{Commit}
-use Rattle.ice_catalog.specs.Adding.{CanWrite, files_over, added, next}
-use Rattle.ice_catalog.specs.Groups.{groups}
+use Rattle.ice_manifest.specs.declared.row.Row.{Row}
+use Rattle.ice_catalog.specs.Adding.{CanWrite, files_over, added, manifests_from, next, next_rows, next_sequence}
+use Rattle.ice_catalog.specs.Groups.{Group, groups}
+use Rattle.ice_catalog.specs.Live.{AreReadBack, IsReadBack}
 use Rattle.ice_catalog.specs.Seen.{all_seen}
 use Rattle.ice_catalog.specs.States.{State, with_files}
 use Rattle.ice_catalog.proofs.Accepting.{last_below, can_follow, can_write}
@@ -32,9 +34,22 @@ pub returns-clause-files : goal.returns-clause-files
 unfolding added
 returns-clause-files c =
     let m : Described = described c.args.metadata.now.json c.args.metadata.now.table in
-    c.in_ok-files.ensures
+    c.in_ok-files.ensures.files
     ∙ (ap (files_over c.args.accepted.rows.items m c.args.ids.now) (ap all_seen c.deref.ensures.value ∙ c.requires.groups)
     ∙ ap (λ rows. files_over rows m c.args.ids.now (groups c.args.change.now)) c.requires.rows)
+
+pub returns-clause-read : goal.returns-clause-read
+returns-clause-read c =
+    let m : Described = described c.args.metadata.now.json c.args.metadata.now.table in
+    subst (λ (gs : List Group). AllByRecursion IsReadBack (manifests_from m c.args.ids.now 0 gs)) (ap all_seen c.deref.ensures.value ∙ c.requires.groups) c.in_ok-files.ensures.read
+
+pub returns-clause-list : goal.returns-clause-list
+returns-clause-list c =
+    let m : Described = described c.args.metadata.now.json c.args.metadata.now.table in
+    let seq = next_sequence c.args.metadata.now.table in
+    let ids = c.args.ids.now in
+    let of_groups = subst (λ (gs : List Group). AreReadBack (next_rows c.args.accepted.rows.items seq (manifests_from m ids 0 gs)) ids) (ap all_seen c.deref.ensures.value ∙ c.requires.groups) c.in_ok-files.ensures.list in
+    subst (λ (rows : List Row). AreReadBack (next_rows rows seq (manifests_from m ids 0 (groups c.args.change.now))) ids) c.requires.rows of_groups
 
 pub returns-clause-state : goal.returns-clause-state
 unfolding next

@@ -1,16 +1,17 @@
 use Rattle.std.proofs.Common.{◌≡◌, Some, Ok, ap, ◌∙◌, sym}
 use Rattle.std.specs.Arc.{arc_value}
 use Rattle.std.proofs.lemmas.Result.{err_from_is_err_and}
-use Rattle.ice_meta.specs.Targets.{described}
+use Rattle.ice_meta.specs.Targets.{Described, described}
 use Rattle.ice_catalog.specs.declared.change.Change.{Change}
 use Rattle.ice_catalog.specs.declared.change.Commit.{Commit}
 use Rattle.ice_catalog.specs.Histories.{History, Step, state_of, step, added_on}
 use Rattle.ice_catalog.specs.States.{State}
+use Rattle.ice_catalog.proofs.Live.{adds_to_base}
 use Rattle.ice_catalog.proofs.Replays.{step_done, prepared_done, prepared_refused, added_done}
 use Rattle.ice_catalog.proofs.preparing.prepare.Goals as goal
 
-pub returns-in_err-accepted : goal.returns-in_err-accepted
-returns-in_err-accepted c =
+pub returns-in_err-accepted-clause-prepared : goal.returns-in_err-accepted-clause-prepared
+returns-in_err-accepted-clause-prepared c =
     let s : State = record { metadata = described c.state.result.0.now.json c.state.result.0.now.table; world = c.state.result.1.now } in
     let commit : Commit = record { change = c.args.change.now; ids = c.args.ids } in
     let p = err_from_is_err_and c.from_residual-in_err-accepted.result c.from_residual-in_err-accepted.ensures.1 in
@@ -25,10 +26,17 @@ on-requires-clause-step c =
     ∙ (step_done c.args.base.now s c.state.ensures commit c.in_ok-accepted.ensures.refuses
     ∙ ap Some c.in_ok-following.ensures.state)
 
-pub returns : goal.returns
-returns c =
+pub returns-clause-prepared : goal.returns-clause-prepared
+returns-clause-prepared c =
     let s : State = record { metadata = described c.state.result.0.now.json c.state.result.0.now.table; world = c.state.result.1.now } in
     let commit : Commit = record { change = c.args.change.now; ids = c.args.ids } in
     let kept : arc_value c.in_ok-commit.commit ≡ commit = c.in_ok-commit.ensures.ok ∙ ap (λ (x : Change). let made : Commit = record { change = x; ids = c.args.ids } in made) c.in_ok-change.ensures in
     prepared_done c.args.base.now s c.state.ensures commit c.in_ok-accepted.ensures.refuses
     ∙ ap Ok (sym (c.in_ok-on.ensures ∙ ap (λ (x : Commit). let p : Step = record { base = c.args.base.now; commit = x } in p) kept))
+
+pub returns-clause-live : goal.returns-clause-live
+returns-clause-live c =
+    let m : Described = described c.state.result.0.now.json c.state.result.0.now.table in
+    let s : State = record { metadata = m; world = c.state.result.1.now } in
+    let commit : Commit = record { change = c.args.change.now; ids = c.args.ids } in
+    adds_to_base c.args.base.now s c.state.ensures commit c.in_ok-accepted.ensures.refuses c.state.result.0.now.says c.in_ok-following.ensures.read c.in_ok-following.ensures.list

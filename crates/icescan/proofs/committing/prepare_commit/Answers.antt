@@ -52,7 +52,7 @@ returns-in_err-prepare-clause-refused g c =
     rw (p.1, p.2)
     (not_prepared f world c.args.request.now _ has _ found c.in_ok-change.change c.in_ok-change.ensures _ c.in_ok-metadata.ensures
     c.in_ok-kept.kept (c.in_ok-kept.ensures.base world told) c.in_ok-base.base opened
-    c.in_err-prepare.field-0.0 c.in_err-prepare.ensures)
+    c.in_err-prepare.field-0.0 c.in_err-prepare.ensures.prepared)
 
 pub returns-in_err-prepare-clause-causes : goal.returns-in_err-prepare-clause-causes
 returns-in_err-prepare-clause-causes g c =
@@ -68,4 +68,4 @@ returns-clause-prepared g c =
     let opened = rw (c.deref-3.ensures.value, ← c.deref-2.ensures.value) at c.in_ok-base.ensures.version in
     prepared f world c.args.request.now _ has _ found c.in_ok-change.change c.in_ok-change.ensures _ c.in_ok-metadata.ensures
     c.in_ok-kept.kept (c.in_ok-kept.ensures.base world told) c.in_ok-base.base opened
-    c.in_ok-prepare.field-0 c.in_ok-prepare.ensures
+    c.in_ok-prepare.field-0 c.in_ok-prepare.ensures.prepared
