@@ -25,3 +25,4 @@ pub mod DifferentPaths
 pub mod Readable
 pub mod Rows
 pub mod Live
+pub mod Grown
