@@ -17,12 +17,12 @@ pub mod Whole
 pub mod Searches
 pub mod Walks
 pub mod Worlds
-pub mod Extremes
-pub mod NewSummaries
-pub mod NewRows
-pub mod Covered
 pub mod DifferentPaths
 pub mod Readable
 pub mod Rows
 pub mod Live
+pub mod Extremes
+pub mod NewSummaries
+pub mod NewRows
+pub mod Covered
 pub mod Grown
