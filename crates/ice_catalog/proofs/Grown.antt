@@ -1,5 +1,5 @@
 -- Histories whose commits add in turn.
-use Rattle.std.proofs.Common.{◌≡◌, ℕ, true, false, List, [], ◌∷◌, ◌++◌, length, sym, subst, append_assoc}
+use Rattle.std.proofs.Common.{ℕ, true, false, List, [], ◌∷◌, ◌++◌, length, sym, subst, append_assoc}
 use Rattle.std.proofs.lemmas.List.{append-nil}
 use Rattle.std.specs.Prelude.{◌==◌, cond, Option, Some, None, Result, Ok, Err, slice_get}
 use Rattle.ice_catalog.specs.declared.change.Commit.{Commit}

@@ -1,16 +1,15 @@
 -- What is live after a commit.
-use Rattle.std.proofs.Common.{◌≡◌, ◌≤◌, ◌<◌, ◌+◌, ◌^◌, ℕ, suc, Bool, true, false, cond, List, [], ◌∷◌, ◌++◌, length, length-append, map, find, refl, sym, ◌∙◌, ap, subst, arith}
-use Rattle.std.specs.Prelude.{ℤ, Option, Some, None, Result, Ok, Err, is_none, is_some, option_map, nat_lt, pos, codes}
-use Rattle.std.specs.Cmp.Lexicographic.{slice_cmp, nat_list_cmp_total}
+use Rattle.std.proofs.Common.{◌≡◌, ◌≤◌, ◌<◌, ◌+◌, ℕ, suc, Bool, true, false, cond, List, [], ◌∷◌, ◌++◌, length, length-append, map, find, refl, sym, ◌∙◌, ap, subst, arith}
+use Rattle.std.specs.Prelude.{ℤ, Option, Some, None, Result, Ok, Err, is_none, is_some, option_map, codes}
+use Rattle.std.specs.Cmp.Lexicographic.{nat_list_cmp_total}
 use Rattle.std.specs.FinMap.{get, get-insert, insert}
 use Rattle.std.specs.Fmt.{decimal}
 use Rattle.std.specs.List.{AllByRecursion}
 use Rattle.std.specs.List.Sorted.{IsStrictlySortedBy}
 use Rattle.std.specs.Option.{option_and_then, unwrap_or}
-use Rattle.std.specs.Ordering.{int_eq, is_eq, nat_cmp}
+use Rattle.std.specs.Ordering.{int_eq}
 use Rattle.std.specs.Result.{result_ok}
 use Rattle.std.specs.Str.{bytes_eq}
-use Rattle.std.proofs.lemmas.Bool.{ltb-false}
 use Rattle.std.proofs.lemmas.Bool.Decides.{Decides-int_eq}
 use Rattle.std.proofs.lemmas.Fmt.{length-decimal-le}
 use Rattle.std.proofs.lemmas.List.{length-map}
@@ -18,10 +17,8 @@ use Rattle.std.proofs.lemmas.Map.Text.{is_eq-slice_cmp}
 use Rattle.std.proofs.lemmas.Slice.Eq.{bytes_eq-Decides}
 use Rattle.contract_words.specs.Sorting.{put, sorted}
 use Rattle.uuid.proofs.TextLemmas.{by_index_length}
-use Rattle.ice_meta.specs.Committing.{next_table}
 use Rattle.ice_meta.specs.Tables.{table_of}
 use Rattle.ice_meta.specs.Targets.{Described, list_of}
-use Rattle.ice_meta.specs.declared.metadata.Target.TheVariants.{Main}
 use Rattle.ice_meta.specs.declared.spec.Spec.{Spec}
 use Rattle.ice_meta.specs.declared.table.Table.{Table}
 use Rattle.ice_meta.proofs.Tabled.{new_is_there}
@@ -36,15 +33,13 @@ use Rattle.ice_manifest.specs.NewRows.{new_row, summaries_from}
 use Rattle.ice_manifest.specs.Writing.{list_bytes, new_entries}
 use Rattle.ice_catalog.specs.declared.change.Commit.{Commit}
 use Rattle.ice_catalog.specs.declared.change.Ids.{Ids}
-use Rattle.ice_catalog.specs.declared.fault.PrepareFault.{PrepareFault}
 use Rattle.ice_catalog.specs.declared.fault.PrepareFault.TheVariants as fault
 use Rattle.ice_catalog.specs.declared.world.World.{World}
-use Rattle.ice_catalog.specs.Adding.{CanWrite, NewManifest, added, bytes_of, file_of, group_spec, heading_of, list_file, list_path, manifest_name, manifest_of, manifest_path, manifests_from, next, next_rows, next_sequence, row_of, snapshot_of, spec_or_none, uuid_text}
-use Rattle.ice_catalog.specs.Applying.{apply, unless}
+use Rattle.ice_catalog.specs.Adding.{CanWrite, NewManifest, added, bytes_of, file_of, group_spec, heading_of, list_file, list_path, manifest_name, manifest_of, manifest_path, manifests_from, next, next_sequence, row_of, snapshot_of, spec_or_none, uuid_text}
 use Rattle.ice_catalog.specs.Bases.{base_rows, current_list, current_rows, manifest_at, read_at, rows_at, spec_in, table_specs}
 use Rattle.ice_catalog.specs.Groups.{Group, groups}
 use Rattle.ice_catalog.specs.Histories.{History, state_of, step}
-use Rattle.ice_catalog.specs.Refusals.{bad_path, base_bad, refusal, unreadable}
+use Rattle.ice_catalog.specs.Refusals.{bad_path, refusal}
 use Rattle.ice_catalog.specs.States.{Added, State, with_files}
 use Rattle.ice_catalog.specs.Staying.{IsNewTo}
 use Rattle.ice_catalog.specs.Live.{AddsToBase, AreReadBack, HasBaseAndChange, HaveNumber, IsReadBack, added_entries, added_row, live_of, new_manifests, rows_after, rows_in}

@@ -1,11 +1,11 @@
 -- One manifest after the other.
-use Rattle.std.proofs.Common.{◌≡◌, ◌+◌, ◌<◌, ◌≤◌, ℕ, List, [], ◌∷◌, ◌++◌, length, get_or, drop, map, refl, sym, ap, ◌∙◌, append_assoc}
+use Rattle.std.proofs.Common.{◌≡◌, ◌+◌, ◌<◌, ◌≤◌, ℕ, List, [], ◌∷◌, ◌++◌, length, get_or, drop, map, ap, ◌∙◌, append_assoc}
 use Rattle.ice_meta.specs.Targets.{Described}
 use Rattle.ice_catalog.specs.declared.change.Ids.{Ids}
 use Rattle.ice_catalog.specs.declared.groups.Group as kept
 use Rattle.ice_manifest.specs.declared.heading.Heading.{Heading}
 use Rattle.ice_manifest.specs.declared.new_file.NewFile.{NewFile}
-use Rattle.ice_catalog.specs.Adding.{NewManifest, heading_of, manifest_of, manifest_path, manifests_from}
+use Rattle.ice_catalog.specs.Adding.{NewManifest, heading_of, manifest_of, manifest_path}
 use Rattle.ice_catalog.specs.Groups.{Group}
 use Rattle.ice_catalog.specs.Seen.{seen, all_seen}
 use Rattle.ice_catalog.proofs.Walks.{step_of, end_of}

@@ -1,12 +1,12 @@
 -- The rows that were read of a list can be read again where they are written.
 use Rattle.std.proofs.Common.{◌≡◌, ◌≤◌, ◌+◌, ℕ, zero, suc, Bool, true, false, cond, List, [], ◌∷◌, length, refl, sym, ◌∙◌, ap, subst, arith, leb-true}
 use Rattle.std.specs.Prelude.{ℤ, pos, nat_le, Option, Some, None, Result, Ok, Err, IfSome}
-use Rattle.std.specs.List.{AllByRecursion, dedup, dedup_from}
+use Rattle.std.specs.List.{AllByRecursion}
 use Rattle.std.specs.List.Sorted.{IsStrictlySortedBy}
 use Rattle.std.specs.Option.{option_eq}
 use Rattle.std.specs.Ordering.{int_eq}
 use Rattle.contract_words.specs.Outcome.{◌>>=◌}
-use Rattle.contract_words.specs.Sorting.{put, sorted}
+use Rattle.contract_words.specs.Sorting.{sorted}
 use Rattle.avro_schema.specs.Tree.{Tree, structure, array, union, field, no_fields, Fields, Branches, branch, no_branches}
 use Rattle.avro_file.specs.Blocks.{max_items}
 use Rattle.avro_file.specs.Files.{reader_of}
@@ -23,8 +23,8 @@ use Rattle.ice_manifest.specs.declared.row.Row.{Row}
 use Rattle.ice_manifest.specs.Each.{each}
 use Rattle.ice_manifest.specs.Fields.{asked, at, items_as, items_of, path_at, short_path, text_of, there}
 use Rattle.ice_manifest.specs.Fitting.{IsReadable}
-use Rattle.ice_manifest.specs.Laws.{SaysRow, SayRows}
-use Rattle.ice_manifest.specs.Lists.{in_order, path_before, path_order, rows_of, same_row, summaries_in, summary_of}
+use Rattle.ice_manifest.specs.Laws.{SayRows}
+use Rattle.ice_manifest.specs.Lists.{path_before, path_order, rows_of, same_row, summaries_in, summary_of}
 use Rattle.ice_catalog.proofs.Writable.{all_dedup, all_sorted}
 use Rattle.ice_manifest.proofs.Rising.{strictly}
 use Rattle.ice_manifest.proofs.Told.{by_rows}

@@ -1,5 +1,5 @@
 -- What commits leave as it was.
-use Rattle.std.proofs.Common.{◌≡◌, ℕ, Bool, true, false, cond, List, [], ◌∷◌, Ordering, Less, Equal, Greater, refl, sym, ◌∙◌, ap, subst}
+use Rattle.std.proofs.Common.{◌≡◌, ℕ, Bool, true, false, List, [], ◌∷◌, Ordering, Less, Equal, Greater, refl, sym, ◌∙◌, ap, subst}
 use Rattle.std.specs.Prelude.{Option, Some, None, Result}
 use Rattle.std.specs.Cmp.Lexicographic.{slice_cmp, nat_list_cmp_total}
 use Rattle.std.specs.FinMap.{get, get-insert, insert}
@@ -28,7 +28,7 @@ use Rattle.ice_catalog.specs.Bases.{manifest_at, read_at, spec_in, specs_under, 
 use Rattle.ice_catalog.specs.Histories.{replay, step}
 use Rattle.ice_catalog.specs.Refusals.{refusal}
 use Rattle.ice_catalog.specs.States.{Added, State, with_files}
-use Rattle.ice_catalog.specs.Staying.{AreNewTo, IsNewTo, KeepsEntries, KeepsFiles, KeepsRows, LeadTo}
+use Rattle.ice_catalog.specs.Staying.{AreNewTo, IsNewTo, KeepsEntries, KeepsFiles, KeepsRows}
 
 -- ---- one commit
 

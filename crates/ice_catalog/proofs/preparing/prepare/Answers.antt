@@ -4,11 +4,11 @@ use Rattle.std.proofs.lemmas.Result.{err_from_is_err_and}
 use Rattle.ice_meta.specs.Targets.{Described, described}
 use Rattle.ice_catalog.specs.declared.change.Change.{Change}
 use Rattle.ice_catalog.specs.declared.change.Commit.{Commit}
-use Rattle.ice_catalog.specs.Histories.{History, Step, state_of, step, added_on}
+use Rattle.ice_catalog.specs.Histories.{Step, state_of, step}
 use Rattle.ice_catalog.specs.Live.{AddsToBase}
 use Rattle.ice_catalog.specs.States.{State}
 use Rattle.ice_catalog.proofs.Live.{adds_to_base}
-use Rattle.ice_catalog.proofs.Replays.{step_done, prepared_done, prepared_refused, added_done}
+use Rattle.ice_catalog.proofs.Replays.{step_done, prepared_done, prepared_refused}
 use Rattle.ice_catalog.proofs.preparing.prepare.Goals as goal
 
 pub returns-in_err-accepted-clause-prepared : goal.returns-in_err-accepted-clause-prepared

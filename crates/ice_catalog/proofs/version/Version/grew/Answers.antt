@@ -1,4 +1,4 @@
-use Rattle.std.proofs.Common.{subst, sym}
+use Rattle.std.proofs.Common.{subst}
 use Rattle.ice_catalog.specs.Live.{IsGrown}
 use Rattle.ice_catalog.proofs.Covered.{stays_covered}
 use Rattle.ice_catalog.proofs.version.Version.grew.Goals as goal
