@@ -1,5 +1,5 @@
 -- Histories whose commits add in turn.
-use Rattle.std.proofs.Common.{ℕ, true, false, List, [], ◌∷◌, ◌++◌, length, sym, subst, append_assoc}
+use Rattle.std.proofs.Common.{◌≡◌, ℕ, true, false, List, [], ◌∷◌, ◌++◌, length, refl, sym, subst, append_assoc}
 use Rattle.std.proofs.lemmas.List.{append-nil}
 use Rattle.std.specs.Prelude.{◌==◌, cond, Option, Some, None, Result, Ok, Err, slice_get}
 use Rattle.ice_catalog.specs.declared.change.Commit.{Commit}
@@ -10,7 +10,7 @@ use Rattle.ice_catalog.specs.declared.event.Reply.TheVariants as reply
 use Rattle.ice_catalog.specs.declared.fault.PrepareFault.{PrepareFault}
 use Rattle.ice_catalog.specs.Histories.{History, Step, after, prepared_on}
 use Rattle.ice_catalog.specs.Live.{AddInTurn, AddsToBase, IsGrown}
-use Rattle.ice_catalog.specs.Machines.{Machine, PinnedScan, at_pin, commit, committed, event, machine_after, merge, take}
+use Rattle.ice_catalog.specs.Machines.{Machine, PinnedScan, at_pin, commit, committed, event, machine_after, merge, replies_to, take}
 
 -- ---- one commit more
 
@@ -66,3 +66,13 @@ before_events m (e ∷ es) all = before_event m e (before_events (event m e).1 e
 pub grown_midway : (m : Machine) (front rest : List Event) → IsGrown (machine_after m (front ++ rest)).history → IsGrown (machine_after m front).history
 grown_midway m [] rest all = before_events m rest all
 grown_midway m (e ∷ front) rest all = grown_midway (event m e).1 front rest all
+
+-- ---- the replies
+
+pub machine_midway : (m : Machine) (front rest : List Event) → machine_after m (front ++ rest) ≡ machine_after (machine_after m front) rest
+machine_midway m [] rest = refl
+machine_midway m (e ∷ front) rest = machine_midway (event m e).1 front rest
+
+pub reply_at : (m : Machine) (front rest : List Event) (e : Event) → slice_get (replies_to m (front ++ e ∷ rest)) (length front) ≡ Some (event (machine_after m front) e).0
+reply_at m [] rest e = refl
+reply_at m (x ∷ front) rest e = reply_at (event m x).1 front rest e

@@ -1,6 +1,7 @@
 //! A machine of scans and commits.
 
 ghost use Rattle.std.specs.Prelude.{◌≡◌, List, ◌++◌, IfOk, length, vec_len};
+ghost use Rattle.ice_catalog.specs.Apart.{TellsPinnedPlans};
 ghost use Rattle.ice_catalog.specs.Live.{IsGrown};
 ghost use Rattle.ice_catalog.specs.Machines.{commit, event, finish_in, in_scan, machine_after, merge, pin, replies_to, started, take};
 ghost use Rattle.ice_catalog.specs.declared.event.Event.{Event};
@@ -9,6 +10,7 @@ use crate::book::Book;
 use crate::change::{Change, Ids};
 use crate::event::{Event, Reply};
 use crate::fault::PrepareFault;
+use crate::machine_laws::pinned_plans_of_commits;
 use crate::preparing::prepare;
 use crate::scanning::Scanning;
 use crate::version::Version;
@@ -124,10 +126,10 @@ fn finish(scan: &Option<Scanning>, worker: usize) -> Result<Reply, AllocError>
 }
 
 /// Runs events in order on a table that is at this version, and answers the reply to each. The version itself never
-/// changes. It is refused for want of memory alone. Whatever was committed by then, at each event each commit of the newest
-/// version had left what it met and added its own. So, by `pinned_plans_of_commits`, a pinned scan that took all its
-/// wanted rows finishes with the plan of the version that it was pinned to, where the summaries of the opening's rows are
-/// true and the names of each commit's files were new: no premise speaks of what was written.
+/// changes. It is refused for want of memory alone. At each event every commit until then had left what it met and added
+/// its own, wherever the names of its files were new. So a worker that took all wanted rows of its scan finishes with the
+/// plan of the version that the scan was pinned to, whatever was committed in between, where the summaries of the
+/// opening's rows are true and the names of each commit's files were new: no premise speaks of what was written.
 pub fn run_events(
     alloc: Global,
     version: &Version,
@@ -137,6 +139,7 @@ pub fn run_events(
     ensures one_each { IfOk result (λ replies. vec_len replies ≡ length events.now) }
     ensures grown { IfOk result (λ _. (front rest : List Event) → events.now ≡ front ++ rest
         → IsGrown (machine_after (started version.now) front).history) }
+    ensures plans { IfOk result (λ replies. TellsPinnedPlans version.now events.now replies.items) }
 {
     let mut machine = Machine {
         book: Book::new(alloc, version.copy(alloc)?)?,
@@ -148,5 +151,6 @@ pub fn run_events(
         replies.push(machine.step(happens)?)?;
     }
     machine.book.current().grew();
+    pinned_plans_of_commits();
     Ok(replies)
 }
