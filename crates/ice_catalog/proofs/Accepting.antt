@@ -1,29 +1,25 @@
 -- What follows where a commit isn't refused.
-use Rattle.std.proofs.Common.{subst, ◌≡◌, ◌≤◌, ◌<◌, ◌+◌, ◌^◌, ℕ, suc, Bool, true, false, cond, not, ◌&&◌, ◌||◌, List, [], ◌∷◌, ◌++◌, length, map, filter, refl, sym, ap, ◌∙◌, arith, length-append}
-use Rattle.std.specs.Prelude.{ℤ, negsuc, Option, None, Some, is_some, nat_lt, Ok}
+use Rattle.std.proofs.Common.{subst, ◌≡◌, ◌≤◌, ◌<◌, ◌+◌, Bool, true, false, cond, ◌||◌, List, [], ◌∷◌, ◌++◌, length, map, refl, ap, arith, length-append}
+use Rattle.std.specs.Prelude.{negsuc, Option, None, Some, is_some, Ok}
 use Rattle.std.specs.List.{AllByRecursion}
 use Rattle.std.specs.Ordering.{int_eq}
 use Rattle.std.proofs.lemmas.Bool.{ltb-true, ltb-false}
-use Rattle.ice_meta.specs.declared.table.Table.{Table}
 use Rattle.ice_meta.specs.Committing.{CanFollow}
 use Rattle.ice_meta.specs.Tables.{table_of}
-use Rattle.ice_meta.specs.Targets.{Described, snapshot_with}
-use Rattle.ice_manifest.specs.declared.new_file.NewFile.{NewFile}
-use Rattle.ice_manifest.specs.declared.row.ManifestContent.{ManifestContent}
+use Rattle.ice_meta.specs.Targets.{snapshot_with}
 use Rattle.ice_manifest.specs.declared.row.ManifestContent.TheVariants.{Data as OfData, Deletes}
-use Rattle.ice_catalog.specs.declared.change.Change.{Change}
 use Rattle.ice_catalog.specs.declared.change.Commit.{Commit}
 use Rattle.ice_catalog.specs.declared.fault.PrepareFault.{PrepareFault}
 use Rattle.ice_catalog.specs.declared.fault.PrepareFault.TheVariants as fault
 use Rattle.ice_catalog.specs.Adding.{CanWrite, snapshot_of}
 use Rattle.ice_catalog.specs.Bases.{base_rows, table_specs}
 use Rattle.ice_catalog.specs.Groups.{groups_of, groups}
-use Rattle.ice_catalog.specs.Refusals.{all_files, spec_id_of, paths_where, is_bad, is_unknown, is_wrong, least_path, least_id, bad_file, no_such_spec, wrong_tuple, snapshot_taken, sequence_end, too_many, refusal}
+use Rattle.ice_catalog.specs.Refusals.{all_files, spec_id_of, paths_where, is_bad, is_unknown, is_wrong, refusal}
 use Rattle.ice_catalog.specs.States.{State}
 use Rattle.ice_catalog.proofs.Leasts.{unmapped, no_path, no_id, both_empty, none_passes, unnamed}
 use Rattle.ice_catalog.proofs.Reasons.{none_stand}
 use Rattle.ice_catalog.proofs.Specs.{read_small}
-use Rattle.ice_catalog.proofs.Writable.{IsRight, IsSmall, all_append, all_split, all_both, all_groups}
+use Rattle.ice_catalog.proofs.Writable.{all_append, all_split, all_both, all_groups}
 
 if_none : (b : Bool) (f : PrepareFault) → cond b (Some f) None ≡ None → b ≡ false
 if_none true f h = absurd cc

@@ -35,9 +35,9 @@ use Rattle.ice_catalog.specs.Adding.{next, next_sequence}
 use Rattle.ice_catalog.specs.Apart.{Reads, TellsTheTruth}
 use Rattle.ice_catalog.specs.Applying.{apply, unless}
 use Rattle.ice_catalog.specs.Bases.{base_rows, live_at, rows_at, spec_in, specs_under, table_specs}
-use Rattle.ice_catalog.specs.Covered.{AddInTurn, CoversFiles, EmptyIsCovered, HasCoveredRows, KeepsCovering, StaysCovered}
+use Rattle.ice_catalog.specs.Covered.{CoversFiles, EmptyIsCovered, HasCoveredRows, KeepsCovering, StaysCovered}
 use Rattle.ice_catalog.specs.Histories.{History, after, replay, start, state_of, step}
-use Rattle.ice_catalog.specs.Live.{HasBaseAndChange, added_entries, added_row, live_of, new_manifests}
+use Rattle.ice_catalog.specs.Live.{AddInTurn, HasBaseAndChange, added_entries, added_row, live_of, new_manifests}
 use Rattle.ice_catalog.specs.Pins.{as_pin, of_list, of_meta, rows_in, there}
 use Rattle.ice_catalog.specs.Refusals.{refusal}
 use Rattle.ice_catalog.specs.States.{State}
@@ -135,25 +135,25 @@ empty_is_covered s none = subst (AllByRecursion (IsCoveredAt s.world (table_spec
 
 -- ---- journals
 
-grown : (h : History) (cs : List Commit) (s : State) → state_of h ≡ Some s → AddInTurn h cs → AreNewTo (Some s) cs → HasCoveredRows s → (t : State) → replay (Some s) cs ≡ Some t → HasCoveredRows t
-grown h [] s is adds new covered t e = let same : s ≡ t = cc in subst HasCoveredRows same covered
-grown h (c ∷ cs) s is adds new covered t e =
+in_turn : (h : History) (cs : List Commit) (s : State) → state_of h ≡ Some s → AddInTurn h cs → AreNewTo (Some s) cs → HasCoveredRows s → (t : State) → replay (Some s) cs ≡ Some t → HasCoveredRows t
+in_turn h [] s is adds new covered t e = let same : s ≡ t = cc in subst HasCoveredRows same covered
+in_turn h (c ∷ cs) s is adds new covered t e =
     let P : Option State → Type 0 = λ o. step (Some s) c ≡ o → AreNewTo o cs → replay o cs ≡ Some t → HasCoveredRows t in
     let at : (o : Option State) → P o =
     λ o. elim o as P [
       | None ↦ λ to more k. let no : None ≡ Some t = sym (from_none cs) ∙ k in absurd cc
       | Some q ↦ λ to more k.
-          grown (after h c) cs q (state_after h c ∙ (ap (λ o. step o c) is ∙ to)) adds.1 more (keeps_covering s q c to (adds.0 s q is to new.0) covered) t k
+          in_turn (after h c) cs q (state_after h c ∙ (ap (λ o. step o c) is ∙ to)) adds.1 more (keeps_covering s q c to (adds.0 s q is to new.0) covered) t k
     ] in
     at (step (Some s) c) refl new.1 e
 
 pub stays_covered : StaysCovered
 unfolding state_of
-stays_covered h s grew is = here (start h.opening) refl where
+stays_covered h s grown began is = here (start h.opening) refl where
   here : (o : Option State) → start h.opening ≡ o → HasCoveredRows s
   here None e = let no : None ≡ Some s = sym (from_none h.journal) ∙ (ap (λ o. replay o h.journal) (sym e) ∙ is) in absurd cc
   here (Some b) e =
-      grown (record { opening = h.opening; journal = [] }) h.journal b e grew.added (subst (λ o. AreNewTo o h.journal) e grew.new) (grew.opening b e) s (ap (λ o. replay o h.journal) (sym e) ∙ is)
+      in_turn (record { opening = h.opening; journal = [] }) h.journal b e grown (subst (λ o. AreNewTo o h.journal) e began.new) (began.opening b e) s (ap (λ o. replay o h.journal) (sym e) ∙ is)
 
 -- ---- what a pinned scan reads
 

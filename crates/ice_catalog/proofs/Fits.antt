@@ -1,5 +1,5 @@
 -- What tuples fit.
-use Rattle.std.proofs.Common.{◌≡◌, ◌≢◌, ℕ, suc, Bool, true, false, ◌&&◌, List, [], ◌∷◌, length, refl, ap, arith}
+use Rattle.std.proofs.Common.{◌≡◌, ◌≢◌, suc, Bool, true, false, ◌&&◌, List, [], ◌∷◌, length, refl, ap}
 use Rattle.ice_value.specs.declared.cell.Cell.{Cell}
 use Rattle.ice_catalog.specs.declared.tuples.Allowed.{Allowed}
 use Rattle.ice_catalog.specs.Tuples.{allows, fit}

@@ -25,3 +25,4 @@ pub mod Extremes
 pub mod NewSummaries
 pub mod NewRows
 pub mod Covered
+pub mod Grown

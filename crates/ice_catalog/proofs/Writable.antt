@@ -1,9 +1,8 @@
 -- The groups of a change that isn't refused can be written.
-use Rattle.std.proofs.Common.{subst, inl, inr, ◌≡◌, ◌≤◌, ◌<◌, ◌^◌, ℕ, suc, ℤ, pos, negsuc, Bool, true, false, cond, not, ◌&&◌, ◌||◌, List, [], ◌∷◌, ◌++◌, length, map, filter, find, refl, sym, ap, ◌∙◌, arith, length-append}
+use Rattle.std.proofs.Common.{subst, inl, inr, ◌≡◌, ◌≤◌, ℕ, suc, ℤ, pos, negsuc, Bool, true, false, cond, not, ◌&&◌, ◌||◌, List, [], ◌∷◌, ◌++◌, length, map, filter, find, refl, sym, ap, ◌∙◌, arith}
 use Rattle.std.specs.Prelude.{Option, None, Some, is_some, is_none, nat_lt, nat_le}
-use Rattle.std.specs.List.{AllByRecursion, IsDistinct, dedup, dedup_from}
+use Rattle.std.specs.List.{AllByRecursion, dedup, dedup_from}
 use Rattle.std.specs.Ordering.{int_eq}
-use Rattle.std.specs.Bool.{Decides}
 use Rattle.std.proofs.lemmas.Bool.{and_parts, leb-true}
 use Rattle.std.proofs.lemmas.Bool.Decides.{Decides-int_eq}
 use Rattle.std.proofs.lemmas.List.{length-map}
@@ -26,16 +25,14 @@ use Rattle.ice_manifest.specs.declared.row.ManifestContent.{ManifestContent}
 use Rattle.ice_manifest.specs.declared.row.ManifestContent.TheVariants.{Data, Deletes}
 use Rattle.ice_manifest.specs.Adding.{is_partition_type, is_null_or_of, is_tuple_of, IsHeading, IsAmount, IsNewFile, AreNewFiles}
 use Rattle.ice_manifest.specs.Laws.{MayHold}
-use Rattle.ice_filter.specs.Rows.{is_null}
 use Rattle.ice_project.specs.Fields.{field_of}
 use Rattle.ice_project.specs.Summaries.{type_of_values}
-use Rattle.ice_catalog.specs.declared.change.Change.{Change}
 use Rattle.ice_catalog.specs.declared.change.Ids.{Ids}
 use Rattle.ice_catalog.specs.declared.tuples.Allowed.{Allowed}
 use Rattle.ice_catalog.specs.declared.tuples.Allowed.TheVariants.{Null, Value, Nothing}
 use Rattle.ice_catalog.specs.Adding.{CanWrite, schema_text, types_of, heading_of, spec_or_none}
 use Rattle.ice_catalog.specs.Bases.{table_specs, spec_in}
-use Rattle.ice_catalog.specs.Groups.{Group, id_before, spec_ids, is_of_spec, group_of, groups_of, groups}
+use Rattle.ice_catalog.specs.Groups.{id_before, spec_ids, is_of_spec, group_of, groups_of}
 use Rattle.ice_catalog.specs.Refusals.{is_count, is_for, are_ids, is_good, is_bad, spec_id_of, is_unknown, is_wrong}
 use Rattle.ice_catalog.specs.Tuples.{allowed_of, allowed_of_type, allows, fit, fits_spec, written_type}
 

@@ -1,6 +1,6 @@
 -- What a commit adds: its manifests and its list, and the metadata that names them (Apache Iceberg table spec v2,
 -- "Snapshots", "Manifests" and "Manifest Lists"; the names of the files are those that writers use).
-use Rattle.std.specs.Prelude.{◌≡◌, ◌+◌, true, is_some, ℕ, suc, ℤ, pos, List, [], ◌∷◌, ◌++◌, length, map, codes, Option, None, Some, unwrap_or}
+use Rattle.std.specs.Prelude.{◌≡◌, ◌+◌, true, is_some, ℕ, suc, ℤ, pos, List, [], ◌∷◌, ◌++◌, length, map, codes, Option, None, Some}
 use Rattle.std.specs.Fmt.{decimal, signed_decimal}
 use Rattle.uuid.specs.Text.{hyphenated_text, lower}
 use Rattle.contract_words.specs.Sorting.{sorted}

@@ -1,5 +1,5 @@
 -- What a pin replies to its own events, whatever comes between; and what a pinned scan reads.
-use Rattle.std.specs.Prelude.{◌≡◌, ◌==◌, ℕ, Bool, false, cond, List, [], ◌∷◌, Option, Some, Ok, slice_get}
+use Rattle.std.specs.Prelude.{◌≡◌, ◌==◌, ℕ, Bool, false, cond, List, [], ◌∷◌, ◌++◌, length, Option, Some, Ok, slice_get}
 use Rattle.std.specs.FinMap.{get}
 use Rattle.ice_filter.specs.Binding.{bound_parts}
 use Rattle.ice_filter.specs.declared.bound.BoundLeaf.{BoundLeaf}
@@ -18,7 +18,9 @@ use Rattle.ice_catalog.specs.declared.event.Event.{Event}
 use Rattle.ice_catalog.specs.declared.event.Event.TheVariants as on
 use Rattle.ice_catalog.specs.declared.event.Reply.{Reply}
 use Rattle.ice_catalog.specs.declared.event.Reply.TheVariants as reply
-use Rattle.ice_catalog.specs.Machines.{Machine, PinnedScan, finish_in, finished, in_scan, merge, take}
+use Rattle.ice_catalog.specs.Covered.{BeganCovered}
+use Rattle.ice_catalog.specs.Histories.{History, state_of}
+use Rattle.ice_catalog.specs.Machines.{Machine, PinnedScan, finish_in, finished, in_scan, machine_after, merge, pin, started, take}
 use Rattle.ice_catalog.specs.Pins.{rows_in}
 use Rattle.ice_catalog.specs.States.{State}
 
@@ -81,3 +83,17 @@ plan_reply state schema rows parts =
 -- the worker of the pin k took every wanted row
 abbrev pub TookEvery : Machine → ℕ → ℕ → Type 0
 TookEvery m k w = (p : PinnedScan) × (slice_get m.pins k ≡ Some (Some p)) × (slice_get p.workers w ≡ Some (every_row p.scan))
+
+-- ---- what is told of pinned scans
+
+-- Whatever comes before, between and after: a worker that took every wanted row of its scan finishes with the plan of the
+-- snapshot that was the current one at the scan's `Pin` event, where the opening's rows are covered and the files of each
+-- commit until then were new.
+abbrev pub TellsPinnedPlans : History → List Event → List Reply → Type 0
+TellsPinnedPlans h events replies =
+    (before between rest : List Event) (filter : List (Part Leaf)) (w : ℕ) (state : State) (schema : Schema) (rows : List Row) (parts : List (Part BoundLeaf)) →
+    let m = machine_after (started h) before in
+    events ≡ before ++ on.Pin filter ∷ between ++ on.Finish (length m.pins) w ∷ rest
+    → BeganCovered m.history → state_of m.history ≡ Some state → Reads state filter schema rows parts
+    → TookEvery (machine_after (pin m filter).1 between) (length m.pins) w
+    → slice_get replies (length (before ++ on.Pin filter ∷ between)) ≡ Some (plan_reply state schema rows parts)

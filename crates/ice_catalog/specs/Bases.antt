@@ -1,6 +1,6 @@
 -- What a commit is made on: the manifest list of the current snapshot, the rows of that list, and their live entries
 -- (Apache Iceberg table spec v2, "Snapshots", "Manifest Lists" and "Scan Planning").
-use Rattle.std.specs.Prelude.{ℕ, ℤ, List, [], map, find, Option, None, Some, Result, unwrap_or}
+use Rattle.std.specs.Prelude.{ℕ, ℤ, List, [], find, Option, None, Some, Result, unwrap_or}
 use Rattle.std.specs.List.{flat_map}
 use Rattle.std.specs.Option.{option_and_then}
 use Rattle.std.specs.Ordering.{int_eq}

@@ -1,6 +1,6 @@
 -- Versions whose rows are covered: the summaries of each row are true of the partition values of its live entries
 -- (Apache Iceberg table spec v2, "Manifest Lists": `field_summary`).
-use Rattle.std.specs.Prelude.{◌≡◌, ℕ, List, [], ◌∷◌, Some, None}
+use Rattle.std.specs.Prelude.{◌≡◌, ℕ, List, Some, None}
 use Rattle.std.specs.FinMap.{get}
 use Rattle.std.specs.List.{AllByRecursion}
 use Rattle.ice_meta.specs.declared.spec.Spec.{Spec}
@@ -9,8 +9,8 @@ use Rattle.ice_state.specs.Covering.{AreCovered, RowCovers}
 use Rattle.ice_catalog.specs.declared.change.Commit.{Commit}
 use Rattle.ice_catalog.specs.Adding.{NewManifest, next_sequence, row_of}
 use Rattle.ice_catalog.specs.Bases.{base_rows, current_list, table_specs}
-use Rattle.ice_catalog.specs.Histories.{History, after, start, state_of, step}
-use Rattle.ice_catalog.specs.Live.{AddsToBase, HasBaseAndChange, new_manifests}
+use Rattle.ice_catalog.specs.Histories.{History, start, state_of, step}
+use Rattle.ice_catalog.specs.Live.{HasBaseAndChange, IsGrown, new_manifests}
 use Rattle.ice_catalog.specs.Refusals.{refusal}
 use Rattle.ice_catalog.specs.States.{State}
 use Rattle.ice_catalog.specs.Staying.{AreNewTo}
@@ -38,17 +38,11 @@ abbrev pub KeepsCovering : Type 0
 KeepsCovering = (s t : State) (c : Commit) → step (Some s) c ≡ Some t → HasBaseAndChange s c t
     → HasCoveredRows s → HasCoveredRows t
 
--- each of these commits adds to what those before it leave
-abbrev pub AddInTurn : History → List Commit → Type 0
-AddInTurn h [] = Unit {0}
-AddInTurn h (c ∷ cs) = AddsToBase h c × AddInTurn (after h c) cs
-
--- The rows of the opening are covered, and each commit since then added to what was there, in files that were new.
-pub record GrewFromCovered (h : History) : Type 0 where
+-- The rows of the opening are covered, and the files of each commit since then were new: this speaks of data alone.
+pub record BeganCovered (h : History) : Type 0 where
   pub opening : (s : State) → start h.opening ≡ Some s → HasCoveredRows s
-  pub added : AddInTurn (record { opening = h.opening; journal = [] }) h.journal
   pub new : AreNewTo (start h.opening) h.journal
 
--- what such a history leaves has covered rows
+-- so what a history leaves has covered rows, where each of its commits added to what was there
 abbrev pub StaysCovered : Type 0
-StaysCovered = (h : History) (s : State) → GrewFromCovered h → state_of h ≡ Some s → HasCoveredRows s
+StaysCovered = (h : History) (s : State) → IsGrown h → BeganCovered h → state_of h ≡ Some s → HasCoveredRows s

@@ -1,6 +1,6 @@
 -- What is live after a commit: what was live before it, and the files that it adds (Apache Iceberg table spec v2,
 -- "Snapshots", "Manifest Lists" and "Sequence Number Inheritance").
-use Rattle.std.specs.Prelude.{◌≡◌, ◌≤◌, ℕ, List, length, Option, Some, Ok}
+use Rattle.std.specs.Prelude.{◌≡◌, ◌≤◌, ℕ, List, [], ◌∷◌, length, Option, Some, Ok}
 use Rattle.std.specs.List.{AllByRecursion}
 use Rattle.std.specs.List.Sorted.{IsStrictlySortedBy}
 use Rattle.ice_manifest.specs.declared.entry.Entry.{Entry}
@@ -14,7 +14,7 @@ use Rattle.ice_catalog.specs.declared.change.Ids.{Ids}
 use Rattle.ice_catalog.specs.Adding.{NewManifest, bytes_of, manifests_from, next_rows, next_sequence, row_of}
 use Rattle.ice_catalog.specs.Bases.{base_rows, current_rows, manifest_at, table_specs}
 use Rattle.ice_catalog.specs.Groups.{groups}
-use Rattle.ice_catalog.specs.Histories.{History, state_of, step}
+use Rattle.ice_catalog.specs.Histories.{History, after, state_of, step}
 use Rattle.ice_catalog.specs.States.{State}
 use Rattle.ice_catalog.specs.Staying.{IsNewTo}
 
@@ -72,3 +72,14 @@ pub record HasBaseAndChange (s : State) (c : Commit) (t : State) : Type 0 where
 abbrev pub AddsToBase : History → Commit → Type 0
 AddsToBase h c = (s t : State) → state_of h ≡ Some s → step (Some s) c ≡ Some t → IsNewTo s c
     → HasBaseAndChange s c t
+
+-- ---- histories
+
+-- each of these commits adds to what those before it leave
+abbrev pub AddInTurn : History → List Commit → Type 0
+AddInTurn h [] = Unit {0}
+AddInTurn h (c ∷ cs) = AddsToBase h c × AddInTurn (after h c) cs
+
+-- each commit of a history added to what was there before it
+abbrev pub IsGrown : History → Type 0
+IsGrown h = AddInTurn (record { opening = h.opening; journal = [] }) h.journal

@@ -2,7 +2,6 @@
 -- told, with the least of its paths or ids.
 use Rattle.std.specs.Prelude.{ℕ, ℤ, pos, negsuc, Bool, true, false, not, ◌&&◌, ◌||◌, ◌+◌, ◌++◌, List, [], ◌∷◌, length, map, filter, find, fold, nat_lt, nat_le, Option, None, Some, option_map, is_some, is_none, if◌then◌else◌}
 use Rattle.std.specs.List.{list_any}
-use Rattle.std.specs.Option.{option_or}
 use Rattle.std.specs.Ordering.{nat_cmp, int_cmp, int_eq, is_lt}
 use Rattle.std.specs.Cmp.Lexicographic.{slice_cmp}
 use Rattle.std.specs.List.Sorted.{IsSortedBy}

@@ -29,8 +29,8 @@ pub fn commits_leave_what_was_there()
 /// Summaries stay true. The row of each manifest that a commit adds covers the partition values of its files; so a
 /// commit that leaves the live entries of its base as they were and adds those of its files leaves covered rows where
 /// those of its base were covered. Every version has covered rows where those of the opening are covered, as they are
-/// where it has no current snapshot, where each commit since then added to the version before it (`AddsToBase`), and
-/// where the names of its files were new there, as a uuid of its own makes sure.
+/// where it has no current snapshot, and where the names of each commit's files were new, as a uuid of its own makes
+/// sure: that each commit added to the version before it holds of every `Version`, by its `grew`.
 pub fn versions_stay_covered()
     ensures rows { NewRowsCover }
     ensures commit { KeepsCovering }

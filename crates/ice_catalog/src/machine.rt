@@ -1,12 +1,16 @@
 //! A machine of scans and commits.
 
-ghost use Rattle.std.specs.Prelude.{◌≡◌, IfOk, length, vec_len};
-ghost use Rattle.ice_catalog.specs.Machines.{commit, event, finish_in, in_scan, merge, pin, replies_to, started, take};
+ghost use Rattle.std.specs.Prelude.{◌≡◌, List, ◌++◌, IfOk, length, vec_len};
+ghost use Rattle.ice_catalog.specs.Apart.{TellsPinnedPlans};
+ghost use Rattle.ice_catalog.specs.Live.{IsGrown};
+ghost use Rattle.ice_catalog.specs.Machines.{commit, event, finish_in, in_scan, machine_after, merge, pin, replies_to, started, take};
+ghost use Rattle.ice_catalog.specs.declared.event.Event.{Event};
 
 use crate::book::Book;
 use crate::change::{Change, Ids};
 use crate::event::{Event, Reply};
 use crate::fault::PrepareFault;
+use crate::machine_laws::pinned_plans_of_commits;
 use crate::preparing::prepare;
 use crate::scanning::Scanning;
 use crate::version::Version;
@@ -122,7 +126,10 @@ fn finish(scan: &Option<Scanning>, worker: usize) -> Result<Reply, AllocError>
 }
 
 /// Runs events in order on a table that is at this version, and answers the reply to each. The version itself never
-/// changes. It is refused for want of memory alone.
+/// changes. It is refused for want of memory alone. At each event every commit until then had left what it met and added
+/// its own, wherever the names of its files were new. So a worker that took all wanted rows of its scan finishes with the
+/// plan of the version that the scan was pinned to, whatever was committed in between, where the summaries of the
+/// opening's rows are true and the names of each commit's files were new: no premise speaks of what was written.
 pub fn run_events(
     alloc: Global,
     version: &Version,
@@ -130,6 +137,9 @@ pub fn run_events(
 ) -> Result<Vec<Reply>, AllocError>
     ensures replies { IfOk result (λ replies. replies.items ≡ replies_to (started version.now) events.now) }
     ensures one_each { IfOk result (λ replies. vec_len replies ≡ length events.now) }
+    ensures grown { IfOk result (λ _. (front rest : List Event) → events.now ≡ front ++ rest
+        → IsGrown (machine_after (started version.now) front).history) }
+    ensures plans { IfOk result (λ replies. TellsPinnedPlans version.now events.now replies.items) }
 {
     let mut machine = Machine {
         book: Book::new(alloc, version.copy(alloc)?)?,
@@ -140,5 +150,7 @@ pub fn run_events(
     'events: for happens in events {
         replies.push(machine.step(happens)?)?;
     }
+    machine.book.current().grew();
+    pinned_plans_of_commits();
     Ok(replies)
 }

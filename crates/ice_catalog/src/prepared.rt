@@ -3,6 +3,7 @@
 ghost use Rattle.std.specs.Prelude.{◌≡◌, ◌↔◌, Some, IfOk, IsTrue};
 ghost use Rattle.std.specs.Arc.{arc_value};
 ghost use Rattle.ice_catalog.specs.Histories.{StepsTo, after, added_on, IsReceiptOf};
+ghost use Rattle.ice_catalog.specs.Live.{AddsToBase};
 ghost use Rattle.ice_catalog.specs.States.{seen};
 
 use crate::change::Commit;
@@ -47,6 +48,7 @@ impl Prepared {
         files: Vec<(Text, Items<u8>)>,
     ) -> Result<Prepared, AllocError>
         requires step { StepsTo base.now (arc_value commit) (seen state.0) state.1 }
+        requires adds { AddsToBase base.now (arc_value commit) }
         requires files { added_on base.now (arc_value commit) ≡ Some files.items }
         ensures { IfOk result (λ p. p ≡ record { base = base.now; commit = arc_value commit }) }
     {

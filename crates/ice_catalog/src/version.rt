@@ -4,8 +4,10 @@ ghost use Rattle.std.specs.Prelude.{◌≡◌, ◌↔◌, ◌<◌, [], ◌∷◌
 ghost use Rattle.std.specs.Arc.{arc_value};
 ghost use Rattle.std.specs.Option.{option_map};
 ghost use Rattle.contract_words.specs.Outcome.{Gives};
+ghost use Rattle.ice_catalog.specs.Covered.{BeganCovered, HasCoveredRows};
 ghost use Rattle.ice_catalog.specs.Histories.{openable, opened, state_of, Leaves, StepsTo, after, before};
-ghost use Rattle.ice_catalog.specs.States.{seen};
+ghost use Rattle.ice_catalog.specs.Live.{AddsToBase, IsGrown};
+ghost use Rattle.ice_catalog.specs.States.{State, seen};
 
 use crate::change::Commit;
 use crate::opening::Opening;
@@ -31,6 +33,7 @@ impl Model for Version {
     ghost use Rattle.std.specs.Arc.{arc_value};
     ghost use Rattle.ice_catalog.specs.Codes.{history_code};
     ghost use Rattle.ice_catalog.specs.Histories.{History, Leaves};
+    ghost use Rattle.ice_catalog.specs.Live.{IsGrown};
     ghost use Rattle.ice_catalog.specs.States.{seen};
 
     ghost Value = { History };
@@ -41,7 +44,8 @@ impl Model for Version {
 
     ghost invariant = { λ v.
         Leaves (record { opening = arc_value v.opening; journal = map (λ c. arc_value c) v.journal.items })
-        (seen v.metadata) v.world };
+        (seen v.metadata) v.world
+        × IsGrown (record { opening = arc_value v.opening; journal = map (λ c. arc_value c) v.journal.items }) };
 }
 
 impl Version {
@@ -107,6 +111,18 @@ impl Version {
         self.state().1
     }
 
+    /// Each commit since the opening left the rows and the live entries that it met, and added its own, wherever the
+    /// names of its files were new. So where the summaries of the opening's rows are true of their live entries, and the
+    /// names of each commit's files were new, as a uuid of its own makes sure, the summaries of this version's rows are
+    /// true too: that is to be known of the data alone. It does nothing.
+    pub fn grew(&self)
+        ensures grown { IsGrown self.now }
+        ensures covered { (state : State) → state_of self.now ≡ Some state → BeganCovered self.now → HasCoveredRows state }
+    {
+        // what is known of every version is known where one of its fields is seen
+        let _journal = &self.journal;
+    }
+
     /// The same version.
     pub(crate) fn copy(&self, alloc: Global) -> Result<Version, AllocError>
         ensures { IfOk result (λ v. v ≡ self.now) }
@@ -154,7 +170,8 @@ impl Version {
         metadata: Metadata,
         world: World,
     ) -> Result<Version, AllocError>
-        requires { StepsTo self.now (arc_value commit.now) (seen metadata) world }
+        requires step { StepsTo self.now (arc_value commit.now) (seen metadata) world }
+        requires adds { AddsToBase self.now (arc_value commit.now) }
         ensures { IfOk result (λ v. v ≡ after self.now (arc_value commit.now)) }
     {
         let opening = Arc::try_clone(&self.opening)?;

@@ -1,9 +1,6 @@
 use Rattle.std.proofs.Common.{◌≡◌, ap, ◌∙◌, rules, to_z, of_z, w32}
-use Rattle.std.specs.Prelude.{Some}
 use Rattle.std.proofs.lemmas.Result.{IfOk-weaker}
-use Rattle.ice_meta.specs.declared.spec.Spec.{Spec}
 use Rattle.ice_meta.specs.Targets.{Described, described}
-use Rattle.ice_manifest.specs.declared.heading.Heading.{Heading}
 use Rattle.ice_catalog.specs.Bases.{spec_in}
 use Rattle.ice_catalog.specs.Seen.{seen}
 use Rattle.ice_catalog.proofs.Headings.{heading_is}

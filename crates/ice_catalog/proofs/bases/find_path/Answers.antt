@@ -1,4 +1,4 @@
-use Rattle.std.proofs.Common.{◌≡◌, ℕ, List, refl, rules, of_calls, sym, ap, ◌∙◌, Bor, Ordering, Some, get_or}
+use Rattle.std.proofs.Common.{ℕ, List, refl, rules, of_calls, ap, ◌∙◌, Bor, Some, get_or}
 use Rattle.std.specs.Cmp.Lexicographic.{slice_cmp}
 use Rattle.std.specs.Ordering.{nat_cmp}
 use Rattle.std.proofs.lemmas.Cmp.{nat_list_cmp_total}

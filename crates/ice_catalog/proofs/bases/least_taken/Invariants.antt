@@ -1,4 +1,4 @@
-use Rattle.std.proofs.Common.{◌≡◌, drop, find, fold, map, None}
+use Rattle.std.proofs.Common.{◌≡◌, drop, fold, map}
 use Rattle.std.specs.Option.{option_copied}
 use Rattle.ice_catalog.specs.Bases.{manifest_at, live_in}
 use Rattle.ice_catalog.specs.Refusals.{lesser_path, least_path, live_among, unreadable}

@@ -1,10 +1,9 @@
 use Rattle.std.proofs.Common.{◌≡◌, ◌+◌, List, ℕ, length, length-append, map, sym, ap, ◌∙◌, Bor, arith}
 use Rattle.std.proofs.lemmas.List.{length-map}
-use Rattle.std.specs.Prelude.{Some, None}
+use Rattle.std.specs.Prelude.{Some}
 use Rattle.std.proofs.lemmas.Result.{err_from_is_err_and}
 use Rattle.ice_meta.specs.Targets.{described}
 use Rattle.ice_catalog.specs.declared.change.Commit.{Commit}
-use Rattle.ice_catalog.specs.Bases.{table_specs}
 use Rattle.ice_catalog.specs.Refusals.{all_files, sorted_paths, no_such_spec, wrong_tuple, base_bad, path_taken, too_many, too_many_rows}
 use Rattle.ice_catalog.specs.Seen.{seen}
 use Rattle.ice_catalog.specs.States.{State}

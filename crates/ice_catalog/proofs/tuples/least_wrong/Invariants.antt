@@ -1,4 +1,4 @@
-use Rattle.std.proofs.Common.{◌≡◌, drop, fold, map}
+use Rattle.std.proofs.Common.{◌≡◌, drop, fold}
 use Rattle.std.specs.Option.{option_copied}
 use Rattle.ice_catalog.specs.Refusals.{is_wrong, lesser_path, paths_where}
 use Rattle.ice_catalog.specs.Partitionings.{specs_of}

@@ -1,4 +1,4 @@
-use Rattle.std.proofs.Common.{◌≡◌, drop, map}
+use Rattle.std.proofs.Common.{◌≡◌, drop}
 use Rattle.ice_catalog.specs.Bases.{spec_in}
 use Rattle.ice_catalog.specs.Partitionings.{specs_of}
 use Rattle.ice_catalog.proofs.tuples.partitioning_of.Given as goal
