@@ -201,39 +201,57 @@ fn are_first_written(paths: &[String]) -> bool {
     true
 }
 
-/// A name for how a commit to a store ends, and how many of its files the store has then.
-fn put_on(
-    alloc: Global,
-    room: usize,
-    taken: &'static str,
-) -> Result<(&'static str, usize), RunFault> {
-    let files = Bundle::read(alloc, &bundle_of(alloc)?)?;
-    let Ok(uuid) = Uuid::parse_str("f79c3e09-677c-4bbd-a479-3f349cb785e7") else {
-        return Err(RunFault::Input);
-    };
-    let request = CommitRequest {
+fn text(alloc: Global, text: &str) -> Result<Text, AllocError> {
+    Ok(Text::from_string(String::from_str(alloc, text)?))
+}
+
+/// The request to commit the change to the table without a snapshot.
+fn request_of(alloc: Global, uuid: Uuid) -> Result<CommitRequest, AllocError> {
+    let metadata = text(alloc, "e")?;
+    let change = text(alloc, "c")?;
+    let out = text(alloc, "mem://t/v5.json")?;
+    Ok(CommitRequest {
         kind: ChangeKind::Append,
         ids: Ids {
             snapshot: 7,
             uuid,
             now_ms: 99,
         },
-        metadata: Text::from_string(String::from_str(alloc, "e")?),
-        change: Text::from_string(String::from_str(alloc, "c")?),
-        out: Text::from_string(String::from_str(alloc, "mem://t/v5.json")?),
+        metadata,
+        change,
+        out,
+    })
+}
+
+/// The tables and the request.
+fn asked(alloc: Global) -> Result<(Bundle, CommitRequest), RunFault> {
+    let Ok(uuid) = Uuid::parse_str("f79c3e09-677c-4bbd-a479-3f349cb785e7") else {
+        return Err(RunFault::Input);
     };
+    let request = request_of(alloc, uuid)?;
+    let files = Bundle::read(alloc, &bundle_of(alloc)?)?;
+    Ok((files, request))
+}
+
+/// A name for how the commit to a store ends, and how many of its files the store has then.
+fn put_on(
+    alloc: Global,
+    files: &Bundle,
+    request: &CommitRequest,
+    room: usize,
+    taken: &'static str,
+) -> (&'static str, usize) {
     let mut shelf = Shelf {
         paths: Vec::new(alloc),
         room,
         taken,
     };
     let mut output = Vec::new(alloc);
-    let made = commit_to(alloc, &files, &request, &mut shelf, &mut output);
-    let ended = end_of(&made, output.as_slice(), taken);
+    let made = commit_to(alloc, files, request, &mut shelf, &mut output);
     if !are_first_written(shelf.paths.as_slice()) {
-        return Ok(("other files", 0));
+        return ("other files", 0);
     }
-    Ok((ended, shelf.paths.len()))
+    (end_of(&made, output.as_slice(), taken), shelf.paths.len())
 }
 
 /// Stores, by their room and the place among `WRITTEN` of the path that is taken, and how a commit ends on each, with so
@@ -250,15 +268,17 @@ static SHELVES: [(usize, usize, &str, usize); 7] = [
 
 #[test]
 fn stores_that_refuse(rt: HostRuntime) {
+    let asked = asked(rt.alloc());
+    assert!(rt; asked.is_ok());
+    let Ok((files, request)) = asked else {
+        return;
+    };
     for (room, place, ended, count) in &SHELVES {
         let taken = match WRITTEN.get(*place) {
             Some(path) => *path,
             None => "",
         };
-        let put = put_on(rt.alloc(), *room, taken);
-        assert!(rt;
-            matches!(put, Ok((e, n)) if e == *ended && n == *count),
-            "{ended} {count}"
-        );
+        let (end, put) = put_on(rt.alloc(), &files, &request, *room, taken);
+        assert!(rt; end == *ended && put == *count, "{ended} {count}");
     }
 }
