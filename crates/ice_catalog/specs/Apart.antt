@@ -86,12 +86,13 @@ TookEvery m k w = (p : PinnedScan) × (slice_get m.pins k ≡ Some (Some p)) × 
 
 -- ---- what is told of pinned scans
 
--- Whatever comes before, between and after: a worker that took every wanted row of its scan finishes with the plan of the
--- snapshot that was the current one at the scan's `Pin` event, where the opening's rows are covered and the files of each
--- commit until then were new.
+-- Whatever comes before, between and after: a worker that took every wanted row of its scan finishes with the plan of
+-- the snapshot that was the current one at the scan's `Pin` event, where the opening's rows are covered and the files
+-- of each commit until then were new.
 abbrev pub TellsPinnedPlans : History → List Event → List Reply → Type 0
 TellsPinnedPlans h events replies =
-    (before between rest : List Event) (filter : List (Part Leaf)) (w : ℕ) (state : State) (schema : Schema) (rows : List Row) (parts : List (Part BoundLeaf)) →
+    (before between rest : List Event) (filter : List (Part Leaf)) (w : ℕ)
+    (state : State) (schema : Schema) (rows : List Row) (parts : List (Part BoundLeaf)) →
     let m = machine_after (started h) before in
     events ≡ before ++ on.Pin filter ∷ between ++ on.Finish (length m.pins) w ∷ rest
     → BeganCovered m.history → state_of m.history ≡ Some state → Reads state filter schema rows parts

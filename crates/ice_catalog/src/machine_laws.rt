@@ -40,13 +40,14 @@ pub fn pinned_plans()
     filtering();
 }
 
-/// The same where nothing is known of the summaries but that those of the opening's rows are true, and that the names of
-/// the files of each commit since then were new, as a uuid of its own makes sure. That the history is grown is known of
-/// each version that is held, by its `grew`, and of a machine at each of its events, by `run_events`: so what is left to
-/// be known is of the data alone.
+/// The same where nothing is known of the summaries but that those of the opening's rows are true, and that the names
+/// of the files of each commit since then were new, as a uuid of its own makes sure. That the history is grown is known
+/// of each version that is held, by its `grew`, and of a machine at each of its events, by `run_events`: so what is
+/// left to be known is of the data alone.
 pub fn pinned_plans_of_commits()
     ensures { (m : Machine) (state : State) (filter : List (Part Leaf)) (schema : Schema) (rows : List Row) (parts : List (Part BoundLeaf)) (events : List Event) (w : ℕ) →
-        IsGrown m.history → BeganCovered m.history → state_of m.history ≡ Some state → Reads state filter schema rows parts →
+        IsGrown m.history → BeganCovered m.history → state_of m.history ≡ Some state →
+        Reads state filter schema rows parts →
         TookEvery (machine_after (pin m filter).1 events) (length m.pins) w →
         (event (machine_after (pin m filter).1 events) (Finish (length m.pins) w)).0 ≡ plan_reply state schema rows parts }
 {

@@ -112,12 +112,13 @@ impl Version {
     }
 
     /// Each commit since the opening left the rows and the live entries that it met, and added its own, wherever the
-    /// names of its files were new. So where the summaries of the opening's rows are true of their live entries, and the
-    /// names of each commit's files were new, as a uuid of its own makes sure, the summaries of this version's rows are
-    /// true too: that is to be known of the data alone. It does nothing.
+    /// names of its files were new. So the summaries of this version's rows are true of their live entries where those
+    /// of the opening's rows are and the names of each commit's files were new, as a uuid of its own makes sure. What
+    /// is left to be known is of the data alone. It does nothing.
     pub fn grew(&self)
         ensures grown { IsGrown self.now }
-        ensures covered { (state : State) → state_of self.now ≡ Some state → BeganCovered self.now → HasCoveredRows state }
+        ensures covered { (state : State) → state_of self.now ≡ Some state → BeganCovered self.now
+            → HasCoveredRows state }
     {
         // what is known of every version is known where one of its fields is seen
         let _journal = &self.journal;
