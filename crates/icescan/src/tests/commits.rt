@@ -233,25 +233,41 @@ fn asked(alloc: Global) -> Result<(Bundle, CommitRequest), RunFault> {
     Ok((files, request))
 }
 
-/// A name for how the commit to a store ends, and how many of its files the store has then.
-fn put_on(
+/// Whether a commit to this store ends as this name says, and leaves so many of its files there.
+fn ends_so(
     alloc: Global,
     files: &Bundle,
     request: &CommitRequest,
-    room: usize,
-    taken: &'static str,
-) -> (&'static str, usize) {
-    let mut shelf = Shelf {
+    store: &mut Shelf,
+    ended: &str,
+    count: usize,
+) -> bool {
+    let mut output = Vec::new(alloc);
+    let made = commit_to(alloc, files, request, store, &mut output);
+    are_first_written(store.paths.as_slice())
+        && store.paths.len() == count
+        && end_of(&made, output.as_slice(), store.taken) == ended
+}
+
+/// The path of this place among `WRITTEN`, or none.
+fn written(place: usize) -> &'static str {
+    match WRITTEN.get(place) {
+        Some(path) => *path,
+        None => "",
+    }
+}
+
+/// Whether a commit to a store with this room, where something stands at the path of this place, ends so.
+fn put_on(alloc: Global, room: usize, place: usize, ended: &str, count: usize) -> bool {
+    let mut store = Shelf {
         paths: Vec::new(alloc),
         room,
-        taken,
+        taken: written(place),
     };
-    let mut output = Vec::new(alloc);
-    let made = commit_to(alloc, files, request, &mut shelf, &mut output);
-    if !are_first_written(shelf.paths.as_slice()) {
-        return ("other files", 0);
+    match asked(alloc) {
+        Ok((files, request)) => ends_so(alloc, &files, &request, &mut store, ended, count),
+        Err(_) => false,
     }
-    (end_of(&made, output.as_slice(), taken), shelf.paths.len())
 }
 
 /// Stores, by their room and the place among `WRITTEN` of the path that is taken, and how a commit ends on each, with so
@@ -268,17 +284,10 @@ static SHELVES: [(usize, usize, &str, usize); 7] = [
 
 #[test]
 fn stores_that_refuse(rt: HostRuntime) {
-    let asked = asked(rt.alloc());
-    assert!(rt; asked.is_ok());
-    let Ok((files, request)) = asked else {
-        return;
-    };
     for (room, place, ended, count) in &SHELVES {
-        let taken = match WRITTEN.get(*place) {
-            Some(path) => *path,
-            None => "",
-        };
-        let (end, put) = put_on(rt.alloc(), &files, &request, *room, taken);
-        assert!(rt; end == *ended && put == *count, "{ended} {count}");
+        assert!(rt;
+            put_on(rt.alloc(), *room, *place, ended, *count),
+            "{ended} {count}"
+        );
     }
 }
