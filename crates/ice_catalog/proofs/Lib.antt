@@ -21,6 +21,7 @@ pub mod DifferentPaths
 pub mod Readable
 pub mod Rows
 pub mod Live
+pub mod LiveAfter
 pub mod Extremes
 pub mod NewSummaries
 pub mod NewRows

@@ -19,4 +19,5 @@ pub mod Taken
 pub mod Replaying
 pub mod Staying
 pub mod Live
+pub mod LiveAfter
 pub mod Covered
