@@ -192,7 +192,7 @@ found_passes {A = A} test (y ∷ xs) x e =
     ] in
     at (test y) refl e
 
-found_id : (specs : List Spec) (id : ℤ) (spec : Spec) → spec_in specs id ≡ Some spec → spec.id ≡ id
+pub found_id : (specs : List Spec) (id : ℤ) (spec : Spec) → spec_in specs id ≡ Some spec → spec.id ≡ id
 found_id specs id spec is = (Decides-int_eq spec.id id).0 (found_passes (λ (x : Spec). int_eq x.id id) specs spec is)
 
 -- the spec of a group is found by the id of the spec

@@ -1,7 +1,7 @@
 //! What replaying comes to.
 
 ghost use Rattle.ice_catalog.specs.Covered.{EmptyIsCovered, KeepsCovering, NewRowsCover, StaysCovered};
-ghost use Rattle.ice_catalog.specs.LiveAfter.{JoinsEntries};
+ghost use Rattle.ice_catalog.specs.LiveAfter.{AddsItsFiles, JoinsEntries, ManifestsHoldFiles};
 ghost use Rattle.ice_catalog.specs.Replaying.{AddsAStep, IsTakenOff, HasEarlier, IsInParts};
 ghost use Rattle.ice_catalog.specs.Staying.{KeepsFiles, KeepsRows, KeepsEntries};
 
@@ -31,6 +31,8 @@ pub fn commits_leave_what_was_there()
 /// exactly where it was live before or is in one of the manifests that the commit adds.
 pub fn what_is_live_after_a_commit()
     ensures entries { JoinsEntries }
+    ensures manifests { ManifestsHoldFiles }
+    ensures files { AddsItsFiles }
 {}
 
 /// Summaries stay true. The row of each manifest that a commit adds covers the partition values of its files; so a
