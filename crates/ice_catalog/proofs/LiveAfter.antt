@@ -1,6 +1,6 @@
 -- What is live after a commit, entry by entry.
-use Rattle.std.proofs.Common.{◌≡◌, ◌⊎◌, ◌↔◌, ◌+◌, inl, inr, ℕ, suc, List, [], ◌∷◌, ◌++◌, map, refl, sym, ap, subst, ◌∙◌}
-use Rattle.std.specs.Prelude.{Option, None, Some}
+use Rattle.std.proofs.Common.{◌≡◌, ◌⊎◌, ◌+◌, inl, inr, ℕ, zero, suc, ℤ, Bool, List, [], ◌∷◌, ◌++◌, map, filter, arith, refl, sym, ap, subst, ◌∙◌}
+use Rattle.std.specs.Prelude.{Option, None, Some, slice_get}
 use Rattle.std.specs.Cmp.{IsEquivalence, decided}
 use Rattle.std.specs.List.{Contains, flat_map}
 use Rattle.std.specs.Option.{unwrap_or}
@@ -13,6 +13,7 @@ use Rattle.contract_words.specs.Sorting.{sorted}
 use Rattle.ice_meta.specs.Partitioning.{is_unpartitioned}
 use Rattle.ice_meta.specs.Targets.{Described}
 use Rattle.ice_meta.specs.declared.spec.Spec.{Spec}
+use Rattle.ice_manifest.specs.declared.data_file.DataFile.{DataFile}
 use Rattle.ice_manifest.specs.declared.entry.Entry.{Entry}
 use Rattle.ice_manifest.specs.declared.heading.Heading.{Heading}
 use Rattle.ice_manifest.specs.declared.new_file.NewFile.{NewFile}
@@ -31,7 +32,7 @@ use Rattle.ice_catalog.specs.Adding.{NewManifest, group_spec, heading_of, manife
 use Rattle.ice_catalog.specs.Bases.{base_rows, live_at, spec_in, table_specs}
 use Rattle.ice_catalog.specs.Groups.{Group, group_of, groups, groups_of, id_before, is_of_spec, spec_ids}
 use Rattle.ice_catalog.specs.Live.{HasBaseAndChange, added_entries, added_row, live_of, new_manifests, rows_after}
-use Rattle.ice_catalog.specs.LiveAfter.{AddsItsFiles, IsEntryOf, IsLive, IsOfChange, JoinsEntries, ManifestsHoldFiles, new_live}
+use Rattle.ice_catalog.specs.LiveAfter.{AddsItsFiles, EachIsLive, IsEntryOf, IsLive, IsOfChange, JoinsFiles, JoinsManifests, StandsAt, new_live}
 use Rattle.ice_catalog.specs.Refusals.{all_files}
 use Rattle.ice_catalog.specs.States.{State}
 use Rattle.ice_catalog.proofs.Live.{found_id}
@@ -125,27 +126,48 @@ module _ (s t : State) (c : Commit) (has : HasBaseAndChange s c t) where
       at_row (added_row s r.0) e (Contains-append_right base (map (added_row s) (new_manifests s c)) (added_row s r.0) (to_map (added_row s) (new_manifests s c) r.0 r.1))
       (subst holds (sym (new_row r.0 r.1)) r.2)
 
--- ---- the entries of the new manifests and the files of the change
+-- ---- places in lists
+
+some_is : {X : Type 0} (x y : X) → Some x ≡ Some y → x ≡ y
+some_is x y h = cc
+
+contained : {X : Type 0} (xs : List X) (k : ℕ) (x : X) → slice_get xs k ≡ Some x → Contains xs x
+contained [] k x h = absurd cc
+contained (y ∷ ys) zero x h = here y ys x (some_is y x h)
+contained (y ∷ ys) (suc k) x h = later y ys x (contained ys k x h)
+
+place_of : {X : Type 0} (xs : List X) (x : X) → Contains xs x → (k : ℕ) × (slice_get xs k ≡ Some x)
+place_of [] x h = absurd (nowhere x h)
+place_of (y ∷ ys) x h = elim (cases_of y ys x h) as (λ _. (k : ℕ) × (slice_get (y ∷ ys) k ≡ Some x)) [ inl e ↦ (0, ap Some e) | inr m ↦ let r = place_of ys x m in (suc r.0, r.1) ]
+
+-- ---- the entries of a manifest and its files
 
 in_entries : (row : Row) (h : Heading) (position : ℕ) (fs : List NewFile) (e : Entry) → Contains (new_entries row h position fs) e
-    → (f : NewFile) × Contains fs f × (k : ℕ) × (new_entry row h k f ≡ e)
+    → (f : NewFile) × (k : ℕ) × (slice_get fs k ≡ Some f) × (new_entry row h (k + position) f ≡ e)
 in_entries row h position [] e i = absurd (nowhere e i)
 in_entries row h position (f ∷ fs) e i =
-    elim (cases_of (new_entry row h position f) (new_entries row h (suc position) fs) e i) as (λ _. (g : NewFile) × Contains (f ∷ fs) g × (k : ℕ) × (new_entry row h k g ≡ e)) [
-      | inl is ↦ (f, here f fs f refl, position, is)
-      | inr m ↦ let r = in_entries row h (suc position) fs e m in (r.0, later f fs r.0 r.1, r.2, r.3)
+    elim (cases_of (new_entry row h position f) (new_entries row h (suc position) fs) e i) as (λ _. (g : NewFile) × (k : ℕ) × (slice_get (f ∷ fs) k ≡ Some g) × (new_entry row h (k + position) g ≡ e)) [
+      | inl is ↦
+          let none : 0 + position ≡ position = omega arith in
+          (f, 0, refl, ap (λ n. new_entry row h n f) none ∙ is)
+      | inr m ↦
+          let r = in_entries row h (suc position) fs e m in
+          let next : suc r.1 + position ≡ r.1 + suc position = omega arith in
+          (r.0, suc r.1, r.2, ap (λ n. new_entry row h n r.0) next ∙ r.3)
     ]
 
-to_entries : (row : Row) (h : Heading) (position : ℕ) (fs : List NewFile) (f : NewFile) → Contains fs f
-    → (k : ℕ) × Contains (new_entries row h position fs) (new_entry row h k f)
-to_entries row h position [] f i = absurd (nowhere f i)
-to_entries row h position (g ∷ gs) f i =
-    let first = new_entry row h position g in
+to_entries : (row : Row) (h : Heading) (position : ℕ) (fs : List NewFile) (k : ℕ) (f : NewFile) → slice_get fs k ≡ Some f → Contains (new_entries row h position fs) (new_entry row h (k + position) f)
+to_entries row h position [] k f is = absurd cc
+to_entries row h position (g ∷ gs) zero f is =
+    let none : position ≡ 0 + position = omega arith in
+    here (new_entry row h position g) (new_entries row h (suc position) gs) (new_entry row h (0 + position) f) (ap (new_entry row h position) (some_is g f is) ∙ ap (λ n. new_entry row h n f) none)
+to_entries row h position (g ∷ gs) (suc k) f is =
     let rest = new_entries row h (suc position) gs in
-    elim (cases_of g gs f i) as (λ _. (k : ℕ) × Contains (first ∷ rest) (new_entry row h k f)) [
-      | inl is ↦ (position, here first rest (new_entry row h position f) (ap (new_entry row h position) is))
-      | inr m ↦ let r = to_entries row h (suc position) gs f m in (r.0, later first rest (new_entry row h r.0 f) r.1)
-    ]
+    let next : k + suc position ≡ suc k + position = omega arith in
+    let P : ℕ → Type 0 = λ n. Contains rest (new_entry row h n f) in
+    later (new_entry row h position g) rest (new_entry row h (suc k + position) f) (subst P next (to_entries row h (suc position) gs k f is))
+
+-- ---- the manifests of groups
 
 in_manifests : (m : Described) (ids : Ids) (n : ℕ) (gs : List Group) (x : NewManifest) → Contains (manifests_from m ids n gs) x
     → (g : Group) × Contains gs g × (k : ℕ) × (manifest_of m ids k g ≡ x)
@@ -167,57 +189,69 @@ to_manifests m ids n (d ∷ gs) g i =
       | inr j ↦ let r = to_manifests m ids (n + 1) gs g j in (r.0, later first rest (manifest_of m ids r.0 g) r.1)
     ]
 
--- ---- the groups of the files
+-- ---- the groups of files
 
--- the file is one of these, and of the group's spec
-abbrev IsIn : List NewFile → Group → NewFile → Type 0
-IsIn files g f = Contains files f × (f.spec_id ≡ g.spec_id)
+-- at its place among the files of its spec
+abbrev IsAt : List NewFile → NewFile → ℕ → Type 0
+IsAt files f k = slice_get (filter (is_of_spec f.spec_id) files) k ≡ Some f
 
-in_group : (content : ManifestContent) (files : List NewFile) (g : Group) (f : NewFile) → Contains (groups_of content files) g → Contains g.files f → IsIn files g f
-in_group content files g f i j =
+in_group : (content : ManifestContent) (files : List NewFile) (g : Group) (k : ℕ) (f : NewFile) → Contains (groups_of content files) g → slice_get g.files k ≡ Some f
+    → (f.spec_id ≡ g.spec_id) × IsAt files f k
+in_group content files g k f i at =
     let r = in_map (group_of content files) (spec_ids files) g i in
-    let P : Group → Type 0 = λ d. Contains d.files f → IsIn files d f in
+    let P : Group → Type 0 = λ d. slice_get d.files k ≡ Some f → (f.spec_id ≡ d.spec_id) × IsAt files f k in
     let of_id : P (group_of content files r.0) =
-    λ k.
-    let h = filtered (is_of_spec r.0) files f k in
-    (h.0, (Decides-int_eq f.spec_id r.0).0 h.1) in
-    subst P r.2 of_id j
+    λ there.
+    let same : f.spec_id ≡ r.0 = (Decides-int_eq f.spec_id r.0).0 (filtered (is_of_spec r.0) files f (contained (filter (is_of_spec r.0) files) k f there)).1 in
+    (same, ap (λ id. slice_get (filter (is_of_spec id) files) k) same ∙ there) in
+    subst P r.2 of_id at
 
 same_ids : IsEquivalence int_eq
 same_ids = decided int_eq Decides-int_eq
 
--- each file is in the group of its spec
-to_group : (content : ManifestContent) (files : List NewFile) (f : NewFile) → Contains files f
-    → Contains (groups_of content files) (group_of content files f.spec_id) × Contains (group_of content files f.spec_id).files f
+among : (files : List NewFile) (k : ℕ) (f : NewFile) → IsAt files f k → Contains files f
+among files k f at = (filtered (is_of_spec f.spec_id) files f (contained (filter (is_of_spec f.spec_id) files) k f at)).0
+
+-- there is a group for the spec of each file
+to_group : (content : ManifestContent) (files : List NewFile) (f : NewFile) → Contains files f → Contains (groups_of content files) (group_of content files f.spec_id)
 to_group content files f i =
     let all = map (λ (file : NewFile). file.spec_id) files in
     let ids = sorted id_before all in
-    let id : Contains (spec_ids files) f.spec_id =
-    Contains-dedup same_ids (λ x y. (Decides-int_eq x y).0) ids f.spec_id (to_sorted id_before all f.spec_id (to_map (λ (file : NewFile). file.spec_id) files f i)) in
-    (
-      to_map (group_of content files) (spec_ids files) f.spec_id id,
-      refiltered (is_of_spec f.spec_id) files f i ((Decides-int_eq f.spec_id f.spec_id).1 refl),
-    )
+    to_map (group_of content files) (spec_ids files) f.spec_id
+    (Contains-dedup same_ids (λ x y. (Decides-int_eq x y).0) ids f.spec_id (to_sorted id_before all f.spec_id (to_map (λ (file : NewFile). file.spec_id) files f i)))
 
-in_groups : (change : Change) (g : Group) (f : NewFile) → Contains (groups change) g → Contains g.files f → IsIn (all_files change) g f
-in_groups change g f i j =
-    elim (Contains-append_cases (groups_of Data change.files) (groups_of Deletes change.deletes) g i) as (λ _. IsIn (all_files change) g f) [
-      | inl a ↦ let h = in_group Data change.files g f a j in (Contains-append_left change.files change.deletes f h.0, h.1)
-      | inr b ↦ let h = in_group Deletes change.deletes g f b j in (Contains-append_right change.files change.deletes f h.0, h.1)
+own_place : (files : List NewFile) (f : NewFile) → Contains files f → (k : ℕ) × IsAt files f k
+own_place files f i = place_of (filter (is_of_spec f.spec_id) files) f (refiltered (is_of_spec f.spec_id) files f i ((Decides-int_eq f.spec_id f.spec_id).1 refl))
+
+in_groups : (change : Change) (g : Group) (k : ℕ) (f : NewFile) → Contains (groups change) g → slice_get g.files k ≡ Some f → (f.spec_id ≡ g.spec_id) × StandsAt change f k
+in_groups change g k f i at =
+    elim (Contains-append_cases (groups_of Data change.files) (groups_of Deletes change.deletes) g i) as (λ _. (f.spec_id ≡ g.spec_id) × StandsAt change f k) [
+      | inl a ↦ let h = in_group Data change.files g k f a at in (h.0, inl h.1)
+      | inr b ↦ let h = in_group Deletes change.deletes g k f b at in (h.0, inr h.1)
     ]
 
-to_groups : (change : Change) (f : NewFile) → Contains (all_files change) f → (g : Group) × Contains (groups change) g × Contains g.files f
-to_groups change f i =
-    elim (Contains-append_cases change.files change.deletes f i) as (λ _. (g : Group) × Contains (groups change) g × Contains g.files f) [
+to_groups : (change : Change) (f : NewFile) (k : ℕ) → StandsAt change f k → (g : Group) × Contains (groups change) g × (slice_get g.files k ≡ Some f)
+to_groups change f k at =
+    elim at as (λ _. (g : Group) × Contains (groups change) g × (slice_get g.files k ≡ Some f)) [
       | inl a ↦
-          let h = to_group Data change.files f a in
           let g = group_of Data change.files f.spec_id in
-          (g, Contains-append_left (groups_of Data change.files) (groups_of Deletes change.deletes) g h.0, h.1)
+          (g, Contains-append_left (groups_of Data change.files) (groups_of Deletes change.deletes) g (to_group Data change.files f (among change.files k f a)), a)
       | inr b ↦
-          let h = to_group Deletes change.deletes f b in
           let g = group_of Deletes change.deletes f.spec_id in
-          (g, Contains-append_right (groups_of Data change.files) (groups_of Deletes change.deletes) g h.0, h.1)
+          (g, Contains-append_right (groups_of Data change.files) (groups_of Deletes change.deletes) g (to_group Deletes change.deletes f (among change.deletes k f b)), b)
     ]
+
+is_of_change : (change : Change) (f : NewFile) (k : ℕ) → StandsAt change f k → Contains (all_files change) f
+is_of_change change f k at = elim at as (λ _. Contains (all_files change) f) [
+  | inl a ↦ Contains-append_left change.files change.deletes f (among change.files k f a)
+  | inr b ↦ Contains-append_right change.files change.deletes f (among change.deletes k f b)
+]
+
+stands : (change : Change) (f : NewFile) → Contains (all_files change) f → (k : ℕ) × StandsAt change f k
+stands change f i = elim (Contains-append_cases change.files change.deletes f i) as (λ _. (k : ℕ) × StandsAt change f k) [
+  | inl a ↦ let r = own_place change.files f a in (r.0, inl r.1)
+  | inr b ↦ let r = own_place change.deletes f b in (r.0, inr r.1)
+]
 
 -- ---- entries of files
 
@@ -228,55 +262,94 @@ spec_id_is m g = at (spec_in (table_specs m.table) g.spec_id) refl where
   at (Some spec) is = found_id (table_specs m.table) g.spec_id spec is
 
 -- the entry of a file in the manifest of its group
-is_entry : (s : State) (c : Commit) (n : ℕ) (g : Group) (f : NewFile) (k : ℕ) → f.spec_id ≡ g.spec_id
+is_entry : (s : State) (c : Commit) (n : ℕ) (g : Group) (k : ℕ) (f : NewFile) → (f.spec_id ≡ g.spec_id) × StandsAt c.change f k
     → IsEntryOf s c f (new_entry (added_row s (manifest_of s.metadata c.ids n g)) (manifest_of s.metadata c.ids n g).heading k f)
 unfolding heading_of row.new_row
-is_entry s c n g f k same =
+is_entry s c n g k f (same, at) =
     let specs = table_specs s.metadata.table in
     record {
       file = refl;
+      position = at;
       spec = spec_id_is s.metadata g ∙ sym same;
-      fields = ap (λ id. is_unpartitioned (spec_or_none id (spec_in specs id))) (sym same);
+      unpartitioned = ap (λ id. is_unpartitioned (spec_or_none id (spec_in specs id))) (sym same);
       snapshot = refl;
       number = refl;
       file_number = refl;
     }
 
+-- a file has one entry at a place
+entry_made : ℕ → ℤ → Bool → ℤ → ℕ → Option ℕ → DataFile → Entry
+entry_made position spec fields snapshot number file_number file =
+    record { position = position; spec_id = spec; unpartitioned = fields; snapshot_id = snapshot; sequence_number = number; file_sequence_number = file_number; file = file }
+
+entry_is : (e : Entry) → e ≡ entry_made e.position e.spec_id e.unpartitioned e.snapshot_id e.sequence_number e.file_sequence_number e.file
+unfolding entry_made
+entry_is e = refl
+
+one_entry : (s : State) (c : Commit) (f : NewFile) (a b : Entry) → IsEntryOf s c f a → IsEntryOf s c f b → a.position ≡ b.position → a ≡ b
+one_entry s c f a b of_a of_b position =
+    let spec : a.spec_id ≡ b.spec_id = of_a.spec ∙ sym of_b.spec in
+    let fields : a.unpartitioned ≡ b.unpartitioned = of_a.unpartitioned ∙ sym of_b.unpartitioned in
+    let snapshot : a.snapshot_id ≡ b.snapshot_id = of_a.snapshot ∙ sym of_b.snapshot in
+    let number : a.sequence_number ≡ b.sequence_number = of_a.number ∙ sym of_b.number in
+    let file_number : a.file_sequence_number ≡ b.file_sequence_number = of_a.file_number ∙ sym of_b.file_number in
+    let file : a.file ≡ b.file = of_a.file ∙ sym of_b.file in
+    entry_is a ∙ rw (position, spec, fields, snapshot, number, file_number, file) refl ∙ sym (entry_is b)
+
 module _ (s : State) (c : Commit) where
+  -- the entry of a group's file is there
+  entry_in : (n k : ℕ) (g : Group) (f : NewFile) → Contains (new_manifests s c) (manifest_of s.metadata c.ids n g) → slice_get g.files k ≡ Some f
+      → Contains (new_live s c) (new_entry (added_row s (manifest_of s.metadata c.ids n g)) (manifest_of s.metadata c.ids n g).heading k f)
+  entry_in n k g f i at =
+      let made = manifest_of s.metadata c.ids n g in
+      let none : k + 0 ≡ k = omega arith in
+      let P : ℕ → Type 0 = λ p. Contains (added_entries s made) (new_entry (added_row s made) made.heading p f) in
+      to_flat (added_entries s) (new_manifests s c) made (new_entry (added_row s made) made.heading k f) i (subst P none (to_entries (added_row s made) made.heading 0 g.files k f at))
+
   of_files : (e : Entry) → Contains (new_live s c) e → IsOfChange s c e
   of_files e i =
       let x = in_flat (added_entries s) (new_manifests s c) e i in
       let g = in_manifests s.metadata c.ids 0 (groups c.change) x.0 x.1 in
       let P : NewManifest → Type 0 = λ x. Contains (added_entries s x) e in
       let made = manifest_of s.metadata c.ids g.2 g.0 in
-      let f = in_entries (added_row s made) made.heading 0 g.0.files e (subst P (sym g.3) x.2) in
-      let h = in_groups c.change g.0 f.0 g.1 f.1 in
-      (f.0, h.0, subst (IsEntryOf s c f.0) f.3 (is_entry s c g.2 g.0 f.0 f.2 h.1))
+      let r = in_entries (added_row s made) made.heading 0 g.0.files e (subst P (sym g.3) x.2) in
+      let h = in_groups c.change g.0 r.1 r.0 g.1 r.2 in
+      let none : r.1 ≡ r.1 + 0 = omega arith in
+      let is : new_entry (added_row s made) made.heading r.1 r.0 ≡ e = ap (λ n. new_entry (added_row s made) made.heading n r.0) none ∙ r.3 in
+      (r.0, is_of_change c.change r.0 r.1 h.1, subst (IsEntryOf s c r.0) is (is_entry s c g.2 g.0 r.1 r.0 h))
 
-  each_file : (f : NewFile) → Contains (all_files c.change) f → (e : Entry) × Contains (new_live s c) e × IsEntryOf s c f e
-  each_file f i =
-      let g = to_groups c.change f i in
-      let h = in_groups c.change g.0 f g.1 g.2 in
+  -- a file has its entry wherever it stands
+  placed : (f : NewFile) (k : ℕ) → StandsAt c.change f k → (e : Entry) × Contains (new_live s c) e × IsEntryOf s c f e × (e.position ≡ k)
+  placed f k at =
+      let g = to_groups c.change f k at in
       let n = to_manifests s.metadata c.ids 0 (groups c.change) g.0 g.1 in
       let made = manifest_of s.metadata c.ids n.0 g.0 in
-      let k = to_entries (added_row s made) made.heading 0 g.0.files f g.2 in
-      let e = new_entry (added_row s made) made.heading k.0 f in
-      (e, to_flat (added_entries s) (new_manifests s c) made e n.1 k.1, is_entry s c n.0 g.0 f k.0 h.1)
+      (new_entry (added_row s made) made.heading k f, entry_in n.0 k g.0 f n.1 g.2, is_entry s c n.0 g.0 k f (in_groups c.change g.0 k f g.1 g.2), refl)
+
+  has_entry : (e : Entry) → IsOfChange s c e → Contains (new_live s c) e
+  has_entry e (f, i, is) =
+      let r = placed f e.position is.position in
+      subst (Contains (new_live s c)) (one_entry s c f r.0 e r.2 is r.3) r.1
+
+pub adds_its_files : AddsItsFiles
+adds_its_files s c e = (of_files s c e, has_entry s c e)
 
 -- ---- both
 
-pub manifests_hold_files : ManifestsHoldFiles
-manifests_hold_files s c = record { of_files = of_files s c; each_file = each_file s c }
-
-pub joins_entries : JoinsEntries
-joins_entries s t c e has = (
+pub joins_manifests : JoinsManifests
+joins_manifests s t c e has = (
   was s t c has e,
   λ h. elim h as (λ _. IsLive t e) [ inl old ↦ stays s t c has e old | inr new ↦ comes s t c has e new ],
 )
 
-pub adds_its_files : AddsItsFiles
-adds_its_files s t c has = record {
-  old = stays s t c has;
-  new = λ f i. let r = each_file s c f i in (r.0, comes s t c has r.0 r.1, r.2);
-  nothing_else = λ e h. elim (was s t c has e h) as (λ _. IsLive s e ⊎ IsOfChange s c e) [ inl old ↦ inl old | inr new ↦ inr (of_files s c e new) ];
-}
+pub joins_files : JoinsFiles
+joins_files s t c e has = (
+  λ h. elim (was s t c has e h) as (λ _. IsLive s e ⊎ IsOfChange s c e) [ inl old ↦ inl old | inr new ↦ inr (of_files s c e new) ],
+  λ h. elim h as (λ _. IsLive t e) [ inl old ↦ stays s t c has e old | inr new ↦ comes s t c has e (has_entry s c e new) ],
+)
+
+pub each_is_live : EachIsLive
+each_is_live s t c f has i =
+    let k = stands c.change f i in
+    let r = placed s c f k.0 k.1 in
+    (r.0, comes s t c has r.0 r.1, r.2)

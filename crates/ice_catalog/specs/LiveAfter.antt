@@ -1,14 +1,16 @@
 -- What is live after a commit, entry by entry (Apache Iceberg table spec v2, "Snapshots", "Manifests" and "Sequence Number
 -- Inheritance").
-use Rattle.std.specs.Prelude.{◌≡◌, ◌↔◌, ◌⊎◌, List, Some}
+use Rattle.std.specs.Prelude.{◌≡◌, ◌↔◌, ◌⊎◌, ℕ, List, filter, slice_get, Some}
 use Rattle.std.specs.List.{Contains, flat_map}
 use Rattle.ice_meta.specs.Partitioning.{is_unpartitioned}
 use Rattle.ice_manifest.specs.declared.data_file.DataFile.{DataFile}
 use Rattle.ice_manifest.specs.declared.entry.Entry.{Entry}
 use Rattle.ice_manifest.specs.declared.new_file.NewFile.{NewFile}
+use Rattle.ice_catalog.specs.declared.change.Change.{Change}
 use Rattle.ice_catalog.specs.declared.change.Commit.{Commit}
 use Rattle.ice_catalog.specs.Adding.{next_sequence, spec_or_none}
 use Rattle.ice_catalog.specs.Bases.{live_entries, spec_in, table_specs}
+use Rattle.ice_catalog.specs.Groups.{is_of_spec}
 use Rattle.ice_catalog.specs.Live.{HasBaseAndChange, added_entries, new_manifests}
 use Rattle.ice_catalog.specs.Refusals.{all_files}
 use Rattle.ice_catalog.specs.States.{State}
@@ -34,43 +36,44 @@ data_file f = record {
   equality_ids = f.equality_ids;
 }
 
--- the entry is that of a file that the commit adds, wherever in a manifest it stands
+-- the place of a file among the files of its manifest: those of its spec, data files and deletes apart
+abbrev pub StandsAt : Change → NewFile → ℕ → Type 0
+StandsAt c f place = (slice_get (filter (is_of_spec f.spec_id) c.files) place ≡ Some f)
+    ⊎ (slice_get (filter (is_of_spec f.spec_id) c.deletes) place ≡ Some f)
+
+-- the entry is what the commit adds of the file
 pub record IsEntryOf (s : State) (c : Commit) (f : NewFile) (e : Entry) : Type 0 where
   pub file : e.file ≡ data_file f
+  pub position : StandsAt c.change f e.position
   pub spec : e.spec_id ≡ f.spec_id
-  pub fields : e.unpartitioned
+  pub unpartitioned : e.unpartitioned
       ≡ is_unpartitioned (spec_or_none f.spec_id (spec_in (table_specs s.metadata.table) f.spec_id))
   pub snapshot : e.snapshot_id ≡ c.ids.snapshot
   pub number : e.sequence_number ≡ next_sequence s.metadata.table
   pub file_number : e.file_sequence_number ≡ Some (next_sequence s.metadata.table)
 
--- it is that of one of them
+-- it is that of one of the change's files
 abbrev pub IsOfChange : State → Commit → Entry → Type 0
 IsOfChange s c e = (f : NewFile) × Contains (all_files c.change) f × IsEntryOf s c f e
+
+-- the entries of the manifests that are added are those of the change's files
+abbrev pub AddsItsFiles : Type 0
+AddsItsFiles = (s : State) (c : Commit) (e : Entry) → Contains (new_live s c) e ↔ IsOfChange s c e
 
 -- ---- what is live
 
 -- Where a commit leaves what its base has and adds its own, an entry is live exactly where it was live before or is in
--- one of the manifests that are added.
-abbrev pub JoinsEntries : Type 0
-JoinsEntries = (s t : State) (c : Commit) (e : Entry) → HasBaseAndChange s c t
+-- a manifest that is added,
+abbrev pub JoinsManifests : Type 0
+JoinsManifests = (s t : State) (c : Commit) (e : Entry) → HasBaseAndChange s c t
     → IsLive t e ↔ (IsLive s e ⊎ Contains (new_live s c) e)
 
--- each entry of those manifests is that of one of the files, and each file has its entry there
-pub record HoldFiles (s : State) (c : Commit) : Type 0 where
-  pub of_files : (e : Entry) → Contains (new_live s c) e → IsOfChange s c e
-  pub each_file : (f : NewFile) → Contains (all_files c.change) f
-      → (e : Entry) × Contains (new_live s c) e × IsEntryOf s c f e
+-- so exactly where it was live before or is that of one of the change's files,
+abbrev pub JoinsFiles : Type 0
+JoinsFiles = (s t : State) (c : Commit) (e : Entry) → HasBaseAndChange s c t
+    → IsLive t e ↔ (IsLive s e ⊎ IsOfChange s c e)
 
-abbrev pub ManifestsHoldFiles : Type 0
-ManifestsHoldFiles = (s : State) (c : Commit) → HoldFiles s c
-
--- what was live is live still, so is each file of the commit, and nothing else is
-pub record LiveIsOldAndNew (s : State) (c : Commit) (t : State) : Type 0 where
-  pub old : (e : Entry) → IsLive s e → IsLive t e
-  pub new : (f : NewFile) → Contains (all_files c.change) f → (e : Entry) × IsLive t e × IsEntryOf s c f e
-  pub nothing_else : (e : Entry) → IsLive t e → IsLive s e ⊎ IsOfChange s c e
-
--- so it is after a commit that leaves what its base has and adds its own
-abbrev pub AddsItsFiles : Type 0
-AddsItsFiles = (s t : State) (c : Commit) → HasBaseAndChange s c t → LiveIsOldAndNew s c t
+-- and each of these files has its entry.
+abbrev pub EachIsLive : Type 0
+EachIsLive = (s t : State) (c : Commit) (f : NewFile) → HasBaseAndChange s c t
+    → Contains (all_files c.change) f → (e : Entry) × IsLive t e × IsEntryOf s c f e

@@ -1,7 +1,7 @@
 //! What replaying comes to.
 
 ghost use Rattle.ice_catalog.specs.Covered.{EmptyIsCovered, KeepsCovering, NewRowsCover, StaysCovered};
-ghost use Rattle.ice_catalog.specs.LiveAfter.{AddsItsFiles, JoinsEntries, ManifestsHoldFiles};
+ghost use Rattle.ice_catalog.specs.LiveAfter.{AddsItsFiles, EachIsLive, JoinsFiles, JoinsManifests};
 ghost use Rattle.ice_catalog.specs.Replaying.{AddsAStep, IsTakenOff, HasEarlier, IsInParts};
 ghost use Rattle.ice_catalog.specs.Staying.{KeepsFiles, KeepsRows, KeepsEntries};
 
@@ -27,12 +27,15 @@ pub fn commits_leave_what_was_there()
     ensures entries { KeepsEntries }
 {}
 
-/// What is live after a commit that leaves what its base has and adds its own, as `prepare` says: an entry is live
-/// exactly where it was live before or is in one of the manifests that the commit adds.
+/// What is live after a commit that leaves what its base has and adds its own, as `prepare` says of each whose files
+/// have new names: an entry is live exactly where it was live before, or is in one of the manifests that are added. The
+/// entries of these are those of the change's files, with their values, their places, the commit's snapshot and the next
+/// sequence number. So exactly what was live and the change's files are live, and each of the files is.
 pub fn what_is_live_after_a_commit()
-    ensures entries { JoinsEntries }
-    ensures manifests { ManifestsHoldFiles }
-    ensures files { AddsItsFiles }
+    ensures manifests { JoinsManifests }
+    ensures entries { AddsItsFiles }
+    ensures files { JoinsFiles }
+    ensures each { EachIsLive }
 {}
 
 /// Summaries stay true. The row of each manifest that a commit adds covers the partition values of its files; so a
