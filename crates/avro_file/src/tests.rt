@@ -1,10 +1,9 @@
 //! Vectors that were written by hand from the specification.
 
 use crate::container::{Container, Objects};
-use crate::datum::Datum;
-use crate::fault::{AvroFault, CodecName};
-use avro_schema::{Schema, SchemaFault};
-use std::alloc::Global;
+use crate::fault::AvroFault;
+use std::alloc::{AllocError, Global};
+use std::fmt::Debug;
 use std::test::*;
 
 mod files;
@@ -14,79 +13,105 @@ mod written;
 
 const MARKER: [u8; 16] = [0, 1, 2, 3, 4, 5, 6, 7, 8, 9, 10, 11, 12, 13, 14, 15];
 
-/// Magic number, metadata that name a schema, and marker.
-fn header(alloc: Global, schema: &[u8]) -> Result<Vec<u8>, Fail> {
-    if schema.len() > 60 {
-        return Err("a longer text")?;
-    }
-    let mut bytes = b"Obj\x01\x02\x16avro.schema".to_vec(alloc)?;
-    bytes.push((schema.len() * 2) as u8)?;
-    bytes.extend_from_slice(schema)?;
-    bytes.push(0)?;
-    bytes.extend_from_slice(&MARKER)?;
-    Ok(bytes)
+/// The length of up to 63 bytes, as a file has it.
+fn length(bytes: &[u8]) -> [u8; 1] {
+    [bytes.len().min(63) as u8 * 2]
 }
 
-/// A file of a block of so many objects with this content.
-fn file(alloc: Global, schema: &[u8], count: &[u8], content: &[u8]) -> Result<Vec<u8>, Fail> {
-    if content.len() > 60 {
-        return Err("more bytes")?;
-    }
-    let mut bytes = header(alloc, schema)?;
-    bytes.extend_from_slice(count)?;
-    bytes.push((content.len() * 2) as u8)?;
-    bytes.extend_from_slice(content)?;
-    bytes.extend_from_slice(&MARKER)?;
-    Ok(bytes)
+/// Magic number, metadata that name a schema, marker, and more bytes.
+fn begun(alloc: Global, schema: &[u8], more: &[u8]) -> Result<Vec<u8>, AllocError> {
+    [
+        b"Obj\x01\x02\x16avro.schema".as_slice(),
+        length(schema).as_slice(),
+        schema,
+        [0].as_slice(),
+        MARKER.as_slice(),
+        more,
+    ]
+    .concat(alloc)
 }
 
-/// The first object of a file, as a text.
-fn first(alloc: Global, bytes: &[u8]) -> Result<String, AvroFault> {
-    let file = Container::open(alloc, bytes)?;
-    match file.objects().next()? {
-        Some(object) => {
-            let datum = object.datum(alloc)?;
-            Ok(format!(in alloc; "{datum:?}")?)
+/// A block of so many objects with this content.
+fn block(alloc: Global, count: &[u8], content: &[u8]) -> Result<Vec<u8>, AllocError> {
+    [
+        count,
+        length(content).as_slice(),
+        content,
+        MARKER.as_slice(),
+    ]
+    .concat(alloc)
+}
+
+/// A file of that block.
+fn file(alloc: Global, schema: &[u8], count: &[u8], content: &[u8]) -> Result<Vec<u8>, AllocError> {
+    let block = block(alloc, count, content)?;
+    begun(alloc, schema, &block)
+}
+
+/// Whether a value looks like this.
+fn looks<T: Debug>(alloc: Global, value: &T, look: &str) -> bool {
+    match format!(in alloc; "{value:?}") {
+        Ok(text) => text.as_str() == look,
+        Err(_) => false,
+    }
+}
+
+/// Whether a fault looks like this. A codec's fault is told by the codec's name alone.
+fn is_fault(alloc: Global, fault: &AvroFault, look: &str) -> bool {
+    match fault {
+        AvroFault::Codec(name) => name.as_slice() == look.as_bytes(),
+        _ => looks(alloc, fault, look),
+    }
+}
+
+/// Whether an object that looks like this comes next, or this fault, or the `end`.
+fn is_next(alloc: Global, objects: &mut Objects<'_>, look: &str) -> bool {
+    match objects.next() {
+        Ok(Some(object)) => match object.datum(alloc) {
+            Ok(datum) => looks(alloc, &datum, look),
+            Err(_) => false,
+        },
+        Ok(None) => look == "end",
+        Err(fault) => is_fault(alloc, &fault, look),
+    }
+}
+
+/// Whether what comes next looks like these lines, each of one call.
+fn are_next(alloc: Global, objects: &mut Objects<'_>, lines: &str) -> bool {
+    for look in lines.lines() {
+        if !is_next(alloc, objects, look) {
+            return false;
         }
-        None => Err(AvroFault::NotAvro),
+    }
+    true
+}
+
+/// Whether a file gives what looks like these lines, or is refused with this fault.
+fn gives(alloc: Global, bytes: &[u8], lines: &str) -> bool {
+    match Container::open(alloc, bytes) {
+        Ok(file) => are_next(alloc, &mut file.objects(), lines),
+        Err(fault) => is_fault(alloc, &fault, lines),
     }
 }
 
-/// The only object of a file with this content, as a text.
-fn only(alloc: Global, schema: &[u8], content: &[u8]) -> Result<Result<String, AvroFault>, Fail> {
-    let bytes = file(alloc, schema, &[2], content)?;
-    Ok(first(alloc, &bytes))
-}
-
-/// Whether an object is this.
-fn is(found: Result<String, AvroFault>, want: &str) -> bool {
-    match found {
-        Ok(text) => text.as_str() == want,
-        Err(_fault) => false,
-    }
-}
-
-/// A record of an int and this.
-fn pair<'a>(alloc: Global, key: i32, value: Datum<'a>) -> Result<Datum<'a>, Fail> {
-    let mut fields = Vec::with_capacity(alloc, 2)?;
-    fields.push(Datum::Int(key))?;
-    fields.push(value)?;
-    Ok(Datum::Record(fields))
-}
-
-/// How many objects come, and the fault behind them. There may be up to five.
-fn objects(alloc: Global, bytes: &[u8]) -> (usize, Option<AvroFault>) {
-    let file = match Container::open(alloc, bytes) {
-        Ok(file) => file,
-        Err(fault) => return (0, Some(fault)),
-    };
-    let mut objects = file.objects();
-    for count in 0..6 {
+/// Whether there are so many objects more.
+fn are_skipped(objects: &mut Objects<'_>, count: usize) -> bool {
+    for _ in 0..count {
         match objects.next() {
-            Ok(Some(_)) => {}
-            Ok(None) => return (count, None),
-            Err(fault) => return (count, Some(fault)),
+            Ok(Some(object)) => object.skip(),
+            _ => return false,
         }
     }
-    (6, None)
+    true
+}
+
+/// Whether a file gives so many objects and then what looks like this, or is refused with this fault.
+fn gives_behind(alloc: Global, bytes: &[u8], count: usize, look: &str) -> bool {
+    match Container::open(alloc, bytes) {
+        Ok(file) => {
+            let mut objects = file.objects();
+            are_skipped(&mut objects, count) && is_next(alloc, &mut objects, look)
+        }
+        Err(fault) => count == 0 && is_fault(alloc, &fault, look),
+    }
 }

@@ -1,6 +1,9 @@
 //! Whole files.
 
 use super::*;
+use crate::fault::CodecName;
+use crate::named::KnownSchema;
+use avro_schema::{Schema, SchemaFault};
 
 /// The longs 64 and -1.
 const LONGS: [u8; 62] = [
@@ -10,233 +13,282 @@ const LONGS: [u8; 62] = [
     0x02, 0x03, 0x04, 0x05, 0x06, 0x07, 0x08, 0x09, 0x0a, 0x0b, 0x0c, 0x0d, 0x0e, 0x0f,
 ];
 
-/// The next object of a file of longs.
-fn next_long(alloc: Global, objects: &mut Objects) -> Result<i64, Fail> {
-    let object = objects.next().ok().ok_or("no fault")?.ok_or("an object")?;
-    let Datum::Long(number) = object.datum(alloc)? else {
-        return Err("another type")?;
+/// Whether -1 follows where the first object is dropped.
+fn follows_the_first(alloc: Global, objects: &mut Objects<'_>) -> bool {
+    are_skipped(objects, 1) && is_next(alloc, objects, "Long(-1)")
+}
+
+/// Whether a file is that of the two longs, from the first on each time.
+fn is_of_two_longs(alloc: Global, file: &Container<'_>) -> bool {
+    matches!(file.schema(), Schema::Long)
+        && are_next(alloc, &mut file.objects(), "Long(64)\nLong(-1)\nend\nend")
+        && follows_the_first(alloc, &mut file.objects())
+}
+
+#[test]
+fn two_longs(rt: HostRuntime) {
+    let is_right = match Container::open(rt.alloc(), &LONGS) {
+        Ok(file) => is_of_two_longs(rt.alloc(), &file),
+        Err(_) => false,
     };
-    Ok(number)
+    assert!(rt; is_right);
+}
+
+/// Where the file of the longs is cut, and what comes first then.
+const CUTS: [(usize, &str); 7] = [
+    (3, "NotAvro"),
+    (20, "Truncated(18)"),
+    (40, "Truncated(25)"),
+    (41, "end"),
+    (42, "Truncated(42)"),
+    (45, "Truncated(43)"),
+    (50, "Truncated(46)"),
+];
+
+#[test]
+fn cut_files(rt: HostRuntime) {
+    for (cut, look) in CUTS {
+        assert!(rt; gives(rt.alloc(), &LONGS[..cut], look), "at {cut}");
+    }
+    assert!(rt; gives(rt.alloc(), b"Obj\x02", "NotAvro"));
 }
 
 #[test]
-fn two_longs(rt: HostRuntime) -> Result<(), Fail> {
-    let file = Container::open(rt.alloc(), &LONGS).ok().ok_or("a file")?;
-    assert!(rt; matches!(file.schema(), Schema::Long));
-    let mut objects = file.objects();
-    assert_eq!(rt; next_long(rt.alloc(), &mut objects)?, 64);
-    assert_eq!(rt; next_long(rt.alloc(), &mut objects)?, -1);
-    assert!(rt; matches!(objects.next(), Ok(None)));
-    assert!(rt; matches!(objects.next(), Ok(None)));
-    // from the first on once more, and the first one dropped
-    let mut again = file.objects();
-    again
-        .next()
-        .ok()
-        .ok_or("no fault")?
-        .ok_or("an object")?
-        .skip();
-    assert_eq!(rt; next_long(rt.alloc(), &mut again)?, -1);
-    Ok(())
-}
-
-#[test]
-fn cut_files(rt: HostRuntime) -> Result<(), Fail> {
-    assert!(rt; matches!(first(rt.alloc(), &LONGS[..3]), Err(AvroFault::NotAvro)));
-    assert!(rt; matches!(first(rt.alloc(), b"Obj\x02"), Err(AvroFault::NotAvro)));
-    assert!(rt;
-        matches!(
-            first(rt.alloc(), &LONGS[..20]),
-            Err(AvroFault::Truncated(18))
-        )
-    );
-    assert!(rt;
-        matches!(
-            first(rt.alloc(), &LONGS[..40]),
-            Err(AvroFault::Truncated(25))
-        )
-    );
-    let none = Container::open(rt.alloc(), &LONGS[..41])
-        .ok()
-        .ok_or("a file")?;
-    assert!(rt; matches!(none.objects().next(), Ok(None)));
-    assert!(rt;
-        matches!(
-            first(rt.alloc(), &LONGS[..42]),
-            Err(AvroFault::Truncated(42))
-        )
-    );
-    assert!(rt;
-        matches!(
-            first(rt.alloc(), &LONGS[..45]),
-            Err(AvroFault::Truncated(43))
-        )
-    );
-    assert!(rt;
-        matches!(
-            first(rt.alloc(), &LONGS[..50]),
-            Err(AvroFault::Truncated(46))
-        )
-    );
+fn another_marker(rt: HostRuntime) {
     let mut bytes = LONGS;
     bytes[61] = 0x0e;
-    assert!(rt; matches!(first(rt.alloc(), &bytes), Err(AvroFault::BadSync)));
-    Ok(())
+    assert!(rt; gives(rt.alloc(), &bytes, "BadSync"));
 }
 
 #[test]
-fn refused_for_good(rt: HostRuntime) -> Result<(), Fail> {
+fn refused_for_good(rt: HostRuntime) {
     let mut bytes = LONGS;
     bytes[41] = 6;
-    let file = Container::open(rt.alloc(), &bytes).ok().ok_or("a file")?;
-    let mut objects = file.objects();
-    assert_eq!(rt; next_long(rt.alloc(), &mut objects)?, 64);
-    assert_eq!(rt; next_long(rt.alloc(), &mut objects)?, -1);
-    for _ in 0..3 {
-        assert!(rt; matches!(objects.next(), Err(AvroFault::BlockSize)));
-    }
-    Ok(())
+    let lines = "Long(64)\nLong(-1)\nBlockSize\nBlockSize\nBlockSize";
+    assert!(rt; gives(rt.alloc(), &bytes, lines));
 }
 
-#[test]
-fn blocks(rt: HostRuntime) -> Result<(), Fail> {
-    let most = [0xfe, 0xff, 0xff, 0xff, 0xff, 0xff, 0xff, 0xff, 0xff, 1];
-    let bytes = file(rt.alloc(), b"\"long\"", &most, &[6])?;
-    let long = Container::open(rt.alloc(), &bytes).ok().ok_or("a file")?;
-    let mut longs = long.objects();
-    assert_eq!(rt; next_long(rt.alloc(), &mut longs)?, 3);
-    assert!(rt; matches!(longs.next(), Err(AvroFault::BlockSize)));
+/// What stands behind the header of a file of longs, and what such a file gives first.
+const BEGINNINGS: [(&[u8], &str); 4] = [
     // a negative count, although no size follows it
-    let mut bytes = header(rt.alloc(), b"\"long\"")?;
-    bytes.push(1)?;
-    assert!(rt; matches!(first(rt.alloc(), &bytes), Err(AvroFault::BlockSize)));
+    (b"\x01", "BlockSize"),
     // a negative size
-    let mut bytes = header(rt.alloc(), b"\"long\"")?;
-    bytes.extend_from_slice(&[2, 1])?;
-    assert!(rt; matches!(first(rt.alloc(), &bytes), Err(AvroFault::BlockSize)));
-    // a block of nothing, and one of no objects that has bytes
-    let bytes = file(rt.alloc(), b"\"long\"", &[0], &[])?;
-    let none = Container::open(rt.alloc(), &bytes).ok().ok_or("a file")?;
-    assert!(rt; matches!(none.objects().next(), Ok(None)));
-    let bytes = file(rt.alloc(), b"\"long\"", &[0], &[6])?;
-    assert!(rt; matches!(first(rt.alloc(), &bytes), Err(AvroFault::BlockSize)));
-    Ok(())
-}
+    (b"\x02\x01", "BlockSize"),
+    // a number outside the objects: nine groups and the end, and ten
+    (b"\xff\xff\xff\xff\xff\xff\xff\xff\xff", "Truncated(41)"),
+    (b"\xff\xff\xff\xff\xff\xff\xff\xff\xff\xff", "BadNumber"),
+];
 
-/// What opening a file with this metadata gives.
-fn opened_with(alloc: Global, metadata: &[u8]) -> Result<Result<(), AvroFault>, Fail> {
-    let mut bytes = b"Obj\x01".to_vec(alloc)?;
-    bytes.extend_from_slice(metadata)?;
-    bytes.extend_from_slice(&MARKER)?;
-    Ok(match Container::open(alloc, &bytes) {
-        Ok(_) => Ok(()),
-        Err(fault) => Err(fault),
-    })
-}
-
-#[test]
-fn metadata(rt: HostRuntime) -> Result<(), Fail> {
-    let deflate = b"\x04\x16avro.schema\x0c\"long\"\x14avro.codec\x0edeflate\x00";
-    let Err(AvroFault::Codec(name)) = opened_with(rt.alloc(), deflate)? else {
-        return Err("no codec")?;
-    };
-    assert_eq!(rt; name.as_slice(), b"deflate".as_slice());
-    // a codec is told before a schema that is at fault
-    let both = b"\x04\x16avro.schema\x02{\x14avro.codec\x0edeflate\x00";
-    assert!(rt; matches!(opened_with(rt.alloc(), both)?, Err(AvroFault::Codec(_))));
-    let null = b"\x04\x16avro.schema\x0c\"long\"\x14avro.codec\x08null\x00";
-    assert!(rt; matches!(opened_with(rt.alloc(), null)?, Ok(())));
-    // of equal keys the last counts, over blocks too
-    let last =
-        b"\x04\x14avro.codec\x0edeflate\x16avro.schema\x02{\x03\x00\x14avro.codec\x08null\x16avro.schema\x0c\"long\"\x00";
-    assert!(rt; matches!(opened_with(rt.alloc(), last)?, Ok(())));
-    let other = b"\x02\x02k\x02v\x00";
-    assert!(rt; matches!(opened_with(rt.alloc(), other)?, Err(AvroFault::NotAvro)));
-    // keys that nobody reads, in front, between and behind
-    let more =
-        b"\x02\x02k\x00\x06\x14avro.codec\x08null\x10snapshot\x04\xff\x00\x16avro.schema\x0c\"long\"\x01\x08\x02z\x02v\x00";
-    assert!(rt; matches!(opened_with(rt.alloc(), more)?, Ok(())));
-    let unread = b"\x02\x16avro.schema\x02{\x00";
-    let found = opened_with(rt.alloc(), unread)?;
-    assert!(rt; matches!(found, Err(AvroFault::Schema(SchemaFault::NotJson))));
-    let long = b"\x02\x02k\xfe\xff\xff\xff\xff\xff\xff\xff\xff\x01";
-    assert!(rt;
-        matches!(
-            opened_with(rt.alloc(), long)?,
-            Err(AvroFault::Truncated(17))
-        )
-    );
-    Ok(())
-}
-
-#[test]
-fn copied_faults(rt: HostRuntime) -> Result<(), Fail> {
-    let name = CodecName::from_vec(b"snappy".to_vec(rt.alloc())?);
-    let AvroFault::Codec(copied) = AvroFault::Codec(name).copy(rt.alloc())? else {
-        return Err("another fault")?;
-    };
-    assert_eq!(rt; copied.as_slice(), b"snappy".as_slice());
-    let cut = AvroFault::Truncated(7).copy(rt.alloc())?;
-    assert!(rt; matches!(cut, AvroFault::Truncated(7)));
-    let unread = AvroFault::Schema(SchemaFault::NotJson).copy(rt.alloc())?;
-    assert!(rt; matches!(unread, AvroFault::Schema(SchemaFault::NotJson)));
-    Ok(())
-}
-
-#[test]
-fn each_truncation(rt: HostRuntime) -> Result<(), Fail> {
-    let mut bytes = b"Obj\x01\x02\x16avro.schema\x82\x02".to_vec(rt.alloc())?;
-    let schema =
-        b"{\"type\":\"record\",\"name\":\"r\",\"fields\":[{\"name\":\"s\",\"type\":\"string\"},{\"name\":\"a\",\"type\":{\"type\":\"array\",\"items\":[\"null\",\"long\"]}}]}";
-    bytes.extend_from_slice(schema)?;
-    bytes.push(0)?;
-    bytes.extend_from_slice(&MARKER)?;
-    let start = bytes.len();
-    // two records: x with null and 3, and an empty text with no items
-    bytes.extend_from_slice(&[4, 18, 2, 0x78, 4, 0, 2, 6, 0, 0, 0])?;
-    bytes.extend_from_slice(&MARKER)?;
-    let middle = bytes.len();
-    // one record, its array in a block of a negative count
-    bytes.extend_from_slice(&[2, 12, 0, 1, 4, 2, 6, 0])?;
-    bytes.extend_from_slice(&MARKER)?;
-    for cut in 0..bytes.len() + 1 {
-        let (count, fault) = objects(rt.alloc(), &bytes[..cut]);
-        let want = if cut < middle {
-            0
-        } else if cut < bytes.len() {
-            2
-        } else {
-            3
-        };
-        assert_eq!(rt; count, want, "at {cut}");
-        let ends = cut == start || cut == middle || cut == bytes.len();
-        let right = match fault {
-            None => ends,
-            Some(AvroFault::NotAvro) => cut < 4,
-            Some(AvroFault::Truncated(offset)) => cut >= 4 && offset <= cut && !ends,
-            Some(_) => false,
-        };
-        assert!(rt; right, "at {cut}");
+/// Whether a file of longs with these bytes behind its header gives this.
+fn begins(alloc: Global, more: &[u8], look: &str) -> bool {
+    match begun(alloc, b"\"long\"", more) {
+        Ok(bytes) => gives(alloc, &bytes, look),
+        Err(_) => false,
     }
-    Ok(())
+}
+
+/// The count and the content of a block of longs, and what a file of it gives.
+const BLOCKS: [(&[u8], &[u8], &str); 3] = [
+    (
+        b"\xfe\xff\xff\xff\xff\xff\xff\xff\xff\x01",
+        b"\x06",
+        "Long(3)\nBlockSize",
+    ),
+    // a block of nothing, and one of no objects that has bytes
+    (b"\x00", b"", "end"),
+    (b"\x00", b"\x06", "BlockSize"),
+];
+
+/// Whether a file of this block of longs gives these lines.
+fn holds(alloc: Global, count: &[u8], content: &[u8], lines: &str) -> bool {
+    match file(alloc, b"\"long\"", count, content) {
+        Ok(bytes) => gives(alloc, &bytes, lines),
+        Err(_) => false,
+    }
 }
 
 #[test]
-fn known_schema(rt: HostRuntime) -> Result<(), Fail> {
-    let longs = Container::open(rt.alloc(), &LONGS).ok().ok_or("a file")?;
-    let known = longs.keep_schema(rt.alloc())?;
-    assert!(rt; matches!(known.schema(), Schema::Long));
-    // the same text, and another
-    let same = Container::open_with(rt.alloc(), &known, &LONGS)
-        .ok()
-        .ok_or("a file")?;
-    assert!(rt; same.has_schema(&known));
-    assert_eq!(rt; next_long(rt.alloc(), &mut same.objects())?, 64);
-    let bytes = file(rt.alloc(), b"\"int\"", &[2], &[6])?;
-    let ints = Container::open_with(rt.alloc(), &known, &bytes)
-        .ok()
-        .ok_or("a file")?;
-    assert!(rt; !ints.has_schema(&known));
-    assert!(rt; matches!(ints.schema(), Schema::Int));
+fn blocks(rt: HostRuntime) {
+    for (more, look) in BEGINNINGS {
+        assert!(rt; begins(rt.alloc(), more, look), "{more:?} is no {look}");
+    }
+    for (count, content, lines) in BLOCKS {
+        let is_right = holds(rt.alloc(), count, content, lines);
+        assert!(rt; is_right, "{count:?} {content:?}");
+    }
+}
+
+/// Metadata, and what opening a file with them and without objects gives.
+const METADATA: &[(&[u8], &str)] = &[
+    (
+        b"\x04\x16avro.schema\x0c\"long\"\x14avro.codec\x0edeflate\x00",
+        "deflate",
+    ),
+    // a codec is told before a schema that is at fault
+    (
+        b"\x04\x16avro.schema\x02{\x14avro.codec\x0edeflate\x00",
+        "deflate",
+    ),
+    (
+        b"\x04\x16avro.schema\x0c\"long\"\x14avro.codec\x08null\x00",
+        "end",
+    ),
+    // of equal keys the last counts, over blocks too
+    (
+        b"\x04\x14avro.codec\x0edeflate\x16avro.schema\x02{\x03\x00\x14avro.codec\x08null\x16avro.schema\x0c\"long\"\x00",
+        "end",
+    ),
+    (b"\x02\x02k\x02v\x00", "NotAvro"),
+    // keys that nobody reads, in front, between and behind
+    (
+        b"\x02\x02k\x00\x06\x14avro.codec\x08null\x10snapshot\x04\xff\x00\x16avro.schema\x0c\"long\"\x01\x08\x02z\x02v\x00",
+        "end",
+    ),
+    (b"\x02\x16avro.schema\x02{\x00", "Schema(NotJson)"),
+    (
+        b"\x02\x02k\xfe\xff\xff\xff\xff\xff\xff\xff\xff\x01",
+        "Truncated(17)",
+    ),
+];
+
+/// Whether a file with this metadata and without objects gives this.
+fn opens_as(alloc: Global, metadata: &[u8], look: &str) -> bool {
+    let parts = [b"Obj\x01".as_slice(), metadata, MARKER.as_slice()];
+    match parts.concat(alloc) {
+        Ok(bytes) => gives(alloc, &bytes, look),
+        Err(_) => false,
+    }
+}
+
+#[test]
+fn metadata(rt: HostRuntime) {
+    for &(metadata, look) in METADATA {
+        assert!(rt;
+            opens_as(rt.alloc(), metadata, look),
+            "{metadata:?} is no {look}"
+        );
+    }
+}
+
+/// Whether a fault's copy looks like this.
+fn is_copied(alloc: Global, fault: &AvroFault, look: &str) -> bool {
+    match fault.copy(alloc) {
+        Ok(copied) => is_fault(alloc, &copied, look),
+        Err(_) => false,
+    }
+}
+
+/// Whether the fault of this codec has a copy of the same name.
+fn is_codec_copied(alloc: Global, name: &str) -> bool {
+    match name.as_bytes().to_vec(alloc) {
+        Ok(bytes) => is_copied(alloc, &AvroFault::Codec(CodecName::from_vec(bytes)), name),
+        Err(_) => false,
+    }
+}
+
+#[test]
+fn copied_faults(rt: HostRuntime) {
+    assert!(rt; is_codec_copied(rt.alloc(), "snappy"));
+    assert!(rt; is_copied(rt.alloc(), &AvroFault::Truncated(7), "Truncated(7)"));
+    let unread = AvroFault::Schema(SchemaFault::NotJson);
+    assert!(rt; is_copied(rt.alloc(), &unread, "Schema(NotJson)"));
+}
+
+/// Two records: x with null and 3, and an empty text with no items; and one, its array in a block of a negative count.
+const RECORDS: &[u8] = b"Obj\x01\x02\x16avro.schema\x82\x02\
+{\"type\":\"record\",\"name\":\"r\",\"fields\":[{\"name\":\"s\",\"type\":\"string\"},\
+{\"name\":\"a\",\"type\":{\"type\":\"array\",\"items\":[\"null\",\"long\"]}}]}\
+\x00\
+\x00\x01\x02\x03\x04\x05\x06\x07\x08\x09\x0a\x0b\x0c\x0d\x0e\x0f\
+\x04\x12\x02x\x04\x00\x02\x06\x00\x00\x00\
+\x00\x01\x02\x03\x04\x05\x06\x07\x08\x09\x0a\x0b\x0c\x0d\x0e\x0f\
+\x02\x0c\x00\x01\x04\x02\x06\x00\
+\x00\x01\x02\x03\x04\x05\x06\x07\x08\x09\x0a\x0b\x0c\x0d\x0e\x0f";
+
+/// The cuts of that file, up to which one, how many records come then, and what comes behind them.
+const FRONTS: &[(usize, usize, &str)] = &[
+    (3, 0, "NotAvro"),
+    // the count of keys, a key's length and bytes, a value's length and bytes, the count of no keys more, the marker
+    (4, 0, "Truncated(4)"),
+    (5, 0, "Truncated(5)"),
+    (16, 0, "Truncated(6)"),
+    (18, 0, "Truncated(17)"),
+    (147, 0, "Truncated(19)"),
+    (148, 0, "Truncated(148)"),
+    (164, 0, "Truncated(149)"),
+    (165, 0, "end"),
+    // a block's size, its content, and the marker
+    (166, 0, "Truncated(166)"),
+    (175, 0, "Truncated(167)"),
+    (191, 0, "Truncated(176)"),
+    (192, 2, "end"),
+    (193, 2, "Truncated(193)"),
+    (199, 2, "Truncated(194)"),
+    (215, 2, "Truncated(200)"),
+    (216, 3, "end"),
+];
+
+/// Whether a cut gives what stands in the row that it belongs to.
+fn is_cut_right(alloc: Global, cut: usize) -> bool {
+    for &(last, count, look) in FRONTS {
+        if cut <= last {
+            return match RECORDS.get(..cut) {
+                Some(front) => gives_behind(alloc, front, count, look),
+                None => false,
+            };
+        }
+    }
+    false
+}
+
+#[test]
+fn each_truncation(rt: HostRuntime) {
+    for cut in 0..RECORDS.len() + 1 {
+        assert!(rt; is_cut_right(rt.alloc(), cut), "at {cut}");
+    }
+}
+
+/// Whether a file that is opened with a known schema gives this first, and tells whether the schema is its own.
+fn opens_with(
+    alloc: Global,
+    known: &KnownSchema,
+    bytes: &[u8],
+    is_own: bool,
+    looks_like: [&str; 2],
+) -> bool {
+    let [schema, first] = looks_like;
+    match Container::open_with(alloc, known, bytes) {
+        Ok(file) => {
+            file.has_schema(known) == is_own
+                && looks(alloc, file.schema(), schema)
+                && is_next(alloc, &mut file.objects(), first)
+        }
+        Err(_) => false,
+    }
+}
+
+/// The schema of the longs.
+fn kept(alloc: Global) -> Option<KnownSchema> {
+    match Container::open(alloc, &LONGS) {
+        Ok(file) => file.keep_schema(alloc).ok(),
+        Err(_) => None,
+    }
+}
+
+/// Whether a schema is that of the longs, and knows a file of the same text and not one of another.
+fn is_known(alloc: Global, known: &KnownSchema, ints: &[u8]) -> bool {
+    matches!(known.schema(), Schema::Long)
+        && opens_with(alloc, known, &LONGS, true, ["Long", "Long(64)"])
+        && opens_with(alloc, known, ints, false, ["Int", "Int(3)"])
+}
+
+#[test]
+fn known_schema(rt: HostRuntime) -> Result<(), AllocError> {
+    let ints = file(rt.alloc(), b"\"int\"", &[2], &[6])?;
+    let is_right = match kept(rt.alloc()) {
+        Some(known) => is_known(rt.alloc(), &known, &ints),
+        None => false,
+    };
+    assert!(rt; is_right);
     Ok(())
 }

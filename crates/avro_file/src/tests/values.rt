@@ -2,159 +2,117 @@
 
 use super::*;
 
-#[test]
-fn longs(rt: HostRuntime) -> Result<(), Fail> {
-    let most = [0xfe, 0xff, 0xff, 0xff, 0xff, 0xff, 0xff, 0xff, 0xff, 1];
-    let rows: [(&[u8], i64); 7] = [
-        (&[0], 0),
-        (&[1], -1),
-        (&[0x7f], -64),
-        (&[0x80, 1], 64),
-        (&[0x80, 0x81, 0], 64),
-        (
-            &[0x80, 0x80, 0x80, 0x80, 0x80, 0x80, 0x80, 0x80, 0x80, 0],
-            0,
-        ),
-        (&most, i64::MAX),
-    ];
-    for (content, want) in rows {
-        let found = only(rt.alloc(), b"\"long\"", content)?;
-        assert!(rt;
-            is(found, &format!(in rt.alloc(); "Long({want})")?),
-            "{want}"
-        );
-    }
-    Ok(())
-}
+const ARRAY: &[u8] = b"{\"type\":\"array\",\"items\":\"long\"}";
 
-#[test]
-fn longs_that_do_not_fit(rt: HostRuntime) -> Result<(), Fail> {
-    let all = [0xff; 10];
-    let eleven = [
-        0x80, 0x80, 0x80, 0x80, 0x80, 0x80, 0x80, 0x80, 0x80, 0x80, 0,
-    ];
-    let past = [0xfe, 0xff, 0xff, 0xff, 0xff, 0xff, 0xff, 0xff, 0xff, 2];
-    for content in [&all[..], &eleven[..], &past[..]] {
-        let found = only(rt.alloc(), b"\"long\"", content)?;
-        assert!(rt; matches!(found, Err(AvroFault::BadNumber)));
-    }
-    let found = only(rt.alloc(), b"\"long\"", &all[..9])?;
-    assert!(rt; matches!(found, Err(AvroFault::BlockSize)));
-    // a number outside the objects: nine groups and the end, and ten
-    let mut bytes = header(rt.alloc(), b"\"long\"")?;
-    bytes.extend_from_slice(&all[..9])?;
-    assert!(rt; matches!(first(rt.alloc(), &bytes), Err(AvroFault::Truncated(41))));
-    bytes.push(0xff)?;
-    assert!(rt; matches!(first(rt.alloc(), &bytes), Err(AvroFault::BadNumber)));
-    Ok(())
-}
+const KINDS: &[u8] = b"{\"type\":\"enum\",\"name\":\"e\",\"symbols\":[\"a\",\"b\"]}";
 
-#[test]
-fn ints_and_enums(rt: HostRuntime) -> Result<(), Fail> {
-    let least = only(rt.alloc(), b"\"int\"", &[0xff, 0xff, 0xff, 0xff, 0x0f])?;
-    assert!(rt; is(least, "Int(-2147483648)"));
-    let past = only(rt.alloc(), b"\"int\"", &[0x80, 0x80, 0x80, 0x80, 0x10])?;
-    assert!(rt; matches!(past, Err(AvroFault::BadNumber)));
-    let kinds = b"{\"type\":\"enum\",\"name\":\"e\",\"symbols\":[\"a\",\"b\"]}";
-    assert!(rt; is(only(rt.alloc(), kinds, &[2])?, "Enum(1)"));
-    assert!(rt; matches!(only(rt.alloc(), kinds, &[4])?, Err(AvroFault::BadNumber)));
-    assert!(rt; matches!(only(rt.alloc(), kinds, &[1])?, Err(AvroFault::BadNumber)));
-    Ok(())
-}
+const UNION: &[u8] = b"[\"null\",\"long\"]";
 
-#[test]
-fn booleans_and_unions(rt: HostRuntime) -> Result<(), Fail> {
-    assert!(rt; is(only(rt.alloc(), b"\"boolean\"", &[1])?, "Boolean(true)"));
-    assert!(rt;
-        matches!(
-            only(rt.alloc(), b"\"boolean\"", &[2])?,
-            Err(AvroFault::BadBoolean)
-        )
-    );
-    let union = b"[\"null\",\"long\"]";
-    assert!(rt; is(only(rt.alloc(), union, &[2, 3])?, "Union(1, Long(-2))"));
-    assert!(rt; is(only(rt.alloc(), union, &[0])?, "NullBranch(0)"));
-    assert!(rt; matches!(only(rt.alloc(), union, &[4])?, Err(AvroFault::BadUnion)));
-    assert!(rt; matches!(only(rt.alloc(), union, &[1])?, Err(AvroFault::BadUnion)));
-    Ok(())
-}
-
-#[test]
-fn texts(rt: HostRuntime) -> Result<(), Fail> {
-    let text = only(rt.alloc(), b"\"string\"", b"\x04\xc3\xa9")?;
-    assert!(rt; is(text, "String(\"é\")"));
-    assert!(rt;
-        matches!(
-            only(rt.alloc(), b"\"string\"", &[2, 0xff])?,
-            Err(AvroFault::BadUtf8)
-        )
-    );
-    assert!(rt;
-        matches!(
-            only(rt.alloc(), b"\"string\"", &[1])?,
-            Err(AvroFault::BadNumber)
-        )
-    );
-    let most = [0xfe, 0xff, 0xff, 0xff, 0xff, 0xff, 0xff, 0xff, 0xff, 1];
-    assert!(rt;
-        matches!(
-            only(rt.alloc(), b"\"string\"", &most)?,
-            Err(AvroFault::BlockSize)
-        )
-    );
-    Ok(())
-}
-
-#[test]
-fn runs_of_bytes(rt: HostRuntime) -> Result<(), Fail> {
-    assert!(rt; is(only(rt.alloc(), b"\"bytes\"", &[2, 0xff])?, "Bytes([255])"));
-    let schema = b"{\"type\":\"fixed\",\"name\":\"f\",\"size\":2}";
-    assert!(rt; is(only(rt.alloc(), schema, &[7, 8])?, "Fixed([7, 8])"));
-    let float = only(rt.alloc(), b"\"float\"", &[0, 0, 0x80, 0x3f])?;
-    assert!(rt; is(float, "Float([0, 0, 128, 63])"));
-    let double = only(rt.alloc(), b"\"double\"", &[0, 0, 0, 0, 0, 0, 0xf0, 0x3f])?;
-    assert!(rt; is(double, "Double([0, 0, 0, 0, 0, 0, 240, 63])"));
-    Ok(())
-}
-
-/// Whether these are 3 and 27.
-fn are_3_and_27(found: Result<String, AvroFault>) -> bool {
-    is(found, "Array([Long(3), Long(27)])")
-}
-
-#[test]
-fn arrays_and_maps(rt: HostRuntime) -> Result<(), Fail> {
-    let array = b"{\"type\":\"array\",\"items\":\"long\"}";
-    assert!(rt; are_3_and_27(only(rt.alloc(), array, &[4, 6, 0x36, 0])?));
+/// A schema, the content of a block of one object, and what the object looks like, or the fault.
+const VALUES: &[(&[u8], &[u8], &str)] = &[
+    (b"\"long\"", b"\x00", "Long(0)"),
+    (b"\"long\"", b"\x01", "Long(-1)"),
+    (b"\"long\"", b"\x7f", "Long(-64)"),
+    (b"\"long\"", b"\x80\x01", "Long(64)"),
+    (b"\"long\"", b"\x80\x81\x00", "Long(64)"),
+    (
+        b"\"long\"",
+        b"\x80\x80\x80\x80\x80\x80\x80\x80\x80\x00",
+        "Long(0)",
+    ),
+    (
+        b"\"long\"",
+        b"\xfe\xff\xff\xff\xff\xff\xff\xff\xff\x01",
+        "Long(9223372036854775807)",
+    ),
+    // longs that do not fit, and one that does not end
+    (
+        b"\"long\"",
+        b"\xff\xff\xff\xff\xff\xff\xff\xff\xff\xff",
+        "BadNumber",
+    ),
+    (
+        b"\"long\"",
+        b"\x80\x80\x80\x80\x80\x80\x80\x80\x80\x80\x00",
+        "BadNumber",
+    ),
+    (
+        b"\"long\"",
+        b"\xfe\xff\xff\xff\xff\xff\xff\xff\xff\x02",
+        "BadNumber",
+    ),
+    (
+        b"\"long\"",
+        b"\xff\xff\xff\xff\xff\xff\xff\xff\xff",
+        "BlockSize",
+    ),
+    (b"\"int\"", b"\xff\xff\xff\xff\x0f", "Int(-2147483648)"),
+    (b"\"int\"", b"\x80\x80\x80\x80\x10", "BadNumber"),
+    (KINDS, b"\x02", "Enum(1)"),
+    (KINDS, b"\x04", "BadNumber"),
+    (KINDS, b"\x01", "BadNumber"),
+    (b"\"boolean\"", b"\x01", "Boolean(true)"),
+    (b"\"boolean\"", b"\x02", "BadBoolean"),
+    (UNION, b"\x02\x03", "Union(1, Long(-2))"),
+    (UNION, b"\x00", "NullBranch(0)"),
+    (UNION, b"\x04", "BadUnion"),
+    (UNION, b"\x01", "BadUnion"),
+    (b"\"string\"", b"\x04\xc3\xa9", "String(\"é\")"),
+    (b"\"string\"", b"\x02\xff", "BadUtf8"),
+    (b"\"string\"", b"\x01", "BadNumber"),
+    (
+        b"\"string\"",
+        b"\xfe\xff\xff\xff\xff\xff\xff\xff\xff\x01",
+        "BlockSize",
+    ),
+    (b"\"bytes\"", b"\x02\xff", "Bytes([255])"),
+    (
+        b"{\"type\":\"fixed\",\"name\":\"f\",\"size\":2}",
+        b"\x07\x08",
+        "Fixed([7, 8])",
+    ),
+    (b"\"float\"", b"\x00\x00\x80\x3f", "Float([0, 0, 128, 63])"),
+    (
+        b"\"double\"",
+        b"\x00\x00\x00\x00\x00\x00\xf0\x3f",
+        "Double([0, 0, 0, 0, 0, 0, 240, 63])",
+    ),
+    (ARRAY, b"\x04\x06\x36\x00", "Array([Long(3), Long(27)])"),
     // a negative count, and a size that is not looked at
-    assert!(rt; are_3_and_27(only(rt.alloc(), array, &[3, 4, 6, 0x36, 0])?));
-    assert!(rt; are_3_and_27(only(rt.alloc(), array, &[3, 1, 6, 0x36, 0])?));
-    assert!(rt; are_3_and_27(only(rt.alloc(), array, &[2, 6, 1, 2, 0x36, 0])?));
-    let map = b"{\"type\":\"map\",\"values\":\"long\"}";
-    let entries = only(rt.alloc(), map, b"\x02\x02k\x06\x00")?;
-    assert!(rt; is(entries, "Map([(\"k\", Long(3))])"));
-    Ok(())
+    (ARRAY, b"\x03\x04\x06\x36\x00", "Array([Long(3), Long(27)])"),
+    (ARRAY, b"\x03\x01\x06\x36\x00", "Array([Long(3), Long(27)])"),
+    (
+        ARRAY,
+        b"\x02\x06\x01\x02\x36\x00",
+        "Array([Long(3), Long(27)])",
+    ),
+    (
+        b"{\"type\":\"map\",\"values\":\"long\"}",
+        b"\x02\x02k\x06\x00",
+        "Map([(\"k\", Long(3))])",
+    ),
+    // too many items: the least count, 16,777,217, and the most that may be
+    (
+        ARRAY,
+        b"\xff\xff\xff\xff\xff\xff\xff\xff\xff\x01",
+        "TooManyItems",
+    ),
+    (ARRAY, b"\x82\x80\x80\x10", "TooManyItems"),
+    (ARRAY, b"\x80\x80\x80\x10", "BlockSize"),
+];
+
+/// Whether a file of this block of one object gives what looks like this.
+fn is_read_as(alloc: Global, schema: &[u8], content: &[u8], look: &str) -> bool {
+    match file(alloc, schema, &[2], content) {
+        Ok(bytes) => gives(alloc, &bytes, look),
+        Err(_) => false,
+    }
 }
 
 #[test]
-fn too_many_items(rt: HostRuntime) -> Result<(), Fail> {
-    let array = b"{\"type\":\"array\",\"items\":\"long\"}";
-    let least = [0xff, 0xff, 0xff, 0xff, 0xff, 0xff, 0xff, 0xff, 0xff, 1];
-    assert!(rt;
-        matches!(
-            only(rt.alloc(), array, &least)?,
-            Err(AvroFault::TooManyItems)
-        )
-    );
-    // 16,777,217, and the most that may be
-    let past = [0x82, 0x80, 0x80, 0x10];
-    assert!(rt;
-        matches!(
-            only(rt.alloc(), array, &past)?,
-            Err(AvroFault::TooManyItems)
-        )
-    );
-    let most = [0x80, 0x80, 0x80, 0x10];
-    assert!(rt; matches!(only(rt.alloc(), array, &most)?, Err(AvroFault::BlockSize)));
-    Ok(())
+fn values(rt: HostRuntime) {
+    for &(schema, content, look) in VALUES {
+        let is_right = is_read_as(rt.alloc(), schema, content, look);
+        assert!(rt; is_right, "{content:?} is no {look}");
+    }
 }

@@ -1,6 +1,8 @@
 //! Files that the writer gives.
 
 use super::*;
+use crate::datum::Datum;
+use crate::object::Object;
 use crate::writer::{Property, Writer};
 
 /// Two longs by hand: the metadata's two keys in the order of their bytes, one block, and the marker twice.
@@ -8,50 +10,90 @@ const LONGS: &[u8] = b"Obj\x01\x04\x14avro.codec\x08null\x16avro.schema\x0c\"lon
 \x00\x01\x02\x03\x04\x05\x06\x07\x08\x09\x0a\x0b\x0c\x0d\x0e\x0f\x04\x06\x80\x01\x01\
 \x00\x01\x02\x03\x04\x05\x06\x07\x08\x09\x0a\x0b\x0c\x0d\x0e\x0f";
 
-#[test]
-fn two_longs_by_hand(rt: HostRuntime) -> Result<(), Fail> {
-    let mut writer = Writer::new(rt.alloc(), b"\"long\"", &[], MARKER)
-        .ok()
-        .ok_or("a schema")?;
-    writer.push(rt.alloc(), &Datum::Long(64))?;
-    writer.push(rt.alloc(), &Datum::Long(-1))?;
-    assert_eq!(rt; writer.finish()?.as_slice(), LONGS);
-    Ok(())
+/// Whether a writer gives this file once it has these objects.
+fn gives_file(alloc: Global, writer: Writer, objects: &[Datum<'_>], bytes: &[u8]) -> bool {
+    let mut writer = writer;
+    for object in objects {
+        if writer.push(alloc, object).is_err() {
+            return false;
+        }
+    }
+    match writer.finish() {
+        Ok(written) => written.as_slice() == bytes,
+        Err(_) => false,
+    }
+}
+
+/// Whether a writer of this schema does.
+fn is_written(alloc: Global, schema: &[u8], objects: &[Datum<'_>], bytes: &[u8]) -> bool {
+    match Writer::new(alloc, schema, &[], MARKER) {
+        Ok(writer) => gives_file(alloc, writer, objects, bytes),
+        Err(_) => false,
+    }
 }
 
 #[test]
-fn no_objects_no_block(rt: HostRuntime) -> Result<(), Fail> {
-    let metadata = [
-        Property {
-            key: b"z",
-            value: b"2",
-        },
-        Property {
-            key: b"a",
-            value: b"1",
-        },
-    ];
-    let writer = Writer::new(rt.alloc(), b"\"long\"", &metadata, MARKER)
-        .ok()
-        .ok_or("a schema")?;
-    let bytes = writer.finish()?;
-    let want =
-        b"Obj\x01\x08\x02a\x021\x14avro.codec\x08null\x16avro.schema\x0c\"long\"\x02z\x022\x00\
+fn two_longs_by_hand(rt: HostRuntime) {
+    let longs = [Datum::Long(64), Datum::Long(-1)];
+    assert!(rt; is_written(rt.alloc(), b"\"long\"", &longs, LONGS));
+}
+
+const METADATA: [Property<'static>; 2] = [
+    Property {
+        key: b"z",
+        value: b"2",
+    },
+    Property {
+        key: b"a",
+        value: b"1",
+    },
+];
+
+/// A file of those and of no objects.
+const EMPTY: &[u8] =
+    b"Obj\x01\x08\x02a\x021\x14avro.codec\x08null\x16avro.schema\x0c\"long\"\x02z\x022\x00\
 \x00\x01\x02\x03\x04\x05\x06\x07\x08\x09\x0a\x0b\x0c\x0d\x0e\x0f";
-    assert_eq!(rt; bytes.as_slice(), &want[..]);
-    assert!(rt; matches!(objects(rt.alloc(), &bytes), (0, None)));
-    Ok(())
+
+#[test]
+fn no_objects_no_block(rt: HostRuntime) {
+    let is_right = match Writer::new(rt.alloc(), b"\"long\"", &METADATA, MARKER) {
+        Ok(writer) => gives_file(rt.alloc(), writer, &[], EMPTY),
+        Err(_) => false,
+    };
+    assert!(rt; is_right);
+    assert!(rt; gives(rt.alloc(), EMPTY, "end"));
 }
 
 #[test]
-fn no_schema(rt: HostRuntime) -> Result<(), Fail> {
+fn no_schema(rt: HostRuntime) {
     assert!(rt;
         matches!(
             Writer::new(rt.alloc(), b"\"array\"", &[], MARKER),
             Err(AvroFault::Schema(_))
         )
     );
-    Ok(())
+}
+
+/// A file of one object by hand; in front of the schema and of the content stands its length.
+fn file_of_one(
+    alloc: Global,
+    schema: [&[u8]; 2],
+    content: [&[u8]; 2],
+) -> Result<Vec<u8>, AllocError> {
+    let [schema_length, schema] = schema;
+    let [content_length, content] = content;
+    [
+        b"Obj\x01\x04\x14avro.codec\x08null\x16avro.schema".as_slice(),
+        schema_length,
+        schema,
+        b"\x00".as_slice(),
+        MARKER.as_slice(),
+        b"\x02".as_slice(),
+        content_length,
+        content,
+        MARKER.as_slice(),
+    ]
+    .concat(alloc)
 }
 
 /// A record with a field of every type.
@@ -70,100 +112,115 @@ const EVERY: &[u8] = b"{\"type\":\"record\",\"name\":\"r\",\"fields\":[\
 {\"name\":\"k\",\"type\":\"int\"},{\"name\":\"v\",\"type\":\"bytes\"}]}}},\
 {\"name\":\"t\",\"type\":{\"type\":\"array\",\"items\":\"p\"}}]}";
 
-/// The last fields of an object of that type, as a reader gives them.
-fn push_flat(alloc: Global, fields: &mut Vec<Datum<'static>>) -> Result<(), Fail> {
-    fields.push(Datum::NullBranch(0))?;
-    let mut longs = Vec::new(alloc);
-    longs.push((-2, 300))?;
-    longs.push((200, i64::MIN))?;
-    fields.push(Datum::LongPairs(longs))?;
-    let mut bytes: Vec<(i32, &'static [u8])> = Vec::new(alloc);
-    bytes.push((1, &[3, 0xff]))?;
-    bytes.push((i32::MAX, &[]))?;
-    fields.push(Datum::BytesPairs(bytes))?;
-    fields.push(Datum::LongPairs(Vec::new(alloc)))?;
-    Ok(())
-}
+/// An object of that type, a field each row.
+const EVERY_CONTENT: &[u8] = b"\x01\
+\xff\xff\xff\xff\x0f\
+\xfe\xff\xff\xff\xff\xff\xff\xff\xff\x01\
+\x00\x00\x80\x3f\
+\x00\x00\x00\x00\x00\x00\x00\xc0\
+\x02\xff\
+\x04\xc3\xa9\
+\x01\x02\
+\x02\
+\x04\x05\x90\x03\x00\
+\x02\x02k\x0e\x00\
+\x02\x02s\
+\x00\
+\x04\x03\xd8\x04\x90\x03\xff\xff\xff\xff\xff\xff\xff\xff\xff\x01\x00\
+\x04\x02\x04\x03\xff\xfe\xff\xff\xff\x0f\x00\x00\
+\x00";
 
-/// The same fields, with a datum for each value.
-fn push_whole(alloc: Global, fields: &mut Vec<Datum<'static>>) -> Result<(), Fail> {
-    fields.push(Datum::Union(0, Box::new(alloc, Datum::Null)?))?;
-    let mut longs = Vec::new(alloc);
-    longs.push(pair(alloc, -2, Datum::Long(300))?)?;
-    longs.push(pair(alloc, 200, Datum::Long(i64::MIN))?)?;
-    fields.push(Datum::Array(longs))?;
-    let mut bytes = Vec::new(alloc);
-    bytes.push(pair(alloc, 1, Datum::Bytes(&[3, 0xff]))?)?;
-    bytes.push(pair(alloc, i32::MAX, Datum::Bytes(&[]))?)?;
-    fields.push(Datum::Array(bytes))?;
-    fields.push(Datum::Array(Vec::new(alloc)))?;
-    Ok(())
-}
+/// What that object looks like.
+const EVERY_LOOK: &str =
+    r#"Record([Null, Boolean(true), Int(-2147483648), Long(9223372036854775807), Float([0, 0, 128, 63]), Double([0, 0, 0, 0, 0, 0, 0, 192]), Bytes([255]), String("é"), Fixed([1, 2]), Enum(1), Array([Int(-3), Int(200)]), Map([("k", Long(7))]), Union(1, String("s")), NullBranch(0), LongPairs([(-2, 300), (200, -9223372036854775808)]), BytesPairs([(1, [3, 255]), (2147483647, [])]), LongPairs([])])"#;
 
-/// The first fields of an object of that type.
-fn every(alloc: Global) -> Result<Vec<Datum<'static>>, Fail> {
-    let mut items = Vec::new(alloc);
-    items.push(Datum::Int(-3))?;
-    items.push(Datum::Int(200))?;
-    let mut entries = Vec::new(alloc);
-    entries.push(("k", Datum::Long(7)))?;
-    let mut fields = Vec::new(alloc);
-    fields.push(Datum::Null)?;
-    fields.push(Datum::Boolean(true))?;
-    fields.push(Datum::Int(i32::MIN))?;
-    fields.push(Datum::Long(i64::MAX))?;
-    fields.push(Datum::Float(&[0, 0, 0x80, 0x3f]))?;
-    fields.push(Datum::Double(&[0, 0, 0, 0, 0, 0, 0, 0xc0]))?;
-    fields.push(Datum::Bytes(&[0xff]))?;
-    fields.push(Datum::String("\u{e9}"))?;
-    fields.push(Datum::Fixed(&[1, 2]))?;
-    fields.push(Datum::Enum(1))?;
-    fields.push(Datum::Array(items))?;
-    fields.push(Datum::Map(entries))?;
-    fields.push(Datum::Union(1, Box::new(alloc, Datum::String("s"))?))?;
-    Ok(fields)
-}
-
-/// A file of an object of that type.
-fn file_of(alloc: Global, datum: &Datum) -> Result<Vec<u8>, Fail> {
-    let mut writer = Writer::new(alloc, EVERY, &[], MARKER)
-        .ok()
-        .ok_or("a schema")?;
-    writer.push(alloc, datum)?;
-    Ok(writer.finish()?)
-}
-
-/// How the one object of a file shows; nothing where there is another one behind it.
-fn shown(alloc: Global, bytes: &[u8]) -> Result<String, Fail> {
-    let file = Container::open(alloc, bytes).ok().ok_or("a file")?;
-    let mut objects = file.objects();
-    let object = objects.next().ok().ok_or("no fault")?.ok_or("an object")?;
-    let found = object.datum(alloc)?;
-    if !matches!(objects.next(), Ok(None)) {
-        return Ok(String::new(alloc));
+/// Whether an object looks like this, and a writer of this schema makes this file of it.
+fn is_written_back(
+    alloc: Global,
+    object: Object<'_>,
+    look: &str,
+    schema: &[u8],
+    bytes: &[u8],
+) -> bool {
+    match object.datum(alloc) {
+        Ok(datum) => looks(alloc, &datum, look) && is_written(alloc, schema, &[datum], bytes),
+        Err(_) => false,
     }
-    Ok(format!(in alloc; "{found:?}")?)
+}
+
+/// Whether a file's only object is.
+fn is_file_written_back(alloc: Global, bytes: &[u8], look: &str, schema: &[u8]) -> bool {
+    match Container::open(alloc, bytes) {
+        Ok(file) => {
+            let mut objects = file.objects();
+            match objects.next() {
+                Ok(Some(object)) => {
+                    is_written_back(alloc, object, look, schema, bytes)
+                        && matches!(objects.next(), Ok(None))
+                }
+                _ => false,
+            }
+        }
+        Err(_) => false,
+    }
 }
 
 #[test]
-fn every_type_read_back(rt: HostRuntime) -> Result<(), Fail> {
-    let mut fields = every(rt.alloc())?;
-    push_flat(rt.alloc(), &mut fields)?;
-    let datum = Datum::Record(fields);
-    let written = format!(in rt.alloc(); "{datum:?}")?;
-    let bytes = file_of(rt.alloc(), &datum)?;
-    assert_eq!(rt; shown(rt.alloc(), &bytes)?, written);
+fn every_type_written_back(rt: HostRuntime) -> Result<(), AllocError> {
+    let schema = [b"\xf6\x0d".as_slice(), EVERY];
+    let bytes = file_of_one(rt.alloc(), schema, [b"\xa0\x01".as_slice(), EVERY_CONTENT])?;
+    assert!(rt; is_file_written_back(rt.alloc(), &bytes, EVERY_LOOK, EVERY));
     Ok(())
 }
 
+/// A record with the last fields of that one.
+const LAST: &[u8] = b"{\"type\":\"record\",\"name\":\"r\",\"fields\":[\
+{\"name\":\"n\",\"type\":[\"null\",\"string\"]},\
+{\"name\":\"o\",\"type\":{\"type\":\"array\",\"items\":{\"type\":\"record\",\"name\":\"p\",\"fields\":[\
+{\"name\":\"k\",\"type\":\"int\"},{\"name\":\"v\",\"type\":\"long\"}]}}},\
+{\"name\":\"q\",\"type\":{\"type\":\"array\",\"items\":{\"type\":\"record\",\"name\":\"s\",\"fields\":[\
+{\"name\":\"k\",\"type\":\"int\"},{\"name\":\"v\",\"type\":\"bytes\"}]}}},\
+{\"name\":\"t\",\"type\":{\"type\":\"array\",\"items\":\"p\"}}]}";
+
+/// An object of that type, with the same values.
+const LAST_CONTENT: &[u8] = b"\x00\
+\x04\x03\xd8\x04\x90\x03\xff\xff\xff\xff\xff\xff\xff\xff\xff\x01\x00\
+\x04\x02\x04\x03\xff\xfe\xff\xff\xff\x0f\x00\x00\
+\x00";
+
+/// A record of a key and a value.
+fn pair<'a>(alloc: Global, key: i32, value: Datum<'a>) -> Result<Datum<'a>, AllocError> {
+    Ok(Datum::Record(vec![in alloc; Datum::Int(key), value]?))
+}
+
+/// The two records with a long.
+fn longs(alloc: Global) -> Result<Datum<'static>, AllocError> {
+    let first = pair(alloc, -2, Datum::Long(300))?;
+    let second = pair(alloc, 200, Datum::Long(i64::MIN))?;
+    Ok(Datum::Array(vec![in alloc; first, second]?))
+}
+
+/// The two records with bytes.
+fn bytes(alloc: Global) -> Result<Datum<'static>, AllocError> {
+    let first = pair(alloc, 1, Datum::Bytes(b"\x03\xff"))?;
+    let second = pair(alloc, i32::MAX, Datum::Bytes(b""))?;
+    Ok(Datum::Array(vec![in alloc; first, second]?))
+}
+
+/// The object, with a datum for each value in it.
+fn whole(alloc: Global) -> Result<Datum<'static>, AllocError> {
+    let null = Datum::Union(0, Box::new(alloc, Datum::Null)?);
+    let longs = longs(alloc)?;
+    let bytes = bytes(alloc)?;
+    let none = Datum::Array(Vec::new(alloc));
+    Ok(Datum::Record(vec![in alloc; null, longs, bytes, none]?))
+}
+
 #[test]
-fn pairs_are_written_as_records(rt: HostRuntime) -> Result<(), Fail> {
-    let mut flat = every(rt.alloc())?;
-    push_flat(rt.alloc(), &mut flat)?;
-    let flat = file_of(rt.alloc(), &Datum::Record(flat))?;
-    let mut whole = every(rt.alloc())?;
-    push_whole(rt.alloc(), &mut whole)?;
-    let whole = file_of(rt.alloc(), &Datum::Record(whole))?;
-    assert_eq!(rt; flat.as_slice(), whole.as_slice());
+fn pairs_are_written_as_records(rt: HostRuntime) -> Result<(), AllocError> {
+    let objects = [whole(rt.alloc())?];
+    let schema = [b"\xa6\x06".as_slice(), LAST];
+    let bytes = file_of_one(rt.alloc(), schema, [b"\x3e".as_slice(), LAST_CONTENT])?;
+    assert!(rt; is_written(rt.alloc(), LAST, &objects, &bytes));
     Ok(())
 }
