@@ -3,4 +3,5 @@ mod files;
 mod schemas;
 mod specs;
 mod tables;
+mod texts;
 mod writing;

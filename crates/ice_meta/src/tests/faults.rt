@@ -1,47 +1,23 @@
 use super::files::{EMPTY, PLAIN};
-use super::tables::metadata;
-use crate::{MetaFault, Metadata};
+use super::texts::{changed_once, check, check_after, is_outcome, read};
+use crate::MetaFault;
 use std::alloc::Global;
-use std::process::Abort;
-use std::test::Fail;
 
-/// The text with another piece in the place of one.
-fn with(alloc: Global, text: &str, old: &str, new: &str) -> Result<String, Fail> {
-    let (front, back) = text.split_once(old).ok_or("the place")?;
-    Ok(format!(in alloc; "{front}{new}{back}")?)
-}
-
-/// The text after a change, which is a piece and what stands in its place.
-pub fn changed(alloc: Global, text: &str, change: &str) -> Result<String, Fail> {
-    let (old, new) = change.split_once(" => ").ok_or("a change")?;
-    with(alloc, text, old, new)
-}
-
-/// The fault of the text, or `read`.
-fn outcome(alloc: Global, text: &str) -> Result<String, Fail> {
-    match Metadata::read(alloc, text.as_bytes()) {
-        Ok(_) => Ok(String::from_str(alloc, "read")?),
-        Err(fault) => Ok(format!(in alloc; "{fault:?}")?),
+/// Whether the bytes are refused as no JSON object.
+fn is_no_object(alloc: Global, bytes: &[u8]) -> bool {
+    match read(alloc, bytes) {
+        Ok(_) => false,
+        Err(fault) => fault == MetaFault::NotJson,
     }
 }
 
-/// Each line changes a piece of the text, and ends with what is read then.
-fn check_lines(rt: &impl Abort, alloc: Global, text: &str, lines: &str) -> Result<(), Fail> {
-    for line in lines.lines() {
-        let (change, want) = line.split_once(" gives ").ok_or("a line")?;
-        let changed = changed(alloc, text, change)?;
-        assert_eq!(rt; outcome(alloc, changed.as_str())?.as_str(), want, "{line}");
-    }
-    Ok(())
-}
+static NO_OBJECTS: [&[u8]; 8] = [b"", b"{", b"[]", b"null", b"1", b"\"a\"", b"{} {}", b"\xff"];
 
 #[test]
-fn no_object(rt: HostRuntime) -> Result<(), Fail> {
-    for text in "|{|[]|null|1|\"a\"|{} {}".split('|') {
-        assert_eq!(rt; outcome(rt.alloc(), text)?.as_str(), "NotJson", "{text}");
+fn no_object(rt: HostRuntime) {
+    for bytes in &NO_OBJECTS {
+        assert!(rt; is_no_object(rt.alloc(), bytes), "{bytes:?}");
     }
-    assert!(rt; Metadata::read(rt.alloc(), b"\xff").err() == Some(MetaFault::NotJson));
-    Ok(())
 }
 
 /// Each needed member, left out and null.
@@ -69,8 +45,8 @@ const NEEDED: &str = r#""format-version": => "x": gives Missing(FormatVersion)
 "last-partition-id": => "last-partition-id": null, "x": gives WrongKind(LastPartitionId)"#;
 
 #[test]
-fn needed_members(rt: HostRuntime) -> Result<(), Fail> {
-    check_lines(&rt, rt.alloc(), EMPTY, NEEDED)
+fn needed_members(rt: HostRuntime) {
+    check(&rt, rt.alloc(), EMPTY, NEEDED);
 }
 
 const VALUES: &str = r#""format-version": 2 => "format-version": 3 gives Version(3)
@@ -111,8 +87,8 @@ f79c3e09-677c => f79c3e09-677 gives WrongKind(TableUuid)
 "snapshots": [] => "refs": {"a": {"snapshot-id": 1, "type": "x"}} gives WrongKind(Type)"#;
 
 #[test]
-fn values(rt: HostRuntime) -> Result<(), Fail> {
-    check_lines(&rt, rt.alloc(), EMPTY, VALUES)
+fn values(rt: HostRuntime) {
+    check(&rt, rt.alloc(), EMPTY, VALUES);
 }
 
 /// Two changes of one text.
@@ -125,13 +101,8 @@ const TWO_FAULTS: &str = r#""location": => "x": and "schemas": => "y": gives Mis
 "current-snapshot-id": -1 => "refs": 1 and "snapshots": [] => "snapshots": 1 gives WrongKind(Snapshots)"#;
 
 #[test]
-fn the_first_of_two_faults(rt: HostRuntime) -> Result<(), Fail> {
-    for line in TWO_FAULTS.lines() {
-        let (change, other) = line.split_once(" and ").ok_or("two changes")?;
-        let text = changed(rt.alloc(), EMPTY, change)?;
-        check_lines(&rt, rt.alloc(), text.as_str(), other)?;
-    }
-    Ok(())
+fn the_first_of_two_faults(rt: HostRuntime) {
+    check(&rt, rt.alloc(), EMPTY, TWO_FAULTS);
 }
 
 const SNAPSHOT: &str =
@@ -156,9 +127,8 @@ const VALUES_OF_A_SNAPSHOT: &str =
 "schema-id": 0}] => "schema-id": 9}] gives read"#;
 
 #[test]
-fn values_of_a_snapshot(rt: HostRuntime) -> Result<(), Fail> {
-    let text = changed(rt.alloc(), EMPTY, SNAPSHOT)?;
-    check_lines(&rt, rt.alloc(), text.as_str(), VALUES_OF_A_SNAPSHOT)
+fn values_of_a_snapshot(rt: HostRuntime) {
+    check_after(&rt, rt.alloc(), EMPTY, SNAPSHOT, VALUES_OF_A_SNAPSHOT);
 }
 
 const TWICE: &str =
@@ -169,8 +139,8 @@ const TWICE: &str =
 "type": "int" => "type": {"type": "list", "element-id": 1, "element": "int"} gives IdTwice(1)"#;
 
 #[test]
-fn ids_given_twice(rt: HostRuntime) -> Result<(), Fail> {
-    check_lines(&rt, rt.alloc(), EMPTY, TWICE)
+fn ids_given_twice(rt: HostRuntime) {
+    check(&rt, rt.alloc(), EMPTY, TWICE);
 }
 
 const NESTED: &str = r#""type": "int" => "type": 4 gives WrongKind(Type)
@@ -185,104 +155,111 @@ const NESTED: &str = r#""type": "int" => "type": 4 gives WrongKind(Type)
 "type": "struct" => "type": "list" gives UnknownType(Text { text: "list" })"#;
 
 #[test]
-fn nested_types(rt: HostRuntime) -> Result<(), Fail> {
-    check_lines(&rt, rt.alloc(), EMPTY, NESTED)
+fn nested_types(rt: HostRuntime) {
+    check(&rt, rt.alloc(), EMPTY, NESTED);
 }
 
 /// The text of a type, and the type of the column.
-const TYPES: &str = "\
-boolean = Some(Boolean)
-long = Some(Long)
-float = Some(Float)
-double = Some(Double)
-date = Some(Date)
-time = Some(Time)
-timestamp = Some(Timestamp)
-timestamptz = Some(Timestamptz)
-string = Some(String)
-uuid = Some(Uuid)
-binary = Some(Binary)
-fixed[16] = Some(Fixed(16))
-fixed[2147483647] = Some(Fixed(2147483647))
-decimal(9,2) = Some(Decimal { precision: 9, scale: 2 })
-decimal(38, 10) = Some(Decimal { precision: 38, scale: 10 })";
+const TYPES: &str = r#""int" => "boolean" gives type 1 = Some(Boolean)
+"int" => "long" gives type 1 = Some(Long)
+"int" => "float" gives type 1 = Some(Float)
+"int" => "double" gives type 1 = Some(Double)
+"int" => "date" gives type 1 = Some(Date)
+"int" => "time" gives type 1 = Some(Time)
+"int" => "timestamp" gives type 1 = Some(Timestamp)
+"int" => "timestamptz" gives type 1 = Some(Timestamptz)
+"int" => "string" gives type 1 = Some(String)
+"int" => "uuid" gives type 1 = Some(Uuid)
+"int" => "binary" gives type 1 = Some(Binary)
+"int" => "fixed[16]" gives type 1 = Some(Fixed(16))
+"int" => "fixed[2147483647]" gives type 1 = Some(Fixed(2147483647))
+"int" => "decimal(9,2)" gives type 1 = Some(Decimal { precision: 9, scale: 2 })
+"int" => "decimal(38, 10)" gives type 1 = Some(Decimal { precision: 38, scale: 10 })"#;
 
 #[test]
-fn primitive_types(rt: HostRuntime) -> Result<(), Fail> {
-    for line in TYPES.lines() {
-        let (name, want) = line.split_once(" = ").ok_or("a type")?;
-        let change = format!(in rt.alloc(); "\"int\" => \"{name}\"")?;
-        let text = changed(rt.alloc(), EMPTY, change.as_str())?;
-        let metadata = metadata(rt.alloc(), text.as_str())?;
-        let found = metadata.schema(0).ok_or("the schema")?.type_of(1);
-        assert_eq!(rt; format!(in rt.alloc(); "{found:?}")?.as_str(), want);
+fn primitive_types(rt: HostRuntime) {
+    check(&rt, rt.alloc(), EMPTY, TYPES);
+}
+
+const NO_TYPES: &str = r#""int" => "int8" gives UnknownType(Text { text: "int8" })
+"int" => "Int" gives UnknownType(Text { text: "Int" })
+"int" => "" gives UnknownType(Text { text: "" })
+"int" => "fixed" gives UnknownType(Text { text: "fixed" })
+"int" => "fixed[]" gives UnknownType(Text { text: "fixed[]" })
+"int" => "fixed[-1]" gives UnknownType(Text { text: "fixed[-1]" })
+"int" => "fixed[2147483648]" gives UnknownType(Text { text: "fixed[2147483648]" })
+"int" => "fixed[16] " gives UnknownType(Text { text: "fixed[16] " })
+"int" => "decimal(9)" gives UnknownType(Text { text: "decimal(9)" })
+"int" => "decimal(,2)" gives UnknownType(Text { text: "decimal(,2)" })
+"int" => "decimal(9,  2)" gives UnknownType(Text { text: "decimal(9,  2)" })
+"int" => "decimal(9,2))" gives UnknownType(Text { text: "decimal(9,2))" })
+"int" => "struct" gives UnknownType(Text { text: "struct" })"#;
+
+#[test]
+fn texts_of_no_type(rt: HostRuntime) {
+    check(&rt, rt.alloc(), EMPTY, NO_TYPES);
+}
+
+/// Whether the empty table is read so after a change.
+fn is_read_after(alloc: Global, change: Option<String>, want: &str) -> Option<bool> {
+    let text = changed_once(alloc, EMPTY, change?.as_str())?;
+    is_outcome(alloc, text.as_str(), want)
+}
+
+/// A change to a location of this length.
+fn location(alloc: Global, length: usize) -> Option<String> {
+    let mut change = String::from_str(alloc, "mem://t => ").ok()?;
+    for _ in 0..length {
+        change.push_str("l").ok()?;
     }
-    Ok(())
+    Some(change)
+}
+
+fn has_length(alloc: Global, length: usize, want: &str) -> bool {
+    is_read_after(alloc, location(alloc, length), want) == Some(true)
 }
 
 #[test]
-fn texts_of_no_type(rt: HostRuntime) -> Result<(), Fail> {
-    let names =
-        "int8|Int||fixed|fixed[]|fixed[-1]|fixed[2147483648]|fixed[16] |decimal(9)|decimal(,2)|decimal(9,  2)|decimal(9,2))|struct";
-    for name in names.split('|') {
-        let change = format!(in rt.alloc(); "\"int\" => \"{name}\"")?;
-        let text = changed(rt.alloc(), EMPTY, change.as_str())?;
-        let want = format!(in rt.alloc(); "UnknownType(Text {{ text: \"{name}\" }})")?;
-        assert_eq!(rt; outcome(rt.alloc(), text.as_str())?.as_str(), want.as_str());
-    }
-    Ok(())
+fn lengths_of_a_location(rt: HostRuntime) {
+    assert!(rt; has_length(rt.alloc(), 65_000, "read"));
+    assert!(rt; has_length(rt.alloc(), 65_001, "WrongKind(Location)"));
 }
 
-/// So many times the text.
-fn repeated(alloc: Global, text: &str, count: usize) -> Result<String, Fail> {
-    let mut whole = String::new(alloc);
-    for _ in 0..count {
-        whole.push_str(text)?;
-    }
-    Ok(whole)
-}
-
-#[test]
-fn lengths_of_a_location(rt: HostRuntime) -> Result<(), Fail> {
-    let longest = repeated(rt.alloc(), "l", 65_000)?;
-    let longest = format!(in rt.alloc();
-        "mem://t => {longest} gives read\nmem://t => {longest}l gives WrongKind(Location)"
-    )?;
-    check_lines(&rt, rt.alloc(), EMPTY, longest.as_str())
-}
-
-/// So many fields, each with an id of its own.
-fn fields(alloc: Global, count: u32) -> Result<String, Fail> {
-    let mut text = String::from_str(alloc, "\"fields\": [] => \"fields\": [")?;
+/// A change to so many fields, each with an id of its own.
+fn fields(alloc: Global, count: u32) -> Option<String> {
+    let mut change = String::from_str(alloc, "\"fields\": [] => \"fields\": [").ok()?;
     for id in 0..count {
         let comma = if id == 0 { "" } else { "," };
-        let field = format!(in alloc;
-            "{comma}{{\"source-id\": 1, \"field-id\": {id}, \"name\": \"p\", \"transform\": \"void\"}}"
-        )?;
-        text.push_str(field.as_str())?;
+        change = format!(in alloc;
+            "{change}{comma}{{\"source-id\": 1, \"field-id\": {id}, \"name\": \"p\", \"transform\": \"void\"}}"
+        ).ok()?;
     }
-    text.push_str("]")?;
-    Ok(text)
+    format!(in alloc; "{change}]").ok()
+}
+
+fn has_fields(alloc: Global, count: u32, want: &str) -> bool {
+    is_read_after(alloc, fields(alloc, count), want) == Some(true)
 }
 
 #[test]
-fn numbers_of_fields(rt: HostRuntime) -> Result<(), Fail> {
-    let most = fields(rt.alloc(), 64)?;
-    let more = fields(rt.alloc(), 65)?;
-    let most = changed(rt.alloc(), EMPTY, most.as_str())?;
-    let more = changed(rt.alloc(), EMPTY, more.as_str())?;
-    assert_eq!(rt; outcome(rt.alloc(), most.as_str())?.as_str(), "read");
-    assert_eq!(rt; outcome(rt.alloc(), more.as_str())?.as_str(), "TooBig");
-    Ok(())
+fn numbers_of_fields(rt: HostRuntime) {
+    assert!(rt; has_fields(rt.alloc(), 64, "read"));
+    assert!(rt; has_fields(rt.alloc(), 65, "TooBig"));
+}
+
+/// The length of the first front of the text that is a JSON object.
+fn read_front(alloc: Global, text: &str) -> Option<usize> {
+    let bytes = text.as_bytes();
+    for end in 0..bytes.len() {
+        if !is_no_object(alloc, &bytes[..end]) {
+            return Some(end);
+        }
+    }
+    None
 }
 
 #[test]
 fn cuts(rt: HostRuntime) {
-    for text in [EMPTY, PLAIN] {
-        let bytes = text.as_bytes();
-        for end in 0..bytes.len() {
-            let found = Metadata::read(rt.alloc(), &bytes[..end]).err();
-            assert!(rt; found == Some(MetaFault::NotJson), "{end}");
-        }
-    }
+    assert_eq!(rt; read_front(rt.alloc(), EMPTY), None);
+    assert_eq!(rt; read_front(rt.alloc(), PLAIN), None);
 }

@@ -1,45 +1,55 @@
-use super::faults::changed;
 use super::files::{EMPTY, EVENTS};
-use super::tables::metadata;
-use crate::{Metadata, Spec};
+use super::texts::{check, check_after};
+use crate::{Metadata, PartitionField, Spec};
 use std::alloc::Global;
-use std::test::Fail;
 
 /// The fields of the spec with the types of the current schema, and whether they partition anything.
-fn spec(alloc: Global, metadata: &Metadata, id: i32) -> Result<String, Fail> {
-    let schema = metadata
-        .schema(metadata.table().current_schema_id)
-        .ok_or("the schema")?;
-    let spec = metadata.spec(alloc, id, schema)?.ok_or("the spec")?;
-    let mut found = String::new(alloc);
-    for field in spec.fields.as_slice() {
-        let line = format!(in alloc;
-            "{} {} {} {} {:?}, ",
-            field.field_id,
-            field.name.as_str(),
-            field.transform.as_str(),
-            field.source_id,
-            field.source_type
-        )?;
-        found.push_str(line.as_str())?;
+pub fn spec(alloc: Global, metadata: &Metadata, id: &str) -> Option<String> {
+    let schema = metadata.schema(metadata.table().current_schema_id)?;
+    match metadata.spec(alloc, id.parse::<i32>().ok()?, schema).ok()? {
+        Some(spec) => text_of(alloc, &spec),
+        None => String::from_str(alloc, "none").ok(),
     }
-    found.push_str(if spec.is_unpartitioned() {
+}
+
+fn text_of(alloc: Global, spec: &Spec) -> Option<String> {
+    let fields = fields(alloc, spec.fields.as_slice())?;
+    let end = if spec.is_unpartitioned() {
         "whole"
     } else {
         "parts"
-    })?;
-    Ok(found)
+    };
+    format!(in alloc; "{fields}{end}").ok()
 }
 
+fn fields(alloc: Global, fields: &[PartitionField]) -> Option<String> {
+    let mut found = String::new(alloc);
+    for field in fields {
+        found.push_str(text_of_field(alloc, field)?.as_str()).ok()?;
+    }
+    Some(found)
+}
+
+fn text_of_field(alloc: Global, field: &PartitionField) -> Option<String> {
+    format!(in alloc;
+        "{} {} {} {} {:?}, ",
+        field.field_id,
+        field.name.as_str(),
+        field.transform.as_str(),
+        field.source_id,
+        field.source_type
+    )
+    .ok()
+}
+
+const SPECS: &str = "\
+spec 2 = 1000 ts_day day 2 Some(Timestamptz), 1001 id_bucket bucket[16] 1 Some(Long), parts
+spec 0 = whole
+spec 3 = none";
+
 #[test]
-fn specs_with_the_types_of_a_schema(rt: HostRuntime) -> Result<(), Fail> {
-    let metadata = metadata(rt.alloc(), EVENTS)?;
-    let new = "1000 ts_day day 2 Some(Timestamptz), 1001 id_bucket bucket[16] 1 Some(Long), parts";
-    assert_eq!(rt; spec(rt.alloc(), &metadata, 2)?.as_str(), new);
-    assert_eq!(rt; spec(rt.alloc(), &metadata, 0)?.as_str(), "whole");
-    let schema = metadata.schema(1).ok_or("schema 1")?;
-    assert!(rt; metadata.spec(rt.alloc(), 3, schema)?.is_none());
-    Ok(())
+fn specs_with_the_types_of_a_schema(rt: HostRuntime) {
+    check(&rt, rt.alloc(), EVENTS, SPECS);
 }
 
 /// Every transform, one that is unknown, and a source that is not there.
@@ -54,14 +64,12 @@ const TRANSFORMS: &str = r#""fields": [] => "fields": [
 {"name": "h", "transform": "void", "source-id": 1, "field-id": 1007},
 {"name": "i", "transform": "zorder[2]", "source-id": 9, "field-id": 1008}]"#;
 
+const TRANSFORMED: &str =
+    "spec 0 = 1000 a identity 1 Some(Int), 1001 b bucket[16] 1 Some(Int), 1002 c truncate[4] 1 Some(Int), 1003 d year 1 Some(Int), 1004 e month 1 Some(Int), 1005 f day 1 Some(Int), 1006 g hour 1 Some(Int), 1007 h void 1 Some(Int), 1008 i zorder[2] 9 None, parts";
+
 #[test]
-fn every_transform(rt: HostRuntime) -> Result<(), Fail> {
-    let text = changed(rt.alloc(), EMPTY, TRANSFORMS)?;
-    let metadata = metadata(rt.alloc(), text.as_str())?;
-    let want =
-        "1000 a identity 1 Some(Int), 1001 b bucket[16] 1 Some(Int), 1002 c truncate[4] 1 Some(Int), 1003 d year 1 Some(Int), 1004 e month 1 Some(Int), 1005 f day 1 Some(Int), 1006 g hour 1 Some(Int), 1007 h void 1 Some(Int), 1008 i zorder[2] 9 None, parts";
-    assert_eq!(rt; spec(rt.alloc(), &metadata, 0)?.as_str(), want);
-    Ok(())
+fn every_transform(rt: HostRuntime) {
+    check_after(&rt, rt.alloc(), EMPTY, TRANSFORMS, TRANSFORMED);
 }
 
 #[test]
@@ -71,45 +79,26 @@ fn a_spec_without_fields_partitions_nothing(rt: HostRuntime) {
     assert!(rt; spec.is_unpartitioned());
 }
 
-/// Transforms of the fields, and whether they partition anything.
-const VOID: &str = "\
-void = whole
-void void = whole
-identity = parts
-void bucket[16] = parts
-bucket[16] void = parts
-Void = parts";
+/// A spec of two fields, whose transforms the lines below replace.
+const TWO_FIELDS: &str = r#""fields": [] => "fields": [
+{"source-id": 1, "field-id": 0, "name": "p", "transform": "A"},
+{"source-id": 1, "field-id": 1, "name": "p", "transform": "B"}]"#;
 
-/// A change of the empty table to a spec with these transforms.
-fn spec_change(alloc: Global, transforms: &str) -> Result<String, Fail> {
-    let mut text = String::from_str(alloc, "\"fields\": [] => \"fields\": [")?;
-    let mut id = 0u8;
-    for transform in transforms.split(' ') {
-        let comma = if id == 0 { "" } else { "," };
-        let field = format!(in alloc;
-            "{comma}{{\"source-id\": 1, \"field-id\": {id}, \"name\": \"p\", \"transform\": \"{transform}\"}}"
-        )?;
-        text.push_str(field.as_str())?;
-        id = id.wrapping_add(1);
-    }
-    text.push_str("]")?;
-    Ok(text)
-}
+const VOID_OF_TWO: &str =
+    r#""A" => "void" and "B" => "void" gives spec 0 = 0 p void 1 Some(Int), 1 p void 1 Some(Int), whole
+"A" => "void" and "B" => "bucket[16]" gives spec 0 = 0 p void 1 Some(Int), 1 p bucket[16] 1 Some(Int), parts
+"A" => "bucket[16]" and "B" => "void" gives spec 0 = 0 p bucket[16] 1 Some(Int), 1 p void 1 Some(Int), parts"#;
+
+/// A spec of one field.
+const ONE_FIELD: &str =
+    r#""fields": [] => "fields": [{"source-id": 1, "field-id": 0, "name": "p", "transform": "A"}]"#;
+
+const VOID_OF_ONE: &str = r#""A" => "void" gives spec 0 = 0 p void 1 Some(Int), whole
+"A" => "identity" gives spec 0 = 0 p identity 1 Some(Int), parts
+"A" => "Void" gives spec 0 = 0 p Void 1 Some(Int), parts"#;
 
 #[test]
-fn void_fields_partition_nothing(rt: HostRuntime) -> Result<(), Fail> {
-    for line in VOID.lines() {
-        let (transforms, want) = line.split_once(" = ").ok_or("transforms")?;
-        let text = changed(
-            rt.alloc(),
-            EMPTY,
-            spec_change(rt.alloc(), transforms)?.as_str(),
-        )?;
-        let metadata = metadata(rt.alloc(), text.as_str())?;
-        assert!(rt;
-            spec(rt.alloc(), &metadata, 0)?.as_str().ends_with(want),
-            "{line}"
-        );
-    }
-    Ok(())
+fn void_fields_partition_nothing(rt: HostRuntime) {
+    check_after(&rt, rt.alloc(), EMPTY, ONE_FIELD, VOID_OF_ONE);
+    check_after(&rt, rt.alloc(), EMPTY, TWO_FIELDS, VOID_OF_TWO);
 }

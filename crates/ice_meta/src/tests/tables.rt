@@ -1,83 +1,120 @@
-use super::faults::changed;
 use super::files::{EMPTY, EVENTS, PLAIN};
-use crate::{Metadata, Target};
+use super::schemas::current_schema_text;
+use super::specs::spec;
+use super::texts::{check, check_after};
+use super::writing::{append, text_of};
+use crate::{Metadata, Schema, Snapshot, Table, Target};
 use contract_words::Text;
 use std::alloc::{AllocError, Global};
-use std::process::Abort;
-use std::test::Fail;
 
-pub fn metadata(alloc: Global, text: &str) -> Result<Metadata, Fail> {
-    match Metadata::read(alloc, text.as_bytes()) {
-        Ok(metadata) => Ok(metadata),
-        Err(fault) => Err(format!(in alloc; "{fault:?}")?.into()),
+/// What the metadata answers to a question, which is a word and what it asks for.
+pub fn answer(alloc: Global, metadata: &Metadata, question: &str) -> Option<String> {
+    let (word, name) = question.split_once(' ')?;
+    match word {
+        "append" => append(alloc, metadata, name),
+        "columns" => columns(alloc, metadata, name),
+        "current" => current_schema_text(alloc, metadata),
+        "facts" => facts(alloc, metadata.table()),
+        "ids" => ids(alloc, metadata.table()),
+        "member" => whether(alloc, metadata.json().get(name).is_some()),
+        "ref" => ref_at(alloc, metadata.table(), name),
+        "row" => column(alloc, metadata.schema(0)?, &[]),
+        "schema" => whether(alloc, metadata.schema(name.parse::<i32>().ok()?).is_some()),
+        "snapshot" => snapshot(alloc, metadata, name),
+        "spec" => spec(alloc, metadata, name),
+        "target" => target(alloc, metadata, name),
+        "text" => text_of(alloc, metadata),
+        "type" => type_of(alloc, metadata, name),
+        _ => None,
     }
 }
 
-fn text(alloc: Global, text: &str) -> Result<Text, AllocError> {
+pub fn text(alloc: Global, text: &str) -> Result<Text, AllocError> {
     Ok(Text::from_string(String::from_str(alloc, text)?))
 }
 
-#[test]
-fn what_a_table_says(rt: HostRuntime) -> Result<(), Fail> {
-    let metadata = metadata(rt.alloc(), PLAIN)?;
-    let table = metadata.table();
-    let found = format!(in rt.alloc();
+fn whether(alloc: Global, is_there: bool) -> Option<String> {
+    String::from_str(alloc, if is_there { "there" } else { "none" }).ok()
+}
+
+fn facts(alloc: Global, table: &Table) -> Option<String> {
+    format!(in alloc;
         "{} {} {} {} {}",
         table.uuid,
         table.location.as_str(),
         table.last_sequence_number.get(),
         table.last_updated_ms,
         table.last_column_id
-    )?;
-    assert_eq!(rt;
-        found.as_str(),
-        "ac7938d4-0cfc-2307-e2bf-325d28e7884e s3://warehouse/db/plain 5 1709597040000 2"
-    );
-    Ok(())
+    )
+    .ok()
 }
 
-#[test]
-fn which_ids_a_table_names(rt: HostRuntime) -> Result<(), Fail> {
-    let metadata = metadata(rt.alloc(), EVENTS)?;
-    let table = metadata.table();
-    assert_eq!(rt; table.current_schema_id, 1);
-    assert_eq!(rt; table.default_spec_id, 2);
-    assert_eq!(rt; table.last_partition_id, 1001);
-    assert_eq!(rt; table.current_snapshot_id, Some(7559570768388442785));
-    assert_eq!(rt; table.schemas.as_slice().len(), 2);
-    assert_eq!(rt; table.specs.as_slice().len(), 3);
-    Ok(())
+fn ids(alloc: Global, table: &Table) -> Option<String> {
+    format!(in alloc;
+        "{} {} {} {:?} {} {}",
+        table.current_schema_id,
+        table.default_spec_id,
+        table.last_partition_id,
+        table.current_snapshot_id,
+        table.schemas.as_slice().len(),
+        table.specs.as_slice().len()
+    )
+    .ok()
 }
+
+const FACTS: &str =
+    "facts of the table = ac7938d4-0cfc-2307-e2bf-325d28e7884e s3://warehouse/db/plain 5 1709597040000 2";
+
+#[test]
+fn what_a_table_says(rt: HostRuntime) {
+    check(&rt, rt.alloc(), PLAIN, FACTS);
+}
+
+const IDS: &str = "ids of the table = 1 2 1001 Some(7559570768388442785) 2 3";
+
+#[test]
+fn which_ids_a_table_names(rt: HostRuntime) {
+    check(&rt, rt.alloc(), EVENTS, IDS);
+}
+
+const MEMBERS: &str = "\
+member statistics = there
+member partition-statistics = there
+member sort-orders = there
+member properties = there
+member snapshot-log = there
+member metadata-log = there";
 
 /// What is not read is kept.
 #[test]
-fn other_members(rt: HostRuntime) -> Result<(), Fail> {
-    let metadata = metadata(rt.alloc(), EVENTS)?;
-    for name in "statistics partition-statistics sort-orders properties snapshot-log metadata-log".split(
-        ' ',
-    ) {
-        assert!(rt; metadata.json().get(name).is_some(), "{name}");
-    }
-    Ok(())
+fn other_members(rt: HostRuntime) {
+    check(&rt, rt.alloc(), EVENTS, MEMBERS);
 }
 
-#[test]
-fn branches_and_tags(rt: HostRuntime) -> Result<(), Fail> {
-    let metadata = metadata(rt.alloc(), PLAIN)?;
-    let mut found = String::new(rt.alloc());
-    for named in metadata.table().refs.as_slice() {
-        let line = format!(in rt.alloc();
-            "{} {:?} {}, ",
-            named.name.as_str(),
-            named.kind,
-            named.snapshot_id
-        )?;
-        found.push_str(line.as_str())?;
+fn ref_at(alloc: Global, table: &Table, place: &str) -> Option<String> {
+    match table.refs.as_slice().get(place.parse::<usize>().ok()?) {
+        Some(named) => {
+            format!(in alloc;
+                "{} {:?} {}",
+                named.name.as_str(),
+                named.kind,
+                named.snapshot_id
+            )
+            .ok()
+        }
+        None => whether(alloc, false),
     }
-    let want =
-        "audit Branch 5093156774740809081, main Branch 5787346651261761729, v1 Tag 5974787585992374985, ";
-    assert_eq!(rt; found.as_str(), want);
-    Ok(())
+}
+
+const REFS: &str = "\
+ref 0 = audit Branch 5093156774740809081
+ref 1 = main Branch 5787346651261761729
+ref 2 = v1 Tag 5974787585992374985
+ref 3 = none";
+
+#[test]
+fn branches_and_tags(rt: HostRuntime) {
+    check(&rt, rt.alloc(), PLAIN, REFS);
 }
 
 fn or_dash(text: &Option<Text>) -> &str {
@@ -87,9 +124,15 @@ fn or_dash(text: &Option<Text>) -> &str {
     }
 }
 
-fn snapshot(alloc: Global, metadata: &Metadata, id: i64) -> Result<String, Fail> {
-    let snapshot = metadata.snapshot(id).ok_or("the snapshot")?;
-    Ok(format!(in alloc;
+fn snapshot(alloc: Global, metadata: &Metadata, id: &str) -> Option<String> {
+    match metadata.snapshot(id.parse::<i64>().ok()?) {
+        Some(snapshot) => members(alloc, snapshot),
+        None => whether(alloc, false),
+    }
+}
+
+fn members(alloc: Global, snapshot: &Snapshot) -> Option<String> {
+    format!(in alloc;
         "{} {:?} {} {} {:?} {} {}",
         snapshot.id,
         snapshot.parent_id,
@@ -98,26 +141,18 @@ fn snapshot(alloc: Global, metadata: &Metadata, id: i64) -> Result<String, Fail>
         snapshot.schema_id,
         or_dash(&snapshot.operation),
         or_dash(&snapshot.manifest_list)
-    )?)
+    )
+    .ok()
 }
 
+const SNAPSHOTS: &str = "\
+snapshot 4517289035762340017 = 4517289035762340017 None 1 1709596800000 Some(0) append s3://warehouse/db/plain/metadata/snap-4517289035762340017-1-2f7d8596-5137-7e43-db3f-8b4c4ac6aeed.avro
+snapshot 2283605302977256481 = 2283605302977256481 Some(5974787585992374985) 3 1709596920000 Some(0) overwrite s3://warehouse/db/plain/metadata/snap-2283605302977256481-1-26e43dfa-7aba-760e-9b91-8dc4a563031a.avro
+snapshot 1 = none";
+
 #[test]
-fn what_a_snapshot_says(rt: HostRuntime) -> Result<(), Fail> {
-    let metadata = metadata(rt.alloc(), PLAIN)?;
-    let first =
-        "4517289035762340017 None 1 1709596800000 Some(0) append s3://warehouse/db/plain/metadata/snap-4517289035762340017-1-2f7d8596-5137-7e43-db3f-8b4c4ac6aeed.avro";
-    let third =
-        "2283605302977256481 Some(5974787585992374985) 3 1709596920000 Some(0) overwrite s3://warehouse/db/plain/metadata/snap-2283605302977256481-1-26e43dfa-7aba-760e-9b91-8dc4a563031a.avro";
-    assert_eq!(rt;
-        snapshot(rt.alloc(), &metadata, 4517289035762340017)?.as_str(),
-        first
-    );
-    assert_eq!(rt;
-        snapshot(rt.alloc(), &metadata, 2283605302977256481)?.as_str(),
-        third
-    );
-    assert!(rt; metadata.snapshot(1).is_none());
-    Ok(())
+fn what_a_snapshot_says(rt: HostRuntime) {
+    check(&rt, rt.alloc(), PLAIN, SNAPSHOTS);
 }
 
 /// The names that points join.
@@ -129,67 +164,65 @@ fn path_of(alloc: Global, names: &str) -> Result<Vec<Text>, AllocError> {
     Ok(path)
 }
 
-/// The column to which the names lead in the schema of this id.
-fn column(alloc: Global, metadata: &Metadata, id: i32, names: &str) -> Result<String, Fail> {
-    let schema = metadata.schema(id).ok_or("the schema")?;
-    match schema.column(&path_of(alloc, names)?) {
-        Some(column) => Ok(format!(in alloc; "{} {:?}", column.id, column.column_type)?),
-        None => Ok(String::from_str(alloc, "none")?),
+/// The column to which the names lead in a schema.
+fn column(alloc: Global, schema: &Schema, path: &[Text]) -> Option<String> {
+    match schema.column(path) {
+        Some(column) => format!(in alloc; "{} {:?}", column.id, column.column_type).ok(),
+        None => whether(alloc, false),
     }
+}
+
+/// Where a path leads in schema 0 and in schema 1.
+fn columns(alloc: Global, metadata: &Metadata, names: &str) -> Option<String> {
+    let (old, new) = (metadata.schema(0)?, metadata.schema(1)?);
+    let path = path_of(alloc, names).ok()?;
+    let in_old = column(alloc, old, &path)?;
+    let in_new = column(alloc, new, &path)?;
+    format!(in alloc; "{} = {}", in_old.as_str(), in_new.as_str()).ok()
 }
 
 /// A path, where it leads in schema 0, and in schema 1.
 const COLUMNS: &str = "\
-id = 1 Some(Long) = 1 Some(Long)
-category = 3 Some(String) = none
-cat = none = 3 Some(String)
-code = 13 Some(Int) = 13 Some(Long)
-location = 5 None = 5 None
-location.long = 7 Some(Float) = 7 Some(Float)
-location.id = none = none
-lat = none = none
-tags = 8 None = 8 None
-tags.element = none = none
-props.key = none = none
-id.id = none = none
-note = none = 15 Some(String)";
-
-/// Where a path leads in schema 0 and in schema 1, as the lines of the table say it.
-fn columns(alloc: Global, metadata: &Metadata, names: &str) -> Result<String, Fail> {
-    let in_old = column(alloc, metadata, 0, names)?;
-    let in_new = column(alloc, metadata, 1, names)?;
-    Ok(format!(in alloc; "{names} = {} = {}", in_old.as_str(), in_new.as_str())?)
-}
+columns id = 1 Some(Long) = 1 Some(Long)
+columns category = 3 Some(String) = none
+columns cat = none = 3 Some(String)
+columns code = 13 Some(Int) = 13 Some(Long)
+columns location = 5 None = 5 None
+columns location.long = 7 Some(Float) = 7 Some(Float)
+columns location.id = none = none
+columns lat = none = none
+columns tags = 8 None = 8 None
+columns tags.element = none = none
+columns props.key = none = none
+columns id.id = none = none
+columns note = none = 15 Some(String)";
 
 #[test]
-fn columns_by_their_paths(rt: HostRuntime) -> Result<(), Fail> {
-    let metadata = metadata(rt.alloc(), EVENTS)?;
-    for line in COLUMNS.lines() {
-        let (names, _) = line.split_once(" = ").ok_or("a path")?;
-        assert_eq!(rt; columns(rt.alloc(), &metadata, names)?.as_str(), line);
-    }
-    Ok(())
+fn columns_by_their_paths(rt: HostRuntime) {
+    check(&rt, rt.alloc(), EVENTS, COLUMNS);
 }
+
+/// The type of a column of schema 0.
+fn type_of(alloc: Global, metadata: &Metadata, id: &str) -> Option<String> {
+    let found = metadata.schema(0)?.type_of(id.parse::<i32>().ok()?);
+    format!(in alloc; "{found:?}").ok()
+}
+
+const TYPES: &str = "\
+schema 2 = none
+row of schema 0 = none
+type 6 = Some(Float)
+type 9 = Some(String)
+type 12 = Some(String)
+type 5 = None
+type 15 = None";
 
 #[test]
-fn columns_by_their_ids(rt: HostRuntime) -> Result<(), Fail> {
-    let metadata = metadata(rt.alloc(), EVENTS)?;
-    let schema = metadata.schema(0).ok_or("schema 0")?;
-    assert!(rt; metadata.schema(2).is_none());
-    assert!(rt; schema.column(&[]).is_none());
-    let mut found = String::new(rt.alloc());
-    for id in [6, 9, 12, 5, 15] {
-        let column_type = format!(in rt.alloc(); "{:?} ", schema.type_of(id))?;
-        found.push_str(column_type.as_str())?;
-    }
-    assert_eq!(rt;
-        found.as_str(),
-        "Some(Float) Some(String) Some(String) None None "
-    );
-    Ok(())
+fn columns_by_their_ids(rt: HostRuntime) {
+    check(&rt, rt.alloc(), EVENTS, TYPES);
 }
 
-fn target(alloc: Global, name: &str) -> Result<Target, Fail> {
+fn target_of(alloc: Global, name: &str) -> Result<Target, AllocError> {
     match name.parse::<i64>() {
         Ok(id) => Ok(Target::Snapshot(id)),
         Err(_) if name == "-" => Ok(Target::Main),
@@ -198,57 +231,43 @@ fn target(alloc: Global, name: &str) -> Result<Target, Fail> {
 }
 
 /// The snapshot of a target and its schema.
-fn found(alloc: Global, metadata: &Metadata, name: &str) -> Result<String, Fail> {
-    let target = target(alloc, name)?;
-    Ok(format!(in alloc;
+fn target(alloc: Global, metadata: &Metadata, name: &str) -> Option<String> {
+    let target = target_of(alloc, name).ok()?;
+    format!(in alloc;
         "{:?} {}",
         metadata.resolve(&target),
         metadata.schema_for(&target).id
-    )?)
-}
-
-fn check_targets(
-    rt: &impl Abort,
-    alloc: Global,
-    metadata: &Metadata,
-    targets: &str,
-) -> Result<(), Fail> {
-    for line in targets.lines() {
-        let (name, want) = line.split_once(" = ").ok_or("a target")?;
-        assert_eq!(rt; found(alloc, metadata, name)?.as_str(), want, "{line}");
-    }
-    Ok(())
+    )
+    .ok()
 }
 
 const TARGETS: &str = "\
-- = Ok(7559570768388442785) 1
-main = Ok(7559570768388442785) 1
-wap = Ok(7848602913725974121) 1
-eoy = Ok(1918045885104987393) 0
-1918045885104987393 = Ok(1918045885104987393) 0
-7559570768388442785 = Ok(7559570768388442785) 1
-none = Err(NoSuchRef) 1
-5 = Err(NoSuchSnapshot) 1";
+target - = Ok(7559570768388442785) 1
+target main = Ok(7559570768388442785) 1
+target wap = Ok(7848602913725974121) 1
+target eoy = Ok(1918045885104987393) 0
+target 1918045885104987393 = Ok(1918045885104987393) 0
+target 7559570768388442785 = Ok(7559570768388442785) 1
+target none = Err(NoSuchRef) 1
+target 5 = Err(NoSuchSnapshot) 1";
 
 #[test]
-fn targets(rt: HostRuntime) -> Result<(), Fail> {
-    let metadata = metadata(rt.alloc(), EVENTS)?;
-    check_targets(&rt, rt.alloc(), &metadata, TARGETS)
+fn targets(rt: HostRuntime) {
+    check(&rt, rt.alloc(), EVENTS, TARGETS);
 }
 
 const TARGETS_OF_NONE: &str = "\
-- = Err(NoSnapshot) 0
-main = Err(NoSnapshot) 0
-x = Err(NoSuchRef) 0
-5 = Err(NoSuchSnapshot) 0
--1 = Err(NoSuchSnapshot) 0";
+ids of the table = 0 0 999 None 1 1
+ref 0 = none
+target - = Err(NoSnapshot) 0
+target main = Err(NoSnapshot) 0
+target x = Err(NoSuchRef) 0
+target 5 = Err(NoSuchSnapshot) 0
+target -1 = Err(NoSuchSnapshot) 0";
 
 #[test]
-fn an_empty_table(rt: HostRuntime) -> Result<(), Fail> {
-    let metadata = metadata(rt.alloc(), EMPTY)?;
-    assert!(rt; metadata.table().current_snapshot_id.is_none());
-    assert!(rt; metadata.table().refs.as_slice().is_empty());
-    check_targets(&rt, rt.alloc(), &metadata, TARGETS_OF_NONE)
+fn an_empty_table(rt: HostRuntime) {
+    check(&rt, rt.alloc(), EMPTY, TARGETS_OF_NONE);
 }
 
 /// A snapshot without a list, whose schema is not there; `main` and a tag that name no snapshot.
@@ -258,17 +277,13 @@ const ODD: &str =
 "refs": {"main": {"snapshot-id": 8, "type": "tag"}, "gone": {"snapshot-id": 9, "type": "tag"}}"#;
 
 const TARGETS_OF_ODD: &str = "\
-- = Err(Missing(ManifestList)) 0
-main = Err(Missing(ManifestList)) 0
-7 = Err(Missing(ManifestList)) 0
-gone = Err(NoSuchSnapshot) 0";
+snapshot 7 = 7 None 1 5 Some(4) - -
+target - = Err(Missing(ManifestList)) 0
+target main = Err(Missing(ManifestList)) 0
+target 7 = Err(Missing(ManifestList)) 0
+target gone = Err(NoSuchSnapshot) 0";
 
 #[test]
-fn snapshots_without_lists_and_schemas(rt: HostRuntime) -> Result<(), Fail> {
-    let text = changed(rt.alloc(), EMPTY, ODD)?;
-    let metadata = metadata(rt.alloc(), text.as_str())?;
-    check_targets(&rt, rt.alloc(), &metadata, TARGETS_OF_ODD)?;
-    let odd = metadata.snapshot(7).ok_or("the snapshot")?;
-    assert!(rt; odd.operation.is_none() && odd.manifest_list.is_none());
-    Ok(())
+fn snapshots_without_lists_and_schemas(rt: HostRuntime) {
+    check_after(&rt, rt.alloc(), EMPTY, ODD, TARGETS_OF_ODD);
 }

@@ -1,83 +1,102 @@
 //! What is written of a table, and after a commit to it.
 
-use super::faults::changed;
 use super::files::{EMPTY, EVENTS, PLAIN};
-use super::tables::metadata;
-use crate::{Member, MetaFault, Metadata, NewSnapshot, Operation, Target};
-use contract_words::Text;
-use std::alloc::Global;
-use std::process::Abort;
-use std::test::Fail;
+use super::tables::text;
+use super::texts::{changed_by, check, check_after, is_outcome, read};
+use crate::{MetaFault, Metadata, NewSnapshot, Operation, Target};
+use std::alloc::{AllocError, Global};
 
-fn text_of(alloc: Global, metadata: &Metadata) -> Result<String, Fail> {
-    match String::from_utf8(metadata.write(alloc)?) {
-        Ok(text) => Ok(text),
-        Err(_) => Err("the text".into()),
-    }
+/// A snapshot that is added, with its time.
+#[derive(Clone, Copy)]
+struct Added {
+    id: i64,
+    now: i64,
+    operation: Operation,
 }
 
-fn added(alloc: Global, id: i64, now: i64, operation: Operation) -> Result<NewSnapshot, Fail> {
+/// An append, as snapshot 7 at time 5.
+const APPEND: Added = Added {
+    id: 7,
+    now: 5,
+    operation: Operation::Append,
+};
+
+fn new_snapshot(alloc: Global, added: Added) -> Result<NewSnapshot, AllocError> {
     Ok(NewSnapshot {
-        id,
-        timestamp_ms: now,
-        manifest_list: Text::from_string(String::from_str(alloc, "mem://t/list")?),
-        operation,
+        id: added.id,
+        timestamp_ms: added.now,
+        manifest_list: text(alloc, "mem://t/list")?,
+        operation: added.operation,
     })
 }
 
 /// The metadata after a commit of this snapshot.
-fn committed(alloc: Global, base: &Metadata, added: &NewSnapshot) -> Result<Metadata, Fail> {
-    match base.with_snapshot(alloc, added) {
-        Ok(next) => Ok(next),
-        Err(fault) => Err(format!(in alloc; "{fault:?}")?.into()),
+fn committed(alloc: Global, base: &Metadata, added: Added) -> Result<Metadata, MetaFault> {
+    match new_snapshot(alloc, added) {
+        Ok(added) => base.with_snapshot(alloc, &added),
+        Err(AllocError) => Err(MetaFault::Memory),
     }
 }
 
-/// The metadata after an append, as snapshot 7 at time 5.
-fn after(alloc: Global, text: &str) -> Result<Metadata, Fail> {
-    let base = metadata(alloc, text)?;
-    committed(alloc, &base, &added(alloc, 7, 5, Operation::Append)?)
+/// Whether the bytes are read as the same table.
+fn is_read_back(alloc: Global, metadata: &Metadata, bytes: &[u8]) -> bool {
+    match read(alloc, bytes) {
+        Ok(again) => again.table() == metadata.table(),
+        Err(_) => false,
+    }
 }
 
-/// The text that is written is this one.
-fn check_text(alloc: Global, written: &Metadata, want: &str) -> Result<(), Fail> {
-    let text = text_of(alloc, written)?;
-    if text.as_str() == want {
-        return Ok(());
+/// The text that is written of the metadata, where it is read as the same table.
+pub fn text_of(alloc: Global, metadata: &Metadata) -> Option<String> {
+    let bytes = metadata.write(alloc).ok()?;
+    if is_read_back(alloc, metadata, &bytes) {
+        String::from_str(alloc, str::from_utf8(&bytes).ok()?).ok()
+    } else {
+        None
     }
-    Err(text.into())
 }
 
-/// The text that is written is read as the same table.
-fn check_read_back(alloc: Global, written: &Metadata) -> Result<(), Fail> {
-    let text = text_of(alloc, written)?;
-    if metadata(alloc, text.as_str())?.table() == written.table() {
-        return Ok(());
+/// The text that is written of the metadata, where this snapshot is the current one.
+fn text_with_current(alloc: Global, metadata: &Metadata, id: i64) -> Option<String> {
+    if metadata.resolve(&Target::Main) == Ok(id) {
+        text_of(alloc, metadata)
+    } else {
+        None
     }
-    Err(text.into())
 }
 
-/// The text without its line breaks.
-pub fn joined(alloc: Global, text: &str) -> Result<String, Fail> {
-    let mut whole = String::new(alloc);
-    for line in text.lines() {
-        whole.push_str(line)?;
+/// The text of a table after a commit to it, or why it is refused.
+fn text_after(alloc: Global, base: &Metadata, added: Added) -> Option<String> {
+    match committed(alloc, base, added) {
+        Ok(next) => text_with_current(alloc, &next, added.id),
+        Err(fault) => format!(in alloc; "{fault:?}").ok(),
     }
-    Ok(whole)
 }
 
-/// The text after several changes, one a line.
-fn all_changed(alloc: Global, text: &str, changes: &str) -> Result<String, Fail> {
-    let mut whole = String::from_str(alloc, text)?;
-    for change in changes.lines() {
-        whole = changed(alloc, whole.as_str(), change)?;
+/// The text of the metadata after an append, as the snapshot of this id at time 5, or why it is refused.
+pub fn append(alloc: Global, base: &Metadata, id: &str) -> Option<String> {
+    let id = id.parse::<i64>().ok()?;
+    text_after(alloc, base, Added { id, ..APPEND })
+}
+
+/// Whether a commit changes the text of the table as the lines say.
+fn changes(alloc: Global, base: &Metadata, added: Added, lines: &str) -> Option<bool> {
+    let text = text_of(alloc, base)?;
+    let want = changed_by(alloc, text.as_str(), lines, "\n")?;
+    Some(text_after(alloc, base, added)?.as_str() == want.as_str())
+}
+
+/// Whether a commit changes the text of the table of a text as the lines say.
+fn changes_text(alloc: Global, text: &str, added: Added, lines: &str) -> Option<bool> {
+    match read(alloc, text.as_bytes()) {
+        Ok(base) => changes(alloc, &base, added, lines),
+        Err(_) => None,
     }
-    Ok(whole)
 }
 
 /// The empty table after one append.
 const FIRST: &str =
-    r#"{"current-schema-id":0,"current-snapshot-id":7,"default-spec-id":0,"format-version":2,
+    r#"append 7 = {"current-schema-id":0,"current-snapshot-id":7,"default-spec-id":0,"format-version":2,
 "last-column-id":1,"last-partition-id":999,"last-sequence-number":1,"last-updated-ms":5,"location":"mem://t",
 "partition-specs":[{"fields":[],"spec-id":0}],"refs":{"main":{"snapshot-id":7,"type":"branch"}},
 "schemas":[{"fields":[{"id":1,"name":"c","required":false,"type":"int"}],"schema-id":0,"type":"struct"}],
@@ -86,12 +105,15 @@ const FIRST: &str =
 "summary":{"operation":"append"},"timestamp-ms":5}],"table-uuid":"f79c3e09-677c-4bbd-a479-3f349cb785e7"}"#;
 
 #[test]
-fn first_snapshot(rt: HostRuntime) -> Result<(), Fail> {
-    let next = after(rt.alloc(), EMPTY)?;
-    assert!(rt; next.resolve(&Target::Main) == Ok(7));
-    let want = joined(rt.alloc(), FIRST)?;
-    check_text(rt.alloc(), &next, want.as_str())
+fn first_snapshot(rt: HostRuntime) {
+    assert!(rt; is_outcome(rt.alloc(), EMPTY, FIRST) == Some(true));
 }
+
+const DELETES: Added = Added {
+    id: -3,
+    now: -1,
+    operation: Operation::Delete,
+};
 
 /// What a second commit, of deletes, changes in the text of the first.
 const SECOND: &str = r#""current-snapshot-id":7 => "current-snapshot-id":-3
@@ -102,19 +124,30 @@ const SECOND: &str = r#""current-snapshot-id":7 => "current-snapshot-id":-3
 "append"},"timestamp-ms":5}] => "append"},"timestamp-ms":5},{"manifest-list":"mem://t/list","parent-snapshot-id":7,NEXT
 NEXT => "schema-id":0,"sequence-number":2,"snapshot-id":-3,"summary":{"operation":"delete"},"timestamp-ms":-1}]"#;
 
+/// Whether a second commit, to the metadata that the first one made, changes its text so.
+fn changes_again(alloc: Global, base: &Metadata) -> Option<bool> {
+    match committed(alloc, base, APPEND) {
+        Ok(first) => changes(alloc, &first, DELETES, SECOND),
+        Err(_) => None,
+    }
+}
+
+fn is_second(alloc: Global) -> Option<bool> {
+    match read(alloc, EMPTY.as_bytes()) {
+        Ok(base) => changes_again(alloc, &base),
+        Err(_) => None,
+    }
+}
+
 #[test]
-fn second_snapshot(rt: HostRuntime) -> Result<(), Fail> {
-    let alloc = rt.alloc();
-    let first = after(alloc, EMPTY)?;
-    let second = committed(alloc, &first, &added(alloc, -3, -1, Operation::Delete)?)?;
-    let want = all_changed(alloc, joined(alloc, FIRST)?.as_str(), SECOND)?;
-    check_text(alloc, &second, want.as_str())?;
-    check_read_back(alloc, &second)
+fn second_snapshot(rt: HostRuntime) {
+    assert!(rt; is_second(rt.alloc()) == Some(true));
 }
 
 /// The file of a table without partitions, as Python's `json` writes it with its keys sorted.
 const PLAIN_SORTED: &str =
-    r#"{"current-schema-id":0,"current-snapshot-id":5787346651261761729,"default-sort-order-id":1,"default-spec-id":0,
+    r#"text of the table = {"current-schema-id":0,"current-snapshot-id":5787346651261761729,
+"default-sort-order-id":1,"default-spec-id":0,
 "format-version":2,"last-column-id":2,"last-partition-id":999,"last-sequence-number":5,"last-updated-ms":
 1709597040000,"location":"s3://warehouse/db/plain","metadata-log":[{"metadata-file":
 "s3://warehouse/db/plain/metadata/00000-aaaaaaaa-0000-4000-8000-000000000000.metadata.json","timestamp-ms":
@@ -169,12 +202,9 @@ NEXT => "parent-snapshot-id":5787346651261761729,"schema-id":0,"sequence-number"
 NEXT => "snapshot-id":7,"summary":{"operation":"append"},"timestamp-ms":5}]"#;
 
 #[test]
-fn file_of_another_writer(rt: HostRuntime) -> Result<(), Fail> {
-    let sorted = joined(rt.alloc(), PLAIN_SORTED)?;
-    check_text(rt.alloc(), &metadata(rt.alloc(), PLAIN)?, sorted.as_str())?;
-    let next = after(rt.alloc(), PLAIN)?;
-    let want = all_changed(rt.alloc(), sorted.as_str(), PLAIN_CHANGES)?;
-    check_text(rt.alloc(), &next, want.as_str())
+fn file_of_another_writer(rt: HostRuntime) {
+    assert!(rt; is_outcome(rt.alloc(), PLAIN, PLAIN_SORTED) == Some(true));
+    assert!(rt; changes_text(rt.alloc(), PLAIN, APPEND, PLAIN_CHANGES) == Some(true));
 }
 
 /// The new snapshot is of the current schema, and its summary says what the change is.
@@ -188,61 +218,42 @@ LOG => {"snapshot-id":9,"timestamp-ms":1709629200000}
 NEXT => "parent-snapshot-id":7559570768388442785,"schema-id":1,"sequence-number":9,NEXT
 NEXT => "snapshot-id":9,"summary":{"operation":"overwrite"},"timestamp-ms":1709629200000}]"#;
 
+const NINTH: Added = Added {
+    id: 9,
+    now: 1709629200000,
+    operation: Operation::Overwrite,
+};
+
 #[test]
-fn table_with_partitions(rt: HostRuntime) -> Result<(), Fail> {
-    let alloc = rt.alloc();
-    let base = metadata(alloc, EVENTS)?;
-    let ninth = added(alloc, 9, 1709629200000, Operation::Overwrite)?;
-    let next = committed(alloc, &base, &ninth)?;
-    let want = all_changed(alloc, text_of(alloc, &base)?.as_str(), EVENTS_CHANGES)?;
-    check_text(alloc, &next, want.as_str())
+fn table_with_partitions(rt: HostRuntime) {
+    assert!(rt; changes_text(rt.alloc(), EVENTS, NINTH, EVENTS_CHANGES) == Some(true));
 }
 
-/// What the empty table has in the place of its snapshots, and what it has there after an append.
+/// The empty table with members in the place of its snapshots.
+const WITH_MEMBERS: &str = r#""snapshots": [] => MEMBERS"#;
+
+/// These members, and what the table has after an append.
 const OTHER_MEMBERS: &str =
-    r#""refs": null, "snapshot-log": null gives "refs":{"main":{"snapshot-id":7,"type":"branch"}}
-"snapshot-log": {"a": 1} gives "snapshot-log":[{"snapshot-id":7,"timestamp-ms":5}]
-"snapshot-log": [3] gives "snapshot-log":[3,{"snapshot-id":7,"timestamp-ms":5}]
-"snapshots": null gives "snapshots":[{"manifest-list":"mem://t/list","schema-id":0,"sequence-number":1,"snapshot-id":7,
-"refs": {"n": {"snapshot-id": 4, "type": "tag"}} gives {"main":{"snapshot-id":7,"type":"branch"},"n":{"snapshot-id":4,"type":"tag"}}
-"refs": {"main": {"type": "tag", "snapshot-id": 4, "x": 1}} gives "refs":{"main":{"snapshot-id":7,"type":"branch","x":1}}
-"y": {"z": [1.5, null, {}], "é": -0.25} gives "y":{"z":[1.5,null,{}],"é":-0.25}"#;
-
-/// The empty table with these members in the place of its snapshots.
-fn empty_with(alloc: Global, members: &str) -> Result<String, Fail> {
-    let (front, _) = EMPTY.split_once("\"snapshots\"").ok_or("the place")?;
-    Ok(format!(in alloc; "{front}{members}}}")?)
-}
+    r#"MEMBERS => "refs": null, "snapshot-log": null gives append 7 has "refs":{"main":{"snapshot-id":7,"type":"branch"}}
+MEMBERS => "snapshot-log": {"a": 1} gives append 7 has "snapshot-log":[{"snapshot-id":7,"timestamp-ms":5}]
+MEMBERS => "snapshot-log": [3] gives append 7 has "snapshot-log":[3,{"snapshot-id":7,"timestamp-ms":5}]
+MEMBERS => "snapshots": null gives append 7 has "snapshots":[{"manifest-list":"mem://t/list","schema-id":0,"sequence-number":1,"snapshot-id":7,
+MEMBERS => "refs": {"n": {"snapshot-id": 4, "type": "tag"}} gives append 7 has {"main":{"snapshot-id":7,"type":"branch"},"n":{"snapshot-id":4,"type":"tag"}}
+MEMBERS => "refs": {"main": {"type": "tag", "snapshot-id": 4, "x": 1}} gives append 7 has "refs":{"main":{"snapshot-id":7,"type":"branch","x":1}}
+MEMBERS => "y": {"z": [1.5, null, {}], "é": -0.25} gives append 7 has "y":{"z":[1.5,null,{}],"é":-0.25}"#;
 
 #[test]
-fn other_members_of_the_base(rt: HostRuntime) -> Result<(), Fail> {
-    for line in OTHER_MEMBERS.lines() {
-        let (members, want) = line.split_once(" gives ").ok_or("a line")?;
-        let base = empty_with(rt.alloc(), members)?;
-        let next = after(rt.alloc(), base.as_str())?;
-        let text = text_of(rt.alloc(), &next)?;
-        assert!(rt; text.as_str().contains(want), "{line} {text}");
-        check_read_back(rt.alloc(), &next)?;
-    }
-    Ok(())
+fn other_members_of_the_base(rt: HostRuntime) {
+    check_after(&rt, rt.alloc(), EMPTY, WITH_MEMBERS, OTHER_MEMBERS);
 }
 
-/// Why an append to the table is refused.
-fn refusal(alloc: Global, text: &str, id: i64) -> Result<Option<MetaFault>, Fail> {
-    let base = metadata(alloc, text)?;
-    Ok(
-        base.with_snapshot(alloc, &added(alloc, id, 5, Operation::Append)?)
-            .err(),
-    )
-}
+const TAKEN: &str = "append 2283605302977256481 = IdTwice(2283605302977256481)";
+
+const PAST_THE_LAST: &str =
+    r#""last-sequence-number": 0 => "last-sequence-number": 9223372036854775807 gives append 7 = WrongKind(LastSequenceNumber)"#;
 
 #[test]
-fn refused_snapshots(rt: HostRuntime) -> Result<(), Fail> {
-    let taken = refusal(rt.alloc(), PLAIN, 2283605302977256481)?;
-    assert!(rt; taken == Some(MetaFault::IdTwice(2283605302977256481)));
-    let line = "\"last-sequence-number\": 0 => \"last-sequence-number\": 9223372036854775807";
-    let last = changed(rt.alloc(), EMPTY, line)?;
-    let past_the_last = refusal(rt.alloc(), last.as_str(), 7)?;
-    assert!(rt; past_the_last == Some(MetaFault::WrongKind(Member::LastSequenceNumber)));
-    Ok(())
+fn refused_snapshots(rt: HostRuntime) {
+    check(&rt, rt.alloc(), PLAIN, TAKEN);
+    check(&rt, rt.alloc(), EMPTY, PAST_THE_LAST);
 }
