@@ -16,6 +16,34 @@ fn bytes(alloc: Global, bytes: &[u8]) -> Result<Cell, AllocError> {
     Ok(Cell::Bytes(Items::from_vec(bytes.to_vec(alloc)?)))
 }
 
+/// A cell.
+#[derive(Clone, Copy)]
+enum Literal {
+    Null,
+    Bool(bool),
+    Whole(i64),
+    Text(&'static str),
+    Bytes(&'static [u8]),
+}
+
+fn cell(alloc: Global, literal: Literal) -> Result<Cell, AllocError> {
+    match literal {
+        Literal::Null => Ok(Cell::Null),
+        Literal::Bool(flag) => Ok(Cell::Bool(flag)),
+        Literal::Whole(number) => Ok(Cell::Whole(number)),
+        Literal::Text(characters) => text(alloc, characters),
+        Literal::Bytes(held) => bytes(alloc, held),
+    }
+}
+
+fn cells(alloc: Global, literals: &[Literal]) -> Result<Items<Cell>, AllocError> {
+    let mut cells = Items::new(alloc);
+    for literal in literals {
+        cells.push(cell(alloc, *literal)?)?;
+    }
+    Ok(cells)
+}
+
 /// f79c3e09-677c-4bbd-a479-3f349cb785e7
 const UUID: [u8; 16] = [
     0xf7, 0x9c, 0x3e, 0x09, 0x67, 0x7c, 0x4b, 0xbd, 0xa4, 0x79, 0x3f, 0x34, 0x9c, 0xb7, 0x85, 0xe7,
@@ -162,174 +190,221 @@ fn cells_in_order(rt: HostRuntime) -> Result<(), Fail> {
     Ok(())
 }
 
+/// A type, the bytes of a bound, and a cell.
+type Bound = (ColumnType, &'static [u8], Literal);
+
+const DECIMAL: ColumnType = ColumnType::Decimal {
+    precision: 9,
+    scale: 2,
+};
+
 /// The bytes are read as the cell, compared as equal to it, and written for it.
-fn check_bound(
-    rt: &impl Abort,
-    alloc: Global,
-    column_type: ColumnType,
-    held: &[u8],
-    cell: &Cell,
-) -> Result<(), AllocError> {
-    match read_bound(alloc, &column_type, held)? {
-        Some(read) => assert!(rt; read == cell.copy(alloc)?),
-        None => assert!(rt; false),
-    }
-    assert!(rt; compare_bound(&column_type, held, cell) == Some(Ordering::Equal));
-    match write_bound(alloc, &column_type, cell)? {
-        Some(written) => assert!(rt; written.as_slice() == held),
-        None => assert!(rt; false),
-    }
-    Ok(())
-}
-
-fn check_absent(
-    rt: &impl Abort,
-    alloc: Global,
-    column_type: ColumnType,
-    held: &[u8],
-    cell: &Cell,
-) -> Result<(), AllocError> {
-    assert!(rt; read_bound(alloc, &column_type, held)?.is_none());
-    assert!(rt; compare_bound(&column_type, held, cell) == None);
-    Ok(())
-}
-
-#[test]
-fn numbers_as_bytes(rt: HostRuntime) -> Result<(), Fail> {
-    let alloc = rt.alloc();
-    check_bound(&rt, alloc, ColumnType::Boolean, &[0], &Cell::Bool(false))?;
-    check_bound(&rt, alloc, ColumnType::Boolean, &[1], &Cell::Bool(true))?;
-    check_bound(
-        &rt,
-        alloc,
-        ColumnType::Date,
-        &[0x4e, 0x44, 0, 0],
-        &Cell::Whole(17486),
-    )?;
-    check_bound(
-        &rt,
-        alloc,
+const BOUNDS: [Bound; 13] = [
+    (ColumnType::Boolean, &[0], Literal::Bool(false)),
+    (ColumnType::Boolean, &[1], Literal::Bool(true)),
+    (ColumnType::Date, &[0x4e, 0x44, 0, 0], Literal::Whole(17486)),
+    (
         ColumnType::Int,
         &[0xfe, 0xff, 0xff, 0xff],
-        &Cell::Whole(-2),
-    )?;
-    check_bound(
-        &rt,
-        alloc,
+        Literal::Whole(-2),
+    ),
+    (
         ColumnType::Int,
         &[0, 0, 0, 0x80],
-        &Cell::Whole(-2_147_483_648),
-    )?;
-    check_bound(
-        &rt,
-        alloc,
+        Literal::Whole(-2_147_483_648),
+    ),
+    (
         ColumnType::Long,
         &[5, 0, 0, 0, 0, 0, 0, 0],
-        &Cell::Whole(5),
-    )?;
-    let minus_one = [0xff; 8];
-    check_bound(&rt, alloc, ColumnType::Time, &minus_one, &Cell::Whole(-1))?;
-    check_bound(
-        &rt,
-        alloc,
-        ColumnType::Timestamp,
-        &minus_one,
-        &Cell::Whole(-1),
-    )?;
+        Literal::Whole(5),
+    ),
+    (ColumnType::Time, &[0xff; 8], Literal::Whole(-1)),
+    (ColumnType::Timestamp, &[0xff; 8], Literal::Whole(-1)),
     // 2017-11-16T22:31:08 in microseconds
-    let stamp = [0x00, 0xc3, 0x26, 0x2d, 0x21, 0x5e, 0x05, 0x00];
-    check_bound(
-        &rt,
-        alloc,
+    (
         ColumnType::Timestamptz,
-        &stamp,
-        &Cell::Whole(1_510_871_468_000_000),
-    )?;
-    Ok(())
-}
+        &[0x00, 0xc3, 0x26, 0x2d, 0x21, 0x5e, 0x05, 0x00],
+        Literal::Whole(1_510_871_468_000_000),
+    ),
+    (ColumnType::String, b"iceberg", Literal::Text("iceberg")),
+    (ColumnType::Uuid, &UUID, Literal::Bytes(&UUID)),
+    (
+        ColumnType::Fixed(3),
+        &[0, 1, 255],
+        Literal::Bytes(&[0, 1, 255]),
+    ),
+    (
+        ColumnType::Binary,
+        &[0, 1, 255],
+        Literal::Bytes(&[0, 1, 255]),
+    ),
+];
 
-#[test]
-fn longs_of_four_bytes(rt: HostRuntime) -> Result<(), Fail> {
-    let alloc = rt.alloc();
-    let five = Cell::Whole(5);
-    match read_bound(alloc, &ColumnType::Long, &[5, 0, 0, 0])? {
-        Some(read) => assert!(rt; read == five),
-        None => assert!(rt; false),
-    }
-    assert!(rt; compare_bound(&ColumnType::Long, &[5, 0, 0, 0], &five) == Some(Ordering::Equal));
-    assert!(rt;
-        compare_bound(&ColumnType::Long, &[0xff, 0xff, 0xff, 0xff], &five) == Some(Ordering::Less)
-    );
-    check_absent(&rt, alloc, ColumnType::Long, &[5, 0, 0], &five)?;
-    check_absent(&rt, alloc, ColumnType::Timestamp, &[5, 0, 0, 0], &five)?;
-    check_absent(&rt, alloc, ColumnType::Time, &[5, 0, 0, 0], &five)?;
-    check_absent(
-        &rt,
-        alloc,
+/// The bytes are read as the cell, and others are written for it.
+const READ: [Bound; 2] = [
+    (ColumnType::Long, &[5, 0, 0, 0], Literal::Whole(5)),
+    (ColumnType::Boolean, &[255], Literal::Bool(true)),
+];
+
+/// The bytes are no bound of the type, and compare with no cell.
+const ABSENT: [Bound; 13] = [
+    (ColumnType::Long, &[5, 0, 0], Literal::Whole(5)),
+    (ColumnType::Timestamp, &[5, 0, 0, 0], Literal::Whole(5)),
+    (ColumnType::Time, &[5, 0, 0, 0], Literal::Whole(5)),
+    (
         ColumnType::Int,
         &[5, 0, 0, 0, 0, 0, 0, 0],
-        &five,
-    )?;
-    check_absent(&rt, alloc, ColumnType::Boolean, &[], &Cell::Bool(false))?;
-    check_absent(&rt, alloc, ColumnType::Boolean, &[0, 0], &Cell::Bool(false))?;
-    match read_bound(alloc, &ColumnType::Boolean, &[255])? {
-        Some(read) => assert!(rt; read == Cell::Bool(true)),
-        None => assert!(rt; false),
+        Literal::Whole(5),
+    ),
+    (ColumnType::Boolean, &[], Literal::Bool(false)),
+    (ColumnType::Boolean, &[0, 0], Literal::Bool(false)),
+    (ColumnType::String, &[0xff], Literal::Text("iceberg")),
+    (
+        ColumnType::String,
+        &[0xed, 0xa0, 0x80],
+        Literal::Text("iceberg"),
+    ),
+    (ColumnType::Uuid, &[0x7f; 15], Literal::Bytes(&UUID)),
+    (
+        ColumnType::Fixed(4),
+        &[0, 1, 255],
+        Literal::Bytes(&[0, 1, 255]),
+    ),
+    (ColumnType::Float, &[0; 4], Literal::Whole(0)),
+    (ColumnType::Double, &[0; 8], Literal::Whole(0)),
+    (DECIMAL, &[0], Literal::Bytes(&[0, 1, 255])),
+];
+
+/// Bounds, cells, and how they compare.
+const COMPARED: [(Bound, Option<Ordering>); 6] = [
+    (
+        (ColumnType::Long, &[5, 0, 0, 0], Literal::Whole(5)),
+        Some(Ordering::Equal),
+    ),
+    (
+        (
+            ColumnType::Long,
+            &[0xff, 0xff, 0xff, 0xff],
+            Literal::Whole(5),
+        ),
+        Some(Ordering::Less),
+    ),
+    (
+        (ColumnType::String, b"ice", Literal::Text("iceberg")),
+        Some(Ordering::Less),
+    ),
+    (
+        (ColumnType::Uuid, &UUID, Literal::Bytes(&[0x7f; 16])),
+        Some(Ordering::Greater),
+    ),
+    ((ColumnType::Long, &[0; 8], Literal::Null), None),
+    ((ColumnType::Binary, b"a", Literal::Text("a")), None),
+];
+
+/// The cell is no bound of the type.
+const UNWRITTEN: [(ColumnType, Literal); 7] = [
+    (ColumnType::Int, Literal::Whole(2_147_483_648)),
+    (ColumnType::Date, Literal::Whole(2_147_483_648)),
+    (ColumnType::String, Literal::Whole(2_147_483_648)),
+    (ColumnType::Float, Literal::Whole(2_147_483_648)),
+    (ColumnType::Long, Literal::Null),
+    (ColumnType::Uuid, Literal::Bytes(&[0; 15])),
+    (ColumnType::Fixed(2), Literal::Bytes(&[0; 3])),
+];
+
+fn compared(alloc: Global, bound: Bound) -> Result<Option<Ordering>, AllocError> {
+    let (column_type, held, literal) = bound;
+    Ok(compare_bound(&column_type, held, &cell(alloc, literal)?))
+}
+
+fn is_absent(alloc: Global, bound: Bound) -> Result<bool, AllocError> {
+    Ok(read_bound(alloc, &bound.0, bound.1)?.is_none())
+}
+
+fn is_read_as(alloc: Global, bound: Bound, cell: &Cell) -> Result<bool, AllocError> {
+    match read_bound(alloc, &bound.0, bound.1)? {
+        Some(read) => Ok(read == *cell),
+        None => Ok(false),
+    }
+}
+
+fn is_read(alloc: Global, bound: Bound) -> Result<bool, AllocError> {
+    is_read_as(alloc, bound, &cell(alloc, bound.2)?)
+}
+
+fn written(
+    alloc: Global,
+    column_type: ColumnType,
+    literal: Literal,
+) -> Result<Option<Items<u8>>, AllocError> {
+    write_bound(alloc, &column_type, &cell(alloc, literal)?)
+}
+
+fn is_written(alloc: Global, bound: Bound) -> Result<bool, AllocError> {
+    match written(alloc, bound.0, bound.2)? {
+        Some(written) => Ok(written.as_slice() == bound.1),
+        None => Ok(false),
+    }
+}
+
+fn is_unwritten(
+    alloc: Global,
+    column_type: ColumnType,
+    literal: Literal,
+) -> Result<bool, AllocError> {
+    Ok(written(alloc, column_type, literal)?.is_none())
+}
+
+#[test]
+fn cells_as_bytes(rt: HostRuntime) -> Result<(), Fail> {
+    let alloc = rt.alloc();
+    for (place, bound) in BOUNDS.iter().enumerate() {
+        let is_read = is_read(alloc, *bound)?;
+        assert!(rt; is_read, "{place}");
+        let order = compared(alloc, *bound)?;
+        assert!(rt; order == Some(Ordering::Equal), "{place}");
+        let is_written = is_written(alloc, *bound)?;
+        assert!(rt; is_written, "{place}");
     }
     Ok(())
 }
 
 #[test]
-fn texts_as_bytes(rt: HostRuntime) -> Result<(), Fail> {
+fn bytes_that_are_read_alone(rt: HostRuntime) -> Result<(), Fail> {
+    for (place, bound) in READ.iter().enumerate() {
+        let is_read = is_read(rt.alloc(), *bound)?;
+        assert!(rt; is_read, "{place}");
+    }
+    Ok(())
+}
+
+#[test]
+fn bytes_of_no_cell(rt: HostRuntime) -> Result<(), Fail> {
     let alloc = rt.alloc();
-    let iceberg = text(alloc, "iceberg")?;
-    check_bound(&rt, alloc, ColumnType::String, b"iceberg", &iceberg)?;
-    assert!(rt; compare_bound(&ColumnType::String, b"ice", &iceberg) == Some(Ordering::Less));
-    check_absent(&rt, alloc, ColumnType::String, &[0xff], &iceberg)?;
-    check_absent(
-        &rt,
-        alloc,
-        ColumnType::String,
-        &[0xed, 0xa0, 0x80],
-        &iceberg,
-    )?;
-    let uuid = bytes(alloc, &UUID)?;
-    check_bound(&rt, alloc, ColumnType::Uuid, &UUID, &uuid)?;
-    let positive = bytes(alloc, &[0x7f; 16])?;
-    assert!(rt; compare_bound(&ColumnType::Uuid, &UUID, &positive) == Some(Ordering::Greater));
-    check_absent(&rt, alloc, ColumnType::Uuid, &[0x7f; 15], &uuid)?;
-    let three = bytes(alloc, &[0, 1, 255])?;
-    check_bound(&rt, alloc, ColumnType::Fixed(3), &[0, 1, 255], &three)?;
-    check_bound(&rt, alloc, ColumnType::Binary, &[0, 1, 255], &three)?;
-    check_absent(&rt, alloc, ColumnType::Fixed(4), &[0, 1, 255], &three)?;
-    check_absent(&rt, alloc, ColumnType::Float, &[0; 4], &Cell::Whole(0))?;
-    check_absent(&rt, alloc, ColumnType::Double, &[0; 8], &Cell::Whole(0))?;
-    check_absent(
-        &rt,
-        alloc,
-        ColumnType::Decimal {
-            precision: 9,
-            scale: 2,
-        },
-        &[0],
-        &three,
-    )?;
+    for (place, bound) in ABSENT.iter().enumerate() {
+        let is_absent = is_absent(alloc, *bound)?;
+        assert!(rt; is_absent, "{place}");
+        let order = compared(alloc, *bound)?;
+        assert!(rt; order == None, "{place}");
+    }
+    Ok(())
+}
+
+#[test]
+fn bytes_against_cells(rt: HostRuntime) -> Result<(), Fail> {
+    for (place, (bound, wanted)) in COMPARED.iter().enumerate() {
+        let order = compared(rt.alloc(), *bound)?;
+        assert!(rt; order == *wanted, "{place}");
+    }
     Ok(())
 }
 
 #[test]
 fn cells_of_other_types(rt: HostRuntime) -> Result<(), Fail> {
-    let alloc = rt.alloc();
-    let large = Cell::Whole(2_147_483_648);
-    assert!(rt; write_bound(alloc, &ColumnType::Int, &large)?.is_none());
-    assert!(rt; write_bound(alloc, &ColumnType::Date, &large)?.is_none());
-    assert!(rt; write_bound(alloc, &ColumnType::String, &large)?.is_none());
-    assert!(rt; write_bound(alloc, &ColumnType::Float, &large)?.is_none());
-    assert!(rt; write_bound(alloc, &ColumnType::Long, &Cell::Null)?.is_none());
-    assert!(rt; write_bound(alloc, &ColumnType::Uuid, &bytes(alloc, &[0; 15])?)?.is_none());
-    assert!(rt; write_bound(alloc, &ColumnType::Fixed(2), &bytes(alloc, &[0; 3])?)?.is_none());
-    assert!(rt; compare_bound(&ColumnType::Long, &[0; 8], &Cell::Null) == None);
-    assert!(rt; compare_bound(&ColumnType::Binary, b"a", &text(alloc, "a")?) == None);
+    for (place, (column_type, literal)) in UNWRITTEN.iter().enumerate() {
+        let is_unwritten = is_unwritten(rt.alloc(), *column_type, *literal)?;
+        assert!(rt; is_unwritten, "{place}");
+    }
     Ok(())
 }
 
@@ -340,74 +415,101 @@ fn check_type(rt: &impl Abort, cells: &[Cell], column_type: ColumnType, places: 
     }
 }
 
+const CELLS: [Literal; 11] = [
+    Literal::Null,
+    Literal::Bool(false),
+    Literal::Whole(-2_147_483_648),
+    Literal::Whole(2_147_483_647),
+    Literal::Whole(-2_147_483_649),
+    Literal::Whole(2_147_483_648),
+    Literal::Text(""),
+    Literal::Text("0123456789abcdef"),
+    Literal::Bytes(&[]),
+    Literal::Bytes(&[0xff; 15]),
+    Literal::Bytes(&UUID),
+];
+
+/// Types, and where their values lie.
+const TYPES: [(ColumnType, &[usize]); 15] = [
+    (ColumnType::Boolean, &[1]),
+    (ColumnType::Int, &[2, 3]),
+    (ColumnType::Date, &[2, 3]),
+    (ColumnType::Long, &[2, 3, 4, 5]),
+    (ColumnType::Time, &[2, 3, 4, 5]),
+    (ColumnType::Timestamp, &[2, 3, 4, 5]),
+    (ColumnType::Timestamptz, &[2, 3, 4, 5]),
+    (ColumnType::String, &[6, 7]),
+    (ColumnType::Uuid, &[10]),
+    (ColumnType::Fixed(15), &[9]),
+    (ColumnType::Fixed(0), &[8]),
+    (ColumnType::Binary, &[8, 9, 10]),
+    (DECIMAL, &[8, 9, 10]),
+    (ColumnType::Float, &[]),
+    (ColumnType::Double, &[]),
+];
+
 #[test]
 fn types_of_cells(rt: HostRuntime) -> Result<(), Fail> {
-    let alloc = rt.alloc();
-    let cells = [
-        Cell::Null,
-        Cell::Bool(false),
-        Cell::Whole(-2_147_483_648),
-        Cell::Whole(2_147_483_647),
-        Cell::Whole(-2_147_483_649),
-        Cell::Whole(2_147_483_648),
-        text(alloc, "")?,
-        text(alloc, "0123456789abcdef")?,
-        bytes(alloc, &[])?,
-        bytes(alloc, &[0xff; 15])?,
-        bytes(alloc, &UUID)?,
-    ];
-    let decimal = ColumnType::Decimal {
-        precision: 9,
-        scale: 2,
-    };
-    let table = [
-        (ColumnType::Boolean, [1].as_slice()),
-        (ColumnType::Int, [2, 3].as_slice()),
-        (ColumnType::Date, [2, 3].as_slice()),
-        (ColumnType::Long, [2, 3, 4, 5].as_slice()),
-        (ColumnType::Time, [2, 3, 4, 5].as_slice()),
-        (ColumnType::Timestamp, [2, 3, 4, 5].as_slice()),
-        (ColumnType::Timestamptz, [2, 3, 4, 5].as_slice()),
-        (ColumnType::String, [6, 7].as_slice()),
-        (ColumnType::Uuid, [10].as_slice()),
-        (ColumnType::Fixed(15), [9].as_slice()),
-        (ColumnType::Fixed(0), [8].as_slice()),
-        (ColumnType::Binary, [8, 9, 10].as_slice()),
-        (decimal, [8, 9, 10].as_slice()),
-        (ColumnType::Float, [].as_slice()),
-        (ColumnType::Double, [].as_slice()),
-    ];
-    for (column_type, places) in table {
+    let cells = cells(rt.alloc(), &CELLS)?;
+    for (column_type, places) in TYPES {
         check_type(&rt, cells.as_slice(), column_type, places);
     }
     Ok(())
 }
 
-#[test]
-fn copies(rt: HostRuntime) -> Result<(), Fail> {
-    let alloc = rt.alloc();
-    let mut cells = Items::new(alloc);
-    cells.push(Cell::Null)?;
-    cells.push(Cell::Bool(true))?;
-    cells.push(Cell::Whole(-7))?;
-    cells.push(text(alloc, "ice")?)?;
-    cells.push(bytes(alloc, &[1, 2])?)?;
-    assert!(rt; cells.copy(alloc)? == cells);
-    let mut numbers: Items<i32> = Items::new(alloc);
-    numbers.push(-3)?;
-    numbers.push(4)?;
-    assert!(rt; numbers.copy(alloc)? == numbers);
-    assert!(rt; numbers.into_vec().as_slice() == [-3, 4].as_slice());
+const COPIED: [Literal; 5] = [
+    Literal::Null,
+    Literal::Bool(true),
+    Literal::Whole(-7),
+    Literal::Text("ice"),
+    Literal::Bytes(&[1, 2]),
+];
+
+fn copies_cells(alloc: Global) -> Result<bool, AllocError> {
+    let cells = cells(alloc, &COPIED)?;
+    Ok(cells.copy(alloc)? == cells)
+}
+
+fn numbers(alloc: Global) -> Result<Items<i32>, AllocError> {
+    let mut numbers = Items::new(alloc);
+    for number in [-3, 4] {
+        numbers.push(number)?;
+    }
+    Ok(numbers)
+}
+
+fn copies_numbers(alloc: Global) -> Result<bool, AllocError> {
+    let numbers = numbers(alloc)?;
+    let is_same = numbers.copy(alloc)? == numbers;
+    Ok(is_same && numbers.into_vec().as_slice() == [-3, 4].as_slice())
+}
+
+fn copies_text(alloc: Global) -> Result<bool, AllocError> {
     let path = Text::from_string(String::from_str(alloc, "mem://t")?);
-    assert!(rt; path.copy(alloc)? == path);
-    assert!(rt; path.as_str() == "mem://t");
+    Ok(path.copy(alloc)? == path && path.as_str() == "mem://t")
+}
+
+fn copies_summary(alloc: Global) -> Result<bool, AllocError> {
+    let lower = [5, 0, 0, 0].to_vec(alloc)?;
     let summary = Summary {
         contains_null: true,
         contains_nan: None,
-        lower: Some(Items::from_vec([5, 0, 0, 0].to_vec(alloc)?)),
+        lower: Some(Items::from_vec(lower)),
         upper: None,
     };
-    assert!(rt; summary.copy(alloc)? == summary);
+    Ok(summary.copy(alloc)? == summary)
+}
+
+#[test]
+fn copies(rt: HostRuntime) -> Result<(), Fail> {
+    let cells = copies_cells(rt.alloc())?;
+    assert!(rt; cells);
+    let numbers = copies_numbers(rt.alloc())?;
+    assert!(rt; numbers);
+    let text = copies_text(rt.alloc())?;
+    assert!(rt; text);
+    let summary = copies_summary(rt.alloc())?;
+    assert!(rt; summary);
     Ok(())
 }
 
@@ -460,21 +562,22 @@ fn sequence_numbers(rt: HostRuntime) -> Result<(), Fail> {
     Ok(())
 }
 
+const ALL: [Literal; 9] = [
+    Literal::Null,
+    Literal::Bool(false),
+    Literal::Bool(true),
+    Literal::Whole(-1),
+    Literal::Whole(0),
+    Literal::Text(""),
+    Literal::Text("b"),
+    Literal::Bytes(&[]),
+    Literal::Bytes(b"a"),
+];
+
 #[test]
 fn all_cells_in_order(rt: HostRuntime) -> Result<(), Fail> {
-    let alloc = rt.alloc();
-    let cells = [
-        Cell::Null,
-        Cell::Bool(false),
-        Cell::Bool(true),
-        Cell::Whole(-1),
-        Cell::Whole(0),
-        text(alloc, "")?,
-        text(alloc, "b")?,
-        bytes(alloc, &[])?,
-        bytes(alloc, b"a")?,
-    ];
-    check_total_order(&rt, &cells);
-    check_tuples(&rt, &cells);
+    let cells = cells(rt.alloc(), &ALL)?;
+    check_total_order(&rt, cells.as_slice());
+    check_tuples(&rt, cells.as_slice());
     Ok(())
 }

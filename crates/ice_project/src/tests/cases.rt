@@ -21,6 +21,14 @@ pub enum Ask {
     Starts,
 }
 
+/// A literal.
+#[derive(Clone, Copy)]
+pub enum Literal {
+    Whole(i64),
+    Text(&'static str),
+    Bytes(&'static [u8]),
+}
+
 pub fn text(alloc: Global, text: &str) -> Result<Text, AllocError> {
     Ok(Text::from_string(String::from_str(alloc, text)?))
 }
@@ -37,6 +45,14 @@ pub fn bytes_cell(alloc: Global, held: &[u8]) -> Result<Cell, AllocError> {
     Ok(Cell::Bytes(bytes(alloc, held)?))
 }
 
+pub fn cell(alloc: Global, literal: Literal) -> Result<Cell, AllocError> {
+    match literal {
+        Literal::Whole(number) => Ok(Cell::Whole(number)),
+        Literal::Text(characters) => text_cell(alloc, characters),
+        Literal::Bytes(held) => bytes_cell(alloc, held),
+    }
+}
+
 fn single(alloc: Global, cell: Cell) -> Result<Items<Cell>, AllocError> {
     let mut cells = Items::new(alloc);
     cells.push(cell)?;
@@ -50,7 +66,7 @@ fn starting(cell: Cell) -> Test {
     }
 }
 
-/// The test of this literal. Tests for null have none.
+/// The test of this cell. Tests for null have none.
 pub fn test_of(alloc: Global, ask: Ask, literal: Cell) -> Result<Test, AllocError> {
     match ask {
         Ask::Less => Ok(Test::Less(literal)),
@@ -63,6 +79,10 @@ pub fn test_of(alloc: Global, ask: Ask, literal: Cell) -> Result<Test, AllocErro
         Ask::Present => Ok(Test::IsPresent),
         Ask::Starts => Ok(starting(literal)),
     }
+}
+
+pub fn test(alloc: Global, ask: Ask, literal: Literal) -> Result<Test, AllocError> {
+    test_of(alloc, ask, cell(alloc, literal)?)
 }
 
 /// The field of column 1 under the transform of this text.
@@ -109,6 +129,16 @@ pub fn filter_of(alloc: Global, column_type: ColumnType, test: Test) -> Result<B
     })
 }
 
+/// Whether the tuple meets the projection of the filter through the spec.
+pub fn meets(
+    alloc: Global,
+    filter: &Bound,
+    spec: &Spec,
+    tuple: &[Cell],
+) -> Result<bool, AllocError> {
+    Ok(project(alloc, filter, spec)?.meets(tuple))
+}
+
 /// The projection of a test of column 1 through that field alone.
 pub fn projected(
     alloc: Global,
@@ -119,4 +149,15 @@ pub fn projected(
     let filter = filter_of(alloc, column_type, test)?;
     let spec = spec_of(alloc, transform, Some(column_type))?;
     project(alloc, &filter, &spec)
+}
+
+/// The projection of what is asked of column 1 through that field alone.
+pub fn asked(
+    alloc: Global,
+    transform: &str,
+    column_type: ColumnType,
+    ask: Ask,
+    literal: Literal,
+) -> Result<PartFilter, AllocError> {
+    projected(alloc, transform, column_type, test(alloc, ask, literal)?)
 }

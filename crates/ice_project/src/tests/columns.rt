@@ -1,17 +1,16 @@
 //! A plain slow program: every value of a small column against every test, through every transform.
 
+use crate::PartFilter;
 use crate::tests::cases::{Ask, bytes_cell, projected, test_of, text_cell};
 use contract_words::{Duplicate, Items};
-use ice_filter::Test;
 use ice_transform::Transform;
 use ice_value::{Cell, ColumnType};
 use std::alloc::{AllocError, Global};
 use std::cmp::Ordering;
-use std::process::Abort;
 use std::test::Fail;
 
 /// The rows of the table.
-#[derive(Clone, Copy, Debug, PartialEq)]
+#[derive(Clone, Copy, PartialEq)]
 enum Line {
     Identity,
     Bucket,
@@ -51,52 +50,28 @@ fn starts(value: &Cell, literal: &Cell) -> bool {
     }
 }
 
-/// A column under a transform.
+/// What the values of a column are.
 #[derive(Clone, Copy)]
-struct Column<'a> {
-    transform: &'a str,
-    source: ColumnType,
-    values: &'a [Cell],
+enum Values {
+    /// Multiples of the number.
+    Numbers(i64),
+    Texts,
+    ByteStrings,
+    /// Nulls alone.
+    Nulls,
 }
 
-/// No value that meets the test has a partition value that doesn't meet the projection. Whether a value is left out.
-fn prunes(
-    rt: &impl Abort,
-    alloc: Global,
-    column: &Column<'_>,
-    ask: Ask,
-    literal: &Cell,
-) -> Result<bool, AllocError> {
-    let transform = Transform::parse(alloc, column.transform)?;
-    let test = test_of(alloc, ask, literal.copy(alloc)?)?;
-    let part = projected(alloc, column.transform, column.source, test)?;
-    let mut prunes = false;
-    for value in column.values {
-        if let Some(partition) = transform.apply(alloc, &column.source, value)? {
-            let met = part.meets(&[partition]);
-            assert!(rt; met || !is_so(value, ask, literal));
-            prunes = prunes || !met;
-        }
-    }
-    Ok(prunes)
-}
+/// A transform, the column's type, its values, and the line of the table.
+type Column = (&'static str, ColumnType, Values, Line);
 
-/// Each of the tests, of each of the literals, leaves out values exactly where the table lets it.
-fn check_column(
-    rt: &impl Abort,
-    alloc: Global,
-    column: &Column<'_>,
-    line: Line,
-    asks: &[Ask],
-    literals: &[Cell],
-) -> Result<(), AllocError> {
-    for ask in asks {
-        for literal in literals {
-            let found = prunes(rt, alloc, column, *ask, literal)?;
-            assert!(rt; found == is_to_prune(line, *ask));
-        }
+/// Whether the test is to leave out values of the column. A null is left out by every test that says something of the
+/// partition value, but for the one for null.
+fn is_pruned(column: &Column, ask: Ask) -> bool {
+    match (column.2, ask) {
+        (Values::Nulls, Ask::Null) => false,
+        (Values::Nulls, Ask::Present) => column.3 != Line::Nothing,
+        _ => is_to_prune(column.3, ask),
     }
-    Ok(())
 }
 
 /// The multiples of the scale up to this many steps from zero.
@@ -108,74 +83,18 @@ fn numbers(alloc: Global, steps: i64, scale: i64) -> Result<Items<Cell>, AllocEr
     Ok(cells)
 }
 
-const ASKS: [Ask; 8] = [
-    Ask::Less,
-    Ask::AtMost,
-    Ask::More,
-    Ask::AtLeast,
-    Ask::Equal,
-    Ask::Unlike,
-    Ask::Null,
-    Ask::Present,
-];
-
-fn check_numbers(
-    rt: &impl Abort,
-    alloc: Global,
-    transform: &str,
-    source: ColumnType,
-    scale: i64,
-    line: Line,
-) -> Result<(), AllocError> {
-    let values = numbers(alloc, 40, scale)?;
-    let literals = numbers(alloc, 20, scale)?;
-    let column = Column {
-        transform,
-        source,
-        values: values.as_slice(),
-    };
-    check_column(rt, alloc, &column, line, &ASKS, literals.as_slice())
-}
-
-#[test]
-fn columns_of_numbers(rt: HostRuntime) -> Result<(), Fail> {
-    let columns = [
-        ("identity", ColumnType::Int, 1, Line::Identity),
-        ("bucket[5]", ColumnType::Int, 1, Line::Bucket),
-        ("bucket[3]", ColumnType::Time, 1_000_000, Line::Bucket),
-        ("truncate[7]", ColumnType::Long, 1, Line::Rising),
-        ("truncate[5]", ColumnType::Int, 3, Line::Rising),
-        ("void", ColumnType::Int, 1, Line::Nothing),
-        ("zorder", ColumnType::Int, 1, Line::Nothing),
-        ("hour", ColumnType::Date, 1, Line::Nothing),
-    ];
-    for (transform, source, scale, line) in columns {
-        check_numbers(&rt, rt.alloc(), transform, source, scale, line)?;
-    }
-    Ok(())
-}
-
-#[test]
-fn columns_of_times(rt: HostRuntime) -> Result<(), Fail> {
-    let columns = [
-        ("year", ColumnType::Date, 100),
-        ("month", ColumnType::Date, 10),
-        ("day", ColumnType::Date, 1),
-        ("year", ColumnType::Timestamp, 8_640_000_000_001),
-        ("month", ColumnType::Timestamptz, 864_000_000_001),
-        ("day", ColumnType::Timestamp, 20_000_000_001),
-        ("hour", ColumnType::Timestamptz, 1_000_000_007),
-    ];
-    for (transform, source, scale) in columns {
-        check_numbers(&rt, rt.alloc(), transform, source, scale, Line::Rising)?;
-    }
-    Ok(())
-}
-
 fn texts(alloc: Global, texts: &[&str]) -> Result<Items<Cell>, AllocError> {
     let mut cells = Items::new(alloc);
     for text in texts {
         cells.push(text_cell(alloc, text)?)?;
+    }
+    Ok(cells)
+}
+
+fn byte_strings(alloc: Global, strings: &[&[u8]]) -> Result<Items<Cell>, AllocError> {
+    let mut cells = Items::new(alloc);
+    for string in strings {
+        cells.push(bytes_cell(alloc, string)?)?;
     }
     Ok(cells)
 }
@@ -207,131 +126,264 @@ const TEXTS: [&str; 24] = [
     "日本語",
 ];
 
-/// The tests of texts, by texts that are neither the least nor the greatest of the column.
-#[test]
-fn columns_of_texts(rt: HostRuntime) -> Result<(), Fail> {
-    let alloc = rt.alloc();
-    let values = texts(alloc, &TEXTS)?;
-    let literals = texts(
-        alloc,
-        &["a", "ab", "aba", "aéb", "b", "bab", "é", "éa", "ééa"],
-    )?;
-    let lines = [
-        ("identity", Line::Identity),
-        ("bucket[5]", Line::Bucket),
-        ("truncate[1]", Line::Rising),
-        ("truncate[2]", Line::Rising),
-        ("truncate[3]", Line::Rising),
-        ("void", Line::Nothing),
-        ("day", Line::Nothing),
-    ];
-    for (transform, line) in lines {
-        let column = Column {
-            transform,
-            source: ColumnType::String,
-            values: values.as_slice(),
-        };
-        check_column(&rt, alloc, &column, line, &ASKS, literals.as_slice())?;
-        let starts = is_to_prune(line, Ask::Less);
-        check_starts(&rt, alloc, &column, starts, literals.as_slice())?;
-    }
-    Ok(())
-}
+/// Texts that are neither the least nor the greatest of the column.
+const TEXT_LITERALS: [&str; 9] = ["a", "ab", "aba", "aéb", "b", "bab", "é", "éa", "ééa"];
 
-fn check_starts(
-    rt: &impl Abort,
-    alloc: Global,
-    column: &Column<'_>,
-    is_to_prune: bool,
-    literals: &[Cell],
-) -> Result<(), AllocError> {
-    for literal in literals {
-        let found = prunes(rt, alloc, column, Ask::Starts, literal)?;
-        assert!(rt; found == is_to_prune);
-    }
-    Ok(())
-}
+const BYTE_STRINGS: [&[u8]; 10] = [
+    &[],
+    &[0],
+    &[0, 1],
+    &[1],
+    &[1, 0],
+    &[1, 0, 7],
+    &[9, 255],
+    &[9, 255, 255],
+    &[128],
+    &[255, 1, 1],
+];
 
-fn byte_strings(alloc: Global, strings: &[&[u8]]) -> Result<Items<Cell>, AllocError> {
+const BYTE_LITERALS: [&[u8]; 5] = [&[0, 1], &[1], &[1, 0, 7], &[9, 255, 255], &[128]];
+
+fn nulls(alloc: Global) -> Result<Items<Cell>, AllocError> {
     let mut cells = Items::new(alloc);
-    for string in strings {
-        cells.push(bytes_cell(alloc, string)?)?;
-    }
+    cells.push(Cell::Null)?;
     Ok(cells)
 }
 
-#[test]
-fn columns_of_bytes(rt: HostRuntime) -> Result<(), Fail> {
-    let alloc = rt.alloc();
-    let literals = byte_strings(alloc, &[&[0, 1], &[1], &[1, 0, 7], &[9, 255, 255], &[128]])?;
-    let values = byte_strings(
-        alloc,
-        &[
-            &[],
-            &[0],
-            &[0, 1],
-            &[1],
-            &[1, 0],
-            &[1, 0, 7],
-            &[9, 255],
-            &[9, 255, 255],
-            &[128],
-            &[255, 1, 1],
-        ],
-    )?;
-    let lines = [
-        ("identity", Line::Identity),
-        ("bucket[3]", Line::Bucket),
-        ("truncate[1]", Line::Rising),
-        ("truncate[2]", Line::Rising),
-        ("zorder", Line::Nothing),
-    ];
-    for (transform, line) in lines {
-        let column = Column {
-            transform,
-            source: ColumnType::Binary,
-            values: values.as_slice(),
-        };
-        check_column(&rt, alloc, &column, line, &ASKS, literals.as_slice())?;
+fn values_of(alloc: Global, values: Values) -> Result<Items<Cell>, AllocError> {
+    match values {
+        Values::Numbers(scale) => numbers(alloc, 40, scale),
+        Values::Texts => texts(alloc, &TEXTS),
+        Values::ByteStrings => byte_strings(alloc, &BYTE_STRINGS),
+        Values::Nulls => nulls(alloc),
     }
-    Ok(())
 }
 
-/// A null is left out by every test that says something of the partition value, but for the one for null.
-fn check_null(
-    rt: &impl Abort,
+fn literals_of(alloc: Global, values: Values) -> Result<Items<Cell>, AllocError> {
+    match values {
+        Values::Numbers(scale) => numbers(alloc, 20, scale),
+        Values::Texts => texts(alloc, &TEXT_LITERALS),
+        Values::ByteStrings => byte_strings(alloc, &BYTE_LITERALS),
+        Values::Nulls => numbers(alloc, 1, 5),
+    }
+}
+
+fn part_of(
     alloc: Global,
-    transform: &str,
-    line: Line,
-) -> Result<(), AllocError> {
-    let column = Column {
-        transform,
-        source: ColumnType::Int,
-        values: &[Cell::Null],
-    };
-    for ask in ASKS {
-        let is_asked = match ask {
-            Ask::Null => false,
-            Ask::Present => line != Line::Nothing,
-            _ => is_to_prune(line, ask),
-        };
-        let found = prunes(rt, alloc, &column, ask, &Cell::Whole(5))?;
-        assert!(rt; found == is_asked);
-    }
-    Ok(())
+    column: &Column,
+    ask: Ask,
+    literal: &Cell,
+) -> Result<PartFilter, AllocError> {
+    let test = test_of(alloc, ask, literal.copy(alloc)?)?;
+    projected(alloc, column.0, column.1, test)
 }
 
+/// Whether the partition value of the value meets the projection, or there is none.
+fn meets(
+    alloc: Global,
+    transform: &Transform,
+    source: ColumnType,
+    part: &PartFilter,
+    value: &Cell,
+) -> Result<bool, AllocError> {
+    match transform.apply(alloc, &source, value)? {
+        Some(partition) => Ok(part.meets(&[partition])),
+        None => Ok(true),
+    }
+}
+
+/// No value that meets the test has a partition value that doesn't meet the projection, and values are left out just
+/// where the table lets it.
+fn is_right(
+    alloc: Global,
+    column: &Column,
+    values: &[Cell],
+    ask: Ask,
+    literal: &Cell,
+) -> Result<bool, AllocError> {
+    let transform = Transform::parse(alloc, column.0)?;
+    let part = part_of(alloc, column, ask, literal)?;
+    let mut prunes = false;
+    for value in values {
+        if !meets(alloc, &transform, column.1, &part, value)? {
+            if is_so(value, ask, literal) {
+                return Ok(false);
+            }
+            prunes = true;
+        }
+    }
+    Ok(prunes == is_pruned(column, ask))
+}
+
+/// The test of each of the literals.
+fn asks_are_right(alloc: Global, column: &Column, ask: Ask) -> Result<bool, AllocError> {
+    let values = values_of(alloc, column.2)?;
+    let literals = literals_of(alloc, column.2)?;
+    for literal in literals.as_slice() {
+        if !is_right(alloc, column, values.as_slice(), ask, literal)? {
+            return Ok(false);
+        }
+    }
+    Ok(true)
+}
+
+const ASKS: [Ask; 9] = [
+    Ask::Less,
+    Ask::AtMost,
+    Ask::More,
+    Ask::AtLeast,
+    Ask::Equal,
+    Ask::Unlike,
+    Ask::Null,
+    Ask::Present,
+    Ask::Starts,
+];
+
+/// Of texts alone it is asked how they start.
+fn is_asked(column: &Column, ask: Ask) -> bool {
+    ask != Ask::Starts || matches!(column.2, Values::Texts)
+}
+
+fn column_is_right(alloc: Global, column: &Column) -> Result<bool, AllocError> {
+    for ask in ASKS {
+        if is_asked(column, ask) && !asks_are_right(alloc, column, ask)? {
+            return Ok(false);
+        }
+    }
+    Ok(true)
+}
+
+/// Transforms of columns.
+const COLUMNS: [Column; 32] = [
+    (
+        "identity",
+        ColumnType::Int,
+        Values::Numbers(1),
+        Line::Identity,
+    ),
+    (
+        "bucket[5]",
+        ColumnType::Int,
+        Values::Numbers(1),
+        Line::Bucket,
+    ),
+    (
+        "bucket[3]",
+        ColumnType::Time,
+        Values::Numbers(1_000_000),
+        Line::Bucket,
+    ),
+    (
+        "truncate[7]",
+        ColumnType::Long,
+        Values::Numbers(1),
+        Line::Rising,
+    ),
+    (
+        "truncate[5]",
+        ColumnType::Int,
+        Values::Numbers(3),
+        Line::Rising,
+    ),
+    ("void", ColumnType::Int, Values::Numbers(1), Line::Nothing),
+    ("zorder", ColumnType::Int, Values::Numbers(1), Line::Nothing),
+    ("hour", ColumnType::Date, Values::Numbers(1), Line::Nothing),
+    ("year", ColumnType::Date, Values::Numbers(100), Line::Rising),
+    ("month", ColumnType::Date, Values::Numbers(10), Line::Rising),
+    ("day", ColumnType::Date, Values::Numbers(1), Line::Rising),
+    (
+        "year",
+        ColumnType::Timestamp,
+        Values::Numbers(8_640_000_000_001),
+        Line::Rising,
+    ),
+    (
+        "month",
+        ColumnType::Timestamptz,
+        Values::Numbers(864_000_000_001),
+        Line::Rising,
+    ),
+    (
+        "day",
+        ColumnType::Timestamp,
+        Values::Numbers(20_000_000_001),
+        Line::Rising,
+    ),
+    (
+        "hour",
+        ColumnType::Timestamptz,
+        Values::Numbers(1_000_000_007),
+        Line::Rising,
+    ),
+    (
+        "identity",
+        ColumnType::String,
+        Values::Texts,
+        Line::Identity,
+    ),
+    ("bucket[5]", ColumnType::String, Values::Texts, Line::Bucket),
+    (
+        "truncate[1]",
+        ColumnType::String,
+        Values::Texts,
+        Line::Rising,
+    ),
+    (
+        "truncate[2]",
+        ColumnType::String,
+        Values::Texts,
+        Line::Rising,
+    ),
+    (
+        "truncate[3]",
+        ColumnType::String,
+        Values::Texts,
+        Line::Rising,
+    ),
+    ("void", ColumnType::String, Values::Texts, Line::Nothing),
+    ("day", ColumnType::String, Values::Texts, Line::Nothing),
+    (
+        "identity",
+        ColumnType::Binary,
+        Values::ByteStrings,
+        Line::Identity,
+    ),
+    (
+        "bucket[3]",
+        ColumnType::Binary,
+        Values::ByteStrings,
+        Line::Bucket,
+    ),
+    (
+        "truncate[1]",
+        ColumnType::Binary,
+        Values::ByteStrings,
+        Line::Rising,
+    ),
+    (
+        "truncate[2]",
+        ColumnType::Binary,
+        Values::ByteStrings,
+        Line::Rising,
+    ),
+    (
+        "zorder",
+        ColumnType::Binary,
+        Values::ByteStrings,
+        Line::Nothing,
+    ),
+    ("identity", ColumnType::Int, Values::Nulls, Line::Identity),
+    ("bucket[5]", ColumnType::Int, Values::Nulls, Line::Bucket),
+    ("truncate[7]", ColumnType::Int, Values::Nulls, Line::Rising),
+    ("void", ColumnType::Int, Values::Nulls, Line::Nothing),
+    ("zorder", ColumnType::Int, Values::Nulls, Line::Nothing),
+];
+
 #[test]
-fn columns_of_nulls(rt: HostRuntime) -> Result<(), Fail> {
-    let lines = [
-        ("identity", Line::Identity),
-        ("bucket[5]", Line::Bucket),
-        ("truncate[7]", Line::Rising),
-        ("void", Line::Nothing),
-        ("zorder", Line::Nothing),
-    ];
-    for (transform, line) in lines {
-        check_null(&rt, rt.alloc(), transform, line)?;
+fn columns(rt: HostRuntime) -> Result<(), Fail> {
+    for (place, column) in COLUMNS.iter().enumerate() {
+        let is_right = column_is_right(rt.alloc(), column)?;
+        assert!(rt; is_right, "column {place}");
     }
     Ok(())
 }

@@ -1,11 +1,10 @@
 //! Counts and bounds of files.
 
 use crate::bounds_may;
-use crate::tests::cases::{Ask, bytes_cell, filter_of, test_of, text_cell};
+use crate::tests::cases::{Ask, Literal, filter_of, test};
 use ice_filter::Test;
-use ice_value::{Cell, ColumnBounds, ColumnCounts, ColumnType, FileBounds};
+use ice_value::{ColumnBounds, ColumnCounts, ColumnType, FileBounds};
 use std::alloc::{AllocError, Global};
-use std::process::Abort;
 use std::test::Fail;
 
 /// The count of a column, where there is one.
@@ -64,7 +63,7 @@ fn bounded<'a>(
 }
 
 /// Whether the file may have a row whose column 1 meets the test.
-fn may(
+fn may_meet(
     alloc: Global,
     column_type: ColumnType,
     test: Test,
@@ -73,136 +72,222 @@ fn may(
     Ok(bounds_may(&filter_of(alloc, column_type, test)?, file))
 }
 
-/// The same of a test of a number.
-fn may_be(
+/// The same of what is asked of column 1.
+fn may(
     alloc: Global,
     column_type: ColumnType,
     ask: Ask,
-    literal: i64,
+    literal: Literal,
     file: &FileBounds<'_, '_>,
 ) -> Result<bool, AllocError> {
-    may(
-        alloc,
-        column_type,
-        test_of(alloc, ask, Cell::Whole(literal))?,
-        file,
+    may_meet(alloc, column_type, test(alloc, ask, literal)?, file)
+}
+
+/// What is asked of files with counts.
+const ASKS: [Ask; 4] = [Ask::Equal, Ask::Present, Ask::Null, Ask::Unlike];
+
+/// Counts of values and of nulls, and what the asks of 5 say of a file whose column has them.
+type Counts = (Option<i64>, Option<i64>, [bool; 4]);
+
+const COUNTS: [Counts; 8] = [
+    (Some(10), Some(10), [false, false, true, true]),
+    (Some(10), Some(0), [true, true, false, true]),
+    (Some(10), Some(4), [true, true, true, true]),
+    (Some(10), None, [true, true, true, true]),
+    (None, Some(10), [true, true, true, true]),
+    (None, Some(0), [true, true, false, true]),
+    (Some(0), Some(0), [false, false, false, true]),
+    (None, None, [true, true, true, true]),
+];
+
+fn counts_say(
+    alloc: Global,
+    values: Option<i64>,
+    nulls: Option<i64>,
+    ask: Ask,
+) -> Result<bool, AllocError> {
+    let file = counted(alloc, values, nulls)?;
+    may(alloc, ColumnType::Long, ask, Literal::Whole(5), &file)
+}
+
+fn counts_are_right(alloc: Global, counts: &Counts) -> Result<bool, AllocError> {
+    let (values, nulls, wanted) = counts;
+    for (ask, wanted) in ASKS.iter().zip(wanted) {
+        if counts_say(alloc, *values, *nulls, *ask)? != *wanted {
+            return Ok(false);
+        }
+    }
+    Ok(true)
+}
+
+#[test]
+fn counts(rt: HostRuntime) -> Result<(), Fail> {
+    for (place, counts) in COUNTS.iter().enumerate() {
+        let are_right = counts_are_right(rt.alloc(), counts)?;
+        assert!(rt; are_right, "counts at {place}");
+    }
+    Ok(())
+}
+
+/// What the bound of a file is.
+#[derive(Clone, Copy)]
+enum Held {
+    Nothing,
+    /// 5 in four bytes.
+    Five,
+    /// The first three of them.
+    Short,
+    /// 17486 in four bytes.
+    Day,
+    /// 17486 in eight bytes.
+    Wide,
+    /// A byte that no text has.
+    Broken,
+    Ice,
+    Icf,
+    Sevens,
+}
+
+fn bytes_of(held: Held) -> Option<&'static [u8]> {
+    match held {
+        Held::Nothing => None,
+        Held::Five => Some(&[5, 0, 0, 0]),
+        Held::Short => Some(&[5, 0, 0]),
+        Held::Day => Some(&[0x4e, 0x44, 0, 0]),
+        Held::Wide => Some(&[0x4e, 0x44, 0, 0, 0, 0, 0, 0]),
+        Held::Broken => Some(&[0xff]),
+        Held::Ice => Some(b"ice"),
+        Held::Icf => Some(b"icf"),
+        Held::Sevens => Some(&[7; 16]),
+    }
+}
+
+/// Whether a file with the bounds of this column may have a row whose column 1 meets the test.
+fn bounds_say(
+    alloc: Global,
+    column: i32,
+    column_type: ColumnType,
+    asks: (Ask, Literal),
+    bounds: (Held, Held),
+) -> Result<bool, AllocError> {
+    let file = bounded(alloc, column, bytes_of(bounds.0), bytes_of(bounds.1))?;
+    may(alloc, column_type, asks.0, asks.1, &file)
+}
+
+/// Bounds of another column say nothing.
+fn is_right(
+    alloc: Global,
+    column_type: ColumnType,
+    asks: (Ask, Literal),
+    bounds: (Held, Held),
+    wanted: bool,
+) -> Result<bool, AllocError> {
+    Ok(
+        bounds_say(alloc, 1, column_type, asks, bounds)? == wanted
+            && bounds_say(alloc, 2, column_type, asks, bounds)?,
     )
 }
 
-/// What three tests say of a file whose column has these counts.
-#[test]
-fn counts(rt: HostRuntime) -> Result<(), Fail> {
-    let alloc = rt.alloc();
-    let long = ColumnType::Long;
-    let cases = [
-        (Some(10), Some(10), false, true, true),
-        (Some(10), Some(0), true, false, true),
-        (Some(10), Some(4), true, true, true),
-        (Some(10), None, true, true, true),
-        (None, Some(10), true, true, true),
-        (None, Some(0), true, false, true),
-        (Some(0), Some(0), false, false, true),
-        (None, None, true, true, true),
-    ];
-    for (values, nulls, equal, null, unlike) in cases {
-        let file = counted(alloc, values, nulls)?;
-        assert!(rt; may_be(alloc, long, Ask::Equal, 5, &file)? == equal);
-        assert!(rt; may_be(alloc, long, Ask::Present, 5, &file)? == equal);
-        assert!(rt; may_be(alloc, long, Ask::Null, 5, &file)? == null);
-        assert!(rt; may_be(alloc, long, Ask::Unlike, 5, &file)? == unlike);
-    }
-    Ok(())
-}
+/// A test of a number, the bounds of a file, and whether it may have a row that meets the test.
+type OfNumber = (ColumnType, Ask, i64, Held, Held, bool);
 
-/// One test of a number, and the file's bounds.
-type OfNumber = (
-    ColumnType,
-    Ask,
-    i64,
-    Option<&'static [u8]>,
-    Option<&'static [u8]>,
-    bool,
-);
+const DATE: ColumnType = ColumnType::Date;
 
-fn check_number(rt: &impl Abort, alloc: Global, case: OfNumber) -> Result<(), AllocError> {
-    let (column_type, ask, literal, low, high, wanted) = case;
-    let file = bounded(alloc, 1, low, high)?;
-    assert!(rt; may_be(alloc, column_type, ask, literal, &file)? == wanted);
-    let other = bounded(alloc, 2, low, high)?;
-    assert!(rt; may_be(alloc, column_type, ask, literal, &other)?);
-    Ok(())
-}
+const LONG: ColumnType = ColumnType::Long;
 
 /// Bounds are read by the type; of any other length they say nothing, but for a long of 4 bytes.
+const NUMBERS: [OfNumber; 19] = [
+    (LONG, Ask::Less, 5, Held::Five, Held::Nothing, false),
+    (LONG, Ask::AtMost, 5, Held::Five, Held::Nothing, true),
+    (LONG, Ask::Less, 5, Held::Short, Held::Nothing, true),
+    (LONG, Ask::AtMost, 5, Held::Short, Held::Nothing, true),
+    (LONG, Ask::AtMost, 4, Held::Five, Held::Nothing, false),
+    (LONG, Ask::AtMost, 4, Held::Short, Held::Nothing, true),
+    (LONG, Ask::More, 5, Held::Nothing, Held::Five, false),
+    (LONG, Ask::AtLeast, 5, Held::Nothing, Held::Five, true),
+    (LONG, Ask::AtLeast, 6, Held::Nothing, Held::Five, false),
+    (LONG, Ask::AtLeast, 6, Held::Nothing, Held::Short, true),
+    (LONG, Ask::Equal, 5, Held::Five, Held::Five, true),
+    (LONG, Ask::Equal, 4, Held::Five, Held::Nothing, false),
+    (LONG, Ask::Equal, 6, Held::Nothing, Held::Five, false),
+    (LONG, Ask::Unlike, 5, Held::Five, Held::Five, true),
+    (LONG, Ask::Null, 5, Held::Five, Held::Five, true),
+    (DATE, Ask::Less, 17_486, Held::Day, Held::Nothing, false),
+    (DATE, Ask::AtMost, 17_486, Held::Day, Held::Nothing, true),
+    (DATE, Ask::Less, 17_486, Held::Wide, Held::Nothing, true),
+    (LONG, Ask::Less, 17_486, Held::Wide, Held::Nothing, false),
+];
+
+fn number_is_right(alloc: Global, case: OfNumber) -> Result<bool, AllocError> {
+    let (column_type, ask, literal, low, high, wanted) = case;
+    is_right(
+        alloc,
+        column_type,
+        (ask, Literal::Whole(literal)),
+        (low, high),
+        wanted,
+    )
+}
+
 #[test]
 fn bounds_of_numbers(rt: HostRuntime) -> Result<(), Fail> {
-    let long = ColumnType::Long;
-    let date = ColumnType::Date;
-    let five = Some([5, 0, 0, 0].as_slice());
-    let short = Some([5, 0, 0].as_slice());
-    let day = Some([0x4e, 0x44, 0, 0].as_slice());
-    let wide = Some([0x4e, 0x44, 0, 0, 0, 0, 0, 0].as_slice());
-    let cases = [
-        (long, Ask::Less, 5, five, None, false),
-        (long, Ask::AtMost, 5, five, None, true),
-        (long, Ask::Less, 5, short, None, true),
-        (long, Ask::AtMost, 5, short, None, true),
-        (long, Ask::AtMost, 4, five, None, false),
-        (long, Ask::AtMost, 4, short, None, true),
-        (long, Ask::More, 5, None, five, false),
-        (long, Ask::AtLeast, 5, None, five, true),
-        (long, Ask::AtLeast, 6, None, five, false),
-        (long, Ask::AtLeast, 6, None, short, true),
-        (long, Ask::Equal, 5, five, five, true),
-        (long, Ask::Equal, 4, five, None, false),
-        (long, Ask::Equal, 6, None, five, false),
-        (long, Ask::Unlike, 5, five, five, true),
-        (long, Ask::Null, 5, five, five, true),
-        (date, Ask::Less, 17_486, day, None, false),
-        (date, Ask::AtMost, 17_486, day, None, true),
-        (date, Ask::Less, 17_486, wide, None, true),
-        (long, Ask::Less, 17_486, wide, None, false),
-    ];
-    for case in cases {
-        check_number(&rt, rt.alloc(), case)?;
+    for (place, case) in NUMBERS.iter().enumerate() {
+        let is_right = number_is_right(rt.alloc(), *case)?;
+        assert!(rt; is_right, "bounds {place}");
     }
     Ok(())
 }
 
-/// Between `ice` and `icf`.
+/// Starts, bounds, and whether a text between the bounds may start so.
+const STARTS: [(&str, Held, Held, bool); 10] = [
+    ("id", Held::Ice, Held::Icf, false),
+    ("ia", Held::Ice, Held::Icf, false),
+    ("ic", Held::Ice, Held::Icf, true),
+    ("ice", Held::Ice, Held::Icf, true),
+    ("iceberg", Held::Ice, Held::Icf, true),
+    ("icf", Held::Ice, Held::Icf, true),
+    ("icd", Held::Ice, Held::Icf, false),
+    ("icg", Held::Ice, Held::Icf, false),
+    ("", Held::Ice, Held::Icf, true),
+    ("ice", Held::Broken, Held::Broken, true),
+];
+
+fn start_is_right(
+    alloc: Global,
+    start: &'static str,
+    bounds: (Held, Held),
+    wanted: bool,
+) -> Result<bool, AllocError> {
+    let asks = (Ask::Starts, Literal::Text(start));
+    is_right(alloc, ColumnType::String, asks, bounds, wanted)
+}
+
 #[test]
 fn bounds_of_texts(rt: HostRuntime) -> Result<(), Fail> {
-    let alloc = rt.alloc();
-    let file = bounded(alloc, 1, Some(b"ice"), Some(b"icf"))?;
-    let cases = [
-        ("id", false),
-        ("ia", false),
-        ("ic", true),
-        ("ice", true),
-        ("iceberg", true),
-        ("icf", true),
-        ("icd", false),
-        ("icg", false),
-        ("", true),
-    ];
-    for (start, wanted) in cases {
-        let test = test_of(alloc, Ask::Starts, text_cell(alloc, start)?)?;
-        assert!(rt; may(alloc, ColumnType::String, test, &file)? == wanted);
+    for (start, low, high, wanted) in STARTS {
+        let is_right = start_is_right(rt.alloc(), start, (low, high), wanted)?;
+        assert!(rt; is_right, "{start}");
     }
-    let broken = bounded(alloc, 1, Some(&[0xff]), Some(&[0xff]))?;
-    let test = test_of(alloc, Ask::Starts, text_cell(alloc, "ice")?)?;
-    assert!(rt; may(alloc, ColumnType::String, test, &broken)?);
     Ok(())
+}
+
+fn uuid_is_right(alloc: Global, column_type: ColumnType, wanted: bool) -> Result<bool, AllocError> {
+    let asks = (Ask::Equal, Literal::Bytes(&[9; 16]));
+    is_right(
+        alloc,
+        column_type,
+        asks,
+        (Held::Sevens, Held::Sevens),
+        wanted,
+    )
 }
 
 /// Bounds of uuids aren't read; those of byte strings are.
 #[test]
 fn bounds_of_uuids(rt: HostRuntime) -> Result<(), Fail> {
-    let alloc = rt.alloc();
-    let file = bounded(alloc, 1, Some(&[7; 16]), Some(&[7; 16]))?;
-    for (column_type, wanted) in [(ColumnType::Uuid, true), (ColumnType::Fixed(16), false)] {
-        let test = test_of(alloc, Ask::Equal, bytes_cell(alloc, &[9; 16])?)?;
-        assert!(rt; may(alloc, column_type, test, &file)? == wanted);
-    }
+    let uuid = uuid_is_right(rt.alloc(), ColumnType::Uuid, true)?;
+    assert!(rt; uuid);
+    let fixed = uuid_is_right(rt.alloc(), ColumnType::Fixed(16), false)?;
+    assert!(rt; fixed);
     Ok(())
 }

@@ -1,11 +1,12 @@
 //! The lines of the projection.
 
 use crate::PartFilter;
-use crate::tests::cases::{Ask, bytes_cell, projected, test_of, text_cell};
+use crate::tests::cases::Ask::{AtLeast, AtMost, Equal, Less, More, Null, Present, Starts, Unlike};
+use crate::tests::cases::Literal::{Bytes, Text, Whole};
+use crate::tests::cases::{Ask, Literal, asked, test};
 use ice_filter::{Part, Test};
-use ice_value::{Cell, ColumnType};
+use ice_value::ColumnType;
 use std::alloc::{AllocError, Global};
-use std::process::Abort;
 use std::test::Fail;
 
 /// A test of a number, and the test of the partition value that it becomes. None is true.
@@ -13,339 +14,366 @@ type OfNumber = (Ask, i64, Option<(Ask, i64)>);
 
 type OfText = (Ask, &'static str, Option<(Ask, &'static str)>);
 
-type OfBytes = (Ask, &'static [u8], Option<(Ask, &'static [u8])>);
+/// Numbers are rounded down to tens.
+const TENS: [OfNumber; 15] = [
+    (Less, 10, Some((AtMost, 0))),
+    (AtMost, 10, Some((AtMost, 10))),
+    (More, 9, Some((AtLeast, 10))),
+    (More, 5, Some((AtLeast, 0))),
+    (AtLeast, 10, Some((AtLeast, 10))),
+    (Equal, -1, Some((Equal, -10))),
+    (Equal, 19, Some((Equal, 10))),
+    (Unlike, 5, None),
+    (Null, 0, Some((Null, 0))),
+    (Present, 0, Some((Present, 0))),
+    (Less, -2_147_483_648, None),
+    (AtMost, -2_147_483_648, None),
+    (Equal, -2_147_483_648, None),
+    (More, 2_147_483_647, None),
+    (AtLeast, 2_147_483_647, Some((AtLeast, 2_147_483_640))),
+];
 
-/// Whether the filter is one leaf with that test of the first value, or with none.
-fn is_one_leaf(part: &PartFilter, wanted: &Option<Test>) -> bool {
+/// The same literals of a column of 64 bits.
+const LONG_TENS: [OfNumber; 5] = [
+    (Less, -2_147_483_648, Some((AtMost, -2_147_483_650))),
+    (More, 2_147_483_647, Some((AtLeast, 2_147_483_640))),
+    (Less, i64::MIN, None),
+    (AtMost, i64::MIN, None),
+    (More, i64::MAX, None),
+];
+
+/// Texts are cut to three characters.
+const CUT_TEXTS: [OfText; 13] = [
+    (Less, "iceberg", Some((AtMost, "ice"))),
+    (AtMost, "iceberg", Some((AtMost, "ice"))),
+    (More, "iceberg", Some((AtLeast, "ice"))),
+    (AtLeast, "iceberg", Some((AtLeast, "ice"))),
+    (Equal, "iceberg", Some((Equal, "ice"))),
+    (Unlike, "ice", None),
+    (Null, "", Some((Null, ""))),
+    (Present, "", Some((Present, ""))),
+    (Starts, "iceb", Some((Equal, "ice"))),
+    (Starts, "ice", Some((Equal, "ice"))),
+    (Starts, "ic", Some((Starts, "ic"))),
+    (Starts, "éé", Some((Starts, "éé"))),
+    (Starts, "éééé", Some((Equal, "ééé"))),
+];
+
+/// Days around a midnight and at the last microsecond.
+const DAYS: [OfNumber; 12] = [
+    (Less, 86_400_000_000, Some((AtMost, 0))),
+    (AtMost, 86_400_000_000, Some((AtMost, 1))),
+    (AtMost, 86_399_999_999, Some((AtMost, 0))),
+    (More, 86_399_999_999, Some((AtLeast, 1))),
+    (More, 86_399_999_998, Some((AtLeast, 0))),
+    (AtLeast, 86_399_999_999, Some((AtLeast, 0))),
+    (Equal, 86_399_999_999, Some((Equal, 0))),
+    (Unlike, 86_400_000_000, None),
+    (Less, 0, Some((AtMost, -1))),
+    (More, i64::MAX, None),
+    (AtMost, i64::MAX, Some((AtMost, 106_751_991))),
+    (Less, i64::MIN, None),
+];
+
+/// Hours at the last microsecond.
+const LAST_HOURS: [OfNumber; 2] = [(AtMost, i64::MAX, None), (Equal, i64::MAX, None)];
+
+/// 2017239379, the hash of 34, has the remainder 3 by 16.
+const BUCKETS: [OfNumber; 8] = [
+    (Less, 34, None),
+    (AtMost, 34, None),
+    (More, 34, None),
+    (AtLeast, 34, None),
+    (Equal, 34, Some((Equal, 3))),
+    (Unlike, 34, None),
+    (Null, 0, Some((Null, 0))),
+    (Present, 0, Some((Present, 0))),
+];
+
+/// A partition value that is the value itself is tested as it is.
+const SAME: [OfNumber; 8] = [
+    (Less, 9, Some((Less, 9))),
+    (AtMost, 9, Some((AtMost, 9))),
+    (More, 9, Some((More, 9))),
+    (AtLeast, 9, Some((AtLeast, 9))),
+    (Equal, 9, Some((Equal, 9))),
+    (Unlike, 9, Some((Unlike, 9))),
+    (Null, 9, Some((Null, 9))),
+    (Present, 9, Some((Present, 9))),
+];
+
+/// Every test of 7 is true.
+const TRUE: [OfNumber; 8] = [
+    (Less, 7, None),
+    (AtMost, 7, None),
+    (More, 7, None),
+    (AtLeast, 7, None),
+    (Equal, 7, None),
+    (Unlike, 7, None),
+    (Null, 7, None),
+    (Present, 7, None),
+];
+
+/// Transforms of columns of numbers, and lines of them.
+const LINES: [(&str, ColumnType, &[OfNumber]); 6] = [
+    ("truncate[10]", ColumnType::Int, &TENS),
+    ("truncate[10]", ColumnType::Long, &LONG_TENS),
+    ("day", ColumnType::Timestamp, &DAYS),
+    ("hour", ColumnType::Timestamp, &LAST_HOURS),
+    ("bucket[16]", ColumnType::Long, &BUCKETS),
+    ("identity", ColumnType::Int, &SAME),
+];
+
+/// Void, texts that name no transform, and transforms that don't take the column's type.
+const OTHERS: [(&str, ColumnType); 8] = [
+    ("void", ColumnType::Int),
+    ("zorder", ColumnType::Int),
+    ("bucket[0]", ColumnType::Int),
+    ("truncate[010]", ColumnType::Int),
+    ("hour", ColumnType::Int),
+    ("day", ColumnType::Int),
+    ("hour", ColumnType::Date),
+    ("truncate[10]", ColumnType::Date),
+];
+
+/// Tests that byte strings are cut to two bytes in, and the tests that they become.
+const CUT_BYTES: [(Ask, Option<Ask>); 6] = [
+    (Less, Some(AtMost)),
+    (AtMost, Some(AtMost)),
+    (More, Some(AtLeast)),
+    (AtLeast, Some(AtLeast)),
+    (Equal, Some(Equal)),
+    (Unlike, None),
+];
+
+/// Other transforms of texts, and what the start of "ice" becomes.
+const STARTS: [(&str, Option<Ask>); 4] = [
+    ("identity", Some(Starts)),
+    ("void", None),
+    ("zorder", None),
+    ("day", None),
+];
+
+/// Units of time, and the unit of 2017-11-16T22:31:08.
+const UNITS: [(&str, i64); 4] = [
+    ("year", 47),
+    ("month", 574),
+    ("day", 17_486),
+    ("hour", 419_686),
+];
+
+/// The microsecond before 1970, and 2017-11-16T22:31:08 of this unit.
+fn unit_lines(unit: i64) -> [OfNumber; 8] {
+    [
+        (Less, 0, Some((AtMost, -1))),
+        (More, -2, Some((AtLeast, -1))),
+        (AtMost, 1_510_871_468_000_000, Some((AtMost, unit))),
+        (AtLeast, 1_510_871_468_000_000, Some((AtLeast, unit))),
+        (Equal, 1_510_871_468_000_000, Some((Equal, unit))),
+        (Unlike, 1_510_871_468_000_000, None),
+        (Null, 0, Some((Null, 0))),
+        (Present, 0, Some((Present, 0))),
+    ]
+}
+
+/// Whether the filter is one leaf with that test of the first value.
+fn is_one_test(part: &PartFilter, wanted: &Test) -> bool {
     match part.parts.as_slice() {
-        [Part::Leaf(tests)] => match (tests.as_slice(), wanted) {
-            ([], None) => true,
-            ([found], Some(test)) => found.position == 0 && found.test == *test,
+        [Part::Leaf(tests)] => match tests.as_slice() {
+            [found] => found.position == 0 && found.test == *wanted,
             _ => false,
         },
         _ => false,
     }
 }
 
-fn check(
-    rt: &impl Abort,
+/// Whether the filter is one leaf with no test.
+fn is_true(part: &PartFilter) -> bool {
+    match part.parts.as_slice() {
+        [Part::Leaf(tests)] => tests.as_slice().is_empty(),
+        _ => false,
+    }
+}
+
+fn is_as_wanted(
+    alloc: Global,
+    part: &PartFilter,
+    wanted: Option<(Ask, Literal)>,
+) -> Result<bool, AllocError> {
+    match wanted {
+        Some((ask, literal)) => Ok(is_one_test(part, &test(alloc, ask, literal)?)),
+        None => Ok(is_true(part)),
+    }
+}
+
+fn is_right(
     alloc: Global,
     transform: &str,
     source: ColumnType,
-    test: Test,
-    wanted: Option<Test>,
-) -> Result<(), AllocError> {
-    let part = projected(alloc, transform, source, test)?;
-    assert!(rt; is_one_leaf(&part, &wanted));
-    Ok(())
+    asks: (Ask, Literal),
+    wanted: Option<(Ask, Literal)>,
+) -> Result<bool, AllocError> {
+    let part = asked(alloc, transform, source, asks.0, asks.1)?;
+    is_as_wanted(alloc, &part, wanted)
 }
 
-fn check_number(
-    rt: &impl Abort,
+fn whole(line: (Ask, i64)) -> (Ask, Literal) {
+    (line.0, Whole(line.1))
+}
+
+fn number_is_right(
     alloc: Global,
     transform: &str,
     source: ColumnType,
     line: OfNumber,
-) -> Result<(), AllocError> {
+) -> Result<bool, AllocError> {
     let (ask, literal, wanted) = line;
-    let test = test_of(alloc, ask, Cell::Whole(literal))?;
-    let wanted = match wanted {
-        Some((ask, literal)) => Some(test_of(alloc, ask, Cell::Whole(literal))?),
-        None => None,
-    };
-    check(rt, alloc, transform, source, test, wanted)
+    let asks = whole((ask, literal));
+    match wanted {
+        Some(wanted) => is_right(alloc, transform, source, asks, Some(whole(wanted))),
+        None => is_right(alloc, transform, source, asks, None),
+    }
 }
 
-fn check_numbers(
-    rt: &impl Abort,
+fn numbers_are_right(
     alloc: Global,
     transform: &str,
     source: ColumnType,
     lines: &[OfNumber],
-) -> Result<(), AllocError> {
+) -> Result<bool, AllocError> {
     for line in lines {
-        check_number(rt, alloc, transform, source, *line)?;
+        if !number_is_right(alloc, transform, source, *line)? {
+            return Ok(false);
+        }
+    }
+    Ok(true)
+}
+
+#[test]
+fn numbers(rt: HostRuntime) -> Result<(), Fail> {
+    for (transform, source, lines) in &LINES {
+        let are_right = numbers_are_right(rt.alloc(), transform, *source, *lines)?;
+        assert!(rt; are_right, "{transform}");
     }
     Ok(())
 }
 
-fn check_text(
-    rt: &impl Abort,
-    alloc: Global,
-    transform: &str,
-    line: OfText,
-) -> Result<(), AllocError> {
-    let (ask, literal, wanted) = line;
-    let test = test_of(alloc, ask, text_cell(alloc, literal)?)?;
-    let wanted = match wanted {
-        Some((ask, literal)) => Some(test_of(alloc, ask, text_cell(alloc, literal)?)?),
-        None => None,
-    };
-    check(rt, alloc, transform, ColumnType::String, test, wanted)
-}
-
-fn check_texts(
-    rt: &impl Abort,
-    alloc: Global,
-    transform: &str,
-    lines: &[OfText],
-) -> Result<(), AllocError> {
-    for line in lines {
-        check_text(rt, alloc, transform, *line)?;
-    }
-    Ok(())
-}
-
-/// All tests that are made of a number.
-const ASKS: [Ask; 8] = [
-    Ask::Less,
-    Ask::AtMost,
-    Ask::More,
-    Ask::AtLeast,
-    Ask::Equal,
-    Ask::Unlike,
-    Ask::Null,
-    Ask::Present,
-];
-
-/// Every test of 7 is true.
-fn check_true(
-    rt: &impl Abort,
-    alloc: Global,
-    transform: &str,
-    source: ColumnType,
-) -> Result<(), AllocError> {
-    for ask in ASKS {
-        check_number(rt, alloc, transform, source, (ask, 7, None))?;
-    }
-    Ok(())
-}
-
-/// Numbers are rounded down to tens.
-#[test]
-fn truncated_numbers(rt: HostRuntime) -> Result<(), Fail> {
-    let lines = [
-        (Ask::Less, 10, Some((Ask::AtMost, 0))),
-        (Ask::AtMost, 10, Some((Ask::AtMost, 10))),
-        (Ask::More, 9, Some((Ask::AtLeast, 10))),
-        (Ask::More, 5, Some((Ask::AtLeast, 0))),
-        (Ask::AtLeast, 10, Some((Ask::AtLeast, 10))),
-        (Ask::Equal, -1, Some((Ask::Equal, -10))),
-        (Ask::Equal, 19, Some((Ask::Equal, 10))),
-        (Ask::Unlike, 5, None),
-        (Ask::Null, 0, Some((Ask::Null, 0))),
-        (Ask::Present, 0, Some((Ask::Present, 0))),
-        (Ask::Less, -2_147_483_648, None),
-        (Ask::AtMost, -2_147_483_648, None),
-        (Ask::Equal, -2_147_483_648, None),
-        (Ask::More, 2_147_483_647, None),
-        (
-            Ask::AtLeast,
-            2_147_483_647,
-            Some((Ask::AtLeast, 2_147_483_640)),
-        ),
-    ];
-    check_numbers(&rt, rt.alloc(), "truncate[10]", ColumnType::Int, &lines)?;
-    Ok(())
-}
-
-/// The same literals of a column of 64 bits.
-#[test]
-fn truncated_longs(rt: HostRuntime) -> Result<(), Fail> {
-    let lines = [
-        (
-            Ask::Less,
-            -2_147_483_648,
-            Some((Ask::AtMost, -2_147_483_650)),
-        ),
-        (
-            Ask::More,
-            2_147_483_647,
-            Some((Ask::AtLeast, 2_147_483_640)),
-        ),
-        (Ask::Less, i64::MIN, None),
-        (Ask::AtMost, i64::MIN, None),
-        (Ask::More, i64::MAX, None),
-    ];
-    check_numbers(&rt, rt.alloc(), "truncate[10]", ColumnType::Long, &lines)?;
-    Ok(())
-}
-
-/// Texts are cut to three characters.
-#[test]
-fn truncated_texts(rt: HostRuntime) -> Result<(), Fail> {
-    let lines = [
-        (Ask::Less, "iceberg", Some((Ask::AtMost, "ice"))),
-        (Ask::AtMost, "iceberg", Some((Ask::AtMost, "ice"))),
-        (Ask::More, "iceberg", Some((Ask::AtLeast, "ice"))),
-        (Ask::AtLeast, "iceberg", Some((Ask::AtLeast, "ice"))),
-        (Ask::Equal, "iceberg", Some((Ask::Equal, "ice"))),
-        (Ask::Unlike, "ice", None),
-        (Ask::Null, "", Some((Ask::Null, ""))),
-        (Ask::Present, "", Some((Ask::Present, ""))),
-        (Ask::Starts, "iceb", Some((Ask::Equal, "ice"))),
-        (Ask::Starts, "ice", Some((Ask::Equal, "ice"))),
-        (Ask::Starts, "ic", Some((Ask::Starts, "ic"))),
-        (Ask::Starts, "éé", Some((Ask::Starts, "éé"))),
-        (Ask::Starts, "éééé", Some((Ask::Equal, "ééé"))),
-    ];
-    check_texts(&rt, rt.alloc(), "truncate[3]", &lines)?;
-    Ok(())
-}
-
-/// Days around a midnight and at the last microsecond.
-#[test]
-fn days_of_times(rt: HostRuntime) -> Result<(), Fail> {
-    let lines = [
-        (Ask::Less, 86_400_000_000, Some((Ask::AtMost, 0))),
-        (Ask::AtMost, 86_400_000_000, Some((Ask::AtMost, 1))),
-        (Ask::AtMost, 86_399_999_999, Some((Ask::AtMost, 0))),
-        (Ask::More, 86_399_999_999, Some((Ask::AtLeast, 1))),
-        (Ask::More, 86_399_999_998, Some((Ask::AtLeast, 0))),
-        (Ask::AtLeast, 86_399_999_999, Some((Ask::AtLeast, 0))),
-        (Ask::Equal, 86_399_999_999, Some((Ask::Equal, 0))),
-        (Ask::Unlike, 86_400_000_000, None),
-        (Ask::Less, 0, Some((Ask::AtMost, -1))),
-        (Ask::More, i64::MAX, None),
-        (Ask::AtMost, i64::MAX, Some((Ask::AtMost, 106_751_991))),
-        (Ask::Less, i64::MIN, None),
-    ];
-    check_numbers(&rt, rt.alloc(), "day", ColumnType::Timestamp, &lines)?;
-    Ok(())
-}
-
-/// The other units of time, of the microsecond before 1970 and of 2017-11-16T22:31:08.
 #[test]
 fn units_of_times(rt: HostRuntime) -> Result<(), Fail> {
-    let units = [
-        ("year", 47),
-        ("month", 574),
-        ("day", 17_486),
-        ("hour", 419_686),
-    ];
-    for (transform, unit) in units {
-        let lines = [
-            (Ask::Less, 0, Some((Ask::AtMost, -1))),
-            (Ask::More, -2, Some((Ask::AtLeast, -1))),
-            (
-                Ask::AtMost,
-                1_510_871_468_000_000,
-                Some((Ask::AtMost, unit)),
-            ),
-            (
-                Ask::AtLeast,
-                1_510_871_468_000_000,
-                Some((Ask::AtLeast, unit)),
-            ),
-            (Ask::Equal, 1_510_871_468_000_000, Some((Ask::Equal, unit))),
-            (Ask::Unlike, 1_510_871_468_000_000, None),
-            (Ask::Null, 0, Some((Ask::Null, 0))),
-            (Ask::Present, 0, Some((Ask::Present, 0))),
-        ];
-        check_numbers(&rt, rt.alloc(), transform, ColumnType::Timestamptz, &lines)?;
+    for (transform, unit) in UNITS {
+        let lines = unit_lines(unit);
+        let are_right = numbers_are_right(rt.alloc(), transform, ColumnType::Timestamptz, &lines)?;
+        assert!(rt; are_right, "{transform}");
     }
-    let last = [(Ask::AtMost, i64::MAX, None), (Ask::Equal, i64::MAX, None)];
-    check_numbers(&rt, rt.alloc(), "hour", ColumnType::Timestamp, &last)?;
     Ok(())
 }
 
-/// 2017239379, the hash of 34, has the remainder 3 by 16; 1210000089, that of "iceberg", has 9.
 #[test]
-fn buckets(rt: HostRuntime) -> Result<(), Fail> {
-    let alloc = rt.alloc();
-    let numbers = [
-        (Ask::Less, 34, None),
-        (Ask::AtMost, 34, None),
-        (Ask::More, 34, None),
-        (Ask::AtLeast, 34, None),
-        (Ask::Equal, 34, Some((Ask::Equal, 3))),
-        (Ask::Unlike, 34, None),
-        (Ask::Null, 0, Some((Ask::Null, 0))),
-        (Ask::Present, 0, Some((Ask::Present, 0))),
-    ];
-    check_numbers(&rt, alloc, "bucket[16]", ColumnType::Long, &numbers)?;
-    check_texts(&rt, alloc, "bucket[16]", &[(Ask::Starts, "iceberg", None)])?;
-    let test = test_of(alloc, Ask::Equal, text_cell(alloc, "iceberg")?)?;
-    let wanted = test_of(alloc, Ask::Equal, Cell::Whole(9))?;
-    check(
-        &rt,
+fn other_transforms(rt: HostRuntime) -> Result<(), Fail> {
+    for (transform, source) in &OTHERS {
+        let are_right = numbers_are_right(rt.alloc(), transform, *source, &TRUE)?;
+        assert!(rt; are_right, "{transform}");
+    }
+    Ok(())
+}
+
+fn text_is_right(alloc: Global, line: OfText) -> Result<bool, AllocError> {
+    let (ask, literal, wanted) = line;
+    let wanted = match wanted {
+        Some((ask, literal)) => Some((ask, Text(literal))),
+        None => None,
+    };
+    is_right(
+        alloc,
+        "truncate[3]",
+        ColumnType::String,
+        (ask, Text(literal)),
+        wanted,
+    )
+}
+
+#[test]
+fn truncated_texts(rt: HostRuntime) -> Result<(), Fail> {
+    for (place, line) in CUT_TEXTS.iter().enumerate() {
+        let is_right = text_is_right(rt.alloc(), *line)?;
+        assert!(rt; is_right, "line {place}");
+    }
+    Ok(())
+}
+
+fn start_is_right(alloc: Global, transform: &str, wanted: Option<Ask>) -> Result<bool, AllocError> {
+    let wanted = match wanted {
+        Some(ask) => Some((ask, Text("ice"))),
+        None => None,
+    };
+    is_right(
+        alloc,
+        transform,
+        ColumnType::String,
+        (Starts, Text("ice")),
+        wanted,
+    )
+}
+
+#[test]
+fn starts(rt: HostRuntime) -> Result<(), Fail> {
+    for (transform, wanted) in &STARTS {
+        let is_right = start_is_right(rt.alloc(), transform, *wanted)?;
+        assert!(rt; is_right, "{transform}");
+    }
+    Ok(())
+}
+
+/// 1210000089, the hash of "iceberg", has the remainder 9 by 16.
+fn bucket_is_right(alloc: Global) -> Result<bool, AllocError> {
+    let wanted = Some((Equal, Whole(9)));
+    is_right(
         alloc,
         "bucket[16]",
         ColumnType::String,
-        test,
-        Some(wanted),
-    )?;
-    Ok(())
+        (Equal, Text("iceberg")),
+        wanted,
+    )
 }
 
-/// A partition value that is the value itself is tested as it is.
+fn start_bucket_is_right(alloc: Global) -> Result<bool, AllocError> {
+    is_right(
+        alloc,
+        "bucket[16]",
+        ColumnType::String,
+        (Starts, Text("iceberg")),
+        None,
+    )
+}
+
 #[test]
-fn identities(rt: HostRuntime) -> Result<(), Fail> {
-    for ask in ASKS {
-        let line = (ask, 9, Some((ask, 9)));
-        check_number(&rt, rt.alloc(), "identity", ColumnType::Int, line)?;
-    }
-    check_text(
-        &rt,
-        rt.alloc(),
-        "identity",
-        (Ask::Starts, "ice", Some((Ask::Starts, "ice"))),
-    )?;
+fn buckets_of_texts(rt: HostRuntime) -> Result<(), Fail> {
+    let equal = bucket_is_right(rt.alloc())?;
+    assert!(rt; equal);
+    let start = start_bucket_is_right(rt.alloc())?;
+    assert!(rt; start);
     Ok(())
 }
 
-/// Void, texts that name no transform, and transforms that don't take the column's type.
-#[test]
-fn other_transforms(rt: HostRuntime) -> Result<(), Fail> {
-    let alloc = rt.alloc();
-    for transform in [
-        "void",
-        "zorder",
-        "bucket[0]",
-        "truncate[010]",
-        "hour",
-        "day",
-    ] {
-        check_true(&rt, alloc, transform, ColumnType::Int)?;
-    }
-    check_true(&rt, alloc, "hour", ColumnType::Date)?;
-    check_true(&rt, alloc, "truncate[10]", ColumnType::Date)?;
-    for transform in ["void", "zorder", "day"] {
-        check_text(&rt, alloc, transform, (Ask::Starts, "ice", None))?;
-    }
-    Ok(())
-}
-
-fn check_bytes(
-    rt: &impl Abort,
-    alloc: Global,
-    transform: &str,
-    line: OfBytes,
-) -> Result<(), AllocError> {
-    let (ask, literal, wanted) = line;
-    let test = test_of(alloc, ask, bytes_cell(alloc, literal)?)?;
+fn bytes_are_right(alloc: Global, ask: Ask, wanted: Option<Ask>) -> Result<bool, AllocError> {
     let wanted = match wanted {
-        Some((ask, literal)) => Some(test_of(alloc, ask, bytes_cell(alloc, literal)?)?),
+        Some(ask) => Some((ask, Bytes(&[1, 2]))),
         None => None,
     };
-    check(rt, alloc, transform, ColumnType::Binary, test, wanted)
+    is_right(
+        alloc,
+        "truncate[2]",
+        ColumnType::Binary,
+        (ask, Bytes(&[1, 2, 3])),
+        wanted,
+    )
 }
 
-/// Byte strings are cut to two bytes.
 #[test]
 fn truncated_bytes(rt: HostRuntime) -> Result<(), Fail> {
-    let long = [1, 2, 3].as_slice();
-    let cut = [1, 2].as_slice();
-    let lines = [
-        (Ask::Less, long, Some((Ask::AtMost, cut))),
-        (Ask::AtMost, long, Some((Ask::AtMost, cut))),
-        (Ask::More, long, Some((Ask::AtLeast, cut))),
-        (Ask::AtLeast, long, Some((Ask::AtLeast, cut))),
-        (Ask::Equal, long, Some((Ask::Equal, cut))),
-        (Ask::Unlike, long, None),
-    ];
-    for line in lines {
-        check_bytes(&rt, rt.alloc(), "truncate[2]", line)?;
+    for (ask, wanted) in CUT_BYTES {
+        let are_right = bytes_are_right(rt.alloc(), ask, wanted)?;
+        assert!(rt; are_right, "{ask:?}");
     }
     Ok(())
 }

@@ -1,45 +1,36 @@
 //! Summaries of manifests.
 
-use crate::summary_may;
-use crate::tests::cases::{Ask, bytes, bytes_cell, projected, test_of, text_cell};
+use crate::tests::cases::Ask::{AtLeast, AtMost, Equal, Less, More, Null, Present, Starts, Unlike};
+use crate::tests::cases::Literal::{Bytes, Text, Whole};
+use crate::tests::cases::{Ask, Literal, asked, bytes};
+use crate::{PartFilter, summary_may};
 use contract_words::Items;
-use ice_filter::Test;
-use ice_value::{Cell, ColumnType, Summary};
+use ice_value::{ColumnType, Summary};
 use std::alloc::{AllocError, Global};
-use std::process::Abort;
 use std::test::Fail;
 
-fn bound(alloc: Global, held: Option<&[u8]>) -> Result<Option<Items<u8>>, AllocError> {
-    match held {
-        Some(held) => Ok(Some(bytes(alloc, held)?)),
-        None => Ok(None),
-    }
-}
-
-fn summary(
-    alloc: Global,
-    contains_null: bool,
-    low: Option<&[u8]>,
-    high: Option<&[u8]>,
-) -> Result<Summary, AllocError> {
-    Ok(Summary {
-        contains_null,
-        contains_nan: None,
-        lower: bound(alloc, low)?,
-        upper: bound(alloc, high)?,
-    })
-}
-
 /// A manifest whose values under the transform lie between the bounds.
-#[derive(Clone, Copy)]
+#[derive(Drop)]
 struct Manifest {
     transform: &'static str,
     source: ColumnType,
-    low: Option<&'static [u8]>,
-    high: Option<&'static [u8]>,
+    contains_null: bool,
+    low: &'static [u8],
+    high: &'static [u8],
 }
 
-/// The summaries of the manifest, as often as is said, without nulls.
+fn summary(alloc: Global, manifest: &Manifest) -> Result<Summary, AllocError> {
+    let low = bytes(alloc, manifest.low)?;
+    let high = bytes(alloc, manifest.high)?;
+    Ok(Summary {
+        contains_null: manifest.contains_null,
+        contains_nan: None,
+        lower: Some(low),
+        upper: Some(high),
+    })
+}
+
+/// The summaries of the manifest, as often as is said.
 fn summaries(
     alloc: Global,
     manifest: &Manifest,
@@ -47,147 +38,178 @@ fn summaries(
 ) -> Result<Items<Summary>, AllocError> {
     let mut found = Items::new(alloc);
     for _ in 0..times {
-        found.push(summary(alloc, false, manifest.low, manifest.high)?)?;
+        found.push(summary(alloc, manifest)?)?;
     }
     Ok(found)
 }
 
-/// Whether the manifest may have a file that meets the test. With no summaries, or two, it always may.
-fn check(
-    rt: &impl Abort,
+fn may(
     alloc: Global,
     manifest: &Manifest,
-    test: Test,
-    wanted: bool,
-) -> Result<(), AllocError> {
-    let part = projected(alloc, manifest.transform, manifest.source, test)?;
-    for (times, wanted) in [(0, true), (1, wanted), (2, true)] {
-        let held = summaries(alloc, manifest, times)?;
-        assert!(rt; summary_may(&part, held.as_slice()) == wanted);
-    }
-    Ok(())
+    times: usize,
+    part: &PartFilter,
+) -> Result<bool, AllocError> {
+    let held = summaries(alloc, manifest, times)?;
+    Ok(summary_may(part, held.as_slice()))
 }
 
-fn check_number(
-    rt: &impl Abort,
+/// Whether the manifest may have a file that meets the test. With no summaries, or two, it always may.
+fn is_right(
     alloc: Global,
     manifest: &Manifest,
     ask: Ask,
-    literal: i64,
+    literal: Literal,
     wanted: bool,
-) -> Result<(), AllocError> {
-    check(
-        rt,
-        alloc,
-        manifest,
-        test_of(alloc, ask, Cell::Whole(literal))?,
-        wanted,
-    )
+) -> Result<bool, AllocError> {
+    let part = asked(alloc, manifest.transform, manifest.source, ask, literal)?;
+    for (times, wanted) in [(0, true), (1, wanted), (2, true)] {
+        if may(alloc, manifest, times, &part)? != wanted {
+            return Ok(false);
+        }
+    }
+    Ok(true)
 }
 
 /// Values between 2 and 5.
+const NUMBERS: Manifest = Manifest {
+    transform: "identity",
+    source: ColumnType::Int,
+    contains_null: false,
+    low: &[2, 0, 0, 0],
+    high: &[5, 0, 0, 0],
+};
+
+const OF_NUMBERS: [(Ask, i64, bool); 14] = [
+    (Equal, 7, false),
+    (Equal, 5, true),
+    (Equal, 1, false),
+    (Less, 2, false),
+    (Less, 3, true),
+    (AtMost, 2, true),
+    (AtMost, 1, false),
+    (More, 5, false),
+    (More, 4, true),
+    (AtLeast, 5, true),
+    (AtLeast, 6, false),
+    (Unlike, 7, true),
+    (Null, 7, false),
+    (Present, 7, true),
+];
+
 #[test]
 fn summaries_of_numbers(rt: HostRuntime) -> Result<(), Fail> {
-    let manifest = Manifest {
-        transform: "identity",
-        source: ColumnType::Int,
-        low: Some(&[2, 0, 0, 0]),
-        high: Some(&[5, 0, 0, 0]),
-    };
-    let cases = [
-        (Ask::Equal, 7, false),
-        (Ask::Equal, 5, true),
-        (Ask::Equal, 1, false),
-        (Ask::Less, 2, false),
-        (Ask::Less, 3, true),
-        (Ask::AtMost, 2, true),
-        (Ask::AtMost, 1, false),
-        (Ask::More, 5, false),
-        (Ask::More, 4, true),
-        (Ask::AtLeast, 5, true),
-        (Ask::AtLeast, 6, false),
-        (Ask::Unlike, 7, true),
-        (Ask::Null, 7, false),
-        (Ask::Present, 7, true),
-    ];
-    for (ask, literal, wanted) in cases {
-        check_number(&rt, rt.alloc(), &manifest, ask, literal, wanted)?;
+    for (ask, literal, wanted) in OF_NUMBERS {
+        let is_right = is_right(rt.alloc(), &NUMBERS, ask, Whole(literal), wanted)?;
+        assert!(rt; is_right, "{ask:?} {literal}");
     }
     Ok(())
 }
 
-/// Bounds are read by the type of the transform's values; of another length they say nothing.
-#[test]
-fn summaries_of_transforms(rt: HostRuntime) -> Result<(), Fail> {
-    let short = Some([2, 0, 0, 0].as_slice());
-    let wide = Some([2, 0, 0, 0, 0, 0, 0, 0].as_slice());
-    let cases = [
-        ("bucket[16]", 34, short, false),
-        ("bucket[16]", 34, wide, true),
-        ("day", 86_400_000_000, short, false),
-        ("day", 86_400_000_000, wide, true),
-        ("identity", 3, short, true),
-        ("identity", 3, wide, false),
-        ("void", 3, short, true),
-    ];
-    for (transform, literal, held, wanted) in cases {
-        let manifest = Manifest {
-            transform,
-            source: ColumnType::Timestamp,
-            low: held,
-            high: held,
-        };
-        check_number(&rt, rt.alloc(), &manifest, Ask::Equal, literal, wanted)?;
-    }
-    Ok(())
-}
+/// 2 and null.
+const NULLS: Manifest = Manifest {
+    transform: "identity",
+    source: ColumnType::Int,
+    contains_null: true,
+    low: &[2, 0, 0, 0],
+    high: &[2, 0, 0, 0],
+};
 
 /// A null in a summary is asked for by `is null` alone.
 #[test]
 fn summaries_of_nulls(rt: HostRuntime) -> Result<(), Fail> {
+    for (ask, wanted) in [(Null, true), (Equal, false), (Unlike, true)] {
+        let is_right = is_right(rt.alloc(), &NULLS, ask, Whole(7), wanted)?;
+        assert!(rt; is_right, "{ask:?}");
+    }
+    Ok(())
+}
+
+fn time_is_right(
+    alloc: Global,
+    transform: &'static str,
+    literal: i64,
+    held: &'static [u8],
+    wanted: bool,
+) -> Result<bool, AllocError> {
+    let manifest = Manifest {
+        transform,
+        source: ColumnType::Timestamp,
+        contains_null: false,
+        low: held,
+        high: held,
+    };
+    is_right(alloc, &manifest, Equal, Whole(literal), wanted)
+}
+
+/// Transforms, a literal, and whether a manifest whose bounds are 2 in four bytes may have it, and in eight bytes.
+const OF_TRANSFORMS: [(&str, i64, bool, bool); 4] = [
+    ("bucket[16]", 34, false, true),
+    ("day", 86_400_000_000, false, true),
+    ("identity", 3, true, false),
+    ("void", 3, true, true),
+];
+
+/// Bounds are read by the type of the transform's values; of another length they say nothing.
+#[test]
+fn summaries_of_transforms(rt: HostRuntime) -> Result<(), Fail> {
     let alloc = rt.alloc();
-    for (ask, wanted) in [(Ask::Null, true), (Ask::Equal, false), (Ask::Unlike, true)] {
-        let test = test_of(alloc, ask, Cell::Whole(7))?;
-        let part = projected(alloc, "identity", ColumnType::Int, test)?;
-        let held = summary(alloc, true, Some(&[2, 0, 0, 0]), Some(&[2, 0, 0, 0]))?;
-        assert!(rt; summary_may(&part, &[held]) == wanted);
+    for (transform, literal, short, wide) in OF_TRANSFORMS {
+        let is_short_right = time_is_right(alloc, transform, literal, &[2, 0, 0, 0], short)?;
+        assert!(rt; is_short_right, "{transform}");
+        let is_wide_right = time_is_right(
+            alloc,
+            transform,
+            literal,
+            &[2, 0, 0, 0, 0, 0, 0, 0],
+            wide,
+        )?;
+        assert!(rt; is_wide_right, "{transform}");
     }
     Ok(())
 }
 
 /// Between `ice` and `icf`.
+const TEXTS: Manifest = Manifest {
+    transform: "truncate[3]",
+    source: ColumnType::String,
+    contains_null: false,
+    low: b"ice",
+    high: b"icf",
+};
+
+const OF_STARTS: [(&str, bool); 4] = [
+    ("id", false),
+    ("ia", false),
+    ("ic", true),
+    ("iceberg", true),
+];
+
 #[test]
 fn summaries_of_texts(rt: HostRuntime) -> Result<(), Fail> {
-    let manifest = Manifest {
-        transform: "truncate[3]",
-        source: ColumnType::String,
-        low: Some(b"ice"),
-        high: Some(b"icf"),
-    };
-    for (start, wanted) in [
-        ("id", false),
-        ("ia", false),
-        ("ic", true),
-        ("iceberg", true),
-    ] {
-        let test = test_of(rt.alloc(), Ask::Starts, text_cell(rt.alloc(), start)?)?;
-        check(&rt, rt.alloc(), &manifest, test, wanted)?;
+    for (start, wanted) in OF_STARTS {
+        let is_right = is_right(rt.alloc(), &TEXTS, Starts, Text(start), wanted)?;
+        assert!(rt; is_right, "{start}");
     }
     Ok(())
+}
+
+fn uuid_is_right(alloc: Global, source: ColumnType, wanted: bool) -> Result<bool, AllocError> {
+    let manifest = Manifest {
+        transform: "identity",
+        source,
+        contains_null: false,
+        low: &[7; 16],
+        high: &[7; 16],
+    };
+    is_right(alloc, &manifest, Equal, Bytes(&[9; 16]), wanted)
 }
 
 /// Bounds of uuids aren't read.
 #[test]
 fn summaries_of_uuids(rt: HostRuntime) -> Result<(), Fail> {
-    for (source, wanted) in [(ColumnType::Uuid, true), (ColumnType::Fixed(16), false)] {
-        let manifest = Manifest {
-            transform: "identity",
-            source,
-            low: Some(&[7; 16]),
-            high: Some(&[7; 16]),
-        };
-        let test = test_of(rt.alloc(), Ask::Equal, bytes_cell(rt.alloc(), &[9; 16])?)?;
-        check(&rt, rt.alloc(), &manifest, test, wanted)?;
-    }
+    let uuid = uuid_is_right(rt.alloc(), ColumnType::Uuid, true)?;
+    assert!(rt; uuid);
+    let fixed = uuid_is_right(rt.alloc(), ColumnType::Fixed(16), false)?;
+    assert!(rt; fixed);
     Ok(())
 }
