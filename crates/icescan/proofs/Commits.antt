@@ -1,6 +1,6 @@
 -- A request to commit: why each of its steps may end it, and what a prepared commit writes.
-use Rattle.std.proofs.Common.{◌≡◌, ◌≢◌, ℕ, List, [], ◌∷◌, Option, Some, None, refl, sym, ap, subst, ◌∙◌, inl, inr}
-use Rattle.std.specs.Prelude.{Result, Ok, Err, IsErrOf}
+use Rattle.std.proofs.Common.{◌≡◌, ◌≢◌, ℕ, List, [], ◌∷◌, Some, refl, sym, ap, subst, ◌∙◌, inl, inr}
+use Rattle.std.specs.Prelude.{Result, Ok, Err}
 use Rattle.contract_words.specs.Outcome.{◌>>=◌}
 use Rattle.ice_catalog.specs.declared.change.Change.{Change}
 use Rattle.ice_catalog.specs.declared.change.Commit.{Commit}
@@ -10,7 +10,7 @@ use Rattle.ice_catalog.specs.declared.opening.Opening.{Opening}
 use Rattle.ice_catalog.specs.declared.world.World.{World as Kept}
 use Rattle.ice_catalog.specs.Adding.{added}
 use Rattle.ice_catalog.specs.Applying.{apply}
-use Rattle.ice_catalog.specs.Histories.{History, Step, after, opened, openable, prepared_on, prepared_from, state_of}
+use Rattle.ice_catalog.specs.Histories.{History, Step, after, opened, openable, prepared_on, state_of}
 use Rattle.ice_catalog.specs.States.{State}
 use Rattle.ice_desk.specs.Worlds.{EndsAt}
 use Rattle.ice_meta.specs.declared.fault.MetaFault.{MetaFault}

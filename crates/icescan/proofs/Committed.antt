@@ -1,7 +1,6 @@
 -- What is written of a commit in a bundle.
 use Rattle.std.proofs.Common.{◌≡◌, ◌≢◌, ◌⊎◌, ℕ, List, Bool, true, false, Option, Some, None, refl, sym, ap, subst, ◌∙◌, inl, inr}
 use Rattle.std.specs.Prelude.{Result, Ok, Err, IfSome, if◌then◌else◌}
-use Rattle.contract_words.specs.Outcome.{◌>>=◌}
 use Rattle.serde_json.specs.Written.{compact_text, has_float}
 use Rattle.icescan.specs.Bundles.{File, bundle_of, bytes_at}
 use Rattle.icescan.specs.Commits.{Commitment, IsTextOf, bundle_lines, commitment, committed_text, in_order, told_text}

@@ -1,5 +1,5 @@
 -- Files that were put in a store.
-use Rattle.std.proofs.Common.{◌≡◌, false, ℕ, ◌≤◌, List, length, take, Option, Some, None, refl, sym, ap, subst, ◌∙◌, arith}
+use Rattle.std.proofs.Common.{◌≡◌, false, ℕ, List, length, Option, Some, sym, ap, subst, ◌∙◌, arith}
 use Rattle.std.specs.Prelude.{option_map, Ok}
 use Rattle.std.proofs.Math.Seq.{take-length}
 use Rattle.ice_catalog.specs.Histories.{History, Step, added_on, after, state_of}

@@ -1,7 +1,7 @@
 -- What a commit to a table writes: Apache Iceberg table spec, version 2, "Optimistic Concurrency" and "File System Tables".
 -- It is made on the table's current snapshot; the metadata that names the new files comes last, so that whoever reads the
 -- table has all of the commit or none of it.
-use Rattle.std.specs.Prelude.{◌≡◌, ◌⊎◌, false, ℕ, ℤ, List, [], ◌∷◌, ◌++◌, map, codes, Option, Some, None, option_map, Result, Ok, Err, if◌then◌else◌}
+use Rattle.std.specs.Prelude.{◌≡◌, ◌⊎◌, false, ℕ, ℤ, List, [], ◌∷◌, ◌++◌, codes, Option, Some, None, option_map, Result, Ok, Err, if◌then◌else◌}
 use Rattle.std.specs.FinMap.{empty, insert}
 use Rattle.std.specs.List.{flat_map}
 use Rattle.hex.specs.Hex.{encode_lower}

@@ -1,5 +1,5 @@
 -- Where new files are put: what a store has, where it tells its files, and what is put there.
-use Rattle.std.specs.Prelude.{◌≡◌, true, ℕ, ◌<◌, ◌≤◌, List, [], ◌∷◌, ◌++◌, length, map, take, slice_get, Option, Some, None, is_some}
+use Rattle.std.specs.Prelude.{◌≡◌, true, ℕ, ◌≤◌, List, [], ◌∷◌, ◌++◌, length, map, take, slice_get, Option, Some, None, is_some}
 use Rattle.ice_catalog.specs.States.{Added}
 use Rattle.icescan.specs.Bundles.{File, bytes_at}
 use Rattle.icescan.specs.declared.store.StoreFault.{StoreFault}

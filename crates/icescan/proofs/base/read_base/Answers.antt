@@ -1,8 +1,8 @@
-use Rattle.std.proofs.Common.{◌≡◌, List, ℕ, sym, ap, ◌∙◌, rules}
-use Rattle.std.specs.Prelude.{Ok, Err}
+use Rattle.std.proofs.Common.{◌≡◌, sym, ap, ◌∙◌, rules}
+use Rattle.std.specs.Prelude.{Ok}
 use Rattle.ice_meta.specs.declared.metadata.Target.TheVariants.{Main}
 use Rattle.ice_meta.specs.Targets.{list_of}
-use Rattle.icescan.specs.Commits.{keep_all, keep_found, manifests_in}
+use Rattle.icescan.specs.Commits.{manifests_in}
 use Rattle.icescan.proofs.Bases.{kept_is_found, no_list, no_memory, with_list}
 use Rattle.icescan.proofs.base.read_base.Goals as goal
 

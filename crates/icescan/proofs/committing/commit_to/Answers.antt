@@ -1,8 +1,7 @@
-use Rattle.std.proofs.Common.{◌≡◌, subst, ap, ◌∙◌, rules, SFits, w64}
+use Rattle.std.proofs.Common.{subst, ap, ◌∙◌, rules, SFits, w64}
 use Rattle.std.proofs.Math.Facts.{to_z-of_z}
 use Rattle.std.proofs.lemmas.Result.{err_from_is_err_and}
-use Rattle.icescan.specs.Commits.{IsTaken, commitment, receipt_text}
-use Rattle.icescan.specs.Written.{Appends}
+use Rattle.icescan.specs.Commits.{IsTaken, commitment}
 use Rattle.icescan.proofs.Commits.{one_answer, prepare_refuses}
 use Rattle.icescan.proofs.Stored.{table_is}
 use Rattle.icescan.proofs.committing.commit_to.Goals as goal

@@ -1,5 +1,3 @@
-use Rattle.std.proofs.Common.{◌≡◌, sym}
-use Rattle.icescan.specs.Stores.{PutsAll}
 use Rattle.icescan.proofs.Stored.{added_is, all_front}
 use Rattle.icescan.proofs.committing.put_commit.Goals as goal
 
