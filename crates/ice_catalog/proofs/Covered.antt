@@ -23,7 +23,7 @@ use Rattle.ice_manifest.specs.declared.fault.ListFault.{ListFault}
 use Rattle.ice_manifest.specs.declared.fault.ManifestFault.{ManifestFault}
 use Rattle.ice_manifest.specs.declared.row.Row.{Row}
 use Rattle.ice_manifest.specs.Lists.{path_before, rows_of}
-use Rattle.ice_manifest.specs.Manifests.{entries, entries_of, live_of as live_in_bytes}
+use Rattle.ice_manifest.specs.Manifests.{entries, entries_of, live_of}
 use Rattle.ice_manifest.specs.Writing.{new_entries}
 use Rattle.ice_state.specs.Contents.{live_by}
 use Rattle.ice_state.specs.Covering.{RowCovers}
@@ -37,7 +37,7 @@ use Rattle.ice_catalog.specs.Applying.{apply, unless}
 use Rattle.ice_catalog.specs.Bases.{base_rows, live_at, rows_at, spec_in, specs_under, table_specs}
 use Rattle.ice_catalog.specs.Covered.{CoversFiles, EmptyIsCovered, HasCoveredRows, KeepsCovering, StaysCovered}
 use Rattle.ice_catalog.specs.Histories.{History, after, replay, start, state_of, step}
-use Rattle.ice_catalog.specs.Live.{AddInTurn, HasBaseAndChange, added_entries, added_row, live_of, new_manifests}
+use Rattle.ice_catalog.specs.Live.{AddInTurn, HasBaseAndChange, added_entries, added_row, entries_at, new_manifests}
 use Rattle.ice_catalog.specs.Pins.{as_pin, of_list, of_meta, rows_in, there}
 use Rattle.ice_catalog.specs.Refusals.{refusal}
 use Rattle.ice_catalog.specs.States.{State}
@@ -61,7 +61,7 @@ live_entries w specs row = here (spec_in specs row.spec_id) (get w row.path) whe
   here None None = refl
   here None (Some bytes) = refl
   here (Some spec) None = refl
-  here (Some spec) (Some bytes) = without_bounds (live_in_bytes row spec bytes)
+  here (Some spec) (Some bytes) = without_bounds (live_of row spec bytes)
 
 -- the row covers these entries
 abbrev CoversEntries : List Spec → Row → List Entry → Type 0
@@ -96,7 +96,7 @@ module _ (s t : State) (c : Commit) (none : refusal s c ≡ None) (is : next s c
   specs = subst (λ (t : State). table_specs t.metadata.table ≡ table_specs s.metadata.table) is (specs_stay s c)
 
   -- what covers the entries that a row has in the next state
-  moved : (row : Row) (found : List Entry) → unwrap_or (live_of t row) [] ≡ found → CoversEntries (table_specs s.metadata.table) row found → IsCoveredAt t.world (table_specs t.metadata.table) row
+  moved : (row : Row) (found : List Entry) → unwrap_or (entries_at t row) [] ≡ found → CoversEntries (table_specs s.metadata.table) row found → IsCoveredAt t.world (table_specs t.metadata.table) row
   moved row found e h =
       by_entries t.world (table_specs t.metadata.table) row
       (subst (CoversEntries (table_specs t.metadata.table) row) (sym e) (subst (λ (of : List Spec). CoversEntries of row found) (sym specs) h))
@@ -105,17 +105,17 @@ module _ (s t : State) (c : Commit) (none : refusal s c ≡ None) (is : next s c
   of_base =
       let own = table_specs s.metadata.table in
       let rows = base_rows s.world s.metadata.table in
-      all_weaker (λ row. (live_of t row ≡ live_of s row) × IsCoveredAt s.world own row) (IsCoveredAt t.world (table_specs t.metadata.table)) rows
+      all_weaker (λ row. (entries_at t row ≡ entries_at s row) × IsCoveredAt s.world own row) (IsCoveredAt t.world (table_specs t.metadata.table)) rows
       (λ row h. moved row (live_at s.world own row) (ap (λ o. unwrap_or o []) h.0) (of_entries s.world own row h.1))
-      (all_both (λ row. live_of t row ≡ live_of s row) (IsCoveredAt s.world own) rows has.base covered)
+      (all_both (λ row. entries_at t row ≡ entries_at s row) (IsCoveredAt s.world own) rows has.base covered)
 
   of_change : AllByRecursion (λ added. IsCoveredAt t.world (table_specs t.metadata.table) (added_row s added)) (new_manifests s c)
   of_change =
       let own = table_specs s.metadata.table in
       let sequence = next_sequence s.metadata.table in
-      all_weaker (λ added. (live_of t (added_row s added) ≡ Some (added_entries s added)) × CoversFiles own sequence added) (λ added. IsCoveredAt t.world (table_specs t.metadata.table) (added_row s added)) (new_manifests s c)
+      all_weaker (λ added. (entries_at t (added_row s added) ≡ Some (added_entries s added)) × CoversFiles own sequence added) (λ added. IsCoveredAt t.world (table_specs t.metadata.table) (added_row s added)) (new_manifests s c)
       (λ added h. moved (added_row s added) (added_entries s added) (ap (λ o. unwrap_or o []) h.0) (of_files (RowCovers own (added_row s added)) (added_row s added) added.heading 0 added.files h.1))
-      (all_both (λ added. live_of t (added_row s added) ≡ Some (added_entries s added)) (CoversFiles own sequence) (new_manifests s c) has.added (new_covered s c none))
+      (all_both (λ added. entries_at t (added_row s added) ≡ Some (added_entries s added)) (CoversFiles own sequence) (new_manifests s c) has.added (new_covered s c none))
 
   of_both : HasCoveredRows t
   of_both =

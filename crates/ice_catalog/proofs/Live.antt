@@ -42,7 +42,7 @@ use Rattle.ice_catalog.specs.Histories.{History, state_of, step}
 use Rattle.ice_catalog.specs.Refusals.{bad_path, refusal}
 use Rattle.ice_catalog.specs.States.{Added, State, with_files}
 use Rattle.ice_catalog.specs.Staying.{IsNewTo}
-use Rattle.ice_catalog.specs.Live.{AddsToBase, AreReadBack, HasBaseAndChange, HaveNumber, IsReadBack, added_entries, added_row, live_of, new_manifests, rows_after, rows_in}
+use Rattle.ice_catalog.specs.Live.{AddsToBase, AreReadBack, HasBaseAndChange, HaveNumber, IsReadBack, added_entries, added_row, entries_at, new_manifests, rows_after, listed_rows}
 use Rattle.ice_catalog.proofs.Accepting.{can_follow, can_write, few_rows}
 use Rattle.ice_catalog.proofs.Leasts.{unmapped}
 use Rattle.ice_catalog.proofs.Locations.{short_location}
@@ -235,7 +235,7 @@ none_mapped f None e = refl
 none_mapped f (Some x) e = absurd cc
 
 -- what a manifest is read of is there
-file_of_found : (s : State) (row : Row) (found : List Entry) → live_of s row ≡ Some found → (bytes : List ℕ) × (get s.world row.path ≡ Some bytes)
+file_of_found : (s : State) (row : Row) (found : List Entry) → entries_at s row ≡ Some found → (bytes : List ℕ) × (get s.world row.path ≡ Some bytes)
 file_of_found s row found e = with_spec (spec_in (table_specs s.metadata.table) row.spec_id) e where
   with_file : (spec : Spec) (o : Option (List ℕ)) → get s.world row.path ≡ o → option_and_then (λ bytes. result_ok (entries_of row spec bytes)) o ≡ Some found → (bytes : List ℕ) × (get s.world row.path ≡ Some bytes)
   with_file spec None is e = absurd cc
@@ -266,11 +266,11 @@ apart_from w sequence row bytes [] here new = tt
 apart_from w sequence row bytes (x ∷ xs) here new =
     (λ same. let no : Some bytes ≡ None = sym here ∙ (ap (get w) same ∙ new.0) in absurd cc, apart_from w sequence row bytes xs here new.1)
 
-all_apart_from : (s : State) (sequence : ℕ) (rows : List Row) (xs : List NewManifest) → AllByRecursion (λ row. is_none (live_of s row) ≡ false) rows → AllByRecursion (λ (x : NewManifest). get s.world x.path ≡ None) xs
+all_apart_from : (s : State) (sequence : ℕ) (rows : List Row) (xs : List NewManifest) → AllByRecursion (λ row. is_none (entries_at s row) ≡ false) rows → AllByRecursion (λ (x : NewManifest). get s.world x.path ≡ None) xs
     → AllByRecursion (λ row. AllByRecursion (IsOther row) (map (row_of sequence) xs)) rows
 all_apart_from s sequence [] xs found new = tt
 all_apart_from s sequence (row ∷ rows) xs found new =
-    let entries = is_there (live_of s row) found.0 in
+    let entries = is_there (entries_at s row) found.0 in
     let file = file_of_found s row entries.0 entries.1 in
     (apart_from s.world sequence row file.0 xs file.1 new, all_apart_from s sequence rows xs found.1 new)
 
@@ -289,14 +289,14 @@ module _ (s : State) (c : Commit) (none : refusal s c ≡ None) (said : table_of
       let P : List ℕ × List ℕ → Type 0 = λ f. get s.world f.0 ≡ None in
       all_of_map P file_of xs (all_split P (map file_of xs) (list_file (base_rows s.world s.metadata.table) s.metadata c.ids xs ∷ []) new).0
 
-  base_found : AllByRecursion (λ row. is_none (live_of s row) ≡ false) (base_rows s.world s.metadata.table)
+  base_found : AllByRecursion (λ row. is_none (entries_at s row) ≡ false) (base_rows s.world s.metadata.table)
   base_found =
       let t = s.metadata.table in
       let stands = none_stand s c none in
       at (current_rows s.world t) (unmapped fault.BaseBad _ stands.1.1.1.1.1.1.1.0) where
-        at : (o : Option (List Row)) → bad_path (current_list s.metadata.table) (live_of s) o ≡ None → AllByRecursion (λ row. is_none (live_of s row) ≡ false) (unwrap_or o [])
+        at : (o : Option (List Row)) → bad_path (current_list s.metadata.table) (entries_at s) o ≡ None → AllByRecursion (λ row. is_none (entries_at s row) ≡ false) (unwrap_or o [])
         at None e = tt
-        at (Some rows) e = found_none (λ row. is_none (live_of s row)) rows (none_mapped (λ (row : Row). row.path) (find (λ row. is_none (live_of s row)) rows) e)
+        at (Some rows) e = found_none (λ row. is_none (entries_at s row)) rows (none_mapped (λ (row : Row). row.path) (find (λ row. is_none (entries_at s row)) rows) e)
 
   -- the list
   rows_read : rows_of (list_bytes (rows_after s c) c.ids.uuid) ≡ Ok (rows_after s c)
@@ -324,7 +324,7 @@ module _ (s : State) (c : Commit) (none : refusal s c ≡ None) (said : table_of
   unfolding next added
   list_there = put_last s.world (map file_of (new_manifests s c)) (list_file (base_rows s.world s.metadata.table) s.metadata c.ids (new_manifests s c))
 
-  has_rows : rows_in (next s c) ≡ Some (rows_after s c)
+  has_rows : listed_rows (next s c) ≡ Some (rows_after s c)
   has_rows =
       ap (rows_at (next s c).world) listed
       ∙ (ap (option_and_then (λ bytes. result_ok (rows_of bytes))) list_there ∙ ap result_ok rows_read)
@@ -338,14 +338,14 @@ module _ (s : State) (c : Commit) (none : refusal s c ≡ None) (said : table_of
       let P : List ℕ × List ℕ → Type 0 = λ f. get (with_files s.world (map file_of xs ++ list ∷ [])) f.0 ≡ Some f.1 in
       all_of_map P file_of xs (all_split P (map file_of xs) (list ∷ []) (all_there s.world (map file_of xs ++ list ∷ []) (files_apart s.metadata c.ids 0 (groups c.change) list refl few))).0
 
-  base_stays : (rows : List Row) → AllByRecursion (λ row. is_none (live_of s row) ≡ false) rows → AllByRecursion (λ row. live_of (next s c) row ≡ live_of s row) rows
+  base_stays : (rows : List Row) → AllByRecursion (λ row. is_none (entries_at s row) ≡ false) rows → AllByRecursion (λ row. entries_at (next s c) row ≡ entries_at s row) rows
   base_stays [] found = tt
   base_stays (row ∷ rows) found =
-      let entries = is_there (live_of s row) found.0 in
-      let stay : live_of (next s c) row ≡ Some entries.0 = ap (λ (specs : List Spec). manifest_at (next s c).world specs row) (specs_stay s c) ∙ entries_stay s c new (table_specs s.metadata.table) row entries.0 entries.1 in
+      let entries = is_there (entries_at s row) found.0 in
+      let stay : entries_at (next s c) row ≡ Some entries.0 = ap (λ (specs : List Spec). manifest_at (next s c).world specs row) (specs_stay s c) ∙ entries_stay s c new (table_specs s.metadata.table) row entries.0 entries.1 in
       (stay ∙ sym entries.1, base_stays rows found.1)
 
-  entries_there : AllByRecursion (λ (x : NewManifest). live_of (next s c) (added_row s x) ≡ Some (added_entries s x)) (new_manifests s c)
+  entries_there : AllByRecursion (λ (x : NewManifest). entries_at (next s c) (added_row s x) ≡ Some (added_entries s x)) (new_manifests s c)
   entries_there =
       subst (λ (specs : List Spec). AllByRecursion (λ (x : NewManifest). manifest_at (next s c).world specs (added_row s x) ≡ Some (added_entries s x)) (new_manifests s c)) (sym (specs_stay s c))
       (all_entries s (next s c).world c 0 (groups c.change) (can_write s c none said) back manifests_there)

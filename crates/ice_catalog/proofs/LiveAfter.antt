@@ -31,7 +31,7 @@ use Rattle.ice_catalog.specs.declared.change.Ids.{Ids}
 use Rattle.ice_catalog.specs.Adding.{NewManifest, group_spec, heading_of, manifest_of, manifests_from, spec_or_none}
 use Rattle.ice_catalog.specs.Bases.{base_rows, live_at, spec_in, table_specs}
 use Rattle.ice_catalog.specs.Groups.{Group, group_of, groups, groups_of, id_before, is_of_spec, spec_ids}
-use Rattle.ice_catalog.specs.Live.{HasBaseAndChange, added_entries, added_row, live_of, new_manifests, rows_after}
+use Rattle.ice_catalog.specs.Live.{HasBaseAndChange, added_entries, added_row, entries_at, new_manifests, rows_after}
 use Rattle.ice_catalog.specs.LiveAfter.{AddsItsFiles, EachIsLive, IsEntryOf, IsLive, IsOfChange, JoinsFiles, JoinsManifests, StandsAt, new_live}
 use Rattle.ice_catalog.specs.Refusals.{all_files}
 use Rattle.ice_catalog.specs.States.{State}
@@ -84,11 +84,11 @@ module _ (s t : State) (c : Commit) (has : HasBaseAndChange s c t) where
   rows_are : base_rows t.world t.metadata.table ≡ rows_after s c
   rows_are = ap (λ o. unwrap_or o []) has.rows
 
-  old_row : (row : Row) → Contains base row → live_of t row ≡ live_of s row
-  old_row row i = all_at (λ row. live_of t row ≡ live_of s row) base row has.base i
+  old_row : (row : Row) → Contains base row → entries_at t row ≡ entries_at s row
+  old_row row i = all_at (λ row. entries_at t row ≡ entries_at s row) base row has.base i
 
-  new_row : (x : _) → Contains (new_manifests s c) x → live_of t (added_row s x) ≡ Some (added_entries s x)
-  new_row x i = all_at (λ x. live_of t (added_row s x) ≡ Some (added_entries s x)) (new_manifests s c) x has.added i
+  new_row : (x : _) → Contains (new_manifests s c) x → entries_at t (added_row s x) ≡ Some (added_entries s x)
+  new_row x i = all_at (λ x. entries_at t (added_row s x) ≡ Some (added_entries s x)) (new_manifests s c) x has.added i
 
   -- a row of the next state is one of the base or that of a new manifest
   was : (e : Entry) → IsLive t e → IsLive s e ⊎ Contains (new_live s c) e
@@ -103,11 +103,11 @@ module _ (s t : State) (c : Commit) (has : HasBaseAndChange s c t) where
         | inl b ↦ inl (to_flat live_in_s base r.0 e b (subst holds (old_row r.0 b) r.2))
         | inr m ↦
             let k = in_map (added_row s) (new_manifests s c) r.0 m in
-            let P : Row → Type 0 = λ row. live_of t row ≡ Some (added_entries s k.0) in
+            let P : Row → Type 0 = λ row. entries_at t row ≡ Some (added_entries s k.0) in
             inr (to_flat (added_entries s) (new_manifests s c) k.0 e k.1 (subst holds (subst P k.2 (new_row k.0 k.1)) r.2))
       ]
 
-  at_row : (row : Row) (e : Entry) → Contains (base ++ map (added_row s) (new_manifests s c)) row → Contains (unwrap_or (live_of t row) []) e → IsLive t e
+  at_row : (row : Row) (e : Entry) → Contains (base ++ map (added_row s) (new_manifests s c)) row → Contains (unwrap_or (entries_at t row) []) e → IsLive t e
   at_row row e i h =
       let P : List Row → Type 0 = λ rows. Contains rows row in
       to_flat (live_at t.world (table_specs t.metadata.table)) (base_rows t.world t.metadata.table) row e

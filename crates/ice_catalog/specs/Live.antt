@@ -52,19 +52,19 @@ abbrev pub HaveNumber : ℕ → List Entry → Type 0
 HaveNumber number entries = AllByRecursion (λ (entry : Entry). entry.sequence_number ≡ number) entries
 
 -- the rows of the current snapshot
-abbrev pub rows_in : State → Option (List Row)
-rows_in s = current_rows s.world s.metadata.table
+abbrev pub listed_rows : State → Option (List Row)
+listed_rows s = current_rows s.world s.metadata.table
 
 -- the live entries of a row's manifest
-abbrev pub live_of : State → Row → Option (List Entry)
-live_of s row = manifest_at s.world (table_specs s.metadata.table) row
+abbrev pub entries_at : State → Row → Option (List Entry)
+entries_at s row = manifest_at s.world (table_specs s.metadata.table) row
 
 -- The next state's rows are the base's and those of the new manifests. The base's manifests have the live entries that
 -- they had; the new ones have an entry for each of their files, with the next sequence number.
 pub record HasBaseAndChange (s : State) (c : Commit) (t : State) : Type 0 where
-  pub rows : rows_in t ≡ Some (rows_after s c)
-  pub base : AllByRecursion (λ row. live_of t row ≡ live_of s row) (base_rows s.world s.metadata.table)
-  pub added : AllByRecursion (λ added. live_of t (added_row s added) ≡ Some (added_entries s added)) (new_manifests s c)
+  pub rows : listed_rows t ≡ Some (rows_after s c)
+  pub base : AllByRecursion (λ row. entries_at t row ≡ entries_at s row) (base_rows s.world s.metadata.table)
+  pub added : AllByRecursion (λ added. entries_at t (added_row s added) ≡ Some (added_entries s added)) (new_manifests s c)
   pub numbers : AllByRecursion (λ added. HaveNumber (next_sequence s.metadata.table) (added_entries s added))
       (new_manifests s c)
 

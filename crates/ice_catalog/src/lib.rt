@@ -35,7 +35,7 @@ pub use fault::PrepareFault;
 pub use ice_manifest::NewFile;
 pub use laws::{
     a_commit_is_one_step, commits_leave_what_was_there, the_last_commit_is_taken_off,
-    versions_stay_covered,
+    versions_stay_covered, what_is_live_after_a_commit,
 };
 pub use machine::run_events;
 pub use machine_laws::{pinned_plans, pinned_plans_of_commits, pins_stand_apart};

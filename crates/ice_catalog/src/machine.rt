@@ -3,7 +3,8 @@
 ghost use Rattle.std.specs.Prelude.{◌≡◌, List, ◌++◌, IfOk, length, vec_len};
 ghost use Rattle.ice_catalog.specs.Apart.{TellsPinnedPlans};
 ghost use Rattle.ice_catalog.specs.Live.{IsGrown};
-ghost use Rattle.ice_catalog.specs.Machines.{commit, event, finish_in, in_scan, machine_after, merge, pin, replies_to, started, take};
+ghost use Rattle.ice_catalog.specs.Machines.{commit, event, finish_in, in_scan, merge, pin, take};
+ghost use Rattle.ice_catalog.specs.Machines.{machine_after, replies_to, started};
 ghost use Rattle.ice_catalog.specs.declared.event.Event.{Event};
 
 use crate::book::Book;

@@ -45,11 +45,13 @@ pub fn pinned_plans()
 /// of each version that is held, by its `grew`, and of a machine at each of its events, by `run_events`: so what is
 /// left to be known is of the data alone.
 pub fn pinned_plans_of_commits()
-    ensures { (m : Machine) (state : State) (filter : List (Part Leaf)) (schema : Schema) (rows : List Row) (parts : List (Part BoundLeaf)) (events : List Event) (w : ℕ) →
+    ensures { (m : Machine) (state : State) (filter : List (Part Leaf)) (schema : Schema) (rows : List Row)
+        (parts : List (Part BoundLeaf)) (events : List Event) (w : ℕ) →
         IsGrown m.history → BeganCovered m.history → state_of m.history ≡ Some state →
         Reads state filter schema rows parts →
         TookEvery (machine_after (pin m filter).1 events) (length m.pins) w →
-        (event (machine_after (pin m filter).1 events) (Finish (length m.pins) w)).0 ≡ plan_reply state schema rows parts }
+        (event (machine_after (pin m filter).1 events) (Finish (length m.pins) w)).0
+        ≡ plan_reply state schema rows parts }
 {
     pinned_plans();
 }

@@ -124,7 +124,8 @@ receipt_text id number = named_signed (codes "committed snapshot ") id ++ (named
 
 -- the whole of a commit was put: its files in their order, and then its metadata at this path
 abbrev pub IsPut : Commitment → List ℕ → Option (List File) → Option (List File) → Type 0
-IsPut c out files files' = (bytes : List ℕ) × IsTextOf c.metadata bytes × PutsAll files files' (in_order c.added out bytes)
+IsPut c out files files' =
+    (bytes : List ℕ) × IsTextOf c.metadata bytes × PutsAll files files' (in_order c.added out bytes)
 
 -- a commit was made: its files were put in their order, and it was told
 pub record Made (c : Commitment) (request : CommitRequest) (files files' : Option (List File)) (output output' : Option (List ℕ)) : Type 0 where
@@ -137,8 +138,8 @@ pub record Made (c : Commitment) (request : CommitRequest) (files files' : Optio
 abbrev pub Stopped : Commitment → Option (List File) → Option (List File) → Type 0
 Stopped c files files' = PutsFront files files' c.added
 
--- What a commit that ends with a fault leaves: a front of its files without the metadata, or all, where only telling of it
--- failed.
+-- What a commit that ends with a fault leaves: a front of its files without the metadata, or all, where only telling of
+-- it failed.
 abbrev pub IsLeft : Commitment → List ℕ → Option (List File) → Option (List File) → Type 0
 IsLeft c out files files' = Stopped c files files' ⊎ IsPut c out files files'
 

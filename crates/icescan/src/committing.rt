@@ -3,8 +3,8 @@
 
 ghost use Rattle.std.specs.Prelude.{◌≡◌, ◌≢◌, ℕ, List, Some, Ok, Err, OnOk, OnErr, IfOk, IfErr, IsErrOf};
 ghost use Rattle.ice_state.specs.Contents.{World};
-ghost use Rattle.icescan.specs.Commits.{Commitment, IsLeft, IsOfPreparing, IsPut, IsPutFault, IsTaken, Made, MayEndCommit, Stopped, Writes};
-ghost use Rattle.icescan.specs.Commits.{commitment, receipt_text};
+ghost use Rattle.icescan.specs.Commits.{Commitment, IsLeft, IsOfPreparing, IsPut, IsPutFault, IsTaken, Made};
+ghost use Rattle.icescan.specs.Commits.{MayEndCommit, Stopped, Writes, commitment, receipt_text};
 ghost use Rattle.icescan.specs.declared.fault.RunFault.{RunFault};
 ghost use Rattle.icescan.specs.ListPlans.{MayEnd};
 ghost use Rattle.icescan.specs.Written.{Wrote};
@@ -121,7 +121,8 @@ pub fn commit_to<F: Files, S: Store, W: Sink>(
         IfErr result (MayEndCommit (commitment world request.now) (F.may_fail files.now)) }
     ensures unchanged { (world : World) (fault : RunFault) → F.world files.now ≡ Some world →
         commitment world request.now ≡ Err fault → S.files store.new ≡ S.files store.old }
-    ensures left { (world : World) (c : Commitment) → F.world files.now ≡ Some world → commitment world request.now ≡ Ok c →
+    ensures left { (world : World) (c : Commitment) → F.world files.now ≡ Some world →
+        commitment world request.now ≡ Ok c →
         OnErr result (IsLeft c request.now.out (S.files store.old) (S.files store.new)) }
     ensures taken { (world : World) (c : Commitment) (path : List ℕ) → F.world files.now ≡ Some world →
         commitment world request.now ≡ Ok c → IsErrOf result (RunFault.Conflict path) →
