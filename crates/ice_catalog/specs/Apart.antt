@@ -20,7 +20,8 @@ use Rattle.ice_catalog.specs.declared.event.Reply.{Reply}
 use Rattle.ice_catalog.specs.declared.event.Reply.TheVariants as reply
 use Rattle.ice_catalog.specs.Covered.{BeganCovered}
 use Rattle.ice_catalog.specs.Histories.{History, state_of}
-use Rattle.ice_catalog.specs.Machines.{Machine, PinnedScan, finish_in, finished, in_scan, machine_after, merge, pin, started, take}
+use Rattle.ice_catalog.specs.Machines.{Machine, PinnedScan, finish_in, finished, in_scan, merge, take}
+use Rattle.ice_catalog.specs.Machines.{machine_after, pin, started}
 use Rattle.ice_catalog.specs.Pins.{rows_in}
 use Rattle.ice_catalog.specs.States.{State}
 

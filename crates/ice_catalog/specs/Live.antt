@@ -64,7 +64,8 @@ entries_at s row = manifest_at s.world (table_specs s.metadata.table) row
 pub record HasBaseAndChange (s : State) (c : Commit) (t : State) : Type 0 where
   pub rows : listed_rows t ≡ Some (rows_after s c)
   pub base : AllByRecursion (λ row. entries_at t row ≡ entries_at s row) (base_rows s.world s.metadata.table)
-  pub added : AllByRecursion (λ added. entries_at t (added_row s added) ≡ Some (added_entries s added)) (new_manifests s c)
+  pub added : AllByRecursion (λ added. entries_at t (added_row s added) ≡ Some (added_entries s added))
+      (new_manifests s c)
   pub numbers : AllByRecursion (λ added. HaveNumber (next_sequence s.metadata.table) (added_entries s added))
       (new_manifests s c)
 

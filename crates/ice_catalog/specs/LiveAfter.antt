@@ -1,5 +1,5 @@
--- What is live after a commit, entry by entry (Apache Iceberg table spec v2, "Snapshots", "Manifests" and "Sequence Number
--- Inheritance").
+-- What is live after a commit, entry by entry (Apache Iceberg table spec v2, "Snapshots", "Manifests" and
+-- "Sequence Number Inheritance").
 use Rattle.std.specs.Prelude.{◌≡◌, ◌↔◌, ◌⊎◌, ℕ, List, filter, slice_get, Some}
 use Rattle.std.specs.List.{Contains, flat_map}
 use Rattle.ice_meta.specs.Partitioning.{is_unpartitioned}

@@ -29,8 +29,8 @@ pub fn commits_leave_what_was_there()
 
 /// What is live after a commit that leaves what its base has and adds its own, as `prepare` says of each whose files
 /// have new names: an entry is live exactly where it was live before, or is in one of the manifests that are added. The
-/// entries of these are those of the change's files, with their values, their places, the commit's snapshot and the next
-/// sequence number. So exactly what was live and the change's files are live, and each of the files is.
+/// entries of these are those of the change's files, with their values, their places, the commit's snapshot and the
+/// next sequence number. So exactly what was live and the change's files are live, and each of the files is.
 pub fn what_is_live_after_a_commit()
     ensures manifests { JoinsManifests }
     ensures entries { AddsItsFiles }
