@@ -1,7 +1,8 @@
 -- Reading the blocks of a file from left to right, with the data before the first fault.
 -- Avro 1.11.1 specification, 'Object Container Files': a file data block is a count of objects, a size in bytes,
 -- the serialized objects and the file's 16-byte sync marker.
-use Rattle.std.specs.Prelude.{◌≡◌, ◌≢◌, ℕ, zero, suc, ◌-◌, ℤ, pos, negsuc, List, [], ◌∷◌, length, Option, Some, None, Result, Ok, Err, if◌then◌else◌}
+use Rattle.std.specs.Prelude.{◌≡◌, ◌≢◌, ℕ, zero, suc, ◌-◌, ℤ, pos, negsuc, List, [], ◌∷◌, length, Option, Some, None}
+use Rattle.std.specs.Prelude.{Result, Ok, Err, if◌then◌else◌}
 use Rattle.std.specs.Str.{bytes_eq}
 use Rattle.contract_words.specs.Outcome.{◌>>=◌}
 use Rattle.avro_schema.specs.Tree.{Tree}
@@ -105,7 +106,8 @@ head_then s total others (Err e) = stopped (fault_of total e)
 unfoldable pub blocks_run : Tree → List ℕ → ℕ → ℕ → List ℕ → Run
 blocks_run s sync total turns [] = at_end
 blocks_run s sync total zero (b ∷ bytes) = stopped fault.BlockSize
-blocks_run s sync total (suc turns) (b ∷ bytes) = head_then s total (blocks_run s sync total turns) (head_at sync (b ∷ bytes))
+blocks_run s sync total (suc turns) (b ∷ bytes) =
+    head_then s total (blocks_run s sync total turns) (head_at sync (b ∷ bytes))
 
 -- where a reader of objects stands: so many are still in the block, then come its bytes, then other blocks
 pub record FilePosition : Type 0 where
@@ -123,11 +125,14 @@ StandsAt s block v = (rest : List ℕ) × (object_at s block ≡ Ok (v, rest))
 -- Over the blocks to the next object, whatever its type: where a reader then stands, or how the run ends.
 abbrev pub Enters : {X : Type 0} → (X → FilePosition) → List ℕ → FilePosition → Result (Option X) Refusal → Type 0
 Enters see sync p (Ok None) = (s : Tree) (total : ℕ) → run_from s sync total p ≡ at_end
-Enters see sync p (Ok (Some x)) = ((see x).count ≢ 0) × ((s : Tree) (total : ℕ) → run_from s sync total p ≡ run_from s sync total (see x))
+Enters see sync p (Ok (Some x)) = ((see x).count ≢ 0)
+    × ((s : Tree) (total : ℕ) → run_from s sync total p ≡ run_from s sync total (see x))
 Enters see sync p (Err e) = (s : Tree) (total : ℕ) → run_from s sync total p ≡ stopped (fault_of total e)
 
 -- one step of the run, whatever the length of the file: the next of the data, or how it ends
-abbrev pub Steps : {X : Type 0} → (X → List ℕ × FilePosition) → Tree → List ℕ → FilePosition → Result (Option X) Refusal → Type 0
+abbrev pub Steps : {X : Type 0} → (X → List ℕ × FilePosition) → Tree → List ℕ → FilePosition
+    → Result (Option X) Refusal → Type 0
 Steps see s sync p (Ok None) = (total : ℕ) → run_from s sync total p ≡ at_end
-Steps see s sync p (Ok (Some x)) = (v : Value) × StandsAt s (see x).0 v × ((total : ℕ) → run_from s sync total p ≡ preceded v (run_from s sync total (see x).1))
+Steps see s sync p (Ok (Some x)) = (v : Value) × StandsAt s (see x).0 v
+    × ((total : ℕ) → run_from s sync total p ≡ preceded v (run_from s sync total (see x).1))
 Steps see s sync p (Err e) = (total : ℕ) → run_from s sync total p ≡ stopped (fault_of total e)

@@ -17,4 +17,5 @@ Ends read bytes at end = (at ≤ end) × (end ≤ length bytes) × (behind (read
 
 -- the same of a reader that counts items: so many are left at the end
 abbrev pub EndsCounted : {A : Type 0} → (Position → Read A) → List ℕ → ℕ → ℕ → ℕ → ℕ → Type 0
-EndsCounted read bytes at left end after = (end ≤ length bytes) × (behind (read (standing bytes at left)) ≡ Ok (standing bytes end after))
+EndsCounted read bytes at left end after = (end ≤ length bytes)
+    × (behind (read (standing bytes at left)) ≡ Ok (standing bytes end after))

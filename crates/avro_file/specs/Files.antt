@@ -1,6 +1,7 @@
 -- What a file holds, and what its reader will give.
 -- Avro 1.11.1 specification, 'Object Container Files' and 'Required Codecs'.
-use Rattle.std.specs.Prelude.{◌≡◌, ℕ, List, [], ◌∷◌, ◌++◌, length, take, drop, Option, Some, None, Result, Ok, Err, nat_lt, if◌then◌else◌, codes}
+use Rattle.std.specs.Prelude.{◌≡◌, ℕ, List, [], ◌∷◌, ◌++◌, length, take, drop, Option, Some, None, Result, Ok, Err}
+use Rattle.std.specs.Prelude.{nat_lt, if◌then◌else◌, codes}
 use Rattle.std.specs.Str.{bytes_eq}
 use Rattle.contract_words.specs.Outcome.{◌>>=◌}
 use Rattle.avro_schema.specs.Tree.{Tree}
@@ -42,7 +43,8 @@ tree_of c = tree c.named.schema
 
 -- what the objects of a file are, from the first on
 abbrev pub at_start : Container → Ahead
-at_start c = ahead_of c.total None (run_from (tree_of c) c.sync.now c.total (record { count = 0; block = []; bytes = c.rest.now }))
+at_start c = ahead_of c.total None
+    (run_from (tree_of c) c.sync.now c.total (record { count = 0; block = []; bytes = c.rest.now }))
 
 abbrev pub type_of : Objects → Tree
 type_of o = tree o.schema.now
@@ -92,13 +94,15 @@ opened_at bytes = do
 
 -- the header is whole and names a schema
 abbrev pub HasHeader : List ℕ → Type 0
-HasHeader bytes = (header : FileHeader) × (text : List ℕ) × (begun_at bytes ≡ Ok header) × (header.wanted.schema ≡ Some text)
+HasHeader bytes = (header : FileHeader) × (text : List ℕ) × (begun_at bytes ≡ Ok header)
+    × (header.wanted.schema ≡ Some text)
 
 -- one call of next
 abbrev pub Next : {X : Type 0} → (X → Value → Type 0) → Ahead → Result (Option X) AvroFault → Ahead → Type 0
 Next Shows (refusing e) result new = (result ≡ Err e) × (new ≡ refusing e)
 Next Shows (running vs ending) (Ok None) new = (vs ≡ []) × (ending ≡ None) × (new ≡ running vs ending)
-Next Shows (running vs ending) (Ok (Some x)) new = (v : Value) × (ws : List Value) × Shows x v × (vs ≡ v ∷ ws) × (new ≡ running ws ending)
+Next Shows (running vs ending) (Ok (Some x)) new = (v : Value) × (ws : List Value) × Shows x v × (vs ≡ v ∷ ws)
+    × (new ≡ running ws ending)
 Next Shows (running vs ending) (Err e) new = (vs ≡ []) × (ending ≡ Some e) × (new ≡ refusing e)
 
 -- ---- what a file holds
@@ -111,5 +115,6 @@ IsUncompressed (Some name) = name ≡ null_codec
 abbrev pub HoldsFile : Tree → List Value → List ℕ → Type 0
 HoldsFile s vs bytes =
     (properties : List Property) × (text : List ℕ) × (front : List ℕ) × (sync : List ℕ) × (rest : List ℕ)
-    × AreProperties properties front × (last_under schema_key None properties ≡ Some text) × (schema_of text ≡ Ok s) × IsUncompressed (last_under codec_key None properties)
+    × AreProperties properties front × (last_under schema_key None properties ≡ Some text) × (schema_of text ≡ Ok s)
+    × IsUncompressed (last_under codec_key None properties)
     × (length sync ≡ 16) × Holds s sync vs rest × (bytes ≡ magic ++ (front ++ (sync ++ rest)))

@@ -1,7 +1,8 @@
 -- The header of a file: its metadata and its marker.
 -- Avro 1.11.1 specification, 'Object Container Files': the file metadata are a map from text to bytes, of which the
 -- keys `avro.schema` and `avro.codec` are used; behind them stands the 16-byte sync marker.
-use Rattle.std.specs.Prelude.{◌≡◌, ℕ, suc, ◌-◌, ◌^◌, List, [], ◌∷◌, ◌++◌, length, Option, Some, None, Result, Ok, if◌then◌else◌, codes}
+use Rattle.std.specs.Prelude.{◌≡◌, ℕ, suc, ◌-◌, ◌^◌, List, [], ◌∷◌, ◌++◌, length, Option, Some, None, Result, Ok}
+use Rattle.std.specs.Prelude.{if◌then◌else◌, codes}
 use Rattle.std.specs.Str.{IsUtf8, bytes_eq}
 use Rattle.contract_words.specs.Outcome.{◌>>=◌}
 use Rattle.avro_file.specs.declared.refusal.Refusal.{Refusal}
@@ -69,7 +70,8 @@ header_at bytes = do
 -- ---- spelling
 
 abbrev pub IsProperty : Property → List ℕ → Type 0
-IsProperty p bytes = (front : List ℕ) × (back : List ℕ) × IsUtf8 p.0 × IsRun p.0 front × IsRun p.1 back × (bytes ≡ front ++ back)
+IsProperty p bytes = (front : List ℕ) × (back : List ℕ) × IsUtf8 p.0 × IsRun p.0 front × IsRun p.1 back
+    × (bytes ≡ front ++ back)
 
 abbrev pub AreProperties : List Property → List ℕ → Type 0
 AreProperties ps bytes = (blocks : ℕ) × AreBlocks IsProperty blocks ps bytes

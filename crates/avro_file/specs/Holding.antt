@@ -12,8 +12,10 @@ use Rattle.avro_file.specs.Blocks.{max_items}
 abbrev pub HoldsBlocks : Tree → List ℕ → ℕ → List Value → List ℕ → Type 0
 HoldsBlocks s sync zero vs bytes = (vs ≡ []) × (bytes ≡ [])
 HoldsBlocks s sync (suc blocks) vs bytes =
-    (here : List Value) × (after : List Value) × (count : List ℕ) × (size : List ℕ) × (body : List ℕ) × (rest : List ℕ) × IsLong count (pos (length here)) × IsLong size (pos (length body)) × AreJoined (Spells s) here body
-    × HoldsBlocks s sync blocks after rest × (vs ≡ here ++ after) × (bytes ≡ count ++ (size ++ (body ++ (sync ++ rest))))
+    (here : List Value) × (after : List Value) × (count : List ℕ) × (size : List ℕ) × (body : List ℕ) × (rest : List ℕ)
+    × IsLong count (pos (length here)) × IsLong size (pos (length body)) × AreJoined (Spells s) here body
+    × HoldsBlocks s sync blocks after rest × (vs ≡ here ++ after)
+    × (bytes ≡ count ++ (size ++ (body ++ (sync ++ rest))))
 
 abbrev pub Holds : Tree → List ℕ → List Value → List ℕ → Type 0
 Holds s sync vs bytes = (blocks : ℕ) × HoldsBlocks s sync blocks vs bytes

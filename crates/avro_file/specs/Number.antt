@@ -1,6 +1,7 @@
 -- Zigzag numbers in groups of seven bits, lowest first.
 -- Avro 1.11.1 specification, 'Binary Encoding', 'Primitive Types': int and long are variable-length zig-zag.
-use Rattle.std.specs.Prelude.{◌≡◌, ℕ, zero, suc, ◌+◌, ◌-◌, ◌*◌, ◌/◌, ◌%◌, ◌^◌, ◌<◌, ◌≤◌, ℤ, pos, negsuc, List, [], ◌∷◌, length, Result, Ok, Err, nat_lt, ◌==◌, if◌then◌else◌, ◌⊎◌}
+use Rattle.std.specs.Prelude.{◌≡◌, ℕ, zero, suc, ◌+◌, ◌-◌, ◌*◌, ◌/◌, ◌%◌, ◌^◌, ◌<◌, ◌≤◌, ℤ, pos, negsuc, List, [], ◌∷◌}
+use Rattle.std.specs.Prelude.{length, Result, Ok, Err, nat_lt, ◌==◌, if◌then◌else◌, ◌⊎◌}
 use Rattle.avro_file.specs.declared.refusal.Refusal.{Refusal}
 use Rattle.avro_file.specs.declared.refusal.Refusal.TheVariants.{Short, BadNumber}
 use Rattle.contract_words.specs.Outcome.{◌>>=◌}
@@ -9,7 +10,8 @@ use Rattle.contract_words.specs.Outcome.{◌>>=◌}
 -- bytes after it stand for the rest.
 abbrev pub IsGroups : List ℕ → ℕ → Type 0
 IsGroups [] n = ⊥
-IsGroups (b ∷ bs) n = ((b < 128) × (bs ≡ []) × (n ≡ b)) ⊎ ((128 ≤ b) × (high : ℕ) × (n ≡ b - 128 + 128 * high) × IsGroups bs high)
+IsGroups (b ∷ bs) n = ((b < 128) × (bs ≡ []) × (n ≡ b))
+    ⊎ ((128 ≤ b) × (high : ℕ) × (n ≡ b - 128 + 128 * high) × IsGroups bs high)
 
 -- a number of at most ten groups, below a limit
 abbrev pub IsNumber : ℕ → List ℕ → ℕ → Type 0
@@ -33,7 +35,8 @@ IsInt bytes z = (n : ℕ) × IsNumber (2 ^ 32) bytes n × (z ≡ signed_of n)
 unfoldable pub groups_at : ℕ → List ℕ → Result (ℕ × List ℕ) Refusal
 groups_at zero bytes = Err BadNumber
 groups_at (suc turns) [] = Err (Short 0)
-groups_at (suc turns) (b ∷ bs) = if nat_lt b 128 then Ok (b, bs) else (groups_at turns bs >>= λ x. Ok (b - 128 + 128 * x.0, x.1))
+groups_at (suc turns) (b ∷ bs) = if nat_lt b 128 then Ok (b, bs)
+    else (groups_at turns bs >>= λ x. Ok (b - 128 + 128 * x.0, x.1))
 
 -- A number that isn't whole is named by where it begins: by how many bytes were left there.
 abbrev pub from_start : List ℕ → Result (ℕ × List ℕ) Refusal → Result (ℕ × List ℕ) Refusal

@@ -17,4 +17,5 @@ IsSecond Bytes s = (kind : BytesKind) × (s ≡ octets kind)
 
 -- a record of an int and of a value of such a type
 abbrev pub IsPair : Tree → Second → Type 0
-IsPair t second = (key_id : Option ℤ) × (value_id : Option ℤ) × (s : Tree) × IsSecond second s × (t ≡ structure (field key_id int (field value_id s no_fields)))
+IsPair t second = (key_id : Option ℤ) × (value_id : Option ℤ) × (s : Tree) × IsSecond second s
+    × (t ≡ structure (field key_id int (field value_id s no_fields)))

@@ -29,7 +29,8 @@ bare x = Some x
 
 -- the one field with this id, among a record's fields and their values
 abbrev pub field_value : ℤ → Fields → Values → Option Typed
-field_value id (field own t fs) (value v vs) = if option_eq int_eq own (Some id) then Some (t, v) else field_value id fs vs
+field_value id (field own t fs) (value v vs) = if option_eq int_eq own (Some id) then Some (t, v)
+    else field_value id fs vs
 field_value id fs vs = None
 
 -- the field with this id, where the value is a record that has one

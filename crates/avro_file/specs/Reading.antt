@@ -1,14 +1,19 @@
 -- Reading values from left to right, with the first fault that is met.
 -- Avro 1.11.1 specification, 'Binary Encoding', 'Primitive Types' and 'Complex Types' (records, enums, arrays, maps,
 -- unions, fixed).
-use Rattle.std.specs.Prelude.{ℕ, zero, suc, ◌-◌, ℤ, pos, negsuc, List, [], ◌∷◌, ◌++◌, length, take, drop, Bool, true, false, Result, Ok, Err, nat_lt, if◌then◌else◌}
+use Rattle.std.specs.Prelude.{ℕ, zero, suc, ◌-◌, ℤ, pos, negsuc, List, [], ◌∷◌, ◌++◌, length, take, drop, Bool, true}
+use Rattle.std.specs.Prelude.{false, Result, Ok, Err, nat_lt, if◌then◌else◌}
 use Rattle.std.specs.Str.{is_utf8}
 use Rattle.avro_file.specs.declared.refusal.Refusal.{Refusal}
-use Rattle.avro_file.specs.declared.refusal.Refusal.TheVariants.{Short, BadNumber, BadUnion, BadUtf8, BadBoolean, TooManyItems}
+use Rattle.avro_file.specs.declared.refusal.Refusal.TheVariants.{Short, BadNumber, BadUnion, BadUtf8, BadBoolean}
+use Rattle.avro_file.specs.declared.refusal.Refusal.TheVariants.{TooManyItems}
 use Rattle.contract_words.specs.Outcome.{◌>>=◌}
 use Rattle.avro_file.specs.Number.{long_at, int_at}
-use Rattle.avro_schema.specs.Tree.{Tree, null, boolean, int, long, float, double, symbols, octets, string, fixed, structure, array, map, union, Fields, no_fields, field, Branches, no_branches, branch}
-use Rattle.avro_file.specs.Value.{Value, nothing, truth, small, whole, single, twice, symbol, text, run, raw, fields, items, entries, chosen, values_of, Pair, entries_of}
+use Rattle.avro_schema.specs.Tree.{Tree, null, boolean, int, long, float, double, symbols, octets, string, fixed}
+use Rattle.avro_schema.specs.Tree.{structure, array, map, union, Fields, no_fields, field, Branches, no_branches}
+use Rattle.avro_schema.specs.Tree.{branch}
+use Rattle.avro_file.specs.Value.{Value, nothing, truth, small, whole, single, twice, symbol, text, run, raw, fields}
+use Rattle.avro_file.specs.Value.{items, entries, chosen, values_of, Pair, entries_of}
 
 -- where a reader stands: the bytes to come, and how many items may still come in arrays and maps
 pub record Position : Type 0 where
@@ -148,13 +153,16 @@ unfoldable mutual
   datum_at string p = leaf text p.left (string_at p.bytes)
   datum_at (fixed n kind) p = leaf raw p.left (run_at n p.bytes)
   datum_at (structure fs) p = fields_at fs p >>= λ x. Ok (fields (values_of x.0), x.1)
-  datum_at (array s id kind) p = blocks_at (datum_at s) (suc (length p.bytes)) p >>= λ x. Ok (items (values_of x.0), x.1)
-  datum_at (map s) p = blocks_at (entry_at (datum_at s)) (suc (length p.bytes)) p >>= λ x. Ok (entries (entries_of x.0), x.1)
+  datum_at (array s id kind) p = blocks_at (datum_at s) (suc (length p.bytes)) p >>= λ x.
+      Ok (items (values_of x.0), x.1)
+  datum_at (map s) p = blocks_at (entry_at (datum_at s)) (suc (length p.bytes)) p >>= λ x.
+      Ok (entries (entries_of x.0), x.1)
   datum_at (union bs) p = long_at p.bytes >>= λ n. chosen_by (branch_at bs) n.0 (record { bytes = n.1; left = p.left })
 
   pub fields_at : Fields → Position → Read (List Value)
   fields_at no_fields p = Ok ([], p)
-  fields_at (field id s fs) p = datum_at s p >>= λ first. fields_at fs first.1 >>= λ others. Ok (first.0 ∷ others.0, others.1)
+  fields_at (field id s fs) p = datum_at s p >>= λ first. fields_at fs first.1 >>= λ others.
+      Ok (first.0 ∷ others.0, others.1)
 
   pub branch_at : Branches → ℕ → Position → Read Value
   branch_at no_branches n p = Err BadUnion

@@ -3,7 +3,8 @@ use Rattle.std.specs.Prelude.{◌≡◌, ℕ, zero, suc, ℤ, ◌⊎◌, refl}
 use mathlib.Core.Logic.{inl, inr}
 use Rattle.std.specs.Coded.{Coded, Coded-set, code_by, coded_ℕ, coded_ℤ, coded⊎, coded_option}
 use Rattle.avro_schema.specs.declared.fault.SchemaFault.{SchemaFault}
-use Rattle.avro_schema.specs.declared.fault.SchemaFault.TheVariants.{NotJson, UnknownType, UnknownName, Recursive, TooBig, FieldTwice, Memory, NameTwice}
+use Rattle.avro_schema.specs.declared.fault.SchemaFault.TheVariants.{NotJson, UnknownType, UnknownName, Recursive}
+use Rattle.avro_schema.specs.declared.fault.SchemaFault.TheVariants.{TooBig, FieldTwice, Memory, NameTwice}
 use Rattle.avro_schema.specs.declared.schema.ArrayKind.{ArrayKind}
 use Rattle.avro_schema.specs.declared.schema.ArrayKind.TheVariants as of_array
 use Rattle.avro_schema.specs.declared.schema.BytesKind.{BytesKind}
@@ -78,4 +79,5 @@ pub fault_set : IsSet SchemaFault
 fault_set = Coded-set coded_fault
 
 pub tree_set : IsSet Tree
-tree_set = Tree-set (Coded-set coded_bytes) (Coded-set coded_ℕ) (Coded-set (coded_option coded_ℤ)) (Coded-set coded_array)
+tree_set =
+    Tree-set (Coded-set coded_bytes) (Coded-set coded_ℕ) (Coded-set (coded_option coded_ℤ)) (Coded-set coded_array)

@@ -1,11 +1,16 @@
 -- Which bytes spell a value under a schema.
 -- Avro 1.11.1 specification, 'Binary Encoding', 'Primitive Types' and 'Complex Types'. Numbers may have more groups
 -- than they need, and the byte size behind a negative count is not compared.
-use Rattle.std.specs.Prelude.{◌≡◌, ℕ, zero, suc, ◌+◌, ◌<◌, ℤ, pos, negsuc, Bool, true, false, List, [], ◌∷◌, ◌++◌, length, nat_lt, ◌||◌, ◌⊎◌}
+use Rattle.std.specs.Prelude.{◌≡◌, ℕ, zero, suc, ◌+◌, ◌<◌, ℤ, pos, negsuc, Bool, true, false, List, [], ◌∷◌, ◌++◌}
+use Rattle.std.specs.Prelude.{length, nat_lt, ◌||◌, ◌⊎◌}
 use Rattle.std.specs.Str.{IsUtf8}
 use Rattle.avro_file.specs.Number.{IsLong, IsInt}
-use Rattle.avro_schema.specs.Tree.{Tree, null, boolean, int, long, float, double, symbols, octets, string, fixed, structure, array, map, union, Fields, no_fields, field, Branches, no_branches, branch}
-use Rattle.avro_file.specs.Value.{Value, nothing, truth, small, whole, single, twice, symbol, text, run, raw, fields, items, entries, chosen, Values, no_values, value, values_of, Entries, no_entries, entry, Pair, entries_of}
+use Rattle.avro_schema.specs.Tree.{Tree, null, boolean, int, long, float, double, symbols, octets, string, fixed}
+use Rattle.avro_schema.specs.Tree.{structure, array, map, union, Fields, no_fields, field, Branches, no_branches}
+use Rattle.avro_schema.specs.Tree.{branch}
+use Rattle.avro_file.specs.Value.{Value, nothing, truth, small, whole, single, twice, symbol, text, run, raw, fields}
+use Rattle.avro_file.specs.Value.{items, entries, chosen, Values, no_values, value, values_of, Entries, no_entries}
+use Rattle.avro_file.specs.Value.{entry, Pair, entries_of}
 
 -- a length, and that many bytes
 abbrev pub IsRun : List ℕ → List ℕ → Type 0
@@ -18,26 +23,31 @@ bit true = 1
 -- values whose spellings, by Spells, are joined
 abbrev pub AreJoined : {A : Type 0} → (A → List ℕ → Type 0) → List A → List ℕ → Type 0
 AreJoined spells [] bytes = bytes ≡ []
-AreJoined spells (v ∷ vs) bytes = (front : List ℕ) × (back : List ℕ) × spells v front × AreJoined spells vs back × (bytes ≡ front ++ back)
+AreJoined spells (v ∷ vs) bytes = (front : List ℕ) × (back : List ℕ) × spells v front × AreJoined spells vs back
+    × (bytes ≡ front ++ back)
 
 -- The count of a block. A negative one stands for its absolute value, and a size follows it that may be any.
 abbrev pub IsCount : ℕ → List ℕ → Type 0
-IsCount n bytes = IsLong bytes (pos n) ⊎ ((less : ℕ) × (n ≡ suc less) × (size : ℤ) × (front : List ℕ) × (back : List ℕ) × IsLong front (negsuc less) × IsLong back size × (bytes ≡ front ++ back))
+IsCount n bytes = IsLong bytes (pos n) ⊎ ((less : ℕ) × (n ≡ suc less) × (size : ℤ) × (front : List ℕ) × (back : List ℕ)
+    × IsLong front (negsuc less) × IsLong back size × (bytes ≡ front ++ back))
 
 -- a text and a value
 abbrev pub IsEntry : (Value → List ℕ → Type 0) → Pair → List ℕ → Type 0
-IsEntry spells e bytes = (front : List ℕ) × (back : List ℕ) × IsUtf8 e.0 × IsRun e.0 front × spells e.1 back × (bytes ≡ front ++ back)
+IsEntry spells e bytes = (front : List ℕ) × (back : List ℕ) × IsUtf8 e.0 × IsRun e.0 front × spells e.1 back
+    × (bytes ≡ front ++ back)
 
 -- so many blocks, none of them empty, and an empty one
 abbrev pub AreBlocks : {A : Type 0} → (A → List ℕ → Type 0) → ℕ → List A → List ℕ → Type 0
 AreBlocks spells zero vs bytes = (vs ≡ []) × IsLong bytes (pos 0)
 AreBlocks {A} spells (suc blocks) vs bytes =
-    (here : List A) × (after : List A) × (count : List ℕ) × (body : List ℕ) × (rest : List ℕ) × (0 < length here) × IsCount (length here) count × AreJoined spells here body × AreBlocks spells blocks after rest
+    (here : List A) × (after : List A) × (count : List ℕ) × (body : List ℕ) × (rest : List ℕ) × (0 < length here)
+    × IsCount (length here) count × AreJoined spells here body × AreBlocks spells blocks after rest
     × (vs ≡ here ++ after) × (bytes ≡ count ++ (body ++ rest))
 
 -- a branch's position, and a value of that branch
 abbrev pub IsChosen : (ℕ → Value → List ℕ → Type 0) → Value → List ℕ → Type 0
-IsChosen spells v bytes = (n : ℕ) × (w : Value) × (front : List ℕ) × (back : List ℕ) × (v ≡ chosen n w) × IsLong front (pos n) × spells n w back × (bytes ≡ front ++ back)
+IsChosen spells v bytes = (n : ℕ) × (w : Value) × (front : List ℕ) × (back : List ℕ) × (v ≡ chosen n w)
+    × IsLong front (pos n) × spells n w back × (bytes ≡ front ++ back)
 
 abbrev mutual
   pub Spells : Tree → Value → List ℕ → Type 0
@@ -52,14 +62,17 @@ abbrev mutual
   Spells string v bytes = (s : List ℕ) × (v ≡ text s) × IsUtf8 s × IsRun s bytes
   Spells (fixed n kind) v bytes = (v ≡ raw bytes) × (length bytes ≡ n)
   Spells (structure fs) v bytes = (vs : List Value) × (v ≡ fields (values_of vs)) × SpellsFields fs vs bytes
-  Spells (array s id kind) v bytes = (vs : List Value) × (v ≡ items (values_of vs)) × (blocks : ℕ) × AreBlocks (Spells s) blocks vs bytes
-  Spells (map s) v bytes = (es : List Pair) × (v ≡ entries (entries_of es)) × (blocks : ℕ) × AreBlocks (IsEntry (Spells s)) blocks es bytes
+  Spells (array s id kind) v bytes = (vs : List Value) × (v ≡ items (values_of vs)) × (blocks : ℕ)
+      × AreBlocks (Spells s) blocks vs bytes
+  Spells (map s) v bytes = (es : List Pair) × (v ≡ entries (entries_of es)) × (blocks : ℕ)
+      × AreBlocks (IsEntry (Spells s)) blocks es bytes
   Spells (union bs) v bytes = IsChosen (SpellsBranch bs) v bytes
 
   -- each field's value, joined
   pub SpellsFields : Fields → List Value → List ℕ → Type 0
   SpellsFields no_fields vs bytes = (vs ≡ []) × (bytes ≡ [])
-  SpellsFields (field id s fs) vs bytes = (w : Value) × (ws : List Value) × (front : List ℕ) × (back : List ℕ) × (vs ≡ w ∷ ws) × Spells s w front × SpellsFields fs ws back × (bytes ≡ front ++ back)
+  SpellsFields (field id s fs) vs bytes = (w : Value) × (ws : List Value) × (front : List ℕ) × (back : List ℕ)
+      × (vs ≡ w ∷ ws) × Spells s w front × SpellsFields fs ws back × (bytes ≡ front ++ back)
 
   -- a value of the n-th branch
   pub SpellsBranch : Branches → ℕ → Value → List ℕ → Type 0

@@ -4,7 +4,8 @@ use Rattle.std.specs.Prelude.{ℕ, ℤ, List, map}
 use denote.Ref.{Bor}
 use Rattle.avro_file.specs.declared.datum.Datum.{Datum, fold-Datum}
 use Rattle.avro_file.specs.declared.datum.Datum.TheOpen.{Datum-F}
-use Rattle.avro_file.specs.Value.{Value, nothing, truth, small, whole, single, twice, symbol, text, run, raw, fields, items, entries, chosen, no_values, value, values_of, Pair, entries_of}
+use Rattle.avro_file.specs.Value.{Value, nothing, truth, small, whole, single, twice, symbol, text, run, raw, fields}
+use Rattle.avro_file.specs.Value.{items, entries, chosen, no_values, value, values_of, Pair, entries_of}
 
 -- a record of an int and another value
 abbrev pub pair_with : ℤ → Value → Value

@@ -26,13 +26,16 @@ HasMetadata ps bytes = (front : List ℕ) × (rest : List ℕ) × AreProperties 
 -- magic number, metadata that name the schema, and marker
 abbrev pub IsHeader : List Property → Tree → List ℕ → List ℕ → Type 0
 IsHeader ps s sync bytes =
-    (text : List ℕ) × (front : List ℕ) × AreProperties ps front × (last_under schema_key None ps ≡ Some text) × (schema_of text ≡ Ok s) × IsUncompressed (last_under codec_key None ps)
+    (text : List ℕ) × (front : List ℕ) × AreProperties ps front × (last_under schema_key None ps ≡ Some text)
+    × (schema_of text ≡ Ok s) × IsUncompressed (last_under codec_key None ps)
     × (length sync ≡ 16) × (bytes ≡ magic ++ (front ++ sync))
 
 -- a writer of a file of this schema with these metadata, to which these data were pushed
 unfoldable pub WasGiven : Writer → List Property → Tree → List Value → Type 0
-WasGiven w ps s vs = IsHeader ps s w.sync w.header.items × (w.count ≡ length vs) × (w.count < 2 ^ 63) × (w.content.items ≡ all_written (values_of vs))
+WasGiven w ps s vs = IsHeader ps s w.sync w.header.items × (w.count ≡ length vs) × (w.count < 2 ^ 63)
+    × (w.content.items ≡ all_written (values_of vs))
 
 -- a writer of a file with these metadata and this marker, to which these data were pushed
 unfoldable pub WillWrite : Writer → List Property → List ℕ → List Value → Type 0
-WillWrite w ps sync vs = (w.header.items ≡ header_bytes ps sync) × (w.sync ≡ sync) × (w.count ≡ length vs) × (w.content.items ≡ all_written (values_of vs))
+WillWrite w ps sync vs = (w.header.items ≡ header_bytes ps sync) × (w.sync ≡ sync) × (w.count ≡ length vs)
+    × (w.content.items ≡ all_written (values_of vs))

@@ -1,10 +1,13 @@
--- The bytes that a writer gives a value: numbers in the fewest groups, arrays and maps in one block of a positive count.
--- Avro 1.11.1 specification, 'Binary Encoding', 'Primitive Types' and 'Complex Types'.
-use Rattle.std.specs.Prelude.{ℕ, zero, suc, ◌+◌, ◌*◌, ◌/◌, ◌%◌, Bool, ℤ, pos, negsuc, List, [], ◌∷◌, ◌++◌, length, nat_lt, if◌then◌else◌}
+-- The bytes that a writer gives a value: numbers in the fewest groups, arrays and maps in one block of a positive
+-- count. Avro 1.11.1 specification, 'Binary Encoding', 'Primitive Types' and 'Complex Types'.
+use Rattle.std.specs.Prelude.{ℕ, zero, suc, ◌+◌, ◌*◌, ◌/◌, ◌%◌, Bool, ℤ, pos, negsuc, List, [], ◌∷◌, ◌++◌, length}
+use Rattle.std.specs.Prelude.{nat_lt, if◌then◌else◌}
 use Rattle.std.specs.Ordering.{is_lt, nat_cmp}
 use Rattle.std.specs.Cmp.Lexicographic.{slice_cmp}
 use Rattle.contract_words.specs.Sorting.{sorted}
-use Rattle.avro_file.specs.Value.{Value, nothing, truth, small, whole, single, twice, symbol, text, run, raw, fields, items, entries, chosen, Values, no_values, value, values_of, Entries, no_entries, entry}
+use Rattle.avro_file.specs.Value.{Value, nothing, truth, small, whole, single, twice, symbol, text, run, raw, fields}
+use Rattle.avro_file.specs.Value.{items, entries, chosen, Values, no_values, value, values_of, Entries, no_entries}
+use Rattle.avro_file.specs.Value.{entry}
 use Rattle.avro_file.specs.Spelling.{bit, values_len, entries_len}
 use Rattle.avro_file.specs.Header.{Property, schema_key, codec_key}
 use Rattle.avro_file.specs.Files.{magic, null_codec}
@@ -79,7 +82,8 @@ header_bytes ps sync = magic ++ (block_bytes (length ps) (properties_written ps)
 -- all data in one block: how many, the length of their bytes, these, and the marker; where there are none, no block
 abbrev pub blocks_bytes : List ℕ → List Value → List ℕ
 blocks_bytes sync [] = []
-blocks_bytes sync (v ∷ vs) = long_bytes (pos (length (v ∷ vs))) ++ (run_bytes (all_written (values_of (v ∷ vs))) ++ sync)
+blocks_bytes sync (v ∷ vs) =
+    long_bytes (pos (length (v ∷ vs))) ++ (run_bytes (all_written (values_of (v ∷ vs))) ++ sync)
 
 -- the bytes of a file with these metadata, this marker and these data
 unfoldable pub file_bytes : List Property → List ℕ → List Value → List ℕ

@@ -147,7 +147,8 @@ pub fn step<'a>(
     sync: &[u8],
     start: Spot<'a>,
 ) -> Result<Option<(&'a [u8], Spot<'a>)>, Refusal>
-    ensures { Steps (λ x. (x.0.now, file_position_of x.1)) (tree schema.now) sync.now (file_position_of start.entry) result }
+    ensures { Steps (λ x. (x.0.now, file_position_of x.1)) (tree schema.now) sync.now
+        (file_position_of start.entry) result }
 {
     let Some(here) = entered(sync, start)? else {
         return Ok(None);

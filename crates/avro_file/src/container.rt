@@ -85,7 +85,8 @@ impl<'a> Container<'a> {
     ghost use Rattle.avro_file.specs.Holding.{AreWithinLimits};
     ghost use Rattle.std.specs.Result.{IfErr};
     ghost use Rattle.avro_file.specs.Known.{known_tree};
-    ghost use Rattle.avro_file.specs.Files.{HasHeader, ahead, at_start, tree_of, type_of, opened, opened_at, reader_of, HoldsFile};
+    ghost use Rattle.avro_file.specs.Files.{HasHeader, ahead, at_start, tree_of, type_of, opened, opened_at, reader_of};
+    ghost use Rattle.avro_file.specs.Files.{HoldsFile};
 
     /// The file of these bytes, of which nothing is copied.
     ///
@@ -94,9 +95,11 @@ impl<'a> Container<'a> {
     /// Of equal keys in the metadata the last counts. No block is looked at.
     pub fn open(alloc: Global, bytes: &'a [u8]) -> Result<Container<'a>, AvroFault>
         // Data that the file holds are what the reader will give.
-        ensures held { (s : Tree) (vs : List Value) → HoldsFile s vs bytes.now → AreWithinLimits vs → Gives AvroFault.Memory opened result (Ok (reader_of s vs)) }
+        ensures held { (s : Tree) (vs : List Value) → HoldsFile s vs bytes.now → AreWithinLimits vs →
+            Gives AvroFault.Memory opened result (Ok (reader_of s vs)) }
         // What it will give up to the file's end is what the file holds.
-        ensures only { IfOk result (λ c. (vs : List Value) → at_start c ≡ running vs None → HoldsFile (tree_of c) vs bytes.now × AreWithinLimits vs) }
+        ensures only { IfOk result (λ c. (vs : List Value) → at_start c ≡ running vs None →
+            HoldsFile (tree_of c) vs bytes.now × AreWithinLimits vs) }
         // What it will give in any case, and which fault it is.
         ensures exact { Gives AvroFault.Memory opened result (opened_at bytes.now) }
         // No memory is asked for before the header was whole and named a schema.
@@ -111,8 +114,10 @@ impl<'a> Container<'a> {
         known: &KnownSchema,
         bytes: &'a [u8],
     ) -> Result<Container<'a>, AvroFault>
-        ensures held { (s : Tree) (vs : List Value) → HoldsFile s vs bytes.now → AreWithinLimits vs → Gives AvroFault.Memory opened result (Ok (reader_of s vs)) }
-        ensures only { IfOk result (λ c. (vs : List Value) → at_start c ≡ running vs None → HoldsFile (tree_of c) vs bytes.now × AreWithinLimits vs) }
+        ensures held { (s : Tree) (vs : List Value) → HoldsFile s vs bytes.now → AreWithinLimits vs →
+            Gives AvroFault.Memory opened result (Ok (reader_of s vs)) }
+        ensures only { IfOk result (λ c. (vs : List Value) → at_start c ≡ running vs None →
+            HoldsFile (tree_of c) vs bytes.now × AreWithinLimits vs) }
         ensures exact { Gives AvroFault.Memory opened result (opened_at bytes.now) }
         ensures memory { IfErr result (λ e. e ≡ AvroFault.Memory → HasHeader bytes.now) }
     {

@@ -8,7 +8,8 @@ ghost use Rattle.avro_schema.specs.Tree.{array};
 ghost use Rattle.avro_schema.specs.View.{tree, trees, parts, fields_of, branches_of};
 ghost use Rattle.avro_file.specs.View.{view, views, entry_views};
 ghost use Rattle.avro_file.specs.Place.{position_of};
-ghost use Rattle.avro_file.specs.Reading.{IsScalar, IsRunOfBytes, count_at, with_front, values_at, blocks_at, entry_at, datum_at, fields_at, branch_at, chosen_by};
+ghost use Rattle.avro_file.specs.Reading.{IsScalar, IsRunOfBytes, count_at, with_front, values_at, blocks_at, entry_at};
+ghost use Rattle.avro_file.specs.Reading.{datum_at, fields_at, branch_at, chosen_by};
 
 use crate::datum::Datum;
 use crate::leaf::{boolean_of, bytes_of, run_of_len, symbol_of, text_of};
@@ -41,7 +42,8 @@ pub fn count_of(place: Place<'_>) -> Result<(u64, Place<'_>), Refusal>
 #[tactic(auto, unfolding(crate::specs::Reading::datum_at))]
 fn scalar_datum_of<'a>(schema: &Schema, bytes: &'a [u8]) -> Result<(Datum<'a>, &'a [u8]), Refusal>
     requires { IsScalar (tree schema.now) }
-    ensures { (left : ℕ) → IsRead (λ x. (view x.0, record { bytes = x.1.now; left = left })) result (datum_at (tree schema.now) (record { bytes = bytes.now; left = left })) }
+    ensures { (left : ℕ) → IsRead (λ x. (view x.0, record { bytes = x.1.now; left = left })) result
+        (datum_at (tree schema.now) (record { bytes = bytes.now; left = left })) }
 {
     match schema {
         Schema::Null => Ok((Datum::Null, bytes)),
@@ -69,7 +71,8 @@ fn scalar_datum_of<'a>(schema: &Schema, bytes: &'a [u8]) -> Result<(Datum<'a>, &
 #[tactic(auto, unfolding(crate::specs::Reading::datum_at))]
 fn run_datum_of<'a>(schema: &Schema, bytes: &'a [u8]) -> Result<(Datum<'a>, &'a [u8]), Refusal>
     requires { IsRunOfBytes (tree schema.now) }
-    ensures { (left : ℕ) → IsRead (λ x. (view x.0, record { bytes = x.1.now; left = left })) result (datum_at (tree schema.now) (record { bytes = bytes.now; left = left })) }
+    ensures { (left : ℕ) → IsRead (λ x. (view x.0, record { bytes = x.1.now; left = left })) result
+        (datum_at (tree schema.now) (record { bytes = bytes.now; left = left })) }
 {
     match schema {
         Schema::Float => {
@@ -104,7 +107,8 @@ pub fn datum_of<'a>(
     schema: &Schema,
     place: Place<'a>,
 ) -> Result<(Datum<'a>, Place<'a>), Refusal>
-    ensures { Gives Refusal.Memory (λ x. (view x.0, position_of x.1)) result (datum_at (tree schema.now) (position_of place.entry)) }
+    ensures { Gives Refusal.Memory (λ x. (view x.0, position_of x.1)) result
+        (datum_at (tree schema.now) (position_of place.entry)) }
 {
     let left = place.left;
     match schema {
@@ -152,7 +156,8 @@ fn union_of<'a>(
     position: i64,
     place: Place<'a>,
 ) -> Result<(Datum<'a>, Place<'a>), Refusal>
-    ensures { Gives Refusal.Memory (λ x. (view x.0, position_of x.1)) result (chosen_by (branch_at (branches_of (trees branches.now))) position (position_of place.entry)) }
+    ensures { Gives Refusal.Memory (λ x. (view x.0, position_of x.1)) result
+        (chosen_by (branch_at (branches_of (trees branches.now))) position (position_of place.entry)) }
 {
     let Some(position) = natural(position) else {
         return Err(Refusal::BadUnion);
@@ -174,7 +179,8 @@ fn record_of<'a>(
     fields: &[Field],
     place: Place<'a>,
 ) -> Result<(Vec<Datum<'a>>, Place<'a>), Refusal>
-    ensures { Gives Refusal.Memory (λ x. (views x.0.items, position_of x.1)) result (fields_at (fields_of (parts fields.now)) (position_of place.entry)) }
+    ensures { Gives Refusal.Memory (λ x. (views x.0.items, position_of x.1)) result
+        (fields_at (fields_of (parts fields.now)) (position_of place.entry)) }
 {
     let mut values = Vec::with_capacity(alloc, fields.len())?;
     let mut here = place;
@@ -194,7 +200,8 @@ fn array_datum_of<'a>(
     schema: &Schema,
     place: Place<'a>,
 ) -> Result<(Datum<'a>, Place<'a>), Refusal>
-    ensures { (id : Option ℤ) (kind : ArrayKind) → Gives Refusal.Memory (λ x. (view x.0, position_of x.1)) result (datum_at (array (tree schema.now) id kind) (position_of place.entry)) }
+    ensures { (id : Option ℤ) (kind : ArrayKind) → Gives Refusal.Memory (λ x. (view x.0, position_of x.1)) result
+        (datum_at (array (tree schema.now) id kind) (position_of place.entry)) }
 {
     match second_of_pair(schema) {
         Some(Second::Long) => {
@@ -219,7 +226,9 @@ fn array_of<'a>(
     schema: &Schema,
     place: Place<'a>,
 ) -> Result<(Vec<Datum<'a>>, Place<'a>), Refusal>
-    ensures { Gives Refusal.Memory (λ x. (views x.0.items, position_of x.1)) result (blocks_at (datum_at (tree schema.now)) (suc (length (position_of place.entry).bytes)) (position_of place.entry)) }
+    ensures { Gives Refusal.Memory (λ x. (views x.0.items, position_of x.1)) result
+        (blocks_at (datum_at (tree schema.now)) (suc (length (position_of place.entry).bytes))
+        (position_of place.entry)) }
 {
     let mut values = Vec::new(alloc);
     let mut here = place;
@@ -243,7 +252,9 @@ fn items_of<'a>(
     values: Vec<Datum<'a>>,
     place: Place<'a>,
 ) -> Result<(Vec<Datum<'a>>, Place<'a>), Refusal>
-    ensures { Gives Refusal.Memory (λ x. (views x.0.items, position_of x.1)) result (with_front (views values.entry.items) (values_at (datum_at (tree schema.now)) count (position_of place.entry))) }
+    ensures { Gives Refusal.Memory (λ x. (views x.0.items, position_of x.1)) result
+        (with_front (views values.entry.items)
+        (values_at (datum_at (tree schema.now)) count (position_of place.entry))) }
 {
     let mut values = values;
     let mut here = place;
@@ -262,7 +273,9 @@ fn map_of<'a>(
     schema: &Schema,
     place: Place<'a>,
 ) -> Result<(Vec<(&'a str, Datum<'a>)>, Place<'a>), Refusal>
-    ensures { Gives Refusal.Memory (λ x. (entry_views x.0.items, position_of x.1)) result (blocks_at (entry_at (datum_at (tree schema.now))) (suc (length (position_of place.entry).bytes)) (position_of place.entry)) }
+    ensures { Gives Refusal.Memory (λ x. (entry_views x.0.items, position_of x.1)) result
+        (blocks_at (entry_at (datum_at (tree schema.now))) (suc (length (position_of place.entry).bytes))
+        (position_of place.entry)) }
 {
     let mut values = Vec::new(alloc);
     let mut here = place;
@@ -286,7 +299,9 @@ fn entries_of<'a>(
     values: Vec<(&'a str, Datum<'a>)>,
     place: Place<'a>,
 ) -> Result<(Vec<(&'a str, Datum<'a>)>, Place<'a>), Refusal>
-    ensures { Gives Refusal.Memory (λ x. (entry_views x.0.items, position_of x.1)) result (with_front (entry_views values.entry.items) (values_at (entry_at (datum_at (tree schema.now))) count (position_of place.entry))) }
+    ensures { Gives Refusal.Memory (λ x. (entry_views x.0.items, position_of x.1)) result
+        (with_front (entry_views values.entry.items)
+        (values_at (entry_at (datum_at (tree schema.now))) count (position_of place.entry))) }
 {
     let mut values = values;
     let mut here = place;

@@ -3,7 +3,8 @@
 ghost use Rattle.std.specs.Prelude.{◌≡◌, ◌++◌, ◌∷◌, [], ◌<◌, ◌^◌, pos, length, IfOk};
 ghost use Rattle.avro_file.specs.View.{view, views, entry_views, pair_with, long_pairs, bytes_pairs};
 ghost use Rattle.avro_file.specs.Value.{whole, run, values_of, entries_of};
-ghost use Rattle.avro_file.specs.Writing.{groups_of, unsigned_of, long_bytes, run_bytes, block_bytes, written, all_written, entries_written};
+ghost use Rattle.avro_file.specs.Writing.{groups_of, unsigned_of, long_bytes, run_bytes, block_bytes, written};
+ghost use Rattle.avro_file.specs.Writing.{all_written, entries_written};
 
 use crate::datum::Datum;
 use std::alloc::AllocError;
@@ -105,7 +106,8 @@ fn push_each_long_pair(bytes: Vec<u8>, pairs: &[(i32, i64)]) -> Result<Vec<u8>, 
 
 /// Puts an array of ints and longs last.
 fn push_long_pairs(bytes: Vec<u8>, pairs: &[(i32, i64)]) -> Result<Vec<u8>, AllocError>
-    ensures { IfOk result (λ all. all.items ≡ bytes.items ++ block_bytes (length pairs.now) (all_written (values_of (long_pairs pairs.now)))) }
+    ensures { IfOk result (λ all. all.items ≡
+        bytes.items ++ block_bytes (length pairs.now) (all_written (values_of (long_pairs pairs.now)))) }
 {
     if pairs.is_empty() {
         return push_byte(bytes, 0);
@@ -136,7 +138,8 @@ fn push_each_bytes_pair(bytes: Vec<u8>, pairs: &[(i32, &[u8])]) -> Result<Vec<u8
 
 /// Puts an array of ints and bytes last.
 fn push_bytes_pairs(bytes: Vec<u8>, pairs: &[(i32, &[u8])]) -> Result<Vec<u8>, AllocError>
-    ensures { IfOk result (λ all. all.items ≡ bytes.items ++ block_bytes (length pairs.now) (all_written (values_of (bytes_pairs pairs.now)))) }
+    ensures { IfOk result (λ all. all.items ≡
+        bytes.items ++ block_bytes (length pairs.now) (all_written (values_of (bytes_pairs pairs.now)))) }
 {
     if pairs.is_empty() {
         return push_byte(bytes, 0);
@@ -192,7 +195,8 @@ fn push_all(bytes: Vec<u8>, values: &[Datum<'_>]) -> Result<Vec<u8>, AllocError>
 /// Puts an array last.
 #[cycle(write)]
 fn push_items(bytes: Vec<u8>, items: &[Datum<'_>]) -> Result<Vec<u8>, AllocError>
-    ensures { IfOk result (λ all. all.items ≡ bytes.items ++ block_bytes (length items.now) (all_written (values_of (views items.now)))) }
+    ensures { IfOk result (λ all. all.items ≡
+        bytes.items ++ block_bytes (length items.now) (all_written (values_of (views items.now)))) }
 {
     if items.is_empty() {
         return push_byte(bytes, 0);
@@ -218,7 +222,8 @@ fn push_pairs(bytes: Vec<u8>, pairs: &[(&str, Datum<'_>)]) -> Result<Vec<u8>, Al
 /// Puts a map last.
 #[cycle(write)]
 fn push_entries(bytes: Vec<u8>, entries: &[(&str, Datum<'_>)]) -> Result<Vec<u8>, AllocError>
-    ensures { IfOk result (λ all. all.items ≡ bytes.items ++ block_bytes (length entries.now) (entries_written (entries_of (entry_views entries.now)))) }
+    ensures { IfOk result (λ all. all.items ≡
+        bytes.items ++ block_bytes (length entries.now) (entries_written (entries_of (entry_views entries.now)))) }
 {
     if entries.is_empty() {
         return push_byte(bytes, 0);

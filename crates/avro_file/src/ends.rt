@@ -4,7 +4,8 @@ ghost use Rattle.std.specs.Prelude.{◌≡◌, ◌≤◌, ℕ, suc, List, length
 ghost use Rattle.avro_schema.specs.View.{tree, trees, parts, fields_of, branches_of};
 ghost use Rattle.avro_file.specs.Exact.{IsRead};
 ghost use Rattle.avro_file.specs.Place.{position_of};
-ghost use Rattle.avro_file.specs.Reading.{IsScalar, IsRunOfBytes, behind, values_at, blocks_at, entry_at, datum_at, fields_at, branch_at, chosen_by};
+ghost use Rattle.avro_file.specs.Reading.{IsScalar, IsRunOfBytes, behind, values_at, blocks_at, entry_at, datum_at};
+ghost use Rattle.avro_file.specs.Reading.{fields_at, branch_at, chosen_by};
 ghost use Rattle.avro_file.specs.Spelling.{takes_bytes as takes_some, some_takes_bytes as one_takes_some};
 
 use crate::decode::{count_of, natural};
@@ -45,7 +46,8 @@ fn one_takes_bytes(fields: &Vec<Field>) -> bool
 #[tactic(auto, unfolding(crate::specs::Reading::datum_at))]
 fn behind_scalar<'a>(schema: &Schema, bytes: &'a [u8]) -> Result<&'a [u8], Refusal>
     requires { IsScalar (tree schema.now) }
-    ensures { (left : ℕ) → IsRead (λ rest. record { bytes = rest.now; left = left }) result (behind (datum_at (tree schema.now) (record { bytes = bytes.now; left = left }))) }
+    ensures { (left : ℕ) → IsRead (λ rest. record { bytes = rest.now; left = left }) result
+        (behind (datum_at (tree schema.now) (record { bytes = bytes.now; left = left }))) }
 {
     match schema {
         Schema::Null => Ok(bytes),
@@ -61,7 +63,8 @@ fn behind_scalar<'a>(schema: &Schema, bytes: &'a [u8]) -> Result<&'a [u8], Refus
 #[tactic(auto, unfolding(crate::specs::Reading::datum_at))]
 fn behind_run<'a>(schema: &Schema, bytes: &'a [u8]) -> Result<&'a [u8], Refusal>
     requires { IsRunOfBytes (tree schema.now) }
-    ensures { (left : ℕ) → IsRead (λ rest. record { bytes = rest.now; left = left }) result (behind (datum_at (tree schema.now) (record { bytes = bytes.now; left = left }))) }
+    ensures { (left : ℕ) → IsRead (λ rest. record { bytes = rest.now; left = left }) result
+        (behind (datum_at (tree schema.now) (record { bytes = bytes.now; left = left }))) }
 {
     match schema {
         Schema::Float => Ok(run_of_len(4, bytes)?.1),
@@ -107,7 +110,8 @@ fn end_of_branch<'a>(
     position: i64,
     place: Place<'a>,
 ) -> Result<Place<'a>, Refusal>
-    ensures { IsRead position_of result (behind (chosen_by (branch_at (branches_of (trees branches.now))) position (position_of place.entry))) }
+    ensures { IsRead position_of result
+        (behind (chosen_by (branch_at (branches_of (trees branches.now))) position (position_of place.entry))) }
 {
     let Some(position) = natural(position) else {
         return Err(Refusal::BadUnion);
@@ -133,7 +137,8 @@ fn end_of_fields<'a>(fields: &[Field], place: Place<'a>) -> Result<Place<'a>, Re
 /// Where the blocks of an array end.
 #[cycle(end)]
 fn end_of_items<'a>(schema: &Schema, place: Place<'a>) -> Result<Place<'a>, Refusal>
-    ensures { IsRead position_of result (behind (blocks_at (datum_at (tree schema.now)) (suc (length (position_of place.entry).bytes)) (position_of place.entry))) }
+    ensures { IsRead position_of result (behind (blocks_at (datum_at (tree schema.now))
+        (suc (length (position_of place.entry).bytes)) (position_of place.entry))) }
 {
     let mut here = place;
     'each_block: loop {
@@ -148,7 +153,8 @@ fn end_of_items<'a>(schema: &Schema, place: Place<'a>) -> Result<Place<'a>, Refu
 /// Where so many items end. Those that take no bytes end where they begin.
 #[cycle(end)]
 fn end_of_some<'a>(schema: &Schema, count: u64, place: Place<'a>) -> Result<Place<'a>, Refusal>
-    ensures { IsRead position_of result (behind (values_at (datum_at (tree schema.now)) count (position_of place.entry))) }
+    ensures { IsRead position_of result
+        (behind (values_at (datum_at (tree schema.now)) count (position_of place.entry))) }
 {
     if !takes_bytes(schema) {
         return Ok(place);
@@ -163,7 +169,8 @@ fn end_of_some<'a>(schema: &Schema, count: u64, place: Place<'a>) -> Result<Plac
 /// Where the blocks of a map end.
 #[cycle(end)]
 fn end_of_entries<'a>(schema: &Schema, place: Place<'a>) -> Result<Place<'a>, Refusal>
-    ensures { IsRead position_of result (behind (blocks_at (entry_at (datum_at (tree schema.now))) (suc (length (position_of place.entry).bytes)) (position_of place.entry))) }
+    ensures { IsRead position_of result (behind (blocks_at (entry_at (datum_at (tree schema.now)))
+        (suc (length (position_of place.entry).bytes)) (position_of place.entry))) }
 {
     let mut here = place;
     'each_block: loop {
@@ -182,7 +189,8 @@ fn end_of_some_entries<'a>(
     count: u64,
     place: Place<'a>,
 ) -> Result<Place<'a>, Refusal>
-    ensures { IsRead position_of result (behind (values_at (entry_at (datum_at (tree schema.now))) count (position_of place.entry))) }
+    ensures { IsRead position_of result
+        (behind (values_at (entry_at (datum_at (tree schema.now))) count (position_of place.entry))) }
 {
     let mut here = place;
     'items: for _ in 0..count {

@@ -55,7 +55,8 @@ fn properties_of<'a>(
     wanted: Wanted<'a>,
     place: Place<'a>,
 ) -> Result<(Wanted<'a>, Place<'a>), Refusal>
-    ensures { IsRead (λ x. (wanted_of x.0, position_of x.1)) result (wanted_at (wanted_of wanted.entry) (values_at property_at count (position_of place.entry))) }
+    ensures { IsRead (λ x. (wanted_of x.0, position_of x.1)) result
+        (wanted_at (wanted_of wanted.entry) (values_at property_at count (position_of place.entry))) }
 {
     let mut so_far = wanted;
     let mut here = place;

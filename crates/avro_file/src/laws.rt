@@ -13,7 +13,8 @@ use crate::fault::AvroFault;
 
 /// A file holds one list of data of one schema at most, however many items its objects have.
 pub fn one_list()
-    ensures { (s t : Tree) (bytes : List ℕ) (vs ws : List Value) → HoldsFile s vs bytes → HoldsFile t ws bytes → (s ≡ t) × (vs ≡ ws) }
+    ensures { (s t : Tree) (bytes : List ℕ) (vs ws : List Value) → HoldsFile s vs bytes → HoldsFile t ws bytes →
+        (s ≡ t) × (vs ≡ ws) }
 {}
 
 /// The metadata of a header may have any number of items.
@@ -23,27 +24,33 @@ pub fn no_item_limit()
 
 /// A file gives no more objects than it has bytes, where each value of its schema takes a byte at least.
 pub fn objects_take_bytes()
-    ensures { (bytes : List ℕ) (o : Opened) → opened_at bytes ≡ Ok o → takes_bytes o.schema ≡ true → still_ahead o.ahead ≤ length bytes }
+    ensures { (bytes : List ℕ) (o : Opened) → opened_at bytes ≡ Ok o → takes_bytes o.schema ≡ true →
+        still_ahead o.ahead ≤ length bytes }
 {}
 
 /// The data that a file holds within the limits are what its reader gives up to the end, and only these.
 pub fn held_is_read()
-    ensures read { (s : Tree) (vs : List Value) (bytes : List ℕ) → length bytes < 2 ^ 64 → HoldsFile s vs bytes → AreWithinLimits vs → opened_at bytes ≡ Ok (reader_of s vs) }
-    ensures only { (bytes : List ℕ) (o : Opened) (vs : List Value) → opened_at bytes ≡ Ok o → o.ahead ≡ running vs None → HoldsFile o.schema vs bytes × AreWithinLimits vs }
+    ensures read { (s : Tree) (vs : List Value) (bytes : List ℕ) → length bytes < 2 ^ 64 → HoldsFile s vs bytes →
+        AreWithinLimits vs → opened_at bytes ≡ Ok (reader_of s vs) }
+    ensures only { (bytes : List ℕ) (o : Opened) (vs : List Value) → opened_at bytes ≡ Ok o →
+        o.ahead ≡ running vs None → HoldsFile o.schema vs bytes × AreWithinLimits vs }
 {}
 
 /// What is left of a file whose end was cut off begins as none, is refused as cut, or gives a front of the same data.
 pub fn cut_files()
-    ensures { (s : Tree) (vs : List Value) (bytes front back : List ℕ) → length bytes < 2 ^ 64 → HoldsFile s vs bytes → AreWithinLimits vs → bytes ≡ front ++ back → IsCutFile s vs front }
+    ensures { (s : Tree) (vs : List Value) (bytes front back : List ℕ) → length bytes < 2 ^ 64 → HoldsFile s vs bytes →
+        AreWithinLimits vs → bytes ≡ front ++ back → IsCutFile s vs front }
 {}
 
 /// What a file gives before a fault, or before its end, are data that a front of its blocks holds.
 pub fn before_a_fault()
-    ensures { (bytes : List ℕ) (o : Opened) (vs : List Value) (ending : Option AvroFault) → opened_at bytes ≡ Ok o → o.ahead ≡ running vs ending → FrontHoldsFile o.schema vs bytes × AreWithinLimits vs }
+    ensures { (bytes : List ℕ) (o : Opened) (vs : List Value) (ending : Option AvroFault) → opened_at bytes ≡ Ok o →
+        o.ahead ≡ running vs ending → FrontHoldsFile o.schema vs bytes × AreWithinLimits vs }
 {}
 
 /// No fault of a file is want of memory: opening answers `Memory` for want of it alone, and `next` never does.
 pub fn no_fault_is_memory()
     ensures opening { (bytes : List ℕ) → opened_at bytes ≢ Err AvroFault.Memory }
-    ensures objects { (bytes : List ℕ) (o : Opened) (vs : List Value) → opened_at bytes ≡ Ok o → o.ahead ≢ running vs (Some AvroFault.Memory) }
+    ensures objects { (bytes : List ℕ) (o : Opened) (vs : List Value) → opened_at bytes ≡ Ok o →
+        o.ahead ≢ running vs (Some AvroFault.Memory) }
 {}

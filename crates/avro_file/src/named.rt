@@ -19,8 +19,8 @@ pub struct NamedSchema<'a> {
 /// A schema that is kept with its text, so that files of the same text need not read it again.
 ///
 /// The files that one writer makes have one schema text. A caller keeps the schema of the first of them
-/// (`Container::keep_schema`), opens the others by `Container::open_with`, and keeps what it made of the schema beside it,
-/// as long as `Container::has_schema` answers true.
+/// (`Container::keep_schema`), opens the others by `Container::open_with`, and keeps what it made of the schema beside
+/// it, as long as `Container::has_schema` answers true.
 #[derive(Debug, Drop)]
 pub struct KnownSchema {
     pub(crate) text: Vec<u8>,

@@ -47,7 +47,8 @@ pub fn long_pairs_of<'a>(
     alloc: Global,
     place: Place<'a>,
 ) -> Result<(Vec<(i32, i64)>, Place<'a>), Refusal>
-    ensures { Gives Refusal.Memory (λ x. (long_pairs x.0.items, position_of x.1)) result (blocks_at (datum_at (pair long)) (suc (length (position_of place.entry).bytes)) (position_of place.entry)) }
+    ensures { Gives Refusal.Memory (λ x. (long_pairs x.0.items, position_of x.1)) result
+        (blocks_at (datum_at (pair long)) (suc (length (position_of place.entry).bytes)) (position_of place.entry)) }
 {
     let mut pairs = Vec::new(alloc);
     let mut here = place;
@@ -68,7 +69,8 @@ fn some_long_pairs_of<'a>(
     pairs: Vec<(i32, i64)>,
     place: Place<'a>,
 ) -> Result<(Vec<(i32, i64)>, Place<'a>), Refusal>
-    ensures { Gives Refusal.Memory (λ x. (long_pairs x.0.items, position_of x.1)) result (with_front (long_pairs pairs.items) (values_at (datum_at (pair long)) count (position_of place.entry))) }
+    ensures { Gives Refusal.Memory (λ x. (long_pairs x.0.items, position_of x.1)) result
+        (with_front (long_pairs pairs.items) (values_at (datum_at (pair long)) count (position_of place.entry))) }
 {
     let mut pairs = pairs;
     let mut here = place;
@@ -90,7 +92,9 @@ pub fn bytes_pairs_of<'a>(
     alloc: Global,
     place: Place<'a>,
 ) -> Result<(Vec<(i32, &'a [u8])>, Place<'a>), Refusal>
-    ensures { Gives Refusal.Memory (λ x. (bytes_pairs x.0.items, position_of x.1)) result (blocks_at (datum_at (pair (octets Plain))) (suc (length (position_of place.entry).bytes)) (position_of place.entry)) }
+    ensures { Gives Refusal.Memory (λ x. (bytes_pairs x.0.items, position_of x.1)) result
+        (blocks_at (datum_at (pair (octets Plain))) (suc (length (position_of place.entry).bytes))
+        (position_of place.entry)) }
 {
     let mut pairs = Vec::new(alloc);
     let mut here = place;
@@ -111,7 +115,9 @@ fn some_bytes_pairs_of<'a>(
     pairs: Vec<(i32, &'a [u8])>,
     place: Place<'a>,
 ) -> Result<(Vec<(i32, &'a [u8])>, Place<'a>), Refusal>
-    ensures { Gives Refusal.Memory (λ x. (bytes_pairs x.0.items, position_of x.1)) result (with_front (bytes_pairs pairs.entry.items) (values_at (datum_at (pair (octets Plain))) count (position_of place.entry))) }
+    ensures { Gives Refusal.Memory (λ x. (bytes_pairs x.0.items, position_of x.1)) result
+        (with_front (bytes_pairs pairs.entry.items)
+        (values_at (datum_at (pair (octets Plain))) count (position_of place.entry))) }
 {
     let mut pairs = pairs;
     let mut here = place;

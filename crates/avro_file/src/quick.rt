@@ -1,9 +1,11 @@
 //! A quick look for where values end. Where it gives no end, the exact reader says what is there.
 
-ghost use Rattle.std.specs.Prelude.{◌≡◌, ◌≢◌, ◌≤◌, ◌<◌, ◌+◌, ◌-◌, ◌^◌, ℕ, suc, List, length, Ok, IfSome, slice_range, drop};
+ghost use Rattle.std.specs.Prelude.{◌≡◌, ◌≢◌, ◌≤◌, ◌<◌, ◌+◌, ◌-◌, ◌^◌, ℕ, suc, List, length, Ok, IfSome, slice_range};
+ghost use Rattle.std.specs.Prelude.{drop};
 ghost use Rattle.avro_schema.specs.View.{tree, trees, parts, fields_of, branches_of};
 ghost use Rattle.avro_file.specs.Number.{number_at, long_at, int_at};
-ghost use Rattle.avro_file.specs.Reading.{boolean_at, run_at, bytes_at, string_at, symbol_at, count_at as items_at, values_at, blocks_at, datum_at, fields_at};
+ghost use Rattle.avro_file.specs.Reading.{boolean_at, run_at, bytes_at, string_at, symbol_at, count_at as items_at};
+ghost use Rattle.avro_file.specs.Reading.{values_at, blocks_at, datum_at, fields_at};
 ghost use Rattle.avro_schema.specs.declared.schema.BytesKind.TheVariants.{Plain};
 ghost use Rattle.avro_schema.specs.Tree.{long, octets, union};
 ghost use Rattle.avro_file.specs.Pairs.{pair};
@@ -110,7 +112,8 @@ fn run_end(len: u64, bytes: &[u8], at: usize) -> Option<usize>
 #[inline(always)]
 fn run_within(bytes: &[u8], at: usize) -> (usize, usize)
     requires { at ≤ length bytes.now }
-    ensures { result.1 ≢ 0 → (result.0 ≤ result.1) × EndsWith bytes_at bytes.now at (slice_range bytes.now result.0 result.1) result.1 }
+    ensures { result.1 ≢ 0 →
+        (result.0 ≤ result.1) × EndsWith bytes_at bytes.now at (slice_range bytes.now result.0 result.1) result.1 }
 {
     let (value, start) = number_at(bytes, at);
     if start == 0 || value % 2 != 0 {
@@ -199,7 +202,8 @@ fn leaf_end(schema: &Schema, bytes: &[u8], at: usize) -> Option<usize>
 #[inline(always)]
 fn count_at(bytes: &[u8], at: usize) -> (u64, usize)
     requires { at ≤ length bytes.now }
-    ensures { result.1 ≢ 0 → (at < result.1) × (result.1 ≤ length bytes.now) × ((left : ℕ) → result.0 ≤ left → items_at (standing bytes.now at left) ≡ Ok (result.0, standing bytes.now result.1 (left - result.0))) }
+    ensures { result.1 ≢ 0 → (at < result.1) × (result.1 ≤ length bytes.now) × ((left : ℕ) → result.0 ≤ left →
+        items_at (standing bytes.now at left) ≡ Ok (result.0, standing bytes.now result.1 (left - result.0))) }
 {
     let (value, end) = number_at(bytes, at);
     if end == 0 || value % 2 == 0 {
@@ -216,7 +220,8 @@ fn count_at(bytes: &[u8], at: usize) -> (u64, usize)
 #[inline(never)]
 fn long_pairs_end(count: u64, bytes: &[u8], at: usize) -> Option<usize>
     requires { at ≤ length bytes.now }
-    ensures { IfSome result (λ end. (left : ℕ) → EndsCounted (values_at (datum_at (pair long)) count) bytes.now at left end left) }
+    ensures { IfSome result (λ end. (left : ℕ) →
+        EndsCounted (values_at (datum_at (pair long)) count) bytes.now at left end left) }
 {
     let mut here = at;
     'items: for _ in 0..count {
@@ -230,7 +235,8 @@ fn long_pairs_end(count: u64, bytes: &[u8], at: usize) -> Option<usize>
 #[inline(never)]
 fn bytes_pairs_end(count: u64, bytes: &[u8], at: usize) -> Option<usize>
     requires { at ≤ length bytes.now }
-    ensures { IfSome result (λ end. (left : ℕ) → EndsCounted (values_at (datum_at (pair (octets Plain))) count) bytes.now at left end left) }
+    ensures { IfSome result (λ end. (left : ℕ) →
+        EndsCounted (values_at (datum_at (pair (octets Plain))) count) bytes.now at left end left) }
 {
     let mut here = at;
     'items: for _ in 0..count {
@@ -260,7 +266,8 @@ pub fn value_end(schema: &Schema, bytes: &[u8], at: usize, left: &mut u64) -> Op
 #[inline(never)]
 fn fields_end(fields: &[Field], bytes: &[u8], at: usize, left: &mut u64) -> Option<usize>
     requires { at ≤ length bytes.now }
-    ensures { IfSome result (λ end. EndsCounted (fields_at (fields_of (parts fields.now))) bytes.now at left.old end left.new) }
+    ensures { IfSome result (λ end.
+        EndsCounted (fields_at (fields_of (parts fields.now))) bytes.now at left.old end left.new) }
 {
     let mut here = at;
     'fields: for field in fields {
@@ -274,7 +281,8 @@ fn fields_end(fields: &[Field], bytes: &[u8], at: usize, left: &mut u64) -> Opti
 #[inline(never)]
 fn branch_end(branches: &[Schema], bytes: &[u8], at: usize, left: &mut u64) -> Option<usize>
     requires { at ≤ length bytes.now }
-    ensures { IfSome result (λ end. EndsCounted (datum_at (union (branches_of (trees branches.now)))) bytes.now at left.old end left.new) }
+    ensures { IfSome result (λ end.
+        EndsCounted (datum_at (union (branches_of (trees branches.now)))) bytes.now at left.old end left.new) }
 {
     let (value, start) = number_at(bytes, at);
     if start == 0 || value % 2 != 0 || value / 2 >= branches.len() as u64 {
@@ -288,7 +296,9 @@ fn branch_end(branches: &[Schema], bytes: &[u8], at: usize, left: &mut u64) -> O
 #[inline(never)]
 fn items_end(schema: &Schema, bytes: &[u8], at: usize, left: &mut u64) -> Option<usize>
     requires { at ≤ length bytes.now }
-    ensures { IfSome result (λ end. EndsCounted (blocks_at (datum_at (tree schema.now)) (suc (length (drop at bytes.now)))) bytes.now at left.old end left.new) }
+    ensures { IfSome result (λ end.
+        EndsCounted (blocks_at (datum_at (tree schema.now)) (suc (length (drop at bytes.now)))) bytes.now at left.old
+        end left.new) }
 {
     let (count, start) = count_at(bytes, at);
     if start == 0 || count > *left {
@@ -310,7 +320,8 @@ fn items_end(schema: &Schema, bytes: &[u8], at: usize, left: &mut u64) -> Option
 #[inline(never)]
 fn some_end(schema: &Schema, count: u64, bytes: &[u8], at: usize, left: &mut u64) -> Option<usize>
     requires { at ≤ length bytes.now }
-    ensures { IfSome result (λ end. EndsCounted (values_at (datum_at (tree schema.now)) count) bytes.now at left.old end left.new) }
+    ensures { IfSome result (λ end.
+        EndsCounted (values_at (datum_at (tree schema.now)) count) bytes.now at left.old end left.new) }
 {
     match second_of_pair(schema) {
         Some(Second::Long) => return long_pairs_end(count, bytes, at),

@@ -47,7 +47,8 @@ fn in_order<'a>(
     schema: &'a [u8],
     metadata: &[Property<'a>],
 ) -> Result<Vec<Property<'a>>, AllocError>
-    ensures { IfOk result (λ all. shown_properties all.items ≡ all_in_order schema.now (shown_properties metadata.now)) }
+    ensures { IfOk result (λ all. shown_properties all.items ≡
+        all_in_order schema.now (shown_properties metadata.now)) }
 {
     let mut properties = Vec::from_slice(alloc, metadata)?;
     properties.push(Property {
@@ -89,7 +90,8 @@ fn push_header(
     properties: &[Property<'_>],
     sync: &[u8],
 ) -> Result<Vec<u8>, AllocError>
-    ensures { IfOk result (λ all. all.items ≡ bytes.items ++ (magic ++ (block_bytes (length properties.now) (properties_written (shown_properties properties.now)) ++ sync.now))) }
+    ensures { IfOk result (λ all. all.items ≡ bytes.items ++ (magic ++
+        (block_bytes (length properties.now) (properties_written (shown_properties properties.now)) ++ sync.now))) }
 {
     let mut bytes = push_raw(bytes, MAGIC)?;
     if !properties.is_empty() {
@@ -129,9 +131,12 @@ impl Writer {
         sync: [u8; 16],
     ) -> Result<Writer, AvroFault>
         requires { AllByRecursion (λ p. IsUtf8 p.0) (shown_properties metadata.now) }
-        ensures begun { IfOk result (λ w. (s : Tree) × (schema_of schema.now ≡ Ok s) × WasGiven w (all_in_order schema.now (shown_properties metadata.now)) s []) }
-        ensures exact { IfOk result (λ w. WillWrite w (all_in_order schema.now (shown_properties metadata.now)) sync []) }
-        ensures refused { IfErr result (λ e. e ≢ AvroFault.Memory → refused AvroFault.Schema (schema_of schema.now) ≡ Err e) }
+        ensures begun { IfOk result (λ w. (s : Tree) × (schema_of schema.now ≡ Ok s) ×
+            WasGiven w (all_in_order schema.now (shown_properties metadata.now)) s []) }
+        ensures exact { IfOk result (λ w.
+            WillWrite w (all_in_order schema.now (shown_properties metadata.now)) sync []) }
+        ensures refused { IfErr result (λ e. e ≢ AvroFault.Memory →
+            refused AvroFault.Schema (schema_of schema.now) ≡ Err e) }
     {
         check_schema(alloc, schema)?;
         let properties = in_order(alloc, schema, metadata)?;
@@ -147,8 +152,11 @@ impl Writer {
     /// Puts an object last. After want of memory the objects are those of before.
     #[tactic(auto, unfolding(crate::specs::Writers::WasGiven, crate::specs::Writers::WillWrite))]
     pub fn push(&mut self, alloc: Global, datum: &Datum<'_>) -> Result<(), AllocError>
-        ensures given { (ps : List Shown) (s : Tree) (vs : List Value) → WasGiven self.old ps s vs → MatchResult result (λ _. WasGiven self.new ps s (vs ++ view datum.now ∷ [])) (λ _. WasGiven self.new ps s vs) }
-        ensures exact { (ps : List Shown) (sync : List ℕ) (vs : List Value) → WillWrite self.old ps sync vs → MatchResult result (λ _. WillWrite self.new ps sync (vs ++ view datum.now ∷ [])) (λ _. WillWrite self.new ps sync vs) }
+        ensures given { (ps : List Shown) (s : Tree) (vs : List Value) → WasGiven self.old ps s vs → MatchResult result
+            (λ _. WasGiven self.new ps s (vs ++ view datum.now ∷ [])) (λ _. WasGiven self.new ps s vs) }
+        ensures exact { (ps : List Shown) (sync : List ℕ) (vs : List Value) → WillWrite self.old ps sync vs →
+            MatchResult result (λ _. WillWrite self.new ps sync (vs ++ view datum.now ∷ []))
+            (λ _. WillWrite self.new ps sync vs) }
     {
         if self.count >= i64::MAX as u64 {
             return Err(AllocError);
@@ -163,10 +171,14 @@ impl Writer {
     /// exactly them, and a reader gives them back.
     #[tactic(auto, unfolding(crate::specs::Writers::WasGiven, crate::specs::Writers::WillWrite))]
     pub fn finish(self) -> Result<Vec<u8>, AllocError>
-        ensures exact { (ps : List Shown) (sync : List ℕ) (vs : List Value) → WillWrite self ps sync vs → IfOk result (λ bytes. bytes.items ≡ file_bytes ps sync vs) }
-        ensures holds { (ps : List Shown) (s : Tree) (vs : List Value) → WasGiven self ps s vs → AreOf s vs → IfOk result (λ bytes. HoldsFile s vs bytes.items) }
-        ensures metadata { (ps : List Shown) (s : Tree) (vs : List Value) → WasGiven self ps s vs → IfOk result (λ bytes. HasMetadata ps bytes.items) }
-        ensures read_back { (ps : List Shown) (s : Tree) (vs : List Value) → WasGiven self ps s vs → AreOf s vs → IfOk result (λ bytes. opened_at bytes.items ≡ Ok (reader_of s vs)) }
+        ensures exact { (ps : List Shown) (sync : List ℕ) (vs : List Value) → WillWrite self ps sync vs →
+            IfOk result (λ bytes. bytes.items ≡ file_bytes ps sync vs) }
+        ensures holds { (ps : List Shown) (s : Tree) (vs : List Value) → WasGiven self ps s vs → AreOf s vs →
+            IfOk result (λ bytes. HoldsFile s vs bytes.items) }
+        ensures metadata { (ps : List Shown) (s : Tree) (vs : List Value) → WasGiven self ps s vs →
+            IfOk result (λ bytes. HasMetadata ps bytes.items) }
+        ensures read_back { (ps : List Shown) (s : Tree) (vs : List Value) → WasGiven self ps s vs → AreOf s vs →
+            IfOk result (λ bytes. opened_at bytes.items ≡ Ok (reader_of s vs)) }
     {
         let Writer {
             header,

@@ -1,6 +1,7 @@
 -- What an object's attributes say. Avro 1.11.1, "Schema Declaration"; field-id, element-id and the logical type map of
 -- an array by the Iceberg table spec, Appendix A, "Avro". Sizes are 0 to 2^31 - 1, and ids are 32-bit whole numbers.
-use Rattle.std.specs.Prelude.{ℕ, ℤ, pos, negsuc, ◌^◌, List, [], ◌∷◌, Bool, true, false, Option, Some, None, option_and_then, option_map, if◌then◌else◌, ◌&&◌, codes, nat_lt}
+use Rattle.std.specs.Prelude.{ℕ, ℤ, pos, negsuc, ◌^◌, List, [], ◌∷◌, Bool, true, false, Option, Some, None}
+use Rattle.std.specs.Prelude.{option_and_then, option_map, if◌then◌else◌, ◌&&◌, codes, nat_lt}
 use Rattle.std.specs.Str.{bytes_eq}
 use Rattle.serde_json.specs.Data as json
 use Rattle.serde_json.specs.Data.{Data, Items}
@@ -39,7 +40,8 @@ all_items test (json.item d ds) = test d && all_items test ds
 
 -- the items at a key, where each passes the test
 abbrev pub items_in : (Data → Bool) → List ℕ → Data → Option Items
-items_in test key d = option_and_then (λ ds. if all_items test ds then Some ds else None) (option_and_then as_array (get key d))
+items_in test key d =
+    option_and_then (λ ds. if all_items test ds then Some ds else None) (option_and_then as_array (get key d))
 
 -- whether the logical type is this one
 abbrev pub is_word : List ℕ → Option (List ℕ) → Bool

@@ -1,4 +1,5 @@
--- Full names, and the names that were met. Avro 1.11.1, "Names": a name with a dot is full, any other is in a namespace.
+-- Full names, and the names that were met. Avro 1.11.1, "Names": a name with a dot is full, any other is in a
+-- namespace.
 use Rattle.std.specs.Prelude.{ℕ, List, [], ◌∷◌, ◌++◌, Bool, false, ◌||◌, ◌==◌, Option, Some, None, if◌then◌else◌}
 use Rattle.std.specs.Ordering.{nat_cmp, match_ordering}
 use Rattle.std.specs.Cmp.Lexicographic.{slice_cmp}
@@ -40,4 +41,5 @@ lookup name (e ∷ es) = match_ordering (slice_cmp nat_cmp name e.0) (lookup nam
 -- the entries in the order of their names, with x at the name
 abbrev pub put : List ℕ → Option Tree → List Entry → List Entry
 put name x [] = (name, x) ∷ []
-put name x (e ∷ es) = match_ordering (slice_cmp nat_cmp name e.0) ((name, x) ∷ e ∷ es) ((e.0, x) ∷ es) (e ∷ put name x es)
+put name x (e ∷ es) =
+    match_ordering (slice_cmp nat_cmp name e.0) ((name, x) ∷ e ∷ es) ((e.0, x) ∷ es) (e ∷ put name x es)

@@ -2,7 +2,8 @@
 -- Avro 1.11.1, "Schema Declaration" and "Names"; field ids by the Iceberg table spec, Appendix A, "Avro". The two
 -- limits are our own. At one type the faults come in this order: too big, no type that is known, no name that is known,
 -- a name inside its own definition, a name that is defined twice.
-use Rattle.std.specs.Prelude.{ℕ, zero, suc, ◌-◌, ℤ, List, [], ◌∷◌, ◌++◌, Bool, Option, Some, None, Result, Ok, Err, if◌then◌else◌, codes, nat_lt}
+use Rattle.std.specs.Prelude.{ℕ, zero, suc, ◌-◌, ℤ, List, [], ◌∷◌, ◌++◌, Bool, Option, Some, None, Result, Ok, Err}
+use Rattle.std.specs.Prelude.{if◌then◌else◌, codes, nat_lt}
 use Rattle.std.specs.Ordering.{int_eq}
 use Rattle.std.specs.List.{list_any}
 use Rattle.std.specs.Option.{option_eq}
@@ -10,7 +11,8 @@ use Rattle.serde_json.specs.Data as json
 use Rattle.serde_json.specs.Data.{Data, Items}
 use Rattle.serde_json.specs.Find.{get}
 use Rattle.avro_schema.specs.declared.fault.SchemaFault.{SchemaFault}
-use Rattle.avro_schema.specs.declared.fault.SchemaFault.TheVariants.{UnknownType, UnknownName, Recursive, TooBig, FieldTwice, NameTwice}
+use Rattle.avro_schema.specs.declared.fault.SchemaFault.TheVariants.{UnknownType, UnknownName, Recursive, TooBig}
+use Rattle.avro_schema.specs.declared.fault.SchemaFault.TheVariants.{FieldTwice, NameTwice}
 use Rattle.avro_schema.specs.declared.reading.Role.{Role}
 use Rattle.avro_schema.specs.declared.reading.Role.TheVariants as role
 use Rattle.avro_schema.specs.declared.attributes.Kind.{Kind}
@@ -20,7 +22,8 @@ use Rattle.avro_schema.specs.Tree.{Tree, octets, fixed, symbols, structure, arra
 use Rattle.avro_schema.specs.Size.{below, height, left_after}
 use Rattle.avro_schema.specs.View.{Part, fields_of, branches_of}
 use Rattle.avro_schema.specs.Names.{full, space_of, or_around, Entry, lookup, put}
-use Rattle.avro_schema.specs.Attributes.{text_in, name_in, is_object, items_in, symbols_in, id_in, array_kind, bytes_kind, size_in, plain, kind_of}
+use Rattle.avro_schema.specs.Attributes.{text_in, name_in, is_object, items_in, symbols_in, id_in, array_kind}
+use Rattle.avro_schema.specs.Attributes.{bytes_kind, size_in, plain, kind_of}
 
 -- what a walk carries along: the names that were met, and how many nodes may still come
 pub record Seen : Type 0 where
@@ -159,7 +162,8 @@ of_kind read most space kind.Bytes s d seen = Ok (octets (bytes_kind d), seen)
 of_kind read most space kind.Word s d seen = named most space s seen
 
 unfoldable pub object_at : Reader → ℕ → List ℕ → Data → Seen → Read Tree
-object_at read most space d seen = asked (text_in (codes "type") d) >>= λ s. of_kind read most space (kind_of s) s d seen
+object_at read most space d seen = asked (text_in (codes "type") d) >>= λ s.
+    of_kind read most space (kind_of s) s d seen
 
 -- a text alone; a complex type needs its attributes and so an object
 abbrev pub of_word : ℕ → List ℕ → Kind → List ℕ → Seen → Read Tree
@@ -177,7 +181,8 @@ text_at most space s seen = of_word most space (kind_of s) s seen
 -- a union is no branch of a union
 unfoldable pub union_at : Reader → Role → List ℕ → Items → Seen → Read Tree
 union_at read role.Branch space ds seen = Err UnknownType
-union_at read role.Elsewhere space ds seen = branches_at (read role.Branch space) [] ds seen >>= λ x. Ok (union (branches_of x.0), x.1)
+union_at read role.Elsewhere space ds seen = branches_at (read role.Branch space) [] ds seen >>= λ x.
+    Ok (union (branches_of x.0), x.1)
 
 unfoldable pub node_at : Reader → ℕ → Role → List ℕ → Data → Seen → Read Tree
 node_at read most at space json.null seen = Err UnknownType

@@ -1,7 +1,9 @@
 -- How many nodes and levels a tree has: each type is a node, also each type of a field, of items, of values and of
 -- a branch, and the root is the first level. The measure is our own.
 use Rattle.std.specs.Prelude.{ℕ, zero, suc, ◌+◌, max, Option, Some, None}
-use Rattle.avro_schema.specs.Tree.{Tree, null, boolean, int, long, float, double, octets, string, fixed, symbols, structure, array, map, union, Fields, no_fields, field, Branches, no_branches, branch}
+use Rattle.avro_schema.specs.Tree.{Tree, null, boolean, int, long, float, double, octets, string, fixed, symbols}
+use Rattle.avro_schema.specs.Tree.{structure, array, map, union, Fields, no_fields, field, Branches, no_branches}
+use Rattle.avro_schema.specs.Tree.{branch}
 
 -- how many nodes are below the root
 unfoldable mutual

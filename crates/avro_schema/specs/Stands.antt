@@ -6,9 +6,11 @@ use Rattle.serde_json.specs.Data.{Data, Items}
 use Rattle.serde_json.specs.Find.{get, as_array}
 use Rattle.avro_schema.specs.declared.attributes.Kind.TheVariants as kind
 use Rattle.avro_schema.specs.declared.schema.BytesKind.TheVariants as of_bytes
-use Rattle.avro_schema.specs.Tree.{Tree, octets, fixed, symbols, structure, array, map, union, Fields, no_fields, field, Branches, no_branches, branch}
+use Rattle.avro_schema.specs.Tree.{Tree, octets, fixed, symbols, structure, array, map, union, Fields, no_fields, field}
+use Rattle.avro_schema.specs.Tree.{Branches, no_branches, branch}
 use Rattle.avro_schema.specs.Names.{space_of}
-use Rattle.avro_schema.specs.Attributes.{text_in, name_in, is_object, items_in, symbols_in, id_in, array_kind, bytes_kind, size_in, plain, kind_of}
+use Rattle.avro_schema.specs.Attributes.{text_in, name_in, is_object, items_in, symbols_in, id_in, array_kind}
+use Rattle.avro_schema.specs.Attributes.{bytes_kind, size_in, plain, kind_of}
 use Rattle.avro_schema.specs.Reading.{defines}
 use Rattle.avro_schema.specs.Inside.{kind_in, Uses, Defines}
 use Rattle.avro_schema.specs.Order.{At, DefinedIn}

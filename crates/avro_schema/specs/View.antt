@@ -3,7 +3,8 @@ use Rattle.std.specs.Prelude.{ℤ, List, [], ◌∷◌, Option, map}
 use Rattle.avro_schema.specs.declared.schema.Schema.{Schema, fold-Schema}
 use Rattle.avro_schema.specs.declared.schema.Field.{Field}
 use Rattle.avro_schema.specs.declared.schema.Schema.TheOpen.{Schema-F, Field-F}
-use Rattle.avro_schema.specs.Tree.{Tree, null, boolean, int, long, float, double, symbols, octets, string, fixed, structure, array, union, Fields, no_fields, field, Branches, no_branches, branch}
+use Rattle.avro_schema.specs.Tree.{Tree, null, boolean, int, long, float, double, symbols, octets, string, fixed}
+use Rattle.avro_schema.specs.Tree.{structure, array, union, Fields, no_fields, field, Branches, no_branches, branch}
 use Rattle.avro_schema.specs.Tree as tree_of
 
 -- a field's id and tree

@@ -3,7 +3,9 @@
 ghost use Rattle.std.specs.Prelude.{◌≡◌, codes, option_map, Option};
 ghost use Rattle.serde_json.specs.View.{view, items_view};
 ghost use Rattle.avro_schema.specs.View.{tree};
-ghost use Rattle.avro_schema.specs.Attributes.{text_in, name_in, is_object, is_text, all_items, items_in, symbols_in, number_in, id_of, id_in, array_kind, bytes_kind, size_of, size_in, plain, kind_of};
+ghost use Rattle.avro_schema.specs.Attributes.{text_in, name_in, is_object, is_text, all_items, items_in, symbols_in};
+ghost use Rattle.avro_schema.specs.Attributes.{number_in, id_of, id_in, array_kind, bytes_kind, size_of, size_in};
+ghost use Rattle.avro_schema.specs.Attributes.{plain, kind_of};
 
 use crate::schema::{ArrayKind, BytesKind, Schema};
 use serde_json::Value;

@@ -4,7 +4,8 @@
 ghost use Rattle.std.specs.Prelude.{◌≡◌, ◌≢◌, ◌≤◌, ℕ, ℤ, List, [], Ok, Err, Some, Option, MatchResult};
 ghost use Rattle.serde_json.specs.Data.{Data};
 ghost use Rattle.avro_schema.specs.declared.fault.SchemaFault.{SchemaFault};
-ghost use Rattle.avro_schema.specs.declared.fault.SchemaFault.TheVariants.{Recursive, UnknownName, NameTwice, FieldTwice, Memory};
+ghost use Rattle.avro_schema.specs.declared.fault.SchemaFault.TheVariants.{Recursive, UnknownName, NameTwice};
+ghost use Rattle.avro_schema.specs.declared.fault.SchemaFault.TheVariants.{FieldTwice, Memory};
 ghost use Rattle.avro_schema.specs.declared.reading.Role.{Role};
 ghost use Rattle.avro_schema.specs.Tree.{Tree};
 ghost use Rattle.avro_schema.specs.Size.{nodes as node_count, depth as level_count};
@@ -104,8 +105,8 @@ pub fn id_twice_is_refused()
         → json_of text ≡ Ok d → schema_of text ≡ Err (FieldTwice id) → HasIdTwice id [] d }
 {}
 
-/// The fault of a refused schema is the first: it stands at a place before which each name that is used was defined, none is
-/// defined twice, and no record has an id twice. A fault of names or ids is that of the type at the place.
+/// The fault of a refused schema is the first: it stands at a place before which each name that is used was defined,
+/// none is defined twice, and no record has an id twice. A fault of names or ids is that of the type at the place.
 pub fn fault_is_the_first()
     ensures { (text : List ℕ) (d : Data) (e : SchemaFault)
         → json_of text ≡ Ok d → schema_of text ≡ Err e → HasFirst d e }

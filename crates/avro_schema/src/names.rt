@@ -126,8 +126,8 @@ pub fn set<'a>(
     schema: Option<Schema>,
     seen: Seen<'a>,
 ) -> Result<Seen<'a>, SchemaFault>
-    ensures { Gives SchemaFault.Memory met result
-        (Ok (record (met seen.entry) { names = put (joined name.entry) (option_map tree schema) (met seen.entry).names })) }
+    ensures { Gives SchemaFault.Memory met result (Ok
+        (record (met seen.entry) { names = put (joined name.entry) (option_map tree schema) (met seen.entry).names })) }
 {
     let Seen { mut names, left } = seen;
     drop(names.insert(name, schema)?);
@@ -141,7 +141,8 @@ pub fn define<'a>(
     schema: Option<Schema>,
     seen: Seen<'a>,
 ) -> Result<Seen<'a>, SchemaFault>
-    ensures { Gives SchemaFault.Memory met result (defined (joined name.entry) (option_map tree schema) (met seen.entry)) }
+    ensures { Gives SchemaFault.Memory met result
+        (defined (joined name.entry) (option_map tree schema) (met seen.entry)) }
 {
     let Seen { mut names, left } = seen;
     match names.insert(name, schema)? {

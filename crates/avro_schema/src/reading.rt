@@ -7,7 +7,9 @@ ghost use Rattle.avro_schema.specs.Joined.{joined};
 ghost use Rattle.avro_schema.specs.Names.{or_around};
 ghost use Rattle.contract_words.specs.Outcome.{Gives};
 ghost use Rattle.avro_schema.specs.View.{tree, trees, parts};
-ghost use Rattle.avro_schema.specs.Reading.{fresh, defines, branches_at, field_at, fields_at, record_at, array_at, map_at, enum_at, fixed_at, object_at, text_at as tree_of_word, union_at, node_at, tree_at};
+ghost use Rattle.avro_schema.specs.Reading.{fresh, defines, branches_at, field_at, fields_at, record_at, array_at};
+ghost use Rattle.avro_schema.specs.Reading.{map_at, enum_at, fixed_at, object_at, text_at as tree_of_word, union_at};
+ghost use Rattle.avro_schema.specs.Reading.{node_at, tree_at};
 ghost use Rattle.avro_schema.specs.Met.{met, Reads};
 ghost use Rattle.avro_schema.specs.declared.reading.Role.TheVariants.{Branch, Elsewhere};
 

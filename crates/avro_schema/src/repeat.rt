@@ -1,7 +1,8 @@
 //! What it takes to let a tree stand once more: its nodes, its levels, and a share in it.
 
 ghost use Rattle.std.specs.Prelude.{◌≡◌, nat_lt, IfOk};
-ghost use Rattle.avro_schema.specs.Size.{left_after, below, nodes, in_fields, in_branches, height, depth, deepest_field, deepest_branch};
+ghost use Rattle.avro_schema.specs.Size.{left_after, below, nodes, in_fields, in_branches, height, depth};
+ghost use Rattle.avro_schema.specs.Size.{deepest_field, deepest_branch};
 ghost use Rattle.avro_schema.specs.View.{tree, trees, parts, fields_of, branches_of};
 
 use crate::schema::{Field, Schema};

@@ -1,6 +1,7 @@
 -- What a commit adds: its manifests and its list, and the metadata that names them (Apache Iceberg table spec v2,
 -- "Snapshots", "Manifests" and "Manifest Lists"; the names of the files are those that writers use).
-use Rattle.std.specs.Prelude.{◌≡◌, ◌+◌, true, is_some, ℕ, suc, ℤ, pos, List, [], ◌∷◌, ◌++◌, length, map, codes, Option, None, Some}
+use Rattle.std.specs.Prelude.{◌≡◌, ◌+◌, true, is_some, ℕ, suc, ℤ, pos, List, [], ◌∷◌, ◌++◌, length, map, codes, Option}
+use Rattle.std.specs.Prelude.{None, Some}
 use Rattle.std.specs.Fmt.{decimal, signed_decimal}
 use Rattle.uuid.specs.Text.{hyphenated_text, lower}
 use Rattle.contract_words.specs.Sorting.{sorted}
@@ -114,14 +115,16 @@ next_sequence t = suc t.last_sequence_number
 
 -- the row of a new manifest, with its exact length, counts and summaries
 abbrev pub row_of : ℕ → NewManifest → Row
-row_of sequence manifest = new_row manifest.heading manifest.path (pos (length (bytes_of manifest))) sequence manifest.files
+row_of sequence manifest =
+    new_row manifest.heading manifest.path (pos (length (bytes_of manifest))) sequence manifest.files
 
 -- the rows of the base and the new ones, in the order of their paths
 abbrev pub next_rows : List Row → ℕ → List NewManifest → List Row
 next_rows rows sequence manifests = sorted path_before (rows ++ map (row_of sequence) manifests)
 
 abbrev pub list_file : List Row → Described → Ids → List NewManifest → List ℕ × List ℕ
-list_file rows m ids manifests = (list_path m.table ids, list_bytes (next_rows rows (next_sequence m.table) manifests) ids.uuid)
+list_file rows m ids manifests =
+    (list_path m.table ids, list_bytes (next_rows rows (next_sequence m.table) manifests) ids.uuid)
 
 -- the new manifests and then the new list, where the base has these rows
 abbrev pub files_of : List Row → Described → Ids → List NewManifest → Added

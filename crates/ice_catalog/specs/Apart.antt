@@ -62,7 +62,8 @@ replies_of_pin k (e ∷ es) (r ∷ rs) = cond (is_of k e) (r ∷ replies_of_pin 
 -- ---- what a pinned scan reads
 
 -- a version's current snapshot has these rows, and its current schema makes these parts of the filter
-pub record Reads (state : State) (filter : List (Part Leaf)) (schema : Schema) (rows : List Row) (parts : List (Part BoundLeaf)) : Type 0 where
+pub record Reads (state : State) (filter : List (Part Leaf)) (schema : Schema) (rows : List Row)
+    (parts : List (Part BoundLeaf)) : Type 0 where
   pub listed : rows_in state ≡ Ok rows
   pub current : schema_for Main state.metadata.table ≡ Some schema
   pub bound : bound_parts schema filter ≡ Ok parts
@@ -83,7 +84,8 @@ plan_reply state schema rows parts =
 
 -- the worker of the pin k took every wanted row
 abbrev pub TookEvery : Machine → ℕ → ℕ → Type 0
-TookEvery m k w = (p : PinnedScan) × (slice_get m.pins k ≡ Some (Some p)) × (slice_get p.workers w ≡ Some (every_row p.scan))
+TookEvery m k w = (p : PinnedScan) × (slice_get m.pins k ≡ Some (Some p))
+    × (slice_get p.workers w ≡ Some (every_row p.scan))
 
 -- ---- what is told of pinned scans
 

@@ -51,7 +51,8 @@ current_rows world t = rows_at world (current_list t)
 
 -- the live entries of a row's manifest; nothing where it can't be read or its spec is unknown
 abbrev pub manifest_at : World → List Spec → Row → Option (List Entry)
-manifest_at world specs row = option_and_then (λ spec. read_at world (entries_of row spec) row.path) (spec_in specs row.spec_id)
+manifest_at world specs row =
+    option_and_then (λ spec. read_at world (entries_of row spec) row.path) (spec_in specs row.spec_id)
 
 abbrev pub live_at : World → List Spec → Row → List Entry
 live_at world specs row = unwrap_or (manifest_at world specs row) []

@@ -1,7 +1,8 @@
--- The machine of scans and commits: what it replies to each event, and what it is after it. A scan reads the version that
--- was the newest when it was pinned, whatever is committed meanwhile (Apache Iceberg table spec, version 2, "Optimistic
--- Concurrency").
-use Rattle.std.specs.Prelude.{◌==◌, ℕ, Bool, cond, List, [], ◌∷◌, ◌++◌, length, replicate, slice_get, slice_set, Result, Ok, Err, Option, Some, None}
+-- The machine of scans and commits: what it replies to each event, and what it is after it. A scan reads the version
+-- that was the newest when it was pinned, whatever is committed meanwhile (Apache Iceberg table spec, version 2,
+-- "Optimistic Concurrency").
+use Rattle.std.specs.Prelude.{◌==◌, ℕ, Bool, cond, List, [], ◌∷◌, ◌++◌, length, replicate, slice_get, slice_set, Result}
+use Rattle.std.specs.Prelude.{Ok, Err, Option, Some, None}
 use Rattle.std.specs.FinMap.{get}
 use Rattle.std.specs.Option.{option_map, option_and_then, unwrap_or}
 use Rattle.std.specs.Result.{result_ok}
@@ -41,8 +42,8 @@ world_in (Some state) = get state.world
 abbrev pub world_of : History → World
 world_of h = world_in (state_of h)
 
--- the scan of a version under a filter: nothing where there is no current snapshot, where its list is absent or refused,
--- or where binding the filter or the scan is refused
+-- the scan of a version under a filter: nothing where there is no current snapshot, where its list is absent or
+-- refused, or where binding the filter or the scan is refused
 abbrev pub scan_of : History → List (Part Leaf) → Option Scanned
 scan_of h filter = option_and_then (λ state. result_ok (scan_in state filter)) (state_of h)
 
@@ -116,7 +117,8 @@ abbrev pub receipt_of : Step → Receipt
 receipt_of s = record {
   number = length (after s.base s.commit).journal;
   snapshot = s.commit.ids.snapshot;
-  sequence = unwrap_or (option_map (λ state. state.metadata.table.last_sequence_number) (state_of (after s.base s.commit))) 0;
+  sequence =
+      unwrap_or (option_map (λ state. state.metadata.table.last_sequence_number) (state_of (after s.base s.commit))) 0;
 }
 
 abbrev pub committed : Machine → Commit → Result Step PrepareFault → Reply × Machine
@@ -124,7 +126,8 @@ committed m c (Ok s) = (reply.Committed (receipt_of s), record { history = after
 committed m c (Err fault) = (reply.NotPrepared fault, m)
 
 abbrev pub commit : Machine → ℕ → Commit → Reply × Machine
-commit m base c = cond (base == length m.history.journal) (committed m c (prepared_on m.history c)) (reply.Conflict (length m.history.journal), m)
+commit m base c = cond (base == length m.history.journal) (committed m c (prepared_on m.history c))
+    (reply.Conflict (length m.history.journal), m)
 
 -- a step of a scan, where there is one
 abbrev pub in_scan : (PinnedScan → Reply × PinnedScan) → Option PinnedScan → Reply × Option PinnedScan
@@ -134,7 +137,8 @@ in_scan f (Some p) = ((f p).0, Some (f p).1)
 -- a step of the pin k, where it was made
 abbrev pub at_pin : Machine → ℕ → (PinnedScan → Reply × PinnedScan) → Option (Option PinnedScan) → Reply × Machine
 at_pin m k f None = (reply.NoSuch, m)
-at_pin m k f (Some scan) = ((in_scan f scan).0, record { history = m.history; pins = slice_set m.pins k (in_scan f scan).1 })
+at_pin m k f (Some scan) =
+    ((in_scan f scan).0, record { history = m.history; pins = slice_set m.pins k (in_scan f scan).1 })
 
 -- finishing leaves the pin as it is
 abbrev pub finish_in : Option PinnedScan → ℕ → Reply

@@ -8,9 +8,11 @@ use Rattle.ice_catalog.specs.Histories.{History}
 use Rattle.ice_catalog.specs.Machines.{Machine, PinnedScan}
 
 abbrev pub pinned_code : Coded PinnedScan
-pinned_code = code_by (History × (Scanned × List (List Bool))) (coded× history_code (coded× the_code (coded_list (coded_list coded_bool))))
+pinned_code = code_by (History × (Scanned × List (List Bool)))
+    (coded× history_code (coded× the_code (coded_list (coded_list coded_bool))))
     (λ p. (p.history, (p.scan, p.workers))) (λ q. record { history = q.0; scan = q.1.0; workers = q.1.1 }) (λ _. refl)
 
 abbrev pub machine_code : Coded Machine
-machine_code = code_by (History × List (Option PinnedScan)) (coded× history_code (coded_list (coded_option pinned_code)))
+machine_code =
+    code_by (History × List (Option PinnedScan)) (coded× history_code (coded_list (coded_option pinned_code)))
     (λ m. (m.history, m.pins)) (λ q. record { history = q.0; pins = q.1 }) (λ _. refl)

@@ -1,5 +1,5 @@
--- What a scan that is pinned to a version reads: Apache Iceberg table spec, version 2, "Snapshots", "Manifest Lists" and
--- "Scan Planning".
+-- What a scan that is pinned to a version reads: Apache Iceberg table spec, version 2, "Snapshots", "Manifest Lists"
+-- and "Scan Planning".
 use Rattle.std.specs.Prelude.{List, Option, Some, None, Result, Ok, Err}
 use Rattle.std.specs.FinMap.{get}
 use Rattle.contract_words.specs.Outcome.{◌>>=◌}

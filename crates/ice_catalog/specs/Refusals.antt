@@ -1,6 +1,8 @@
 -- Why a commit is refused. Each definition is one reason; of several that stand the first in the order of `refusal` is
 -- told, with the least of its paths or ids.
-use Rattle.std.specs.Prelude.{ℕ, ℤ, pos, negsuc, Bool, true, false, not, ◌&&◌, ◌||◌, ◌+◌, ◌++◌, List, [], ◌∷◌, length, map, filter, find, fold, nat_lt, nat_le, Option, None, Some, option_map, is_some, is_none, if◌then◌else◌}
+use Rattle.std.specs.Prelude.{ℕ, ℤ, pos, negsuc, Bool, true, false, not, ◌&&◌, ◌||◌, ◌+◌, ◌++◌, List, [], ◌∷◌, length}
+use Rattle.std.specs.Prelude.{map, filter, find, fold, nat_lt, nat_le, Option, None, Some, option_map, is_some, is_none}
+use Rattle.std.specs.Prelude.{if◌then◌else◌}
 use Rattle.std.specs.List.{list_any}
 use Rattle.std.specs.Ordering.{nat_cmp, int_cmp, int_eq, is_lt}
 use Rattle.std.specs.Cmp.Lexicographic.{slice_cmp}
@@ -23,7 +25,8 @@ use Rattle.ice_catalog.specs.declared.change.Commit.{Commit}
 use Rattle.ice_catalog.specs.declared.fault.PrepareFault.{PrepareFault}
 use Rattle.ice_catalog.specs.declared.fault.PrepareFault.TheVariants as fault
 use Rattle.ice_catalog.specs.declared.world.World.{World}
-use Rattle.ice_catalog.specs.Bases.{table_specs, spec_in, current_list, current_rows, manifest_at, base_rows, live_entries}
+use Rattle.ice_catalog.specs.Bases.{table_specs, spec_in, current_list, current_rows, manifest_at, base_rows}
+use Rattle.ice_catalog.specs.Bases.{live_entries}
 use Rattle.ice_catalog.specs.Groups.{groups}
 use Rattle.ice_catalog.specs.States.{State}
 use Rattle.ice_catalog.specs.Tuples.{fits_spec}
@@ -129,7 +132,8 @@ is_bad content file = not (is_good content file)
 
 -- A number, a path or the content of a file is outside its range.
 abbrev pub bad_file : Change → Option PrepareFault
-bad_file c = option_map fault.BadFile (least_path (paths_where (is_bad Data) c.files ++ paths_where (is_bad Deletes) c.deletes))
+bad_file c =
+    option_map fault.BadFile (least_path (paths_where (is_bad Data) c.files ++ paths_where (is_bad Deletes) c.deletes))
 
 -- ---- the files by the table's partition specs
 
@@ -159,7 +163,8 @@ bad_path list live (Some rows) = unreadable live rows
 
 -- The list of the current snapshot, else one of its manifests, is absent or refused, or of an unknown spec.
 abbrev pub base_bad : World → Table → Option PrepareFault
-base_bad world t = option_map fault.BaseBad (bad_path (current_list t) (manifest_at world (table_specs t)) (current_rows world t))
+base_bad world t =
+    option_map fault.BaseBad (bad_path (current_list t) (manifest_at world (table_specs t)) (current_rows world t))
 
 abbrev pub is_among : List (List ℕ) → List ℕ → Bool
 is_among paths path = list_any (bytes_eq path) paths

@@ -19,8 +19,8 @@ abbrev pub allowed_of_type : Option ColumnType → Allowed
 allowed_of_type None = Nothing
 allowed_of_type (Some t) = if is_partition_type t then Value t else Nothing
 
--- What the cells of a field may be: null alone for void, else null or a value of the result type. Where there is no such
--- type, or manifests can't have its values, there are no cells.
+-- What the cells of a field may be: null alone for void, else null or a value of the result type. Where there is no
+-- such type, or manifests can't have its values, there are no cells.
 abbrev pub allowed_of : PartitionField → Allowed
 allowed_of field = if is_void field then Null else allowed_of_type (type_of_values (field_of field))
 

@@ -1,6 +1,7 @@
 //! What a commit is made on: the rows of the current snapshot, and which paths are live in it.
 
-ghost use Rattle.std.specs.Prelude.{◌≡◌, ◌≢◌, IfOk, IfErr, MatchResult, None, Some, fold, find, map, option_map, is_none, if◌then◌else◌};
+ghost use Rattle.std.specs.Prelude.{◌≡◌, ◌≢◌, IfOk, IfErr, MatchResult, None, Some, fold, find, map, option_map};
+ghost use Rattle.std.specs.Prelude.{is_none, if◌then◌else◌};
 ghost use Rattle.std.specs.Option.{option_copied, option_or};
 ghost use Rattle.std.specs.Ordering.{nat_cmp};
 ghost use Rattle.std.specs.Cmp.Lexicographic.{slice_cmp};
@@ -8,7 +9,8 @@ ghost use Rattle.ice_catalog.specs.declared.fault.PrepareFault.TheVariants as fa
 ghost use Rattle.ice_catalog.specs.Bases.{table_specs, current_list, rows_at, base_rows, manifest_at, live_in};
 ghost use Rattle.ice_catalog.specs.Outcome.{Refuses};
 ghost use Rattle.ice_catalog.specs.Partitionings.{specs_of};
-ghost use Rattle.ice_catalog.specs.Refusals.{AreSorted, is_among, lesser_path, least_path, live_among, unreadable, base_bad, path_taken};
+ghost use Rattle.ice_catalog.specs.Refusals.{AreSorted, is_among, lesser_path, least_path, live_among, unreadable};
+ghost use Rattle.ice_catalog.specs.Refusals.{base_bad, path_taken};
 
 use crate::fault::PrepareFault;
 use crate::partitioning::Partitioning;
@@ -23,7 +25,8 @@ use std::cmp::Ordering;
 
 /// The path of the current snapshot's manifest list.
 fn current_list(metadata: &Metadata) -> Result<Option<&Text>, PrepareFault>
-    ensures { MatchResult result (λ list. option_copied list ≡ current_list metadata.now.table) (λ f. f ≡ fault.Memory) }
+    ensures { MatchResult result (λ list. option_copied list ≡ current_list metadata.now.table)
+        (λ f. f ≡ fault.Memory) }
 {
     match metadata.manifest_list(&Target::Main) {
         Ok(list) => Ok(Some(list)),
@@ -45,7 +48,8 @@ fn base_bad(alloc: Global, path: &Text) -> PrepareFault
 /// The rows of a list, none without a list.
 fn rows_at(alloc: Global, world: &World, list: Option<&Text>) -> Result<Vec<Row>, PrepareFault>
     ensures rows { IfOk result (λ rows. rows_at world.now (option_copied list.entry) ≡ Some rows.items) }
-    ensures bad { IfErr result (λ f. f ≢ fault.Memory → (rows_at world.now (option_copied list.entry) ≡ None) × (option_map fault.BaseBad (option_copied list.entry) ≡ Some f)) }
+    ensures bad { IfErr result (λ f. f ≢ fault.Memory → (rows_at world.now (option_copied list.entry) ≡ None)
+        × (option_map fault.BaseBad (option_copied list.entry) ≡ Some f)) }
 {
     let Some(path) = list else {
         return Ok(Vec::new(alloc));
@@ -67,8 +71,10 @@ fn manifest_at(
     partitionings: &[Partitioning],
     row: &Row,
 ) -> Result<Vec<Entry>, PrepareFault>
-    ensures live { IfOk result (λ found. manifest_at world.now (specs_of partitionings.now) row.now ≡ Some found.items) }
-    ensures bad { IfErr result (λ f. f ≢ fault.Memory → (manifest_at world.now (specs_of partitionings.now) row.now ≡ None) × (f ≡ fault.BaseBad row.now.path)) }
+    ensures live { IfOk result (λ found. manifest_at world.now (specs_of partitionings.now) row.now
+        ≡ Some found.items) }
+    ensures bad { IfErr result (λ f. f ≢ fault.Memory →
+        (manifest_at world.now (specs_of partitionings.now) row.now ≡ None) × (f ≡ fault.BaseBad row.now.path)) }
 {
     let Some(partitioning) = partitioning_of(partitionings, row.spec_id) else {
         return Err(base_bad(alloc, &row.path));
@@ -106,7 +112,8 @@ fn least_live<'a>(
     found: &[Entry],
 ) -> Option<&'a Text>
     requires { AreSorted paths.now }
-    ensures { option_copied result ≡ fold lesser_path (option_copied least.entry) (live_among (map (λ p. p.now) paths.now) found.now) }
+    ensures { option_copied result
+        ≡ fold lesser_path (option_copied least.entry) (live_among (map (λ p. p.now) paths.now) found.now) }
 {
     'found: for entry in found {
         if let Some(path) = find_path(paths, entry.file.path.as_slice()) {
@@ -125,8 +132,10 @@ fn least_taken<'a>(
     paths: &[&'a Text],
 ) -> Result<Option<&'a Text>, PrepareFault>
     requires { AreSorted paths.now }
-    ensures bad { Refuses result (option_map fault.BaseBad (unreadable (manifest_at world.now (specs_of partitionings.now)) rows.now)) }
-    ensures taken { IfOk result (λ least. option_copied least ≡ least_path (live_among (map (λ p. p.now) paths.now) (live_in world.now (specs_of partitionings.now) rows.now))) }
+    ensures bad { Refuses result
+        (option_map fault.BaseBad (unreadable (manifest_at world.now (specs_of partitionings.now)) rows.now)) }
+    ensures taken { IfOk result (λ least. option_copied least ≡ least_path
+        (live_among (map (λ p. p.now) paths.now) (live_in world.now (specs_of partitionings.now) rows.now))) }
 {
     let mut least = None;
     'rows: for row in rows {
@@ -136,8 +145,8 @@ fn least_taken<'a>(
     Ok(least)
 }
 
-/// The rows of the current snapshot. It stops where the list or a manifest can't be read, and then where one of the sorted
-/// paths is live.
+/// The rows of the current snapshot. It stops where the list or a manifest can't be read, and then where one of the
+/// sorted paths is live.
 pub fn base_rows(
     alloc: Global,
     metadata: &Metadata,
@@ -147,7 +156,8 @@ pub fn base_rows(
 ) -> Result<Vec<Row>, PrepareFault>
     requires sorted { AreSorted paths.now }
     requires specs { specs_of partitionings.now ≡ table_specs metadata.now.table }
-    ensures refuses { Refuses result (option_or (base_bad world.now metadata.now.table) (path_taken world.now metadata.now.table (map (λ p. p.now) paths.now))) }
+    ensures refuses { Refuses result (option_or (base_bad world.now metadata.now.table)
+        (path_taken world.now metadata.now.table (map (λ p. p.now) paths.now))) }
     ensures rows { IfOk result (λ rows. rows.items ≡ base_rows world.now metadata.now.table) }
 {
     let list = current_list(metadata)?;

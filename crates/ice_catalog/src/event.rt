@@ -44,8 +44,8 @@ pub enum Event {
 pub enum Reply {
     /// The scan has begun; it has this number.
     Pinned(usize),
-    /// There is nothing to scan: no current snapshot, no manifest list that can be read, a filter that can't be asked of
-    /// the current schema, or a row whose spec is missing. The number stands for no scan.
+    /// There is nothing to scan: no current snapshot, no manifest list that can be read, a filter that can't be asked
+    /// of the current schema, or a row whose spec is missing. The number stands for no scan.
     Unpinned(usize),
     /// The newest version has this number, and not the commit's base.
     Conflict(u64),

@@ -78,7 +78,8 @@ impl Machine {
 
     /// A commit is made on the version of this number.
     fn commit(&mut self, base: u64, change: &Change, ids: Ids) -> Result<Reply, AllocError>
-        ensures { IfOk result (λ reply. (reply, self.new) ≡ commit self.old base (record { change = change.now; ids = ids })) }
+        ensures { IfOk result (λ reply. (reply, self.new)
+            ≡ commit self.old base (record { change = change.now; ids = ids })) }
     {
         let number = self.book.current().number();
         if base != number {

@@ -1,7 +1,8 @@
 //! Laws of the machine of scans and commits, for every list of events. Their functions do nothing.
 
 ghost use Rattle.std.specs.Prelude.{◌≡◌, ℕ, List, Option, Some, length, slice_get};
-ghost use Rattle.ice_catalog.specs.Apart.{Reads, TellsTheTruth, TookEvery, pin_after, pin_replies, plan_reply, replies_of_pin};
+ghost use Rattle.ice_catalog.specs.Apart.{Reads, TellsTheTruth, TookEvery, pin_after, pin_replies, plan_reply};
+ghost use Rattle.ice_catalog.specs.Apart.{replies_of_pin};
 ghost use Rattle.ice_catalog.specs.Covered.{BeganCovered};
 ghost use Rattle.ice_catalog.specs.Histories.{state_of};
 ghost use Rattle.ice_catalog.specs.Live.{IsGrown};
@@ -17,25 +18,29 @@ ghost use Rattle.ice_meta.specs.declared.schema.Schema.{Schema};
 
 use ice_state::laws::filtering;
 
-/// What a pin replies follows from the version that was the newest at its `Pin` event, from that event's filter, and from
-/// its own steps, whatever is pinned, committed and done by others in between.
+/// What a pin replies follows from the version that was the newest at its `Pin` event, from that event's filter, and
+/// from its own steps, whatever is pinned, committed and done by others in between.
 pub fn pins_stand_apart()
     ensures replies { (m : Machine) (filter : List (Part Leaf)) (events : List Event) →
-        replies_of_pin (length m.pins) events (replies_to (pin m filter).1 events) ≡ pin_replies (length m.pins) (pinned_on m.history filter) events }
+        replies_of_pin (length m.pins) events (replies_to (pin m filter).1 events)
+        ≡ pin_replies (length m.pins) (pinned_on m.history filter) events }
     ensures after { (m : Machine) (filter : List (Part Leaf)) (events : List Event) →
-        slice_get (machine_after (pin m filter).1 events).pins (length m.pins) ≡ Some (pin_after (length m.pins) (pinned_on m.history filter) events) }
+        slice_get (machine_after (pin m filter).1 events).pins (length m.pins)
+        ≡ Some (pin_after (length m.pins) (pinned_on m.history filter) events) }
     ensures midway { (m : Machine) (k : ℕ) (s : Option PinnedScan) (events : List Event) → slice_get m.pins k ≡ Some s →
         replies_of_pin k events (replies_to m events) ≡ pin_replies k s events }
 {}
 
 /// A worker that took every wanted row, by itself or from others, finishes with the plan of the snapshot that was the
-/// current one when its scan was pinned, over all its rows, or with that plan's fault: whatever was committed in between,
-/// and where the summaries of the snapshot's rows tell the truth.
+/// current one when its scan was pinned, over all its rows, or with that plan's fault: whatever was committed in
+/// between, and where the summaries of the snapshot's rows tell the truth.
 pub fn pinned_plans()
-    ensures { (m : Machine) (state : State) (filter : List (Part Leaf)) (schema : Schema) (rows : List Row) (parts : List (Part BoundLeaf)) (events : List Event) (w : ℕ) →
+    ensures { (m : Machine) (state : State) (filter : List (Part Leaf)) (schema : Schema) (rows : List Row)
+        (parts : List (Part BoundLeaf)) (events : List Event) (w : ℕ) →
         state_of m.history ≡ Some state → Reads state filter schema rows parts → TellsTheTruth state schema rows →
         TookEvery (machine_after (pin m filter).1 events) (length m.pins) w →
-        (event (machine_after (pin m filter).1 events) (Finish (length m.pins) w)).0 ≡ plan_reply state schema rows parts }
+        (event (machine_after (pin m filter).1 events) (Finish (length m.pins) w)).0
+        ≡ plan_reply state schema rows parts }
 {
     filtering();
 }

@@ -3,7 +3,9 @@
 ghost use Rattle.std.specs.Prelude.{◌≡◌, ◌+◌, ◌++◌, length, fold, map, OnOk, IfOk};
 ghost use Rattle.std.specs.Option.{option_copied};
 ghost use Rattle.ice_catalog.specs.Outcome.{Refuses};
-ghost use Rattle.ice_catalog.specs.Refusals.{AreSorted, empty, snapshot_taken, sequence_end, first_twice, path_before, path_of, all_files, sorted_paths, path_twice, is_count, is_for, are_ids, is_good, is_bad, lesser_path, paths_where, bad_file, too_many};
+ghost use Rattle.ice_catalog.specs.Refusals.{AreSorted, empty, snapshot_taken, sequence_end, first_twice, path_before};
+ghost use Rattle.ice_catalog.specs.Refusals.{path_of, all_files, sorted_paths, path_twice, is_count, is_for, are_ids};
+ghost use Rattle.ice_catalog.specs.Refusals.{is_good, is_bad, lesser_path, paths_where, bad_file, too_many};
 ghost use Rattle.contract_words.specs.Sorting.{sorted};
 
 use crate::change::{Change, Ids};
@@ -58,7 +60,8 @@ pub fn check_sequence(metadata: &Metadata) -> Result<(), PrepareFault>
 
 /// Puts the files' paths last.
 fn push_paths<'a>(paths: &mut Vec<&'a Text>, files: &'a [NewFile]) -> Result<(), AllocError>
-    ensures { OnOk result (map (λ path. path.now) paths.new.items ≡ map (λ path. path.now) paths.old.items ++ map path_of files.now) }
+    ensures { OnOk result (map (λ path. path.now) paths.new.items ≡ map (λ path. path.now) paths.old.items
+        ++ map path_of files.now) }
 {
     'files: for file in files {
         paths.push(&file.path)?;
@@ -68,7 +71,8 @@ fn push_paths<'a>(paths: &mut Vec<&'a Text>, files: &'a [NewFile]) -> Result<(),
 
 /// Puts paths in the order of their bytes.
 fn sort_paths(paths: &mut Vec<&Text>) -> Result<(), AllocError>
-    ensures sorted { OnOk result (map (λ path. path.now) paths.new.items ≡ sorted path_before (map (λ path. path.now) paths.old.items)) }
+    ensures sorted { OnOk result (map (λ path. path.now) paths.new.items
+        ≡ sorted path_before (map (λ path. path.now) paths.old.items)) }
     ensures order { OnOk result (AreSorted paths.new.items) }
 {
     paths.sort_by(|a, b| a.as_bytes().cmp(b.as_bytes()))?;
@@ -172,7 +176,8 @@ fn least_bad<'a>(
     content: ManifestContent,
     files: &'a [NewFile],
 ) -> Option<&'a Text>
-    ensures { option_copied result ≡ fold lesser_path (option_copied least.entry) (paths_where (is_bad content) files.now) }
+    ensures { option_copied result
+        ≡ fold lesser_path (option_copied least.entry) (paths_where (is_bad content) files.now) }
 {
     'files: for file in files {
         if !is_good(content, file) {

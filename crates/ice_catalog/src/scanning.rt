@@ -1,6 +1,7 @@
 //! A scan of a pinned version by its workers.
 
-ghost use Rattle.std.specs.Prelude.{◌≡◌, ◌<◌, List, Bool, Some, None, length, replicate, IfOk, OnOk, slice_get, slice_set, vec_len};
+ghost use Rattle.std.specs.Prelude.{◌≡◌, ◌<◌, List, Bool, Some, None, length, replicate, IfOk, OnOk, slice_get};
+ghost use Rattle.std.specs.Prelude.{slice_set, vec_len};
 ghost use Rattle.std.specs.Arc.{arc_value};
 ghost use Rattle.ice_catalog.specs.Machines.{take, merge, finish, finished, pinned_on, world_of};
 ghost use Rattle.ice_catalog.specs.Taken.{AreStatesOf, AreTaken, IsStateOf, IsTaken, rows_of, set_of, sets_of};
@@ -39,7 +40,8 @@ impl Model for Scanning {
 
     ghost coded = { pinned_code };
 
-    ghost view = { λ s. record { history = arc_value s.version; scan = s.scan; workers = sets_of s.scan s.workers.items } };
+    ghost view = { λ s.
+        record { history = arc_value s.version; scan = s.scan; workers = sets_of s.scan s.workers.items } };
 
     ghost invariant = { λ s. AreTaken (world_of (arc_value s.version)) s.scan s.workers.items };
 }
@@ -126,8 +128,10 @@ fn take_row(
 ) -> Result<Reply, AllocError>
     requires { AreTaken (world_of version.now) scan.now states.old.items }
     ensures taken { AreTaken (world_of version.now) scan.now states.new.items }
-    ensures reply { IfOk result (λ reply. (reply, record { history = version.now; scan = scan.now; workers = sets_of scan.now states.new.items }) ≡
-        take (record { history = version.now; scan = scan.now; workers = sets_of scan.now states.old.items }) worker i) }
+    ensures reply { IfOk result (λ reply.
+        (reply, record { history = version.now; scan = scan.now; workers = sets_of scan.now states.new.items }) ≡
+        take (record { history = version.now; scan = scan.now; workers = sets_of scan.now states.old.items })
+        worker i) }
 {
     if worker >= states.len() {
         return Ok(Reply::NoSuch);
@@ -148,7 +152,8 @@ fn take_row(
 fn state_or_empty(alloc: Global, scan: &Scan, state: Option<Partial>) -> Result<Partial, AllocError>
     requires { IsStateOf scan.now state }
     ensures of_scan { IfOk result (λ same. IsOf scan.now same) }
-    ensures taken { (world : World) → IsTaken world scan.now state → IfOk result (λ same. IsTaken world scan.now (Some same)) }
+    ensures taken { (world : World) → IsTaken world scan.now state →
+        IfOk result (λ same. IsTaken world scan.now (Some same)) }
     ensures set { IfOk result (λ same. rows_of same ≡ set_of scan.now state) }
 {
     match state {
@@ -187,11 +192,13 @@ fn merge_states(
     requires into { into < vec_len states.old }
     requires from { from < vec_len states.old }
     requires states { AreStatesOf scan.now states.old.items }
-    ensures taken { (world : World) → AreTaken world scan.now states.old.items → AreTaken world scan.now states.new.items }
+    ensures taken { (world : World) → AreTaken world scan.now states.old.items →
+        AreTaken world scan.now states.new.items }
     ensures sets { (set other : List Bool) →
         slice_get (sets_of scan.now states.old.items) into ≡ Some set →
         slice_get (sets_of scan.now states.old.items) from ≡ Some other →
-        OnOk result (sets_of scan.now states.new.items ≡ slice_set (sets_of scan.now states.old.items) into (either set other)) }
+        OnOk result (sets_of scan.now states.new.items ≡
+        slice_set (sets_of scan.now states.old.items) into (either set other)) }
 {
     if into == from {
         return Ok(());
@@ -227,7 +234,8 @@ fn joined(
 fn finish_state(alloc: Global, scan: &Scan, state: &Option<Partial>) -> Result<Reply, AllocError>
     requires { IsStateOf scan.now state.now }
     ensures { (world : World) → IsTaken world scan.now state.now →
-        IfOk result (λ reply. reply ≡ finished (outcome scan.now (content world scan.now (set_of scan.now state.now)))) }
+        IfOk result (λ reply. reply ≡
+        finished (outcome scan.now (content world scan.now (set_of scan.now state.now)))) }
 {
     match state {
         Some(state) => reply_of(alloc, scan, state),

@@ -9,7 +9,8 @@ ghost use Rattle.ice_project.specs.Summaries.{type_of_values};
 ghost use Rattle.ice_manifest.specs.Adding.{is_partition_type};
 ghost use Rattle.ice_catalog.specs.Bases.{spec_in};
 ghost use Rattle.ice_catalog.specs.Outcome.{Refuses};
-ghost use Rattle.ice_catalog.specs.Refusals.{lesser_id, lesser_path, spec_id_of, is_unknown, is_wrong, paths_where, no_such_spec, wrong_tuple};
+ghost use Rattle.ice_catalog.specs.Refusals.{lesser_id, lesser_path, spec_id_of, is_unknown, is_wrong, paths_where};
+ghost use Rattle.ice_catalog.specs.Refusals.{no_such_spec, wrong_tuple};
 ghost use Rattle.ice_catalog.specs.Partitionings.{specs_of};
 ghost use Rattle.ice_catalog.specs.Tuples.{allowed_of, allowed_of_type, allows, fit, fits_spec, written_type};
 
@@ -198,7 +199,8 @@ fn least_unknown(
     partitionings: &[Partitioning],
     files: &[NewFile],
 ) -> Option<i32>
-    ensures { result ≡ fold lesser_id least (filter (is_unknown (specs_of partitionings.now)) (map spec_id_of files.now)) }
+    ensures { result
+        ≡ fold lesser_id least (filter (is_unknown (specs_of partitionings.now)) (map spec_id_of files.now)) }
 {
     'files: for file in files {
         if partitioning_of(partitionings, file.spec_id).is_none() {
@@ -225,7 +227,8 @@ fn least_wrong<'a>(
     partitionings: &[Partitioning],
     files: &'a [NewFile],
 ) -> Option<&'a Text>
-    ensures { option_copied result ≡ fold lesser_path (option_copied least.entry) (paths_where (is_wrong (specs_of partitionings.now)) files.now) }
+    ensures { option_copied result
+        ≡ fold lesser_path (option_copied least.entry) (paths_where (is_wrong (specs_of partitionings.now)) files.now) }
 {
     'files: for file in files {
         if !fits_spec(partitionings, file) {

@@ -34,11 +34,14 @@ IsFresh seat = hand_of seat ≡ one_seat
 abbrev pub Drew : Seat → Seat → ℕ → Type 0
 Drew old new t = (hand_of new ≡ drawing (hand_of old) t) × (length (hand_of old).drawn ≤ t) × (t + 1 < 2 ^ 32)
 
--- what a claim does: it draws a ticket and gives its manifest; or it draws none, or what is no ticket, and from then on no more
+-- what a claim does: it draws a ticket and gives its manifest; or it draws none, or what is no ticket, and from then on
+-- no more
 abbrev pub Claims : Desk → Seat → Seat → Claim → Type 0
-Claims desk old new (Index i) = (had_done desk old ≡ false) × ((t : ℕ) × Drew old new t × (t < limit_of desk) × (i ≡ t % desk.manifests))
+Claims desk old new (Index i) = (had_done desk old ≡ false)
+    × ((t : ℕ) × Drew old new t × (t < limit_of desk) × (i ≡ t % desk.manifests))
 Claims desk old new Done = IsTrue (had_done desk new)
-    × ((IsTrue (had_done desk old) × (hand_of new ≡ hand_of old)) ⊎ ((had_done desk old ≡ false) × ((t : ℕ) × Drew old new t × (limit_of desk ≤ t))))
+    × ((IsTrue (had_done desk old) × (hand_of new ≡ hand_of old))
+    ⊎ ((had_done desk old ≡ false) × ((t : ℕ) × Drew old new t × (limit_of desk ≤ t))))
 
 -- how often the number was drawn from these seats
 abbrev pub drawn_in : List Seat → ℕ → ℕ

@@ -1,5 +1,6 @@
 -- What one worker does: it draws tickets, and reads and takes their manifests.
-use Rattle.std.specs.Prelude.{◌≡◌, ◌⊎◌, ℕ, zero, suc, ◌%◌, ◌<◌, ◌≤◌, Bool, ◌&&◌, not, cond, nat_lt, IsTrue, List, [], ◌∷◌, ◌++◌, Option, Some, None, length}
+use Rattle.std.specs.Prelude.{◌≡◌, ◌⊎◌, ℕ, zero, suc, ◌%◌, ◌<◌, ◌≤◌, Bool, ◌&&◌, not, cond, nat_lt, IsTrue, List, []}
+use Rattle.std.specs.Prelude.{◌∷◌, ◌++◌, Option, Some, None, length}
 use Rattle.std.specs.List.{sum_by}
 use Rattle.ice_manifest.specs.declared.row.Row.{Row}
 use Rattle.ice_state.specs.Contents.{Content, World, IsOf, add, is_row_taken, took}
@@ -40,26 +41,31 @@ missed desk c ts = sum_by (λ t. cond (nat_lt t (limit_of desk) && not (is_row_t
 
 -- where the world is told and the content was that of a set, it is now that of the set and the row i
 abbrev pub Takes : Option World → Scanned → ℕ → Content → Content → Type 0
-Takes world scan i before after = (w : World) (ts : List Bool) → world ≡ Some w → IsContentOf w scan before ts → IsContentOf w scan after (add ts i)
+Takes world scan i before after = (w : World) (ts : List Bool) → world ≡ Some w → IsContentOf w scan before ts
+    → IsContentOf w scan after (add ts i)
 
 -- what becomes of the state where the manifest i is served so
 abbrev pub Serves : Option World → (List ℕ → Type 0) → Scanned → ℕ → Content → Content → Served → Type 0
-Serves world may_fail scan i before after served.Taken = ((bytes : List ℕ) × (after ≡ took scan before i bytes)) × Takes world scan i before after
+Serves world may_fail scan i before after served.Taken = ((bytes : List ℕ) × (after ≡ took scan before i bytes))
+    × Takes world scan i before after
 Serves world may_fail scan i before after served.Absent = (after ≡ before) × Lacks world scan i
 Serves world may_fail scan i before after served.Device = (after ≡ before) × MayFailAt may_fail scan i
 Serves world may_fail scan i before after served.Memory = after ≡ before
 
 -- what a worker did between two moments
-pub record Worked (world : Option World) (may_fail : List ℕ → Type 0) (desk : Desk) (scan : Scanned) (old new : Seat) (before after : Content) (left : Left) : Type 0 where
+pub record Worked (world : Option World) (may_fail : List ℕ → Type 0) (desk : Desk) (scan : Scanned) (old new : Seat)
+    (before after : Content) (left : Left) : Type 0 where
   -- the numbers that it drew
   pub tickets : List ℕ
   pub drawn : (hand_of new).drawn ≡ (hand_of old).drawn ++ tickets
   pub of_scan : IsOf scan after
   -- what was taken is still taken, and what it took were manifests of its tickets
   pub kept : (i : ℕ) → IsTrue (is_row_taken before i) → IsTrue (is_row_taken after i)
-  pub gained : (i : ℕ) → IsTrue (is_row_taken after i) → IsTrue (is_row_taken before i) ⊎ ((t : ℕ) × (0 < times t tickets) × (t < limit_of desk) × (t % desk.manifests ≡ i))
+  pub gained : (i : ℕ) → IsTrue (is_row_taken after i) → IsTrue (is_row_taken before i)
+      ⊎ ((t : ℕ) × (0 < times t tickets) × (t < limit_of desk) × (t % desk.manifests ≡ i))
   -- a content of the world stays one
-  pub content : (w : World) (ts : List Bool) → world ≡ Some w → IsContentOf w scan before ts → (us : List Bool) × IsContentOf w scan after us
+  pub content : (w : World) (ts : List Bool) → world ≡ Some w → IsContentOf w scan before ts
+      → (us : List Bool) × IsContentOf w scan after us
   -- each ticket whose manifest is not taken was left for one of the causes
   pub missed : missed desk after tickets ≤ all_left left
   pub few : all_left left ≤ length tickets

@@ -10,7 +10,8 @@ HasAt (Some world) path found = world path ≡ found
 -- Reading these in turn ends at a path that is so: the files before it are there.
 abbrev pub EndsAt : World → (List ℕ → Type 0) → List (List ℕ) → List ℕ → Type 0
 EndsAt world so [] path = ⊥
-EndsAt world so (next ∷ paths) path = ((path ≡ next) × so path) ⊎ ((is_some (world next) ≡ true) × EndsAt world so paths path)
+EndsAt world so (next ∷ paths) path = ((path ≡ next) × so path)
+    ⊎ ((is_some (world next) ≡ true) × EndsAt world so paths path)
 
 -- at the first file that is not there
 abbrev pub EndsAtAbsent : World → List (List ℕ) → List ℕ → Type 0

@@ -1,6 +1,7 @@
 //! What a seat does at its desk.
 
-ghost use Rattle.std.specs.Prelude.{◌≡◌, ◌*◌, ◌+◌, ◌<◌, ◌≤◌, ◌^◌, ℕ, IfOk, IsTrue, vec_len, length, false, [], Some, slice_get};
+ghost use Rattle.std.specs.Prelude.{◌≡◌, ◌*◌, ◌+◌, ◌<◌, ◌≤◌, ◌^◌, ℕ, IfOk, IsTrue, vec_len, length, false, [], Some};
+ghost use Rattle.std.specs.Prelude.{slice_get};
 ghost use Rattle.std.specs.List.{All};
 ghost use Rattle.ice_desk.specs.Tickets.{once_below, times, one_seat};
 ghost use Rattle.ice_desk.specs.Seats.{IsSeatOf, IsFresh, hand_of, had_done, Claims, limit_of, drawn_in};
@@ -97,7 +98,8 @@ impl Desk {
         requires count { vec_len seats ≡ self.seats }
         requires seats { All (IsSeatOf self) seats.items }
         ensures once { (t : ℕ) → drawn_in seats.items t ≡ once_below t result }
-        ensures whole { (k : ℕ) (s : Seat) → slice_get seats.items k ≡ Some s → IsTrue (had_done self s) → (t : ℕ) → t < limit_of self → drawn_in seats.items t ≡ 1 }
+        ensures whole { (k : ℕ) (s : Seat) → slice_get seats.items k ≡ Some s → IsTrue (had_done self s) → (t : ℕ) →
+            t < limit_of self → drawn_in seats.items t ≡ 1 }
         ensures small { result ≤ limit_of self + self.seats }
     {
         let place = self.gather(seats);

@@ -21,7 +21,8 @@ fn path_of(alloc: Global, path: &str) -> Result<Text, AllocError>
 /// The bytes of the file at a path.
 fn read_file<F: Files>(alloc: Global, files: &F, path: &str) -> Result<Vec<u8>, WantedFault>
     ensures found { IfOk result (λ bytes. HasAt (F.world files.now) path.now (Some bytes.items)) }
-    ensures refused { (world : World) → F.world files.now ≡ Some world → IfErr result (MayStop world (F.may_fail files.now) (path.now ∷ [])) }
+    ensures refused { (world : World) → F.world files.now ≡ Some world →
+        IfErr result (MayStop world (F.may_fail files.now) (path.now ∷ [])) }
     ensures absent { (path : List ℕ) → IsErrOf result (WantedFault.Absent path) → HasAt (F.world files.now) path None }
     ensures device { (path : List ℕ) → IsErrOf result (WantedFault.Device path) → F.may_fail files.now path }
 {
@@ -47,9 +48,11 @@ pub fn take_wanted<F: Files>(
 
     // Over files that tell their world: every wanted row is taken then, and each that was read is there; or the reads,
     // of the rows that were not taken, end as they may.
-    ensures taken { (world : World) (ts : List Bool) → F.world files.now ≡ Some world → IsContentOf world scan.now state.old ts →
+    ensures taken { (world : World) (ts : List Bool) → F.world files.now ≡ Some world →
+        IsContentOf world scan.now state.old ts →
         OnOk result (IsContentOf world scan.now state.new (every_row scan.now)) }
-    ensures present { (world : World) → F.world files.now ≡ Some world → OnOk result (HasEach world (untaken state.old scan.now.wanted)) }
+    ensures present { (world : World) → F.world files.now ≡ Some world →
+        OnOk result (HasEach world (untaken state.old scan.now.wanted)) }
     ensures refused { (world : World) → F.world files.now ≡ Some world →
         IfErr result (MayStop world (F.may_fail files.now) (reads_of scan.now state.old)) }
 

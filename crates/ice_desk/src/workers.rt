@@ -64,7 +64,8 @@ pub fn work<F: Files, G: Gate>(
     ensures seat { IsSeatOf desk.now seat.new }
     ensures done { IsTrue (had_done desk.now seat.new) }
     ensures small { all_left result < 2 ^ 32 }
-    ensures worked { Worked (F.world files.now) (F.may_fail files.now) desk.now scan.now seat.old seat.new state.old state.new result }
+    ensures worked { Worked (F.world files.now) (F.may_fail files.now) desk.now scan.now seat.old seat.new state.old
+        state.new result }
 {
     let mut left = Left::none();
     while let Claim::Index(i) = desk.claim(seat) {

@@ -1,6 +1,7 @@
 -- From the names of columns to their ids (Apache Iceberg table spec v2, "Schemas and Data Types": columns are known by
 -- id).
-use Rattle.std.specs.Prelude.{ℕ, ℤ, ◌==◌, ◌&&◌, not, Bool, true, false, List, [], ◌∷◌, length, Option, None, Some, Result, Ok, Err, if◌then◌else◌}
+use Rattle.std.specs.Prelude.{ℕ, ℤ, ◌==◌, ◌&&◌, not, Bool, true, false, List, [], ◌∷◌, length, Option, None, Some}
+use Rattle.std.specs.Prelude.{Result, Ok, Err, if◌then◌else◌}
 use Rattle.std.specs.List.{list_any}
 use Rattle.std.specs.Option.{option_map}
 use Rattle.std.specs.Ordering.{is_lt, is_le, is_gt, is_ge, is_some_and}
@@ -9,7 +10,9 @@ use Rattle.contract_words.specs.Outcome.{◌>>=◌}
 use Rattle.ice_value.specs.declared.cell.Cell.{Cell}
 use Rattle.ice_value.specs.declared.cell.Cell.TheVariants as cells
 use Rattle.ice_value.specs.declared.column_type.ColumnType.{ColumnType}
-use Rattle.ice_value.specs.declared.column_type.ColumnType.TheVariants.{Boolean, Int, Long, Float, Double, Date, Time, Timestamp, Timestamptz, String, Uuid, Fixed, Binary, Decimal}
+use Rattle.ice_value.specs.declared.column_type.ColumnType.TheVariants.{Boolean, Int, Long, Float, Double, Date, Time}
+use Rattle.ice_value.specs.declared.column_type.ColumnType.TheVariants.{Timestamp, Timestamptz, String, Uuid, Fixed}
+use Rattle.ice_value.specs.declared.column_type.ColumnType.TheVariants.{Binary, Decimal}
 use Rattle.ice_value.specs.Bounds.{fits_int}
 use Rattle.ice_value.specs.Cells.{order}
 use Rattle.ice_meta.specs.declared.schema.Schema.{Schema}

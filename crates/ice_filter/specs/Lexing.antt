@@ -1,8 +1,10 @@
 -- The tokens of a text.
-use Rattle.std.specs.Prelude.{ℕ, zero, suc, ◌+◌, ◌-◌, ◌*◌, pos, ◌-ℤ◌, ◌==◌, ◌&&◌, ◌||◌, Bool, true, false, List, [], ◌∷◌, ◌++◌, take, drop, codes, Option, None, Some, if◌then◌else◌, nat_lt}
+use Rattle.std.specs.Prelude.{ℕ, zero, suc, ◌+◌, ◌-◌, ◌*◌, pos, ◌-ℤ◌, ◌==◌, ◌&&◌, ◌||◌, Bool, true, false, List, []}
+use Rattle.std.specs.Prelude.{◌∷◌, ◌++◌, take, drop, codes, Option, None, Some, if◌then◌else◌, nat_lt}
 use Rattle.std.specs.Str.{bytes_eq, is_utf8}
 use Rattle.ice_filter.specs.declared.token.Token.{Token}
-use Rattle.ice_filter.specs.declared.token.Token.TheVariants.{Open, Close, Comma, Dot, Sign, And, Or, Not, In, Is, Null, Starts, With, Truth, Number, Text, Bytes, Name, Bad}
+use Rattle.ice_filter.specs.declared.token.Token.TheVariants.{Open, Close, Comma, Dot, Sign, And, Or, Not, In, Is, Null}
+use Rattle.ice_filter.specs.declared.token.Token.TheVariants.{Starts, With, Truth, Number, Text, Bytes, Name, Bad}
 use Rattle.ice_filter.specs.declared.token.Comparison.TheVariants.{Less, AtMost, Greater, AtLeast, Equal, NotEqual}
 
 -- spaces, tabs and line ends

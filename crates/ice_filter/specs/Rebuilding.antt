@@ -7,7 +7,8 @@ use Rattle.ice_filter.specs.declared.leaf.Partial.TheVariants as partial
 use Rattle.ice_filter.specs.declared.parser.Pending.{Pending}
 use Rattle.ice_filter.specs.declared.parser.Place.{Place}
 use Rattle.ice_filter.specs.declared.parser.Place.TheVariants.{Wants, After, Inside}
-use Rattle.ice_filter.specs.Grammar.{Written, truth, leaf, group, both, either, Level, unit, conj, filter, Stands, IsShallow, leaves_in, Limits, tokens_in, column_tokens, choices_tokens, in_tokens}
+use Rattle.ice_filter.specs.Grammar.{Written, truth, leaf, group, both, either, Level, unit, conj, filter, Stands}
+use Rattle.ice_filter.specs.Grammar.{IsShallow, leaves_in, Limits, tokens_in, column_tokens, choices_tokens, in_tokens}
 use Rattle.ice_filter.specs.Parsing.{State, Act}
 use Rattle.ice_filter.specs.Parsing as parsing
 

@@ -7,7 +7,9 @@ ghost use Rattle.contract_words.specs.Outcome.{Gives};
 ghost use Rattle.ice_value.specs.Bounds.{fits_int};
 ghost use Rattle.ice_value.specs.declared.cell.Cell.{Cell};
 ghost use Rattle.ice_value.specs.declared.column_type.ColumnType.{ColumnType};
-ghost use Rattle.ice_filter.specs.Binding.{cell_of, cells_of, is_order, is_comparable, is_uuid, is_string, may_ask, compared_to, among, starts, test_of, path, type_for, asked, bound_leaf, bound_part, bound_parts, leaf_meets};
+ghost use Rattle.ice_filter.specs.Binding.{cell_of, cells_of, is_order, is_comparable, is_uuid, is_string, may_ask};
+ghost use Rattle.ice_filter.specs.Binding.{compared_to, among, starts, test_of, path, type_for, asked, bound_leaf};
+ghost use Rattle.ice_filter.specs.Binding.{bound_part, bound_parts, leaf_meets};
 ghost use Rattle.ice_filter.specs.Rows.{Row, row_meets};
 ghost use Rattle.ice_filter.specs.Trees.{tree_of, meaning};
 

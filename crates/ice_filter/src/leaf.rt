@@ -2,7 +2,9 @@
 
 ghost use Rattle.std.specs.Prelude.{◌≡◌};
 ghost use Rattle.contract_words.specs.Outcome.{Gives};
-ghost use Rattle.ice_filter.specs.Parsing.{literal_of, leaf_step, behind_column, behind_dot, behind_not, behind_in, behind_listed, behind_is, behind_is_not, behind_starts, compared, chosen, chosen_too, begun};
+ghost use Rattle.ice_filter.specs.Parsing.{literal_of, leaf_step, behind_column, behind_dot, behind_not, behind_in};
+ghost use Rattle.ice_filter.specs.Parsing.{behind_listed, behind_is, behind_is_not, behind_starts, compared, chosen};
+ghost use Rattle.ice_filter.specs.Parsing.{chosen_too, begun};
 
 use crate::fault::FilterFault;
 use crate::token::{Comparison, Token};

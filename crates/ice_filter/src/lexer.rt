@@ -1,7 +1,10 @@
 //! From bytes to tokens.
 
 ghost use Rattle.std.specs.Prelude.{◌≡◌, ℕ, ◌+◌, ◌^◌, ◌≤◌, ◌<◌, [], true, length, drop, IfOk};
-ghost use Rattle.ice_filter.specs.Lexing.{is_digit, is_letter, is_name_byte, is_separator, is_hex, nibble, run_from, word_of, magnitude_from, number_of, digits_at, quoted_from, hex_from, word_at, mark_at, second_is, is_quote, text_in, named, text_of, sized_text, quoted, as_text, as_name, as_bytes, begins_hex, begins_minus};
+ghost use Rattle.ice_filter.specs.Lexing.{is_digit, is_letter, is_name_byte, is_separator, is_hex, nibble, run_from};
+ghost use Rattle.ice_filter.specs.Lexing.{word_of, magnitude_from, number_of, digits_at, quoted_from, hex_from};
+ghost use Rattle.ice_filter.specs.Lexing.{word_at, mark_at, second_is, is_quote, text_in, named, text_of, sized_text};
+ghost use Rattle.ice_filter.specs.Lexing.{quoted, as_text, as_name, as_bytes, begins_hex, begins_minus};
 ghost use Rattle.ice_filter.specs.Reads.{IsFront, IsWithin};
 
 use crate::token::{Comparison, Token};

@@ -1,7 +1,8 @@
 //! Texts of filters.
 
 ghost use Rattle.std.specs.Prelude.{◌≡◌, ◌++◌, ◌∷◌, [], codes, reverse, OnOk, IfOk};
-ghost use Rattle.ice_filter.specs.Texts.{literal_text, column_text, choices_text, sign_text, in_text, question_text, leaf_text, truth_text, enclosed, shown};
+ghost use Rattle.ice_filter.specs.Texts.{literal_text, column_text, choices_text, sign_text, in_text, question_text};
+ghost use Rattle.ice_filter.specs.Texts.{leaf_text, truth_text, enclosed, shown};
 ghost use Rattle.ice_filter.specs.Pieces.{both_of, either_of, truth_piece, leaf_piece, top, rest, put};
 ghost use Rattle.ice_filter.specs.Trees.{tree_of};
 

@@ -60,16 +60,16 @@ fn summary_type(alloc: Global) -> Result<Value, AllocError>
 fn count_fields(alloc: Global) -> Result<Vec<Value>, AllocError>
     ensures { IfOk result (λ fields. items_view fields.items ≡ fields_json fields_of_counts) }
 {
+    let mut fields = Vec::with_capacity(alloc, 7)?;
+    fields.push(nullable(alloc, "added_files_count", 504, "int")?)?;
+    fields.push(nullable(alloc, "existing_files_count", 505, "int")?)?;
+    fields.push(nullable(alloc, "deleted_files_count", 506, "int")?)?;
+    fields.push(nullable(alloc, "added_rows_count", 512, "long")?)?;
+    fields.push(nullable(alloc, "existing_rows_count", 513, "long")?)?;
+    fields.push(nullable(alloc, "deleted_rows_count", 514, "long")?)?;
     let summaries = list(alloc, 508, summary_type(alloc)?)?;
-    Ok(vec![in alloc;
-        nullable(alloc, "added_files_count", 504, "int")?,
-        nullable(alloc, "existing_files_count", 505, "int")?,
-        nullable(alloc, "deleted_files_count", 506, "int")?,
-        nullable(alloc, "added_rows_count", 512, "long")?,
-        nullable(alloc, "existing_rows_count", 513, "long")?,
-        nullable(alloc, "deleted_rows_count", 514, "long")?,
-        optional(alloc, "partitions", 507, summaries)?,
-    ]?)
+    fields.push(optional(alloc, "partitions", 507, summaries)?)?;
+    Ok(fields)
 }
 
 /// What a row of a manifest list is.
@@ -77,15 +77,14 @@ fn count_fields(alloc: Global) -> Result<Vec<Value>, AllocError>
 pub fn list_type(alloc: Global) -> Result<Value, AllocError>
     ensures { IfOk result (λ json. view json ≡ json_of type_of_row) }
 {
-    let mut fields = vec![in alloc;
-        field(alloc, "manifest_path", 500, "string")?,
-        field(alloc, "manifest_length", 501, "long")?,
-        field(alloc, "partition_spec_id", 502, "int")?,
-        field(alloc, "content", 517, "int")?,
-        field(alloc, "sequence_number", 515, "long")?,
-        field(alloc, "min_sequence_number", 516, "long")?,
-        field(alloc, "added_snapshot_id", 503, "long")?,
-    ]?;
+    let mut fields = Vec::with_capacity(alloc, 14)?;
+    fields.push(field(alloc, "manifest_path", 500, "string")?)?;
+    fields.push(field(alloc, "manifest_length", 501, "long")?)?;
+    fields.push(field(alloc, "partition_spec_id", 502, "int")?)?;
+    fields.push(field(alloc, "content", 517, "int")?)?;
+    fields.push(field(alloc, "sequence_number", 515, "long")?)?;
+    fields.push(field(alloc, "min_sequence_number", 516, "long")?)?;
+    fields.push(field(alloc, "added_snapshot_id", 503, "long")?)?;
     fields.append(&mut count_fields(alloc)?)?;
     structure(alloc, "manifest_file", fields)
 }
@@ -145,18 +144,18 @@ fn bounds_type(alloc: Global, name: &str, key: i32, said: i32) -> Result<Value, 
 fn column_fields(alloc: Global) -> Result<Vec<Value>, AllocError>
     ensures { IfOk result (λ fields. items_view fields.items ≡ fields_json fields_of_columns) }
 {
+    let mut fields = Vec::with_capacity(alloc, 5)?;
     let value_counts = counts_type(alloc, "k119_v120", 119, 120)?;
+    fields.push(optional(alloc, "value_counts", 109, value_counts)?)?;
     let null_value_counts = counts_type(alloc, "k121_v122", 121, 122)?;
+    fields.push(optional(alloc, "null_value_counts", 110, null_value_counts)?)?;
     let lower_bounds = bounds_type(alloc, "k126_v127", 126, 127)?;
+    fields.push(optional(alloc, "lower_bounds", 125, lower_bounds)?)?;
     let upper_bounds = bounds_type(alloc, "k129_v130", 129, 130)?;
+    fields.push(optional(alloc, "upper_bounds", 128, upper_bounds)?)?;
     let equality_ids = list(alloc, 136, text(alloc, "int")?)?;
-    Ok(vec![in alloc;
-        optional(alloc, "value_counts", 109, value_counts)?,
-        optional(alloc, "null_value_counts", 110, null_value_counts)?,
-        optional(alloc, "lower_bounds", 125, lower_bounds)?,
-        optional(alloc, "upper_bounds", 128, upper_bounds)?,
-        optional(alloc, "equality_ids", 135, equality_ids)?,
-    ]?)
+    fields.push(optional(alloc, "equality_ids", 135, equality_ids)?)?;
+    Ok(fields)
 }
 
 /// A partition field, with the type of its values.
@@ -202,15 +201,14 @@ fn file_type(
         json_of (type_of_file (fields_of_partition partition.now types.now))) }
     ensures ids { IfOk result (λ _. AllByRecursion (λ (p : DeclaredField). IsId p.field_id) partition.now) }
 {
+    let mut fields = Vec::with_capacity(alloc, 11)?;
+    fields.push(field(alloc, "content", 134, "int")?)?;
+    fields.push(field(alloc, "file_path", 100, "string")?)?;
+    fields.push(field(alloc, "file_format", 101, "string")?)?;
     let partition = structure(alloc, "r102", partition_fields(alloc, partition, types)?)?;
-    let mut fields = vec![in alloc;
-        field(alloc, "content", 134, "int")?,
-        field(alloc, "file_path", 100, "string")?,
-        field(alloc, "file_format", 101, "string")?,
-        required(alloc, "partition", 102, partition)?,
-        field(alloc, "record_count", 103, "long")?,
-        field(alloc, "file_size_in_bytes", 104, "long")?,
-    ]?;
+    fields.push(required(alloc, "partition", 102, partition)?)?;
+    fields.push(field(alloc, "record_count", 103, "long")?)?;
+    fields.push(field(alloc, "file_size_in_bytes", 104, "long")?)?;
     fields.append(&mut column_fields(alloc)?)?;
     structure(alloc, "r2", fields)
 }
@@ -223,13 +221,12 @@ pub fn manifest_type(alloc: Global, heading: &Heading) -> Result<Value, AllocErr
     ensures ids { IfOk result (λ _. AllByRecursion (λ (p : DeclaredField). IsId p.field_id) heading.now.spec.fields) }
 {
     let partition = heading.spec.fields.as_slice();
+    let mut fields = Vec::with_capacity(alloc, 5)?;
+    fields.push(field(alloc, "status", 0, "int")?)?;
+    fields.push(nullable(alloc, "snapshot_id", 1, "long")?)?;
+    fields.push(nullable(alloc, "sequence_number", 3, "long")?)?;
+    fields.push(nullable(alloc, "file_sequence_number", 4, "long")?)?;
     let file = file_type(alloc, partition, heading.types.as_slice())?;
-    let fields = vec![in alloc;
-        field(alloc, "status", 0, "int")?,
-        nullable(alloc, "snapshot_id", 1, "long")?,
-        nullable(alloc, "sequence_number", 3, "long")?,
-        nullable(alloc, "file_sequence_number", 4, "long")?,
-        required(alloc, "data_file", 2, file)?,
-    ]?;
+    fields.push(required(alloc, "data_file", 2, file)?)?;
     structure(alloc, "manifest_entry", fields)
 }

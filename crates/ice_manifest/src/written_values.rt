@@ -132,15 +132,15 @@ fn counts_data<'a>(alloc: Global, row: &'a Row) -> Result<Vec<Datum<'a>>, AllocE
     ensures summaries { IfOk result (λ _. IfSome row.now.partitions (AllByRecursion SummaryFits)) }
 {
     let counts = row.counts;
-    Ok(vec![in alloc;
-        optional_int(alloc, counts.added_files)?,
-        optional_int(alloc, counts.existing_files)?,
-        optional_int(alloc, counts.deleted_files)?,
-        optional_long(alloc, counts.added_rows)?,
-        optional_long(alloc, counts.existing_rows)?,
-        optional_long(alloc, counts.deleted_rows)?,
-        partitions_datum(alloc, &row.partitions)?,
-    ]?)
+    let mut all = Vec::with_capacity(alloc, 7)?;
+    all.push(optional_int(alloc, counts.added_files)?)?;
+    all.push(optional_int(alloc, counts.existing_files)?)?;
+    all.push(optional_int(alloc, counts.deleted_files)?)?;
+    all.push(optional_long(alloc, counts.added_rows)?)?;
+    all.push(optional_long(alloc, counts.existing_rows)?)?;
+    all.push(optional_long(alloc, counts.deleted_rows)?)?;
+    all.push(partitions_datum(alloc, &row.partitions)?)?;
+    Ok(all)
 }
 
 fn code_of(content: ManifestContent) -> i32

@@ -1,5 +1,7 @@
--- What a manifest's counts and bounds of a file's columns say of a filter (Apache Iceberg table spec v2, "Scan Planning").
-use Rattle.std.specs.Prelude.{◌≡◌, ℕ, ◌+◌, ℤ, pos, Bool, true, false, not, ◌&&◌, List, [], ◌∷◌, length, Option, None, Some, if◌then◌else◌, map, ◌⊎◌}
+-- What a manifest's counts and bounds of a file's columns say of a filter (Apache Iceberg table spec v2,
+-- "Scan Planning").
+use Rattle.std.specs.Prelude.{◌≡◌, ℕ, ◌+◌, ℤ, pos, Bool, true, false, not, ◌&&◌, List, [], ◌∷◌, length, Option, None}
+use Rattle.std.specs.Prelude.{Some, if◌then◌else◌, map, ◌⊎◌}
 use Rattle.std.specs.List.{AllByRecursion}
 use Rattle.std.specs.Ordering.{int_eq}
 use Rattle.ice_value.specs.Columns.{count_of, bound_of}
@@ -60,7 +62,8 @@ null_count (c ∷ cs) = (if is_null c then 1 else 0) + null_count cs
 pub record IsColumn (file : FileBounds) (t : ColumnType) (column : ℤ) (cells : List Cell) : Type 0 where
   pub counted : (n : ℤ) → count_of column file.value_counts ≡ Some n → n ≡ pos (length cells)
   pub nulls_counted : (n : ℤ) → count_of column file.null_counts ≡ Some n → n ≡ pos (null_count cells)
-  pub bounded : AllByRecursion (λ (c : Cell). is_null c ≡ false → LiesIn (lower_limit file t column) (upper_limit file t column) c) cells
+  pub bounded : AllByRecursion
+      (λ (c : Cell). is_null c ≡ false → LiesIn (lower_limit file t column) (upper_limit file t column) c) cells
 
 -- the filter has this leaf
 abbrev pub HasLeaf : BoundLeaf → Tree BoundLeaf → Type 0
@@ -72,4 +75,5 @@ HasLeaf l (either s t) = HasLeaf l s ⊎ HasLeaf l t
 -- the file's counts and bounds of each column that the filter asks for are those of the rows
 abbrev pub AreCounted : FileBounds → List (Part BoundLeaf) → List Row → Type 0
 AreCounted file filter rows =
-    (l : BoundLeaf) → HasLeaf l (tree_of filter) → IsColumn file l.column_type l.column (map (λ (row : Row). row l.column) rows)
+    (l : BoundLeaf) → HasLeaf l (tree_of filter)
+    → IsColumn file l.column_type l.column (map (λ (row : Row). row l.column) rows)

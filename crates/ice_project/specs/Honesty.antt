@@ -18,7 +18,8 @@ use Rattle.ice_project.specs.declared.field.Field.{Field}
 -- cell of that column.
 abbrev pub IsPartitionValue : Field → Cell → Row → Type 0
 IsPartitionValue field p row =
-    (t r : ColumnType) → field.source_type ≡ Some t → type_of field.transform t ≡ Some r → IsValueOf field.transform t (row field.source_id) p
+    (t r : ColumnType) → field.source_type ≡ Some t → type_of field.transform t ≡ Some r
+    → IsValueOf field.transform t (row field.source_id) p
 
 -- each cell of the tuple is its field's value of the row
 abbrev pub IsTupleOf : List Field → List Cell → Row → Type 0
@@ -38,4 +39,5 @@ NoneMeets filter rows = list_any (row_meets filter) rows ≡ false
 -- where the tuple doesn't meet the projection, a file with it has no row that meets the filter
 abbrev pub IsSound : List (Part BoundLeaf) → Spec → List Cell → Type 0
 IsSound filter spec tuple =
-    (rows : List Row) → part_meets (projection filter spec) tuple ≡ false → IsHonest (fields_of spec) tuple rows → NoneMeets filter rows
+    (rows : List Row) → part_meets (projection filter spec) tuple ≡ false → IsHonest (fields_of spec) tuple rows
+    → NoneMeets filter rows

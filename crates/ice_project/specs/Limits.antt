@@ -1,5 +1,5 @@
--- What lower and upper bounds say of a test (Apache Iceberg table spec v2, "Scan Planning": a file or a manifest is left
--- out where its bounds show that no value meets the test).
+-- What lower and upper bounds say of a test (Apache Iceberg table spec v2, "Scan Planning": a file or a manifest is
+-- left out where its bounds show that no value meets the test).
 use Rattle.std.specs.Prelude.{◌≡◌, ℕ, Bool, true, false, not, ◌&&◌, List, Option, None, Some, if◌then◌else◌, nat_eq}
 use Rattle.std.specs.List.{list_any, starts_with}
 use Rattle.std.specs.Option.{option_and_then}
@@ -13,7 +13,8 @@ use Rattle.ice_value.specs.declared.column_type.ColumnType.TheVariants.{String, 
 use Rattle.ice_value.specs.declared.cell.Cell.{Cell}
 use Rattle.ice_value.specs.declared.cell.Cell.TheVariants as cells
 use Rattle.ice_filter.specs.declared.bound.Test.{Test}
-use Rattle.ice_filter.specs.declared.bound.Test.TheVariants.{Less, AtMost, More, AtLeast, Among, NotAmong, IsNull, IsPresent, StartsWith}
+use Rattle.ice_filter.specs.declared.bound.Test.TheVariants.{Less, AtMost, More, AtLeast, Among, NotAmong, IsNull}
+use Rattle.ice_filter.specs.declared.bound.Test.TheVariants.{IsPresent, StartsWith}
 
 abbrev pub is_uuid : ColumnType → Bool
 is_uuid Uuid = true

@@ -1,24 +1,28 @@
 -- The projection of a filter through a partition spec (Apache Iceberg table spec v2, "Scan Planning": a filter on rows
--- becomes one on partition values that every file with a matching row meets). Of each test there is a line for each kind
--- of transform; where no line stands, every partition value meets it.
-use Rattle.std.specs.Prelude.{ℕ, ◌+◌, length, Bool, true, false, List, [], ◌∷◌, Option, None, Some, if◌then◌else◌, ℤ, pos, ◌+ℤ◌, ◌-ℤ◌}
+-- becomes one on partition values that every file with a matching row meets). Of each test there is a line for each
+-- kind of transform; where no line stands, every partition value meets it.
+use Rattle.std.specs.Prelude.{ℕ, ◌+◌, length, Bool, true, false, List, [], ◌∷◌, Option, None, Some, if◌then◌else◌, ℤ}
+use Rattle.std.specs.Prelude.{pos, ◌+ℤ◌, ◌-ℤ◌}
 use Rattle.std.specs.Option.{option_map, option_and_then}
 use Rattle.std.specs.Ordering.{int_eq}
 use Rattle.ice_value.specs.Bounds.{fits_int, fits_long}
 use Rattle.ice_value.specs.declared.column_type.ColumnType.{ColumnType}
-use Rattle.ice_value.specs.declared.column_type.ColumnType.TheVariants.{Int, Long, Date, Timestamp, Timestamptz, String, Binary}
+use Rattle.ice_value.specs.declared.column_type.ColumnType.TheVariants.{Int, Long, Date, Timestamp, Timestamptz, String}
+use Rattle.ice_value.specs.declared.column_type.ColumnType.TheVariants.{Binary}
 use Rattle.ice_value.specs.declared.cell.Cell.{Cell}
 use Rattle.ice_value.specs.declared.cell.Cell.TheVariants as cells
 use Rattle.ice_transform.specs.Cuts.{has_points}
 use Rattle.ice_transform.specs.Values.{value_of, type_of}
 use Rattle.ice_transform.specs.declared.transform.Transform.{Transform}
-use Rattle.ice_transform.specs.declared.transform.Transform.TheVariants.{Identity, Bucket, Truncate, Year, Month, Day, Hour, Void, Unknown}
+use Rattle.ice_transform.specs.declared.transform.Transform.TheVariants.{Identity, Bucket, Truncate, Year, Month, Day}
+use Rattle.ice_transform.specs.declared.transform.Transform.TheVariants.{Hour, Void, Unknown}
 use Rattle.ice_meta.specs.declared.spec.Spec.{Spec}
 use Rattle.ice_filter.specs.Trees.{map_leaves}
 use Rattle.ice_filter.specs.declared.parts.Part.{Part}
 use Rattle.ice_filter.specs.declared.bound.BoundLeaf.{BoundLeaf}
 use Rattle.ice_filter.specs.declared.bound.Test.{Test}
-use Rattle.ice_filter.specs.declared.bound.Test.TheVariants.{Less, AtMost, More, AtLeast, Among, IsNull, IsPresent, StartsWith}
+use Rattle.ice_filter.specs.declared.bound.Test.TheVariants.{Less, AtMost, More, AtLeast, Among, IsNull, IsPresent}
+use Rattle.ice_filter.specs.declared.bound.Test.TheVariants.{StartsWith}
 use Rattle.ice_project.specs.Fields.{fields_of}
 use Rattle.ice_project.specs.declared.field.Field.{Field}
 use Rattle.ice_project.specs.declared.part_filter.FieldTest.{FieldTest}
@@ -91,7 +95,8 @@ is_cut _ = false
 abbrev pub projected_test : Transform → ColumnType → Test → Option Test
 projected_test Identity t test = Some test
 projected_test (Bucket n) t test = scattered (value_of (Bucket n) t) test
-projected_test (Truncate w) t test = if is_cut t then cut (value_of (Truncate w) t) w.number test else stepped (value_of (Truncate w) t) t test
+projected_test (Truncate w) t test = if is_cut t then cut (value_of (Truncate w) t) w.number test
+    else stepped (value_of (Truncate w) t) t test
 projected_test Year t test = stepped (value_of Year t) t test
 projected_test Month t test = stepped (value_of Month t) t test
 projected_test Day t test = stepped (value_of Day t) t test
@@ -126,4 +131,5 @@ leaf_tests at (f ∷ fs) l = with_test (leaf_test at f l) (leaf_tests (at + 1) f
 
 -- the projection of a filter: of each leaf its own; `and` and `or` stay
 abbrev pub projection : List (Part BoundLeaf) → Spec → PartFilter
-projection filter spec = record { fields = length spec.fields; parts = map_leaves (leaf_tests 0 (fields_of spec)) filter }
+projection filter spec =
+    record { fields = length spec.fields; parts = map_leaves (leaf_tests 0 (fields_of spec)) filter }

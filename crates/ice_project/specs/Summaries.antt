@@ -1,5 +1,5 @@
--- What the summaries of a manifest say of a filter over partition values (Apache Iceberg table spec v2, "Manifest Lists":
--- a field summary for each field of the spec).
+-- What the summaries of a manifest say of a filter over partition values (Apache Iceberg table spec v2,
+-- "Manifest Lists": a field summary for each field of the spec).
 use Rattle.std.specs.Prelude.{◌≡◌, Bool, true, false, ◌==◌, List, [], ◌∷◌, length, Option, None, Some, if◌then◌else◌}
 use Rattle.std.specs.List.{list_all, slice_get}
 use Rattle.std.specs.Option.{option_and_then}
@@ -42,11 +42,12 @@ summaries_may part summaries =
 abbrev pub type_of_values : Field → Option ColumnType
 type_of_values field = option_and_then (type_of field.transform) field.source_type
 
--- the summary is one of this value of the field: it says that there are nulls where the value is null, and any other value
--- lies within the bounds
+-- the summary is one of this value of the field: it says that there are nulls where the value is null, and any other
+-- value lies within the bounds
 pub record IsSummaryOf (field : Field) (s : Summary) (p : Cell) : Type 0 where
   pub null : is_null p ≡ true → s.contains_null ≡ true
-  pub present : is_null p ≡ false → (r : ColumnType) → type_of_values field ≡ Some r → LiesIn (limit r s.lower) (limit r s.upper) p
+  pub present : is_null p ≡ false → (r : ColumnType) → type_of_values field ≡ Some r
+      → LiesIn (limit r s.lower) (limit r s.upper) p
 
 -- each field has a summary and a value, and the summary is one of the value
 abbrev pub AreSummariesOf : List Field → List Summary → List Cell → Type 0

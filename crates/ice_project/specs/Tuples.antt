@@ -9,7 +9,8 @@ use Rattle.ice_value.specs.declared.cell.Cell.TheVariants as cells
 use Rattle.ice_filter.specs.Rows.{is_null}
 use Rattle.ice_filter.specs.Trees.{tree_of, meaning}
 use Rattle.ice_filter.specs.declared.bound.Test.{Test}
-use Rattle.ice_filter.specs.declared.bound.Test.TheVariants.{Less, AtMost, More, AtLeast, Among, NotAmong, IsNull, IsPresent, StartsWith}
+use Rattle.ice_filter.specs.declared.bound.Test.TheVariants.{Less, AtMost, More, AtLeast, Among, NotAmong, IsNull}
+use Rattle.ice_filter.specs.declared.bound.Test.TheVariants.{IsPresent, StartsWith}
 use Rattle.ice_project.specs.declared.part_filter.FieldTest.{FieldTest}
 use Rattle.ice_project.specs.declared.part_filter.PartFilter.{PartFilter}
 

@@ -2,7 +2,8 @@
 
 ghost use Rattle.std.specs.Prelude.{◌≡◌, not, false, List};
 ghost use Rattle.ice_filter.specs.Rows.{Row};
-ghost use Rattle.ice_project.specs.Files.{is_all_null, is_zero, lower_limit, upper_limit, file_allows, file_may, AreCounted};
+ghost use Rattle.ice_project.specs.Files.{is_all_null, is_zero, lower_limit, upper_limit, file_allows, file_may};
+ghost use Rattle.ice_project.specs.Files.{AreCounted};
 ghost use Rattle.ice_project.specs.Limits.{in_bounds};
 ghost use Rattle.ice_value.specs.Columns.{count_of};
 ghost use Rattle.ice_project.specs.Honesty.{NoneMeets};

@@ -64,7 +64,8 @@ pub fn bounds_soundness()
 pub fn projections_of_unpartitioned_specs()
     ensures leaves { (filter : List (Part BoundLeaf)) (spec : Spec) (tuple : List Cell) → is_unpartitioned spec ≡ true
         → part_meets (projection filter spec) tuple ≡ meaning (λ (l : BoundLeaf). true) (tree_of filter) }
-    ensures open { (filter : List (Part BoundLeaf)) (spec other : Spec) (tuple met : List Cell) → is_unpartitioned spec ≡ true
+    ensures open { (filter : List (Part BoundLeaf)) (spec other : Spec) (tuple met : List Cell)
+        → is_unpartitioned spec ≡ true
         → part_meets (projection filter other) met ≡ true → part_meets (projection filter spec) tuple ≡ true }
 {
     filters_over_other_leaves::<BoundLeaf, Items<FieldTest>>();

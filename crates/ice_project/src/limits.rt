@@ -6,7 +6,8 @@ ghost use Rattle.std.specs.Option.{option_copied, option_and_then};
 ghost use Rattle.std.specs.Ordering.{is_lt, is_gt};
 ghost use Rattle.std.specs.Str.{is_utf8};
 ghost use Rattle.ice_value.specs.Cells.{order};
-ghost use Rattle.ice_project.specs.Limits.{is_uuid, is_string, limit, text_is, text_begins, text_of, is_within, in_bounds, may_begin_within};
+ghost use Rattle.ice_project.specs.Limits.{is_uuid, is_string, limit, text_is, text_begins, text_of, is_within};
+ghost use Rattle.ice_project.specs.Limits.{in_bounds, may_begin_within};
 
 use contract_words::Text;
 use ice_filter::Test;
@@ -84,7 +85,8 @@ fn is_text_below(high: Option<&[u8]>, start: &[u8]) -> bool
 
 /// Whether the text of a lower bound is above the start and doesn't begin with it.
 fn is_text_past(low: Option<&[u8]>, start: &[u8]) -> bool
-    ensures { result ≡ (text_is is_gt (option_copied low.entry) start.now && not (text_begins (option_copied low.entry) start.now)) }
+    ensures { result
+        ≡ (text_is is_gt (option_copied low.entry) start.now && not (text_begins (option_copied low.entry) start.now)) }
 {
     match low {
         Some(text) => matches!(text.cmp(start), Ordering::Greater) && !text.starts_with(start),
@@ -104,14 +106,16 @@ impl<'a> Limits<'a> {
 
     /// The order of the lower bound and the literal.
     fn low_order(&self, literal: &Cell) -> Option<Ordering>
-        ensures { result ≡ option_and_then (λ x. order x literal.now) (limit self.now.column_type (option_copied self.now.low)) }
+        ensures { result
+            ≡ option_and_then (λ x. order x literal.now) (limit self.now.column_type (option_copied self.now.low)) }
     {
         limit_order(&self.column_type, self.low, literal)
     }
 
     /// The order of the upper bound and the literal.
     fn high_order(&self, literal: &Cell) -> Option<Ordering>
-        ensures { result ≡ option_and_then (λ x. order x literal.now) (limit self.now.column_type (option_copied self.now.high)) }
+        ensures { result
+            ≡ option_and_then (λ x. order x literal.now) (limit self.now.column_type (option_copied self.now.high)) }
     {
         limit_order(&self.column_type, self.high, literal)
     }

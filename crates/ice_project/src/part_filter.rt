@@ -68,7 +68,8 @@ impl PartFilter {
         ensures test { result ≡ part_meets self.now tuple.now }
 
         // Where the answer is no, a file with this tuple has no row that meets the filter that was projected.
-        ensures sound { (filter : List (Part BoundLeaf)) (spec : Spec) (rows : List Row) → self.now ≡ projection filter spec
+        ensures sound { (filter : List (Part BoundLeaf)) (spec : Spec) (rows : List Row)
+            → self.now ≡ projection filter spec
             → result ≡ false → IsHonest (fields_of spec) tuple.now rows → NoneMeets filter rows }
     {
         soundness();

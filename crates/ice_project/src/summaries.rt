@@ -8,7 +8,8 @@ ghost use Rattle.ice_meta.specs.declared.spec.Spec.{Spec};
 ghost use Rattle.ice_value.specs.declared.cell.Cell.{Cell};
 ghost use Rattle.ice_project.specs.Fields.{fields_of};
 ghost use Rattle.ice_project.specs.Projection.{projection};
-ghost use Rattle.ice_project.specs.Summaries.{summary_allows, field_test_allowed, tests_allowed, summaries_may, IsCovered};
+ghost use Rattle.ice_project.specs.Summaries.{summary_allows, field_test_allowed, tests_allowed, summaries_may};
+ghost use Rattle.ice_project.specs.Summaries.{IsCovered};
 ghost use Rattle.ice_project.specs.Tuples.{part_meets};
 
 use crate::laws::summary_soundness;
@@ -90,7 +91,8 @@ pub fn summary_may(part: &PartFilter, summaries: &[Summary]) -> bool
     ensures test { result ≡ summaries_may part.now summaries.now }
 
     // Where the summaries are those of a tuple that meets the filter, the answer is yes.
-    ensures sound { (filter : List (Part BoundLeaf)) (spec : Spec) (tuple : List Cell) → part.now ≡ projection filter spec
+    ensures sound { (filter : List (Part BoundLeaf)) (spec : Spec) (tuple : List Cell)
+        → part.now ≡ projection filter spec
         → IsCovered (fields_of spec) summaries.now tuple → part_meets part.now tuple ≡ true → result ≡ true }
 {
     summary_soundness();

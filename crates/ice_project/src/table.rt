@@ -5,7 +5,8 @@ ghost use Rattle.std.specs.Option.{option_map, option_and_then};
 ghost use Rattle.ice_transform.specs.Values.{value_of};
 ghost use Rattle.ice_value.specs.declared.cell.Cell.{Cell};
 ghost use Rattle.ice_filter.specs.declared.bound.Test.{Test};
-ghost use Rattle.ice_project.specs.Projection.{before, behind, fit, cut, cut_start, is_cut, projected_test, scattered, stepped, values};
+ghost use Rattle.ice_project.specs.Projection.{before, behind, fit, cut, cut_start, is_cut, projected_test, scattered};
+ghost use Rattle.ice_project.specs.Projection.{stepped, values};
 
 use contract_words::{Duplicate, Items, Text};
 use ice_filter::Test;
@@ -84,7 +85,8 @@ fn among(
     source: &ColumnType,
     literals: &[Cell],
 ) -> Result<Option<Test>, AllocError>
-    ensures { IfOk result (λ test. test ≡ option_map Test.Among (values (value_of transform.now source.now) literals.now)) }
+    ensures { IfOk result (λ test. test
+        ≡ option_map Test.Among (values (value_of transform.now source.now) literals.now)) }
 {
     match values(alloc, transform, source, literals)? {
         Some(found) => Ok(Some(Test::Among(found))),
@@ -200,7 +202,8 @@ fn cut_start(
     source: &ColumnType,
     start: &Text,
 ) -> Result<Option<Test>, AllocError>
-    ensures { IfOk result (λ projected. projected ≡ cut_start (value_of transform.now source.now) width.number start.now) }
+    ensures { IfOk result (λ projected. projected
+        ≡ cut_start (value_of transform.now source.now) width.number start.now) }
 {
     let start = start.copy(alloc)?;
     if has_points(start.as_str(), width.get() as usize) {

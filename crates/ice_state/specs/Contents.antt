@@ -1,5 +1,6 @@
 -- What a partial state contains.
-use Rattle.std.specs.Prelude.{◌≡◌, ℕ, zero, suc, Bool, true, false, List, [], ◌∷◌, length, replicate, Option, Some, None, is_some, option_map, slice_set, slice_index_or, Result, Ok, Err}
+use Rattle.std.specs.Prelude.{◌≡◌, ℕ, zero, suc, Bool, true, false, List, [], ◌∷◌, length, replicate, Option, Some}
+use Rattle.std.specs.Prelude.{None, is_some, option_map, slice_set, slice_index_or, Result, Ok, Err}
 use Rattle.std.specs.List.{AllByRecursion}
 use Rattle.ice_meta.specs.declared.spec.Spec.{Spec}
 use Rattle.ice_manifest.specs.declared.entry.Live.{Live}

@@ -25,8 +25,10 @@ RowCovers specs row tuple = (spec : Spec) → spec_of specs row.spec_id ≡ Some
 
 -- each row covers the tuples of its live entries
 abbrev pub AreCovered : World → List Spec → List Row → Type 0
-AreCovered world specs rows = AllByRecursion (λ row. AllByRecursion (λ (l : Live). RowCovers specs row l.entry.file.tuple) (live world specs row)) rows
+AreCovered world specs rows = AllByRecursion
+    (λ row. AllByRecursion (λ (l : Live). RowCovers specs row l.entry.file.tuple) (live world specs row)) rows
 
 -- A test of summaries that is right: of a row that covers a tuple that meets the projection, it doesn't say no.
 abbrev pub HasSoundSummaries : List Spec → Pruner → Type 0
-HasSoundSummaries specs p = (row : Row) (tuple : List Cell) → RowCovers specs row tuple → p.meets row.spec_id tuple ≡ true → p.wants row ≡ true
+HasSoundSummaries specs p = (row : Row) (tuple : List Cell) → RowCovers specs row tuple
+    → p.meets row.spec_id tuple ≡ true → p.wants row ≡ true

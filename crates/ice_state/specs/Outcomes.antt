@@ -1,5 +1,6 @@
 -- What a content gives in the end: its first fault, or the plan.
-use Rattle.std.specs.Prelude.{Bool, ◌&&◌, List, [], ◌∷◌, ◌++◌, map, filter, Option, Some, None, Result, Ok, Err, if◌then◌else◌}
+use Rattle.std.specs.Prelude.{Bool, ◌&&◌, List, [], ◌∷◌, ◌++◌, map, filter, Option, Some, None, Result, Ok, Err}
+use Rattle.std.specs.Prelude.{if◌then◌else◌}
 use Rattle.std.specs.List.{flat_map}
 use Rattle.std.specs.Cmp.Lexicographic.{slice_cmp}
 use Rattle.std.specs.Ordering.{nat_cmp, is_lt}
@@ -59,7 +60,8 @@ bad (row ∷ rows) (slot ∷ slots) = bad_at row slot ++ bad rows slots
 abbrev pub twice : List Entry → List FinishFault
 twice [] = []
 twice (x ∷ []) = []
-twice (x ∷ y ∷ ys) = if bytes_eq x.file.path y.file.path then faults.PathTwice x.file.path ∷ twice (y ∷ ys) else twice (y ∷ ys)
+twice (x ∷ y ∷ ys) = if bytes_eq x.file.path y.file.path then faults.PathTwice x.file.path ∷ twice (y ∷ ys)
+    else twice (y ∷ ys)
 
 -- a data file with those of the delete files that apply to it
 abbrev pub line_of : List Entry → Entry → OwnedLine

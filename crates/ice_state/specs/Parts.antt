@@ -1,5 +1,6 @@
 -- What the functions within this crate say of their parts. No public contract cites these words.
-use Rattle.std.specs.Prelude.{◌≡◌, ℕ, zero, suc, Bool, true, false, not, ◌&&◌, List, [], ◌∷◌, Option, Some, None, option_and_then, slice_get, ℤ, if◌then◌else◌}
+use Rattle.std.specs.Prelude.{◌≡◌, ℕ, zero, suc, Bool, true, false, not, ◌&&◌, List, [], ◌∷◌, Option, Some, None}
+use Rattle.std.specs.Prelude.{option_and_then, slice_get, ℤ, if◌then◌else◌}
 use Rattle.std.specs.Ordering.{int_eq}
 use Rattle.std.specs.List.Sorted.{IsSortedBy}
 use Rattle.ice_meta.specs.declared.spec.Spec.{Spec}
@@ -81,7 +82,8 @@ numbers_of content deletes x = numbers_where (λ d. key_holds content d && key_a
 
 -- the places of the delete files that apply to x
 abbrev pub places_of : List FileKey → FileKey → Places
-places_of deletes x = record { positions = numbers_of PositionDeletes deletes x; equalities = numbers_of EqualityDeletes deletes x }
+places_of deletes x =
+    record { positions = numbers_of PositionDeletes deletes x; equalities = numbers_of EqualityDeletes deletes x }
 
 -- the content with one more row, by what it gave
 abbrev pub with_row : Content → ℕ → Reading → Content

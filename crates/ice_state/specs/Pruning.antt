@@ -20,7 +20,8 @@ use Rattle.ice_manifest.specs.declared.row.Row.{Row}
 use Rattle.ice_manifest.specs.Manifests.{entries}
 use Rattle.ice_state.specs.Specs.{spec_of}
 
--- a filter's projection on the tuples of a spec, its test of the bounds of a data file, and its test of a row's summaries
+-- a filter's projection on the tuples of a spec, its test of the bounds of a data file, and its test of a row's
+-- summaries
 pub record Pruner : Type 0 where
   pub meets : ℤ → List Cell → Bool
   pub bounds : FileBounds → Bool
@@ -73,4 +74,5 @@ SaysItsSpec specs x = option_map is_unpartitioned (spec_of specs x.spec_id) ≡ 
 
 -- an unpartitioned spec's projection is true wherever another's is
 abbrev pub IsOpen : List Spec → Pruner → Type 0
-IsOpen specs p = (x d : Entry) → SaysItsSpec specs d → d.unpartitioned ≡ true → p.meets x.spec_id x.file.tuple ≡ true → p.meets d.spec_id d.file.tuple ≡ true
+IsOpen specs p = (x d : Entry) → SaysItsSpec specs d → d.unpartitioned ≡ true → p.meets x.spec_id x.file.tuple ≡ true
+    → p.meets d.spec_id d.file.tuple ≡ true

@@ -48,7 +48,8 @@ unless_missing (row ∷ rows) scan = Err (NoSuchSpec row.spec_id)
 
 -- the scan of these rows by these specs, with this filter
 abbrev pub scan_with : List Row → List Spec → List (Part BoundLeaf) → Scanned
-scan_with rows specs parts = record { wanted = wanted_rows (pruner_of parts specs) (by_row_path rows); specs = by_id specs; filter = parts }
+scan_with rows specs parts =
+    record { wanted = wanted_rows (pruner_of parts specs) (by_row_path rows); specs = by_id specs; filter = parts }
 
 -- that scan, or the missing spec of the row with the least path
 abbrev pub scan_of : List Row → List Spec → List (Part BoundLeaf) → Result Scanned ScanFault

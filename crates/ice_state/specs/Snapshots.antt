@@ -47,7 +47,8 @@ abbrev pub plan_of_rows : Pruner → World → List Spec → List Row → Result
 plan_of_rows p world specs rows =
     let all = flat_map (live world specs) rows in
     let kept_entries = by_path (kept p all) in
-    first_or (flat_map (bad_row world specs) (filter p.wants rows) ++ twice kept_entries) (plan_over (by_path (entries all)) kept_entries)
+    first_or (flat_map (bad_row world specs) (filter p.wants rows) ++ twice kept_entries)
+    (plan_over (by_path (entries all)) kept_entries)
 
 abbrev pub plan_of_snapshot : Pruner → World → List Spec → List Row → Result (List OwnedLine) FinishFault
 plan_of_snapshot p world specs rows = plan_of_rows p world specs (by_row_path rows)

@@ -57,7 +57,8 @@ fn check_good(alloc: Global, rows: &[Row], slots: &[Option<Reading>]) -> Result<
 
 /// Stops at the first path that two neighbours share.
 fn check_once(alloc: Global, entries: &[&Entry]) -> Result<(), FinishFault>
-    ensures { MatchResult result (λ _. twice (map (λ x. x.now) entries.now) ≡ []) (λ f. Stops f (twice (map (λ x. x.now) entries.now))) }
+    ensures { MatchResult result (λ _. twice (map (λ x. x.now) entries.now) ≡ [])
+        (λ f. Stops f (twice (map (λ x. x.now) entries.now))) }
 {
     for i in 1..entries.len() {
         let before = entries[i - 1];
@@ -113,7 +114,8 @@ fn data_files<'a>(alloc: Global, entries: &[&'a Entry]) -> Result<Vec<&'a Entry>
 
 /// Those of the entries whose files hold deletes.
 fn delete_files<'a>(alloc: Global, entries: &[&'a Entry]) -> Result<Vec<&'a Entry>, AllocError>
-    ensures { IfOk result (λ found. map (λ d. d.now) found.items ≡ filter holds_deletes (map (λ d. d.now) entries.now)) }
+    ensures { IfOk result (λ found. map (λ d. d.now) found.items
+        ≡ filter holds_deletes (map (λ d. d.now) entries.now)) }
 {
     let mut found = Vec::new(alloc);
     'entries: for d in entries {

@@ -1,6 +1,7 @@
 //! Laws of contents and plans, in words of their own. Their functions do nothing.
 
-ghost use Rattle.std.specs.Prelude.{◌≡◌, ◌<◌, ◌≤◌, ◌↔◌, ℕ, ℤ, Ok, Err, IsSome, IsTrue, List, [], ◌∷◌, Bool, true, false, length, map, filter, slice_index_or, Contains};
+ghost use Rattle.std.specs.Prelude.{◌≡◌, ◌<◌, ◌≤◌, ◌↔◌, ℕ, ℤ, Ok, Err, IsSome, IsTrue, List, [], ◌∷◌, Bool, true};
+ghost use Rattle.std.specs.Prelude.{false, length, map, filter, slice_index_or, Contains};
 ghost use Rattle.std.specs.List.{flat_map, AllByRecursion};
 ghost use Rattle.std.specs.List.Sorted.{IsSortedBy};
 ghost use Rattle.ice_filter.specs.declared.bound.BoundLeaf.{BoundLeaf};
@@ -32,9 +33,9 @@ use ice_project::{
     projections_of_same_tuples, projections_of_unpartitioned_specs, summary_soundness,
 };
 
-/// A scan wants exactly the rows that its filter wants, in the order of their paths, and each of its rows has a spec. It
-/// is refused for the row with the least path among those whose spec is missing. It finds the specs that the caller's
-/// list has, whatever their order, and so keeps the same.
+/// A scan wants exactly the rows that its filter wants, in the order of their paths, and each of its rows has a spec.
+/// It is refused for the row with the least path among those whose spec is missing. It finds the specs that the
+/// caller's list has, whatever their order, and so keeps the same.
 pub fn scanning()
     ensures made { (rows : List Row) (specs : List Spec) (filter : List (Part BoundLeaf)) (scan : Scanned) →
         scan_of rows specs filter ≡ Ok scan → (scan.filter ≡ filter) × IsScanOf rows specs scan }
@@ -52,8 +53,8 @@ pub fn scanning()
         scan_of rows specs filter ≡ Err (NoSuchSpec id) → (row : Row) × IsFirstUnknown specs rows id row }
 {}
 
-/// What was taken fixes the content: after a tree of takes and merges over any number of states it is the content of the
-/// world and of the rows that were taken. So trees that took the same rows, in whatever order, however often and on
+/// What was taken fixes the content: after a tree of takes and merges over any number of states it is the content of
+/// the world and of the rows that were taken. So trees that took the same rows, in whatever order, however often and on
 /// however many states, end in one content and in one outcome.
 pub fn sharing()
     ensures content { (world : World) (scan : Scanned) (run : Run) →
@@ -72,7 +73,8 @@ pub fn merging()
     ensures associative { (a b c : Content) → join (join a b) c ≡ join a (join b c) }
     ensures idempotent { (a : Content) → join a a ≡ a }
     ensures commutative { (a b : Content) → Agree a b → join a b ≡ join b a }
-    ensures one_world { (world : World) (scan : Scanned) (ts us : List Bool) → Agree (content world scan ts) (content world scan us) }
+    ensures one_world { (world : World) (scan : Scanned) (ts us : List Bool) →
+        Agree (content world scan ts) (content world scan us) }
     ensures united { (world : World) (scan : Scanned) (ts us : List Bool) →
         join (content world scan ts) (content world scan us) ≡ content world scan (either ts us) }
 {}
@@ -85,11 +87,16 @@ pub fn applying()
 /// A plan has a line for each of its data files, in their order, and with each exactly those delete files that apply
 /// to it.
 pub fn planning()
-    ensures files { (deletes xs : List Entry) → map (λ line. line.file) (plan_over deletes xs) ≡ filter (holds Data) xs }
-    ensures positions { (deletes xs : List Entry) (line : OwnedLine) (d : Entry) → Contains (plan_over deletes xs) line →
-        (Contains line.positions d ↔ (Contains deletes d × ((d.file.content ≡ PositionDeletes) × Applies line.file d))) }
-    ensures equalities { (deletes xs : List Entry) (line : OwnedLine) (d : Entry) → Contains (plan_over deletes xs) line →
-        (Contains line.equalities d ↔ (Contains deletes d × ((d.file.content ≡ EqualityDeletes) × Applies line.file d))) }
+    ensures files { (deletes xs : List Entry) →
+        map (λ line. line.file) (plan_over deletes xs) ≡ filter (holds Data) xs }
+    ensures positions { (deletes xs : List Entry) (line : OwnedLine) (d : Entry) →
+        Contains (plan_over deletes xs) line →
+        (Contains line.positions d ↔
+        (Contains deletes d × ((d.file.content ≡ PositionDeletes) × Applies line.file d))) }
+    ensures equalities { (deletes xs : List Entry) (line : OwnedLine) (d : Entry) →
+        Contains (plan_over deletes xs) line →
+        (Contains line.equalities d ↔
+        (Contains deletes d × ((d.file.content ≡ EqualityDeletes) × Applies line.file d))) }
 {}
 
 /// Of any filter under which each row with a kept entry is wanted: the kept entries of the wanted rows are those of all
@@ -99,23 +106,27 @@ pub fn pruning()
         kept p (flat_map live rows) ≡ kept_of_wanted p live rows }
     ensures plans { (p : Pruner) (world : World) (specs : List Spec) (rows : List Row) → IsOpen specs p →
         AreKeptWanted p (live world specs) rows →
-        plan_over (by_path (entries (flat_map (live world specs) rows))) (by_path (kept_of_wanted p (live world specs) rows)) ≡
-        plan_over (by_path (kept_of_wanted p (live world specs) rows)) (by_path (kept_of_wanted p (live world specs) rows)) }
+        plan_over (by_path (entries (flat_map (live world specs) rows)))
+        (by_path (kept_of_wanted p (live world specs) rows)) ≡
+        plan_over (by_path (kept_of_wanted p (live world specs) rows))
+        (by_path (kept_of_wanted p (live world specs) rows)) }
 {}
 
 /// What a filter of rows keeps of a table. Wherever its projection keeps a data file it keeps each delete file of the
-/// same spec and partition values, and each one of a spec that partitions nothing: so each delete file that applies. And
-/// of a row whose summaries tell the truth it doesn't say no where it keeps an entry.
+/// same spec and partition values, and each one of a spec that partitions nothing: so each delete file that applies.
+/// And of a row whose summaries tell the truth it doesn't say no where it keeps an entry.
 pub fn filtering()
     ensures same_partition { (filter : List (Part BoundLeaf)) (specs : List Spec) (x d : Entry) →
         IsTrue (same_partition (key_of x) (key_of d)) →
         (pruner_of filter specs).meets x.spec_id x.file.tuple ≡ true →
         (pruner_of filter specs).meets d.spec_id d.file.tuple ≡ true }
-    ensures open_where_unpartitioned { (filter : List (Part BoundLeaf)) (specs : List Spec) → IsOpen specs (pruner_of filter specs) }
+    ensures open_where_unpartitioned { (filter : List (Part BoundLeaf)) (specs : List Spec) →
+        IsOpen specs (pruner_of filter specs) }
     ensures deletes { (filter : List (Part BoundLeaf)) (specs : List Spec) (x : Entry) (l : Live) →
         SaysItsSpec specs l.entry → Applies x l.entry →
         (pruner_of filter specs).meets x.spec_id x.file.tuple ≡ true → keeps (pruner_of filter specs) l ≡ true }
-    ensures sound { (filter : List (Part BoundLeaf)) (specs : List Spec) → HasSoundSummaries specs (pruner_of filter specs) }
+    ensures sound { (filter : List (Part BoundLeaf)) (specs : List Spec) →
+        HasSoundSummaries specs (pruner_of filter specs) }
 {
     projections_of_same_tuples();
     projections_of_unpartitioned_specs();
@@ -124,9 +135,12 @@ pub fn filtering()
 
 /// With the filter that is always met every row is wanted and every live entry is kept.
 pub fn unfiltered()
-    ensures rows { (specs : List Spec) (row : Row) → IsSome (spec_of specs row.spec_id) → (pruner_of [] specs).wants row ≡ true }
-    ensures entries { (specs : List Spec) (l : Live) → IsSome (spec_of specs l.entry.spec_id) → keeps (pruner_of [] specs) l ≡ true }
-    ensures plans { (world : World) (rows : List Row) (specs : List Spec) (scan : Scanned) → scan_of rows specs [] ≡ Ok scan →
+    ensures rows { (specs : List Spec) (row : Row) → IsSome (spec_of specs row.spec_id) →
+        (pruner_of [] specs).wants row ≡ true }
+    ensures entries { (specs : List Spec) (l : Live) → IsSome (spec_of specs l.entry.spec_id) →
+        keeps (pruner_of [] specs) l ≡ true }
+    ensures plans { (world : World) (rows : List Row) (specs : List Spec) (scan : Scanned) →
+        scan_of rows specs [] ≡ Ok scan →
         plan_of_snapshot (pruner_of [] specs) world specs rows ≡ plan_of_snapshot everything world specs rows }
 {}
 
@@ -145,6 +159,7 @@ pub fn covering_without_fields()
 /// The first of the paths that neighbours share is the least that two entries share, and there is none only where no
 /// two share one.
 pub fn sharing_paths()
-    ensures found { (xs : List Entry) (p : List ℕ) (fs : List FinishFault) → twice (by_path xs) ≡ PathTwice p ∷ fs → IsLeastShared xs p }
+    ensures found { (xs : List Entry) (p : List ℕ) (fs : List FinishFault) → twice (by_path xs) ≡ PathTwice p ∷ fs →
+        IsLeastShared xs p }
     ensures none { (xs : List Entry) (p : List ℕ) → twice (by_path xs) ≡ [] → count_at xs p ≤ 1 }
 {}

@@ -1,10 +1,12 @@
 //! What one worker has read of a scan so far.
 
-ghost use Rattle.std.specs.Prelude.{◌≡◌, ◌<◌, ◌≤◌, ◌↔◌, length, OnOk, OnErr, replicate, None, IfOk, IsOk, IsTrue, List, Bool, ℕ, vec_len};
+ghost use Rattle.std.specs.Prelude.{◌≡◌, ◌<◌, ◌≤◌, ◌↔◌, length, OnOk, OnErr, replicate, None, IfOk, IsOk, IsTrue, List};
+ghost use Rattle.std.specs.Prelude.{Bool, ℕ, vec_len};
 ghost use Rattle.contract_words.specs.Outcome.{Gives};
 ghost use Rattle.ice_meta.specs.declared.spec.Spec.{Spec};
 ghost use Rattle.ice_manifest.specs.declared.row.Row.{Row};
-ghost use Rattle.ice_state.specs.Contents.{World, IsOf, is_row_taken, took, content, no_row, every_row, add, HasBytes, HasEach};
+ghost use Rattle.ice_state.specs.Contents.{World, IsOf, is_row_taken, took, content, no_row, every_row, add, HasBytes};
+ghost use Rattle.ice_state.specs.Contents.{HasEach};
 ghost use Rattle.ice_state.specs.Outcomes.{outcome};
 ghost use Rattle.ice_state.specs.Covering.{AreCovered};
 ghost use Rattle.ice_state.specs.Joins.{join, either, TookAllOf};
@@ -122,7 +124,8 @@ impl Partial {
             AreCovered world specs rows →
             HasEach world scan.now.wanted →
             self.now ≡ content world scan.now (every_row scan.now) →
-            Gives FinishFault.Memory (λ plan. plan) result (plan_of_snapshot (pruner_of scan.now.filter specs) world specs rows) }
+            Gives FinishFault.Memory (λ plan. plan) result
+            (plan_of_snapshot (pruner_of scan.now.filter specs) world specs rows) }
     {
         filtering();
         plan_or_fault(self.alloc, scan.wanted(), &self.slots)

@@ -23,7 +23,8 @@ impl<'a> Model for Plan<'a> {
 
     ghost view = { λ p. lines_at (map (λ x. x.now) p.deletes.items) (map (λ x. x.now) p.files.items) p.places.items };
 
-    ghost invariant = { λ p. AreLinesOf (map (λ x. x.now) p.files.items) (map (λ x. x.now) p.deletes.items) p.places.items };
+    ghost invariant = { λ p. AreLinesOf (map (λ x. x.now) p.files.items)
+        (map (λ x. x.now) p.deletes.items) p.places.items };
 }
 
 impl<'a> Plan<'a> {

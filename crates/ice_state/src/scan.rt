@@ -86,7 +86,8 @@ fn sort_by_path(rows: &mut Vec<Row>) -> Result<(), AllocError>
 
 /// Those of the rows that are wanted.
 fn wanted(alloc: Global, rows: Vec<Row>, pruning: &Pruning) -> Result<Vec<Row>, AllocError>
-    ensures { IfOk result (λ wanted. wanted.items ≡ wanted_rows (pruner_of pruning.now.filter pruning.now.specs) rows.items) }
+    ensures { IfOk result (λ wanted. wanted.items
+        ≡ wanted_rows (pruner_of pruning.now.filter pruning.now.specs) rows.items) }
 {
     let mut wanted = Vec::new(alloc);
     'rows: for row in rows {
@@ -99,7 +100,8 @@ fn wanted(alloc: Global, rows: Vec<Row>, pruning: &Pruning) -> Result<Vec<Row>, 
 
 /// Stops at the first row whose spec is missing.
 fn check_specs(rows: &[Row], pruning: &Pruning) -> Result<(), ScanFault>
-    ensures { MatchResult result (λ _. without_spec pruning.now.specs rows.now ≡ []) (λ f. NamesFirst f (without_spec pruning.now.specs rows.now)) }
+    ensures { MatchResult result (λ _. without_spec pruning.now.specs rows.now ≡ [])
+        (λ f. NamesFirst f (without_spec pruning.now.specs rows.now)) }
 {
     'rows: for row in rows {
         if pruning.of_row(row).is_none() {

@@ -1,13 +1,15 @@
 -- The texts that name transforms (Apache Iceberg table spec v2, "Partition Transforms"). A number N or W is written in
 -- decimal digits, without a sign and without a leading zero, from 1 to 2147483647.
-use Rattle.std.specs.Prelude.{◌≡◌, ℕ, ◌+◌, ◌-◌, ◌*◌, ◌==◌, ◌&&◌, ◌||◌, Bool, false, List, [], ◌∷◌, ◌++◌, length, drop, codes, Option, None, Some, if◌then◌else◌, nat_lt, nat_eq, is_some}
+use Rattle.std.specs.Prelude.{◌≡◌, ℕ, ◌+◌, ◌-◌, ◌*◌, ◌==◌, ◌&&◌, ◌||◌, Bool, false, List, [], ◌∷◌, ◌++◌, length, drop}
+use Rattle.std.specs.Prelude.{codes, Option, None, Some, if◌then◌else◌, nat_lt, nat_eq, is_some}
 use Rattle.std.specs.Fmt.{decimal}
 use Rattle.std.specs.Option.{option_and_then}
 use Rattle.std.specs.List.{starts_with}
 use Rattle.std.specs.Str.{bytes_eq}
 use Rattle.ice_transform.specs.Parameters.{parameter_if}
 use Rattle.ice_transform.specs.declared.transform.Transform.{Transform}
-use Rattle.ice_transform.specs.declared.transform.Transform.TheVariants.{Identity, Bucket, Truncate, Year, Month, Day, Hour, Void, Unknown}
+use Rattle.ice_transform.specs.declared.transform.Transform.TheVariants.{Identity, Bucket, Truncate, Year, Month, Day}
+use Rattle.ice_transform.specs.declared.transform.Transform.TheVariants.{Hour, Void, Unknown}
 
 -- the number after one more digit, where it stays below 2 ^ 32
 abbrev pub with_digit : ℕ → ℕ → Option ℕ

@@ -1,6 +1,7 @@
 //! Laws of transforms, on which the projection of filters stands.
 
-ghost use Rattle.std.specs.Prelude.{◌≡◌, ◌≢◌, ◌≤◌, ◌<◌, ◌↔◌, ◌⊎◌, ℕ, List, Bool, true, false, None, Some, length, take, nat_eq, encode_utf8_all};
+ghost use Rattle.std.specs.Prelude.{◌≡◌, ◌≢◌, ◌≤◌, ◌<◌, ◌↔◌, ◌⊎◌, ℕ, List, Bool, true, false, None, Some, length, take};
+ghost use Rattle.std.specs.Prelude.{nat_eq, encode_utf8_all};
 ghost use Rattle.std.specs.List.{starts_with};
 ghost use Rattle.std.specs.Str.{IsUtf8, chars};
 ghost use Rattle.std.specs.declared.cmp.Ordering.TheVariants.{Equal};

@@ -3,7 +3,8 @@
 ghost use Rattle.std.specs.Prelude.{◌≡◌, ◌<◌, ◌^◌, ◌++◌, codes, true, false, IfSome, IfNone, IfOk};
 ghost use Rattle.std.specs.Fmt.{decimal};
 ghost use Rattle.std.specs.Option.{option_map};
-ghost use Rattle.ice_transform.specs.Names.{IsNamed, is_name, is_plain_name, with_digit, number_after, parameter_before_bracket, parameter_in};
+ghost use Rattle.ice_transform.specs.Names.{IsNamed, is_name, is_plain_name, with_digit, number_after};
+ghost use Rattle.ice_transform.specs.Names.{parameter_before_bracket, parameter_in};
 ghost use Rattle.ice_transform.specs.declared.parameter.Parameter.{Parameter};
 
 use crate::parameter::Parameter;

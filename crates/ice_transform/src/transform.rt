@@ -8,7 +8,8 @@ ghost use Rattle.ice_transform.specs.Floors.{floor_to, int_if};
 ghost use Rattle.ice_transform.specs.Murmur.{bucket_of};
 ghost use Rattle.ice_transform.specs.Names.{IsNamed, name_of};
 ghost use Rattle.ice_transform.specs.Years.{year_of, month_of};
-ghost use Rattle.ice_transform.specs.Values.{value_of, type_of, bucketed, truncated, day_of, hour_of, has_buckets, has_days, has_hours, has_truncation};
+ghost use Rattle.ice_transform.specs.Values.{value_of, type_of, bucketed, truncated, day_of, hour_of, has_buckets};
+ghost use Rattle.ice_transform.specs.Values.{has_days, has_hours, has_truncation};
 
 use crate::calendar::{month_of_day, year_of_day};
 use crate::floors::{int_if, truncate, unit_of};

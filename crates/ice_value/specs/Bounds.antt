@@ -1,11 +1,14 @@
 -- Single values in bytes (Apache Iceberg table spec v2, "Appendix D: Single-value serialization", binary form).
-use Rattle.std.specs.Prelude.{◌≡◌, ℕ, ◌==◌, not, ◌||◌, Bool, true, false, List, [], ◌∷◌, length, Option, None, Some, if◌then◌else◌, ℤ, pos, negsuc, nat_lt, ◌⊎◌}
+use Rattle.std.specs.Prelude.{◌≡◌, ℕ, ◌==◌, not, ◌||◌, Bool, true, false, List, [], ◌∷◌, length, Option, None, Some}
+use Rattle.std.specs.Prelude.{if◌then◌else◌, ℤ, pos, negsuc, nat_lt, ◌⊎◌}
 use Rattle.std.specs.Option.{option_and_then, option_map}
 use Rattle.std.specs.Int.{w32, w64, cast_signed, cast_unsigned, from_le_bytes, to_le_bytes}
 use Rattle.std.specs.Str.{is_utf8}
 use Rattle.std.specs.declared.cmp.Ordering.{Ordering}
 use Rattle.ice_value.specs.declared.column_type.ColumnType.{ColumnType}
-use Rattle.ice_value.specs.declared.column_type.ColumnType.TheVariants.{Boolean, Int, Long, Date, Time, Timestamp, Timestamptz, String, Uuid, Fixed, Binary, Decimal}
+use Rattle.ice_value.specs.declared.column_type.ColumnType.TheVariants.{Boolean, Int, Long, Date, Time, Timestamp}
+use Rattle.ice_value.specs.declared.column_type.ColumnType.TheVariants.{Timestamptz, String, Uuid, Fixed, Binary}
+use Rattle.ice_value.specs.declared.column_type.ColumnType.TheVariants.{Decimal}
 use Rattle.ice_value.specs.declared.cell.Cell.{Cell}
 use Rattle.ice_value.specs.declared.cell.Cell.TheVariants.{Null, Bool as Flag, Whole, Text, Bytes}
 use Rattle.ice_value.specs.Cells.{order}

@@ -16,8 +16,10 @@ pub record ColumnBound : Type 0 where
 
 -- the column's count; of several the last counts
 abbrev pub count_of : ℤ → List ColumnCount → Option ℤ
-count_of column counts = option_map (λ (c : ColumnCount). c.count) (find (λ (c : ColumnCount). int_eq c.column column) (reverse counts))
+count_of column counts =
+    option_map (λ (c : ColumnCount). c.count) (find (λ (c : ColumnCount). int_eq c.column column) (reverse counts))
 
 -- the column's bound; of several the last counts
 abbrev pub bound_of : ℤ → List ColumnBound → Option (List ℕ)
-bound_of column bounds = option_map (λ (b : ColumnBound). b.bytes) (find (λ (b : ColumnBound). int_eq b.column column) (reverse bounds))
+bound_of column bounds =
+    option_map (λ (b : ColumnBound). b.bytes) (find (λ (b : ColumnBound). int_eq b.column column) (reverse bounds))

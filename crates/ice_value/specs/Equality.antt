@@ -1,12 +1,15 @@
 -- The tests of cells and of tuples say whether they are one, and their order is total.
-use Rattle.std.proofs.Common.{◌≡◌, ℕ, ◌<◌, ◌<ℤ◌, ap, rules, Bool, true, false, List, [], ◌∷◌, ℤ, pos, refl, sym, subst, ◌∙◌}
+use Rattle.std.proofs.Common.{◌≡◌, ℕ, ◌<◌, ◌<ℤ◌, ap, rules, Bool, true, false, List, [], ◌∷◌, ℤ, pos, refl, sym, subst}
+use Rattle.std.proofs.Common.{◌∙◌}
 use Rattle.std.specs.Bool.{Decides}
 use Rattle.std.specs.declared.cmp.Ordering.{Ordering}
 use Rattle.std.specs.declared.cmp.Ordering.TheVariants.{Less, Equal, Greater}
-use Rattle.std.specs.Ordering.{nat_cmp, int_cmp, MatchOrdering, ordering_then, ordering_reverse, on, then_cmp, eq_by_cmp, is_eq}
+use Rattle.std.specs.Ordering.{nat_cmp, int_cmp, MatchOrdering, ordering_then, ordering_reverse, on, then_cmp}
+use Rattle.std.specs.Ordering.{eq_by_cmp, is_eq}
 use Rattle.std.specs.Cmp.{booleans_Decides, IsEquivalence, IsTotalOrder, decided, Equal-is}
 use Rattle.std.specs.Bool.{one_answer}
-use Rattle.std.proofs.lemmas.Cmp.{int_ranked, ranked, then_total, on_total, lists_total, nat_cmp_total, int_cmp_total, nat_list_cmp_total, tied_itself}
+use Rattle.std.proofs.lemmas.Cmp.{int_ranked, ranked, then_total, on_total, lists_total, nat_cmp_total, int_cmp_total}
+use Rattle.std.proofs.lemmas.Cmp.{nat_list_cmp_total, tied_itself}
 use Rattle.std.specs.Cmp.Lexicographic.{pointwise, slice_cmp}
 use Rattle.std.proofs.lemmas.Slice.Eq.{slice_eq-Decides, bytes_eq-Decides}
 use Rattle.std.proofs.lemmas.Bool.Decides.{Decides-int_eq, Decides-like}
@@ -80,13 +83,17 @@ cell_cmp-by_parts (cells.Bytes a) (cells.Bytes b) = refl
 cell_cmp-by_parts _ _ = refl
 
 by_parts_total : IsTotalOrder by_parts
-by_parts_total = then_total (on_total kind_of nat_cmp_total) (then_total (on_total number_of int_cmp_total) (on_total bytes_of nat_list_cmp_total))
+by_parts_total = then_total (on_total kind_of nat_cmp_total)
+    (then_total (on_total number_of int_cmp_total) (on_total bytes_of nat_list_cmp_total))
 
 pub cell_cmp_total : IsTotalOrder cell_cmp
 cell_cmp_total = record {
-  antisymm = λ a b. cell_cmp-by_parts a b ∙ by_parts_total.antisymm a b ∙ ap ordering_reverse (sym (cell_cmp-by_parts b a));
-  trans = λ a b c h k. cell_cmp-by_parts a c ∙ by_parts_total.trans a b c (sym (cell_cmp-by_parts a b) ∙ h) (sym (cell_cmp-by_parts b c) ∙ k);
-  congr = λ a b c h. cell_cmp-by_parts a c ∙ by_parts_total.congr a b c (sym (cell_cmp-by_parts a b) ∙ h) ∙ sym (cell_cmp-by_parts b c);
+  antisymm = λ a b. cell_cmp-by_parts a b ∙ by_parts_total.antisymm a b
+      ∙ ap ordering_reverse (sym (cell_cmp-by_parts b a));
+  trans = λ a b c h k. cell_cmp-by_parts a c
+      ∙ by_parts_total.trans a b c (sym (cell_cmp-by_parts a b) ∙ h) (sym (cell_cmp-by_parts b c) ∙ k);
+  congr = λ a b c h. cell_cmp-by_parts a c ∙ by_parts_total.congr a b c (sym (cell_cmp-by_parts a b) ∙ h)
+      ∙ sym (cell_cmp-by_parts b c);
 }
 
 pub tuple_cmp_total : IsTotalOrder tuple_cmp

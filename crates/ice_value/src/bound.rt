@@ -5,7 +5,8 @@ ghost use Rattle.std.specs.Str.{is_utf8};
 ghost use Rattle.std.specs.Option.{option_map};
 ghost use Rattle.std.specs.Ordering.{nat_cmp};
 ghost use Rattle.std.specs.Cmp.Lexicographic.{slice_cmp};
-ghost use Rattle.ice_value.specs.Bounds.{cell_in, order_in, int_in, long_in, widened_in, flag_in, sized_in, is_value, written, Holds};
+ghost use Rattle.ice_value.specs.Bounds.{cell_in, order_in, int_in, long_in, widened_in, flag_in, sized_in, is_value};
+ghost use Rattle.ice_value.specs.Bounds.{written, Holds};
 ghost use Rattle.ice_value.specs.declared.cell.Cell.{Cell};
 ghost use Rattle.ice_value.specs.declared.column_type.ColumnType.{ColumnType};
 
@@ -165,8 +166,8 @@ fn listed(alloc: Global, bytes: &[u8]) -> Result<Option<Items<u8>>, AllocError>
     Ok(Some(Items::from_vec(bytes.to_vec(alloc)?)))
 }
 
-/// The bytes that hold the cell, as `read_bound` reads them; none where the cell isn't a value of this type, or the type
-/// has no bounds.
+/// The bytes that hold the cell, as `read_bound` reads them; none where the cell isn't a value of this type, or the
+/// type has no bounds.
 pub fn write_bound(
     alloc: Global,
     column_type: &ColumnType,
@@ -193,8 +194,8 @@ pub fn write_bound(
     }
 }
 
-/// What single values in bytes are: bytes are read as the one cell that they hold, if they hold one, and what is written
-/// for a value is read as that value.
+/// What single values in bytes are: bytes are read as the one cell that they hold, if they hold one, and what is
+/// written for a value is read as that value.
 pub fn single_values()
     ensures read { (t : ColumnType) (c : Cell) (bs : List ℕ) → Holds t c bs ↔ (cell_in t bs ≡ Some c) }
     ensures of_type { (t : ColumnType) (c : Cell) → IsSome (written t c) ↔ (is_value t c ≡ true) }

@@ -7,7 +7,8 @@ ghost use Rattle.std.specs.declared.cmp.Ordering.TheVariants.{Less, Equal};
 ghost use Rattle.std.specs.Option.{option_map};
 ghost use Rattle.std.specs.Ordering.{ordering_reverse, is_lt};
 ghost use Rattle.ice_value.specs.Bounds.{fits_int, is_cell};
-ghost use Rattle.ice_value.specs.Cells.{order, AreOfOneKind, same_cell, same_tuple, kind_of, is_at_most, cell_cmp, tuple_cmp};
+ghost use Rattle.ice_value.specs.Cells.{order, AreOfOneKind, same_cell, same_tuple, kind_of, is_at_most, cell_cmp};
+ghost use Rattle.ice_value.specs.Cells.{tuple_cmp};
 ghost use Rattle.ice_value.specs.declared.cell.Cell.{Cell};
 ghost use Rattle.ice_value.specs.declared.column_type.ColumnType.{ColumnType};
 
@@ -105,8 +106,8 @@ impl Duplicate for Cell {
 }
 
 impl Cell {
-    /// Whether the cell is a value of the type. Null is of no type, no cell is of type float or double, and any bytes are of
-    /// type decimal.
+    /// Whether the cell is a value of the type. Null is of no type, no cell is of type float or double, and any bytes
+    /// are of type decimal.
     pub fn is_of(&self, column_type: &ColumnType) -> bool
         ensures { result ≡ is_cell column_type.now self.now }
     {

@@ -24,7 +24,7 @@ use Rattle.icescan.specs.declared.committing.CommitRequest.{CommitRequest}
 use Rattle.icescan.specs.declared.fault.RunFault.{RunFault}
 use Rattle.icescan.specs.declared.fault.RunFault.TheVariants as run
 use Rattle.icescan.specs.Changes.{change_of}
-use Rattle.icescan.specs.Commits.{Commitment, IsOfPreparing, IsReadFault, MayEndCommit, Writes, base_files, base_of, commitment, commitment_on}
+use Rattle.icescan.specs.Commits.{Commitment, IsOfPreparing, IsReadFault, MayEndCommit, Writes, base_files, base_of, change_asked, commitment, commitment_from, commitment_on}
 use Rattle.icescan.specs.Faults.{of_change, of_meta, of_prepare}
 use Rattle.icescan.specs.ListPlans.{MayEnd, as_run, file_in}
 use Rattle.icescan.proofs.Steps.{first_ends, then_ends}
@@ -140,110 +140,111 @@ module _ (o : Opening) (m : Described) (is : openable o.bytes ≡ Ok m) (c : Com
 
 -- ---- the request
 
-module _ (f : List ℕ → Type 0) (world : World) (request : CommitRequest) where
-  abbrev answer : Result Commitment RunFault
-  answer = commitment world request
-
+module _ (f : List ℕ → Type 0) (world : World) where
   fails : (path p : List ℕ) → EndsAt world f (path ∷ []) p → f p
   fails path p (inl h) = subst f (sym h.0) (subst f h.0 h.1)
   fails path p (inr h) = absurd h.1
 
-  pub no_metadata : (e : RunFault) → MayEnd (file_in world request.metadata) (EndsAt world f (request.metadata ∷ [])) ⊥ e
-      → MayEnd answer f ⊥ e
-  unfolding commitment
-  no_metadata e h =
-      first_ends f ⊥ (EndsAt world f (request.metadata ∷ [])) (file_in world request.metadata) _ e (fails request.metadata) h
-
-  module _ (bytes : List ℕ) (has : file_in world request.metadata ≡ Ok bytes) where
+  module _ (request : CommitRequest) where
     pub no_change : (e : RunFault) → MayEnd (file_in world request.change) (EndsAt world f (request.change ∷ [])) ⊥ e
-        → MayEnd answer f ⊥ e
-    unfolding commitment
+        → MayEnd (change_asked world request) f ⊥ e
+    unfolding change_asked
     no_change e h =
-        then_ends f ⊥ (file_in world request.metadata) _ bytes e has
-        (first_ends f ⊥ (EndsAt world f (request.change ∷ [])) (file_in world request.change) _ e (fails request.change) h)
+        first_ends f ⊥ (EndsAt world f (request.change ∷ [])) (file_in world request.change) _ e (fails request.change) h
 
     module _ (text : List ℕ) (found : file_in world request.change ≡ Ok text) where
       pub bad_change : (e : ChangeFault) → (e ≢ change.Memory → change_of request.kind text ≡ Err e)
-          → MayEnd answer f ⊥ (of_change e)
-      unfolding commitment
+          → MayEnd (change_asked world request) f ⊥ (of_change e)
+      unfolding change_asked
       bad_change e h =
-          then_ends f ⊥ (file_in world request.metadata) _ bytes (of_change e) has
-          (then_ends f ⊥ (file_in world request.change) _ text (of_change e) found
-          (first_ends f ⊥ f (as_run of_change (change_of request.kind text)) _ (of_change e) (λ p m. m)
-          (change_ends f ⊥ (change_of request.kind text) e h)))
+          then_ends f ⊥ (file_in world request.change) _ text (of_change e) found
+          (change_ends f ⊥ (change_of request.kind text) e h)
 
-      module _ (files : Change) (says : change_of request.kind text ≡ Ok files) where
-        change_is : as_run of_change (change_of request.kind text) ≡ Ok files
-        change_is = ap (as_run of_change) says
+      pub change_is : (files : Change) → change_of request.kind text ≡ Ok files → change_asked world request ≡ Ok files
+      unfolding change_asked
+      change_is files says = rw (found, says) refl
 
-        behind_change : (e : RunFault)
-            → MayEnd (as_run of_meta (openable bytes) >>= λ m. commitment_on (base_of world m) (record { change = files; ids = request.ids })) f ⊥ e
-            → MayEnd answer f ⊥ e
-        unfolding commitment
-        behind_change e h =
-            then_ends f ⊥ (file_in world request.metadata) _ bytes e has
-            (then_ends f ⊥ (file_in world request.change) _ text e found
-            (then_ends f ⊥ (as_run of_change (change_of request.kind text)) _ files e change_is h))
+    pub no_metadata : (e : RunFault) → MayEnd (file_in world request.metadata) (EndsAt world f (request.metadata ∷ [])) ⊥ e
+        → MayEnd (commitment world request) f ⊥ e
+    unfolding commitment
+    no_metadata e h =
+        first_ends f ⊥ (EndsAt world f (request.metadata ∷ [])) (file_in world request.metadata) _ e
+        (fails request.metadata) h
 
-        pub bad_metadata : (e : MetaFault) → (e ≢ meta.Memory → openable bytes ≡ Err e) → MayEnd answer f ⊥ (of_meta e)
-        bad_metadata e h =
-            behind_change (of_meta e)
-            (first_ends f ⊥ f (as_run of_meta (openable bytes)) _ (of_meta e) (λ p m. m) (meta_ends f ⊥ (openable bytes) e h))
+    module _ (bytes : List ℕ) (has : file_in world request.metadata ≡ Ok bytes) where
+      pub not_asked : (e : RunFault) → MayEnd (change_asked world request) f ⊥ e → MayEnd (commitment world request) f ⊥ e
+      unfolding commitment
+      not_asked e h =
+          then_ends f ⊥ (file_in world request.metadata) _ bytes e has
+          (first_ends f ⊥ f (change_asked world request) _ e (λ p m. m) h)
 
-        module _ (m : Described) (is : openable bytes ≡ Ok m) where
-          abbrev commit : Commit
-          commit = record { change = files; ids = request.ids }
+      pub asked_is : (files : Change) → change_asked world request ≡ Ok files
+          → commitment world request ≡ commitment_from world bytes (record { change = files; ids = request.ids })
+      unfolding commitment
+      asked_is files is = rw (has, is) refl
 
-          pub bad_base : (e : RunFault) → IsReadFault f e → MayEnd answer f ⊥ e
-          bad_base e h = read_ends f ⊥ answer e h
+  -- ---- a table's metadata, and the commit
 
-          answer_is : answer ≡ commitment_on (base_of world m) commit
-          unfolding commitment
-          answer_is = rw (has, found, says, is) refl
+  module _ (bytes : List ℕ) (commit : Commit) where
+    abbrev answer : Result Commitment RunFault
+    answer = commitment_from world bytes commit
 
-          module _ (kept : Kept) (base_is : kept ≡ base_files world (list_of Main m.table)) (v : History)
-              (opens_as : opened (record { bytes = bytes; world = kept }) ≡ Ok v) where
-            abbrev opening : Opening
-            opening = record { bytes = bytes; world = kept }
+    pub bad_metadata : (e : MetaFault) → (e ≢ meta.Memory → openable bytes ≡ Err e) → MayEnd answer f ⊥ (of_meta e)
+    unfolding commitment_from
+    bad_metadata e h =
+        first_ends f ⊥ f (as_run of_meta (openable bytes)) _ (of_meta e) (λ p m. m) (meta_ends f ⊥ (openable bytes) e h)
 
-            answer_on : answer ≡ commitment_on (record { metadata = m; world = kept }) commit
-            answer_on = answer_is ∙ ap (λ w. commitment_on (record { metadata = m; world = w }) commit) (sym base_is)
+    module _ (m : Described) (is : openable bytes ≡ Ok m) where
+      pub bad_base : (e : RunFault) → IsReadFault f e → MayEnd answer f ⊥ e
+      bad_base e h = read_ends f ⊥ answer e h
 
-            version_at : v ≡ record { opening = opening; journal = [] }
-            version_at = version_is opening m is commit v opens_as
+      answer_is : answer ≡ commitment_on (base_of world m) commit
+      unfolding commitment_from
+      answer_is = rw is refl
 
-            ends_on : (e : PrepareFault) → (e ≢ prepare.Memory → apply (record { metadata = m; world = kept }) commit ≡ Err e)
-                → MayEnd (commitment_on (record { metadata = m; world = kept }) commit) f ⊥ (of_prepare e)
-            unfolding commitment_on
-            ends_on e h =
-                first_ends f ⊥ f (as_run of_prepare (apply (record { metadata = m; world = kept }) commit)) _ (of_prepare e) (λ p m. m)
-                (prepare_ends f ⊥ (apply (record { metadata = m; world = kept }) commit) e h)
+      module _ (kept : Kept) (base_is : kept ≡ base_files world (list_of Main m.table)) (v : History)
+          (opens_as : opened (record { bytes = bytes; world = kept }) ≡ Ok v) where
+        abbrev opening : Opening
+        opening = record { bytes = bytes; world = kept }
 
-            pub not_prepared : (e : PrepareFault) → (e ≢ prepare.Memory → prepared_on v commit ≡ Err e)
-                → MayEnd answer f ⊥ (of_prepare e)
-            not_prepared e h =
-                subst (λ a. MayEnd a f ⊥ (of_prepare e)) (sym answer_on)
-                (ends_on e (λ no. refused_by opening m is commit e (rw version_at at (h no))))
+        answer_on : answer ≡ commitment_on (record { metadata = m; world = kept }) commit
+        answer_on = answer_is ∙ ap (λ w. commitment_on (record { metadata = m; world = w }) commit) (sym base_is)
 
-            pub prepared : (p : Step) → prepared_on v commit ≡ Ok p → (x : Commitment) × (answer ≡ Ok x) × Writes p x
-            prepared p h =
-                let made = made_by opening m is commit p (rw version_at at h) in
-                (made.0, answer_on ∙ made.1, made.2)
+        version_at : v ≡ record { opening = opening; journal = [] }
+        version_at = version_is opening m is commit v opens_as
 
-          pub not_opened : (kept : Kept) (e : MetaFault)
-              → (e ≢ meta.Memory → opened (record { bytes = bytes; world = kept }) ≡ Err e) → MayEnd answer f ⊥ (of_meta e)
-          not_opened kept meta.Memory h = tt
-          not_opened kept meta.NotJson h = absurd (opens _ m is commit _ (h (λ m. cc)))
-          not_opened kept (meta.Version n) h = absurd (opens _ m is commit _ (h (λ m. cc)))
-          not_opened kept (meta.Missing member) h = absurd (opens _ m is commit _ (h (λ m. cc)))
-          not_opened kept (meta.WrongKind member) h = absurd (opens _ m is commit _ (h (λ m. cc)))
-          not_opened kept (meta.UnknownType text) h = absurd (opens _ m is commit _ (h (λ m. cc)))
-          not_opened kept meta.NoSuchRef h = absurd (opens _ m is commit _ (h (λ m. cc)))
-          not_opened kept meta.NoSuchSnapshot h = absurd (opens _ m is commit _ (h (λ m. cc)))
-          not_opened kept meta.NoSnapshot h = absurd (opens _ m is commit _ (h (λ m. cc)))
-          not_opened kept (meta.IdTwice id) h = absurd (opens _ m is commit _ (h (λ m. cc)))
-          not_opened kept (meta.Dangling member) h = absurd (opens _ m is commit _ (h (λ m. cc)))
-          not_opened kept meta.TooBig h = absurd (opens _ m is commit _ (h (λ m. cc)))
+        ends_on : (e : PrepareFault) → (e ≢ prepare.Memory → apply (record { metadata = m; world = kept }) commit ≡ Err e)
+            → MayEnd (commitment_on (record { metadata = m; world = kept }) commit) f ⊥ (of_prepare e)
+        unfolding commitment_on
+        ends_on e h =
+            first_ends f ⊥ f (as_run of_prepare (apply (record { metadata = m; world = kept }) commit)) _ (of_prepare e) (λ p m. m)
+            (prepare_ends f ⊥ (apply (record { metadata = m; world = kept }) commit) e h)
+
+        pub not_prepared : (e : PrepareFault) → (e ≢ prepare.Memory → prepared_on v commit ≡ Err e)
+            → MayEnd answer f ⊥ (of_prepare e)
+        not_prepared e h =
+            subst (λ a. MayEnd a f ⊥ (of_prepare e)) (sym answer_on)
+            (ends_on e (λ no. refused_by opening m is commit e (rw version_at at (h no))))
+
+        pub prepared : (p : Step) → prepared_on v commit ≡ Ok p → (x : Commitment) × (answer ≡ Ok x) × Writes p x
+        prepared p h =
+            let made = made_by opening m is commit p (rw version_at at h) in
+            (made.0, answer_on ∙ made.1, made.2)
+
+      pub not_opened : (kept : Kept) (e : MetaFault)
+          → (e ≢ meta.Memory → opened (record { bytes = bytes; world = kept }) ≡ Err e) → MayEnd answer f ⊥ (of_meta e)
+      not_opened kept meta.Memory h = tt
+      not_opened kept meta.NotJson h = absurd (opens _ m is commit _ (h (λ m. cc)))
+      not_opened kept (meta.Version n) h = absurd (opens _ m is commit _ (h (λ m. cc)))
+      not_opened kept (meta.Missing member) h = absurd (opens _ m is commit _ (h (λ m. cc)))
+      not_opened kept (meta.WrongKind member) h = absurd (opens _ m is commit _ (h (λ m. cc)))
+      not_opened kept (meta.UnknownType text) h = absurd (opens _ m is commit _ (h (λ m. cc)))
+      not_opened kept meta.NoSuchRef h = absurd (opens _ m is commit _ (h (λ m. cc)))
+      not_opened kept meta.NoSuchSnapshot h = absurd (opens _ m is commit _ (h (λ m. cc)))
+      not_opened kept meta.NoSnapshot h = absurd (opens _ m is commit _ (h (λ m. cc)))
+      not_opened kept (meta.IdTwice id) h = absurd (opens _ m is commit _ (h (λ m. cc)))
+      not_opened kept (meta.Dangling member) h = absurd (opens _ m is commit _ (h (λ m. cc)))
+      not_opened kept meta.TooBig h = absurd (opens _ m is commit _ (h (λ m. cc)))
 
 -- ---- the causes of preparing
 

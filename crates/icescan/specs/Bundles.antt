@@ -1,5 +1,7 @@
--- A bundle: files that are handed over in one text, a line each: the path, escaped, one space, and the bytes as hexadecimal digits.
-use Rattle.std.specs.Prelude.{ℕ, ◌+◌, ◌==◌, List, [], ◌∷◌, ◌++◌, take, drop, position, Option, Some, None, is_some, option_and_then, Result, Ok, Err, if◌then◌else◌}
+-- A bundle: files that are handed over in one text, a line each: the path, escaped, one space, and the bytes as
+-- hexadecimal digits.
+use Rattle.std.specs.Prelude.{ℕ, ◌+◌, ◌==◌, List, [], ◌∷◌, ◌++◌, take, drop, position, Option, Some, None, is_some}
+use Rattle.std.specs.Prelude.{option_and_then, Result, Ok, Err, if◌then◌else◌}
 use Rattle.std.specs.Result.{result_ok}
 use Rattle.std.specs.Str.{bytes_eq, is_utf8}
 use Rattle.hex.specs.Hex.{decode_of}

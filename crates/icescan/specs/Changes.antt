@@ -1,8 +1,10 @@
--- A change file: a JSON object that says which files a commit adds. Its members `data` and `deletes` are arrays of objects,
--- one for each file, with what a manifest says of the file (Apache Iceberg table spec v2, "Manifests"): where it is, its
--- format, its partition, how many rows and bytes it has, and of a delete file also what it deletes by. All of it is read in
--- the order of the lines here; the first line that has a fault gives it. Members that stand nowhere here are not looked at.
-use Rattle.std.specs.Prelude.{ℕ, ℤ, List, [], ◌∷◌, ◌++◌, codes, Option, Some, None, option_and_then, option_map, Result, Ok, Err, if◌then◌else◌}
+-- A change file: a JSON object that says which files a commit adds. Its members `data` and `deletes` are arrays of
+-- objects, one for each file, with what a manifest says of the file (Apache Iceberg table spec v2, "Manifests"): where
+-- it is, its format, its partition, how many rows and bytes it has, and of a delete file also what it deletes by. All
+-- of it is read in the order of the lines here; the first line that has a fault gives it. Members that stand nowhere
+-- here are not looked at.
+use Rattle.std.specs.Prelude.{ℕ, ℤ, List, [], ◌∷◌, ◌++◌, codes, Option, Some, None, option_and_then, option_map, Result}
+use Rattle.std.specs.Prelude.{Ok, Err, if◌then◌else◌}
 use Rattle.std.specs.Option.{is_some}
 use Rattle.std.specs.Result.{result_ok}
 use Rattle.std.specs.Str.{bytes_eq, is_utf8}

@@ -1,12 +1,14 @@
--- What a commit to a table writes: Apache Iceberg table spec, version 2, "Optimistic Concurrency" and "File System Tables".
--- It is made on the table's current snapshot; the metadata that names the new files comes last, so that whoever reads the
--- table has all of the commit or none of it.
-use Rattle.std.specs.Prelude.{◌≡◌, ◌⊎◌, false, ℕ, ℤ, List, [], ◌∷◌, ◌++◌, codes, Option, Some, None, option_map, Result, Ok, Err, if◌then◌else◌}
+-- What a commit to a table writes: Apache Iceberg table spec, version 2, "Optimistic Concurrency" and
+-- "File System Tables". It is made on the table's current snapshot; the metadata that names the new files comes last,
+-- so that whoever reads the table has all of the commit or none of it.
+use Rattle.std.specs.Prelude.{◌≡◌, ◌⊎◌, false, ℕ, ℤ, List, [], ◌∷◌, ◌++◌, codes, Option, Some, None, option_map, Result}
+use Rattle.std.specs.Prelude.{Ok, Err, if◌then◌else◌}
 use Rattle.std.specs.FinMap.{empty, insert}
 use Rattle.std.specs.List.{flat_map}
 use Rattle.hex.specs.Hex.{encode_lower}
 use Rattle.contract_words.specs.Outcome.{◌>>=◌}
 use Rattle.serde_json.specs.Written.{compact_text, has_float}
+use Rattle.ice_catalog.specs.declared.change.Change.{Change}
 use Rattle.ice_catalog.specs.declared.change.Commit.{Commit}
 use Rattle.ice_catalog.specs.declared.world.World.{World as Kept}
 use Rattle.ice_catalog.specs.Applying.{apply}
@@ -79,17 +81,25 @@ pub record Commitment : Type 0 where
 -- a commit on a base, or why it can't be made
 unfoldable pub commitment_on : State → Commit → Result Commitment RunFault
 commitment_on base commit =
-    as_run of_prepare (apply base commit) >>= λ next. Ok (record { added = added base commit; metadata = next.metadata })
+    as_run of_prepare (apply base commit) >>= λ next.
+    Ok (record { added = added base commit; metadata = next.metadata })
 
--- What a request to commit writes, or the first refusal: there is no metadata or no change at its path, the change can't be
--- read, the metadata can't be read or its current snapshot is not there, or the change can't be committed.
+-- the change that is asked for, or why there is none
+unfoldable pub change_asked : World → CommitRequest → Result Change RunFault
+change_asked world request = file_in world request.change >>= λ text. as_run of_change (change_of request.kind text)
+
+-- what a commit writes to the table of this metadata file, or why it can't be made
+unfoldable pub commitment_from : World → List ℕ → Commit → Result Commitment RunFault
+commitment_from world bytes commit =
+    as_run of_meta (openable bytes) >>= λ metadata. commitment_on (base_of world metadata) commit
+
+-- What a request to commit writes, or the first refusal: there is no metadata or no change at its path, the change
+-- can't be read, the metadata can't be read or its current snapshot is not there, or the change can't be committed.
 unfoldable pub commitment : World → CommitRequest → Result Commitment RunFault
 commitment world request = do
   bytes ← file_in world request.metadata
-  text ← file_in world request.change
-  change ← as_run of_change (change_of request.kind text)
-  metadata ← as_run of_meta (openable bytes)
-  commitment_on (base_of world metadata) (record { change = change; ids = request.ids })
+  change ← change_asked world request
+  commitment_from world bytes (record { change = change; ids = request.ids })
 
 -- The bytes of a metadata file: they are read as the metadata; where no number in it has a fraction they are its JSON
 -- without white space.
@@ -118,7 +128,8 @@ bundle_lines files = flat_map file_line files
 
 -- what is told of a commit that was made: the snapshot's id and its sequence number
 unfoldable pub receipt_text : ℤ → ℕ → List ℕ
-receipt_text id number = named_signed (codes "committed snapshot ") id ++ (named_number (codes " seq ") number ++ 10 ∷ [])
+receipt_text id number =
+    named_signed (codes "committed snapshot ") id ++ (named_number (codes " seq ") number ++ 10 ∷ [])
 
 -- ---- what a commit leaves in a store
 
@@ -128,7 +139,8 @@ IsPut c out files files' =
     (bytes : List ℕ) × IsTextOf c.metadata bytes × PutsAll files files' (in_order c.added out bytes)
 
 -- a commit was made: its files were put in their order, and it was told
-pub record Made (c : Commitment) (request : CommitRequest) (files files' : Option (List File)) (output output' : Option (List ℕ)) : Type 0 where
+pub record Made (c : Commitment) (request : CommitRequest) (files files' : Option (List File))
+    (output output' : Option (List ℕ)) : Type 0 where
   pub bytes : List ℕ
   pub text : IsTextOf c.metadata bytes
   pub puts : PutsAll files files' (in_order c.added request.out bytes)
@@ -149,8 +161,8 @@ pub record IsTaken (c : Commitment) (out path : List ℕ) (files files' : Option
   pub puts : PutsAll files files' c.added
   pub there : MayHave files' out
 
--- Why a request to commit ends with a fault: memory ran out, a read failed that may fail, the fault is the answer's, or there
--- is an answer and a write failed, or a file stands where its metadata was to be.
+-- Why a request to commit ends with a fault: memory ran out, a read failed that may fail, the fault is the answer's, or
+-- there is an answer and a write failed, or a file stands where its metadata was to be.
 abbrev pub MayEndCommit : Result Commitment RunFault → (List ℕ → Type 0) → RunFault → Type 0
 MayEndCommit read may_fail_at run.Write = (c : Commitment) × (read ≡ Ok c)
 MayEndCommit read may_fail_at (run.Conflict path) = (c : Commitment) × (read ≡ Ok c)

@@ -1,5 +1,6 @@
 -- A drill: threads that commit to one table in memory at once. Threads and the commits of a thread count from 0.
-use Rattle.std.specs.Prelude.{◌≡◌, ℕ, ◌+◌, ◌*◌, ◌<◌, ◌≤◌, pos, Bool, true, false, List, [], ◌∷◌, ◌++◌, length, codes, Option, Some, Result, Ok}
+use Rattle.std.specs.Prelude.{◌≡◌, ℕ, ◌+◌, ◌*◌, ◌<◌, ◌≤◌, pos, Bool, true, false, List, [], ◌∷◌, ◌++◌, length, codes}
+use Rattle.std.specs.Prelude.{Option, Some, Result, Ok}
 use Rattle.std.specs.List.{list_any}
 use Rattle.std.specs.FinMap as map
 use Rattle.std.specs.Fmt.{decimal}
@@ -38,7 +39,8 @@ IsTurn thread commit = (thread < 64) × (commit < 100)
 
 -- mem://drill/THREAD-COMMIT.parquet
 abbrev pub file_path : ℕ → ℕ → List ℕ
-file_path thread commit = codes "mem://drill/" ++ (decimal thread ++ (codes "-" ++ (decimal commit ++ codes ".parquet")))
+file_path thread commit =
+    codes "mem://drill/" ++ (decimal thread ++ (codes "-" ++ (decimal commit ++ codes ".parquet")))
 
 -- data of one row and one byte, in a table without partitions
 abbrev pub new_file : ℕ → ℕ → NewFile
@@ -125,7 +127,8 @@ EachSawItsFiles first count commits = (i : ℕ) → i < count → SawItsFiles (f
 -- how many commits the last version has, its last sequence number, and the last line of its plan
 unfoldable pub drill_text : ℕ → ℕ → List OwnedLine → List ℕ
 drill_text commits sequence plan =
-    named_number (codes "commits ") commits ++ (named_number (codes "\nlast-sequence-number ") sequence ++ (codes "\n" ++ totals_text plan))
+    named_number (codes "commits ") commits
+    ++ (named_number (codes "\nlast-sequence-number ") sequence ++ (codes "\n" ++ totals_text plan))
 
 abbrev pub sequence_of : History → Option ℕ
 sequence_of h = option_map (λ s. s.metadata.table.last_sequence_number) (state_of h)

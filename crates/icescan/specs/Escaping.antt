@@ -1,6 +1,7 @@
--- Paths and names as the program's own texts show them: a space, a control byte, a backslash and the byte 7f as `\x` and
--- two hexadecimal digits. (92 is the backslash, 120 the letter x, 48 the digit 0, 97 the letter a.)
-use Rattle.std.specs.Prelude.{ℕ, ◌+◌, ◌*◌, ◌-◌, ◌/◌, ◌%◌, Bool, ◌||◌, ◌&&◌, ◌==◌, nat_lt, nat_le, List, [], ◌∷◌, Option, Some, None, if◌then◌else◌}
+-- Paths and names as the program's own texts show them: a space, a control byte, a backslash and the byte 7f as `\x`
+-- and two hexadecimal digits. (92 is the backslash, 120 the letter x, 48 the digit 0, 97 the letter a.)
+use Rattle.std.specs.Prelude.{ℕ, ◌+◌, ◌*◌, ◌-◌, ◌/◌, ◌%◌, Bool, ◌||◌, ◌&&◌, ◌==◌, nat_lt, nat_le, List, [], ◌∷◌, Option}
+use Rattle.std.specs.Prelude.{Some, None, if◌then◌else◌}
 use Rattle.std.specs.List.{flat_map}
 
 -- a hexadecimal digit below 16, in lower case
@@ -19,7 +20,8 @@ escaped bytes = flat_map escaped_byte bytes
 
 -- the number that a hexadecimal digit in lower case stands for
 abbrev pub digit_value : ℕ → Option ℕ
-digit_value c = if nat_le 48 c && nat_le c 57 then Some (c - 48) else if nat_le 97 c && nat_le c 102 then Some (c - 87) else None
+digit_value c = if nat_le 48 c && nat_le c 57 then Some (c - 48)
+    else if nat_le 97 c && nat_le c 102 then Some (c - 87) else None
 
 -- the byte, where it is one that has to be escaped
 abbrev pub only_escaped : ℕ → Option ℕ
@@ -43,10 +45,12 @@ plain_byte b = if is_escaped b then None else Some b
 
 -- the byte that four bytes stand for
 abbrev pub escape_byte : ℕ → ℕ → ℕ → ℕ → Option ℕ
-escape_byte backslash x high low = if backslash == 92 && x == 120 then digits_byte (digit_value high) (digit_value low) else None
+escape_byte backslash x high low = if backslash == 92 && x == 120
+    then digits_byte (digit_value high) (digit_value low) else None
 
 -- what an escaped text stands for; any other text stands for nothing
 abbrev pub unescaped : List ℕ → Option (List ℕ)
 unescaped [] = Some []
-unescaped (a ∷ b ∷ c ∷ d ∷ rest) = if is_escaped a then before (escape_byte a b c d) (unescaped rest) else before (Some a) (unescaped (b ∷ c ∷ d ∷ rest))
+unescaped (a ∷ b ∷ c ∷ d ∷ rest) = if is_escaped a then before (escape_byte a b c d) (unescaped rest)
+    else before (Some a) (unescaped (b ∷ c ∷ d ∷ rest))
 unescaped (a ∷ rest) = before (plain_byte a) (unescaped rest)

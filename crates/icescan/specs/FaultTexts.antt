@@ -1,6 +1,6 @@
 -- The program's own line for a fault: number, name and arguments, with a nested fault in place of its argument.
--- S is a fault of a schema, V of a container, M of metadata, N of a list or a manifest, F of a filter, X of a scan, Z of a
--- plan, C of a change file, K of a commit, B of the bundle, P of a read or of the number of workers, W of a write.
+-- S is a fault of a schema, V of a container, M of metadata, N of a list or a manifest, F of a filter, X of a scan, Z
+-- of a plan, C of a change file, K of a commit, B of the bundle, P of a read or of the number of workers, W of a write.
 use Rattle.std.specs.Prelude.{ℕ, List, [], ◌∷◌, ◌++◌, codes}
 use Rattle.avro_schema.specs.declared.fault.SchemaFault.{SchemaFault}
 use Rattle.avro_schema.specs.declared.fault.SchemaFault.TheVariants as schema

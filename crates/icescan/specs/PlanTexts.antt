@@ -41,7 +41,8 @@ deletes_of l = length l.positions + length l.equalities
 
 -- the last line: how many data files, and how many lines of delete files
 unfoldable pub totals_text : List OwnedLine → List ℕ
-totals_text plan = named_number (codes "files ") (length plan) ++ (named_number (codes " deletes ") (sum_by deletes_of plan) ++ 10 ∷ [])
+totals_text plan = named_number (codes "files ") (length plan)
+    ++ (named_number (codes " deletes ") (sum_by deletes_of plan) ++ 10 ∷ [])
 
 -- the data files, and then the last line
 unfoldable pub plan_text : List OwnedLine → List ℕ

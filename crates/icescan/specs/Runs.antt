@@ -1,5 +1,6 @@
 -- The whole program: what it makes of its words and of standard input.
-use Rattle.std.specs.Prelude.{◌≡◌, ◌≢◌, ◌⊎◌, ℕ, Bool, true, false, ◌&&◌, List, [], ◌∷◌, codes, Option, Some, None, IfSome, Result, Ok, Err, OnOk, IfErr, IsErrOf}
+use Rattle.std.specs.Prelude.{◌≡◌, ◌≢◌, ◌⊎◌, ℕ, Bool, true, false, ◌&&◌, List, [], ◌∷◌, codes, Option, Some, None}
+use Rattle.std.specs.Prelude.{IfSome, Result, Ok, Err, OnOk, IfErr, IsErrOf}
 use Rattle.std.specs.Str.{bytes_eq}
 use Rattle.contract_words.specs.Outcome.{◌>>=◌}
 use Rattle.ice_state.specs.Lines.{OwnedLine}
@@ -66,8 +67,8 @@ bundle_text list input = do
 unfoldable pub shown_text : List ℕ → List ℕ → Result (List ℕ) RunFault
 shown_text path input = bundle_of input >>= λ files. shown_at (λ path. bytes_at files path) path
 
--- the text of the plan that is asked of a table in a bundle, by so many workers, or the first fault: of the bundle, of the
--- file with the metadata, of the number of workers, of the plan
+-- the text of the plan that is asked of a table in a bundle, by so many workers, or the first fault: of the bundle, of
+-- the file with the metadata, of the number of workers, of the plan
 unfoldable pub planned_text : List ℕ → Request → ℕ → List ℕ → Result (List ℕ) RunFault
 planned_text path request workers input = do
   files ← bundle_of input
@@ -111,16 +112,18 @@ WroteText read output output' = (text : List ℕ) × (read ≡ Ok text) × Appen
 abbrev pub WroteFront : Result (List ℕ) RunFault → Option (List ℕ) → Option (List ℕ) → Type 0
 WroteFront read output output' = (text : List ℕ) × (read ≡ Ok text) × AppendsFront output output' text
 
--- What a run gives: the text is written, or there is a fault, and nothing was written but after a failed write. Where the
--- answer is known, the text is the answer's, and so is the fault.
-pub record Ran (known : Option (Result (List ℕ) RunFault)) (write_may_fail : Type 0) (result : Result Unit RunFault) (output output' : Option (List ℕ)) : Type 0 where
+-- What a run gives: the text is written, or there is a fault, and nothing was written but after a failed write. Where
+-- the answer is known, the text is the answer's, and so is the fault.
+pub record Ran (known : Option (Result (List ℕ) RunFault)) (write_may_fail : Type 0) (result : Result Unit RunFault)
+    (output output' : Option (List ℕ)) : Type 0 where
   pub written : OnOk result (IfSome known (λ read. WroteText read output output'))
   pub refused : IfErr result (λ fault. IfSome known (λ read. MayRefuse read write_may_fail fault))
   pub nothing : IfErr result (λ fault. fault ≢ run.Write → output' ≡ output)
   pub front : IsErrOf result run.Write → IfSome known (λ read. WroteFront read output output')
 
 -- the program ended with status 0: it wrote the text to its output
-pub record Answered (known : Option (Result (List ℕ) RunFault)) (status : ℕ) (output output' errors errors' : Option (List ℕ)) : Type 0 where
+pub record Answered (known : Option (Result (List ℕ) RunFault)) (status : ℕ)
+    (output output' errors errors' : Option (List ℕ)) : Type 0 where
   pub written : IfSome known (λ read. WroteText read output output')
   pub status_is : status ≡ 0
   pub silent : errors' ≡ errors
@@ -132,7 +135,8 @@ pub record Told (write_may_fail : Type 0) (errors errors' : Option (List ℕ)) (
 
 -- The program ended with a fault: it told it, and wrote nothing else but after a failed write, and then a front of the
 -- text. The types say whether a write of the output, and one of the fault, may fail.
-pub record Refused (known : Option (Result (List ℕ) RunFault)) (write_may_fail tell_may_fail : Type 0) (status : ℕ) (output output' errors errors' : Option (List ℕ)) : Type 0 where
+pub record Refused (known : Option (Result (List ℕ) RunFault)) (write_may_fail tell_may_fail : Type 0) (status : ℕ)
+    (output output' errors errors' : Option (List ℕ)) : Type 0 where
   pub fault : RunFault
   pub cause : IfSome known (λ read. MayRefuse read write_may_fail fault)
   pub status_is : status ≡ status_of fault

@@ -37,17 +37,22 @@ bound_in schema (Some parts) = bound_parts schema parts
 abbrev pub schema_of : Target → Table → Result Schema MetaFault
 schema_of target table = asked (Dangling member.CurrentSchemaId) (schema_for target table)
 
+-- What a snapshot of a table and a filter select, or the first refusal: that of the snapshot, or of what the filter
+-- asks of the schema.
+unfoldable pub selected_by : Table → Target → Option (List (Part Leaf)) → Result Selection RunFault
+selected_by table target parts = do
+  list ← as_run of_meta (list_of target table)
+  schema ← as_run of_meta (schema_of target table)
+  filter ← as_run of_filter (bound_in schema parts)
+  Ok (record { list = list; specs = bound_specs schema table; filter = record { parts = filter } })
+
 -- What a request selects, or the first refusal: of the metadata, of the filter's text, of the snapshot that is asked
--- for,
--- of what the filter asks of the schema.
+-- for, of what the filter asks of the schema.
 unfoldable pub selected : List ℕ → Request → Result Selection RunFault
 selected metadata request = do
   described ← as_run of_meta (metadata_of metadata)
   parts ← as_run of_filter (parts_in request.filter)
-  list ← as_run of_meta (list_of request.target described.table)
-  schema ← as_run of_meta (schema_of request.target described.table)
-  filter ← as_run of_filter (bound_in schema parts)
-  Ok (record { list = list; specs = bound_specs schema described.table; filter = record { parts = filter } })
+  selected_by described.table request.target parts
 
 -- the faults of a request and its metadata
 abbrev pub IsOfRequest : RunFault → Type 0

@@ -1,5 +1,6 @@
 -- Where new files are put: what a store has, where it tells its files, and what is put there.
-use Rattle.std.specs.Prelude.{◌≡◌, true, ℕ, ◌≤◌, List, [], ◌∷◌, ◌++◌, length, map, take, slice_get, Option, Some, None, is_some}
+use Rattle.std.specs.Prelude.{◌≡◌, true, ℕ, ◌≤◌, List, [], ◌∷◌, ◌++◌, length, map, take, slice_get, Option, Some, None}
+use Rattle.std.specs.Prelude.{is_some}
 use Rattle.ice_catalog.specs.States.{Added}
 use Rattle.icescan.specs.Bundles.{File, bytes_at}
 use Rattle.icescan.specs.declared.store.StoreFault.{StoreFault}
@@ -41,7 +42,8 @@ MayRefuse files may_fail path store.Failed = may_fail
 MayRefuse files may_fail path store.Memory = Unit {0}
 
 -- Files were put up to one that was refused.
-pub record StopsAt (old new : Option (List File)) (may_fail : Type 0) (added : Added) (fault : StoreFault) : Type 0 where
+pub record StopsAt (old new : Option (List File)) (may_fail : Type 0) (added : Added)
+    (fault : StoreFault) : Type 0 where
   pub count : ℕ
   pub file : List ℕ × List ℕ
   pub next : slice_get added count ≡ Some file

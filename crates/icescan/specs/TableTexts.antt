@@ -1,5 +1,6 @@
 -- The program's own text of a table's metadata. (10 is the line feed.)
-use Rattle.std.specs.Prelude.{ℕ, ℤ, Bool, not, List, [], ◌∷◌, ◌++◌, length, filter, codes, Option, Some, None, option_map, option_to_list}
+use Rattle.std.specs.Prelude.{ℕ, ℤ, Bool, not, List, [], ◌∷◌, ◌++◌, length, filter, codes, Option, Some, None}
+use Rattle.std.specs.Prelude.{option_map, option_to_list}
 use Rattle.std.specs.Fmt.{signed_decimal}
 use Rattle.std.specs.List.{flat_map}
 use Rattle.std.specs.Ordering.{is_lt, int_cmp, nat_cmp, ordering_then}
@@ -55,11 +56,13 @@ spec_order a b = int_cmp a.id b.id
 
 -- its numbers
 unfoldable pub change_text : Snapshot → List ℕ
-change_text s = named_signed (codes "snapshot ") s.id ++ (named_number (codes " seq ") s.sequence_number ++ named_signed (codes " at ") s.timestamp_ms)
+change_text s = named_signed (codes "snapshot ") s.id
+    ++ (named_number (codes " seq ") s.sequence_number ++ named_signed (codes " at ") s.timestamp_ms)
 
 -- what may be absent
 unfoldable pub origin_text : Snapshot → List ℕ
-origin_text s = named_id (codes " parent ") s.parent_id ++ (named_text (codes " operation ") s.operation ++ named_text (codes " list ") s.manifest_list)
+origin_text s = named_id (codes " parent ") s.parent_id
+    ++ (named_text (codes " operation ") s.operation ++ named_text (codes " list ") s.manifest_list)
 
 unfoldable pub snapshot_line : Snapshot → List ℕ
 snapshot_line s = change_text s ++ (origin_text s ++ 10 ∷ [])
@@ -98,7 +101,8 @@ uuid_text uuid = codes "table-uuid " ++ hyphenated_text lower uuid
 -- what a table has one of
 unfoldable pub head_text : Table → List ℕ
 head_text t =
-    uuid_text t.uuid ++ (named_path (codes "\nlocation ") t.location ++ (named_number (codes "\nlast-sequence-number ") t.last_sequence_number
+    uuid_text t.uuid ++ (named_path (codes "\nlocation ") t.location
+    ++ (named_number (codes "\nlast-sequence-number ") t.last_sequence_number
     ++ (named_id (codes "\ncurrent-snapshot ") t.current_snapshot_id ++ 10 ∷ [])))
 
 unfoldable pub table_text : Table → List ℕ

@@ -12,7 +12,8 @@ abbrev pub AppendsFront : Option (List ℕ) → Option (List ℕ) → List ℕ �
 AppendsFront old new bytes = (n : ℕ) × (n ≤ length bytes) × Appends old new (take n bytes)
 
 -- what a call wrote of a text: all of it, or a front where a write failed
-pub record Wrote {X : Type 0} (taken : X → Option (List ℕ)) (may_fail : X → Type 0) (old : X) (result : Result Unit SinkFault) (new : X) (text : List ℕ) : Type 0 where
+pub record Wrote {X : Type 0} (taken : X → Option (List ℕ)) (may_fail : X → Type 0) (old : X)
+    (result : Result Unit SinkFault) (new : X) (text : List ℕ) : Type 0 where
   pub all : OnOk result (Appends (taken old) (taken new) text)
   pub front : OnErr result (AppendsFront (taken old) (taken new) text)
   pub cause : OnErr result (may_fail old)
@@ -20,7 +21,8 @@ pub record Wrote {X : Type 0} (taken : X → Option (List ℕ)) (may_fail : X �
 
 -- What a call sent of a text to a sink, behind pieces that wait: what the sink took and what waits now are together
 -- what waited before and the text. Where a write failed, the sink took a front of these.
-pub record Sent {X : Type 0} (taken : X → Option (List ℕ)) (may_fail : X → Type 0) (old : X) (waits : List ℕ) (result : Result Unit SinkFault) (new : X) (waits' : List ℕ) (text : List ℕ) : Type 0 where
+pub record Sent {X : Type 0} (taken : X → Option (List ℕ)) (may_fail : X → Type 0) (old : X) (waits : List ℕ)
+    (result : Result Unit SinkFault) (new : X) (waits' : List ℕ) (text : List ℕ) : Type 0 where
   pub all : OnOk result ((sent : List ℕ) × Appends (taken old) (taken new) sent × (sent ++ waits' ≡ waits ++ text))
   pub front : OnErr result (AppendsFront (taken old) (taken new) (waits ++ text))
   pub cause : OnErr result (may_fail old)

@@ -17,7 +17,8 @@ use ice_manifest::{ListFault, Row, read_list};
 use ice_meta::{MetaFault, Metadata, Target};
 use std::alloc::{AllocError, Global};
 
-/// The metadata of these bytes, where a commit can be made on it: the current snapshot, if any, is there and has a list.
+/// The metadata of these bytes, where a commit can be made on it: the current snapshot, if any, is there and has a
+/// list.
 pub fn read_metadata(alloc: Global, bytes: &[u8]) -> Result<Metadata, MetaFault>
     ensures { Gives MetaFault.Memory (λ m. described m.json m.table) result (openable bytes.now) }
 {
@@ -92,8 +93,8 @@ fn manifests_of(alloc: Global, list: Option<&[u8]>) -> Result<Vec<Text>, AllocEr
     }
 }
 
-/// The list of the table's current snapshot and its manifests, those that are there. The refusal is `Device` for the first
-/// whose read failed, or `Memory`.
+/// The list of the table's current snapshot and its manifests, those that are there. The refusal is `Device` for the
+/// first whose read failed, or `Memory`.
 pub fn read_base<F: Files>(alloc: Global, files: &F, metadata: &Metadata) -> Result<World, RunFault>
     ensures base { (world : Told) → F.world files.now ≡ Some world →
         IfOk result (λ kept. kept ≡ base_files world (list_of Main metadata.now.table)) }

@@ -1,6 +1,7 @@
 //! Files that are handed over in one text, a line each.
 
-ghost use Rattle.std.specs.Prelude.{◌≡◌, ◌≢◌, ◌+◌, ◌<◌, ◌==◌, ◌∷◌, length, position, [], option_map, string_bytes, IfOk, OnOk, IfErr, Some, Ok, Err};
+ghost use Rattle.std.specs.Prelude.{◌≡◌, ◌≢◌, ◌+◌, ◌<◌, ◌==◌, ◌∷◌, length, position, [], option_map, string_bytes};
+ghost use Rattle.std.specs.Prelude.{IfOk, OnOk, IfErr, Some, Ok, Err};
 ghost use Rattle.contract_words.specs.Outcome.{Gives};
 ghost use Rattle.icescan.specs.Bundles.{added, bundle_of, bytes_of, file_of, first_path, lines_of, path_of};
 

@@ -3,7 +3,8 @@
 ghost use Rattle.std.specs.Prelude.{◌≡◌};
 ghost use Rattle.contract_words.specs.Outcome.{Gives};
 ghost use Rattle.serde_json.specs.View.{items_view, view};
-ghost use Rattle.icescan.specs.Changes.{allowed, change_in, change_of, delete_file_of, each, file_of, json_of, text_json};
+ghost use Rattle.icescan.specs.Changes.{allowed, change_in, change_of, delete_file_of, each, file_of, json_of};
+ghost use Rattle.icescan.specs.Changes.{text_json};
 
 mod fault;
 mod members;
@@ -102,8 +103,8 @@ fn change_from(alloc: Global, json: &Value, kind: ChangeKind) -> Result<Change, 
     })
 }
 
-/// The change that a file says, or its first fault in the order in which its members are read: both arrays, whether there
-/// may be delete files, and then file by file.
+/// The change that a file says, or its first fault in the order in which its members are read: both arrays, whether
+/// there may be delete files, and then file by file.
 #[tactic(auto, unfolding(crate::specs::Changes::change_of))]
 pub fn read_change(alloc: Global, bytes: &[u8], kind: ChangeKind) -> Result<Change, ChangeFault>
     ensures { Gives ChangeFault.Memory (λ change. change) result (change_of kind bytes.now) }

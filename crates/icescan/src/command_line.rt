@@ -175,12 +175,14 @@ fn with_source<'a>(alloc: Global, command: Command<'a>) -> Result<Command<'a>, A
         .help(
             "Read the files from standard input: a line each, its path, a space and its bytes in hexadecimal",
         );
+    let command = command.arg(bundle)?;
     let dir = Arg::new(alloc, "dir")
         .long("dir")
         .value_name("DIR")
         .value_parser(ValueParser::NonEmptyString)
         .requires_arg("prefix")?
         .help("Read the files below this folder");
+    let command = command.arg(dir)?;
     let prefix = Arg::new(alloc, "prefix")
         .long("prefix")
         .value_name("TEXT")
@@ -188,11 +190,12 @@ fn with_source<'a>(alloc: Global, command: Command<'a>) -> Result<Command<'a>, A
         .help(
             "The front of the table's paths that the folder stands for: PREFIX/a is the file DIR/a",
         );
+    let command = command.arg(prefix)?;
     let ways = ArgGroup::new(alloc, "files")
         .arg("bundle")?
         .arg("dir")?
         .required(true);
-    command.arg(bundle)?.arg(dir)?.arg(prefix)?.group(ways)
+    command.group(ways)
 }
 
 /// The command `list-plan`.
@@ -215,19 +218,21 @@ fn with_request<'a>(alloc: Global, command: Command<'a>) -> Result<Command<'a>, 
         .value_name("NAME")
         .conflicts_with("snapshot")?
         .help("Plan the snapshot of this branch or tag, and not the current one");
+    let command = command.arg(named)?;
     let snapshot = Arg::new(alloc, "snapshot")
         .long("snapshot")
         .value_name("ID")
         .value_parser(value_parser!(i64))
         .allow_negative_numbers(true)
         .help("Plan the snapshot of this id");
+    let command = command.arg(snapshot)?;
     let filter = Arg::new(alloc, "filter")
         .long("filter")
         .value_name("TEXT")
         .help(
             "Leave out the files that have no row that meets this; `plan --help` shows how it is written",
         );
-    command.arg(named)?.arg(snapshot)?.arg(filter)
+    command.arg(filter)
 }
 
 /// The option that says how many workers plan.
@@ -271,29 +276,29 @@ fn show_command<'a>(alloc: Global) -> Result<Command<'a>, AllocError> {
 
 /// The command `drill`.
 fn drill_command<'a>(alloc: Global) -> Result<Command<'a>, AllocError> {
+    let command = Command::new(alloc, "drill")
+        .about(
+            "Try commits at once: threads that commit to one table in memory, and see that none is lost",
+        )
+        .after_long_help(DRILL_EXAMPLE);
     let threads = Arg::new(alloc, "threads")
         .long("threads")
         .value_name("T")
         .value_parser(ValueParser::unsigned(1, 64))
         .required(true)
         .help("How many threads commit at once: from 1 to 64");
+    let command = command.arg(threads)?;
     let commits = Arg::new(alloc, "commits")
         .long("commits")
         .value_name("C")
         .value_parser(ValueParser::unsigned(1, 100))
         .required(true)
         .help("How many commits each of them makes: from 1 to 100");
-    Command::new(alloc, "drill")
-        .about(
-            "Try commits at once: threads that commit to one table in memory, and see that none is lost",
-        )
-        .after_long_help(DRILL_EXAMPLE)
-        .arg(threads)?
-        .arg(commits)
+    command.arg(commits)
 }
 
-/// The options that name a commit, and the paths that it is about.
-fn with_commit<'a>(alloc: Global, command: Command<'a>) -> Result<Command<'a>, AllocError> {
+/// The options that name a commit.
+fn with_names<'a>(alloc: Global, command: Command<'a>) -> Result<Command<'a>, AllocError> {
     let snapshot = Arg::new(alloc, "snapshot-id")
         .long("snapshot-id")
         .value_name("N")
@@ -301,11 +306,13 @@ fn with_commit<'a>(alloc: Global, command: Command<'a>) -> Result<Command<'a>, A
         .allow_negative_numbers(true)
         .required(true)
         .help("The id of the new snapshot; no snapshot of the table may have it");
+    let command = command.arg(snapshot)?;
     let uuid = Arg::new(alloc, "uuid")
         .long("uuid")
         .value_name("U")
         .required(true)
         .help("A new UUID, by which the new manifests and the new list are named");
+    let command = command.arg(uuid)?;
     let now = Arg::new(alloc, "now-ms")
         .long("now-ms")
         .value_name("N")
@@ -313,26 +320,28 @@ fn with_commit<'a>(alloc: Global, command: Command<'a>) -> Result<Command<'a>, A
         .allow_negative_numbers(true)
         .required(true)
         .help("The time of the commit, in milliseconds since 1970-01-01 00:00 UTC");
+    command.arg(now)
+}
+
+/// The options that name a commit, and the paths that it is about.
+fn with_commit<'a>(alloc: Global, command: Command<'a>) -> Result<Command<'a>, AllocError> {
+    let command = with_names(alloc, command)?;
     let out = Arg::new(alloc, "out")
         .long("out")
         .value_name("PATH")
         .required(true)
         .help("The path of the new metadata, where no file may be");
+    let command = command.arg(out)?;
     let metadata = Arg::new(alloc, "metadata")
         .value_name("METADATA")
         .required(true)
         .help("The path of the table's metadata");
+    let command = command.arg(metadata)?;
     let change = Arg::new(alloc, "change")
         .value_name("CHANGE")
         .required(true)
         .help("The path of the change file; the long help shows one");
-    command
-        .arg(snapshot)?
-        .arg(uuid)?
-        .arg(now)?
-        .arg(out)?
-        .arg(metadata)?
-        .arg(change)
+    command.arg(change)
 }
 
 /// The command `append`.
@@ -488,6 +497,35 @@ fn commit_of(
     })
 }
 
+/// The plan that is asked for.
+fn plan_words(alloc: Global, matches: &ArgMatches<'_>) -> Result<Words, AllocError> {
+    Ok(Words::Plan(
+        source_of(alloc, matches)?,
+        request_of(alloc, matches)?,
+        workers_of(matches),
+        required_text(alloc, matches, "metadata")?,
+    ))
+}
+
+/// The text of metadata that is asked for.
+fn show_words(alloc: Global, matches: &ArgMatches<'_>) -> Result<Words, AllocError> {
+    Ok(Words::Show(
+        source_of(alloc, matches)?,
+        required_text(alloc, matches, "metadata")?,
+    ))
+}
+
+/// The commit that is asked for, and where its files are.
+fn commit_words(
+    alloc: Global,
+    matches: &ArgMatches<'_>,
+    kind: ChangeKind,
+) -> Result<Words, RunFault>
+    ensures { IfErr result IsWordsFault }
+{
+    Ok(Words::Commit(source_of(alloc, matches)?, commit_of(alloc, matches, kind)?))
+}
+
 /// What the words were found to ask for.
 fn asked_of(alloc: Global, matches: &ArgMatches<'_>) -> Result<Words, RunFault>
     ensures { IfErr result IsWordsFault }
@@ -496,24 +534,10 @@ fn asked_of(alloc: Global, matches: &ArgMatches<'_>) -> Result<Words, RunFault>
         return Ok(Words::ListPlan(Lists::Bundle(None)));
     };
     match command {
-        "plan" => Ok(Words::Plan(
-            source_of(alloc, matches)?,
-            request_of(alloc, matches)?,
-            workers_of(matches),
-            required_text(alloc, matches, "metadata")?,
-        )),
-        "show" => Ok(Words::Show(
-            source_of(alloc, matches)?,
-            required_text(alloc, matches, "metadata")?,
-        )),
-        "append" => Ok(Words::Commit(
-            source_of(alloc, matches)?,
-            commit_of(alloc, matches, ChangeKind::Append)?,
-        )),
-        "row-delta" => Ok(Words::Commit(
-            source_of(alloc, matches)?,
-            commit_of(alloc, matches, ChangeKind::RowDelta)?,
-        )),
+        "plan" => Ok(plan_words(alloc, matches)?),
+        "show" => Ok(show_words(alloc, matches)?),
+        "append" => commit_words(alloc, matches, ChangeKind::Append),
+        "row-delta" => commit_words(alloc, matches, ChangeKind::RowDelta),
         "drill" => Ok(Words::Drill(drill_of(alloc, matches)?)),
         _ => Ok(Words::ListPlan(lists_of(alloc, matches)?)),
     }
@@ -565,8 +589,8 @@ fn asks_first_list(words: &[String]) -> bool
     }
 }
 
-/// What the words ask for. No words, and `list-plan --bundle`, ask for the plan of a bundle's first file. The refusal is
-/// `Words` with the text that says why, or `Memory`.
+/// What the words ask for. No words, and `list-plan --bundle`, ask for the plan of a bundle's first file. The refusal
+/// is `Words` with the text that says why, or `Memory`.
 pub fn parse_words(alloc: Global, words: &[String]) -> Result<Words, RunFault>
     ensures { ReadAs (map string_bytes words.now) result }
 {

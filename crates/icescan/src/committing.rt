@@ -1,10 +1,11 @@
-//! Commits to a table: the change is prepared on the current snapshot, and its files are put where they belong, the metadata
-//! that names them last.
+//! Commits to a table: the change is prepared on the current snapshot, and its files are put where they belong, the
+//! metadata that names them last.
 
 ghost use Rattle.std.specs.Prelude.{◌≡◌, ◌≢◌, ℕ, List, Some, Ok, Err, OnOk, OnErr, IfOk, IfErr, IsErrOf};
 ghost use Rattle.ice_state.specs.Contents.{World};
 ghost use Rattle.icescan.specs.Commits.{Commitment, IsLeft, IsOfPreparing, IsPut, IsPutFault, IsTaken, Made};
-ghost use Rattle.icescan.specs.Commits.{MayEndCommit, Stopped, Writes, commitment, receipt_text};
+ghost use Rattle.icescan.specs.Commits.{MayEndCommit, Stopped, Writes, change_asked, commitment, commitment_from};
+ghost use Rattle.icescan.specs.Commits.{receipt_text};
 ghost use Rattle.icescan.specs.declared.fault.RunFault.{RunFault};
 ghost use Rattle.icescan.specs.ListPlans.{MayEnd};
 ghost use Rattle.icescan.specs.Written.{Wrote};
@@ -17,7 +18,7 @@ use crate::reading::read_file;
 use crate::sink::{Sink, SinkFault, write_all};
 use crate::store::{Store, StoreFault, put_files};
 use contract_words::Text;
-use ice_catalog::{Ids, Prepared, Version, prepare};
+use ice_catalog::{Change, Ids, Prepared, Version, prepare};
 use ice_desk::Files;
 use std::alloc::Global;
 
@@ -36,9 +37,54 @@ pub struct CommitRequest {
     pub out: Text,
 }
 
-/// Prepares the commit that is asked for. The refusal is, in this order, `Absent` or `Device` for the metadata, the same
-/// for the change file, `Change`, `Metadata`, `Device` for the manifest list of the current snapshot or a manifest of it,
-/// and `Prepare`; or `Memory`.
+/// The change that is asked for. The refusal is `Absent` or `Device` for the change file, or `Change`; or `Memory`.
+fn change_at<F: Files>(
+    alloc: Global,
+    files: &F,
+    request: &CommitRequest,
+) -> Result<Change, RunFault>
+    // Over files that tell their world.
+    ensures found { (world : World) → F.world files.now ≡ Some world →
+        IfOk result (λ change. change_asked world request.now ≡ Ok change) }
+    ensures refused { (world : World) → F.world files.now ≡ Some world →
+        IfErr result (MayEnd (change_asked world request.now) (F.may_fail files.now) ⊥) }
+
+    // Over all files.
+    ensures causes { IfErr result IsOfPreparing }
+{
+    let text = read_file(alloc, files, request.change.as_str())?;
+    Ok(read_change(alloc, &text, request.kind)?)
+}
+
+/// Prepares a commit to the table whose metadata these are the bytes of. The refusal is, in this order, `Metadata`,
+/// `Device` for the manifest list of the current snapshot or a manifest of it, and `Prepare`; or `Memory`.
+fn prepare_from<F: Files>(
+    alloc: Global,
+    files: &F,
+    bytes: &[u8],
+    change: &Change,
+    ids: Ids,
+) -> Result<Prepared, RunFault>
+    // Over files that tell their world.
+    ensures prepared { (world : World) → F.world files.now ≡ Some world →
+        IfOk result (λ prepared. (c : Commitment) ×
+        (commitment_from world bytes.now (record { change = change.now; ids = ids }) ≡ Ok c) × Writes prepared c) }
+    ensures refused { (world : World) → F.world files.now ≡ Some world →
+        IfErr result (MayEnd (commitment_from world bytes.now (record { change = change.now; ids = ids }))
+        (F.may_fail files.now) ⊥) }
+
+    // Over all files.
+    ensures causes { IfErr result IsOfPreparing }
+{
+    let metadata = read_metadata(alloc, bytes)?;
+    let kept = read_base(alloc, files, &metadata)?;
+    let base = Version::open(alloc, bytes, kept)?;
+    Ok(prepare(alloc, &base, change, ids)?)
+}
+
+/// Prepares the commit that is asked for. The refusal is, in this order, `Absent` or `Device` for the metadata, the
+/// same for the change file, `Change`, `Metadata`, `Device` for the manifest list of the current snapshot or a manifest
+/// of it, and `Prepare`; or `Memory`.
 pub fn prepare_commit<F: Files>(
     alloc: Global,
     files: &F,
@@ -54,16 +100,13 @@ pub fn prepare_commit<F: Files>(
     ensures causes { IfErr result IsOfPreparing }
 {
     let bytes = read_file(alloc, files, request.metadata.as_str())?;
-    let text = read_file(alloc, files, request.change.as_str())?;
-    let change = read_change(alloc, &text, request.kind)?;
-    let metadata = read_metadata(alloc, &bytes)?;
-    let kept = read_base(alloc, files, &metadata)?;
-    let base = Version::open(alloc, &bytes, kept)?;
-    Ok(prepare(alloc, &base, &change, request.ids)?)
+    let change = change_at(alloc, files, request)?;
+    prepare_from(alloc, files, &bytes, &change, request.ids)
 }
 
-/// Puts the files of a commit in a store, and then the metadata that names them. The refusal is `Conflict` where something
-/// stands at the metadata's path, `Write` where a file can't be put, or `Memory`; then a front of the files was put.
+/// Puts the files of a commit in a store, and then the metadata that names them. The refusal is `Conflict` where
+/// something stands at the metadata's path, `Write` where a file can't be put, or `Memory`; then a front of the files
+/// was put.
 pub fn put_commit<S: Store>(
     alloc: Global,
     store: &mut S,
@@ -104,8 +147,8 @@ fn put_receipt<W: Sink>(output: &mut W, id: i64, number: u64) -> Result<(), Sink
 
 /// Makes the commit that is asked for: its files are put in the store, the metadata last, and the commit is told.
 ///
-/// The refusals are those of preparing it, and then those of putting its files. Where telling it fails, which is `Write`
-/// too, the commit was made.
+/// The refusals are those of preparing it, and then those of putting its files. Where telling it fails, which is
+/// `Write` too, the commit was made.
 pub fn commit_to<F: Files, S: Store, W: Sink>(
     alloc: Global,
     files: &F,

@@ -14,7 +14,8 @@ pub struct Drill {
 impl Drill {
     /// So many threads with so many commits each, where a drill may have them.
     pub fn new(threads: u64, commits: u64) -> Option<Drill>
-        ensures { MatchOption result (((threads ≡ 0) ⊎ (64 < threads)) ⊎ ((commits ≡ 0) ⊎ (100 < commits))) (λ drill. (drill.threads ≡ threads) × (drill.commits ≡ commits)) }
+        ensures { MatchOption result (((threads ≡ 0) ⊎ (64 < threads)) ⊎ ((commits ≡ 0) ⊎ (100 < commits)))
+            (λ drill. (drill.threads ≡ threads) × (drill.commits ≡ commits)) }
     {
         if threads == 0 || threads > 64 || commits == 0 || commits > 100 {
             return None;

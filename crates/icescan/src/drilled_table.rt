@@ -2,7 +2,8 @@
 
 ghost use Rattle.std.specs.Prelude.{◌≡◌, ◌≢◌, ◌∷◌, [], Ok, IfOk, IfErr, OnOk, IsErrOf};
 ghost use Rattle.ice_meta.specs.Targets.{described};
-ghost use Rattle.icescan.specs.Drills.{HasEachFile, IsLost, IsPlanOf, IsTurn, commit_of, file_path, has_file, ids_of, new_file, scan_of_state};
+ghost use Rattle.icescan.specs.Drills.{HasEachFile, IsLost, IsPlanOf, IsTurn, commit_of, file_path, has_file, ids_of};
+ghost use Rattle.icescan.specs.Drills.{new_file, scan_of_state};
 
 use crate::drill_fault::DrillFault;
 use crate::fault::RunFault;
@@ -86,7 +87,8 @@ pub fn prepare_commit(
     commit: u64,
 ) -> Result<Prepared, RunFault>
     requires { IsTurn thread commit }
-    ensures prepared { IfOk result (λ prepared. prepared ≡ record { base = version.now; commit = commit_of thread commit }) }
+    ensures prepared { IfOk result (λ prepared. prepared ≡
+        record { base = version.now; commit = commit_of thread commit }) }
     ensures write { IsErrOf result RunFault.Write → ⊥ }
 {
     let change = change_of(alloc, thread, commit)?;
@@ -96,7 +98,8 @@ pub fn prepare_commit(
 /// The scan of a version's current snapshot, without a filter.
 #[tactic(auto, unfolding(crate::specs::Drills::scan_of_state))]
 fn scan_version(alloc: Global, metadata: &Metadata, world: &World) -> Result<Scan, RunFault>
-    ensures scan { IfOk result (λ scan. scan_of_state (record { metadata = described metadata.now.json metadata.now.table; world = world.now }) ≡ Ok scan) }
+    ensures scan { IfOk result (λ scan. scan_of_state
+        (record { metadata = described metadata.now.json metadata.now.table; world = world.now }) ≡ Ok scan) }
     ensures write { IsErrOf result RunFault.Write → ⊥ }
 {
     let list = metadata.manifest_list(&Target::Main)?;

@@ -16,8 +16,8 @@ use std::sync::ledger::{Blank, Ledger};
 use std::sync::{Arc, Wait};
 use std::thread::{Threads, join};
 
-/// Makes a commit from a thread's seat: on the version that stands, and after each conflict on the newer one. The refusal
-/// is `Conflict` after as many tries as may be needed; then none of them was made.
+/// Makes a commit from a thread's seat: on the version that stands, and after each conflict on the newer one. The
+/// refusal is `Conflict` after as many tries as may be needed; then none of them was made.
 fn commit_file<L: Ledger, R: Wait + Watch>(
     rt: &R,
     alloc: Global,
@@ -143,13 +143,15 @@ fn drill_all<L: Ledger + Send + Sync, R: Threads + Wait + Watch + Sync>(
         rt,
         move || -> Result<Vec<Seat<L>>, RunFault>
             requires { IsSync R.row × IsSync L.row × (0 < vec_len seats) × (first + vec_len seats ≤ 64) }
-            ensures counted { IfOk result (λ after. (vec_len after ≡ vec_len seats) × (sum after.items ≡ sum seats.items + vec_len seats * drill.commits)) }
+            ensures counted { IfOk result (λ after. (vec_len after ≡ vec_len seats) ×
+                (sum after.items ≡ sum seats.items + vec_len seats * drill.commits)) }
             ensures seen { OnOk result (EachSawItsFiles first (vec_len seats) drill.commits) }
             ensures write { IsErrOf result RunFault.Write → ⊥ }
         { drill_all(rt, alloc, catalog, seats, drill, first) },
         move || -> Result<Vec<Seat<L>>, RunFault>
             requires { IsSync R.row × IsSync L.row × (0 < vec_len right) × (next + vec_len right ≤ 64) }
-            ensures counted { IfOk result (λ after. (vec_len after ≡ vec_len right) × (sum after.items ≡ sum right.items + vec_len right * drill.commits)) }
+            ensures counted { IfOk result (λ after. (vec_len after ≡ vec_len right) ×
+                (sum after.items ≡ sum right.items + vec_len right * drill.commits)) }
             ensures seen { OnOk result (EachSawItsFiles next (vec_len right) drill.commits) }
             ensures write { IsErrOf result RunFault.Write → ⊥ }
         { drill_all(rt, alloc, catalog, right, drill, next) },

@@ -1,10 +1,12 @@
 //! Why the program ends without an answer.
 
 ghost use Rattle.std.specs.Prelude.{◌≡◌};
-ghost use Rattle.icescan.specs.Faults.{of_list, of_scan, of_finish, of_wanted, of_plan, of_meta, of_filter, of_change, of_prepare};
+ghost use Rattle.icescan.specs.Faults.{of_list, of_scan, of_finish, of_wanted, of_plan, of_meta, of_filter, of_change};
+ghost use Rattle.icescan.specs.Faults.{of_prepare};
 ghost use Rattle.icescan.specs.Faults.{filter_status, change_status, refused_status, status_of};
 ghost use Rattle.icescan.specs.Faults.{meta_wants_memory, schema_wants_memory, avro_wants_memory, list_wants_memory};
-ghost use Rattle.icescan.specs.Faults.{manifest_wants_memory, scan_wants_memory, finish_wants_memory, prepare_wants_memory};
+ghost use Rattle.icescan.specs.Faults.{manifest_wants_memory, scan_wants_memory, finish_wants_memory};
+ghost use Rattle.icescan.specs.Faults.{prepare_wants_memory};
 ghost use Rattle.icescan.specs.declared.fault.RunFault.TheVariants as run;
 
 use crate::change::ChangeFault;
@@ -206,9 +208,10 @@ impl From<PlanFault> for RunFault {
 }
 
 impl RunFault {
-    /// The status that the program ends with: 1 where the table or a commit to it is refused, or a file of a drill is lost;
-    /// 2 for the words, the number of workers, the bundle, the filter or the change file; 3 where a read or a write failed;
-    /// 4 where the place of a commit's metadata is taken, or a drill's commit met others too often; 5 where memory ran out.
+    /// The status that the program ends with: 1 where the table or a commit to it is refused, or a file of a drill is
+    /// lost; 2 for the words, the number of workers, the bundle, the filter or the change file; 3 where a read or a
+    /// write failed; 4 where the place of a commit's metadata is taken, or a drill's commit met others too often; 5
+    /// where memory ran out.
     pub fn status(&self) -> u8
         ensures { result ≡ status_of self.now }
     {

@@ -3,7 +3,8 @@
 ghost use Rattle.std.specs.Prelude.{◌++◌};
 ghost use Rattle.ice_meta.specs.Members.{member_name};
 ghost use Rattle.icescan.specs.FaultTexts.{schema_text, avro_text, list_text, manifest_text, scan_text, finish_text};
-ghost use Rattle.icescan.specs.FaultTexts.{meta_text, filter_text, change_text, prepare_text, drill_fault_text, run_text, line_text, fault_text};
+ghost use Rattle.icescan.specs.FaultTexts.{meta_text, filter_text, change_text, prepare_text, drill_fault_text};
+ghost use Rattle.icescan.specs.FaultTexts.{run_text, line_text, fault_text};
 ghost use Rattle.icescan.specs.Written.{Wrote};
 
 use crate::change::ChangeFault;

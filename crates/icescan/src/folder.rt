@@ -1,6 +1,7 @@
 //! Files below a folder, by the paths that a table gives them.
 
-ghost use Rattle.std.specs.Prelude.{◌≡◌, ◌≢◌, ◌++◌, ◌∷◌, ℕ, List, Option, Some, option_map, string_bytes, IfOk, IfErr, MatchOption};
+ghost use Rattle.std.specs.Prelude.{◌≡◌, ◌≢◌, ◌++◌, ◌∷◌, ℕ, List, Option, Some, option_map, string_bytes, IfOk, IfErr};
+ghost use Rattle.std.specs.Prelude.{MatchOption};
 ghost use Rattle.icescan.specs.Folders.{Inside, IsNamed, climbs};
 
 mod placing;
@@ -56,7 +57,8 @@ fn climbs(path: &[u8]) -> bool
 
 /// What stands behind the prefix in a path, without a slash at its front; none where the path is not inside.
 fn rest_of<'a>(prefix: &str, path: &'a str) -> Option<&'a str>
-    ensures { MatchOption result ((rest : List ℕ) → Inside prefix.now path.now rest → ⊥) (λ rest. Inside prefix.now path.now rest.now) }
+    ensures { MatchOption result ((rest : List ℕ) → Inside prefix.now path.now rest → ⊥)
+        (λ rest. Inside prefix.now path.now rest.now) }
 {
     let behind = path.strip_prefix(prefix)?;
     if climbs(behind.as_bytes()) {

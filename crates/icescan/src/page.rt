@@ -147,8 +147,10 @@ impl Page {
         requires { 0 < length bytes.now }
         ensures some { IfOk result (λ n. 0 < n) }
         ensures within { IfOk result (λ n. n ≤ length bytes.now) }
-        ensures ok { IfOk result (λ n. Sent S.taken S.may_fail sink.old self.old (Ok tt) sink.new self.new (escaped (take n bytes.now))) }
-        ensures err { IfErr result (λ e. Sent S.taken S.may_fail sink.old self.old (Err e) sink.new self.new (escaped bytes.now)) }
+        ensures ok { IfOk result (λ n. Sent S.taken S.may_fail sink.old self.old (Ok tt) sink.new self.new
+            (escaped (take n bytes.now))) }
+        ensures err { IfErr result (λ e. Sent S.taken S.may_fail sink.old self.old (Err e) sink.new self.new
+            (escaped bytes.now)) }
     {
         if is_escaped(bytes[0]) {
             self.put(sink, &digits_of(bytes[0]))?;

@@ -17,7 +17,8 @@ use crate::sink::Sink;
 pub fn report<E: Sink>(fault: &RunFault, errors: &mut E) -> u8
     ensures status { result ≡ status_of fault.now }
     ensures front { AppendsFront (E.taken errors.old) (E.taken errors.new) (fault_text fault.now) }
-    ensures all { (E.may_fail errors.old → ⊥) → Appends (E.taken errors.old) (E.taken errors.new) (fault_text fault.now) }
+    ensures all { (E.may_fail errors.old → ⊥) →
+        Appends (E.taken errors.old) (E.taken errors.new) (fault_text fault.now) }
 {
     let _ = put_fault(errors, fault);
     fault.status()

@@ -33,7 +33,8 @@ fn put_drill<S: Sink>(
     deletes: u64,
 ) -> Result<(), SinkFault>
     requires { deletes ≡ sum_by deletes_of lines.now }
-    ensures { Sent S.taken S.may_fail sink.old page.old result sink.new page.new (drill_text commits sequence lines.now) }
+    ensures { Sent S.taken S.may_fail sink.old page.old result sink.new page.new
+        (drill_text commits sequence lines.now) }
 {
     page.put_named_number(sink, b"commits ", commits)?;
     page.put_named_number(sink, b"\nlast-sequence-number ", sequence)?;
@@ -53,7 +54,8 @@ fn write_drill<S: Sink>(
     ensures all { OnOk result (Appends (S.taken sink.old) (S.taken sink.new) (drill_text commits sequence lines.now)) }
     ensures causes { IfErr result (λ e. (e ≡ RunFault.Memory) ⊎ (e ≡ RunFault.Write)) }
     ensures nothing { IsErrOf result RunFault.Memory → S.taken sink.new ≡ S.taken sink.old }
-    ensures front { IsErrOf result RunFault.Write → AppendsFront (S.taken sink.old) (S.taken sink.new) (drill_text commits sequence lines.now) }
+    ensures front { IsErrOf result RunFault.Write →
+        AppendsFront (S.taken sink.old) (S.taken sink.new) (drill_text commits sequence lines.now) }
     ensures cause { IsErrOf result RunFault.Write → S.may_fail sink.old }
 {
     // No memory holds a plan with more delete lines than a number of 64 bits.
@@ -96,8 +98,8 @@ fn write_version<W: Sink>(
 /// sequence number, and the last line of its plan.
 ///
 /// The refusal is that of the least thread that has one: `Conflict` where a commit was tried as often as may be needed,
-/// `Lost` with the path of a file that a version lacks, `Memory`, or any that opening, preparing or planning in memory may
-/// have. Then nothing was written; after `Write`, for which a write failed, a front of the text was.
+/// `Lost` with the path of a file that a version lacks, `Memory`, or any that opening, preparing or planning in memory
+/// may have. Then nothing was written; after `Write`, for which a write failed, a front of the text was.
 pub fn run_drill<R: Threads + Wait + Watch + Sync, W: Sink>(
     rt: &R,
     alloc: Global,

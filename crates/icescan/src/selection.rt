@@ -5,7 +5,7 @@ ghost use Rattle.contract_words.specs.Outcome.{Gives};
 ghost use Rattle.ice_meta.specs.Targets.{described, metadata_of};
 ghost use Rattle.icescan.specs.Faults.{of_filter, of_meta};
 ghost use Rattle.icescan.specs.ListPlans.{as_run};
-ghost use Rattle.icescan.specs.Selections.{IsOfRequest, bound_in, parts_in, selected};
+ghost use Rattle.icescan.specs.Selections.{IsOfRequest, bound_in, parts_in, selected, selected_by};
 
 use crate::fault::RunFault;
 use contract_words::{Items, Text};
@@ -62,10 +62,32 @@ fn bind_some(alloc: Global, filter: &Option<Filter>, schema: &Schema) -> Result<
     }
 }
 
+/// What a snapshot of a table and a filter select. The refusal is `Metadata` where there is no such snapshot, else
+/// `Filter` where the filter can't be asked of the schema; or `Memory`.
+#[tactic(auto, unfolding(crate::specs::Selections::selected_by))]
+fn select_by(
+    alloc: Global,
+    metadata: &Metadata,
+    target: &Target,
+    filter: &Option<Filter>,
+) -> Result<Selection, RunFault>
+    ensures gives { Gives RunFault.Memory (λ selection. selection) result
+        (selected_by metadata.now.table target.now filter.now) }
+    ensures causes { IfErr result IsOfRequest }
+{
+    let list = metadata.manifest_list(target)?;
+    let schema = metadata.schema_for(target);
+    let filter = bind_some(alloc, filter, schema)?;
+    Ok(Selection {
+        list: list.copy(alloc)?,
+        specs: metadata.specs(alloc, schema)?,
+        filter,
+    })
+}
+
 /// What a request selects of the table whose metadata these are the bytes of. The refusal is the first of: the
-/// metadata's
-/// (`Metadata`), that of the filter's text (`Filter`), that there is no such snapshot (`Metadata`), and that the filter
-/// can't be asked of the schema (`Filter`); or `Memory`.
+/// metadata's (`Metadata`), that of the filter's text (`Filter`), that there is no such snapshot (`Metadata`), and that
+/// the filter can't be asked of the schema (`Filter`); or `Memory`.
 #[tactic(auto, unfolding(crate::specs::Selections::selected))]
 pub fn select(alloc: Global, metadata: &[u8], request: &Request) -> Result<Selection, RunFault>
     ensures gives { Gives RunFault.Memory (λ selection. selection) result (selected metadata.now request.now) }
@@ -73,12 +95,5 @@ pub fn select(alloc: Global, metadata: &[u8], request: &Request) -> Result<Selec
 {
     let metadata = read_metadata(alloc, metadata)?;
     let filter = parse_some(alloc, &request.filter)?;
-    let list = metadata.manifest_list(&request.target)?;
-    let schema = metadata.schema_for(&request.target);
-    let filter = bind_some(alloc, &filter, schema)?;
-    Ok(Selection {
-        list: list.copy(alloc)?,
-        specs: metadata.specs(alloc, schema)?,
-        filter,
-    })
+    select_by(alloc, &metadata, &request.target, &filter)
 }

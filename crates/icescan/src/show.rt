@@ -9,9 +9,6 @@ ghost use Rattle.icescan.specs.Shows.{show_of, shown_at};
 ghost use Rattle.icescan.specs.TableTexts.{table_text};
 ghost use Rattle.icescan.specs.Written.{Appends, AppendsFront};
 
-#[cfg(test)]
-mod tests;
-
 use crate::fault::RunFault;
 use crate::page::Page;
 use crate::reading::read_file;

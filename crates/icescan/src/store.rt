@@ -26,8 +26,8 @@ pub trait Store {
     /// Putting a file may fail.
     ghost may_fail: { Self → Type 0 };
 
-    /// Puts a file where there was none. A reader finds the whole file, or, also after a refusal and where the process is
-    /// killed, none.
+    /// Puts a file where there was none. A reader finds the whole file, or, also after a refusal and where the process
+    /// is killed, none.
     fn create_new(&mut self, alloc: Global, path: &str, bytes: &[u8]) -> Result<(), StoreFault>
         ensures free { OnOk result (MayLack (files self.old) path.now) }
         ensures puts { OnOk result (Puts (files self.old) (files self.new) path.now bytes.now) }

@@ -78,7 +78,8 @@ fn put_counted<S: Sink>(
     inside: &[u8],
     count: usize,
 ) -> Result<(), SinkFault>
-    ensures { Sent S.taken S.may_fail sink.old page.old result sink.new page.new (counted_line name.now id inside.now count) }
+    ensures { Sent S.taken S.may_fail sink.old page.old result sink.new page.new
+        (counted_line name.now id inside.now count) }
 {
     page.put_named_int(sink, name, id)?;
     page.put_named_number(sink, inside, count)?;
@@ -158,7 +159,8 @@ impl TableLine for Snapshot {
 
     ghost order = { snapshot_order };
 
-    ghost total = { then_total (on_total (λ (a : Snapshot). a.sequence_number) nat_cmp_total) (on_total (λ (a : Snapshot). a.id) int_cmp_total) };
+    ghost total = { then_total (on_total (λ (a : Snapshot). a.sequence_number) nat_cmp_total)
+        (on_total (λ (a : Snapshot). a.id) int_cmp_total) };
 
     #[tactic(auto, unfolding(crate::specs::TableTexts::snapshot_line))]
     fn put_line<S: Sink>(&self, page: &mut Page, sink: &mut S) -> Result<(), SinkFault> {

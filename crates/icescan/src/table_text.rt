@@ -80,7 +80,8 @@ fn refs_of<'a>(
     refs: &'a [Ref],
     main: &'a Option<Ref>,
 ) -> Result<Vec<&'a Ref>, AllocError>
-    ensures { IfOk result (λ found. map (λ x. x.now) found.items ≡ sorted (λ a b. is_lt (ref_order a b)) (filter is_other refs.now ++ option_to_list main.now)) }
+    ensures { IfOk result (λ found. map (λ x. x.now) found.items ≡
+        sorted (λ a b. is_lt (ref_order a b)) (filter is_other refs.now ++ option_to_list main.now)) }
 {
     let mut shown = others_of(alloc, refs)?;
     if let Some(main) = main {
@@ -103,7 +104,8 @@ fn lent<'a, T>(alloc: Global, items: &'a [T]) -> Result<Vec<&'a T>, AllocError>
 
 /// Puts items in the order of their lines.
 fn sort_lines<T: TableLine>(items: &mut Vec<&T>) -> Result<(), AllocError>
-    ensures { OnOk result (map (λ x. x.now) items.new.items ≡ sorted (λ a b. is_lt (T.order a b)) (map (λ x. x.now) items.old.items)) }
+    ensures { OnOk result (map (λ x. x.now) items.new.items ≡
+        sorted (λ a b. is_lt (T.order a b)) (map (λ x. x.now) items.old.items)) }
 {
     items.sort_by(|a, b| a.order(*b))?;
     Ok(())
@@ -124,7 +126,8 @@ fn put_lines<T: TableLine, S: Sink>(
     sink: &mut S,
     items: &[&T],
 ) -> Result<(), SinkFault>
-    ensures { Sent S.taken S.may_fail sink.old page.old result sink.new page.new (flat_map T.line (map (λ x. x.now) items.now)) }
+    ensures { Sent S.taken S.may_fail sink.old page.old result sink.new page.new
+        (flat_map T.line (map (λ x. x.now) items.now)) }
 {
     for item in items {
         item.put_line(page, sink)?;

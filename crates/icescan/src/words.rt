@@ -1,9 +1,11 @@
 //! The program over its words, standard input, the files of the system, output and errors.
 
-ghost use Rattle.std.specs.Prelude.{◌≡◌, ◌≢◌, ◌⊎◌, ℕ, List, Option, Some, None, Result, Ok, Err, map, string_bytes, IfOk, IfErr, OnOk};
+ghost use Rattle.std.specs.Prelude.{◌≡◌, ◌≢◌, ◌⊎◌, ℕ, List, Option, Some, None, Result, Ok, Err, map, string_bytes};
+ghost use Rattle.std.specs.Prelude.{IfOk, IfErr, OnOk};
 ghost use Rattle.icescan.specs.Commits.{committed_text};
 ghost use Rattle.icescan.specs.Drills.{WroteDrill};
-ghost use Rattle.icescan.specs.Runs.{Answered, IsInput, IsOfDrill, Ran, ReadAs, Refused, answer_to, bundle_text, list_in, planned_text, run_of, shown_text};
+ghost use Rattle.icescan.specs.Runs.{Answered, IsInput, IsOfDrill, Ran, ReadAs, Refused, answer_to, bundle_text};
+ghost use Rattle.icescan.specs.Runs.{list_in, planned_text, run_of, shown_text};
 ghost use Rattle.icescan.specs.declared.command_line.Words.{Words};
 ghost use Rattle.icescan.specs.declared.fault.RunFault.{RunFault};
 
@@ -52,7 +54,8 @@ fn plan_bundle<W: Sink>(
     list: &Option<Text>,
     output: &mut W,
 ) -> Result<(), RunFault>
-    ensures { Ran (Some (bundle_text list.now text.now)) (W.may_fail output.old) result (W.taken output.old) (W.taken output.new) }
+    ensures { Ran (Some (bundle_text list.now text.now)) (W.may_fail output.old) result (W.taken output.old)
+        (W.taken output.new) }
 {
     let bundle = Bundle::read(alloc, text)?;
     let path = list_in(&bundle, list)?;
@@ -93,7 +96,8 @@ fn plan_input<R: Read, W: Sink>(
     output: &mut W,
 ) -> Result<(), RunFault>
     ensures { (text : List ℕ) × IsInput (R.remaining input.old) text ×
-        Ran (Some (bundle_text list.now text)) (W.may_fail output.old) result (W.taken output.old) (W.taken output.new) }
+        Ran (Some (bundle_text list.now text)) (W.may_fail output.old) result (W.taken output.old)
+        (W.taken output.new) }
 {
     let text = read_input(alloc, input)?;
     plan_bundle(alloc, &text, list, output)
@@ -109,7 +113,8 @@ fn request_bundle<H: Threads + Sync, W: Sink>(
     path: &Text,
     output: &mut W,
 ) -> Result<(), RunFault>
-    ensures { Ran (Some (planned_text path.now request.now workers text.now)) (W.may_fail output.old) result (W.taken output.old) (W.taken output.new) }
+    ensures { Ran (Some (planned_text path.now request.now workers text.now)) (W.may_fail output.old) result
+        (W.taken output.old) (W.taken output.new) }
 {
     let bundle = Bundle::read(alloc, text)?;
     plan_file(
@@ -134,7 +139,8 @@ fn request_input<H: Threads + Sync, R: Read, W: Sink>(
     output: &mut W,
 ) -> Result<(), RunFault>
     ensures { (text : List ℕ) × IsInput (R.remaining input.old) text ×
-        Ran (Some (planned_text path.now request.now workers text)) (W.may_fail output.old) result (W.taken output.old) (W.taken output.new) }
+        Ran (Some (planned_text path.now request.now workers text)) (W.may_fail output.old) result (W.taken output.old)
+        (W.taken output.new) }
 {
     let text = read_input(alloc, input)?;
     request_bundle(host, alloc, &text, request, workers, path, output)
@@ -163,7 +169,8 @@ fn show_bundle<W: Sink>(
     path: &Text,
     output: &mut W,
 ) -> Result<(), RunFault>
-    ensures { Ran (Some (shown_text path.now text.now)) (W.may_fail output.old) result (W.taken output.old) (W.taken output.new) }
+    ensures { Ran (Some (shown_text path.now text.now)) (W.may_fail output.old) result (W.taken output.old)
+        (W.taken output.new) }
 {
     let bundle = Bundle::read(alloc, text)?;
     show_file(alloc, &bundle, path.as_str(), output)
@@ -204,7 +211,8 @@ fn commit_bundle<W: Sink>(
     request: &CommitRequest,
     output: &mut W,
 ) -> Result<(), RunFault>
-    ensures { Ran (committed_text request.now text.now) (W.may_fail output.old) result (W.taken output.old) (W.taken output.new) }
+    ensures { Ran (committed_text request.now text.now) (W.may_fail output.old) result (W.taken output.old)
+        (W.taken output.new) }
 {
     let bundle = Bundle::read(alloc, text)?;
     let prepared = prepare_commit(alloc, &bundle, request)?;
@@ -316,8 +324,8 @@ fn run<H: Files<File: Send, Dir: Send> + Threads + Wait + Watch + Sync, R: Read,
 }
 
 /// Runs the program: it writes what the words ask for to `output` and ends with 0, or it writes the line of the first
-/// fault to `errors` and ends with the fault's status. Faults are found in this order: of the words, of reading standard
-/// input where it holds a bundle, of the bundle, of what is asked for.
+/// fault to `errors` and ends with the fault's status. Faults are found in this order: of the words, of reading
+/// standard input where it holds a bundle, of the bundle, of what is asked for.
 pub fn run_words<H, R: Read, W: Sink, E: Sink>(
     host: &H,
     alloc: Global,
@@ -328,14 +336,17 @@ pub fn run_words<H, R: Read, W: Sink, E: Sink>(
 ) -> u8
 where
     H: Files<File: Send, Dir: Send> + Threads + Wait + Watch + Sync,
-    // The words were read as one of the commands, or they were refused; no words, and `list-plan --bundle`, were read as
-    // the plan of a bundle's first file. For some text, which is all that standard input had left where that is told: what
-    // is asked of that text was written, or the fault is that of the words and that text, or reading, writing or memory
-    // failed.
+    // The words were read as one of the commands, or they were refused; no words, and `list-plan --bundle`, were read
+    // as the plan of a bundle's first file. For some text, which is all that standard input had left where that is
+    // told: what is asked of that text was written, or the fault is that of the words and that text, or reading,
+    // writing or memory failed.
     ensures run { (asked : Result Words RunFault) × ReadAs (map string_bytes words.now) asked ×
         (text : List ℕ) × IsInput (R.remaining input.old) text ×
-        ((Answered (run_of asked text) result (W.taken output.old) (W.taken output.new) (E.taken errors.old) (E.taken errors.new)
-        × IsOfDrill asked (W.taken output.old) (W.taken output.new)) ⊎ Refused (run_of asked text) (W.may_fail output.old) (E.may_fail errors.old) result (W.taken output.old) (W.taken output.new) (E.taken errors.old) (E.taken errors.new)) }
+        ((Answered (run_of asked text) result (W.taken output.old) (W.taken output.new)
+        (E.taken errors.old) (E.taken errors.new)
+        × IsOfDrill asked (W.taken output.old) (W.taken output.new)) ⊎
+        Refused (run_of asked text) (W.may_fail output.old) (E.may_fail errors.old) result
+        (W.taken output.old) (W.taken output.new) (E.taken errors.old) (E.taken errors.new)) }
 {
     match run(host, alloc, words, input, output) {
         Ok(()) => 0,

@@ -17,7 +17,8 @@ pub fn write_plan<S: Sink>(alloc: Global, lines: &Lines<'_>, sink: &mut S) -> Re
     ensures all { OnOk result (Appends (S.taken sink.old) (S.taken sink.new) (plan_text lines.now)) }
     ensures causes { IfErr result (λ e. (e ≡ RunFault.Memory) ⊎ (e ≡ RunFault.Write)) }
     ensures nothing { IsErrOf result RunFault.Memory → S.taken sink.new ≡ S.taken sink.old }
-    ensures front { IsErrOf result RunFault.Write → AppendsFront (S.taken sink.old) (S.taken sink.new) (plan_text lines.now) }
+    ensures front { IsErrOf result RunFault.Write →
+        AppendsFront (S.taken sink.old) (S.taken sink.new) (plan_text lines.now) }
     ensures cause { IsErrOf result RunFault.Write → S.may_fail sink.old }
 {
     // No memory holds a plan with more delete lines than a number of 64 bits.

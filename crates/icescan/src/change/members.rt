@@ -5,7 +5,8 @@ ghost use Rattle.contract_words.specs.Outcome.{Gives};
 ghost use Rattle.serde_json.specs.Find.{as_str, get};
 ghost use Rattle.serde_json.specs.View.{items_view, view};
 ghost use Rattle.ice_meta.specs.Members.{all_objects, if_int};
-ghost use Rattle.icescan.specs.Changes.{as_bytes, as_cell, as_int, as_long, as_objects, asked, each, ids_in, ids_of, needed, there, tuple_in};
+ghost use Rattle.icescan.specs.Changes.{as_bytes, as_cell, as_int, as_long, as_objects, asked, each, ids_in, ids_of};
+ghost use Rattle.icescan.specs.Changes.{needed, there, tuple_in};
 ghost use Rattle.ice_value.specs.declared.cell.Cell.TheVariants as cell;
 
 use crate::change::fault::{ChangeFault, ChangeMember};
@@ -98,7 +99,8 @@ fn all_objects(items: &Vec<Value>) -> bool
 
 /// The objects of an array.
 pub fn objects_at<'a>(json: &'a Value, member: ChangeMember) -> Result<&'a Vec<Value>, ChangeFault>
-    ensures { Gives ChangeFault.Memory (λ items. items_view items.now.items) result (needed as_objects member (view json.now)) }
+    ensures { Gives ChangeFault.Memory (λ items. items_view items.now.items) result
+        (needed as_objects member (view json.now)) }
 {
     match there(json, member)?.as_array() {
         Some(items) if all_objects(items) => Ok(items),
@@ -122,7 +124,8 @@ fn bytes_of(alloc: Global, json: &Value) -> Result<Option<Items<u8>>, ChangeFaul
 
 /// The bytes of an object with hexadecimal digits.
 fn bytes_at(alloc: Global, json: &Value) -> Result<Cell, ChangeFault>
-    ensures { Gives ChangeFault.Memory (λ cell. cell) result (asked ChangeMember.Partition (option_map cell.Bytes (option_and_then as_bytes (get (codes "hex") (view json.now))))) }
+    ensures { Gives ChangeFault.Memory (λ cell. cell) result (asked ChangeMember.Partition
+        (option_map cell.Bytes (option_and_then as_bytes (get (codes "hex") (view json.now))))) }
 {
     let Some(digits) = json.get("hex") else {
         return Err(ChangeFault::Bad(ChangeMember::Partition));
@@ -152,7 +155,8 @@ fn cell_from(alloc: Global, json: &Value) -> Result<Cell, ChangeFault>
 }
 
 fn each_cell(alloc: Global, items: &Vec<Value>) -> Result<Items<Cell>, ChangeFault>
-    ensures { Gives ChangeFault.Memory (λ cells. cells) result (each (λ item. asked ChangeMember.Partition (as_cell item)) (items_view items.now.items)) }
+    ensures { Gives ChangeFault.Memory (λ cells. cells) result
+        (each (λ item. asked ChangeMember.Partition (as_cell item)) (items_view items.now.items)) }
 {
     let mut cells = Items::new(alloc);
     'cells: for item in items {
@@ -173,7 +177,8 @@ pub fn tuple_at(alloc: Global, json: &Value) -> Result<Items<Cell>, ChangeFault>
 }
 
 fn each_id(alloc: Global, items: &Vec<Value>) -> Result<Items<i32>, ChangeFault>
-    ensures { Gives ChangeFault.Memory (λ ids. ids) result (each (λ item. asked ChangeMember.EqualityIds (as_int item)) (items_view items.now.items)) }
+    ensures { Gives ChangeFault.Memory (λ ids. ids) result
+        (each (λ item. asked ChangeMember.EqualityIds (as_int item)) (items_view items.now.items)) }
 {
     let mut ids = Items::new(alloc);
     'ids: for item in items {

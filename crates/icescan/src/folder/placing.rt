@@ -56,8 +56,8 @@ fn fill<F: Write + OpenFile>(file: &mut F, bytes: &[u8]) -> io::Result<()> {
     file.sync_all()
 }
 
-/// Puts a new file where none is: it is written whole under a name of its own first, and then linked to its place, which
-/// the system refuses where anything is there.
+/// Puts a new file where none is: it is written whole under a name of its own first, and then linked to its place,
+/// which the system refuses where anything is there.
 fn place_new<H: std::rt::Files>(
     host: &H,
     alloc: Global,

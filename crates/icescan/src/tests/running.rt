@@ -17,23 +17,19 @@ pub struct Ended {
 }
 
 impl Ended {
+    /// Whether it wrote just these texts.
+    pub fn wrote(&self, output: &[u8], errors: &[u8]) -> bool {
+        self.output.as_slice() == output && self.errors.as_slice() == errors
+    }
+
     /// Whether it ended with this status, and wrote just these texts.
     pub fn is(&self, status: u8, output: &[u8], errors: &[u8]) -> bool {
-        self.status == status
-            && self.output.as_slice() == output
-            && self.errors.as_slice() == errors
+        self.status == status && self.wrote(output, errors)
     }
 
     /// Whether it ended with the status that a text names.
     pub fn has_status(&self, text: &str) -> bool {
         text.parse() == Ok(self.status)
-    }
-
-    /// Whether it told this fault, and wrote nothing else.
-    pub fn told(&self, fault: &str) -> bool {
-        let line = self.errors.as_slice().strip_prefix(b"icescan: ");
-        self.output.is_empty()
-            && line.and_then(|line| line.strip_suffix(b"\n")) == Some(fault.as_bytes())
     }
 }
 
@@ -54,22 +50,14 @@ pub fn run<H: Files<File: Send, Dir: Send> + Threads + Wait + Watch + Sync, R: R
     }
 }
 
-/// Puts the words of a text behind others.
-pub fn put_words(
-    words: &mut Vec<String>,
-    alloc: Global,
-    text: &str,
-    separator: char,
-) -> Result<(), AllocError> {
+/// The words of a text, which has none where it is empty. Two separators in a row have an empty word between them.
+pub fn words_of(alloc: Global, text: &str, separator: char) -> Result<Vec<String>, AllocError> {
+    let mut words = Vec::new(alloc);
+    if text.is_empty() {
+        return Ok(words);
+    }
     for word in text.split(separator) {
         words.push(String::from_str(alloc, word)?)?;
     }
-    Ok(())
-}
-
-/// The words of a text. Two separators in a row have an empty word between them.
-pub fn words_of(alloc: Global, text: &str, separator: char) -> Result<Vec<String>, AllocError> {
-    let mut words = Vec::new(alloc);
-    put_words(&mut words, alloc, text, separator)?;
     Ok(words)
 }

@@ -1,7 +1,7 @@
 //! Sinks that take little or fail.
 
-use super::cases::PLAN;
-use super::first_bundle;
+use super::tables::{LIST_PLANS, PLAN};
+use super::transcript::first_bundle;
 use crate::fault::RunFault;
 use crate::report::report;
 use crate::sink::{Output, Sink, SinkFault, write_all};
@@ -53,19 +53,19 @@ impl Sink for Slow {
     }
 }
 
+/// What a sink has taken of a fault's line, and the fault's status.
+fn tell(mut sink: Slow) -> (u8, Vec<u8>) {
+    let status = report(&RunFault::Bundle(12), &mut sink);
+    (status, sink.taken)
+}
+
 #[test]
 fn sinks_that_take_little(rt: HostRuntime) {
-    let alloc = rt.alloc();
-    let mut errors = Slow::new(alloc, 1, 100);
-    assert_eq!(rt; report(&RunFault::Bundle(12), &mut errors), 2);
-    assert_eq!(rt;
-        errors.taken.as_slice(),
-        b"icescan: B1 Bundle 12\n".as_slice()
-    );
-    let mut errors = Slow::new(alloc, 4, 14);
-    assert_eq!(rt; report(&RunFault::Bundle(12), &mut errors), 2);
-    assert_eq!(rt; errors.taken.as_slice(), b"icescan: B1 Bu".as_slice());
-    let mut stuck = Slow::new(alloc, 0, 1);
+    let (status, taken) = tell(Slow::new(rt.alloc(), 1, 100));
+    assert!(rt; status == 2 && taken.as_slice() == b"icescan: B1 Bundle 12\n".as_slice());
+    let (status, taken) = tell(Slow::new(rt.alloc(), 4, 14));
+    assert!(rt; status == 2 && taken.as_slice() == b"icescan: B1 Bu".as_slice());
+    let mut stuck = Slow::new(rt.alloc(), 0, 1);
     assert_eq!(rt; write_all(&mut stuck, b"a"), Err(SinkFault));
 }
 
@@ -82,7 +82,7 @@ fn run_slow<H: Files<File: Send, Dir: Send> + Threads + Wait + Watch + Sync>(
     step: usize,
     room: usize,
 ) -> Result<(u8, Vec<u8>), AllocError> {
-    let bundle = first_bundle(alloc)?;
+    let bundle = first_bundle(alloc, LIST_PLANS)?;
     let mut input = bundle.as_slice();
     let mut output = Slow::new(alloc, step, room);
     let mut errors = Vec::new(alloc);

@@ -1,10 +1,6 @@
-//! Tables, and what the program makes of them.
+//! Manifest lists, and the plans that the program makes of them where it is run without a word.
 
-/// Tables in lines: `case` and a name, `list` and the blocks of the manifest list in hexadecimal digits, `codec` where
-/// the manifests behind it name another than `null`, `put` with a manifest's path and blocks; then `>` before each line
-/// that is written, `!` before the fault's line, and `ends` with the status.
-pub const CASES: &str = "\
-case three manifests
+pub const LIST_PLANS: &str = r"case three manifests
 list 066c146d656d3a2f2f742f6d31c8010000060602146d656d3a2f2f742f6d32c8010002060602146d656d3a2f2f742f6d33c8010002080802000102030405060708090a0b0c0d0e0f
 put mem://t/m1 0232020000226d656d3a2f2f742f612e7061727175657414c80100000102030405060708090a0b0c0d0e0f
 put mem://t/m2 046a020002226d656d3a2f2f742f702e7061727175657414c80100020004226d656d3a2f2f742f662e7061727175657414c80102020200000102030405060708090a0b0c0d0e0f
@@ -61,7 +57,7 @@ ends 1
 case a path with a space
 list 0224146d656d3a2f2f742f6d31c8010000060602000102030405060708090a0b0c0d0e0f
 put mem://t/m1 0226020000166d656d3a2f2f742f61206214c80100000102030405060708090a0b0c0d0e0f
-> data mem://t/a\\x20b seq 3 spec 0 rows 10 size 100
+> data mem://t/a\x20b seq 3 spec 0 rows 10 size 100
 > files 1 deletes 0
 ends 0
 case a compressed manifest
@@ -123,52 +119,52 @@ list 022c146d656d3a2f2f742f6d31c801808080801000060602000102030405060708090a0b0c0
 put mem://t/m1 0232020000226d656d3a2f2f742f612e7061727175657414c80100000102030405060708090a0b0c0d0e0f
 ! icescan: N1 Avro V4 BadNumber
 ends 1
-case a container with a fault
+case a long of eleven bytes
 list 0224146d656d3a2f2f742f6d31c8010000060602000102030405060708090a0b0c0d0e0f
 put mem://t/m1 0246020000226d656d3a2f2f742f612e70617271756574feffffffffffffffff8100c80100000102030405060708090a0b0c0d0e0f
 ! icescan: Z2 Bad mem://t/m1 N1 Avro V4 BadNumber
 ends 1
-case a container with a fault
+case a long past 64 bits
 list 0224146d656d3a2f2f742f6d31c8010000060602000102030405060708090a0b0c0d0e0f
 put mem://t/m1 0244020000226d656d3a2f2f742f612e70617271756574feffffffffffffffff02c80100000102030405060708090a0b0c0d0e0f
 ! icescan: Z2 Bad mem://t/m1 N1 Avro V4 BadNumber
 ends 1
-case a container with a fault
+case a block that is cut
 list 0224146d656d3a2f2f742f6d31c8010000060602000102030405060708090a0b0c0d0e0f
 put mem://t/m1 0232020000226d656d3a2f2f742f612e7061727175657414
 ! icescan: Z2 Bad mem://t/m1 N1 Avro V3 Truncated 592
 ends 1
-case a container with a fault
+case a block without its size
 list 0224146d656d3a2f2f742f6d31c8010000060602000102030405060708090a0b0c0d0e0f
 put mem://t/m1 02
 ! icescan: Z2 Bad mem://t/m1 N1 Avro V3 Truncated 591
 ends 1
-case a container with a fault
+case a marker that is cut
 list 0224146d656d3a2f2f742f6d31c8010000060602000102030405060708090a0b0c0d0e0f
 put mem://t/m1 0232020000226d656d3a2f2f742f612e7061727175657414c8010000010203
 ! icescan: Z2 Bad mem://t/m1 N1 Avro V3 Truncated 617
 ends 1
-case a container with a fault
+case another marker
 list 0224146d656d3a2f2f742f6d31c8010000060602000102030405060708090a0b0c0d0e0f
 put mem://t/m1 0232020000226d656d3a2f2f742f612e7061727175657414c80100000102030405060708090a0b0c0d0e0e
 ! icescan: Z2 Bad mem://t/m1 N1 Avro V7 BadSync
 ends 1
-case a container with a fault
+case two entries where there is one
 list 0224146d656d3a2f2f742f6d31c8010000060602000102030405060708090a0b0c0d0e0f
 put mem://t/m1 0432020000226d656d3a2f2f742f612e7061727175657414c80100000102030405060708090a0b0c0d0e0f
 ! icescan: Z2 Bad mem://t/m1 N1 Avro V8 BlockSize
 ends 1
-case a container with a fault
+case a count of entries past what a block can hold
 list 0224146d656d3a2f2f742f6d31c8010000060602000102030405060708090a0b0c0d0e0f
 put mem://t/m1 feffffffffffffffff0132020000226d656d3a2f2f742f612e7061727175657414c80100000102030405060708090a0b0c0d0e0f
 ! icescan: Z2 Bad mem://t/m1 N1 Avro V8 BlockSize
 ends 1
-case a container with a fault
+case a block's size below 0
 list 0224146d656d3a2f2f742f6d31c8010000060602000102030405060708090a0b0c0d0e0f
 put mem://t/m1 0201000102030405060708090a0b0c0d0e0f
 ! icescan: Z2 Bad mem://t/m1 N1 Avro V8 BlockSize
 ends 1
-case a container with a fault
+case a path longer than its block
 list 0224146d656d3a2f2f742f6d31c8010000060602000102030405060708090a0b0c0d0e0f
 put mem://t/m1 021a020000feffffffffffffffff01000102030405060708090a0b0c0d0e0f
 ! icescan: Z2 Bad mem://t/m1 N1 Avro V8 BlockSize
@@ -250,6 +246,6 @@ put mem://t/m3 023c020004226d656d3a2f2f742f652e7061727175657414c8010203040636000
 ends 0
 ";
 
-/// The plan of three manifests.
+/// The plan of the first table.
 pub const PLAN: &str =
     "data mem://t/a.parquet seq 3 spec 0 rows 10 size 100\n  pos mem://t/p.parquet seq 3\n  eq mem://t/e.parquet seq 4 ids 1\nfiles 1 deletes 2\n";
