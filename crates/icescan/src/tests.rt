@@ -25,33 +25,20 @@ use std::test::Fail;
 use tables::LIST_PLANS;
 use transcript::{difference, first_bundle};
 
-#[test]
-fn list_plans(rt: HostRuntime) -> Result<(), Fail> {
-    assert_eq!(rt; difference(&rt, rt.alloc(), LIST_PLANS)?, None);
-    Ok(())
-}
+/// What is played, and its name.
+static TRANSCRIPTS: [(&str, &str); 5] = [
+    ("tables", LIST_PLANS),
+    ("requests", PLANNED),
+    ("shows", SHOWN),
+    ("commits", REFUSED_COMMITS),
+    ("drills", DRILLED),
+];
 
 #[test]
-fn planned_tables(rt: HostRuntime) -> Result<(), Fail> {
-    assert_eq!(rt; difference(&rt, rt.alloc(), PLANNED)?, None);
-    Ok(())
-}
-
-#[test]
-fn shown_tables(rt: HostRuntime) -> Result<(), Fail> {
-    assert_eq!(rt; difference(&rt, rt.alloc(), SHOWN)?, None);
-    Ok(())
-}
-
-#[test]
-fn refused_commits(rt: HostRuntime) -> Result<(), Fail> {
-    assert_eq!(rt; difference(&rt, rt.alloc(), REFUSED_COMMITS)?, None);
-    Ok(())
-}
-
-#[test]
-fn drilled_tables(rt: HostRuntime) -> Result<(), Fail> {
-    assert_eq!(rt; difference(&rt, rt.alloc(), DRILLED)?, None);
+fn transcripts(rt: HostRuntime) -> Result<(), Fail> {
+    for (name, transcript) in &TRANSCRIPTS {
+        assert_eq!(rt; difference(&rt, rt.alloc(), transcript)?, None, "{name}");
+    }
     Ok(())
 }
 

@@ -3,6 +3,7 @@
 use super::read_all;
 use crate::tests::running::run;
 use ice_desk::ReadFault;
+use std::alloc::Global;
 use std::io::{self, ErrorKind, Read};
 
 /// Gives a byte a time. The read of this number, from 1, fails.
@@ -12,17 +13,6 @@ struct Faltering<'a> {
     reads: u64,
     failing: u64,
     kind: ErrorKind,
-}
-
-impl<'a> Faltering<'a> {
-    fn new(bytes: &'a [u8], failing: u64, kind: ErrorKind) -> Self {
-        Faltering {
-            bytes,
-            reads: 0,
-            failing,
-            kind,
-        }
-    }
 }
 
 impl Read for Faltering<'_> {
@@ -38,50 +28,52 @@ impl Read for Faltering<'_> {
     }
 }
 
-fn gives(read: Result<Vec<u8>, ReadFault>, expected: &[u8]) -> bool {
-    match read {
-        Ok(bytes) => bytes.as_slice() == expected,
-        Err(_) => false,
-    }
-}
+/// Readings: what there is to read, which read fails, and how, how many reads are allowed, and what is read, if it is
+/// not refused.
+static READINGS: [(&[u8], u64, ErrorKind, u64, Option<&[u8]>); 6] = [
+    // Three bytes want four reads: the last one sees the end.
+    (b"abc", 0, ErrorKind::Other, 4, Some(b"abc")),
+    (b"abc", 0, ErrorKind::Other, 3, None),
+    (b"", 0, ErrorKind::Other, 0, None),
+    // An interrupted read is made again, and counts.
+    (b"abc", 2, ErrorKind::Interrupted, 5, Some(b"abc")),
+    (b"abc", 2, ErrorKind::Interrupted, 4, None),
+    (b"abc", 3, ErrorKind::ConnectionReset, 9, None),
+];
 
-fn is_device(read: Result<Vec<u8>, ReadFault>) -> bool {
-    match read {
-        Err(ReadFault::Device) => true,
+/// Whether so many reads give this, or none is given.
+fn gives(alloc: Global, mut reader: Faltering, most: u64, expected: Option<&[u8]>) -> bool {
+    match (read_all(alloc, &mut reader, most), expected) {
+        (Ok(bytes), Some(expected)) => bytes.as_slice() == expected,
+        (Err(ReadFault::Device), None) => true,
         _ => false,
     }
 }
 
-/// Three bytes want four reads: the last one sees the end.
 #[test]
-fn reads_are_counted(rt: HostRuntime) {
-    let alloc = rt.alloc();
-    let mut whole = Faltering::new(b"abc", 0, ErrorKind::Other);
-    assert!(rt; gives(read_all(alloc, &mut whole, 4), b"abc"));
-    let mut cut = Faltering::new(b"abc", 0, ErrorKind::Other);
-    assert!(rt; is_device(read_all(alloc, &mut cut, 3)));
-    let mut unread = Faltering::new(b"", 0, ErrorKind::Other);
-    assert!(rt; is_device(read_all(alloc, &mut unread, 0)));
-}
-
-#[test]
-fn an_interrupted_read_is_made_again(rt: HostRuntime) {
-    let alloc = rt.alloc();
-    let mut stopped = Faltering::new(b"abc", 2, ErrorKind::Interrupted);
-    assert!(rt; gives(read_all(alloc, &mut stopped, 5), b"abc"));
-    let mut counted = Faltering::new(b"abc", 2, ErrorKind::Interrupted);
-    assert!(rt; is_device(read_all(alloc, &mut counted, 4)));
-}
-
-#[test]
-fn a_failed_read_ends_the_reading(rt: HostRuntime) {
-    let mut broken = Faltering::new(b"abc", 3, ErrorKind::ConnectionReset);
-    assert!(rt; is_device(read_all(rt.alloc(), &mut broken, 9)));
+fn readings(rt: HostRuntime) {
+    for (bytes, failing, kind, most, expected) in &READINGS {
+        let reader = Faltering {
+            bytes: *bytes,
+            reads: 0,
+            failing: *failing,
+            kind: *kind,
+        };
+        assert!(rt;
+            gives(rt.alloc(), reader, *most, *expected),
+            "{failing} {most}"
+        );
+    }
 }
 
 #[test]
 fn a_failed_read_ends_the_run(rt: HostRuntime) {
-    let mut broken = Faltering::new(b"mem://t/list 00\n", 5, ErrorKind::ConnectionReset);
+    let mut broken = Faltering {
+        bytes: b"mem://t/list 00\n",
+        reads: 0,
+        failing: 5,
+        kind: ErrorKind::ConnectionReset,
+    };
     let ended = run(&rt, rt.alloc(), &[], &mut broken);
     assert!(rt; ended.is(3, b"", b"icescan: P3 Device -\n"));
 }

@@ -1,59 +1,52 @@
-//! New files on a disk that fails.
+//! New files in a folder of the system, and files that are refused while they are written.
 
-use super::place_new;
+use super::{fill, place_new};
 use crate::store::StoreFault;
-use std::alloc::{Allocator, Global};
-use std::cell::Cell;
-use std::fs::{Metadata, OpenOptions};
-use std::io::{self, ErrorKind, Read, Seek, SeekFrom, Write};
-use std::rt::Files;
+use std::fs::{self, Metadata, OpenFile};
+use std::io::{self, ErrorKind, Write};
 
-/// What a disk refuses.
-#[derive(Clone, Copy, Debug, PartialEq, Eq)]
-enum Refused {
-    Nothing,
-    Create,
-    Write,
-    Sync,
-    Link,
+/// New files below the folder that the tests run in, and how each ends. The second is there already, the third's folder
+/// is not.
+static PLACES: [(&str, Result<(), StoreFault>); 3] = [
+    ("placed", Ok(())),
+    ("placed", Err(StoreFault::There)),
+    ("absent/placed", Err(StoreFault::Failed)),
+];
+
+#[test]
+fn new_files(rt: HostRuntime) {
+    let _ = fs::remove_file(&rt, "placed");
+    for (place, expected) in &PLACES {
+        assert_eq!(rt;
+            place_new(&rt, rt.alloc(), place, b"bytes"),
+            *expected,
+            "{place}"
+        );
+        assert!(rt; fs::metadata(&rt, ".icescan-0.tmp").is_err(), "{place}");
+    }
+    let placed = fs::read(&rt, "placed");
+    let _ = fs::remove_file(&rt, "placed");
+    assert!(rt; matches!(placed, Ok(bytes) if bytes.as_slice() == b"bytes".as_slice()));
 }
 
-/// A disk that refuses one thing. It keeps whether a file stands under a name of its own, and whether one is in its place.
+/// A file that refuses to be written, or to be kept.
 #[derive(Drop)]
-struct Disk {
-    refused: Refused,
-    aside: Cell<bool>,
-    placed: Cell<bool>,
+struct Refusing {
+    written: Option<ErrorKind>,
+    kept: Option<ErrorKind>,
 }
 
-/// A file on that disk.
-#[derive(Drop)]
-struct Opened {
-    refused: Refused,
-}
-
-/// An answer of a disk to what it may refuse.
-fn answer(is_refused: bool, kind: ErrorKind) -> io::Result<()> {
-    if is_refused {
-        Err(io::Error::from(kind))
-    } else {
-        Ok(())
+/// What a file answers that refuses so.
+fn answer(refused: Option<ErrorKind>) -> io::Result<()> {
+    match refused {
+        Some(kind) => Err(io::Error::from(kind)),
+        None => Ok(()),
     }
 }
 
-fn unsupported<T>() -> io::Result<T> {
-    Err(io::Error::from(ErrorKind::Unsupported))
-}
-
-impl Read for Opened {
-    fn read(&mut self, _buf: &mut [u8]) -> io::Result<usize> {
-        Ok(0)
-    }
-}
-
-impl Write for Opened {
+impl Write for Refusing {
     fn write(&mut self, buf: &[u8]) -> io::Result<usize> {
-        answer(self.refused == Refused::Write, ErrorKind::StorageFull)?;
+        answer(self.written)?;
         Ok(buf.len())
     }
 
@@ -62,112 +55,29 @@ impl Write for Opened {
     }
 }
 
-impl Seek for Opened {
-    fn seek(&mut self, _to: SeekFrom) -> io::Result<u64> {
-        unsupported()
-    }
-}
-
-impl std::fs::OpenFile for Opened {
+impl OpenFile for Refusing {
     fn metadata(&self) -> io::Result<Metadata> {
-        unsupported()
+        Err(io::Error::from(ErrorKind::Unsupported))
     }
 
     fn set_len(&self, _size: u64) -> io::Result<()> {
-        unsupported()
+        Ok(())
     }
 
     fn sync_all(&self) -> io::Result<()> {
-        answer(self.refused == Refused::Sync, ErrorKind::Other)
+        answer(self.kept)
     }
 
     fn sync_data(&self) -> io::Result<()> {
-        unsupported()
-    }
-}
-
-impl Files for Disk {
-    type File = Opened;
-
-    type Dir = Opened;
-
-    fn open_file(&self, _how: &OpenOptions, path: &str) -> io::Result<Opened> {
-        if path != "d" {
-            answer(self.refused == Refused::Create, ErrorKind::PermissionDenied)?;
-            self.aside.set(true);
-        }
-        Ok(Opened {
-            refused: self.refused,
-        })
-    }
-
-    fn open_dir(&self, _path: &str) -> io::Result<Opened> {
-        unsupported()
-    }
-
-    fn metadata(&self, _path: &str) -> io::Result<Metadata> {
-        unsupported()
-    }
-
-    fn symlink_metadata(&self, _path: &str) -> io::Result<Metadata> {
-        unsupported()
-    }
-
-    fn copy(&self, _from: &str, _to: &str) -> io::Result<u64> {
-        unsupported()
-    }
-
-    fn rename(&self, _from: &str, _to: &str) -> io::Result<()> {
-        unsupported()
-    }
-
-    fn remove_file(&self, _path: &str) -> io::Result<()> {
-        self.aside.set(false);
         Ok(())
     }
-
-    fn create_dir(&self, _path: &str) -> io::Result<()> {
-        unsupported()
-    }
-
-    fn remove_dir(&self, _path: &str) -> io::Result<()> {
-        unsupported()
-    }
-
-    fn remove_dir_all<B: Allocator>(&self, _alloc: B, _path: &str) -> io::Result<()> {
-        unsupported()
-    }
-
-    fn hard_link(&self, _original: &str, link: &str) -> io::Result<()> {
-        answer(self.refused == Refused::Link, ErrorKind::AlreadyExists)?;
-        self.placed.set(link == "d/f");
-        Ok(())
-    }
-}
-
-/// What a disk refuses, and how a new file on it ends.
-static DISKS: [(Refused, Result<(), StoreFault>); 5] = [
-    (Refused::Nothing, Ok(())),
-    (Refused::Create, Err(StoreFault::Failed)),
-    (Refused::Write, Err(StoreFault::Failed)),
-    (Refused::Sync, Err(StoreFault::Failed)),
-    (Refused::Link, Err(StoreFault::There)),
-];
-
-/// Whether a new file on a disk that refuses this ends so: in its place or not, and under no other name.
-fn ends(alloc: Global, refused: Refused, expected: Result<(), StoreFault>) -> bool {
-    let disk = Disk {
-        refused,
-        aside: Cell::new(false),
-        placed: Cell::new(false),
-    };
-    let ended = place_new(&disk, alloc, "d/f", b"bytes");
-    ended == expected && disk.placed.get() == ended.is_ok() && !disk.aside.get()
 }
 
 #[test]
-fn disks_that_fail(rt: HostRuntime) {
-    for (refused, expected) in &DISKS {
-        assert!(rt; ends(rt.alloc(), *refused, *expected), "{refused:?}");
+fn files_that_refuse(rt: HostRuntime) {
+    let (full, broken) = (Some(ErrorKind::StorageFull), Some(ErrorKind::Other));
+    for (written, kept) in [(None, None), (full, None), (None, broken), (full, broken)] {
+        let filled = fill(&mut Refusing { written, kept }, b"bytes");
+        assert_eq!(rt; filled.err().map(|e| e.kind()), written.or(kept));
     }
 }
