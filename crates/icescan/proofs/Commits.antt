@@ -24,7 +24,7 @@ use Rattle.icescan.specs.declared.committing.CommitRequest.{CommitRequest}
 use Rattle.icescan.specs.declared.fault.RunFault.{RunFault}
 use Rattle.icescan.specs.declared.fault.RunFault.TheVariants as run
 use Rattle.icescan.specs.Changes.{change_of}
-use Rattle.icescan.specs.Commits.{Commitment, IsOfPreparing, IsReadFault, MayEndCommit, Writes, base_files, base_of, change_asked, commitment, commitment_from, commitment_on}
+use Rattle.icescan.specs.Commits.{Commitment, IsOfPreparing, MayEndCommit, Writes, base_files, base_of, change_asked, commitment, commitment_from, commitment_on}
 use Rattle.icescan.specs.Faults.{of_change, of_meta, of_prepare}
 use Rattle.icescan.specs.ListPlans.{MayEnd, as_run, file_in}
 use Rattle.icescan.proofs.Steps.{first_ends, then_ends}
@@ -67,25 +67,6 @@ module _ (r : List ℕ → Type 0) (w : Type 0) where
   prepare_ends read (prepare.BadFile path) h = ap (as_run of_prepare) (h (λ m. cc))
   prepare_ends read prepare.TooManyRows h = ap (as_run of_prepare) (h (λ m. cc))
 
-  read_ends : {A : Type 0} (read : Result A RunFault) (e : RunFault) → IsReadFault r e → MayEnd read r w e
-  read_ends read run.Memory h = tt
-  read_ends read (run.Device path) h = h
-  read_ends read run.Write h = absurd h
-  read_ends read run.Input h = absurd h
-  read_ends read (run.Words t) h = absurd h
-  read_ends read (run.Bundle n) h = absurd h
-  read_ends read (run.Absent path) h = absurd h
-  read_ends read (run.List f) h = absurd h
-  read_ends read (run.Scan f) h = absurd h
-  read_ends read (run.Finish f) h = absurd h
-  read_ends read (run.Metadata f) h = absurd h
-  read_ends read (run.Filter f) h = absurd h
-  read_ends read (run.Drill f) h = absurd h
-  read_ends read (run.Change f) h = absurd h
-  read_ends read (run.Prepare f) h = absurd h
-  read_ends read (run.Conflict path) h = absurd h
-  read_ends read run.Workers h = absurd h
-
 -- ---- a version that was just opened
 
 module _ (o : Opening) (m : Described) (is : openable o.bytes ≡ Ok m) (c : Commit) where
@@ -103,9 +84,6 @@ module _ (o : Opening) (m : Described) (is : openable o.bytes ≡ Ok m) (c : Com
 
   pub version_is : (v : History) → opened o ≡ Ok v → v ≡ version
   version_is v h = let same : ◌≡◌ {A = Result History MetaFault} (Ok v) (Ok version) = sym h ∙ is_opened in cc
-
-  pub opens : (e : MetaFault) → opened o ≡ Err e → ⊥
-  opens e h = let wrong : ◌≡◌ {A = Result History MetaFault} (Ok version) (Err e) = sym is_opened ∙ h in absurd cc
 
   state_is : state_of version ≡ Some base
   unfolding state_of
@@ -195,9 +173,6 @@ module _ (f : List ℕ → Type 0) (world : World) where
         first_ends f ⊥ f (as_run of_meta (openable bytes)) _ (of_meta e) (λ p m. m) (meta_ends f ⊥ (openable bytes) e h)
 
     module _ (m : Described) (is : openable bytes ≡ Ok m) where
-      pub bad_base : (e : RunFault) → IsReadFault f e → MayEnd answer f ⊥ e
-      bad_base e h = read_ends f ⊥ answer e h
-
       answer_is : answer ≡ commitment_on (base_of world m) commit
       unfolding commitment_from
       answer_is = rw is refl
@@ -230,21 +205,6 @@ module _ (f : List ℕ → Type 0) (world : World) where
         prepared p h =
             let made = made_by opening m is commit p (rw version_at at h) in
             (made.0, answer_on ∙ made.1, made.2)
-
-      pub not_opened : (kept : Kept) (e : MetaFault)
-          → (e ≢ meta.Memory → opened (record { bytes = bytes; world = kept }) ≡ Err e) → MayEnd answer f ⊥ (of_meta e)
-      not_opened kept meta.Memory h = tt
-      not_opened kept meta.NotJson h = absurd (opens _ m is commit _ (h (λ m. cc)))
-      not_opened kept (meta.Version n) h = absurd (opens _ m is commit _ (h (λ m. cc)))
-      not_opened kept (meta.Missing member) h = absurd (opens _ m is commit _ (h (λ m. cc)))
-      not_opened kept (meta.WrongKind member) h = absurd (opens _ m is commit _ (h (λ m. cc)))
-      not_opened kept (meta.UnknownType text) h = absurd (opens _ m is commit _ (h (λ m. cc)))
-      not_opened kept meta.NoSuchRef h = absurd (opens _ m is commit _ (h (λ m. cc)))
-      not_opened kept meta.NoSuchSnapshot h = absurd (opens _ m is commit _ (h (λ m. cc)))
-      not_opened kept meta.NoSnapshot h = absurd (opens _ m is commit _ (h (λ m. cc)))
-      not_opened kept (meta.IdTwice id) h = absurd (opens _ m is commit _ (h (λ m. cc)))
-      not_opened kept (meta.Dangling member) h = absurd (opens _ m is commit _ (h (λ m. cc)))
-      not_opened kept meta.TooBig h = absurd (opens _ m is commit _ (h (λ m. cc)))
 
 -- ---- the causes of preparing
 
