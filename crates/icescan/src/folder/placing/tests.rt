@@ -13,6 +13,14 @@ static PLACES: [(&str, Result<(), StoreFault>); 3] = [
     ("absent/placed", Err(StoreFault::Failed)),
 ];
 
+/// Whether what was read is this.
+fn holds(read: &io::Result<Vec<u8>>, bytes: &[u8]) -> bool {
+    match read {
+        Ok(found) => found.as_slice() == bytes,
+        Err(_) => false,
+    }
+}
+
 #[test]
 fn new_files(rt: HostRuntime) {
     let _ = fs::remove_file(&rt, "placed");
@@ -24,9 +32,8 @@ fn new_files(rt: HostRuntime) {
         );
         assert!(rt; fs::metadata(&rt, ".icescan-0.tmp").is_err(), "{place}");
     }
-    let placed = fs::read(&rt, "placed");
+    assert!(rt; holds(&fs::read(&rt, "placed"), b"bytes"));
     let _ = fs::remove_file(&rt, "placed");
-    assert!(rt; matches!(placed, Ok(bytes) if bytes.as_slice() == b"bytes".as_slice()));
 }
 
 /// A file that refuses to be written, or to be kept.
