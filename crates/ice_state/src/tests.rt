@@ -4,7 +4,7 @@
 ghost use Rattle.std.specs.Prelude.{◌<◌, IfOk, length, vec_len};
 ghost use Rattle.ice_state.specs.Contents.{IsOf};
 
-use crate::{FinishFault, Partial, PlanFiles, Scan, ScanFault};
+use crate::{FinishFault, OwnedPlan, Partial, PlanFile, PlanFiles, Scan, ScanFault};
 use contract_words::Text;
 use ice_filter::Bound;
 use ice_manifest::{Counts, ManifestContent, ManifestFault, Row};
@@ -49,7 +49,6 @@ fn manifest(alloc: Global, codec: &[u8], block: &[u8]) -> Result<Vec<u8>, AllocE
     Ok(bytes)
 }
 
-/// A sequence number; 0 for what is none.
 const NO_COUNTS: Counts = Counts {
     added_files: None,
     existing_files: None,
@@ -59,11 +58,9 @@ const NO_COUNTS: Counts = Counts {
     deleted_rows: None,
 };
 
+/// A sequence number; 0 for what is none.
 fn number(number: u64) -> SequenceNumber {
-    match SequenceNumber::new(number) {
-        Some(number) => number,
-        None => SequenceNumber::zero(),
-    }
+    SequenceNumber::new(number).unwrap_or(SequenceNumber::zero())
 }
 
 fn row(alloc: Global, path: &str, spec: i32, sequence_number: u64) -> Result<Row, AllocError> {
@@ -189,6 +186,20 @@ fn has_plan(state: &Partial, scan: &Scan) -> Result<bool, FinishFault>
     )
 }
 
+/// Whether the scan wants the rows of these paths, in this order.
+fn wants(scan: &Scan, paths: &[&str]) -> bool {
+    let wanted = scan.wanted();
+    if wanted.len() != paths.len() {
+        return false;
+    }
+    for i in 0..paths.len() {
+        if wanted[i].path.as_str() != paths[i] {
+            return false;
+        }
+    }
+    true
+}
+
 fn has_paths(files: &PlanFiles<'_>, paths: &[&str]) -> bool {
     if files.len() != paths.len() {
         return false;
@@ -233,11 +244,7 @@ fn wants_every_row_by_path(rt: HostRuntime) -> Result<(), Fail> {
     let alloc = rt.alloc();
     let rows = data_rows(alloc, &["mem://t/m2", "mem://t/m10", "mem://t/m1"])?;
     let scan = Scan::new(alloc, rows, specs(alloc)?, Bound::always(alloc))?;
-    let wanted = scan.wanted();
-    assert_eq!(rt; wanted.len(), 3);
-    assert_eq!(rt; wanted[0].path.as_str(), "mem://t/m1");
-    assert_eq!(rt; wanted[1].path.as_str(), "mem://t/m10");
-    assert_eq!(rt; wanted[2].path.as_str(), "mem://t/m2");
+    assert!(rt; wants(&scan, &["mem://t/m1", "mem://t/m10", "mem://t/m2"]));
     Ok(())
 }
 
@@ -368,22 +375,38 @@ fn tells_which_rows_are_taken(rt: HostRuntime) -> Result<(), Fail> {
     Ok(())
 }
 
+/// Whether it is the data file of `data_and_deletes`, number by number.
+fn is_data(file: &PlanFile<'_>) -> bool {
+    file.spec_id() == 0
+        && file.sequence_number().get() == 3
+        && file.record_count() == 10
+        && file.file_size() == 100
+}
+
+/// Whether there is one file, which deletes by column 1.
+fn is_by_column_1(files: &PlanFiles<'_>) -> bool {
+    files.len() == 1 && files.file(0).equality_ids() == [1].as_slice()
+}
+
+/// Whether the kept plan is that of `data_and_deletes`, number by number.
+fn is_whole(kept: &OwnedPlan) -> bool {
+    let lines = kept.lines();
+    if lines.len() != 1 {
+        return false;
+    }
+    let line = lines.line(0);
+    is_data(&line.file())
+        && has_paths(&line.positions(), &["mem://t/p.parquet"])
+        && is_by_column_1(&line.equalities())
+}
+
 #[test]
 fn keeps_a_plan(rt: HostRuntime) -> Result<(), Fail> {
     let alloc = rt.alloc();
     let case = data_and_deletes(alloc)?;
     let state = state_after(alloc, &case, &[0, 1, 2])?;
     let kept = state.finish(&case.scan)?.keep(alloc)?;
-    assert_eq!(rt; kept.lines().len(), 1);
-    let line = kept.lines().line(0);
-    assert_eq!(rt; line.file().spec_id(), 0);
-    assert_eq!(rt; line.file().sequence_number().get(), 3);
-    assert_eq!(rt; line.file().record_count(), 10);
-    assert_eq!(rt; line.file().file_size(), 100);
-    assert!(rt; has_paths(&line.positions(), &["mem://t/p.parquet"]));
-    let equalities = line.equalities();
-    assert_eq!(rt; equalities.len(), 1);
-    assert_eq!(rt; equalities.file(0).equality_ids(), [1].as_slice());
+    assert!(rt; is_whole(&kept));
     Ok(())
 }
 

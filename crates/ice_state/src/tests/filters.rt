@@ -1,6 +1,6 @@
 //! Scans with a filter, of a table with two specs: spec 1 has the values of column 1 as they are, spec 0 has no field.
 
-use super::row;
+use super::{row, wants};
 use crate::{Scan, ScanFault};
 use contract_words::{Items, Text};
 use ice_filter::{Bound, BoundLeaf, Part, Parts, Test};
@@ -43,13 +43,21 @@ fn at_least_ten(alloc: Global) -> Result<Bound, AllocError> {
     })
 }
 
+/// A bound of a column of the type int.
+fn bound(alloc: Global, value: u8) -> Result<Items<u8>, AllocError> {
+    let bytes = [value, 0, 0, 0].to_vec(alloc)?;
+    Ok(Items::from_vec(bytes))
+}
+
 /// The summary of values from 1 to this one.
 fn up_to(alloc: Global, upper: u8) -> Result<Summary, AllocError> {
+    let lower = bound(alloc, 1)?;
+    let upper = bound(alloc, upper)?;
     Ok(Summary {
         contains_null: false,
         contains_nan: None,
-        lower: Some(Items::from_vec([1, 0, 0, 0].to_vec(alloc)?)),
-        upper: Some(Items::from_vec([upper, 0, 0, 0].to_vec(alloc)?)),
+        lower: Some(lower),
+        upper: Some(upper),
     })
 }
 
@@ -74,10 +82,8 @@ fn leaves_no_row_out_without_a_filter(rt: HostRuntime) -> Result<(), Fail> {
     Ok(())
 }
 
-/// Only where there is a summary for each field of the row's own spec does it leave the row out.
-#[test]
-fn leaves_out_rows_by_their_summaries(rt: HostRuntime) -> Result<(), Fail> {
-    let alloc = rt.alloc();
+/// Rows with summaries of values up to 9 but for `mem://t/b`, where one reaches 10, and `mem://t/c`, which has none.
+fn summed_rows(alloc: Global) -> Result<Vec<Row>, AllocError> {
     let mut rows = Vec::new(alloc);
     rows.push(summed(alloc, "mem://t/f", 0, &[])?)?;
     rows.push(summed(alloc, "mem://t/e", 0, &[9])?)?;
@@ -85,14 +91,23 @@ fn leaves_out_rows_by_their_summaries(rt: HostRuntime) -> Result<(), Fail> {
     rows.push(row(alloc, "mem://t/c", 1, 3)?)?;
     rows.push(summed(alloc, "mem://t/b", 1, &[10])?)?;
     rows.push(summed(alloc, "mem://t/a", 1, &[9])?)?;
+    Ok(rows)
+}
+
+/// Only where there is a summary for each field of the row's own spec does it leave the row out.
+#[test]
+fn leaves_out_rows_by_their_summaries(rt: HostRuntime) -> Result<(), Fail> {
+    let alloc = rt.alloc();
+    let rows = summed_rows(alloc)?;
     let scan = Scan::new(alloc, rows, specs(alloc)?, at_least_ten(alloc)?)?;
-    let wanted = scan.wanted();
-    assert_eq!(rt; wanted.len(), 5);
-    assert_eq!(rt; wanted[0].path.as_str(), "mem://t/b");
-    assert_eq!(rt; wanted[1].path.as_str(), "mem://t/c");
-    assert_eq!(rt; wanted[2].path.as_str(), "mem://t/d");
-    assert_eq!(rt; wanted[3].path.as_str(), "mem://t/e");
-    assert_eq!(rt; wanted[4].path.as_str(), "mem://t/f");
+    let paths = [
+        "mem://t/b",
+        "mem://t/c",
+        "mem://t/d",
+        "mem://t/e",
+        "mem://t/f",
+    ];
+    assert!(rt; wants(&scan, &paths));
     Ok(())
 }
 
