@@ -82,7 +82,8 @@ fn leaves_no_row_out_without_a_filter(rt: HostRuntime) -> Result<(), Fail> {
     Ok(())
 }
 
-/// Rows with summaries of values up to 9 but for `mem://t/b`, where one reaches 10, and `mem://t/c`, which has none.
+/// Rows with summaries of values up to 9, but for `mem://t/b`, where one reaches 10, `mem://t/c`, which has no list of
+/// them, and `mem://t/f`, whose list is empty.
 fn summed_rows(alloc: Global) -> Result<Vec<Row>, AllocError> {
     let mut rows = Vec::new(alloc);
     rows.push(summed(alloc, "mem://t/f", 0, &[])?)?;
