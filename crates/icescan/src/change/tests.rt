@@ -1,8 +1,7 @@
 //! Change files, and what is told of those that are none.
 
 use super::{ChangeFault, ChangeKind, read_change};
-use ice_catalog::NewFile;
-use ice_value::{Cell, FileContent};
+use ice_catalog::Change;
 use std::alloc::Global;
 
 /// Changes: the command, the member at fault (`-` where there is no object, nothing where there is no fault), and the text.
@@ -84,37 +83,22 @@ fn a_change_in_no_utf8(rt: HostRuntime) {
 const DELETES: &str =
     r#"{"data":[],"x":1,"deletes":[{"content":"equality","equality-ids":[3,-1],"path":"p/d","format":"puffin","spec-id":-7,"partition":[null,true,-5,"t",{"hex":"00fF"}],"record-count":0,"file-size":9223372036854775807}]}"#;
 
-/// What its partition values look like.
-const TUPLE: &str =
-    r#"[Null, Bool(true), Whole(-5), Text(Text { text: "t" }), Bytes(Items { items: [0, 255] })]"#;
+/// What is read of it.
+const READ: &str =
+    r#"Change { files: Items { items: [] }, deletes: Items { items: [NewFile { content: EqualityDeletes, path: Text { text: "p/d" }, format: Text { text: "puffin" }, spec_id: -7, tuple: Items { items: [Null, Bool(true), Whole(-5), Text(Text { text: "t" }), Bytes(Items { items: [0, 255] })] }, record_count: 0, file_size: 9223372036854775807, equality_ids: Items { items: [3, -1] } }] } }"#;
 
-/// Whether these partition values look so.
-fn look_like(alloc: Global, tuple: &[Cell], text: &str) -> bool {
-    match format!(in alloc; "{tuple:?}") {
+/// Whether a change looks so.
+fn looks_like(alloc: Global, change: &Change, text: &str) -> bool {
+    match format!(in alloc; "{change:?}") {
         Ok(look) => look.as_str() == text,
         Err(_) => false,
     }
 }
 
-/// Whether it is that file.
-fn is_expected(alloc: Global, file: &NewFile) -> bool {
-    file.content == FileContent::EqualityDeletes
-        && file.path.as_str() == "p/d"
-        && file.format.as_str() == "puffin"
-        && file.spec_id == -7
-        && look_like(alloc, file.tuple.as_slice(), TUPLE)
-        && file.record_count == 0
-        && file.file_size == 9223372036854775807
-        && file.equality_ids.as_slice() == [3, -1].as_slice()
-}
-
 #[test]
 fn each_member_is_read(rt: HostRuntime) {
     let is_right = match read_change(rt.alloc(), DELETES.as_bytes(), ChangeKind::RowDelta) {
-        Ok(change) => match change.deletes.as_slice() {
-            [delete] => change.files.as_slice().is_empty() && is_expected(rt.alloc(), delete),
-            _ => false,
-        },
+        Ok(change) => looks_like(rt.alloc(), &change, READ),
         Err(_) => false,
     };
     assert!(rt; is_right);

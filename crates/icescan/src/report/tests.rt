@@ -12,7 +12,6 @@ use ice_manifest::{ListFault, ManifestFault};
 use ice_meta::{Member, MetaFault};
 use ice_state::{FinishFault, ScanFault};
 use std::alloc::{AllocError, Global};
-use std::test::Fail;
 
 /// What is printed of each fault behind the program's name, and its status. The path in them is `a b`.
 const LINES: &str = r"B1 Bundle 3|2
@@ -235,24 +234,31 @@ fn fault_of(alloc: Global, line: &str) -> Result<RunFault, AllocError> {
 }
 
 /// Whether the fault prints this line behind the program's name, and ends with this status.
-fn prints(alloc: Global, fault: RunFault, line: &str, status: &str) -> bool {
+fn prints(alloc: Global, fault: &RunFault, line: &str, status: &str) -> bool {
     let mut errors = Vec::new(alloc);
-    let ended = report(&fault, &mut errors);
-    let printed = errors.as_slice().strip_prefix(b"icescan: ");
-    status.parse() == Ok(ended)
-        && printed.and_then(|line| line.strip_suffix(b"\n")) == Some(line.as_bytes())
+    let ended = report(fault, &mut errors);
+    let Some(printed) = errors.as_slice().strip_prefix(b"icescan: ") else {
+        return false;
+    };
+    status.parse() == Ok(ended) && printed.strip_suffix(b"\n") == Some(line.as_bytes())
+}
+
+/// Whether the fault of a row prints its line and ends with its status.
+fn is_printed(alloc: Global, row: &str) -> bool {
+    let (line, status) = row.split_once('|').unwrap_or((row, ""));
+    match fault_of(alloc, line) {
+        Ok(fault) => prints(alloc, &fault, line, status),
+        Err(_) => false,
+    }
 }
 
 #[test]
-fn lines(rt: HostRuntime) -> Result<(), Fail> {
+fn lines(rt: HostRuntime) {
     for row in LINES.lines() {
-        let (line, status) = row.split_once('|').unwrap_or((row, ""));
-        let fault = fault_of(rt.alloc(), line)?;
-        assert!(rt; prints(rt.alloc(), fault, line, status), "{row}");
+        assert!(rt; is_printed(rt.alloc(), row), "{row}");
     }
     let change = RunFault::Change(ChangeFault::Memory);
-    assert!(rt; prints(rt.alloc(), change, "Memory", "5"));
-    Ok(())
+    assert!(rt; prints(rt.alloc(), &change, "Memory", "5"));
 }
 
 /// Whether the fault says this sentence.
