@@ -4,6 +4,7 @@ mod commits;
 mod drills;
 mod requests;
 pub mod running;
+mod shelves;
 mod shows;
 mod sinks;
 mod tables;

@@ -2,10 +2,12 @@
 
 use super::tables::{LIST_PLANS, PLAN};
 use super::transcript::first_bundle;
-use crate::sink::{Sink, SinkFault};
+use crate::fault::RunFault;
+use crate::report::report;
+use crate::sink::{Output, Sink, SinkFault, write_all};
 use crate::watch::Watch;
 use crate::words::run_words;
-use std::alloc::Global;
+use std::alloc::{AllocError, Global};
 use std::rt::Files;
 use std::sync::Wait;
 use std::test::Fail;
@@ -51,35 +53,66 @@ impl Sink for Slow {
     }
 }
 
-/// Whether the program, asked so, fills a sink of this many bytes at a time and in all with the front of the whole text that
-/// fits, and tells by its status whether that is the whole.
-pub fn fills<H: Files<File: Send, Dir: Send> + Threads + Wait + Watch + Sync>(
-    rt: &H,
-    alloc: Global,
-    asked: (&[String], &[u8]),
-    whole: &[u8],
-    (step, room): (usize, usize),
-) -> bool {
-    let (words, mut bundle) = asked;
-    let mut output = Slow::new(alloc, step, room);
-    let mut errors = Vec::new(alloc);
-    let status = run_words(rt, alloc, words, &mut bundle, &mut output, &mut errors);
-    let count = if step == 0 { 0 } else { room };
-    let ended = if count < whole.len() { 3 } else { 0 };
-    status == ended && whole.get(..count) == Some(output.taken.as_slice())
+/// What a sink has taken of a fault's line, and the fault's status.
+fn tell(mut sink: Slow) -> (u8, Vec<u8>) {
+    let status = report(&RunFault::Bundle(12), &mut sink);
+    (status, sink.taken)
 }
 
-/// Sinks with room for less than the plan, and for just the plan: in turn such that take nothing, a byte and two bytes at a
-/// time. The last one takes the whole plan byte by byte.
 #[test]
-fn plans_in_little_room(rt: HostRuntime) -> Result<(), Fail> {
-    let bundle = first_bundle(rt.alloc(), LIST_PLANS)?;
-    for room in 0..PLAN.len().saturating_add(1) {
-        let size = (room % 3, room);
-        assert!(rt;
-            fills(&rt, rt.alloc(), (&[], &bundle), PLAN.as_bytes(), size),
-            "{room}"
-        );
+fn sinks_that_take_little(rt: HostRuntime) {
+    let (status, taken) = tell(Slow::new(rt.alloc(), 1, 100));
+    assert!(rt; status == 2 && taken.as_slice() == b"icescan: B1 Bundle 12\n".as_slice());
+    let (status, taken) = tell(Slow::new(rt.alloc(), 4, 14));
+    assert!(rt; status == 2 && taken.as_slice() == b"icescan: B1 Bu".as_slice());
+    let mut stuck = Slow::new(rt.alloc(), 0, 1);
+    assert_eq!(rt; write_all(&mut stuck, b"a"), Err(SinkFault));
+}
+
+#[test]
+fn outputs_of_the_system(rt: HostRuntime) {
+    let mut output = Output::new(Vec::<u8>::new(rt.alloc()));
+    assert_eq!(rt; write_all(&mut output, b"text"), Ok(()));
+}
+
+/// What a sink of this many bytes at a time and in all has taken of the first case's plan, and the run's status.
+fn run_slow<H: Files<File: Send, Dir: Send> + Threads + Wait + Watch + Sync>(
+    rt: &H,
+    alloc: Global,
+    step: usize,
+    room: usize,
+) -> Result<(u8, Vec<u8>), AllocError> {
+    let bundle = first_bundle(alloc, LIST_PLANS)?;
+    let mut input = bundle.as_slice();
+    let mut output = Slow::new(alloc, step, room);
+    let mut errors = Vec::new(alloc);
+    let status = run_words(rt, alloc, &[], &mut input, &mut output, &mut errors);
+    Ok((status, output.taken))
+}
+
+/// Whether a sink with room for less than the plan has taken a front of it, and the run told so by its status.
+fn is_cut<H: Files<File: Send, Dir: Send> + Threads + Wait + Watch + Sync>(
+    rt: &H,
+    alloc: Global,
+    room: usize,
+) -> Result<bool, AllocError> {
+    let (status, taken) = run_slow(rt, alloc, 1000, room)?;
+    Ok(status == 3 && PLAN.as_bytes().get(..room) == Some(taken.as_slice()))
+}
+
+#[test]
+fn plan_of_one_byte_at_a_time(rt: HostRuntime) -> Result<(), Fail> {
+    let (status, taken) = run_slow(&rt, rt.alloc(), 1, 1000)?;
+    assert_eq!(rt; status, 0);
+    assert_eq!(rt; taken.as_slice(), PLAN.as_bytes());
+    Ok(())
+}
+
+#[test]
+fn plan_cut_by_a_failing_write(rt: HostRuntime) -> Result<(), Fail> {
+    for room in 0..PLAN.len() {
+        let is_cut = is_cut(&rt, rt.alloc(), room)?;
+        assert!(rt; is_cut, "{room}");
     }
     Ok(())
 }
