@@ -2,48 +2,12 @@
 //! to it.
 #![tactic(auto)]
 
-mod base;
-mod bundle;
-mod change;
-mod command_line;
-mod commit_lines;
-mod committing;
-mod drill;
-mod drill_fault;
-mod drilled_table;
-mod drilling;
-mod escape;
-mod fault;
-mod fault_text;
-mod folder;
-mod input;
-mod page;
-mod pieces;
-mod plan_text;
-mod reading;
-mod report;
-mod run_drill;
-mod run_list_plan;
-mod run_plan;
-mod run_plan_with;
-mod selection;
-mod show;
-mod sink;
-mod store;
-mod table_lines;
-mod table_text;
 #[cfg(test)]
 mod tests;
-mod unescape;
-mod watch;
-mod words;
-mod write;
 
-use crate::fault::RunFault;
-use crate::report::report;
-use crate::sink::Output;
-use crate::words::run_words;
 use contract_words::Text;
+use ice_commands::run_words;
+use ice_text::{Output, RunFault, report};
 use std::alloc::Global;
 use std::process::ExitCode;
 use std::{env, io};

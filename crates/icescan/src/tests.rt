@@ -1,7 +1,13 @@
 //! The program over bundles, as its users run it.
 
+mod changes;
+mod command_lines;
 mod commits;
 mod drills;
+mod folders;
+mod inputs;
+mod placing;
+mod reports;
 mod requests;
 pub mod running;
 mod shelves;
@@ -10,12 +16,12 @@ mod sinks;
 mod tables;
 mod transcript;
 
-use crate::bundle::Bundle;
-use crate::fault::RunFault;
-use crate::run_list_plan::run_list_plan;
+use changes::CHANGES;
 use commits::REFUSED_COMMITS;
 use drills::DRILLED;
+use ice_commands::{Bundle, run_list_plan};
 use ice_desk::{Files, ReadFault};
+use ice_text::RunFault;
 use requests::PLANNED;
 use running::run;
 use shows::SHOWN;
@@ -25,11 +31,12 @@ use tables::LIST_PLANS;
 use transcript::{difference, first_bundle};
 
 /// What is played, and its name.
-static TRANSCRIPTS: [(&str, &str); 5] = [
+static TRANSCRIPTS: [(&str, &str); 6] = [
     ("tables", LIST_PLANS),
     ("requests", PLANNED),
     ("shows", SHOWN),
     ("commits", REFUSED_COMMITS),
+    ("changes", CHANGES),
     ("drills", DRILLED),
 ];
 
@@ -41,8 +48,8 @@ fn transcripts(rt: HostRuntime) -> Result<(), Fail> {
     Ok(())
 }
 
-/// Texts that are no bundles, or bundles of no list, and what is told of them.
-static BUNDLES: [(&[u8], u8, &str); 9] = [
+/// Texts that are no bundles, or bundles of no list, and what is told of them. A path that no escaping gives is no path.
+static BUNDLES: [(&[u8], u8, &str); 18] = [
     (b"", 2, "icescan: B1 Bundle 1\n"),
     (b"\n", 2, "icescan: B1 Bundle 1\n"),
     (b"a 00\nb 0\n", 2, "icescan: B1 Bundle 2\n"),
@@ -52,6 +59,19 @@ static BUNDLES: [(&[u8], u8, &str); 9] = [
     (b"\\x41 00\n", 2, "icescan: B1 Bundle 1\n"),
     (b"\xff 00\n", 2, "icescan: B1 Bundle 1\n"),
     (b"a 4F626a", 1, "icescan: N1 Avro V1 NotAvro\n"),
+    (b"a\\x20b 4F626a", 1, "icescan: N1 Avro V1 NotAvro\n"),
+    (
+        b"\\x00\\x1f\\x5c\\x7f 4F626a",
+        1,
+        "icescan: N1 Avro V1 NotAvro\n",
+    ),
+    (b"\xc3\xa9 4F626a", 1, "icescan: N1 Avro V1 NotAvro\n"),
+    (b"\\x5C 00\n", 2, "icescan: B1 Bundle 1\n"),
+    (b"\\x21 00\n", 2, "icescan: B1 Bundle 1\n"),
+    (b"\\x2 00\n", 2, "icescan: B1 Bundle 1\n"),
+    (b"\\ 00\n", 2, "icescan: B1 Bundle 1\n"),
+    (b"a\tb 00\n", 2, "icescan: B1 Bundle 1\n"),
+    (b"\x7f 00\n", 2, "icescan: B1 Bundle 1\n"),
 ];
 
 #[test]

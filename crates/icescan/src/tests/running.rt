@@ -1,7 +1,6 @@
 //! A run of the program in memory.
 
-use crate::watch::Watch;
-use crate::words::run_words;
+use ice_commands::{Watch, run_words};
 use std::alloc::{AllocError, Global};
 use std::io::Read;
 use std::rt::Files;

@@ -3,12 +3,10 @@
 use super::commits::REFUSED_COMMITS;
 use super::running::{run, words_of};
 use super::transcript::first_bundle;
-use crate::bundle::Bundle;
-use crate::command_line::{Words, parse_words};
-use crate::committing::{CommitRequest, commit_to};
-use crate::fault::RunFault;
-use crate::store::{Store, StoreFault};
-use crate::watch::Watch;
+use ice_commands::{
+    Bundle, CommitRequest, Store, StoreFault, Watch, Words, commit_to, parse_words,
+};
+use ice_text::RunFault;
 use std::alloc::{AllocError, Global};
 use std::rt::Files;
 use std::sync::Wait;

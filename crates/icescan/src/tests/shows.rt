@@ -54,4 +54,9 @@ text m []
 run show|--bundle|m
 ! icescan: M1 NotJson
 ends 1
+case a path with a blank, which its line in the bundle escapes
+text a\x20b []
+run show|--bundle|a b
+! icescan: M1 NotJson
+ends 1
 "#;

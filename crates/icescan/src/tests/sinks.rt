@@ -2,11 +2,8 @@
 
 use super::tables::{LIST_PLANS, PLAN};
 use super::transcript::first_bundle;
-use crate::fault::RunFault;
-use crate::report::report;
-use crate::sink::{Output, Sink, SinkFault, write_all};
-use crate::watch::Watch;
-use crate::words::run_words;
+use ice_commands::{Watch, run_words};
+use ice_text::{Output, RunFault, Sink, SinkFault, report, write_all};
 use std::alloc::{AllocError, Global};
 use std::rt::Files;
 use std::sync::Wait;

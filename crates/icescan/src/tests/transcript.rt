@@ -4,6 +4,7 @@
 //!
 //! - `case`: here begins a table without files; what follows names it
 //! - `text`: a file, by its path and its text
+//! - `bytes`: a file, by its path and its bytes in hexadecimal digits
 //! - `codec`: the container files behind it name the codec deflate
 //! - `list`: a manifest list at `mem://t/list`, by its blocks in hexadecimal digits
 //! - `put`: a manifest, by its path and its blocks
@@ -16,7 +17,7 @@
 
 use super::running::{run, words_of};
 use super::tables::PLAN;
-use crate::watch::Watch;
+use ice_commands::Watch;
 use std::alloc::{AllocError, Global};
 use std::rt::Files;
 use std::sync::Wait;
@@ -106,6 +107,7 @@ impl Case {
             "case" if !self.is_played() => return Ok(false),
             "case" => *self = Case::new(alloc),
             "text" => self.put_text(alloc, path, file)?,
+            "bytes" => put_line(&mut self.bundle, &[path, " ", file])?,
             "codec" => self.codec = DEFLATE,
             "list" => self.put_container(alloc, "mem://t/list", LIST, rest)?,
             "put" => self.put_container(alloc, path, MANIFEST, file)?,

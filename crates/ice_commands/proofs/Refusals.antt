@@ -1,0 +1,187 @@
+-- Why the program refuses its words and its input.
+use Rattle.std.proofs.Common.{◌≡◌, ◌≢◌, ℕ, ◌+◌, Bool, true, false, List, [], ◌∷◌, refl, sym, ap, subst, ◌∙◌, ◌⊎◌, inl}
+use Rattle.std.proofs.Common.{inr, Option, Some, None, is_some}
+use Rattle.std.specs.Prelude.{Result, Ok, Err, IfErr, if◌then◌else◌}
+use Rattle.contract_words.specs.Outcome.{◌>>=◌}
+use Rattle.ice_text.specs.declared.fault.RunFault.{RunFault}
+use Rattle.ice_text.specs.declared.fault.RunFault.TheVariants as run
+use Rattle.ice_commands.specs.Bundles.{File, added, bundle_of, bytes_at, file_of, first_path, with_lines}
+use Rattle.ice_commands.specs.ListPlans.{MayEnd, answer}
+use Rattle.ice_commands.specs.Runs.{IsInput, IsWordsFault, MayRefuse, Ran, as_text, bundle_text, list_in, or_first_line}
+use Rattle.ice_commands.specs.Runs.{planned_text, shown_text}
+use Rattle.ice_commands.specs.Plans.{answer_at, over_wanted_rows}
+use Rattle.ice_commands.specs.Shows.{shown_at}
+use Rattle.ice_commands.specs.declared.selection.Request.{Request}
+
+-- a bundle is refused for a line of it
+there : (n : ℕ) (b : Bool) (files : List File) (e : RunFault)
+    → ◌≡◌ {A = Result (List File) RunFault} (if b then Err (run.Bundle n) else Ok files) (Err e) → e ≡ run.Bundle n
+there n true files e h = cc
+there n false files e h = absurd cc
+
+added_fault : (n : ℕ) (files : List File) (file : Option File) (e : RunFault) → added n files file ≡ Err e → e
+    ≡ run.Bundle n
+added_fault n files None e h = cc
+added_fault n files (Some file) e h = there n (is_some (bytes_at files file.path)) _ e h
+
+lines_step : (n : ℕ) (read : Result (List File) RunFault) (next : List File → Result (List File) RunFault)
+    (e : RunFault)
+    → ((f : RunFault) → read ≡ Err f → f ≡ run.Bundle n)
+    → ((files : List File) → next files ≡ Err e → (m : ℕ) × (e ≡ run.Bundle m))
+    → (read >>= next) ≡ Err e → (m : ℕ) × (e ≡ run.Bundle m)
+lines_step n (Ok files) next e first rest h = rest files h
+lines_step n (Err f) next e first rest h = (n, first e h)
+
+lines_fault : (n : ℕ) (files : List File) (lines : List (List ℕ)) (e : RunFault) → with_lines n files lines ≡ Err e
+    → (m : ℕ) × (e ≡ run.Bundle m)
+unfolding with_lines
+lines_fault n files [] e h = absurd cc
+lines_fault n files (line ∷ lines) e h =
+    lines_step n (added n files (file_of line)) (λ more. with_lines (n + 1) more lines) e
+    (λ f is. added_fault n files (file_of line) f is) (λ more is. lines_fault (n + 1) more lines e is) h
+
+first_fault : (first : Option (List ℕ)) (e : RunFault) → or_first_line first ≡ Err e → e ≡ run.Bundle 1
+first_fault None e h = cc
+first_fault (Some path) e h = absurd cc
+
+list_fault : (files : List File) (list : Option (List ℕ)) (e : RunFault) → list_in files list ≡ Err e → e ≡ run.Bundle 1
+list_fault files None e h = first_fault (first_path files) e h
+list_fault files (Some path) e h = absurd cc
+
+-- a bundle's fault is the answer's
+pub no_plan : (list : Option (List ℕ)) (text : List ℕ) (e : RunFault) → bundle_of text ≡ Err e → bundle_text list text
+    ≡ Err e
+unfolding bundle_text
+no_plan list text e h = rw h refl
+
+pub no_show : (path text : List ℕ) (e : RunFault) → bundle_of text ≡ Err e → shown_text path text ≡ Err e
+unfolding shown_text
+no_show path text e h = rw h refl
+
+pub no_request : (path : List ℕ) (request : Request) (workers : ℕ) (text : List ℕ) (e : RunFault) → bundle_of text
+    ≡ Err e → planned_text path request workers text ≡ Err e
+unfolding planned_text
+no_request path request workers text e h = rw h refl
+
+-- no bundle is refused for a failed write
+pub no_write : (text : List ℕ) (e : RunFault) → (e ≢ run.Memory → bundle_of text ≡ Err e) → e ≡ run.Write → ⊥
+no_write text e h is =
+    let f = lines_fault 1 [] _ e (h (λ m. let n : run.Write ≡ run.Memory = sym is ∙ m in absurd cc)) in
+    let g : run.Write ≡ run.Bundle f.0 = sym is ∙ f.1 in
+    absurd cc
+
+module _ (text : List ℕ) (w : Type 0) (read : Result (List ℕ) RunFault)
+    (passed : (e : RunFault) → bundle_of text ≡ Err e → read ≡ Err e) where
+  bundle_refused : (e : RunFault) → (e ≢ run.Memory → bundle_of text ≡ Err e) → MayRefuse read w e
+  bundle_refused run.Input h = tt
+  bundle_refused run.Memory h = tt
+  bundle_refused run.Write h = let f = lines_fault 1 [] _ run.Write (h (λ m. cc)) in let g : run.Write
+      ≡ run.Bundle f.0 = f.1 in absurd cc
+  bundle_refused (run.Words t) h = passed (run.Words t) (h (λ m. cc))
+  bundle_refused (run.Bundle n) h = passed (run.Bundle n) (h (λ m. cc))
+  bundle_refused (run.Absent path) h = passed (run.Absent path) (h (λ m. cc))
+  bundle_refused (run.Device path) h = passed (run.Device path) (h (λ m. cc))
+  bundle_refused (run.List f) h = passed (run.List f) (h (λ m. cc))
+  bundle_refused (run.Scan f) h = passed (run.Scan f) (h (λ m. cc))
+  bundle_refused (run.Finish f) h = passed (run.Finish f) (h (λ m. cc))
+  bundle_refused (run.Metadata f) h = passed (run.Metadata f) (h (λ m. cc))
+  bundle_refused (run.Filter f) h = passed (run.Filter f) (h (λ m. cc))
+  bundle_refused (run.Drill f) h = passed (run.Drill f) (h (λ m. cc))
+  bundle_refused (run.Change f) h = passed (run.Change f) (h (λ m. cc))
+  bundle_refused (run.Prepare f) h = passed (run.Prepare f) (h (λ m. cc))
+  bundle_refused (run.Conflict path) h = passed (run.Conflict path) (h (λ m. cc))
+  bundle_refused run.Workers h = passed run.Workers (h (λ m. cc))
+
+  pub bundle_ran : (o : Option (List ℕ)) (e : RunFault) → (e ≢ run.Memory → bundle_of text ≡ Err e)
+      → Ran (Some read) w (Err e) o o
+  bundle_ran o e h = record {
+    written = tt;
+    refused = bundle_refused e h;
+    nothing = λ _. refl;
+    front = λ is. let q : e
+        ≡ run.Write = cc in absurd (no_write text e h q);
+  }
+
+module _ (text : List ℕ) (files : List File) (is : bundle_of text ≡ Ok files) where
+  module _ (list : Option (List ℕ)) where
+    no_list : (e : RunFault) → list_in files list ≡ Err e → bundle_text list text ≡ Err e
+    unfolding bundle_text
+    no_list e h = rw (is, h) refl
+
+    pub list_ran : (w : Type 0) (o : Option (List ℕ)) (e : RunFault) → list_in files list ≡ Err e
+        → Ran (Some (bundle_text list text)) w (Err e) o o
+    list_ran w o e h =
+        let first = list_fault files list e h in
+        let none : bundle_text list text ≡ Err (run.Bundle 1) = no_list e h ∙ ap Err first in
+        subst (λ f. Ran (Some (bundle_text list text)) w (Err f) o o) (sym first)
+        (record { written = tt; refused = none; nothing = λ _. refl; front = λ is. absurd cc })
+
+    pub plan_from : (path : List ℕ) → list_in files list ≡ Ok path → bundle_text list text
+        ≡ as_text (answer (λ p. bytes_at files p) path)
+    unfolding bundle_text
+    plan_from path h = rw (is, h) refl
+
+  pub shown_from : (path : List ℕ) → shown_text path text ≡ shown_at (λ p. bytes_at files p) path
+  unfolding shown_text
+  shown_from path = rw is refl
+
+  pub request_from : (path : List ℕ) (request : Request) (workers : ℕ) → planned_text path request workers text
+      ≡ as_text (answer_at over_wanted_rows (λ p. bytes_at files p) path request workers)
+  unfolding planned_text
+  request_from path request workers = rw is refl
+
+-- over files whose reads can't fail
+pub ends_refused : {A : Type 0} (told : Result A RunFault → Result (List ℕ) RunFault) (read : Result A RunFault)
+    (other : Result (List ℕ) RunFault) (r : List ℕ → Type 0) (w : Type 0) (e : RunFault)
+    → ((f : RunFault) → told (Err f) ≡ Err f) → ((path : List ℕ) → r path → ⊥) → other ≡ told read → MayEnd read r w e
+    → MayRefuse other w e
+ends_refused told read other r w run.Input keeps never q h = tt
+ends_refused told read other r w run.Memory keeps never q h = tt
+ends_refused told read other r w run.Write keeps never q h = h
+ends_refused told read other r w (run.Device path) keeps never q h = absurd (never path h)
+ends_refused told read other r w (run.Words t) keeps never q h = q ∙ ap told h ∙ keeps _
+ends_refused told read other r w (run.Bundle n) keeps never q h = q ∙ ap told h ∙ keeps _
+ends_refused told read other r w (run.Absent path) keeps never q h = q ∙ ap told h ∙ keeps _
+ends_refused told read other r w (run.List f) keeps never q h = q ∙ ap told h ∙ keeps _
+ends_refused told read other r w (run.Scan f) keeps never q h = q ∙ ap told h ∙ keeps _
+ends_refused told read other r w (run.Finish f) keeps never q h = q ∙ ap told h ∙ keeps _
+ends_refused told read other r w (run.Metadata f) keeps never q h = q ∙ ap told h ∙ keeps _
+ends_refused told read other r w (run.Filter f) keeps never q h = q ∙ ap told h ∙ keeps _
+ends_refused told read other r w (run.Drill f) keeps never q h = q ∙ ap told h ∙ keeps _
+ends_refused told read other r w (run.Change f) keeps never q h = q ∙ ap told h ∙ keeps _
+ends_refused told read other r w (run.Prepare f) keeps never q h = q ∙ ap told h ∙ keeps _
+ends_refused told read other r w (run.Conflict path) keeps never q h = q ∙ ap told h ∙ keeps _
+ends_refused told read other r w run.Workers keeps never q h = q ∙ ap told h ∙ keeps _
+
+-- before anything was read: any text may be what was left
+abbrev pub left_of : Option (List ℕ) → List ℕ
+left_of None = []
+left_of (Some text) = text
+
+pub is_left : (known : Option (List ℕ)) → IsInput known (left_of known)
+is_left None = tt
+is_left (Some text) = refl
+
+-- the words are refused
+pub words_ran : (w : Type 0) (o : Option (List ℕ)) (e : RunFault) → IsWordsFault e → Ran (Some (Err e)) w (Err e) o o
+words_ran w o e (inl h) = subst (λ f. Ran (Some (Err f)) w (Err f) o o) (sym h)
+    (record { written = tt; refused = tt; nothing = λ _. refl; front = λ is. absurd cc })
+words_ran w o e (inr h) = subst (λ f. Ran (Some (Err f)) w (Err f) o o) (sym h.1)
+    (record { written = tt; refused = refl; nothing = λ _. refl; front = λ is. absurd cc })
+
+pub unread_ran : (read : Result (List ℕ) RunFault) (w : Type 0) (o : Option (List ℕ)) (e : RunFault) → (e ≡ run.Input)
+    ⊎ (e ≡ run.Memory) → Ran (Some read) w (Err e) o o
+unread_ran read w o e (inl h) = subst (λ f. Ran (Some read) w (Err f) o o) (sym h)
+    (record { written = tt; refused = tt; nothing = λ _. refl; front = λ is. absurd cc })
+unread_ran read w o e (inr h) = subst (λ f. Ran (Some read) w (Err f) o o) (sym h)
+    (record { written = tt; refused = tt; nothing = λ _. refl; front = λ is. absurd cc })
+
+-- over a folder
+pub untold_ran : (w : Type 0) (r : Result Unit RunFault) (o o' : Option (List ℕ))
+    → IfErr r (λ fault. fault ≢ run.Write → o' ≡ o) → Ran None w r o o'
+untold_ran w (Ok x) o o' h = record { written = tt; refused = tt; nothing = tt; front = λ is. tt }
+untold_ran w (Err e) o o' h = record { written = tt; refused = tt; nothing = h; front = λ is. tt }
+
+pub ran_as : (read other : Option (Result (List ℕ) RunFault)) (w : Type 0) (r : Result Unit RunFault)
+    (o o' : Option (List ℕ)) → other ≡ read → Ran read w r o o' → Ran other w r o o'
+ran_as read other w r o o' same h = subst (λ a. Ran a w r o o') (sym same) h

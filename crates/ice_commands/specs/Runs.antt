@@ -1,0 +1,149 @@
+-- The whole program: what it makes of its words and of standard input.
+use Rattle.std.specs.Prelude.{◌≡◌, ◌≢◌, ◌⊎◌, ℕ, Bool, true, false, ◌&&◌, List, [], ◌∷◌, codes, Option, Some, None}
+use Rattle.std.specs.Prelude.{IfSome, Result, Ok, Err, OnOk, IfErr, IsErrOf}
+use Rattle.std.specs.Str.{bytes_eq}
+use Rattle.contract_words.specs.Outcome.{◌>>=◌}
+use Rattle.ice_state.specs.Lines.{OwnedLine}
+use Rattle.ice_commands.specs.Bundles.{File, bundle_of, bytes_at, first_path}
+use Rattle.ice_commands.specs.Drills.{WroteDrill}
+use Rattle.ice_commands.specs.Commits.{committed_text}
+use Rattle.ice_commands.specs.ListPlans.{answer}
+use Rattle.ice_commands.specs.Plans.{answer_at, over_wanted_rows}
+use Rattle.ice_text.specs.Faults.{status_of}
+use Rattle.ice_text.specs.FaultTexts.{fault_text}
+use Rattle.ice_text.specs.PlanTexts.{plan_text}
+use Rattle.ice_commands.specs.Shows.{shown_at}
+use Rattle.ice_text.specs.Written.{Appends, AppendsFront}
+use Rattle.ice_commands.specs.declared.command_line.Lists.TheVariants as lists
+use Rattle.ice_commands.specs.declared.command_line.Source.TheVariants as source
+use Rattle.ice_commands.specs.declared.command_line.Words.{Words}
+use Rattle.ice_commands.specs.declared.command_line.Words.TheVariants as words
+use Rattle.ice_text.specs.declared.fault.RunFault.{RunFault}
+use Rattle.ice_text.specs.declared.fault.RunFault.TheVariants as run
+use Rattle.ice_commands.specs.declared.selection.Request.{Request}
+
+-- the words that ask for the plan of a bundle's first file, before any others are read: none, or these two
+abbrev pub asks_first_list : List (List ℕ) → Bool
+asks_first_list [] = true
+asks_first_list (command ∷ []) = false
+asks_first_list (command ∷ way ∷ []) = bytes_eq command (codes "list-plan") && bytes_eq way (codes "--bundle")
+asks_first_list (command ∷ way ∷ word ∷ words) = false
+
+abbrev pub first_list : Words
+first_list = words.ListPlan (lists.Bundle None)
+
+-- why words are refused
+abbrev pub IsWordsFault : RunFault → Type 0
+IsWordsFault fault = (fault ≡ run.Memory) ⊎ ((text : List ℕ) × (fault ≡ run.Words text))
+
+-- what the words were read as: any of the program's commands, or a refusal of the words
+pub record ReadAs (texts : List (List ℕ)) (asked : Result Words RunFault) : Type 0 where
+  pub first : asks_first_list texts ≡ true → asked ≡ Ok first_list
+  pub causes : IfErr asked IsWordsFault
+
+-- the list is the bundle's first file
+abbrev pub or_first_line : Option (List ℕ) → Result (List ℕ) RunFault
+or_first_line None = Err (run.Bundle 1)
+or_first_line (Some path) = Ok path
+
+-- the path of the list: the one that is asked for
+abbrev pub list_in : List File → Option (List ℕ) → Result (List ℕ) RunFault
+list_in files (Some list) = Ok list
+list_in files None = or_first_line (first_path files)
+
+-- a plan's answer as a text
+abbrev pub as_text : Result (List OwnedLine) RunFault → Result (List ℕ) RunFault
+as_text (Ok plan) = Ok (plan_text plan)
+as_text (Err fault) = Err fault
+
+-- the text of the plan of a list in a bundle, or the first fault: of the bundle, of the list
+unfoldable pub bundle_text : Option (List ℕ) → List ℕ → Result (List ℕ) RunFault
+bundle_text list input = do
+  files ← bundle_of input
+  path ← list_in files list
+  as_text (answer (λ path. bytes_at files path) path)
+
+-- the text of the metadata at a path of a bundle, or the first fault: of the bundle, of the file, of what it says
+unfoldable pub shown_text : List ℕ → List ℕ → Result (List ℕ) RunFault
+shown_text path input = bundle_of input >>= λ files. shown_at (λ path. bytes_at files path) path
+
+-- the text of the plan that is asked of a table in a bundle, by so many workers, or the first fault: of the bundle, of
+-- the file with the metadata, of the number of workers, of the plan
+unfoldable pub planned_text : List ℕ → Request → ℕ → List ℕ → Result (List ℕ) RunFault
+planned_text path request workers input = do
+  files ← bundle_of input
+  as_text (answer_at over_wanted_rows (λ path. bytes_at files path) path request workers)
+
+-- The text that a command asks for, or the first fault, where its files are told: those of a bundle are what standard
+-- input had, those of a folder are not told.
+abbrev pub answer_to : Words → List ℕ → Option (Result (List ℕ) RunFault)
+answer_to (words.ListPlan (lists.Bundle list)) input = Some (bundle_text list input)
+answer_to (words.ListPlan (lists.Folder place list)) input = None
+answer_to (words.Plan source.Bundle request workers path) input = Some (planned_text path request workers input)
+answer_to (words.Plan (source.Folder place) request workers path) input = None
+answer_to (words.Commit source.Bundle request) input = committed_text request input
+answer_to (words.Commit (source.Folder place) request) input = None
+answer_to (words.Show source.Bundle path) input = Some (shown_text path input)
+answer_to (words.Show (source.Folder place) path) input = None
+answer_to (words.Drill asked) input = None
+answer_to (words.Text text) input = Some (Ok text)
+
+-- a drill reads nothing; what it wrote is that of a table with all its commits
+abbrev pub IsOfDrill : Result Words RunFault → Option (List ℕ) → Option (List ℕ) → Type 0
+IsOfDrill (Ok (words.Drill asked)) output output' = WroteDrill asked output output'
+IsOfDrill _ output output' = Unit {0}
+
+abbrev pub run_of : Result Words RunFault → List ℕ → Option (Result (List ℕ) RunFault)
+run_of (Ok asked) input = answer_to asked input
+run_of (Err fault) input = Some (Err fault)
+
+-- Why the program ends with a fault: standard input can't be read, memory ran out, a write failed that may fail, or the
+-- fault is that of the words and the input.
+abbrev pub MayRefuse : Result (List ℕ) RunFault → Type 0 → RunFault → Type 0
+MayRefuse read write_may_fail run.Input = Unit {0}
+MayRefuse read write_may_fail run.Memory = Unit {0}
+MayRefuse read write_may_fail run.Write = write_may_fail
+MayRefuse read write_may_fail fault = read ≡ Err fault
+
+-- what was written is the text that is asked for, or a front of it
+abbrev pub WroteText : Result (List ℕ) RunFault → Option (List ℕ) → Option (List ℕ) → Type 0
+WroteText read output output' = (text : List ℕ) × (read ≡ Ok text) × Appends output output' text
+
+abbrev pub WroteFront : Result (List ℕ) RunFault → Option (List ℕ) → Option (List ℕ) → Type 0
+WroteFront read output output' = (text : List ℕ) × (read ≡ Ok text) × AppendsFront output output' text
+
+-- What a run gives: the text is written, or there is a fault, and nothing was written but after a failed write. Where
+-- the answer is known, the text is the answer's, and so is the fault.
+pub record Ran (known : Option (Result (List ℕ) RunFault)) (write_may_fail : Type 0) (result : Result Unit RunFault)
+    (output output' : Option (List ℕ)) : Type 0 where
+  pub written : OnOk result (IfSome known (λ read. WroteText read output output'))
+  pub refused : IfErr result (λ fault. IfSome known (λ read. MayRefuse read write_may_fail fault))
+  pub nothing : IfErr result (λ fault. fault ≢ run.Write → output' ≡ output)
+  pub front : IsErrOf result run.Write → IfSome known (λ read. WroteFront read output output')
+
+-- the program ended with status 0: it wrote the text to its output
+pub record Answered (known : Option (Result (List ℕ) RunFault)) (status : ℕ)
+    (output output' errors errors' : Option (List ℕ)) : Type 0 where
+  pub written : IfSome known (λ read. WroteText read output output')
+  pub status_is : status ≡ 0
+  pub silent : errors' ≡ errors
+
+-- a fault was told: its whole line was written where no write of it may fail, else a front of it
+pub record Told (write_may_fail : Type 0) (errors errors' : Option (List ℕ)) (fault : RunFault) : Type 0 where
+  pub front : AppendsFront errors errors' (fault_text fault)
+  pub all : (write_may_fail → ⊥) → Appends errors errors' (fault_text fault)
+
+-- The program ended with a fault: it told it, and wrote nothing else but after a failed write, and then a front of the
+-- text. The types say whether a write of the output, and one of the fault, may fail.
+pub record Refused (known : Option (Result (List ℕ) RunFault)) (write_may_fail tell_may_fail : Type 0) (status : ℕ)
+    (output output' errors errors' : Option (List ℕ)) : Type 0 where
+  pub fault : RunFault
+  pub cause : IfSome known (λ read. MayRefuse read write_may_fail fault)
+  pub status_is : status ≡ status_of fault
+  pub nothing : fault ≢ run.Write → output' ≡ output
+  pub front : fault ≡ run.Write → IfSome known (λ read. WroteFront read output output')
+  pub told : Told tell_may_fail errors errors' fault
+
+-- the text that was read: where a reader tells what it has left, that
+abbrev pub IsInput : Option (List ℕ) → List ℕ → Type 0
+IsInput left text = IfSome left (λ bytes. text ≡ bytes)

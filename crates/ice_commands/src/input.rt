@@ -1,0 +1,42 @@
+//! Reading standard input, or a file, to its end.
+
+ghost use Rattle.std.specs.Prelude.{◌≡◌, ◌⊎◌, ◌<◌, vec_len, IfOk, IfErr, IfSome};
+
+use ice_desk::ReadFault;
+use std::alloc::{AllocError, Global};
+use std::io::{ErrorKind, Read};
+
+/// Room for the bytes of one read.
+fn room(alloc: Global) -> Result<Vec<u8>, AllocError>
+    ensures { IfOk result (λ room. 0 < vec_len room) }
+{
+    vec![in alloc; 0; 65_536]
+}
+
+/// All that a reader has left. At most `turns` reads are made: where the last of them does not see the end, or a read
+/// fails, it is `Device`. A read that a signal interrupted is made again, and counts.
+pub fn read_all<R: Read>(alloc: Global, reader: &mut R, turns: u64) -> Result<Vec<u8>, ReadFault>
+    ensures all { IfOk result (λ bytes. IfSome (R.remaining reader.old) (λ left. bytes.items ≡ left)) }
+    ensures causes { IfErr result (λ e. (e ≡ ReadFault.Device) ⊎ (e ≡ ReadFault.Memory)) }
+{
+    let Ok(mut room) = room(alloc) else {
+        return Err(ReadFault::Memory);
+    };
+    let mut bytes = Vec::new(alloc);
+    for _ in 0..turns {
+        match reader.read(&mut room) {
+            Ok(0) => return Ok(bytes),
+            Ok(count) => {
+                if bytes.extend_from_slice(&room[..count]).is_err() {
+                    return Err(ReadFault::Memory);
+                }
+            }
+            Err(e) => {
+                if e.kind() != ErrorKind::Interrupted {
+                    return Err(ReadFault::Device);
+                }
+            }
+        }
+    }
+    Err(ReadFault::Device)
+}

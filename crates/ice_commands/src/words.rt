@@ -1,0 +1,353 @@
+//! The program over its words, standard input, the files of the system, output and errors.
+
+ghost use Rattle.std.specs.Prelude.{◌≡◌, ◌≢◌, ◌⊎◌, ℕ, List, Option, Some, None, Result, Ok, Err, map, string_bytes};
+ghost use Rattle.std.specs.Prelude.{IfOk, IfErr, OnOk};
+ghost use Rattle.ice_commands.specs.Commits.{committed_text};
+ghost use Rattle.ice_commands.specs.Drills.{WroteDrill};
+ghost use Rattle.ice_commands.specs.Runs.{Answered, IsInput, IsOfDrill, Ran, ReadAs, Refused, answer_to, bundle_text};
+ghost use Rattle.ice_commands.specs.Runs.{list_in, planned_text, run_of, shown_text};
+ghost use Rattle.ice_commands.specs.declared.command_line.Words.{Words};
+ghost use Rattle.ice_text.specs.declared.fault.RunFault.{RunFault};
+
+use crate::bundle::Bundle;
+use crate::command_line::{Lists, Place, Source, Words, parse_words};
+use crate::commit_lines::commit_lines;
+use crate::committing::{CommitRequest, commit_to, prepare_commit};
+use crate::drill::Drill;
+use crate::drill_text::run_drill;
+use crate::folder::Folder;
+use crate::input::read_all;
+use crate::list_plans::run_list_plan;
+use crate::plans_by_workers::plan_file;
+use crate::selection::Request;
+use crate::show::show_file;
+use crate::watch::Watch;
+use contract_words::Text;
+use ice_desk::ReadFault;
+use ice_text::{RunFault, Sink, report, write_all};
+use std::alloc::Global;
+use std::io::Read;
+use std::rt::Files;
+use std::sync::Wait;
+use std::thread::Threads;
+
+/// How many reads of standard input are made at most.
+const MOST_READS: u64 = 16_777_216;
+
+/// The path of the list: the one that is asked for, else the bundle's first.
+fn list_in<'a>(bundle: &'a Bundle, list: &'a Option<Text>) -> Result<&'a str, RunFault>
+    ensures ok { IfOk result (λ path. list_in bundle.now list.now ≡ Ok path.now) }
+    ensures err { IfErr result (λ e. list_in bundle.now list.now ≡ Err e) }
+{
+    if let Some(list) = list {
+        return Ok(list.as_str());
+    }
+    bundle.first_path().ok_or(RunFault::Bundle(1))
+}
+
+/// Writes the plan of a list in a bundle.
+fn plan_bundle<W: Sink>(
+    alloc: Global,
+    text: &[u8],
+    list: &Option<Text>,
+    output: &mut W,
+) -> Result<(), RunFault>
+    ensures { Ran (Some (bundle_text list.now text.now)) (W.may_fail output.old) result (W.taken output.old)
+        (W.taken output.new) }
+{
+    let bundle = Bundle::read(alloc, text)?;
+    let path = list_in(&bundle, list)?;
+    run_list_plan(alloc, &bundle, path, output)
+}
+
+/// Writes the plan of a list in a folder.
+fn plan_folder<H: Files, W: Sink>(
+    host: &H,
+    alloc: Global,
+    place: &Place,
+    list: &Text,
+    output: &mut W,
+) -> Result<(), RunFault>
+    ensures { Ran None (W.may_fail output.old) result (W.taken output.old) (W.taken output.new) }
+{
+    let files = Folder::new(host, place.folder.as_str(), place.prefix.as_str());
+    run_list_plan(alloc, &files, list.as_str(), output)
+}
+
+/// All that standard input has left.
+fn read_input<R: Read>(alloc: Global, input: &mut R) -> Result<Vec<u8>, RunFault>
+    ensures all { IfOk result (λ text. IsInput (R.remaining input.old) text.items) }
+    ensures causes { IfErr result (λ e. (e ≡ RunFault.Input) ⊎ (e ≡ RunFault.Memory)) }
+{
+    match read_all(alloc, input, MOST_READS) {
+        Ok(text) => Ok(text),
+        Err(ReadFault::Memory) => Err(RunFault::Memory),
+        Err(_) => Err(RunFault::Input),
+    }
+}
+
+/// Writes the plan of a list in the bundle on standard input.
+fn plan_input<R: Read, W: Sink>(
+    alloc: Global,
+    list: &Option<Text>,
+    input: &mut R,
+    output: &mut W,
+) -> Result<(), RunFault>
+    ensures { (text : List ℕ) × IsInput (R.remaining input.old) text ×
+        Ran (Some (bundle_text list.now text)) (W.may_fail output.old) result (W.taken output.old)
+        (W.taken output.new) }
+{
+    let text = read_input(alloc, input)?;
+    plan_bundle(alloc, &text, list, output)
+}
+
+/// Writes the plan that is asked of the table whose metadata is at a path of a bundle.
+fn request_bundle<H: Threads + Sync, W: Sink>(
+    host: &H,
+    alloc: Global,
+    text: &[u8],
+    request: &Request,
+    workers: usize,
+    path: &Text,
+    output: &mut W,
+) -> Result<(), RunFault>
+    ensures { Ran (Some (planned_text path.now request.now workers text.now)) (W.may_fail output.old) result
+        (W.taken output.old) (W.taken output.new) }
+{
+    let bundle = Bundle::read(alloc, text)?;
+    plan_file(
+        host,
+        alloc,
+        &bundle,
+        path.as_str(),
+        request,
+        workers,
+        output,
+    )
+}
+
+/// Writes the plan that is asked of the table whose metadata is at a path of the bundle on standard input.
+fn request_input<H: Threads + Sync, R: Read, W: Sink>(
+    host: &H,
+    alloc: Global,
+    request: &Request,
+    workers: usize,
+    path: &Text,
+    input: &mut R,
+    output: &mut W,
+) -> Result<(), RunFault>
+    ensures { (text : List ℕ) × IsInput (R.remaining input.old) text ×
+        Ran (Some (planned_text path.now request.now workers text)) (W.may_fail output.old) result (W.taken output.old)
+        (W.taken output.new) }
+{
+    let text = read_input(alloc, input)?;
+    request_bundle(host, alloc, &text, request, workers, path, output)
+}
+
+/// Writes the plan that is asked of the table whose metadata is at a path of a folder.
+fn request_folder<H: Files<File: Send, Dir: Send> + Threads + Sync, W: Sink>(
+    host: &H,
+    alloc: Global,
+    place: &Place,
+    request: &Request,
+    workers: usize,
+    path: &Text,
+    output: &mut W,
+) -> Result<(), RunFault>
+    ensures { Ran None (W.may_fail output.old) result (W.taken output.old) (W.taken output.new) }
+{
+    let files = Folder::new(host, place.folder.as_str(), place.prefix.as_str());
+    plan_file(host, alloc, &files, path.as_str(), request, workers, output)
+}
+
+/// Writes the text of the metadata at a path of a bundle.
+fn show_bundle<W: Sink>(
+    alloc: Global,
+    text: &[u8],
+    path: &Text,
+    output: &mut W,
+) -> Result<(), RunFault>
+    ensures { Ran (Some (shown_text path.now text.now)) (W.may_fail output.old) result (W.taken output.old)
+        (W.taken output.new) }
+{
+    let bundle = Bundle::read(alloc, text)?;
+    show_file(alloc, &bundle, path.as_str(), output)
+}
+
+/// Writes the text of the metadata at a path of the bundle on standard input.
+fn show_input<R: Read, W: Sink>(
+    alloc: Global,
+    path: &Text,
+    input: &mut R,
+    output: &mut W,
+) -> Result<(), RunFault>
+    ensures { (text : List ℕ) × IsInput (R.remaining input.old) text ×
+        Ran (Some (shown_text path.now text)) (W.may_fail output.old) result (W.taken output.old) (W.taken output.new) }
+{
+    let text = read_input(alloc, input)?;
+    show_bundle(alloc, &text, path, output)
+}
+
+/// Writes the text of the metadata at a path of a folder.
+fn show_folder<H: Files, W: Sink>(
+    host: &H,
+    alloc: Global,
+    place: &Place,
+    path: &Text,
+    output: &mut W,
+) -> Result<(), RunFault>
+    ensures { Ran None (W.may_fail output.old) result (W.taken output.old) (W.taken output.new) }
+{
+    let files = Folder::new(host, place.folder.as_str(), place.prefix.as_str());
+    show_file(alloc, &files, path.as_str(), output)
+}
+
+/// Writes the files of a commit to a table in a bundle, as lines of a bundle.
+fn commit_bundle<W: Sink>(
+    alloc: Global,
+    text: &[u8],
+    request: &CommitRequest,
+    output: &mut W,
+) -> Result<(), RunFault>
+    ensures { Ran (committed_text request.now text.now) (W.may_fail output.old) result (W.taken output.old)
+        (W.taken output.new) }
+{
+    let bundle = Bundle::read(alloc, text)?;
+    let prepared = prepare_commit(alloc, &bundle, request)?;
+    let metadata = prepared.version().metadata().write(alloc)?;
+    let lines = commit_lines(alloc, prepared.files(), &request.out, &metadata)?;
+    write_all(output, &lines)?;
+    Ok(())
+}
+
+/// Writes the files of a commit to a table in the bundle on standard input, as lines of a bundle.
+fn commit_input<R: Read, W: Sink>(
+    alloc: Global,
+    request: &CommitRequest,
+    input: &mut R,
+    output: &mut W,
+) -> Result<(), RunFault>
+    ensures { (text : List ℕ) × IsInput (R.remaining input.old) text ×
+        Ran (committed_text request.now text) (W.may_fail output.old) result (W.taken output.old) (W.taken output.new) }
+{
+    let text = read_input(alloc, input)?;
+    commit_bundle(alloc, &text, request, output)
+}
+
+/// Makes a commit to a table in a folder, and tells it.
+fn commit_folder<H: Files, W: Sink>(
+    host: &H,
+    alloc: Global,
+    place: &Place,
+    request: &CommitRequest,
+    output: &mut W,
+) -> Result<(), RunFault>
+    ensures { Ran None (W.may_fail output.old) result (W.taken output.old) (W.taken output.new) }
+{
+    let files = Folder::new(host, place.folder.as_str(), place.prefix.as_str());
+    let mut store = Folder::new(host, place.folder.as_str(), place.prefix.as_str());
+    commit_to(alloc, &files, request, &mut store, output)
+}
+
+/// Writes a text.
+fn tell<W: Sink>(text: &Text, output: &mut W) -> Result<(), RunFault>
+    ensures { Ran (Some (Ok text.now)) (W.may_fail output.old) result (W.taken output.old) (W.taken output.new) }
+{
+    write_all(output, text.as_bytes())?;
+    Ok(())
+}
+
+/// Drills, and writes what is told of the table.
+fn drill<H: Threads + Wait + Watch + Sync, W: Sink>(
+    host: &H,
+    alloc: Global,
+    drill: Drill,
+    output: &mut W,
+) -> Result<(), RunFault>
+    ensures ran { Ran None (W.may_fail output.old) result (W.taken output.old) (W.taken output.new) }
+    ensures drilled { OnOk result (WroteDrill drill (W.taken output.old) (W.taken output.new)) }
+{
+    run_drill(host, alloc, drill, output)
+}
+
+/// Writes what is asked for.
+fn run_asked<H: Files<File: Send, Dir: Send> + Threads + Wait + Watch + Sync, R: Read, W: Sink>(
+    host: &H,
+    alloc: Global,
+    asked: &Words,
+    input: &mut R,
+    output: &mut W,
+) -> Result<(), RunFault>
+    ensures ran { (text : List ℕ) × IsInput (R.remaining input.old) text ×
+        Ran (answer_to asked.now text) (W.may_fail output.old) result (W.taken output.old) (W.taken output.new) }
+    ensures drilled { OnOk result (IsOfDrill (Ok asked.now) (W.taken output.old) (W.taken output.new)) }
+{
+    match asked {
+        Words::ListPlan(Lists::Bundle(list)) => plan_input(alloc, list, input, output),
+        Words::ListPlan(Lists::Folder(place, list)) => plan_folder(
+            host, alloc, place, list, output,
+        ),
+        Words::Plan(Source::Bundle, request, workers, path) => request_input(
+            host, alloc, request, *workers, path, input, output,
+        ),
+        Words::Plan(Source::Folder(place), request, workers, path) => request_folder(
+            host, alloc, place, request, *workers, path, output,
+        ),
+        Words::Commit(Source::Bundle, request) => commit_input(alloc, request, input, output),
+        Words::Commit(Source::Folder(place), request) => commit_folder(
+            host, alloc, place, request, output,
+        ),
+        Words::Show(Source::Bundle, path) => show_input(alloc, path, input, output),
+        Words::Show(Source::Folder(place), path) => show_folder(host, alloc, place, path, output),
+        Words::Drill(asked) => drill(host, alloc, *asked, output),
+        Words::Text(text) => tell(text, output),
+    }
+}
+
+/// Writes what the words ask for.
+fn run<H: Files<File: Send, Dir: Send> + Threads + Wait + Watch + Sync, R: Read, W: Sink>(
+    host: &H,
+    alloc: Global,
+    words: &[String],
+    input: &mut R,
+    output: &mut W,
+) -> Result<(), RunFault>
+    ensures { (asked : Result Words RunFault) × ReadAs (map string_bytes words.now) asked ×
+        OnOk result (IsOfDrill asked (W.taken output.old) (W.taken output.new)) ×
+        (text : List ℕ) × IsInput (R.remaining input.old) text ×
+        Ran (run_of asked text) (W.may_fail output.old) result (W.taken output.old) (W.taken output.new) }
+{
+    let asked = parse_words(alloc, words)?;
+    run_asked(host, alloc, &asked, input, output)
+}
+
+/// Runs the program: it writes what the words ask for to `output` and ends with 0, or it writes the line of the first
+/// fault to `errors` and ends with the fault's status. Faults are found in this order: of the words, of reading
+/// standard input where it holds a bundle, of the bundle, of what is asked for.
+pub fn run_words<H, R: Read, W: Sink, E: Sink>(
+    host: &H,
+    alloc: Global,
+    words: &[String],
+    input: &mut R,
+    output: &mut W,
+    errors: &mut E,
+) -> u8
+where
+    H: Files<File: Send, Dir: Send> + Threads + Wait + Watch + Sync,
+    // The words were read as one of the commands, or they were refused; no words, and `list-plan --bundle`, were read
+    // as the plan of a bundle's first file. For some text, which is all that standard input had left where that is
+    // told: what is asked of that text was written, or the fault is that of the words and that text, or reading,
+    // writing or memory failed.
+    ensures run { (asked : Result Words RunFault) × ReadAs (map string_bytes words.now) asked ×
+        (text : List ℕ) × IsInput (R.remaining input.old) text ×
+        ((Answered (run_of asked text) result (W.taken output.old) (W.taken output.new)
+        (E.taken errors.old) (E.taken errors.new)
+        × IsOfDrill asked (W.taken output.old) (W.taken output.new)) ⊎
+        Refused (run_of asked text) (W.may_fail output.old) (E.may_fail errors.old) result
+        (W.taken output.old) (W.taken output.new) (E.taken errors.old) (E.taken errors.new)) }
+{
+    match run(host, alloc, words, input, output) {
+        Ok(()) => 0,
+        Err(fault) => report(&fault, errors),
+    }
+}

@@ -1,8 +1,0 @@
-use Rattle.std.proofs.Common.{◌≡◌, drop}
-use Rattle.serde_json.specs.View.{items_view}
-use Rattle.icescan.specs.Changes.{each, each_behind, file_of}
-use Rattle.icescan.proofs.change.files_from.Given as goal
-
-abbrev pub invariant-files : goal.invariant-files
-invariant-files l =
-    each_behind file_of (items_view (drop l.item-index l.item-items)) l.files ≡ each file_of (items_view l.item-items)

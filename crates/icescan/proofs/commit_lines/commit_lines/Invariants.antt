@@ -1,6 +1,0 @@
-use Rattle.std.proofs.Common.{◌≡◌, take}
-use Rattle.icescan.specs.Commits.{bundle_lines}
-use Rattle.icescan.proofs.commit_lines.commit_lines.Given as goal
-
-abbrev pub invariant-files : goal.invariant-files
-invariant-files l = l.text.items ≡ bundle_lines (take l.file-index l.files)

@@ -1,6 +1,0 @@
-use Rattle.icescan.specs.Drills.{HasEachFile}
-use Rattle.icescan.proofs.drilled_table.find_files.Given as goal
-
--- the files of the commits so far are there
-abbrev pub invariant-loop-commit : goal.invariant-loop-commit
-invariant-loop-commit l = HasEachFile l.lines l.thread l.commit

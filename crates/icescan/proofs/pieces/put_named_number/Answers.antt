@@ -1,5 +1,0 @@
-use Rattle.icescan.proofs.Writes.{wrote_more}
-use Rattle.icescan.proofs.pieces.put_named_number.Goals as goal
-
-pub returns : goal.returns
-returns g c = wrote_more _ _ _ _ _ _ _ _ _ c.in_ok-write_all.ensures c.put_number.ensures

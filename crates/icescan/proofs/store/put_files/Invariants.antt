@@ -1,9 +1,0 @@
-use Rattle.std.proofs.Common.{take}
-use Rattle.icescan.specs.Stores.{PutsAll}
-use Rattle.icescan.proofs.store.put_files.Given as goal
-
--- the files so far were put
-abbrev pub invariant-files : goal.invariant-files
-invariant-files g l =
-    PutsAll (g.S.Store.files l.fn.store) (g.S.Store.files l.store) (take l.file-index l.files)
-    × (g.S.Store.may_fail l.store → g.S.Store.may_fail l.fn.store)
