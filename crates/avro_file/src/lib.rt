@@ -31,6 +31,3 @@ pub use laws::{
 pub use named::KnownSchema;
 pub use object::Object;
 pub use writer::{Property, Writer};
-
-#[cfg(test)]
-mod tests;

@@ -9,8 +9,6 @@ mod names;
 mod reading;
 mod repeat;
 mod schema;
-#[cfg(test)]
-mod tests;
 mod texts;
 
 pub use fault::SchemaFault;

@@ -4,8 +4,6 @@
 
 mod duplicate;
 mod items;
-#[cfg(test)]
-mod tests;
 mod text;
 
 pub use duplicate::Duplicate;

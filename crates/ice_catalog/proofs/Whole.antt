@@ -10,7 +10,7 @@ use Rattle.std.proofs.lemmas.Option.{get_or_from_slice_get, slice_get_within}
 use Rattle.ice_filter.specs.declared.bound.BoundLeaf.{BoundLeaf}
 use Rattle.ice_filter.specs.declared.leaf.Leaf.{Leaf}
 use Rattle.ice_filter.specs.declared.parts.Part.{Part}
-use Rattle.ice_manifest.specs.declared.row.Row.{Row}
+use Rattle.ice_manifest_reading.specs.declared.row.Row.{Row}
 use Rattle.ice_meta.specs.declared.schema.Schema.{Schema}
 use Rattle.ice_state.specs.Contents.{World, HasEach, add, content, every_row, no_row}
 use Rattle.ice_state.specs.Covering.{AreCovered, HasSoundSummaries}
@@ -25,10 +25,10 @@ use Rattle.ice_state.proofs.Snapshots.{of_snapshot}
 use Rattle.ice_catalog.specs.declared.event.Event.{Event}
 use Rattle.ice_catalog.specs.declared.event.Event.TheVariants as on
 use Rattle.ice_catalog.specs.Apart.{Reads, TellsTheTruth, TookEvery, alone, is_of, pin_after, plan_reply, specs_of}
-use Rattle.ice_catalog.specs.Histories.{History, state_of}
+use Rattle.ice_versions.specs.Histories.{History, state_of}
 use Rattle.ice_catalog.specs.Machines.{Machine, PinnedScan, begun, event, finish_at, finished, machine_after, merge_by, pin, pinned_on, take_by, took_row, world_in, world_of}
 use Rattle.ice_catalog.specs.Pins.{as_pin, of_scan, scan_in}
-use Rattle.ice_catalog.specs.States.{State}
+use Rattle.ice_versions.specs.States.{State}
 use Rattle.ice_catalog.proofs.Apart.{after_apart, get_last}
 use Rattle.ice_catalog.proofs.Steps.{finishes}
 

@@ -5,7 +5,7 @@ use Rattle.ice_filter.specs.Binding.{bound_parts}
 use Rattle.ice_filter.specs.declared.bound.BoundLeaf.{BoundLeaf}
 use Rattle.ice_filter.specs.declared.leaf.Leaf.{Leaf}
 use Rattle.ice_filter.specs.declared.parts.Part.{Part}
-use Rattle.ice_manifest.specs.declared.row.Row.{Row}
+use Rattle.ice_manifest_reading.specs.declared.row.Row.{Row}
 use Rattle.ice_meta.specs.Targets.{bound_specs, schema_for}
 use Rattle.ice_meta.specs.declared.metadata.Target.TheVariants.{Main}
 use Rattle.ice_meta.specs.declared.schema.Schema.{Schema}
@@ -18,12 +18,12 @@ use Rattle.ice_catalog.specs.declared.event.Event.{Event}
 use Rattle.ice_catalog.specs.declared.event.Event.TheVariants as on
 use Rattle.ice_catalog.specs.declared.event.Reply.{Reply}
 use Rattle.ice_catalog.specs.declared.event.Reply.TheVariants as reply
-use Rattle.ice_catalog.specs.Covered.{BeganCovered}
-use Rattle.ice_catalog.specs.Histories.{History, state_of}
+use Rattle.ice_versions.specs.Covered.{BeganCovered}
+use Rattle.ice_versions.specs.Histories.{History, state_of}
 use Rattle.ice_catalog.specs.Machines.{Machine, PinnedScan, finish_in, finished, in_scan, merge, take}
 use Rattle.ice_catalog.specs.Machines.{machine_after, pin, started}
 use Rattle.ice_catalog.specs.Pins.{rows_in}
-use Rattle.ice_catalog.specs.States.{State}
+use Rattle.ice_versions.specs.States.{State}
 
 -- ---- a pin alone
 

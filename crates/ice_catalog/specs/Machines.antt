@@ -8,23 +8,23 @@ use Rattle.std.specs.Option.{option_map, option_and_then, unwrap_or}
 use Rattle.std.specs.Result.{result_ok}
 use Rattle.ice_filter.specs.declared.leaf.Leaf.{Leaf}
 use Rattle.ice_filter.specs.declared.parts.Part.{Part}
-use Rattle.ice_manifest.specs.declared.row.Row.{Row}
+use Rattle.ice_manifest_reading.specs.declared.row.Row.{Row}
 use Rattle.ice_state.specs.Contents.{World, add, content, no_row}
 use Rattle.ice_state.specs.Joins.{either}
 use Rattle.ice_state.specs.Lines.{OwnedLine}
 use Rattle.ice_state.specs.Outcomes.{outcome}
 use Rattle.ice_state.specs.Scans.{Scanned}
 use Rattle.ice_state.specs.declared.fault.FinishFault.{FinishFault}
-use Rattle.ice_catalog.specs.declared.change.Commit.{Commit}
+use Rattle.ice_versions.specs.declared.change.Commit.{Commit}
 use Rattle.ice_catalog.specs.declared.event.Event.{Event}
 use Rattle.ice_catalog.specs.declared.event.Event.TheVariants as on
 use Rattle.ice_catalog.specs.declared.event.Reply.{Reply}
 use Rattle.ice_catalog.specs.declared.event.Reply.TheVariants as reply
-use Rattle.ice_catalog.specs.declared.fault.PrepareFault.{PrepareFault}
-use Rattle.ice_catalog.specs.declared.receipt.Receipt.{Receipt}
-use Rattle.ice_catalog.specs.Histories.{History, Step, state_of, after, prepared_on}
+use Rattle.ice_versions.specs.declared.fault.PrepareFault.{PrepareFault}
+use Rattle.ice_versions.specs.declared.receipt.Receipt.{Receipt}
+use Rattle.ice_versions.specs.Histories.{History, Step, state_of, after, prepared_on}
 use Rattle.ice_catalog.specs.Pins.{scan_in}
-use Rattle.ice_catalog.specs.States.{State}
+use Rattle.ice_versions.specs.States.{State}
 
 -- ---- a pinned scan
 

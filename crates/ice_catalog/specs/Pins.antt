@@ -8,10 +8,10 @@ use Rattle.ice_filter.specs.declared.fault.FilterFault.{FilterFault}
 use Rattle.ice_filter.specs.declared.fault.FilterFault.TheVariants as filter
 use Rattle.ice_filter.specs.declared.leaf.Leaf.{Leaf}
 use Rattle.ice_filter.specs.declared.parts.Part.{Part}
-use Rattle.ice_manifest.specs.Lists.{rows_of}
-use Rattle.ice_manifest.specs.declared.fault.ListFault.{ListFault}
-use Rattle.ice_manifest.specs.declared.fault.ListFault.TheVariants as list
-use Rattle.ice_manifest.specs.declared.row.Row.{Row}
+use Rattle.ice_manifest_reading.specs.Lists.{rows_of}
+use Rattle.ice_manifest_reading.specs.declared.fault.ListFault.{ListFault}
+use Rattle.ice_manifest_reading.specs.declared.fault.ListFault.TheVariants as list
+use Rattle.ice_manifest_reading.specs.declared.row.Row.{Row}
 use Rattle.ice_meta.specs.Targets.{bound_specs, list_of, schema_for}
 use Rattle.ice_meta.specs.declared.fault.MetaFault.{MetaFault}
 use Rattle.ice_meta.specs.declared.fault.MetaFault.TheVariants as meta
@@ -19,7 +19,7 @@ use Rattle.ice_meta.specs.declared.metadata.Target.TheVariants.{Main}
 use Rattle.ice_state.specs.Scans.{Scanned, scan_of}
 use Rattle.ice_state.specs.declared.fault.ScanFault.{ScanFault}
 use Rattle.ice_state.specs.declared.fault.ScanFault.TheVariants as scan
-use Rattle.ice_catalog.specs.States.{State}
+use Rattle.ice_versions.specs.States.{State}
 use Rattle.ice_catalog.specs.declared.pinning.PinFault.{PinFault}
 use Rattle.ice_catalog.specs.declared.pinning.PinFault.TheVariants.{Refused, Memory}
 

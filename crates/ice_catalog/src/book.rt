@@ -2,11 +2,9 @@
 
 ghost use Rattle.std.specs.Prelude.{◌≡◌, ◌≢◌, IfOk, IfErr, OnErr, IfSome};
 ghost use Rattle.std.specs.Arc.{arc_value};
-ghost use Rattle.ice_catalog.specs.Histories.{after, IsReceiptOf};
+ghost use Rattle.ice_versions.specs.Histories.{after, IsReceiptOf};
 
-use crate::prepared::Prepared;
-use crate::receipt::Receipt;
-use crate::version::Version;
+use ice_versions::{Prepared, Receipt, Version};
 use std::alloc::{AllocError, Global};
 use std::marker::Model;
 use std::sync::Arc;
@@ -28,8 +26,8 @@ pub struct Book {
 
 impl Model for Book {
     ghost use Rattle.std.specs.Arc.{arc_value};
-    ghost use Rattle.ice_catalog.specs.Codes.{history_code};
-    ghost use Rattle.ice_catalog.specs.Histories.{History};
+    ghost use Rattle.ice_versions.specs.Codes.{history_code};
+    ghost use Rattle.ice_versions.specs.Histories.{History};
 
     ghost Value = { History };
 

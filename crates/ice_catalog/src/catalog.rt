@@ -3,12 +3,10 @@
 ghost use Rattle.std.specs.Prelude.{◌≡◌, ◌≢◌, ◌+◌, ◌<◌, ◌≤◌, [], length, sum, vec_len};
 ghost use Rattle.std.specs.Prelude.{IfOk, IfErr, IfSome, OnOk, OnErr};
 ghost use Rattle.std.specs.Arc.{arc_value};
-ghost use Rattle.ice_catalog.specs.Histories.{after, IsReceiptOf};
+ghost use Rattle.ice_versions.specs.Histories.{after, IsReceiptOf};
 
 use crate::book::{Conflict, swap};
-use crate::prepared::Prepared;
-use crate::receipt::Receipt;
-use crate::version::Version;
+use ice_versions::{Prepared, Receipt, Version};
 use std::alloc::{AllocError, Global};
 use std::marker::Model;
 use std::sync::ledger::{Blank, Book, Ledger, Share};

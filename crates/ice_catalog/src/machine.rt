@@ -2,20 +2,17 @@
 
 ghost use Rattle.std.specs.Prelude.{◌≡◌, List, ◌++◌, IfOk, length, vec_len};
 ghost use Rattle.ice_catalog.specs.Apart.{TellsPinnedPlans};
-ghost use Rattle.ice_catalog.specs.Live.{IsGrown};
+ghost use Rattle.ice_versions.specs.Live.{IsGrown};
 ghost use Rattle.ice_catalog.specs.Machines.{commit, event, finish_in, in_scan, merge, pin, take};
 ghost use Rattle.ice_catalog.specs.Machines.{machine_after, replies_to, started};
 ghost use Rattle.ice_catalog.specs.declared.event.Event.{Event};
 
 use crate::book::Book;
-use crate::change::{Change, Ids};
 use crate::event::{Event, Reply};
-use crate::fault::PrepareFault;
 use crate::machine_laws::pinned_plans_of_commits;
-use crate::preparing::prepare;
 use crate::scanning::Scanning;
-use crate::version::Version;
 use ice_filter::Filter;
+use ice_versions::{Change, Ids, PrepareFault, Version, prepare};
 use std::alloc::{AllocError, Global};
 use std::marker::Model;
 use std::sync::Arc;

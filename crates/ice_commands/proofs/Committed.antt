@@ -2,12 +2,13 @@
 use Rattle.std.proofs.Common.{◌≡◌, ◌≢◌, ◌⊎◌, ℕ, List, Bool, true, false, Option, Some, None, refl, sym, ap, subst, ◌∙◌, inl, inr}
 use Rattle.std.specs.Prelude.{Result, Ok, Err, IfSome, if◌then◌else◌}
 use Rattle.serde_json.specs.Written.{compact_text, has_float}
-use Rattle.ice_commands.specs.Bundles.{File, bundle_of, bytes_at}
-use Rattle.ice_commands.specs.Commits.{Commitment, IsTextOf, bundle_lines, commitment, committed_text, in_order, told_text}
-use Rattle.ice_commands.specs.ListPlans.{MayEnd}
-use Rattle.ice_commands.specs.Runs.{MayRefuse, Ran, WroteText}
-use Rattle.ice_text.specs.Written.{Appends, AppendsFront}
-use Rattle.ice_commands.specs.declared.committing.CommitRequest.{CommitRequest}
+use Rattle.ice_requests.specs.Bundles.{File, bundle_of, bytes_at}
+use Rattle.ice_requests.specs.Commits.{Commitment, IsTextOf, bundle_lines, commitment, committed_text, in_order, told_text}
+use Rattle.ice_requests.specs.ListPlans.{MayEnd}
+use Rattle.ice_requests.specs.Shows.{WroteText}
+use Rattle.ice_commands.specs.Runs.{MayRefuse, Ran}
+use Rattle.ice_print.specs.Written.{Appends, AppendsFront}
+use Rattle.ice_requests.specs.declared.committing.CommitRequest.{CommitRequest}
 use Rattle.ice_text.specs.declared.fault.RunFault.{RunFault}
 use Rattle.ice_text.specs.declared.fault.RunFault.TheVariants as run
 use Rattle.ice_commands.proofs.Refusals.{no_write}

@@ -8,11 +8,11 @@ use Rattle.std.specs.Prelude.{Bool, true, false, ◌||◌, slice_get, sum, take,
 use Rattle.std.specs.FinMap as map
 use Rattle.std.specs.List.{list_any}
 use Rattle.std.specs.Option.{option_map}
-use Rattle.ice_catalog.specs.Histories.{History, state_of}
-use Rattle.ice_catalog.specs.States.{State}
-use Rattle.ice_catalog.specs.declared.fault.PrepareFault.{PrepareFault}
-use Rattle.ice_catalog.specs.declared.fault.PrepareFault.TheVariants as prepare
-use Rattle.ice_manifest.specs.declared.row.Row.{Row}
+use Rattle.ice_versions.specs.Histories.{History, state_of}
+use Rattle.ice_versions.specs.States.{State}
+use Rattle.ice_versions.specs.declared.fault.PrepareFault.{PrepareFault}
+use Rattle.ice_versions.specs.declared.fault.PrepareFault.TheVariants as prepare
+use Rattle.ice_manifest_reading.specs.declared.row.Row.{Row}
 use Rattle.ice_meta.specs.declared.fault.Member.TheVariants as member
 use Rattle.ice_meta.specs.declared.fault.MetaFault.{MetaFault}
 use Rattle.ice_meta.specs.declared.fault.MetaFault.TheVariants as meta
@@ -27,7 +27,7 @@ use Rattle.ice_state.specs.Scans.{Scanned, scan_of}
 use Rattle.ice_commands.specs.Drills.{EachSawItsFiles, HasEachFile, SawItsFiles, file_path, has_file, plan_of_state, scan_of_state, sequence_of}
 use Rattle.ice_text.specs.Faults.{of_finish, of_meta, of_prepare, of_scan}
 use Rattle.ice_text.specs.declared.fault.RunFault.TheVariants as run
-use Rattle.ice_commands.specs.ListPlans.{all_present, as_run, rows_at}
+use Rattle.ice_requests.specs.ListPlans.{all_present, as_run, rows_at}
 
 -- the scan of a version, where each part of it is there
 pub scan_there : (s : State) (list : List ℕ) (schema : Schema) (rows : List Row) (scan : Scanned)

@@ -1,14 +1,3 @@
-pub mod Bases
-pub mod Commits
 pub mod Committed
-pub mod Crews
 pub mod Drills
-pub mod Lines
-pub mod Listed
-pub mod Lookups
-pub mod Plans
 pub mod Refusals
-pub mod Segments
-pub mod Shows
-pub mod Steps
-pub mod Stored

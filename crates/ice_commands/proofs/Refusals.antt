@@ -5,13 +5,13 @@ use Rattle.std.specs.Prelude.{Result, Ok, Err, IfErr, if◌then◌else◌}
 use Rattle.contract_words.specs.Outcome.{◌>>=◌}
 use Rattle.ice_text.specs.declared.fault.RunFault.{RunFault}
 use Rattle.ice_text.specs.declared.fault.RunFault.TheVariants as run
-use Rattle.ice_commands.specs.Bundles.{File, added, bundle_of, bytes_at, file_of, first_path, with_lines}
-use Rattle.ice_commands.specs.ListPlans.{MayEnd, answer}
+use Rattle.ice_requests.specs.Bundles.{File, added, bundle_of, bytes_at, file_of, first_path, with_lines}
+use Rattle.ice_requests.specs.ListPlans.{MayEnd, answer}
 use Rattle.ice_commands.specs.Runs.{IsInput, IsWordsFault, MayRefuse, Ran, as_text, bundle_text, list_in, or_first_line}
 use Rattle.ice_commands.specs.Runs.{planned_text, shown_text}
-use Rattle.ice_commands.specs.Plans.{answer_at, over_wanted_rows}
-use Rattle.ice_commands.specs.Shows.{shown_at}
-use Rattle.ice_commands.specs.declared.selection.Request.{Request}
+use Rattle.ice_requests.specs.Plans.{answer_at, over_wanted_rows}
+use Rattle.ice_requests.specs.Shows.{shown_at}
+use Rattle.ice_requests.specs.declared.selection.Request.{Request}
 
 -- a bundle is refused for a line of it
 there : (n : ℕ) (b : Bool) (files : List File) (e : RunFault)

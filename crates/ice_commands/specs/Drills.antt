@@ -8,10 +8,10 @@ use Rattle.std.specs.Option.{option_map}
 use Rattle.std.specs.Str.{bytes_eq}
 use Rattle.std.specs.Int.{to_be_bytes, w128}
 use Rattle.contract_words.specs.Outcome.{◌>>=◌}
-use Rattle.ice_catalog.specs.Histories.{History, state_of}
-use Rattle.ice_catalog.specs.States.{State}
-use Rattle.ice_catalog.specs.declared.change.Commit.{Commit}
-use Rattle.ice_catalog.specs.declared.change.Ids.{Ids}
+use Rattle.ice_versions.specs.Histories.{History, state_of}
+use Rattle.ice_versions.specs.States.{State}
+use Rattle.ice_versions.specs.declared.change.Commit.{Commit}
+use Rattle.ice_versions.specs.declared.change.Ids.{Ids}
 use Rattle.ice_manifest.specs.declared.new_file.NewFile.{NewFile}
 use Rattle.ice_meta.specs.declared.metadata.Target.TheVariants.{Main}
 use Rattle.ice_meta.specs.Targets.{bound_specs, list_of}
@@ -21,11 +21,11 @@ use Rattle.ice_state.specs.Outcomes.{outcome}
 use Rattle.ice_state.specs.Scans.{Scanned, scan_of}
 use Rattle.ice_value.specs.declared.file_content.FileContent.TheVariants.{Data}
 use Rattle.ice_text.specs.Faults.{of_finish, of_meta, of_scan}
-use Rattle.ice_commands.specs.ListPlans.{all_present, as_run, rows_at}
-use Rattle.ice_text.specs.Pieces.{named_number}
-use Rattle.ice_text.specs.PlanTexts.{totals_text}
-use Rattle.ice_commands.specs.Selections.{schema_of}
-use Rattle.ice_text.specs.Written.{Appends, AppendsFront}
+use Rattle.ice_requests.specs.ListPlans.{all_present, as_run, rows_at}
+use Rattle.ice_print.specs.Pieces.{named_number}
+use Rattle.ice_print.specs.PlanTexts.{totals_text}
+use Rattle.ice_requests.specs.Selections.{schema_of}
+use Rattle.ice_print.specs.Written.{Appends, AppendsFront}
 use Rattle.ice_commands.specs.declared.drill.Drill.{Drill}
 use Rattle.ice_text.specs.declared.drill_fault.DrillFault.TheVariants as drill
 use Rattle.ice_text.specs.declared.fault.RunFault.{RunFault}

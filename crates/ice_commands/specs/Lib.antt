@@ -1,10 +1,2 @@
-pub mod Bundles
 pub mod Drills
-pub mod Commits
-pub mod Folders
-pub mod ListPlans
-pub mod Plans
 pub mod Runs
-pub mod Selections
-pub mod Shows
-pub mod Stores

@@ -4,23 +4,23 @@ use Rattle.std.specs.Prelude.{IfSome, Result, Ok, Err, OnOk, IfErr, IsErrOf}
 use Rattle.std.specs.Str.{bytes_eq}
 use Rattle.contract_words.specs.Outcome.{◌>>=◌}
 use Rattle.ice_state.specs.Lines.{OwnedLine}
-use Rattle.ice_commands.specs.Bundles.{File, bundle_of, bytes_at, first_path}
+use Rattle.ice_requests.specs.Bundles.{File, bundle_of, bytes_at, first_path}
 use Rattle.ice_commands.specs.Drills.{WroteDrill}
-use Rattle.ice_commands.specs.Commits.{committed_text}
-use Rattle.ice_commands.specs.ListPlans.{answer}
-use Rattle.ice_commands.specs.Plans.{answer_at, over_wanted_rows}
+use Rattle.ice_requests.specs.Commits.{committed_text}
+use Rattle.ice_requests.specs.ListPlans.{answer}
+use Rattle.ice_requests.specs.Plans.{answer_at, over_wanted_rows}
 use Rattle.ice_text.specs.Faults.{status_of}
 use Rattle.ice_text.specs.FaultTexts.{fault_text}
-use Rattle.ice_text.specs.PlanTexts.{plan_text}
-use Rattle.ice_commands.specs.Shows.{shown_at}
-use Rattle.ice_text.specs.Written.{Appends, AppendsFront}
+use Rattle.ice_print.specs.PlanTexts.{plan_text}
+use Rattle.ice_requests.specs.Shows.{WroteFront, WroteText, shown_at}
+use Rattle.ice_print.specs.Written.{Appends, AppendsFront}
 use Rattle.ice_commands.specs.declared.command_line.Lists.TheVariants as lists
 use Rattle.ice_commands.specs.declared.command_line.Source.TheVariants as source
 use Rattle.ice_commands.specs.declared.command_line.Words.{Words}
 use Rattle.ice_commands.specs.declared.command_line.Words.TheVariants as words
 use Rattle.ice_text.specs.declared.fault.RunFault.{RunFault}
 use Rattle.ice_text.specs.declared.fault.RunFault.TheVariants as run
-use Rattle.ice_commands.specs.declared.selection.Request.{Request}
+use Rattle.ice_requests.specs.declared.selection.Request.{Request}
 
 -- the words that ask for the plan of a bundle's first file, before any others are read: none, or these two
 abbrev pub asks_first_list : List (List ℕ) → Bool
@@ -104,13 +104,6 @@ MayRefuse read write_may_fail run.Input = Unit {0}
 MayRefuse read write_may_fail run.Memory = Unit {0}
 MayRefuse read write_may_fail run.Write = write_may_fail
 MayRefuse read write_may_fail fault = read ≡ Err fault
-
--- what was written is the text that is asked for, or a front of it
-abbrev pub WroteText : Result (List ℕ) RunFault → Option (List ℕ) → Option (List ℕ) → Type 0
-WroteText read output output' = (text : List ℕ) × (read ≡ Ok text) × Appends output output' text
-
-abbrev pub WroteFront : Result (List ℕ) RunFault → Option (List ℕ) → Option (List ℕ) → Type 0
-WroteFront read output output' = (text : List ℕ) × (read ≡ Ok text) × AppendsFront output output' text
 
 -- What a run gives: the text is written, or there is a fault, and nothing was written but after a failed write. Where
 -- the answer is known, the text is the answer's, and so is the fault.

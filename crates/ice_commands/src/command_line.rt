@@ -3,15 +3,14 @@
 ghost use Rattle.std.specs.Prelude.{◌≡◌, map, string_bytes, IfErr};
 ghost use Rattle.ice_commands.specs.Runs.{IsWordsFault, ReadAs, asks_first_list};
 
-use crate::committing::CommitRequest;
 use crate::drill::Drill;
-use crate::selection::Request;
 use clap::builder::ValueParser;
 use clap::error::ErrorKind;
 use clap::{Arg, ArgAction, ArgGroup, ArgMatches, Command, Error, value_parser};
 use contract_words::Text;
 use ice_catalog::Ids;
 use ice_meta::Target;
+use ice_requests::{CommitRequest, Request};
 use ice_text::{ChangeKind, RunFault};
 use std::alloc::{AllocError, Global};
 use uuid::Uuid;

@@ -2,8 +2,8 @@
 
 ghost use Rattle.std.specs.Prelude.{◌≡◌, ◌≢◌, ◌⊎◌, ◌*◌, length, sum_by, IfErr, OnOk, IsErrOf};
 ghost use Rattle.ice_commands.specs.Drills.{EachSawItsFiles, WroteDrill, WroteDrillFront, drill_text};
-ghost use Rattle.ice_text.specs.PlanTexts.{deletes_of};
-ghost use Rattle.ice_text.specs.Written.{Appends, AppendsFront, Sent};
+ghost use Rattle.ice_print.specs.PlanTexts.{deletes_of};
+ghost use Rattle.ice_print.specs.Written.{Appends, AppendsFront, Sent};
 
 use crate::drill::Drill;
 use crate::drilled_table::plan_version;

@@ -5,12 +5,12 @@ ghost use Rattle.ice_meta.specs.Targets.{described};
 ghost use Rattle.ice_commands.specs.Drills.{HasEachFile, IsLost, IsPlanOf, IsTurn, commit_of, file_path, has_file, ids_of};
 ghost use Rattle.ice_commands.specs.Drills.{new_file, scan_of_state};
 
-use crate::reading::read_rows;
 use contract_words::{Items, Text};
 use ice_catalog::{Change, Ids, NewFile, Prepared, Version, World, prepare};
 use ice_desk::take_wanted;
 use ice_filter::Bound;
 use ice_meta::{Metadata, Target};
+use ice_requests::read_rows;
 use ice_state::{Lines, OwnedPlan, Partial, Scan};
 use ice_text::{DrillFault, RunFault};
 use ice_value::FileContent;

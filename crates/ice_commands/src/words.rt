@@ -2,28 +2,24 @@
 
 ghost use Rattle.std.specs.Prelude.{◌≡◌, ◌≢◌, ◌⊎◌, ℕ, List, Option, Some, None, Result, Ok, Err, map, string_bytes};
 ghost use Rattle.std.specs.Prelude.{IfOk, IfErr, OnOk};
-ghost use Rattle.ice_commands.specs.Commits.{committed_text};
+ghost use Rattle.ice_requests.specs.Commits.{committed_text};
 ghost use Rattle.ice_commands.specs.Drills.{WroteDrill};
 ghost use Rattle.ice_commands.specs.Runs.{Answered, IsInput, IsOfDrill, Ran, ReadAs, Refused, answer_to, bundle_text};
 ghost use Rattle.ice_commands.specs.Runs.{list_in, planned_text, run_of, shown_text};
 ghost use Rattle.ice_commands.specs.declared.command_line.Words.{Words};
 ghost use Rattle.ice_text.specs.declared.fault.RunFault.{RunFault};
 
-use crate::bundle::Bundle;
 use crate::command_line::{Lists, Place, Source, Words, parse_words};
 use crate::commit_lines::commit_lines;
-use crate::committing::{CommitRequest, commit_to, prepare_commit};
 use crate::drill::Drill;
 use crate::drill_text::run_drill;
-use crate::folder::Folder;
-use crate::input::read_all;
-use crate::list_plans::run_list_plan;
-use crate::plans_by_workers::plan_file;
-use crate::selection::Request;
-use crate::show::show_file;
 use crate::watch::Watch;
 use contract_words::Text;
 use ice_desk::ReadFault;
+use ice_requests::{
+    Bundle, CommitRequest, Folder, Request, commit_to, plan_file, prepare_commit, read_all,
+    run_list_plan, show_file,
+};
 use ice_text::{RunFault, Sink, report, write_all};
 use std::alloc::Global;
 use std::io::Read;

@@ -6,8 +6,6 @@ mod group;
 mod index;
 mod record;
 mod shelf;
-#[cfg(test)]
-mod tests;
 
 pub use index::{DeleteIndex, Hits};
 pub use record::Record;

@@ -2,8 +2,8 @@
 use Rattle.std.proofs.Common.{◌≡◌, ◌≢◌, inl, inr, ℕ, Bool, true, false, List, [], ◌∷◌, ◌++◌, length, Option, Some, None, is_some, option_map, Result, Err, sym, refl, ap, ◌∙◌, if◌then◌else◌}
 use Rattle.std.specs.List.{AllByRecursion}
 use Rattle.std.specs.Str.{bytes_eq}
-use Rattle.ice_manifest.specs.declared.entry.Entry.{Entry}
-use Rattle.ice_manifest.specs.declared.row.Row.{Row}
+use Rattle.ice_manifest_reading.specs.declared.entry.Entry.{Entry}
+use Rattle.ice_manifest_reading.specs.declared.row.Row.{Row}
 use Rattle.ice_state.specs.declared.fault.FinishFault.{FinishFault}
 use Rattle.ice_state.specs.declared.fault.FinishFault.TheVariants as finish
 use Rattle.ice_state.specs.declared.reading.Reading.TheVariants.{Good, Bad}

@@ -1,6 +1,6 @@
 -- Reading the manifests of a scan that were not taken yet.
 use Rattle.std.specs.Prelude.{◌≡◌, ℕ, Bool, List, [], ◌∷◌, length, map, Some, None}
-use Rattle.ice_manifest.specs.declared.row.Row.{Row}
+use Rattle.ice_manifest_reading.specs.declared.row.Row.{Row}
 use Rattle.ice_state.specs.Contents.{Content, World, content}
 use Rattle.ice_state.specs.Scans.{Scanned}
 use Rattle.ice_desk.specs.declared.fault.WantedFault.{WantedFault}

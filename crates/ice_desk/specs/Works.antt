@@ -2,7 +2,7 @@
 use Rattle.std.specs.Prelude.{◌≡◌, ◌⊎◌, ℕ, zero, suc, ◌%◌, ◌<◌, ◌≤◌, Bool, ◌&&◌, not, cond, nat_lt, IsTrue, List, []}
 use Rattle.std.specs.Prelude.{◌∷◌, ◌++◌, Option, Some, None, length}
 use Rattle.std.specs.List.{sum_by}
-use Rattle.ice_manifest.specs.declared.row.Row.{Row}
+use Rattle.ice_manifest_reading.specs.declared.row.Row.{Row}
 use Rattle.ice_state.specs.Contents.{Content, World, IsOf, add, is_row_taken, took}
 use Rattle.ice_state.specs.Scans.{Scanned}
 use Rattle.ice_desk.specs.declared.desk.Desk.{Desk}

@@ -8,8 +8,6 @@ mod files;
 mod hand;
 mod left;
 mod plan;
-#[cfg(test)]
-mod tests;
 mod tickets;
 mod wanted;
 mod workers;

@@ -4,7 +4,7 @@ ghost use Rattle.std.specs.Prelude.{◌≡◌, ◌⊎◌, ◌+◌, ◌^◌, ◌<
 ghost use Rattle.std.specs.Prelude.{None, Some, vec_len, length};
 ghost use Rattle.std.specs.Thread.{IsSync};
 ghost use Rattle.ice_meta.specs.declared.spec.Spec.{Spec};
-ghost use Rattle.ice_manifest.specs.declared.row.Row.{Row};
+ghost use Rattle.ice_manifest_reading.specs.declared.row.Row.{Row};
 ghost use Rattle.ice_state.specs.Contents.{Content, World, HasEach, IsOf, content, every_row};
 ghost use Rattle.ice_state.specs.Covering.{AreCovered};
 ghost use Rattle.ice_state.specs.Joins.{either, join};

@@ -6,8 +6,6 @@ mod binding;
 mod bound;
 mod fault;
 mod filter;
-#[cfg(test)]
-mod language_tests;
 mod laws;
 mod leaf;
 mod lexer;
@@ -15,8 +13,6 @@ mod parser;
 mod parts;
 mod phrase;
 mod readings;
-#[cfg(test)]
-mod tests;
 mod text;
 mod token;
 mod truths;

@@ -19,31 +19,31 @@ use Rattle.ice_value.specs.declared.file_bounds.FileBounds.{FileBounds}
 use Rattle.ice_value.specs.declared.file_content.FileContent.{FileContent}
 use Rattle.ice_value.specs.declared.file_content.FileContent.TheVariants as holds
 use Rattle.ice_meta.specs.declared.spec.PartitionField.{PartitionField}
-use Rattle.ice_manifest.specs.declared.row.Row.{Row}
-use Rattle.ice_manifest.specs.declared.row.ManifestContent.{ManifestContent}
-use Rattle.ice_manifest.specs.declared.row.ManifestContent.TheVariants.{Data, Deletes}
-use Rattle.ice_manifest.specs.declared.entry.Entry.{Entry}
-use Rattle.ice_manifest.specs.declared.entry.Live.{Live}
-use Rattle.ice_manifest.specs.declared.status.Status.TheVariants.{Added}
+use Rattle.ice_manifest_reading.specs.declared.row.Row.{Row}
+use Rattle.ice_manifest_reading.specs.declared.row.ManifestContent.{ManifestContent}
+use Rattle.ice_manifest_reading.specs.declared.row.ManifestContent.TheVariants.{Data, Deletes}
+use Rattle.ice_manifest_reading.specs.declared.entry.Entry.{Entry}
+use Rattle.ice_manifest_reading.specs.declared.entry.Live.{Live}
+use Rattle.ice_manifest_reading.specs.declared.status.Status.TheVariants.{Added}
 use Rattle.ice_manifest.specs.declared.new_file.NewFile.{NewFile}
 use Rattle.ice_manifest.specs.declared.heading.Heading.{Heading}
 use Rattle.ice_manifest.specs.Adding.{IsId, IsHeading, IsNewFile, is_null_or_of, is_tuple_of}
-use Rattle.ice_manifest.specs.Each.{each}
-use Rattle.ice_manifest.specs.Fields.{at, there, items_of, items_as, int_at, path_at, number_at, optional_number, int_item, ints_at, within_32}
+use Rattle.ice_manifest_reading.specs.Each.{each}
+use Rattle.ice_manifest_reading.specs.Fields.{at, there, items_of, items_as, int_at, path_at, number_at, optional_number, int_item, ints_at, within_32}
 use Rattle.ice_manifest.specs.Fitting.{FileFits}
-use Rattle.ice_manifest.specs.Laws.{SaysFile, SaysLive, SayEntries, MayHold}
-use Rattle.ice_manifest.specs.Manifests.{content_of, content_at, status_at, sequence_at, file_sequence_at, entries_ahead, live_of, kept, entries, entries_of}
-use Rattle.ice_manifest.specs.Maps.{counts_at, bounds_at}
-use Rattle.ice_manifest.specs.Partitions.{cell_of, cell_at, cells_of, tuple_at}
-use Rattle.ice_manifest.specs.Schemas as schemas
-use Rattle.ice_manifest.specs.Schemas.{fields_in, type_at, required, optional, each_branch, cells_fit, tuple_in, map_fits, pair_fields, ids_fit, file_fields, entry_fields}
-use Rattle.ice_manifest.specs.Kinds.{wanted}
-use Rattle.ice_manifest.specs.Types.{each_is, some_is, fits}
+use Rattle.ice_manifest_reading.specs.Laws.{SaysFile, SaysLive, SayEntries, MayHold}
+use Rattle.ice_manifest_reading.specs.Manifests.{content_of, content_at, status_at, sequence_at, file_sequence_at, entries_ahead, live_of, kept, entries, entries_of}
+use Rattle.ice_manifest_reading.specs.Maps.{counts_at, bounds_at}
+use Rattle.ice_manifest_reading.specs.Partitions.{cell_of, cell_at, cells_of, tuple_at}
+use Rattle.ice_manifest_reading.specs.Schemas as schemas
+use Rattle.ice_manifest_reading.specs.Schemas.{fields_in, type_at, required, optional, each_branch, cells_fit, tuple_in, map_fits, pair_fields, ids_fit, file_fields, entry_fields}
+use Rattle.ice_manifest_reading.specs.Kinds.{wanted}
+use Rattle.ice_manifest_reading.specs.Types.{each_is, some_is, fits}
 use Rattle.ice_manifest.specs.WrittenTypes.{null_or, written_tree, written_fields}
 use Rattle.ice_manifest.specs.WrittenSchemas.{value_type, partition_fields, file_type, entry_type}
 use Rattle.ice_manifest.specs.Writing.{manifest_type, new_entry, new_entries}
 use Rattle.ice_manifest.specs.WrittenValues.{cell_value, tuple_values, file_content, ids_value, file_value, entry_value}
-use Rattle.ice_manifest.proofs.Said.{entries_by}
+use Rattle.ice_manifest_reading.proofs.Said.{entries_by}
 
 both : (a b : Bool) → (a && b) ≡ true → (a ≡ true) × (b ≡ true)
 both true true h = (refl, refl)

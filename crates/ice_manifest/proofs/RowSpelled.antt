@@ -11,9 +11,9 @@ use Rattle.avro_file.specs.Blocks.{max_items}
 use Rattle.avro_file.specs.Writers.{IsOf}
 use Rattle.ice_value.specs.declared.file_bounds.Summary.{Summary}
 use Rattle.ice_meta.specs.Committing.{IsLong}
-use Rattle.ice_manifest.specs.declared.row.Row.{Row}
-use Rattle.ice_manifest.specs.declared.row.ManifestContent.{ManifestContent}
-use Rattle.ice_manifest.specs.declared.row.ManifestContent.TheVariants.{Data, Deletes}
+use Rattle.ice_manifest_reading.specs.declared.row.Row.{Row}
+use Rattle.ice_manifest_reading.specs.declared.row.ManifestContent.{ManifestContent}
+use Rattle.ice_manifest_reading.specs.declared.row.ManifestContent.TheVariants.{Data, Deletes}
 use Rattle.ice_manifest.specs.Adding.{IsId}
 use Rattle.ice_manifest.specs.Fitting.{IsShort, SummaryFits, CountsFit, RowFits, IsReadable}
 use Rattle.ice_manifest.specs.WrittenTypes.{null_or, written_tree, written_fields}

@@ -23,27 +23,27 @@ use Rattle.avro_file.specs.Picking.{Typed, pick}
 use Rattle.avro_file.specs.Writers.{AreOf}
 use Rattle.ice_value.specs.declared.file_bounds.Summary.{Summary}
 use Rattle.ice_meta.specs.Committing.{IsLong}
-use Rattle.ice_manifest.specs.declared.fault.FieldFault.{FieldFault}
-use Rattle.ice_manifest.specs.declared.fault.ListFault.{ListFault}
-use Rattle.ice_manifest.specs.declared.row.Row.{Row}
-use Rattle.ice_manifest.specs.declared.row.ManifestContent.{ManifestContent}
-use Rattle.ice_manifest.specs.declared.row.ManifestContent.TheVariants.{Data, Deletes}
+use Rattle.ice_manifest_reading.specs.declared.fault.FieldFault.{FieldFault}
+use Rattle.ice_manifest_reading.specs.declared.fault.ListFault.{ListFault}
+use Rattle.ice_manifest_reading.specs.declared.row.Row.{Row}
+use Rattle.ice_manifest_reading.specs.declared.row.ManifestContent.{ManifestContent}
+use Rattle.ice_manifest_reading.specs.declared.row.ManifestContent.TheVariants.{Data, Deletes}
 use Rattle.ice_manifest.specs.Adding.{IsId}
-use Rattle.ice_manifest.specs.Each.{each}
-use Rattle.ice_manifest.specs.Fields.{at, there, whole_of, truth_of, binary_of, items_as, items_of, within_32, if_there, path_at, int_at, number_at, long_at, optional_int, optional_long, short_path}
+use Rattle.ice_manifest_reading.specs.Each.{each}
+use Rattle.ice_manifest_reading.specs.Fields.{at, there, whole_of, truth_of, binary_of, items_as, items_of, within_32, if_there, path_at, int_at, number_at, long_at, optional_int, optional_long, short_path}
 use Rattle.ice_manifest.specs.Fitting.{RowFits, IsReadable, CountsFit}
-use Rattle.ice_manifest.specs.Kinds.{wanted}
-use Rattle.ice_manifest.specs.Laws.{SaysRow, SayRows}
-use Rattle.ice_manifest.specs.Lists as Lists
-use Rattle.ice_manifest.specs.Lists.{says_row, summary_in, summary_of, summaries_in, counts_at, content_at, rows_ahead, path_order, path_before, same_row, twice_after, path_twice, checked, in_order, rows_of}
-use Rattle.ice_manifest.specs.Schemas as schemas
-use Rattle.ice_manifest.specs.Schemas.{fields_in, type_at, required, optional, each_branch, summary_fields, row_fields}
-use Rattle.ice_manifest.specs.Types.{each_is, some_is, fits}
+use Rattle.ice_manifest_reading.specs.Kinds.{wanted}
+use Rattle.ice_manifest_reading.specs.Laws.{SaysRow, SayRows}
+use Rattle.ice_manifest_reading.specs.Lists as Lists
+use Rattle.ice_manifest_reading.specs.Lists.{says_row, summary_in, summary_of, summaries_in, counts_at, content_at, rows_ahead, path_order, path_before, same_row, twice_after, path_twice, checked, in_order, rows_of}
+use Rattle.ice_manifest_reading.specs.Schemas as schemas
+use Rattle.ice_manifest_reading.specs.Schemas.{fields_in, type_at, required, optional, each_branch, summary_fields, row_fields}
+use Rattle.ice_manifest_reading.specs.Types.{each_is, some_is, fits}
 use Rattle.ice_manifest.specs.WrittenTypes.{null_or, written_tree}
 use Rattle.ice_manifest.specs.WrittenSchemas.{summary_type, list_type}
 use Rattle.ice_manifest.specs.WrittenValues.{if_some, summary_value, summaries_value, row_content, row_value}
-use Rattle.ice_manifest.proofs.Said.{row_by, rows_by}
-use Rattle.ice_manifest.proofs.Sets.{same_is}
+use Rattle.ice_manifest_reading.proofs.Said.{row_by, rows_by}
+use Rattle.ice_manifest_reading.proofs.Sets.{same_is}
 use Rattle.ice_manifest.proofs.RowSpelled.{row_is_of}
 
 -- ---- fields

@@ -11,7 +11,7 @@ use Rattle.ice_value.specs.Bounds.{is_value}
 use Rattle.ice_meta.specs.Different.{HasDifferentFields}
 use Rattle.ice_manifest.specs.declared.new_file.NewFile.{NewFile}
 use Rattle.ice_manifest.specs.declared.heading.Heading.{Heading}
-use Rattle.ice_manifest.specs.Laws.{MayHold}
+use Rattle.ice_manifest_reading.specs.Laws.{MayHold}
 
 -- whether partition values of the type are written: of all types but these; Avro has no fixed type of more bytes
 abbrev pub is_partition_type : ColumnType → Bool

@@ -7,8 +7,8 @@ use Rattle.ice_value.specs.declared.cell.Cell.{Cell}
 use Rattle.ice_value.specs.declared.cell.Cell.TheVariants as cell
 use Rattle.ice_value.specs.declared.file_bounds.Summary.{Summary}
 use Rattle.ice_meta.specs.Committing.{IsLong}
-use Rattle.ice_manifest.specs.declared.counts.Counts.{Counts}
-use Rattle.ice_manifest.specs.declared.row.Row.{Row}
+use Rattle.ice_manifest_reading.specs.declared.counts.Counts.{Counts}
+use Rattle.ice_manifest_reading.specs.declared.row.Row.{Row}
 use Rattle.ice_manifest.specs.declared.new_file.NewFile.{NewFile}
 use Rattle.ice_manifest.specs.Adding.{IsId}
 

@@ -11,8 +11,8 @@ use Rattle.ice_value.specs.declared.cell.Cell.TheVariants.{Null}
 use Rattle.ice_value.specs.declared.file_bounds.Summary.{Summary}
 use Rattle.ice_value.specs.Bounds.{written}
 use Rattle.ice_value.specs.Cells.{cell_cmp}
-use Rattle.ice_manifest.specs.declared.counts.Counts.{Counts}
-use Rattle.ice_manifest.specs.declared.row.Row.{Row}
+use Rattle.ice_manifest_reading.specs.declared.counts.Counts.{Counts}
+use Rattle.ice_manifest_reading.specs.declared.row.Row.{Row}
 use Rattle.ice_manifest.specs.declared.new_file.NewFile.{NewFile}
 use Rattle.ice_manifest.specs.declared.heading.Heading.{Heading}
 

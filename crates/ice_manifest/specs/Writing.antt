@@ -10,10 +10,10 @@ use Rattle.avro_file.specs.Writing.{in_order, file_bytes}
 use Rattle.ice_meta.specs.declared.spec.PartitionField.{PartitionField}
 use Rattle.ice_meta.specs.declared.spec.Spec.{Spec}
 use Rattle.ice_meta.specs.Partitioning.{is_unpartitioned}
-use Rattle.ice_manifest.specs.declared.row.Row.{Row}
-use Rattle.ice_manifest.specs.declared.row.ManifestContent.{ManifestContent}
-use Rattle.ice_manifest.specs.declared.row.ManifestContent.TheVariants as contains
-use Rattle.ice_manifest.specs.declared.entry.Entry.{Entry}
+use Rattle.ice_manifest_reading.specs.declared.row.Row.{Row}
+use Rattle.ice_manifest_reading.specs.declared.row.ManifestContent.{ManifestContent}
+use Rattle.ice_manifest_reading.specs.declared.row.ManifestContent.TheVariants as contains
+use Rattle.ice_manifest_reading.specs.declared.entry.Entry.{Entry}
 use Rattle.ice_manifest.specs.declared.new_file.NewFile.{NewFile}
 use Rattle.ice_manifest.specs.declared.heading.Heading.{Heading}
 use Rattle.ice_manifest.specs.Json.{set, whole, no_object}

@@ -1,7 +1,7 @@
 //! What the entries of a new manifest have in common.
 
-use crate::row::ManifestContent;
 use contract_words::{Items, Text};
+use ice_manifest_reading::ManifestContent;
 use ice_meta::Spec;
 use ice_value::ColumnType;
 

@@ -1,56 +1,28 @@
-//! Manifest lists and manifests: their rows and live entries, found by field id, or the first fault.
+//! Manifest lists and manifests: reading them, as `ice_manifest_reading` does, and writing new ones.
 #![tactic(auto)]
 
 mod adding;
-mod columns;
-mod counts;
-mod data_file;
-mod decimal;
-mod entry;
-mod fault;
-mod field;
 mod file_writing;
 mod heading;
 mod json;
-mod keep;
-mod kind;
-mod laws;
-mod list;
 mod list_writing;
-mod manifest;
 mod manifest_writing;
 mod new_file;
 mod new_row;
-mod pick;
-mod row;
-mod shape;
-mod status;
-mod tuple;
 mod written_entries;
 mod written_schemas;
 mod written_types;
 mod written_values;
 
 pub use adding::{is_partition_type, is_tuple_of};
-pub use counts::Counts;
-pub use data_file::DataFile;
-pub use entry::{Entry, EntryView, Live};
-pub use fault::{FieldFault, ListFault, ManifestFault};
 pub use heading::Heading;
-pub use keep::{Everything, Keep};
-pub use kind::Kind;
-pub use laws::{
-    contents_fit, decimals_are_kept_shortest, entries_are_the_live_ones,
-    file_numbers_are_inherited, first_faults_are_told, numbers_are_inherited,
-    other_fields_are_skipped, rows_are_a_set, rows_are_refused_together, snapshots_are_inherited,
+pub use ice_manifest_reading::{
+    Counts, DataFile, Entry, EntryView, Everything, FieldFault, Keep, Kind, ListFault, Live,
+    ManifestContent, ManifestFault, Row, Status, contents_fit, decimals_are_kept_shortest,
+    entries_are_the_live_ones, file_numbers_are_inherited, first_faults_are_told,
+    numbers_are_inherited, other_fields_are_skipped, read_kept, read_list, read_manifest,
+    rows_are_a_set, rows_are_refused_together, snapshots_are_inherited,
 };
-pub use list::read_list;
 pub use list_writing::write_list;
-pub use manifest::{read_kept, read_manifest};
 pub use manifest_writing::write_manifest;
 pub use new_file::NewFile;
-pub use row::{ManifestContent, Row};
-pub use status::Status;
-
-#[cfg(test)]
-mod tests;

@@ -9,7 +9,7 @@ ghost use Rattle.avro_file.specs.Header.{Property as Shown};
 ghost use Rattle.avro_file.specs.Files.{HoldsFile};
 ghost use Rattle.avro_file.specs.Writing.{in_order};
 ghost use Rattle.avro_file.specs.Writers.{WasGiven, WillWrite};
-ghost use Rattle.ice_manifest.specs.Lists.{rows_of, path_order};
+ghost use Rattle.ice_manifest_reading.specs.Lists.{rows_of, path_order};
 ghost use Rattle.ice_manifest.specs.WrittenTypes.{json_of, written_tree};
 ghost use Rattle.ice_manifest.specs.WrittenSchemas.{list_type as type_of_row};
 ghost use Rattle.ice_manifest.specs.WrittenValues.{row_value};
@@ -17,10 +17,10 @@ ghost use Rattle.ice_manifest.specs.Fitting.{RowFits, IsReadable};
 ghost use Rattle.ice_manifest.specs.Writing.{schema_text, version_property, list_bytes};
 
 use crate::file_writing::begun;
-use crate::row::Row;
 use crate::written_schemas::list_type;
 use crate::written_values::row_datum;
 use avro_file::{Property, Writer};
+use ice_manifest_reading::Row;
 use std::alloc::{AllocError, Global};
 
 /// The text of the schema of a list's rows.

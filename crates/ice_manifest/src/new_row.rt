@@ -13,11 +13,10 @@ ghost use Rattle.ice_manifest.specs.NewRows.{bound_of as bound_for, summary_of a
 ghost use Rattle.ice_manifest.specs.NewRows.{column_of, summaries_from, records_in as records_within};
 ghost use Rattle.ice_manifest.specs.NewRows.{new_counts as counts_of, new_row};
 
-use crate::counts::Counts;
 use crate::heading::Heading;
 use crate::new_file::NewFile;
-use crate::row::Row;
 use contract_words::{Items, Text};
+use ice_manifest_reading::{Counts, Row};
 use ice_value::{Cell, ColumnType, SequenceNumber, Summary, write_bound};
 use std::alloc::{AllocError, Global};
 
@@ -197,31 +196,31 @@ fn new_counts(files: &[&NewFile]) -> Counts
     }
 }
 
-impl Row {
-    /// The row of a new manifest of these files, which lies at this path, has so many bytes, and is added by a commit
-    /// of this sequence number.
+impl Heading {
+    /// The row of a new manifest of these files under this heading, which lies at this path, has so many bytes, and is
+    /// added by a commit of this sequence number.
     #[tactic(auto, unfolding(crate::specs::NewRows::new_row))]
-    pub fn of_new(
+    pub fn new_row(
+        &self,
         alloc: Global,
-        heading: &Heading,
         path: Text,
         length: i64,
         sequence_number: SequenceNumber,
         files: &[&NewFile],
     ) -> Result<Row, AllocError>
-        requires { AreNewFiles heading.now (lent files.now) }
-        ensures { IfOk result (λ row. row ≡ new_row heading.now path length sequence_number (lent files.now)) }
+        requires { AreNewFiles self.now (lent files.now) }
+        ensures { IfOk result (λ row. row ≡ new_row self.now path length sequence_number (lent files.now)) }
     {
         Ok(Row {
             path,
             length,
-            spec_id: heading.spec.id,
-            content: heading.content,
+            spec_id: self.spec.id,
+            content: self.content,
             sequence_number,
             min_sequence_number: sequence_number,
-            added_snapshot_id: heading.snapshot_id,
+            added_snapshot_id: self.snapshot_id,
             counts: new_counts(files),
-            partitions: Some(summaries_of(alloc, heading.types.as_slice(), files)?),
+            partitions: Some(summaries_of(alloc, self.types.as_slice(), files)?),
         })
     }
 }

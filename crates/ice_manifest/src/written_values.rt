@@ -12,9 +12,9 @@ ghost use Rattle.ice_manifest.specs.WrittenValues.{summary_value as value_of_sum
 ghost use Rattle.ice_manifest.specs.WrittenValues.{summaries_value as value_of_summaries, row_content};
 ghost use Rattle.ice_manifest.specs.WrittenValues.{count_values as values_of_counts, row_value as value_of_row};
 
-use crate::row::{ManifestContent, Row};
 use avro_file::Datum;
 use contract_words::{Items, Text};
+use ice_manifest_reading::{ManifestContent, Row};
 use ice_value::{SequenceNumber, Summary};
 use std::alloc::{AllocError, Global};
 

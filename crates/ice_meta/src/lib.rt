@@ -25,6 +25,3 @@ pub use schema::{Column, Schema};
 pub use snapshot::{Ref, RefKind, Snapshot};
 pub use spec::{PartitionField, Spec};
 pub use table::Table;
-
-#[cfg(test)]
-mod tests;

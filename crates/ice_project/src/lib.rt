@@ -9,8 +9,6 @@ mod part_filter;
 mod projection;
 mod summaries;
 mod table;
-#[cfg(test)]
-mod tests;
 mod tuples;
 
 pub use files::bounds_may;

@@ -8,8 +8,8 @@ use Rattle.ice_meta.specs.declared.spec.PartitionField.{PartitionField}
 use Rattle.ice_meta.specs.declared.spec.Spec.{Spec}
 use Rattle.ice_project.specs.Fields.{field_of}
 use Rattle.ice_project.specs.Summaries.{AreSummariesOf}
-use Rattle.ice_manifest.specs.declared.entry.Live.{Live}
-use Rattle.ice_manifest.specs.declared.row.Row.{Row}
+use Rattle.ice_manifest_reading.specs.declared.entry.Live.{Live}
+use Rattle.ice_manifest_reading.specs.declared.row.Row.{Row}
 use Rattle.ice_state.specs.Contents.{World}
 use Rattle.ice_state.specs.Covering.{Covers, RowCovers, AreCovered, HasSoundSummaries}
 use Rattle.ice_state.specs.Pruning.{Pruner, keeps}

@@ -15,7 +15,7 @@ use Rattle.ice_project.specs.Projection.{projection}
 use Rattle.ice_project.specs.Summaries.{summaries_may, IsCovered}
 use Rattle.ice_project.specs.Tuples.{part_meets}
 use Rattle.ice_project.specs.declared.part_filter.PartFilter.{PartFilter}
-use Rattle.ice_manifest.specs.declared.entry.Entry.{Entry}
+use Rattle.ice_manifest_reading.specs.declared.entry.Entry.{Entry}
 use Rattle.ice_state.specs.Applying.{key_of}
 use Rattle.ice_state.specs.Covering.{Covers, HasSoundSummaries}
 use Rattle.ice_state.specs.Parts.{OfSpec, filtered_by}

@@ -3,12 +3,12 @@ use Rattle.std.proofs.Common.{◌≡◌, ℕ, Bool, not, ◌&&◌, ◌||◌, fil
 use Rattle.std.specs.List.{AllByRecursion}
 use Rattle.ice_meta.specs.declared.spec.Spec.{Spec}
 use Rattle.ice_meta.specs.Partitioning.{is_unpartitioned}
-use Rattle.ice_manifest.specs.declared.fault.ManifestFault.{ManifestFault}
-use Rattle.ice_manifest.specs.declared.row.Row.{Row}
-use Rattle.ice_manifest.specs.declared.entry.Live.{Live}
-use Rattle.ice_manifest.specs.Laws.{IsOfSpec}
-use Rattle.ice_manifest.specs.Manifests.{entries, entries_of, live_of}
-use Rattle.ice_manifest.proofs.Contents.{are_of_their_spec}
+use Rattle.ice_manifest_reading.specs.declared.fault.ManifestFault.{ManifestFault}
+use Rattle.ice_manifest_reading.specs.declared.row.Row.{Row}
+use Rattle.ice_manifest_reading.specs.declared.entry.Live.{Live}
+use Rattle.ice_manifest_reading.specs.Laws.{IsOfSpec}
+use Rattle.ice_manifest_reading.specs.Manifests.{entries, entries_of, live_of}
+use Rattle.ice_manifest_reading.proofs.Contents.{are_of_their_spec}
 use Rattle.ice_value.specs.declared.file_content.FileContent.TheVariants.{Data}
 use Rattle.ice_project.specs.Files.{file_may}
 use Rattle.ice_project.specs.Tuples.{part_meets}

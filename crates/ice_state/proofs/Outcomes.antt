@@ -1,7 +1,7 @@
 -- Lemmas on outcomes.
 use Rattle.std.proofs.Common.{◌≡◌, ◌<◌, ◌≤◌, ℕ, zero, suc, List, [], ◌∷◌, refl, sym, ap, ◌∙◌, false, length, get_or, arith, drop, Option, Some, None, is_none}
-use Rattle.ice_manifest.specs.declared.entry.Entry.{Entry}
-use Rattle.ice_manifest.specs.declared.row.Row.{Row}
+use Rattle.ice_manifest_reading.specs.declared.entry.Entry.{Entry}
+use Rattle.ice_manifest_reading.specs.declared.row.Row.{Row}
 use Rattle.ice_state.specs.declared.reading.Reading.{Reading}
 use Rattle.ice_state.specs.declared.reading.Reading.TheVariants.{Good, Bad}
 use Rattle.ice_state.specs.Contents.{Content}

@@ -1,7 +1,7 @@
 -- Lines by the places of their files.
 use Rattle.std.proofs.Common.{◌≡◌, ◌<◌, ℕ, zero, suc, List, [], ◌∷◌, refl, sym, ap, ◌∙◌, true, not, ◌&&◌, length, get_or, arith, map, filter, Some}
 use Rattle.std.specs.List.{slice_get, AllByRecursion}
-use Rattle.ice_manifest.specs.declared.entry.Entry.{Entry}
+use Rattle.ice_manifest_reading.specs.declared.entry.Entry.{Entry}
 use Rattle.ice_value.specs.declared.file_content.FileContent.{FileContent}
 use Rattle.ice_value.specs.declared.file_content.FileContent.TheVariants.{Data, PositionDeletes, EqualityDeletes}
 use Rattle.ice_state.specs.Applying.{applies}

@@ -7,7 +7,7 @@ use Rattle.contract_words.proofs.Sorted.{Rises, sorted_rises, filter-sorted, irr
 use Rattle.ice_filter.specs.declared.bound.BoundLeaf.{BoundLeaf}
 use Rattle.ice_filter.specs.declared.parts.Part.{Part}
 use Rattle.ice_meta.specs.declared.spec.Spec.{Spec}
-use Rattle.ice_manifest.specs.declared.row.Row.{Row}
+use Rattle.ice_manifest_reading.specs.declared.row.Row.{Row}
 use Rattle.ice_state.specs.declared.fault.ScanFault.TheVariants.{NoSuchSpec}
 use Rattle.ice_state.specs.Scans.{Scanned, pruner, row_before, by_row_path, without_spec, wanted_rows, unless_missing, scan_with, scan_of, IsScanOf, IsFirstUnknown}
 use Rattle.ice_state.specs.Specs.{spec_of}

@@ -11,7 +11,7 @@ use Rattle.ice_filter.specs.declared.parts.Part.{Part}
 use Rattle.ice_project.specs.Files.{file_may}
 use Rattle.ice_project.specs.Tuples.{part_meets}
 use Rattle.ice_meta.specs.declared.spec.Spec.{Spec}
-use Rattle.ice_manifest.specs.declared.row.Row.{Row}
+use Rattle.ice_manifest_reading.specs.declared.row.Row.{Row}
 use Rattle.ice_state.specs.declared.fault.ScanFault.{ScanFault}
 use Rattle.ice_state.specs.Parts.{NamesFirst}
 use Rattle.ice_state.specs.Pruning.{Pruner, by_projection, summaries_allow, pruner_of}

@@ -8,8 +8,8 @@ use Rattle.ice_value.specs.declared.file_content.FileContent.TheVariants.{Data}
 use Rattle.ice_meta.specs.Partitioning.{is_unpartitioned}
 use Rattle.ice_meta.specs.declared.spec.Spec.{Spec}
 use Rattle.ice_project.specs.Tuples.{part_meets}
-use Rattle.ice_manifest.specs.declared.entry.Live.{Live}
-use Rattle.ice_manifest.specs.declared.row.Row.{Row}
+use Rattle.ice_manifest_reading.specs.declared.entry.Live.{Live}
+use Rattle.ice_manifest_reading.specs.declared.row.Row.{Row}
 use Rattle.ice_state.specs.Contents.{World}
 use Rattle.ice_state.specs.Pruning.{by_projection, summaries_allow, pruner_of, everything, holds, keeps, SaysItsSpec}
 use Rattle.ice_state.specs.Scans.{Scanned, by_row_path, without_spec, scan_of}

@@ -1,7 +1,7 @@
 -- Which delete files apply to a data file: what an entry is under the rules of `ice_value`.
 use Rattle.std.specs.Prelude.{Bool}
 use Rattle.ice_value.specs.Applying.{FileKey, Applies as KeyApplies, applies as key_applies}
-use Rattle.ice_manifest.specs.declared.entry.Entry.{Entry}
+use Rattle.ice_manifest_reading.specs.declared.entry.Entry.{Entry}
 
 -- what the rules ask of an entry
 abbrev pub key_of : Entry → FileKey

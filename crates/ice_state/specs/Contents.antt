@@ -3,10 +3,10 @@ use Rattle.std.specs.Prelude.{◌≡◌, ℕ, zero, suc, Bool, true, false, List
 use Rattle.std.specs.Prelude.{None, is_some, option_map, slice_set, slice_index_or, Result, Ok, Err}
 use Rattle.std.specs.List.{AllByRecursion}
 use Rattle.ice_meta.specs.declared.spec.Spec.{Spec}
-use Rattle.ice_manifest.specs.declared.entry.Live.{Live}
-use Rattle.ice_manifest.specs.declared.fault.ManifestFault.{ManifestFault}
-use Rattle.ice_manifest.specs.declared.row.Row.{Row}
-use Rattle.ice_manifest.specs.Manifests.{live_of}
+use Rattle.ice_manifest_reading.specs.declared.entry.Live.{Live}
+use Rattle.ice_manifest_reading.specs.declared.fault.ManifestFault.{ManifestFault}
+use Rattle.ice_manifest_reading.specs.declared.row.Row.{Row}
+use Rattle.ice_manifest_reading.specs.Manifests.{live_of}
 use Rattle.ice_state.specs.declared.reading.Reading.{Reading}
 use Rattle.ice_state.specs.declared.reading.Reading.TheVariants.{Good, Bad}
 use Rattle.ice_state.specs.Pruning.{Pruner, kept}

@@ -7,8 +7,8 @@ use Rattle.ice_value.specs.declared.file_bounds.Summary.{Summary}
 use Rattle.ice_meta.specs.declared.spec.Spec.{Spec}
 use Rattle.ice_project.specs.Fields.{fields_of}
 use Rattle.ice_project.specs.Summaries.{IsCovered}
-use Rattle.ice_manifest.specs.declared.entry.Live.{Live}
-use Rattle.ice_manifest.specs.declared.row.Row.{Row}
+use Rattle.ice_manifest_reading.specs.declared.entry.Live.{Live}
+use Rattle.ice_manifest_reading.specs.declared.row.Row.{Row}
 use Rattle.ice_state.specs.Contents.{World}
 use Rattle.ice_state.specs.Pruning.{Pruner}
 use Rattle.ice_state.specs.Snapshots.{live}

@@ -14,10 +14,10 @@ use Rattle.ice_project.specs.Files.{file_may}
 use Rattle.ice_project.specs.Projection.{projection}
 use Rattle.ice_project.specs.Summaries.{summaries_may}
 use Rattle.ice_project.specs.Tuples.{part_meets}
-use Rattle.ice_manifest.specs.declared.entry.Entry.{Entry}
-use Rattle.ice_manifest.specs.declared.entry.Live.{Live}
-use Rattle.ice_manifest.specs.declared.row.Row.{Row}
-use Rattle.ice_manifest.specs.Manifests.{entries}
+use Rattle.ice_manifest_reading.specs.declared.entry.Entry.{Entry}
+use Rattle.ice_manifest_reading.specs.declared.entry.Live.{Live}
+use Rattle.ice_manifest_reading.specs.declared.row.Row.{Row}
+use Rattle.ice_manifest_reading.specs.Manifests.{entries}
 use Rattle.ice_state.specs.Specs.{spec_of}
 
 -- a filter's projection on the tuples of a spec, its test of the bounds of a data file, and its test of a row's

@@ -7,7 +7,7 @@ use Rattle.contract_words.specs.Sorting.{sorted}
 use Rattle.ice_meta.specs.declared.spec.Spec.{Spec}
 use Rattle.ice_filter.specs.declared.bound.BoundLeaf.{BoundLeaf}
 use Rattle.ice_filter.specs.declared.parts.Part.{Part}
-use Rattle.ice_manifest.specs.declared.row.Row.{Row}
+use Rattle.ice_manifest_reading.specs.declared.row.Row.{Row}
 use Rattle.ice_state.specs.declared.fault.ScanFault.{ScanFault}
 use Rattle.ice_state.specs.declared.fault.ScanFault.TheVariants.{NoSuchSpec}
 use Rattle.ice_state.specs.Pruning.{Pruner, pruner_of}

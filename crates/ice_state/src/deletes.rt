@@ -12,7 +12,7 @@ ghost use Rattle.ice_state.specs.Parts.{places_of, numbers_of};
 use crate::lines::Places;
 use contract_words::Items;
 use ice_deletes::{DeleteIndex, Hits, Record};
-use ice_manifest::Entry;
+use ice_manifest_reading::Entry;
 use std::alloc::{AllocError, Global};
 
 /// What the index is told of a delete file.

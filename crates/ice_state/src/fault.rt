@@ -5,7 +5,7 @@ ghost use Rattle.ice_state.specs.declared.fault.FinishFault.TheVariants as finis
 ghost use Rattle.ice_state.specs.declared.fault.ScanFault.TheVariants as scan;
 
 use contract_words::{Items, Text};
-use ice_manifest::ManifestFault;
+use ice_manifest_reading::ManifestFault;
 use std::alloc::{AllocError, AllocFailed};
 
 /// Why there is no scan.

@@ -15,7 +15,7 @@ use crate::lines::Places;
 use crate::plan::Plan;
 use crate::reading::Reading;
 use ice_deletes::DeleteIndex;
-use ice_manifest::{Entry, ManifestFault, Row};
+use ice_manifest_reading::{Entry, ManifestFault, Row};
 use ice_value::FileContent;
 use std::alloc::{AllocError, Global};
 

@@ -5,7 +5,7 @@ ghost use Rattle.std.specs.Prelude.{◌≡◌, map, IfOk};
 use crate::lines::Places;
 use crate::plan::{OwnedPlan, Plan};
 use contract_words::Items;
-use ice_manifest::Entry;
+use ice_manifest_reading::Entry;
 use std::alloc::{AllocError, Global};
 
 impl<'a> Plan<'a> {

@@ -12,8 +12,6 @@ mod plan;
 mod pruning;
 mod reading;
 mod scan;
-#[cfg(test)]
-mod tests;
 
 pub use fault::{FinishFault, ScanFault};
 pub use lines::{Line, Lines, PlanFile, PlanFiles};

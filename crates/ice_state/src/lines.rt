@@ -3,7 +3,7 @@
 ghost use Rattle.std.specs.Prelude.{◌≡◌, ◌<◌, length, map, Some, slice_get};
 
 use contract_words::Items;
-use ice_manifest::Entry;
+use ice_manifest_reading::Entry;
 use ice_value::SequenceNumber;
 use std::marker::Model;
 
@@ -58,7 +58,7 @@ pub struct PlanFile<'a> {
 }
 
 impl<'a> Model for PlanFile<'a> {
-    ghost use Rattle.ice_manifest.specs.declared.entry.Entry.{Entry};
+    ghost use Rattle.ice_manifest_reading.specs.declared.entry.Entry.{Entry};
 
     ghost Value = { Entry };
 
@@ -118,7 +118,7 @@ pub struct PlanFiles<'a> {
 
 impl<'a> Model for PlanFiles<'a> {
     ghost use Rattle.std.specs.Prelude.{List, length};
-    ghost use Rattle.ice_manifest.specs.declared.entry.Entry.{Entry};
+    ghost use Rattle.ice_manifest_reading.specs.declared.entry.Entry.{Entry};
 
     ghost Value = { List Entry };
 

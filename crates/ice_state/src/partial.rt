@@ -4,7 +4,7 @@ ghost use Rattle.std.specs.Prelude.{◌≡◌, ◌<◌, ◌≤◌, ◌↔◌, le
 ghost use Rattle.std.specs.Prelude.{Bool, ℕ, vec_len};
 ghost use Rattle.contract_words.specs.Outcome.{Gives};
 ghost use Rattle.ice_meta.specs.declared.spec.Spec.{Spec};
-ghost use Rattle.ice_manifest.specs.declared.row.Row.{Row};
+ghost use Rattle.ice_manifest_reading.specs.declared.row.Row.{Row};
 ghost use Rattle.ice_state.specs.Contents.{World, IsOf, is_row_taken, took, content, no_row, every_row, add, HasBytes};
 ghost use Rattle.ice_state.specs.Contents.{HasEach};
 ghost use Rattle.ice_state.specs.Outcomes.{outcome};

@@ -3,7 +3,7 @@
 ghost use Rattle.std.specs.Prelude.{◌≡◌};
 
 use crate::lines::{Files, Lines, Places};
-use ice_manifest::Entry;
+use ice_manifest_reading::Entry;
 use std::marker::Model;
 
 /// The data files that a scan has to read, by path, each with the delete files that apply to it. It is lent from the

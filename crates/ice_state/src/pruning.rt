@@ -9,7 +9,7 @@ ghost use Rattle.ice_state.specs.Pruning.{pruner_of, keeps, summaries_allow};
 ghost use Rattle.ice_state.specs.Specs.{spec_of, by_id};
 
 use ice_filter::Bound;
-use ice_manifest::{Keep, Live, Row};
+use ice_manifest_reading::{Keep, Live, Row};
 use ice_meta::Spec;
 use ice_project::{PartFilter, bounds_may, project, summary_may};
 use ice_value::FileContent;

@@ -5,7 +5,7 @@ ghost use Rattle.ice_state.specs.Parts.{reading_by};
 
 use crate::pruning::SpecFilter;
 use contract_words::Items;
-use ice_manifest::{Entry, ManifestFault, Row, read_kept};
+use ice_manifest_reading::{Entry, ManifestFault, Row, read_kept};
 use std::alloc::{AllocError, Global};
 
 /// What a manifest gave: its kept entries in the order of their positions, or why it can't be read.

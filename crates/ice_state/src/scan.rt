@@ -9,7 +9,7 @@ ghost use Rattle.ice_state.specs.Scans.{by_row_path, without_spec, wanted_rows};
 use crate::fault::ScanFault;
 use crate::pruning::{Pruning, SpecFilter};
 use ice_filter::Bound;
-use ice_manifest::Row;
+use ice_manifest_reading::Row;
 use ice_meta::Spec;
 use std::alloc::{AllocError, Global};
 use std::marker::Model;

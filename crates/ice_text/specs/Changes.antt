@@ -20,7 +20,7 @@ use Rattle.ice_value.specs.declared.file_content.FileContent.{FileContent}
 use Rattle.ice_value.specs.declared.file_content.FileContent.TheVariants as content
 use Rattle.ice_manifest.specs.declared.new_file.NewFile.{NewFile}
 use Rattle.ice_meta.specs.Members.{if_int, if_objects, not_null}
-use Rattle.ice_catalog.specs.declared.change.Change.{Change}
+use Rattle.ice_versions.specs.declared.change.Change.{Change}
 use Rattle.ice_text.specs.declared.change.ChangeKind.{ChangeKind}
 use Rattle.ice_text.specs.declared.change.ChangeKind.TheVariants as kind
 use Rattle.ice_text.specs.declared.change.fault.ChangeFault.{ChangeFault}

@@ -4,10 +4,10 @@ use Rattle.avro_schema.specs.declared.fault.SchemaFault.{SchemaFault}
 use Rattle.avro_schema.specs.declared.fault.SchemaFault.TheVariants as schema
 use Rattle.avro_file.specs.declared.fault.AvroFault.{AvroFault}
 use Rattle.avro_file.specs.declared.fault.AvroFault.TheVariants as avro
-use Rattle.ice_manifest.specs.declared.fault.ListFault.{ListFault}
-use Rattle.ice_manifest.specs.declared.fault.ListFault.TheVariants as list
-use Rattle.ice_manifest.specs.declared.fault.ManifestFault.{ManifestFault}
-use Rattle.ice_manifest.specs.declared.fault.ManifestFault.TheVariants as manifest
+use Rattle.ice_manifest_reading.specs.declared.fault.ListFault.{ListFault}
+use Rattle.ice_manifest_reading.specs.declared.fault.ListFault.TheVariants as list
+use Rattle.ice_manifest_reading.specs.declared.fault.ManifestFault.{ManifestFault}
+use Rattle.ice_manifest_reading.specs.declared.fault.ManifestFault.TheVariants as manifest
 use Rattle.ice_meta.specs.declared.fault.MetaFault.{MetaFault}
 use Rattle.ice_meta.specs.declared.fault.MetaFault.TheVariants as meta
 use Rattle.ice_filter.specs.declared.fault.FilterFault.{FilterFault}
@@ -22,8 +22,8 @@ use Rattle.ice_desk.specs.declared.fault.PlanFault.{PlanFault}
 use Rattle.ice_desk.specs.declared.fault.PlanFault.TheVariants as plan
 use Rattle.ice_text.specs.declared.drill_fault.DrillFault.{DrillFault}
 use Rattle.ice_text.specs.declared.drill_fault.DrillFault.TheVariants as drill
-use Rattle.ice_catalog.specs.declared.fault.PrepareFault.{PrepareFault}
-use Rattle.ice_catalog.specs.declared.fault.PrepareFault.TheVariants as prepare
+use Rattle.ice_versions.specs.declared.fault.PrepareFault.{PrepareFault}
+use Rattle.ice_versions.specs.declared.fault.PrepareFault.TheVariants as prepare
 use Rattle.ice_text.specs.declared.change.fault.ChangeFault.{ChangeFault}
 use Rattle.ice_text.specs.declared.change.fault.ChangeFault.TheVariants as change
 use Rattle.ice_text.specs.declared.fault.RunFault.{RunFault}

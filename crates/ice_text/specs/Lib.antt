@@ -1,9 +1,3 @@
 pub mod Changes
-pub mod Escaping
 pub mod FaultTexts
 pub mod Faults
-pub mod Pieces
-pub mod PlanTexts
-pub mod Shown
-pub mod TableTexts
-pub mod Written

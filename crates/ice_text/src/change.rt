@@ -14,7 +14,7 @@ use crate::change::members::objects_at;
 use crate::change::new_file::{delete_file_from, file_from};
 use contract_words::Items;
 pub use fault::{ChangeFault, ChangeMember};
-use ice_catalog::{Change, NewFile};
+use ice_versions::{Change, NewFile};
 use serde_json::{Category, Value};
 use std::alloc::Global;
 

@@ -11,16 +11,16 @@ ghost use Rattle.ice_text.specs.declared.fault.RunFault.TheVariants as run;
 
 use crate::change::ChangeFault;
 use crate::drill_fault::DrillFault;
-use crate::sink::SinkFault;
 use avro_file::AvroFault;
 use avro_schema::SchemaFault;
 use contract_words::Text;
-use ice_catalog::PrepareFault;
 use ice_desk::{PlanFault, WantedFault};
 use ice_filter::FilterFault;
 use ice_manifest::{ListFault, ManifestFault};
 use ice_meta::MetaFault;
+use ice_print::SinkFault;
 use ice_state::{FinishFault, ScanFault};
+use ice_versions::PrepareFault;
 use std::alloc::{AllocError, AllocFailed};
 use thiserror::Error;
 

@@ -5,20 +5,21 @@ ghost use Rattle.ice_meta.specs.Members.{member_name};
 ghost use Rattle.ice_text.specs.FaultTexts.{schema_text, avro_text, list_text, manifest_text, scan_text, finish_text};
 ghost use Rattle.ice_text.specs.FaultTexts.{meta_text, filter_text, change_text, prepare_text, drill_fault_text};
 ghost use Rattle.ice_text.specs.FaultTexts.{run_text, line_text, fault_text};
-ghost use Rattle.ice_text.specs.Written.{Wrote};
+ghost use Rattle.ice_print.specs.Written.{Wrote};
 
 use crate::change::ChangeFault;
 use crate::drill_fault::DrillFault;
 use crate::fault::RunFault;
-use crate::pieces::{put_named_int, put_named_long, put_named_number, put_named_path};
-use crate::sink::{Sink, SinkFault, write_all};
 use avro_file::AvroFault;
 use avro_schema::SchemaFault;
-use ice_catalog::PrepareFault;
 use ice_filter::FilterFault;
 use ice_manifest::{ListFault, ManifestFault};
 use ice_meta::{Member, MetaFault};
+use ice_print::{
+    Sink, SinkFault, put_named_int, put_named_long, put_named_number, put_named_path, write_all,
+};
 use ice_state::{FinishFault, ScanFault};
+use ice_versions::PrepareFault;
 
 /// Writes the line of a fault, or the text that says why the words are not understood.
 #[tactic(auto, unfolding(crate::specs::FaultTexts::fault_text))]

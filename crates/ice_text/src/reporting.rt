@@ -3,11 +3,11 @@
 ghost use Rattle.std.specs.Prelude.{◌≡◌};
 ghost use Rattle.ice_text.specs.Faults.{status_of};
 ghost use Rattle.ice_text.specs.FaultTexts.{fault_text};
-ghost use Rattle.ice_text.specs.Written.{Appends, AppendsFront};
+ghost use Rattle.ice_print.specs.Written.{Appends, AppendsFront};
 
 use crate::fault::RunFault;
 use crate::fault_text::put_fault;
-use crate::sink::Sink;
+use ice_print::Sink;
 
 /// Writes the line of a fault, and gives the status that the program ends with. A write that fails is ignored: then a
 /// front of the line was written. It takes no memory, so that want of memory is told too.

@@ -1,13 +1,11 @@
 //! Writing a plan.
 
 ghost use Rattle.std.specs.Prelude.{◌≡◌, ◌⊎◌, OnOk, IfErr, IsErrOf};
-ghost use Rattle.ice_text.specs.PlanTexts.{plan_text};
-ghost use Rattle.ice_text.specs.Written.{Appends, AppendsFront};
+ghost use Rattle.ice_print.specs.PlanTexts.{plan_text};
+ghost use Rattle.ice_print.specs.Written.{Appends, AppendsFront};
 
 use crate::fault::RunFault;
-use crate::page::Page;
-use crate::plan_text::{count_deletes, put_plan};
-use crate::sink::Sink;
+use ice_print::{Page, Sink, count_deletes, put_plan};
 use ice_state::Lines;
 use std::alloc::Global;
 

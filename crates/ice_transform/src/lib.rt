@@ -7,8 +7,6 @@ mod laws;
 mod murmur;
 mod names;
 mod parameter;
-#[cfg(test)]
-mod tests;
 mod texts;
 mod transform;
 

@@ -10,8 +10,6 @@ mod columns;
 mod file_bounds;
 mod file_content;
 mod sequence_number;
-#[cfg(test)]
-mod tests;
 
 pub use applying::applying_of_deletes;
 pub use bound::{compare_bound, read_bound, single_values, write_bound};

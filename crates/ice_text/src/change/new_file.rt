@@ -8,8 +8,8 @@ ghost use Rattle.ice_text.specs.Changes.{as_delete_content, content_in, delete_f
 use crate::change::fault::{ChangeFault, ChangeMember};
 use crate::change::members::{ids_at, int_at, kept_text_at, long_at, text_at, tuple_at};
 use contract_words::Items;
-use ice_catalog::NewFile;
 use ice_value::FileContent;
+use ice_versions::NewFile;
 use serde_json::Value;
 use std::alloc::Global;
 

@@ -1,4 +1,5 @@
-use Rattle.ice_catalog.proofs.Covered.{stays_covered, tells_the_truth}
+use Rattle.ice_versions.proofs.Covered.{stays_covered}
+use Rattle.ice_catalog.proofs.Truths.{tells_the_truth}
 use Rattle.ice_catalog.proofs.machine_laws.pinned_plans_of_commits.Goals as goal
 
 pub returns : goal.returns

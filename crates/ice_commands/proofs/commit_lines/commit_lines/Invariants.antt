@@ -1,5 +1,5 @@
 use Rattle.std.proofs.Common.{◌≡◌, take}
-use Rattle.ice_commands.specs.Commits.{bundle_lines}
+use Rattle.ice_requests.specs.Commits.{bundle_lines}
 use Rattle.ice_commands.proofs.commit_lines.commit_lines.Given as goal
 
 abbrev pub invariant-files : goal.invariant-files

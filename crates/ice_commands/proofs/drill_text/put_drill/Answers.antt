@@ -1,4 +1,4 @@
-use Rattle.ice_text.proofs.Sends.{sent_more, sent_less}
+use Rattle.ice_print.proofs.Sends.{sent_more, sent_less}
 use Rattle.ice_commands.specs.Drills.{drill_text}
 use Rattle.ice_commands.proofs.drill_text.put_drill.Goals as goal
 

@@ -1,4 +1,4 @@
-use Rattle.ice_text.proofs.Sends.{wrote_all_sent}
+use Rattle.ice_print.proofs.Sends.{wrote_all_sent}
 use Rattle.ice_commands.proofs.drill_text.write_drill.Goals as goal
 
 pub returns-in_err-flush-clause-front : goal.returns-in_err-flush-clause-front

@@ -5,7 +5,7 @@ use Rattle.std.specs.Option.{option_map}
 use Rattle.ice_state.specs.Contents.{World, no_row}
 use Rattle.ice_commands.specs.Drills.{plan_of_state}
 use Rattle.ice_commands.proofs.Drills.{plan_there}
-use Rattle.ice_commands.proofs.Steps.{each_present, nothing_taken, untaken_all}
+use Rattle.ice_requests.proofs.Steps.{each_present, nothing_taken, untaken_all}
 use Rattle.ice_commands.proofs.drilled_table.plan_version.Goals as goal
 
 pub returns-clause-plan : goal.returns-clause-plan

@@ -1,10 +1,10 @@
 use Rattle.std.proofs.Common.{refl}
 use Rattle.std.proofs.lemmas.Result.{err_from_is_err_and}
 use Rattle.ice_state.specs.Contents.{World}
-use Rattle.ice_commands.specs.Bundles.{bytes_at}
-use Rattle.ice_commands.specs.Commits.{committed_text}
+use Rattle.ice_requests.specs.Bundles.{bytes_at}
+use Rattle.ice_requests.specs.Commits.{committed_text}
 use Rattle.ice_commands.proofs.Committed.{commit_ran, failed_ran, files_ran, memory_ran, wrote_ran}
-use Rattle.ice_commands.proofs.Stored.{added_is, text_is}
+use Rattle.ice_requests.proofs.Stored.{added_is, text_is}
 use Rattle.ice_commands.proofs.words.commit_bundle.Goals as goal
 
 pub returns-in_err-bundle : goal.returns-in_err-bundle

@@ -1,6 +1,6 @@
 use Rattle.std.proofs.Common.{ap, sym}
 use Rattle.std.proofs.lemmas.Result.{err_from_is_err_and}
-use Rattle.ice_commands.specs.Commits.{committed_text}
+use Rattle.ice_requests.specs.Commits.{committed_text}
 use Rattle.ice_commands.proofs.Committed.{unread_commit}
 use Rattle.ice_commands.proofs.Refusals.{is_left, left_of, ran_as}
 use Rattle.ice_commands.proofs.words.commit_input.Goals as goal

@@ -1,12 +1,12 @@
 use Rattle.std.proofs.Common.{refl, ap, ◌∙◌}
 use Rattle.std.proofs.lemmas.Result.{err_from_is_err_and, IfOk-weaker, IfErr-weaker}
 use Rattle.ice_state.specs.Contents.{World}
-use Rattle.ice_commands.specs.Bundles.{bytes_at}
-use Rattle.ice_commands.specs.ListPlans.{answer, reads}
+use Rattle.ice_requests.specs.Bundles.{bytes_at}
+use Rattle.ice_requests.specs.ListPlans.{answer, reads}
 use Rattle.ice_commands.specs.Runs.{as_text, bundle_text}
-use Rattle.ice_text.specs.PlanTexts.{plan_text}
+use Rattle.ice_print.specs.PlanTexts.{plan_text}
 use Rattle.ice_commands.proofs.Refusals.{bundle_ran, list_ran, no_plan, plan_from, ends_refused}
-use Rattle.ice_commands.proofs.Steps.{never_fails}
+use Rattle.ice_requests.proofs.Steps.{never_fails}
 use Rattle.ice_commands.proofs.words.plan_bundle.Goals as goal
 
 pub returns-in_err-bundle : goal.returns-in_err-bundle

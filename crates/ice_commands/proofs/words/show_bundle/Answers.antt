@@ -1,11 +1,11 @@
 use Rattle.std.proofs.Common.{[], ◌∷◌, refl, ap, sym, ◌∙◌}
 use Rattle.std.proofs.lemmas.Result.{err_from_is_err_and, IfOk-weaker, IfErr-weaker}
 use Rattle.ice_state.specs.Contents.{World}
-use Rattle.ice_commands.specs.Bundles.{bytes_at}
+use Rattle.ice_requests.specs.Bundles.{bytes_at}
 use Rattle.ice_commands.specs.Runs.{shown_text}
-use Rattle.ice_commands.specs.Shows.{shown_at}
+use Rattle.ice_requests.specs.Shows.{shown_at}
 use Rattle.ice_commands.proofs.Refusals.{bundle_ran, no_show, shown_from, ends_refused}
-use Rattle.ice_commands.proofs.Steps.{never_fails}
+use Rattle.ice_requests.proofs.Steps.{never_fails}
 use Rattle.ice_commands.proofs.words.show_bundle.Goals as goal
 
 pub returns-in_err-bundle : goal.returns-in_err-bundle

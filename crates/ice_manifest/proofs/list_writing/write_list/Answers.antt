@@ -2,7 +2,7 @@ use Rattle.std.proofs.Common.{◌≡◌, ◌∷◌, [], List, ℕ, Vec, Global, 
 use Rattle.avro_file.specs.Files.{opened_at, reader_of}
 use Rattle.avro_file.specs.Writing.{in_order}
 use Rattle.avro_file.proofs.Filed.{if_ok}
-use Rattle.ice_manifest.specs.Lists.{rows_of}
+use Rattle.ice_manifest_reading.specs.Lists.{rows_of}
 use Rattle.ice_manifest.specs.WrittenTypes.{written_tree}
 use Rattle.ice_manifest.specs.WrittenSchemas.{list_type}
 use Rattle.ice_manifest.specs.WrittenValues.{row_value}

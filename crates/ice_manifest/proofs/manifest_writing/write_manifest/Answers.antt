@@ -4,9 +4,9 @@ use Rattle.avro_file.specs.Files.{opened_at, reader_of}
 use Rattle.avro_file.specs.Writing.{in_order}
 use Rattle.avro_file.proofs.Filed.{if_ok}
 use Rattle.ice_manifest.specs.declared.new_file.NewFile.{NewFile}
-use Rattle.ice_manifest.specs.declared.row.Row.{Row}
+use Rattle.ice_manifest_reading.specs.declared.row.Row.{Row}
 use Rattle.ice_manifest.specs.Adding.{lent}
-use Rattle.ice_manifest.specs.Manifests.{entries_of}
+use Rattle.ice_manifest_reading.specs.Manifests.{entries_of}
 use Rattle.ice_manifest.specs.WrittenTypes.{written_tree}
 use Rattle.ice_manifest.specs.WrittenValues.{entry_value}
 use Rattle.ice_manifest.specs.Writing.{schema_text, manifest_type, manifest_properties, new_entries}

@@ -1,6 +1,6 @@
 use Rattle.std.proofs.Common.{arith, sym, ◌∙◌, ◌-◌, map, drop, Bor, length-drop}
 use Rattle.std.proofs.lemmas.List.{length-map}
-use Rattle.ice_manifest.specs.declared.entry.Entry.{Entry}
+use Rattle.ice_manifest_reading.specs.declared.entry.Entry.{Entry}
 use Rattle.ice_state.proofs.Outcomes.{twice_short}
 use Rattle.ice_state.proofs.finish.check_once.Goals as goal
 

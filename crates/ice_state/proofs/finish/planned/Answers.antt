@@ -1,5 +1,5 @@
 use Rattle.std.proofs.Common.{map, Bor}
-use Rattle.ice_manifest.specs.declared.entry.Entry.{Entry}
+use Rattle.ice_manifest_reading.specs.declared.entry.Entry.{Entry}
 use Rattle.ice_state.proofs.Hits.{lines_are, lines_fit}
 use Rattle.ice_state.proofs.Places.{planned_is}
 use Rattle.ice_state.proofs.finish.planned.Goals as goal

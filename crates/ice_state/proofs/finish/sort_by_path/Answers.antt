@@ -2,7 +2,7 @@ use Rattle.std.proofs.Common.{◌≡◌, rules, ◌∙◌, ap, map, Bor, Orderin
 use Rattle.std.specs.Cmp.{IsStrictWeakOrder}
 use Rattle.std.proofs.lemmas.Cmp.{nat_list_cmp_total}
 use Rattle.std.proofs.lemmas.List.Sorted.{answers_always, ranks_by}
-use Rattle.ice_manifest.specs.declared.entry.Entry.{Entry}
+use Rattle.ice_manifest_reading.specs.declared.entry.Entry.{Entry}
 use Rattle.ice_state.specs.Outcomes.{path_before}
 use Rattle.contract_words.proofs.Sorted.{sorted_from_sort, map-sorted}
 use Rattle.ice_state.proofs.finish.sort_by_path.Goals as goal

@@ -1,6 +1,6 @@
 use Rattle.std.proofs.Common.{◌≡◌, rules, Bor, Ordering, is_lt}
 use Rattle.std.proofs.lemmas.List.Sorted.{answers_always}
-use Rattle.ice_manifest.specs.declared.row.Row.{Row}
+use Rattle.ice_manifest_reading.specs.declared.row.Row.{Row}
 use Rattle.ice_state.specs.Scans.{row_before}
 use Rattle.contract_words.proofs.Sorted.{sorted_from_sort}
 use Rattle.ice_state.proofs.Scans.{row_order}

@@ -1,4 +1,4 @@
-use Rattle.ice_text.proofs.Writes.{wrote_more, wrote_less}
+use Rattle.ice_print.proofs.Writes.{wrote_more, wrote_less}
 use Rattle.ice_text.specs.FaultTexts.{change_text}
 use Rattle.ice_text.proofs.fault_text.put_change_fault.Goals as goal
 

@@ -1,4 +1,4 @@
-use Rattle.ice_text.proofs.Writes.{wrote_more, wrote_less}
+use Rattle.ice_print.proofs.Writes.{wrote_more, wrote_less}
 use Rattle.ice_text.specs.FaultTexts.{line_text}
 use Rattle.ice_text.proofs.fault_text.put_line.Goals as goal
 

@@ -1,6 +1,6 @@
 use Rattle.std.proofs.Common.{rules, SFits, w32}
 use Rattle.std.proofs.Math.Facts.{to_z-of_z}
-use Rattle.ice_text.proofs.Writes.{wrote_more, wrote_less}
+use Rattle.ice_print.proofs.Writes.{wrote_more, wrote_less}
 use Rattle.ice_text.specs.FaultTexts.{manifest_text}
 use Rattle.ice_text.proofs.fault_text.put_manifest_fault.Goals as goal
 

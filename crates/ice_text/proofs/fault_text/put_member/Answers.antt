@@ -1,4 +1,4 @@
-use Rattle.ice_text.proofs.Writes.{wrote_more}
+use Rattle.ice_print.proofs.Writes.{wrote_more}
 use Rattle.ice_text.proofs.fault_text.put_member.Goals as goal
 
 pub returns : goal.returns

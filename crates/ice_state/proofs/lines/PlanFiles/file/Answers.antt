@@ -1,6 +1,6 @@
 use Rattle.std.proofs.Common.{◌∙◌, ◌<◌, arith, sym, ap, length, List}
 use Rattle.std.specs.List.{slice_get}
-use Rattle.ice_manifest.specs.declared.entry.Entry.{Entry}
+use Rattle.ice_manifest_reading.specs.declared.entry.Entry.{Entry}
 use Rattle.ice_state.specs.Lines.{entries_of}
 use Rattle.ice_state.proofs.Places.{length-entries_at, entries_at-get}
 use Rattle.ice_state.proofs.lines.PlanFiles.file.Goals as goal

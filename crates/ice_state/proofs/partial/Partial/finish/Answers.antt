@@ -1,6 +1,6 @@
 use Rattle.std.proofs.Common.{◌∙◌, List, Result, ap, subst}
 use Rattle.contract_words.specs.Outcome.{Gives}
-use Rattle.ice_manifest.specs.declared.row.Row.{Row}
+use Rattle.ice_manifest_reading.specs.declared.row.Row.{Row}
 use Rattle.ice_state.specs.declared.fault.FinishFault.{FinishFault}
 use Rattle.ice_state.specs.declared.fault.FinishFault.TheVariants.{Memory}
 use Rattle.ice_state.specs.Lines.{OwnedLine}

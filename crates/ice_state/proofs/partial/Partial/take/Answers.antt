@@ -1,5 +1,5 @@
 use Rattle.std.proofs.Common.{◌∙◌, ◌≡◌, ap, subst, sym, rules, refl, length, get_or, List}
-use Rattle.ice_manifest.specs.declared.row.Row.{Row}
+use Rattle.ice_manifest_reading.specs.declared.row.Row.{Row}
 use Rattle.ice_state.specs.Contents.{Content, took}
 use Rattle.ice_state.proofs.Contents.{with_row-took, took-in_world, length-took}
 use Rattle.ice_state.proofs.Scans.{spec_at-row}

@@ -1,0 +1,10 @@
+//! Tests of avro_schema and avro_file: which trees and which faults schemas' texts give, and files that are read and
+//! written.
+#![tactic(auto)]
+
+#[cfg(test)]
+mod containers;
+#[cfg(test)]
+mod look;
+#[cfg(test)]
+mod schemas;

@@ -1,0 +1,109 @@
+//! A small table: three manifests, whose files lie in memory.
+
+ghost use Rattle.std.specs.Prelude.{None};
+
+use crate::files::{PATHS, manifest};
+use contract_words::Text;
+use ice_desk::{Files, ReadFault};
+use ice_filter::Bound;
+use ice_manifest::{Counts, ManifestContent, Row};
+use ice_meta::Spec;
+use ice_state::{Scan, ScanFault};
+use ice_value::SequenceNumber;
+use std::alloc::{AllocError, Global};
+use std::sync::atomic::{AtomicU64, Ordering};
+
+const NO_COUNTS: Counts = Counts {
+    added_files: None,
+    existing_files: None,
+    deleted_files: None,
+    added_rows: None,
+    existing_rows: None,
+    deleted_rows: None,
+};
+
+/// The row of a manifest.
+fn row(alloc: Global, which: usize) -> Result<Row, AllocError> {
+    let (path, content, number) = match which {
+        0 => (PATHS[0], ManifestContent::Data, 3),
+        1 => (PATHS[1], ManifestContent::Deletes, 3),
+        _ => (PATHS[2], ManifestContent::Deletes, 4),
+    };
+    let sequence_number = match SequenceNumber::new(number) {
+        Some(number) => number,
+        None => SequenceNumber::zero(),
+    };
+    Ok(Row {
+        path: Text::from_string(String::from_str(alloc, path)?),
+        length: 100,
+        spec_id: 0,
+        content,
+        sequence_number,
+        min_sequence_number: sequence_number,
+        added_snapshot_id: 1,
+        counts: NO_COUNTS,
+        partitions: None,
+    })
+}
+
+/// A scan of the first manifests, whose rows are not in the order of their paths.
+pub fn scan_of_first(alloc: Global, count: usize) -> Result<Scan, ScanFault> {
+    let mut specs = Vec::new(alloc);
+    specs.push(Spec::empty(alloc, 0))?;
+    let mut rows = Vec::new(alloc);
+    for which in [2, 1, 0] {
+        if which < count {
+            rows.push(row(alloc, which)?)?;
+        }
+    }
+    Scan::new(alloc, rows, specs, Bound::always(alloc))
+}
+
+/// The files of the manifests, of which the first reads at one path fail.
+#[derive(Drop)]
+pub struct Stored {
+    /// Which of the files are there.
+    pub there: [bool; 3],
+    /// Whose reads fail.
+    pub failing: usize,
+    /// How many reads are to fail.
+    pub fails: AtomicU64,
+}
+
+/// Which of the manifests this path names.
+fn number_of(path: &str) -> Option<usize> {
+    for i in 0..PATHS.len() {
+        if PATHS[i] == path {
+            return Some(i);
+        }
+    }
+    None
+}
+
+/// The bytes of a manifest's file.
+pub fn file_of(alloc: Global, which: usize) -> Result<Vec<u8>, ReadFault> {
+    match manifest(alloc, which) {
+        Ok(bytes) => Ok(bytes),
+        Err(_) => Err(ReadFault::Memory),
+    }
+}
+
+impl Files for Stored {
+    ghost world = { λ f. None };
+
+    ghost may_fail = { λ f path. Unit {0} };
+
+    fn read(&self, alloc: Global, path: &str) -> Result<Vec<u8>, ReadFault> {
+        let Some(which) = number_of(path) else {
+            return Err(ReadFault::Absent);
+        };
+        if which >= self.there.len() || !self.there[which] {
+            return Err(ReadFault::Absent);
+        }
+        if which == self.failing && self.fails.load(Ordering::SeqCst) > 0 {
+            self.fails.fetch_sub(1, Ordering::SeqCst);
+            return Err(ReadFault::Device);
+        }
+        file_of(alloc, which)
+    }
+}

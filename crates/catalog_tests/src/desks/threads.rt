@@ -1,0 +1,96 @@
+//! What no clause can say: that workers work at once, and that they read what they draw.
+
+ghost use Rattle.std.specs.Prelude.{None};
+
+use crate::desks::table::{file_of, scan_of_first};
+use crate::files::PATHS;
+use ice_desk::{Files, Gate, ReadFault, plan_scan};
+use std::alloc::Global;
+use std::sync::atomic::{AtomicU64, Ordering};
+use std::test::Fail;
+
+/// For how long one waits for another. A healthy run needs few of them.
+const TURNS: u64 = 1_000_000_000;
+
+/// A gate and files for two workers. The gate holds the first worker until a second one has come, the files hold the
+/// first read until another has begun, and after a wait in vain nobody waits any more.
+#[derive(Drop)]
+struct TwoAtOnce {
+    /// The number of the worker that came first, and 1; 0 before there is one.
+    first: AtomicU64,
+    /// How many different workers came.
+    came: AtomicU64,
+    /// How often the gate was called.
+    calls: AtomicU64,
+    /// How often a file was read.
+    reads: AtomicU64,
+    /// How many waited in vain.
+    late: AtomicU64,
+}
+
+impl TwoAtOnce {
+    /// Waits until the count is above one.
+    fn wait_for_two(&self, count: &AtomicU64) {
+        if self.late.load(Ordering::SeqCst) > 0 {
+            return;
+        }
+        for _ in 0..TURNS {
+            if count.load(Ordering::SeqCst) > 1 {
+                return;
+            }
+        }
+        self.late.fetch_add(1, Ordering::SeqCst);
+    }
+}
+
+impl Gate for TwoAtOnce {
+    fn before_take(&self, worker: usize, _i: usize) {
+        self.calls.fetch_add(1, Ordering::SeqCst);
+        let me = (worker % 2) as u64 + 1;
+        let is_first = self
+            .first
+            .compare_exchange(0, me, Ordering::SeqCst, Ordering::SeqCst)
+            .is_ok();
+        if is_first {
+            self.came.fetch_add(1, Ordering::SeqCst);
+            self.wait_for_two(&self.came);
+        } else if self.first.load(Ordering::SeqCst) != me {
+            self.came.fetch_add(1, Ordering::SeqCst);
+        }
+    }
+}
+
+impl Files for TwoAtOnce {
+    ghost world = { λ f. None };
+
+    ghost may_fail = { λ f path. Unit {0} };
+
+    fn read(&self, alloc: Global, path: &str) -> Result<Vec<u8>, ReadFault> {
+        if self.reads.fetch_add(1, Ordering::SeqCst) == 0 {
+            self.wait_for_two(&self.reads);
+        }
+        file_of(alloc, if path == PATHS[0] { 0 } else { 1 })
+    }
+}
+
+#[test]
+fn two_at_once(rt: HostRuntime) -> Result<(), Fail> {
+    let alloc = rt.alloc();
+    let scan = scan_of_first(alloc, 2)?;
+    assert!(rt; scan.wanted().len() == 2);
+    let both = TwoAtOnce {
+        first: AtomicU64::new(0),
+        came: AtomicU64::new(0),
+        calls: AtomicU64::new(0),
+        reads: AtomicU64::new(0),
+        late: AtomicU64::new(0),
+    };
+    match plan_scan(&rt, alloc, &both, &scan, 2, &both) {
+        Ok(plan) => assert!(rt; plan.lines().len() == 1),
+        Err(_) => panic!(rt; "all files are there"),
+    }
+    assert!(rt; both.late.load(Ordering::SeqCst) == 0);
+    assert!(rt; both.calls.load(Ordering::SeqCst) == 2);
+    assert!(rt; both.reads.load(Ordering::SeqCst) == 2);
+    Ok(())
+}

@@ -1,0 +1,13 @@
+//! Tests of ice_desk and ice_catalog, of what no clause says: that calls succeed where memory is ample, what is planned of
+//! manifests that another program wrote, and that a refused growth changes no answer. A case is a line of a table; one
+//! function puts what comes of it into words, which another compares.
+#![tactic(auto)]
+
+#[cfg(test)]
+mod desks;
+#[cfg(test)]
+mod files;
+#[cfg(test)]
+mod versions;
+#[cfg(test)]
+mod words;

@@ -1,7 +1,0 @@
-use Rattle.std.proofs.Common.{◌≡◌, drop}
-use Rattle.ice_catalog.specs.Bases.{spec_in}
-use Rattle.ice_catalog.specs.Partitionings.{specs_of}
-use Rattle.ice_catalog.proofs.tuples.partitioning_of.Given as goal
-
-abbrev pub invariant-partitionings : goal.invariant-partitionings
-invariant-partitionings l = spec_in (specs_of (drop l.partitioning-index l.partitionings)) l.id ≡ spec_in (specs_of l.partitionings) l.id

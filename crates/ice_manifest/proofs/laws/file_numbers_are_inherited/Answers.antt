@@ -1,5 +1,0 @@
-use Rattle.ice_manifest.proofs.Said.{keeps_its_file_number, inherits_the_rows_for_its_file, has_no_file_number}
-use Rattle.ice_manifest.proofs.laws.file_numbers_are_inherited.Goals as goal
-
-pub returns : goal.returns
-returns c = record { own = keeps_its_file_number; added = inherits_the_rows_for_its_file; existing = has_no_file_number }

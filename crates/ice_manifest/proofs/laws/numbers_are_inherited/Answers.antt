@@ -1,5 +1,0 @@
-use Rattle.ice_manifest.proofs.Said.{keeps_its_number, inherits_the_rows, needs_its_own}
-use Rattle.ice_manifest.proofs.laws.numbers_are_inherited.Goals as goal
-
-pub returns : goal.returns
-returns c = record { own = keeps_its_number; added = inherits_the_rows; existing = needs_its_own }

@@ -1,5 +1,0 @@
-use Rattle.ice_manifest.proofs.Whole.{refuses_a_path_exactly, refuses_many_exactly}
-use Rattle.ice_manifest.proofs.laws.rows_are_refused_together.Goals as goal
-
-pub returns : goal.returns
-returns c = record { path = refuses_a_path_exactly; many = refuses_many_exactly }

@@ -1,6 +1,0 @@
-use Rattle.std.proofs.Common.{◌≡◌, drop}
-use Rattle.ice_manifest.specs.Lists.{twice_after, path_twice}
-use Rattle.ice_manifest.proofs.list.path_twice.Given as goal
-
-abbrev pub invariant-rows : goal.invariant-rows
-invariant-rows l = twice_after l.last (drop l.row-index l.others) ≡ path_twice l.rows

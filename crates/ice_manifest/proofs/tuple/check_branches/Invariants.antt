@@ -1,7 +1,0 @@
-use Rattle.std.proofs.Common.{◌≡◌, drop}
-use Rattle.avro_schema.specs.View.{trees, branches_of}
-use Rattle.ice_manifest.specs.Schemas.{is_cell, each_branch}
-use Rattle.ice_manifest.proofs.tuple.check_branches.Given as goal
-
-abbrev pub invariant-branches : goal.invariant-branches
-invariant-branches l = each_branch (is_cell l.wanted.field_id) (branches_of (trees (drop l.branch-index l.branches))) ≡ each_branch (is_cell l.wanted.field_id) (branches_of (trees l.branches))

@@ -1,0 +1,5 @@
+use Rattle.ice_manifest_reading.proofs.Contents.{fits_its_row, are_of_their_spec, has_a_cell_for_each}
+use Rattle.ice_manifest_reading.proofs.laws.contents_fit.Goals as goal
+
+pub returns : goal.returns
+returns c = record { content = fits_its_row; spec = are_of_their_spec; cells = has_a_cell_for_each }

@@ -1,0 +1,17 @@
+pub mod Types
+pub mod Fields
+pub mod Naming
+pub mod Each
+pub mod Schemas
+pub mod ColumnMaps
+pub mod Decimals
+pub mod Partitions
+pub mod Maps
+pub mod Lists
+pub mod Manifests
+pub mod Laws
+pub mod Faults
+pub mod Same
+pub mod Kinds
+pub mod Seen
+pub mod Places

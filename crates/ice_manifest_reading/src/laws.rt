@@ -1,0 +1,95 @@
+//! What the definitions of rows and entries come to.
+
+ghost use Rattle.ice_manifest_reading.specs.Laws.{ReadsRowsExactly, GivesHeldRows, GivesTheRows, RefusesTwo, RefusesTheLeast};
+ghost use Rattle.ice_manifest_reading.specs.Laws.{ReadsEntriesExactly, GivesHeldEntries, KeepsItsNumber, InheritsTheRows};
+ghost use Rattle.ice_manifest_reading.specs.Laws.{NeedsItsOwn, KeepsItsFileNumber, InheritsTheRowsForItsFile, HasNoFileNumber};
+ghost use Rattle.ice_manifest_reading.specs.Laws.{KeepsItsSnapshot, InheritsItsSnapshot, FitsItsRow, AreOfTheirSpec};
+ghost use Rattle.ice_manifest_reading.specs.Laws.{HasACellForEach};
+ghost use Rattle.ice_manifest_reading.specs.Faults.{TellsTheFirstRow, TellsTheListsEnd, TellsTheFirstEntry};
+ghost use Rattle.ice_manifest_reading.specs.Faults.{TellsTheManifestsEnd, RefusesAPathExactly, RefusesManyExactly};
+ghost use Rattle.ice_manifest_reading.specs.Decimals.{KeepsTheNumber, LeavesNoneRedundant, KeepsOneSpelling};
+ghost use Rattle.ice_manifest_reading.specs.Same.{SkipsOtherFieldsOfEntries, SkipsOtherFieldsOfRows};
+
+use avro_file::held_is_read;
+
+/// The rows of a list are the set of the rows that its objects say. It is refused for a path only where two different
+/// rows have it, and then for the least such path.
+pub fn rows_are_a_set()
+    ensures exactly { ReadsRowsExactly }
+    ensures held { GivesHeldRows }
+    ensures same { GivesTheRows }
+    ensures twice { RefusesTwo }
+    ensures least { RefusesTheLeast }
+{
+    held_is_read();
+}
+
+/// The entries of a manifest are those that its objects say, each with the position that its object has among all.
+/// An object of a deleted entry says none.
+pub fn entries_are_the_live_ones()
+    ensures exactly { ReadsEntriesExactly }
+    ensures held { GivesHeldEntries }
+{
+    held_is_read();
+}
+
+/// An entry keeps the sequence number that it has. Without one an added entry has its row's, and an existing one is
+/// refused, but has 0 where its row has 0.
+pub fn numbers_are_inherited()
+    ensures own { KeepsItsNumber }
+    ensures added { InheritsTheRows }
+    ensures existing { NeedsItsOwn }
+{}
+
+/// A file keeps the sequence number that its entry gives it. Without one the file of an added entry has the row's, and
+/// that of an existing one has none, unless the row has 0.
+pub fn file_numbers_are_inherited()
+    ensures own { KeepsItsFileNumber }
+    ensures added { InheritsTheRowsForItsFile }
+    ensures existing { HasNoFileNumber }
+{}
+
+/// An entry is of the snapshot that it names, and else, also where it exists already, of that which added its manifest.
+pub fn snapshots_are_inherited()
+    ensures own { KeepsItsSnapshot }
+    ensures none { InheritsItsSnapshot }
+{}
+
+/// The fault of a list or a manifest that opens and has its fields is that of its first object at fault, whatever comes
+/// after it. Where no object is at fault, it is the fault with which the container ends.
+pub fn first_faults_are_told()
+    ensures row { TellsTheFirstRow }
+    ensures list_end { TellsTheListsEnd }
+    ensures entry { TellsTheFirstEntry }
+    ensures manifest_end { TellsTheManifestsEnd }
+{}
+
+/// A list is refused for its rows together exactly where it has no other fault: for the least path of two different
+/// rows, and where there is none, for more than 65,536 different rows.
+pub fn rows_are_refused_together()
+    ensures path { RefusesAPathExactly }
+    ensures many { RefusesManyExactly }
+{}
+
+/// Each entry holds what its row's content allows: data under a row of data, deletes under one of deletes. It is of its
+/// row's spec, and has a partition value for each field of the spec.
+pub fn contents_fit()
+    ensures content { FitsItsRow }
+    ensures spec { AreOfTheirSpec }
+    ensures cells { HasACellForEach }
+{}
+
+/// The bytes that are kept of a decimal are the same number in two's complement, and the first of them is not
+/// redundant. So two cells of one number are the same, however many bytes each was written with.
+pub fn decimals_are_kept_shortest()
+    ensures number { KeepsTheNumber }
+    ensures front { LeavesNoneRedundant }
+    ensures spelling { KeepsOneSpelling }
+{}
+
+/// Two files whose objects say the same in the fields that are read give the same, whatever else they hold: other
+/// fields, other names, and objects that lie otherwise in blocks.
+pub fn other_fields_are_skipped()
+    ensures entries { SkipsOtherFieldsOfEntries }
+    ensures rows { SkipsOtherFieldsOfRows }
+{}

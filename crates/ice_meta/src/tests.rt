@@ -1,7 +1,0 @@
-mod faults;
-mod files;
-mod schemas;
-mod specs;
-mod tables;
-mod texts;
-mod writing;

@@ -1,0 +1,20 @@
+//! What the program prints, over any sink: the pieces of a text, which wait on a page for their sink; the text of a plan
+//! and that of a table's metadata; and how paths and names are escaped in them, and what such an escape stands for.
+#![tactic(auto)]
+
+mod escape;
+mod page;
+mod pieces;
+mod plan_text;
+mod sink;
+mod table_lines;
+mod table_text;
+mod unescaping;
+
+pub use escape::put_escaped;
+pub use page::Page;
+pub use pieces::{put_named_int, put_named_long, put_named_number, put_named_path};
+pub use plan_text::{count_deletes, put_plan, put_totals};
+pub use sink::{Output, Sink, SinkFault, write_all};
+pub use table_text::{Shown, main_of, put_table};
+pub use unescaping::{escaping, unescape};

@@ -1,6 +1,0 @@
-mod cases;
-mod columns;
-mod files;
-mod lines;
-mod manifests;
-mod partitions;

@@ -1,0 +1,11 @@
+pub mod Bases
+pub mod Commits
+pub mod Crews
+pub mod Lines
+pub mod Listed
+pub mod Lookups
+pub mod Plans
+pub mod Segments
+pub mod Shows
+pub mod Steps
+pub mod Stored

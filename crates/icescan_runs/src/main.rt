@@ -1,0 +1,70 @@
+//! Runs the program's commands over the files of a real folder, one after the other, and prints what each wrote. It is
+//! not shipped: `rt ci` runs it in a copy of `data/` and compares what it prints with the file `stdout`.
+//!
+//! A line of standard input has the words of one command, with a tab between two; an empty line has none. Nothing is on
+//! the standard input of the command. Printed are the line behind `> `, the command's standard output, its standard
+//! error behind `! `, and `status N`.
+//!
+//! `data/events` is the table of `examples/events-java`, with partitions, without the manifest list of its first
+//! snapshot and a manifest of its fifth; `data/plain` is that of `examples/plain-java`, as Avro's C library wrote it.
+//! Their plans are those of `expected/` beside either, or were derived in the same way, from what the library was told
+//! to write. The transcript has, in this order:
+//!
+//! - `show`; plans of main, a branch, a tag and a snapshot, with filters, by 1, 2 and 64 workers; `list-plan`
+//! - refusals: no such ref or snapshot, filters, numbers of workers, files that are absent or folders, a path with `..`
+//!   or of another table, a folder that is not there, metadata that is cut, a list that is no container, no bundle
+//! - an append and a row delta to `data/events`: the plans of the new metadata are those from before with the new
+//!   files, and with the new deletes where partition and sequence number let them apply; `show` has both snapshots; the
+//!   old metadata and the branch have the plans that they had
+//! - refused commits: new metadata that is there already, the same commit again, a live path, a taken snapshot id,
+//!   change files that are none, a folder that is not there, a path with `..`; none leaves new metadata, or a file that
+//!   is not whole, and the plan of the last commit is what it was
+//! - an append, and a row delta of deletes alone, to `data/plain`, whose new list is planned by itself too
+#![tactic(auto)]
+
+use ice_commands::{Watch, run_words};
+use std::alloc::{AllocError, Global};
+use std::io::{self, Write};
+use std::rt::Files;
+use std::sync::Wait;
+use std::thread::Threads;
+
+/// The words of a line, between which tabs stand. An empty line has none.
+fn words_of(alloc: Global, line: &str) -> Result<Vec<String>, AllocError> {
+    let mut words = Vec::new(alloc);
+    if line.is_empty() {
+        return Ok(words);
+    }
+    for word in line.split('\t') {
+        words.push(String::from_str(alloc, word)?)?;
+    }
+    Ok(words)
+}
+
+/// Runs the command of a line, with nothing on its standard input, and tells of it: the line, what the command wrote to
+/// standard output, what it wrote to standard error, and its status.
+fn play<H, W: Write>(host: &H, alloc: Global, line: &str, page: &mut W) -> io::Result<()>
+where
+    H: Files<File: Send, Dir: Send> + Threads + Wait + Watch + Sync,
+{
+    let words = words_of(alloc, line)?;
+    let mut input: &[u8] = &[];
+    let mut output = Vec::new(alloc);
+    let mut errors = Vec::new(alloc);
+    let status = run_words(host, alloc, &words, &mut input, &mut output, &mut errors);
+    writeln!(page, "> {line}")?;
+    page.write_all(&output)?;
+    if !errors.is_empty() {
+        page.write_all(b"! ")?;
+        page.write_all(&errors)?;
+    }
+    writeln!(page, "status {status}")
+}
+
+fn main(rt: HostRuntime) -> io::Result<()> {
+    let mut page = rt.stdout();
+    for line in rt.lines(rt.alloc()) {
+        play(&rt, rt.alloc(), line?.as_str(), &mut page)?;
+    }
+    Ok(())
+}

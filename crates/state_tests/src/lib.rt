@@ -1,0 +1,16 @@
+//! Tests of ice_state, of what no clause says: that calls succeed where memory is ample, the plan of manifests that
+//! another program wrote, and what a refused growth leaves.
+#![tactic(auto)]
+
+#[cfg(test)]
+mod answers;
+#[cfg(test)]
+mod cases;
+#[cfg(test)]
+mod filters;
+#[cfg(test)]
+mod plans;
+#[cfg(test)]
+mod refusals;
+#[cfg(test)]
+mod scans;

@@ -1,0 +1,161 @@
+//! The delete files that apply to a data file.
+
+use ice_deletes::{DeleteIndex, Record};
+use ice_value::{Cell, FileContent, SequenceNumber};
+use std::alloc::{AllocError, Global};
+use std::test::Fail;
+
+fn file<'a>(
+    content: FileContent,
+    spec_id: i32,
+    unpartitioned: bool,
+    tuple: &'a [Cell],
+    sequence_number: u64,
+) -> Record<'a> {
+    Record {
+        content,
+        spec_id,
+        unpartitioned,
+        tuple,
+        sequence_number,
+    }
+}
+
+/// A data file, and the numbers of the delete files that apply to it, in any order.
+#[derive(Clone, Copy)]
+struct Case<'a> {
+    spec_id: i32,
+    tuple: &'a [Cell],
+    sequence_number: u64,
+    /// Of positions and of equality in its partition, and of equality everywhere.
+    numbers: [&'static [usize]; 3],
+}
+
+fn data_file<'a>(
+    spec_id: i32,
+    tuple: &'a [Cell],
+    sequence_number: u64,
+    numbers: [&'static [usize]; 3],
+) -> Case<'a> {
+    Case {
+        spec_id,
+        tuple,
+        sequence_number,
+        numbers,
+    }
+}
+
+fn number(number: u64) -> SequenceNumber {
+    SequenceNumber::new(number).unwrap_or(SequenceNumber::zero())
+}
+
+/// Whether the numbers are the same, in any order.
+fn are_same(lent: &[usize], wanted: &[usize]) -> bool {
+    for number in wanted {
+        if !lent.contains(number) {
+            return false;
+        }
+    }
+    lent.len() == wanted.len()
+}
+
+/// Whether the index finds what the case says for a data file of this path.
+fn is_found(index: &DeleteIndex<'_>, case: &Case<'_>, path: &[u8]) -> bool {
+    let number = number(case.sequence_number);
+    let hits = index.for_data(case.spec_id, case.tuple, number, path);
+    let [positions, equalities, everywhere] = case.numbers;
+    are_same(hits.positions, positions)
+        && are_same(hits.equalities, equalities)
+        && are_same(hits.everywhere, everywhere)
+}
+
+/// Whether it finds what the cases say.
+fn are_found(index: &DeleteIndex<'_>, cases: &[Case<'_>]) -> bool {
+    for case in cases {
+        if !is_found(index, case, b"") || !is_found(index, case, b"mem://t/a") {
+            return false;
+        }
+    }
+    true
+}
+
+/// Whether the index of these records does, and holds them.
+fn finds(alloc: Global, records: &[Record<'_>], cases: &[Case<'_>]) -> Result<bool, AllocError> {
+    let index = DeleteIndex::build(alloc, records)?;
+    Ok(index.records().len() == records.len() && are_found(&index, cases))
+}
+
+const POSITIONS: FileContent = FileContent::PositionDeletes;
+
+const EQUALITIES: FileContent = FileContent::EqualityDeletes;
+
+#[test]
+fn equality_deletes_of_later_changes(rt: HostRuntime) -> Result<(), Fail> {
+    let tuple = [Cell::Whole(7)];
+    let records = [
+        file(EQUALITIES, 1, false, &tuple, 3),
+        file(EQUALITIES, 1, false, &tuple, 6),
+        file(EQUALITIES, 1, false, &tuple, 4),
+        file(FileContent::Data, 1, false, &tuple, 9),
+        file(EQUALITIES, 1, false, &tuple, 4),
+    ];
+    let cases = [
+        data_file(1, &tuple, 2, [&[], &[0, 1, 2, 4], &[]]),
+        data_file(1, &tuple, 3, [&[], &[1, 2, 4], &[]]),
+        data_file(1, &tuple, 4, [&[], &[1], &[]]),
+        data_file(1, &tuple, 6, [&[], &[], &[]]),
+    ];
+    let are_found = finds(rt.alloc(), &records, &cases)?;
+    assert!(rt; are_found);
+    Ok(())
+}
+
+#[test]
+fn position_deletes_of_no_older_changes(rt: HostRuntime) -> Result<(), Fail> {
+    let tuple = [Cell::Null, Cell::Bool(true)];
+    let records = [
+        file(POSITIONS, 0, false, &tuple, 6),
+        file(POSITIONS, 0, false, &tuple, 4),
+        file(POSITIONS, 0, false, &tuple, 3),
+    ];
+    let cases = [
+        data_file(0, &tuple, 3, [&[0, 1, 2], &[], &[]]),
+        data_file(0, &tuple, 4, [&[0, 1], &[], &[]]),
+        data_file(0, &tuple, 7, [&[], &[], &[]]),
+    ];
+    let are_found = finds(rt.alloc(), &records, &cases)?;
+    assert!(rt; are_found);
+    Ok(())
+}
+
+#[test]
+fn partitions(rt: HostRuntime) -> Result<(), Fail> {
+    let [one, two, null] = [[Cell::Whole(1)], [Cell::Whole(2)], [Cell::Null]];
+    let records = [
+        file(EQUALITIES, 0, true, &[], 5),
+        file(POSITIONS, 0, true, &[], 5),
+        file(EQUALITIES, 1, false, &one, 5),
+        file(EQUALITIES, 1, false, &two, 5),
+        file(EQUALITIES, 1, false, &null, 5),
+        file(EQUALITIES, 2, false, &one, 5),
+        file(POSITIONS, 1, false, &two, 5),
+    ];
+    let cases = [
+        data_file(0, &[], 4, [&[1], &[], &[0]]),
+        data_file(1, &one, 4, [&[], &[2], &[0]]),
+        data_file(1, &two, 4, [&[6], &[3], &[0]]),
+        data_file(1, &null, 4, [&[], &[4], &[0]]),
+        data_file(2, &one, 5, [&[], &[], &[]]),
+        data_file(3, &one, 4, [&[], &[], &[0]]),
+    ];
+    let are_found = finds(rt.alloc(), &records, &cases)?;
+    assert!(rt; are_found);
+    Ok(())
+}
+
+#[test]
+fn no_records(rt: HostRuntime) -> Result<(), Fail> {
+    let are_found = finds(rt.alloc(), &[], &[data_file(0, &[], 0, [&[], &[], &[]])])?;
+    assert!(rt; are_found);
+    Ok(())
+}
