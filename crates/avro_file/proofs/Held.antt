@@ -1,5 +1,6 @@
 -- A run gives the data that are held, and no others are.
-use Rattle.std.proofs.Common.{◌≡◌, ◌≢◌, ℕ, zero, suc, ◌-◌, ◌<◌, ◌≤◌, pos, true, List, [], ◌∷◌, ◌++◌, length, Option, Some, None, Result, Ok, Err, refl, sym, ap, subst, ◌∙◌, arith}
+use Rattle.std.proofs.Common.{◌≡◌, ◌≢◌, ℕ, zero, suc, ◌-◌, ◌<◌, ◌≤◌, pos, true, List, [], ◌∷◌, ◌++◌, length, Option}
+use Rattle.std.proofs.Common.{Some, None, Result, Ok, Err, refl, sym, ap, subst, ◌∙◌, arith}
 use Rattle.std.specs.Str.{bytes_eq}
 use Rattle.std.proofs.lemmas.Slice.Eq.{bytes_eq-Decides}
 use Rattle.avro_file.specs.declared.refusal.Refusal.{Refusal}
@@ -10,7 +11,8 @@ use Rattle.avro_schema.specs.Tree.{Tree}
 use Rattle.avro_file.specs.Value.{Value}
 use Rattle.avro_file.specs.Reading.{Position, run_at, datum_at}
 use Rattle.avro_file.specs.Spelling.{AreJoined, Spells, item_count}
-use Rattle.avro_file.specs.Blocks.{fault_of, inside, refused, BlockHead, head_at, max_items, object_at, Run, at_end, stopped, preceded, object_then, objects_run, head_then, blocks_run}
+use Rattle.avro_file.specs.Blocks.{fault_of, inside, refused, BlockHead, head_at, max_items, object_at, Run, at_end}
+use Rattle.avro_file.specs.Blocks.{stopped, preceded, object_then, objects_run, head_then, blocks_run}
 use Rattle.avro_file.specs.Holding.{HoldsBlocks, Holds, AreWithinLimits}
 use Rattle.avro_file.proofs.Steps.{bind_ok, ok_is}
 use Rattle.avro_file.proofs.Taken.{datum_takes}
@@ -23,14 +25,25 @@ use Rattle.avro_file.proofs.Heads.{refused_ok, head_takes, head_shorter}
 pub same_test : (xs : List ℕ) → bytes_eq xs xs ≡ true
 same_test xs = (bytes_eq-Decides xs xs).1 refl
 
-pub head_again : (sync count size body rest bytes : List ℕ) (n : ℕ) → length sync ≡ 16 → IsLong count (pos n) → IsLong size (pos (length body)) → bytes ≡ count ++ (size ++ (body ++ (sync ++ rest)))
+pub head_again : (sync count size body rest bytes : List ℕ) (n : ℕ) → length sync ≡ 16 → IsLong count (pos n)
+    → IsLong size (pos (length body)) → bytes ≡ count ++ (size ++ (body ++ (sync ++ rest)))
     → head_at sync bytes ≡ Ok (record { count = n; content = body; rest = rest })
 unfolding head_at
 head_again sync count size body rest bytes n sixteen c s e =
-    let marker : run_at 16 (sync ++ rest) ≡ Ok (sync, rest) = ap (λ (k : ℕ). run_at k (sync ++ rest)) (sym sixteen) ∙ run_again sync rest in
-    rw (e, long_again count (pos n) (size ++ (body ++ (sync ++ rest))) c, long_again size (pos (length body)) (body ++ (sync ++ rest)) s, run_again body (sync ++ rest), marker, same_test sync) refl
+    let marker : run_at 16 (sync ++ rest) ≡ Ok (sync, rest) = ap (λ (k : ℕ). run_at k (sync ++ rest)) (sym sixteen) ∙
+    run_again sync rest in
+    rw (
+      e,
+      long_again count (pos n) (size ++ (body ++ (sync ++ rest))) c,
+      long_again size (pos (length body))
+          (body ++ (sync ++ rest)) s,
+      run_again body (sync ++ rest),
+      marker,
+      same_test sync,
+    ) refl
 
-object_again : (s : Tree) (v : Value) (front rest : List ℕ) → Spells s v front → item_count v ≤ max_items → object_at s (front ++ rest) ≡ Ok (v, rest)
+object_again : (s : Tree) (v : Value) (front rest : List ℕ) → Spells s v front → item_count v ≤ max_items
+    → object_at s (front ++ rest) ≡ Ok (v, rest)
 unfolding object_at
 object_again s v front rest is few =
     let q : Position = record { bytes = rest; left = max_items - item_count v } in
@@ -41,11 +54,14 @@ object_again s v front rest is few =
 abbrev pub joined_run : List Value → Run → Run
 joined_run vs r = record { found = vs ++ r.found; ending = r.ending }
 
-pub objects_again : (s : Tree) (total : ℕ) (after : Run) (here : List Value) (body : List ℕ) → AreJoined (Spells s) here body → AreWithinLimits here → objects_run s total after (length here) body ≡ joined_run here after
+pub objects_again : (s : Tree) (total : ℕ) (after : Run) (here : List Value) (body : List ℕ)
+    → AreJoined (Spells s) here body → AreWithinLimits here
+    → objects_run s total after (length here) body ≡ joined_run here after
 unfolding objects_run
 objects_again s total after [] body is few = rw is refl
 objects_again s total after (v ∷ here) body is few =
-    rw (is.4, object_again s v is.0 is.1 is.2 few.0) (ap (preceded v) (objects_again s total after here is.1 is.3 few.1))
+    rw (is.4, object_again s v is.0 is.1 is.2 few.0) (ap (preceded v) (objects_again s total after here is.1 is.3
+    few.1))
 
 pub limits-left : (vs ws : List Value) → AreWithinLimits (vs ++ ws) → AreWithinLimits vs × AreWithinLimits ws
 limits-left [] ws h = (tt, h)
@@ -62,21 +78,30 @@ pub some_bytes : (count more : List ℕ) → 0 < length count → count ++ more 
 some_bytes [] more lt = absurd (omega arith)
 some_bytes (b ∷ count) more lt = λ h. cc
 
-one_block : (s : Tree) (sync : List ℕ) (total turns : ℕ) (bytes : List ℕ) (h : BlockHead) → bytes ≢ [] → length bytes ≤ suc turns → head_at sync bytes ≡ Ok h
-    → blocks_run s sync total (suc turns) bytes ≡ objects_run s total (blocks_run s sync total turns h.rest) h.count h.content
+one_block : (s : Tree) (sync : List ℕ) (total turns : ℕ) (bytes : List ℕ) (h : BlockHead) → bytes ≢ []
+    → length bytes ≤ suc turns → head_at sync bytes ≡ Ok h
+    → blocks_run s sync total (suc turns) bytes ≡ objects_run s total (blocks_run s sync total turns h.rest) h.count
+    h.content
 unfolding blocks_run
 one_block s sync total turns [] h some le e = absurd (some refl)
 one_block s sync total turns (b ∷ bytes) h some le e = rw e refl
 
-block_again : (s : Tree) (sync : List ℕ) (total : ℕ) → length sync ≡ 16 → (blocks turns : ℕ) (here after : List Value) (body rest bytes : List ℕ) (vs : List Value) → bytes ≢ [] → length bytes ≤ turns → length rest < length bytes
-    → head_at sync bytes ≡ Ok (record { count = length here; content = body; rest = rest }) → AreJoined (Spells s) here body → AreWithinLimits here → vs ≡ here ++ after
-    → ((u : ℕ) → length rest ≤ u → blocks_run s sync total u rest ≡ whole after) → blocks_run s sync total turns bytes ≡ whole vs
-block_again s sync total sixteen blocks zero here after body rest bytes vs some le less head is few e others = absurd (omega arith)
+block_again : (s : Tree) (sync : List ℕ) (total : ℕ) → length sync ≡ 16
+    → (blocks turns : ℕ) (here after : List Value) (body rest bytes : List ℕ) (vs : List Value) → bytes ≢ []
+    → length bytes ≤ turns → length rest < length bytes
+    → head_at sync bytes ≡ Ok (record { count = length here; content = body; rest = rest })
+    → AreJoined (Spells s) here body → AreWithinLimits here → vs ≡ here ++ after
+    → ((u : ℕ) → length rest ≤ u → blocks_run s sync total u rest ≡ whole after)
+    → blocks_run s sync total turns bytes ≡ whole vs
+block_again s sync total sixteen blocks zero here after body rest bytes vs some le less head is few e others =
+    absurd (omega arith)
 block_again s sync total sixteen blocks (suc turns) here after body rest bytes vs some le less head is few e others =
     one_block s sync total turns bytes (record { count = length here; content = body; rest = rest }) some le head
     ∙ rw (others turns (omega arith), e) (objects_again s total (whole after) here body is few)
 
-pub blocks_again : (s : Tree) (sync : List ℕ) (total : ℕ) → length sync ≡ 16 → (blocks turns : ℕ) (vs : List Value) (bytes : List ℕ) → HoldsBlocks s sync blocks vs bytes → AreWithinLimits vs → length bytes ≤ turns → blocks_run s sync total turns bytes ≡ whole vs
+pub blocks_again : (s : Tree) (sync : List ℕ) (total : ℕ) → length sync ≡ 16
+    → (blocks turns : ℕ) (vs : List Value) (bytes : List ℕ) → HoldsBlocks s sync blocks vs bytes → AreWithinLimits vs
+    → length bytes ≤ turns → blocks_run s sync total turns bytes ≡ whole vs
 unfolding blocks_run
 blocks_again s sync total sixteen zero turns vs bytes is few le = rw (is.0, is.1) refl
 blocks_again s sync total sixteen (suc blocks) turns vs bytes is few le =
@@ -86,18 +111,21 @@ blocks_again s sync total sixteen (suc blocks) turns vs bytes is few le =
     let limits = limits-left is.0 is.1 (rw is.10 at few) in
     let head = head_again sync is.2 is.3 is.4 is.5 bytes (length is.0) sixteen is.6 is.7 is.11 in
     let less = head_shorter sync bytes (record { count = length is.0; content = is.4; rest = is.5 }) head in
-    block_again s sync total sixteen blocks turns is.0 is.1 is.4 is.5 bytes vs some le less head is.8 limits.0 is.10 (λ u fits. blocks_again s sync total sixteen blocks u is.1 is.5 is.9 limits.1 fits)
+    block_again s sync total sixteen blocks turns is.0 is.1 is.4 is.5 bytes vs some le less head is.8 limits.0 is.10
+    (λ u fits. blocks_again s sync total sixteen blocks u is.1 is.5 is.9 limits.1 fits)
 
 -- ---- what is read is held
 
-pub object_held : (s : Tree) (block : List ℕ) (x : Value × List ℕ) → object_at s block ≡ Ok x → (front : List ℕ) × Spells s x.0 front × (block ≡ front ++ x.1) × (item_count x.0 ≤ max_items)
+pub object_held : (s : Tree) (block : List ℕ) (x : Value × List ℕ) → object_at s block ≡ Ok x
+    → (front : List ℕ) × Spells s x.0 front × (block ≡ front ++ x.1) × (item_count x.0 ≤ max_items)
 unfolding object_at
 object_held s block x e =
     let p : Position = record { bytes = block; left = max_items } in
     let a = bind_ok (refused inside (datum_at s p)) (λ y. Ok (y.0, y.1.bytes)) x e in
     let t = datum_takes s p a.0 (refused_ok inside (datum_at s p) a.0 a.1) in
     let made : Value × List ℕ = (a.0.0, a.0.1.bytes) in
-    subst (λ (y : Value × List ℕ). (front : List ℕ) × Spells s y.0 front × (block ≡ front ++ y.1) × (item_count y.0 ≤ max_items)) (ok_is made x a.2) (t.front, t.spelled, t.parts, omega (arith, t.left))
+    subst (λ (y : Value × List ℕ). (front : List ℕ) × Spells s y.0 front × (block ≡ front ++ y.1) ×
+    (item_count y.0 ≤ max_items)) (ok_is made x a.2) (t.front, t.spelled, t.parts, omega (arith, t.left))
 
 -- the objects of a block, and the data after it
 pub record Objects (s : Tree) (total : ℕ) (after : Run) (n : ℕ) (block : List ℕ) (vs : List Value) : Type 0 where
@@ -120,13 +148,17 @@ some_none f h = cc
 not_whole : (f : AvroFault) (vs : List Value) → stopped f ≡ whole vs → ⊥
 not_whole f vs h = some_none f (ap (λ (y : Run). y.ending) h)
 
-object_found : (s : Tree) (total : ℕ) (after : Run) (n : ℕ) (block : List ℕ) (vs : List Value) (r : Result (Value × List ℕ) Refusal) → object_at s block ≡ r → object_then total (objects_run s total after n) r ≡ whole vs
-    → ((rest : List ℕ) (ws : List Value) → objects_run s total after n rest ≡ whole ws → Objects s total after n rest ws) → Objects s total after (suc n) block vs
+object_found : (s : Tree) (total : ℕ) (after : Run) (n : ℕ) (block : List ℕ) (vs : List Value)
+    (r : Result (Value × List ℕ) Refusal) → object_at s block ≡ r
+    → object_then total (objects_run s total after n) r ≡ whole vs
+    → ((rest : List ℕ) (ws : List Value) → objects_run s total after n rest ≡ whole ws
+    → Objects s total after n rest ws) → Objects s total after (suc n) block vs
 object_found s total after n block vs (Err f) e h again = absurd (not_whole (fault_of total f) vs h)
 object_found s total after n block vs (Ok x) e h again =
     let o = object_held s block x e in
     let ending : (objects_run s total after n x.1).ending ≡ None = ap (λ (y : Run). y.ending) h in
-    let tail : objects_run s total after n x.1 ≡ whole (objects_run s total after n x.1).found = ap (λ (y : Option AvroFault). record { found = (objects_run s total after n x.1).found; ending = y }) ending in
+    let tail : objects_run s total after n x.1 ≡ whole (objects_run s total after n x.1).found =
+    ap (λ (y : Option AvroFault). record { found = (objects_run s total after n x.1).found; ending = y }) ending in
     let more = again x.1 (objects_run s total after n x.1).found tail in
     let found : x.0 ∷ (objects_run s total after n x.1).found ≡ vs = ap (λ (y : Run). y.found) h in
     record {
@@ -138,19 +170,31 @@ object_found s total after n block vs (Ok x) e h again =
       all = sym found ∙ ap (λ (ws : List Value). x.0 ∷ ws) more.all;
     }
 
-objects_held : (s : Tree) (total : ℕ) (after : Run) (n : ℕ) (block : List ℕ) (vs : List Value) → objects_run s total after n block ≡ whole vs → Objects s total after n block vs
+objects_held : (s : Tree) (total : ℕ) (after : Run) (n : ℕ) (block : List ℕ) (vs : List Value)
+    → objects_run s total after n block ≡ whole vs → Objects s total after n block vs
 unfolding objects_run
-objects_held s total after zero [] vs h = record { here = []; as_many = refl; spelled = refl; limits = tt; others = h ∙ ap whole (sym (found_is after vs h)); all = sym (found_is after vs h) }
+objects_held s total after zero [] vs h = record {
+  here = [];
+  as_many = refl;
+  spelled = refl;
+  limits = tt;
+  others = h ∙ ap whole (sym (found_is after vs h));
+  all = sym (found_is after vs h);
+}
 objects_held s total after zero (b ∷ block) vs h = absurd (not_whole BlockSize vs h)
-objects_held s total after (suc n) block vs h = object_found s total after n block vs (object_at s block) refl h (λ rest ws e. objects_held s total after n rest ws e)
+objects_held s total after (suc n) block vs h = object_found s total after n block vs (object_at s block) refl h
+    (λ rest ws e. objects_held s total after n rest ws e)
 
 -- what a run to the end has read
 pub record Held (s : Tree) (sync : List ℕ) (vs : List Value) (bytes : List ℕ) : Type 0 where
   pub held : Holds s sync vs bytes
   pub limits : AreWithinLimits vs
 
-head_found : (s : Tree) (sync : List ℕ) (total turns : ℕ) (bytes : List ℕ) (vs : List Value) (r : Result BlockHead Refusal) → head_at sync bytes ≡ r → head_then s total (blocks_run s sync total turns) r ≡ whole vs
-    → ((rest : List ℕ) (ws : List Value) → blocks_run s sync total turns rest ≡ whole ws → Held s sync ws rest) → Held s sync vs bytes
+head_found : (s : Tree) (sync : List ℕ) (total turns : ℕ) (bytes : List ℕ) (vs : List Value)
+    (r : Result BlockHead Refusal) → head_at sync bytes ≡ r
+    → head_then s total (blocks_run s sync total turns) r ≡ whole vs
+    → ((rest : List ℕ) (ws : List Value) → blocks_run s sync total turns rest ≡ whole ws → Held s sync ws rest)
+    → Held s sync vs bytes
 head_found s sync total turns bytes vs (Err f) e h again = absurd (not_whole (fault_of total f) vs h)
 head_found s sync total turns bytes vs (Ok b) e h again =
     let t = head_takes sync bytes b e in
@@ -158,12 +202,34 @@ head_found s sync total turns bytes vs (Ok b) e h again =
     let o = objects_held s total after b.count b.content vs h in
     let more = again b.rest after.found o.others in
     record {
-      held = (suc more.held.0, (o.here, after.found, t.count, t.size, b.content, b.rest, subst (λ (k : ℕ). IsLong t.count (pos k)) (sym o.as_many) t.count_is, t.size_is, o.spelled, more.held.1, o.all, t.parts));
+      held = (
+        suc more.held.0,
+        (
+          o.here,
+          after.found,
+          t.count,
+          t.size,
+          b.content,
+          b.rest,
+          subst
+              (λ (k : ℕ). IsLong t.count (pos k)) (sym o.as_many) t.count_is,
+          t.size_is,
+          o.spelled,
+          more.held.1,
+          o.all,
+          t.parts,
+        ),
+      );
       limits = subst AreWithinLimits (sym o.all) (limits-both o.here after.found o.limits more.limits);
     }
 
-pub blocks_held : (s : Tree) (sync : List ℕ) (total turns : ℕ) (bytes : List ℕ) (vs : List Value) → blocks_run s sync total turns bytes ≡ whole vs → Held s sync vs bytes
+pub blocks_held : (s : Tree) (sync : List ℕ) (total turns : ℕ) (bytes : List ℕ) (vs : List Value)
+    → blocks_run s sync total turns bytes ≡ whole vs → Held s sync vs bytes
 unfolding blocks_run
-blocks_held s sync total turns [] vs h = let none = found_is at_end vs h in record { held = (0, (sym none, refl)); limits = subst AreWithinLimits none tt }
+blocks_held s sync total turns [] vs h = let none = found_is at_end vs h in record {
+  held = (0, (sym none, refl));
+  limits = subst AreWithinLimits none tt;
+}
 blocks_held s sync total zero (b ∷ bytes) vs h = absurd (not_whole BlockSize vs h)
-blocks_held s sync total (suc turns) (b ∷ bytes) vs h = head_found s sync total turns (b ∷ bytes) vs (head_at sync (b ∷ bytes)) refl h (λ rest ws e. blocks_held s sync total turns rest ws e)
+blocks_held s sync total (suc turns) (b ∷ bytes) vs h = head_found s sync total turns (b ∷ bytes) vs
+    (head_at sync (b ∷ bytes)) refl h (λ rest ws e. blocks_held s sync total turns rest ws e)

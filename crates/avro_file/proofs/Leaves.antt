@@ -37,5 +37,6 @@ tree-Fixed n kind = search (rules, the_lemmas)
 pub tree-Enum : (n : ℕ) → tree (Schema.Enum n) ≡ Tree.symbols n
 tree-Enum n = search (rules, the_lemmas)
 
-pub tree-Array : (a : Arc Schema.Schema Global) (id : Option ℤ) (kind : _) → tree (Schema.Array a id kind) ≡ Tree.array (tree a.value) id kind
+pub tree-Array : (a : Arc Schema.Schema Global) (id : Option ℤ) (kind : _)
+    → tree (Schema.Array a id kind) ≡ Tree.array (tree a.value) id kind
 tree-Array a id kind = search (rules, the_lemmas)

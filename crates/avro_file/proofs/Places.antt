@@ -1,5 +1,7 @@
 -- Reading by places in the bytes.
-use Rattle.std.proofs.Common.{◌≡◌, ◌≢◌, ℕ, zero, suc, ◌+◌, ◌-◌, ◌*◌, ◌/◌, ◌%◌, ◌^◌, ◌<◌, ◌≤◌, ℤ, pos, negsuc, false, ltb, List, ◌∷◌, ◌++◌, length, get_or, take, drop, Option, Some, None, IfSome, Result, Ok, Err, refl, sym, ap, ◌∙◌, add-one, drop-cons, arith}
+use Rattle.std.proofs.Common.{◌≡◌, ◌≢◌, ℕ, zero, suc, ◌+◌, ◌-◌, ◌*◌, ◌/◌, ◌%◌, ◌^◌, ◌<◌, ◌≤◌, ℤ, pos, negsuc, false}
+use Rattle.std.proofs.Common.{ltb, List, ◌∷◌, ◌++◌, length, get_or, take, drop, Option, Some, None, IfSome, Result, Ok}
+use Rattle.std.proofs.Common.{Err, refl, sym, ap, ◌∙◌, add-one, drop-cons, arith}
 use Rattle.std.proofs.lemmas.Bool.{eq-eqb, ne_eqb, lt-ltb, le-ltb}
 use Rattle.std.specs.Str.{IsUtf8}
 use Rattle.std.proofs.lemmas.Str.{is_utf8-from_IsUtf8}
@@ -8,17 +10,20 @@ use Rattle.std.proofs.Math.Seq.{drop-drop, take-length, drop-append_seam}
 use Rattle.std.proofs.Math.Nat.{pow-le-pow_right}
 use Rattle.avro_file.specs.declared.refusal.Refusal.{Refusal}
 use Rattle.avro_file.specs.Number.{groups_at, number_at, long_at, int_at, signed_of}
-use Rattle.avro_file.specs.Reading.{Position, Read, behind, leaf, boolean_at, run_at, bytes_at, string_at, symbol_at, count_at, values_at, blocks_at, datum_at, fields_at, branch_at}
+use Rattle.avro_file.specs.Reading.{Position, Read, behind, leaf, boolean_at, run_at, bytes_at, string_at, symbol_at}
+use Rattle.avro_file.specs.Reading.{count_at, values_at, blocks_at, datum_at, fields_at, branch_at}
 use Rattle.avro_file.specs.Blocks.{max_items, object_at}
 use Rattle.avro_file.specs.Ending.{standing, EndsWith, Ends, EndsCounted}
-use Rattle.avro_file.proofs.Groups.{with_low, goes_on, ends_small, place_grows, low_stays, narrow_found, tenth_place, times_one}
+use Rattle.avro_file.proofs.Groups.{with_low, goes_on, ends_small, place_grows, low_stays, narrow_found, tenth_place}
+use Rattle.avro_file.proofs.Groups.{times_one}
 use Rattle.avro_file.proofs.Taken.{number_takes}
 use Rattle.avro_file.proofs.Loop.{long_len}
 use Rattle.avro_file.proofs.Steps.{ok_is}
 use Rattle.avro_file.proofs.Behind.{behind_ok, structure_ends, array_ends, chosen_ends, object_ends}
 use Rattle.avro_file.proofs.Views.{branch_trees, branch_there}
 use Rattle.avro_schema.specs.declared.schema.Schema.{Schema}
-use Rattle.avro_schema.specs.Tree.{Tree, null, boolean, int, long, float, double, symbols, octets, string, fixed, structure, array, union, Fields}
+use Rattle.avro_schema.specs.Tree.{Tree, null, boolean, int, long, float, double, symbols, octets, string, fixed}
+use Rattle.avro_schema.specs.Tree.{structure, array, union, Fields}
 use Rattle.avro_schema.specs.View.{tree}
 use Rattle.avro_file.specs.Value.{Value}
 use Rattle.avro_file.specs.Value as value
@@ -31,8 +36,10 @@ drop_drop : (n m : ℕ) (bytes : List ℕ) → drop n (drop m bytes) ≡ drop (m
 drop_drop n m bytes = drop-drop n m bytes ∙ ap (λ (k : ℕ). drop k bytes) (omega arith)
 
 -- what follows a front of the bytes at a place
-behind_front : (bytes : List ℕ) (at : ℕ) (front rest : List ℕ) → drop at bytes ≡ front ++ rest → rest ≡ drop (at + length front) bytes
-behind_front bytes at front rest e = sym (drop-append_seam front rest) ∙ ap (drop (length front)) (sym e) ∙ drop_drop (length front) at bytes
+behind_front : (bytes : List ℕ) (at : ℕ) (front rest : List ℕ) → drop at bytes ≡ front ++ rest
+    → rest ≡ drop (at + length front) bytes
+behind_front bytes at front rest e = sym (drop-append_seam front rest) ∙ ap (drop (length front)) (sym e) ∙ drop_drop
+    (length front) at bytes
 
 -- ---- numbers
 
@@ -46,15 +53,24 @@ pub record GroupsUpTo (bytes : List ℕ) (at i here : ℕ) : Type 0 where
   pub so_far : with_low low (128 ^ i) (groups_at (10 - i) (drop here bytes)) ≡ groups_at 10 (drop at bytes)
 
 pub no_groups : (bytes : List ℕ) (at : ℕ) → at ≤ length bytes → GroupsUpTo bytes at 0 at
-no_groups bytes at le = record { low = 0; below = omega arith; most = omega arith; place = omega arith; inside = le; so_far = none (groups_at 10 (drop at bytes)) } where
+no_groups bytes at le = record {
+  low = 0;
+  below = omega arith;
+  most = omega arith;
+  place = omega arith;
+  inside = le;
+  so_far = none (groups_at 10 (drop at bytes));
+} where
   none : (read : _) → with_low 0 (128 ^ 0) read ≡ read
   none (Ok x) = ap (λ (n : ℕ). Ok (n, x.1)) (omega arith)
   none (Err e) = refl
 
-pub one_more : (bytes : List ℕ) (at i here : ℕ) → GroupsUpTo bytes at i here → i < 9 → here < length bytes → get_or bytes here 0 < 256 → 128 ≤ get_or bytes here 0 → GroupsUpTo bytes at (i + 1) (here + 1)
+pub one_more : (bytes : List ℕ) (at i here : ℕ) → GroupsUpTo bytes at i here → i < 9 → here < length bytes
+    → get_or bytes here 0 < 256 → 128 ≤ get_or bytes here 0 → GroupsUpTo bytes at (i + 1) (here + 1)
 one_more bytes at i here g lt there byte le =
     let k = place_grows (128 ^ i) i refl in
-    let on = goes_on g.low (128 ^ i) i (get_or bytes here 0) (drop (here + 1) bytes) (groups_at 10 (drop at bytes)) (omega (arith, lt)) le (rw (at_place bytes here there) at g.so_far) in
+    let on = goes_on g.low (128 ^ i) i (get_or bytes here 0) (drop (here + 1) bytes) (groups_at 10 (drop at bytes))
+    (omega (arith, lt)) le (rw (at_place bytes here there) at g.so_far) in
     record {
       low = g.low + 128 ^ i * (get_or bytes here 0 - 128);
       below = rw (← k) (low_stays g.low (128 ^ i) (get_or bytes here 0 - 128) g.below (omega arith));
@@ -71,40 +87,62 @@ last_fits low i b k lt small le =
     let h : 128 ^ (i + 1) ≤ 128 ^ k = pow-le-pow_right {n = 128} some {i = i + 1} {j = k} (omega (arith, le)) in
     omega (arith, low_stays low (128 ^ i) b lt small, place_grows (128 ^ i) i refl, h)
 
-found : (bytes : List ℕ) (at i here : ℕ) (g : GroupsUpTo bytes at i here) → here < length bytes → get_or bytes here 0 < 128 → g.low + 128 ^ i * get_or bytes here 0 < 2 ^ 64 → number_at (2 ^ 64) (drop at bytes) ≡ Ok (g.low + 128 ^ i * get_or bytes here 0, drop (here + 1) bytes)
-found bytes at i here g there small fits = ends_small g.low (128 ^ i) i (get_or bytes here 0) (drop (here + 1) bytes) (drop at bytes) (omega (arith, g.most)) small fits (rw (at_place bytes here there) at g.so_far)
+found : (bytes : List ℕ) (at i here : ℕ) (g : GroupsUpTo bytes at i here) → here < length bytes
+    → get_or bytes here 0 < 128 → g.low + 128 ^ i * get_or bytes here 0 < 2 ^ 64
+    → number_at (2 ^ 64) (drop at bytes) ≡ Ok (g.low + 128 ^ i * get_or bytes here 0, drop (here + 1) bytes)
+found bytes at i here g there small fits = ends_small g.low (128 ^ i) i (get_or bytes here 0) (drop (here + 1) bytes)
+    (drop at bytes) (omega (arith, g.most)) small fits (rw (at_place bytes here there) at g.so_far)
 
-long_found : (bytes : List ℕ) (at n end : ℕ) → number_at (2 ^ 64) (drop at bytes) ≡ Ok (n, drop end bytes) → behind (long_at (drop at bytes)) ≡ Ok (drop end bytes)
+long_found : (bytes : List ℕ) (at n end : ℕ) → number_at (2 ^ 64) (drop at bytes) ≡ Ok (n, drop end bytes)
+    → behind (long_at (drop at bytes)) ≡ Ok (drop end bytes)
 unfolding long_at
 long_found bytes at n end e = rw e refl
 
-int_found : (bytes : List ℕ) (at n end : ℕ) → number_at (2 ^ 64) (drop at bytes) ≡ Ok (n, drop end bytes) → n < 2 ^ 32 → behind (int_at (drop at bytes)) ≡ Ok (drop end bytes)
+int_found : (bytes : List ℕ) (at n end : ℕ) → number_at (2 ^ 64) (drop at bytes) ≡ Ok (n, drop end bytes) → n < 2 ^ 32
+    → behind (int_at (drop at bytes)) ≡ Ok (drop end bytes)
 unfolding int_at
 int_found bytes at n end e lt = rw (narrow_found (drop at bytes) n (drop end bytes) e lt) refl
 
-pub long_ends : (bytes : List ℕ) (at i here : ℕ) → GroupsUpTo bytes at i here → i < 9 → here < length bytes → get_or bytes here 0 < 128 → Ends long_at bytes at (here + 1)
-long_ends bytes at i here g lt there small =
-    (omega (arith, g.place), omega arith, long_found bytes at _ (here + 1) (found bytes at i here g there small (omega (arith, last_fits g.low i (get_or bytes here 0) 9 g.below small lt))))
+pub long_ends : (bytes : List ℕ) (at i here : ℕ) → GroupsUpTo bytes at i here → i < 9 → here < length bytes
+    → get_or bytes here 0 < 128 → Ends long_at bytes at (here + 1)
+long_ends bytes at i here g lt there small = (
+  omega (arith, g.place),
+  omega arith,
+  long_found bytes at _ (here + 1) (found bytes at i here g there small
+      (omega (arith, last_fits g.low i (get_or bytes here 0) 9 g.below small lt))),
+)
 
-pub int_ends : (bytes : List ℕ) (at i here : ℕ) → GroupsUpTo bytes at i here → i < 4 → here < length bytes → get_or bytes here 0 < 128 → Ends int_at bytes at (here + 1)
+pub int_ends : (bytes : List ℕ) (at i here : ℕ) → GroupsUpTo bytes at i here → i < 4 → here < length bytes
+    → get_or bytes here 0 < 128 → Ends int_at bytes at (here + 1)
 int_ends bytes at i here g lt there small =
-    let fits = last_fits g.low i (get_or bytes here 0) 4 g.below small lt in
-    (omega (arith, g.place), omega arith, int_found bytes at _ (here + 1) (found bytes at i here g there small (omega (arith, fits))) (omega (arith, fits)))
+    let fits = last_fits g.low i (get_or bytes here 0) 4 g.below small lt in (
+      omega (arith, g.place),
+      omega arith,
+      int_found bytes at _ (here + 1) (found bytes at i here g there small
+          (omega (arith, fits))) (omega (arith, fits)),
+    )
 
 -- the tenth group has one bit
-pub tenth_ends : (bytes : List ℕ) (at i here : ℕ) → GroupsUpTo bytes at i here → 9 ≤ i → here < length bytes → get_or bytes here 0 < 2 → Ends long_at bytes at (here + 1)
+pub tenth_ends : (bytes : List ℕ) (at i here : ℕ) → GroupsUpTo bytes at i here → 9 ≤ i → here < length bytes
+    → get_or bytes here 0 < 2 → Ends long_at bytes at (here + 1)
 tenth_ends bytes at i here g le there small =
     let nine : i ≡ 9 = omega (arith, g.most) in
     let full : 128 ^ i ≡ 2 ^ 63 = tenth_place (128 ^ i) i nine refl in
-    let some = times_one (128 ^ i) (get_or bytes here 0) (omega arith) in
-    (omega (arith, g.place), omega arith, long_found bytes at _ (here + 1) (found bytes at i here g there (omega arith) (omega (arith, full, some, g.below))))
+    let some = times_one (128 ^ i) (get_or bytes here 0) (omega arith) in (
+      omega (arith, g.place),
+      omega arith,
+      long_found bytes at _ (here + 1) (found bytes at i here g there (omega arith)
+          (omega (arith, full, some, g.below))),
+    )
 
-pub one_group : (bytes : List ℕ) (at : ℕ) → at < length bytes → get_or bytes at 0 < 128 → number_at (2 ^ 64) (drop at bytes) ≡ Ok (get_or bytes at 0, drop (at + 1) bytes)
+pub one_group : (bytes : List ℕ) (at : ℕ) → at < length bytes → get_or bytes at 0 < 128
+    → number_at (2 ^ 64) (drop at bytes) ≡ Ok (get_or bytes at 0, drop (at + 1) bytes)
 one_group bytes at lt small =
     let none = no_groups bytes at (omega (arith, lt)) in
     found bytes at 0 at none lt small (omega (arith, small)) ∙ ap (λ (n : ℕ). Ok (n, drop (at + 1) bytes)) (omega arith)
 
-pub short_long : (bytes : List ℕ) (at : ℕ) → at < length bytes → get_or bytes at 0 < 128 → Ends long_at bytes at (at + 1)
+pub short_long : (bytes : List ℕ) (at : ℕ) → at < length bytes → get_or bytes at 0 < 128
+    → Ends long_at bytes at (at + 1)
 short_long bytes at lt small = long_ends bytes at 0 at (no_groups bytes at (omega (arith, lt))) (omega arith) lt small
 
 pub short_int : (bytes : List ℕ) (at : ℕ) → at < length bytes → get_or bytes at 0 < 128 → Ends int_at bytes at (at + 1)
@@ -114,14 +152,24 @@ pub to_end : (bytes : List ℕ) (at : ℕ) → take (length bytes - at) (drop at
 to_end bytes at = rw (← length-drop at bytes) (take-length (drop at bytes))
 
 -- where a number ends, by what is left behind it
-pub number_ends : (bytes : List ℕ) (at n : ℕ) (rest : List ℕ) → number_at (2 ^ 64) (take (length bytes - at) (drop at bytes)) ≡ Ok (n, rest) → (length rest ≤ length bytes) × EndsWith (number_at (2 ^ 64)) bytes at n (length bytes - length rest)
+pub number_ends : (bytes : List ℕ) (at n : ℕ) (rest : List ℕ)
+    → number_at (2 ^ 64) (take (length bytes - at) (drop at bytes)) ≡ Ok (n, rest)
+    → (length rest ≤ length bytes) × EndsWith (number_at (2 ^ 64)) bytes at n (length bytes - length rest)
 number_ends bytes at n rest h =
     let e : number_at (2 ^ 64) (drop at bytes) ≡ Ok (n, rest) = rw (to_end bytes at) at h in
     let t = number_takes (2 ^ 64) (drop at bytes) (n, rest) e in
     let some = long_len t.front (signed_of n) (n, t.spelled, refl) in
-    let all : length bytes - at ≡ length t.front + length rest = sym (length-drop at bytes) ∙ ap length t.parts ∙ length-append t.front rest in
-    let end : length bytes - length rest ≡ at + length t.front = omega (arith, some, all) in
-    (omega (arith, some, all), (omega (arith, some, all), omega arith, rw end (e ∙ ap (λ (r : List ℕ). Ok (n, r)) (behind_front bytes at t.front rest t.parts))))
+    let all : length bytes - at ≡ length t.front + length rest = sym (length-drop at bytes) ∙ ap length t.parts ∙
+    length-append t.front rest in
+    let end : length bytes - length rest ≡ at + length t.front = omega (arith, some, all) in (
+      omega (arith, some, all),
+      (
+        omega (arith, some, all),
+        omega arith,
+        rw end (e ∙ ap (λ (r : List ℕ). Ok (n, r))
+            (behind_front bytes at t.front rest t.parts)),
+      ),
+    )
 
 even : (n : ℕ) → n % 2 ≡ 0 → signed_of n ≡ pos (n / 2)
 even n e = rw (eq-eqb (n % 2) 0 e) refl
@@ -131,32 +179,47 @@ odd n e = rw (ne_eqb (n % 2) 0 e) refl
 
 -- ---- values that hold no others
 
-run_found : (n at : ℕ) (bytes : List ℕ) → n ≤ length bytes - at → run_at n (drop at bytes) ≡ Ok (take n (drop at bytes), drop (at + n) bytes)
+run_found : (n at : ℕ) (bytes : List ℕ) → n ≤ length bytes - at
+    → run_at n (drop at bytes) ≡ Ok (take n (drop at bytes), drop (at + n) bytes)
 unfolding run_at
 run_found n at bytes le =
     let fits : ltb (length (drop at bytes)) n ≡ false = le-ltb _ _ (omega (arith, length-drop at bytes, le)) in
     rw fits (ap (λ (r : List ℕ). Ok (take n (drop at bytes), r)) (drop_drop n at bytes))
 
-pub run_ends : (n at : ℕ) (bytes : List ℕ) → at ≤ length bytes → n ≤ length bytes - at → Ends (run_at n) bytes at (at + n)
+pub run_ends : (n at : ℕ) (bytes : List ℕ) → at ≤ length bytes → n ≤ length bytes - at
+    → Ends (run_at n) bytes at (at + n)
 run_ends n at bytes inside le = (omega arith, omega (arith, inside, le), rw (run_found n at bytes le) refl)
 
-pub bytes_found : (bytes : List ℕ) (at n start : ℕ) → EndsWith (number_at (2 ^ 64)) bytes at n start → n % 2 ≡ 0 → n / 2 ≤ length bytes - start
+pub bytes_found : (bytes : List ℕ) (at n start : ℕ) → EndsWith (number_at (2 ^ 64)) bytes at n start → n % 2 ≡ 0
+    → n / 2 ≤ length bytes - start
     → EndsWith bytes_at bytes at (take (start + n / 2 - start) (drop start bytes)) (start + n / 2)
 unfolding bytes_at long_at
 bytes_found bytes at n start e is le =
     let len : start + n / 2 - start ≡ n / 2 = omega arith in
     (omega (arith, e.0), omega (arith, e.1, le), rw (e.2, even n is, len) (run_found (n / 2) start bytes le))
 
-pub bytes_end_there : (bytes : List ℕ) (at : ℕ) (run : List ℕ) (end : ℕ) → EndsWith bytes_at bytes at run end → Ends bytes_at bytes at end
+pub bytes_end_there : (bytes : List ℕ) (at : ℕ) (run : List ℕ) (end : ℕ) → EndsWith bytes_at bytes at run end
+    → Ends bytes_at bytes at end
 bytes_end_there bytes at run end e = (omega (arith, e.0), e.1, rw e.2 refl)
 
-pub text_ends : (bytes : List ℕ) (at : ℕ) (run : List ℕ) (end : ℕ) → EndsWith bytes_at bytes at run end → IsUtf8 run → Ends string_at bytes at end
+pub text_ends : (bytes : List ℕ) (at : ℕ) (run : List ℕ) (end : ℕ) → EndsWith bytes_at bytes at run end → IsUtf8 run
+    → Ends string_at bytes at end
 unfolding string_at
 text_ends bytes at run end e is = (omega (arith, e.0), e.1, rw (e.2, is_utf8-from_IsUtf8 run is) refl)
 
-pub symbol_ends : (bytes : List ℕ) (count at n end : ℕ) → EndsWith (number_at (2 ^ 64)) bytes at n end → n < 2 ^ 32 → n % 2 ≡ 0 → n / 2 < count → Ends (symbol_at count) bytes at end
+pub symbol_ends : (bytes : List ℕ) (count at n end : ℕ) → EndsWith (number_at (2 ^ 64)) bytes at n end → n < 2 ^ 32
+    → n % 2 ≡ 0 → n / 2 < count → Ends (symbol_at count) bytes at end
 unfolding symbol_at int_at
-symbol_ends bytes count at n end e fits is lt = (omega (arith, e.0), e.1, rw (narrow_found (drop at bytes) n (drop end bytes) e.2 fits, even n is, lt-ltb _ _ lt) refl)
+symbol_ends bytes count at n end e fits is lt = (
+  omega (arith, e.0),
+  e.1,
+  rw (
+    narrow_found (drop at bytes) n
+        (drop end bytes) e.2 fits,
+    even n is,
+    lt-ltb _ _ lt,
+  ) refl,
+)
 
 truth_there : (b : ℕ) (rest : List ℕ) → b < 2 → behind (boolean_at (b ∷ rest)) ≡ Ok rest
 unfolding boolean_at
@@ -164,28 +227,44 @@ truth_there zero rest lt = refl
 truth_there (suc zero) rest lt = refl
 truth_there (suc (suc b)) rest lt = absurd (omega (arith, lt))
 
-pub truth_ends : (bytes : List ℕ) (at : ℕ) → at < length bytes → get_or bytes at 0 < 2 → Ends boolean_at bytes at (at + 1)
-truth_ends bytes at lt small = (omega arith, omega (arith, lt), rw (at_place bytes at lt) (truth_there (get_or bytes at 0) (drop (at + 1) bytes) small))
+pub truth_ends : (bytes : List ℕ) (at : ℕ) → at < length bytes → get_or bytes at 0 < 2
+    → Ends boolean_at bytes at (at + 1)
+truth_ends bytes at lt small = (
+  omega arith,
+  omega (arith, lt),
+  rw (at_place bytes at lt)
+      (truth_there (get_or bytes at 0) (drop (at + 1) bytes) small),
+)
 
 -- ---- the count of a block
 
-pub count_ends : (bytes : List ℕ) (at n end : ℕ) → EndsWith (number_at (2 ^ 64)) bytes at n end → n % 2 ≡ 0 → (at < end) × (end ≤ length bytes) × ((left : ℕ) → n / 2 ≤ left → count_at (standing bytes at left) ≡ Ok (n / 2, standing bytes end (left - n / 2)))
+pub count_ends : (bytes : List ℕ) (at n end : ℕ) → EndsWith (number_at (2 ^ 64)) bytes at n end → n % 2 ≡ 0
+    → (at < end) × (end ≤ length bytes) × ((left : ℕ) → n / 2 ≤ left → count_at (standing bytes at left) ≡ Ok
+    (n / 2, standing bytes end (left - n / 2)))
 unfolding count_at long_at
 count_ends bytes at n end e is = (e.0, e.1, λ left le. rw (e.2, even n is, le-ltb _ _ le) refl)
 
-long_there : (bytes : List ℕ) (at end : ℕ) → Ends long_at bytes at end → (z : ℤ) × (long_at (drop at bytes) ≡ Ok (z, drop end bytes))
+long_there : (bytes : List ℕ) (at end : ℕ) → Ends long_at bytes at end
+    → (z : ℤ) × (long_at (drop at bytes) ≡ Ok (z, drop end bytes))
 long_there bytes at end e = behind_ok (long_at (drop at bytes)) (drop end bytes) e.2
 
-long_is : (bytes : List ℕ) (at n end : ℕ) → EndsWith (number_at (2 ^ 64)) bytes at n end → long_at (drop at bytes) ≡ Ok (signed_of n, drop end bytes)
+long_is : (bytes : List ℕ) (at n end : ℕ) → EndsWith (number_at (2 ^ 64)) bytes at n end
+    → long_at (drop at bytes) ≡ Ok (signed_of n, drop end bytes)
 unfolding long_at
 long_is bytes at n end e = rw e.2 refl
 
-pub negative_count_ends : (bytes : List ℕ) (at n size end : ℕ) → EndsWith (number_at (2 ^ 64)) bytes at n size → n % 2 ≢ 0 → Ends long_at bytes size end
-    → (at < end) × (end ≤ length bytes) × ((left : ℕ) → n / 2 + 1 ≤ left → count_at (standing bytes at left) ≡ Ok (n / 2 + 1, standing bytes end (left - (n / 2 + 1))))
+pub negative_count_ends : (bytes : List ℕ) (at n size end : ℕ) → EndsWith (number_at (2 ^ 64)) bytes at n size
+    → n % 2 ≢ 0 → Ends long_at bytes size end
+    → (at < end) × (end ≤ length bytes) × ((left : ℕ) → n / 2 + 1 ≤ left → count_at (standing bytes at left) ≡ Ok
+    (n / 2 + 1, standing bytes end (left - (n / 2 + 1))))
 unfolding count_at
 negative_count_ends bytes at n size end e is s =
-    let there = long_there bytes size end s in
-    (omega (arith, e.0, s.0), s.1, λ left le. let fits : ltb left (suc (n / 2)) ≡ false = le-ltb _ _ (omega (arith, le)) in rw (long_is bytes at n size e, odd n is, fits, there.1, add-one) refl)
+    let there = long_there bytes size end s in (
+      omega (arith, e.0, s.0),
+      s.1,
+      λ left le. let fits : ltb left (suc (n / 2)) ≡ false =
+          le-ltb _ _ (omega (arith, le)) in rw (long_is bytes at n size e, odd n is, fits, there.1, add-one) refl,
+    )
 
 -- ---- one way or none
 
@@ -193,7 +272,8 @@ pub some_weaker : {A : Type 0} (o : Option A) (P Q : A → Type 0) → ((x : A) 
 some_weaker (Some x) P Q f h = f x h
 some_weaker None P Q f h = h
 
-leaf_behind : {A : Type 0} (make : A → Value) (left : ℕ) (read : Result (A × List ℕ) Refusal) (rest : List ℕ) → behind read ≡ Ok rest → behind (leaf make left read) ≡ Ok (record { bytes = rest; left = left })
+leaf_behind : {A : Type 0} (make : A → Value) (left : ℕ) (read : Result (A × List ℕ) Refusal) (rest : List ℕ)
+    → behind read ≡ Ok rest → behind (leaf make left read) ≡ Ok (record { bytes = rest; left = left })
 leaf_behind make left (Ok x) rest e = ap (λ (r : List ℕ). Ok (record { bytes = r; left = left })) (ok_is x.1 rest e)
 leaf_behind make left (Err f) rest e = absurd cc
 
@@ -201,93 +281,166 @@ leaf_behind make left (Err f) rest e = absurd cc
 abbrev pub EndsSomewhere : Tree → List ℕ → ℕ → Option ℕ → Type 0
 EndsSomewhere s bytes at found = IfSome found (λ end. (left : ℕ) → EndsCounted (datum_at s) bytes at left end left)
 
-pub boolean_somewhere : (bytes : List ℕ) (at : ℕ) (o : Option ℕ) → IfSome o (λ end. Ends boolean_at bytes at end) → EndsSomewhere boolean bytes at o
+pub boolean_somewhere : (bytes : List ℕ) (at : ℕ) (o : Option ℕ) → IfSome o (λ end. Ends boolean_at bytes at end)
+    → EndsSomewhere boolean bytes at o
 unfolding datum_at
-boolean_somewhere bytes at o h = some_weaker o _ _ (λ end e left. (e.1, leaf_behind value.truth left (boolean_at (drop at bytes)) (drop end bytes) e.2)) h
+boolean_somewhere bytes at o h = some_weaker o _ _ (λ end e left. (
+  e.1,
+  leaf_behind value.truth left
+      (boolean_at (drop at bytes)) (drop end bytes) e.2,
+)) h
 
-pub int_somewhere : (bytes : List ℕ) (at : ℕ) (o : Option ℕ) → IfSome o (λ end. Ends int_at bytes at end) → EndsSomewhere int bytes at o
+pub int_somewhere : (bytes : List ℕ) (at : ℕ) (o : Option ℕ) → IfSome o (λ end. Ends int_at bytes at end)
+    → EndsSomewhere int bytes at o
 unfolding datum_at
-int_somewhere bytes at o h = some_weaker o _ _ (λ end e left. (e.1, leaf_behind value.small left (int_at (drop at bytes)) (drop end bytes) e.2)) h
+int_somewhere bytes at o h = some_weaker o _ _ (λ end e left. (
+  e.1,
+  leaf_behind value.small left
+      (int_at (drop at bytes)) (drop end bytes) e.2,
+)) h
 
-pub long_somewhere : (bytes : List ℕ) (at : ℕ) (o : Option ℕ) → IfSome o (λ end. Ends long_at bytes at end) → EndsSomewhere long bytes at o
+pub long_somewhere : (bytes : List ℕ) (at : ℕ) (o : Option ℕ) → IfSome o (λ end. Ends long_at bytes at end)
+    → EndsSomewhere long bytes at o
 unfolding datum_at
-long_somewhere bytes at o h = some_weaker o _ _ (λ end e left. (e.1, leaf_behind value.whole left (long_at (drop at bytes)) (drop end bytes) e.2)) h
+long_somewhere bytes at o h = some_weaker o _ _ (λ end e left. (
+  e.1,
+  leaf_behind value.whole left
+      (long_at (drop at bytes)) (drop end bytes) e.2,
+)) h
 
-pub float_somewhere : (bytes : List ℕ) (at : ℕ) (o : Option ℕ) → IfSome o (λ end. Ends (run_at 4) bytes at end) → EndsSomewhere float bytes at o
+pub float_somewhere : (bytes : List ℕ) (at : ℕ) (o : Option ℕ) → IfSome o (λ end. Ends (run_at 4) bytes at end)
+    → EndsSomewhere float bytes at o
 unfolding datum_at
-float_somewhere bytes at o h = some_weaker o _ _ (λ end e left. (e.1, leaf_behind value.single left (run_at 4 (drop at bytes)) (drop end bytes) e.2)) h
+float_somewhere bytes at o h = some_weaker o _ _ (λ end e left. (
+  e.1,
+  leaf_behind value.single left
+      (run_at 4 (drop at bytes)) (drop end bytes) e.2,
+)) h
 
-pub double_somewhere : (bytes : List ℕ) (at : ℕ) (o : Option ℕ) → IfSome o (λ end. Ends (run_at 8) bytes at end) → EndsSomewhere double bytes at o
+pub double_somewhere : (bytes : List ℕ) (at : ℕ) (o : Option ℕ) → IfSome o (λ end. Ends (run_at 8) bytes at end)
+    → EndsSomewhere double bytes at o
 unfolding datum_at
-double_somewhere bytes at o h = some_weaker o _ _ (λ end e left. (e.1, leaf_behind value.twice left (run_at 8 (drop at bytes)) (drop end bytes) e.2)) h
+double_somewhere bytes at o h = some_weaker o _ _ (λ end e left. (
+  e.1,
+  leaf_behind value.twice left
+      (run_at 8 (drop at bytes)) (drop end bytes) e.2,
+)) h
 
-pub fixed_somewhere : (n : ℕ) (kind : _) (bytes : List ℕ) (at : ℕ) (o : Option ℕ) → IfSome o (λ end. Ends (run_at n) bytes at end) → EndsSomewhere (fixed n kind) bytes at o
+pub fixed_somewhere : (n : ℕ) (kind : _) (bytes : List ℕ) (at : ℕ) (o : Option ℕ)
+    → IfSome o (λ end. Ends (run_at n) bytes at end) → EndsSomewhere (fixed n kind) bytes at o
 unfolding datum_at
-fixed_somewhere n kind bytes at o h = some_weaker o _ _ (λ end e left. (e.1, leaf_behind value.raw left (run_at n (drop at bytes)) (drop end bytes) e.2)) h
+fixed_somewhere n kind bytes at o h = some_weaker o _ _
+    (λ end e left. (e.1, leaf_behind value.raw left (run_at n (drop at bytes)) (drop end bytes) e.2)) h
 
-pub octets_somewhere : (kind : _) (bytes : List ℕ) (at : ℕ) (o : Option ℕ) → IfSome o (λ end. Ends bytes_at bytes at end) → EndsSomewhere (octets kind) bytes at o
+pub octets_somewhere : (kind : _) (bytes : List ℕ) (at : ℕ) (o : Option ℕ)
+    → IfSome o (λ end. Ends bytes_at bytes at end) → EndsSomewhere (octets kind) bytes at o
 unfolding datum_at
-octets_somewhere kind bytes at o h = some_weaker o _ _ (λ end e left. (e.1, leaf_behind value.run left (bytes_at (drop at bytes)) (drop end bytes) e.2)) h
+octets_somewhere kind bytes at o h = some_weaker o _ _
+    (λ end e left. (e.1, leaf_behind value.run left (bytes_at (drop at bytes)) (drop end bytes) e.2)) h
 
-pub string_somewhere : (bytes : List ℕ) (at : ℕ) (o : Option ℕ) → IfSome o (λ end. Ends string_at bytes at end) → EndsSomewhere string bytes at o
+pub string_somewhere : (bytes : List ℕ) (at : ℕ) (o : Option ℕ) → IfSome o (λ end. Ends string_at bytes at end)
+    → EndsSomewhere string bytes at o
 unfolding datum_at
-string_somewhere bytes at o h = some_weaker o _ _ (λ end e left. (e.1, leaf_behind value.text left (string_at (drop at bytes)) (drop end bytes) e.2)) h
+string_somewhere bytes at o h = some_weaker o _ _ (λ end e left. (
+  e.1,
+  leaf_behind value.text left
+      (string_at (drop at bytes)) (drop end bytes) e.2,
+)) h
 
-pub symbols_somewhere : (n : ℕ) (bytes : List ℕ) (at : ℕ) (o : Option ℕ) → IfSome o (λ end. Ends (symbol_at n) bytes at end) → EndsSomewhere (symbols n) bytes at o
+pub symbols_somewhere : (n : ℕ) (bytes : List ℕ) (at : ℕ) (o : Option ℕ)
+    → IfSome o (λ end. Ends (symbol_at n) bytes at end) → EndsSomewhere (symbols n) bytes at o
 unfolding datum_at
-symbols_somewhere n bytes at o h = some_weaker o _ _ (λ end e left. (e.1, leaf_behind value.symbol left (symbol_at n (drop at bytes)) (drop end bytes) e.2)) h
+symbols_somewhere n bytes at o h = some_weaker o _ _ (λ end e left. (
+  e.1,
+  leaf_behind value.symbol left
+      (symbol_at n (drop at bytes)) (drop end bytes) e.2,
+)) h
 
-pub null_somewhere : (bytes : List ℕ) (at left : ℕ) → at ≤ length bytes → EndsCounted (datum_at null) bytes at left at left
+pub null_somewhere : (bytes : List ℕ) (at left : ℕ) → at ≤ length bytes
+    → EndsCounted (datum_at null) bytes at left at left
 unfolding datum_at
 null_somewhere bytes at left le = (le, refl)
 
 -- ---- values that hold others
 
-pub structure_ends_there : (fs : Fields) (bytes : List ℕ) (at left after : ℕ) (o : Option ℕ) → IfSome o (λ end. EndsCounted (fields_at fs) bytes at left end after) → IfSome o (λ end. EndsCounted (datum_at (structure fs)) bytes at left end after)
-structure_ends_there fs bytes at left after o h = some_weaker o _ _ (λ end e. (e.0, structure_ends fs (standing bytes at left) ∙ e.1)) h
+pub structure_ends_there : (fs : Fields) (bytes : List ℕ) (at left after : ℕ) (o : Option ℕ)
+    → IfSome o (λ end. EndsCounted (fields_at fs) bytes at left end after)
+    → IfSome o (λ end. EndsCounted (datum_at (structure fs)) bytes at left end after)
+structure_ends_there fs bytes at left after o h = some_weaker o _ _
+    (λ end e. (e.0, structure_ends fs (standing bytes at left) ∙ e.1)) h
 
-pub array_ends_there : (s : Tree) (id : Option ℤ) (kind : _) (bytes : List ℕ) (at left after : ℕ) (o : Option ℕ) → IfSome o (λ end. EndsCounted (blocks_at (datum_at s) (suc (length (drop at bytes)))) bytes at left end after) → IfSome o (λ end. EndsCounted (datum_at (array s id kind)) bytes at left end after)
-array_ends_there s id kind bytes at left after o h = some_weaker o _ _ (λ end e. (e.0, array_ends s id kind (standing bytes at left) ∙ e.1)) h
+pub array_ends_there : (s : Tree) (id : Option ℤ) (kind : _) (bytes : List ℕ) (at left after : ℕ) (o : Option ℕ)
+    → IfSome o (λ end. EndsCounted (blocks_at (datum_at s) (suc (length (drop at bytes)))) bytes at left end after)
+    → IfSome o (λ end. EndsCounted (datum_at (array s id kind)) bytes at left end after)
+array_ends_there s id kind bytes at left after o h = some_weaker o _ _
+    (λ end e. (e.0, array_ends s id kind (standing bytes at left) ∙ e.1)) h
 
-chosen_there : (ss : List Schema) (bytes : List ℕ) (at n start left : ℕ) (d : Schema) → EndsWith (number_at (2 ^ 64)) bytes at n start → n % 2 ≡ 0 → n / 2 < length ss → behind (datum_at (union (branch_trees ss)) (standing bytes at left)) ≡ behind (datum_at (tree (get_or ss (n / 2) d)) (standing bytes start left))
+chosen_there : (ss : List Schema) (bytes : List ℕ) (at n start left : ℕ) (d : Schema)
+    → EndsWith (number_at (2 ^ 64)) bytes at n start → n % 2 ≡ 0 → n / 2 < length ss
+    → behind (datum_at (union (branch_trees ss)) (standing bytes at left)) ≡ behind
+    (datum_at (tree (get_or ss (n / 2) d)) (standing bytes start left))
 unfolding datum_at
 chosen_there ss bytes at n start left d e is lt =
-    rw (long_is bytes at n start e, even n is) (chosen_ends (branch_at (branch_trees ss)) (n / 2) (standing bytes start left) ∙ ap (λ (r : Read Value). behind r) (branch_there ss (n / 2) d (standing bytes start left) lt))
+    rw (long_is bytes at n start e, even n is) (chosen_ends (branch_at (branch_trees ss)) (n / 2)
+    (standing bytes start left) ∙ ap (λ (r : Read Value). behind r) (branch_there ss (n / 2) d
+    (standing bytes start left) lt))
 
-pub union_ends_there : (ss : List Schema) (bytes : List ℕ) (at n start left after : ℕ) (d : Schema) (o : Option ℕ) → EndsWith (number_at (2 ^ 64)) bytes at n start → n % 2 ≡ 0 → n / 2 < length ss
-    → IfSome o (λ end. EndsCounted (datum_at (tree (get_or ss (n / 2) d))) bytes start left end after) → IfSome o (λ end. EndsCounted (datum_at (union (branch_trees ss))) bytes at left end after)
-union_ends_there ss bytes at n start left after d o e is lt h = some_weaker o _ _ (λ end f. (f.0, chosen_there ss bytes at n start left d e is lt ∙ f.1)) h
+pub union_ends_there : (ss : List Schema) (bytes : List ℕ) (at n start left after : ℕ) (d : Schema) (o : Option ℕ)
+    → EndsWith (number_at (2 ^ 64)) bytes at n start → n % 2 ≡ 0 → n / 2 < length ss
+    → IfSome o (λ end. EndsCounted (datum_at (tree (get_or ss (n / 2) d))) bytes start left end after)
+    → IfSome o (λ end. EndsCounted (datum_at (union (branch_trees ss))) bytes at left end after)
+union_ends_there ss bytes at n start left after d o e is lt h = some_weaker o _ _
+    (λ end f. (f.0, chosen_there ss bytes at n start left d e is lt ∙ f.1)) h
 
 -- ---- one block
 
 abbrev pub IsCountAt : List ℕ → ℕ → ℕ → ℕ → Type 0
-IsCountAt bytes at n start = (at < start) × (start ≤ length bytes) × ((left : ℕ) → n ≤ left → count_at (standing bytes at left) ≡ Ok (n, standing bytes start (left - n)))
+IsCountAt bytes at n start = (at < start) × (start ≤ length bytes) × ((left : ℕ) → n ≤ left
+    → count_at (standing bytes at left) ≡ Ok (n, standing bytes start (left - n)))
 
-none_found : {A : Type 0} (read : Position → Read A) (turns : ℕ) (p q : Position) → count_at p ≡ Ok (0, q) → behind (blocks_at read (suc turns) p) ≡ Ok q
+none_found : {A : Type 0} (read : Position → Read A) (turns : ℕ) (p q : Position) → count_at p ≡ Ok (0, q)
+    → behind (blocks_at read (suc turns) p) ≡ Ok q
 unfolding blocks_at
 none_found read turns p q e = rw e refl
 
-pub no_items : {A : Type 0} (read : Position → Read A) (turns : ℕ) (bytes : List ℕ) (at n start left : ℕ) → IsCountAt bytes at n start → n ≤ left → n ≡ 0 → EndsCounted (blocks_at read (suc turns)) bytes at left start (left - n)
-no_items read turns bytes at n start left e le is = (e.1, none_found read turns (standing bytes at left) (standing bytes start (left - n)) (e.2 left le ∙ ap (λ (k : ℕ). Ok (k, standing bytes start (left - n))) is))
+pub no_items : {A : Type 0} (read : Position → Read A) (turns : ℕ) (bytes : List ℕ) (at n start left : ℕ)
+    → IsCountAt bytes at n start → n ≤ left → n ≡ 0 → EndsCounted (blocks_at read (suc turns)) bytes at left start
+    (left - n)
+no_items read turns bytes at n start left e le is = (
+  e.1,
+  none_found read turns (standing bytes at left)
+      (standing bytes start (left - n)) (e.2 left le ∙ ap (λ (k : ℕ). Ok (k, standing bytes start (left - n))) is),
+)
 
-closed_there : (bytes : List ℕ) (end left : ℕ) → end < length bytes → get_or bytes end 0 ≡ 0 → count_at (standing bytes end left) ≡ Ok (0, standing bytes (end + 1) left)
+closed_there : (bytes : List ℕ) (end left : ℕ) → end < length bytes → get_or bytes end 0 ≡ 0
+    → count_at (standing bytes end left) ≡ Ok (0, standing bytes (end + 1) left)
 closed_there bytes end left lt is =
     let b = one_group bytes end lt (omega (arith, is)) ∙ ap (λ (k : ℕ). Ok (k, drop (end + 1) bytes)) is in
-    (count_ends bytes end 0 (end + 1) (omega arith, omega (arith, lt), b) refl).2 left (omega arith) ∙ ap (λ (k : ℕ). Ok (0, standing bytes (end + 1) k)) (omega arith)
+    (count_ends bytes end 0 (end + 1) (omega arith, omega (arith, lt), b) refl).2 left (omega arith) ∙ ap
+    (λ (k : ℕ). Ok (0, standing bytes (end + 1) k)) (omega arith)
 
-block_found : {A : Type 0} (read : Position → Read A) (turns : ℕ) (p q r t : Position) (n : ℕ) (vs : List A) → n ≢ 0 → 0 < turns → count_at p ≡ Ok (n, q) → values_at read n q ≡ Ok (vs, r) → count_at r ≡ Ok (0, t) → behind (blocks_at read (suc turns) p) ≡ Ok t
+block_found : {A : Type 0} (read : Position → Read A) (turns : ℕ) (p q r t : Position) (n : ℕ) (vs : List A) → n ≢ 0
+    → 0 < turns → count_at p ≡ Ok (n, q) → values_at read n q ≡ Ok (vs, r) → count_at r ≡ Ok (0, t)
+    → behind (blocks_at read (suc turns) p) ≡ Ok t
 unfolding blocks_at
 block_found read turns p q r t zero vs some more e f g = absurd (some refl)
 block_found read zero p q r t (suc n) vs some more e f g = absurd (omega arith)
 block_found read (suc turns) p q r t (suc n) vs some more e f g = rw (e, f, g) refl
 
-pub one_block : {A : Type 0} (read : Position → Read A) (bytes : List ℕ) (at n start left end after : ℕ) → IsCountAt bytes at n start → n ≤ left → n ≢ 0 → EndsCounted (values_at read n) bytes start (left - n) end after → end < length bytes → get_or bytes end 0 ≡ 0
+pub one_block : {A : Type 0} (read : Position → Read A) (bytes : List ℕ) (at n start left end after : ℕ)
+    → IsCountAt bytes at n start → n ≤ left → n ≢ 0 → EndsCounted (values_at read n) bytes start (left - n) end after
+    → end < length bytes → get_or bytes end 0 ≡ 0
     → EndsCounted (blocks_at read (suc (length (drop at bytes)))) bytes at left (end + 1) after
 one_block read bytes at n start left end after e le some h lt is =
-    let vs = behind_ok (values_at read n (standing bytes start (left - n))) (standing bytes end after) h.1 in
-    (omega (arith, lt), block_found read (length (drop at bytes)) (standing bytes at left) (standing bytes start (left - n)) (standing bytes end after) (standing bytes (end + 1) after) n vs.0 some (omega (arith, length-drop at bytes, e.0, e.1)) (e.2 left le) vs.1 (closed_there bytes end after lt is))
+    let vs = behind_ok (values_at read n (standing bytes start (left - n))) (standing bytes end after) h.1 in (
+      omega (arith, lt),
+      block_found read (length (drop at bytes)) (standing bytes at left)
+          (standing bytes start (left - n)) (standing bytes end after) (standing bytes (end + 1) after) n vs.0 some
+          (omega (arith, length-drop at bytes, e.0, e.1)) (e.2 left le) vs.1 (closed_there bytes end after lt is),
+    )
 
 -- ---- objects
 
-pub object_passed : (s : Tree) (block : List ℕ) (end left : ℕ) → EndsCounted (datum_at s) block 0 max_items end left → behind (object_at s block) ≡ Ok (take (length block - end) (drop end block))
+pub object_passed : (s : Tree) (block : List ℕ) (end left : ℕ) → EndsCounted (datum_at s) block 0 max_items end left
+    → behind (object_at s block) ≡ Ok (take (length block - end) (drop end block))
 object_passed s block end left e = rw (to_end block end) (object_ends s block (standing block end left) e.1)

@@ -90,7 +90,11 @@ opened_at bytes = do
   text ← schema_text header.wanted.schema
   codec ← uncompressed header.wanted.codec
   s ← refused Schema (schema_of text)
-  Ok (record { schema = s; ahead = ahead_of (length bytes) None (run_from s header.sync (length bytes) (record { count = 0; block = []; bytes = header.rest })) })
+  Ok (record {
+    schema = s;
+    ahead = ahead_of (length bytes) None (run_from s header.sync (length bytes)
+        (record { count = 0; block = []; bytes = header.rest }));
+  })
 
 -- the header is whole and names a schema
 abbrev pub HasHeader : List ℕ → Type 0

@@ -11,17 +11,13 @@ ghost use Rattle.avro_file.specs.Files.{begun_at, uncompressed};
 
 use crate::blocks::{Spot, step};
 use crate::fault::{AvroFault, CodecName};
-use crate::header::{Header, header_of};
+use crate::header::{Header, MAGIC, NO_CODEC, header_of};
 use crate::known::schema_once;
 use crate::named::{KnownSchema, NamedSchema};
 use crate::object::Object;
 use crate::refusal::Refusal;
 use avro_schema::{Schema, SchemaFault};
 use std::alloc::{AllocError, Global};
-
-const MAGIC: &[u8] = b"Obj\x01";
-
-const NO_CODEC: &[u8] = b"null";
 
 /// The header of a file.
 #[tactic(auto, unfolding(crate::specs::Files::begun_at))]

@@ -12,9 +12,17 @@ use crate::leaf::{bytes_of, run_of_len, text_of};
 use crate::place::Place;
 use crate::refusal::Refusal;
 
-const SCHEMA: &[u8] = b"avro.schema";
+/// How each file begins.
+pub const MAGIC: &[u8] = b"Obj\x01";
 
-const CODEC: &[u8] = b"avro.codec";
+/// The key of the schema's text.
+pub const SCHEMA: &[u8] = b"avro.schema";
+
+/// The key of the codec's name.
+pub const CODEC: &[u8] = b"avro.codec";
+
+/// The codec of blocks that stand as they are.
+pub const NO_CODEC: &[u8] = b"null";
 
 /// The metadata that a reader needs.
 #[derive(Clone, Copy, Debug)]

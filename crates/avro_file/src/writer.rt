@@ -15,15 +15,8 @@ use crate::container::schema_named;
 use crate::datum::Datum;
 use crate::encode::{push_byte, push_count, push_datum, push_position, push_raw, push_run};
 use crate::fault::AvroFault;
+use crate::header::{CODEC, MAGIC, NO_CODEC, SCHEMA};
 use std::alloc::{AllocError, Global};
-
-const MAGIC: &[u8] = b"Obj\x01";
-
-const SCHEMA: &[u8] = b"avro.schema";
-
-const CODEC: &[u8] = b"avro.codec";
-
-const NO_CODEC: &[u8] = b"null";
 
 /// A key of a file's metadata, which is UTF-8, and the bytes under it.
 #[derive(Clone, Copy, Debug)]

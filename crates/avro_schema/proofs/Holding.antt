@@ -35,9 +35,11 @@ IsNamed kind.Word = ⊥
 
 pub uses_kind : (space name : List ℕ) (d : Data) (k : Kind) → kind_in d ≡ Some k → Uses space d name → IsWord k
 uses_kind space name d k is (a_text w p) = absurd cc
-uses_kind space name d k is (a_type {word} type w p) = let e : kind.Word ≡ k = one_kind d kind.Word k (rw (type, w) refl) is in rw (← e) tt
+uses_kind space name d k is (a_type {word} type w p) = let e : kind.Word ≡ k = one_kind d kind.Word k
+    (rw (type, w) refl) is in rw (← e) tt
 
-pub defines_kind : (space : List ℕ) (d : Data) (name : List ℕ) (k : Kind) → kind_in d ≡ Some k → Defines space d name → IsNamed k
+pub defines_kind : (space : List ℕ) (d : Data) (name : List ℕ) (k : Kind) → kind_in d ≡ Some k → Defines space d name
+    → IsNamed k
 defines_kind space d name k is (a_record r n) = let e : kind.Record ≡ k = one_kind d kind.Record k r is in rw (← e) tt
 defines_kind space d name k is (an_enum r n) = let e : kind.Enum ≡ k = one_kind d kind.Enum k r is in rw (← e) tt
 defines_kind space d name k is (a_fixed r n) = let e : kind.Fixed ≡ k = one_kind d kind.Fixed k r is in rw (← e) tt
@@ -51,18 +53,21 @@ defines_no_kind space d name none (an_enum r n) = some_kind d kind.Enum none r
 defines_no_kind space d name none (a_fixed r n) = some_kind d kind.Fixed none r
 
 -- a use defines nothing
-pub uses_no_definition : (space name : List ℕ) (d : Data) (other : List ℕ) → Uses space d name → Defines space d other → ⊥
+pub uses_no_definition : (space name : List ℕ) (d : Data) (other : List ℕ) → Uses space d name → Defines space d other
+    → ⊥
 uses_no_definition space name d other u (a_record r n) = uses_kind space name d kind.Record r u
 uses_no_definition space name d other u (an_enum r n) = uses_kind space name d kind.Enum r u
 uses_no_definition space name d other u (a_fixed r n) = uses_kind space name d kind.Fixed r u
 
-own_name : (space : List ℕ) (d : Data) (own : List ℕ) → Defines space d own → (name : List ℕ) × ((name_in d ≡ Some name) × (own ≡ defines space name d))
+own_name : (space : List ℕ) (d : Data) (own : List ℕ) → Defines space d own
+    → (name : List ℕ) × ((name_in d ≡ Some name) × (own ≡ defines space name d))
 own_name space d own (a_record {name} r n) = (name, (n, refl))
 own_name space d own (an_enum {name} r n) = (name, (n, refl))
 own_name space d own (a_fixed {name} r n) = (name, (n, refl))
 
 -- a type defines one name
-pub one_definition : (space : List ℕ) (d : Data) (own other : List ℕ) → Defines space d own → Defines space d other → own ≡ other
+pub one_definition : (space : List ℕ) (d : Data) (own other : List ℕ) → Defines space d own → Defines space d other
+    → own ≡ other
 one_definition space d own other h k =
     let a = own_name space d own h in
     let b = own_name space d other k in
@@ -72,7 +77,8 @@ one_definition space d own other h k =
 
 -- ---- parts
 
-pub parts_kind : (space : List ℕ) (d : Data) (k : Kind) → kind_in d ≡ Some k → parts_in space d ≡ nodes_of (Some k) space d
+pub parts_kind : (space : List ℕ) (d : Data) (k : Kind) → kind_in d ≡ Some k
+    → parts_in space d ≡ nodes_of (Some k) space d
 unfolding parts_in
 parts_kind space json.null k h = absurd cc
 parts_kind space (json.boolean b) k h = absurd cc
@@ -81,14 +87,20 @@ parts_kind space (json.string x) k h = absurd cc
 parts_kind space (json.array ds) k h = absurd cc
 parts_kind space (json.object ms) k h = ap (λ (o : Option Kind). nodes_of o space (json.object ms)) h
 
-pub parts_items : (space : List ℕ) (d e : Data) → kind_in d ≡ Some kind.Array → get (codes "items") d ≡ Some e → parts_in space d ≡ (space, e) ∷ []
+pub parts_items : (space : List ℕ) (d e : Data) → kind_in d ≡ Some kind.Array → get (codes "items") d ≡ Some e
+    → parts_in space d ≡ (space, e) ∷ []
 parts_items space d e is there = parts_kind space d kind.Array is ∙ rw there refl
 
-pub parts_values : (space : List ℕ) (d e : Data) → kind_in d ≡ Some kind.Map → get (codes "values") d ≡ Some e → parts_in space d ≡ (space, e) ∷ []
+pub parts_values : (space : List ℕ) (d e : Data) → kind_in d ≡ Some kind.Map → get (codes "values") d ≡ Some e
+    → parts_in space d ≡ (space, e) ∷ []
 parts_values space d e is there = parts_kind space d kind.Map is ∙ rw there refl
 
-pub parts_fields : (space name : List ℕ) (d : Data) (ds : Items) → kind_in d ≡ Some kind.Record → name_in d ≡ Some name → items_in is_object (codes "fields") d ≡ Some ds → parts_in space d ≡ field_nodes (space_of (defines space name d)) ds
-parts_fields space name d ds is named there = parts_kind space d kind.Record is ∙ ap (λ (o : Option (List ℕ)). record_nodes space o (items_in is_object (codes "fields") d) d) named ∙ ap (λ (o : Option Items). record_nodes space (Some name) o d) there
+pub parts_fields : (space name : List ℕ) (d : Data) (ds : Items) → kind_in d ≡ Some kind.Record → name_in d ≡ Some name
+    → items_in is_object (codes "fields") d ≡ Some ds → parts_in space d ≡ field_nodes (space_of (defines space name d))
+    ds
+parts_fields space name d ds is named there = parts_kind space d kind.Record is ∙ ap (λ (o : Option (List ℕ)).
+    record_nodes space o (items_in is_object (codes "fields") d) d) named ∙ ap (λ (o : Option Items). record_nodes space
+    (Some name) o d) there
 
 pub parts_use : (space name : List ℕ) (d : Data) → Uses space d name → parts_in space d ≡ []
 unfolding parts_in

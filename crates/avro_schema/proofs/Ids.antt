@@ -1,5 +1,6 @@
 -- The ids of a record's fields, each beside those in front of it.
-use Rattle.std.proofs.Common.{◌≡◌, ◌⊎◌, Bool, true, false, ◌||◌, List, [], ◌∷◌, ◌++◌, Option, Some, None, Ok, Err, refl, sym, ap, ◌∙◌}
+use Rattle.std.proofs.Common.{◌≡◌, ◌⊎◌, Bool, true, false, ◌||◌, List, [], ◌∷◌, ◌++◌, Option, Some, None, Ok, Err, refl}
+use Rattle.std.proofs.Common.{sym, ap, ◌∙◌}
 use mathlib.Core.Logic.{inl, inr}
 use Rattle.std.specs.Prelude.{MatchResult, codes, ℤ, if◌then◌else◌}
 use Rattle.std.specs.List.{list_any}
@@ -47,15 +48,19 @@ own_has id (Some x) t h = ap Some ((Decides-int_eq x id).0 h)
 
 front_last : (id : ℤ) (front : List Part) (p : Part) → has_id id p ≡ true → Front id (front ++ p ∷ [])
 front_last id [] p h = or_left (has_id id p) false h
-front_last id (q ∷ front) p h = or_right (has_id id q) (list_any (has_id id) (front ++ p ∷ [])) (front_last id front p h)
+front_last id (q ∷ front) p h = or_right (has_id id q) (list_any (has_id id) (front ++ p ∷ []))
+    (front_last id front p h)
 
 front_on : (id : ℤ) (front : List Part) (p : Part) → Front id front → Front id (front ++ p ∷ [])
 front_on id [] p h = absurd cc
-front_on id (q ∷ front) p h = or_more (has_id id q) (list_any (has_id id) front) (list_any (has_id id) (front ++ p ∷ [])) (front_on id front p) h
+front_on id (q ∷ front) p h = or_more (has_id id q) (list_any (has_id id) front)
+    (list_any (has_id id) (front ++ p ∷ [])) (front_on id front p) h
 
-last_front : (id : ℤ) (front : List Part) (p : Part) → Front id (front ++ p ∷ []) → Front id front ⊎ (has_id id p ≡ true)
+last_front : (id : ℤ) (front : List Part) (p : Part) → Front id (front ++ p ∷ [])
+    → Front id front ⊎ (has_id id p ≡ true)
 last_front id [] p h = or_none (has_id id p) h
-last_front id (q ∷ front) p h = or_apart (has_id id q) (list_any (has_id id) (front ++ p ∷ [])) (list_any (has_id id) front) (has_id id p) (last_front id front p) h
+last_front id (q ∷ front) p h = or_apart (has_id id q) (list_any (has_id id) (front ++ p ∷ []))
+    (list_any (has_id id) front) (has_id id p) (last_front id front p) h
 
 -- ---- one field
 
@@ -66,15 +71,22 @@ abbrev pub HadId : Data → List Part → SchemaFault → Type 0
 HadId d front e = (id : ℤ) × ((e ≡ FieldTwice id) × ((id_in (codes "field-id") d ≡ Some id) × Front id front))
 
 not_there : (id other : ℤ) (front : List Part) → id ≡ other → list_any (has_id id) front ≡ false → Front other front → ⊥
-not_there id other front same h there = let no : false ≡ true = sym h ∙ ap (λ (z : ℤ). list_any (has_id z) front) same ∙ there in absurd cc
+not_there id other front same h there = let no : false ≡ true = sym h ∙ ap (λ (z : ℤ). list_any (has_id z) front) same ∙
+    there in absurd cc
 
-pub fresh_tells : (d : Data) (o : Option ℤ) (front : List Part) → id_in (codes "field-id") d ≡ o → MatchResult (fresh o front) (λ x. (x ≡ o) × FreshIn d front) (HadId d front)
+pub fresh_tells : (d : Data) (o : Option ℤ) (front : List Part) → id_in (codes "field-id") d ≡ o
+    → MatchResult (fresh o front) (λ x. (x ≡ o) × FreshIn d front) (HadId d front)
 fresh_tells d None front is = (refl, λ id own h. let e : None ≡ Some id = sym is ∙ own in absurd cc)
 fresh_tells d (Some id) front is = or_not (list_any (has_id id) front) refl
   where
-    or_not : (b : Bool) → list_any (has_id id) front ≡ b → MatchResult (if b then Err (FieldTwice id) else Ok (Some id)) (λ x. (x ≡ Some id) × FreshIn d front) (HadId d front)
+    or_not : (b : Bool) → list_any (has_id id) front ≡ b → MatchResult (if b then Err (FieldTwice id) else Ok (Some id))
+        (λ x. (x ≡ Some id) × FreshIn d front) (HadId d front)
     or_not true h = (id, (refl, (is, h)))
-    or_not false h = (refl, λ other own there. let e : Some id ≡ Some other = sym is ∙ own in let same : id ≡ other = cc in not_there id other front same h there)
+    or_not false h = (
+      refl,
+      λ other own there. let e : Some id ≡ Some other = sym is ∙ own in let same : id ≡ other =
+          cc in not_there id other front same h there,
+    )
 
 -- ---- all fields
 
@@ -97,26 +109,53 @@ none_held d ds e first = absurd cc
 none_held d ds e (later a) = absurd cc
 
 pub none_apart : (front : List Part) → IdsApart front json.no_items
-none_apart front = (λ id h. none_twice id json.no_items refl h, λ id there held. none_held held.0 json.no_items refl held.1.0)
+none_apart front = (
+  λ id h. none_twice id json.no_items refl h,
+  λ id there held. none_held held.0 json.no_items refl
+      held.1.0,
+)
 
-apart_twice : (d : Data) (ds : Items) (front : List Part) (t : Tree) (id : ℤ) → IdsApart (front ++ (id_in (codes "field-id") d, t) ∷ []) ds → IdTwice id (json.item d ds) → ⊥
-apart_twice d ds front t id rest (with_later {e} own among other) = rest.1 id (front_last id front (id_in (codes "field-id") d, t) (has_own id (id_in (codes "field-id") d) t own)) (e, (among, other))
+apart_twice : (d : Data) (ds : Items) (front : List Part) (t : Tree) (id : ℤ)
+    → IdsApart (front ++ (id_in (codes "field-id") d, t) ∷ []) ds → IdTwice id (json.item d ds) → ⊥
+apart_twice d ds front t id rest (with_later {e} own among other) =
+    rest.1 id (front_last id front (id_in (codes "field-id") d, t) (has_own id (id_in (codes "field-id") d) t own))
+    (e, (among, other))
 apart_twice d ds front t id rest (among_later h) = rest.0 id h
 
-apart_held : (d f : Data) (ds : Items) (front : List Part) (t : Tree) (id : ℤ) → FreshIn d front → IdsApart (front ++ (id_in (codes "field-id") d, t) ∷ []) ds → Front id front → Among f (json.item d ds) → id_in (codes "field-id") f ≡ Some id → ⊥
+apart_held : (d f : Data) (ds : Items) (front : List Part) (t : Tree) (id : ℤ) → FreshIn d front
+    → IdsApart (front ++ (id_in (codes "field-id") d, t) ∷ []) ds → Front id front → Among f (json.item d ds)
+    → id_in (codes "field-id") f ≡ Some id → ⊥
 apart_held d f ds front t id new rest there first own = new id own there
-apart_held d f ds front t id new rest there (later among) own = rest.1 id (front_on id front (id_in (codes "field-id") d, t) there) (f, (among, own))
+apart_held d f ds front t id new rest there (later among) own =
+    rest.1 id (front_on id front (id_in (codes "field-id") d, t) there) (f, (among, own))
 
-pub apart_on : (d : Data) (ds : Items) (front : List Part) (t : Tree) → FreshIn d front → IdsApart (front ++ (id_in (codes "field-id") d, t) ∷ []) ds → IdsApart front (json.item d ds)
-apart_on d ds front t new rest = (λ id h. apart_twice d ds front t id rest h, λ id there held. apart_held d held.0 ds front t id new rest there held.1.0 held.1.1)
+pub apart_on : (d : Data) (ds : Items) (front : List Part) (t : Tree) → FreshIn d front
+    → IdsApart (front ++ (id_in (codes "field-id") d, t) ∷ []) ds → IdsApart front (json.item d ds)
+apart_on d ds front t new rest = (
+  λ id h. apart_twice d ds front t id rest h,
+  λ id there held. apart_held d held.0 ds
+      front t id new rest there held.1.0 held.1.1,
+)
 
-had_back : (d : Data) (ds : Items) (front : List Part) (t : Tree) (id : ℤ) → HeldBy id ds → Front id front ⊎ (has_id id (id_in (codes "field-id") d, t) ≡ true) → IdTwice id (json.item d ds) ⊎ (Front id front × HeldBy id (json.item d ds))
+had_back : (d : Data) (ds : Items) (front : List Part) (t : Tree) (id : ℤ) → HeldBy id ds
+    → Front id front ⊎ (has_id id (id_in (codes "field-id") d, t) ≡ true)
+    → IdTwice id (json.item d ds) ⊎ (Front id front × HeldBy id (json.item d ds))
 had_back d ds front t id held (inl there) = inr (there, (held.0, (later held.1.0, held.1.1)))
-had_back d ds front t id held (inr own) = inl (with_later (own_has id (id_in (codes "field-id") d) t own) held.1.0 held.1.1)
+had_back d ds front t id held (inr own) = inl (with_later (own_has id (id_in (codes "field-id") d) t own) held.1.0
+    held.1.1)
 
-pub had_on : (d : Data) (ds : Items) (front : List Part) (t : Tree) (e : SchemaFault) (id : ℤ) → e ≡ FieldTwice id → IdTwice id ds ⊎ (Front id (front ++ (id_in (codes "field-id") d, t) ∷ []) × HeldBy id ds) → IdHad front (json.item d ds) e
+pub had_on : (d : Data) (ds : Items) (front : List Part) (t : Tree) (e : SchemaFault) (id : ℤ) → e ≡ FieldTwice id
+    → IdTwice id ds ⊎ (Front id (front ++ (id_in (codes "field-id") d, t) ∷ []) × HeldBy id ds)
+    → IdHad front (json.item d ds) e
 had_on d ds front t e id is (inl h) = (id, (is, inl (among_later h)))
-had_on d ds front t e id is (inr h) = (id, (is, had_back d ds front t id h.1 (last_front id front (id_in (codes "field-id") d, t) h.0)))
+had_on d ds front t e id is (inr h) = (
+  id,
+  (
+    is,
+    had_back d ds front t id h.1
+        (last_front id front (id_in (codes "field-id") d, t) h.0),
+  ),
+)
 
 pub nothing_before : (ds : Items) (id : ℤ) → IdTwice id ds ⊎ (Front id [] × HeldBy id ds) → IdTwice id ds
 nothing_before ds id (inl h) = h

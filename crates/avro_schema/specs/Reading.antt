@@ -123,7 +123,14 @@ record_at read space d seen = do
   items ← asked (items_in is_object (codes "fields") d)
   opened ← defined (defines space name d) None seen
   fields ← fields_at (read role.Elsewhere (space_of (defines space name d))) [] items opened
-  Ok (structure (fields_of fields.0), record { names = put (defines space name d) (Some (structure (fields_of fields.0))) fields.1.names; left = fields.1.left })
+  Ok (
+    structure (fields_of fields.0),
+    record {
+      names = put (defines space name d)
+          (Some (structure (fields_of fields.0))) fields.1.names;
+      left = fields.1.left;
+    },
+  )
 
 unfoldable pub array_at : Reader → List ℕ → Data → Seen → Read Tree
 array_at read space d seen = do

@@ -9,22 +9,29 @@ use Rattle.ice_catalog.specs.declared.event.Reply.TheVariants as reply
 use Rattle.ice_versions.specs.declared.fault.PrepareFault.{PrepareFault}
 use Rattle.ice_versions.specs.Histories.{Step, after, prepared_on}
 use Rattle.ice_versions.specs.Live.{IsGrown}
-use Rattle.ice_catalog.specs.Machines.{Machine, PinnedScan, at_pin, commit, committed, event, machine_after, merge, replies_to, take}
+use Rattle.ice_catalog.specs.Machines.{Machine, PinnedScan, at_pin, commit, committed, event, machine_after, merge}
+use Rattle.ice_catalog.specs.Machines.{replies_to, take}
 use Rattle.ice_versions.proofs.Grown.{grown_before}
 
 -- ---- the machine's history, which only commits make longer
 
-before_committed : (m : Machine) (c : Commit) (r : Result Step PrepareFault) → IsGrown (committed m c r).1.history → IsGrown m.history
+before_committed : (m : Machine) (c : Commit) (r : Result Step PrepareFault) → IsGrown (committed m c r).1.history
+    → IsGrown m.history
 before_committed m c (Ok s) all = grown_before m.history c all
 before_committed m c (Err f) all = all
 
 before_commit : (m : Machine) (base : ℕ) (c : Commit) → IsGrown (commit m base c).1.history → IsGrown m.history
-before_commit m base c = elim (base == length m.history.journal) as (λ b. IsGrown (cond b (committed m c (prepared_on m.history c)) (reply.Conflict (length m.history.journal), m)).1.history → IsGrown m.history) [
-  | true ↦ before_committed m c (prepared_on m.history c)
-  | false ↦ λ all. all
-]
+before_commit m base c = elim (base == length m.history.journal) as
+    (λ b. IsGrown (cond b (committed m c (prepared_on m.history c)) (
+      reply.Conflict (length m.history.journal),
+      m,
+    )).1.history → IsGrown m.history) [
+      | true ↦ before_committed m c (prepared_on m.history c)
+      | false ↦ λ all. all
+    ]
 
-before_step : (m : Machine) (k : ℕ) (f : PinnedScan → Reply × PinnedScan) (o : Option (Option PinnedScan)) → IsGrown (at_pin m k f o).1.history → IsGrown m.history
+before_step : (m : Machine) (k : ℕ) (f : PinnedScan → Reply × PinnedScan) (o : Option (Option PinnedScan))
+    → IsGrown (at_pin m k f o).1.history → IsGrown m.history
 before_step m k f None all = all
 before_step m k f (Some s) all = all
 
@@ -40,16 +47,19 @@ before_events m [] all = all
 before_events m (e ∷ es) all = before_event m e (before_events (event m e).1 es all)
 
 -- so it is after each front of the events, where it is after all
-pub grown_midway : (m : Machine) (front rest : List Event) → IsGrown (machine_after m (front ++ rest)).history → IsGrown (machine_after m front).history
+pub grown_midway : (m : Machine) (front rest : List Event) → IsGrown (machine_after m (front ++ rest)).history
+    → IsGrown (machine_after m front).history
 grown_midway m [] rest all = before_events m rest all
 grown_midway m (e ∷ front) rest all = grown_midway (event m e).1 front rest all
 
 -- ---- the replies
 
-pub machine_midway : (m : Machine) (front rest : List Event) → machine_after m (front ++ rest) ≡ machine_after (machine_after m front) rest
+pub machine_midway : (m : Machine) (front rest : List Event)
+    → machine_after m (front ++ rest) ≡ machine_after (machine_after m front) rest
 machine_midway m [] rest = refl
 machine_midway m (e ∷ front) rest = machine_midway (event m e).1 front rest
 
-pub reply_at : (m : Machine) (front rest : List Event) (e : Event) → slice_get (replies_to m (front ++ e ∷ rest)) (length front) ≡ Some (event (machine_after m front) e).0
+pub reply_at : (m : Machine) (front rest : List Event) (e : Event)
+    → slice_get (replies_to m (front ++ e ∷ rest)) (length front) ≡ Some (event (machine_after m front) e).0
 reply_at m [] rest e = refl
 reply_at m (x ∷ front) rest e = reply_at (event m x).1 front rest e

@@ -26,22 +26,28 @@ use Rattle.ice_versions.proofs.Covered.{IsCoveredAt}
 
 -- ---- what a pinned scan reads
 
-rows_read : (state : State) (rows : List Row) → rows_in state ≡ Ok rows → base_rows state.world state.metadata.table ≡ rows
+rows_read : (state : State) (rows : List Row) → rows_in state ≡ Ok rows
+    → base_rows state.world state.metadata.table ≡ rows
 unfolding rows_in
 rows_read state rows h = of_path (list_of Main state.metadata.table) h where
   of_rows : (r : Result (List Row) ListFault) → as_pin of_list r ≡ Ok rows → unwrap_or (result_ok r) [] ≡ rows
   of_rows (Ok found) h = cc
   of_rows (Err f) h = absurd cc
 
-  of_bytes : (b : Option (List ℕ)) → (there b >>= λ bytes. as_pin of_list (rows_of bytes)) ≡ Ok rows → unwrap_or (option_and_then (λ bytes. result_ok (rows_of bytes)) b) [] ≡ rows
+  of_bytes : (b : Option (List ℕ)) → (there b >>= λ bytes. as_pin of_list (rows_of bytes)) ≡ Ok rows
+      → unwrap_or (option_and_then (λ bytes. result_ok (rows_of bytes)) b) [] ≡ rows
   of_bytes None h = absurd cc
   of_bytes (Some bytes) h = of_rows (rows_of bytes) h
 
-  of_path : (r : Result (List ℕ) MetaFault) → (as_pin of_meta r >>= λ path. there (get state.world path) >>= λ bytes. as_pin of_list (rows_of bytes)) ≡ Ok rows → unwrap_or (rows_at state.world (result_ok r)) [] ≡ rows
+  of_path : (r : Result (List ℕ) MetaFault)
+      → (as_pin of_meta r >>= λ path. there (get state.world path) >>= λ bytes. as_pin of_list (rows_of bytes)) ≡ Ok
+      rows → unwrap_or (rows_at state.world (result_ok r)) [] ≡ rows
   of_path (Ok path) h = of_bytes (get state.world path) h
   of_path (Err f) h = absurd cc
 
-pub tells_the_truth : (state : State) (filter : List (Part Leaf)) (schema : Schema) (rows : List Row) (parts : List (Part BoundLeaf)) → Reads state filter schema rows parts → HasCoveredRows state → TellsTheTruth state schema rows
+pub tells_the_truth : (state : State) (filter : List (Part Leaf)) (schema : Schema) (rows : List Row)
+    (parts : List (Part BoundLeaf)) → Reads state filter schema rows parts → HasCoveredRows state
+    → TellsTheTruth state schema rows
 unfolding table_specs
 tells_the_truth state filter schema rows parts reads covered =
     let t = state.metadata.table in

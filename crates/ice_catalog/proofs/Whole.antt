@@ -1,5 +1,6 @@
 -- A pinned scan whose every wanted row is taken.
-use Rattle.std.proofs.Common.{◌≡◌, ℕ, zero, suc, Bool, true, false, List, [], ◌∷◌, length, replicate, refl, sym, ◌∙◌, ap, subst}
+use Rattle.std.proofs.Common.{◌≡◌, ℕ, zero, suc, Bool, true, false, List, [], ◌∷◌, length, replicate, refl, sym, ◌∙◌}
+use Rattle.std.proofs.Common.{ap, subst}
 use Rattle.std.specs.Prelude.{cond, is_some, option_map, slice_get, slice_set, Option, Some, None, Result, Ok, Err}
 use Rattle.std.specs.FinMap.{get}
 use Rattle.std.specs.List.{All}
@@ -26,7 +27,8 @@ use Rattle.ice_catalog.specs.declared.event.Event.{Event}
 use Rattle.ice_catalog.specs.declared.event.Event.TheVariants as on
 use Rattle.ice_catalog.specs.Apart.{Reads, TellsTheTruth, TookEvery, alone, is_of, pin_after, plan_reply, specs_of}
 use Rattle.ice_versions.specs.Histories.{History, state_of}
-use Rattle.ice_catalog.specs.Machines.{Machine, PinnedScan, begun, event, finish_at, finished, machine_after, merge_by, pin, pinned_on, take_by, took_row, world_in, world_of}
+use Rattle.ice_catalog.specs.Machines.{Machine, PinnedScan, begun, event, finish_at, finished, machine_after, merge_by}
+use Rattle.ice_catalog.specs.Machines.{pin, pinned_on, take_by, took_row, world_in, world_of}
 use Rattle.ice_catalog.specs.Pins.{as_pin, of_scan, scan_in}
 use Rattle.ice_versions.specs.States.{State}
 use Rattle.ice_catalog.proofs.Apart.{after_apart, get_last}
@@ -45,18 +47,27 @@ has_none world [] n = tt
 has_none world (row ∷ rows) zero = tt
 has_none world (row ∷ rows) (suc n) = has_none world rows n
 
-there : (world : World) (row r : Row) (bytes : List ℕ) → Some r ≡ Some row → world row.path ≡ Some bytes → is_some (world r.path) ≡ true
-there world row r bytes one is = let same : r ≡ row = cc in ap (λ (q : Row). is_some (world q.path)) same ∙ ap is_some is
+there : (world : World) (row r : Row) (bytes : List ℕ) → Some r ≡ Some row → world row.path ≡ Some bytes
+    → is_some (world r.path) ≡ true
+there world row r bytes one is = let same : r ≡ row = cc in ap (λ (q : Row). is_some (world q.path)) same ∙ ap is_some
+    is
 
-has_add : (world : World) (rows : List Row) (ts : List Bool) (i : ℕ) (row : Row) (bytes : List ℕ) → slice_get rows i ≡ Some row → world row.path ≡ Some bytes → HasSet world rows ts → HasSet world rows (slice_set ts i true)
+has_add : (world : World) (rows : List Row) (ts : List Bool) (i : ℕ) (row : Row) (bytes : List ℕ)
+    → slice_get rows i ≡ Some row → world row.path ≡ Some bytes → HasSet world rows ts
+    → HasSet world rows (slice_set ts i true)
 has_add world [] ts i row bytes at is has = tt
 has_add world (r ∷ rows) [] i row bytes at is has = tt
 has_add world (r ∷ rows) (true ∷ ts) zero row bytes at is has = has
 has_add world (r ∷ rows) (false ∷ ts) zero row bytes at is has = (there world row r bytes at is, has)
-has_add world (r ∷ rows) (true ∷ ts) (suc i) row bytes at is has = (has.0, has_add world rows ts i row bytes at is has.1)
+has_add world (r ∷ rows) (true ∷ ts) (suc i) row bytes at is has = (
+  has.0,
+  has_add world rows ts i row bytes at is
+      has.1,
+)
 has_add world (r ∷ rows) (false ∷ ts) (suc i) row bytes at is has = has_add world rows ts i row bytes at is has
 
-has_either : (world : World) (rows : List Row) (ts us : List Bool) → HasSet world rows ts → HasSet world rows us → HasSet world rows (either ts us)
+has_either : (world : World) (rows : List Row) (ts us : List Bool) → HasSet world rows ts → HasSet world rows us
+    → HasSet world rows (either ts us)
 has_either world [] ts us t u = tt
 has_either world (row ∷ rows) [] us t u = u
 has_either world (row ∷ rows) (true ∷ ts) [] t u = t
@@ -84,23 +95,35 @@ Keeps q None = ⊥
 Keeps q (Some p) = (p.history ≡ q.history) × (p.scan ≡ q.scan) × Sound p
 
 module _ (q p : PinnedScan) (keeps : Keeps q (Some p)) where
-  took : (w i : ℕ) (set : List Bool) (row : Row) (found : Option (List ℕ)) → slice_get p.workers w ≡ Some set → slice_get p.scan.wanted i ≡ Some row → world_of p.history row.path ≡ found → Keeps q (Some (took_row p w i set row found).1)
+  took : (w i : ℕ) (set : List Bool) (row : Row) (found : Option (List ℕ)) → slice_get p.workers w ≡ Some set
+      → slice_get p.scan.wanted i ≡ Some row → world_of p.history row.path ≡ found
+      → Keeps q (Some (took_row p w i set row found).1)
   took w i set row None worker at is = keeps
   took w i set row (Some bytes) worker at is =
-      let P = HasSet (world_of p.history) p.scan.wanted in
-      (keeps.0, keeps.1, All-set P p.workers w (add set i) (has_add (world_of p.history) p.scan.wanted set i row bytes at is (of_one P p.workers w set keeps.2 worker)) keeps.2)
+      let P = HasSet (world_of p.history) p.scan.wanted in (
+        keeps.0,
+        keeps.1,
+        All-set P p.workers w (add set i) (has_add (world_of p.history) p.scan.wanted set i row bytes
+            at is (of_one P p.workers w set keeps.2 worker)) keeps.2,
+      )
 
-  takes_by : (w i : ℕ) (set : Option (List Bool)) (row : Option Row) → slice_get p.workers w ≡ set → slice_get p.scan.wanted i ≡ row → Keeps q (Some (take_by p w i set row).1)
+  takes_by : (w i : ℕ) (set : Option (List Bool)) (row : Option Row) → slice_get p.workers w ≡ set
+      → slice_get p.scan.wanted i ≡ row → Keeps q (Some (take_by p w i set row).1)
   takes_by w i None row worker at = keeps
   takes_by w i (Some set) None worker at = keeps
   takes_by w i (Some set) (Some row) worker at = took w i set row (world_of p.history row.path) worker at refl
 
-  merges_by : (into from : ℕ) (set other : Option (List Bool)) → slice_get p.workers into ≡ set → slice_get p.workers from ≡ other → Keeps q (Some (merge_by p into set other).1)
+  merges_by : (into from : ℕ) (set other : Option (List Bool)) → slice_get p.workers into ≡ set
+      → slice_get p.workers from ≡ other → Keeps q (Some (merge_by p into set other).1)
   merges_by into from None other is also = keeps
   merges_by into from (Some set) None is also = keeps
   merges_by into from (Some set) (Some other) is also =
-      let P = HasSet (world_of p.history) p.scan.wanted in
-      (keeps.0, keeps.1, All-set P p.workers into (either set other) (has_either (world_of p.history) p.scan.wanted set other (of_one P p.workers into set keeps.2 is) (of_one P p.workers from other keeps.2 also)) keeps.2)
+      let P = HasSet (world_of p.history) p.scan.wanted in (
+        keeps.0,
+        keeps.1,
+        All-set P p.workers into (either set other) (has_either (world_of p.history) p.scan.wanted set
+            other (of_one P p.workers into set keeps.2 is) (of_one P p.workers from other keeps.2 also)) keeps.2,
+      )
 
   one : (e : Event) → Keeps q (alone (Some p) e).1
   one (on.Pin filter) = keeps
@@ -122,7 +145,12 @@ all_steps q k s (e ∷ es) keeps =
     ]
 
 begins : (h : History) (scan : Scanned) → Keeps (begun h scan) (Some (begun h scan))
-begins h scan = (refl, refl, All-replicate (HasSet (world_of h) scan.wanted) 64 (no_row scan) (has_none (world_of h) scan.wanted (length scan.wanted)))
+begins h scan = (
+  refl,
+  refl,
+  All-replicate (HasSet (world_of h) scan.wanted) 64 (no_row scan)
+      (has_none (world_of h) scan.wanted (length scan.wanted)),
+)
 
 -- an unpinned one stays so
 unpinned : (e : Event) → (alone None e).1 ≡ None
@@ -142,7 +170,9 @@ stays k (e ∷ es) =
 
 -- ---- what is pinned
 
-pub scans : (state : State) (filter : List (Part Leaf)) (schema : Schema) (rows : List Row) (parts : List (Part BoundLeaf)) → Reads state filter schema rows parts → scan_in state filter ≡ as_pin of_scan (scan_of_rows rows (specs_of state schema) parts)
+pub scans : (state : State) (filter : List (Part Leaf)) (schema : Schema) (rows : List Row)
+    (parts : List (Part BoundLeaf)) → Reads state filter schema rows parts
+    → scan_in state filter ≡ as_pin of_scan (scan_of_rows rows (specs_of state schema) parts)
 unfolding scan_in
 scans state filter schema rows parts reads = rw (reads.listed, reads.current, reads.bound) refl
 
@@ -150,43 +180,63 @@ same_some : {A : Type 0} (x y : A) → Some x ≡ Some y → x ≡ y
 same_some x y e = cc
 
 -- what the law of filters says
-module _ (opens : (parts : List (Part BoundLeaf)) (specs : _) → IsOpen specs (pruner_of parts specs)) (sound : (parts : List (Part BoundLeaf)) (specs : _) → HasSoundSummaries specs (pruner_of parts specs)) where
-  module _ (h : History) (state : State) (filter : List (Part Leaf)) (schema : Schema) (rows : List Row) (parts : List (Part BoundLeaf)) (leaves : state_of h ≡ Some state) (reads : Reads state filter schema rows parts) (truth : TellsTheTruth state schema rows) where
-    found : (r : Result Scanned ScanFault) → scan_of_rows rows (specs_of state schema) parts ≡ r → pinned_on h filter ≡ option_map (begun h) (result_ok (as_pin of_scan r))
+module _ (opens : (parts : List (Part BoundLeaf)) (specs : _) → IsOpen specs (pruner_of parts specs))
+    (sound : (parts : List (Part BoundLeaf)) (specs : _) → HasSoundSummaries specs (pruner_of parts specs)) where
+  module _ (h : History) (state : State) (filter : List (Part Leaf)) (schema : Schema) (rows : List Row)
+      (parts : List (Part BoundLeaf)) (leaves : state_of h ≡ Some state) (reads : Reads state filter schema rows parts)
+      (truth : TellsTheTruth state schema rows) where
+    found : (r : Result Scanned ScanFault) → scan_of_rows rows (specs_of state schema) parts ≡ r
+        → pinned_on h filter ≡ option_map (begun h) (result_ok (as_pin of_scan r))
     found r is =
         ap (λ o. option_map (begun h) (option_and_then (λ (s : State). result_ok (scan_in s filter)) o)) leaves
-        ∙ ap (λ p. option_map (begun h) (result_ok p)) (scans state filter schema rows parts reads ∙ ap (as_pin of_scan) is)
+        ∙ ap (λ p. option_map (begun h) (result_ok p)) (scans state filter schema rows parts reads ∙ ap (as_pin of_scan)
+        is)
 
-    plan : (scan : Scanned) (p : PinnedScan) → scan_of_rows rows (specs_of state schema) parts ≡ Ok scan → Keeps (begun h scan) (Some p) → HasEach (world_of p.history) p.scan.wanted →
-        outcome p.scan (content (world_of p.history) p.scan (every_row p.scan)) ≡ plan_of_snapshot (pruner_of parts (specs_of state schema)) (get state.world) (specs_of state schema) rows
+    plan : (scan : Scanned) (p : PinnedScan) → scan_of_rows rows (specs_of state schema) parts ≡ Ok scan
+        → Keeps (begun h scan) (Some p) → HasEach (world_of p.history) p.scan.wanted →
+        outcome p.scan (content (world_of p.history) p.scan (every_row p.scan)) ≡ plan_of_snapshot
+        (pruner_of parts (specs_of state schema)) (get state.world) (specs_of state schema) rows
     plan scan p is keeps has =
         let specs = specs_of state schema in
         let own = made rows specs parts scan is in
         let files : world_of p.history ≡ get state.world = ap world_of keeps.0 ∙ ap world_in leaves in
         let of : IsScanOf rows specs p.scan = subst (IsScanOf rows specs) (sym keeps.1) own.1 in
-        let told : AreCovered (world_of p.history) specs rows = subst (λ (v : World). AreCovered v specs rows) (sym files) truth in
-        of_snapshot opens sound (world_of p.history) p.scan rows specs (content (world_of p.history) p.scan (every_row p.scan)) of told has refl
+        let told : AreCovered (world_of p.history) specs rows = subst (λ (v : World). AreCovered v specs rows)
+        (sym files) truth in
+        of_snapshot opens sound (world_of p.history) p.scan rows specs (content (world_of p.history) p.scan
+        (every_row p.scan)) of told has refl
         ∙ (ap (λ (s : Scanned). plan_of_snapshot (pruner_of s.filter specs) (world_of p.history) specs rows) keeps.1
-        ∙ (ap (λ (ps : List (Part BoundLeaf)). plan_of_snapshot (pruner_of ps specs) (world_of p.history) specs rows) own.0
+        ∙ (ap (λ (ps : List (Part BoundLeaf)). plan_of_snapshot (pruner_of ps specs) (world_of p.history) specs rows)
+        own.0
         ∙ ap (λ (v : World). plan_of_snapshot (pruner_of parts specs) v specs rows) files))
 
-    ends : (k : ℕ) (es : List Event) (w : ℕ) (p : PinnedScan) → pin_after k (pinned_on h filter) es ≡ Some p → slice_get p.workers w ≡ Some (every_row p.scan) → (r : Result Scanned ScanFault) → scan_of_rows rows (specs_of state schema) parts ≡ r →
-        finished (outcome p.scan (content (world_of p.history) p.scan (every_row p.scan))) ≡ plan_reply state schema rows parts
-    ends k es w p is took (Err e) none = let not : None ≡ Some p = sym (stays k es) ∙ (ap (λ s. pin_after k s es) (sym (found (Err e) none)) ∙ is) in absurd cc
+    ends : (k : ℕ) (es : List Event) (w : ℕ) (p : PinnedScan) → pin_after k (pinned_on h filter) es ≡ Some p
+        → slice_get p.workers w ≡ Some (every_row p.scan) → (r : Result Scanned ScanFault)
+        → scan_of_rows rows (specs_of state schema) parts ≡ r →
+        finished (outcome p.scan (content (world_of p.history) p.scan (every_row p.scan))) ≡ plan_reply state schema
+        rows parts
+    ends k es w p is took (Err e) none = let not : None ≡ Some p = sym (stays k es) ∙ (ap (λ s. pin_after k s es)
+        (sym (found (Err e) none)) ∙ is) in absurd cc
     ends k es w p is took (Ok scan) made =
         let keeps : Keeps (begun h scan) (Some p) =
-        subst (Keeps (begun h scan)) (ap (λ s. pin_after k s es) (sym (found (Ok scan) made)) ∙ is) (all_steps (begun h scan) k (Some (begun h scan)) es (begins h scan)) in
-        let has = has_every (world_of p.history) p.scan.wanted (of_one (HasSet (world_of p.history) p.scan.wanted) p.workers w (every_row p.scan) keeps.2 took) in
+        subst (Keeps (begun h scan)) (ap (λ s. pin_after k s es) (sym (found (Ok scan) made)) ∙ is)
+        (all_steps (begun h scan) k (Some (begun h scan)) es (begins h scan)) in
+        let has = has_every (world_of p.history) p.scan.wanted (of_one (HasSet (world_of p.history) p.scan.wanted)
+        p.workers w (every_row p.scan) keeps.2 took) in
         ap finished (plan scan p made keeps has)
 
-  pub whole : (m : Machine) (state : State) (filter : List (Part Leaf)) (schema : Schema) (rows : List Row) (parts : List (Part BoundLeaf)) (es : List Event) (w : ℕ) →
-      state_of m.history ≡ Some state → Reads state filter schema rows parts → TellsTheTruth state schema rows → TookEvery (machine_after (pin m filter).1 es) (length m.pins) w →
+  pub whole : (m : Machine) (state : State) (filter : List (Part Leaf)) (schema : Schema) (rows : List Row)
+      (parts : List (Part BoundLeaf)) (es : List Event) (w : ℕ) →
+      state_of m.history ≡ Some state → Reads state filter schema rows parts → TellsTheTruth state schema rows
+      → TookEvery (machine_after (pin m filter).1 es) (length m.pins) w →
       (event (machine_after (pin m filter).1 es) (on.Finish (length m.pins) w)).0 ≡ plan_reply state schema rows parts
   whole m state filter schema rows parts es w leaves reads truth every =
       let k = length m.pins in
       let p = every.0 in
-      let after = after_apart (pin m filter).1 k (pinned_on m.history filter) es (get_last m.pins (pinned_on m.history filter)) in
+      let after = after_apart (pin m filter).1 k (pinned_on m.history filter) es
+      (get_last m.pins (pinned_on m.history filter)) in
       let is : pin_after k (pinned_on m.history filter) es ≡ Some p = same_some _ _ (sym after ∙ every.1) in
       ap (λ o. finish_at o w) every.1
       ∙ (finishes p w (every_row p.scan) every.2
-      ∙ ends m.history state filter schema rows parts leaves reads truth k es w p is every.2 (scan_of_rows rows (specs_of state schema) parts) refl)
+      ∙ ends m.history state filter schema rows parts leaves reads truth k es w p is every.2
+      (scan_of_rows rows (specs_of state schema) parts) refl)

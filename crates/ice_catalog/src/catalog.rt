@@ -9,7 +9,7 @@ use crate::book::{Conflict, swap};
 use ice_versions::{Prepared, Receipt, Version};
 use std::alloc::{AllocError, Global};
 use std::marker::Model;
-use std::sync::ledger::{Blank, Book, Ledger, Share};
+use std::sync::ledger::{self, Blank, Ledger, Share};
 use std::sync::{Arc, Mutex, Wait};
 
 /// One who pins and commits. Contracts see how many commits were made from the seat.
@@ -33,7 +33,7 @@ impl<L: Ledger> Model for Seat<L> {
 #[derive(Drop)]
 struct Counted<L: Ledger> {
     version: Arc<Version>,
-    tally: Book<L>,
+    tally: ledger::Book<L>,
     spare: Share<L>,
     ghost counted: { length (arc_value version).journal ≡ tally.total },
     ghost no_part: { spare.parts ≡ 0 },

@@ -1,9 +1,11 @@
 -- What is written of a commit in a bundle.
-use Rattle.std.proofs.Common.{◌≡◌, ◌≢◌, ◌⊎◌, ℕ, List, Bool, true, false, Option, Some, None, refl, sym, ap, subst, ◌∙◌, inl, inr}
+use Rattle.std.proofs.Common.{◌≡◌, ◌≢◌, ◌⊎◌, ℕ, List, Bool, true, false, Option, Some, None, refl, sym, ap, subst, ◌∙◌}
+use Rattle.std.proofs.Common.{inl, inr}
 use Rattle.std.specs.Prelude.{Result, Ok, Err, IfSome, if◌then◌else◌}
 use Rattle.serde_json.specs.Written.{compact_text, has_float}
 use Rattle.ice_requests.specs.Bundles.{File, bundle_of, bytes_at}
-use Rattle.ice_requests.specs.Commits.{Commitment, IsTextOf, bundle_lines, commitment, committed_text, in_order, told_text}
+use Rattle.ice_requests.specs.Commits.{Commitment, IsTextOf, bundle_lines, commitment, committed_text, in_order}
+use Rattle.ice_requests.specs.Commits.{told_text}
 use Rattle.ice_requests.specs.ListPlans.{MayEnd}
 use Rattle.ice_requests.specs.Shows.{WroteText}
 use Rattle.ice_commands.specs.Runs.{MayRefuse, Ran}
@@ -11,7 +13,7 @@ use Rattle.ice_print.specs.Written.{Appends, AppendsFront}
 use Rattle.ice_requests.specs.declared.committing.CommitRequest.{CommitRequest}
 use Rattle.ice_text.specs.declared.fault.RunFault.{RunFault}
 use Rattle.ice_text.specs.declared.fault.RunFault.TheVariants as run
-use Rattle.ice_commands.proofs.Refusals.{no_write}
+use Rattle.ice_commands.proofs.Refusals.{memory_ran}
 
 -- ---- refusals
 
@@ -38,14 +40,8 @@ its_fault w (run.Prepare f) other = refl
 its_fault w (run.Conflict path) other = refl
 its_fault w run.Workers other = refl
 
-any_known : {A : Type 0} (known : Option A) → IfSome known (λ x. Unit {0})
-any_known None = tt
-any_known (Some x) = tt
-
-pub memory_ran : (known : Option (Result (List ℕ) RunFault)) (w : Type 0) (o : Option (List ℕ)) → Ran known w (Err run.Memory) o o
-memory_ran known w o = record { written = tt; refused = any_known known; nothing = λ _. refl; front = λ is. absurd cc }
-
-refused_ran : (known : Option (Result (List ℕ) RunFault)) (w : Type 0) (o : Option (List ℕ)) (e : RunFault) → Refuses known e
+refused_ran : (known : Option (Result (List ℕ) RunFault)) (w : Type 0) (o : Option (List ℕ)) (e : RunFault)
+    → Refuses known e
     → Ran known w (Err e) o o
 refused_ran known w o e (inl h) = subst (λ f. Ran known w (Err f) o o) (sym h) (memory_ran known w o)
 refused_ran known w o e (inr h) = subst (λ k. Ran k w (Err e) o o) (sym h.0) (record {
@@ -55,46 +51,13 @@ refused_ran known w o e (inr h) = subst (λ k. Ran k w (Err e) o o) (sym h.0) (r
   front = λ is. let failed : e ≡ run.Write = cc in absurd (h.1 failed);
 })
 
--- standard input can't be read
-pub unread_commit : (known : Option (Result (List ℕ) RunFault)) (w : Type 0) (o : Option (List ℕ)) (e : RunFault)
-    → (e ≡ run.Input) ⊎ (e ≡ run.Memory) → Ran known w (Err e) o o
-unread_commit known w o e (inl h) = subst (λ f. Ran known w (Err f) o o) (sym h)
-    (record { written = tt; refused = any_known known; nothing = λ _. refl; front = λ is. absurd cc })
-unread_commit known w o e (inr h) = subst (λ f. Ran known w (Err f) o o) (sym h) (memory_ran known w o)
-
 module _ (request : CommitRequest) (text : List ℕ) where
   abbrev known : Option (Result (List ℕ) RunFault)
   known = committed_text request text
 
-  no_files : (e : RunFault) → bundle_of text ≡ Err e → known ≡ Some (Err e)
+  pub no_files : (e : RunFault) → bundle_of text ≡ Err e → known ≡ Some (Err e)
   unfolding committed_text
   no_files e h = rw h refl
-
-  refused_files : (e : RunFault) → (e ≢ run.Memory → bundle_of text ≡ Err e) → e ≢ run.Memory → Refuses known e
-  refused_files e h other = inr (no_files e (h other), no_write text e h)
-
-  bundle_refuses : (e : RunFault) → (e ≢ run.Memory → bundle_of text ≡ Err e) → Refuses known e
-  bundle_refuses run.Memory h = inl refl
-  bundle_refuses run.Input h = refused_files run.Input h (λ m. absurd cc)
-  bundle_refuses run.Write h = refused_files run.Write h (λ m. absurd cc)
-  bundle_refuses (run.Words t) h = refused_files (run.Words t) h (λ m. absurd cc)
-  bundle_refuses (run.Bundle n) h = refused_files (run.Bundle n) h (λ m. absurd cc)
-  bundle_refuses (run.Absent path) h = refused_files (run.Absent path) h (λ m. absurd cc)
-  bundle_refuses (run.Device path) h = refused_files (run.Device path) h (λ m. absurd cc)
-  bundle_refuses (run.List f) h = refused_files (run.List f) h (λ m. absurd cc)
-  bundle_refuses (run.Scan f) h = refused_files (run.Scan f) h (λ m. absurd cc)
-  bundle_refuses (run.Finish f) h = refused_files (run.Finish f) h (λ m. absurd cc)
-  bundle_refuses (run.Metadata f) h = refused_files (run.Metadata f) h (λ m. absurd cc)
-  bundle_refuses (run.Filter f) h = refused_files (run.Filter f) h (λ m. absurd cc)
-  bundle_refuses (run.Drill f) h = refused_files (run.Drill f) h (λ m. absurd cc)
-  bundle_refuses (run.Change f) h = refused_files (run.Change f) h (λ m. absurd cc)
-  bundle_refuses (run.Prepare f) h = refused_files (run.Prepare f) h (λ m. absurd cc)
-  bundle_refuses (run.Conflict path) h = refused_files (run.Conflict path) h (λ m. absurd cc)
-  bundle_refuses run.Workers h = refused_files run.Workers h (λ m. absurd cc)
-
-  pub files_ran : (w : Type 0) (o : Option (List ℕ)) (e : RunFault) → (e ≢ run.Memory → bundle_of text ≡ Err e)
-      → Ran known w (Err e) o o
-  files_ran w o e h = refused_ran known w o e (bundle_refuses e h)
 
   module _ (files : List File) (is : bundle_of text ≡ Ok files) where
     abbrev read : Result Commitment RunFault
@@ -126,7 +89,8 @@ module _ (request : CommitRequest) (text : List ℕ) where
     commit_refuses (run.Conflict path) h = refused_commit (run.Conflict path) h (λ m. absurd cc)
     commit_refuses run.Workers h = refused_commit run.Workers h (λ m. absurd cc)
 
-    pub commit_ran : (w : Type 0) (o : Option (List ℕ)) (e : RunFault) → MayEnd read (λ path. ⊥) ⊥ e → Ran known w (Err e) o o
+    pub commit_ran : (w : Type 0) (o : Option (List ℕ)) (e : RunFault) → MayEnd read (λ path. ⊥) ⊥ e
+        → Ran known w (Err e) o o
     commit_ran w o e h = refused_ran known w o e (commit_refuses e h)
 
     -- ---- the text
@@ -147,17 +111,29 @@ module _ (request : CommitRequest) (text : List ℕ) where
           let told = text_by (has_float c.metadata.json) refl in
           subst (λ k. IfSome k (λ r. r ≡ Ok lines)) (sym (known_is ∙ ap (told_text request.out) made)) told
 
-      wrote : (k : Option (Result (List ℕ) RunFault)) (o o' : Option (List ℕ)) → IfSome k (λ r. r ≡ Ok lines) → Appends o o' lines
+      wrote : (k : Option (Result (List ℕ) RunFault)) (o o' : Option (List ℕ)) → IfSome k (λ r. r ≡ Ok lines)
+          → Appends o o' lines
           → IfSome k (λ r. WroteText r o o')
       wrote None o o' h all = tt
       wrote (Some r) o o' h all = (lines, h, all)
 
       pub wrote_ran : (w : Type 0) (o o' : Option (List ℕ)) → Appends o o' lines → Ran known w (Ok tt) o o'
-      wrote_ran w o o' all = record { written = wrote known o o' text_is all; refused = tt; nothing = tt; front = λ is. absurd cc }
+      wrote_ran w o o' all = record {
+        written = wrote known o o' text_is all;
+        refused = tt;
+        nothing = tt;
+        front = λ is. absurd cc;
+      }
 
-      failed : (k : Option (Result (List ℕ) RunFault)) (w : Type 0) (o o' : Option (List ℕ)) → IfSome k (λ r. r ≡ Ok lines) → w
+      failed : (k : Option (Result (List ℕ) RunFault)) (w : Type 0) (o o' : Option (List ℕ))
+          → IfSome k (λ r. r ≡ Ok lines) → w
           → AppendsFront o o' lines → Ran k w (Err run.Write) o o'
-      failed None w o o' h may front = record { written = tt; refused = tt; nothing = λ other. absurd (other refl); front = λ is. tt }
+      failed None w o o' h may front = record {
+        written = tt;
+        refused = tt;
+        nothing = λ other. absurd (other refl);
+        front = λ is. tt;
+      }
       failed (Some r) w o o' h may front = record {
         written = tt;
         refused = may;
@@ -165,5 +141,6 @@ module _ (request : CommitRequest) (text : List ℕ) where
         front = λ is. (lines, h, front);
       }
 
-      pub failed_ran : (w : Type 0) (o o' : Option (List ℕ)) → w → AppendsFront o o' lines → Ran known w (Err run.Write) o o'
+      pub failed_ran : (w : Type 0) (o o' : Option (List ℕ)) → w → AppendsFront o o' lines
+          → Ran known w (Err run.Write) o o'
       failed_ran w o o' may front = failed known w o o' text_is may front

@@ -1,5 +1,6 @@
 -- The plan of a version in parts, and looking for a file in a plan.
-use Rattle.std.proofs.Common.{◌≡◌, ◌≢◌, ◌+◌, ◌-◌, ◌*◌, ◌<◌, ⊎_elim, arith, subst, ℕ, zero, suc, List, [], ◌∷◌, Option, Some, None, refl, sym, ap, ◌∙◌}
+use Rattle.std.proofs.Common.{◌≡◌, ◌≢◌, ◌+◌, ◌-◌, ◌*◌, ◌<◌, ⊎_elim, arith, subst, ℕ, zero, suc, List, [], ◌∷◌, Option}
+use Rattle.std.proofs.Common.{Some, None, refl, sym, ap, ◌∙◌}
 use Rattle.std.proofs.Math.Nat.{add-mul}
 use Rattle.std.proofs.lemmas.Bool.{cases_lt}
 use Rattle.std.proofs.lemmas.List.{take_all}
@@ -24,7 +25,8 @@ use Rattle.ice_state.specs.Contents.{content, every_row}
 use Rattle.ice_state.specs.Lines.{OwnedLine}
 use Rattle.ice_state.specs.Outcomes.{outcome}
 use Rattle.ice_state.specs.Scans.{Scanned, scan_of}
-use Rattle.ice_commands.specs.Drills.{EachSawItsFiles, HasEachFile, SawItsFiles, file_path, has_file, plan_of_state, scan_of_state, sequence_of}
+use Rattle.ice_commands.specs.Drills.{EachSawItsFiles, HasEachFile, SawItsFiles, file_path, has_file, plan_of_state}
+use Rattle.ice_commands.specs.Drills.{scan_of_state, sequence_of}
 use Rattle.ice_text.specs.Faults.{of_finish, of_meta, of_prepare, of_scan}
 use Rattle.ice_text.specs.declared.fault.RunFault.TheVariants as run
 use Rattle.ice_requests.specs.ListPlans.{all_present, as_run, rows_at}
@@ -36,7 +38,13 @@ pub scan_there : (s : State) (list : List ℕ) (schema : Schema) (rows : List Ro
     → scan_of rows (bound_specs schema s.metadata.table) [] ≡ Ok scan → scan_of_state s ≡ Ok scan
 unfolding scan_of_state
 scan_there s list schema rows scan a b c d =
-    rw (ap (as_run of_meta) a, ap (λ o. as_run of_meta (asked (meta.Dangling member.CurrentSchemaId) o)) b, c, ap (as_run of_scan) d) refl
+    rw (
+      ap (as_run of_meta) a,
+      ap (λ o. as_run of_meta (asked (meta.Dangling member.CurrentSchemaId) o)) b,
+      c,
+      ap
+          (as_run of_scan) d,
+    ) refl
 
 -- its plan, where the manifests are there
 pub plan_there : (s : State) (scan : Scanned) (plan : List OwnedLine) → scan_of_state s ≡ Ok scan
@@ -79,13 +87,15 @@ pub more_files : (plan : List OwnedLine) (thread commits : ℕ) → HasEachFile 
     → has_file plan (file_path thread commits) ≡ true → HasEachFile plan thread (commits + 1)
 more_files plan thread commits each last commit below =
     ⊎_elim (λ earlier. each commit earlier)
-    (λ no. let e : commits ≡ commit = omega (arith, below, no) in subst (λ (k : ℕ). has_file plan (file_path thread k) ≡ true) e last)
+    (λ no. let e : commits ≡ commit = omega (arith, below, no) in subst (λ (k : ℕ). has_file plan (file_path thread k)
+    ≡ true) e last)
     (cases_lt commit commits)
 
 -- one thread alone
 pub saw_alone : (first len commits : ℕ) → len ≡ 1 → SawItsFiles first commits → EachSawItsFiles first len commits
 saw_alone first len commits one saw =
-    λ i below. let same : first ≡ first + i = omega (arith, one, below) in subst (λ (k : ℕ). SawItsFiles k commits) same saw
+    λ i below. let same : first ≡ first + i = omega (arith, one, below) in subst (λ (k : ℕ). SawItsFiles k commits) same
+    saw
 
 -- two parts of the threads, one behind the other
 pub saw_both : (first next m r len commits : ℕ) → next ≡ first + m → m + r ≡ len → EachSawItsFiles first m commits

@@ -1,13 +1,14 @@
 -- Why the program refuses its words and its input.
 use Rattle.std.proofs.Common.{◌≡◌, ◌≢◌, ℕ, ◌+◌, Bool, true, false, List, [], ◌∷◌, refl, sym, ap, subst, ◌∙◌, ◌⊎◌, inl}
 use Rattle.std.proofs.Common.{inr, Option, Some, None, is_some}
-use Rattle.std.specs.Prelude.{Result, Ok, Err, IfErr, if◌then◌else◌}
-use Rattle.contract_words.specs.Outcome.{◌>>=◌}
+use Rattle.std.specs.Prelude.{Result, Ok, Err, IfOk, IfErr, IfSome, if◌then◌else◌}
+use Rattle.contract_words.specs.Outcome.{◌>>=◌, Gives}
 use Rattle.ice_text.specs.declared.fault.RunFault.{RunFault}
 use Rattle.ice_text.specs.declared.fault.RunFault.TheVariants as run
 use Rattle.ice_requests.specs.Bundles.{File, added, bundle_of, bytes_at, file_of, first_path, with_lines}
-use Rattle.ice_requests.specs.ListPlans.{MayEnd, answer}
-use Rattle.ice_commands.specs.Runs.{IsInput, IsWordsFault, MayRefuse, Ran, as_text, bundle_text, list_in, or_first_line}
+use Rattle.ice_requests.specs.ListPlans.{MayEnd, list_answer}
+use Rattle.ice_commands.specs.Runs.{IsInput, IsWordsFault, MayRefuse, NoBundle, Ran, as_text, bundle_text, list_in}
+use Rattle.ice_commands.specs.Runs.{or_first_line}
 use Rattle.ice_commands.specs.Runs.{planned_text, shown_text}
 use Rattle.ice_requests.specs.Plans.{answer_at, over_wanted_rows}
 use Rattle.ice_requests.specs.Shows.{shown_at}
@@ -48,59 +49,101 @@ list_fault : (files : List File) (list : Option (List ℕ)) (e : RunFault) → l
 list_fault files None e h = first_fault (first_path files) e h
 list_fault files (Some path) e h = absurd cc
 
--- a bundle's fault is the answer's
-pub no_plan : (list : Option (List ℕ)) (text : List ℕ) (e : RunFault) → bundle_of text ≡ Err e → bundle_text list text
-    ≡ Err e
+-- ---- no bundle
+
+memory_or : (e : RunFault) → (e ≡ run.Memory) ⊎ (e ≢ run.Memory)
+memory_or run.Memory = inl refl
+memory_or run.Input = inr (λ m. absurd cc)
+memory_or run.Write = inr (λ m. absurd cc)
+memory_or (run.Words t) = inr (λ m. absurd cc)
+memory_or (run.Bundle n) = inr (λ m. absurd cc)
+memory_or (run.Absent path) = inr (λ m. absurd cc)
+memory_or (run.Device path) = inr (λ m. absurd cc)
+memory_or (run.List f) = inr (λ m. absurd cc)
+memory_or (run.Scan f) = inr (λ m. absurd cc)
+memory_or (run.Finish f) = inr (λ m. absurd cc)
+memory_or (run.Metadata f) = inr (λ m. absurd cc)
+memory_or (run.Filter f) = inr (λ m. absurd cc)
+memory_or (run.Drill f) = inr (λ m. absurd cc)
+memory_or (run.Change f) = inr (λ m. absurd cc)
+memory_or (run.Prepare f) = inr (λ m. absurd cc)
+memory_or (run.Conflict path) = inr (λ m. absurd cc)
+memory_or run.Workers = inr (λ m. absurd cc)
+
+none_by : (text : List ℕ) (e : RunFault) → (e ≢ run.Memory → bundle_of text ≡ Err e)
+    → (e ≡ run.Memory) ⊎ (e ≢ run.Memory) → NoBundle text e
+none_by text e h (inl is) = inr (inl is)
+none_by text e h (inr other) = inr (inr (h other))
+
+-- what reading a bundle gives
+pub bundle_found : (text : List ℕ) (r : Result (List File) RunFault) → Gives run.Memory (λ files. files) r (bundle_of text)
+    → IfOk r (λ files. bundle_of text ≡ Ok files)
+bundle_found text (Ok files) h = h
+bundle_found text (Err e) h = tt
+
+pub bundle_missing : (text : List ℕ) (r : Result (List File) RunFault)
+    → Gives run.Memory (λ files. files) r (bundle_of text) → IfErr r (NoBundle text)
+bundle_missing text (Ok files) h = tt
+bundle_missing text (Err e) h = none_by text e h (memory_or e)
+
+-- standard input can't be read
+pub unread_bundle : (text : List ℕ) (e : RunFault) → (e ≡ run.Input) ⊎ (e ≡ run.Memory) → NoBundle text e
+unread_bundle text e (inl h) = inl h
+unread_bundle text e (inr h) = inr (inl h)
+
+any_known : {A : Type 0} (known : Option A) → IfSome known (λ x. Unit {0})
+any_known None = tt
+any_known (Some x) = tt
+
+pub memory_ran : (known : Option (Result (List ℕ) RunFault)) (w : Type 0) (o : Option (List ℕ))
+    → Ran known w (Err run.Memory) o o
+memory_ran known w o = record {
+  written = tt;
+  refused = any_known known;
+  nothing = λ _. refl;
+  front = λ is. absurd cc;
+}
+
+input_ran : (known : Option (Result (List ℕ) RunFault)) (w : Type 0) (o : Option (List ℕ))
+    → Ran known w (Err run.Input) o o
+input_ran known w o = record {
+  written = tt;
+  refused = any_known known;
+  nothing = λ _. refl;
+  front = λ is. absurd cc;
+}
+
+line_ran : (known : Option (Result (List ℕ) RunFault)) (w : Type 0) (o : Option (List ℕ)) (n : ℕ)
+    → known ≡ Some (Err (run.Bundle n)) → Ran known w (Err (run.Bundle n)) o o
+line_ran known w o n is = subst (λ k. Ran k w (Err (run.Bundle n)) o o) (sym is)
+    (record { written = tt; refused = refl; nothing = λ _. refl; front = λ is. absurd cc })
+
+-- where standard input gives no bundle, its fault is the answer's
+pub no_bundle_ran : (known : Option (Result (List ℕ) RunFault)) (text : List ℕ) (w : Type 0) (o : Option (List ℕ))
+    → ((e : RunFault) → bundle_of text ≡ Err e → known ≡ Some (Err e))
+    → (e : RunFault) → NoBundle text e → Ran known w (Err e) o o
+no_bundle_ran known text w o passed e (inl h) = subst (λ f. Ran known w (Err f) o o) (sym h) (input_ran known w o)
+no_bundle_ran known text w o passed e (inr (inl h)) = subst (λ f. Ran known w (Err f) o o) (sym h)
+    (memory_ran known w o)
+no_bundle_ran known text w o passed e (inr (inr h)) =
+    let at = lines_fault 1 [] _ e h in
+    subst (λ f. Ran known w (Err f) o o) (sym at.1)
+    (line_ran known w o at.0 (passed e h ∙ ap (λ (f : RunFault). Some (Err f)) at.1))
+
+pub no_plan : (list : Option (List ℕ)) (text : List ℕ) (e : RunFault) → bundle_of text ≡ Err e
+    → Some (bundle_text list text) ≡ Some (Err e)
 unfolding bundle_text
 no_plan list text e h = rw h refl
 
-pub no_show : (path text : List ℕ) (e : RunFault) → bundle_of text ≡ Err e → shown_text path text ≡ Err e
+pub no_show : (path text : List ℕ) (e : RunFault) → bundle_of text ≡ Err e
+    → Some (shown_text path text) ≡ Some (Err e)
 unfolding shown_text
 no_show path text e h = rw h refl
 
-pub no_request : (path : List ℕ) (request : Request) (workers : ℕ) (text : List ℕ) (e : RunFault) → bundle_of text
-    ≡ Err e → planned_text path request workers text ≡ Err e
+pub no_request : (path : List ℕ) (request : Request) (workers : ℕ) (text : List ℕ) (e : RunFault)
+    → bundle_of text ≡ Err e → Some (planned_text path request workers text) ≡ Some (Err e)
 unfolding planned_text
 no_request path request workers text e h = rw h refl
-
--- no bundle is refused for a failed write
-pub no_write : (text : List ℕ) (e : RunFault) → (e ≢ run.Memory → bundle_of text ≡ Err e) → e ≡ run.Write → ⊥
-no_write text e h is =
-    let f = lines_fault 1 [] _ e (h (λ m. let n : run.Write ≡ run.Memory = sym is ∙ m in absurd cc)) in
-    let g : run.Write ≡ run.Bundle f.0 = sym is ∙ f.1 in
-    absurd cc
-
-module _ (text : List ℕ) (w : Type 0) (read : Result (List ℕ) RunFault)
-    (passed : (e : RunFault) → bundle_of text ≡ Err e → read ≡ Err e) where
-  bundle_refused : (e : RunFault) → (e ≢ run.Memory → bundle_of text ≡ Err e) → MayRefuse read w e
-  bundle_refused run.Input h = tt
-  bundle_refused run.Memory h = tt
-  bundle_refused run.Write h = let f = lines_fault 1 [] _ run.Write (h (λ m. cc)) in let g : run.Write
-      ≡ run.Bundle f.0 = f.1 in absurd cc
-  bundle_refused (run.Words t) h = passed (run.Words t) (h (λ m. cc))
-  bundle_refused (run.Bundle n) h = passed (run.Bundle n) (h (λ m. cc))
-  bundle_refused (run.Absent path) h = passed (run.Absent path) (h (λ m. cc))
-  bundle_refused (run.Device path) h = passed (run.Device path) (h (λ m. cc))
-  bundle_refused (run.List f) h = passed (run.List f) (h (λ m. cc))
-  bundle_refused (run.Scan f) h = passed (run.Scan f) (h (λ m. cc))
-  bundle_refused (run.Finish f) h = passed (run.Finish f) (h (λ m. cc))
-  bundle_refused (run.Metadata f) h = passed (run.Metadata f) (h (λ m. cc))
-  bundle_refused (run.Filter f) h = passed (run.Filter f) (h (λ m. cc))
-  bundle_refused (run.Drill f) h = passed (run.Drill f) (h (λ m. cc))
-  bundle_refused (run.Change f) h = passed (run.Change f) (h (λ m. cc))
-  bundle_refused (run.Prepare f) h = passed (run.Prepare f) (h (λ m. cc))
-  bundle_refused (run.Conflict path) h = passed (run.Conflict path) (h (λ m. cc))
-  bundle_refused run.Workers h = passed run.Workers (h (λ m. cc))
-
-  pub bundle_ran : (o : Option (List ℕ)) (e : RunFault) → (e ≢ run.Memory → bundle_of text ≡ Err e)
-      → Ran (Some read) w (Err e) o o
-  bundle_ran o e h = record {
-    written = tt;
-    refused = bundle_refused e h;
-    nothing = λ _. refl;
-    front = λ is. let q : e
-        ≡ run.Write = cc in absurd (no_write text e h q);
-  }
 
 module _ (text : List ℕ) (files : List File) (is : bundle_of text ≡ Ok files) where
   module _ (list : Option (List ℕ)) where
@@ -117,7 +160,7 @@ module _ (text : List ℕ) (files : List File) (is : bundle_of text ≡ Ok files
         (record { written = tt; refused = none; nothing = λ _. refl; front = λ is. absurd cc })
 
     pub plan_from : (path : List ℕ) → list_in files list ≡ Ok path → bundle_text list text
-        ≡ as_text (answer (λ p. bytes_at files p) path)
+        ≡ as_text (list_answer (λ p. bytes_at files p) path)
     unfolding bundle_text
     plan_from path h = rw (is, h) refl
 
@@ -169,19 +212,8 @@ words_ran w o e (inl h) = subst (λ f. Ran (Some (Err f)) w (Err f) o o) (sym h)
 words_ran w o e (inr h) = subst (λ f. Ran (Some (Err f)) w (Err f) o o) (sym h.1)
     (record { written = tt; refused = refl; nothing = λ _. refl; front = λ is. absurd cc })
 
-pub unread_ran : (read : Result (List ℕ) RunFault) (w : Type 0) (o : Option (List ℕ)) (e : RunFault) → (e ≡ run.Input)
-    ⊎ (e ≡ run.Memory) → Ran (Some read) w (Err e) o o
-unread_ran read w o e (inl h) = subst (λ f. Ran (Some read) w (Err f) o o) (sym h)
-    (record { written = tt; refused = tt; nothing = λ _. refl; front = λ is. absurd cc })
-unread_ran read w o e (inr h) = subst (λ f. Ran (Some read) w (Err f) o o) (sym h)
-    (record { written = tt; refused = tt; nothing = λ _. refl; front = λ is. absurd cc })
-
 -- over a folder
 pub untold_ran : (w : Type 0) (r : Result Unit RunFault) (o o' : Option (List ℕ))
     → IfErr r (λ fault. fault ≢ run.Write → o' ≡ o) → Ran None w r o o'
 untold_ran w (Ok x) o o' h = record { written = tt; refused = tt; nothing = tt; front = λ is. tt }
 untold_ran w (Err e) o o' h = record { written = tt; refused = tt; nothing = h; front = λ is. tt }
-
-pub ran_as : (read other : Option (Result (List ℕ) RunFault)) (w : Type 0) (r : Result Unit RunFault)
-    (o o' : Option (List ℕ)) → other ≡ read → Ran read w r o o' → Ran other w r o o'
-ran_as read other w r o o' same h = subst (λ a. Ran a w r o o') (sym same) h

@@ -7,7 +7,7 @@ use Rattle.ice_state.specs.Lines.{OwnedLine}
 use Rattle.ice_requests.specs.Bundles.{File, bundle_of, bytes_at, first_path}
 use Rattle.ice_commands.specs.Drills.{WroteDrill}
 use Rattle.ice_requests.specs.Commits.{committed_text}
-use Rattle.ice_requests.specs.ListPlans.{answer}
+use Rattle.ice_requests.specs.ListPlans.{list_answer}
 use Rattle.ice_requests.specs.Plans.{answer_at, over_wanted_rows}
 use Rattle.ice_text.specs.Faults.{status_of}
 use Rattle.ice_text.specs.FaultTexts.{fault_text}
@@ -61,7 +61,7 @@ unfoldable pub bundle_text : Option (List ℕ) → List ℕ → Result (List ℕ
 bundle_text list input = do
   files ← bundle_of input
   path ← list_in files list
-  as_text (answer (λ path. bytes_at files path) path)
+  as_text (list_answer (λ path. bytes_at files path) path)
 
 -- the text of the metadata at a path of a bundle, or the first fault: of the bundle, of the file, of what it says
 unfoldable pub shown_text : List ℕ → List ℕ → Result (List ℕ) RunFault
@@ -140,3 +140,7 @@ pub record Refused (known : Option (Result (List ℕ) RunFault)) (write_may_fail
 -- the text that was read: where a reader tells what it has left, that
 abbrev pub IsInput : Option (List ℕ) → List ℕ → Type 0
 IsInput left text = IfSome left (λ bytes. text ≡ bytes)
+
+-- why standard input gives no bundle: it can't be read, memory ran out, or the text is none
+abbrev pub NoBundle : List ℕ → RunFault → Type 0
+NoBundle text fault = (fault ≡ run.Input) ⊎ ((fault ≡ run.Memory) ⊎ (bundle_of text ≡ Err fault))

@@ -79,7 +79,7 @@ fn ids_of(thread: u64, commit: u64) -> Ids
 }
 
 /// Prepares a commit of a thread on a version.
-pub fn prepare_commit(
+pub fn prepare_append(
     alloc: Global,
     version: &Version,
     thread: u64,

@@ -6,7 +6,7 @@ ghost use Rattle.std.specs.Thread.{IsSync};
 ghost use Rattle.ice_commands.specs.Drills.{EachSawItsFiles, IsTurn, SawItsFiles};
 
 use crate::drill::Drill;
-use crate::drilled_table::{find_files, open_table, plan_version, prepare_commit};
+use crate::drilled_table::{find_files, open_table, plan_version, prepare_append};
 use crate::watch::Watch;
 use ice_catalog::{Catalog, Seat, Version};
 use ice_text::{DrillFault, RunFault};
@@ -33,7 +33,7 @@ fn commit_file<L: Ledger, R: Wait + Watch>(
 {
     let mut version = catalog.pin(rt, seat)?;
     for _try in 0..drill.tries() {
-        let prepared = prepare_commit(alloc, &version, thread, commit)?;
+        let prepared = prepare_append(alloc, &version, thread, commit)?;
         match catalog.commit(rt, seat, prepared) {
             Ok(receipt) => {
                 rt.committed(receipt.number);

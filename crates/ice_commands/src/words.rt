@@ -1,11 +1,12 @@
 //! The program over its words, standard input, the files of the system, output and errors.
 
-ghost use Rattle.std.specs.Prelude.{◌≡◌, ◌≢◌, ◌⊎◌, ℕ, List, Option, Some, None, Result, Ok, Err, map, string_bytes};
+ghost use Rattle.std.specs.Prelude.{◌≡◌, ◌⊎◌, ℕ, List, Option, Some, None, Result, Ok, Err, map, string_bytes};
 ghost use Rattle.std.specs.Prelude.{IfOk, IfErr, OnOk};
+ghost use Rattle.ice_requests.specs.Bundles.{bundle_of};
 ghost use Rattle.ice_requests.specs.Commits.{committed_text};
 ghost use Rattle.ice_commands.specs.Drills.{WroteDrill};
-ghost use Rattle.ice_commands.specs.Runs.{Answered, IsInput, IsOfDrill, Ran, ReadAs, Refused, answer_to, bundle_text};
-ghost use Rattle.ice_commands.specs.Runs.{list_in, planned_text, run_of, shown_text};
+ghost use Rattle.ice_commands.specs.Runs.{Answered, IsInput, IsOfDrill, NoBundle, Ran, ReadAs, Refused, answer_to};
+ghost use Rattle.ice_commands.specs.Runs.{list_in, run_of};
 ghost use Rattle.ice_commands.specs.declared.command_line.Words.{Words};
 ghost use Rattle.ice_text.specs.declared.fault.RunFault.{RunFault};
 
@@ -41,35 +42,6 @@ fn list_in<'a>(bundle: &'a Bundle, list: &'a Option<Text>) -> Result<&'a str, Ru
     bundle.first_path().ok_or(RunFault::Bundle(1))
 }
 
-/// Writes the plan of a list in a bundle.
-fn plan_bundle<W: Sink>(
-    alloc: Global,
-    text: &[u8],
-    list: &Option<Text>,
-    output: &mut W,
-) -> Result<(), RunFault>
-    ensures { Ran (Some (bundle_text list.now text.now)) (W.may_fail output.old) result (W.taken output.old)
-        (W.taken output.new) }
-{
-    let bundle = Bundle::read(alloc, text)?;
-    let path = list_in(&bundle, list)?;
-    run_list_plan(alloc, &bundle, path, output)
-}
-
-/// Writes the plan of a list in a folder.
-fn plan_folder<H: Files, W: Sink>(
-    host: &H,
-    alloc: Global,
-    place: &Place,
-    list: &Text,
-    output: &mut W,
-) -> Result<(), RunFault>
-    ensures { Ran None (W.may_fail output.old) result (W.taken output.old) (W.taken output.new) }
-{
-    let files = Folder::new(host, place.folder.as_str(), place.prefix.as_str());
-    run_list_plan(alloc, &files, list.as_str(), output)
-}
-
 /// All that standard input has left.
 fn read_input<R: Read>(alloc: Global, input: &mut R) -> Result<Vec<u8>, RunFault>
     ensures all { IfOk result (λ text. IsInput (R.remaining input.old) text.items) }
@@ -82,167 +54,149 @@ fn read_input<R: Read>(alloc: Global, input: &mut R) -> Result<Vec<u8>, RunFault
     }
 }
 
-/// Writes the plan of a list in the bundle on standard input.
-fn plan_input<R: Read, W: Sink>(
+/// The bundle on standard input.
+fn read_bundle<R: Read>(alloc: Global, input: &mut R) -> Result<Bundle, RunFault>
+    ensures found { IfOk result (λ bundle. (text : List ℕ) × IsInput (R.remaining input.old) text ×
+        (bundle_of text ≡ Ok bundle)) }
+    ensures refused { IfErr result (λ e. (text : List ℕ) × IsInput (R.remaining input.old) text ×
+        NoBundle text e) }
+{
+    let text = read_input(alloc, input)?;
+    Bundle::read(alloc, &text)
+}
+
+impl Place {
+    /// The files below the folder.
+    fn files<'a, H: Files>(&'a self, host: &'a H) -> Folder<'a, H>
+        ensures { (result.folder.now ≡ self.now.folder) × (result.prefix.now ≡ self.now.prefix) }
+    {
+        Folder::new(host, self.folder.as_str(), self.prefix.as_str())
+    }
+}
+
+/// Writes the plan of a manifest list.
+fn list_plan<H: Files, R: Read, W: Sink>(
+    host: &H,
     alloc: Global,
-    list: &Option<Text>,
+    lists: &Lists,
     input: &mut R,
     output: &mut W,
 ) -> Result<(), RunFault>
     ensures { (text : List ℕ) × IsInput (R.remaining input.old) text ×
-        Ran (Some (bundle_text list.now text)) (W.may_fail output.old) result (W.taken output.old)
+        Ran (answer_to (Words.ListPlan lists.now) text) (W.may_fail output.old) result (W.taken output.old)
         (W.taken output.new) }
 {
-    let text = read_input(alloc, input)?;
-    plan_bundle(alloc, &text, list, output)
+    match lists {
+        Lists::Bundle(list) => {
+            let bundle = read_bundle(alloc, input)?;
+            let path = list_in(&bundle, list)?;
+            run_list_plan(alloc, &bundle, path, output)
+        }
+        Lists::Folder(place, list) => run_list_plan(
+            alloc,
+            &place.files(host),
+            list.as_str(),
+            output,
+        ),
+    }
 }
 
-/// Writes the plan that is asked of the table whose metadata is at a path of a bundle.
-fn request_bundle<H: Threads + Sync, W: Sink>(
+/// Writes the plan that is asked of the table whose metadata is at a path.
+fn plan<H: Files<File: Send, Dir: Send> + Threads + Sync, R: Read, W: Sink>(
     host: &H,
     alloc: Global,
-    text: &[u8],
+    source: &Source,
     request: &Request,
     workers: usize,
     path: &Text,
+    input: &mut R,
     output: &mut W,
 ) -> Result<(), RunFault>
-    ensures { Ran (Some (planned_text path.now request.now workers text.now)) (W.may_fail output.old) result
+    ensures { (text : List ℕ) × IsInput (R.remaining input.old) text ×
+        Ran (answer_to (Words.Plan source.now request.now workers path.now) text) (W.may_fail output.old) result
         (W.taken output.old) (W.taken output.new) }
 {
-    let bundle = Bundle::read(alloc, text)?;
-    plan_file(
-        host,
-        alloc,
-        &bundle,
-        path.as_str(),
-        request,
-        workers,
-        output,
-    )
+    let path = path.as_str();
+    match source {
+        Source::Bundle => {
+            let bundle = read_bundle(alloc, input)?;
+            plan_file(host, alloc, &bundle, path, request, workers, output)
+        }
+        Source::Folder(place) => plan_file(
+            host,
+            alloc,
+            &place.files(host),
+            path,
+            request,
+            workers,
+            output,
+        ),
+    }
 }
 
-/// Writes the plan that is asked of the table whose metadata is at a path of the bundle on standard input.
-fn request_input<H: Threads + Sync, R: Read, W: Sink>(
+/// Writes the text of the metadata at a path.
+fn show<H: Files, R: Read, W: Sink>(
     host: &H,
     alloc: Global,
-    request: &Request,
-    workers: usize,
+    source: &Source,
     path: &Text,
     input: &mut R,
     output: &mut W,
 ) -> Result<(), RunFault>
     ensures { (text : List ℕ) × IsInput (R.remaining input.old) text ×
-        Ran (Some (planned_text path.now request.now workers text)) (W.may_fail output.old) result (W.taken output.old)
+        Ran (answer_to (Words.Show source.now path.now) text) (W.may_fail output.old) result (W.taken output.old)
         (W.taken output.new) }
 {
-    let text = read_input(alloc, input)?;
-    request_bundle(host, alloc, &text, request, workers, path, output)
-}
-
-/// Writes the plan that is asked of the table whose metadata is at a path of a folder.
-fn request_folder<H: Files<File: Send, Dir: Send> + Threads + Sync, W: Sink>(
-    host: &H,
-    alloc: Global,
-    place: &Place,
-    request: &Request,
-    workers: usize,
-    path: &Text,
-    output: &mut W,
-) -> Result<(), RunFault>
-    ensures { Ran None (W.may_fail output.old) result (W.taken output.old) (W.taken output.new) }
-{
-    let files = Folder::new(host, place.folder.as_str(), place.prefix.as_str());
-    plan_file(host, alloc, &files, path.as_str(), request, workers, output)
-}
-
-/// Writes the text of the metadata at a path of a bundle.
-fn show_bundle<W: Sink>(
-    alloc: Global,
-    text: &[u8],
-    path: &Text,
-    output: &mut W,
-) -> Result<(), RunFault>
-    ensures { Ran (Some (shown_text path.now text.now)) (W.may_fail output.old) result (W.taken output.old)
-        (W.taken output.new) }
-{
-    let bundle = Bundle::read(alloc, text)?;
-    show_file(alloc, &bundle, path.as_str(), output)
-}
-
-/// Writes the text of the metadata at a path of the bundle on standard input.
-fn show_input<R: Read, W: Sink>(
-    alloc: Global,
-    path: &Text,
-    input: &mut R,
-    output: &mut W,
-) -> Result<(), RunFault>
-    ensures { (text : List ℕ) × IsInput (R.remaining input.old) text ×
-        Ran (Some (shown_text path.now text)) (W.may_fail output.old) result (W.taken output.old) (W.taken output.new) }
-{
-    let text = read_input(alloc, input)?;
-    show_bundle(alloc, &text, path, output)
-}
-
-/// Writes the text of the metadata at a path of a folder.
-fn show_folder<H: Files, W: Sink>(
-    host: &H,
-    alloc: Global,
-    place: &Place,
-    path: &Text,
-    output: &mut W,
-) -> Result<(), RunFault>
-    ensures { Ran None (W.may_fail output.old) result (W.taken output.old) (W.taken output.new) }
-{
-    let files = Folder::new(host, place.folder.as_str(), place.prefix.as_str());
-    show_file(alloc, &files, path.as_str(), output)
+    match source {
+        Source::Bundle => {
+            let bundle = read_bundle(alloc, input)?;
+            show_file(alloc, &bundle, path.as_str(), output)
+        }
+        Source::Folder(place) => show_file(alloc, &place.files(host), path.as_str(), output),
+    }
 }
 
 /// Writes the files of a commit to a table in a bundle, as lines of a bundle.
-fn commit_bundle<W: Sink>(
+fn print_commit<W: Sink>(
     alloc: Global,
-    text: &[u8],
+    bundle: &Bundle,
     request: &CommitRequest,
     output: &mut W,
 ) -> Result<(), RunFault>
-    ensures { Ran (committed_text request.now text.now) (W.may_fail output.old) result (W.taken output.old)
+    ensures { (text : List ℕ) → bundle_of text ≡ Ok bundle.now →
+        Ran (committed_text request.now text) (W.may_fail output.old) result (W.taken output.old)
         (W.taken output.new) }
 {
-    let bundle = Bundle::read(alloc, text)?;
-    let prepared = prepare_commit(alloc, &bundle, request)?;
+    let prepared = prepare_commit(alloc, bundle, request)?;
     let metadata = prepared.version().metadata().write(alloc)?;
     let lines = commit_lines(alloc, prepared.files(), &request.out, &metadata)?;
     write_all(output, &lines)?;
     Ok(())
 }
 
-/// Writes the files of a commit to a table in the bundle on standard input, as lines of a bundle.
-fn commit_input<R: Read, W: Sink>(
+/// Makes a commit to a table in a folder and tells it, or writes its files as lines of a bundle.
+fn commit<H: Files, R: Read, W: Sink>(
+    host: &H,
     alloc: Global,
+    source: &Source,
     request: &CommitRequest,
     input: &mut R,
     output: &mut W,
 ) -> Result<(), RunFault>
     ensures { (text : List ℕ) × IsInput (R.remaining input.old) text ×
-        Ran (committed_text request.now text) (W.may_fail output.old) result (W.taken output.old) (W.taken output.new) }
+        Ran (answer_to (Words.Commit source.now request.now) text) (W.may_fail output.old) result
+        (W.taken output.old) (W.taken output.new) }
 {
-    let text = read_input(alloc, input)?;
-    commit_bundle(alloc, &text, request, output)
-}
-
-/// Makes a commit to a table in a folder, and tells it.
-fn commit_folder<H: Files, W: Sink>(
-    host: &H,
-    alloc: Global,
-    place: &Place,
-    request: &CommitRequest,
-    output: &mut W,
-) -> Result<(), RunFault>
-    ensures { Ran None (W.may_fail output.old) result (W.taken output.old) (W.taken output.new) }
-{
-    let files = Folder::new(host, place.folder.as_str(), place.prefix.as_str());
-    let mut store = Folder::new(host, place.folder.as_str(), place.prefix.as_str());
-    commit_to(alloc, &files, request, &mut store, output)
+    match source {
+        Source::Bundle => {
+            let bundle = read_bundle(alloc, input)?;
+            print_commit(alloc, &bundle, request, output)
+        }
+        Source::Folder(place) => {
+            let mut store = place.files(host);
+            commit_to(alloc, &place.files(host), request, &mut store, output)
+        }
+    }
 }
 
 /// Writes a text.
@@ -279,22 +233,12 @@ fn run_asked<H: Files<File: Send, Dir: Send> + Threads + Wait + Watch + Sync, R:
     ensures drilled { OnOk result (IsOfDrill (Ok asked.now) (W.taken output.old) (W.taken output.new)) }
 {
     match asked {
-        Words::ListPlan(Lists::Bundle(list)) => plan_input(alloc, list, input, output),
-        Words::ListPlan(Lists::Folder(place, list)) => plan_folder(
-            host, alloc, place, list, output,
+        Words::ListPlan(lists) => list_plan(host, alloc, lists, input, output),
+        Words::Plan(source, request, workers, path) => plan(
+            host, alloc, source, request, *workers, path, input, output,
         ),
-        Words::Plan(Source::Bundle, request, workers, path) => request_input(
-            host, alloc, request, *workers, path, input, output,
-        ),
-        Words::Plan(Source::Folder(place), request, workers, path) => request_folder(
-            host, alloc, place, request, *workers, path, output,
-        ),
-        Words::Commit(Source::Bundle, request) => commit_input(alloc, request, input, output),
-        Words::Commit(Source::Folder(place), request) => commit_folder(
-            host, alloc, place, request, output,
-        ),
-        Words::Show(Source::Bundle, path) => show_input(alloc, path, input, output),
-        Words::Show(Source::Folder(place), path) => show_folder(host, alloc, place, path, output),
+        Words::Commit(source, request) => commit(host, alloc, source, request, input, output),
+        Words::Show(source, path) => show(host, alloc, source, path, input, output),
         Words::Drill(asked) => drill(host, alloc, *asked, output),
         Words::Text(text) => tell(text, output),
     }

@@ -1,5 +1,6 @@
 -- What is found is what applies.
-use Rattle.std.proofs.Common.{◌≡◌, ℕ, ◌+◌, Bool, true, false, not, ◌&&◌, ◌||◌, List, ◌++◌, map, filter, refl, sym, ap, ◌∙◌, add-one, nat_le, nat_lt}
+use Rattle.std.proofs.Common.{◌≡◌, ℕ, ◌+◌, Bool, true, false, not, ◌&&◌, ◌||◌, List, ◌++◌, map, filter, refl, sym, ap}
+use Rattle.std.proofs.Common.{◌∙◌, add-one, nat_le, nat_lt}
 use Rattle.std.specs.Bool.{one_answer}
 use Rattle.std.specs.Cmp.{Equal-is}
 use Rattle.std.specs.List.{enumerate_from}
@@ -30,10 +31,12 @@ tuples_tie : (a b : List Cell) → is_eq (tuple_cmp b a) ≡ same_tuple a b
 tuples_tie a b =
     let e = tuple_cmp_equal b a in
     let q = Equal-is (tuple_cmp b a) in
-    one_answer (is_eq (tuple_cmp b a)) (same_tuple a b) (λ h. sym (e.0 (q.0 h)), λ h. q.1 (e.1 (sym h))) (tuple_decides a b)
+    one_answer (is_eq (tuple_cmp b a)) (same_tuple a b) (λ h. sym (e.0 (q.0 h)), λ h. q.1 (e.1 (sym h)))
+    (tuple_decides a b)
 
 -- a tie of partitions is the same partition
-same_place : (x k : FileKey) → is_eq (ordering_then (int_cmp k.spec_id x.spec_id) (tuple_cmp k.tuple x.tuple)) ≡ same_partition x k
+same_place : (x k : FileKey) → is_eq (ordering_then (int_cmp k.spec_id x.spec_id) (tuple_cmp k.tuple x.tuple))
+    ≡ same_partition x k
 same_place x k =
     is_eq-then (int_cmp k.spec_id x.spec_id) (tuple_cmp k.tuple x.tuple)
     ∙ ap (λ v. v && is_eq (tuple_cmp k.tuple x.tuple)) (int_eq_equiv.symm k.spec_id x.spec_id)
@@ -46,18 +49,22 @@ and_turned false true = refl
 and_turned false false = refl
 
 -- position deletes
-pub positions_apply : (x k : FileKey) → (is_in Positions k && is_within Positions x.spec_id x.tuple x.sequence_number k) ≡ (holds PositionDeletes k && applies x k)
+pub positions_apply : (x k : FileKey) → (is_in Positions k && is_within Positions x.spec_id x.tuple x.sequence_number k)
+    ≡ (holds PositionDeletes k && applies x k)
 positions_apply x k = go k.content where
-  go : (K : FileContent) → (is_content PositionDeletes K && is_within Positions x.spec_id x.tuple x.sequence_number k) ≡ (is_content PositionDeletes K && applies_as K x k)
+  go : (K : FileContent) → (is_content PositionDeletes K && is_within Positions x.spec_id x.tuple x.sequence_number k)
+      ≡ (is_content PositionDeletes K && applies_as K x k)
   go Data = refl
   go PositionDeletes =
-      ap (λ v. v && nat_le x.sequence_number k.sequence_number) (same_place x k) ∙ and_turned (same_partition x k) (nat_le x.sequence_number k.sequence_number)
+      ap (λ v. v && nat_le x.sequence_number k.sequence_number) (same_place x k) ∙ and_turned (same_partition x k)
+      (nat_le x.sequence_number k.sequence_number)
   go EqualityDeletes = refl
 
 later : (a b : ℕ) → nat_le (a + 1) b ≡ nat_lt a b
 later a b = rw add-one refl
 
-by_partition : (unpartitioned same newer : Bool) → (not unpartitioned && (same && newer)) ≡ ((newer && (same || unpartitioned)) && not unpartitioned)
+by_partition : (unpartitioned same newer : Bool)
+    → (not unpartitioned && (same && newer)) ≡ ((newer && (same || unpartitioned)) && not unpartitioned)
 by_partition true true true = refl
 by_partition true true false = refl
 by_partition true false true = refl
@@ -67,7 +74,8 @@ by_partition false true false = refl
 by_partition false false true = refl
 by_partition false false false = refl
 
-anywhere : (unpartitioned same newer : Bool) → (unpartitioned && newer) ≡ ((newer && (same || unpartitioned)) && unpartitioned)
+anywhere : (unpartitioned same newer : Bool)
+    → (unpartitioned && newer) ≡ ((newer && (same || unpartitioned)) && unpartitioned)
 anywhere true true true = refl
 anywhere true true false = refl
 anywhere true false true = refl
@@ -78,9 +86,11 @@ anywhere false false true = refl
 anywhere false false false = refl
 
 -- equality deletes of specs that partition something
-pub equalities_apply : (x k : FileKey) → (is_in Equalities k && is_within Equalities x.spec_id x.tuple (x.sequence_number + 1) k) ≡ ((holds EqualityDeletes k && applies x k) && not k.unpartitioned)
+pub equalities_apply : (x k : FileKey) → (is_in Equalities k && is_within Equalities x.spec_id x.tuple
+    (x.sequence_number + 1) k) ≡ ((holds EqualityDeletes k && applies x k) && not k.unpartitioned)
 equalities_apply x k = go k.content where
-  go : (K : FileContent) → ((is_content EqualityDeletes K && not k.unpartitioned) && is_within Equalities x.spec_id x.tuple (x.sequence_number + 1) k) ≡ ((is_content EqualityDeletes K && applies_as K x k) && not k.unpartitioned)
+  go : (K : FileContent) → ((is_content EqualityDeletes K && not k.unpartitioned) && is_within Equalities x.spec_id
+      x.tuple (x.sequence_number + 1) k) ≡ ((is_content EqualityDeletes K && applies_as K x k) && not k.unpartitioned)
   go Data = refl
   go PositionDeletes = refl
   go EqualityDeletes =
@@ -89,9 +99,11 @@ equalities_apply x k = go k.content where
       ∙ by_partition k.unpartitioned (same_partition x k) (nat_lt x.sequence_number k.sequence_number)
 
 -- equality deletes of unpartitioned specs
-pub everywhere_applies : (x k : FileKey) → (is_in Everywhere k && is_within Everywhere x.spec_id x.tuple (x.sequence_number + 1) k) ≡ ((holds EqualityDeletes k && applies x k) && k.unpartitioned)
+pub everywhere_applies : (x k : FileKey) → (is_in Everywhere k && is_within Everywhere x.spec_id x.tuple
+    (x.sequence_number + 1) k) ≡ ((holds EqualityDeletes k && applies x k) && k.unpartitioned)
 everywhere_applies x k = go k.content where
-  go : (K : FileContent) → ((is_content EqualityDeletes K && k.unpartitioned) && is_within Everywhere x.spec_id x.tuple (x.sequence_number + 1) k) ≡ ((is_content EqualityDeletes K && applies_as K x k) && k.unpartitioned)
+  go : (K : FileContent) → ((is_content EqualityDeletes K && k.unpartitioned) && is_within Everywhere x.spec_id x.tuple
+      (x.sequence_number + 1) k) ≡ ((is_content EqualityDeletes K && applies_as K x k) && k.unpartitioned)
   go Data = refl
   go PositionDeletes = refl
   go EqualityDeletes =
@@ -99,22 +111,29 @@ everywhere_applies x k = go k.content where
       ∙ anywhere k.unpartitioned (same_partition x k) (nat_lt x.sequence_number k.sequence_number)
 
 -- numbers by two tests, and by one of which a third tells which
-pub numbers_alike : (p q : FileKey → Bool) → ((k : FileKey) → p k ≡ q k) → (files : List FileKey) → numbers_where p files ≡ numbers_where q files
-numbers_alike p q same files = ap (map (λ (e : ℕ × FileKey). e.0)) (filter_alike (λ (e : ℕ × FileKey). p e.1) (λ (e : ℕ × FileKey). q e.1) (λ e. same e.1) (enumerate_from 0 files))
+pub numbers_alike : (p q : FileKey → Bool) → ((k : FileKey) → p k ≡ q k) → (files : List FileKey)
+    → numbers_where p files ≡ numbers_where q files
+numbers_alike p q same files = ap (map (λ (e : ℕ × FileKey). e.0)) (filter_alike (λ (e : ℕ × FileKey). p e.1)
+    (λ (e : ℕ × FileKey). q e.1) (λ e. same e.1) (enumerate_from 0 files))
 
-pub numbers_parted : (p u : FileKey → Bool) (files : List FileKey) → IsPermutation (numbers_where p files) (numbers_where (λ k. p k && not (u k)) files ++ numbers_where (λ k. p k && u k) files)
+pub numbers_parted : (p u : FileKey → Bool) (files : List FileKey)
+    → IsPermutation (numbers_where p files) (numbers_where (λ k. p k && not (u k)) files ++ numbers_where
+    (λ k. p k && u k) files)
 numbers_parted p u files =
     let es = enumerate_from 0 files in
     let p' = λ (e : ℕ × FileKey). p e.1 in
     let u' = λ (e : ℕ × FileKey). u e.1 in
     let n' = λ (e : ℕ × FileKey). not (u e.1) in
     let number = λ (e : ℕ × FileKey). e.0 in
-    let split : IsPermutation (filter p' es) (filter n' (filter p' es) ++ filter u' (filter p' es)) = IsPermutation-filter_both n' u' (λ e. sym (not_not (u e.1))) (filter p' es) in
-    let named : map number (filter n' (filter p' es) ++ filter u' (filter p' es)) ≡ numbers_where (λ k. p k && not (u k)) files ++ numbers_where (λ k. p k && u k) files =
+    let split : IsPermutation (filter p' es) (filter n' (filter p' es) ++ filter u' (filter p' es)) =
+    IsPermutation-filter_both n' u' (λ e. sym (not_not (u e.1))) (filter p' es) in
+    let named : map number (filter n' (filter p' es) ++ filter u' (filter p' es)) ≡ numbers_where
+    (λ k. p k && not (u k)) files ++ numbers_where (λ k. p k && u k) files =
     map-append number (filter n' (filter p' es)) (filter u' (filter p' es))
     ∙ ap (λ ns. map number ns ++ map number (filter u' (filter p' es))) (filter-filter p' n' es)
     ∙ ap (λ ns. map number (filter (λ (e : ℕ × FileKey). p' e && n' e) es) ++ map number ns) (filter-filter p' u' es) in
-    rw named at (IsPermutation-map number (filter p' es) (filter n' (filter p' es) ++ filter u' (filter p' es)) split) where
-      not_not : (b : Bool) → not (not b) ≡ b
-      not_not true = refl
-      not_not false = refl
+    rw named at (IsPermutation-map number (filter p' es) (filter n' (filter p' es) ++ filter u' (filter p' es)) split)
+  where
+    not_not : (b : Bool) → not (not b) ≡ b
+    not_not true = refl
+    not_not false = refl

@@ -1,5 +1,6 @@
 -- Lists, their parts, and what passes tests.
-use Rattle.std.proofs.Common.{◌≡◌, ℕ, zero, suc, ◌+◌, ◌-◌, ◌≤◌, Bool, true, false, not, ◌&&◌, List, [], ◌∷◌, length, take, drop, map, filter, get_or, cond, refl, sym, ap, ◌∙◌, arith}
+use Rattle.std.proofs.Common.{◌≡◌, ℕ, zero, suc, ◌+◌, ◌-◌, ◌≤◌, Bool, true, false, not, ◌&&◌, List, [], ◌∷◌, length}
+use Rattle.std.proofs.Common.{take, drop, map, filter, get_or, cond, refl, sym, ap, ◌∙◌, arith}
 use Rattle.std.specs.Cmp.{IsStrictWeakOrder}
 use Rattle.std.specs.List.{AllWithin, take-map, drop-map}
 use Rattle.std.specs.List.Sorted.{IsSortedBy, IsPartitionedBy, IsPartitionPoint}
@@ -7,38 +8,53 @@ use Rattle.std.proofs.lemmas.List.{drop-take, get_or-take, length-take-le}
 use Rattle.std.proofs.lemmas.List.Sorted.{sorted_far}
 
 -- where a sorted list may be split
-pub sorted_parted : {X : Type 0} (lt : X → X → Bool) → IsStrictWeakOrder lt → (p : X → Bool) → ((x y : X) → lt y x ≡ false → p y ≡ true → p x ≡ true) → (xs : List X) → IsSortedBy lt xs → IsPartitionedBy p xs
-sorted_parted lt o p down xs up i j d le low h = down (get_or xs i d) (get_or xs j d) (sorted_far lt o xs up i j d le low) h
+pub sorted_parted : {X : Type 0} (lt : X → X → Bool) → IsStrictWeakOrder lt → (p : X → Bool)
+    → ((x y : X) → lt y x ≡ false → p y ≡ true → p x ≡ true) → (xs : List X) → IsSortedBy lt xs → IsPartitionedBy p xs
+sorted_parted lt o p down xs up i j d le low h = down (get_or xs i d) (get_or xs j d) (sorted_far lt o xs up i j d le
+    low) h
 
 module _ {X : Type 0} (p : X → Bool) where
   none_pass : (xs : List X) → AllWithin (λ y. p y ≡ false) xs 0 (length xs) → filter p xs ≡ []
   none_pass [] h = refl
-  none_pass (x ∷ xs) h = let e : p x ≡ false = h 0 x (omega arith) (omega arith) in rw e (none_pass xs (λ k d low high. h (suc k) d (omega arith) (omega arith)))
+  none_pass (x ∷ xs) h = let e : p x ≡ false = h 0 x (omega arith) (omega arith) in
+      rw e (none_pass xs (λ k d low high. h (suc k) d (omega arith) (omega arith)))
 
   all_others : (xs : List X) → AllWithin (λ y. p y ≡ false) xs 0 (length xs) → filter (λ y. not (p y)) xs ≡ xs
   all_others [] h = refl
-  all_others (x ∷ xs) h = let e : p x ≡ false = h 0 x (omega arith) (omega arith) in rw e (ap (λ ys. x ∷ ys) (all_others xs (λ k d low high. h (suc k) d (omega arith) (omega arith))))
+  all_others (x ∷ xs) h = let e : p x ≡ false = h 0 x (omega arith) (omega arith) in
+      rw e (ap (λ ys. x ∷ ys) (all_others xs (λ k d low high. h (suc k) d (omega arith) (omega arith))))
 
   -- what passes is the front
-  pub front_passes : (xs : List X) (i : ℕ) → IsPartitionPoint (λ y. p y ≡ true) (λ y. p y ≡ false) xs i → take i xs ≡ filter p xs
+  pub front_passes : (xs : List X) (i : ℕ) → IsPartitionPoint (λ y. p y ≡ true) (λ y. p y ≡ false) xs i
+      → take i xs ≡ filter p xs
   front_passes [] zero h = refl
   front_passes [] (suc i) h = refl
   front_passes (x ∷ xs) zero h = sym (none_pass (x ∷ xs) h.1)
   front_passes (x ∷ xs) (suc i) h =
       let e : p x ≡ true = h.0 0 x (omega arith) (omega arith) in
-      rw e (ap (λ ys. x ∷ ys) (front_passes xs i (λ k d low high. h.0 (suc k) d (omega arith) (omega arith), λ k d low high. h.1 (suc k) d (omega arith) (omega arith))))
+      rw e (ap (λ ys. x ∷ ys) (front_passes xs i (
+        λ k d low high. h.0 (suc k) d (omega arith) (omega arith),
+        λ k d low
+            high. h.1 (suc k) d (omega arith) (omega arith),
+      )))
 
   -- what fails is the back
-  pub back_fails : (xs : List X) (i : ℕ) → IsPartitionPoint (λ y. p y ≡ true) (λ y. p y ≡ false) xs i → drop i xs ≡ filter (λ y. not (p y)) xs
+  pub back_fails : (xs : List X) (i : ℕ) → IsPartitionPoint (λ y. p y ≡ true) (λ y. p y ≡ false) xs i
+      → drop i xs ≡ filter (λ y. not (p y)) xs
   back_fails [] zero h = refl
   back_fails [] (suc i) h = refl
   back_fails (x ∷ xs) zero h = sym (all_others (x ∷ xs) h.1)
   back_fails (x ∷ xs) (suc i) h =
       let e : p x ≡ true = h.0 0 x (omega arith) (omega arith) in
-      rw e (back_fails xs i (λ k d low high. h.0 (suc k) d (omega arith) (omega arith), λ k d low high. h.1 (suc k) d (omega arith) (omega arith)))
+      rw e (back_fails xs i (
+        λ k d low high. h.0 (suc k) d (omega arith) (omega arith),
+        λ k d low high. h.1 (suc k) d
+            (omega arith) (omega arith),
+      ))
 
 -- a part of a list that a sorted front begins
-pub parted_front : {X : Type 0} (p : X → Bool) (n : ℕ) (xs : List X) → n ≤ length xs → IsPartitionedBy p xs → IsPartitionedBy p (take n xs)
+pub parted_front : {X : Type 0} (p : X → Bool) (n : ℕ) (xs : List X) → n ≤ length xs → IsPartitionedBy p xs
+    → IsPartitionedBy p (take n xs)
 parted_front p n xs within h i j d le low k =
     let many : length (take n xs) ≡ n = length-take-le n xs within in
     let later : get_or (take n xs) j d ≡ get_or xs j d = get_or-take n xs j d (omega arith) in
@@ -49,9 +65,11 @@ parted_front p n xs within h i j d le low k =
 pub filter-filter : {X : Type 0} (p q : X → Bool) (xs : List X) → filter q (filter p xs) ≡ filter (λ x. p x && q x) xs
 filter-filter p q [] = refl
 filter-filter {X} p q (x ∷ xs) =
-    elim (p x) as (λ a. filter q (cond a (x ∷ filter p xs) (filter p xs)) ≡ cond (a && q x) (x ∷ filter (λ (y : X). p y && q y) xs) (filter (λ (y : X). p y && q y) xs)) [
+    elim (p x) as (λ a. filter q (cond a (x ∷ filter p xs) (filter p xs)) ≡ cond (a && q x)
+    (x ∷ filter (λ (y : X). p y && q y) xs) (filter (λ (y : X). p y && q y) xs)) [
       | true ↦
-          elim (q x) as (λ b. cond b (x ∷ filter q (filter p xs)) (filter q (filter p xs)) ≡ cond b (x ∷ filter (λ (y : X). p y && q y) xs) (filter (λ (y : X). p y && q y) xs)) [
+          elim (q x) as (λ b. cond b (x ∷ filter q (filter p xs)) (filter q (filter p xs)) ≡ cond b
+          (x ∷ filter (λ (y : X). p y && q y) xs) (filter (λ (y : X). p y && q y) xs)) [
             | true ↦ ap (λ ys. x ∷ ys) (filter-filter p q xs)
             | false ↦ filter-filter p q xs
           ]
@@ -62,25 +80,32 @@ pub filter_alike : {X : Type 0} (p q : X → Bool) → ((x : X) → p x ≡ q x)
 filter_alike p q same [] = refl
 filter_alike p q same (x ∷ xs) = rw (same x, filter_alike p q same xs) refl
 
-pub filter-map : {X Y : Type 0} (f : X → Y) (p : Y → Bool) (xs : List X) → filter p (map f xs) ≡ map f (filter (λ x. p (f x)) xs)
+pub filter-map : {X Y : Type 0} (f : X → Y) (p : Y → Bool) (xs : List X)
+    → filter p (map f xs) ≡ map f (filter (λ x. p (f x)) xs)
 filter-map f p [] = refl
 filter-map {X} f p (x ∷ xs) =
-    elim (p (f x)) as (λ v. cond v (f x ∷ filter p (map f xs)) (filter p (map f xs)) ≡ map f (cond v (x ∷ filter (λ (y : X). p (f y)) xs) (filter (λ (y : X). p (f y)) xs))) [
+    elim (p (f x)) as (λ v. cond v (f x ∷ filter p (map f xs)) (filter p (map f xs)) ≡ map f
+    (cond v (x ∷ filter (λ (y : X). p (f y)) xs) (filter (λ (y : X). p (f y)) xs))) [
       | true ↦ ap (λ ys. f x ∷ ys) (filter-map f p xs)
       | false ↦ filter-map f p xs
     ]
 
 -- a range of a list
-pub range_is : {X : Type 0} (start end : ℕ) (xs : List X) → start ≤ end → take (end - start) (drop start xs) ≡ drop start (take end xs)
-range_is start end xs le = let e : start + (end - start) ≡ end = omega arith in sym (drop-take start (end - start) xs) ∙ ap (λ n. drop start (take n xs)) e
+pub range_is : {X : Type 0} (start end : ℕ) (xs : List X) → start ≤ end
+    → take (end - start) (drop start xs) ≡ drop start (take end xs)
+range_is start end xs le = let e : start + (end - start) ≡ end = omega arith in sym (drop-take start (end - start) xs) ∙
+    ap (λ n. drop start (take n xs)) e
 
 -- the part of a list between its front and its back
-pub suffix_is : {X : Type 0} (number : X → ℕ) (near old within : X → Bool) → ((x : X) → (near x && not (old x)) ≡ within x) → (start end : ℕ) (xs : List X) (numbers : List ℕ) → start ≤ end →
-    numbers ≡ map number xs → take end xs ≡ filter near xs → drop start (take end xs) ≡ filter (λ x. not (old x)) (take end xs) →
+pub suffix_is : {X : Type 0} (number : X → ℕ) (near old within : X → Bool)
+    → ((x : X) → (near x && not (old x)) ≡ within x) → (start end : ℕ) (xs : List X) (numbers : List ℕ) → start ≤ end →
+    numbers ≡ map number xs → take end xs ≡ filter near xs
+    → drop start (take end xs) ≡ filter (λ x. not (old x)) (take end xs) →
     take (end - start) (drop start numbers) ≡ map number (filter within xs)
 suffix_is number near old within tests start end xs numbers le are front back =
     range_is start end numbers le
     ∙ ap (λ ns. drop start (take end ns)) are
     ∙ ap (drop start) (take-map number end xs)
     ∙ drop-map number start (take end xs)
-    ∙ ap (map number) (back ∙ ap (filter (λ x. not (old x))) front ∙ filter-filter near (λ x. not (old x)) xs ∙ filter_alike (λ x. near x && not (old x)) within tests xs)
+    ∙ ap (map number) (back ∙ ap (filter (λ x. not (old x))) front ∙ filter-filter near (λ x. not (old x)) xs ∙
+    filter_alike (λ x. near x && not (old x)) within tests xs)

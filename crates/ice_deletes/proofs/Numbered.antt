@@ -1,5 +1,6 @@
 -- Files with their numbers.
-use Rattle.std.proofs.Common.{◌≡◌, ℕ, ◌+◌, ◌<◌, Bool, true, false, List, [], ◌∷◌, ◌++◌, length, take, map, filter, get_or, cond, refl, sym, ap, ◌∙◌, arith, add-zero, append-nil}
+use Rattle.std.proofs.Common.{◌≡◌, ℕ, ◌+◌, ◌<◌, Bool, true, false, List, [], ◌∷◌, ◌++◌, length, take, map, filter}
+use Rattle.std.proofs.Common.{get_or, cond, refl, sym, ap, ◌∙◌, arith, add-zero, append-nil}
 use Rattle.std.specs.List.{enumerate_from}
 use Rattle.std.proofs.lemmas.List.{take_more, map-append, length-map, length-take-le}
 use Rattle.std.proofs.lemmas.List.Elements.{filter-append}
@@ -8,7 +9,8 @@ use Rattle.ice_deletes.specs.declared.record.Record.{Record}
 use Rattle.ice_deletes.specs.declared.delete.Delete.{Delete}
 use Rattle.ice_deletes.specs.Keys.{key_of, entry_of}
 
-enumerate_from-push : {X : Type 0} (n : ℕ) (xs : List X) (x : X) → enumerate_from n (xs ++ x ∷ []) ≡ enumerate_from n xs ++ (n + length xs, x) ∷ []
+enumerate_from-push : {X : Type 0} (n : ℕ) (xs : List X) (x : X)
+    → enumerate_from n (xs ++ x ∷ []) ≡ enumerate_from n xs ++ (n + length xs, x) ∷ []
 enumerate_from-push n [] x = rw add-zero refl
 enumerate_from-push n (y ∷ xs) x =
     let e : n + 1 + length xs ≡ n + length (y ∷ xs) = omega arith in
@@ -16,19 +18,24 @@ enumerate_from-push n (y ∷ xs) x =
 
 -- one record more
 filed_more : (p : ℕ × FileKey → Bool) (rs : List Record) (i : ℕ) (d : Record) → i < length rs →
-    filter p (enumerate_from 0 (map key_of (take (i + 1) rs))) ≡ filter p (enumerate_from 0 (map key_of (take i rs))) ++ filter p ((i, key_of (get_or rs i d)) ∷ [])
+    filter p (enumerate_from 0 (map key_of (take (i + 1) rs))) ≡ filter p (enumerate_from 0 (map key_of (take i rs))) ++
+    filter p ((i, key_of (get_or rs i d)) ∷ [])
 filed_more p rs i d low =
-    let many : length (map key_of (take i rs)) ≡ i = length-map (take i rs) key_of ∙ length-take-le i rs (omega arith) in
+    let many : length (map key_of (take i rs)) ≡ i = length-map (take i rs) key_of ∙ length-take-le i rs
+    (omega arith) in
     ap (λ xs. filter p (enumerate_from 0 (map key_of xs))) (take_more rs i d low)
     ∙ ap (λ xs. filter p (enumerate_from 0 xs)) (map-append key_of (take i rs) (get_or rs i d ∷ []))
     ∙ ap (filter p) (enumerate_from-push 0 (map key_of (take i rs)) (key_of (get_or rs i d)))
     ∙ filter-append p (enumerate_from 0 (map key_of (take i rs))) _
-    ∙ ap (λ k. filter p (enumerate_from 0 (map key_of (take i rs))) ++ filter p ((k, key_of (get_or rs i d)) ∷ [])) (many_from many) where
+    ∙ ap (λ k. filter p (enumerate_from 0 (map key_of (take i rs))) ++ filter p ((k, key_of (get_or rs i d)) ∷ []))
+    (many_from many) where
       many_from : {n i : ℕ} → n ≡ i → 0 + n ≡ i
       many_from e = omega arith
 
-pub kept_more : (p : ℕ × FileKey → Bool) (rs : List Record) (i : ℕ) (r : Record) (ds : List Delete) (d : Delete) → i < length rs → r ≡ get_or rs i r →
-    map entry_of ds ≡ filter p (enumerate_from 0 (map key_of (take i rs))) → entry_of d ≡ (i, key_of r) → p (i, key_of r) ≡ true →
+pub kept_more : (p : ℕ × FileKey → Bool) (rs : List Record) (i : ℕ) (r : Record) (ds : List Delete) (d : Delete)
+    → i < length rs → r ≡ get_or rs i r →
+    map entry_of ds ≡ filter p (enumerate_from 0 (map key_of (take i rs))) → entry_of d ≡ (i, key_of r)
+    → p (i, key_of r) ≡ true →
     map entry_of (ds ++ d ∷ []) ≡ filter p (enumerate_from 0 (map key_of (take (i + 1) rs)))
 kept_more p rs i r ds d low at h e passes =
     map-append entry_of ds (d ∷ [])
@@ -38,7 +45,8 @@ kept_more p rs i r ds d low at h e passes =
     ∙ ap (λ v. filter p (enumerate_from 0 (map key_of (take i rs))) ++ filter p ((i, key_of v) ∷ [])) at
     ∙ sym (filed_more p rs i r low)
 
-pub left_more : (p : ℕ × FileKey → Bool) (rs : List Record) (i : ℕ) (r : Record) (ds : List Delete) → i < length rs → r ≡ get_or rs i r →
+pub left_more : (p : ℕ × FileKey → Bool) (rs : List Record) (i : ℕ) (r : Record) (ds : List Delete) → i < length rs
+    → r ≡ get_or rs i r →
     map entry_of ds ≡ filter p (enumerate_from 0 (map key_of (take i rs))) → p (i, key_of r) ≡ false →
     map entry_of ds ≡ filter p (enumerate_from 0 (map key_of (take (i + 1) rs)))
 left_more p rs i r ds low at h fails =

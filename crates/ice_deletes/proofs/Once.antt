@@ -1,5 +1,7 @@
 -- Each number is found once, and is the number of a file that passes.
-use Rattle.std.proofs.Common.{◌≡◌, ◌≢◌, ℕ, zero, suc, ◌+◌, ◌<◌, ◌≤◌, ◌==◌, Bool, true, false, List, [], ◌∷◌, length, map, filter, cond, Option, Some, None, refl, sym, ap, subst, ◌∙◌, arith, eqb-true, ◌⊎◌, inl, inr}
+use Rattle.std.proofs.Common.{◌≡◌, ◌≢◌, ℕ, zero, suc, ◌+◌, ◌<◌, ◌≤◌, ◌==◌, Bool, true, false, List, [], ◌∷◌, length}
+use Rattle.std.proofs.Common.{map, filter, cond, Option, Some, None, refl, sym, ap, subst, ◌∙◌, arith, eqb-true, ◌⊎◌}
+use Rattle.std.proofs.Common.{inl, inr}
 use Rattle.std.specs.List.{enumerate_from, slice_get, count_by, Contains}
 use Rattle.std.specs.List.Sorted.{IsPermutation}
 use Rattle.std.proofs.lemmas.List.Sums.{sum_by-cons}
@@ -18,11 +20,13 @@ times n (k ∷ ks) = cond (k == n) 1 0 + times n ks
 
 count-times : (n : ℕ) (ks : List ℕ) → count_by (λ k. k == n) ks ≡ times n ks
 count-times n [] = refl
-count-times n (k ∷ ks) = sum_by-cons (λ (m : ℕ). cond (m == n) 1 0) k ks ∙ ap (λ c. cond (k == n) 1 0 + c) (count-times n ks)
+count-times n (k ∷ ks) = sum_by-cons (λ (m : ℕ). cond (m == n) 1 0) k ks ∙ ap (λ c. cond (k == n) 1 0 + c)
+    (count-times n ks)
 
 -- the numbers where the first file passes, and where it doesn't
 abbrev with_first : (FileKey → Bool) → FileKey → List FileKey → ℕ → Bool → List ℕ
-with_first p f fs m v = map (λ (e : ℕ × FileKey). e.0) (cond v ((m, f) ∷ filter (λ (e : ℕ × FileKey). p e.1) (enumerate_from (m + 1) fs)) (filter (λ (e : ℕ × FileKey). p e.1) (enumerate_from (m + 1) fs)))
+with_first p f fs m v = map (λ (e : ℕ × FileKey). e.0) (cond v ((m, f) ∷ filter (λ (e : ℕ × FileKey). p e.1)
+    (enumerate_from (m + 1) fs)) (filter (λ (e : ℕ × FileKey). p e.1) (enumerate_from (m + 1) fs)))
 
 not_first : (m n c : ℕ) → n < m → (b : Bool) → (m == n) ≡ b → c ≡ 0 → cond b 1 0 + c ≡ 0
 not_first m n c low true h r = let e : m ≡ n = eqb-true m n h in absurd (omega arith)
@@ -49,15 +53,19 @@ times_once p [] m n = omega arith
 times_once p (f ∷ fs) m n =
     let rest : times n (numbers_from (m + 1) p fs) ≤ 1 = times_once p fs (m + 1) n in
     elim (p f) as (λ v. times n (with_first p f fs m v) ≤ 1) [
-      | true ↦ first_once m n (times n (numbers_from (m + 1) p fs)) rest (λ low. times_before p fs (m + 1) n low) (m == n) refl
+      | true ↦ first_once m n (times n (numbers_from (m + 1) p fs)) rest (λ low. times_before p fs (m + 1) n low)
+          (m == n) refl
       | false ↦ rest
     ]
 
 -- no number stands twice
-pub lent_once : (p : FileKey → Bool) (files : List FileKey) (lent : List ℕ) → IsPermutation (numbers_where p files) lent → (n : ℕ) → count_by (λ k. k == n) lent ≤ 1
+pub lent_once : (p : FileKey → Bool) (files : List FileKey) (lent : List ℕ) → IsPermutation (numbers_where p files) lent
+    → (n : ℕ) → count_by (λ k. k == n) lent ≤ 1
 lent_once p files lent h n =
-    let same_count : count_by (λ k. k == n) lent ≡ count_by (λ k. k == n) (numbers_where p files) = sum_by-IsPermutation (λ (k : ℕ). cond (k == n) 1 0) (numbers_where p files) lent h in
-    let counted : count_by (λ k. k == n) (numbers_where p files) ≡ times n (numbers_where p files) = count-times n (numbers_where p files) in
+    let same_count : count_by (λ k. k == n) lent ≡ count_by (λ k. k == n) (numbers_where p files) = sum_by-IsPermutation
+    (λ (k : ℕ). cond (k == n) 1 0) (numbers_where p files) lent h in
+    let counted : count_by (λ k. k == n) (numbers_where p files) ≡ times n (numbers_where p files) = count-times n
+    (numbers_where p files) in
     let once : times n (numbers_where p files) ≤ 1 = times_once p files 0 n in
     omega arith
 
@@ -75,18 +83,23 @@ head_or_tail x xs y (suc k, low, e) = inr (k, omega arith, e)
 later : (p : FileKey → Bool) (f : FileKey) (fs : List FileKey) (m n : ℕ) → Passes p fs (m + 1) n → Passes p (f ∷ fs) m n
 later p f fs m n h = (suc h.0, omega arith, h.2, h.3, h.4)
 
-first_passes : (p : FileKey → Bool) (f : FileKey) (fs : List FileKey) (m n : ℕ) → (Contains (numbers_from (m + 1) p fs) n → Passes p fs (m + 1) n) → (b : Bool) → p f ≡ b → Contains (with_first p f fs m b) n → Passes p (f ∷ fs) m n
-first_passes p f fs m n rest true e c = elim (head_or_tail m (numbers_from (m + 1) p fs) n c) [ inl at ↦ (0, omega arith, f, refl, e) | inr tail ↦ later p f fs m n (rest tail) ]
+first_passes : (p : FileKey → Bool) (f : FileKey) (fs : List FileKey) (m n : ℕ)
+    → (Contains (numbers_from (m + 1) p fs) n → Passes p fs (m + 1) n) → (b : Bool) → p f ≡ b
+    → Contains (with_first p f fs m b) n → Passes p (f ∷ fs) m n
+first_passes p f fs m n rest true e c = elim (head_or_tail m (numbers_from (m + 1) p fs) n c)
+    [ inl at ↦ (0, omega arith, f, refl, e) | inr tail ↦ later p f fs m n (rest tail) ]
 first_passes p f fs m n rest false e c = later p f fs m n (rest c)
 
-found_passes : (p : FileKey → Bool) (files : List FileKey) (m n : ℕ) → Contains (numbers_from m p files) n → Passes p files m n
+found_passes : (p : FileKey → Bool) (files : List FileKey) (m n : ℕ) → Contains (numbers_from m p files) n
+    → Passes p files m n
 found_passes p [] m n (k, low, e) = absurd (omega arith)
 found_passes p (f ∷ fs) m n h = first_passes p f fs m n (λ c. found_passes p fs (m + 1) n c) (p f) refl h
 
 some_is : {X : Type 0} (x y : X) → Some x ≡ Some y → x ≡ y
 some_is x y h = cc
 
-passing_found : (p : FileKey → Bool) (files : List FileKey) (m k : ℕ) (d : FileKey) → slice_get files k ≡ Some d → p d ≡ true → Contains (numbers_from m p files) (m + k)
+passing_found : (p : FileKey → Bool) (files : List FileKey) (m k : ℕ) (d : FileKey) → slice_get files k ≡ Some d
+    → p d ≡ true → Contains (numbers_from m p files) (m + k)
 passing_found p [] m k d at passes = absurd cc
 passing_found p (f ∷ fs) m zero d at passes =
     let e : p f ≡ true = ap p (some_is f d at) ∙ passes in
@@ -103,16 +116,20 @@ passing_found p (f ∷ fs) m (suc k) d at passes =
     ]
 
 -- what is lent is what applies
-pub lent_applies : (files : List FileKey) (x : FileKey) (lent : List ℕ) → IsPermutation (numbers_where (applies x) files) lent → (n : ℕ) → (Contains lent n → AppliesAt files x n) × (AppliesAt files x n → Contains lent n)
+pub lent_applies : (files : List FileKey) (x : FileKey) (lent : List ℕ)
+    → IsPermutation (numbers_where (applies x) files) lent → (n : ℕ)
+    → (Contains lent n → AppliesAt files x n) × (AppliesAt files x n → Contains lent n)
 lent_applies files x lent h n = (
   λ c.
       let back = IsPermutation-sym (numbers_where (applies x) files) lent h in
-      let passes = found_passes (applies x) files 0 n (Contains-permutation lent (numbers_where (applies x) files) n back c) in
+      let passes = found_passes (applies x) files 0 n (Contains-permutation lent (numbers_where (applies x) files) n
+      back c) in
       let e : passes.0 ≡ n = omega arith in
       let P : ℕ → Type 0 = λ k. slice_get files k ≡ Some passes.2 in
       (passes.2, subst P e passes.3, (applies-decides x passes.2).0 passes.4),
   λ a.
       let e : 0 + n ≡ n = omega arith in
       let P : ℕ → Type 0 = λ k. Contains (numbers_where (applies x) files) k in
-      Contains-permutation (numbers_where (applies x) files) lent n h (subst P e (passing_found (applies x) files 0 n a.0 a.1 ((applies-decides x a.0).1 a.2))),
+      Contains-permutation (numbers_where (applies x) files) lent n h
+      (subst P e (passing_found (applies x) files 0 n a.0 a.1 ((applies-decides x a.0).1 a.2))),
 )

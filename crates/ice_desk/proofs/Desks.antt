@@ -1,5 +1,7 @@
 -- What a desk and its seats say of the rule's key.
-use Rattle.std.proofs.Common.{◌≡◌, ⊎_elim, ℕ, zero, suc, ◌+◌, ◌^◌, ◌<◌, ◌≤◌, ◌==◌, Bool, true, false, cond, List, [], ◌∷◌, ◌++◌, length, get_or, sym, refl, ap, ◌∙◌, subst, arith, eq-eqb, nat_lt, nat_le, slice_index, slice_get, Some}
+use Rattle.std.proofs.Common.{◌≡◌, ⊎_elim, ℕ, zero, suc, ◌+◌, ◌^◌, ◌<◌, ◌≤◌, ◌==◌, Bool, true, false, cond, List, []}
+use Rattle.std.proofs.Common.{◌∷◌, ◌++◌, length, get_or, sym, refl, ap, ◌∙◌, subst, arith, eq-eqb, nat_lt, nat_le}
+use Rattle.std.proofs.Common.{slice_index, slice_get, Some}
 use Rattle.std.specs.List.{All, sum_by}
 use Rattle.std.proofs.lemmas.Bool.{cases_lt, ltb-false, lt-ltb, le-ltb, lt-leb}
 use Rattle.std.proofs.lemmas.List.{length-append, get_or_append_left}
@@ -30,13 +32,15 @@ small_key desk = omega (arith, limit_is desk, seats_is desk, limit_small desk, d
 pub wide : (desk : Desk) → 0 < desk.table.shared.table_id.words
 wide desk = omega (arith, desk.words)
 
-pub early : (desk : Desk) (seat : Seat) → IsSeatOf desk seat → seat.done ≡ false → late desk.table.shared.key.limit (hand_of seat).drawn ≡ 0
+pub early : (desk : Desk) (seat : Seat) → IsSeatOf desk seat → seat.done ≡ false
+    → late desk.table.shared.key.limit (hand_of seat).drawn ≡ 0
 early desk seat is not_done =
     let le = ltb-false 0 (late (limit_of desk) (hand_of seat).drawn) (sym is.done ∙ not_done) in
     ap (λ (l : ℕ). late l (hand_of seat).drawn) (limit_is desk) ∙ omega (arith, le)
 
 -- a seat that was just cut off
-pub fresh_seat : (desk : Desk) (seat : Seat) → seat.place.table_id ≡ desk.table.shared.table_id → hand_of seat ≡ one_seat → seat.place.me.1 ≡ [] → seat.done ≡ false → IsSeatOf desk seat
+pub fresh_seat : (desk : Desk) (seat : Seat) → seat.place.table_id ≡ desk.table.shared.table_id
+    → hand_of seat ≡ one_seat → seat.place.me.1 ≡ [] → seat.done ≡ false → IsSeatOf desk seat
 fresh_seat desk seat table hand free done = record {
   table = table;
   one = ap (λ (v : Hand). v.seats) hand;
@@ -48,17 +52,21 @@ fresh_seat desk seat table hand free done = record {
 pub popped : {X : Type 0} (P : X → Type 0) (xs ys : List X) (x : X) → xs ≡ ys ++ x ∷ [] → All P xs → All P ys × P x
 popped P xs ys x is all =
     let all' : All P (ys ++ x ∷ []) = subst (All P) is all in (
-      (λ k d lt. subst P (get_or_append_left ys (x ∷ []) d k lt) (all' k d (omega (arith, length-append ys (x ∷ []), lt)))),
+      (λ k d lt. subst P (get_or_append_left ys (x ∷ []) d k lt)
+          (all' k d (omega (arith, length-append ys (x ∷ []), lt)))),
       subst P (get_or-append_seam ys x [] x) (all' (length ys) x (omega (arith, length-append ys (x ∷ [])))),
     )
 
 -- what one more seat did goes to the one that takes it in
-pub taken_in : (f : Seat → List ℕ) (t n : ℕ) (old other new : List ℕ) (xs ys : List Seat) (x : Seat) → xs ≡ ys ++ x ∷ [] → new ≡ old ++ other → f x ≡ other
-    → times t old + sum_by (λ (s : Seat). times t (f s)) xs ≡ n → times t new + sum_by (λ (s : Seat). times t (f s)) ys ≡ n
+pub taken_in : (f : Seat → List ℕ) (t n : ℕ) (old other new : List ℕ) (xs ys : List Seat) (x : Seat) → xs ≡ ys ++ x ∷ []
+    → new ≡ old ++ other → f x ≡ other
+    → times t old + sum_by (λ (s : Seat). times t (f s)) xs ≡ n
+    → times t new + sum_by (λ (s : Seat). times t (f s)) ys ≡ n
 taken_in f t n old other new xs ys x is grown same sum =
     let cut : sum_by (λ (s : Seat). times t (f s)) xs ≡ sum_by (λ (s : Seat). times t (f s)) ys + times t (f x) =
     ap (sum_by (λ (s : Seat). times t (f s))) is ∙ sum_by_push (λ (s : Seat). times t (f s)) ys x in
-    let more : times t new ≡ times t old + times t other = ap (times t) grown ∙ sum_by-append (λ y. cond (y == t) 1 0) old other in
+    let more : times t new ≡ times t old + times t other = ap (times t) grown ∙ sum_by-append (λ y. cond (y == t) 1 0)
+    old other in
     omega (arith, cut, more, ap (times t) same, sum)
 
 abbrev one_where : Bool → ℕ
@@ -75,7 +83,13 @@ late_some limit [] some_late = absurd (omega (arith, some_late))
 late_some limit (t ∷ ts) some_late = ⊎_elim
     (λ early.
     let not_late : nat_le limit t ≡ false = lt-leb limit t early in
-    let rest = late_some limit ts (omega (arith, some_late, sum_by-cons (λ u. cond (nat_le limit u) 1 0) t ts, none_if not_late)) in
+    let rest = late_some limit ts (omega (
+      arith,
+      some_late,
+      sum_by-cons (λ u. cond (nat_le limit u) 1 0) t ts,
+      none_if
+          not_late,
+    )) in
     (rest.0, rest.1, omega (arith, rest.2, sum_by-cons (λ y. cond (y == rest.0) 1 0) t ts)))
     (λ is_late. (t, is_late, omega (arith, sum_by-cons (λ y. cond (y == t) 1 0) t ts, one_if (eq-eqb t t refl))))
     (cases_lt t limit)
@@ -86,13 +100,16 @@ seat_at f (x ∷ xs) zero s lt is = omega (arith, sum_by-cons f x xs, ap f is)
 seat_at f (x ∷ xs) (suc k) s lt is = omega (arith, sum_by-cons f x xs, seat_at f xs k s (omega (arith, lt)) is)
 
 -- where a seat drew a number that is no ticket, each ticket was drawn once
-pub all_drawn : (limit word k : ℕ) (seats : List Seat) (s : Seat) → ((t : ℕ) → drawn_in seats t ≡ once_below t word) → slice_get seats k ≡ Some s → 0 < late limit (hand_of s).drawn
+pub all_drawn : (limit word k : ℕ) (seats : List Seat) (s : Seat) → ((t : ℕ) → drawn_in seats t ≡ once_below t word)
+    → slice_get seats k ≡ Some s → 0 < late limit (hand_of s).drawn
     → (t : ℕ) → t < limit → drawn_in seats t ≡ 1
 all_drawn limit word k seats s once at some_late t lt =
     let found = late_some limit (hand_of s).drawn some_late in
     let u : ℕ = found.0 in
-    let drawn : 0 < once_below u word = let n = seat_at (λ (r : Seat). times u (hand_of r).drawn) seats k s (slice_get_within seats k s at) (get_or_from_slice_get seats k s s at) in omega (arith, found.2, n, once u) in
-    let below : u < word = ⊎_elim (λ yes. yes) (λ no. absurd (omega (arith, drawn, none_if (le-ltb u word no)))) (cases_lt u word) in
+    let drawn : 0 < once_below u word = let n = seat_at (λ (r : Seat). times u (hand_of r).drawn) seats k s
+    (slice_get_within seats k s at) (get_or_from_slice_get seats k s s at) in omega (arith, found.2, n, once u) in
+    let below : u < word = ⊎_elim (λ yes. yes) (λ no. absurd (omega (arith, drawn, none_if (le-ltb u word no))))
+    (cases_lt u word) in
     once t ∙ one_if (lt-ltb t word (omega (arith, lt, found.1, below)))
 
 pub first_word : (ws : List ℕ) (n : ℕ) → get_elem? ws 0 ≡ some n → slice_index ws 0 ≡ n

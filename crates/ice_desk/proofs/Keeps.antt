@@ -1,8 +1,11 @@
 -- Each step keeps the desk's rule.
-use Rattle.std.proofs.Common.{◌≡◌, ⊎_elim, ℕ, zero, suc, ◌+◌, ◌-◌, ◌%◌, ◌^◌, ◌<◌, ◌≤◌, ◌==◌, Bool, true, false, cond, List, [], ◌∷◌, ◌++◌, length, set, replicate, sym, refl, ap, ◌∙◌, subst, arith, eq-eqb, ne_eqb, nat_le, slice_index}
+use Rattle.std.proofs.Common.{◌≡◌, ⊎_elim, ℕ, zero, suc, ◌+◌, ◌-◌, ◌%◌, ◌^◌, ◌<◌, ◌≤◌, ◌==◌, Bool, true, false, cond}
+use Rattle.std.proofs.Common.{List, [], ◌∷◌, ◌++◌, length, set, replicate, sym, refl, ap, ◌∙◌, subst, arith, eq-eqb}
+use Rattle.std.proofs.Common.{ne_eqb, nat_le, slice_index}
 use Rattle.std.specs.List.{sum_by}
 use Rattle.std.proofs.lemmas.Bool.{cases_lt, cases_eq, lt-ltb, le-ltb, le-leb}
-use Rattle.std.proofs.lemmas.List.{length-set, get_or-set_same, get_or-replicate, get_or_past, length-replicate, length-append}
+use Rattle.std.proofs.lemmas.List.{length-set, get_or-set_same, get_or-replicate, get_or_past, length-replicate}
+use Rattle.std.proofs.lemmas.List.{length-append}
 use Rattle.std.proofs.lemmas.List.Sums.{sum_by-cons, sum_by-append, sum_by_push}
 use Rattle.std.proofs.Math.Nat.{mod-eq_of_lt}
 use Rattle.std.proofs.Math.Seq.{take-append_seam}
@@ -12,15 +15,24 @@ use Rattle.atomic_table.specs.Table.{State, Me, step, keeps, Allows, Splits, Joi
 use Rattle.atomic_table.proofs.Lists.{at_set, at_snoc, set_else}
 use Rattle.ice_desk.specs.declared.hand.Hand.{Hand}
 use Rattle.ice_desk.specs.declared.hand.Size.{Size}
-use Rattle.ice_desk.specs.Tickets.{hand, times, late, once_below, but_last, IsHand, IsKept, opening_hand, one_seat, no_seat, without_one, gathered, drawing, Draws}
+use Rattle.ice_desk.specs.Tickets.{hand, times, late, once_below, but_last, IsHand, IsKept, opening_hand, one_seat}
+use Rattle.ice_desk.specs.Tickets.{no_seat, without_one, gathered, drawing, Draws}
 
 abbrev At : List Hand → ℕ → Hand → Type 0
 At views id v = get_elem? views id ≡ some v
 
-sum_set : (f : Hand → ℕ) (vs : List Hand) (id : ℕ) (v w : Hand) → At vs id v → sum_by f (set vs id w) + f v ≡ sum_by f vs + f w
+sum_set : (f : Hand → ℕ) (vs : List Hand) (id : ℕ) (v w : Hand) → At vs id v
+    → sum_by f (set vs id w) + f v ≡ sum_by f vs + f w
 sum_set f [] id v w at = absurd (some-ne-none v (sym at))
-sum_set f (x ∷ xs) zero v w at = let is : f x ≡ f v = ap f (some-injective x v at) in omega (arith, sum_by-cons f w xs, sum_by-cons f x xs, is)
-sum_set f (x ∷ xs) (suc id) v w at = omega (arith, sum_by-cons f x (set xs id w), sum_by-cons f x xs, sum_set f xs id v w at)
+sum_set f (x ∷ xs) zero v w at = let is : f x ≡ f v = ap f (some-injective x v at) in
+    omega (arith, sum_by-cons f w xs, sum_by-cons f x xs, is)
+sum_set f (x ∷ xs) (suc id) v w at = omega (
+  arith,
+  sum_by-cons f x (set xs id w),
+  sum_by-cons f x xs,
+  sum_set f xs id v
+      w at,
+)
 
 sum_at : (f : Hand → ℕ) (vs : List Hand) (id : ℕ) (v : Hand) → At vs id v → f v ≤ sum_by f vs
 sum_at f [] id v at = absurd (some-ne-none v (sym at))
@@ -29,13 +41,22 @@ sum_at f (x ∷ xs) (suc id) v at = omega (arith, sum_by-cons f x xs, sum_at f x
 
 sum_le : (f g : Hand → ℕ) (vs : List Hand) → ((id : ℕ) (v : Hand) → At vs id v → f v ≤ g v) → sum_by f vs ≤ sum_by g vs
 sum_le f g [] le = omega arith
-sum_le f g (x ∷ xs) le = omega (arith, sum_by-cons f x xs, sum_by-cons g x xs, le 0 x refl, sum_le f g xs (λ id v at. le (suc id) v at))
+sum_le f g (x ∷ xs) le = omega (
+  arith,
+  sum_by-cons f x xs,
+  sum_by-cons g x xs,
+  le 0 x refl,
+  sum_le f g xs
+      (λ id v at. le (suc id) v at),
+)
 
-each_set : (P : Hand → Type 0) (vs : List Hand) (id : ℕ) (w : Hand) → ((j : ℕ) (u : Hand) → At vs j u → P u) → P w → (j : ℕ) (u : Hand) → At (set vs id w) j u → P u
+each_set : (P : Hand → Type 0) (vs : List Hand) (id : ℕ) (w : Hand) → ((j : ℕ) (u : Hand) → At vs j u → P u) → P w
+    → (j : ℕ) (u : Hand) → At (set vs id w) j u → P u
 each_set P vs id w each new j u at = ⊎_elim (λ t. subst P t.1 new) (λ t. each j u t.1) (at_set vs id j w u at)
 
 -- a change that f doesn't see
-same : (f : Hand → ℕ) (vs : List Hand) (id : ℕ) (v w : Hand) → At vs id v → f w ≡ f v → sum_by f (set vs id w) ≡ sum_by f vs
+same : (f : Hand → ℕ) (vs : List Hand) (id : ℕ) (v w : Hand) → At vs id v → f w ≡ f v
+    → sum_by f (set vs id w) ≡ sum_by f vs
 same f vs id v w at is = let s = sum_set f vs id v w at in omega (arith, is, s)
 
 pub times_more : (x t : ℕ) (ts : List ℕ) → times x (ts ++ t ∷ []) ≡ times x ts + cond (t == x) 1 0
@@ -68,7 +89,8 @@ one_or_none : (b : Bool) → cond b 1 0 ≤ 1
 one_or_none true = omega arith
 one_or_none false = omega arith
 
-none_early : (limit : ℕ) (ts : List ℕ) (v : Hand) → late limit ts ≡ 0 → v.seats ≡ 1 → (t : ℕ) → IsHand limit (drawing (hand v.seats ts) t)
+none_early : (limit : ℕ) (ts : List ℕ) (v : Hand) → late limit ts ≡ 0 → v.seats ≡ 1 → (t : ℕ)
+    → IsHand limit (drawing (hand v.seats ts) t)
 none_early limit ts v early one t = record {
   count = omega (arith, late_more limit t ts, early, one, one_or_none (nat_le limit t));
   last = λ _. ap (late limit) (but_last_more ts t) ∙ early;
@@ -79,12 +101,15 @@ abbrev pub Rules : Size → State (Unit {0}) Hand → Type 0
 Rules size s = IsKept size s.words s.views
 
 -- the word of a rule that holds is small
-pub word_small : (size : Size) (words : List ℕ) (views : List Hand) → IsKept size words views → slice_index words 0 ≤ size.limit + size.seats
+pub word_small : (size : Size) (words : List ℕ) (views : List Hand) → IsKept size words views
+    → slice_index words 0 ≤ size.limit + size.seats
 word_small size words views kept =
-    let few = sum_le (λ (v : Hand). late size.limit v.drawn) (λ (v : Hand). v.seats) views (λ id v at. (kept.each id v at).count) in
+    let few = sum_le (λ (v : Hand). late size.limit v.drawn) (λ (v : Hand). v.seats) views
+    (λ id v at. (kept.each id v at).count) in
     omega (arith, kept.most, kept.seats, few)
 
-drawn_kept : (size : Size) (words : List ℕ) (views : List Hand) (id : ℕ) (v : Hand) → IsKept size words views → At views id v → v.seats ≡ 1 → late size.limit v.drawn ≡ 0
+drawn_kept : (size : Size) (words : List ℕ) (views : List Hand) (id : ℕ) (v : Hand) → IsKept size words views
+    → At views id v → v.seats ≡ 1 → late size.limit v.drawn ≡ 0
     → IsKept size (set words 0 (slice_index words 0 + 1)) (set views id (drawing v (slice_index words 0)))
 drawn_kept size words views id v kept at one early =
     let n : ℕ = slice_index words 0 in
@@ -92,14 +117,16 @@ drawn_kept size words views id v kept at one early =
     let words' : List ℕ = set words 0 (n + 1) in
     let wide : 0 < length words = omega (arith, kept.width) in
     let first : slice_index words' 0 ≡ n + 1 = get_or-set_same words 0 (n + 1) 0 wide in
-    let sum : (f : Hand → ℕ) → f w ≡ f v → sum_by f (set views id w) ≡ sum_by f views = λ f is. same f views id v w at is in
+    let sum : (f : Hand → ℕ) → f w ≡ f v → sum_by f (set views id w) ≡ sum_by f views = λ f is. same f views id v w at
+    is in
     record {
       width = length-set words 0 (n + 1) ∙ kept.width;
       seats = sum (λ u. u.seats) refl ∙ kept.seats;
       once = λ x.
           let s = sum_set (λ (u : Hand). times x u.drawn) views id v w at in
           let more = times_more x n v.drawn in
-          let new : once_below x (slice_index words' 0) ≡ once_below x n + cond (n == x) 1 0 = ap (once_below x) first ∙ below_step x n in
+          let new : once_below x (slice_index words' 0) ≡ once_below x n + cond (n == x) 1 0 = ap (once_below x) first ∙
+          below_step x n in
           omega (arith, s, more, new, kept.once x);
       count =
           let s = sum_set (λ (u : Hand). length u.drawn) views id v w at in
@@ -112,7 +139,8 @@ drawn_kept size words views id v kept at one early =
       each = each_set (IsHand size.limit) views id w kept.each (none_early size.limit v.drawn v early one n);
     }
 
-pub draws : (size : Size) (slots id : ℕ) (me : Me (Unit {0}) Hand) → size.limit + size.seats + 1 < 2 ^ 32 → me.0.seats ≡ 1 → late size.limit me.0.drawn ≡ 0
+pub draws : (size : Size) (slots id : ℕ) (me : Me (Unit {0}) Hand) → size.limit + size.seats + 1 < 2 ^ 32
+    → me.0.seats ≡ 1 → late size.limit me.0.drawn ≡ 0
     → Allows (Rules size) slots id me 0 (λ n. (n + 1) % 2 ^ 64) (Draws (step slots 0 1 0 none) me)
 draws size slots id me small one early s kept _ at _ =
     let n : ℕ = slice_index s.words 0 in
@@ -122,34 +150,53 @@ draws size slots id me small one early s kept _ at _ =
       w,
       keeps,
       tt,
-      subst (λ (k : ℕ). IsKept size (set s.words 0 k) (set s.views id w)) (sym next) (drawn_kept size s.words s.views id me.0 kept at one early),
-      (refl, refl, omega (arith, sum_at (λ (u : Hand). length u.drawn) s.views id me.0 at, kept.count), omega (arith, small, low)),
+      subst (λ (k : ℕ). IsKept size (set s.words 0 k) (set s.views id w)) (sym next) (drawn_kept size s.words s.views id
+          me.0 kept at one early),
+      (
+        refl,
+        refl,
+        omega (arith, sum_at (λ (u : Hand). length u.drawn) s.views id me.0 at, kept.count),
+        omega
+            (arith, small, low),
+      ),
     )
 
-pub opens : (size : Size) (words : List ℕ) → words ≡ replicate 1 0 → 0 < size.seats → IsKept size words (opening_hand size ∷ [])
+pub opens : (size : Size) (words : List ℕ) → words ≡ replicate 1 0 → 0 < size.seats
+    → IsKept size words (opening_hand size ∷ [])
 opens size words is some_seats =
     let all_zero : (i : ℕ) → slice_index words i ≡ 0 = λ i. ⊎_elim
     (λ lt. ap (λ (ws : List ℕ). slice_index ws i) is ∙ get_or-replicate 1 i 0 0 lt)
     (λ le. get_or_past words i 0 (omega (arith, ap length is, length-replicate {A = ℕ} 1 0, le)))
     (cases_lt i 1) in
-    let one : (f : Hand → ℕ) → sum_by f (opening_hand size ∷ []) ≡ f (opening_hand size) = λ f. omega (arith, sum_by-cons f (opening_hand size) []) in
+    let one : (f : Hand → ℕ) → sum_by f (opening_hand size ∷ []) ≡ f (opening_hand size) =
+    λ f. omega (arith, sum_by-cons f (opening_hand size) []) in
     record {
       width = omega (arith, ap length is, length-replicate {A = ℕ} 1 0);
       seats = one (λ u. u.seats);
-      once = λ x. one (λ u. times x u.drawn) ∙ sym (ap (once_below x) (all_zero 0) ∙ ap (λ b. cond b 1 0) (le-ltb x 0 (omega arith)));
+      once = λ x. one (λ u. times x u.drawn) ∙ sym (ap (once_below x) (all_zero 0) ∙ ap (λ b. cond b 1 0)
+          (le-ltb x 0 (omega arith)));
       count = one (λ u. length u.drawn) ∙ sym (all_zero 0);
       most = omega (arith, all_zero 0);
-      each = λ id v at. ⊎_elim (λ none_there. absurd (some-ne-none v (sym none_there))) (λ e. subst (IsHand size.limit) e (record { count = omega arith; last = λ _. refl; idle = λ none. absurd (omega (arith, some_seats, none)) })) (at_snoc [] (opening_hand size) v id at);
+      each = λ id v at. ⊎_elim (λ none_there. absurd (some-ne-none v (sym none_there))) (λ e. subst (IsHand size.limit)
+          e (record { count = omega arith; last = λ _. refl; idle = λ none. absurd (omega (arith, some_seats, none)) }))
+          (at_snoc [] (opening_hand size) v id at);
     }
 
 -- A seat is cut off one that has done nothing and stands for more.
-pub splits : (size : Size) (id : ℕ) (v : Hand) → v ≡ hand v.seats [] → 1 < v.seats → Splits (Rules size) id v (without_one v) one_seat
+pub splits : (size : Size) (id : ℕ) (v : Hand) → v ≡ hand v.seats [] → 1 < v.seats
+    → Splits (Rules size) id v (without_one v) one_seat
 splits size id v blank more s kept at =
     let views' : List Hand = set s.views id (without_one v) ++ one_seat ∷ [] in
     let drew : v.drawn ≡ [] = ap (λ u. u.drawn) blank in
     let sum : (f : Hand → ℕ) → f (without_one v) + f one_seat ≡ f v → sum_by f views' ≡ sum_by f s.views = λ f is.
-    omega (arith, sum_by_push f (set s.views id (without_one v)) one_seat, sum_set f s.views id v (without_one v) at, is) in
-    let drawn : (x : ℕ) → sum_by (λ (u : Hand). times x u.drawn) views' ≡ sum_by (λ (u : Hand). times x u.drawn) s.views = λ x. sum (λ u. times x u.drawn) (omega arith) in
+    omega (
+      arith,
+      sum_by_push f (set s.views id (without_one v)) one_seat,
+      sum_set f s.views id v (without_one v) at,
+      is,
+    ) in
+    let drawn : (x : ℕ) → sum_by (λ (u : Hand). times x u.drawn) views' ≡ sum_by (λ (u : Hand). times x u.drawn)
+    s.views = λ x. sum (λ u. times x u.drawn) (omega arith) in
     let none_late : late size.limit v.drawn ≡ 0 = ap (late size.limit) drew in
     record {
       width = kept.width;
@@ -159,12 +206,21 @@ splits size id v blank more s kept at =
       most = omega (arith, kept.most, sum (λ (u : Hand). late size.limit u.drawn) (omega arith));
       each = λ j u there. ⊎_elim
           (λ old. each_set (IsHand size.limit) s.views id (without_one v) kept.each
-          (record { count = omega (arith, none_late); last = λ _. ap (λ ts. late size.limit (but_last ts)) drew; idle = λ none. absurd (omega (arith, more, none)) }) j u old)
-          (λ e. subst (IsHand size.limit) e (record { count = omega arith; last = λ _. refl; idle = λ none. absurd (omega (arith, none)) }))
+          (record {
+            count = omega (arith, none_late);
+            last = λ _. ap (λ ts. late size.limit (but_last ts)) drew;
+            idle = λ none. absurd (omega (arith, more, none));
+          }) j u old)
+          (λ e. subst (IsHand size.limit) e (record {
+            count = omega arith;
+            last = λ _. refl;
+            idle = λ none. absurd (omega (arith, none));
+          }))
           (at_snoc (set s.views id (without_one v)) one_seat u j there);
     }
 
-pub joins : (size : Size) (id : ℕ) (v : Hand) (other : ℕ) (w : Hand) → 0 < v.seats → 0 < w.seats → Joins (Rules size) id v other w (gathered v w) no_seat
+pub joins : (size : Size) (id : ℕ) (v : Hand) (other : ℕ) (w : Hand) → 0 < v.seats → 0 < w.seats
+    → Joins (Rules size) id v other w (gathered v w) no_seat
 joins size id v other w some_v some_w s kept at apart there =
     let b : Hand = gathered v w in
     let mid : List Hand = set s.views id b in
@@ -172,9 +228,12 @@ joins size id v other w some_v some_w s kept at apart there =
     let there_before : At s.views other w = sym (set_else s.views id other b apart) ∙ there in
     let sum : (f : Hand → ℕ) → f b + f no_seat ≡ f v + f w → sum_by f views' ≡ sum_by f s.views = λ f is.
     omega (arith, sum_set f mid other w no_seat there, sum_set f s.views id v b at, is) in
-    let weigh : (g : ℕ → ℕ) (xs ys : List ℕ) → sum_by g (xs ++ ys) + 0 ≡ sum_by g xs + sum_by g ys = λ g xs ys. omega (arith, sum_by-append g xs ys) in
-    let drawn : (x : ℕ) → sum_by (λ (u : Hand). times x u.drawn) views' ≡ sum_by (λ (u : Hand). times x u.drawn) s.views = λ x. sum (λ u. times x u.drawn) (weigh (λ y. cond (y == x) 1 0) v.drawn w.drawn) in
-    let lates : late size.limit (v.drawn ++ w.drawn) + 0 ≡ late size.limit v.drawn + late size.limit w.drawn = weigh (λ t. cond (nat_le size.limit t) 1 0) v.drawn w.drawn in
+    let weigh : (g : ℕ → ℕ) (xs ys : List ℕ) → sum_by g (xs ++ ys) + 0 ≡ sum_by g xs + sum_by g ys = λ g xs ys. omega
+    (arith, sum_by-append g xs ys) in
+    let drawn : (x : ℕ) → sum_by (λ (u : Hand). times x u.drawn) views' ≡ sum_by (λ (u : Hand). times x u.drawn)
+    s.views = λ x. sum (λ u. times x u.drawn) (weigh (λ y. cond (y == x) 1 0) v.drawn w.drawn) in
+    let lates : late size.limit (v.drawn ++ w.drawn) + 0 ≡ late size.limit v.drawn + late size.limit w.drawn =
+    weigh (λ t. cond (nat_le size.limit t) 1 0) v.drawn w.drawn in
     record {
       width = kept.width;
       seats = sum (λ u. u.seats) (omega arith) ∙ kept.seats;
@@ -183,11 +242,16 @@ joins size id v other w some_v some_w s kept at apart there =
       most = omega (arith, kept.most, sum (λ (u : Hand). late size.limit u.drawn) lates);
       each = each_set (IsHand size.limit) mid other no_seat
           (each_set (IsHand size.limit) s.views id b kept.each
-          (record { count = omega (arith, lates, (kept.each id v at).count, (kept.each other w there_before).count); last = λ one. absurd (omega (arith, one, some_v, some_w)); idle = λ none. absurd (omega (arith, none, some_v)) }))
+          (record {
+            count = omega (arith, lates, (kept.each id v at).count, (kept.each other w there_before).count);
+            last = λ one. absurd (omega (arith, one, some_v, some_w));
+            idle = λ none. absurd (omega (arith, none, some_v));
+          }))
           (record { count = omega arith; last = λ _. refl; idle = λ _. refl });
     }
 
-idle_sum : (f : Hand → ℕ) (limit : ℕ) (vs : List Hand) → ((id : ℕ) (v : Hand) → At vs id v → IsHand limit v) → ((v : Hand) → IsHand limit v → v.seats ≡ 0 → f v ≡ 0) → sum_by (λ (v : Hand). v.seats) vs ≡ 0 → sum_by f vs ≡ 0
+idle_sum : (f : Hand → ℕ) (limit : ℕ) (vs : List Hand) → ((id : ℕ) (v : Hand) → At vs id v → IsHand limit v)
+    → ((v : Hand) → IsHand limit v → v.seats ≡ 0 → f v ≡ 0) → sum_by (λ (v : Hand). v.seats) vs ≡ 0 → sum_by f vs ≡ 0
 idle_sum f limit [] each idle empty = refl
 idle_sum f limit (x ∷ xs) each idle empty =
     let parts = sum_by-cons (λ (v : Hand). v.seats) x xs in
@@ -196,12 +260,18 @@ idle_sum f limit (x ∷ xs) each idle empty =
     omega (arith, sum_by-cons f x xs, here, there)
 
 -- where one hand stands for all seats, what all did is what it did
-alone : (f : Hand → ℕ) (size : Size) (words : List ℕ) (views : List Hand) (id : ℕ) (v : Hand) → IsKept size words views → At views id v → v.seats ≡ size.seats
+alone : (f : Hand → ℕ) (size : Size) (words : List ℕ) (views : List Hand) (id : ℕ) (v : Hand) → IsKept size words views
+    → At views id v → v.seats ≡ size.seats
     → f no_seat ≡ 0 → ((u : Hand) → IsHand size.limit u → u.seats ≡ 0 → f u ≡ 0) → sum_by f views ≡ f v
 alone f size words views id v kept at all nothing idle =
     let rest : List Hand = set views id no_seat in
-    let none_left : sum_by (λ (u : Hand). u.seats) rest ≡ 0 = let s = sum_set (λ (u : Hand). u.seats) views id v no_seat at in omega (arith, s, kept.seats, all) in
-    let each = each_set (IsHand size.limit) views id no_seat kept.each (record { count = omega arith; last = λ _. refl; idle = λ _. refl }) in
+    let none_left : sum_by (λ (u : Hand). u.seats) rest ≡ 0 = let s = sum_set (λ (u : Hand). u.seats) views id v no_seat
+    at in omega (arith, s, kept.seats, all) in
+    let each = each_set (IsHand size.limit) views id no_seat kept.each (record {
+      count = omega arith;
+      last = λ _. refl;
+      idle = λ _. refl;
+    }) in
     let empty : sum_by f rest ≡ 0 = idle_sum f size.limit rest each idle none_left in
     omega (arith, sum_set f views id v no_seat at, nothing, empty)
 
@@ -210,13 +280,15 @@ pub record Ended (size : Size) (v : Hand) (word : ℕ) : Type 0 where
   pub once : (t : ℕ) → times t v.drawn ≡ once_below t word
   pub small : word ≤ size.limit + size.seats
 
-pub ends : (size : Size) (id : ℕ) (v : Hand) (ws : List ℕ) (xs : List (Unit {0})) → Final (Seen (Rules size) id v) ws xs → v.seats ≡ size.seats → Ended size v (slice_index ws 0)
+pub ends : (size : Size) (id : ℕ) (v : Hand) (ws : List ℕ) (xs : List (Unit {0})) → Final (Seen (Rules size) id v) ws xs
+    → v.seats ≡ size.seats → Ended size v (slice_index ws 0)
 ends size id v ws xs final all =
     let s = final.0 in
     let kept = final.1.0 in
     let at = final.1.1 in
     let words : slice_index s.words 0 ≡ slice_index ws 0 = ap (λ (us : List ℕ). slice_index us 0) final.2 in
     record {
-      once = λ t. sym (alone (λ u. times t u.drawn) size s.words s.views id v kept at all refl (λ u is none. ap (times t) (is.idle none))) ∙ kept.once t ∙ ap (once_below t) words;
+      once = λ t. sym (alone (λ u. times t u.drawn) size s.words s.views id v kept at all refl
+          (λ u is none. ap (times t) (is.idle none))) ∙ kept.once t ∙ ap (once_below t) words;
       small = omega (arith, words, word_small size s.words s.views kept);
     }

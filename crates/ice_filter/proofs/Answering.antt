@@ -1,5 +1,6 @@
 -- A bound filter means on a row what the filter over names means.
-use Rattle.std.proofs.Common.{◌≡◌, ℕ, ℤ, Bool, true, false, not, ◌&&◌, ◌||◌, cond, List, [], ◌∷◌, Option, None, Some, Result, Ok, Err, refl, sym, ◌∙◌, ap}
+use Rattle.std.proofs.Common.{◌≡◌, ℕ, ℤ, Bool, true, false, not, ◌&&◌, ◌||◌, cond, List, [], ◌∷◌, Option, None, Some}
+use Rattle.std.proofs.Common.{Result, Ok, Err, refl, sym, ◌∙◌, ap}
 use Rattle.std.specs.List.{list_any}
 use Rattle.std.specs.Option.{option_map, option_and_then}
 use Rattle.contract_words.specs.Outcome.{◌>>=◌}
@@ -27,7 +28,9 @@ use Rattle.ice_filter.specs.declared.parts.Part.TheVariants as part
 use Rattle.ice_filter.specs.Rows.{Row, is_null, equals, holds, leaf_holds, row_meets}
 use Rattle.ice_filter.specs.Trees.{meaning, tree_of, operands_after, operands_after_part, is_one_filter, is_filter}
 use Rattle.ice_filter.specs.Truths.{judge_part, judge_parts, top}
-use Rattle.ice_filter.specs.Binding.{cell_of, cells_of, with_cell, compared_to, among, starts, test_of, path, or_fault, may_ask, asked, bound_leaf, bound_part, bound_parts, is_so, is_literal, passes, answers, leaf_meets}
+use Rattle.ice_filter.specs.Binding.{cell_of, cells_of, with_cell, compared_to, among, starts, test_of, path, or_fault}
+use Rattle.ice_filter.specs.Binding.{may_ask, asked, bound_leaf, bound_part, bound_parts, is_so, is_literal, passes}
+use Rattle.ice_filter.specs.Binding.{answers, leaf_meets}
 use Rattle.ice_filter.proofs.Stacks.{judged_tree}
 
 -- ---- a leaf
@@ -44,12 +47,15 @@ compared_means comparison.AtLeast v c = refl
 compared_means comparison.Equal v c = or_false (equals c v)
 compared_means comparison.NotEqual v c = rw (or_false (equals c v)) refl
 
-comparison_means : (t : ColumnType) (sign : Comparison) (o : Option Cell) (x : Test) (c : Cell) → option_map (compared_to sign) o ≡ Some x → holds x c ≡ passes (is_so sign c) o
+comparison_means : (t : ColumnType) (sign : Comparison) (o : Option Cell) (x : Test) (c : Cell)
+    → option_map (compared_to sign) o ≡ Some x → holds x c ≡ passes (is_so sign c) o
 comparison_means t sign None x c e = absurd cc
 comparison_means t sign (Some v) x c e = let same : compared_to sign v ≡ x = cc in rw (← same) (compared_means sign v c)
 
-more_means : (t : ColumnType) (l : Literal) (ls : List Literal) (vs : List Cell) (c : Cell) → ((ws : List Cell) → cells_of t ls ≡ Some ws → list_any (equals c) ws ≡ list_any (is_literal t c) ls)
-    → (o : Option Cell) (os : Option (List Cell)) → cell_of t l ≡ o → cells_of t ls ≡ os → with_cell o os ≡ Some vs → list_any (equals c) vs ≡ (is_literal t c l || list_any (is_literal t c) ls)
+more_means : (t : ColumnType) (l : Literal) (ls : List Literal) (vs : List Cell) (c : Cell)
+    → ((ws : List Cell) → cells_of t ls ≡ Some ws → list_any (equals c) ws ≡ list_any (is_literal t c) ls)
+    → (o : Option Cell) (os : Option (List Cell)) → cell_of t l ≡ o → cells_of t ls ≡ os → with_cell o os ≡ Some vs
+    → list_any (equals c) vs ≡ (is_literal t c l || list_any (is_literal t c) ls)
 more_means t l ls vs c later None os e f g = absurd cc
 more_means t l ls vs c later (Some v) None e f g = absurd cc
 more_means t l ls vs c later (Some v) (Some ws) e f g =
@@ -57,19 +63,25 @@ more_means t l ls vs c later (Some v) (Some ws) e f g =
     let rest : list_any (equals c) ws ≡ list_any (is_literal t c) ls = later ws f in
     rw (← same, e, ← rest) refl
 
-each_means : (t : ColumnType) (ls : List Literal) (vs : List Cell) (c : Cell) → cells_of t ls ≡ Some vs → list_any (equals c) vs ≡ list_any (is_literal t c) ls
+each_means : (t : ColumnType) (ls : List Literal) (vs : List Cell) (c : Cell) → cells_of t ls ≡ Some vs
+    → list_any (equals c) vs ≡ list_any (is_literal t c) ls
 each_means t [] [] c e = refl
 each_means t [] (v ∷ vs) c e = absurd cc
-each_means t (l ∷ ls) vs c e = more_means t l ls vs c (λ ws f. each_means t ls ws c f) (cell_of t l) (cells_of t ls) refl refl e
+each_means t (l ∷ ls) vs c e = more_means t l ls vs c (λ ws f. each_means t ls ws c f) (cell_of t l) (cells_of t ls)
+    refl refl e
 
-list_means : (t : ColumnType) (b : Bool) (ls : Choices) (o : Option (List Cell)) (x : Test) (c : Cell) → cells_of t (ls.first ∷ ls.more) ≡ o → option_map (among b) o ≡ Some x → holds x c ≡ answers t (question.Among b ls) c
+list_means : (t : ColumnType) (b : Bool) (ls : Choices) (o : Option (List Cell)) (x : Test) (c : Cell)
+    → cells_of t (ls.first ∷ ls.more) ≡ o → option_map (among b) o ≡ Some x
+    → holds x c ≡ answers t (question.Among b ls) c
 list_means t b ls None x c f e = absurd cc
-list_means t false ls (Some vs) x c f e = let same : among false vs ≡ x = cc in rw (← same) (each_means t (ls.first ∷ ls.more) vs c f)
+list_means t false ls (Some vs) x c f e = let same : among false vs ≡ x = cc in
+    rw (← same) (each_means t (ls.first ∷ ls.more) vs c f)
 list_means t true ls (Some vs) x c f e =
     let same : among true vs ≡ x = cc in
     rw (← same) (ap (λ b. not (is_null c) && not b) (each_means t (ls.first ∷ ls.more) vs c f))
 
-starts_means : (t : ColumnType) (l : Literal) (x : Test) (c : Cell) → starts l ≡ Some x → holds x c ≡ answers t (question.Begins l) c
+starts_means : (t : ColumnType) (l : Literal) (x : Test) (c : Cell) → starts l ≡ Some x
+    → holds x c ≡ answers t (question.Begins l) c
 starts_means t (literal.Text s) x c e = let same : test.StartsWith s ≡ x = cc in rw (← same) refl
 starts_means t (literal.Truth b) x c e = absurd cc
 starts_means t (literal.Number b) x c e = absurd cc
@@ -90,28 +102,34 @@ typed q t r false e = absurd cc
 abbrev Says : Row → ℤ → Option ColumnType → Question → Bool
 Says row id type q = passes (λ t. answers t q (row id)) type
 
-asked_test : (row : Row) (id : ℤ) (t : ColumnType) (q : Question) (b : BoundLeaf) (o : Option Test) → test_of t q ≡ o → (or_fault WrongLiteral o >>= λ test. Ok (record { column = id; column_type = t; test = test })) ≡ Ok b → leaf_holds row b ≡ answers t q (row id)
+asked_test : (row : Row) (id : ℤ) (t : ColumnType) (q : Question) (b : BoundLeaf) (o : Option Test) → test_of t q ≡ o
+    → (or_fault WrongLiteral o >>= λ test. Ok (record { column = id; column_type = t; test = test })) ≡ Ok b
+    → leaf_holds row b ≡ answers t q (row id)
 asked_test row id t q b None f e = absurd cc
 asked_test row id t q b (Some x) f e =
     let same : record { column = id; column_type = t; test = x } ≡ b = cc in
     rw (← same) (test_means t q x (row id) f)
 
 asked_type : (row : Row) (id : ℤ) (q : Question) (b : BoundLeaf) (t : ColumnType) (may : Bool)
-    → (or_fault NotComparable (cond may (Some t) None) >>= λ u. or_fault WrongLiteral (test_of u q) >>= λ test. Ok (record { column = id; column_type = u; test = test })) ≡ Ok b → leaf_holds row b ≡ answers t q (row id)
+    → (or_fault NotComparable (cond may (Some t) None) >>= λ u. or_fault WrongLiteral (test_of u q) >>= λ test. Ok
+    (record { column = id; column_type = u; test = test })) ≡ Ok b → leaf_holds row b ≡ answers t q (row id)
 asked_type row id q b t false e = absurd cc
 asked_type row id q b t true e = asked_test row id t q b (test_of t q) refl e
 
-asked_means : (row : Row) (id : ℤ) (type : Option ColumnType) (q : Question) (b : BoundLeaf) → asked id type q ≡ Ok b → leaf_holds row b ≡ Says row id type q
+asked_means : (row : Row) (id : ℤ) (type : Option ColumnType) (q : Question) (b : BoundLeaf) → asked id type q ≡ Ok b
+    → leaf_holds row b ≡ Says row id type q
 unfolding asked
 asked_means row id None q b e = absurd cc
 asked_means row id (Some t) q b e = asked_type row id q b t (may_ask t q) e
 
-column_means : (row : Row) (l : Leaf) (b : BoundLeaf) (o : Option meta.Column) → (or_fault NoSuchColumn o >>= λ column. asked column.id column.column_type l.question) ≡ Ok b
+column_means : (row : Row) (l : Leaf) (b : BoundLeaf) (o : Option meta.Column)
+    → (or_fault NoSuchColumn o >>= λ column. asked column.id column.column_type l.question) ≡ Ok b
     → leaf_holds row b ≡ passes (λ (column : meta.Column). Says row column.id column.column_type l.question) o
 column_means row l b None e = absurd cc
 column_means row l b (Some column) e = asked_means row column.id column.column_type l.question b e
 
-leaf_means : (schema : Schema) (row : Row) (l : Leaf) (b : BoundLeaf) → bound_leaf schema l ≡ Ok b → leaf_holds row b ≡ leaf_meets schema row l
+leaf_means : (schema : Schema) (row : Row) (l : Leaf) (b : BoundLeaf) → bound_leaf schema l ≡ Ok b
+    → leaf_holds row b ≡ leaf_meets schema row l
 unfolding bound_leaf
 leaf_means schema row l b e = column_means row l b (column_on (path l.column) schema) e
 
@@ -122,19 +140,33 @@ record Same (schema : Schema) (row : Row) (p : Part Leaf) (q : Part BoundLeaf) :
   counts : (n : ℕ) → operands_after_part n q ≡ operands_after_part n p
   says : (bs : List Bool) → judge_part (leaf_holds row) bs q ≡ judge_part (leaf_meets schema row) bs p
 
-leaf_same : (schema : Schema) (row : Row) (l : Leaf) (q : Part BoundLeaf) (r : Result BoundLeaf FilterFault) → bound_leaf schema l ≡ r → (r >>= λ b. Ok (part.Leaf b)) ≡ Ok q → Same schema row (part.Leaf l) q
+leaf_same : (schema : Schema) (row : Row) (l : Leaf) (q : Part BoundLeaf) (r : Result BoundLeaf FilterFault)
+    → bound_leaf schema l ≡ r → (r >>= λ b. Ok (part.Leaf b)) ≡ Ok q → Same schema row (part.Leaf l) q
 leaf_same schema row l q (Err f) g e = absurd cc
 leaf_same schema row l q (Ok b) g e =
     let same : part.Leaf b ≡ q = cc in
     rw (← same) (record { counts = λ n. refl; says = λ bs. ap (λ x. x ∷ bs) (leaf_means schema row l b g) })
 
-part_same : (schema : Schema) (row : Row) (p : Part Leaf) (q : Part BoundLeaf) → bound_part schema p ≡ Ok q → Same schema row p q
+part_same : (schema : Schema) (row : Row) (p : Part Leaf) (q : Part BoundLeaf) → bound_part schema p ≡ Ok q
+    → Same schema row p q
 unfolding bound_part
-part_same schema row part.True q e = let same : part.True ≡ q = cc in rw (← same) (record { counts = λ n. refl; says = λ bs. refl })
-part_same schema row part.False q e = let same : part.False ≡ q = cc in rw (← same) (record { counts = λ n. refl; says = λ bs. refl })
+part_same schema row part.True q e = let same : part.True ≡ q = cc in rw (← same) (record {
+  counts = λ n. refl;
+  says = λ bs. refl;
+})
+part_same schema row part.False q e = let same : part.False ≡ q = cc in rw (← same) (record {
+  counts = λ n. refl;
+  says = λ bs. refl;
+})
 part_same schema row (part.Leaf l) q e = leaf_same schema row l q (bound_leaf schema l) refl e
-part_same schema row part.And q e = let same : part.And ≡ q = cc in rw (← same) (record { counts = λ n. refl; says = λ bs. refl })
-part_same schema row part.Or q e = let same : part.Or ≡ q = cc in rw (← same) (record { counts = λ n. refl; says = λ bs. refl })
+part_same schema row part.And q e = let same : part.And ≡ q = cc in rw (← same) (record {
+  counts = λ n. refl;
+  says = λ bs. refl;
+})
+part_same schema row part.Or q e = let same : part.Or ≡ q = cc in rw (← same) (record {
+  counts = λ n. refl;
+  says = λ bs. refl;
+})
 
 record AllSame (schema : Schema) (row : Row) (ps : List (Part Leaf)) (qs : List (Part BoundLeaf)) : Type 0 where
   counts : (n : ℕ) → operands_after n qs ≡ operands_after n ps
@@ -144,30 +176,41 @@ each_then : (o : Option ℕ) (g h : ℕ → Option ℕ) → ((m : ℕ) → g m �
 each_then None g h e = refl
 each_then (Some m) g h e = e m
 
-more_same : (schema : Schema) (row : Row) (p : Part Leaf) (q : Part BoundLeaf) (ps : List (Part Leaf)) (qs : List (Part BoundLeaf)) → Same schema row p q → AllSame schema row ps qs → AllSame schema row (p ∷ ps) (q ∷ qs)
+more_same : (schema : Schema) (row : Row) (p : Part Leaf) (q : Part BoundLeaf) (ps : List (Part Leaf))
+    (qs : List (Part BoundLeaf)) → Same schema row p q → AllSame schema row ps qs → AllSame schema row (p ∷ ps) (q ∷ qs)
 more_same schema row p q ps qs h k = record {
-  counts = λ n. ap (λ o. option_and_then (λ m. operands_after m qs) o) (h.counts n) ∙ each_then (operands_after_part n p) (λ m. operands_after m qs) (λ m. operands_after m ps) k.counts;
-  says = λ bs. ap (λ cs. judge_parts (leaf_holds row) cs qs) (h.says bs) ∙ k.says (judge_part (leaf_meets schema row) bs p);
+  counts = λ n. ap (λ o. option_and_then (λ m. operands_after m qs) o) (h.counts n) ∙ each_then
+      (operands_after_part n p) (λ m. operands_after m qs) (λ m. operands_after m ps) k.counts;
+  says = λ bs. ap (λ cs. judge_parts (leaf_holds row) cs qs) (h.says bs) ∙ k.says (judge_part (leaf_meets schema row) bs
+      p);
 }
 
-rest_same : (schema : Schema) (row : Row) (p : Part Leaf) (ps : List (Part Leaf)) (out : List (Part BoundLeaf)) → ((qs : List (Part BoundLeaf)) → bound_parts schema ps ≡ Ok qs → AllSame schema row ps qs)
-    → (r : Result (Part BoundLeaf) FilterFault) (s : Result (List (Part BoundLeaf)) FilterFault) → bound_part schema p ≡ r → bound_parts schema ps ≡ s → (r >>= λ q. s >>= λ qs. Ok (q ∷ qs)) ≡ Ok out → AllSame schema row (p ∷ ps) out
+rest_same : (schema : Schema) (row : Row) (p : Part Leaf) (ps : List (Part Leaf)) (out : List (Part BoundLeaf))
+    → ((qs : List (Part BoundLeaf)) → bound_parts schema ps ≡ Ok qs → AllSame schema row ps qs)
+    → (r : Result (Part BoundLeaf) FilterFault) (s : Result (List (Part BoundLeaf)) FilterFault)
+    → bound_part schema p ≡ r → bound_parts schema ps ≡ s → (r >>= λ q. s >>= λ qs. Ok (q ∷ qs)) ≡ Ok out
+    → AllSame schema row (p ∷ ps) out
 rest_same schema row p ps out later (Err f) s g h e = absurd cc
 rest_same schema row p ps out later (Ok q) (Err f) g h e = absurd cc
 rest_same schema row p ps out later (Ok q) (Ok qs) g h e =
     let same : q ∷ qs ≡ out = cc in
     rw (← same) (more_same schema row p q ps qs (part_same schema row p q g) (later qs h))
 
-all_same : (schema : Schema) (row : Row) (ps : List (Part Leaf)) (qs : List (Part BoundLeaf)) → bound_parts schema ps ≡ Ok qs → AllSame schema row ps qs
+all_same : (schema : Schema) (row : Row) (ps : List (Part Leaf)) (qs : List (Part BoundLeaf))
+    → bound_parts schema ps ≡ Ok qs → AllSame schema row ps qs
 unfolding bound_parts
 all_same schema row [] qs e = let same : [] ≡ qs = cc in rw (← same) (record { counts = λ n. refl; says = λ bs. refl })
-all_same schema row (p ∷ ps) qs e = rest_same schema row p ps qs (λ rs f. all_same schema row ps rs f) (bound_part schema p) (bound_parts schema ps) refl refl e
+all_same schema row (p ∷ ps) qs e = rest_same schema row p ps qs (λ rs f. all_same schema row ps rs f)
+    (bound_part schema p) (bound_parts schema ps) refl refl e
 
 -- the bound filter says on the row what the filter does
-pub bound_means : (schema : Schema) (ps : List (Part Leaf)) (qs : List (Part BoundLeaf)) → bound_parts schema ps ≡ Ok qs → (row : Row) → row_meets qs row ≡ meaning (leaf_meets schema row) (tree_of ps)
+pub bound_means : (schema : Schema) (ps : List (Part Leaf)) (qs : List (Part BoundLeaf)) → bound_parts schema ps ≡ Ok qs
+    → (row : Row) → row_meets qs row ≡ meaning (leaf_meets schema row) (tree_of ps)
 bound_means schema ps qs e row =
-    sym (judged_tree (leaf_holds row) qs) ∙ ap top ((all_same schema row ps qs e).says []) ∙ judged_tree (leaf_meets schema row) ps
+    sym (judged_tree (leaf_holds row) qs) ∙ ap top ((all_same schema row ps qs e).says []) ∙ judged_tree
+    (leaf_meets schema row) ps
 
 -- and it is a filter
-pub bound_filter : (schema : Schema) (ps : List (Part Leaf)) (qs : List (Part BoundLeaf)) → bound_parts schema ps ≡ Ok qs → is_filter ps ≡ true → is_filter qs ≡ true
+pub bound_filter : (schema : Schema) (ps : List (Part Leaf)) (qs : List (Part BoundLeaf))
+    → bound_parts schema ps ≡ Ok qs → is_filter ps ≡ true → is_filter qs ≡ true
 bound_filter schema ps qs e h = ap is_one_filter ((all_same schema (λ id. Null) ps qs e).counts 0) ∙ h

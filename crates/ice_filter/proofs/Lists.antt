@@ -2,7 +2,8 @@
 use Rattle.std.proofs.lemmas.List.{append-nil}
 use Rattle.std.proofs.Math.ListN.{drop_of_length-le}
 use Rattle.contract_words.specs.Outcome.{◌>>=◌}
-use Rattle.std.proofs.Common.{◌≡◌, ℕ, ◌+◌, ◌<◌, ◌≤◌, Result, Ok, Err, List, [], ◌∷◌, ◌++◌, length, drop, get_or, Option, None, Some, refl, sym, ◌∙◌, ap, append_assoc, add-one, drop-cons}
+use Rattle.std.proofs.Common.{◌≡◌, ℕ, ◌+◌, ◌<◌, ◌≤◌, Result, Ok, Err, List, [], ◌∷◌, ◌++◌, length, drop, get_or, Option}
+use Rattle.std.proofs.Common.{None, Some, refl, sym, ◌∙◌, ap, append_assoc, add-one, drop-cons}
 use Rattle.ice_value.specs.declared.cell.Cell.{Cell}
 use Rattle.ice_value.specs.declared.column_type.ColumnType.{ColumnType}
 use Rattle.ice_filter.specs.declared.leaf.Literal.{Literal}
@@ -22,31 +23,38 @@ first_more : (c : Cell) (o : Option (List Cell)) → after_cells (c ∷ []) o �
 first_more c None = refl
 first_more c (Some cs) = refl
 
-one_more : (front : List Cell) (c : Cell) (o : Option (List Cell)) → after_cells front (with_cell (Some c) o) ≡ after_cells (front ++ c ∷ []) o
+one_more : (front : List Cell) (c : Cell) (o : Option (List Cell))
+    → after_cells front (with_cell (Some c) o) ≡ after_cells (front ++ c ∷ []) o
 one_more front c None = refl
 one_more front c (Some cs) = ap Some (sym (append_assoc front (c ∷ []) cs))
 
-pub step_of : {A : Type 0} (xs : List A) (i : ℕ) (x : A) → i < length xs → x ≡ get_or xs i x → drop i xs ≡ x ∷ drop (i + 1) xs
+pub step_of : {A : Type 0} (xs : List A) (i : ℕ) (x : A) → i < length xs → x ≡ get_or xs i x
+    → drop i xs ≡ x ∷ drop (i + 1) xs
 step_of xs i x lt is = drop-cons xs i x lt ∙ rw (← is, add-one) refl
 
 pub end_of : {A : Type 0} (xs : List A) (i : ℕ) → length xs ≤ i → drop i xs ≡ []
 end_of xs i le = drop_of_length-le xs le
 
-pub cell_first : (t : ColumnType) (l : Literal) (ls : List Literal) (c : Cell) → cell_of t l ≡ Some c → after_cells (c ∷ []) (cells_of t ls) ≡ cells_of t (l ∷ ls)
+pub cell_first : (t : ColumnType) (l : Literal) (ls : List Literal) (c : Cell) → cell_of t l ≡ Some c
+    → after_cells (c ∷ []) (cells_of t ls) ≡ cells_of t (l ∷ ls)
 cell_first t l ls c e = rw e (first_more c (cells_of t ls))
 
-pub cell_here : (t : ColumnType) (ls : List Literal) (i : ℕ) (l : Literal) (front : List Cell) (c : Cell) → i < length ls → l ≡ get_or ls i l → cell_of t l ≡ Some c
+pub cell_here : (t : ColumnType) (ls : List Literal) (i : ℕ) (l : Literal) (front : List Cell) (c : Cell)
+    → i < length ls → l ≡ get_or ls i l → cell_of t l ≡ Some c
     → after_cells front (cells_of t (drop i ls)) ≡ after_cells (front ++ c ∷ []) (cells_of t (drop (i + 1) ls))
 cell_here t ls i l front c lt is e = rw (step_of ls i l lt is, e) (one_more front c (cells_of t (drop (i + 1) ls)))
 
-pub no_cell : (t : ColumnType) (ls : List Literal) (i : ℕ) (l : Literal) (front : List Cell) → i < length ls → l ≡ get_or ls i l → cell_of t l ≡ None → after_cells front (cells_of t (drop i ls)) ≡ None
+pub no_cell : (t : ColumnType) (ls : List Literal) (i : ℕ) (l : Literal) (front : List Cell) → i < length ls
+    → l ≡ get_or ls i l → cell_of t l ≡ None → after_cells front (cells_of t (drop i ls)) ≡ None
 no_cell t ls i l front lt is e = rw (step_of ls i l lt is, e) refl
 
-pub cells_end : (t : ColumnType) (ls : List Literal) (i : ℕ) (front : List Cell) → length ls ≤ i → after_cells front (cells_of t (drop i ls)) ≡ Some front
+pub cells_end : (t : ColumnType) (ls : List Literal) (i : ℕ) (front : List Cell) → length ls ≤ i
+    → after_cells front (cells_of t (drop i ls)) ≡ Some front
 cells_end t ls i front le = rw (end_of ls i le) (ap Some (append-nil front))
 
 -- the parts so far, with those that follow
-abbrev pub prefixed : List (Part BoundLeaf) → Result (List (Part BoundLeaf)) FilterFault → Result (List (Part BoundLeaf)) FilterFault
+abbrev pub prefixed : List (Part BoundLeaf) → Result (List (Part BoundLeaf)) FilterFault
+    → Result (List (Part BoundLeaf)) FilterFault
 prefixed front (Ok xs) = Ok (front ++ xs)
 prefixed front (Err e) = Err e
 
@@ -54,19 +62,26 @@ pub prefixed_nil : (r : Result (List (Part BoundLeaf)) FilterFault) → prefixed
 prefixed_nil (Ok qs) = refl
 prefixed_nil (Err e) = refl
 
-prefixed_more : (front : List (Part BoundLeaf)) (q : Part BoundLeaf) (r : Result (List (Part BoundLeaf)) FilterFault) → prefixed front (r >>= λ qs. Ok (q ∷ qs)) ≡ prefixed (front ++ q ∷ []) r
+prefixed_more : (front : List (Part BoundLeaf)) (q : Part BoundLeaf) (r : Result (List (Part BoundLeaf)) FilterFault)
+    → prefixed front (r >>= λ qs. Ok (q ∷ qs)) ≡ prefixed (front ++ q ∷ []) r
 prefixed_more front q (Ok qs) = ap Ok (sym (append_assoc front (q ∷ []) qs))
 prefixed_more front q (Err e) = refl
 
-pub part_here : (schema : Schema) (ps : List (Part Leaf)) (i : ℕ) (p : Part Leaf) (front : List (Part BoundLeaf)) (q : Part BoundLeaf) → i < length ps → p ≡ get_or ps i p → bound_part schema p ≡ Ok q
-    → prefixed front (bound_parts schema (drop i ps)) ≡ prefixed (front ++ q ∷ []) (bound_parts schema (drop (i + 1) ps))
+pub part_here : (schema : Schema) (ps : List (Part Leaf)) (i : ℕ) (p : Part Leaf) (front : List (Part BoundLeaf))
+    (q : Part BoundLeaf) → i < length ps → p ≡ get_or ps i p → bound_part schema p ≡ Ok q
+    → prefixed front (bound_parts schema (drop i ps)) ≡ prefixed (front ++ q ∷ [])
+    (bound_parts schema (drop (i + 1) ps))
 unfolding bound_parts
-part_here schema ps i p front q lt is e = rw (step_of ps i p lt is, e) (prefixed_more front q (bound_parts schema (drop (i + 1) ps)))
+part_here schema ps i p front q lt is e = rw (step_of ps i p lt is, e)
+    (prefixed_more front q (bound_parts schema (drop (i + 1) ps)))
 
-pub part_fails : (schema : Schema) (ps : List (Part Leaf)) (i : ℕ) (p : Part Leaf) (front : List (Part BoundLeaf)) (f : FilterFault) → i < length ps → p ≡ get_or ps i p → bound_part schema p ≡ Err f → prefixed front (bound_parts schema (drop i ps)) ≡ Err f
+pub part_fails : (schema : Schema) (ps : List (Part Leaf)) (i : ℕ) (p : Part Leaf) (front : List (Part BoundLeaf))
+    (f : FilterFault) → i < length ps → p ≡ get_or ps i p → bound_part schema p ≡ Err f
+    → prefixed front (bound_parts schema (drop i ps)) ≡ Err f
 unfolding bound_parts
 part_fails schema ps i p front f lt is e = rw (step_of ps i p lt is, e) refl
 
-pub parts_end : (schema : Schema) (ps : List (Part Leaf)) (i : ℕ) (front : List (Part BoundLeaf)) → length ps ≤ i → prefixed front (bound_parts schema (drop i ps)) ≡ Ok front
+pub parts_end : (schema : Schema) (ps : List (Part Leaf)) (i : ℕ) (front : List (Part BoundLeaf)) → length ps ≤ i
+    → prefixed front (bound_parts schema (drop i ps)) ≡ Ok front
 unfolding bound_parts
 parts_end schema ps i front le = rw (end_of ps i le) (ap Ok (append-nil front))

@@ -1,12 +1,17 @@
 -- What the tokens of a text hold.
-use Rattle.std.proofs.Common.{◌≡◌, ℕ, ℤ, pos, zero, suc, ◌+◌, ◌-◌, ◌*◌, ◌<◌, ◌≤◌, ◌==◌, ◌-ℤ◌, Bool, true, false, cond, ◌&&◌, ◌||◌, nat_lt, List, [], ◌∷◌, ◌++◌, take, drop, Option, None, Some, refl, sym, ap, subst, ◌∙◌, arith}
+use Rattle.std.proofs.Common.{◌≡◌, ℕ, ℤ, pos, zero, suc, ◌+◌, ◌-◌, ◌*◌, ◌<◌, ◌≤◌, ◌==◌, ◌-ℤ◌, Bool, true, false, cond}
+use Rattle.std.proofs.Common.{◌&&◌, ◌||◌, nat_lt, List, [], ◌∷◌, ◌++◌, take, drop, Option, None, Some, refl, sym, ap}
+use Rattle.std.proofs.Common.{subst, ◌∙◌, arith}
 use Rattle.std.proofs.lemmas.Bool.{ltb-true, ltb-false}
 use Rattle.std.specs.Prelude.{codes}
 use Rattle.std.specs.Str.{is_utf8, bytes_eq}
 use Rattle.ice_filter.specs.declared.token.Token.{Token}
 use Rattle.ice_filter.specs.declared.token.Token.TheVariants as token
 use Rattle.ice_filter.specs.declared.token.Comparison.TheVariants as sign
-use Rattle.ice_filter.specs.Lexing.{Sized, is_separator, is_digit, is_letter, is_hex, nibble, is_name_byte, is_equals, second_is, run_from, text_in, named, word_of, word_at, magnitude_from, number_of, digits_at, quoted_from, hex_from, sized_text, text_of, quoted, as_text, as_name, as_bytes, mark_at, begins_hex, begins_minus, front_at}
+use Rattle.ice_filter.specs.Lexing.{Sized, is_separator, is_digit, is_letter, is_hex, nibble, is_name_byte, is_equals}
+use Rattle.ice_filter.specs.Lexing.{second_is, run_from, text_in, named, word_of, word_at, magnitude_from, number_of}
+use Rattle.ice_filter.specs.Lexing.{digits_at, quoted_from, hex_from, sized_text, text_of, quoted, as_text, as_name}
+use Rattle.ice_filter.specs.Lexing.{as_bytes, mark_at, begins_hex, begins_minus, front_at}
 use Rattle.ice_filter.proofs.Lexed.{lexed, and_parts}
 use Rattle.ice_filter.proofs.Spelled.{AllBytes, IsLong, IsRead, negated}
 
@@ -69,7 +74,8 @@ either_sized : (t : Bool) (x y : Sized) → IsRead x.0 → IsRead y.0 → IsRead
 either_sized true x y h k = h
 either_sized false x y h k = k
 
-nothing_sized : (t : Bool) (x y : Sized) → holds_nothing x.0 ≡ true → holds_nothing y.0 ≡ true → holds_nothing (cond t x y).0 ≡ true
+nothing_sized : (t : Bool) (x y : Sized) → holds_nothing x.0 ≡ true → holds_nothing y.0 ≡ true
+    → holds_nothing (cond t x y).0 ≡ true
 nothing_sized true x y h k = h
 nothing_sized false x y h k = k
 
@@ -119,7 +125,8 @@ minus_long : (n : ℕ) → n ≤ 0x8000_0000_0000_0000 → IsLong (pos 0 -ℤ po
 minus_long zero h = omega arith
 minus_long (suc n) h = subst IsLong (sym (negated n)) h
 
-minus_if : (n : ℕ) (t : Bool) → nat_lt 0x8000_0000_0000_0000 n ≡ t → IsRead (cond t token.Bad (token.Number (pos 0 -ℤ pos n)))
+minus_if : (n : ℕ) (t : Bool) → nat_lt 0x8000_0000_0000_0000 n ≡ t
+    → IsRead (cond t token.Bad (token.Number (pos 0 -ℤ pos n)))
 minus_if n true e = nothing token.Bad refl
 minus_if n false e = number_read (pos 0 -ℤ pos n) (minus_long n (ltb-false 0x8000_0000_0000_0000 n e))
 
@@ -135,7 +142,8 @@ number_of_read false (Some n) = plus_if n (nat_lt n 0x8000_0000_0000_0000) refl
 
 -- ---- quotes
 
-sized_read : (n : ℕ) (o : Option (List ℕ)) → IsSomeText o → IsRead (as_text (sized_text n o)).0 × IsRead (as_name (sized_text n o)).0
+sized_read : (n : ℕ) (o : Option (List ℕ)) → IsSomeText o
+    → IsRead (as_text (sized_text n o)).0 × IsRead (as_name (sized_text n o)).0
 sized_read n None h = (nothing token.Bad refl, nothing token.Bad refl)
 sized_read n (Some x) h = (text_read x h, name_read x h)
 
@@ -149,12 +157,14 @@ abbrev IsSomeBytes : Option (List ℕ × ℕ) → Type 0
 IsSomeBytes None = Unit {0}
 IsSomeBytes (Some x) = AllBytes x.0
 
-nibble_low : (b : ℕ) (t u : Bool) → nat_lt b 58 ≡ t → nat_lt b 71 ≡ u → b < 103 → cond t (b - 48) (cond u (b - 55) (b - 87)) < 16
+nibble_low : (b : ℕ) (t u : Bool) → nat_lt b 58 ≡ t → nat_lt b 71 ≡ u → b < 103
+    → cond t (b - 48) (cond u (b - 55) (b - 87)) < 16
 nibble_low b true u e f h = let l = ltb-true b 58 e in omega arith
 nibble_low b false true e f h = let l = ltb-true b 71 f in omega arith
 nibble_low b false false e f h = omega arith
 
-hex_below : (b : ℕ) (x y z : Bool) → nat_lt b 58 ≡ x → nat_lt b 103 ≡ y → nat_lt b 71 ≡ z → (p q r : Bool) → ((p && x) || (q && y) || (r && z)) ≡ true → b < 103
+hex_below : (b : ℕ) (x y z : Bool) → nat_lt b 58 ≡ x → nat_lt b 103 ≡ y → nat_lt b 71 ≡ z → (p q r : Bool)
+    → ((p && x) || (q && y) || (r && z)) ≡ true → b < 103
 hex_below b true y z e f g p q r h = let l = ltb-true b 58 e in omega arith
 hex_below b false true z e f g p q r h = ltb-true b 103 f
 hex_below b false false true e f g p q r h = let l = ltb-true b 71 g in omega arith
@@ -168,7 +178,8 @@ hex_below b false false false e f g false false true h = absurd (cc)
 hex_below b false false false e f g false false false h = absurd (cc)
 
 nibble_small : (b : ℕ) → is_hex b ≡ true → nibble b < 16
-nibble_small b h = nibble_low b (nat_lt b 58) (nat_lt b 71) refl refl (hex_below b (nat_lt b 58) (nat_lt b 103) (nat_lt b 71) refl refl refl (nat_lt 47 b) (nat_lt 96 b) (nat_lt 64 b) h)
+nibble_small b h = nibble_low b (nat_lt b 58) (nat_lt b 71) refl refl (hex_below b (nat_lt b 58) (nat_lt b 103)
+    (nat_lt b 71) refl refl refl (nat_lt 47 b) (nat_lt 96 b) (nat_lt 64 b) h)
 
 all_more : (bs : List ℕ) (b : ℕ) → AllBytes bs → b < 256 → AllBytes (bs ++ b ∷ [])
 all_more [] b h k = (k, tt)
@@ -178,7 +189,8 @@ end_if : (found : List ℕ) (n : ℕ) (t : Bool) → AllBytes found → IsSomeBy
 end_if found n true h = h
 end_if found n false h = tt
 
-pair_if : (found : List ℕ) (n : ℕ) (t : Bool) (o : Option (List ℕ × ℕ)) → AllBytes found → IsSomeBytes o → IsSomeBytes (cond t (Some (found, n)) o)
+pair_if : (found : List ℕ) (n : ℕ) (t : Bool) (o : Option (List ℕ × ℕ)) → AllBytes found → IsSomeBytes o
+    → IsSomeBytes (cond t (Some (found, n)) o)
 pair_if found n true o h k = h
 pair_if found n false o h k = k
 
@@ -241,10 +253,13 @@ front_read b bytes =
     let l : Sized = cond (is_digit b) (digits_at false 0 bytes) k in
     let w : Sized = cond (is_letter b) (word_at bytes) l in
     let x : Sized = as_bytes (hex_from [] 2 (drop 2 bytes)) in
-    either_sized (begins_hex b bytes) x w (bytes_of_read (hex_from [] 2 (drop 2 bytes)) (hex_from_read [] 2 (drop 2 bytes) tt)) (
+    either_sized (begins_hex b bytes) x w (bytes_of_read (hex_from [] 2 (drop 2 bytes))
+    (hex_from_read [] 2 (drop 2 bytes) tt)) (
     either_sized (is_letter b) (word_at bytes) l (word_read (take (run_from is_name_byte 0 bytes) bytes)) (
-    either_sized (is_digit b) (digits_at false 0 bytes) k (number_of_read false (magnitude_from 0 (take (run_from is_digit 0 bytes) bytes))) (
-    either_sized (begins_minus b bytes) (digits_at true 1 (drop 1 bytes)) j (number_of_read true (magnitude_from 0 (take (run_from is_digit 0 (drop 1 bytes)) (drop 1 bytes)))) (
+    either_sized (is_digit b) (digits_at false 0 bytes) k
+    (number_of_read false (magnitude_from 0 (take (run_from is_digit 0 bytes) bytes))) (
+    either_sized (begins_minus b bytes) (digits_at true 1 (drop 1 bytes)) j
+    (number_of_read true (magnitude_from 0 (take (run_from is_digit 0 (drop 1 bytes)) (drop 1 bytes)))) (
     either_sized (b == 39) t i (quoted_read (quoted_from 39 [] 1 (drop 1 bytes))).0 (
     either_sized (b == 34) n m (quoted_read (quoted_from 34 [] 1 (drop 1 bytes))).1 (mark_read b bytes))))))
 
@@ -264,4 +279,8 @@ lexed_read (suc n) [] = tt
 lexed_read (suc n) (b ∷ bs) = lexed_read n bs
 lexed_read zero (b ∷ bs) =
     let f : Sized = front_at b (b ∷ bs) in
-    all_if (is_separator b) (lexed 0 bs) (f.0 ∷ lexed (f.1 - 1) bs) (lexed_read 0 bs) (front_read b (b ∷ bs), lexed_read (f.1 - 1) bs)
+    all_if (is_separator b) (lexed 0 bs) (f.0 ∷ lexed (f.1 - 1) bs) (lexed_read 0 bs) (
+      front_read b (b ∷ bs),
+      lexed_read
+          (f.1 - 1) bs,
+    )

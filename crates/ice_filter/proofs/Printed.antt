@@ -1,5 +1,6 @@
 -- The text of a filter says that filter.
-use Rattle.std.proofs.Common.{◌≡◌, ℕ, ◌-◌, ◌<◌, Bool, true, false, List, [], ◌∷◌, ◌++◌, length, flat_map, Ok, refl, sym, subst, ◌∙◌, arith}
+use Rattle.std.proofs.Common.{◌≡◌, ℕ, ◌-◌, ◌<◌, Bool, true, false, List, [], ◌∷◌, ◌++◌, length, flat_map, Ok, refl, sym}
+use Rattle.std.proofs.Common.{subst, ◌∙◌, arith}
 use Rattle.std.proofs.lemmas.List.{append-nil}
 use Rattle.std.specs.Prelude.{codes}
 use Rattle.ice_filter.specs.declared.leaf.Leaf.{Leaf}
@@ -12,13 +13,18 @@ use Rattle.ice_filter.specs.declared.token.Token.{Token}
 use Rattle.ice_filter.specs.declared.token.Token.TheVariants as token
 use Rattle.ice_filter.specs.declared.token.Comparison.{Comparison}
 use Rattle.ice_filter.specs.declared.token.Comparison.TheVariants as sign
-use Rattle.ice_filter.specs.Grammar.{Written, truth, leaf, group, both, either, bare, unit, conj, filter, Level, Stands, Says, Reads, tokens_in, leaf_tokens, column_tokens, question_tokens, choices_tokens, literal_token, dotted, listed, leaves_in, IsShallow, IsWithin, Limits, limits, words}
+use Rattle.ice_filter.specs.Grammar.{Written, truth, leaf, group, both, either, bare, unit, conj, filter, Level, Stands}
+use Rattle.ice_filter.specs.Grammar.{Says, Reads, tokens_in, leaf_tokens, column_tokens, question_tokens}
+use Rattle.ice_filter.specs.Grammar.{choices_tokens, literal_token, dotted, listed, leaves_in, IsShallow, IsWithin}
+use Rattle.ice_filter.specs.Grammar.{Limits, limits, words}
 use Rattle.ice_filter.specs.Lexing.{run_from, word_of, front_at, mark_at, tokens_of}
 use Rattle.ice_filter.specs.Parsing.{filter_of}
-use Rattle.ice_filter.specs.Texts.{name_text, dotted_text, column_text, literal_text, listed_text, choices_text, sign_text, question_text, leaf_text, enclosed, is_either, is_operator, shown}
+use Rattle.ice_filter.specs.Texts.{name_text, dotted_text, column_text, literal_text, listed_text, choices_text}
+use Rattle.ice_filter.specs.Texts.{sign_text, question_text, leaf_text, enclosed, is_either, is_operator, shown}
 use Rattle.ice_filter.specs.Trees.{Tree, truth as always, leaf as single, both as all_of, either as one_of}
 use Rattle.ice_filter.proofs.Halts.{shallow_more}
-use Rattle.ice_filter.proofs.Lexed.{lexed, words_lexed, end, blank, close, comma, dot, after, Lexes, LexesAlways, IsStop, lexes_more, lexes_behind, lexes_always}
+use Rattle.ice_filter.proofs.Lexed.{lexed, words_lexed, end, blank, close, comma, dot, after, Lexes, LexesAlways}
+use Rattle.ice_filter.proofs.Lexed.{IsStop, lexes_more, lexes_behind, lexes_always}
 use Rattle.ice_filter.proofs.Names.{name_lexed}
 use Rattle.ice_filter.proofs.Origins.{AllRead, lexed_read}
 use Rattle.ice_filter.proofs.Shapes.{text_reads}
@@ -49,15 +55,19 @@ dotted_stop : (more : List (List ℕ)) → IsStop (flat_map dotted_text more)
 dotted_stop [] s = (s, refl)
 dotted_stop (n ∷ more) s = (dot ((name_text n ++ flat_map dotted_text more) ++ after s), refl)
 
-dotted_lexed : (more : List (List ℕ)) → AllRead (flat_map dotted more) → Lexes (flat_map dotted_text more) (flat_map dotted more)
+dotted_lexed : (more : List (List ℕ)) → AllRead (flat_map dotted more)
+    → Lexes (flat_map dotted_text more) (flat_map dotted more)
 dotted_lexed [] h = nothing_lexed
 dotted_lexed (n ∷ more) h =
-    lexes_behind (46 ∷ []) (name_text n ++ flat_map dotted_text more) (token.Dot ∷ []) (token.Name n ∷ flat_map dotted more) dot_always
-    (lexes_more (name_text n) (flat_map dotted_text more) (token.Name n ∷ []) (flat_map dotted more) (name_lexed n (h.1.0.name n refl)) (dotted_stop more) (dotted_lexed more h.1.1))
+    lexes_behind (46 ∷ []) (name_text n ++ flat_map dotted_text more) (token.Dot ∷ []) (token.Name n ∷ flat_map dotted
+    more) dot_always
+    (lexes_more (name_text n) (flat_map dotted_text more) (token.Name n ∷ []) (flat_map dotted more)
+    (name_lexed n (h.1.0.name n refl)) (dotted_stop more) (dotted_lexed more h.1.1))
 
 column_lexed : (c : Column) → AllRead (column_tokens c) → Lexes (column_text c) (column_tokens c)
 column_lexed c h =
-    lexes_more (name_text c.first) (flat_map dotted_text c.more) (token.Name c.first ∷ []) (flat_map dotted c.more) (name_lexed c.first (h.0.name c.first refl)) (dotted_stop c.more) (dotted_lexed c.more h.1)
+    lexes_more (name_text c.first) (flat_map dotted_text c.more) (token.Name c.first ∷ []) (flat_map dotted c.more)
+    (name_lexed c.first (h.0.name c.first refl)) (dotted_stop c.more) (dotted_lexed c.more h.1)
 
 -- ---- questions
 
@@ -69,15 +79,19 @@ listed_stop : (more : List Literal) → IsStop (flat_map listed_text more)
 listed_stop [] s = (s, refl)
 listed_stop (l ∷ more) s = (comma (32 ∷ ((literal_text l ++ flat_map listed_text more) ++ after s)), refl)
 
-listed_lexed : (more : List Literal) → AllRead (flat_map listed more) → Lexes (flat_map listed_text more) (flat_map listed more)
+listed_lexed : (more : List Literal) → AllRead (flat_map listed more)
+    → Lexes (flat_map listed_text more) (flat_map listed more)
 listed_lexed [] h = nothing_lexed
 listed_lexed (l ∷ more) h =
-    lexes_behind (codes ", ") (literal_text l ++ flat_map listed_text more) (token.Comma ∷ []) (literal_token l ∷ flat_map listed more) comma_always
-    (lexes_more (literal_text l) (flat_map listed_text more) (literal_token l ∷ []) (flat_map listed more) (literal_lexed l h.1.0) (listed_stop more) (listed_lexed more h.1.1))
+    lexes_behind (codes ", ") (literal_text l ++ flat_map listed_text more) (token.Comma ∷ [])
+    (literal_token l ∷ flat_map listed more) comma_always
+    (lexes_more (literal_text l) (flat_map listed_text more) (literal_token l ∷ []) (flat_map listed more)
+    (literal_lexed l h.1.0) (listed_stop more) (listed_lexed more h.1.1))
 
 choices_lexed : (c : Choices) → AllRead (choices_tokens c) → Lexes (choices_text c) (choices_tokens c)
 choices_lexed c h =
-    lexes_more (literal_text c.first) (flat_map listed_text c.more) (literal_token c.first ∷ []) (flat_map listed c.more) (literal_lexed c.first h.0) (listed_stop c.more) (listed_lexed c.more h.1)
+    lexes_more (literal_text c.first) (flat_map listed_text c.more) (literal_token c.first ∷ [])
+    (flat_map listed c.more) (literal_lexed c.first h.0) (listed_stop c.more) (listed_lexed c.more h.1)
 
 sign_always : (s : Comparison) → LexesAlways (sign_text s) (token.Sign s ∷ [])
 unfolding lexed front_at mark_at
@@ -124,19 +138,26 @@ close_stop : IsStop (codes ")")
 close_stop s = (close (after s), refl)
 
 closed_lexed : (text : List ℕ) (ts : List Token) → Lexes text ts → Lexes (text ++ codes ")") (ts ++ token.Close ∷ [])
-closed_lexed text ts h = lexes_more text (codes ")") ts (token.Close ∷ []) h close_stop (lexes_always (codes ")") (token.Close ∷ []) close_always)
+closed_lexed text ts h = lexes_more text (codes ")") ts (token.Close ∷ []) h close_stop (lexes_always (codes ")")
+    (token.Close ∷ []) close_always)
 
 question_lexed : (q : Question) → AllRead (question_tokens q) → Lexes (question_text q) (question_tokens q)
-question_lexed (question.Compare s l) h = lexes_behind (sign_text s) (literal_text l) (token.Sign s ∷ []) (literal_token l ∷ []) (sign_always s) (literal_lexed l h.1.0)
+question_lexed (question.Compare s l) h = lexes_behind (sign_text s) (literal_text l) (token.Sign s ∷ [])
+    (literal_token l ∷ []) (sign_always s) (literal_lexed l h.1.0)
 question_lexed (question.Among false c) h =
-    lexes_behind (codes " in (") (choices_text c ++ codes ")") (token.In ∷ token.Open ∷ []) (choices_tokens c ++ token.Close ∷ []) in_always
-    (closed_lexed (choices_text c) (choices_tokens c) (choices_lexed c (all_front (choices_tokens c) (token.Close ∷ []) h.1.1)))
+    lexes_behind (codes " in (") (choices_text c ++ codes ")") (token.In ∷ token.Open ∷ [])
+    (choices_tokens c ++ token.Close ∷ []) in_always
+    (closed_lexed (choices_text c) (choices_tokens c) (choices_lexed c (all_front (choices_tokens c) (token.Close ∷ [])
+    h.1.1)))
 question_lexed (question.Among true c) h =
-    lexes_behind (codes " not in (") (choices_text c ++ codes ")") (token.Not ∷ token.In ∷ token.Open ∷ []) (choices_tokens c ++ token.Close ∷ []) not_in_always
-    (closed_lexed (choices_text c) (choices_tokens c) (choices_lexed c (all_front (choices_tokens c) (token.Close ∷ []) h.1.1.1)))
+    lexes_behind (codes " not in (") (choices_text c ++ codes ")") (token.Not ∷ token.In ∷ token.Open ∷ [])
+    (choices_tokens c ++ token.Close ∷ []) not_in_always
+    (closed_lexed (choices_text c) (choices_tokens c) (choices_lexed c (all_front (choices_tokens c) (token.Close ∷ [])
+    h.1.1.1)))
 question_lexed question.Missing h = null_lexed
 question_lexed question.Present h = not_null_lexed
-question_lexed (question.Begins l) h = lexes_behind (codes " starts with ") (literal_text l) (token.Starts ∷ token.With ∷ []) (literal_token l ∷ []) starts_always (literal_lexed l h.1.1.0)
+question_lexed (question.Begins l) h = lexes_behind (codes " starts with ") (literal_text l) (token.Starts ∷ token.With
+    ∷ []) (literal_token l ∷ []) starts_always (literal_lexed l h.1.1.0)
 
 sign_stop : (s : Comparison) (bs : List ℕ) → IsStop (sign_text s ++ bs)
 sign_stop sign.Less bs = stop_blank (codes "< " ++ bs)
@@ -157,7 +178,8 @@ question_stop (question.Begins l) = stop_blank (codes "starts with " ++ literal_
 leaf_lexed : (l : Leaf) → AllRead (leaf_tokens l) → Lexes (leaf_text l) (leaf_tokens l)
 leaf_lexed l h =
     lexes_more (column_text l.column) (question_text l.question) (column_tokens l.column) (question_tokens l.question)
-    (column_lexed l.column (all_front (column_tokens l.column) (question_tokens l.question) h)) (question_stop l.question)
+    (column_lexed l.column (all_front (column_tokens l.column) (question_tokens l.question) h))
+    (question_stop l.question)
     (question_lexed l.question (all_back (column_tokens l.column) (question_tokens l.question) h))
 
 -- ---- filters
@@ -184,8 +206,16 @@ leaves_read : (w : Written) → AllRead (tokens_in w) → LeavesRead (bare w)
 leaves_read (truth b) h = tt
 leaves_read (leaf l) h = h
 leaves_read (group w) h = leaves_read w (all_front (tokens_in w) (token.Close ∷ []) h.1)
-leaves_read (both v w) h = (leaves_read v (all_front (tokens_in v) (token.And ∷ tokens_in w) h), leaves_read w (all_back (tokens_in v) (token.And ∷ tokens_in w) h).1)
-leaves_read (either v w) h = (leaves_read v (all_front (tokens_in v) (token.Or ∷ tokens_in w) h), leaves_read w (all_back (tokens_in v) (token.Or ∷ tokens_in w) h).1)
+leaves_read (both v w) h = (
+  leaves_read v (all_front (tokens_in v) (token.And ∷ tokens_in w) h),
+  leaves_read w
+      (all_back (tokens_in v) (token.And ∷ tokens_in w) h).1,
+)
+leaves_read (either v w) h = (
+  leaves_read v (all_front (tokens_in v) (token.Or ∷ tokens_in w) h),
+  leaves_read w
+      (all_back (tokens_in v) (token.Or ∷ tokens_in w) h).1,
+)
 
 and_always : LexesAlways (codes " and ") (token.And ∷ [])
 unfolding lexed front_at run_from word_of
@@ -199,8 +229,10 @@ open_always : LexesAlways (codes "(") (token.Open ∷ [])
 unfolding lexed front_at mark_at
 open_always rest = refl
 
-enclosed_lexed : (b : Bool) (text : List ℕ) (w : Written) → Lexes text (tokens_in w) → Lexes (enclosed b text) (tokens_in (grouped b w))
-enclosed_lexed true text w h = lexes_behind (codes "(") (text ++ codes ")") (token.Open ∷ []) (tokens_in w ++ token.Close ∷ []) open_always (closed_lexed text (tokens_in w) h)
+enclosed_lexed : (b : Bool) (text : List ℕ) (w : Written) → Lexes text (tokens_in w)
+    → Lexes (enclosed b text) (tokens_in (grouped b w))
+enclosed_lexed true text w h = lexes_behind (codes "(") (text ++ codes ")") (token.Open ∷ [])
+    (tokens_in w ++ token.Close ∷ []) open_always (closed_lexed text (tokens_in w) h)
 enclosed_lexed false text w h = h
 
 shown_lexed : (f : Tree Leaf) → LeavesRead f → Lexes (shown f) (tokens_in (written f))
@@ -209,19 +241,28 @@ shown_lexed (single l) h = leaf_lexed l h
 shown_lexed (all_of s t) h =
     let v = grouped (is_either s) (written s) in
     let w = grouped (is_operator t) (written t) in
-    lexes_more (enclosed (is_either s) (shown s)) (codes " and " ++ enclosed (is_operator t) (shown t)) (tokens_in v) (token.And ∷ tokens_in w)
-    (enclosed_lexed (is_either s) (shown s) (written s) (shown_lexed s h.0)) (stop_blank (codes "and " ++ enclosed (is_operator t) (shown t)))
-    (lexes_behind (codes " and ") (enclosed (is_operator t) (shown t)) (token.And ∷ []) (tokens_in w) and_always (enclosed_lexed (is_operator t) (shown t) (written t) (shown_lexed t h.1)))
+    lexes_more (enclosed (is_either s) (shown s)) (codes " and " ++ enclosed (is_operator t) (shown t)) (tokens_in v)
+    (token.And ∷ tokens_in w)
+    (enclosed_lexed (is_either s) (shown s) (written s) (shown_lexed s h.0))
+    (stop_blank (codes "and " ++ enclosed (is_operator t) (shown t)))
+    (lexes_behind (codes " and ") (enclosed (is_operator t) (shown t)) (token.And ∷ []) (tokens_in w) and_always
+    (enclosed_lexed (is_operator t) (shown t) (written t) (shown_lexed t h.1)))
 shown_lexed (one_of s t) h =
     let w = grouped (is_either t) (written t) in
-    lexes_more (shown s) (codes " or " ++ enclosed (is_either t) (shown t)) (tokens_in (written s)) (token.Or ∷ tokens_in w)
+    lexes_more (shown s) (codes " or " ++ enclosed (is_either t) (shown t)) (tokens_in (written s))
+    (token.Or ∷ tokens_in w)
     (shown_lexed s h.0) (stop_blank (codes "or " ++ enclosed (is_either t) (shown t)))
-    (lexes_behind (codes " or ") (enclosed (is_either t) (shown t)) (token.Or ∷ []) (tokens_in w) or_always (enclosed_lexed (is_either t) (shown t) (written t) (shown_lexed t h.1)))
+    (lexes_behind (codes " or ") (enclosed (is_either t) (shown t)) (token.Or ∷ []) (tokens_in w) or_always
+    (enclosed_lexed (is_either t) (shown t) (written t) (shown_lexed t h.1)))
 
 shown_words : (f : Tree Leaf) → LeavesRead f → words (tokens_of (shown f)) ≡ tokens_in (written f)
 unfolding lexed
 shown_words f h =
-    let whole : lexed 0 (shown f) ≡ tokens_in (written f) = rw (append-nil (shown f), append-nil (tokens_in (written f))) at (shown_lexed f h end) in
+    let whole : lexed 0 (shown f) ≡ tokens_in (written f) = rw (
+      append-nil (shown f),
+      append-nil
+          (tokens_in (written f)),
+    ) at (shown_lexed f h end) in
     words_lexed 0 0 (shown f) ∙ whole
 
 -- ---- the grammar
@@ -251,7 +292,12 @@ bare_grouped false w = refl
 bare_written : (f : Tree Leaf) → bare (written f) ≡ f
 bare_written (always b) = refl
 bare_written (single l) = refl
-bare_written (all_of s t) = rw (bare_grouped (is_either s) (written s), bare_grouped (is_operator t) (written t), bare_written s, bare_written t) refl
+bare_written (all_of s t) = rw (
+  bare_grouped (is_either s) (written s),
+  bare_grouped (is_operator t) (written t),
+  bare_written s,
+  bare_written t,
+) refl
 bare_written (one_of s t) = rw (bare_grouped (is_either t) (written t), bare_written s, bare_written t) refl
 
 -- ---- the limits
@@ -265,8 +311,15 @@ same_leaves (truth b) = refl
 same_leaves (leaf l) = refl
 same_leaves (group w) = same_leaves w
 same_leaves (both v w) =
-    rw (leaves_grouped (is_either (bare v)) (written (bare v)), leaves_grouped (is_operator (bare w)) (written (bare w)), same_leaves v, same_leaves w) refl
-same_leaves (either v w) = rw (leaves_grouped (is_either (bare w)) (written (bare w)), same_leaves v, same_leaves w) refl
+    rw (
+      leaves_grouped (is_either (bare v)) (written (bare v)),
+      leaves_grouped (is_operator (bare w))
+          (written (bare w)),
+      same_leaves v,
+      same_leaves w,
+    ) refl
+same_leaves (either v w) = rw (leaves_grouped (is_either (bare w)) (written (bare w)), same_leaves v, same_leaves w)
+    refl
 
 -- whether a filter needs parentheses there
 abbrev needs : Level → Tree Leaf → Bool
@@ -274,42 +327,67 @@ needs unit f = is_operator f
 needs conj f = is_either f
 needs filter f = false
 
-shallow_grouped : (b : Bool) (deep most : ℕ) (w : Written) → 0 < deep → IsShallow (deep - 1) most w → IsShallow deep most (grouped b w)
+shallow_grouped : (b : Bool) (deep most : ℕ) (w : Written) → 0 < deep → IsShallow (deep - 1) most w
+    → IsShallow deep most (grouped b w)
 shallow_grouped true deep most w some h = (some, h)
 shallow_grouped false deep most w some h = shallow_more w (deep - 1) deep most most (omega arith) (omega arith) h
 
-as_shallow : (l : Level) (deep most : ℕ) (w : Written) → Stands l w → IsShallow deep most w → IsShallow deep most (grouped (needs l (bare w)) (written (bare w)))
+as_shallow : (l : Level) (deep most : ℕ) (w : Written) → Stands l w → IsShallow deep most w
+    → IsShallow deep most (grouped (needs l (bare w)) (written (bare w)))
 as_shallow unit deep most (truth b) s h = tt
 as_shallow conj deep most (truth b) s h = tt
 as_shallow filter deep most (truth b) s h = tt
 as_shallow unit deep most (leaf x) s h = h
 as_shallow conj deep most (leaf x) s h = h
 as_shallow filter deep most (leaf x) s h = h
-as_shallow l deep most (group w) s h = shallow_grouped (needs l (bare w)) deep most (written (bare w)) h.0 (as_shallow filter (deep - 1) most w s h.1)
+as_shallow l deep most (group w) s h = shallow_grouped (needs l (bare w)) deep most (written (bare w)) h.0
+    (as_shallow filter (deep - 1) most w s h.1)
 as_shallow unit deep most (both v w) s h = absurd s
 as_shallow conj deep most (both v w) s h = (as_shallow conj deep most v s.0 h.0, as_shallow unit deep most w s.1 h.1)
 as_shallow filter deep most (both v w) s h = (as_shallow conj deep most v s.0 h.0, as_shallow unit deep most w s.1 h.1)
 as_shallow unit deep most (either v w) s h = absurd s
 as_shallow conj deep most (either v w) s h = absurd s
-as_shallow filter deep most (either v w) s h = (as_shallow filter deep most v s.0 h.0, as_shallow conj deep most w s.1 h.1)
+as_shallow filter deep most (either v w) s h = (
+  as_shallow filter deep most v s.0 h.0,
+  as_shallow conj deep most w s.1
+      h.1,
+)
 
 within : (m : Limits) (w : Written) → Stands filter w → IsWithin m w → IsWithin m (written (bare w))
-within m w s h = record { few = rw (same_leaves w) h.few; shallow = as_shallow filter m.groups m.literals w s h.shallow }
+within m w s h = record {
+  few = rw (same_leaves w) h.few;
+  shallow = as_shallow filter m.groups m.literals w s h.shallow;
+}
 
 -- ---- the law
 
-says : (m : Limits) (n : ℕ) (w : Written) → Stands filter w → IsWithin m w → AllRead (tokens_in w) → Reads m n (tokens_of (shown (bare w))) (Ok (bare w))
-says m n w s h read = (written (bare w), (record { stands = stands (bare w); spelled = shown_words (bare w) (leaves_read w read) }, within m w s h, sym (bare_written (bare w))))
+says : (m : Limits) (n : ℕ) (w : Written) → Stands filter w → IsWithin m w → AllRead (tokens_in w)
+    → Reads m n (tokens_of (shown (bare w))) (Ok (bare w))
+says m n w s h read = (
+  written (bare w),
+  (
+    record {
+      stands = stands (bare w);
+      spelled = shown_words (bare w) (leaves_read w read);
+    },
+    within m w s h,
+    sym (bare_written (bare w)),
+  ),
+)
 
 read_tokens : (text : List ℕ) (w : Written) → words (tokens_of text) ≡ tokens_in w → AllRead (tokens_in w)
 read_tokens text w e = subst AllRead (sym (words_lexed 0 0 text) ∙ e) (lexed_read 0 text)
 
-reads_bare : (text : List ℕ) (f : Tree Leaf) (w : Written) → Says (words (tokens_of text)) w → IsWithin limits w → f ≡ bare w → Reads limits (length (shown f)) (tokens_of (shown f)) (Ok f)
-reads_bare text f w h k e = subst (λ (g : Tree Leaf). Reads limits (length (shown g)) (tokens_of (shown g)) (Ok g)) (sym e) (says limits (length (shown (bare w))) w h.stands k (read_tokens text w h.spelled))
+reads_bare : (text : List ℕ) (f : Tree Leaf) (w : Written) → Says (words (tokens_of text)) w → IsWithin limits w
+    → f ≡ bare w → Reads limits (length (shown f)) (tokens_of (shown f)) (Ok f)
+reads_bare text f w h k e = subst (λ (g : Tree Leaf). Reads limits (length (shown g)) (tokens_of (shown g)) (Ok g))
+    (sym e) (says limits (length (shown (bare w))) w h.stands k (read_tokens text w h.spelled))
 
-reads_shown : (text : List ℕ) (f : Tree Leaf) → Reads limits (length text) (tokens_of text) (Ok f) → Reads limits (length (shown f)) (tokens_of (shown f)) (Ok f)
+reads_shown : (text : List ℕ) (f : Tree Leaf) → Reads limits (length text) (tokens_of text) (Ok f)
+    → Reads limits (length (shown f)) (tokens_of (shown f)) (Ok f)
 reads_shown text f r = reads_bare text f r.0 r.1.0 r.1.1 r.1.2
 
 pub shown_read : (text : List ℕ) (f : Tree Leaf) → filter_of text ≡ Ok f → filter_of (shown f) ≡ Ok f
 shown_read text f e =
-    one_reading limits (length (shown f)) (tokens_of (shown f)) (filter_of (shown f)) (Ok f) (text_reads (shown f)) (reads_shown text f (rw e at (text_reads text)))
+    one_reading limits (length (shown f)) (tokens_of (shown f)) (filter_of (shown f)) (Ok f) (text_reads (shown f))
+    (reads_shown text f (rw e at (text_reads text)))

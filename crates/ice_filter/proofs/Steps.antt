@@ -1,5 +1,6 @@
 -- Reading under larger limits, and at other offsets, takes the same steps.
-use Rattle.std.proofs.Common.{◌≡◌, ◌≢◌, ℕ, ◌+◌, ◌<◌, ◌≤◌, Bool, true, false, cond, nat_lt, List, [], ◌∷◌, ◌++◌, length, Option, None, Some, Result, Ok, Err, refl, arith, rules}
+use Rattle.std.proofs.Common.{◌≡◌, ◌≢◌, ℕ, ◌+◌, ◌<◌, ◌≤◌, Bool, true, false, cond, nat_lt, List, [], ◌∷◌, ◌++◌, length}
+use Rattle.std.proofs.Common.{Option, None, Some, Result, Ok, Err, refl, arith, rules}
 use Rattle.ice_filter.specs.declared.fault.FilterFault.{FilterFault}
 use Rattle.ice_filter.specs.declared.fault.FilterFault.TheVariants.{Syntax, TooBig}
 use Rattle.ice_filter.specs.declared.token.Token.{Token}
@@ -17,7 +18,10 @@ use Rattle.ice_filter.specs.declared.parser.Place.{Place}
 use Rattle.ice_filter.specs.declared.parser.Place.TheVariants.{Wants, After, Inside}
 use Rattle.ice_filter.specs.Grammar.{Limits}
 use Rattle.ice_filter.specs.Rebuilding.{Reading, put}
-use Rattle.ice_filter.specs.Parsing.{Act, State, Read, literal_of, behind_column, behind_dot, compared, behind_not, behind_in, chosen, behind_listed, chosen_too, behind_is, behind_is_not, behind_starts, begun, leaf_step, opened, began, held, anded, ored, at_unit, closed, after_unit, moved, step, step_at, none}
+use Rattle.ice_filter.specs.Parsing.{Act, State, Read, literal_of, behind_column, behind_dot, compared, behind_not}
+use Rattle.ice_filter.specs.Parsing.{behind_in, chosen, behind_listed, chosen_too, behind_is, behind_is_not}
+use Rattle.ice_filter.specs.Parsing.{behind_starts, begun, leaf_step, opened, began, held, anded, ored, at_unit, closed}
+use Rattle.ice_filter.specs.Parsing.{after_unit, moved, step, step_at, none}
 use Rattle.ice_filter.specs.Parsing as parsing
 
 -- the second limits are not smaller, larger
@@ -32,7 +36,8 @@ pub record IsMore (m n : Limits) : Type 0 where
   pub literals : m.literals < n.literals
 
 -- what a step under limits m at an offset tells of the same step under limits n at another
-abbrev pub Told : {A : Type 0} → (m n : Limits) (at other : ℕ) (t : Token) → Result A FilterFault → Result A FilterFault → Type 0
+abbrev pub Told : {A : Type 0} → (m n : Limits) (at other : ℕ) (t : Token) → Result A FilterFault → Result A FilterFault
+    → Type 0
 Told m n at other t (Ok q) r = r ≡ Ok q
 Told m n at other t (Err (Syntax a)) r = (a ≡ at) × (r ≡ Err (Syntax other))
 Told {A} m n at other t (Err TooBig) r = (t ≢ token.Comma) × (IsMore m n → (q : A) × (r ≡ Ok q))
@@ -48,9 +53,11 @@ least : (a n : ℕ) → nat_lt a n ≡ false → n ≤ a
 least a n e = search (rules, e)
 
 -- a test against a limit
-limited : {A : Type 0} → (m n : Limits) (at other : ℕ) (t : Token) (q : A) (a k l : ℕ) → t ≢ token.Comma → k ≤ l → (IsMore m n → k < l) → a ≤ k → (b : Bool) → nat_lt a k ≡ b
+limited : {A : Type 0} → (m n : Limits) (at other : ℕ) (t : Token) (q : A) (a k l : ℕ) → t ≢ token.Comma → k ≤ l
+    → (IsMore m n → k < l) → a ≤ k → (b : Bool) → nat_lt a k ≡ b
     → Told m n at other t (cond b (Ok q) (Err TooBig)) (cond (nat_lt a l) (Ok q) (Err TooBig))
-limited m n at other t q a k l ne le lt within true e = let k2 : nat_lt a l ≡ true = room a l (omega (arith, less a k e)) in rw k2 refl
+limited m n at other t q a k l ne le lt within true e = let k2 : nat_lt a l ≡ true =
+    room a l (omega (arith, less a k e)) in rw k2 refl
 limited m n at other t q a k l ne le lt within false e =
     (ne, λ more. (q, let k2 : nat_lt a l ≡ true = room a l (omega (arith, lt more)) in rw k2 refl))
 
@@ -63,7 +70,8 @@ no_comma (token.Text b) l h = λ e. absurd cc
 no_comma (token.Bytes b) l h = λ e. absurd cc
 no_comma _ l h = absurd cc
 
-column_told : (m n : Limits) (at other : ℕ) (c : Column) (t : Token) → Told m n at other t (behind_column at c t) (behind_column other c t)
+column_told : (m n : Limits) (at other : ℕ) (c : Column) (t : Token)
+    → Told m n at other t (behind_column at c t) (behind_column other c t)
 unfolding behind_column
 column_told m n at other c token.Dot = refl
 column_told m n at other c (token.Sign s) = refl
@@ -73,54 +81,64 @@ column_told m n at other c token.Is = refl
 column_told m n at other c token.Starts = refl
 column_told m n at other c _ = (refl, refl)
 
-dot_told : (m n : Limits) (at other : ℕ) (c : Column) (t : Token) → Told m n at other t (behind_dot at c t) (behind_dot other c t)
+dot_told : (m n : Limits) (at other : ℕ) (c : Column) (t : Token)
+    → Told m n at other t (behind_dot at c t) (behind_dot other c t)
 unfolding behind_dot
 dot_told m n at other c (token.Name x) = refl
 dot_told m n at other c _ = (refl, refl)
 
-compared_told : (m n : Limits) (at other : ℕ) (c : Column) (sign : Comparison) (t : Token) (o : Option Literal) → Told m n at other t (compared at c sign o) (compared other c sign o)
+compared_told : (m n : Limits) (at other : ℕ) (c : Column) (sign : Comparison) (t : Token) (o : Option Literal)
+    → Told m n at other t (compared at c sign o) (compared other c sign o)
 unfolding compared
 compared_told m n at other c sign t None = (refl, refl)
 compared_told m n at other c sign t (Some l) = refl
 
-not_told : (m n : Limits) (at other : ℕ) (c : Column) (t : Token) → Told m n at other t (behind_not at c t) (behind_not other c t)
+not_told : (m n : Limits) (at other : ℕ) (c : Column) (t : Token)
+    → Told m n at other t (behind_not at c t) (behind_not other c t)
 unfolding behind_not
 not_told m n at other c token.In = refl
 not_told m n at other c _ = (refl, refl)
 
-in_told : (m n : Limits) (at other : ℕ) (c : Column) (b : Bool) (t : Token) → Told m n at other t (behind_in at c b t) (behind_in other c b t)
+in_told : (m n : Limits) (at other : ℕ) (c : Column) (b : Bool) (t : Token)
+    → Told m n at other t (behind_in at c b t) (behind_in other c b t)
 unfolding behind_in
 in_told m n at other c b token.Open = refl
 in_told m n at other c b _ = (refl, refl)
 
-chosen_told : (m n : Limits) (at other : ℕ) (c : Column) (b : Bool) (t : Token) (o : Option Literal) → Told m n at other t (chosen at c b o) (chosen other c b o)
+chosen_told : (m n : Limits) (at other : ℕ) (c : Column) (b : Bool) (t : Token) (o : Option Literal)
+    → Told m n at other t (chosen at c b o) (chosen other c b o)
 unfolding chosen
 chosen_told m n at other c b t None = (refl, refl)
 chosen_told m n at other c b t (Some l) = refl
 
-listed_told : (m n : Limits) (at other : ℕ) (c : Column) (b : Bool) (ls : Choices) (t : Token) → Told m n at other t (behind_listed at c b ls t) (behind_listed other c b ls t)
+listed_told : (m n : Limits) (at other : ℕ) (c : Column) (b : Bool) (ls : Choices) (t : Token)
+    → Told m n at other t (behind_listed at c b ls t) (behind_listed other c b ls t)
 unfolding behind_listed
 listed_told m n at other c b ls token.Comma = refl
 listed_told m n at other c b ls token.Close = refl
 listed_told m n at other c b ls _ = (refl, refl)
 
-is_told : (m n : Limits) (at other : ℕ) (c : Column) (t : Token) → Told m n at other t (behind_is at c t) (behind_is other c t)
+is_told : (m n : Limits) (at other : ℕ) (c : Column) (t : Token)
+    → Told m n at other t (behind_is at c t) (behind_is other c t)
 unfolding behind_is
 is_told m n at other c token.Null = refl
 is_told m n at other c token.Not = refl
 is_told m n at other c _ = (refl, refl)
 
-is_not_told : (m n : Limits) (at other : ℕ) (c : Column) (t : Token) → Told m n at other t (behind_is_not at c t) (behind_is_not other c t)
+is_not_told : (m n : Limits) (at other : ℕ) (c : Column) (t : Token)
+    → Told m n at other t (behind_is_not at c t) (behind_is_not other c t)
 unfolding behind_is_not
 is_not_told m n at other c token.Null = refl
 is_not_told m n at other c _ = (refl, refl)
 
-starts_told : (m n : Limits) (at other : ℕ) (c : Column) (t : Token) → Told m n at other t (behind_starts at c t) (behind_starts other c t)
+starts_told : (m n : Limits) (at other : ℕ) (c : Column) (t : Token)
+    → Told m n at other t (behind_starts at c t) (behind_starts other c t)
 unfolding behind_starts
 starts_told m n at other c token.With = refl
 starts_told m n at other c _ = (refl, refl)
 
-begun_told : (m n : Limits) (at other : ℕ) (c : Column) (t : Token) (o : Option Literal) → Told m n at other t (begun at c o) (begun other c o)
+begun_told : (m n : Limits) (at other : ℕ) (c : Column) (t : Token) (o : Option Literal)
+    → Told m n at other t (begun at c o) (begun other c o)
 unfolding begun
 begun_told m n at other c t None = (refl, refl)
 begun_told m n at other c t (Some l) = refl
@@ -130,14 +148,18 @@ abbrev pub IsListWithin : ℕ → Partial → Type 0
 IsListWithin most (partial.Comma c b ls) = length ls.more < most
 IsListWithin most _ = Unit {0}
 
-chosen_too_told : (m n : Limits) (at other : ℕ) (c : Column) (b : Bool) (ls : Choices) (t : Token) (o : Option Literal) → IsUp m n → literal_of t ≡ o → length ls.more < m.literals
+chosen_too_told : (m n : Limits) (at other : ℕ) (c : Column) (b : Bool) (ls : Choices) (t : Token) (o : Option Literal)
+    → IsUp m n → literal_of t ≡ o → length ls.more < m.literals
     → Told m n at other t (chosen_too m.literals at c b ls o) (chosen_too n.literals other c b ls o)
 unfolding chosen_too
 chosen_too_told m n at other c b ls t None up e short = (refl, refl)
 chosen_too_told m n at other c b ls t (Some l) up e short =
-    limited m n at other t (progress.Going (partial.Listed c b (record ls { more = ls.more ++ l ∷ [] }))) (length ls.more + 1) m.literals n.literals (no_comma t l e) up.literals (λ x. x.literals) (omega (arith, short)) (nat_lt (length ls.more + 1) m.literals) refl
+    limited m n at other t (progress.Going (partial.Listed c b (record ls { more = ls.more ++ l ∷ [] })))
+    (length ls.more + 1) m.literals n.literals (no_comma t l e) up.literals (λ x. x.literals) (omega (arith, short))
+    (nat_lt (length ls.more + 1) m.literals) refl
 
-leaf_told : (m n : Limits) (at other : ℕ) (p : Partial) (t : Token) → IsUp m n → IsListWithin m.literals p → Told m n at other t (leaf_step m.literals at p t) (leaf_step n.literals other p t)
+leaf_told : (m n : Limits) (at other : ℕ) (p : Partial) (t : Token) → IsUp m n → IsListWithin m.literals p
+    → Told m n at other t (leaf_step m.literals at p t) (leaf_step n.literals other p t)
 unfolding leaf_step
 leaf_told m n at other (partial.Column c) t up h = column_told m n at other c t
 leaf_told m n at other (partial.Dot c) t up h = dot_told m n at other c t
@@ -157,7 +179,8 @@ unfolding moved held
 moved_ok s q (progress.Going p) e = (record s { place = Inside p }, rw e refl)
 moved_ok s q (progress.Done l) e = (record s { place = After; read = put s.read (parsing.leaf l) }, rw e refl)
 
-moved_told : (m n : Limits) (at other : ℕ) (t : Token) (s : Reading) (r q : Read) → Told m n at other t r q → Told m n at other t (moved put s r) (moved put s q)
+moved_told : (m n : Limits) (at other : ℕ) (t : Token) (s : Reading) (r q : Read) → Told m n at other t r q
+    → Told m n at other t (moved put s r) (moved put s q)
 unfolding moved held
 moved_told m n at other t s (Ok (progress.Going p)) q h = rw h refl
 moved_told m n at other t s (Ok (progress.Done l)) q h = rw h refl
@@ -171,21 +194,35 @@ open_no_comma e = absurd cc
 name_no_comma : (n : List ℕ) → token.Name n ≢ token.Comma
 name_no_comma n e = absurd cc
 
-unit_told : (m n : Limits) (at other : ℕ) (s : Reading) (t : Token) → IsUp m n → length s.outer ≤ m.groups → s.leaves ≤ m.leaves → Told m n at other t (at_unit put m at s t) (at_unit put n other s t)
+unit_told : (m n : Limits) (at other : ℕ) (s : Reading) (t : Token) → IsUp m n → length s.outer ≤ m.groups
+    → s.leaves ≤ m.leaves → Told m n at other t (at_unit put m at s t) (at_unit put n other s t)
 unfolding at_unit opened began held
 unit_told m n at other s token.Open up deep few =
-    limited m n at other token.Open (record { place = Wants; now = none; outer = s.now ∷ s.outer; read = s.read; leaves = s.leaves }) (length s.outer) m.groups n.groups open_no_comma up.groups (λ x. x.groups) deep (nat_lt (length s.outer) m.groups) refl
+    limited m n at other token.Open (record {
+      place = Wants;
+      now = none;
+      outer = s.now ∷ s.outer;
+      read = s.read;
+      leaves = s.leaves;
+    }) (length s.outer) m.groups n.groups open_no_comma up.groups (λ x. x.groups) deep
+    (nat_lt (length s.outer) m.groups) refl
 unit_told m n at other s (token.Truth b) up deep few = refl
 unit_told m n at other s (token.Name x) up deep few =
-    limited m n at other (token.Name x) (record s { place = Inside (partial.Column (record { first = x; more = [] })); leaves = s.leaves + 1 }) s.leaves m.leaves n.leaves (name_no_comma x) up.leaves (λ y. y.leaves) few (nat_lt s.leaves m.leaves) refl
+    limited m n at other (token.Name x) (record s {
+      place = Inside (partial.Column (record { first = x; more = [] }));
+      leaves = s.leaves + 1;
+    }) s.leaves m.leaves n.leaves (name_no_comma x) up.leaves (λ y. y.leaves) few
+    (nat_lt s.leaves m.leaves) refl
 unit_told m n at other s _ up deep few = (refl, refl)
 
-closed_told : (m n : Limits) (at other : ℕ) (s : Reading) (ps : List Pending) → Told m n at other token.Close (closed put at s ps) (closed put other s ps)
+closed_told : (m n : Limits) (at other : ℕ) (s : Reading) (ps : List Pending)
+    → Told m n at other token.Close (closed put at s ps) (closed put other s ps)
 unfolding closed
 closed_told m n at other s [] = (refl, refl)
 closed_told m n at other s (p ∷ ps) = refl
 
-after_told : (m n : Limits) (at other : ℕ) (s : Reading) (t : Token) → Told m n at other t (after_unit put at s t) (after_unit put other s t)
+after_told : (m n : Limits) (at other : ℕ) (s : Reading) (t : Token)
+    → Told m n at other t (after_unit put at s t) (after_unit put other s t)
 unfolding after_unit anded ored
 after_told m n at other s token.And = refl
 after_told m n at other s token.Or = refl
@@ -196,14 +233,17 @@ abbrev pub IsPlaceWithin : ℕ → Place → Type 0
 IsPlaceWithin most (Inside p) = IsListWithin most p
 IsPlaceWithin most _ = Unit {0}
 
-at_told : (m n : Limits) (at other : ℕ) (s : Reading) (place : Place) (t : Token) → IsUp m n → length s.outer ≤ m.groups → s.leaves ≤ m.leaves → IsPlaceWithin m.literals place
+at_told : (m n : Limits) (at other : ℕ) (s : Reading) (place : Place) (t : Token) → IsUp m n → length s.outer ≤ m.groups
+    → s.leaves ≤ m.leaves → IsPlaceWithin m.literals place
     → Told m n at other t (step_at put m at s place t) (step_at put n other s place t)
 unfolding step_at
 at_told m n at other s Wants t up deep few h = unit_told m n at other s t up deep few
 at_told m n at other s After t up deep few h = after_told m n at other s t
-at_told m n at other s (Inside p) t up deep few h = moved_told m n at other t (record s { place = Wants }) (leaf_step m.literals at p t) (leaf_step n.literals other p t) (leaf_told m n at other p t up h)
+at_told m n at other s (Inside p) t up deep few h = moved_told m n at other t (record s { place = Wants })
+    (leaf_step m.literals at p t) (leaf_step n.literals other p t) (leaf_told m n at other p t up h)
 
-pub step_told : (m n : Limits) (at other : ℕ) (s : Reading) (t : Token) → IsUp m n → length s.outer ≤ m.groups → s.leaves ≤ m.leaves → IsPlaceWithin m.literals s.place
+pub step_told : (m n : Limits) (at other : ℕ) (s : Reading) (t : Token) → IsUp m n → length s.outer ≤ m.groups
+    → s.leaves ≤ m.leaves → IsPlaceWithin m.literals s.place
     → Told m n at other t (step put m at s t) (step put n other s t)
 unfolding step
 step_told m n at other s t up deep few h = at_told m n at other s s.place t up deep few h

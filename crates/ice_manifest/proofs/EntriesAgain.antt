@@ -1,5 +1,7 @@
 -- The entries of a manifest that was written are read again.
-use Rattle.std.proofs.Common.{◌≡◌, ℕ, zero, suc, ◌+◌, ◌≤◌, ◌<◌, ◌^◌, ℤ, pos, negsuc, Bool, true, false, ◌&&◌, List, [], ◌∷◌, length, map, Option, Some, None, Ok, inl, inr, refl, sym, ap, subst, ◌∙◌, arith, add-one}
+use Rattle.std.proofs.Common.{◌≡◌, ℕ, zero, suc, ◌+◌, ◌≤◌, ◌<◌, ◌^◌, ℤ, pos, negsuc, Bool, true, false, ◌&&◌, List, []}
+use Rattle.std.proofs.Common.{◌∷◌, length, map, Option, Some, None, Ok, inl, inr, refl, sym, ap, subst, ◌∙◌, arith}
+use Rattle.std.proofs.Common.{add-one}
 use Rattle.std.specs.Prelude.{nat_le, nat_lt}
 use Rattle.std.proofs.lemmas.Bool.{lt-ltb, le-leb}
 use Rattle.std.proofs.lemmas.Bool.Decides.{Decides-int_eq}
@@ -29,14 +31,17 @@ use Rattle.ice_manifest.specs.declared.new_file.NewFile.{NewFile}
 use Rattle.ice_manifest.specs.declared.heading.Heading.{Heading}
 use Rattle.ice_manifest.specs.Adding.{IsId, IsHeading, IsNewFile, is_null_or_of, is_tuple_of}
 use Rattle.ice_manifest_reading.specs.Each.{each}
-use Rattle.ice_manifest_reading.specs.Fields.{at, there, items_of, items_as, int_at, path_at, number_at, optional_number, int_item, ints_at, within_32}
+use Rattle.ice_manifest_reading.specs.Fields.{at, there, items_of, items_as, int_at, path_at, number_at}
+use Rattle.ice_manifest_reading.specs.Fields.{optional_number, int_item, ints_at, within_32}
 use Rattle.ice_manifest.specs.Fitting.{FileFits}
 use Rattle.ice_manifest_reading.specs.Laws.{SaysFile, SaysLive, SayEntries, MayHold}
-use Rattle.ice_manifest_reading.specs.Manifests.{content_of, content_at, status_at, sequence_at, file_sequence_at, entries_ahead, live_of, kept, entries, entries_of}
+use Rattle.ice_manifest_reading.specs.Manifests.{content_of, content_at, status_at, sequence_at, file_sequence_at}
+use Rattle.ice_manifest_reading.specs.Manifests.{entries_ahead, live_of, kept, entries, entries_of}
 use Rattle.ice_manifest_reading.specs.Maps.{counts_at, bounds_at}
 use Rattle.ice_manifest_reading.specs.Partitions.{cell_of, cell_at, cells_of, tuple_at}
 use Rattle.ice_manifest_reading.specs.Schemas as schemas
-use Rattle.ice_manifest_reading.specs.Schemas.{fields_in, type_at, required, optional, each_branch, cells_fit, tuple_in, map_fits, pair_fields, ids_fit, file_fields, entry_fields}
+use Rattle.ice_manifest_reading.specs.Schemas.{fields_in, type_at, required, optional, each_branch, cells_fit, tuple_in}
+use Rattle.ice_manifest_reading.specs.Schemas.{map_fits, pair_fields, ids_fit, file_fields, entry_fields}
 use Rattle.ice_manifest_reading.specs.Kinds.{wanted}
 use Rattle.ice_manifest_reading.specs.Types.{each_is, some_is, fits}
 use Rattle.ice_manifest.specs.WrittenTypes.{null_or, written_tree, written_fields}
@@ -55,7 +60,8 @@ same_id id = (Decides-int_eq id id).1 refl
 
 -- ---- partition values
 
-cell_again : (id : ℤ) (t : ColumnType) (c : Cell) → is_null_or_of t c ≡ true → cell_of (there (pick [] (null_or (written_tree (value_type id t)), cell_value t c))) ≡ c
+cell_again : (id : ℤ) (t : ColumnType) (c : Cell) → is_null_or_of t c ≡ true
+    → cell_of (there (pick [] (null_or (written_tree (value_type id t)), cell_value t c))) ≡ c
 cell_again id t cell.Null h = refl
 cell_again id column.Boolean (cell.Bool b) h = refl
 cell_again id column.Int (cell.Whole z) h = refl
@@ -71,12 +77,14 @@ cell_again id column.Binary (cell.Bytes bs) h = refl
 cell_again id t c h = absurd cc
 
 -- a field in front whose id is another's is passed over
-passed_over : (id : ℤ) (t : Tree) (v : Value) (fs : Fields) (vs : Values) (ps : List PartitionField) → AllByRecursion (λ other. int_eq id other ≡ false) (map (λ (p : PartitionField). p.field_id) ps)
+passed_over : (id : ℤ) (t : Tree) (v : Value) (fs : Fields) (vs : Values) (ps : List PartitionField)
+    → AllByRecursion (λ other. int_eq id other ≡ false) (map (λ (p : PartitionField). p.field_id) ps)
     → cells_of ps (structure (field (Some id) t fs), fields (value v vs)) ≡ cells_of ps (structure fs, fields vs)
 passed_over id t v fs vs [] apart = refl
 passed_over id t v fs vs (p ∷ ps) apart = rw (apart.0, passed_over id t v fs vs ps apart.1) refl
 
-cells_again : (ps : List PartitionField) (ts : List ColumnType) (cs : List Cell) → length ts ≡ length ps → IsDistinct int_eq (map (λ (p : PartitionField). p.field_id) ps) → is_tuple_of ts cs ≡ true
+cells_again : (ps : List PartitionField) (ts : List ColumnType) (cs : List Cell) → length ts ≡ length ps
+    → IsDistinct int_eq (map (λ (p : PartitionField). p.field_id) ps) → is_tuple_of ts cs ≡ true
     → cells_of ps (structure (written_fields (partition_fields ps ts)), fields (values_of (tuple_values ts cs))) ≡ cs
 unfolding IsDistinct
 cells_again [] [] [] e apart h = refl
@@ -86,10 +94,13 @@ cells_again (p ∷ ps) [] cs e apart h = absurd (omega (arith, e))
 cells_again (p ∷ ps) (t ∷ ts) [] e apart h = absurd cc
 cells_again (p ∷ ps) (t ∷ ts) (c ∷ cs) e apart h =
     let parts = both (is_null_or_of t c) (is_tuple_of ts cs) h in
-    let rest = passed_over p.field_id (null_or (written_tree (value_type p.field_id t))) (cell_value t c) (written_fields (partition_fields ps ts)) (values_of (tuple_values ts cs)) ps apart.0 ∙ cells_again ps ts cs (omega (arith, e)) apart.1 parts.1 in
+    let rest = passed_over p.field_id (null_or (written_tree (value_type p.field_id t))) (cell_value t c)
+    (written_fields (partition_fields ps ts)) (values_of (tuple_values ts cs)) ps apart.0 ∙ cells_again ps ts cs
+    (omega (arith, e)) apart.1 parts.1 in
     rw (same_id p.field_id, cell_again p.field_id t c parts.0) (ap (λ (ds : List Cell). c ∷ ds) rest)
 
-tuple_again : (ps : List PartitionField) (ts : List ColumnType) (f : NewFile) → length ts ≡ length ps → IsDistinct int_eq (map (λ (p : PartitionField). p.field_id) ps) → is_tuple_of ts f.tuple ≡ true
+tuple_again : (ps : List PartitionField) (ts : List ColumnType) (f : NewFile) → length ts ≡ length ps
+    → IsDistinct int_eq (map (λ (p : PartitionField). p.field_id) ps) → is_tuple_of ts f.tuple ≡ true
     → tuple_at ps (written_tree (file_type (partition_fields ps ts)), file_value ts f) ≡ Ok f.tuple
 unfolding tuple_at
 tuple_again [] [] f e apart h = ap Ok (no_cells f.tuple h) where
@@ -117,21 +128,29 @@ cell_type id (column.Fixed size) = refl
 cell_type id column.Binary = refl
 cell_type id (column.Decimal precision scale) = refl
 
-types_over : (id : ℤ) (t : Tree) (fs : Fields) (ps : List PartitionField) → AllByRecursion (λ other. int_eq id other ≡ false) (map (λ (p : PartitionField). p.field_id) ps) → cells_fit ps (field (Some id) t fs) ≡ cells_fit ps fs
+types_over : (id : ℤ) (t : Tree) (fs : Fields) (ps : List PartitionField)
+    → AllByRecursion (λ other. int_eq id other ≡ false) (map (λ (p : PartitionField). p.field_id) ps)
+    → cells_fit ps (field (Some id) t fs) ≡ cells_fit ps fs
 unfolding cells_fit type_at
 types_over id t fs [] apart = refl
 types_over id t fs (p ∷ ps) apart = rw (apart.0, types_over id t fs ps apart.1) refl
 
-types_fit : (ps : List PartitionField) (ts : List ColumnType) → length ts ≡ length ps → IsDistinct int_eq (map (λ (p : PartitionField). p.field_id) ps) → cells_fit ps (written_fields (partition_fields ps ts)) ≡ Ok tt
+types_fit : (ps : List PartitionField) (ts : List ColumnType) → length ts ≡ length ps
+    → IsDistinct int_eq (map (λ (p : PartitionField). p.field_id) ps)
+    → cells_fit ps (written_fields (partition_fields ps ts)) ≡ Ok tt
 unfolding cells_fit type_at each_branch IsDistinct
 types_fit [] ts e apart = refl
 types_fit (p ∷ ps) [] e apart = absurd (omega (arith, e))
 types_fit (p ∷ ps) (t ∷ ts) e apart =
-    let rest = types_over p.field_id (null_or (written_tree (value_type p.field_id t))) (written_fields (partition_fields ps ts)) ps apart.0 ∙ types_fit ps ts (omega (arith, e)) apart.1 in
+    let rest = types_over p.field_id (null_or (written_tree (value_type p.field_id t)))
+    (written_fields (partition_fields ps ts)) ps apart.0 ∙ types_fit ps ts (omega (arith, e)) apart.1 in
     rw (same_id p.field_id, cell_type p.field_id t, rest) refl
 
-file_fits : (ps : List PartitionField) (ts : List ColumnType) → length ts ≡ length ps → IsDistinct int_eq (map (λ (p : PartitionField). p.field_id) ps) → file_fields ps (fields_in (written_tree (file_type (partition_fields ps ts)))) ≡ Ok tt
-unfolding file_fields tuple_in schemas.column_fields map_fits pair_fields ids_fit required optional type_at each_branch each_is some_is fits wanted
+file_fits : (ps : List PartitionField) (ts : List ColumnType) → length ts ≡ length ps
+    → IsDistinct int_eq (map (λ (p : PartitionField). p.field_id) ps)
+    → file_fields ps (fields_in (written_tree (file_type (partition_fields ps ts)))) ≡ Ok tt
+unfolding file_fields tuple_in schemas.column_fields map_fits pair_fields ids_fit required optional type_at each_branch
+    each_is some_is fits wanted
 file_fits [] ts e apart = refl
 file_fits (p ∷ ps) ts e apart = rw (types_fit (p ∷ ps) ts e apart) refl
 
@@ -150,7 +169,8 @@ content_within id holds.Data = refl
 content_within id holds.PositionDeletes = refl
 content_within id holds.EqualityDeletes = refl
 
-content_again : (of_row : ManifestContent) (content : FileContent) → MayHold of_row content → content_of of_row (file_content content) ≡ Ok content
+content_again : (of_row : ManifestContent) (content : FileContent) → MayHold of_row content
+    → content_of of_row (file_content content) ≡ Ok content
 content_again Data holds.Data h = refl
 content_again Data holds.PositionDeletes h = absurd cc
 content_again Data holds.EqualityDeletes h = absurd cc
@@ -161,12 +181,15 @@ content_again Deletes holds.Data h = absurd (neither_data h) where
 content_again Deletes holds.PositionDeletes h = refl
 content_again Deletes holds.EqualityDeletes h = refl
 
-each_id : (ids : List ℤ) → AllByRecursion IsId ids → each (int_item (pos 136)) (items_as tree_of.int (values_of (map small ids))) ≡ Ok ids
+each_id : (ids : List ℤ) → AllByRecursion IsId ids
+    → each (int_item (pos 136)) (items_as tree_of.int (values_of (map small ids))) ≡ Ok ids
 unfolding each int_item
 each_id [] all = refl
 each_id (id ∷ ids) all = rw (within (pos 136) id all.0, each_id ids all.1) refl
 
-ids_again : (ids : List ℤ) → AllByRecursion IsId ids → each (int_item (pos 136)) (items_of (there (pick [] (null_or (tree_of.array tree_of.int (Some (pos 136)) stands_for.List), ids_value ids)))) ≡ Ok ids
+ids_again : (ids : List ℤ) → AllByRecursion IsId ids
+    → each (int_item (pos 136)) (items_of (there
+    (pick [] (null_or (tree_of.array tree_of.int (Some (pos 136)) stands_for.List), ids_value ids)))) ≡ Ok ids
 unfolding each
 ids_again [] all = refl
 ids_again (id ∷ ids) all = each_id (id ∷ ids) all
@@ -174,12 +197,25 @@ ids_again (id ∷ ids) all = each_id (id ∷ ids) all
 no_bounds : FileBounds
 no_bounds = record { value_counts = []; null_counts = []; lower_bounds = []; upper_bounds = [] }
 
-file_says : (of_row : ManifestContent) (h : Heading) (f : NewFile) → of_row ≡ h.content → IsHeading h → IsNewFile h f → FileFits f
-    → SaysFile of_row h.spec.fields (written_tree (file_type (partition_fields h.spec.fields h.types)), file_value h.types f) (record { content = f.content; path = f.path; tuple = f.tuple; record_count = f.record_count; file_size = f.file_size; equality_ids = f.equality_ids }) no_bounds
+file_says : (of_row : ManifestContent) (h : Heading) (f : NewFile) → of_row ≡ h.content → IsHeading h → IsNewFile h f
+    → FileFits f
+    → SaysFile of_row h.spec.fields (
+      written_tree (file_type (partition_fields h.spec.fields h.types)),
+      file_value
+          h.types f,
+    ) (record {
+      content = f.content;
+      path = f.path;
+      tuple = f.tuple;
+      record_count = f.record_count;
+      file_size = f.file_size;
+      equality_ids = f.equality_ids;
+    }) no_bounds
 unfolding no_bounds path_at int_at ints_at content_at counts_at bounds_at each
 file_says of_row h f same heading new fit =
     let short : nat_le (length f.path) 65535 ≡ true = le-leb (length f.path) 65535 new.path in
-    let may : MayHold of_row f.content = subst (λ (c : ManifestContent). MayHold c f.content) (sym same) new.content in record {
+    let may : MayHold of_row f.content = subst (λ (c : ManifestContent). MayHold c f.content) (sym same) new.content in
+    record {
       content = rw (content_within (pos 134) f.content) (content_again of_row f.content may);
       path = rw short refl;
       tuple = tuple_again h.spec.fields h.types f heading.typed heading.different new.tuple;
@@ -201,7 +237,8 @@ abbrev new_lives : Row → Heading → ℕ → List NewFile → List Live
 new_lives row h k [] = []
 new_lives row h k (f ∷ fs) = new_live row h k f ∷ new_lives row h (suc k) fs
 
-live_says : (row : Row) (h : Heading) (k : ℕ) (f : NewFile) → row.content ≡ h.content → IsHeading h → IsNewFile h f → FileFits f → SaysLive row h.spec k (written_tree (manifest_type h), entry_value h f) (new_live row h k f)
+live_says : (row : Row) (h : Heading) (k : ℕ) (f : NewFile) → row.content ≡ h.content → IsHeading h → IsNewFile h f
+    → FileFits f → SaysLive row h.spec k (written_tree (manifest_type h), entry_value h f) (new_live row h k f)
 unfolding entry_type entry_value status_at int_at sequence_at file_sequence_at optional_number
 live_says row h k f same heading new fit = record {
   status = Added;
@@ -218,8 +255,10 @@ live_says row h k f same heading new fit = record {
   file = file_says row.content h f same heading new fit;
 }
 
-entries_say : (row : Row) (h : Heading) (k : ℕ) (fs : List NewFile) → row.content ≡ h.content → IsHeading h → AllByRecursion (IsNewFile h) fs → AllByRecursion FileFits fs
-    → SayEntries row h.spec (fields_in (written_tree (manifest_type h))) k (map (entry_value h) fs) (map Some (new_lives row h k fs))
+entries_say : (row : Row) (h : Heading) (k : ℕ) (fs : List NewFile) → row.content ≡ h.content → IsHeading h
+    → AllByRecursion (IsNewFile h) fs → AllByRecursion FileFits fs
+    → SayEntries row h.spec (fields_in (written_tree (manifest_type h))) k (map (entry_value h) fs)
+    (map Some (new_lives row h k fs))
 unfolding entry_type
 entries_say row h k [] same heading new fit = tt
 entries_say row h k (f ∷ fs) same heading new fit =
@@ -229,13 +268,17 @@ all_kept : (ls : List Live) → kept (map Some ls) ≡ ls
 all_kept [] = refl
 all_kept (l ∷ ls) = ap (λ (ms : List Live). l ∷ ms) (all_kept ls)
 
-their_entries : (row : Row) (h : Heading) (k : ℕ) (fs : List NewFile) → entries (new_lives row h k fs) ≡ new_entries row h k fs
+their_entries : (row : Row) (h : Heading) (k : ℕ) (fs : List NewFile)
+    → entries (new_lives row h k fs) ≡ new_entries row h k fs
 their_entries row h k [] = refl
 their_entries row h k (f ∷ fs) = ap (λ (es : List Entry). new_entry row h k f ∷ es) (their_entries row h (suc k) fs)
 
-pub entries_again : (row : Row) (h : Heading) (fs : List NewFile) (bytes : List ℕ) → row.content ≡ h.content → opened_at bytes ≡ Ok (reader_of (written_tree (manifest_type h)) (map (entry_value h) fs)) → IsHeading h → AllByRecursion (IsNewFile h) fs → AllByRecursion FileFits fs
+pub entries_again : (row : Row) (h : Heading) (fs : List NewFile) (bytes : List ℕ) → row.content ≡ h.content
+    → opened_at bytes ≡ Ok (reader_of (written_tree (manifest_type h)) (map (entry_value h) fs)) → IsHeading h
+    → AllByRecursion (IsNewFile h) fs → AllByRecursion FileFits fs
     → entries_of row h.spec bytes ≡ Ok (new_entries row h 0 fs)
 unfolding entries_of live_of entries_ahead
 entries_again row h fs bytes same opened heading new fit =
-    let said = entries_by row h.spec (fields_in (written_tree (manifest_type h))) 0 (map (entry_value h) fs) (map Some (new_lives row h 0 fs)) (entries_say row h 0 fs same heading new fit) in
+    let said = entries_by row h.spec (fields_in (written_tree (manifest_type h))) 0 (map (entry_value h) fs)
+    (map Some (new_lives row h 0 fs)) (entries_say row h 0 fs same heading new fit) in
     rw (opened, entry_fits h heading, said, all_kept (new_lives row h 0 fs)) (ap Ok (their_entries row h 0 fs))

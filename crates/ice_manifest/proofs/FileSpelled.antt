@@ -1,5 +1,6 @@
 -- An entry that is written has a spelling.
-use Rattle.std.proofs.Common.{◌≡◌, ℕ, zero, suc, ◌+◌, ◌^◌, ◌<◌, ◌≤◌, ℤ, pos, Bool, true, false, ◌&&◌, List, [], ◌∷◌, length, map, Option, Some, None, refl, sym, ap, arith}
+use Rattle.std.proofs.Common.{◌≡◌, ℕ, zero, suc, ◌+◌, ◌^◌, ◌<◌, ◌≤◌, ℤ, pos, Bool, true, false, ◌&&◌, List, [], ◌∷◌}
+use Rattle.std.proofs.Common.{length, map, Option, Some, None, refl, sym, ap, arith}
 use Rattle.std.specs.List.{AllByRecursion}
 use Rattle.std.proofs.lemmas.Bool.{ltb-true, eqb-true}
 use Rattle.std.specs.Prelude.{nat_lt, negsuc}
@@ -26,10 +27,13 @@ use Rattle.ice_manifest.specs.Adding.{IsId, IsHeading, IsNewFile, AreNewFiles, i
 use Rattle.ice_manifest.specs.Fitting.{IsShort, IsText, CellFits, FileFits}
 use Rattle.ice_manifest.specs.WrittenTypes as written
 use Rattle.ice_manifest.specs.WrittenTypes.{null_or, written_tree, written_fields}
-use Rattle.ice_manifest.specs.WrittenSchemas.{value_type, partition_fields, pair_type, column_fields, file_type, entry_type}
+use Rattle.ice_manifest.specs.WrittenSchemas.{value_type, partition_fields, pair_type, column_fields, file_type}
+use Rattle.ice_manifest.specs.WrittenSchemas.{entry_type}
 use Rattle.ice_manifest.specs.Writing.{manifest_type}
-use Rattle.ice_manifest.specs.WrittenValues.{no_value, cell_value, tuple_values, file_content, ids_value, column_values, file_value, entry_value}
-use Rattle.ice_manifest.proofs.Typed.{HasSpelling, HasSpellings, a_long, an_int, a_truth, a_text, a_run, a_raw, a_null, a_some, no_spelling, and_then, a_record, an_array}
+use Rattle.ice_manifest.specs.WrittenValues.{no_value, cell_value, tuple_values, file_content, ids_value, column_values}
+use Rattle.ice_manifest.specs.WrittenValues.{file_value, entry_value}
+use Rattle.ice_manifest.proofs.Typed.{HasSpelling, HasSpellings, a_long, an_int, a_truth, a_text, a_run, a_raw, a_null}
+use Rattle.ice_manifest.proofs.Typed.{a_some, no_spelling, and_then, a_record, an_array}
 
 both : (a b : Bool) → (a && b) ≡ true → (a ≡ true) × (b ≡ true)
 both true true h = (refl, refl)
@@ -42,7 +46,8 @@ small_id : (z : ℤ) → fits_int z ≡ true → IsId z
 small_id (pos n) h = ltb-true n 0x8000_0000 h
 small_id (negsuc n) h = ltb-true n 0x8000_0000 h
 
-cell_spelled : (id : ℤ) (t : ColumnType) (c : Cell) → is_null_or_of t c ≡ true → CellFits c → HasSpelling (null_or (written_tree (value_type id t))) (cell_value t c)
+cell_spelled : (id : ℤ) (t : ColumnType) (c : Cell) → is_null_or_of t c ≡ true → CellFits c
+    → HasSpelling (null_or (written_tree (value_type id t))) (cell_value t c)
 cell_spelled id t cell.Null h fits = a_null _
 cell_spelled id column.Boolean (cell.Bool b) h fits = a_some _ _ (a_truth b)
 cell_spelled id column.Int (cell.Whole z) h fits = a_some _ _ (an_int z (small_id z h))
@@ -57,14 +62,17 @@ cell_spelled id (column.Fixed size) (cell.Bytes bs) h fits = a_some _ _ (a_raw s
 cell_spelled id column.Binary (cell.Bytes bs) h fits = a_some _ _ (a_run Plain bs fits)
 cell_spelled id t c h fits = absurd cc
 
-tuple_spelled : (ps : List PartitionField) (ts : List ColumnType) (cs : List Cell) → length ts ≡ length ps → is_tuple_of ts cs ≡ true → AllByRecursion CellFits cs → HasSpellings (written_fields (partition_fields ps ts)) (tuple_values ts cs)
+tuple_spelled : (ps : List PartitionField) (ts : List ColumnType) (cs : List Cell) → length ts ≡ length ps
+    → is_tuple_of ts cs ≡ true → AllByRecursion CellFits cs
+    → HasSpellings (written_fields (partition_fields ps ts)) (tuple_values ts cs)
 tuple_spelled [] [] cs e h fits = no_spelling
 tuple_spelled [] (t ∷ ts) cs e h fits = absurd (omega (arith, e))
 tuple_spelled (p ∷ ps) [] cs e h fits = absurd (omega (arith, e))
 tuple_spelled (p ∷ ps) (t ∷ ts) [] e h fits = absurd cc
 tuple_spelled (p ∷ ps) (t ∷ ts) (c ∷ cs) e h fits =
     let parts = both (is_null_or_of t c) (is_tuple_of ts cs) h in
-    and_then _ _ _ _ _ (cell_spelled p.field_id t c parts.0 fits.0) (tuple_spelled ps ts cs (omega (arith, e)) parts.1 fits.1)
+    and_then _ _ _ _ _ (cell_spelled p.field_id t c parts.0 fits.0) (tuple_spelled ps ts cs (omega (arith, e)) parts.1
+    fits.1)
 
 -- ---- equality ids
 
@@ -76,14 +84,17 @@ as_many : (ids : List ℤ) → length (map small ids) ≡ length ids
 as_many [] = refl
 as_many (id ∷ ids) = ap suc (as_many ids)
 
-ids_spelled : (ids : List ℤ) → AllByRecursion IsId ids → length ids ≤ 1000 → HasSpelling (null_or (tree_of.array tree_of.int (Some (pos 136)) stands_for.List)) (ids_value ids)
+ids_spelled : (ids : List ℤ) → AllByRecursion IsId ids → length ids ≤ 1000
+    → HasSpelling (null_or (tree_of.array tree_of.int (Some (pos 136)) stands_for.List)) (ids_value ids)
 ids_spelled [] all few = a_null _
 ids_spelled (id ∷ ids) all few =
-    a_some _ (items (values_of (map small (id ∷ ids)))) (an_array tree_of.int (Some (pos 136)) stands_for.List (map small (id ∷ ids)) (omega (arith, few, as_many (id ∷ ids))) (each_id (id ∷ ids) all))
+    a_some _ (items (values_of (map small (id ∷ ids)))) (an_array tree_of.int (Some (pos 136)) stands_for.List
+    (map small (id ∷ ids)) (omega (arith, few, as_many (id ∷ ids))) (each_id (id ∷ ids) all))
 
 -- ---- a data file and its entry
 
-columns_spelled : (ids : List ℤ) → AllByRecursion IsId ids → length ids ≤ 1000 → HasSpellings (written_fields column_fields) (column_values ids)
+columns_spelled : (ids : List ℤ) → AllByRecursion IsId ids → length ids ≤ 1000
+    → HasSpellings (written_fields column_fields) (column_values ids)
 columns_spelled ids all few =
     and_then _ _ _ _ _ (a_null _)
     (and_then _ _ _ _ _ (a_null _)
@@ -96,7 +107,8 @@ content_id holds.Data = omega arith
 content_id holds.PositionDeletes = omega arith
 content_id holds.EqualityDeletes = omega arith
 
-file_spelled : (h : Heading) (f : NewFile) → IsHeading h → IsNewFile h f → FileFits f → HasSpelling (written_tree (file_type (partition_fields h.spec.fields h.types))) (file_value h.types f)
+file_spelled : (h : Heading) (f : NewFile) → IsHeading h → IsNewFile h f → FileFits f
+    → HasSpelling (written_tree (file_type (partition_fields h.spec.fields h.types))) (file_value h.types f)
 file_spelled h f heading new fits =
     a_record _ _
     (and_then _ _ _ _ _ (an_int (file_content f.content) (content_id f.content))
@@ -104,9 +116,11 @@ file_spelled h f heading new fits =
     (and_then _ _ _ _ _ (a_text f.format fits.format)
     (and_then _ _ _ _ _ (a_record _ _ (tuple_spelled h.spec.fields h.types f.tuple heading.typed new.tuple fits.tuple))
     (and_then _ _ _ _ _ (a_long f.record_count fits.record_count)
-    (and_then _ _ _ _ _ (a_long f.file_size fits.file_size) (columns_spelled f.equality_ids fits.equality_ids new.equality_ids)))))))
+    (and_then _ _ _ _ _ (a_long f.file_size fits.file_size) (columns_spelled f.equality_ids fits.equality_ids
+    new.equality_ids)))))))
 
-entry_spelled : (h : Heading) (f : NewFile) → IsHeading h → IsNewFile h f → FileFits f → IsLong h.snapshot_id → HasSpelling (written_tree (manifest_type h)) (entry_value h f)
+entry_spelled : (h : Heading) (f : NewFile) → IsHeading h → IsNewFile h f → FileFits f → IsLong h.snapshot_id
+    → HasSpelling (written_tree (manifest_type h)) (entry_value h f)
 unfolding entry_type entry_value
 entry_spelled h f heading new fits snapshot =
     a_record _ _
@@ -133,7 +147,8 @@ cell_items (column.Fixed size) (cell.Bytes bs) h = refl
 cell_items column.Binary (cell.Bytes bs) h = refl
 cell_items t c h = absurd cc
 
-tuple_items : (ts : List ColumnType) (cs : List Cell) → is_tuple_of ts cs ≡ true → item_counts (values_of (tuple_values ts cs)) ≡ 0
+tuple_items : (ts : List ColumnType) (cs : List Cell) → is_tuple_of ts cs ≡ true
+    → item_counts (values_of (tuple_values ts cs)) ≡ 0
 tuple_items [] cs h = refl
 tuple_items (t ∷ ts) [] h = refl
 tuple_items (t ∷ ts) (c ∷ cs) h =
@@ -146,13 +161,22 @@ no_inner (id ∷ ids) = omega (arith, no_inner ids)
 
 ids_items : (ids : List ℤ) → length ids ≤ 1000 → item_count (ids_value ids) ≤ max_items
 ids_items [] few = omega arith
-ids_items (id ∷ ids) few = omega (arith, few, no_inner (id ∷ ids), values_len-values_of (map small (id ∷ ids)), as_many (id ∷ ids))
+ids_items (id ∷ ids) few = omega (
+  arith,
+  few,
+  no_inner (id ∷ ids),
+  values_len-values_of (map small (id ∷ ids)),
+  as_many
+      (id ∷ ids),
+)
 
 few_items : (h : Heading) (f : NewFile) → IsNewFile h f → item_count (entry_value h f) ≤ max_items
 unfolding entry_value
 few_items h f new = omega (arith, tuple_items h.types f.tuple new.tuple, ids_items f.equality_ids new.equality_ids)
 
-pub entries_are_of : (h : Heading) (fs : List NewFile) → IsHeading h → AllByRecursion (IsNewFile h) fs → AllByRecursion FileFits fs → IsLong h.snapshot_id → AreOf (written_tree (manifest_type h)) (map (entry_value h) fs)
+pub entries_are_of : (h : Heading) (fs : List NewFile) → IsHeading h → AllByRecursion (IsNewFile h) fs
+    → AllByRecursion FileFits fs → IsLong h.snapshot_id
+    → AreOf (written_tree (manifest_type h)) (map (entry_value h) fs)
 entries_are_of h [] heading new fits snapshot = tt
 entries_are_of h (f ∷ fs) heading new fits snapshot =
     let s = entry_spelled h f heading new.0 fits.0 snapshot in

@@ -1,5 +1,6 @@
 -- The schema of a manifest is read as its tree.
-use Rattle.std.proofs.Common.{◌≡◌, ℕ, zero, suc, ◌+◌, ◌*◌, ◌≤◌, ◌<◌, ◌^◌, max, Bool, true, false, not, ◌&&◌, ◌||◌, List, [], ◌∷◌, ◌++◌, length, map, refl, sym, ap, subst, ◌∙◌, arith, lit≤}
+use Rattle.std.proofs.Common.{◌≡◌, ℕ, zero, suc, ◌+◌, ◌*◌, ◌≤◌, ◌<◌, ◌^◌, max, Bool, true, false, not, ◌&&◌, ◌||◌, List}
+use Rattle.std.proofs.Common.{[], ◌∷◌, ◌++◌, length, map, refl, sym, ap, subst, ◌∙◌, arith, lit≤}
 use Rattle.std.specs.Prelude.{Ok, Some, ℤ, pos, negsuc, nat_lt, codes}
 use Rattle.std.specs.Fmt.{signed_decimal}
 use Rattle.std.proofs.lemmas.Fmt.{signed_decimal_injective}
@@ -19,7 +20,8 @@ use Rattle.ice_manifest.specs.Adding.{IsHeading, IsId, is_partition_type}
 use Rattle.ice_manifest.specs.WrittenTypes.{Written, WrittenFields, json_of, written_tree, written_fields}
 use Rattle.ice_manifest.specs.WrittenSchemas.{value_type, partition_fields, file_type, entry_type}
 use Rattle.ice_manifest.specs.Writing.{manifest_type}
-use Rattle.ice_manifest.proofs.WrittenRead.{schema_read, fine, fine_fields, different, different_ids, ids_in, is_among, is_id, names_in, field_names}
+use Rattle.ice_manifest.proofs.WrittenRead.{schema_read, fine, fine_fields, different, different_ids, ids_in, is_among}
+use Rattle.ice_manifest.proofs.WrittenRead.{is_id, names_in, field_names}
 
 -- ---- its size
 
@@ -40,7 +42,8 @@ value_height id (column.Fixed size) = refl
 value_height id column.Binary = refl
 value_height id (column.Decimal precision scale) = refl
 
-partition_height : (ps : List PartitionField) (ts : List ColumnType) → deepest_field (written_fields (partition_fields ps ts)) ≤ 2
+partition_height : (ps : List PartitionField) (ts : List ColumnType)
+    → deepest_field (written_fields (partition_fields ps ts)) ≤ 2
 unfolding height deepest_field deepest_branch
 partition_height [] ts = omega arith
 partition_height (p ∷ ps) [] = omega arith
@@ -67,7 +70,8 @@ value_below id (column.Fixed size) = refl
 value_below id column.Binary = refl
 value_below id (column.Decimal precision scale) = refl
 
-partition_nodes : (ps : List PartitionField) (ts : List ColumnType) → in_fields (written_fields (partition_fields ps ts)) ≤ 3 * length ps
+partition_nodes : (ps : List PartitionField) (ts : List ColumnType)
+    → in_fields (written_fields (partition_fields ps ts)) ≤ 3 * length ps
 unfolding below in_fields in_branches
 partition_nodes [] ts = omega arith
 partition_nodes (p ∷ ps) [] = omega arith
@@ -99,17 +103,26 @@ value_fine id (column.Fixed size) h = h
 value_fine id column.Binary h = refl
 value_fine id (column.Decimal precision scale) h = refl
 
-partition_fine : (ps : List PartitionField) (ts : List ColumnType) → AllByRecursion (λ (p : PartitionField). IsId p.field_id) ps → AllByRecursion (λ t. is_partition_type t ≡ true) ts → fine_fields (partition_fields ps ts) ≡ true
+partition_fine : (ps : List PartitionField) (ts : List ColumnType)
+    → AllByRecursion (λ (p : PartitionField). IsId p.field_id) ps → AllByRecursion (λ t. is_partition_type t ≡ true) ts
+    → fine_fields (partition_fields ps ts) ≡ true
 partition_fine [] ts ids types = refl
 partition_fine (p ∷ ps) [] ids types = refl
-partition_fine (p ∷ ps) (t ∷ ts) ids types = rw (id_is p.field_id ids.0, value_fine p.field_id t types.0, partition_fine ps ts ids.1 types.1) refl
+partition_fine (p ∷ ps) (t ∷ ts) ids types = rw (
+  id_is p.field_id ids.0,
+  value_fine p.field_id t types.0,
+  partition_fine
+      ps ts ids.1 types.1,
+) refl
 
-partition_ids : (ps : List PartitionField) (ts : List ColumnType) → length ts ≡ length ps → ids_in (partition_fields ps ts) ≡ map (λ (p : PartitionField). p.field_id) ps
+partition_ids : (ps : List PartitionField) (ts : List ColumnType) → length ts ≡ length ps
+    → ids_in (partition_fields ps ts) ≡ map (λ (p : PartitionField). p.field_id) ps
 partition_ids [] ts e = refl
 partition_ids (p ∷ ps) [] e = absurd (omega (arith, e))
 partition_ids (p ∷ ps) (t ∷ ts) e = ap (λ ids. p.field_id ∷ ids) (partition_ids ps ts (omega (arith, e)))
 
-none_equal : (id : ℤ) (ids : List ℤ) → AllByRecursion (λ other. int_eq id other ≡ false) ids → list_any (int_eq id) ids ≡ false
+none_equal : (id : ℤ) (ids : List ℤ) → AllByRecursion (λ other. int_eq id other ≡ false) ids
+    → list_any (int_eq id) ids ≡ false
 none_equal id [] h = refl
 none_equal id (other ∷ ids) h = rw (h.0, none_equal id ids h.1) refl
 
@@ -118,8 +131,10 @@ unfolding IsDistinct
 ids_differ [] h = refl
 ids_differ (id ∷ ids) h = rw (none_equal id ids h.0, ids_differ ids h.1) refl
 
-pub manifest_fine : (h : Heading) → IsHeading h → AllByRecursion (λ (p : PartitionField). IsId p.field_id) h.spec.fields → fine (manifest_type h) ≡ true
+pub manifest_fine : (h : Heading) → IsHeading h → AllByRecursion (λ (p : PartitionField). IsId p.field_id) h.spec.fields
+    → fine (manifest_type h) ≡ true
 unfolding entry_type dotted
 manifest_fine h is ids =
-    let apart : different_ids (ids_in (partition_fields h.spec.fields h.types)) ≡ true = rw (partition_ids h.spec.fields h.types is.typed) (ids_differ _ is.different) in
+    let apart : different_ids (ids_in (partition_fields h.spec.fields h.types)) ≡ true =
+    rw (partition_ids h.spec.fields h.types is.typed) (ids_differ _ is.different) in
     rw (apart, partition_fine h.spec.fields h.types ids is.written) refl

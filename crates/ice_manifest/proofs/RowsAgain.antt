@@ -1,5 +1,6 @@
 -- The rows of a list that was written are read again.
-use Rattle.std.proofs.Common.{◌≡◌, ℕ, zero, suc, ◌+◌, ◌≤◌, ◌<◌, ◌^◌, ℤ, pos, negsuc, Bool, true, false, cond, List, [], ◌∷◌, length, map, Option, Some, None, Result, Ok, Err, refl, sym, ap, subst, ◌∙◌, arith}
+use Rattle.std.proofs.Common.{◌≡◌, ℕ, zero, suc, ◌+◌, ◌≤◌, ◌<◌, ◌^◌, ℤ, pos, negsuc, Bool, true, false, cond, List, []}
+use Rattle.std.proofs.Common.{◌∷◌, length, map, Option, Some, None, Result, Ok, Err, refl, sym, ap, subst, ◌∙◌, arith}
 use Rattle.std.specs.Prelude.{IfSome, nat_le, nat_lt}
 use Rattle.std.proofs.lemmas.Bool.{lt-ltb, le-leb}
 use Rattle.std.specs.declared.cmp.Ordering.{Ordering}
@@ -30,14 +31,19 @@ use Rattle.ice_manifest_reading.specs.declared.row.ManifestContent.{ManifestCont
 use Rattle.ice_manifest_reading.specs.declared.row.ManifestContent.TheVariants.{Data, Deletes}
 use Rattle.ice_manifest.specs.Adding.{IsId}
 use Rattle.ice_manifest_reading.specs.Each.{each}
-use Rattle.ice_manifest_reading.specs.Fields.{at, there, whole_of, truth_of, binary_of, items_as, items_of, within_32, if_there, path_at, int_at, number_at, long_at, optional_int, optional_long, short_path}
+use Rattle.ice_manifest_reading.specs.Fields.{at, there, whole_of, truth_of, binary_of, items_as, items_of, within_32}
+use Rattle.ice_manifest_reading.specs.Fields.{if_there, path_at, int_at, number_at, long_at, optional_int}
+use Rattle.ice_manifest_reading.specs.Fields.{optional_long, short_path}
 use Rattle.ice_manifest.specs.Fitting.{RowFits, IsReadable, CountsFit}
 use Rattle.ice_manifest_reading.specs.Kinds.{wanted}
 use Rattle.ice_manifest_reading.specs.Laws.{SaysRow, SayRows}
 use Rattle.ice_manifest_reading.specs.Lists as Lists
-use Rattle.ice_manifest_reading.specs.Lists.{says_row, summary_in, summary_of, summaries_in, counts_at, content_at, rows_ahead, path_order, path_before, same_row, twice_after, path_twice, checked, in_order, rows_of}
+use Rattle.ice_manifest_reading.specs.Lists.{says_row, summary_in, summary_of, summaries_in, counts_at, content_at}
+use Rattle.ice_manifest_reading.specs.Lists.{rows_ahead, path_order, path_before, same_row, twice_after, path_twice}
+use Rattle.ice_manifest_reading.specs.Lists.{checked, in_order, rows_of}
 use Rattle.ice_manifest_reading.specs.Schemas as schemas
-use Rattle.ice_manifest_reading.specs.Schemas.{fields_in, type_at, required, optional, each_branch, summary_fields, row_fields}
+use Rattle.ice_manifest_reading.specs.Schemas.{fields_in, type_at, required, optional, each_branch, summary_fields}
+use Rattle.ice_manifest_reading.specs.Schemas.{row_fields}
 use Rattle.ice_manifest_reading.specs.Types.{each_is, some_is, fits}
 use Rattle.ice_manifest.specs.WrittenTypes.{null_or, written_tree}
 use Rattle.ice_manifest.specs.WrittenSchemas.{summary_type, list_type}
@@ -52,7 +58,8 @@ within : (id z : ℤ) → IsId z → within_32 id z ≡ Ok z
 within id (pos n) h = let lt : nat_lt n (2 ^ 31) ≡ true = lt-ltb n (2 ^ 31) h in rw lt refl
 within id (negsuc n) h = let lt : nat_lt n (2 ^ 31) ≡ true = lt-ltb n (2 ^ 31) h in rw lt refl
 
-int_said : (id : ℤ) (o : Option ℤ) → IfSome o IsId → if_there (within_32 id) (whole_of (there (pick [] (null_or tree_of.int, if_some small o)))) ≡ Ok o
+int_said : (id : ℤ) (o : Option ℤ) → IfSome o IsId
+    → if_there (within_32 id) (whole_of (there (pick [] (null_or tree_of.int, if_some small o)))) ≡ Ok o
 int_said id None h = refl
 int_said id (Some z) h = rw (within id z h) refl
 
@@ -72,12 +79,18 @@ summary_said : (s : Summary) → summary_of (written_tree summary_type, summary_
 unfolding summary_of summary_in
 summary_said s = rw (truth_said s.contains_nan, bytes_said s.lower, bytes_said s.upper) refl
 
-summaries_said : (ss : List Summary) → each summary_of (items_as (written_tree summary_type) (values_of (map summary_value ss))) ≡ Ok ss
+summaries_said : (ss : List Summary) → each summary_of (items_as (written_tree summary_type)
+    (values_of (map summary_value ss))) ≡ Ok ss
 unfolding each
 summaries_said [] = refl
 summaries_said (s ∷ ss) = rw (summary_said s, summaries_said ss) refl
 
-partitions_said : (o : Option (List Summary)) → summaries_in (there (pick [] (null_or (tree_of.array (written_tree summary_type) (Some (pos 508)) stands_for.List), if_some summaries_value o))) ≡ Ok o
+partitions_said : (o : Option (List Summary))
+    → summaries_in (there (pick [] (
+      null_or (tree_of.array (written_tree summary_type) (Some (pos 508))
+          stands_for.List),
+      if_some summaries_value o,
+    ))) ≡ Ok o
 partitions_said None = refl
 partitions_said (Some ss) = rw (summaries_said ss) refl
 
@@ -102,20 +115,33 @@ row_says r h k =
       sequence_number = refl;
       min_sequence_number = refl;
       added_snapshot_id = refl;
-      counts = rw (int_said (pos 504) r.counts.added_files h.counts.added_files, int_said (pos 505) r.counts.existing_files h.counts.existing_files, int_said (pos 506) r.counts.deleted_files h.counts.deleted_files, long_said r.counts.added_rows, long_said r.counts.existing_rows, long_said r.counts.deleted_rows) refl;
+      counts = rw (
+        int_said (pos 504) r.counts.added_files h.counts.added_files,
+        int_said (pos 505)
+            r.counts.existing_files h.counts.existing_files,
+        int_said (pos 506) r.counts.deleted_files
+            h.counts.deleted_files,
+        long_said r.counts.added_rows,
+        long_said r.counts.existing_rows,
+        long_said
+            r.counts.deleted_rows,
+      ) refl;
       partitions = partitions_said r.partitions;
     }
 
-rows_say : (rows : List Row) → AllByRecursion RowFits rows → AllByRecursion IsReadable rows → SayRows (fields_in (written_tree list_type)) (map row_value rows) rows
+rows_say : (rows : List Row) → AllByRecursion RowFits rows → AllByRecursion IsReadable rows
+    → SayRows (fields_in (written_tree list_type)) (map row_value rows) rows
 unfolding list_type
 rows_say [] fit readable = tt
 rows_say (r ∷ rows) fit readable = (row_says r fit.0 readable.0, rows_say rows fit.1 readable.1)
 
 fields_fit : row_fields (fields_in (written_tree list_type)) ≡ Ok tt
-unfolding list_type row_fields schemas.count_fields required optional type_at each_branch summary_fields each_is some_is fits
+unfolding list_type row_fields schemas.count_fields required optional type_at each_branch summary_fields each_is some_is
+    fits
 fields_fit = refl
 
-pub rows_are_of : (rows : List Row) → AllByRecursion RowFits rows → AllByRecursion IsReadable rows → AreOf (written_tree list_type) (map row_value rows)
+pub rows_are_of : (rows : List Row) → AllByRecursion RowFits rows → AllByRecursion IsReadable rows
+    → AreOf (written_tree list_type) (map row_value rows)
 rows_are_of [] fit readable = tt
 rows_are_of (r ∷ rows) fit readable = (row_is_of r fit.0 readable.0, rows_are_of rows fit.1 readable.1)
 
@@ -125,7 +151,8 @@ later_path : (r s : Row) → path_order r s ≡ Less → path_before s r ≡ fal
 later_path r s h = ap is_lt (nat_list_cmp_total.antisymm s.path r.path ∙ ap ordering_reverse h)
 
 other_path : (r s : Row) → path_order r s ≡ Less → bytes_eq s.path r.path ≡ false
-other_path r s h = sym (is_eq-slice_cmp s.path r.path) ∙ ap is_eq (nat_list_cmp_total.antisymm s.path r.path ∙ ap ordering_reverse h)
+other_path r s h = sym (is_eq-slice_cmp s.path r.path) ∙ ap is_eq (nat_list_cmp_total.antisymm s.path r.path ∙ ap
+    ordering_reverse h)
 
 either_row : (b : Bool) → (b ≡ true → ⊥) → b ≡ false
 either_row true h = absurd (h refl)
@@ -143,11 +170,13 @@ sorted_already : (rows : List Row) → IsStrictlySortedBy path_order rows → so
 unfolding IsStrictlySortedBy
 sorted_already [] h = refl
 sorted_already (r ∷ rows) h = ap (put path_before r) (sorted_already rows h.1) ∙ put_first r rows h.0 where
-  put_first : (r : Row) (rows : List Row) → AllByRecursion (λ s. path_order r s ≡ Less) rows → put path_before r rows ≡ r ∷ rows
+  put_first : (r : Row) (rows : List Row) → AllByRecursion (λ s. path_order r s ≡ Less) rows
+      → put path_before r rows ≡ r ∷ rows
   put_first r [] h = refl
   put_first r (s ∷ rows) h = rw (later_path r s h.0) refl
 
-each_once : (r : Row) (rows : List Row) → IsStrictlySortedBy path_order (r ∷ rows) → dedup_from same_row r rows ≡ r ∷ rows
+each_once : (r : Row) (rows : List Row) → IsStrictlySortedBy path_order (r ∷ rows)
+    → dedup_from same_row r rows ≡ r ∷ rows
 unfolding IsStrictlySortedBy
 each_once r [] h = refl
 each_once r (s ∷ rows) h = rw (other_row r s h.0.0) (ap (λ (t : List Row). r ∷ t) (each_once s rows h.1))
@@ -165,9 +194,19 @@ no_path_twice : (rows : List Row) → IsStrictlySortedBy path_order rows → pat
 no_path_twice [] h = refl
 no_path_twice (r ∷ rows) h = none_twice r rows h
 
-pub rows_again : (rows : List Row) (bytes : List ℕ) → opened_at bytes ≡ Ok (reader_of (written_tree list_type) (map row_value rows)) → AllByRecursion RowFits rows → AllByRecursion IsReadable rows → IsStrictlySortedBy path_order rows → length rows ≤ 65536
+pub rows_again : (rows : List Row) (bytes : List ℕ)
+    → opened_at bytes ≡ Ok (reader_of (written_tree list_type) (map row_value rows)) → AllByRecursion RowFits rows
+    → AllByRecursion IsReadable rows → IsStrictlySortedBy path_order rows → length rows ≤ 65536
     → rows_of bytes ≡ Ok rows
 unfolding rows_of rows_ahead
 rows_again rows bytes opened fit readable rising few =
     let small : nat_le (length rows) 65536 ≡ true = le-leb (length rows) 65536 few in
-    rw (opened, fields_fit, rows_by (fields_in (written_tree list_type)) (map row_value rows) rows (rows_say rows fit readable), in_order_already rows rising, no_path_twice rows rising, small) refl
+    rw (
+      opened,
+      fields_fit,
+      rows_by (fields_in (written_tree list_type)) (map row_value rows) rows
+          (rows_say rows fit readable),
+      in_order_already rows rising,
+      no_path_twice rows rising,
+      small,
+    ) refl

@@ -1,5 +1,6 @@
 -- The schemas of lists and manifests are read as their trees.
-use Rattle.std.proofs.Common.{◌≡◌, ℕ, zero, suc, ◌+◌, ◌*◌, ◌≤◌, ◌<◌, ◌^◌, max, Bool, true, false, not, ◌&&◌, ◌||◌, List, [], ◌∷◌, ◌++◌, length, map, refl, sym, ap, ◌∙◌, arith, lit≤}
+use Rattle.std.proofs.Common.{◌≡◌, ℕ, zero, suc, ◌+◌, ◌*◌, ◌≤◌, ◌<◌, ◌^◌, max, Bool, true, false, not, ◌&&◌, ◌||◌, List}
+use Rattle.std.proofs.Common.{[], ◌∷◌, ◌++◌, length, map, refl, sym, ap, ◌∙◌, arith, lit≤}
 use Rattle.std.specs.Prelude.{Ok, Some}
 use Rattle.std.specs.Str.{is_utf8}
 use Rattle.serde_json.specs.Read.{read}
@@ -26,5 +27,6 @@ list_nodes : nodes (written_tree list_type) ≤ most_nodes
 unfolding list_type below in_fields in_branches
 list_nodes = lit≤ tt
 
-pub list_read : (text : List ℕ) → is_utf8 text ≡ true → read text ≡ Some (json_of list_type) → schema_of text ≡ Ok (written_tree list_type)
+pub list_read : (text : List ℕ) → is_utf8 text ≡ true → read text ≡ Some (json_of list_type)
+    → schema_of text ≡ Ok (written_tree list_type)
 list_read text utf8 said = schema_read list_type text utf8 said list_fine list_different list_height list_nodes

@@ -1,5 +1,7 @@
 -- A schema that is written is read as its tree.
-use Rattle.std.proofs.Common.{◌≡◌, ℕ, zero, suc, ◌+◌, ◌-◌, ◌≤◌, ◌<◌, ◌^◌, max, Bool, true, false, not, ◌&&◌, ◌||◌, List, [], ◌∷◌, ◌++◌, length, map, Option, Some, None, Result, Ok, Err, Ordering, Less, Equal, Greater, refl, sym, ap, subst, ◌∙◌, arith, append_assoc}
+use Rattle.std.proofs.Common.{◌≡◌, ℕ, zero, suc, ◌+◌, ◌-◌, ◌≤◌, ◌<◌, ◌^◌, max, Bool, true, false, not, ◌&&◌, ◌||◌, List}
+use Rattle.std.proofs.Common.{[], ◌∷◌, ◌++◌, length, map, Option, Some, None, Result, Ok, Err, Ordering, Less, Equal}
+use Rattle.std.proofs.Common.{Greater, refl, sym, ap, subst, ◌∙◌, arith, append_assoc}
 use Rattle.std.proofs.lemmas.Bool.{lt-ltb, ltb-true}
 use Rattle.std.proofs.lemmas.List.{append-nil}
 use Rattle.std.specs.Prelude.{codes, ℤ, pos, negsuc, nat_lt, option_and_then, if◌then◌else◌}
@@ -23,13 +25,17 @@ use Rattle.avro_schema.specs.Size.{below, in_fields, in_branches, height, deepes
 use Rattle.avro_schema.specs.View.{Part, fields_of}
 use Rattle.avro_schema.specs.Names.{Entry, lookup, put, dotted, space_of, full, within}
 use Rattle.avro_schema.specs.Attributes.{name_in, not_empty, id_in, id_of, size_in, is_object, items_in, all_items}
-use Rattle.avro_schema.specs.Reading.{Seen, Read, has_id, fresh, named, defined, if_new, each_at, fields_at, branches_at, field_at, record_at, array_at, fixed_at, object_at, text_at, union_at, node_at, counted, tree_at}
+use Rattle.avro_schema.specs.Reading.{Seen, Read, has_id, fresh, named, defined, if_new, each_at, fields_at}
+use Rattle.avro_schema.specs.Reading.{branches_at, field_at, record_at, array_at, fixed_at, object_at, text_at}
+use Rattle.avro_schema.specs.Reading.{union_at, node_at, counted, tree_at}
 use Rattle.avro_schema.specs.Texts.{json_of as json_in, schema_of, most_nodes, most_levels}
 use Rattle.std.proofs.lemmas.Map.Lookups.{exact_bytes}
 use Rattle.avro_schema.proofs.Kept.{lookup-put}
 use Rattle.ice_manifest.specs.Adding.{IsId}
 use Rattle.ice_manifest.specs.WrittenTypes as written
-use Rattle.ice_manifest.specs.WrittenTypes.{Written, WrittenFields, no_more, required, optional, json_of, fields_json, fixed_json, uuid_json, list_json, map_json, structure_json, required_json, optional_json, or_null, null_or, written_tree, written_fields}
+use Rattle.ice_manifest.specs.WrittenTypes.{Written, WrittenFields, no_more, required, optional, json_of, fields_json}
+use Rattle.ice_manifest.specs.WrittenTypes.{fixed_json, uuid_json, list_json, map_json, structure_json, required_json}
+use Rattle.ice_manifest.specs.WrittenTypes.{optional_json, or_null, null_or, written_tree, written_fields}
 
 -- ---- names
 
@@ -74,14 +80,16 @@ not_true : (b : Bool) → not b ≡ true → b ≡ false
 not_true false h = refl
 not_true true h = absurd cc
 
-different-append : (known xs ys : List (List ℕ)) → different known (xs ++ ys) ≡ true → (different known xs ≡ true) × (different (known ++ xs) ys ≡ true)
+different-append : (known xs ys : List (List ℕ)) → different known (xs ++ ys) ≡ true
+    → (different known xs ≡ true) × (different (known ++ xs) ys ≡ true)
 different-append known [] ys h = (refl, rw (append-nil known) h)
 different-append known (x ∷ xs) ys h =
     let first = both (not (is_among x known)) (different (known ++ x ∷ []) (xs ++ ys)) h in
     let rest = different-append (known ++ x ∷ []) xs ys first.1 in
     (rw first.0 rest.0, rw (append_assoc known (x ∷ []) xs) at rest.1)
 
-among-append : (n : List ℕ) (xs ys : List (List ℕ)) → is_among n (xs ++ ys) ≡ false → (is_among n xs ≡ false) × (is_among n ys ≡ false)
+among-append : (n : List ℕ) (xs ys : List (List ℕ)) → is_among n (xs ++ ys) ≡ false
+    → (is_among n xs ≡ false) × (is_among n ys ≡ false)
 among-append n [] ys h = (refl, h)
 among-append n (x ∷ xs) ys h =
     let first = neither (bytes_eq n x) (is_among n (xs ++ ys)) h in
@@ -98,14 +106,17 @@ none_either Less x h = refl
 none_either Equal x h = absurd (h refl)
 none_either Greater x h = refl
 
-put_known : (known : List (List ℕ)) (name : List ℕ) (x : Option Tree) (es : List Entry) → Knows known es → Knows (known ++ name ∷ []) (put name x es)
+put_known : (known : List (List ℕ)) (name : List ℕ) (x : Option Tree) (es : List Entry) → Knows known es
+    → Knows (known ++ name ∷ []) (put name x es)
 unfolding Knows
 put_known known name x es h = λ n other.
     let apart = among-append n known (name ∷ []) other in
     let here = neither _ _ apart.1 in
-    lookup-put n name x es ∙ rw (h n apart.0) (none_either (slice_cmp nat_cmp n name) (Some x) (other_name n name here.0))
+    lookup-put n name x es ∙ rw (h n apart.0) (none_either (slice_cmp nat_cmp n name) (Some x)
+    (other_name n name here.0))
 
-put_again : (known : List (List ℕ)) (name : List ℕ) (x : Option Tree) (es : List Entry) → is_among name known ≡ true → Knows known es → Knows known (put name x es)
+put_again : (known : List (List ℕ)) (name : List ℕ) (x : Option Tree) (es : List Entry) → is_among name known ≡ true
+    → Knows known es → Knows known (put name x es)
 unfolding Knows
 put_again known name x es there h = λ n other.
     lookup-put n name x es ∙ rw (h n other) (none_either (slice_cmp nat_cmp n name) (Some x) (λ e.
@@ -124,36 +135,48 @@ among_itself name (k ∷ known) ns = rw (among_itself name known ns) (or_true (b
 
 -- what is read as a tree, whatever was met before: it takes its nodes, and meets no name but these
 abbrev Reads : (Data → Seen → Read Tree) → Data → Tree → List (List ℕ) → Type 0
-Reads read d t ns = (s : Seen) (known : List (List ℕ)) → nodes t ≤ s.left → Knows known s.names → different known ns ≡ true
+Reads read d t ns = (s : Seen) (known : List (List ℕ)) → nodes t ≤ s.left → Knows known s.names
+    → different known ns ≡ true
     → (q : Seen) × (read d s ≡ Ok (t, q)) × (q.left + nodes t ≡ s.left) × Knows (known ++ ns) q.names
 
-leaf : (most : ℕ) (at : Role) (d : Data) (t : Tree) → ((s : Seen) → node_at (tree_at most) most at [] d s ≡ Ok (t, s)) → below t ≡ 0 → Reads (tree_at (suc most) at []) d t []
+leaf : (most : ℕ) (at : Role) (d : Data) (t : Tree) → ((s : Seen) → node_at (tree_at most) most at [] d s ≡ Ok (t, s))
+    → below t ≡ 0 → Reads (tree_at (suc most) at []) d t []
 unfolding tree_at
 leaf most at d t h none s known many knows new =
-    let some : nat_lt 0 s.left ≡ true = lt-ltb 0 s.left (omega arith) in
-    (record s { left = s.left - 1 }, rw some (h (record s { left = s.left - 1 })), omega (arith, none), rw (append-nil known) knows)
+    let some : nat_lt 0 s.left ≡ true = lt-ltb 0 s.left (omega arith) in (
+      record s { left = s.left - 1 },
+      rw some (h (record s { left = s.left - 1 })),
+      omega (arith, none),
+      rw
+          (append-nil known) knows,
+    )
 
 read_null : (most : ℕ) (at : Role) → Reads (tree_at (suc most) at []) (json.string (codes "null")) tree_of.null []
 unfolding node_at text_at named below
 read_null most at = leaf most at (json.string (codes "null")) tree_of.null (λ s. refl) refl
 
-read_word : (most : ℕ) (at : Role) (w : written.Word) → Reads (tree_at (suc most) at []) (json.string (written.word_text w)) (written.word_tree w) []
+read_word : (most : ℕ) (at : Role) (w : written.Word)
+    → Reads (tree_at (suc most) at []) (json.string (written.word_text w)) (written.word_tree w) []
 unfolding node_at text_at named below
 read_word most at written.boolean = leaf most at (json.string (codes "boolean")) tree_of.boolean (λ s. refl) refl
 read_word most at written.int = leaf most at (json.string (codes "int")) tree_of.int (λ s. refl) refl
 read_word most at written.long = leaf most at (json.string (codes "long")) tree_of.long (λ s. refl) refl
 read_word most at written.string = leaf most at (json.string (codes "string")) tree_of.string (λ s. refl) refl
-read_word most at written.bytes = leaf most at (json.string (codes "bytes")) (written.word_tree written.bytes) (λ s. refl) refl
+read_word most at written.bytes = leaf most at (json.string (codes "bytes")) (written.word_tree written.bytes)
+    (λ s. refl) refl
 
-read_int : (most : ℕ) (at : Role) (logical : List ℕ) → Reads (tree_at (suc most) at []) (written.logical_json (codes "int") logical) tree_of.int []
+read_int : (most : ℕ) (at : Role) (logical : List ℕ)
+    → Reads (tree_at (suc most) at []) (written.logical_json (codes "int") logical) tree_of.int []
 unfolding node_at object_at named below
 read_int most at logical = leaf most at (written.logical_json (codes "int") logical) tree_of.int (λ s. refl) refl
 
-read_long : (most : ℕ) (at : Role) (logical : List ℕ) → Reads (tree_at (suc most) at []) (written.logical_json (codes "long") logical) tree_of.long []
+read_long : (most : ℕ) (at : Role) (logical : List ℕ)
+    → Reads (tree_at (suc most) at []) (written.logical_json (codes "long") logical) tree_of.long []
 unfolding node_at object_at named below
 read_long most at logical = leaf most at (written.logical_json (codes "long") logical) tree_of.long (λ s. refl) refl
 
-read_timestamp : (most : ℕ) (at : Role) (adjusted : Bool) → Reads (tree_at (suc most) at []) (written.timestamp_json adjusted) tree_of.long []
+read_timestamp : (most : ℕ) (at : Role) (adjusted : Bool)
+    → Reads (tree_at (suc most) at []) (written.timestamp_json adjusted) tree_of.long []
 unfolding node_at object_at named below
 read_timestamp most at adjusted = leaf most at (written.timestamp_json adjusted) tree_of.long (λ s. refl) refl
 
@@ -168,7 +191,8 @@ full_none name = either (dotted name) where
   either true = refl
   either false = refl
 
-defined_new : (name : List ℕ) (x : Option Tree) (s : Seen) (known : List (List ℕ)) → Knows known s.names → is_among name known ≡ false → defined name x s ≡ Ok (record s { names = put name x s.names })
+defined_new : (name : List ℕ) (x : Option Tree) (s : Seen) (known : List (List ℕ)) → Knows known s.names
+    → is_among name known ≡ false → defined name x s ≡ Ok (record s { names = put name x s.names })
 unfolding defined Knows
 defined_new name x s known knows new = rw (knows name new) refl
 
@@ -179,7 +203,8 @@ known_id (pos n) h =
     rw (wide, narrow) refl
 known_id (negsuc n) h = let narrow : nat_lt n (2 ^ 31) ≡ true = lt-ltb n (2 ^ 31) h in rw narrow refl
 
-read_fixed : (most : ℕ) (at : Role) (name : List ℕ) (size : ℕ) → 0 < length name → size < 2 ^ 31 → Reads (tree_at (suc most) at []) (fixed_json name size) (written_tree (written.fixed name size)) (name ∷ [])
+read_fixed : (most : ℕ) (at : Role) (name : List ℕ) (size : ℕ) → 0 < length name → size < 2 ^ 31
+    → Reads (tree_at (suc most) at []) (fixed_json name size) (written_tree (written.fixed name size)) (name ∷ [])
 unfolding tree_at node_at object_at fixed_at below
 read_fixed most at name size some_name fits s known many knows new =
     let some : nat_lt 0 s.left ≡ true = lt-ltb 0 s.left (omega arith) in
@@ -187,19 +212,44 @@ read_fixed most at name size some_name fits s known many knows new =
     let narrow : nat_lt size (2 ^ 31) ≡ true = lt-ltb size (2 ^ 31) fits in
     let now : Seen = record s { left = s.left - 1 } in
     let t = written_tree (written.fixed name size) in
-    let unknown = not_true (is_among name known) (both _ _ new).0 in
-    (record now { names = put name (Some t) now.names }, rw (some, filled name some_name, wide, narrow, full_none name, defined_new name (Some t) now known knows unknown) refl, omega arith, put_known known name (Some t) now.names knows)
+    let unknown = not_true (is_among name known) (both _ _ new).0 in (
+      record now { names = put name (Some t) now.names },
+      rw (
+        some,
+        filled name some_name,
+        wide,
+        narrow,
+        full_none name,
+        defined_new name (Some t) now known knows unknown,
+      ) refl,
+      omega arith,
+      put_known known name (Some t) now.names
+          knows,
+    )
 
-read_uuid : (most : ℕ) (at : Role) (name : List ℕ) → 0 < length name → Reads (tree_at (suc most) at []) (uuid_json name) (written_tree (written.uuid name)) (name ∷ [])
+read_uuid : (most : ℕ) (at : Role) (name : List ℕ) → 0 < length name
+    → Reads (tree_at (suc most) at []) (uuid_json name) (written_tree (written.uuid name)) (name ∷ [])
 unfolding tree_at node_at object_at fixed_at below
 read_uuid most at name some_name s known many knows new =
     let some : nat_lt 0 s.left ≡ true = lt-ltb 0 s.left (omega arith) in
     let now : Seen = record s { left = s.left - 1 } in
     let t = written_tree (written.uuid name) in
-    let unknown = not_true (is_among name known) (both _ _ new).0 in
-    (record now { names = put name (Some t) now.names }, rw (some, filled name some_name, full_none name, defined_new name (Some t) now known knows unknown) refl, omega arith, put_known known name (Some t) now.names knows)
+    let unknown = not_true (is_among name known) (both _ _ new).0 in (
+      record now { names = put name (Some t) now.names },
+      rw (
+        some,
+        filled name some_name,
+        full_none name,
+        defined_new
+            name (Some t) now known knows unknown,
+      ) refl,
+      omega arith,
+      put_known known name (Some t) now.names knows,
+    )
 
-read_list : (most : ℕ) (at : Role) (id : ℤ) (d : Data) (t : Tree) (ns : List (List ℕ)) → IsId id → Reads (tree_at most role.Elsewhere []) d t ns → Reads (tree_at (suc most) at []) (list_json id d) (tree_of.array t (Some id) stands_for.List) ns
+read_list : (most : ℕ) (at : Role) (id : ℤ) (d : Data) (t : Tree) (ns : List (List ℕ)) → IsId id
+    → Reads (tree_at most role.Elsewhere []) d t ns
+    → Reads (tree_at (suc most) at []) (list_json id d) (tree_of.array t (Some id) stands_for.List) ns
 unfolding tree_at node_at object_at array_at below
 read_list most at id d t ns is h s known many knows new =
     let some : nat_lt 0 s.left ≡ true = lt-ltb 0 s.left (omega arith) in
@@ -207,7 +257,9 @@ read_list most at id d t ns is h s known many knows new =
     let inner = h now known (omega arith) knows new in
     (inner.0, rw (some, inner.1, known_id id is) refl, omega (arith, inner.2), inner.3)
 
-read_map : (most : ℕ) (at : Role) (d : Data) (t : Tree) (ns : List (List ℕ)) → Reads (tree_at most role.Elsewhere []) d t ns → Reads (tree_at (suc most) at []) (map_json d) (tree_of.array t None stands_for.Map) ns
+read_map : (most : ℕ) (at : Role) (d : Data) (t : Tree) (ns : List (List ℕ))
+    → Reads (tree_at most role.Elsewhere []) d t ns
+    → Reads (tree_at (suc most) at []) (map_json d) (tree_of.array t None stands_for.Map) ns
 unfolding tree_at node_at object_at array_at below
 read_map most at d t ns h s known many knows new =
     let some : nat_lt 0 s.left ≡ true = lt-ltb 0 s.left (omega arith) in
@@ -215,7 +267,8 @@ read_map most at d t ns h s known many knows new =
     let inner = h now known (omega arith) knows new in
     (inner.0, rw (some, inner.1) refl, omega (arith, inner.2), inner.3)
 
-read_nullable : (most : ℕ) (d : Data) (t : Tree) (ns : List (List ℕ)) → Reads (tree_at (suc most) role.Branch []) d t ns → Reads (tree_at (suc (suc most)) role.Elsewhere []) (or_null d) (null_or t) ns
+read_nullable : (most : ℕ) (d : Data) (t : Tree) (ns : List (List ℕ)) → Reads (tree_at (suc most) role.Branch []) d t ns
+    → Reads (tree_at (suc (suc most)) role.Elsewhere []) (or_null d) (null_or t) ns
 unfolding tree_at node_at text_at named union_at each_at below in_branches
 read_nullable most d t ns h s known many knows new =
     let some : nat_lt 0 s.left ≡ true = lt-ltb 0 s.left (omega arith) in
@@ -228,31 +281,43 @@ read_nullable most d t ns h s known many knows new =
 
 -- what the fields of a record are read as
 abbrev ReadsFields : (Data → Seen → Read Tree) → List Part → Items → List Part → List (List ℕ) → Type 0
-ReadsFields read front ds parts ns = (s : Seen) (known : List (List ℕ)) → in_fields (fields_of parts) ≤ s.left → Knows known s.names → different known ns ≡ true
-    → (q : Seen) × (fields_at read front ds s ≡ Ok (front ++ parts, q)) × (q.left + in_fields (fields_of parts) ≡ s.left) × Knows (known ++ ns) q.names
+ReadsFields read front ds parts ns = (s : Seen) (known : List (List ℕ)) → in_fields (fields_of parts) ≤ s.left
+    → Knows known s.names → different known ns ≡ true
+    → (q : Seen) × (fields_at read front ds s ≡ Ok (front ++ parts, q)) × (q.left + in_fields (fields_of parts)
+    ≡ s.left) × Knows (known ++ ns) q.names
 
 no_field : (read : Data → Seen → Read Tree) (front : List Part) → ReadsFields read front json.no_items [] []
 unfolding each_at in_fields
 no_field read front s known many knows new = (s, rw (append-nil front) refl, omega arith, rw (append-nil known) knows)
 
-one_field : (read : Data → Seen → Read Tree) (front parts : List Part) (d type : Data) (ds : Items) (name : List ℕ) (id : ℤ) (t : Tree) (ns ms : List (List ℕ)) → name_in d ≡ Some name → get (codes "type") d ≡ Some type
-    → id_in (codes "field-id") d ≡ Some id → list_any (has_id id) front ≡ false → Reads read type t ns → ReadsFields read (front ++ (Some id, t) ∷ []) ds parts ms
+one_field : (read : Data → Seen → Read Tree) (front parts : List Part) (d type : Data) (ds : Items) (name : List ℕ)
+    (id : ℤ) (t : Tree) (ns ms : List (List ℕ)) → name_in d ≡ Some name → get (codes "type") d ≡ Some type
+    → id_in (codes "field-id") d ≡ Some id → list_any (has_id id) front ≡ false → Reads read type t ns
+    → ReadsFields read (front ++ (Some id, t) ∷ []) ds parts ms
     → ReadsFields read front (json.item d ds) ((Some id, t) ∷ parts) (ns ++ ms)
 unfolding each_at field_at in_fields
 one_field read front parts d type ds name id t ns ms named typed own other h k s known many knows new =
     let apart = different-append known ns ms new in
     let first = h s known (omega (arith, many)) knows apart.0 in
     let rest = k first.0 (known ++ ns) (omega (arith, many, first.2)) first.3 apart.1 in
-    let joined : (front ++ (Some id, t) ∷ []) ++ parts ≡ front ++ (Some id, t) ∷ parts = append_assoc front ((Some id, t) ∷ []) parts in
-    (rest.0, rw (named, typed, own, other, first.1, rest.1, joined) refl, omega (arith, first.2, rest.2), rw (append_assoc known ns ms) at rest.3)
+    let joined : (front ++ (Some id, t) ∷ []) ++ parts ≡ front ++ (Some id, t) ∷ parts = append_assoc front
+    ((Some id, t) ∷ []) parts in (
+      rest.0,
+      rw (named, typed, own, other, first.1, rest.1, joined) refl,
+      omega (arith, first.2, rest.2),
+      rw
+          (append_assoc known ns ms) at rest.3,
+    )
 
 space_none : (name : List ℕ) → dotted name ≡ false → space_of name ≡ []
 unfolding dotted space_of
 space_none [] h = refl
 space_none (x ∷ name) h = let parts = neither _ (dotted name) h in rw parts.1 refl
 
-read_structure : (most : ℕ) (at : Role) (name : List ℕ) (ds : Items) (parts : List Part) (ns : List (List ℕ)) → 0 < length name → dotted name ≡ false → all_items is_object ds ≡ true
-    → ReadsFields (tree_at most role.Elsewhere []) [] ds parts ns → Reads (tree_at (suc most) at []) (structure_json name ds) (tree_of.structure (fields_of parts)) (name ∷ ns)
+read_structure : (most : ℕ) (at : Role) (name : List ℕ) (ds : Items) (parts : List Part) (ns : List (List ℕ))
+    → 0 < length name → dotted name ≡ false → all_items is_object ds ≡ true
+    → ReadsFields (tree_at most role.Elsewhere []) [] ds parts ns
+    → Reads (tree_at (suc most) at []) (structure_json name ds) (tree_of.structure (fields_of parts)) (name ∷ ns)
 unfolding tree_at node_at object_at record_at below
 read_structure most at name ds parts ns some_name plain objects h s known many knows new =
     let some : nat_lt 0 s.left ≡ true = lt-ltb 0 s.left (omega arith) in
@@ -261,10 +326,21 @@ read_structure most at name ds parts ns some_name plain objects h s known many k
     let apart = both (not (is_among name known)) (different (known ++ name ∷ []) ns) new in
     let unknown = not_true (is_among name known) apart.0 in
     let opened : Seen = record now { names = put name None now.names } in
-    let inner = h opened (known ++ name ∷ []) (omega (arith, many)) (put_known known name None now.names knows) apart.1 in
-    let closed = put_again ((known ++ name ∷ []) ++ ns) name (Some t) inner.0.names (among_itself name known ns) inner.3 in (
+    let inner = h opened (known ++ name ∷ []) (omega (arith, many)) (put_known known name None now.names knows)
+    apart.1 in
+    let closed = put_again ((known ++ name ∷ []) ++ ns) name (Some t) inner.0.names (among_itself name known
+    ns) inner.3 in (
       record { names = put name (Some t) inner.0.names; left = inner.0.left },
-      rw (some, filled name some_name, objects, full_none name, space_none name plain, defined_new name None now known knows unknown, inner.1) refl,
+      rw (
+        some,
+        filled name some_name,
+        objects,
+        full_none name,
+        space_none name plain,
+        defined_new name None now known
+            knows unknown,
+        inner.1,
+      ) refl,
       omega (arith, inner.2),
       rw (append_assoc known (name ∷ []) ns) at closed,
     )
@@ -331,11 +407,14 @@ all_objects (optional name id w fs) = all_objects fs
 abbrev Apart : List Part → List ℤ → Type 0
 Apart front ids = AllByRecursion (λ id. list_any (has_id id) front ≡ false) ids
 
-any_append : {A : Type 0} (p : A → Bool) (xs : List A) (y : A) → list_any p xs ≡ false → p y ≡ false → list_any p (xs ++ y ∷ []) ≡ false
+any_append : {A : Type 0} (p : A → Bool) (xs : List A) (y : A) → list_any p xs ≡ false → p y ≡ false
+    → list_any p (xs ++ y ∷ []) ≡ false
 any_append p [] y h k = rw k refl
-any_append p (x ∷ xs) y h k = let parts = neither (p x) (list_any p xs) h in rw (parts.0, any_append p xs y parts.1 k) refl
+any_append p (x ∷ xs) y h k = let parts = neither (p x) (list_any p xs) h in rw (parts.0, any_append p xs y parts.1 k)
+    refl
 
-apart_on : (front : List Part) (id : ℤ) (t : Tree) (ids : List ℤ) → list_any (int_eq id) ids ≡ false → Apart front ids → Apart (front ++ (Some id, t) ∷ []) ids
+apart_on : (front : List Part) (id : ℤ) (t : Tree) (ids : List ℤ) → list_any (int_eq id) ids ≡ false → Apart front ids
+    → Apart (front ++ (Some id, t) ∷ []) ids
 apart_on front id t [] h k = tt
 apart_on front id t (other ∷ ids) h k =
     let parts = neither (int_eq id other) (list_any (int_eq id) ids) h in
@@ -351,7 +430,8 @@ record FineField (name : List ℕ) (id : ℤ) (w : Written) (fs : WrittenFields)
   pub type : fine w ≡ true
   pub others : fine_fields fs ≡ true
 
-fine_field : (name : List ℕ) (id : ℤ) (w : Written) (fs : WrittenFields) → (is_filled name && is_id id && fine w && fine_fields fs) ≡ true → FineField name id w fs
+fine_field : (name : List ℕ) (id : ℤ) (w : Written) (fs : WrittenFields)
+    → (is_filled name && is_id id && fine w && fine_fields fs) ≡ true → FineField name id w fs
 fine_field name id w fs h =
     let three = both (is_filled name && is_id id && fine w) (fine_fields fs) h in
     let two = both (is_filled name && is_id id) (fine w) three.0 in
@@ -364,23 +444,28 @@ record FineStructure (name : List ℕ) (fs : WrittenFields) : Type 0 where
   pub ids : different_ids (ids_in fs) ≡ true
   pub fields : fine_fields fs ≡ true
 
-fine_structure : (name : List ℕ) (fs : WrittenFields) → (is_filled name && not (dotted name) && different_ids (ids_in fs) && fine_fields fs) ≡ true → FineStructure name fs
+fine_structure : (name : List ℕ) (fs : WrittenFields)
+    → (is_filled name && not (dotted name) && different_ids (ids_in fs) && fine_fields fs) ≡ true
+    → FineStructure name fs
 fine_structure name fs h =
     let three = both (is_filled name && not (dotted name) && different_ids (ids_in fs)) (fine_fields fs) h in
     let two = both (is_filled name && not (dotted name)) (different_ids (ids_in fs)) three.0 in
     let one = both (is_filled name) (not (dotted name)) two.0 in
     record { filled = one.0; plain = not_true (dotted name) one.1; ids = two.1; fields = three.1 }
 
-required_own : (name : List ℕ) (id : ℤ) (d : Data) → IsId id → id_in (codes "field-id") (required_json name id d) ≡ Some id
+required_own : (name : List ℕ) (id : ℤ) (d : Data) → IsId id
+    → id_in (codes "field-id") (required_json name id d) ≡ Some id
 required_own name id d h = known_id id h
 
-optional_own : (name : List ℕ) (id : ℤ) (d : Data) → IsId id → id_in (codes "field-id") (optional_json name id d) ≡ Some id
+optional_own : (name : List ℕ) (id : ℤ) (d : Data) → IsId id
+    → id_in (codes "field-id") (optional_json name id d) ≡ Some id
 optional_own name id d h = known_id id h
 
 mutual
   unfolding json_of fields_json height deepest_field deepest_branch
 
-  read_written : (most : ℕ) (at : Role) (w : Written) → fine w ≡ true → height (written_tree w) ≤ most → Reads (tree_at (suc most) at []) (json_of w) (written_tree w) (names_in w)
+  read_written : (most : ℕ) (at : Role) (w : Written) → fine w ≡ true → height (written_tree w) ≤ most
+      → Reads (tree_at (suc most) at []) (json_of w) (written_tree w) (names_in w)
   read_written most at (written.word w) h deep = read_word most at w
   read_written most at written.date h deep = read_int most at (codes "date")
   read_written most at written.time h deep = read_long most at (codes "time-micros")
@@ -392,34 +477,44 @@ mutual
   read_written zero at (written.list id w) h deep = absurd (omega arith)
   read_written (suc most) at (written.list id w) h deep =
       let parts = both (is_id id) (fine w) h in
-      read_list (suc most) at id (json_of w) (written_tree w) (names_in w) (is_id-IsId id parts.0) (read_written most role.Elsewhere w parts.1 (omega arith))
+      read_list (suc most) at id (json_of w) (written_tree w) (names_in w) (is_id-IsId id parts.0)
+      (read_written most role.Elsewhere w parts.1 (omega arith))
   read_written zero at (written.map w) h deep = absurd (omega arith)
-  read_written (suc most) at (written.map w) h deep = read_map (suc most) at (json_of w) (written_tree w) (names_in w) (read_written most role.Elsewhere w h (omega arith))
+  read_written (suc most) at (written.map w) h deep = read_map (suc most) at (json_of w) (written_tree w) (names_in w)
+      (read_written most role.Elsewhere w h (omega arith))
   read_written most at (written.structure name fs) h deep =
       let parts = fine_structure name fs h in
-      subst (λ (gs : Fields). Reads (tree_at (suc most) at []) (structure_json name (fields_json fs)) (tree_of.structure gs) (name ∷ field_names fs)) (fields_of-parts_of fs)
-      (read_structure most at name (fields_json fs) (parts_of fs) (field_names fs) (is_filled-length name parts.filled) parts.plain (all_objects fs) (read_fields most [] fs parts.fields parts.ids (none_apart (ids_in fs)) deep))
+      subst (λ (gs : Fields). Reads (tree_at (suc most) at []) (structure_json name (fields_json fs))
+      (tree_of.structure gs) (name ∷ field_names fs)) (fields_of-parts_of fs)
+      (read_structure most at name (fields_json fs) (parts_of fs) (field_names fs) (is_filled-length name parts.filled)
+      parts.plain (all_objects fs) (read_fields most [] fs parts.fields parts.ids (none_apart (ids_in fs)) deep))
 
-  read_fields : (most : ℕ) (front : List Part) (fs : WrittenFields) → fine_fields fs ≡ true → different_ids (ids_in fs) ≡ true → Apart front (ids_in fs) → deepest_field (written_fields fs) ≤ most
+  read_fields : (most : ℕ) (front : List Part) (fs : WrittenFields) → fine_fields fs ≡ true
+      → different_ids (ids_in fs) ≡ true → Apart front (ids_in fs) → deepest_field (written_fields fs) ≤ most
       → ReadsFields (tree_at most role.Elsewhere []) front (fields_json fs) (parts_of fs) (field_names fs)
   read_fields most front no_more h ids other deep = no_field (tree_at most role.Elsewhere []) front
   read_fields zero front (required name id w fs) h ids other deep = absurd (omega arith)
   read_fields (suc most) front (required name id w fs) h ids other deep =
       let parts = fine_field name id w fs h in
       let new = both (not (list_any (int_eq id) (ids_in fs))) (different_ids (ids_in fs)) ids in
-      one_field (tree_at (suc most) role.Elsewhere []) front (parts_of fs) (required_json name id (json_of w)) (json_of w) (fields_json fs) name id (written_tree w) (names_in w) (field_names fs)
+      one_field (tree_at (suc most) role.Elsewhere []) front (parts_of fs) (required_json name id (json_of w))
+      (json_of w) (fields_json fs) name id (written_tree w) (names_in w) (field_names fs)
       (filled name (is_filled-length name parts.filled)) refl (required_own name id (json_of w) parts.id_is) other.0
       (read_written most role.Elsewhere w parts.type (omega arith))
-      (read_fields (suc most) (front ++ (Some id, written_tree w) ∷ []) fs parts.others new.1 (apart_on front id (written_tree w) (ids_in fs) (not_true _ new.0) other.1) (omega arith))
+      (read_fields (suc most) (front ++ (Some id, written_tree w) ∷ []) fs parts.others new.1
+      (apart_on front id (written_tree w) (ids_in fs) (not_true _ new.0) other.1) (omega arith))
   read_fields zero front (optional name id w fs) h ids other deep = absurd (omega arith)
   read_fields (suc zero) front (optional name id w fs) h ids other deep = absurd (omega arith)
   read_fields (suc (suc most)) front (optional name id w fs) h ids other deep =
       let parts = fine_field name id w fs h in
       let new = both (not (list_any (int_eq id) (ids_in fs))) (different_ids (ids_in fs)) ids in
-      one_field (tree_at (suc (suc most)) role.Elsewhere []) front (parts_of fs) (optional_json name id (json_of w)) (or_null (json_of w)) (fields_json fs) name id (null_or (written_tree w)) (names_in w) (field_names fs)
+      one_field (tree_at (suc (suc most)) role.Elsewhere []) front (parts_of fs) (optional_json name id (json_of w))
+      (or_null (json_of w)) (fields_json fs) name id (null_or (written_tree w)) (names_in w) (field_names fs)
       (filled name (is_filled-length name parts.filled)) refl (optional_own name id (json_of w) parts.id_is) other.0
-      (read_nullable most (json_of w) (written_tree w) (names_in w) (read_written most role.Branch w parts.type (omega arith)))
-      (read_fields (suc (suc most)) (front ++ (Some id, null_or (written_tree w)) ∷ []) fs parts.others new.1 (apart_on front id (null_or (written_tree w)) (ids_in fs) (not_true _ new.0) other.1) (omega arith))
+      (read_nullable most (json_of w) (written_tree w) (names_in w) (read_written most role.Branch w parts.type
+      (omega arith)))
+      (read_fields (suc (suc most)) (front ++ (Some id, null_or (written_tree w)) ∷ []) fs parts.others new.1
+      (apart_on front id (null_or (written_tree w)) (ids_in fs) (not_true _ new.0) other.1) (omega arith))
 
 -- ---- the text
 
@@ -427,9 +522,11 @@ no_names : Knows [] []
 unfolding Knows
 no_names = λ n h. refl
 
-pub schema_read : (w : Written) (text : List ℕ) → is_utf8 text ≡ true → read text ≡ Some (json_of w) → fine w ≡ true → different [] (names_in w) ≡ true → height (written_tree w) ≤ 31 → nodes (written_tree w) ≤ most_nodes
+pub schema_read : (w : Written) (text : List ℕ) → is_utf8 text ≡ true → read text ≡ Some (json_of w) → fine w ≡ true
+    → different [] (names_in w) ≡ true → height (written_tree w) ≤ 31 → nodes (written_tree w) ≤ most_nodes
     → schema_of text ≡ Ok (written_tree w)
 unfolding schema_of json_in
 schema_read w text utf8 said is_fine new deep many =
-    let found = read_written 31 role.Elsewhere w is_fine deep (record { names = []; left = most_nodes }) [] many no_names new in
+    let found = read_written 31 role.Elsewhere w is_fine deep (record { names = []; left = most_nodes }) [] many
+    no_names new in
     rw (utf8, said, found.1) refl

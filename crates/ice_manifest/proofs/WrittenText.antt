@@ -1,5 +1,6 @@
 -- The text of a schema that is written.
-use Rattle.std.proofs.Common.{◌≡◌, ℕ, zero, suc, ◌+◌, ◌*◌, ◌≤◌, ◌<◌, max, Bool, true, false, ◌||◌, List, [], ◌∷◌, Some, refl, ap, ◌∙◌, arith}
+use Rattle.std.proofs.Common.{◌≡◌, ℕ, zero, suc, ◌+◌, ◌*◌, ◌≤◌, ◌<◌, max, Bool, true, false, ◌||◌, List, [], ◌∷◌, Some}
+use Rattle.std.proofs.Common.{refl, ap, ◌∙◌, arith}
 use Rattle.std.specs.Prelude.{ℤ, pos, negsuc}
 use Rattle.serde_json.specs.Data as json
 use Rattle.serde_json.specs.Data.{depth, items_depth}
@@ -11,7 +12,8 @@ use Rattle.ice_meta.specs.declared.spec.PartitionField.{PartitionField}
 use Rattle.ice_meta.specs.declared.spec.Spec.{Spec}
 use Rattle.ice_manifest.specs.Writing.{partition_fields_json, spec_text}
 use Rattle.ice_manifest.specs.WrittenTypes as written
-use Rattle.ice_manifest.specs.WrittenTypes.{Written, WrittenFields, no_more, required, optional, json_of, fields_json, written_tree, written_fields}
+use Rattle.ice_manifest.specs.WrittenTypes.{Written, WrittenFields, no_more, required, optional, json_of, fields_json}
+use Rattle.ice_manifest.specs.WrittenTypes.{written_tree, written_fields}
 
 whole_number : (z : ℤ) → is_float (of_integer z) ≡ false
 whole_number (pos n) = refl
@@ -61,16 +63,20 @@ under w h = omega (arith, levels w)
 
 -- ---- as it is written
 
-pub compact : (w : Written) (d : json.Data) (text : List ℕ) → d ≡ json_of w → (has_float d ≡ false → text ≡ compact_text d) → text ≡ compact_text (json_of w)
+pub compact : (w : Written) (d : json.Data) (text : List ℕ) → d ≡ json_of w
+    → (has_float d ≡ false → text ≡ compact_text d) → text ≡ compact_text (json_of w)
 compact w d text e said = said (ap has_float e ∙ no_float w) ∙ ap compact_text e
 
-pub read_again : (w : Written) (d : json.Data) (text : List ℕ) → d ≡ json_of w → height (written_tree w) ≤ 31 → (depth d ≤ max_depth → read text ≡ Some d) → read text ≡ Some (json_of w)
-read_again w d text e low said = let few : depth d ≤ max_depth = omega (arith, ap depth e, under w low) in said few ∙ ap Some e
+pub read_again : (w : Written) (d : json.Data) (text : List ℕ) → d ≡ json_of w → height (written_tree w) ≤ 31
+    → (depth d ≤ max_depth → read text ≡ Some d) → read text ≡ Some (json_of w)
+read_again w d text e low said = let few : depth d ≤ max_depth = omega (arith, ap depth e, under w low) in
+    said few ∙ ap Some e
 
 no_spec_floats : (ps : List PartitionField) → items_have_float (partition_fields_json ps) ≡ false
 no_spec_floats [] = refl
 no_spec_floats (p ∷ ps) = rw (whole_number p.source_id, whole_number p.field_id, no_spec_floats ps) refl
 
-pub spec_compact : (spec : Spec) (d : json.Data) (text : List ℕ) → d ≡ json.array (partition_fields_json spec.fields) → (has_float d ≡ false → text ≡ compact_text d) → text ≡ spec_text spec
+pub spec_compact : (spec : Spec) (d : json.Data) (text : List ℕ) → d ≡ json.array (partition_fields_json spec.fields)
+    → (has_float d ≡ false → text ≡ compact_text d) → text ≡ spec_text spec
 unfolding spec_text
 spec_compact spec d text e said = said (ap has_float e ∙ no_spec_floats spec.fields) ∙ ap compact_text e

@@ -1,5 +1,6 @@
 -- What the files of entries hold fits their row, and entries are of its spec.
-use Rattle.std.proofs.Common.{◌≡◌, ◌⊎◌, inl, inr, ℕ, suc, ℤ, pos, ◌+◌, cond, List, [], ◌∷◌, length, map, Option, Some, None, Ok, Err, refl, sym, ap, subst}
+use Rattle.std.proofs.Common.{◌≡◌, ◌⊎◌, inl, inr, ℕ, suc, ℤ, pos, ◌+◌, cond, List, [], ◌∷◌, length, map, Option, Some}
+use Rattle.std.proofs.Common.{None, Ok, Err, refl, sym, ap, subst}
 use Rattle.std.specs.Ordering.{int_eq}
 use Rattle.std.specs.List.{Contains, AllByRecursion}
 use Rattle.avro_schema.specs.Tree.{Fields}
@@ -30,7 +31,8 @@ content_fits Data z c h =
     sym is
 content_fits Deletes z c h =
     let G : Type 0 = (c ≡ holds.PositionDeletes) ⊎ (c ≡ holds.EqualityDeletes) in
-    elim (either (int_eq z (pos 1)) (Ok holds.PositionDeletes) (cond (int_eq z (pos 2)) (Ok holds.EqualityDeletes) (Err BadContent)) (Ok c) h) as (λ _. G) [
+    elim (either (int_eq z (pos 1)) (Ok holds.PositionDeletes) (cond (int_eq z (pos 2)) (Ok holds.EqualityDeletes)
+    (Err BadContent)) (Ok c) h) as (λ _. G) [
       | inl a ↦ let is : holds.PositionDeletes ≡ c = ok_is holds.PositionDeletes c a.1 in inl (sym is)
       | inr b ↦
           let p = passed (int_eq z (pos 2)) BadContent (Ok holds.EqualityDeletes) c b.1 in
@@ -42,7 +44,8 @@ said_fits : (of_row : ManifestContent) (x : Typed) (c : FileContent) → content
 unfolding content_at
 said_fits of_row x c h = let code = went_on (int_at (pos 134) x) _ c h in content_fits of_row code.0 c code.2
 
-entries_fit : (row : Row) (spec : Spec) (fs : Fields) (k : ℕ) (vs : List Value) (read : List (Option Live)) → SayEntries row spec fs k vs read → (l : Live) → Contains (kept read) l → MayHold row.content l.entry.file.content
+entries_fit : (row : Row) (spec : Spec) (fs : Fields) (k : ℕ) (vs : List Value) (read : List (Option Live))
+    → SayEntries row spec fs k vs read → (l : Live) → Contains (kept read) l → MayHold row.content l.entry.file.content
 entries_fit row spec fs k [] [] said l i = absurd (nowhere l i)
 entries_fit row spec fs k [] (e ∷ read) said l i = absurd said
 entries_fit row spec fs k (v ∷ vs) [] said l i = absurd said
@@ -62,12 +65,17 @@ fits_its_row row spec bytes found l h i =
 
 -- ---- the spec of entries
 
-all_of_spec : (row : Row) (spec : Spec) (fs : Fields) (k : ℕ) (vs : List Value) (read : List (Option Live)) → SayEntries row spec fs k vs read → AllByRecursion (IsOfSpec row spec) (entries (kept read))
+all_of_spec : (row : Row) (spec : Spec) (fs : Fields) (k : ℕ) (vs : List Value) (read : List (Option Live))
+    → SayEntries row spec fs k vs read → AllByRecursion (IsOfSpec row spec) (entries (kept read))
 all_of_spec row spec fs k [] [] said = tt
 all_of_spec row spec fs k [] (e ∷ read) said = absurd said
 all_of_spec row spec fs k (v ∷ vs) [] said = absurd said
 all_of_spec row spec fs k (v ∷ vs) (None ∷ read) said = all_of_spec row spec fs (k + 1) vs read said.1
-all_of_spec row spec fs k (v ∷ vs) (Some m ∷ read) said = ((said.0.spec_id, said.0.partitions_nothing), all_of_spec row spec fs (k + 1) vs read said.1)
+all_of_spec row spec fs k (v ∷ vs) (Some m ∷ read) said = (
+  (said.0.spec_id, said.0.partitions_nothing),
+  all_of_spec row
+      spec fs (k + 1) vs read said.1,
+)
 
 pub are_of_their_spec : AreOfTheirSpec
 unfolding entries_of
@@ -84,7 +92,8 @@ length_map : {A B : Type 0} (f : A → B) (xs : List A) → length (map f xs) �
 length_map {A} {B} f [] = refl
 length_map {A} {B} f (x ∷ xs) = ap suc (length_map f xs)
 
-tuple_length : (ps : List PartitionField) (x : Typed) (cells : List Cell) → tuple_at ps x ≡ Ok cells → length cells ≡ length ps
+tuple_length : (ps : List PartitionField) (x : Typed) (cells : List Cell) → tuple_at ps x ≡ Ok cells
+    → length cells ≡ length ps
 unfolding tuple_at
 tuple_length [] x cells h = let is : [] ≡ cells = ok_is [] cells h in rw (sym is) refl
 tuple_length (p ∷ ps) x cells h =
@@ -92,7 +101,9 @@ tuple_length (p ∷ ps) x cells h =
     let is : cells_of (p ∷ ps) inner.0 ≡ cells = ok_is (cells_of (p ∷ ps) inner.0) cells inner.2 in
     rw (sym is) (length_map (λ (q : PartitionField). cell_at q.field_id inner.0) (p ∷ ps))
 
-entries_celled : (row : Row) (spec : Spec) (fs : Fields) (k : ℕ) (vs : List Value) (read : List (Option Live)) → SayEntries row spec fs k vs read → (l : Live) → Contains (kept read) l → length l.entry.file.tuple ≡ length spec.fields
+entries_celled : (row : Row) (spec : Spec) (fs : Fields) (k : ℕ) (vs : List Value) (read : List (Option Live))
+    → SayEntries row spec fs k vs read → (l : Live) → Contains (kept read) l
+    → length l.entry.file.tuple ≡ length spec.fields
 entries_celled row spec fs k [] [] said l i = absurd (nowhere l i)
 entries_celled row spec fs k [] (e ∷ read) said l i = absurd said
 entries_celled row spec fs k (v ∷ vs) [] said l i = absurd said

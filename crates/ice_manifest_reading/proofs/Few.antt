@@ -2,7 +2,8 @@
 use Rattle.std.proofs.Common.{◌≡◌, ℤ, pos, Bool, true, false, cond, Option, Some, None, Ok, refl, sym, ap, subst, ◌||◌}
 use Rattle.std.specs.Ordering.{int_eq}
 use Rattle.std.specs.Option.{option_eq}
-use Rattle.avro_schema.specs.Tree.{Tree, null, boolean, int, long, float, double, symbols, octets, string, fixed, structure, array, map, union, Fields, no_fields, field}
+use Rattle.avro_schema.specs.Tree.{Tree, null, boolean, int, long, float, double, symbols, octets, string, fixed}
+use Rattle.avro_schema.specs.Tree.{structure, array, map, union, Fields, no_fields, field}
 use Rattle.avro_file.specs.Spelling.{takes_bytes, some_takes_bytes}
 use Rattle.ice_meta.specs.declared.spec.Spec.{Spec}
 use Rattle.ice_manifest_reading.specs.declared.fault.FieldFault.TheVariants.{WrongType}
@@ -31,7 +32,8 @@ either_is : (b c : Bool) → c ≡ true → (b || c) ≡ true
 either_is true c h = refl
 either_is false c h = h
 
-fields_take_bytes : (id : ℤ) (fs : Fields) (u : Tree) → type_at id fs ≡ Some u → fits is_whole u ≡ true → some_takes_bytes fs ≡ true
+fields_take_bytes : (id : ℤ) (fs : Fields) (u : Tree) → type_at id fs ≡ Some u → fits is_whole u ≡ true
+    → some_takes_bytes fs ≡ true
 unfolding type_at some_takes_bytes
 fields_take_bytes id no_fields u here fit = absurd cc
 fields_take_bytes id (field own t fs) u here fit =

@@ -1,9 +1,11 @@
 -- One decimal number is kept as the same bytes, however many bytes it was written with.
-use Rattle.std.proofs.Common.{◌≡◌, ◌⊎◌, inl, inr, ℕ, zero, suc, ◌+◌, ◌-◌, ◌*◌, ◌^◌, ◌<◌, ◌≤◌, nat_lt, pos, ◌-ℤ◌, Bool, true, false, List, [], ◌∷◌, length, refl, sym, ap, subst, ◌∙◌, arith}
+use Rattle.std.proofs.Common.{◌≡◌, ◌⊎◌, inl, inr, ℕ, zero, suc, ◌+◌, ◌-◌, ◌*◌, ◌^◌, ◌<◌, ◌≤◌, nat_lt, pos, ◌-ℤ◌, Bool}
+use Rattle.std.proofs.Common.{true, false, List, [], ◌∷◌, length, refl, sym, ap, subst, ◌∙◌, arith}
 use Rattle.std.proofs.Math.Nat.{pow-succ', pow-le-pow_right, mul-le-mul_right}
 use Rattle.std.proofs.lemmas.Bool.{ltb-true, ltb-false, lt-ltb, le-ltb}
 use Rattle.std.proofs.lemmas.Int.{ints}
-use Rattle.ice_manifest_reading.specs.Decimals.{magnitude, twos_complement, is_redundant, shortest, AreBytes, KeepsOneSpelling}
+use Rattle.ice_manifest_reading.specs.Decimals.{magnitude, twos_complement, is_redundant, shortest, AreBytes}
+use Rattle.ice_manifest_reading.specs.Decimals.{KeepsOneSpelling}
 use Rattle.ice_manifest_reading.proofs.Decimals.{same_number}
 
 -- ---- numbers alone
@@ -12,7 +14,11 @@ use Rattle.ice_manifest_reading.proofs.Decimals.{same_number}
 low_or_high : (x n : ℕ) → (x < n) ⊎ (n ≤ x)
 low_or_high x n =
     let P : (b : Bool) → nat_lt x n ≡ b → (x < n) ⊎ (n ≤ x) =
-    λ b. elim b as (λ v. nat_lt x n ≡ v → (x < n) ⊎ (n ≤ x)) [ true ↦ λ e. inl (ltb-true x n e) | false ↦ λ e. inr (ltb-false x n e) ] in
+    λ b. elim b as (λ v. nat_lt x n ≡ v → (x < n) ⊎ (n ≤ x)) [
+      | true ↦ λ e. inl (ltb-true x n e)
+      | false ↦ λ e. inr
+          (ltb-false x n e)
+    ] in
     P (nat_lt x n) refl
 
 byte_below : (b P m : ℕ) → b < 256 → m < P → b * P + m < 256 * P
@@ -26,12 +32,20 @@ high_above b P m le = let p : 128 * P ≤ b * P = mul-le-mul_right P le in omega
 
 -- a number that half a lower place holds begins with a zero, and the place is low
 begins_with_zero : (b c Q R m : ℕ) → R ≡ 256 * Q → b * R + (c * Q + m) < 128 * Q → (b ≡ 0) × (c < 128)
-begins_with_zero zero c Q R m r lt =
-    (refl, elim (low_or_high c 128) as (λ _. c < 128) [ inl low ↦ low | inr high ↦ let p : 128 * Q ≤ c * Q = mul-le-mul_right Q high in absurd (omega (arith, p, lt)) ])
-begins_with_zero (suc b) c Q R m r lt = let p : 1 * R ≤ suc b * R = mul-le-mul_right R (omega arith) in absurd (omega (arith, p, r, lt))
+begins_with_zero zero c Q R m r lt = (
+  refl,
+  elim (low_or_high c 128) as (λ _. c < 128) [
+    | inl low ↦ low
+    | inr high ↦ let p : 128 * Q ≤ c * Q =
+        mul-le-mul_right Q high in absurd (omega (arith, p, lt))
+  ],
+)
+begins_with_zero (suc b) c Q R m r lt = let p : 1 * R ≤ suc b * R = mul-le-mul_right R (omega arith) in
+    absurd (omega (arith, p, r, lt))
 
 -- the same below zero
-begins_with_ones : (b c Q R m : ℕ) → R ≡ 256 * Q → b < 256 → c < 256 → m < Q → 65408 * Q ≤ b * R + (c * Q + m) → (b ≡ 255) × (128 ≤ c)
+begins_with_ones : (b c Q R m : ℕ) → R ≡ 256 * Q → b < 256 → c < 256 → m < Q → 65408 * Q ≤ b * R + (c * Q + m)
+    → (b ≡ 255) × (128 ≤ c)
 begins_with_ones b c Q R m r lb lc lt le =
     let first : b ≡ 255 = elim (low_or_high b 255) as (λ _. b ≡ 255) [
       | inl low ↦
@@ -68,7 +82,8 @@ below (b ∷ bs) h =
     let p : 256 ^ length (b ∷ bs) ≡ 256 * 256 ^ length bs = pow-succ' 256 (length bs) in
     rw p (byte_below b (256 ^ length bs) (magnitude bs) h.0 (below bs h.1))
 
-same_bytes : (xs ys : List ℕ) → length xs ≡ length ys → AreBytes xs → AreBytes ys → magnitude xs ≡ magnitude ys → xs ≡ ys
+same_bytes : (xs ys : List ℕ) → length xs ≡ length ys → AreBytes xs → AreBytes ys → magnitude xs ≡ magnitude ys
+    → xs ≡ ys
 same_bytes [] [] l hx hy e = refl
 same_bytes [] (y ∷ ys) l hx hy e = absurd (omega (arith, l))
 same_bytes (x ∷ xs) [] l hx hy e = absurd (omega (arith, l))
@@ -83,7 +98,8 @@ same_bytes (x ∷ xs) (y ∷ ys) l hx hy e =
 low_is : (x : ℕ) (xs : List ℕ) → x < 128 → twos_complement (x ∷ xs) ≡ pos (magnitude (x ∷ xs))
 low_is x xs lt = rw (lt-ltb x 128 lt) refl
 
-high_is : (x : ℕ) (xs : List ℕ) → 128 ≤ x → twos_complement (x ∷ xs) ≡ pos (magnitude (x ∷ xs)) -ℤ pos (256 ^ length (x ∷ xs))
+high_is : (x : ℕ) (xs : List ℕ) → 128 ≤ x → twos_complement (x ∷ xs) ≡ pos (magnitude (x ∷ xs)) -ℤ pos
+    (256 ^ length (x ∷ xs))
 high_is x xs le = rw (le-ltb x 128 le) refl
 
 zero_is_redundant : (b c : ℕ) → b ≡ 0 → c < 128 → is_redundant b c ≡ true
@@ -93,7 +109,8 @@ ones_are_redundant : (b c : ℕ) → b ≡ 255 → 128 ≤ c → is_redundant b 
 ones_are_redundant b c is le = rw (is, le-ltb c 128 le) refl
 
 -- where fewer bytes spell the number too, the first is redundant
-first_is_redundant : (x : ℕ) (xs : List ℕ) (b c : ℕ) (bs : List ℕ) → AreBytes (x ∷ xs) → AreBytes (b ∷ c ∷ bs) → length xs ≤ length bs → twos_complement (x ∷ xs) ≡ twos_complement (b ∷ c ∷ bs) → is_redundant b c ≡ true
+first_is_redundant : (x : ℕ) (xs : List ℕ) (b c : ℕ) (bs : List ℕ) → AreBytes (x ∷ xs) → AreBytes (b ∷ c ∷ bs)
+    → length xs ≤ length bs → twos_complement (x ∷ xs) ≡ twos_complement (b ∷ c ∷ bs) → is_redundant b c ≡ true
 first_is_redundant x xs b c bs hx hb le e =
     let less : 256 ^ length xs ≤ 256 ^ length bs = pow-le-pow_right (omega arith) le in
     let X : 256 ^ length (x ∷ xs) ≡ 256 * 256 ^ length xs = pow-succ' 256 (length xs) in
@@ -107,28 +124,37 @@ first_is_redundant x xs b c bs hx hb le e =
     elim (low_or_high x 128) as (λ _. G) [
       | inl xl ↦ elim (low_or_high b 128) as (λ _. G) [
         | inl bl ↦
-            let f : pos (magnitude (x ∷ xs)) ≡ pos (magnitude (b ∷ c ∷ bs)) = sym (low_is x xs xl) ∙ e ∙ low_is b (c ∷ bs) bl in
-            let small : x * 256 ^ length xs + magnitude xs < 128 * 256 ^ length xs = low_below x (256 ^ length xs) (magnitude xs) xl mx in
-            let z = begins_with_zero b c (256 ^ length bs) (256 ^ length (c ∷ bs)) (magnitude bs) R (omega (arith, ints, f, small, less)) in
+            let f : pos (magnitude (x ∷ xs)) ≡ pos (magnitude (b ∷ c ∷ bs)) = sym (low_is x xs xl) ∙ e ∙ low_is b
+            (c ∷ bs) bl in
+            let small : x * 256 ^ length xs + magnitude xs < 128 * 256 ^ length xs = low_below x (256 ^ length xs)
+            (magnitude xs) xl mx in
+            let z = begins_with_zero b c (256 ^ length bs) (256 ^ length (c ∷ bs)) (magnitude bs) R
+            (omega (arith, ints, f, small, less)) in
             zero_is_redundant b c z.0 z.1
         | inr bh ↦
-            let f : pos (magnitude (x ∷ xs)) ≡ pos (magnitude (b ∷ c ∷ bs)) -ℤ pos (256 ^ length (b ∷ c ∷ bs)) = sym (low_is x xs xl) ∙ e ∙ high_is b (c ∷ bs) bh in
+            let f : pos (magnitude (x ∷ xs)) ≡ pos (magnitude (b ∷ c ∷ bs)) -ℤ pos (256 ^ length (b ∷ c ∷ bs)) =
+            sym (low_is x xs xl) ∙ e ∙ high_is b (c ∷ bs) bh in
             absurd (omega (arith, ints, f, whole))
       ]
       | inr xh ↦ elim (low_or_high b 128) as (λ _. G) [
         | inl bl ↦
-            let f : pos (magnitude (x ∷ xs)) -ℤ pos (256 ^ length (x ∷ xs)) ≡ pos (magnitude (b ∷ c ∷ bs)) = sym (high_is x xs xh) ∙ e ∙ low_is b (c ∷ bs) bl in
+            let f : pos (magnitude (x ∷ xs)) -ℤ pos (256 ^ length (x ∷ xs)) ≡ pos (magnitude (b ∷ c ∷ bs)) =
+            sym (high_is x xs xh) ∙ e ∙ low_is b (c ∷ bs) bl in
             absurd (omega (arith, ints, f, of_x))
         | inr bh ↦
-            let f : pos (magnitude (x ∷ xs)) -ℤ pos (256 ^ length (x ∷ xs)) ≡ pos (magnitude (b ∷ c ∷ bs)) -ℤ pos (256 ^ length (b ∷ c ∷ bs)) = sym (high_is x xs xh) ∙ e ∙ high_is b (c ∷ bs) bh in
-            let large : 128 * 256 ^ length xs ≤ x * 256 ^ length xs + magnitude xs = high_above x (256 ^ length xs) (magnitude xs) xh in
-            let o = begins_with_ones b c (256 ^ length bs) (256 ^ length (c ∷ bs)) (magnitude bs) R hb.0 hb.1.0 mb (omega (arith, ints, f, large, less, X, R, S)) in
+            let f : pos (magnitude (x ∷ xs)) -ℤ pos (256 ^ length (x ∷ xs)) ≡ pos (magnitude (b ∷ c ∷ bs)) -ℤ pos
+            (256 ^ length (b ∷ c ∷ bs)) = sym (high_is x xs xh) ∙ e ∙ high_is b (c ∷ bs) bh in
+            let large : 128 * 256 ^ length xs ≤ x * 256 ^ length xs + magnitude xs = high_above x (256 ^ length xs)
+            (magnitude xs) xh in
+            let o = begins_with_ones b c (256 ^ length bs) (256 ^ length (c ∷ bs)) (magnitude bs) R hb.0 hb.1.0 mb
+            (omega (arith, ints, f, large, less, X, R, S)) in
             ones_are_redundant b c o.0 o.1
       ]
     ]
 
 -- as many bytes spell a number once
-one_of_a_length : (x : ℕ) (xs : List ℕ) (y : ℕ) (ys : List ℕ) → length xs ≡ length ys → AreBytes (x ∷ xs) → AreBytes (y ∷ ys) → twos_complement (x ∷ xs) ≡ twos_complement (y ∷ ys) → x ∷ xs ≡ y ∷ ys
+one_of_a_length : (x : ℕ) (xs : List ℕ) (y : ℕ) (ys : List ℕ) → length xs ≡ length ys → AreBytes (x ∷ xs)
+    → AreBytes (y ∷ ys) → twos_complement (x ∷ xs) ≡ twos_complement (y ∷ ys) → x ∷ xs ≡ y ∷ ys
 one_of_a_length x xs y ys l hx hy e =
     let of_x : magnitude (x ∷ xs) < 256 ^ length (x ∷ xs) = below (x ∷ xs) hx in
     let of_y : magnitude (y ∷ ys) < 256 ^ length (y ∷ ys) = below (y ∷ ys) hy in
@@ -137,24 +163,29 @@ one_of_a_length x xs y ys l hx hy e =
     let given : magnitude (x ∷ xs) ≡ magnitude (y ∷ ys) → G = same_bytes (x ∷ xs) (y ∷ ys) (ap suc l) hx hy in
     elim (low_or_high x 128) as (λ _. G) [
       | inl xl ↦ elim (low_or_high y 128) as (λ _. G) [
-        | inl yl ↦ let f : pos (magnitude (x ∷ xs)) ≡ pos (magnitude (y ∷ ys)) = sym (low_is x xs xl) ∙ e ∙ low_is y ys yl in given (omega (arith, ints, f))
+        | inl yl ↦ let f : pos (magnitude (x ∷ xs)) ≡ pos (magnitude (y ∷ ys)) = sym (low_is x xs xl) ∙ e ∙ low_is y ys
+            yl in given (omega (arith, ints, f))
         | inr yh ↦
-            let f : pos (magnitude (x ∷ xs)) ≡ pos (magnitude (y ∷ ys)) -ℤ pos (256 ^ length (y ∷ ys)) = sym (low_is x xs xl) ∙ e ∙ high_is y ys yh in
+            let f : pos (magnitude (x ∷ xs)) ≡ pos (magnitude (y ∷ ys)) -ℤ pos (256 ^ length (y ∷ ys)) =
+            sym (low_is x xs xl) ∙ e ∙ high_is y ys yh in
             absurd (omega (arith, ints, f, of_y))
       ]
       | inr xh ↦ elim (low_or_high y 128) as (λ _. G) [
         | inl yl ↦
-            let f : pos (magnitude (x ∷ xs)) -ℤ pos (256 ^ length (x ∷ xs)) ≡ pos (magnitude (y ∷ ys)) = sym (high_is x xs xh) ∙ e ∙ low_is y ys yl in
+            let f : pos (magnitude (x ∷ xs)) -ℤ pos (256 ^ length (x ∷ xs)) ≡ pos (magnitude (y ∷ ys)) =
+            sym (high_is x xs xh) ∙ e ∙ low_is y ys yl in
             absurd (omega (arith, ints, f, of_x))
         | inr yh ↦
-            let f : pos (magnitude (x ∷ xs)) -ℤ pos (256 ^ length (x ∷ xs)) ≡ pos (magnitude (y ∷ ys)) -ℤ pos (256 ^ length (y ∷ ys)) = sym (high_is x xs xh) ∙ e ∙ high_is y ys yh in
+            let f : pos (magnitude (x ∷ xs)) -ℤ pos (256 ^ length (x ∷ xs)) ≡ pos (magnitude (y ∷ ys)) -ℤ pos
+            (256 ^ length (y ∷ ys)) = sym (high_is x xs xh) ∙ e ∙ high_is y ys yh in
             given (omega (arith, ints, f, same))
       ]
     ]
 
 -- ---- longer ones
 
-longer : (k x : ℕ) (xs : List ℕ) (y : ℕ) (ys : List ℕ) → length ys ≡ k + length xs → AreBytes (x ∷ xs) → AreBytes (y ∷ ys) → twos_complement (x ∷ xs) ≡ twos_complement (y ∷ ys) → shortest (x ∷ xs) ≡ shortest (y ∷ ys)
+longer : (k x : ℕ) (xs : List ℕ) (y : ℕ) (ys : List ℕ) → length ys ≡ k + length xs → AreBytes (x ∷ xs)
+    → AreBytes (y ∷ ys) → twos_complement (x ∷ xs) ≡ twos_complement (y ∷ ys) → shortest (x ∷ xs) ≡ shortest (y ∷ ys)
 unfolding shortest
 longer zero x xs y ys l hx hy e = ap shortest (one_of_a_length x xs y ys (omega (arith, l)) hx hy e)
 longer (suc k) x xs y [] l hx hy e = absurd (omega (arith, l))
@@ -165,7 +196,8 @@ longer (suc k) x xs y (z ∷ ys) l hx hy e =
 pub keeps_one_spelling : KeepsOneSpelling
 keeps_one_spelling [] ys lx ly hx hy e = absurd (omega (arith, lx))
 keeps_one_spelling (x ∷ xs) [] lx ly hx hy e = absurd (omega (arith, ly))
-keeps_one_spelling (x ∷ xs) (y ∷ ys) lx ly hx hy e = elim (low_or_high (length xs) (length ys)) as (λ _. shortest (x ∷ xs) ≡ shortest (y ∷ ys)) [
-  | inl low ↦ longer (length ys - length xs) x xs y ys (omega (arith, low)) hx hy e
-  | inr high ↦ sym (longer (length xs - length ys) y ys x xs (omega (arith, high)) hy hx (sym e))
-]
+keeps_one_spelling (x ∷ xs) (y ∷ ys) lx ly hx hy e = elim (low_or_high (length xs) (length ys)) as
+    (λ _. shortest (x ∷ xs) ≡ shortest (y ∷ ys)) [
+      | inl low ↦ longer (length ys - length xs) x xs y ys (omega (arith, low)) hx hy e
+      | inr high ↦ sym (longer (length xs - length ys) y ys x xs (omega (arith, high)) hy hx (sym e))
+    ]

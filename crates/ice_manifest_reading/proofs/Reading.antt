@@ -1,5 +1,6 @@
 -- Reading one thing after the other, after what was read before.
-use Rattle.std.proofs.Common.{◌≡◌, ℕ, ◌+◌, ◌<◌, List, [], ◌∷◌, ◌++◌, Option, Some, None, Result, Ok, Err, refl, sym, ap, ◌∙◌, arith}
+use Rattle.std.proofs.Common.{◌≡◌, ℕ, ◌+◌, ◌<◌, List, [], ◌∷◌, ◌++◌, Option, Some, None, Result, Ok, Err, refl, sym, ap}
+use Rattle.std.proofs.Common.{◌∙◌, arith}
 use Rattle.std.specs.List.{enumerate_from}
 use Rattle.std.proofs.lemmas.List.{append-nil}
 use Rattle.contract_words.specs.Outcome.{◌>>=◌}
@@ -25,7 +26,8 @@ unfoldable pub joined : {X E : Type 0} → List X → Result (List X) E → Resu
 joined [] r = r
 joined (x ∷ front) r = joined front r >>= λ xs. Ok (x ∷ xs)
 
-joined_push : {X E : Type 0} (front : List X) (x : X) (r : Result (List X) E) → joined (front ++ x ∷ []) r ≡ joined front (r >>= λ xs. Ok (x ∷ xs))
+joined_push : {X E : Type 0} (front : List X) (x : X) (r : Result (List X) E)
+    → joined (front ++ x ∷ []) r ≡ joined front (r >>= λ xs. Ok (x ∷ xs))
 unfolding joined
 joined_push {X} {E} [] x r = refl
 joined_push {X} {E} (y ∷ front) x r = rw (joined_push front x r) refl
@@ -50,11 +52,13 @@ told_ok {A} {E} w (Err f) a h = absurd cc
 
 -- ---- the items of a list
 
-pub item_here : {Y X E : Type 0} (says : Y → Result X E) (front : List X) (y : Y) (ys : List Y) (x : X) → says y ≡ Ok x → joined front (each says (y ∷ ys)) ≡ joined (front ++ x ∷ []) (each says ys)
+pub item_here : {Y X E : Type 0} (says : Y → Result X E) (front : List X) (y : Y) (ys : List Y) (x : X) → says y ≡ Ok x
+    → joined front (each says (y ∷ ys)) ≡ joined (front ++ x ∷ []) (each says ys)
 unfolding each
 item_here {Y} {X} {E} says front y ys x h = rw h (sym (joined_push front x (each says ys)))
 
-pub item_stops : {Y X E : Type 0} (says : Y → Result X E) (front : List X) (y : Y) (ys : List Y) (e : E) → says y ≡ Err e → joined front (each says (y ∷ ys)) ≡ Err e
+pub item_stops : {Y X E : Type 0} (says : Y → Result X E) (front : List X) (y : Y) (ys : List Y) (e : E)
+    → says y ≡ Err e → joined front (each says (y ∷ ys)) ≡ Err e
 unfolding each
 item_stops {Y} {X} {E} says front y ys e h = rw h (joined_err front e)
 
@@ -65,12 +69,15 @@ err_is : {A E : Type 0} (e f : E) → failed {A = A} e ≡ failed f → e ≡ f
 err_is {A} {E} e f h = cc
 
 -- the same, where the fault has the file's name
-pub item_fails : {Y X E : Type 0} (w : Naming E) (says : Y → Result X FieldFault) (front : List X) (y : Y) (ys : List Y) (e : E) → told w (says y) ≡ Err e → told w (joined front (each says (y ∷ ys))) ≡ Err e
+pub item_fails : {Y X E : Type 0} (w : Naming E) (says : Y → Result X FieldFault) (front : List X) (y : Y) (ys : List Y)
+    (e : E) → told w (says y) ≡ Err e → told w (joined front (each says (y ∷ ys))) ≡ Err e
 item_fails {Y} {X} {E} w says front y ys e h =
-    let P : (r : Result X FieldFault) → says y ≡ r → told w r ≡ Err e → told w (joined front (each says (y ∷ ys))) ≡ Err e =
+    let P : (r : Result X FieldFault) → says y ≡ r → told w r ≡ Err e
+    → told w (joined front (each says (y ∷ ys))) ≡ Err e =
     λ r. elim r as (λ s. says y ≡ s → told w s ≡ Err e → told w (joined front (each says (y ∷ ys))) ≡ Err e) [
       | Ok x ↦ λ is g. absurd cc
-      | Err f ↦ λ is g. let named : w.of_field f ≡ e = err_is {A = X} (w.of_field f) e g in rw (item_stops says front y ys f is) (ap Err named)
+      | Err f ↦ λ is g. let named : w.of_field f ≡ e = err_is {A = X} (w.of_field f) e g in
+          rw (item_stops says front y ys f is) (ap Err named)
     ] in
     P (says y) refl h
 
@@ -89,59 +96,79 @@ unfolding still_ahead
 fewer (running vs ending) new o h = rw (h.3, h.4) (omega arith)
 fewer (refusing f) new o h = absurd (cc (h.0))
 
-row_more : (front : List Row) (x : Row) (r : Result (List Row) ListFault) (ending : Option AvroFault) → joined front ((r >>= λ xs. Ok (x ∷ xs)) >>= ended in_list ending) ≡ joined (front ++ x ∷ []) (r >>= ended in_list ending)
+row_more : (front : List Row) (x : Row) (r : Result (List Row) ListFault) (ending : Option AvroFault)
+    → joined front ((r >>= λ xs. Ok (x ∷ xs)) >>= ended in_list ending) ≡ joined (front ++ x ∷ [])
+    (r >>= ended in_list ending)
 row_more front x (Ok xs) None = sym (joined_push front x (Ok xs))
 row_more front x (Ok xs) (Some f) = sym (joined_push front x (Err (in_list.of_container f)))
 row_more front x (Err e) ending = sym (joined_push front x (Err e))
 
-pub next_row : (fs : Fields) (front : List Row) (now new : Ahead) (o : Object) (x : Value) (row : Row) → Next Shows now (Ok (Some o)) new → Is o x → says_row fs x ≡ Ok row → joined front (rows_ahead fs now) ≡ joined (front ++ row ∷ []) (rows_ahead fs new)
+pub next_row : (fs : Fields) (front : List Row) (now new : Ahead) (o : Object) (x : Value) (row : Row)
+    → Next Shows now (Ok (Some o)) new → Is o x → says_row fs x ≡ Ok row
+    → joined front (rows_ahead fs now) ≡ joined (front ++ row ∷ []) (rows_ahead fs new)
 unfolding rows_ahead each
-next_row fs front (running vs ending) new o x row h shown is = rw (h.3, h.4, sym (shown h.0 h.2), is) (row_more front row (each (says_row fs) h.1) ending)
+next_row fs front (running vs ending) new o x row h shown is = rw (h.3, h.4, sym (shown h.0 h.2), is)
+    (row_more front row (each (says_row fs) h.1) ending)
 next_row fs front (refusing f) new o x row h shown is = absurd (cc (h.0))
 
-pub row_fails : (fs : Fields) (front : List Row) (now new : Ahead) (o : Object) (x : Value) (f : ListFault) → Next Shows now (Ok (Some o)) new → Is o x → says_row fs x ≡ Err f → joined front (rows_ahead fs now) ≡ Err f
+pub row_fails : (fs : Fields) (front : List Row) (now new : Ahead) (o : Object) (x : Value) (f : ListFault)
+    → Next Shows now (Ok (Some o)) new → Is o x → says_row fs x ≡ Err f → joined front (rows_ahead fs now) ≡ Err f
 unfolding rows_ahead each
 row_fails fs front (running vs ending) new o x f h shown is = rw (h.3, sym (shown h.0 h.2), is) (joined_err front f)
 row_fails fs front (refusing g) new o x f h shown is = absurd (cc (h.0))
 
-pub no_row : (fs : Fields) (front : List Row) (now new : Ahead) (x : Option Object) → Next Shows now (Ok x) new → ((o : Object) → x ≡ Some o → ⊥) → joined front (rows_ahead fs now) ≡ Ok front
+pub no_row : (fs : Fields) (front : List Row) (now new : Ahead) (x : Option Object) → Next Shows now (Ok x) new
+    → ((o : Object) → x ≡ Some o → ⊥) → joined front (rows_ahead fs now) ≡ Ok front
 unfolding rows_ahead each
 no_row fs front (running vs ending) new None h none = rw (h.0, h.1) (joined_end front)
 no_row fs front (running vs ending) new (Some o) h none = absurd (none o refl)
 no_row fs front (refusing f) new x h none = absurd (cc (h.0))
 
-pub rows_end : (fs : Fields) (front : List Row) (now new : Ahead) (f : AvroFault) → Next Shows now (Err f) new → joined front (rows_ahead fs now) ≡ Err (in_list.of_container f)
+pub rows_end : (fs : Fields) (front : List Row) (now new : Ahead) (f : AvroFault) → Next Shows now (Err f) new
+    → joined front (rows_ahead fs now) ≡ Err (in_list.of_container f)
 unfolding rows_ahead each
 rows_end fs front (running vs ending) new f h = rw (h.0, h.1) (joined_err front (in_list.of_container f))
 rows_end fs front (refusing g) new f h = let e : g ≡ f = cc (h.0) in rw e (joined_err front (in_list.of_container f))
 
-entry_more : (front : List Live) (x : Option Live) (r : Result (List (Option Live)) ManifestFault) (ending : Option AvroFault)
-    → joined front ((r >>= λ xs. Ok (x ∷ xs)) >>= λ read. ended in_manifest ending (kept read)) ≡ joined (front ++ kept (x ∷ [])) (r >>= λ read. ended in_manifest ending (kept read))
+entry_more : (front : List Live) (x : Option Live) (r : Result (List (Option Live)) ManifestFault)
+    (ending : Option AvroFault)
+    → joined front ((r >>= λ xs. Ok (x ∷ xs)) >>= λ read. ended in_manifest ending (kept read)) ≡ joined
+    (front ++ kept (x ∷ [])) (r >>= λ read. ended in_manifest ending (kept read))
 entry_more front None (Ok xs) ending = rw (append-nil front) refl
 entry_more front None (Err e) ending = rw (append-nil front) refl
 entry_more front (Some l) (Ok xs) None = sym (joined_push front l (Ok (kept xs)))
 entry_more front (Some l) (Ok xs) (Some f) = sym (joined_push front l (Err (in_manifest.of_container f)))
 entry_more front (Some l) (Err e) ending = sym (joined_push front l (Err e))
 
-pub next_entry : (row : Row) (spec : Spec) (fs : Fields) (k : ℕ) (front : List Live) (now new : Ahead) (o : Object) (v : Value) (x : Option Live) → Next Shows now (Ok (Some o)) new → Is o v → says_entry row spec fs (k, v) ≡ Ok x
-    → joined front (entries_ahead row spec fs k now) ≡ joined (front ++ kept (x ∷ [])) (entries_ahead row spec fs (k + 1) new)
+pub next_entry : (row : Row) (spec : Spec) (fs : Fields) (k : ℕ) (front : List Live) (now new : Ahead) (o : Object)
+    (v : Value) (x : Option Live) → Next Shows now (Ok (Some o)) new → Is o v → says_entry row spec fs (k, v) ≡ Ok x
+    → joined front (entries_ahead row spec fs k now) ≡ joined (front ++ kept (x ∷ [])) (entries_ahead row spec fs
+    (k + 1) new)
 unfolding entries_ahead each
-next_entry row spec fs k front (running vs ending) new o v x h shown is = rw (h.3, h.4, sym (shown h.0 h.2), is) (entry_more front x (each (says_entry row spec fs) (enumerate_from (k + 1) h.1)) ending)
+next_entry row spec fs k front (running vs ending) new o v x h shown is = rw (h.3, h.4, sym (shown h.0 h.2), is)
+    (entry_more front x (each (says_entry row spec fs) (enumerate_from (k + 1) h.1)) ending)
 next_entry row spec fs k front (refusing f) new o v x h shown is = absurd (cc (h.0))
 
-pub entry_fails : (row : Row) (spec : Spec) (fs : Fields) (k : ℕ) (front : List Live) (now new : Ahead) (o : Object) (v : Value) (f : ManifestFault) → Next Shows now (Ok (Some o)) new → Is o v → says_entry row spec fs (k, v) ≡ Err f
+pub entry_fails : (row : Row) (spec : Spec) (fs : Fields) (k : ℕ) (front : List Live) (now new : Ahead) (o : Object)
+    (v : Value) (f : ManifestFault) → Next Shows now (Ok (Some o)) new → Is o v → says_entry row spec fs (k, v) ≡ Err f
     → joined front (entries_ahead row spec fs k now) ≡ Err f
 unfolding entries_ahead each
-entry_fails row spec fs k front (running vs ending) new o v f h shown is = rw (h.3, sym (shown h.0 h.2), is) (joined_err front f)
+entry_fails row spec fs k front (running vs ending) new o v f h shown is = rw (h.3, sym (shown h.0 h.2), is)
+    (joined_err front f)
 entry_fails row spec fs k front (refusing g) new o v f h shown is = absurd (cc (h.0))
 
-pub no_entry : (row : Row) (spec : Spec) (fs : Fields) (k : ℕ) (front : List Live) (now new : Ahead) (x : Option Object) → Next Shows now (Ok x) new → ((o : Object) → x ≡ Some o → ⊥) → joined front (entries_ahead row spec fs k now) ≡ Ok front
+pub no_entry : (row : Row) (spec : Spec) (fs : Fields) (k : ℕ) (front : List Live) (now new : Ahead) (x : Option Object)
+    → Next Shows now (Ok x) new → ((o : Object) → x ≡ Some o → ⊥)
+    → joined front (entries_ahead row spec fs k now) ≡ Ok front
 unfolding entries_ahead each
 no_entry row spec fs k front (running vs ending) new None h none = rw (h.0, h.1) (joined_end front)
 no_entry row spec fs k front (running vs ending) new (Some o) h none = absurd (none o refl)
 no_entry row spec fs k front (refusing f) new x h none = absurd (cc (h.0))
 
-pub entries_end : (row : Row) (spec : Spec) (fs : Fields) (k : ℕ) (front : List Live) (now new : Ahead) (f : AvroFault) → Next Shows now (Err f) new → joined front (entries_ahead row spec fs k now) ≡ Err (in_manifest.of_container f)
+pub entries_end : (row : Row) (spec : Spec) (fs : Fields) (k : ℕ) (front : List Live) (now new : Ahead) (f : AvroFault)
+    → Next Shows now (Err f) new → joined front (entries_ahead row spec fs k now) ≡ Err (in_manifest.of_container f)
 unfolding entries_ahead each
-entries_end row spec fs k front (running vs ending) new f h = rw (h.0, h.1) (joined_err front (in_manifest.of_container f))
-entries_end row spec fs k front (refusing g) new f h = let e : g ≡ f = cc (h.0) in rw e (joined_err front (in_manifest.of_container f))
+entries_end row spec fs k front (running vs ending) new f h = rw (h.0, h.1)
+    (joined_err front (in_manifest.of_container f))
+entries_end row spec fs k front (refusing g) new f h = let e : g ≡ f = cc (h.0) in
+    rw e (joined_err front (in_manifest.of_container f))

@@ -1,7 +1,8 @@
 -- Objects that are no records.
 use Rattle.std.proofs.Common.{◌≡◌, ℕ, pos, Some, None, Err, refl}
 use Rattle.avro_schema.specs.Tree.{structure, Fields}
-use Rattle.avro_file.specs.Value.{Value, nothing, truth, small, whole, single, twice, text, run, raw, symbol, fields, items, entries, chosen}
+use Rattle.avro_file.specs.Value.{Value, nothing, truth, small, whole, single, twice, text, run, raw, symbol, fields}
+use Rattle.avro_file.specs.Value.{items, entries, chosen}
 use Rattle.ice_meta.specs.declared.spec.Spec.{Spec}
 use Rattle.ice_manifest_reading.specs.declared.fault.FieldFault.TheVariants.{Missing}
 use Rattle.ice_manifest_reading.specs.declared.fault.ManifestFault.TheVariants.{MissingField}
@@ -45,7 +46,8 @@ no_record_row fs (items vs) h = refl
 no_record_row fs (entries es) h = refl
 no_record_row fs (chosen n v) h = refl
 
-pub no_record_entry : (row : Row) (spec : Spec) (k : ℕ) (fs : Fields) (v : Value) → None ≡ as_record v → entry_of row spec k (structure fs, v) ≡ Err (MissingField (pos 0))
+pub no_record_entry : (row : Row) (spec : Spec) (k : ℕ) (fs : Fields) (v : Value) → None ≡ as_record v
+    → entry_of row spec k (structure fs, v) ≡ Err (MissingField (pos 0))
 unfolding entry_of status_at int_at
 no_record_entry row spec k fs nothing h = refl
 no_record_entry row spec k fs (truth b) h = refl

@@ -1,5 +1,6 @@
 -- What objects say, and that reading them gives this and nothing else.
-use Rattle.std.proofs.Common.{◌≡◌, ◌≢◌, ◌⊎◌, inl, inr, ℕ, ℤ, pos, ◌+◌, Bool, List, [], ◌∷◌, Option, Some, None, Result, Ok, Err, refl, sym, ap, subst, ◌∙◌, ◌==◌, eqb-true}
+use Rattle.std.proofs.Common.{◌≡◌, ◌≢◌, ◌⊎◌, inl, inr, ℕ, ℤ, pos, ◌+◌, Bool, List, [], ◌∷◌, Option, Some, None, Result}
+use Rattle.std.proofs.Common.{Ok, Err, refl, sym, ap, subst, ◌∙◌, ◌==◌, eqb-true}
 use Rattle.std.specs.Prelude.{unwrap_or}
 use Rattle.std.specs.List.{enumerate_from}
 use Rattle.contract_words.specs.Outcome.{◌>>=◌}
@@ -32,8 +33,12 @@ use Rattle.ice_manifest_reading.specs.Maps as Maps
 use Rattle.ice_manifest_reading.specs.Maps.{bounds_at, columns_of}
 use Rattle.ice_manifest_reading.specs.Lists as Lists
 use Rattle.ice_manifest_reading.specs.Lists.{row_of, counts_at, summaries_in, says_row}
-use Rattle.ice_manifest_reading.specs.Manifests.{content_at, file_of, status_at, snapshot_at, inherited, file_inherited, sequence_at, file_sequence_at, live_at, unless_deleted, entry_of, says_entry}
-use Rattle.ice_manifest_reading.specs.Laws.{SaysRow, SaysFile, SaysLive, SaysEntry, SayRows, SayEntries, KeepsItsNumber, InheritsTheRows, NeedsItsOwn, KeepsItsFileNumber, InheritsTheRowsForItsFile, HasNoFileNumber, KeepsItsSnapshot, InheritsItsSnapshot}
+use Rattle.ice_manifest_reading.specs.Manifests.{content_at, file_of, status_at, snapshot_at, inherited, file_inherited}
+use Rattle.ice_manifest_reading.specs.Manifests.{sequence_at, file_sequence_at, live_at, unless_deleted, entry_of}
+use Rattle.ice_manifest_reading.specs.Manifests.{says_entry}
+use Rattle.ice_manifest_reading.specs.Laws.{SaysRow, SaysFile, SaysLive, SaysEntry, SayRows, SayEntries, KeepsItsNumber}
+use Rattle.ice_manifest_reading.specs.Laws.{InheritsTheRows, NeedsItsOwn, KeepsItsFileNumber, InheritsTheRowsForItsFile}
+use Rattle.ice_manifest_reading.specs.Laws.{HasNoFileNumber, KeepsItsSnapshot, InheritsItsSnapshot}
 use Rattle.ice_manifest_reading.proofs.Guards.{passed, either, ok_is, went_on}
 use Rattle.ice_manifest_reading.proofs.Reading.{told_ok}
 
@@ -41,7 +46,17 @@ use Rattle.ice_manifest_reading.proofs.Reading.{told_ok}
 
 abbrev row_made : List ℕ → ℤ → ℤ → ManifestContent → ℕ → ℕ → ℤ → Counts → Option (List Summary) → Row
 row_made path length spec content sequence least snapshot counts partitions =
-    record { path = path; length = length; spec_id = spec; content = content; sequence_number = sequence; min_sequence_number = least; added_snapshot_id = snapshot; counts = counts; partitions = partitions }
+    record {
+      path = path;
+      length = length;
+      spec_id = spec;
+      content = content;
+      sequence_number = sequence;
+      min_sequence_number = least;
+      added_snapshot_id = snapshot;
+      counts = counts;
+      partitions = partitions;
+    }
 
 pub row_said : (x : Typed) (r : Row) → row_of x ≡ Ok r → SaysRow x r
 unfolding row_of
@@ -55,7 +70,8 @@ row_said x r h =
     let snapshot = went_on (long_at (pos 503) x) _ r least.2 in
     let counts = went_on (counts_at x) _ r snapshot.2 in
     let partitions = went_on (summaries_in (there (at (pos 507) x))) _ r counts.2 in
-    let is : row_made path.0 length.0 spec.0 content.0 sequence.0 least.0 snapshot.0 counts.0 partitions.0 ≡ r = ok_is _ r partitions.2 in
+    let is : row_made path.0 length.0 spec.0 content.0 sequence.0 least.0 snapshot.0 counts.0 partitions.0 ≡ r =
+    ok_is _ r partitions.2 in
     record {
       path = path.1 ∙ ap (λ (s : Row). Ok s.path) is;
       length = length.1 ∙ ap (λ (s : Row). Ok s.length) is;
@@ -70,12 +86,27 @@ row_said x r h =
 
 pub row_by : (x : Typed) (r : Row) → SaysRow x r → row_of x ≡ Ok r
 unfolding row_of
-row_by x r m = rw (m.path, m.length, m.spec_id, m.content, m.sequence_number, m.min_sequence_number, m.added_snapshot_id, m.counts, m.partitions) refl
+row_by x r m = rw (
+  m.path,
+  m.length,
+  m.spec_id,
+  m.content,
+  m.sequence_number,
+  m.min_sequence_number,
+  m.added_snapshot_id,
+  m.counts,
+  m.partitions,
+) refl
 
 -- ---- a data file
 
 abbrev columns_made : List ColumnCount → List ColumnCount → List ColumnBound → List ColumnBound → FileBounds
-columns_made values nulls lower upper = record { value_counts = values; null_counts = nulls; lower_bounds = lower; upper_bounds = upper }
+columns_made values nulls lower upper = record {
+  value_counts = values;
+  null_counts = nulls;
+  lower_bounds = lower;
+  upper_bounds = upper;
+}
 
 -- what is said of the columns, map by map
 record SaysColumns (x : Typed) (b : FileBounds) : Type 0 where
@@ -103,9 +134,20 @@ abbrev Said : Type 0
 Said = DataFile × FileBounds
 
 abbrev file_made : FileContent → List ℕ → List Cell → ℤ → ℤ → List ℤ → FileBounds → Said
-file_made content path tuple count size ids columns = (record { content = content; path = path; tuple = tuple; record_count = count; file_size = size; equality_ids = ids }, columns)
+file_made content path tuple count size ids columns = (
+  record {
+    content = content;
+    path = path;
+    tuple = tuple;
+    record_count = count;
+    file_size = size;
+    equality_ids = ids;
+  },
+  columns,
+)
 
-file_said : (of_row : ManifestContent) (ps : List PartitionField) (x : Typed) (d : Said) → file_of of_row ps x ≡ Ok d → SaysFile of_row ps x d.0 d.1
+file_said : (of_row : ManifestContent) (ps : List PartitionField) (x : Typed) (d : Said) → file_of of_row ps x ≡ Ok d
+    → SaysFile of_row ps x d.0 d.1
 unfolding file_of
 file_said of_row ps x d h =
     let content = went_on (content_at of_row x) _ d h in
@@ -130,26 +172,45 @@ file_said of_row ps x d h =
       equality_ids = ids.1 ∙ ap (λ (f : Said). Ok f.0.equality_ids) is;
     }
 
-columns_by : (of_row : ManifestContent) (ps : List PartitionField) (x : Typed) (d : DataFile) (b : FileBounds) → SaysFile of_row ps x d b → columns_of x ≡ Ok b
+columns_by : (of_row : ManifestContent) (ps : List PartitionField) (x : Typed) (d : DataFile) (b : FileBounds)
+    → SaysFile of_row ps x d b → columns_of x ≡ Ok b
 unfolding columns_of
 columns_by of_row ps x d b m = rw (m.value_counts, m.null_counts, m.lower_bounds, m.upper_bounds) refl
 
-file_by : (of_row : ManifestContent) (ps : List PartitionField) (x : Typed) (d : DataFile) (b : FileBounds) → SaysFile of_row ps x d b → file_of of_row ps x ≡ Ok (d, b)
+file_by : (of_row : ManifestContent) (ps : List PartitionField) (x : Typed) (d : DataFile) (b : FileBounds)
+    → SaysFile of_row ps x d b → file_of of_row ps x ≡ Ok (d, b)
 unfolding file_of
-file_by of_row ps x d b m = rw (m.content, m.path, m.tuple, m.record_count, m.file_size, columns_by of_row ps x d b m, m.equality_ids) refl
+file_by of_row ps x d b m = rw (
+  m.content,
+  m.path,
+  m.tuple,
+  m.record_count,
+  m.file_size,
+  columns_by of_row ps x d b m,
+  m.equality_ids,
+) refl
 
 -- ---- an entry
 
 abbrev pub live_made : Row → Spec → ℕ → Typed → ℕ → Option ℕ → DataFile × FileBounds → Live
 live_made row spec k x sequence file_sequence said = record {
-  entry = record { position = k; spec_id = row.spec_id; unpartitioned = is_unpartitioned spec; snapshot_id = snapshot_at row x; sequence_number = sequence; file_sequence_number = file_sequence; file = said.0 };
+  entry = record {
+    position = k;
+    spec_id = row.spec_id;
+    unpartitioned = is_unpartitioned spec;
+    snapshot_id = snapshot_at row x;
+    sequence_number = sequence;
+    file_sequence_number = file_sequence;
+    file = said.0;
+  };
   bounds = said.1;
 }
 
 abbrev file_in : Live → Said
 file_in l = (l.entry.file, l.bounds)
 
-live_said : (row : Row) (spec : Spec) (k : ℕ) (status : Status) (x : Typed) (l : Live) → status_at x ≡ Ok status → (status ≡ Existing) ⊎ (status ≡ Added) → live_at row spec k status x ≡ Ok l → SaysLive row spec k x l
+live_said : (row : Row) (spec : Spec) (k : ℕ) (status : Status) (x : Typed) (l : Live) → status_at x ≡ Ok status
+    → (status ≡ Existing) ⊎ (status ≡ Added) → live_at row spec k status x ≡ Ok l → SaysLive row spec k x l
 unfolding live_at
 live_said row spec k status x l said lives h =
     let sequence = went_on (sequence_at row status x) _ l h in
@@ -157,7 +218,8 @@ live_said row spec k status x l said lives h =
     let inner = went_on (told in_manifest (record_at (pos 2) x)) _ l file_sequence.2 in
     let file = went_on (told in_manifest (file_of row.content spec.fields inner.0)) _ l inner.2 in
     let is : live_made row spec k x sequence.0 file_sequence.0 file.0 ≡ l = ok_is _ l file.2 in
-    let file_is : file_of row.content spec.fields inner.0 ≡ Ok (file_in l) = told_ok in_manifest (file_of row.content spec.fields inner.0) file.0 file.1 ∙ ap (λ (m : Live). Ok (file_in m)) is in
+    let file_is : file_of row.content spec.fields inner.0 ≡ Ok (file_in l) = told_ok in_manifest
+    (file_of row.content spec.fields inner.0) file.0 file.1 ∙ ap (λ (m : Live). Ok (file_in m)) is in
     record {
       status = status;
       inner = inner.0;
@@ -168,31 +230,52 @@ live_said row spec k status x l said lives h =
       partitions_nothing = sym (ap (λ (m : Live). m.entry.unpartitioned) is);
       snapshot_id = sym (ap (λ (m : Live). m.entry.snapshot_id) is);
       sequence_number = sequence.1 ∙ ap (λ (m : Live). Ok m.entry.sequence_number) is;
-      file_sequence_number = told_ok in_manifest (file_sequence_at row status x) file_sequence.0 file_sequence.1 ∙ ap (λ (m : Live). Ok m.entry.file_sequence_number) is;
+      file_sequence_number = told_ok in_manifest (file_sequence_at row status x) file_sequence.0 file_sequence.1 ∙ ap
+          (λ (m : Live). Ok m.entry.file_sequence_number) is;
       inner_is = told_ok in_manifest (record_at (pos 2) x) inner.0 inner.1;
       file = file_said row.content spec.fields inner.0 (file_in l) file_is;
     }
 
 abbrev live_of_parts : ℕ → ℤ → Bool → ℤ → ℕ → Option ℕ → DataFile → FileBounds → Live
 live_of_parts k spec unpartitioned snapshot sequence file_sequence file bounds = record {
-  entry = record { position = k; spec_id = spec; unpartitioned = unpartitioned; snapshot_id = snapshot; sequence_number = sequence; file_sequence_number = file_sequence; file = file };
+  entry = record {
+    position = k;
+    spec_id = spec;
+    unpartitioned = unpartitioned;
+    snapshot_id = snapshot;
+    sequence_number = sequence;
+    file_sequence_number = file_sequence;
+    file = file;
+  };
   bounds = bounds;
 }
 
-same_parts : (row : Row) (spec : Spec) (k : ℕ) (x : Typed) (l : Live) → SaysLive row spec k x l → live_made row spec k x l.entry.sequence_number l.entry.file_sequence_number (file_in l) ≡ l
+same_parts : (row : Row) (spec : Spec) (k : ℕ) (x : Typed) (l : Live) → SaysLive row spec k x l
+    → live_made row spec k x l.entry.sequence_number l.entry.file_sequence_number (file_in l) ≡ l
 same_parts row spec k x l m =
     let one : k ≡ l.entry.position = sym m.position in
     let two : row.spec_id ≡ l.entry.spec_id = sym m.spec_id in
     let three : is_unpartitioned spec ≡ l.entry.unpartitioned = sym m.partitions_nothing in
     let four : snapshot_at row x ≡ l.entry.snapshot_id = sym m.snapshot_id in
-    ap (λ (n : ℕ). live_of_parts n row.spec_id (is_unpartitioned spec) (snapshot_at row x) l.entry.sequence_number l.entry.file_sequence_number l.entry.file l.bounds) one
-    ∙ ap (λ (n : ℤ). live_of_parts l.entry.position n (is_unpartitioned spec) (snapshot_at row x) l.entry.sequence_number l.entry.file_sequence_number l.entry.file l.bounds) two
-    ∙ ap (λ (n : Bool). live_of_parts l.entry.position l.entry.spec_id n (snapshot_at row x) l.entry.sequence_number l.entry.file_sequence_number l.entry.file l.bounds) three
-    ∙ ap (λ (n : ℤ). live_of_parts l.entry.position l.entry.spec_id l.entry.unpartitioned n l.entry.sequence_number l.entry.file_sequence_number l.entry.file l.bounds) four
+    ap (λ (n : ℕ). live_of_parts n row.spec_id (is_unpartitioned spec) (snapshot_at row x) l.entry.sequence_number
+    l.entry.file_sequence_number l.entry.file l.bounds) one
+    ∙ ap (λ (n : ℤ). live_of_parts l.entry.position n (is_unpartitioned spec) (snapshot_at row x)
+    l.entry.sequence_number l.entry.file_sequence_number l.entry.file l.bounds) two
+    ∙ ap (λ (n : Bool). live_of_parts l.entry.position l.entry.spec_id n (snapshot_at row x) l.entry.sequence_number
+    l.entry.file_sequence_number l.entry.file l.bounds) three
+    ∙ ap (λ (n : ℤ). live_of_parts l.entry.position l.entry.spec_id l.entry.unpartitioned n l.entry.sequence_number
+    l.entry.file_sequence_number l.entry.file l.bounds) four
 
-live_by : (row : Row) (spec : Spec) (k : ℕ) (x : Typed) (l : Live) (m : SaysLive row spec k x l) → live_at row spec k m.status x ≡ Ok l
+live_by : (row : Row) (spec : Spec) (k : ℕ) (x : Typed) (l : Live) (m : SaysLive row spec k x l)
+    → live_at row spec k m.status x ≡ Ok l
 unfolding live_at
-live_by row spec k x l m = rw (m.sequence_number, m.file_sequence_number, m.inner_is, file_by row.content spec.fields m.inner l.entry.file l.bounds m.file) (ap Ok (same_parts row spec k x l m))
+live_by row spec k x l m = rw (
+  m.sequence_number,
+  m.file_sequence_number,
+  m.inner_is,
+  file_by row.content spec.fields
+      m.inner l.entry.file l.bounds m.file,
+) (ap Ok (same_parts row spec k x l m))
 
 some_live : (r : Result Live ManifestFault) (l : Live) → (r >>= λ m. Ok (Some m)) ≡ Ok (Some l) → r ≡ Ok l
 some_live (Ok m) l h = cc
@@ -202,30 +285,37 @@ none_live : (r : Result Live ManifestFault) → (r >>= λ m. Ok (Some m)) ≡ Ok
 none_live (Ok m) h = cc
 none_live (Err f) h = cc
 
-said_by : (row : Row) (spec : Spec) (k : ℕ) (x : Typed) (status : Status) (e : Option Live) → status_at x ≡ Ok status → unless_deleted status (live_at row spec k status x) ≡ Ok e → SaysEntry row spec k x e
+said_by : (row : Row) (spec : Spec) (k : ℕ) (x : Typed) (status : Status) (e : Option Live) → status_at x ≡ Ok status
+    → unless_deleted status (live_at row spec k status x) ≡ Ok e → SaysEntry row spec k x e
 said_by row spec k x Deleted None said h = said
 said_by row spec k x Deleted (Some l) said h = absurd cc
 said_by row spec k x Existing None said h = absurd (none_live (live_at row spec k Existing x) h)
-said_by row spec k x Existing (Some l) said h = live_said row spec k Existing x l said (inl refl) (some_live (live_at row spec k Existing x) l h)
+said_by row spec k x Existing (Some l) said h = live_said row spec k Existing x l said (inl refl)
+    (some_live (live_at row spec k Existing x) l h)
 said_by row spec k x Added None said h = absurd (none_live (live_at row spec k Added x) h)
-said_by row spec k x Added (Some l) said h = live_said row spec k Added x l said (inr refl) (some_live (live_at row spec k Added x) l h)
+said_by row spec k x Added (Some l) said h = live_said row spec k Added x l said (inr refl)
+    (some_live (live_at row spec k Added x) l h)
 
-pub entry_said : (row : Row) (spec : Spec) (k : ℕ) (x : Typed) (e : Option Live) → entry_of row spec k x ≡ Ok e → SaysEntry row spec k x e
+pub entry_said : (row : Row) (spec : Spec) (k : ℕ) (x : Typed) (e : Option Live) → entry_of row spec k x ≡ Ok e
+    → SaysEntry row spec k x e
 unfolding entry_of
 entry_said row spec k x e h =
     let status = went_on (status_at x) _ e h in
     said_by row spec k x status.0 e status.1 status.2
 
-lives_on : (status : Status) (r : Result Live ManifestFault) (l : Live) → (status ≡ Existing) ⊎ (status ≡ Added) → r ≡ Ok l → unless_deleted status r ≡ Ok (Some l)
+lives_on : (status : Status) (r : Result Live ManifestFault) (l : Live) → (status ≡ Existing) ⊎ (status ≡ Added)
+    → r ≡ Ok l → unless_deleted status r ≡ Ok (Some l)
 lives_on Existing r l lives is = rw is refl
 lives_on Added r l lives is = rw is refl
 lives_on Deleted r l (inl q) is = absurd cc
 lives_on Deleted r l (inr q) is = absurd cc
 
-pub entry_by : (row : Row) (spec : Spec) (k : ℕ) (x : Typed) (e : Option Live) → SaysEntry row spec k x e → entry_of row spec k x ≡ Ok e
+pub entry_by : (row : Row) (spec : Spec) (k : ℕ) (x : Typed) (e : Option Live) → SaysEntry row spec k x e
+    → entry_of row spec k x ≡ Ok e
 unfolding entry_of
 entry_by row spec k x None said = rw said refl
-entry_by row spec k x (Some l) m = rw (m.status_is) (lives_on m.status (live_at row spec k m.status x) l m.lives (live_by row spec k x l m))
+entry_by row spec k x (Some l) m = rw (m.status_is) (lives_on m.status (live_at row spec k m.status x) l m.lives
+    (live_by row spec k x l m))
 
 -- ---- all objects
 
@@ -238,7 +328,11 @@ rows_said fs (v ∷ vs) rows h =
     let more = went_on (each (says_row fs) vs) _ rows one.2 in
     let is : one.0 ∷ more.0 ≡ rows = ok_is (one.0 ∷ more.0) rows more.2 in
     let P : List Row → Type 0 = λ rs. SayRows fs (v ∷ vs) rs in
-    subst P is (row_said (structure fs, v) one.0 (told_ok in_list (row_of (structure fs, v)) one.0 one.1), rows_said fs vs more.0 more.1)
+    subst P is (
+      row_said (structure fs, v) one.0 (told_ok in_list (row_of (structure fs, v)) one.0 one.1),
+      rows_said fs
+          vs more.0 more.1,
+    )
 
 pub rows_by : (fs : Fields) (vs : List Value) (rows : List Row) → SayRows fs vs rows → each (says_row fs) vs ≡ Ok rows
 unfolding each
@@ -247,7 +341,8 @@ rows_by fs [] (r ∷ rows) said = absurd said
 rows_by fs (v ∷ vs) [] said = absurd said
 rows_by fs (v ∷ vs) (r ∷ rows) said = rw (row_by (structure fs, v) r said.0, rows_by fs vs rows said.1) refl
 
-pub entries_said : (row : Row) (spec : Spec) (fs : Fields) (k : ℕ) (vs : List Value) (read : List (Option Live)) → each (says_entry row spec fs) (enumerate_from k vs) ≡ Ok read → SayEntries row spec fs k vs read
+pub entries_said : (row : Row) (spec : Spec) (fs : Fields) (k : ℕ) (vs : List Value) (read : List (Option Live))
+    → each (says_entry row spec fs) (enumerate_from k vs) ≡ Ok read → SayEntries row spec fs k vs read
 unfolding each
 entries_said row spec fs k [] [] h = tt
 entries_said row spec fs k [] (e ∷ read) h = absurd cc
@@ -258,12 +353,17 @@ entries_said row spec fs k (v ∷ vs) read h =
     let P : List (Option Live) → Type 0 = λ es. SayEntries row spec fs k (v ∷ vs) es in
     subst P is (entry_said row spec k (structure fs, v) one.0 one.1, entries_said row spec fs (k + 1) vs more.0 more.1)
 
-pub entries_by : (row : Row) (spec : Spec) (fs : Fields) (k : ℕ) (vs : List Value) (read : List (Option Live)) → SayEntries row spec fs k vs read → each (says_entry row spec fs) (enumerate_from k vs) ≡ Ok read
+pub entries_by : (row : Row) (spec : Spec) (fs : Fields) (k : ℕ) (vs : List Value) (read : List (Option Live))
+    → SayEntries row spec fs k vs read → each (says_entry row spec fs) (enumerate_from k vs) ≡ Ok read
 unfolding each
 entries_by row spec fs k [] [] said = refl
 entries_by row spec fs k [] (e ∷ read) said = absurd said
 entries_by row spec fs k (v ∷ vs) [] said = absurd said
-entries_by row spec fs k (v ∷ vs) (e ∷ read) said = rw (entry_by row spec k (structure fs, v) e said.0, entries_by row spec fs (k + 1) vs read said.1) refl
+entries_by row spec fs k (v ∷ vs) (e ∷ read) said = rw (
+  entry_by row spec k (structure fs, v) e said.0,
+  entries_by row
+      spec fs (k + 1) vs read said.1,
+) refl
 
 -- ---- sequence numbers
 
@@ -273,7 +373,8 @@ keeps_its_number row status x m n own h = let is : m ≡ n = ok_is m n (sym (rw 
 
 pub inherits_the_rows : InheritsTheRows
 unfolding sequence_at
-inherits_the_rows row x n none h = let is : row.sequence_number ≡ n = ok_is row.sequence_number n (sym (rw none refl) ∙ h) in sym is
+inherits_the_rows row x n none h = let is : row.sequence_number ≡ n = ok_is row.sequence_number n
+    (sym (rw none refl) ∙ h) in sym is
 
 zero_given : (of_row n : ℕ) → inherited of_row Existing None ≡ Ok n → (of_row ≡ 0) × (n ≡ 0)
 zero_given of_row n h =
@@ -291,7 +392,8 @@ keeps_its_file_number row status x m n own h = let is : Some m ≡ n = ok_is (So
 
 pub inherits_the_rows_for_its_file : InheritsTheRowsForItsFile
 unfolding file_sequence_at
-inherits_the_rows_for_its_file row x n none h = let is : Some row.sequence_number ≡ n = ok_is (Some row.sequence_number) n (sym (rw none refl) ∙ h) in sym is
+inherits_the_rows_for_its_file row x n none h = let is : Some row.sequence_number ≡ n = ok_is (Some row.sequence_number)
+    n (sym (rw none refl) ∙ h) in sym is
 
 none_given : (of_row : ℕ) (n : Option ℕ) → of_row ≢ 0 → file_inherited of_row Existing None ≡ n → n ≡ None
 none_given of_row n other h = elim (either (of_row == 0) (Some 0) None n h) as (λ _. n ≡ None) [
@@ -301,7 +403,8 @@ none_given of_row n other h = elim (either (of_row == 0) (Some 0) None n h) as (
 
 pub has_no_file_number : HasNoFileNumber
 unfolding file_sequence_at
-has_no_file_number row x n none other h = none_given row.sequence_number n other (ok_is (file_inherited row.sequence_number Existing None) n (sym (rw none refl) ∙ h))
+has_no_file_number row x n none other h = none_given row.sequence_number n other
+    (ok_is (file_inherited row.sequence_number Existing None) n (sym (rw none refl) ∙ h))
 
 -- ---- snapshots
 

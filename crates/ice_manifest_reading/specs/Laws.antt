@@ -33,11 +33,13 @@ use Rattle.ice_manifest_reading.specs.ColumnMaps.{value_counts, null_value_count
 use Rattle.ice_manifest_reading.specs.Maps as Maps
 use Rattle.ice_manifest_reading.specs.Maps.{bounds_at}
 use Rattle.ice_manifest_reading.specs.Schemas.{Fault, fields_in, row_fields, entry_fields}
-use Rattle.ice_manifest_reading.specs.Fields.{at, there, long_at, int_at, number_at, path_at, record_at, ints_at, optional_long}
+use Rattle.ice_manifest_reading.specs.Fields.{at, there, long_at, int_at, number_at, path_at, record_at, ints_at}
+use Rattle.ice_manifest_reading.specs.Fields.{optional_long}
 use Rattle.ice_manifest_reading.specs.Fields.{optional_number}
 use Rattle.ice_manifest_reading.specs.Lists as Lists
 use Rattle.ice_manifest_reading.specs.Lists.{row_of, counts_at, summaries_in, same_row, checked, in_order, rows_of}
-use Rattle.ice_manifest_reading.specs.Manifests.{content_at, status_at, snapshot_at, sequence_at, file_sequence_at, kept}
+use Rattle.ice_manifest_reading.specs.Manifests.{content_at, status_at, snapshot_at, sequence_at, file_sequence_at}
+use Rattle.ice_manifest_reading.specs.Manifests.{kept}
 use Rattle.ice_manifest_reading.specs.Manifests.{live_of, entries_of}
 
 -- ---- files by their objects

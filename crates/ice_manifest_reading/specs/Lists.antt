@@ -27,7 +27,8 @@ use Rattle.ice_manifest_reading.specs.declared.row.ManifestContent.TheVariants.{
 use Rattle.ice_manifest_reading.specs.Each.{each}
 use Rattle.ice_manifest_reading.specs.Naming.{in_list, contained, told, ended}
 use Rattle.ice_manifest_reading.specs.Schemas.{fields_in, row_fields}
-use Rattle.ice_manifest_reading.specs.Fields.{at, there, items_of, asked, record_of, long_at, int_at, number_at, path_at}
+use Rattle.ice_manifest_reading.specs.Fields.{at, there, items_of, asked, record_of, long_at, int_at, number_at}
+use Rattle.ice_manifest_reading.specs.Fields.{path_at}
 use Rattle.ice_manifest_reading.specs.Fields.{truth_at, optional_long, optional_int, optional_truth, optional_binary}
 
 -- ---- a row

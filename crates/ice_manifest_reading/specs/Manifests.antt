@@ -33,7 +33,8 @@ use Rattle.ice_manifest_reading.specs.Naming.{in_manifest, contained, told, ende
 use Rattle.ice_manifest_reading.specs.Partitions.{tuple_at}
 use Rattle.ice_manifest_reading.specs.Maps.{columns_of}
 use Rattle.ice_manifest_reading.specs.Schemas.{fields_in, entry_fields}
-use Rattle.ice_manifest_reading.specs.Fields.{long_at, int_at, path_at, record_at, ints_at, optional_long, optional_number}
+use Rattle.ice_manifest_reading.specs.Fields.{long_at, int_at, path_at, record_at, ints_at, optional_long}
+use Rattle.ice_manifest_reading.specs.Fields.{optional_number}
 
 -- ---- a data file
 

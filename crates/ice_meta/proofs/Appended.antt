@@ -21,16 +21,22 @@ joined_none : (ds : Items) → joined ds no_items ≡ ds
 joined_none no_items = refl
 joined_none (item d ds) = ap (item d) (joined_none ds)
 
-joined_last : (vs : List Value) (v : Value) (es : Items) → joined (items_view (vs ++ v ∷ [])) es ≡ joined (items_view vs) (item (view v) es)
+joined_last : (vs : List Value) (v : Value) (es : Items)
+    → joined (items_view (vs ++ v ∷ [])) es ≡ joined (items_view vs) (item (view v) es)
 joined_last [] v es = refl
 joined_last (w ∷ vs) v es = ap (item (view w)) (joined_last vs v es)
 
 -- one field more
-pub fields_on : (nested : Data → Data) (xs : List Value) (i : ℕ) (x : Value) (vs : List Value) (v : Value) (all : Items) → i < length xs → x ≡ get_or xs i x → view v ≡ field_of nested (view x)
-    → joined (items_view vs) (each_field nested (items_view (drop i xs))) ≡ all → joined (items_view (vs ++ v ∷ [])) (each_field nested (items_view (drop (i + 1) xs))) ≡ all
+pub fields_on : (nested : Data → Data) (xs : List Value) (i : ℕ) (x : Value) (vs : List Value) (v : Value) (all : Items)
+    → i < length xs → x ≡ get_or xs i x → view v ≡ field_of nested (view x)
+    → joined (items_view vs) (each_field nested (items_view (drop i xs))) ≡ all
+    → joined (items_view (vs ++ v ∷ [])) (each_field nested (items_view (drop (i + 1) xs))) ≡ all
 fields_on nested xs i x vs v all lt is made so_far =
     let rest = each_field nested (items_view (drop (i + 1) xs)) in
-    joined_last vs v rest ∙ ap (λ (d : Data). joined (items_view vs) (item d rest)) made ∙ ap (λ ys. joined (items_view vs) (each_field nested (items_view ys))) (sym (step_of xs i x lt is)) ∙ so_far
+    joined_last vs v rest ∙ ap (λ (d : Data). joined (items_view vs) (item d rest)) made ∙ ap
+    (λ ys. joined (items_view vs) (each_field nested (items_view ys))) (sym (step_of xs i x lt is)) ∙ so_far
 
-pub fields_over : (nested : Data → Data) (xs : List Value) (i : ℕ) (ds all : Items) → length xs ≤ i → joined ds (each_field nested (items_view (drop i xs))) ≡ all → ds ≡ all
-fields_over nested xs i ds all past so_far = sym (joined_none ds) ∙ ap (λ ys. joined ds (each_field nested (items_view ys))) (sym (drop_of_length-le xs past)) ∙ so_far
+pub fields_over : (nested : Data → Data) (xs : List Value) (i : ℕ) (ds all : Items) → length xs ≤ i
+    → joined ds (each_field nested (items_view (drop i xs))) ≡ all → ds ≡ all
+fields_over nested xs i ds all past so_far = sym (joined_none ds) ∙ ap
+    (λ ys. joined ds (each_field nested (items_view ys))) (sym (drop_of_length-le xs past)) ∙ so_far

@@ -15,19 +15,22 @@ use Rattle.ice_meta.specs.declared.commit.NewSnapshot.{NewSnapshot}
 use Rattle.ice_meta.specs.declared.fault.MetaFault.{MetaFault}
 use Rattle.ice_meta.proofs.Nesting.{under_next}
 
-pub reads_as : (bytes : List ℕ) (d : Data) (t : Table) → IsUtf8 bytes → read bytes ≡ Some d → is_some (as_object d) ≡ true → table_of d ≡ Ok t
+pub reads_as : (bytes : List ℕ) (d : Data) (t : Table) → IsUtf8 bytes → read bytes ≡ Some d
+    → is_some (as_object d) ≡ true → table_of d ≡ Ok t
     → metadata_of bytes ≡ Ok (record { json = d; table = t })
 unfolding metadata_of text_json
 reads_as bytes d t utf8 is object says = rw (is_utf8-from_IsUtf8 bytes utf8, is, object, says) refl
 
-pub committed_gives : (m : Described) (s : NewSnapshot) (d : Data) (t : Table) → d ≡ next_json m.table s m.json → table_of d ≡ Ok t
+pub committed_gives : (m : Described) (s : NewSnapshot) (d : Data) (t : Table) → d ≡ next_json m.table s m.json
+    → table_of d ≡ Ok t
     → committed m s ≡ Ok (record { json = d; table = t })
 unfolding committed
 committed_gives m s d t is says =
     let said : table_of (next_json m.table s m.json) ≡ Ok t = rw (← is) says in
     rw (said, is) refl
 
-pub committed_fails : (m : Described) (s : NewSnapshot) (d : Data) (e : MetaFault) → d ≡ next_json m.table s m.json → table_of d ≡ Err e
+pub committed_fails : (m : Described) (s : NewSnapshot) (d : Data) (e : MetaFault) → d ≡ next_json m.table s m.json
+    → table_of d ≡ Err e
     → committed m s ≡ Err e
 unfolding committed
 committed_fails m s d e is says =
@@ -41,6 +44,7 @@ is_object d e t s is = rw is refl
 pub nests : (d e : Data) (t : Table) (s : NewSnapshot) → e ≡ next_json t s d → depth d ≤ max_depth → depth e ≤ max_depth
 nests d e t s is h = subst (λ f. depth f ≤ max_depth) (sym is) (under_next t s d h)
 
-pub committed_follows : (m : Described) (s : NewSnapshot) → table_of m.json ≡ Ok m.table → CanFollow m.table s → AreLongs m.table s → committed m s ≡ Ok (next_metadata m s)
+pub committed_follows : (m : Described) (s : NewSnapshot) → table_of m.json ≡ Ok m.table → CanFollow m.table s
+    → AreLongs m.table s → committed m s ≡ Ok (next_metadata m s)
 unfolding committed
 committed_follows m s says can longs = rw (says_next m.json m.table s says can longs) refl

@@ -1,5 +1,7 @@
 -- The JSON of a commit says the table of the commit.
-use Rattle.std.proofs.Common.{◌≡◌, ◌<◌, ◌^◌, ℕ, suc, Bool, true, false, ◌&&◌, ◌||◌, List, [], ◌∷◌, ◌++◌, map, append-nil, append_assoc, codes, Option, None, Some, Ok, Err, Ordering, Less, Equal, Greater, refl, sym, ap, subst, ◌∙◌, true≢false, bytes_eq, nat_lt, arith}
+use Rattle.std.proofs.Common.{◌≡◌, ◌<◌, ◌^◌, ℕ, suc, Bool, true, false, ◌&&◌, ◌||◌, List, [], ◌∷◌, ◌++◌, map}
+use Rattle.std.proofs.Common.{append-nil, append_assoc, codes, Option, None, Some, Ok, Err, Ordering, Less, Equal}
+use Rattle.std.proofs.Common.{Greater, refl, sym, ap, subst, ◌∙◌, true≢false, bytes_eq, nat_lt, arith}
 use Rattle.std.proofs.lemmas.Bool.{lt-ltb, ltb-true}
 use Rattle.std.specs.Prelude.{ℤ, pos, negsuc, Result, find, unwrap_or, option_and_then, if◌then◌else◌}
 use Rattle.ice_meta.proofs.Kept.{once_is}
@@ -25,11 +27,18 @@ use Rattle.ice_meta.specs.declared.spec.Spec.{Spec}
 use Rattle.ice_meta.specs.declared.snapshot.Ref.{Ref}
 use Rattle.ice_meta.specs.declared.snapshot.Snapshot.{Snapshot}
 use Rattle.ice_meta.specs.Laws.{SaysTheNext}
-use Rattle.ice_meta.specs.Members.{asked, there, long_of, member_name, not_null, all_objects, if_int, long_in, int_in, sequence_number_in, text_in, optional_long, optional_int, optional_text}
+use Rattle.ice_meta.specs.Members.{asked, there, long_of, member_name, not_null, all_objects, if_int, long_in, int_in}
+use Rattle.ice_meta.specs.Members.{sequence_number_in, text_in, optional_long, optional_int, optional_text}
 use Rattle.ice_meta.specs.Reading as reading
 use Rattle.ice_meta.specs.Reading.{each, each_into, again, once}
-use Rattle.ice_meta.specs.Tables.{if_among, version_in, uuid_in, location_in, schemas_in, current_schema_in, specs_in, default_spec_in, current_snapshot_in, snapshot_id, snapshot_of, operation_of, operation_in, if_snapshots, snapshots_in, object_of, kind_of, each_ref, ref_of, if_refs, refs_in, table_of}
-use Rattle.ice_meta.specs.Committing.{inside, members_of, set, items_of, at_end, one_more, no_object, operation_name, summary_json, with_parent, whole, natural, snapshot_json, branch_to, refs_json, with_refs, with_log, with_snapshots, next_json, IsLong, AreLongs, CanFollow, new_snapshot, main_at, placed, next_table}
+use Rattle.ice_meta.specs.Tables.{if_among, version_in, uuid_in, location_in, schemas_in, current_schema_in, specs_in}
+use Rattle.ice_meta.specs.Tables.{default_spec_in, current_snapshot_in, snapshot_id, snapshot_of, operation_of}
+use Rattle.ice_meta.specs.Tables.{operation_in, if_snapshots, snapshots_in, object_of, kind_of, each_ref, ref_of}
+use Rattle.ice_meta.specs.Tables.{if_refs, refs_in, table_of}
+use Rattle.ice_meta.specs.Committing.{inside, members_of, set, items_of, at_end, one_more, no_object, operation_name}
+use Rattle.ice_meta.specs.Committing.{summary_json, with_parent, whole, natural, snapshot_json, branch_to, refs_json}
+use Rattle.ice_meta.specs.Committing.{with_refs, with_log, with_snapshots, next_json, IsLong, AreLongs, CanFollow}
+use Rattle.ice_meta.specs.Committing.{new_snapshot, main_at, placed, next_table}
 
 -- ---- members after a change
 
@@ -46,7 +55,8 @@ set_same k x d = get_member-put k x (members_of d)
 
 pub set_other : (q k : List ℕ) (x d : Data) → bytes_eq q k ≡ false → get q (set k x d) ≡ get q d
 set_other q k x d other =
-    get_member-put_other q k x (members_of d) (λ same. true≢false (sym ((bytes_eq-Decides q k).1 same) ∙ other)) ∙ get_members q d
+    get_member-put_other q k x (members_of d) (λ same. true≢false (sym ((bytes_eq-Decides q k).1 same) ∙ other)) ∙
+    get_members q d
 
 -- ---- members of the next metadata
 
@@ -91,24 +101,33 @@ stays_has q t s d a =
 pub stays : (q : List ℕ) (t : Table) (s : NewSnapshot) (d : Data) → Apart q → get q (next_json t s d) ≡ get q d
 stays q t s d a = found q _ _ (stays_has q t s d a)
 
-number_has : (t : Table) (s : NewSnapshot) (d : Data) → Has (member_name member.LastSequenceNumber) (next_json t s d) (Some (natural (suc t.last_sequence_number)))
+number_has : (t : Table) (s : NewSnapshot) (d : Data) → Has (member_name member.LastSequenceNumber) (next_json t s d)
+    (Some (natural (suc t.last_sequence_number)))
 unfolding next_json
-number_has t s d = here (member_name member.LastSequenceNumber) (natural (suc t.last_sequence_number)) (set (member_name member.LastUpdatedMs) (whole s.timestamp_ms) (set (member_name member.CurrentSnapshotId) (whole s.id) (with_snapshots t s (with_log s (with_refs s d)))))
+number_has t s d = here (member_name member.LastSequenceNumber) (natural (suc t.last_sequence_number))
+    (set (member_name member.LastUpdatedMs) (whole s.timestamp_ms) (set (member_name member.CurrentSnapshotId)
+    (whole s.id) (with_snapshots t s (with_log s (with_refs s d)))))
 
-updated_has : (t : Table) (s : NewSnapshot) (d : Data) → Has (member_name member.LastUpdatedMs) (next_json t s d) (Some (whole s.timestamp_ms))
+updated_has : (t : Table) (s : NewSnapshot) (d : Data)
+    → Has (member_name member.LastUpdatedMs) (next_json t s d) (Some (whole s.timestamp_ms))
 unfolding next_json
 updated_has t s d =
     let name = member_name member.LastUpdatedMs in
-    past name (member_name member.LastSequenceNumber) (natural (suc t.last_sequence_number)) _ _ refl (here name (whole s.timestamp_ms) (set (member_name member.CurrentSnapshotId) (whole s.id) (with_snapshots t s (with_log s (with_refs s d)))))
+    past name (member_name member.LastSequenceNumber) (natural (suc t.last_sequence_number)) _ _ refl
+    (here name (whole s.timestamp_ms) (set (member_name member.CurrentSnapshotId) (whole s.id)
+    (with_snapshots t s (with_log s (with_refs s d)))))
 
-current_has : (t : Table) (s : NewSnapshot) (d : Data) → Has (member_name member.CurrentSnapshotId) (next_json t s d) (Some (whole s.id))
+current_has : (t : Table) (s : NewSnapshot) (d : Data) → Has (member_name member.CurrentSnapshotId) (next_json t s d)
+    (Some (whole s.id))
 unfolding next_json
 current_has t s d =
     let name = member_name member.CurrentSnapshotId in
     past name (member_name member.LastSequenceNumber) (natural (suc t.last_sequence_number)) _ _ refl
-    (past name (member_name member.LastUpdatedMs) (whole s.timestamp_ms) _ _ refl (here name (whole s.id) (with_snapshots t s (with_log s (with_refs s d)))))
+    (past name (member_name member.LastUpdatedMs) (whole s.timestamp_ms) _ _ refl
+    (here name (whole s.id) (with_snapshots t s (with_log s (with_refs s d)))))
 
-refs_has : (t : Table) (s : NewSnapshot) (d : Data) → Has (member_name member.Refs) (next_json t s d) (Some (refs_json s (inside (member_name member.Refs) d)))
+refs_has : (t : Table) (s : NewSnapshot) (d : Data)
+    → Has (member_name member.Refs) (next_json t s d) (Some (refs_json s (inside (member_name member.Refs) d)))
 unfolding next_json
 refs_has t s d =
     let name = member_name member.Refs in
@@ -122,12 +141,16 @@ refs_has t s d =
 same_inside : (q : List ℕ) (d e : Data) → get q d ≡ get q e → inside q d ≡ inside q e
 same_inside q d e same = ap (λ o. unwrap_or o json.null) same
 
-before_snapshots : (s : NewSnapshot) (d : Data) → Has (member_name member.Snapshots) (with_log s (with_refs s d)) (get (member_name member.Snapshots) d)
+before_snapshots : (s : NewSnapshot) (d : Data) → Has (member_name member.Snapshots) (with_log s (with_refs s d))
+    (get (member_name member.Snapshots) d)
 before_snapshots s d =
     let name = member_name member.Snapshots in
-    past name (codes "snapshot-log") _ (with_refs s d) _ refl (past name (member_name member.Refs) _ d _ refl (old name d))
+    past name (codes "snapshot-log") _ (with_refs s d) _ refl (past name (member_name member.Refs) _ d _ refl
+    (old name d))
 
-snapshots_has : (t : Table) (s : NewSnapshot) (d : Data) → Has (member_name member.Snapshots) (next_json t s d) (Some (one_more (snapshot_json t s) (inside (member_name member.Snapshots) (with_log s (with_refs s d)))))
+snapshots_has : (t : Table) (s : NewSnapshot) (d : Data)
+    → Has (member_name member.Snapshots) (next_json t s d)
+    (Some (one_more (snapshot_json t s) (inside (member_name member.Snapshots) (with_log s (with_refs s d)))))
 unfolding next_json
 snapshots_has t s d =
     let name = member_name member.Snapshots in
@@ -136,10 +159,12 @@ snapshots_has t s d =
     (past name (member_name member.CurrentSnapshotId) (whole s.id) _ _ refl
     (here name (one_more (snapshot_json t s) (inside name (with_log s (with_refs s d)))) (with_log s (with_refs s d)))))
 
-next_snapshots : (t : Table) (s : NewSnapshot) (d : Data) → get (member_name member.Snapshots) (next_json t s d) ≡ Some (one_more (snapshot_json t s) (inside (member_name member.Snapshots) d))
+next_snapshots : (t : Table) (s : NewSnapshot) (d : Data) → get (member_name member.Snapshots) (next_json t s d) ≡ Some
+    (one_more (snapshot_json t s) (inside (member_name member.Snapshots) d))
 next_snapshots t s d =
     found _ _ _ (snapshots_has t s d)
-    ∙ ap (λ e. Some (one_more (snapshot_json t s) e)) (same_inside (member_name member.Snapshots) (with_log s (with_refs s d)) d (found _ _ _ (before_snapshots s d)))
+    ∙ ap (λ e. Some (one_more (snapshot_json t s) e)) (same_inside (member_name member.Snapshots)
+    (with_log s (with_refs s d)) d (found _ _ _ (before_snapshots s d)))
 
 -- ---- numbers
 
@@ -181,10 +206,26 @@ pub record Says (d : Data) (t : Table) : Type 0 where
 says_all : (d : Data) (t : Table) → Says d t → table_of d ≡ Ok t
 unfolding table_of
 says_all d t s =
-    rw (s.version.1, s.uuid, s.location, s.last_sequence_number, s.last_updated_ms, s.last_column_id, s.schemas, s.current_schema_id, s.specs, s.default_spec_id, s.last_partition_id, s.current_snapshot_id, s.snapshots, s.refs) refl
+    rw (
+      s.version.1,
+      s.uuid,
+      s.location,
+      s.last_sequence_number,
+      s.last_updated_ms,
+      s.last_column_id,
+      s.schemas,
+      s.current_schema_id,
+      s.specs,
+      s.default_spec_id,
+      s.last_partition_id,
+      s.current_snapshot_id,
+      s.snapshots,
+      s.refs,
+    ) refl
 
 -- what was read first, where the rest was read too
-pub take : {A B : Type 0} (G : Type 0) (r : Result A MetaFault) (f : A → Result B MetaFault) (y : B) → (r >>= f) ≡ Ok y → ((x : A) → r ≡ Ok x → f x ≡ Ok y → G) → G
+pub take : {A B : Type 0} (G : Type 0) (r : Result A MetaFault) (f : A → Result B MetaFault) (y : B) → (r >>= f) ≡ Ok y
+    → ((x : A) → r ≡ Ok x → f x ≡ Ok y → G) → G
 take G (Ok x) f y e h = h x refl e
 take G (Err fault) f y e h = absurd cc
 
@@ -194,12 +235,18 @@ ok_is x y e = cc
 says_parts : (d : Data) (t : Table) → table_of d ≡ Ok t → Says d t
 unfolding table_of
 says_parts d t e =
-    take _ (version_in d) _ t e (λ version was_version e1. take _ (uuid_in d) _ t e1 (λ uuid was_uuid e2. take _ (location_in d) _ t e2 (λ location was_location e3.
-    take _ (sequence_number_in member.LastSequenceNumber d) _ t e3 (λ number was_number e4. take _ (long_in member.LastUpdatedMs d) _ t e4 (λ updated was_updated e5.
-    take _ (int_in member.LastColumnId d) _ t e5 (λ column was_column e6. take _ (schemas_in d) _ t e6 (λ schemas were_schemas e7.
-    take _ (current_schema_in schemas d) _ t e7 (λ schema was_schema e8. take _ (specs_in d) _ t e8 (λ specs were_specs e9.
-    take _ (default_spec_in specs d) _ t e9 (λ spec was_spec e10. take _ (int_in member.LastPartitionId d) _ t e10 (λ partition was_partition e11.
-    take _ (current_snapshot_in d) _ t e11 (λ snapshot was_snapshot e12. take _ (snapshots_in d) _ t e12 (λ snapshots were_snapshots e13.
+    take _ (version_in d) _ t e (λ version was_version e1. take _ (uuid_in d) _ t e1 (λ uuid was_uuid e2. take _
+    (location_in d) _ t e2 (λ location was_location e3.
+    take _ (sequence_number_in member.LastSequenceNumber d) _ t e3 (λ number was_number e4. take _
+    (long_in member.LastUpdatedMs d) _ t e4 (λ updated was_updated e5.
+    take _ (int_in member.LastColumnId d) _ t e5 (λ column was_column e6. take _ (schemas_in d) _ t e6
+    (λ schemas were_schemas e7.
+    take _ (current_schema_in schemas d) _ t e7 (λ schema was_schema e8. take _ (specs_in d) _ t e8
+    (λ specs were_specs e9.
+    take _ (default_spec_in specs d) _ t e9 (λ spec was_spec e10. take _ (int_in member.LastPartitionId d) _ t e10
+    (λ partition was_partition e11.
+    take _ (current_snapshot_in d) _ t e11 (λ snapshot was_snapshot e12. take _ (snapshots_in d) _ t e12
+    (λ snapshots were_snapshots e13.
     take _ (refs_in d) _ t e13 (λ refs were_refs e14.
     subst (Says d) (ok_is _ t e14)
     (record {
@@ -229,21 +276,26 @@ refs_of : Members → Result (List Ref) MetaFault
 refs_of json.no_members = Ok []
 refs_of (json.member name d ms) = ref_of name d >>= λ r. refs_of ms >>= λ rs. Ok (r ∷ rs)
 
-either_ok : {A : Type 0} (front : List A) (x : A) (rest : Result (List A) MetaFault) → (rest >>= λ xs. Ok ((front ++ x ∷ []) ++ xs)) ≡ ((rest >>= λ xs. Ok (x ∷ xs)) >>= λ xs. Ok (front ++ xs))
+either_ok : {A : Type 0} (front : List A) (x : A) (rest : Result (List A) MetaFault)
+    → (rest >>= λ xs. Ok ((front ++ x ∷ []) ++ xs)) ≡ ((rest >>= λ xs. Ok (x ∷ xs)) >>= λ xs. Ok (front ++ xs))
 either_ok front x (Ok xs) = ap Ok (append_assoc front (x ∷ []) xs)
 either_ok front x (Err fault) = refl
 
-each_list : {A : Type 0} (read : Data → Result A MetaFault) (ds : Items) (front : List A) → each_into (reading.one_more read) ds front ≡ (list_of read ds >>= λ xs. Ok (front ++ xs))
+each_list : {A : Type 0} (read : Data → Result A MetaFault) (ds : Items) (front : List A)
+    → each_into (reading.one_more read) ds front ≡ (list_of read ds >>= λ xs. Ok (front ++ xs))
 unfolding list_of
 each_list read json.no_items front = ap Ok (sym (append-nil front))
 each_list {A = A} read (json.item d ds) front = here (read d) (λ x. each_list read ds (front ++ x ∷ []))
   where
-    here : (r : Result A MetaFault) → ((x : A) → each_into (reading.one_more read) ds (front ++ x ∷ []) ≡ (list_of read ds >>= λ xs. Ok ((front ++ x ∷ []) ++ xs)))
-        → ((r >>= λ x. Ok (front ++ x ∷ [])) >>= each_into (reading.one_more read) ds) ≡ ((r >>= λ x. list_of read ds >>= λ xs. Ok (x ∷ xs)) >>= λ xs. Ok (front ++ xs))
+    here : (r : Result A MetaFault) → ((x : A) → each_into (reading.one_more read) ds (front ++ x ∷ [])
+        ≡ (list_of read ds >>= λ xs. Ok ((front ++ x ∷ []) ++ xs)))
+        → ((r >>= λ x. Ok (front ++ x ∷ [])) >>= each_into (reading.one_more read) ds)
+        ≡ ((r >>= λ x. list_of read ds >>= λ xs. Ok (x ∷ xs)) >>= λ xs. Ok (front ++ xs))
     here (Ok x) later = later x ∙ either_ok front x (list_of read ds)
     here (Err fault) later = refl
 
-list_end : {A : Type 0} (read : Data → Result A MetaFault) (x : Data) (y : A) → read x ≡ Ok y → (ds : Items) (xs : List A) → list_of read ds ≡ Ok xs → list_of read (at_end x ds) ≡ Ok (xs ++ y ∷ [])
+list_end : {A : Type 0} (read : Data → Result A MetaFault) (x : Data) (y : A) → read x ≡ Ok y
+    → (ds : Items) (xs : List A) → list_of read ds ≡ Ok xs → list_of read (at_end x ds) ≡ Ok (xs ++ y ∷ [])
 unfolding list_of
 list_end {A = A} read x y is json.no_items xs e = let none : [] ≡ xs = ok_is [] xs e in rw (← none, is) refl
 list_end {A = A} read x y is (json.item d ds) xs e =
@@ -256,8 +308,10 @@ unfolding refs_of
 each_refs json.no_members front = ap Ok (sym (append-nil front))
 each_refs (json.member k d ms) front = here (ref_of k d) (λ x. each_refs ms (front ++ x ∷ []))
   where
-    here : (r : Result Ref MetaFault) → ((x : Ref) → each_ref ms (front ++ x ∷ []) ≡ (refs_of ms >>= λ xs. Ok ((front ++ x ∷ []) ++ xs)))
-        → (r >>= λ x. each_ref ms (front ++ x ∷ [])) ≡ ((r >>= λ x. refs_of ms >>= λ xs. Ok (x ∷ xs)) >>= λ xs. Ok (front ++ xs))
+    here : (r : Result Ref MetaFault) → ((x : Ref) → each_ref ms (front ++ x ∷ [])
+        ≡ (refs_of ms >>= λ xs. Ok ((front ++ x ∷ []) ++ xs)))
+        → (r >>= λ x. each_ref ms (front ++ x ∷ [])) ≡ ((r >>= λ x. refs_of ms >>= λ xs. Ok (x ∷ xs)) >>= λ xs. Ok
+        (front ++ xs))
     here (Ok x) later = later x ∙ either_ok front x (refs_of ms)
     here (Err fault) later = refl
 
@@ -270,19 +324,23 @@ ok_again (Err fault) xs e = absurd cc
 long_says : (m : Member) (d : Data) (z : ℤ) → get (member_name m) d ≡ Some (whole z) → IsLong z → long_in m d ≡ Ok z
 long_says m d z is h = rw (is, long z h) refl
 
-number_says : (m : Member) (d : Data) (n : ℕ) → get (member_name m) d ≡ Some (natural n) → n < 2 ^ 63 → sequence_number_in m d ≡ Ok n
+number_says : (m : Member) (d : Data) (n : ℕ) → get (member_name m) d ≡ Some (natural n) → n < 2 ^ 63
+    → sequence_number_in m d ≡ Ok n
 number_says m d n is h = rw (is, lt-ltb n (2 ^ 63) h) refl
 
-optional_long_says : (m : Member) (d : Data) (z : ℤ) → get (member_name m) d ≡ Some (whole z) → IsLong z → optional_long m d ≡ Ok (Some z)
+optional_long_says : (m : Member) (d : Data) (z : ℤ) → get (member_name m) d ≡ Some (whole z) → IsLong z
+    → optional_long m d ≡ Ok (Some z)
 optional_long_says m d z is h = rw (is, long z h) refl
 
 optional_long_none : (m : Member) (d : Data) → get (member_name m) d ≡ None → optional_long m d ≡ Ok None
 optional_long_none m d is = rw is refl
 
-optional_int_says : (m : Member) (d : Data) (z : ℤ) → get (member_name m) d ≡ Some (whole z) → IsLong z → if_int z ≡ Some z → optional_int m d ≡ Ok (Some z)
+optional_int_says : (m : Member) (d : Data) (z : ℤ) → get (member_name m) d ≡ Some (whole z) → IsLong z
+    → if_int z ≡ Some z → optional_int m d ≡ Ok (Some z)
 optional_int_says m d z is h fits = rw (is, long z h, fits) refl
 
-optional_text_says : (m : Member) (d : Data) (s : List ℕ) → get (member_name m) d ≡ Some (json.string s) → optional_text m d ≡ Ok (Some s)
+optional_text_says : (m : Member) (d : Data) (s : List ℕ) → get (member_name m) d ≡ Some (json.string s)
+    → optional_text m d ≡ Ok (Some s)
 optional_text_says m d s is = rw is refl
 
 text_says : (m : Member) (d : Data) (s : List ℕ) → get (member_name m) d ≡ Some (json.string s) → text_in m d ≡ Ok s
@@ -290,15 +348,19 @@ text_says m d s is = rw is refl
 
 -- ---- the new snapshot
 
-of_parent : (q : List ℕ) (o : Option ℤ) (d : Data) → bytes_eq q (member_name member.ParentSnapshotId) ≡ false → get q (with_parent o d) ≡ get q d
+of_parent : (q : List ℕ) (o : Option ℤ) (d : Data) → bytes_eq q (member_name member.ParentSnapshotId) ≡ false
+    → get q (with_parent o d) ≡ get q d
 of_parent q None d other = refl
 of_parent q (Some id) d other = set_other q (member_name member.ParentSnapshotId) (whole id) d other
 
-parent_says : (o : Option ℤ) (d : Data) → get (member_name member.ParentSnapshotId) d ≡ None → IfSome o IsLong → optional_long member.ParentSnapshotId (with_parent o d) ≡ Ok o
+parent_says : (o : Option ℤ) (d : Data) → get (member_name member.ParentSnapshotId) d ≡ None → IfSome o IsLong
+    → optional_long member.ParentSnapshotId (with_parent o d) ≡ Ok o
 parent_says None d none h = optional_long_none member.ParentSnapshotId d none
-parent_says (Some id) d none h = optional_long_says member.ParentSnapshotId (with_parent (Some id) d) id (set_same (member_name member.ParentSnapshotId) (whole id) d) h
+parent_says (Some id) d none h = optional_long_says member.ParentSnapshotId (with_parent (Some id) d) id
+    (set_same (member_name member.ParentSnapshotId) (whole id) d) h
 
-operation_says : (d : Data) (s : NewSnapshot) → get (member_name member.Summary) d ≡ Some (summary_json s) → operation_in d ≡ Ok (Some (operation_name s.operation))
+operation_says : (d : Data) (s : NewSnapshot) → get (member_name member.Summary) d ≡ Some (summary_json s)
+    → operation_in d ≡ Ok (Some (operation_name s.operation))
 unfolding operation_of
 operation_says d s is = rw is refl
 
@@ -311,45 +373,60 @@ base t s =
     (set (member_name member.SequenceNumber) (natural (suc t.last_sequence_number))
     (set (member_name member.SnapshotId) (whole s.id) no_object)))))
 
-snapshot_says : (t : Table) (s : NewSnapshot) → CanFollow t s → AreLongs t s → IsLong t.current_schema_id → if_int t.current_schema_id ≡ Some t.current_schema_id → snapshot_of (snapshot_json t s) ≡ Ok (new_snapshot t s)
+snapshot_says : (t : Table) (s : NewSnapshot) → CanFollow t s → AreLongs t s → IsLong t.current_schema_id
+    → if_int t.current_schema_id ≡ Some t.current_schema_id → snapshot_of (snapshot_json t s) ≡ Ok (new_snapshot t s)
 unfolding snapshot_of snapshot_json
 snapshot_says t s can longs schema fits =
     let o = t.current_snapshot_id in
     rw (
-      long_says member.SnapshotId (with_parent o (base t s)) s.id (of_parent (member_name member.SnapshotId) o (base t s) refl) longs.id,
+      long_says member.SnapshotId (with_parent o (base t s)) s.id (of_parent (member_name member.SnapshotId) o
+          (base t s) refl) longs.id,
       parent_says o (base t s) refl longs.parent_id,
-      number_says member.SequenceNumber (with_parent o (base t s)) (suc t.last_sequence_number) (of_parent (member_name member.SequenceNumber) o (base t s) refl) can.number_fits,
-      long_says member.TimestampMs (with_parent o (base t s)) s.timestamp_ms (of_parent (member_name member.TimestampMs) o (base t s) refl) longs.timestamp_ms,
-      optional_text_says member.ManifestList (with_parent o (base t s)) s.manifest_list (of_parent (member_name member.ManifestList) o (base t s) refl),
+      number_says member.SequenceNumber (with_parent o (base t s)) (suc t.last_sequence_number)
+          (of_parent (member_name member.SequenceNumber) o (base t s) refl) can.number_fits,
+      long_says member.TimestampMs (with_parent o (base t s)) s.timestamp_ms (of_parent (member_name member.TimestampMs)
+          o (base t s) refl) longs.timestamp_ms,
+      optional_text_says member.ManifestList (with_parent o (base t s)) s.manifest_list
+          (of_parent (member_name member.ManifestList) o (base t s) refl),
       operation_says (with_parent o (base t s)) s (of_parent (member_name member.Summary) o (base t s) refl),
-      optional_int_says member.SchemaId (with_parent o (base t s)) t.current_schema_id (of_parent (member_name member.SchemaId) o (base t s) refl) schema fits,
+      optional_int_says member.SchemaId (with_parent o (base t s)) t.current_schema_id
+          (of_parent (member_name member.SchemaId) o (base t s) refl) schema fits,
     ) refl
 
 -- ---- the snapshots
 
-all_end : (x : Data) (ds : Items) → all_objects ds ≡ true → is_some (as_object x) ≡ true → all_objects (at_end x ds) ≡ true
+all_end : (x : Data) (ds : Items) → all_objects ds ≡ true → is_some (as_object x) ≡ true
+    → all_objects (at_end x ds) ≡ true
 all_end x json.no_items all is = rw is refl
 all_end x (json.item d ds) all is = here (is_some (as_object d)) refl all (all_end x ds)
   where
-    here : (b : Bool) → is_some (as_object d) ≡ b → (b && all_objects ds) ≡ true → (all_objects ds ≡ true → is_some (as_object x) ≡ true → all_objects (at_end x ds) ≡ true) → (is_some (as_object d) && all_objects (at_end x ds)) ≡ true
+    here : (b : Bool) → is_some (as_object d) ≡ b → (b && all_objects ds) ≡ true
+        → (all_objects ds ≡ true → is_some (as_object x) ≡ true → all_objects (at_end x ds) ≡ true)
+        → (is_some (as_object d) && all_objects (at_end x ds)) ≡ true
     here true e rest later = rw e (later rest is)
     here false e rest later = absurd (true≢false (sym rest))
 
-any_end : (a : ℤ) (ss : List Snapshot) (n : Snapshot) → list_any (int_eq a) (map snapshot_id ss) ≡ false → int_eq a n.id ≡ false → list_any (int_eq a) (map snapshot_id (ss ++ n ∷ [])) ≡ false
+any_end : (a : ℤ) (ss : List Snapshot) (n : Snapshot) → list_any (int_eq a) (map snapshot_id ss) ≡ false
+    → int_eq a n.id ≡ false → list_any (int_eq a) (map snapshot_id (ss ++ n ∷ [])) ≡ false
 any_end a [] n none other = rw other refl
 any_end a (x ∷ ss) n none other = here (int_eq a x.id) refl none (any_end a ss n)
   where
-    here : (b : Bool) → int_eq a x.id ≡ b → (b || list_any (int_eq a) (map snapshot_id ss)) ≡ false → (list_any (int_eq a) (map snapshot_id ss) ≡ false → int_eq a n.id ≡ false → list_any (int_eq a) (map snapshot_id (ss ++ n ∷ [])) ≡ false)
+    here : (b : Bool) → int_eq a x.id ≡ b → (b || list_any (int_eq a) (map snapshot_id ss)) ≡ false
+        → (list_any (int_eq a) (map snapshot_id ss) ≡ false → int_eq a n.id ≡ false
+        → list_any (int_eq a) (map snapshot_id (ss ++ n ∷ [])) ≡ false)
         → (int_eq a x.id || list_any (int_eq a) (map snapshot_id (ss ++ n ∷ []))) ≡ false
     here true e rest later = absurd (true≢false rest)
     here false e rest later = rw e (later rest other)
 
-again_end : (ss : List Snapshot) (n : Snapshot) → again (map snapshot_id ss) ≡ None → find (λ (x : Snapshot). int_eq x.id n.id) ss ≡ None → again (map snapshot_id (ss ++ n ∷ [])) ≡ None
+again_end : (ss : List Snapshot) (n : Snapshot) → again (map snapshot_id ss) ≡ None
+    → find (λ (x : Snapshot). int_eq x.id n.id) ss ≡ None → again (map snapshot_id (ss ++ n ∷ [])) ≡ None
 again_end [] n once new = refl
-again_end (x ∷ ss) n once new = here (list_any (int_eq x.id) (map snapshot_id ss)) (int_eq x.id n.id) refl refl (again_end ss n)
+again_end (x ∷ ss) n once new = here (list_any (int_eq x.id) (map snapshot_id ss)) (int_eq x.id n.id) refl refl
+    (again_end ss n)
   where
     here : (b c : Bool) → list_any (int_eq x.id) (map snapshot_id ss) ≡ b → int_eq x.id n.id ≡ c
-        → (again (map snapshot_id ss) ≡ None → find (λ (y : Snapshot). int_eq y.id n.id) ss ≡ None → again (map snapshot_id (ss ++ n ∷ [])) ≡ None) → again (map snapshot_id ((x ∷ ss) ++ n ∷ [])) ≡ None
+        → (again (map snapshot_id ss) ≡ None → find (λ (y : Snapshot). int_eq y.id n.id) ss ≡ None
+        → again (map snapshot_id (ss ++ n ∷ [])) ≡ None) → again (map snapshot_id ((x ∷ ss) ++ n ∷ [])) ≡ None
     here true c e f later = let some : Some x.id ≡ None = rw e at once in absurd cc
     here false true e f later = let some : Some x ≡ None = rw f at new in absurd cc
     here false false e f later = rw (any_end x.id ss n e f) (later (rw e at once) (rw f at new))
@@ -360,18 +437,27 @@ record Holds (ds : Items) (ss : List Snapshot) : Type 0 where
   pub read : list_of snapshot_of ds ≡ Ok ss
   pub different : again (map snapshot_id ss) ≡ None
 
-holds_none : (ss : List Snapshot) → (let none : Result (List Snapshot) MetaFault = Ok [] in none ≡ Ok ss) → Holds json.no_items ss
+holds_none : (ss : List Snapshot) → (let none : Result (List Snapshot) MetaFault = Ok [] in none ≡ Ok ss)
+    → Holds json.no_items ss
 unfolding list_of
 holds_none ss e = subst (Holds json.no_items) (ok_is [] ss e) (record { objects = refl; read = refl; different = refl })
 
-holds_items : (ds : Items) (ss : List Snapshot) (b : Bool) → all_objects ds ≡ b → (asked (WrongKind member.Snapshots) (if b then Some ds else None) >>= λ items. each snapshot_of items >>= once snapshot_id) ≡ Ok ss → Holds ds ss
+holds_items : (ds : Items) (ss : List Snapshot) (b : Bool) → all_objects ds ≡ b
+    → (asked (WrongKind member.Snapshots) (if b then Some ds else None) >>= λ items. each snapshot_of items >>= once
+    snapshot_id) ≡ Ok ss → Holds ds ss
 holds_items ds ss true all e =
     take _ (each snapshot_of ds) _ ss e (λ xs read e1.
     let o = once_is snapshot_id xs ss e1 in
-    record { objects = all; read = rw (← o.0) (ok_again (list_of snapshot_of ds) xs (sym (each_list snapshot_of ds []) ∙ read)); different = rw (← o.0) o.1 })
+    record {
+      objects = all;
+      read = rw (← o.0) (ok_again (list_of snapshot_of ds) xs (sym (each_list snapshot_of ds []) ∙
+          read));
+      different = rw (← o.0) o.1;
+    })
 holds_items ds ss false all e = absurd cc
 
-holds : (o : Option Data) (ss : List Snapshot) → if_snapshots (option_and_then not_null o) ≡ Ok ss → Holds (items_of (unwrap_or o json.null)) ss
+holds : (o : Option Data) (ss : List Snapshot) → if_snapshots (option_and_then not_null o) ≡ Ok ss
+    → Holds (items_of (unwrap_or o json.null)) ss
 holds None ss e = holds_none ss e
 holds (Some json.null) ss e = holds_none ss e
 holds (Some (json.boolean b)) ss e = absurd cc
@@ -385,7 +471,8 @@ snapshots_of ds ss h =
     let read : each snapshot_of ds ≡ Ok ss = each_list snapshot_of ds [] ∙ rw h.read refl in
     rw (h.objects, read, h.different) refl
 
-holds_end : (ds : Items) (ss : List Snapshot) (x : Data) (n : Snapshot) → Holds ds ss → is_some (as_object x) ≡ true → snapshot_of x ≡ Ok n → find (λ (y : Snapshot). int_eq y.id n.id) ss ≡ None → Holds (at_end x ds) (ss ++ n ∷ [])
+holds_end : (ds : Items) (ss : List Snapshot) (x : Data) (n : Snapshot) → Holds ds ss → is_some (as_object x) ≡ true
+    → snapshot_of x ≡ Ok n → find (λ (y : Snapshot). int_eq y.id n.id) ss ≡ None → Holds (at_end x ds) (ss ++ n ∷ [])
 holds_end ds ss x n h object is new = record {
   objects = all_end x ds h.objects object;
   read = list_end snapshot_of x n is ds ss h.read;
@@ -400,18 +487,24 @@ is_snapshot_object : (t : Table) (s : NewSnapshot) → is_some (as_object (snaps
 unfolding snapshot_json
 is_snapshot_object t s =
     snapshot_object t.current_snapshot_id (member_name member.Summary) (summary_json s)
-    (set (member_name member.SchemaId) (whole t.current_schema_id) (set (member_name member.ManifestList) (json.string s.manifest_list) (set (member_name member.TimestampMs) (whole s.timestamp_ms)
-    (set (member_name member.SequenceNumber) (natural (suc t.last_sequence_number)) (set (member_name member.SnapshotId) (whole s.id) no_object)))))
+    (set (member_name member.SchemaId) (whole t.current_schema_id) (set (member_name member.ManifestList)
+    (json.string s.manifest_list) (set (member_name member.TimestampMs) (whole s.timestamp_ms)
+    (set (member_name member.SequenceNumber) (natural (suc t.last_sequence_number)) (set (member_name member.SnapshotId)
+    (whole s.id) no_object)))))
 
-next_array : (t : Table) (s : NewSnapshot) (d : Data) → get (member_name member.Snapshots) (next_json t s d) ≡ Some (json.array (at_end (snapshot_json t s) (items_of (inside (member_name member.Snapshots) d))))
+next_array : (t : Table) (s : NewSnapshot) (d : Data) → get (member_name member.Snapshots) (next_json t s d) ≡ Some
+    (json.array (at_end (snapshot_json t s) (items_of (inside (member_name member.Snapshots) d))))
 unfolding one_more
 next_array t s d = next_snapshots t s d
 
-snapshots_next : (t : Table) (s : NewSnapshot) (d : Data) → snapshots_in d ≡ Ok t.snapshots → CanFollow t s → snapshot_of (snapshot_json t s) ≡ Ok (new_snapshot t s) → snapshots_in (next_json t s d) ≡ Ok (t.snapshots ++ new_snapshot t s ∷ [])
+snapshots_next : (t : Table) (s : NewSnapshot) (d : Data) → snapshots_in d ≡ Ok t.snapshots → CanFollow t s
+    → snapshot_of (snapshot_json t s) ≡ Ok (new_snapshot t s)
+    → snapshots_in (next_json t s d) ≡ Ok (t.snapshots ++ new_snapshot t s ∷ [])
 unfolding snapshots_in
 snapshots_next t s d says can is =
     let old = holds (get (member_name member.Snapshots) d) t.snapshots says in
-    let new = holds_end (items_of (inside (member_name member.Snapshots) d)) t.snapshots (snapshot_json t s) (new_snapshot t s) old (is_snapshot_object t s) is can.id_is_new in
+    let new = holds_end (items_of (inside (member_name member.Snapshots) d)) t.snapshots (snapshot_json t s)
+    (new_snapshot t s) old (is_snapshot_object t s) is can.id_is_new in
     rw (next_array t s d) (snapshots_of _ _ new)
 
 -- ---- the refs
@@ -419,20 +512,27 @@ snapshots_next t s d says can is =
 ref_named : (k : List ℕ) (d : Data) (r : Ref) → ref_of k d ≡ Ok r → k ≡ r.name
 unfolding ref_of
 ref_named k d r e =
-    take _ (object_of member.Refs d) _ r e (λ whole w e1. take _ (long_in member.SnapshotId whole) _ r e1 (λ id i e2. take _ (text_in member.Type whole) _ r e2 (λ type y e3.
+    take _ (object_of member.Refs d) _ r e (λ whole w e1. take _ (long_in member.SnapshotId whole) _ r e1
+    (λ id i e2. take _ (text_in member.Type whole) _ r e2 (λ type y e3.
     take _ (kind_of type) _ r e3 (λ kind z e4. ap (λ (q : Ref). q.name) (ok_is _ r e4)))))
 
-refs_put : (k : List ℕ) (x : Data) (r : Ref) → ref_of k x ≡ Ok r → (ms : Members) (rs : List Ref) → refs_of ms ≡ Ok rs → refs_of (put k x ms) ≡ Ok (placed r rs)
+refs_put : (k : List ℕ) (x : Data) (r : Ref) → ref_of k x ≡ Ok r → (ms : Members) (rs : List Ref) → refs_of ms ≡ Ok rs
+    → refs_of (put k x ms) ≡ Ok (placed r rs)
 unfolding refs_of
 refs_put k x r is json.no_members rs e = let none : [] ≡ rs = ok_is [] rs e in rw (← none, is) refl
 refs_put k x r is (json.member l d ms) rs e =
     take _ (ref_of l d) _ rs e (λ q was e1. take _ (refs_of ms) _ rs e1 (λ qs were e2.
-    let names : slice_cmp nat_cmp k l ≡ slice_cmp nat_cmp r.name q.name = ap (λ a. slice_cmp nat_cmp a l) (ref_named k x r is) ∙ ap (slice_cmp nat_cmp r.name) (ref_named l d q was) in
+    let names : slice_cmp nat_cmp k l ≡ slice_cmp nat_cmp r.name q.name = ap (λ a. slice_cmp nat_cmp a l)
+    (ref_named k x r is) ∙ ap (slice_cmp nat_cmp r.name) (ref_named l d q was) in
     here (slice_cmp nat_cmp k l) q qs refl was were (refs_put k x r is ms qs were)
-    ∙ (ap (λ c. Ok (match_ordering c (r ∷ q ∷ qs) (r ∷ qs) (q ∷ placed r qs))) names ∙ ap (λ ys. Ok (placed r ys)) (ok_is (q ∷ qs) rs e2))))
+    ∙ (ap (λ c. Ok (match_ordering c (r ∷ q ∷ qs) (r ∷ qs) (q ∷ placed r qs))) names ∙ ap (λ ys. Ok (placed r ys))
+    (ok_is (q ∷ qs) rs e2))))
   where
-    here : (o : Ordering) (q : Ref) (qs : List Ref) → slice_cmp nat_cmp k l ≡ o → ref_of l d ≡ Ok q → refs_of ms ≡ Ok qs → refs_of (put k x ms) ≡ Ok (placed r qs)
-        → refs_of (match_ordering (slice_cmp nat_cmp k l) (json.member k x (json.member l d ms)) (json.member l x ms) (json.member l d (put k x ms))) ≡ Ok (match_ordering (slice_cmp nat_cmp k l) (r ∷ q ∷ qs) (r ∷ qs) (q ∷ placed r qs))
+    here : (o : Ordering) (q : Ref) (qs : List Ref) → slice_cmp nat_cmp k l ≡ o → ref_of l d ≡ Ok q → refs_of ms ≡ Ok qs
+        → refs_of (put k x ms) ≡ Ok (placed r qs)
+        → refs_of (match_ordering (slice_cmp nat_cmp k l) (json.member k x (json.member l d ms)) (json.member l x ms)
+        (json.member l d (put k x ms))) ≡ Ok (match_ordering (slice_cmp nat_cmp k l) (r ∷ q ∷ qs) (r ∷ qs)
+        (q ∷ placed r qs))
     here Less q qs cmp was were later = rw (cmp, is, was, were) refl
     here Equal q qs cmp was were later =
         let same : k ≡ l = (bytes_eq-Decides k l).0 (sym (is_eq-slice_cmp k l) ∙ ap is_eq cmp) in
@@ -440,7 +540,8 @@ refs_put k x r is (json.member l d ms) rs e =
         rw (cmp, moved, were) refl
     here Greater q qs cmp was were later = rw (cmp, was, later) refl
 
-held_refs : (o : Option Data) (rs : List Ref) → if_refs (option_and_then not_null o) ≡ Ok rs → refs_of (members_of (unwrap_or o json.null)) ≡ Ok rs
+held_refs : (o : Option Data) (rs : List Ref) → if_refs (option_and_then not_null o) ≡ Ok rs
+    → refs_of (members_of (unwrap_or o json.null)) ≡ Ok rs
 unfolding refs_of
 held_refs None rs e = e
 held_refs (Some json.null) rs e = e
@@ -455,21 +556,28 @@ unfolding ref_of
 main_says s d h =
     let id : long_in member.SnapshotId (branch_to s.id d) ≡ Ok s.id =
     long_says member.SnapshotId (branch_to s.id d) s.id
-    (set_other (member_name member.SnapshotId) (member_name member.Type) (json.string (codes "branch")) (set (member_name member.SnapshotId) (whole s.id) d) refl ∙ set_same (member_name member.SnapshotId) (whole s.id) d) h in
+    (set_other (member_name member.SnapshotId) (member_name member.Type) (json.string (codes "branch"))
+    (set (member_name member.SnapshotId) (whole s.id) d) refl ∙ set_same (member_name member.SnapshotId)
+    (whole s.id) d) h in
     let type : text_in member.Type (branch_to s.id d) ≡ Ok (codes "branch") =
-    text_says member.Type (branch_to s.id d) (codes "branch") (set_same (member_name member.Type) (json.string (codes "branch")) (set (member_name member.SnapshotId) (whole s.id) d)) in
+    text_says member.Type (branch_to s.id d) (codes "branch") (set_same (member_name member.Type)
+    (json.string (codes "branch")) (set (member_name member.SnapshotId) (whole s.id) d)) in
     rw (id, type) refl
 
 next_object : (t : Table) (s : NewSnapshot) (d : Data) → get (member_name member.Refs) (next_json t s d)
-    ≡ Some (json.object (put (codes "main") (branch_to s.id (inside (codes "main") (inside (member_name member.Refs) d))) (members_of (inside (member_name member.Refs) d))))
+    ≡ Some (json.object (put (codes "main") (branch_to s.id (inside (codes "main") (inside (member_name member.Refs)
+    d))) (members_of (inside (member_name member.Refs) d))))
 unfolding refs_json
 next_object t s d = found _ _ _ (refs_has t s d)
 
-refs_next : (t : Table) (s : NewSnapshot) (d : Data) → refs_in d ≡ Ok t.refs → IsLong s.id → refs_in (next_json t s d) ≡ Ok (placed (main_at s) t.refs)
+refs_next : (t : Table) (s : NewSnapshot) (d : Data) → refs_in d ≡ Ok t.refs → IsLong s.id
+    → refs_in (next_json t s d) ≡ Ok (placed (main_at s) t.refs)
 unfolding refs_in
 refs_next t s d says h =
     let refs = inside (member_name member.Refs) d in
-    let new = refs_put (codes "main") (branch_to s.id (inside (codes "main") refs)) (main_at s) (main_says s (inside (codes "main") refs) h) (members_of refs) t.refs (held_refs (get (member_name member.Refs) d) t.refs says) in
+    let new = refs_put (codes "main") (branch_to s.id (inside (codes "main") refs)) (main_at s)
+    (main_says s (inside (codes "main") refs) h) (members_of refs) t.refs
+    (held_refs (get (member_name member.Refs) d) t.refs says) in
     rw (next_object t s d) (each_refs _ [] ∙ rw new refl)
 
 -- ---- what stays
@@ -481,8 +589,10 @@ neither false b e = (refl, e)
 -- a name that is none of those that change
 changes : List ℕ → Bool
 changes q =
-    bytes_eq q (member_name member.LastSequenceNumber) || (bytes_eq q (member_name member.LastUpdatedMs) || (bytes_eq q (member_name member.CurrentSnapshotId)
-    || (bytes_eq q (member_name member.Snapshots) || (bytes_eq q (codes "snapshot-log") || bytes_eq q (member_name member.Refs)))))
+    bytes_eq q (member_name member.LastSequenceNumber) || (bytes_eq q (member_name member.LastUpdatedMs) ||
+    (bytes_eq q (member_name member.CurrentSnapshotId)
+    || (bytes_eq q (member_name member.Snapshots) || (bytes_eq q (codes "snapshot-log") || bytes_eq q
+    (member_name member.Refs)))))
 
 apart : (q : List ℕ) → changes q ≡ false → Apart q
 unfolding changes
@@ -492,7 +602,14 @@ apart q e =
     let current = neither (bytes_eq q (member_name member.CurrentSnapshotId)) _ updated.1 in
     let snapshots = neither (bytes_eq q (member_name member.Snapshots)) _ current.1 in
     let log = neither (bytes_eq q (codes "snapshot-log")) (bytes_eq q (member_name member.Refs)) snapshots.1 in
-    record { number = number.0; updated = updated.0; current = current.0; snapshots = snapshots.0; log = log.0; refs = log.1 }
+    record {
+      number = number.0;
+      updated = updated.0;
+      current = current.0;
+      snapshots = snapshots.0;
+      log = log.0;
+      refs = log.1;
+    }
 
 -- e has the members of d but those that change
 Keeps : Data → Data → Type 0
@@ -526,7 +643,8 @@ specs_stay : (d e : Data) → Keeps d e → specs_in e ≡ specs_in d
 unfolding specs_in Keeps changes
 specs_stay d e k = rw (k (member_name member.PartitionSpecs) refl) refl
 
-current_schema_stays : (schemas : List Schema) (d e : Data) → Keeps d e → current_schema_in schemas e ≡ current_schema_in schemas d
+current_schema_stays : (schemas : List Schema) (d e : Data) → Keeps d e
+    → current_schema_in schemas e ≡ current_schema_in schemas d
 unfolding current_schema_in Keeps changes
 current_schema_stays schemas d e k = rw (k (member_name member.CurrentSchemaId) refl) refl
 
@@ -556,19 +674,26 @@ some_is : {A : Type 0} (x y : A) → Some x ≡ Some y → x ≡ y
 some_is x y e = cc
 
 -- the id of the current schema is an int, and so a long
-schema_fits : (d : Data) (schemas : List Schema) (z : ℤ) → current_schema_in schemas d ≡ Ok z → IsLong z × (if_int z ≡ Some z)
+schema_fits : (d : Data) (schemas : List Schema) (z : ℤ) → current_schema_in schemas d ≡ Ok z
+    → IsLong z × (if_int z ≡ Some z)
 unfolding current_schema_in
 schema_fits d schemas z e =
     take _ (int_in member.CurrentSchemaId d) _ z e (λ id was e1.
-    take _ (there member.CurrentSchemaId d) _ id was (λ x found_x e2. take _ (long_of member.CurrentSchemaId x) _ id e2 (λ y read e3.
+    take _ (there member.CurrentSchemaId d) _ id was (λ x found_x e2. take _ (long_of member.CurrentSchemaId x) _ id e2
+    (λ y read e3.
     let is : if_int y ≡ Some id = asked_is (WrongKind member.CurrentSchemaId) (if_int y) id e3 in
     let fits = int_long y id is in
     let same : y ≡ z = some_is y id (sym fits.1 ∙ is) ∙ among member.CurrentSchemaId _ id z e1 in
     subst (λ w. IsLong w × (if_int w ≡ Some w)) same fits)))
 
-current_next : (t : Table) (s : NewSnapshot) (d : Data) → IsLong s.id → int_eq s.id (negsuc 0) ≡ false → current_snapshot_in (next_json t s d) ≡ Ok (Some s.id)
+current_next : (t : Table) (s : NewSnapshot) (d : Data) → IsLong s.id → int_eq s.id (negsuc 0) ≡ false
+    → current_snapshot_in (next_json t s d) ≡ Ok (Some s.id)
 unfolding current_snapshot_in
-current_next t s d h one = rw (optional_long_says member.CurrentSnapshotId (next_json t s d) s.id (found _ _ _ (current_has t s d)) h, one) refl
+current_next t s d h one = rw (
+  optional_long_says member.CurrentSnapshotId (next_json t s d) s.id
+      (found _ _ _ (current_has t s d)) h,
+  one,
+) refl
 
 pub says_next : SaysTheNext
 says_next d t s says can longs =
@@ -580,8 +705,10 @@ says_next d t s says can longs =
       version = (p.version.0, version_stays d e k ∙ p.version.1);
       uuid = uuid_stays d e k ∙ p.uuid;
       location = location_stays d e k ∙ p.location;
-      last_sequence_number = number_says member.LastSequenceNumber e (suc t.last_sequence_number) (found _ _ _ (number_has t s d)) can.number_fits;
-      last_updated_ms = long_says member.LastUpdatedMs e s.timestamp_ms (found _ _ _ (updated_has t s d)) longs.timestamp_ms;
+      last_sequence_number = number_says member.LastSequenceNumber e (suc t.last_sequence_number)
+          (found _ _ _ (number_has t s d)) can.number_fits;
+      last_updated_ms = long_says member.LastUpdatedMs e s.timestamp_ms (found _ _ _ (updated_has t s d))
+          longs.timestamp_ms;
       last_column_id = column_id_stays d e k ∙ p.last_column_id;
       schemas = schemas_stay d e k ∙ p.schemas;
       current_schema_id = current_schema_stays t.schemas d e k ∙ p.current_schema_id;

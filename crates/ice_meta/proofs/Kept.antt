@@ -1,5 +1,6 @@
 -- What holds of every schema and every spec that was read.
-use Rattle.std.proofs.Common.{◌≡◌, ◌≤◌, ◌+◌, suc, Bool, true, false, cond, length, arith, length-append, ◌∙◌, List, [], ◌∷◌, ◌++◌, map, Option, None, Some, Ok, Err, refl, sym, ap}
+use Rattle.std.proofs.Common.{◌≡◌, ◌≤◌, ◌+◌, suc, Bool, true, false, cond, length, arith, length-append, ◌∙◌, List, []}
+use Rattle.std.proofs.Common.{◌∷◌, ◌++◌, map, Option, None, Some, Ok, Err, refl, sym, ap}
 use Rattle.std.specs.Prelude.{ℤ, Result, nat_lt}
 use Rattle.std.specs.List.{All, IsDistinct}
 use Rattle.std.specs.Ordering.{int_eq}
@@ -19,16 +20,20 @@ use Rattle.ice_meta.specs.declared.table.Table.{Table}
 use Rattle.ice_meta.specs.Members.{long_in, int_in, sequence_number_in, text_in, objects_in}
 use Rattle.ice_meta.specs.Schemas.{column_id, if_struct, inside, most_levels, fields_at, schema_of}
 use Rattle.ice_meta.specs.Different.{HasDifferentColumns, HasDifferentFields}
-use Rattle.ice_meta.specs.Tables.{field_id, partition_field_of, if_few, spec_of, schemas_in, specs_in, schema_id, spec_id, version_in, uuid_in, location_in, current_schema_in, default_spec_in, current_snapshot_in, snapshots_in, refs_in, table_of}
+use Rattle.ice_meta.specs.Tables.{field_id, partition_field_of, if_few, spec_of, schemas_in, specs_in, schema_id}
+use Rattle.ice_meta.specs.Tables.{spec_id, version_in, uuid_in, location_in, current_schema_in, default_spec_in}
+use Rattle.ice_meta.specs.Tables.{current_snapshot_in, snapshots_in, refs_in, table_of}
 use Rattle.ice_meta.proofs.Different.{distinct}
 
 -- what was read first, where the rest was read too
-parts : {A B E : Type 0} (r : Result A E) (f : A → Result B E) (y : B) → (r >>= f) ≡ Ok y → (x : A) × ((r ≡ Ok x) × (f x ≡ Ok y))
+parts : {A B E : Type 0} (r : Result A E) (f : A → Result B E) (y : B) → (r >>= f) ≡ Ok y
+    → (x : A) × ((r ≡ Ok x) × (f x ≡ Ok y))
 parts (Ok x) f y e = (x, (refl, e))
 parts (Err fault) f y e = absurd cc
 
 -- the same where what was read last is put into a whole
-last : {A B : Type 0} (r : Result A MetaFault) (f : A → B) (y : B) → (r >>= λ x. Ok (f x)) ≡ Ok y → (x : A) × ((r ≡ Ok x) × (f x ≡ y))
+last : {A B : Type 0} (r : Result A MetaFault) (f : A → B) (y : B) → (r >>= λ x. Ok (f x)) ≡ Ok y
+    → (x : A) × ((r ≡ Ok x) × (f x ≡ y))
 last (Ok x) f y e = (x, (refl, cc))
 last (Err fault) f y e = absurd cc
 
@@ -37,9 +42,11 @@ each_all : {A : Type 0} (P : A → Type 0) (read : Data → Result A MetaFault) 
 each_all {A = A} P read h json.no_items front xs all e = let same : front ≡ xs = cc in rw same at all
 each_all {A = A} P read h (json.item d ds) front xs all e = here (read d) refl e (each_all P read h ds)
   where
-    here : (r : Result A MetaFault) → read d ≡ r → ((r >>= λ x. Ok (front ++ x ∷ [])) >>= each_into (one_more read) ds) ≡ Ok xs
+    here : (r : Result A MetaFault) → read d ≡ r → ((r >>= λ x. Ok (front ++ x ∷ [])) >>= each_into (one_more read) ds)
+        ≡ Ok xs
         → ((later ys : List A) → All P later → each_into (one_more read) ds later ≡ Ok ys → All P ys) → All P xs
-    here (Ok x) was now rest = rest (front ++ x ∷ []) xs (All-append P front (x ∷ []) all (All-cons P x [] (h d x was) (All-nil P))) now
+    here (Ok x) was now rest = rest (front ++ x ∷ []) xs (All-append P front (x ∷ []) all (All-cons P x [] (h d x was)
+        (All-nil P))) now
     here (Err fault) was now rest = absurd cc
 
 -- a list of which no id comes again is given as it is
@@ -121,19 +128,22 @@ table_fields d t e = all_fields_differ d t.specs (table_parts d t e).1
 
 -- ---- how many fields a spec has
 
-each_len : {A : Type 0} (read : Data → Result A MetaFault) (items : Items) (front xs : List A) → each_into (one_more read) items front ≡ Ok xs → length xs ≡ length front + items_len items
+each_len : {A : Type 0} (read : Data → Result A MetaFault) (items : Items) (front xs : List A)
+    → each_into (one_more read) items front ≡ Ok xs → length xs ≡ length front + items_len items
 each_len read json.no_items front xs e = let same : front ≡ xs = cc in rw same (omega arith)
 each_len {A = A} read (json.item d ds) front xs e = here (read d) e (λ x. each_len read ds (front ++ x ∷ []) xs)
   where
     here : (r : Result A MetaFault) → ((r >>= λ x. Ok (front ++ x ∷ [])) >>= each_into (one_more read) ds) ≡ Ok xs
-        → ((x : A) → each_into (one_more read) ds (front ++ x ∷ []) ≡ Ok xs → length xs ≡ length (front ++ x ∷ []) + items_len ds) → length xs ≡ length front + suc (items_len ds)
+        → ((x : A) → each_into (one_more read) ds (front ++ x ∷ []) ≡ Ok xs → length xs ≡ length (front ++ x ∷ []) +
+        items_len ds) → length xs ≡ length front + suc (items_len ds)
     here (Ok x) now rest = let n = rest x now in let m = length-append front (x ∷ []) in omega arith
     here (Err fault) now rest = absurd cc
 
 few_of : (items x : Items) → if_few items ≡ Ok x → (items ≡ x) × (items_len items ≤ 64)
 few_of items x e = here (nat_lt 64 (items_len items)) refl e
   where
-    here : (b : Bool) → nat_lt 64 (items_len items) ≡ b → cond b (Err TooBig) (Ok items) ≡ Ok x → (items ≡ x) × (items_len items ≤ 64)
+    here : (b : Bool) → nat_lt 64 (items_len items) ≡ b → cond b (Err TooBig) (Ok items) ≡ Ok x
+        → (items ≡ x) × (items_len items ≤ 64)
     here true was now = absurd cc
     here false was now = (cc, ltb-false 64 (items_len items) was)
 

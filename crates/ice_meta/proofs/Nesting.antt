@@ -11,17 +11,22 @@ use Rattle.ice_meta.specs.declared.commit.NewSnapshot.{NewSnapshot}
 use Rattle.ice_meta.specs.declared.fault.Member.TheVariants as member
 use Rattle.ice_meta.specs.declared.table.Table.{Table}
 use Rattle.ice_meta.specs.Members.{member_name}
-use Rattle.ice_meta.specs.Committing.{inside, members_of, set, items_of, at_end, one_more, no_object, operation_name, with_parent, summary_json, snapshot_json, log_json, branch_to, refs_json, with_refs, with_log, with_snapshots, next_json}
+use Rattle.ice_meta.specs.Committing.{inside, members_of, set, items_of, at_end, one_more, no_object, operation_name}
+use Rattle.ice_meta.specs.Committing.{with_parent, summary_json, snapshot_json, log_json, branch_to, refs_json}
+use Rattle.ice_meta.specs.Committing.{with_refs, with_log, with_snapshots, next_json}
 
-either : (o : Ordering) (a b c : Members) (n : ℕ) → members_depth a ≤ n → members_depth b ≤ n → members_depth c ≤ n → members_depth (match_ordering o a b c) ≤ n
+either : (o : Ordering) (a b c : Members) (n : ℕ) → members_depth a ≤ n → members_depth b ≤ n → members_depth c ≤ n
+    → members_depth (match_ordering o a b c) ≤ n
 either Less a b c n p q r = p
 either Equal a b c n p q r = q
 either Greater a b c n p q r = r
 
-under_put : (k : List ℕ) (x : Data) (ms : Members) (n : ℕ) → depth x ≤ n → members_depth ms ≤ n → members_depth (put k x ms) ≤ n
+under_put : (k : List ℕ) (x : Data) (ms : Members) (n : ℕ) → depth x ≤ n → members_depth ms ≤ n
+    → members_depth (put k x ms) ≤ n
 under_put k x json.no_members n p q = omega arith
 under_put k x (json.member l e ms) n p q =
-    either _ (json.member k x (json.member l e ms)) (json.member l x ms) (json.member l e (put k x ms)) n (omega arith) (omega arith) (omega (arith, under_put k x ms n p (omega arith)))
+    either _ (json.member k x (json.member l e ms)) (json.member l x ms) (json.member l e (put k x ms)) n (omega arith)
+    (omega arith) (omega (arith, under_put k x ms n p (omega arith)))
 
 under_members : (d : Data) (n : ℕ) → depth d ≤ suc n → members_depth (members_of d) ≤ n
 under_members json.null n h = omega arith
@@ -48,14 +53,16 @@ abbrev at_most : ℕ → Option Data → Type 0
 at_most n None = 0 ≤ n
 at_most n (Some d) = depth d ≤ n
 
-found : (o : Ordering) (n : ℕ) (e : Data) (later : Option Data) → depth e ≤ n → at_most n later → at_most n (match_ordering o later (Some e) later)
+found : (o : Ordering) (n : ℕ) (e : Data) (later : Option Data) → depth e ≤ n → at_most n later
+    → at_most n (match_ordering o later (Some e) later)
 found Less n e later p q = q
 found Equal n e later p q = p
 found Greater n e later p q = q
 
 under_get : (k : List ℕ) (ms : Members) (n : ℕ) → members_depth ms ≤ n → at_most n (get_member k ms)
 under_get k json.no_members n h = omega arith
-under_get k (json.member l e ms) n h = found (slice_cmp nat_cmp k l) n e (get_member k ms) (omega arith) (under_get k ms n (omega arith))
+under_get k (json.member l e ms) n h = found (slice_cmp nat_cmp k l) n e (get_member k ms) (omega arith)
+    (under_get k ms n (omega arith))
 
 or_null : (o : Option Data) (n : ℕ) → at_most n o → depth (unwrap_or o json.null) ≤ n
 or_null None n h = omega arith
@@ -90,7 +97,8 @@ under_one_more : (x d : Data) (n : ℕ) → Nests n x → Nests (suc n) d → Ne
 unfolding one_more Nests
 under_one_more x d n p q = omega (arith, under_end x (items_of d) n p (under_items d n q))
 
-under_number : (k : List ℕ) (x : json.Num) (d : Data) (n : ℕ) → Nests (suc n) d → Nests (suc n) (set k (json.number x) d)
+under_number : (k : List ℕ) (x : json.Num) (d : Data) (n : ℕ) → Nests (suc n) d
+    → Nests (suc n) (set k (json.number x) d)
 unfolding Nests
 under_number k x d n h = under_set k (json.number x) d n (omega arith) h
 
@@ -123,29 +131,35 @@ under_log s =
     (under_number (member_name member.TimestampMs) (of_integer s.timestamp_ms) no_object 0 (no_levels 0))
 
 under_branch : (id : ℤ) (d : Data) (n : ℕ) → Nests (suc n) d → Nests (suc n) (branch_to id d)
-under_branch id d n h = under_text (member_name member.Type) (codes "branch") _ n (under_number (member_name member.SnapshotId) (of_integer id) d n h)
+under_branch id d n h = under_text (member_name member.Type) (codes "branch") _ n
+    (under_number (member_name member.SnapshotId) (of_integer id) d n h)
 
 under_refs : (s : NewSnapshot) (d : Data) (n : ℕ) → Nests (suc (suc n)) d → Nests (suc (suc n)) (refs_json s d)
 unfolding refs_json
 under_refs s d n h =
-    under_set (codes "main") (branch_to s.id (inside (codes "main") d)) d (suc n) (under_branch s.id (inside (codes "main") d) n (under_inside (codes "main") d (suc n) h)) h
+    under_set (codes "main") (branch_to s.id (inside (codes "main") d)) d (suc n)
+    (under_branch s.id (inside (codes "main") d) n (under_inside (codes "main") d (suc n) h)) h
 
 with_refs_nests : (s : NewSnapshot) (d : Data) → Nests max_depth d → Nests max_depth (with_refs s d)
 with_refs_nests s d h =
     let refs = inside (member_name member.Refs) d in
-    under_set (member_name member.Refs) (refs_json s refs) d 126 (under_refs s refs 124 (under_inside (member_name member.Refs) d 126 h)) h
+    under_set (member_name member.Refs) (refs_json s refs) d 126
+    (under_refs s refs 124 (under_inside (member_name member.Refs) d 126 h)) h
 
 with_log_nests : (s : NewSnapshot) (d : Data) → Nests max_depth d → Nests max_depth (with_log s d)
 with_log_nests s d h =
     let log = inside (codes "snapshot-log") d in
     under_set (codes "snapshot-log") (one_more (log_json s) log) d 126
-    (under_one_more (log_json s) log 125 (wider 1 125 (log_json s) (omega arith) (under_log s)) (under_inside (codes "snapshot-log") d 126 h)) h
+    (under_one_more (log_json s) log 125 (wider 1 125 (log_json s) (omega arith) (under_log s))
+    (under_inside (codes "snapshot-log") d 126 h)) h
 
-with_snapshots_nests : (t : Table) (s : NewSnapshot) (d : Data) → Nests max_depth d → Nests max_depth (with_snapshots t s d)
+with_snapshots_nests : (t : Table) (s : NewSnapshot) (d : Data) → Nests max_depth d
+    → Nests max_depth (with_snapshots t s d)
 with_snapshots_nests t s d h =
     let snapshots = inside (member_name member.Snapshots) d in
     under_set (member_name member.Snapshots) (one_more (snapshot_json t s) snapshots) d 126
-    (under_one_more (snapshot_json t s) snapshots 125 (wider 2 125 (snapshot_json t s) (omega arith) (under_snapshot t s)) (under_inside (member_name member.Snapshots) d 126 h)) h
+    (under_one_more (snapshot_json t s) snapshots 125 (wider 2 125 (snapshot_json t s) (omega arith)
+    (under_snapshot t s)) (under_inside (member_name member.Snapshots) d 126 h)) h
 
 next_nests : (t : Table) (s : NewSnapshot) (d : Data) → Nests max_depth d → Nests max_depth (next_json t s d)
 unfolding next_json

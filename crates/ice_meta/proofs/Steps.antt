@@ -1,5 +1,7 @@
 -- Steps of the loops, and of the levels of a type.
-use Rattle.std.proofs.Common.{◌≡◌, ◌≢◌, ap, ℕ, zero, suc, ◌+◌, ◌-◌, ◌≤◌, ◌<◌, true, false, List, [], ◌∷◌, ◌++◌, length, get_or, drop, Ok, Err, Bool, Some, None, true≢false, refl, sym, ◌∙◌, add-one, drop-cons, arith}
+use Rattle.std.proofs.Common.{◌≡◌, ◌≢◌, ap, ℕ, zero, suc, ◌+◌, ◌-◌, ◌≤◌, ◌<◌, true, false, List, [], ◌∷◌, ◌++◌, length}
+use Rattle.std.proofs.Common.{get_or, drop, Ok, Err, Bool, Some, None, true≢false, refl, sym, ◌∙◌, add-one, drop-cons}
+use Rattle.std.proofs.Common.{arith}
 use Rattle.std.specs.Prelude.{ℤ}
 use Rattle.std.specs.List.{list_any, IsFirstAndRest}
 use Rattle.std.specs.Ordering.{int_eq}
@@ -15,10 +17,12 @@ use Rattle.ice_meta.specs.declared.schema.Column.{Column}
 use Rattle.ice_meta.specs.Reading.{again, each_into, one_more}
 use Rattle.ice_meta.specs.Schemas.{object_at, inside}
 
-pub step_of : {A : Type 0} (xs : List A) (i : ℕ) (x : A) → i < length xs → x ≡ get_or xs i x → drop i xs ≡ x ∷ drop (i + 1) xs
+pub step_of : {A : Type 0} (xs : List A) (i : ℕ) (x : A) → i < length xs → x ≡ get_or xs i x
+    → drop i xs ≡ x ∷ drop (i + 1) xs
 step_of xs i x lt is = drop-cons xs i x lt ∙ rw (← is, add-one) refl
 
-pub again_later : (ids others : List ℤ) (id shown : ℤ) → shown ≡ id → IsFirstAndRest ids id others → list_any (int_eq shown) others ≡ false → again ids ≡ again others
+pub again_later : (ids others : List ℤ) (id shown : ℤ) → shown ≡ id → IsFirstAndRest ids id others
+    → list_any (int_eq shown) others ≡ false → again ids ≡ again others
 again_later ids others id shown same first other =
     let e : again (id ∷ others) ≡ again others = rw (rw same at other, again) refl in
     rw first.0 e
@@ -39,27 +43,34 @@ items_count (v ∷ vs) = ap suc (items_count vs)
 
 -- ---- reading one item after the other
 
-pub into_on : {S : Type 0} (read : Data → S → Result S MetaFault) (vs : List Value) (i : ℕ) (v : Value) (s t : S) (total : Result S MetaFault) → i < length vs → v ≡ get_or vs i v → read (view v) s ≡ Ok t
+pub into_on : {S : Type 0} (read : Data → S → Result S MetaFault) (vs : List Value) (i : ℕ) (v : Value) (s t : S)
+    (total : Result S MetaFault) → i < length vs → v ≡ get_or vs i v → read (view v) s ≡ Ok t
     → each_into read (items_view (drop i vs)) s ≡ total → each_into read (items_view (drop (i + 1) vs)) t ≡ total
 into_on read vs i v s t total lt is h so_far =
-    let one : each_into read (items_view (drop i vs)) s ≡ each_into read (items_view (drop (i + 1) vs)) t = rw (step_of vs i v lt is, h) refl in
+    let one : each_into read (items_view (drop i vs)) s ≡ each_into read (items_view (drop (i + 1) vs)) t =
+    rw (step_of vs i v lt is, h) refl in
     sym one ∙ so_far
 
-pub into_fails : {S : Type 0} (f : MetaFault) (read : Data → S → Result S MetaFault) (vs : List Value) (i : ℕ) (v : Value) (s : S) (total : Result S MetaFault) → i < length vs → v ≡ get_or vs i v → (f ≢ Memory → read (view v) s ≡ Err f)
+pub into_fails : {S : Type 0} (f : MetaFault) (read : Data → S → Result S MetaFault) (vs : List Value) (i : ℕ)
+    (v : Value) (s : S) (total : Result S MetaFault) → i < length vs → v ≡ get_or vs i v
+    → (f ≢ Memory → read (view v) s ≡ Err f)
     → each_into read (items_view (drop i vs)) s ≡ total → f ≢ Memory → total ≡ Err f
 into_fails f read vs i v s total lt is h so_far ne =
     let one : each_into read (items_view (drop i vs)) s ≡ Err f = rw (step_of vs i v lt is, h ne) refl in
     sym so_far ∙ one
 
-pub into_done : {S : Type 0} (read : Data → S → Result S MetaFault) (vs : List Value) (i : ℕ) (s : S) (total : Result S MetaFault) → length vs ≤ i → each_into read (items_view (drop i vs)) s ≡ total → total ≡ Ok s
+pub into_done : {S : Type 0} (read : Data → S → Result S MetaFault) (vs : List Value) (i : ℕ) (s : S)
+    (total : Result S MetaFault) → length vs ≤ i → each_into read (items_view (drop i vs)) s ≡ total → total ≡ Ok s
 into_done read vs i s total le so_far =
     let one : each_into read (items_view (drop i vs)) s ≡ Ok s = rw (drop_of_length-le vs le) refl in
     sym so_far ∙ one
 
-pub one_read : {A : Type 0} (read : Data → Result A MetaFault) (d : Data) (front : List A) (x : A) → read d ≡ Ok x → one_more read d front ≡ Ok (front ++ x ∷ [])
+pub one_read : {A : Type 0} (read : Data → Result A MetaFault) (d : Data) (front : List A) (x : A) → read d ≡ Ok x
+    → one_more read d front ≡ Ok (front ++ x ∷ [])
 one_read read d front x h = rw h refl
 
-pub one_fails : {A : Type 0} (f : MetaFault) (read : Data → Result A MetaFault) (d : Data) (front : List A) → (f ≢ Memory → read d ≡ Err f) → f ≢ Memory → one_more read d front ≡ Err f
+pub one_fails : {A : Type 0} (f : MetaFault) (read : Data → Result A MetaFault) (d : Data) (front : List A)
+    → (f ≢ Memory → read d ≡ Err f) → f ≢ Memory → one_more read d front ≡ Err f
 one_fails f read d front h ne = rw (h ne) refl
 
 -- what some element passes is found

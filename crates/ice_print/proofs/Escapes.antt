@@ -1,7 +1,9 @@
 -- Escaping and back.
-use Rattle.std.proofs.Common.{◌≡◌, ◌∙◌, ◌<◌, ◌+◌, ◌*◌, ◌/◌, ◌%◌, ℕ, List, [], ◌∷◌, ◌++◌, refl, ap, arith, tests, Bool, true, false, Option, Some, None, ◌&&◌, ◌==◌}
+use Rattle.std.proofs.Common.{◌≡◌, ◌∙◌, ◌<◌, ◌+◌, ◌*◌, ◌/◌, ◌%◌, ℕ, List, [], ◌∷◌, ◌++◌, refl, ap, arith, tests, Bool}
+use Rattle.std.proofs.Common.{true, false, Option, Some, None, ◌&&◌, ◌==◌}
 use Rattle.std.proofs.Math.Nat.{div-add-mod}
-use Rattle.ice_print.specs.Escaping.{hex_digit, is_escaped, escaped_byte, escaped, digit_value, only_escaped, digits_byte, before, escape_byte, plain_byte, unescaped}
+use Rattle.ice_print.specs.Escaping.{hex_digit, is_escaped, escaped_byte, escaped, digit_value, only_escaped}
+use Rattle.ice_print.specs.Escaping.{digits_byte, before, escape_byte, plain_byte, unescaped}
 
 -- a digit is read as it was written
 digit_back : (n : ℕ) → n < 16 → digit_value (hex_digit n) ≡ Some n
@@ -16,7 +18,8 @@ split b h = omega arith
 last : (b : ℕ) → b % 16 < 16
 last b = omega arith
 
-byte_back : (b : ℕ) → is_escaped b ≡ true → digits_byte (digit_value (hex_digit (b / 16))) (digit_value (hex_digit (b % 16))) ≡ Some b
+byte_back : (b : ℕ) → is_escaped b ≡ true → digits_byte (digit_value (hex_digit (b / 16)))
+    (digit_value (hex_digit (b % 16))) ≡ Some b
 byte_back b h =
     rw (digit_back (b / 16) (split b (small b h)), digit_back (b % 16) (last b), div-add-mod b 16, h) refl
 
@@ -41,7 +44,8 @@ pub back : (bytes : List ℕ) → unescaped (escaped bytes) ≡ Some bytes
 back [] = refl
 back (b ∷ bytes) = first_back b (escaped bytes) ∙ ap (before (Some b)) (back bytes)
 
-before_parts : (o : Option ℕ) (r : Option (List ℕ)) (bytes : List ℕ) → before o r ≡ Some bytes → (b : ℕ) × (q : List ℕ) × (o ≡ Some b) × (r ≡ Some q) × (bytes ≡ b ∷ q)
+before_parts : (o : Option ℕ) (r : Option (List ℕ)) (bytes : List ℕ) → before o r ≡ Some bytes
+    → (b : ℕ) × (q : List ℕ) × (o ≡ Some b) × (r ≡ Some q) × (bytes ≡ b ∷ q)
 before_parts None r bytes h = cc
 before_parts (Some b) None bytes h = cc
 before_parts (Some b) (Some q) bytes h = (b, q, refl, refl, cc)
@@ -64,7 +68,8 @@ high_of high low h = omega arith
 low_of : (high low : ℕ) → low < 16 → (16 * high + low) % 16 ≡ low
 low_of high low h = omega arith
 
-shown_of : (c d v : ℕ) (high low : Option ℕ) → digit_value c ≡ high → digit_value d ≡ low → digits_byte high low ≡ Some v → 92 ∷ 120 ∷ c ∷ d ∷ [] ≡ escaped_byte v
+shown_of : (c d v : ℕ) (high low : Option ℕ) → digit_value c ≡ high → digit_value d ≡ low
+    → digits_byte high low ≡ Some v → 92 ∷ 120 ∷ c ∷ d ∷ [] ≡ escaped_byte v
 shown_of c d v None low e f h = cc
 shown_of c d v (Some high) None e f h = cc
 shown_of c d v (Some high) (Some low) e f h =
@@ -75,7 +80,8 @@ shown_of c d v (Some high) (Some low) e f h =
 
 escape_of : (a b c d v : ℕ) → escape_byte a b c d ≡ Some v → a ∷ b ∷ c ∷ d ∷ [] ≡ escaped_byte v
 escape_of a b c d v h =
-    let P : (t : Bool) → (a == 92 && b == 120) ≡ t → escape_byte a b c d ≡ Some v → a ∷ b ∷ c ∷ d ∷ [] ≡ escaped_byte v =
+    let P : (t : Bool) → (a == 92 && b == 120) ≡ t → escape_byte a b c d ≡ Some v
+    → a ∷ b ∷ c ∷ d ∷ [] ≡ escaped_byte v =
     λ t. elim t as (λ t. (a == 92 && b == 120) ≡ t → escape_byte a b c d ≡ Some v → a ∷ b ∷ c ∷ d ∷ [] ≡ escaped_byte v) [
       | true ↦ λ e k.
           let k' = rw e at k in
@@ -96,15 +102,21 @@ plain_of a v h =
     P (is_escaped a) refl h
 
 -- a front that is a byte escaped, before a rest that is escaped
-joined : (front rest : List ℕ) (o : Option ℕ) (bytes : List ℕ) → ((v : ℕ) → o ≡ Some v → front ≡ escaped_byte v) → ((q : List ℕ) → unescaped rest ≡ Some q → rest ≡ escaped q) → before o (unescaped rest) ≡ Some bytes → front ++ rest ≡ escaped bytes
+joined : (front rest : List ℕ) (o : Option ℕ) (bytes : List ℕ) → ((v : ℕ) → o ≡ Some v → front ≡ escaped_byte v)
+    → ((q : List ℕ) → unescaped rest ≡ Some q → rest ≡ escaped q) → before o (unescaped rest) ≡ Some bytes
+    → front ++ rest ≡ escaped bytes
 joined front rest o bytes f r h =
     let k = before_parts o (unescaped rest) bytes h in
     rw (k.4, ← f k.0 k.2, ← r k.1 k.3) refl
 
-longer : (a b c d : ℕ) (rest bytes : List ℕ) → ((q : List ℕ) → unescaped rest ≡ Some q → rest ≡ escaped q) → ((q : List ℕ) → unescaped (b ∷ c ∷ d ∷ rest) ≡ Some q → b ∷ c ∷ d ∷ rest ≡ escaped q) → unescaped (a ∷ b ∷ c ∷ d ∷ rest) ≡ Some bytes → a ∷ b ∷ c ∷ d ∷ rest ≡ escaped bytes
+longer : (a b c d : ℕ) (rest bytes : List ℕ) → ((q : List ℕ) → unescaped rest ≡ Some q → rest ≡ escaped q)
+    → ((q : List ℕ) → unescaped (b ∷ c ∷ d ∷ rest) ≡ Some q → b ∷ c ∷ d ∷ rest ≡ escaped q)
+    → unescaped (a ∷ b ∷ c ∷ d ∷ rest) ≡ Some bytes → a ∷ b ∷ c ∷ d ∷ rest ≡ escaped bytes
 longer a b c d rest bytes r s h =
-    let P : (t : Bool) → is_escaped a ≡ t → unescaped (a ∷ b ∷ c ∷ d ∷ rest) ≡ Some bytes → a ∷ b ∷ c ∷ d ∷ rest ≡ escaped bytes =
-    λ t. elim t as (λ t. is_escaped a ≡ t → unescaped (a ∷ b ∷ c ∷ d ∷ rest) ≡ Some bytes → a ∷ b ∷ c ∷ d ∷ rest ≡ escaped bytes) [
+    let P : (t : Bool) → is_escaped a ≡ t → unescaped (a ∷ b ∷ c ∷ d ∷ rest) ≡ Some bytes
+    → a ∷ b ∷ c ∷ d ∷ rest ≡ escaped bytes =
+    λ t. elim t as (λ t. is_escaped a ≡ t → unescaped (a ∷ b ∷ c ∷ d ∷ rest) ≡ Some bytes
+    → a ∷ b ∷ c ∷ d ∷ rest ≡ escaped bytes) [
       | true ↦ λ e k. joined (a ∷ b ∷ c ∷ d ∷ []) rest (escape_byte a b c d) bytes (escape_of a b c d) r (rw e at k)
       | false ↦ λ e k. joined (a ∷ []) (b ∷ c ∷ d ∷ rest) (plain_byte a) bytes (plain_of a) s (rw e (rw e at k))
     ] in

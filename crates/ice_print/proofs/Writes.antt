@@ -1,5 +1,6 @@
 -- Lemmas on what was written.
-use Rattle.std.proofs.Common.{◌≡◌, ℕ, ◌+◌, ◌-◌, List, [], ◌∷◌, ◌++◌, length, take, drop, Option, Some, None, Result, Ok, Err, refl, arith, length-append, append_assoc}
+use Rattle.std.proofs.Common.{◌≡◌, ℕ, ◌+◌, ◌-◌, List, [], ◌∷◌, ◌++◌, length, take, drop, Option, Some, None, Result, Ok}
+use Rattle.std.proofs.Common.{Err, refl, arith, length-append, append_assoc}
 use Rattle.std.proofs.lemmas.List.{take_rest, take-append-le, take-append-drop}
 use Rattle.std.proofs.Math.Seq.{take-add, take-append-add}
 use Rattle.ice_print.specs.declared.sink.SinkFault.{SinkFault}
@@ -8,7 +9,8 @@ use Rattle.ice_print.specs.Escaping.{escaped}
 use Rattle.ice_print.specs.Written.{Appends, AppendsFront, Wrote}
 
 -- a further front of the rest
-pub appends_more : (o a b : Option (List ℕ)) (bytes : List ℕ) (at n : ℕ) → Appends o a (take at bytes) → Appends a b (take n (take (length bytes - at) (drop at bytes))) → Appends o b (take (at + n) bytes)
+pub appends_more : (o a b : Option (List ℕ)) (bytes : List ℕ) (at n : ℕ) → Appends o a (take at bytes)
+    → Appends a b (take n (take (length bytes - at) (drop at bytes))) → Appends o b (take (at + n) bytes)
 appends_more None a b bytes at n h k = tt
 appends_more (Some x) None b bytes at n h k = cc
 appends_more (Some x) (Some y) b bytes at n h k =
@@ -26,7 +28,8 @@ appends_both (Some x) (Some y) b xs ys h k =
     rw (← append_assoc) k'
 
 -- a front of what was written after another text
-pub front_after : (o a b : Option (List ℕ)) (xs ys : List ℕ) → Appends o a xs → AppendsFront a b ys → AppendsFront o b (xs ++ ys)
+pub front_after : (o a b : Option (List ℕ)) (xs ys : List ℕ) → Appends o a xs → AppendsFront a b ys
+    → AppendsFront o b (xs ++ ys)
 front_after o a b xs ys h k = (
   length xs + k.0,
   omega (arith, k.1, length-append xs ys),
@@ -43,19 +46,32 @@ front_before o a xs ys k = (
 
 module _ {X : Type 0} (taken : X → Option (List ℕ)) (may_fail : X → Type 0) where
   -- a text after one that was written whole
-  pub wrote_more : (a b c : X) (u : Unit) (r : Result Unit SinkFault) (xs ys : List ℕ) → Wrote taken may_fail a (Ok u) b xs → Wrote taken may_fail b r c ys → Wrote taken may_fail a r c (xs ++ ys)
+  pub wrote_more : (a b c : X) (u : Unit) (r : Result Unit SinkFault) (xs ys : List ℕ)
+      → Wrote taken may_fail a (Ok u) b xs → Wrote taken may_fail b r c ys → Wrote taken may_fail a r c (xs ++ ys)
   wrote_more a b c u (Ok v) xs ys h k =
       record { all = appends_both _ _ _ xs ys h.all k.all; front = tt; cause = tt; still = λ m. h.still (k.still m) }
   wrote_more a b c u (Err e) xs ys h k =
-      record { all = tt; front = front_after _ _ _ xs ys h.all k.front; cause = h.still k.cause; still = λ m. h.still (k.still m) }
+      record {
+        all = tt;
+        front = front_after _ _ _ xs ys h.all k.front;
+        cause = h.still k.cause;
+        still = λ m. h.still (k.still m);
+      }
 
   -- a failure in the first of two texts
-  pub wrote_less : (a b : X) (e : SinkFault) (r : Result Unit SinkFault) (xs ys : List ℕ) → IsErr r → Wrote taken may_fail a (Err e) b xs → Wrote taken may_fail a r b (xs ++ ys)
+  pub wrote_less : (a b : X) (e : SinkFault) (r : Result Unit SinkFault) (xs ys : List ℕ) → IsErr r
+      → Wrote taken may_fail a (Err e) b xs → Wrote taken may_fail a r b (xs ++ ys)
   wrote_less a b e (Ok u) xs ys f h = cc
-  wrote_less a b e (Err d) xs ys f h = record { all = tt; front = front_before _ _ xs ys h.front; cause = h.cause; still = h.still }
+  wrote_less a b e (Err d) xs ys f h = record {
+    all = tt;
+    front = front_before _ _ xs ys h.front;
+    cause = h.cause;
+    still = h.still;
+  }
 
   -- one failure is as good as another
-  pub wrote_fails : (a b : X) (e : SinkFault) (r : Result Unit SinkFault) (xs : List ℕ) → IsErr r → Wrote taken may_fail a (Err e) b xs → Wrote taken may_fail a r b xs
+  pub wrote_fails : (a b : X) (e : SinkFault) (r : Result Unit SinkFault) (xs : List ℕ) → IsErr r
+      → Wrote taken may_fail a (Err e) b xs → Wrote taken may_fail a r b xs
   wrote_fails a b e (Ok u) xs f h = cc
   wrote_fails a b e (Err d) xs f h = record { all = tt; front = h.front; cause = h.cause; still = h.still }
 
@@ -68,7 +84,8 @@ pub escaped_split : (bytes : List ℕ) (i : ℕ) → escaped bytes ≡ escaped (
 escaped_split bytes i = rw (← escaped_append, take-append-drop) refl
 
 -- some bytes more
-pub escaped_more : (bytes : List ℕ) (i n : ℕ) → escaped (take (i + n) bytes) ≡ escaped (take i bytes) ++ escaped (take n (drop i bytes))
+pub escaped_more : (bytes : List ℕ) (i n : ℕ) → escaped (take (i + n) bytes) ≡ escaped (take i bytes) ++ escaped
+    (take n (drop i bytes))
 escaped_more bytes i n = rw (take-add i n bytes) (escaped_append (take i bytes) (take n (drop i bytes)))
 
 pub if_err : (r : Result ℕ SinkFault) (Q : SinkFault → Type 0) → IsErr r → ((e : SinkFault) → Q e) → IfErr r Q

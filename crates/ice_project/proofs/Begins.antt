@@ -33,13 +33,15 @@ begins_above (y ∷ s) (x ∷ a) h =
 after_equal : (y : ℕ) (q : Ordering) → ordering_then (nat_cmp y y) q ≡ q
 after_equal y q = let e = self_equal y in rw e refl
 
-pinch : (o q r : Ordering) → is_le (ordering_then o q) ≡ true → is_gt (ordering_then o r) ≡ true → (o ≡ Equal) × (is_le q ≡ true) × (is_gt r ≡ true)
+pinch : (o q r : Ordering) → is_le (ordering_then o q) ≡ true → is_gt (ordering_then o r) ≡ true
+    → (o ≡ Equal) × (is_le q ≡ true) × (is_gt r ≡ true)
 pinch Below q r h k = absurd cc
 pinch Equal q r h k = (refl, h, k)
 pinch Greater q r h k = absurd cc
 
 -- a bound b above s and not above a text that begins with s begins with s
-pub between : (s b a : List ℕ) → starts_with nat_eq a s ≡ true → is_gt (slice_cmp nat_cmp b s) ≡ true → is_le (slice_cmp nat_cmp b a) ≡ true → starts_with nat_eq b s ≡ true
+pub between : (s b a : List ℕ) → starts_with nat_eq a s ≡ true → is_gt (slice_cmp nat_cmp b s) ≡ true
+    → is_le (slice_cmp nat_cmp b a) ≡ true → starts_with nat_eq b s ≡ true
 between [] b a h g l = refl
 between (y ∷ s) [] a h g l = absurd cc
 between (y ∷ s) (z ∷ b) [] h g l = absurd cc

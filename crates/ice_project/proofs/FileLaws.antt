@@ -1,5 +1,6 @@
 -- A file whose counts and bounds are those of its rows isn't left out where a row meets.
-use Rattle.std.proofs.Common.{◌≡◌, ℕ, suc, ◌+◌, ◌<◌, ◌≤◌, ℤ, pos, Bool, true, false, not, ◌&&◌, List, [], ◌∷◌, length, map, Option, None, Some, cond, refl, ap, arith, sym, ◌∙◌, ◌⊎◌, inl, inr, subst, negsuc}
+use Rattle.std.proofs.Common.{◌≡◌, ℕ, suc, ◌+◌, ◌<◌, ◌≤◌, ℤ, pos, Bool, true, false, not, ◌&&◌, List, [], ◌∷◌, length}
+use Rattle.std.proofs.Common.{map, Option, None, Some, cond, refl, ap, arith, sym, ◌∙◌, ◌⊎◌, inl, inr, subst, negsuc}
 use Rattle.std.specs.List.{AllByRecursion}
 use Rattle.std.specs.Ordering.{is_lt, is_le, is_gt, is_ge}
 use Rattle.std.proofs.lemmas.Bool.{and_parts}
@@ -9,12 +10,14 @@ use Rattle.ice_value.specs.declared.cell.Cell.{Cell}
 use Rattle.ice_value.specs.declared.cell.Cell.TheVariants.{Null, Bool as Flag, Whole, Text, Bytes}
 use Rattle.ice_value.specs.declared.file_bounds.FileBounds.{FileBounds}
 use Rattle.ice_filter.specs.declared.bound.Test.{Test}
-use Rattle.ice_filter.specs.declared.bound.Test.TheVariants.{Less, AtMost, More, AtLeast, Among, NotAmong, IsNull, IsPresent, StartsWith}
+use Rattle.ice_filter.specs.declared.bound.Test.TheVariants.{Less, AtMost, More, AtLeast, Among, NotAmong, IsNull}
+use Rattle.ice_filter.specs.declared.bound.Test.TheVariants.{IsPresent, StartsWith}
 use Rattle.ice_filter.specs.declared.bound.BoundLeaf.{BoundLeaf}
 use Rattle.ice_filter.specs.declared.parts.Part.{Part}
 use Rattle.ice_filter.specs.Rows.{Row, is_null, begins, holds, leaf_holds, row_meets}
 use Rattle.ice_filter.specs.Trees.{Tree, truth, leaf, both, either, meaning, tree_of}
-use Rattle.ice_project.specs.Files.{is_unlike_test, same_count, is_all_null, is_zero, lower_limit, upper_limit, file_allows, file_may, null_count, IsColumn, HasLeaf, AreCounted}
+use Rattle.ice_project.specs.Files.{is_unlike_test, same_count, is_all_null, is_zero, lower_limit, upper_limit}
+use Rattle.ice_project.specs.Files.{file_allows, file_may, null_count, IsColumn, HasLeaf, AreCounted}
 use Rattle.ice_project.specs.Honesty.{NoneMeets}
 use Rattle.ice_project.specs.Limits.{in_bounds, LiesIn}
 use Rattle.ice_project.specs.Tuples.{may, is_null_test}
@@ -68,7 +71,8 @@ not_true : (b : Bool) → (b ≡ true → ⊥) → not b ≡ true
 not_true true h = absurd (h refl)
 not_true false h = refl
 
-counts_differ : (v n : Option ℤ) (a b : ℕ) → ((k : ℤ) → v ≡ Some k → k ≡ pos a) → ((k : ℤ) → n ≡ Some k → k ≡ pos b) → b < a → same_count v n ≡ true → ⊥
+counts_differ : (v n : Option ℤ) (a b : ℕ) → ((k : ℤ) → v ≡ Some k → k ≡ pos a) → ((k : ℤ) → n ≡ Some k → k ≡ pos b)
+    → b < a → same_count v n ≡ true → ⊥
 counts_differ (Some x) (Some y) a b f g less h =
     let same : x ≡ y = (Decides-int_eq x y).0 h in
     let numbers = same_number a b (sym (f x refl) ∙ (same ∙ g y refl)) in
@@ -106,7 +110,8 @@ held_present IsNull c e h = absurd cc
 held_present IsPresent c e h = present c h
 held_present (StartsWith s) c e h = begun c s h
 
-file_leaf : (ordered : Ordered) (file : FileBounds) (l : BoundLeaf) (cells : List Cell) (c : Cell) → IsColumn file l.column_type l.column cells → IsIn c cells →
+file_leaf : (ordered : Ordered) (file : FileBounds) (l : BoundLeaf) (cells : List Cell) (c : Cell)
+    → IsColumn file l.column_type l.column cells → IsIn c cells →
     holds l.test c ≡ true → file_allows file l ≡ true
 file_leaf ordered file l cells c column i h = unlike (is_unlike_test l.test) where
   low : Option Cell
@@ -120,25 +125,32 @@ file_leaf ordered file l cells c column i h = unlike (is_unlike_test l.test) whe
       let n = held_present l.test c k h in
       let lies = bounded_at (λ x. is_null x ≡ false → LiesIn low high x) cells c column.bounded i n in
       and_both _ _
-      (not_true (is_all_null file l.column) (counts_differ _ _ (length cells) (null_count cells) column.counted column.nulls_counted (not_all_null cells c i n)))
+      (not_true (is_all_null file l.column) (counts_differ _ _ (length cells) (null_count cells) column.counted
+      column.nulls_counted (not_all_null cells c i n)))
       (allowed ordered l.test low high c lies (shown l.test c n (same_sound l.test c h)))
 
-  null : (b : Bool) → is_null_test l.test ≡ b → cond b (not (is_zero (count_of l.column file.null_counts))) (not (is_all_null file l.column) && in_bounds l.test low high) ≡ true
-  null true k = not_true _ (zero_null (count_of l.column file.null_counts) (null_count cells) column.nulls_counted (some_null cells c i (held_null l.test c k h)))
+  null : (b : Bool) → is_null_test l.test ≡ b → cond b (not (is_zero (count_of l.column file.null_counts)))
+      (not (is_all_null file l.column) && in_bounds l.test low high) ≡ true
+  null true k = not_true _ (zero_null (count_of l.column file.null_counts) (null_count cells) column.nulls_counted
+      (some_null cells c i (held_null l.test c k h)))
   null false k = solid k
 
-  unlike : (b : Bool) → cond b true (cond (is_null_test l.test) (not (is_zero (count_of l.column file.null_counts))) (not (is_all_null file l.column) && in_bounds l.test low high)) ≡ true
+  unlike : (b : Bool) → cond b true (cond (is_null_test l.test) (not (is_zero (count_of l.column file.null_counts)))
+      (not (is_all_null file l.column) && in_bounds l.test low high)) ≡ true
   unlike true = refl
   unlike false = null (is_null_test l.test) refl
 
 -- ---- a filter
-mono_at : (met may : BoundLeaf → Bool) (t : Tree BoundLeaf) → ((l : BoundLeaf) → HasLeaf l t → met l ≡ true → may l ≡ true) → meaning met t ≡ true → meaning may t ≡ true
+mono_at : (met may : BoundLeaf → Bool) (t : Tree BoundLeaf)
+    → ((l : BoundLeaf) → HasLeaf l t → met l ≡ true → may l ≡ true) → meaning met t ≡ true → meaning may t ≡ true
 mono_at met may (truth b) each h = h
 mono_at met may (leaf l) each h = each l refl h
 mono_at met may (both s t) each h =
-    and_mono (meaning met s) (meaning met t) _ _ (mono_at met may s (λ l i. each l (inl i))) (mono_at met may t (λ l i. each l (inr i))) h
+    and_mono (meaning met s) (meaning met t) _ _ (mono_at met may s (λ l i. each l (inl i)))
+    (mono_at met may t (λ l i. each l (inr i))) h
 mono_at met may (either s t) each h =
-    or_mono (meaning met s) (meaning met t) _ _ (mono_at met may s (λ l i. each l (inl i))) (mono_at met may t (λ l i. each l (inr i))) h
+    or_mono (meaning met s) (meaning met t) _ _ (mono_at met may s (λ l i. each l (inl i)))
+    (mono_at met may t (λ l i. each l (inr i))) h
 
 abbrev IsRowIn : Row → List Row → Type 0
 IsRowIn row [] = ⊥
@@ -149,12 +161,15 @@ in_column k [] row i = absurd i
 in_column k (x ∷ xs) row (inl e) = inl (ap (λ (r : Row). r k) e)
 in_column k (x ∷ xs) row (inr i) = inr (in_column k xs row i)
 
-none_meets : (filter : List (Part BoundLeaf)) (rows : List Row) → ((row : Row) → IsRowIn row rows → row_meets filter row ≡ false) → NoneMeets filter rows
+none_meets : (filter : List (Part BoundLeaf)) (rows : List Row)
+    → ((row : Row) → IsRowIn row rows → row_meets filter row ≡ false) → NoneMeets filter rows
 none_meets filter [] f = refl
 none_meets filter (x ∷ xs) f = let e = f x (inl refl) in rw e (none_meets filter xs (λ row i. f row (inr i)))
 
-pub file_sound : (ordered : Ordered) (filter : List (Part BoundLeaf)) (file : FileBounds) (rows : List Row) → file_may filter file ≡ false → AreCounted file filter rows → NoneMeets filter rows
+pub file_sound : (ordered : Ordered) (filter : List (Part BoundLeaf)) (file : FileBounds) (rows : List Row)
+    → file_may filter file ≡ false → AreCounted file filter rows → NoneMeets filter rows
 file_sound ordered filter file rows refusal counted =
     none_meets filter rows (λ row i. refuted (row_meets filter row) (file_may filter file)
     (mono_at (leaf_holds row) (file_allows file) (tree_of filter)
-    (λ l has met. file_leaf ordered file l (map (λ (r : Row). r l.column) rows) (row l.column) (counted l has) (in_column l.column rows row i) met)) refusal)
+    (λ l has met. file_leaf ordered file l (map (λ (r : Row). r l.column) rows) (row l.column) (counted l has)
+    (in_column l.column rows row i) met)) refusal)

@@ -1,5 +1,6 @@
 -- The transform that a text names is the one that is read from it.
-use Rattle.std.proofs.Common.{◌≡◌, ℕ, ◌==◌, Bool, true, false, ◌&&◌, List, [], ◌∷◌, drop, length, codes, Option, None, Some, cond, refl, ap, sym, ◌∙◌, nat_eq, nat_lt}
+use Rattle.std.proofs.Common.{◌≡◌, ℕ, ◌==◌, Bool, true, false, ◌&&◌, List, [], ◌∷◌, drop, length, codes, Option, None}
+use Rattle.std.proofs.Common.{Some, cond, refl, ap, sym, ◌∙◌, nat_eq, nat_lt}
 use Rattle.std.specs.Option.{option_map, option_and_then, option_or}
 use Rattle.std.specs.List.{starts_with}
 use Rattle.std.specs.Str.{bytes_eq}
@@ -8,11 +9,13 @@ use Rattle.ice_transform.specs.Names.{number_after, parameter_before_bracket, pa
 use Rattle.ice_transform.specs.Parameters.{parameter_if}
 use Rattle.ice_transform.specs.declared.parameter.Parameter.{Parameter}
 use Rattle.ice_transform.specs.declared.transform.Transform.{Transform}
-use Rattle.ice_transform.specs.declared.transform.Transform.TheVariants.{Identity, Bucket, Truncate, Year, Month, Day, Hour, Void, Unknown}
+use Rattle.ice_transform.specs.declared.transform.Transform.TheVariants.{Identity, Bucket, Truncate, Year, Month, Day}
+use Rattle.ice_transform.specs.declared.transform.Transform.TheVariants.{Hour, Void, Unknown}
 use Rattle.ice_project.specs.Fields.{parameter_where, parameter_of, numbered_transform, transform_or, transform_named}
 
 -- one name more
-step : (b : Bool) (text name : List ℕ) (x y : Transform) → bytes_eq text name ≡ b → (text ≡ name → IsNamed x text) → (bytes_eq text name ≡ false → IsNamed y text) → IsNamed (cond b x y) text
+step : (b : Bool) (text name : List ℕ) (x y : Transform) → bytes_eq text name ≡ b → (text ≡ name → IsNamed x text)
+    → (bytes_eq text name ≡ false → IsNamed y text) → IsNamed (cond b x y) text
 step true text name x y e f g = f ((bytes_eq-Decides text name).0 e)
 step false text name x y e f g = g e
 
@@ -45,17 +48,22 @@ sized_in front text m e = go (starts_with nat_eq text front) e where
 
 parameter_is : (n : ℕ) → IsSized n → (p : Parameter) × (parameter_of n ≡ Some p) × (p.number ≡ n)
 parameter_is n s = go (nat_lt 0 n && nat_lt n 0x8000_0000) refl s where
-  go : (b : Bool) (e : (nat_lt 0 n && nat_lt n 0x8000_0000) ≡ b) → b ≡ true → (p : Parameter) × (parameter_where n b e ≡ Some p) × (p.number ≡ n)
+  go : (b : Bool) (e : (nat_lt 0 n && nat_lt n 0x8000_0000) ≡ b) → b ≡ true
+      → (p : Parameter) × (parameter_where n b e ≡ Some p) × (p.number ≡ n)
   go true e k = (_, refl, refl)
   go false e k = absurd cc
 
-numbered_is : (text : List ℕ) → is_plain_name text ≡ false → IsNamed (transform_or (numbered_transform text) (Unknown text)) text
-numbered_is text plain = go (parameter_in (codes "bucket[") text) (parameter_in (codes "truncate[") text) refl refl where
-  go : (o q : Option ℕ) → parameter_in (codes "bucket[") text ≡ o → parameter_in (codes "truncate[") text ≡ q →
-      IsNamed (transform_or (option_or (option_map Bucket (option_and_then parameter_of o)) (option_map Truncate (option_and_then parameter_of q))) (Unknown text)) text
-  go (Some n) q e f = let p = parameter_is n (sized_in (codes "bucket[") text n e) in rw p.1 (e ∙ ap Some (sym p.2))
-  go None (Some n) e f = let p = parameter_is n (sized_in (codes "truncate[") text n f) in rw p.1 (f ∙ ap Some (sym p.2))
-  go None None e f = (refl, rw (plain, e, f) refl)
+numbered_is : (text : List ℕ) → is_plain_name text ≡ false
+    → IsNamed (transform_or (numbered_transform text) (Unknown text)) text
+numbered_is text plain = go (parameter_in (codes "bucket[") text) (parameter_in (codes "truncate[") text) refl refl
+  where
+    go : (o q : Option ℕ) → parameter_in (codes "bucket[") text ≡ o → parameter_in (codes "truncate[") text ≡ q →
+        IsNamed (transform_or (option_or (option_map Bucket (option_and_then parameter_of o))
+        (option_map Truncate (option_and_then parameter_of q))) (Unknown text)) text
+    go (Some n) q e f = let p = parameter_is n (sized_in (codes "bucket[") text n e) in rw p.1 (e ∙ ap Some (sym p.2))
+    go None (Some n) e f = let p = parameter_is n (sized_in (codes "truncate[") text n f) in
+        rw p.1 (f ∙ ap Some (sym p.2))
+    go None None e f = (refl, rw (plain, e, f) refl)
 
 pub named_is : (text : List ℕ) → IsNamed (transform_named text) text
 named_is text =

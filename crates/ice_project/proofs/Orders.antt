@@ -1,5 +1,6 @@
 -- Comparisons of cells, and the tests that they meet.
-use Rattle.std.proofs.Common.{◌≡◌, ℤ, pos, ◌+ℤ◌, ◌-ℤ◌, ◌≤ℤ◌, ◌<ℤ◌, Bool, true, false, not, Option, None, Some, cond, refl, arith}
+use Rattle.std.proofs.Common.{◌≡◌, ℤ, pos, ◌+ℤ◌, ◌-ℤ◌, ◌≤ℤ◌, ◌<ℤ◌, Bool, true, false, not, Option, None, Some, cond}
+use Rattle.std.proofs.Common.{refl, arith}
 use Rattle.std.specs.Option.{option_map}
 use Rattle.std.specs.declared.cmp.Ordering.{Ordering}
 use Rattle.std.specs.declared.cmp.Ordering.TheVariants.{Less as Below, Equal, Greater}
@@ -54,13 +55,15 @@ some_passes g (Some o) h = h
 pub if_present : (test : Test) (p : Cell) → is_null p ≡ false → may_present test p ≡ true → may test p ≡ true
 if_present test p n h = rw n h
 
-turned_le : (o : Option Ordering) → is_some_and is_le o ≡ true → is_some_and is_ge (option_map ordering_reverse o) ≡ true
+turned_le : (o : Option Ordering) → is_some_and is_le o ≡ true
+    → is_some_and is_ge (option_map ordering_reverse o) ≡ true
 turned_le None h = absurd cc
 turned_le (Some Below) h = refl
 turned_le (Some Equal) h = refl
 turned_le (Some Greater) h = absurd cc
 
-turned_ge : (o : Option Ordering) → is_some_and is_ge o ≡ true → is_some_and is_le (option_map ordering_reverse o) ≡ true
+turned_ge : (o : Option Ordering) → is_some_and is_ge o ≡ true
+    → is_some_and is_le (option_map ordering_reverse o) ≡ true
 turned_ge None h = absurd cc
 turned_ge (Some Below) h = absurd cc
 turned_ge (Some Equal) h = refl
@@ -147,7 +150,8 @@ whole_is None u h = absurd cc
 whole_is (Some w) u h = (w, refl, cc)
 
 -- what is less than a value is at most the one before it
-before_whole : (t : ColumnType) (c : Cell) (z : ℤ) (u : Cell) → before t (Whole z) ≡ Some u → is_some_and is_lt (order c (Whole z)) ≡ true → is_at_most c u ≡ true
+before_whole : (t : ColumnType) (c : Cell) (z : ℤ) (u : Cell) → before t (Whole z) ≡ Some u
+    → is_some_and is_lt (order c (Whole z)) ≡ true → is_at_most c u ≡ true
 before_whole t (Whole a) z u e h =
     let w = whole_is (fit t (z -ℤ pos 1)) u e in
     let is = fit_is t (z -ℤ pos 1) w.0 w.1 in
@@ -158,7 +162,8 @@ before_whole t (Flag b) z u e h = absurd cc
 before_whole t (Text s) z u e h = absurd cc
 before_whole t (Bytes s) z u e h = absurd cc
 
-pub before_bounds : (t : ColumnType) (c v u : Cell) → before t v ≡ Some u → is_some_and is_lt (order c v) ≡ true → is_at_most c u ≡ true
+pub before_bounds : (t : ColumnType) (c v u : Cell) → before t v ≡ Some u → is_some_and is_lt (order c v) ≡ true
+    → is_at_most c u ≡ true
 before_bounds t c (Whole z) u e h = before_whole t c z u e h
 before_bounds t c Null u e h = absurd cc
 before_bounds t c (Flag b) u e h = absurd cc
@@ -166,7 +171,8 @@ before_bounds t c (Text s) u e h = absurd cc
 before_bounds t c (Bytes s) u e h = absurd cc
 
 -- what is greater than a value is at least the one behind it
-behind_whole : (t : ColumnType) (c : Cell) (z : ℤ) (u : Cell) → behind t (Whole z) ≡ Some u → is_some_and is_gt (order c (Whole z)) ≡ true → is_at_most u c ≡ true
+behind_whole : (t : ColumnType) (c : Cell) (z : ℤ) (u : Cell) → behind t (Whole z) ≡ Some u
+    → is_some_and is_gt (order c (Whole z)) ≡ true → is_at_most u c ≡ true
 behind_whole t (Whole a) z u e h =
     let w = whole_is (fit t (z +ℤ pos 1)) u e in
     let is = fit_is t (z +ℤ pos 1) w.0 w.1 in
@@ -177,7 +183,8 @@ behind_whole t (Flag b) z u e h = absurd cc
 behind_whole t (Text s) z u e h = absurd cc
 behind_whole t (Bytes s) z u e h = absurd cc
 
-pub behind_bounds : (t : ColumnType) (c v u : Cell) → behind t v ≡ Some u → is_some_and is_gt (order c v) ≡ true → is_at_most u c ≡ true
+pub behind_bounds : (t : ColumnType) (c v u : Cell) → behind t v ≡ Some u → is_some_and is_gt (order c v) ≡ true
+    → is_at_most u c ≡ true
 behind_bounds t c (Whole z) u e h = behind_whole t c z u e h
 behind_bounds t c Null u e h = absurd cc
 behind_bounds t c (Flag b) u e h = absurd cc

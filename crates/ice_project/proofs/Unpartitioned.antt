@@ -1,5 +1,6 @@
 -- The projection through a spec that partitions nothing.
-use Rattle.std.proofs.Common.{◌≡◌, ℕ, ◌+◌, Bool, true, false, List, [], ◌∷◌, codes, map, Option, None, Some, cond, refl, sym, ◌∙◌}
+use Rattle.std.proofs.Common.{◌≡◌, ℕ, ◌+◌, Bool, true, false, List, [], ◌∷◌, codes, map, Option, None, Some, cond, refl}
+use Rattle.std.proofs.Common.{sym, ◌∙◌}
 use Rattle.std.specs.List.{list_all}
 use Rattle.std.specs.Option.{option_and_then}
 use Rattle.std.specs.Ordering.{int_eq}
@@ -31,31 +32,38 @@ no_test at field l v = rw v (go (int_eq field.source_id l.column) field.source_t
   go true None = refl
   go false o = refl
 
-no_tests : (fields : List PartitionField) (at : ℕ) (l : BoundLeaf) → list_all is_void fields ≡ true → leaf_tests at (map field_of fields) l ≡ []
+no_tests : (fields : List PartitionField) (at : ℕ) (l : BoundLeaf) → list_all is_void fields ≡ true
+    → leaf_tests at (map field_of fields) l ≡ []
 no_tests [] at l h = refl
 no_tests (f ∷ fs) at l h =
     let parts = and_parts (is_void f) (list_all is_void fs) h in
     let none = no_test at (field_of f) l (void_named f parts.0) in
     rw none (no_tests fs (at + 1) l parts.1)
 
-meaning_same : {L : Type 0} (met other : L → Bool) (each : (l : L) → met l ≡ other l) (t : Tree L) → meaning met t ≡ meaning other t
+meaning_same : {L : Type 0} (met other : L → Bool) (each : (l : L) → met l ≡ other l) (t : Tree L)
+    → meaning met t ≡ meaning other t
 meaning_same met other each (truth b) = refl
 meaning_same met other each (leaf l) = each l
-meaning_same met other each (both s t) = let a = meaning_same met other each s in let b = meaning_same met other each t in rw (a, b) refl
-meaning_same met other each (either s t) = let a = meaning_same met other each s in let b = meaning_same met other each t in rw (a, b) refl
+meaning_same met other each (both s t) = let a = meaning_same met other each s in let b = meaning_same met other each
+    t in rw (a, b) refl
+meaning_same met other each (either s t) = let a = meaning_same met other each s in let b = meaning_same met other each
+    t in rw (a, b) refl
 
 -- of a filter over other leaves
 abbrev Mapped : Type 0
-Mapped = (f : BoundLeaf → List FieldTest) (met : List FieldTest → Bool) (parts : List (Part BoundLeaf)) → meaning met (tree_of (map_leaves f parts)) ≡ meaning (λ l. met (f l)) (tree_of parts)
+Mapped = (f : BoundLeaf → List FieldTest) (met : List FieldTest → Bool) (parts : List (Part BoundLeaf))
+    → meaning met (tree_of (map_leaves f parts)) ≡ meaning (λ l. met (f l)) (tree_of parts)
 
-pub all_leaves_met : Mapped → (filter : List (Part BoundLeaf)) (spec : Spec) (tuple : List Cell) → is_unpartitioned spec ≡ true →
+pub all_leaves_met : Mapped → (filter : List (Part BoundLeaf)) (spec : Spec) (tuple : List Cell)
+    → is_unpartitioned spec ≡ true →
     part_meets (projection filter spec) tuple ≡ meaning (λ (l : BoundLeaf). true) (tree_of filter)
 all_leaves_met mapped filter spec tuple h =
     mapped (leaf_tests 0 (fields_of spec)) (tests_met tuple) filter
     ∙ meaning_same (λ l. tests_met tuple (leaf_tests 0 (fields_of spec) l)) (λ l. true)
     (λ l. let none = no_tests spec.fields 0 l h in rw none refl) (tree_of filter)
 
-pub met_wherever_another_is : Mapped → (filter : List (Part BoundLeaf)) (spec other : Spec) (tuple met : List Cell) → is_unpartitioned spec ≡ true →
+pub met_wherever_another_is : Mapped → (filter : List (Part BoundLeaf)) (spec other : Spec) (tuple met : List Cell)
+    → is_unpartitioned spec ≡ true →
     part_meets (projection filter other) met ≡ true → part_meets (projection filter spec) tuple ≡ true
 met_wherever_another_is mapped filter spec other tuple met h m =
     all_leaves_met mapped filter spec tuple h

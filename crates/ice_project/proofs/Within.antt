@@ -1,5 +1,6 @@
 -- The bounds of a value don't exclude a test that it meets.
-use Rattle.std.proofs.Common.{◌≡◌, ℕ, ℤ, Bool, true, false, not, ◌&&◌, ◌||◌, List, [], ◌∷◌, Option, None, Some, refl, ap, sym, ◌∙◌, nat_eq, ◌⊎◌, inl, inr}
+use Rattle.std.proofs.Common.{◌≡◌, ℕ, ℤ, Bool, true, false, not, ◌&&◌, ◌||◌, List, [], ◌∷◌, Option, None, Some, refl}
+use Rattle.std.proofs.Common.{ap, sym, ◌∙◌, nat_eq, ◌⊎◌, inl, inr}
 use Rattle.std.specs.List.{list_any, starts_with}
 use Rattle.std.specs.Option.{option_map}
 use Rattle.std.specs.declared.cmp.Ordering.{Ordering}
@@ -10,7 +11,8 @@ use Rattle.ice_value.specs.Cells.{order, is_at_most, AreOfOneKind}
 use Rattle.ice_value.specs.declared.cell.Cell.{Cell}
 use Rattle.ice_value.specs.declared.cell.Cell.TheVariants.{Null, Bool as Flag, Whole, Text, Bytes}
 use Rattle.ice_filter.specs.declared.bound.Test.{Test}
-use Rattle.ice_filter.specs.declared.bound.Test.TheVariants.{Less, AtMost, More, AtLeast, Among, NotAmong, IsNull, IsPresent, StartsWith}
+use Rattle.ice_filter.specs.declared.bound.Test.TheVariants.{Less, AtMost, More, AtLeast, Among, NotAmong, IsNull}
+use Rattle.ice_filter.specs.declared.bound.Test.TheVariants.{IsPresent, StartsWith}
 use Rattle.ice_filter.specs.Rows.{is_null}
 use Rattle.ice_project.specs.Tuples.{passes, may, may_present, may_begin}
 use Rattle.ice_project.specs.Limits.{limit_is, text_of, text_is, text_begins, is_within, in_bounds, LiesIn}
@@ -51,15 +53,18 @@ unlike (Bytes x) (Bytes y) v k e = bytes_unlike x y v e
 unlike _ _ v k e = absurd k
 
 -- ---- a lower bound b of p, and a literal v
-below_case : (ordered : Ordered) (b p v : Cell) → is_at_most b p ≡ true → (order b v ≡ order p v) ⊎ ((order b v ≡ Some Below) ⊎ (order p v ≡ Some Greater))
+below_case : (ordered : Ordered) (b p v : Cell) → is_at_most b p ≡ true
+    → (order b v ≡ order p v) ⊎ ((order b v ≡ Some Below) ⊎ (order p v ≡ Some Greater))
 below_case ordered b p v h = go (order b p) refl h where
-  strict : order b p ≡ Some Below → (o : Option Ordering) → order p v ≡ o → (order b v ≡ order p v) ⊎ ((order b v ≡ Some Below) ⊎ (order p v ≡ Some Greater))
+  strict : order b p ≡ Some Below → (o : Option Ordering) → order p v ≡ o
+      → (order b v ≡ order p v) ⊎ ((order b v ≡ Some Below) ⊎ (order p v ≡ Some Greater))
   strict e None q = inl (unlike b p v (kind b p Below e) q ∙ sym q)
   strict e (Some Below) q = inr (inl (ordered.less b p v e q))
   strict e (Some Equal) q = let same = ordered.no_other p v q in inr (inl (ap (λ x. order b x) (sym same) ∙ e))
   strict e (Some Greater) q = inr (inr q)
 
-  go : (o : Option Ordering) → order b p ≡ o → is_some_and is_le o ≡ true → (order b v ≡ order p v) ⊎ ((order b v ≡ Some Below) ⊎ (order p v ≡ Some Greater))
+  go : (o : Option Ordering) → order b p ≡ o → is_some_and is_le o ≡ true
+      → (order b v ≡ order p v) ⊎ ((order b v ≡ Some Below) ⊎ (order p v ≡ Some Greater))
   go None e k = absurd cc
   go (Some Below) e k = strict e (order p v) refl
   go (Some Equal) e k = inl (ap (λ x. order x v) (ordered.no_other b p e))
@@ -72,15 +77,19 @@ turned_below ordered a b e = ordered.turned a b ∙ ap (λ o. option_map orderin
 turned_above : (ordered : Ordered) (a b : Cell) → order a b ≡ Some Greater → order b a ≡ Some Below
 turned_above ordered a b e = ordered.turned a b ∙ ap (λ o. option_map ordering_reverse o) e
 
-above_case : (ordered : Ordered) (b p v : Cell) → is_at_most p b ≡ true → (order b v ≡ order p v) ⊎ ((order b v ≡ Some Greater) ⊎ (order p v ≡ Some Below))
+above_case : (ordered : Ordered) (b p v : Cell) → is_at_most p b ≡ true
+    → (order b v ≡ order p v) ⊎ ((order b v ≡ Some Greater) ⊎ (order p v ≡ Some Below))
 above_case ordered b p v h = go (order p b) refl h where
-  strict : order p b ≡ Some Below → (o : Option Ordering) → order p v ≡ o → (order b v ≡ order p v) ⊎ ((order b v ≡ Some Greater) ⊎ (order p v ≡ Some Below))
+  strict : order p b ≡ Some Below → (o : Option Ordering) → order p v ≡ o
+      → (order b v ≡ order p v) ⊎ ((order b v ≡ Some Greater) ⊎ (order p v ≡ Some Below))
   strict e None q = inl (unlike b p v (kind b p Greater (turned_below ordered p b e)) q ∙ sym q)
   strict e (Some Below) q = inr (inr q)
-  strict e (Some Equal) q = let same = ordered.no_other p v q in inr (inl (ap (λ x. order b x) (sym same) ∙ turned_below ordered p b e))
+  strict e (Some Equal) q = let same = ordered.no_other p v q in inr (inl (ap (λ x. order b x) (sym same) ∙ turned_below
+      ordered p b e))
   strict e (Some Greater) q = inr (inl (turned_below ordered v b (ordered.less v p b (turned_above ordered p v q) e)))
 
-  go : (o : Option Ordering) → order p b ≡ o → is_some_and is_le o ≡ true → (order b v ≡ order p v) ⊎ ((order b v ≡ Some Greater) ⊎ (order p v ≡ Some Below))
+  go : (o : Option Ordering) → order p b ≡ o → is_some_and is_le o ≡ true
+      → (order b v ≡ order p v) ⊎ ((order b v ≡ Some Greater) ⊎ (order p v ≡ Some Below))
   go None e k = absurd cc
   go (Some Below) e k = strict e (order p v) refl
   go (Some Equal) e k = inl (ap (λ x. order x v) (sym (ordered.no_other p b e)))
@@ -110,35 +119,44 @@ gt_not_le (Some Below) h = absurd cc
 gt_not_le (Some Equal) h = absurd cc
 gt_not_le (Some Greater) h = refl
 
-low_gt : (ordered : Ordered) (b p v : Cell) → is_at_most b p ≡ true → passes is_le (order p v) ≡ true → is_some_and is_gt (order b v) ≡ false
+low_gt : (ordered : Ordered) (b p v : Cell) → is_at_most b p ≡ true → passes is_le (order p v) ≡ true
+    → is_some_and is_gt (order b v) ≡ false
 low_gt ordered b p v h k = by (below_case ordered b p v h) where
-  by : (order b v ≡ order p v) ⊎ ((order b v ≡ Some Below) ⊎ (order p v ≡ Some Greater)) → is_some_and is_gt (order b v) ≡ false
+  by : (order b v ≡ order p v) ⊎ ((order b v ≡ Some Below) ⊎ (order p v ≡ Some Greater))
+      → is_some_and is_gt (order b v) ≡ false
   by (inl e) = rw e (le_not_gt (order p v) k)
   by (inr (inl e)) = rw e refl
   by (inr (inr e)) = let f : passes is_le (Some Greater) ≡ true = ap (λ o. passes is_le o) (sym e) ∙ k in absurd cc
 
-low_ge : (ordered : Ordered) (b p v : Cell) → is_at_most b p ≡ true → passes is_lt (order p v) ≡ true → is_some_and is_ge (order b v) ≡ false
+low_ge : (ordered : Ordered) (b p v : Cell) → is_at_most b p ≡ true → passes is_lt (order p v) ≡ true
+    → is_some_and is_ge (order b v) ≡ false
 low_ge ordered b p v h k = by (below_case ordered b p v h) where
-  by : (order b v ≡ order p v) ⊎ ((order b v ≡ Some Below) ⊎ (order p v ≡ Some Greater)) → is_some_and is_ge (order b v) ≡ false
+  by : (order b v ≡ order p v) ⊎ ((order b v ≡ Some Below) ⊎ (order p v ≡ Some Greater))
+      → is_some_and is_ge (order b v) ≡ false
   by (inl e) = rw e (lt_not_ge (order p v) k)
   by (inr (inl e)) = rw e refl
   by (inr (inr e)) = let f : passes is_lt (Some Greater) ≡ true = ap (λ o. passes is_lt o) (sym e) ∙ k in absurd cc
 
-high_lt : (ordered : Ordered) (b p v : Cell) → is_at_most p b ≡ true → passes is_ge (order p v) ≡ true → is_some_and is_lt (order b v) ≡ false
+high_lt : (ordered : Ordered) (b p v : Cell) → is_at_most p b ≡ true → passes is_ge (order p v) ≡ true
+    → is_some_and is_lt (order b v) ≡ false
 high_lt ordered b p v h k = by (above_case ordered b p v h) where
-  by : (order b v ≡ order p v) ⊎ ((order b v ≡ Some Greater) ⊎ (order p v ≡ Some Below)) → is_some_and is_lt (order b v) ≡ false
+  by : (order b v ≡ order p v) ⊎ ((order b v ≡ Some Greater) ⊎ (order p v ≡ Some Below))
+      → is_some_and is_lt (order b v) ≡ false
   by (inl e) = rw e (ge_not_lt (order p v) k)
   by (inr (inl e)) = rw e refl
   by (inr (inr e)) = let f : passes is_ge (Some Below) ≡ true = ap (λ o. passes is_ge o) (sym e) ∙ k in absurd cc
 
-high_le : (ordered : Ordered) (b p v : Cell) → is_at_most p b ≡ true → passes is_gt (order p v) ≡ true → is_some_and is_le (order b v) ≡ false
+high_le : (ordered : Ordered) (b p v : Cell) → is_at_most p b ≡ true → passes is_gt (order p v) ≡ true
+    → is_some_and is_le (order b v) ≡ false
 high_le ordered b p v h k = by (above_case ordered b p v h) where
-  by : (order b v ≡ order p v) ⊎ ((order b v ≡ Some Greater) ⊎ (order p v ≡ Some Below)) → is_some_and is_le (order b v) ≡ false
+  by : (order b v ≡ order p v) ⊎ ((order b v ≡ Some Greater) ⊎ (order p v ≡ Some Below))
+      → is_some_and is_le (order b v) ≡ false
   by (inl e) = rw e (gt_not_le (order p v) k)
   by (inr (inl e)) = rw e refl
   by (inr (inr e)) = let f : passes is_gt (Some Below) ≡ true = ap (λ o. passes is_gt o) (sym e) ∙ k in absurd cc
 
-limit_false : (g : Ordering → Bool) (bound : Option Cell) (v : Cell) → ((b : Cell) → bound ≡ Some b → is_some_and g (order b v) ≡ false) → not (limit_is g bound v) ≡ true
+limit_false : (g : Ordering → Bool) (bound : Option Cell) (v : Cell)
+    → ((b : Cell) → bound ≡ Some b → is_some_and g (order b v) ≡ false) → not (limit_is g bound v) ≡ true
 limit_false g None v f = refl
 limit_false g (Some b) v f = let e = f b refl in rw e refl
 
@@ -155,19 +173,24 @@ eq_ge (Some Below) h = absurd cc
 eq_ge (Some Equal) h = refl
 eq_ge (Some Greater) h = refl
 
-equal_within : (ordered : Ordered) (low high : Option Cell) (p v : Cell) → LiesIn low high p → passes is_eq (order p v) ≡ true → is_within low high v ≡ true
+equal_within : (ordered : Ordered) (low high : Option Cell) (p v : Cell) → LiesIn low high p
+    → passes is_eq (order p v) ≡ true → is_within low high v ≡ true
 equal_within ordered low high p v lies h =
     and_both _ _ (limit_false is_gt low v (λ b e. low_gt ordered b p v (lies.above b e) (eq_le (order p v) h)))
     (limit_false is_lt high v (λ b e. high_lt ordered b p v (lies.below b e) (eq_ge (order p v) h)))
 
-any_within : (ordered : Ordered) (low high : Option Cell) (p : Cell) (vs : List Cell) → LiesIn low high p → list_any (λ v. passes is_eq (order p v)) vs ≡ true →
+any_within : (ordered : Ordered) (low high : Option Cell) (p : Cell) (vs : List Cell) → LiesIn low high p
+    → list_any (λ v. passes is_eq (order p v)) vs ≡ true →
     list_any (is_within low high) vs ≡ true
 any_within ordered low high p [] lies h = absurd cc
-any_within ordered low high p (v ∷ vs) lies h = go (passes is_eq (order p v)) refl (any_within ordered low high p vs lies) h where
-  go : (b : Bool) → passes is_eq (order p v) ≡ b → (list_any (λ x. passes is_eq (order p x)) vs ≡ true → list_any (is_within low high) vs ≡ true) →
-      (b || list_any (λ x. passes is_eq (order p x)) vs) ≡ true → (is_within low high v || list_any (is_within low high) vs) ≡ true
-  go true e rest k = or_left _ _ (equal_within ordered low high p v lies e)
-  go false e rest k = or_right _ _ (rest k)
+any_within ordered low high p (v ∷ vs) lies h = go (passes is_eq (order p v)) refl (any_within ordered low high p vs
+    lies) h where
+      go : (b : Bool) → passes is_eq (order p v) ≡ b → (list_any (λ x. passes is_eq (order p x)) vs ≡ true
+          → list_any (is_within low high) vs ≡ true) →
+          (b || list_any (λ x. passes is_eq (order p x)) vs) ≡ true
+          → (is_within low high v || list_any (is_within low high) vs) ≡ true
+      go true e rest k = or_left _ _ (equal_within ordered low high p v lies e)
+      go false e rest k = or_right _ _ (rest k)
 
 -- ---- starts with
 starts_ge : (ordered : Ordered) (p : Cell) (s : List ℕ) → may_begin p s ≡ true → passes is_ge (order p (Text s)) ≡ true
@@ -179,7 +202,8 @@ starts_ge ordered (Flag b) s h = refl
 starts_ge ordered (Whole z) s h = refl
 starts_ge ordered (Bytes bs) s h = refl
 
-high_text : (ordered : Ordered) (high : Option Cell) (p : Cell) (s : List ℕ) → ((b : Cell) → high ≡ Some b → is_at_most p b ≡ true) → passes is_ge (order p (Text s)) ≡ true →
+high_text : (ordered : Ordered) (high : Option Cell) (p : Cell) (s : List ℕ)
+    → ((b : Cell) → high ≡ Some b → is_at_most p b ≡ true) → passes is_ge (order p (Text s)) ≡ true →
     not (text_is is_lt (text_of high) s) ≡ true
 high_text ordered None p s f h = refl
 high_text ordered (Some (Text t)) p s f h =
@@ -194,14 +218,16 @@ not_but : (p q : Bool) → (p ≡ true → q ≡ true) → not (p && not q) ≡ 
 not_but true q f = let e = f refl in rw e refl
 not_but false q f = refl
 
-text_past : (t s : List ℕ) (p : Cell) → is_at_most (Text t) p ≡ true → may_begin p s ≡ true → not (is_gt (slice_cmp nat_cmp t s) && not (starts_with nat_eq t s)) ≡ true
+text_past : (t s : List ℕ) (p : Cell) → is_at_most (Text t) p ≡ true → may_begin p s ≡ true
+    → not (is_gt (slice_cmp nat_cmp t s) && not (starts_with nat_eq t s)) ≡ true
 text_past t s (Text a) h k = not_but (is_gt (slice_cmp nat_cmp t s)) (starts_with nat_eq t s) (λ g. between s t a k g h)
 text_past t s Null h k = absurd cc
 text_past t s (Flag b) h k = absurd cc
 text_past t s (Whole z) h k = absurd cc
 text_past t s (Bytes bs) h k = absurd cc
 
-low_text : (low : Option Cell) (p : Cell) (s : List ℕ) → ((b : Cell) → low ≡ Some b → is_at_most b p ≡ true) → may_begin p s ≡ true →
+low_text : (low : Option Cell) (p : Cell) (s : List ℕ) → ((b : Cell) → low ≡ Some b → is_at_most b p ≡ true)
+    → may_begin p s ≡ true →
     not (text_is is_gt (text_of low) s && not (text_begins (text_of low) s)) ≡ true
 low_text None p s f k = refl
 low_text (Some (Text t)) p s f k = text_past t s p (f (Text t) refl) k
@@ -214,11 +240,13 @@ low_text (Some (Bytes bs)) p s f k = refl
 pub shown : (test : Test) (p : Cell) → is_null p ≡ false → may test p ≡ true → may_present test p ≡ true
 shown test p n h = rw n at h
 
-pub allowed : (ordered : Ordered) (test : Test) (low high : Option Cell) (p : Cell) → LiesIn low high p → may_present test p ≡ true → in_bounds test low high ≡ true
+pub allowed : (ordered : Ordered) (test : Test) (low high : Option Cell) (p : Cell) → LiesIn low high p
+    → may_present test p ≡ true → in_bounds test low high ≡ true
 allowed ordered (Less v) low high p lies h = limit_false is_ge low v (λ b e. low_ge ordered b p v (lies.above b e) h)
 allowed ordered (AtMost v) low high p lies h = limit_false is_gt low v (λ b e. low_gt ordered b p v (lies.above b e) h)
 allowed ordered (More v) low high p lies h = limit_false is_le high v (λ b e. high_le ordered b p v (lies.below b e) h)
-allowed ordered (AtLeast v) low high p lies h = limit_false is_lt high v (λ b e. high_lt ordered b p v (lies.below b e) h)
+allowed ordered (AtLeast v) low high p lies h = limit_false is_lt high v (λ b e. high_lt ordered b p v (lies.below b e)
+    h)
 allowed ordered (Among vs) low high p lies h = any_within ordered low high p vs lies h
 allowed ordered (NotAmong vs) low high p lies h = refl
 allowed ordered IsNull low high p lies h = refl

@@ -20,8 +20,8 @@ pub struct Field {
     pub transform: Transform,
 }
 
-/// The transform of this name.
-fn transform_named(alloc: Global, text: &str) -> Result<Transform, AllocError>
+/// The transform of this name. Any name is one: that of no known transform is kept.
+pub fn transform_named(alloc: Global, text: &str) -> Result<Transform, AllocError>
     ensures { IfOk result (λ transform. transform ≡ transform_named text.now) }
 {
     texts_of_transforms();

@@ -11,6 +11,7 @@ mod summaries;
 mod table;
 mod tuples;
 
+pub use field::transform_named;
 pub use files::bounds_may;
 pub use laws::{projections_of_same_tuples, projections_of_unpartitioned_specs, summary_soundness};
 pub use part_filter::{FieldTest, PartFilter};

@@ -32,4 +32,5 @@ pub kept_is_found : (path : List ℕ) (found : Option (List ℕ)) → get (keep_
 kept_is_found path None = get-empty (slice_cmp nat_cmp) path
 kept_is_found path (Some bytes) =
     get-insert nat_list_cmp_total empty path bytes path
-    ∙ ap (λ same. cond same (Some bytes) (get (empty {R = slice_cmp nat_cmp}) path)) ((eq_by_cmp_equiv nat_list_cmp_total).refl path)
+    ∙ ap (λ same. cond same (Some bytes) (get (empty {R = slice_cmp nat_cmp}) path))
+    ((eq_by_cmp_equiv nat_list_cmp_total).refl path)

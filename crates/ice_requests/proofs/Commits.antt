@@ -25,7 +25,8 @@ use Rattle.ice_text.specs.declared.fault.RunFault.{RunFault}
 use Rattle.ice_text.specs.declared.fault.RunFault.TheVariants as run
 use Rattle.ice_text.specs.Changes.{change_of}
 use Rattle.ice_requests.specs.Bundles.{File}
-use Rattle.ice_requests.specs.Commits.{Commitment, IsOfPreparing, MayEndCommit, MayNotPut, Writes, base_files, base_of, change_asked, commitment, commitment_from, commitment_on}
+use Rattle.ice_requests.specs.Commits.{Commitment, IsOfPreparing, MayEndCommit, MayNotPut, Writes, base_files, base_of}
+use Rattle.ice_requests.specs.Commits.{change_asked, commitment, commitment_from, commitment_on}
 use Rattle.ice_text.specs.Faults.{of_change, of_meta, of_prepare}
 use Rattle.ice_requests.specs.ListPlans.{MayEnd, as_run, file_in}
 use Rattle.ice_requests.proofs.Steps.{first_ends, then_ends}
@@ -114,7 +115,8 @@ module _ (o : Opening) (m : Described) (is : openable o.bytes ≡ Ok m) (c : Com
       record { added = rw state_is refl; metadata = rw (next_is n is_found) refl } in
       (x, rw is_found refl, subst (λ q. Writes q x) (sym same) writes)
 
-  pub made_by : (p : Step) → prepared_on version c ≡ Ok p → (x : Commitment) × (commitment_on base c ≡ Ok x) × Writes p x
+  pub made_by : (p : Step) → prepared_on version c ≡ Ok p → (x : Commitment) × (commitment_on base c ≡ Ok x) × Writes p
+      x
   made_by p h = made_of (apply base c) p refl (rw state_is at h)
 
 -- ---- the request
@@ -129,7 +131,8 @@ module _ (f : List ℕ → Type 0) (world : World) where
         → MayEnd (change_asked world request) f ⊥ e
     unfolding change_asked
     no_change e h =
-        first_ends f ⊥ (EndsAt world f (request.change ∷ [])) (file_in world request.change) _ e (fails request.change) h
+        first_ends f ⊥ (EndsAt world f (request.change ∷ [])) (file_in world request.change) _ e (fails request.change)
+        h
 
     module _ (text : List ℕ) (found : file_in world request.change ≡ Ok text) where
       pub bad_change : (e : ChangeFault) → (e ≢ change.Memory → change_of request.kind text ≡ Err e)
@@ -143,7 +146,8 @@ module _ (f : List ℕ → Type 0) (world : World) where
       unfolding change_asked
       change_is files says = rw (found, says) refl
 
-    pub no_metadata : (e : RunFault) → MayEnd (file_in world request.metadata) (EndsAt world f (request.metadata ∷ [])) ⊥ e
+    pub no_metadata : (e : RunFault) → MayEnd (file_in world request.metadata) (EndsAt world f (request.metadata ∷ []))
+        ⊥ e
         → MayEnd (commitment world request) f ⊥ e
     unfolding commitment
     no_metadata e h =
@@ -151,7 +155,8 @@ module _ (f : List ℕ → Type 0) (world : World) where
         (fails request.metadata) h
 
     module _ (bytes : List ℕ) (has : file_in world request.metadata ≡ Ok bytes) where
-      pub not_asked : (e : RunFault) → MayEnd (change_asked world request) f ⊥ e → MayEnd (commitment world request) f ⊥ e
+      pub not_asked : (e : RunFault) → MayEnd (change_asked world request) f ⊥ e
+          → MayEnd (commitment world request) f ⊥ e
       unfolding commitment
       not_asked e h =
           then_ends f ⊥ (file_in world request.metadata) _ bytes e has
@@ -189,11 +194,13 @@ module _ (f : List ℕ → Type 0) (world : World) where
         version_at : v ≡ record { opening = opening; journal = [] }
         version_at = version_is opening m is commit v opens_as
 
-        ends_on : (e : PrepareFault) → (e ≢ prepare.Memory → apply (record { metadata = m; world = kept }) commit ≡ Err e)
+        ends_on : (e : PrepareFault) → (e ≢ prepare.Memory → apply (record { metadata = m; world = kept }) commit ≡ Err
+            e)
             → MayEnd (commitment_on (record { metadata = m; world = kept }) commit) f ⊥ (of_prepare e)
         unfolding commitment_on
         ends_on e h =
-            first_ends f ⊥ f (as_run of_prepare (apply (record { metadata = m; world = kept }) commit)) _ (of_prepare e) (λ p m. m)
+            first_ends f ⊥ f (as_run of_prepare (apply (record { metadata = m; world = kept }) commit)) _ (of_prepare e)
+            (λ p m. m)
             (prepare_ends f ⊥ (apply (record { metadata = m; world = kept }) commit) e h)
 
         pub not_prepared : (e : PrepareFault) → (e ≢ prepare.Memory → prepared_on v commit ≡ Err e)

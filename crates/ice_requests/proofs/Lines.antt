@@ -1,5 +1,6 @@
 -- The first line of a text is what stands before its first line feed.
-use Rattle.std.proofs.Common.{◌≡◌, ℕ, ◌+◌, ◌<◌, ◌≤◌, ◌==◌, Bool, true, false, List, [], ◌∷◌, length, take, drop, refl, ap, Some, None, arith, position, not, cond, nat_lt, add-one, one-add}
+use Rattle.std.proofs.Common.{◌≡◌, ℕ, ◌+◌, ◌<◌, ◌≤◌, ◌==◌, Bool, true, false, List, [], ◌∷◌, length, take, drop, refl}
+use Rattle.std.proofs.Common.{ap, Some, None, arith, position, not, cond, nat_lt, add-one, one-add}
 use Rattle.std.specs.List.{position_or_len}
 use borrow.Author.Tests.{ltb-true, ltb-false}
 use Rattle.ice_requests.specs.Bundles.{lines_of, before_line}
@@ -15,13 +16,16 @@ later : (x : ℕ) (xs : List ℕ) (p : ℕ) → lines_of xs ≡ take p xs ∷ li
 later x xs p h = let h' = rw add-one at h in rw (one-add, add-one, h') refl
 
 step : (x : ℕ) (xs : List ℕ) (b : Bool)
-    → (position_or_len is_feed xs < length xs → lines_of xs ≡ take (position_or_len is_feed xs) xs ∷ lines_of (drop (position_or_len is_feed xs + 1) xs))
+    → (position_or_len is_feed xs < length xs → lines_of xs ≡ take (position_or_len is_feed xs) xs ∷ lines_of
+    (drop (position_or_len is_feed xs + 1) xs))
     → cond (not b) (1 + position_or_len is_feed xs) 0 < length (x ∷ xs)
-    → lines_when b x (lines_of xs) ≡ take (cond (not b) (1 + position_or_len is_feed xs) 0) (x ∷ xs) ∷ lines_of (drop (cond (not b) (1 + position_or_len is_feed xs) 0 + 1) (x ∷ xs))
+    → lines_when b x (lines_of xs) ≡ take (cond (not b) (1 + position_or_len is_feed xs) 0) (x ∷ xs) ∷ lines_of
+    (drop (cond (not b) (1 + position_or_len is_feed xs) 0 + 1) (x ∷ xs))
 step x xs true rest h = refl
 step x xs false rest h = later x xs (position_or_len is_feed xs) (rest (omega arith))
 
-lines_at : (xs : List ℕ) → position_or_len is_feed xs < length xs → lines_of xs ≡ take (position_or_len is_feed xs) xs ∷ lines_of (drop (position_or_len is_feed xs + 1) xs)
+lines_at : (xs : List ℕ) → position_or_len is_feed xs < length xs
+    → lines_of xs ≡ take (position_or_len is_feed xs) xs ∷ lines_of (drop (position_or_len is_feed xs + 1) xs)
 lines_at [] h = absurd (omega arith)
 lines_at (x ∷ xs) h = step x xs (is_feed x) (lines_at xs) h
 
@@ -45,9 +49,11 @@ found : (p n at : ℕ) (b : Bool) → nat_lt p n ≡ b → Some at ≡ cond b (S
 found p n at true e h = (cc, ltb-true p n e)
 found p n at false e h = absurd cc
 
-pub lines_found : (xs : List ℕ) (at : ℕ) → Some at ≡ position (λ b. b == 10) xs → lines_of xs ≡ take at xs ∷ lines_of (drop (at + 1) xs)
+pub lines_found : (xs : List ℕ) (at : ℕ) → Some at ≡ position (λ b. b == 10) xs
+    → lines_of xs ≡ take at xs ∷ lines_of (drop (at + 1) xs)
 lines_found xs at h =
-    let w = found (position_or_len is_feed xs) (length xs) at (nat_lt (position_or_len is_feed xs) (length xs)) refl h in
+    let w = found (position_or_len is_feed xs) (length xs) at (nat_lt (position_or_len is_feed xs) (length xs)) refl
+    h in
     rw w.0 (lines_at xs w.1)
 
 missing : (p n : ℕ) (b : Bool) → nat_lt p n ≡ b → None ≡ cond b (Some p) None → n ≤ p
@@ -55,4 +61,5 @@ missing p n true e h = absurd cc
 missing p n false e h = ltb-false p n e
 
 pub lines_missing : (xs : List ℕ) → None ≡ position (λ b. b == 10) xs → 0 < length xs → lines_of xs ≡ xs ∷ []
-lines_missing xs h k = one_line xs (missing (position_or_len is_feed xs) (length xs) (nat_lt (position_or_len is_feed xs) (length xs)) refl h) k
+lines_missing xs h k = one_line xs (missing (position_or_len is_feed xs) (length xs)
+    (nat_lt (position_or_len is_feed xs) (length xs)) refl h) k

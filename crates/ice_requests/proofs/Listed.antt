@@ -17,7 +17,8 @@ use Rattle.ice_state.specs.Scans.{Scanned, scan_of}
 use Rattle.ice_state.specs.Snapshots.{plan_of_snapshot}
 use Rattle.ice_text.specs.declared.fault.RunFault.{RunFault}
 use Rattle.ice_text.specs.Faults.{of_finish, of_scan}
-use Rattle.ice_requests.specs.ListPlans.{MayEnd, all_present, answer, as_run, plan_in, reads, rows_at, scan_at, scan_in}
+use Rattle.ice_requests.specs.ListPlans.{MayEnd, all_present, as_run, list_answer, list_reads, list_scan, plan_in}
+use Rattle.ice_requests.specs.ListPlans.{rows_at, scan_at}
 use Rattle.ice_requests.specs.ListPlans.{specs_of, wanted_of}
 use Rattle.ice_requests.specs.Plans.{manifests, over_all_rows, over_wanted_rows, rows_plan}
 use Rattle.ice_requests.proofs.Plans.{list_there, same_plan}
@@ -25,7 +26,7 @@ use Rattle.ice_requests.proofs.Steps.{are_without_fields, fails_later, first_end
 
 -- the plan of the rows of a list
 abbrev listed : World → List Row → Result (List OwnedLine) RunFault
-listed world rows = scan_in rows >>= λ scan. all_present world scan.wanted >>= λ _. plan_in world rows
+listed world rows = list_scan rows >>= λ scan. all_present world scan.wanted >>= λ _. plan_in world rows
 
 module _ (opens : (parts : List (Part BoundLeaf)) (specs : List Spec) → IsOpen specs (pruner_of parts specs))
     (sound : (parts : List (Part BoundLeaf)) (specs : List Spec) → HasSoundSummaries specs (pruner_of parts specs))
@@ -45,31 +46,31 @@ module _ (opens : (parts : List (Part BoundLeaf)) (specs : List Spec) → IsOpen
 
   pub same_listed : (world : World) (rows : List Row) → rows_plan over_wanted_rows world (specs_of rows) [] rows
       ≡ listed world rows
-  unfolding rows_plan scan_in
+  unfolding rows_plan list_scan
   same_listed world rows =
       same_plan opens sound world (specs_of rows) [] rows (covers world (specs_of rows) rows (are_without_fields rows))
       ∙ by_scan world rows (scan_of rows (specs_of rows) []) refl
 
 module _ (f : List ℕ → Type 0) (world : World) (path : List ℕ) where
   pub no_listed_rows : (w : Type 0) (e : RunFault) → MayEnd (rows_at world path) (EndsAt world f (path ∷ [])) ⊥ e
-      → MayEnd (answer world path) (EndsAt world f (reads world path)) w e
-  unfolding answer reads
+      → MayEnd (list_answer world path) (EndsAt world f (list_reads world path)) w e
+  unfolding list_answer list_reads
   no_listed_rows w e h =
-      first_ends (EndsAt world f (reads world path)) w (EndsAt world f (path ∷ [])) (rows_at world path) _ e
+      first_ends (EndsAt world f (list_reads world path)) w (EndsAt world f (path ∷ [])) (rows_at world path) _ e
       (λ p m. only_first world f path (wanted_of (scan_at world path)) p m) h
 
   module _ (rows : List Row) (has : rows_at world path ≡ Ok rows) where
-    pub listed_there : answer world path ≡ listed world rows
-    unfolding answer
+    pub listed_there : list_answer world path ≡ listed world rows
+    unfolding list_answer
     listed_there = rw has refl
 
-    scan_there : scan_at world path ≡ scan_in rows
+    scan_there : scan_at world path ≡ list_scan rows
     unfolding scan_at
     scan_there = rw has refl
 
     pub listed_reads : (p : List ℕ) → EndsAt world f (manifests (specs_of rows) [] rows) p
-        → EndsAt world f (reads world path) p
-    unfolding reads manifests scan_in
+        → EndsAt world f (list_reads world path) p
+    unfolding list_reads manifests list_scan
     listed_reads p h =
         let bytes = list_there world path rows has in
         fails_later world f path bytes.0 (wanted_of (scan_at world path)) p bytes.1

@@ -34,7 +34,8 @@ use Rattle.ice_requests.specs.declared.selection.Selection.{Selection}
 use Rattle.ice_text.specs.Faults.{of_finish, of_list, of_scan, of_wanted}
 use Rattle.ice_requests.specs.ListPlans.{MayEnd, all_present, as_run, file_in, rows_at, rows_in, wanted_of}
 use Rattle.ice_requests.specs.Plans.{Answers, Ending, TellsTheTruth, answer_at, answer_by, by_workers, manifests}
-use Rattle.ice_requests.specs.Plans.{manifests_of, over_all_rows, over_wanted_rows, reads, reads_at, reads_behind, reads_of}
+use Rattle.ice_requests.specs.Plans.{manifests_of, over_all_rows, over_wanted_rows, reads, reads_at, reads_behind}
+use Rattle.ice_requests.specs.Plans.{reads_of}
 use Rattle.ice_requests.specs.Plans.{rows_plan, scan_in}
 use Rattle.ice_requests.specs.Selections.{IsOfRequest, selected}
 use Rattle.ice_requests.proofs.Steps.{fails_later, finish_ends, first_ends, has_each, list_ends, only_first, scan_ends}

@@ -17,12 +17,14 @@ use Rattle.ice_requests.proofs.Steps.{first_ends}
 abbrev text_in : Result Described MetaFault → Result (List ℕ) RunFault
 text_in read = as_run of_meta read >>= λ metadata. Ok (table_text metadata.table)
 
-pub shown : (bytes : List ℕ) (metadata : Described) → metadata_of bytes ≡ Ok metadata → show_of bytes ≡ Ok (table_text metadata.table)
+pub shown : (bytes : List ℕ) (metadata : Described) → metadata_of bytes ≡ Ok metadata
+    → show_of bytes ≡ Ok (table_text metadata.table)
 unfolding show_of
 shown bytes metadata h = ap text_in h
 
 module _ (r : List ℕ → Type 0) (w : Type 0) where
-  ends : (read : Result Described MetaFault) (f : MetaFault) → (f ≢ meta.Memory → read ≡ Err f) → MayEnd (text_in read) r w (of_meta f)
+  ends : (read : Result Described MetaFault) (f : MetaFault) → (f ≢ meta.Memory → read ≡ Err f)
+      → MayEnd (text_in read) r w (of_meta f)
   ends read meta.Memory h = tt
   ends read meta.NotJson h = ap text_in (h (λ m. cc))
   ends read (meta.Version n) h = ap text_in (h (λ m. cc))
@@ -36,7 +38,8 @@ module _ (r : List ℕ → Type 0) (w : Type 0) where
   ends read (meta.Dangling member) h = ap text_in (h (λ m. cc))
   ends read meta.TooBig h = ap text_in (h (λ m. cc))
 
-  pub refused : (bytes : List ℕ) (f : MetaFault) → (f ≢ meta.Memory → metadata_of bytes ≡ Err f) → MayEnd (show_of bytes) r w (of_meta f)
+  pub refused : (bytes : List ℕ) (f : MetaFault) → (f ≢ meta.Memory → metadata_of bytes ≡ Err f)
+      → MayEnd (show_of bytes) r w (of_meta f)
   unfolding show_of
   refused bytes f h = ends (metadata_of bytes) f h
 
@@ -61,7 +64,8 @@ module _ (r : List ℕ → Type 0) (w : Type 0) where
   any_reads read run.Workers h = h
 
 module _ (world : World) (path : List ℕ) where
-  pub file_ends : (r : List ℕ → Type 0) (w : Type 0) (e : RunFault) → MayEnd (file_in world path) r ⊥ e → MayEnd (shown_at world path) r w e
+  pub file_ends : (r : List ℕ → Type 0) (w : Type 0) (e : RunFault) → MayEnd (file_in world path) r ⊥ e
+      → MayEnd (shown_at world path) r w e
   unfolding shown_at
   file_ends r w e h = first_ends r w r (file_in world path) show_of e (λ p m. m) h
 
@@ -70,5 +74,6 @@ module _ (world : World) (path : List ℕ) where
     unfolding shown_at
     shown_there = rw has refl
 
-    pub bytes_end : (r : List ℕ → Type 0) (w : Type 0) (e : RunFault) → MayEnd (show_of bytes) (λ _. ⊥) w e → MayEnd (shown_at world path) r w e
+    pub bytes_end : (r : List ℕ → Type 0) (w : Type 0) (e : RunFault) → MayEnd (show_of bytes) (λ _. ⊥) w e
+        → MayEnd (shown_at world path) r w e
     bytes_end r w e h = subst (λ read. MayEnd read r w e) (sym shown_there) (any_reads r w (show_of bytes) e h)

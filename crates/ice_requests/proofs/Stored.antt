@@ -17,7 +17,8 @@ use Rattle.ice_text.specs.declared.fault.RunFault.{RunFault}
 use Rattle.ice_text.specs.declared.fault.RunFault.TheVariants as run
 
 -- the files that a prepared commit adds are those of what it writes
-pub added_is : (p : Step) (c : Commitment) (files : Added) → Writes p c → added_on p.base p.commit ≡ Some files → files ≡ c.added
+pub added_is : (p : Step) (c : Commitment) (files : Added) → Writes p c → added_on p.base p.commit ≡ Some files
+    → files ≡ c.added
 added_is p c files writes is = let same : Some files ≡ Some c.added = sym is ∙ writes.added in cc
 
 -- all files are a front
@@ -34,7 +35,8 @@ table_is p c v m writes is said =
     ap (λ (d : Described). d.table) metadata
 
 -- the text of the metadata after a prepared commit is that of what it writes
-pub text_is : (p : Step) (c : Commitment) (v : History) (m : Described) (bytes : List ℕ) → Writes p c → v ≡ after p.base p.commit
+pub text_is : (p : Step) (c : Commitment) (v : History) (m : Described) (bytes : List ℕ) → Writes p c
+    → v ≡ after p.base p.commit
     → option_map (λ (s : State). s.metadata) (state_of v) ≡ Some m → metadata_of bytes ≡ Ok m
     → (has_float m.json ≡ false → bytes ≡ compact_text m.json) → IsTextOf c.metadata bytes
 text_is p c v m bytes writes is said reads compact =

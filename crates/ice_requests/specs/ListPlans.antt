@@ -48,8 +48,8 @@ rows_at world list = file_in world list >>= rows_in
 abbrev pub specs_of : List Row → List Spec
 specs_of rows = map (λ row. without_fields row.spec_id) rows
 
-unfoldable pub scan_in : List Row → Result Scanned RunFault
-scan_in rows = as_run of_scan (scan_of rows (specs_of rows) [])
+unfoldable pub list_scan : List Row → Result Scanned RunFault
+list_scan rows = as_run of_scan (scan_of rows (specs_of rows) [])
 
 -- the manifests of these rows are there, or the first that is absent
 unfoldable pub all_present : World → List Row → Result Unit RunFault
@@ -60,13 +60,12 @@ unfoldable pub plan_in : World → List Row → Result (List OwnedLine) RunFault
 plan_in world rows = as_run of_finish (plan_of_snapshot everything world (specs_of rows) rows)
 
 -- The plan of the list at a path, or the first refusal: there is no such list, it can't be read, there is no scan of
--- its
--- rows, a wanted manifest is absent (that of the least path: the wanted rows stand in the order of their paths), or the
--- rows have no plan.
-unfoldable pub answer : World → List ℕ → Result (List OwnedLine) RunFault
-answer world list = do
+-- its rows, a wanted manifest is absent (that of the least path: the wanted rows stand in the order of their paths), or
+-- the rows have no plan.
+unfoldable pub list_answer : World → List ℕ → Result (List OwnedLine) RunFault
+list_answer world list = do
   rows ← rows_at world list
-  scan ← scan_in rows
+  scan ← list_scan rows
   _ ← all_present world scan.wanted
   plan_in world rows
 
@@ -77,15 +76,14 @@ wanted_of (Err fault) = []
 
 -- the scan of the list at a path
 unfoldable pub scan_at : World → List ℕ → Result Scanned RunFault
-scan_at world list = rows_at world list >>= scan_in
+scan_at world list = rows_at world list >>= list_scan
 
 -- the paths that are read, in this order: the list's, and then those of the wanted manifests
-unfoldable pub reads : World → List ℕ → List (List ℕ)
-reads world list = list ∷ wanted_of (scan_at world list)
+unfoldable pub list_reads : World → List ℕ → List (List ℕ)
+list_reads world list = list ∷ wanted_of (scan_at world list)
 
 -- Why a run ends with a fault: memory ran out, a read failed at a path where it may, a write failed that may fail, or
--- the
--- fault is the answer's.
+-- the fault is the answer's.
 abbrev pub MayEnd : {A : Type 0} → Result A RunFault → (List ℕ → Type 0) → Type 0 → RunFault → Type 0
 MayEnd read may_fail_at write_may_fail run.Memory = Unit {0}
 MayEnd read may_fail_at write_may_fail (run.Device path) = may_fail_at path

@@ -1,7 +1,8 @@
 -- The plan of a table's snapshot under a filter: Apache Iceberg table spec, version 2, "Scan Planning".
-use Rattle.std.specs.Prelude.{◌≡◌, ℕ, List, [], ◌∷◌, Option, Result, Ok, Err, OnOk, IfErr, IsErrOf, nat_le, ◌&&◌}
-use Rattle.std.specs.Prelude.{if◌then◌else◌}
+use Rattle.std.specs.Prelude.{◌≡◌, ◌≢◌, ℕ, List, [], ◌∷◌, Option, None, Result, Ok, Err, OnOk, IfErr, IsErrOf, nat_le}
+use Rattle.std.specs.Prelude.{◌&&◌, if◌then◌else◌}
 use Rattle.contract_words.specs.Outcome.{◌>>=◌}
+use Rattle.ice_desk.specs.Worlds.{HasAt}
 use Rattle.ice_filter.specs.declared.bound.BoundLeaf.{BoundLeaf}
 use Rattle.ice_filter.specs.declared.parts.Part.{Part}
 use Rattle.ice_manifest_reading.specs.declared.row.Row.{Row}
@@ -130,3 +131,12 @@ pub record Answers (read : Result (List OwnedLine) RunFault) (may_fail_at : List
   pub written : OnOk result (WrotePlan read output output')
   pub refused : IfErr result (MayEnd read may_fail_at write_may_fail)
   pub front : IsErrOf result run.Write → WrotePlanFront read output output'
+
+-- What a refusal tells over any files: nothing was written but after a failed write, a file that is called absent is not
+-- there, a read failed at a path where it may, and a write failed that may fail.
+pub record OnRefusal (world : Option World) (may_fail_at : List ℕ → Type 0) (write_may_fail : Type 0)
+    (result : Result Unit RunFault) (output output' : Option (List ℕ)) : Type 0 where
+  pub nothing : IfErr result (λ fault. fault ≢ run.Write → output' ≡ output)
+  pub absent : (path : List ℕ) → IsErrOf result (run.Absent path) → HasAt world path None
+  pub device : (path : List ℕ) → IsErrOf result (run.Device path) → may_fail_at path
+  pub write : IsErrOf result run.Write → write_may_fail

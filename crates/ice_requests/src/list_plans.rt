@@ -1,10 +1,10 @@
 //! The plan of a manifest list.
 
-ghost use Rattle.std.specs.Prelude.{◌≡◌, ◌≢◌, ℕ, List, Some, None, IfOk, IfErr, IsErrOf};
-ghost use Rattle.ice_desk.specs.Worlds.{EndsAt, HasAt};
+ghost use Rattle.std.specs.Prelude.{◌≡◌, List, Some, IfOk};
+ghost use Rattle.ice_desk.specs.Worlds.{EndsAt};
 ghost use Rattle.ice_state.specs.Contents.{World};
-ghost use Rattle.ice_requests.specs.ListPlans.{answer, reads, specs_of};
-ghost use Rattle.ice_requests.specs.Plans.{Answers};
+ghost use Rattle.ice_requests.specs.ListPlans.{list_answer, list_reads, specs_of};
+ghost use Rattle.ice_requests.specs.Plans.{Answers, OnRefusal};
 
 use crate::reading::read_rows;
 use crate::table_plans::{Listed, plan_rows};
@@ -42,14 +42,12 @@ pub fn run_list_plan<F: Files, W: Sink>(
 ) -> Result<(), RunFault>
     // Over files that tell their world: what is written is the text of the plan, and a fault is the answer's.
     ensures answers { (world : World) → F.world files.now ≡ Some world →
-        Answers (answer world list.now) (EndsAt world (F.may_fail files.now) (reads world list.now))
+        Answers (list_answer world list.now) (EndsAt world (F.may_fail files.now) (list_reads world list.now))
         (W.may_fail output.old) result (W.taken output.old) (W.taken output.new) }
 
     // Over all files.
-    ensures nothing { IfErr result (λ fault. fault ≢ RunFault.Write → W.taken output.new ≡ W.taken output.old) }
-    ensures absent { (path : List ℕ) → IsErrOf result (RunFault.Absent path) → HasAt (F.world files.now) path None }
-    ensures device { (path : List ℕ) → IsErrOf result (RunFault.Device path) → F.may_fail files.now path }
-    ensures write { IsErrOf result RunFault.Write → W.may_fail output.old }
+    ensures refusal { OnRefusal (F.world files.now) (F.may_fail files.now) (W.may_fail output.old) result
+        (W.taken output.old) (W.taken output.new) }
 {
     let rows = read_rows(alloc, files, list)?;
     let listed = Listed {

@@ -1,10 +1,11 @@
 //! The plan of a table's snapshot by workers.
 
-ghost use Rattle.std.specs.Prelude.{◌≡◌, ◌≢◌, ◌⊎◌, ◌<◌, ◌≤◌, ◌↔◌, ℕ, List, length, None, Some, Ok, IfErr, OnOk};
+ghost use Rattle.std.specs.Prelude.{◌≡◌, ◌⊎◌, ◌<◌, ◌≤◌, ◌↔◌, length, Some, Ok, OnOk};
 ghost use Rattle.std.specs.Prelude.{IsErrOf};
-ghost use Rattle.ice_desk.specs.Worlds.{EndsAt, HasAt};
+ghost use Rattle.ice_desk.specs.Worlds.{EndsAt};
 ghost use Rattle.ice_state.specs.Contents.{World};
-ghost use Rattle.ice_requests.specs.Plans.{Answers, TellsTheTruth, TellsTheTruthAt, answer, answer_at, by_workers};
+ghost use Rattle.ice_requests.specs.Plans.{Answers, OnRefusal, TellsTheTruth, TellsTheTruthAt, answer, answer_at};
+ghost use Rattle.ice_requests.specs.Plans.{by_workers};
 ghost use Rattle.ice_requests.specs.Plans.{manifests, over_all_rows, over_wanted_rows, reads, reads_at, rows_plan};
 ghost use Rattle.ice_requests.specs.Plans.{wanted_answer};
 ghost use Rattle.ice_requests.specs.Selections.{selected};
@@ -43,10 +44,8 @@ fn plan_rows_with<R: Threads + Sync, F: Files + Sync, G: Gate + Sync, W: Sink>(
         Answers (rows_plan over_wanted_rows world listed.specs.items listed.filter.parts listed.rows.items)
         (EndsAt world (F.may_fail files.now) (manifests listed.specs.items listed.filter.parts listed.rows.items))
         (W.may_fail output.old) result (W.taken output.old) (W.taken output.new) }
-    ensures nothing { IfErr result (λ fault. fault ≢ RunFault.Write → W.taken output.new ≡ W.taken output.old) }
-    ensures absent { (path : List ℕ) → IsErrOf result (RunFault.Absent path) → HasAt (F.world files.now) path None }
-    ensures device { (path : List ℕ) → IsErrOf result (RunFault.Device path) → F.may_fail files.now path }
-    ensures write { IsErrOf result RunFault.Write → W.may_fail output.old }
+    ensures refusal { OnRefusal (F.world files.now) (F.may_fail files.now) (W.may_fail output.old) result
+        (W.taken output.old) (W.taken output.new) }
     ensures workers { IsErrOf result RunFault.Workers → ⊥ }
 {
     let scan = Scan::new(alloc, listed.rows, listed.specs, listed.filter)?;
@@ -54,11 +53,9 @@ fn plan_rows_with<R: Threads + Sync, F: Files + Sync, G: Gate + Sync, W: Sink>(
     write_plan(alloc, &plan.lines(), output)
 }
 
-/// Writes the plan that a request asks for, of the table whose metadata these are the bytes of: by so many workers,
-/// from
+/// Writes the plan that a request asks for, of the table whose metadata these are the bytes of: by so many workers, from
 /// 1 to 64, each in a thread of its own where one can be started. They read and take the wanted manifests at once;
-/// `gate`
-/// is told of each of their reads.
+/// `gate` is told of each of their reads.
 ///
 /// The refusal is `Workers` where there are to be none, or more than 64; it comes before all others. Else plan and
 /// refusal are those of `run_plan`, whatever the number of workers.
@@ -87,10 +84,8 @@ pub fn run_plan_with<R: Threads + Sync, F: Files + Sync, G: Gate + Sync, W: Sink
 
     // Over all files.
     ensures selection { OnOk result ((selection : Selection) × (selected metadata.now request.now ≡ Ok selection)) }
-    ensures nothing { IfErr result (λ fault. fault ≢ RunFault.Write → W.taken output.new ≡ W.taken output.old) }
-    ensures absent { (path : List ℕ) → IsErrOf result (RunFault.Absent path) → HasAt (F.world files.now) path None }
-    ensures device { (path : List ℕ) → IsErrOf result (RunFault.Device path) → F.may_fail files.now path }
-    ensures write { IsErrOf result RunFault.Write → W.may_fail output.old }
+    ensures refusal { OnRefusal (F.world files.now) (F.may_fail files.now) (W.may_fail output.old) result
+        (W.taken output.old) (W.taken output.new) }
 {
     if workers == 0 || workers > MOST_WORKERS {
         return Err(RunFault::Workers);
@@ -130,10 +125,8 @@ fn plan_bytes<R: Threads + Sync, F: Files + Sync, W: Sink>(
         Answers (by_workers workers (wanted_answer world metadata.now request.now))
         (EndsAt world (F.may_fail files.now) (reads world metadata.now request.now))
         (W.may_fail output.old) result (W.taken output.old) (W.taken output.new) }
-    ensures nothing { IfErr result (λ fault. fault ≢ RunFault.Write → W.taken output.new ≡ W.taken output.old) }
-    ensures absent { (path : List ℕ) → IsErrOf result (RunFault.Absent path) → HasAt (F.world files.now) path None }
-    ensures device { (path : List ℕ) → IsErrOf result (RunFault.Device path) → F.may_fail files.now path }
-    ensures write { IsErrOf result RunFault.Write → W.may_fail output.old }
+    ensures refusal { OnRefusal (F.world files.now) (F.may_fail files.now) (W.may_fail output.old) result
+        (W.taken output.old) (W.taken output.new) }
 {
     if workers == 1 {
         return run_plan(alloc, files, metadata, request, output);
@@ -167,10 +160,8 @@ pub fn plan_file<R: Threads + Sync, F: Files + Sync, W: Sink>(
         (W.may_fail output.old) result (W.taken output.old) (W.taken output.new) }
 
     // Over all files.
-    ensures nothing { IfErr result (λ fault. fault ≢ RunFault.Write → W.taken output.new ≡ W.taken output.old) }
-    ensures absent { (path : List ℕ) → IsErrOf result (RunFault.Absent path) → HasAt (F.world files.now) path None }
-    ensures device { (path : List ℕ) → IsErrOf result (RunFault.Device path) → F.may_fail files.now path }
-    ensures write { IsErrOf result RunFault.Write → W.may_fail output.old }
+    ensures refusal { OnRefusal (F.world files.now) (F.may_fail files.now) (W.may_fail output.old) result
+        (W.taken output.old) (W.taken output.new) }
 {
     let metadata = read_file(alloc, files, path)?;
     plan_bytes(rt, alloc, files, &metadata, request, workers, output)

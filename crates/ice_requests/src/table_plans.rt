@@ -1,10 +1,10 @@
 //! The plan of a table's snapshot, under a filter.
 
-ghost use Rattle.std.specs.Prelude.{◌≡◌, ◌≢◌, ◌≤◌, ℕ, List, ◌∷◌, [], length, Some, None, Ok, IfOk, IfErr, OnOk};
-ghost use Rattle.std.specs.Prelude.{IsErrOf};
-ghost use Rattle.ice_desk.specs.Worlds.{EndsAt, HasAt};
+ghost use Rattle.std.specs.Prelude.{◌≡◌, ℕ, List, Some, Ok, OnOk};
+ghost use Rattle.ice_desk.specs.Worlds.{EndsAt};
 ghost use Rattle.ice_state.specs.Contents.{World};
-ghost use Rattle.ice_requests.specs.Plans.{Answers, TellsTheTruth, answer, manifests, over_wanted_rows, reads, rows_plan};
+ghost use Rattle.ice_requests.specs.Plans.{Answers, OnRefusal, TellsTheTruth, answer, manifests, over_wanted_rows};
+ghost use Rattle.ice_requests.specs.Plans.{reads, rows_plan};
 ghost use Rattle.ice_requests.specs.Plans.{wanted_answer};
 ghost use Rattle.ice_requests.specs.Selections.{selected};
 ghost use Rattle.ice_requests.specs.declared.selection.Request.{Request};
@@ -43,10 +43,8 @@ pub fn plan_rows<F: Files, W: Sink>(
         Answers (rows_plan over_wanted_rows world listed.specs.items listed.filter.parts listed.rows.items)
         (EndsAt world (F.may_fail files.now) (manifests listed.specs.items listed.filter.parts listed.rows.items))
         (W.may_fail output.old) result (W.taken output.old) (W.taken output.new) }
-    ensures nothing { IfErr result (λ fault. fault ≢ RunFault.Write → W.taken output.new ≡ W.taken output.old) }
-    ensures absent { (path : List ℕ) → IsErrOf result (RunFault.Absent path) → HasAt (F.world files.now) path None }
-    ensures device { (path : List ℕ) → IsErrOf result (RunFault.Device path) → F.may_fail files.now path }
-    ensures write { IsErrOf result RunFault.Write → W.may_fail output.old }
+    ensures refusal { OnRefusal (F.world files.now) (F.may_fail files.now) (W.may_fail output.old) result
+        (W.taken output.old) (W.taken output.new) }
 {
     let scan = Scan::new(alloc, listed.rows, listed.specs, listed.filter)?;
     let mut state = Partial::empty(alloc, &scan)?;
@@ -92,10 +90,8 @@ pub fn run_plan<F: Files, W: Sink>(
 
     // Over all files.
     ensures selection { OnOk result ((selection : Selection) × (selected metadata.now request.now ≡ Ok selection)) }
-    ensures nothing { IfErr result (λ fault. fault ≢ RunFault.Write → W.taken output.new ≡ W.taken output.old) }
-    ensures absent { (path : List ℕ) → IsErrOf result (RunFault.Absent path) → HasAt (F.world files.now) path None }
-    ensures device { (path : List ℕ) → IsErrOf result (RunFault.Device path) → F.may_fail files.now path }
-    ensures write { IsErrOf result RunFault.Write → W.may_fail output.old }
+    ensures refusal { OnRefusal (F.world files.now) (F.may_fail files.now) (W.may_fail output.old) result
+        (W.taken output.old) (W.taken output.new) }
 {
     plans_of_true_summaries();
     let Selection {

@@ -1,5 +1,6 @@
 -- What a filter keeps, by the laws of its projections.
-use Rattle.std.proofs.Common.{◌≡◌, List, refl, sym, ap, ◌∙◌, Bool, true, IsTrue, Option, Some, None, is_none, option_map}
+use Rattle.std.proofs.Common.{◌≡◌, List, refl, sym, ap, ◌∙◌, Bool, true, IsTrue, Option, Some, None, is_none}
+use Rattle.std.proofs.Common.{option_map}
 use Rattle.std.specs.Ordering.{int_eq}
 use Rattle.std.proofs.lemmas.Bool.Decides.{Decides-int_eq}
 use Rattle.ice_value.specs.Applying.{same_partition}
@@ -24,50 +25,74 @@ use Rattle.ice_state.specs.Specs.{spec_of}
 use Rattle.ice_state.proofs.Filters.{and_true}
 
 -- the same tuples meet the same filters
-module _ (same : (part : PartFilter) (tuple other : List Cell) → IsTrue (same_tuple tuple other) → part_meets part tuple ≡ part_meets part other) where
-  same_by : (parts : List (Part BoundLeaf)) (tuple other : List Cell) → same_tuple tuple other ≡ true → (o : Option Spec) → by_projection parts (λ part. part_meets part tuple) o ≡ true → by_projection parts (λ part. part_meets part other) o ≡ true
+module _ (same : (part : PartFilter) (tuple other : List Cell) → IsTrue (same_tuple tuple other)
+    → part_meets part tuple ≡ part_meets part other) where
+  same_by : (parts : List (Part BoundLeaf)) (tuple other : List Cell) → same_tuple tuple other ≡ true
+      → (o : Option Spec) → by_projection parts (λ part. part_meets part tuple) o ≡ true
+      → by_projection parts (λ part. part_meets part other) o ≡ true
   same_by parts tuple other t None h = h
   same_by parts tuple other t (Some spec) h = sym (same (projection parts spec) tuple other t) ∙ h
 
-  pub of_same_partition : (parts : List (Part BoundLeaf)) (specs : List Spec) (x d : Entry) → same_partition (key_of x) (key_of d) ≡ true → (pruner_of parts specs).meets x.spec_id x.file.tuple ≡ true → (pruner_of parts specs).meets d.spec_id d.file.tuple ≡ true
+  pub of_same_partition : (parts : List (Part BoundLeaf)) (specs : List Spec) (x d : Entry)
+      → same_partition (key_of x) (key_of d) ≡ true → (pruner_of parts specs).meets x.spec_id x.file.tuple ≡ true
+      → (pruner_of parts specs).meets d.spec_id d.file.tuple ≡ true
   of_same_partition parts specs x d s met =
       let b = and_true (int_eq x.spec_id d.spec_id) (same_tuple x.file.tuple d.file.tuple) s in
       let ids : x.spec_id ≡ d.spec_id = (Decides-int_eq x.spec_id d.spec_id).0 b.0 in
-      ap (λ id. (pruner_of parts specs).meets id d.file.tuple) (sym ids) ∙ same_by parts x.file.tuple d.file.tuple b.1 (spec_of specs x.spec_id) met
+      ap (λ id. (pruner_of parts specs).meets id d.file.tuple) (sym ids) ∙ same_by parts x.file.tuple d.file.tuple b.1
+      (spec_of specs x.spec_id) met
 
 -- a projection through a spec that partitions nothing is met wherever another is
-module _ (opens : (filter : List (Part BoundLeaf)) (spec other : Spec) (tuple met : List Cell) → is_unpartitioned spec ≡ true → part_meets (projection filter other) met ≡ true → part_meets (projection filter spec) tuple ≡ true) where
-  open_by : (parts : List (Part BoundLeaf)) (tuple met : List Cell) (o q : Option Spec) → option_map is_unpartitioned o ≡ Some true → by_projection parts (λ part. part_meets part met) q ≡ true → by_projection parts (λ part. part_meets part tuple) o ≡ true
+module _ (opens : (filter : List (Part BoundLeaf)) (spec other : Spec) (tuple met : List Cell)
+    → is_unpartitioned spec ≡ true → part_meets (projection filter other) met ≡ true
+    → part_meets (projection filter spec) tuple ≡ true) where
+  open_by : (parts : List (Part BoundLeaf)) (tuple met : List Cell) (o q : Option Spec)
+      → option_map is_unpartitioned o ≡ Some true → by_projection parts (λ part. part_meets part met) q ≡ true
+      → by_projection parts (λ part. part_meets part tuple) o ≡ true
   open_by parts tuple met None q u h = cc
   open_by parts tuple met (Some spec) None u h = cc
-  open_by parts tuple met (Some spec) (Some other) u h = let yes : is_unpartitioned spec ≡ true = cc in opens parts spec other tuple met yes h
+  open_by parts tuple met (Some spec) (Some other) u h = let yes : is_unpartitioned spec ≡ true = cc in
+      opens parts spec other tuple met yes h
 
   pub open_of : (parts : List (Part BoundLeaf)) (specs : List Spec) → IsOpen specs (pruner_of parts specs)
-  open_of parts specs = λ x d says u met. open_by parts d.file.tuple x.file.tuple (spec_of specs d.spec_id) (spec_of specs x.spec_id) (says ∙ ap Some u) met
+  open_of parts specs = λ x d says u met. open_by parts d.file.tuple x.file.tuple (spec_of specs d.spec_id)
+      (spec_of specs x.spec_id) (says ∙ ap Some u) met
 
 -- summaries that cover a tuple that meets the projection don't say no
-module _ (sound : (filter : List (Part BoundLeaf)) (spec : Spec) (summaries : List Summary) (tuple : List Cell) → IsCovered (fields_of spec) summaries tuple → part_meets (projection filter spec) tuple ≡ true → summaries_may (projection filter spec) summaries ≡ true) where
-  allowed : (parts : List (Part BoundLeaf)) (spec : Spec) (tuple : List Cell) (summaries : Option (List Summary)) → Covers spec summaries tuple → part_meets (projection parts spec) tuple ≡ true → summaries_allow (projection parts spec) summaries ≡ true
+module _ (sound : (filter : List (Part BoundLeaf)) (spec : Spec) (summaries : List Summary) (tuple : List Cell)
+    → IsCovered (fields_of spec) summaries tuple → part_meets (projection filter spec) tuple ≡ true
+    → summaries_may (projection filter spec) summaries ≡ true) where
+  allowed : (parts : List (Part BoundLeaf)) (spec : Spec) (tuple : List Cell) (summaries : Option (List Summary))
+      → Covers spec summaries tuple → part_meets (projection parts spec) tuple ≡ true
+      → summaries_allow (projection parts spec) summaries ≡ true
   allowed parts spec tuple None covers met = refl
   allowed parts spec tuple (Some summaries) covers met = sound parts spec summaries tuple covers met
 
-  sound_by : (parts : List (Part BoundLeaf)) (tuple : List Cell) (summaries : Option (List Summary)) (o : Option Spec) → ((spec : Spec) → o ≡ Some spec → Covers spec summaries tuple) → by_projection parts (λ part. part_meets part tuple) o ≡ true → by_projection parts (λ part. summaries_allow part summaries) o ≡ true
+  sound_by : (parts : List (Part BoundLeaf)) (tuple : List Cell) (summaries : Option (List Summary)) (o : Option Spec)
+      → ((spec : Spec) → o ≡ Some spec → Covers spec summaries tuple)
+      → by_projection parts (λ part. part_meets part tuple) o ≡ true
+      → by_projection parts (λ part. summaries_allow part summaries) o ≡ true
   sound_by parts tuple summaries None covers met = met
   sound_by parts tuple summaries (Some spec) covers met = allowed parts spec tuple summaries (covers spec refl) met
 
   pub sound_of : (parts : List (Part BoundLeaf)) (specs : List Spec) → HasSoundSummaries specs (pruner_of parts specs)
-  sound_of parts specs = λ row tuple covers met. sound_by parts tuple row.partitions (spec_of specs row.spec_id) covers met
+  sound_of parts specs = λ row tuple covers met. sound_by parts tuple row.partitions (spec_of specs row.spec_id) covers
+      met
 
 -- the test of the projection through the spec that was found
-pub by_spec : (parts : List (Part BoundLeaf)) (test : PartFilter → Bool) (o : Option Spec) (f : OfSpec) → option_map (filtered_by parts) o ≡ Some f → test (projection f.filter f.spec) ≡ by_projection parts test o
+pub by_spec : (parts : List (Part BoundLeaf)) (test : PartFilter → Bool) (o : Option Spec) (f : OfSpec)
+    → option_map (filtered_by parts) o ≡ Some f → test (projection f.filter f.spec) ≡ by_projection parts test o
 by_spec parts test None f h = cc
-by_spec parts test (Some spec) f h = let same : filtered_by parts spec ≡ f = cc in ap (λ (g : OfSpec). test (projection g.filter g.spec)) (sym same)
+by_spec parts test (Some spec) f h = let same : filtered_by parts spec ≡ f = cc in
+    ap (λ (g : OfSpec). test (projection g.filter g.spec)) (sym same)
 
 -- which spec was found, and that there is none
-pub found_by : (parts : List (Part BoundLeaf)) (o : Option Spec) (f : OfSpec) → option_map (filtered_by parts) o ≡ Some f → o ≡ Some f.spec
+pub found_by : (parts : List (Part BoundLeaf)) (o : Option Spec) (f : OfSpec)
+    → option_map (filtered_by parts) o ≡ Some f → o ≡ Some f.spec
 found_by parts None f h = cc
 found_by parts (Some spec) f h = let same : filtered_by parts spec ≡ f = cc in ap (λ (g : OfSpec). Some g.spec) same
 
-pub found_none : (parts : List (Part BoundLeaf)) (o : Option Spec) → option_map (filtered_by parts) o ≡ None → is_none o ≡ true
+pub found_none : (parts : List (Part BoundLeaf)) (o : Option Spec) → option_map (filtered_by parts) o ≡ None
+    → is_none o ≡ true
 found_none parts None h = refl
 found_none parts (Some spec) h = cc

@@ -1,5 +1,6 @@
 -- What a merge adds.
-use Rattle.std.proofs.Common.{◌≡◌, ◌<◌, ◌≤◌, ℕ, zero, suc, List, [], ◌∷◌, ◌++◌, refl, sym, ap, ◌∙◌, Bool, true, false, length, get_or, drop, arith, Option, Some, None}
+use Rattle.std.proofs.Common.{◌≡◌, ◌<◌, ◌≤◌, ℕ, zero, suc, List, [], ◌∷◌, ◌++◌, refl, sym, ap, ◌∙◌, Bool, true, false}
+use Rattle.std.proofs.Common.{length, get_or, drop, arith, Option, Some, None}
 use Rattle.ice_state.specs.declared.reading.Reading.{Reading}
 use Rattle.ice_state.specs.Contents.{Content, World, content, or_else}
 use Rattle.ice_state.specs.Joins.{join, either, IsNoGain, TookAllOf}
@@ -21,7 +22,8 @@ join-gains (None ∷ cs) (Some r ∷ ds) h = ap (λ x. Some r ∷ x) (join-gains
 join-gains (None ∷ cs) (None ∷ ds) h = ap (λ x. None ∷ x) (join-gains cs ds (omega arith))
 
 -- the last of what is left to add
-join-last : (cs ds : Content) (r : Reading) → length ds < length cs → join (with_row cs (length ds) r) ds ≡ join cs (ds ++ Some r ∷ [])
+join-last : (cs ds : Content) (r : Reading) → length ds < length cs
+    → join (with_row cs (length ds) r) ds ≡ join cs (ds ++ Some r ∷ [])
 join-last [] ds r h = absurd (omega arith)
 join-last (c ∷ cs) [] r h = ap (λ x. or_else c (Some r) ∷ x) (sym (join-nil cs))
 join-last (c ∷ cs) (d ∷ ds) r h = ap (λ x. or_else c d ∷ x) (join-last cs ds r (omega arith))
@@ -32,10 +34,12 @@ join-last_none (Some r ∷ cs) [] h = ap (λ x. Some r ∷ x) (sym (join-nil cs)
 join-last_none (None ∷ cs) [] h = ap (λ x. None ∷ x) (sym (join-nil cs))
 join-last_none (c ∷ cs) (d ∷ ds) h = ap (λ x. or_else c d ∷ x) (join-last_none cs ds (omega arith))
 
-pub put_last : (cs ds es new : Content) (s : Option Reading) (r : Reading) (n : ℕ) → new ≡ with_row cs n r → n ≡ length ds → s ≡ Some r → es ≡ ds ++ s ∷ [] → length ds < length cs → join new ds ≡ join cs es
+pub put_last : (cs ds es new : Content) (s : Option Reading) (r : Reading) (n : ℕ) → new ≡ with_row cs n r
+    → n ≡ length ds → s ≡ Some r → es ≡ ds ++ s ∷ [] → length ds < length cs → join new ds ≡ join cs es
 put_last cs ds es new s r n put at is gone fits = rw (put, at, gone, is) (join-last cs ds r fits)
 
-pub put_none : (cs ds es : Content) (s : Option Reading) → s ≡ None → es ≡ ds ++ s ∷ [] → length ds < length cs → join cs ds ≡ join cs es
+pub put_none : (cs ds es : Content) (s : Option Reading) → s ≡ None → es ≡ ds ++ s ∷ [] → length ds < length cs
+    → join cs ds ≡ join cs es
 put_none cs ds es s is gone fits = rw (gone, is) (join-last_none cs ds fits)
 
 pub put_done : (cs ds es : Content) → es ≡ ds ++ [] → length ds ≡ 0 → join cs es ≡ cs
@@ -68,11 +72,13 @@ join-known (None ∷ cs) (None ∷ ds) l h = ap (λ x. None ∷ x) (join-known c
 join-known (None ∷ cs) (Some r ∷ ds) l h = absurd h.0
 
 -- of the rows from place i on
-pub gain_at : (cs ds : Content) (i : ℕ) (c d : Option Reading) → i < length cs → i < length ds → c ≡ get_or cs i c → d ≡ get_or ds i d → is_gain c d ≡ true → TookAllOf cs ds → ⊥
+pub gain_at : (cs ds : Content) (i : ℕ) (c d : Option Reading) → i < length cs → i < length ds → c ≡ get_or cs i c
+    → d ≡ get_or ds i d → is_gain c d ≡ true → TookAllOf cs ds → ⊥
 gain_at [] ds i c d l m h k g all = absurd (omega arith)
 gain_at (x ∷ cs) [] i c d l m h k g all = absurd (omega arith)
 gain_at (None ∷ cs) (Some r ∷ ds) zero c d l m h k g all = all.0
-gain_at (None ∷ cs) (None ∷ ds) zero c d l m h k g all = let e : true ≡ false = sym g ∙ ap (is_gain c) k ∙ ap (λ x. is_gain x None) h in cc
+gain_at (None ∷ cs) (None ∷ ds) zero c d l m h k g all = let e : true ≡ false = sym g ∙ ap (is_gain c) k ∙ ap
+    (λ x. is_gain x None) h in cc
 gain_at (Some r ∷ cs) (y ∷ ds) zero c d l m h k g all = let e : true ≡ false = sym g ∙ ap (λ x. is_gain x d) h in cc
 gain_at (x ∷ cs) (y ∷ ds) (suc i) c d l m h k g all = gain_at cs ds i c d (omega arith) (omega arith) h k g all.1
 
@@ -81,11 +87,20 @@ no_gain None (Some r) h = cc
 no_gain None None h = tt
 no_gain (Some r) d h = tt
 
-pub all_step : (cs ds : Content) (i : ℕ) (c d : Option Reading) → i < length cs → i < length ds → c ≡ get_or cs i c → d ≡ get_or ds i d → is_gain c d ≡ false → TookAllOf (drop (suc i) cs) (drop (suc i) ds) → TookAllOf (drop i cs) (drop i ds)
+pub all_step : (cs ds : Content) (i : ℕ) (c d : Option Reading) → i < length cs → i < length ds → c ≡ get_or cs i c
+    → d ≡ get_or ds i d → is_gain c d ≡ false → TookAllOf (drop (suc i) cs) (drop (suc i) ds)
+    → TookAllOf (drop i cs) (drop i ds)
 all_step [] ds i c d l m h k g all = absurd (omega arith)
 all_step (x ∷ cs) [] i c d l m h k g all = absurd (omega arith)
-all_step (x ∷ cs) (y ∷ ds) zero c d l m h k g all = (no_gain x y (ap (λ z. is_gain z y) (sym h) ∙ ap (is_gain c) (sym k) ∙ g), all)
+all_step (x ∷ cs) (y ∷ ds) zero c d l m h k g all = (
+  no_gain x y (ap (λ z. is_gain z y) (sym h) ∙ ap (is_gain c) (sym k)
+      ∙ g),
+  all,
+)
 all_step (x ∷ cs) (y ∷ ds) (suc i) c d l m h k g all = all_step cs ds i c d (omega arith) (omega arith) h k g all
 
-pub join-in_world : (world : World) (scan : Scanned) (ts us : List Bool) (old other new : Content) → new ≡ join old other → old ≡ content world scan ts → other ≡ content world scan us → new ≡ content world scan (either ts us)
-join-in_world world scan ts us old other new step is is' = step ∙ ap (λ c. join c other) is ∙ ap (λ c. join (content world scan ts) c) is' ∙ join-content world scan ts us scan.wanted
+pub join-in_world : (world : World) (scan : Scanned) (ts us : List Bool) (old other new : Content)
+    → new ≡ join old other → old ≡ content world scan ts → other ≡ content world scan us
+    → new ≡ content world scan (either ts us)
+join-in_world world scan ts us old other new step is is' = step ∙ ap (λ c. join c other) is ∙ ap
+    (λ c. join (content world scan ts) c) is' ∙ join-content world scan ts us scan.wanted

@@ -1,5 +1,6 @@
 -- The places that the index gives are those of the delete files that apply.
-use Rattle.std.proofs.Common.{◌≡◌, ◌≤◌, ◌+◌, ℕ, suc, Bool, true, false, ◌&&◌, List, [], ◌∷◌, ◌++◌, length, map, filter, cond, refl, sym, ap, subst, ◌∙◌, arith, append_assoc, Bor}
+use Rattle.std.proofs.Common.{◌≡◌, ◌≤◌, ◌+◌, ℕ, suc, Bool, true, false, ◌&&◌, List, [], ◌∷◌, ◌++◌, length, map, filter}
+use Rattle.std.proofs.Common.{cond, refl, sym, ap, subst, ◌∙◌, arith, append_assoc, Bor}
 use Rattle.std.specs.List.{AllByRecursion}
 use Rattle.ice_value.specs.declared.file_content.FileContent.{FileContent}
 use Rattle.ice_value.specs.declared.file_content.FileContent.TheVariants.{Data, PositionDeletes, EqualityDeletes}
@@ -23,7 +24,8 @@ length-one_more [] x = refl
 length-one_more (y ∷ ys) x = let e = length-one_more ys x in omega arith
 
 -- the entries of the numbers of those that pass, behind others
-entries_behind : (p : FileKey → Bool) (front xs : List Entry) → entries_at (front ++ xs) (numbers_from (length front) p (map key_of xs)) ≡ filter (λ d. p (key_of d)) xs
+entries_behind : (p : FileKey → Bool) (front xs : List Entry)
+    → entries_at (front ++ xs) (numbers_from (length front) p (map key_of xs)) ≡ filter (λ d. p (key_of d)) xs
 entries_behind p front [] = refl
 entries_behind p front (x ∷ xs) =
     let whole = front ++ x ∷ xs in
@@ -32,12 +34,15 @@ entries_behind p front (x ∷ xs) =
     ap (λ es. entries_at es (numbers_from (length front + 1) p (map key_of xs))) (sym joined)
     ∙ ap (λ n. entries_at ((front ++ x ∷ []) ++ xs) (numbers_from n p (map key_of xs))) (sym (length-one_more front x))
     ∙ entries_behind p (front ++ x ∷ []) xs in
-    elim (p (key_of x)) as (λ v. entries_at whole (with_first p (key_of x) (map key_of xs) (length front) v) ≡ cond v (x ∷ filter (λ d. p (key_of d)) xs) (filter (λ d. p (key_of d)) xs)) [
-      | true ↦ ap (λ es. es ++ entries_at whole (numbers_from (length front + 1) p (map key_of xs))) (at_front front x xs) ∙ ap (λ es. x ∷ es) rest
+    elim (p (key_of x)) as (λ v. entries_at whole (with_first p (key_of x) (map key_of xs) (length front) v) ≡ cond v
+    (x ∷ filter (λ d. p (key_of d)) xs) (filter (λ d. p (key_of d)) xs)) [
+      | true ↦ ap (λ es. es ++ entries_at whole (numbers_from (length front + 1) p (map key_of xs)))
+          (at_front front x xs) ∙ ap (λ es. x ∷ es) rest
       | false ↦ rest
     ]
 
-numbers_within : (n : ℕ) (p : FileKey → Bool) (files : List FileKey) (m : ℕ) → m + length files ≤ n → AreWithin n (numbers_from m p files)
+numbers_within : (n : ℕ) (p : FileKey → Bool) (files : List FileKey) (m : ℕ) → m + length files ≤ n
+    → AreWithin n (numbers_from m p files)
 numbers_within n p [] m h = tt
 numbers_within n p (f ∷ fs) m h =
     let rest = numbers_within n p fs (m + 1) (omega arith) in
@@ -61,15 +66,19 @@ module _ (deletes : List Entry) where
   abbrev keys : List FileKey
   keys = map key_of deletes
 
-  files_at : (content : FileContent) → ((a : FileContent) → is_content content a ≡ same_content a content) → (x : Entry) → entries_at deletes (numbers_of content keys (key_of x)) ≡ filter (λ d. holds content d && applies x d) deletes
+  files_at : (content : FileContent) → ((a : FileContent) → is_content content a ≡ same_content a content) → (x : Entry)
+      → entries_at deletes (numbers_of content keys (key_of x)) ≡ filter (λ d. holds content d && applies x d) deletes
   files_at content same x =
       entries_behind (λ d. key_holds content d && key_applies (key_of x) d) [] deletes
-      ∙ filter-same (λ d. key_holds content (key_of d) && applies x d) (λ d. holds content d && applies x d) (λ d. ap (λ b. b && applies x d) (same d.file.content)) deletes
+      ∙ filter-same (λ d. key_holds content (key_of d) && applies x d) (λ d. holds content d && applies x d)
+      (λ d. ap (λ b. b && applies x d) (same d.file.content)) deletes
 
   line_is : (x : Entry) → line_at deletes x (places_of keys (key_of x)) ≡ line_of deletes x
   line_is x = rw (files_at PositionDeletes positions_hold x, files_at EqualityDeletes equalities_hold x) refl
 
-  each_line_is : (files : List (Bor Entry)) → lines_at deletes (map (λ x. x.now) files) (map (λ x. places_of keys (key_of x.now)) files) ≡ map (line_of deletes) (map (λ x. x.now) files)
+  each_line_is : (files : List (Bor Entry))
+      → lines_at deletes (map (λ x. x.now) files) (map (λ x. places_of keys (key_of x.now)) files) ≡ map
+      (line_of deletes) (map (λ x. x.now) files)
   each_line_is [] = refl
   each_line_is (x ∷ xs) = rw (line_is x.now, each_line_is xs) refl
 
@@ -78,13 +87,16 @@ module _ (deletes : List Entry) where
   length-keys (x ∷ xs) = ap suc (length-keys xs)
 
   within : (content : FileContent) (x : Entry) → AreWithin (length deletes) (numbers_of content keys (key_of x))
-  within content x = numbers_within (length deletes) (λ d. key_holds content d && key_applies (key_of x) d) keys 0 (let e = length-keys deletes in omega arith)
+  within content x = numbers_within (length deletes) (λ d. key_holds content d && key_applies (key_of x) d) keys 0
+      (let e = length-keys deletes in omega arith)
 
-  each_within : (files : List (Bor Entry)) → AllByRecursion (IsLineWithin (length deletes)) (map (λ x. places_of keys (key_of x.now)) files)
+  each_within : (files : List (Bor Entry))
+      → AllByRecursion (IsLineWithin (length deletes)) (map (λ x. places_of keys (key_of x.now)) files)
   each_within [] = tt
   each_within (x ∷ xs) = ((within PositionDeletes x.now, within EqualityDeletes x.now), each_within xs)
 
-  one_each : (files : List (Bor Entry)) → length (map (λ x. places_of keys (key_of x.now)) files) ≡ length (map (λ x. x.now) files)
+  one_each : (files : List (Bor Entry)) → length (map (λ x. places_of keys (key_of x.now)) files) ≡ length
+      (map (λ x. x.now) files)
   one_each [] = refl
   one_each (x ∷ xs) = ap suc (one_each xs)
 
@@ -93,15 +105,18 @@ keys_now [] = refl
 keys_now (d ∷ ds) = ap (λ ks. key_of d.now ∷ ks) (keys_now ds)
 
 -- the lines with these places, and that the places are within
-module _ (deletes files : List (Bor Entry)) (places : List Places) (are : places ≡ map (λ x. places_of (map (λ d. key_of d.now) deletes) (key_of x.now)) files) where
+module _ (deletes files : List (Bor Entry)) (places : List Places)
+    (are : places ≡ map (λ x. places_of (map (λ d. key_of d.now) deletes) (key_of x.now)) files) where
   abbrev found : List Entry
   found = map (λ (d : Bor Entry). d.now) deletes
 
   same : places ≡ map (λ x. places_of (map key_of found) (key_of x.now)) files
   same = are ∙ ap (λ ks. map (λ (x : Bor Entry). places_of ks (key_of x.now)) files) (keys_now deletes)
 
-  pub lines_are : lines_at (map (λ d. d.now) deletes) (map (λ x. x.now) files) places ≡ map (line_of (map (λ d. d.now) deletes)) (map (λ x. x.now) files)
+  pub lines_are : lines_at (map (λ d. d.now) deletes) (map (λ x. x.now) files) places ≡ map
+      (line_of (map (λ d. d.now) deletes)) (map (λ x. x.now) files)
   lines_are = ap (λ ps. lines_at found (map (λ (x : Bor Entry). x.now) files) ps) same ∙ each_line_is found files
 
   pub lines_fit : AreLinesOf (map (λ x. x.now) files) (map (λ d. d.now) deletes) places
-  lines_fit = subst (λ (ps : List Places). AreLinesOf (map (λ (x : Bor Entry). x.now) files) found ps) (sym same) (record { each = one_each found files; within = each_within found files })
+  lines_fit = subst (λ (ps : List Places). AreLinesOf (map (λ (x : Bor Entry). x.now) files) found ps) (sym same)
+      (record { each = one_each found files; within = each_within found files })

@@ -15,18 +15,24 @@ or_else-none None = refl
 or_else-none (Some r) = refl
 
 -- one slot of a union
-join_slot : (world : World) (scan : Scanned) (t u : Bool) (row : Row) → or_else (slot_of world scan t row) (slot_of world scan u row) ≡ slot_of world scan (t || u) row
+join_slot : (world : World) (scan : Scanned) (t u : Bool) (row : Row)
+    → or_else (slot_of world scan t row) (slot_of world scan u row) ≡ slot_of world scan (t || u) row
 join_slot world scan true true row = or_else-idem (slot_of world scan true row)
 join_slot world scan true false row = or_else-none (slot_of world scan true row)
 join_slot world scan false u row = refl
 
 -- in a world, a union is that of the sets
-pub join-content : (world : World) (scan : Scanned) (ts us : List Bool) (rows : List Row) → join (slots_of world scan ts rows) (slots_of world scan us rows) ≡ slots_of world scan (either ts us) rows
+pub join-content : (world : World) (scan : Scanned) (ts us : List Bool) (rows : List Row)
+    → join (slots_of world scan ts rows) (slots_of world scan us rows) ≡ slots_of world scan (either ts us) rows
 join-content world scan [] us rows = refl
 join-content world scan (t ∷ ts) [] [] = refl
 join-content world scan (t ∷ ts) (u ∷ us) [] = refl
 join-content world scan (t ∷ ts) [] (row ∷ rows) = refl
-join-content world scan (t ∷ ts) (u ∷ us) (row ∷ rows) = rw (join_slot world scan t u row, join-content world scan ts us rows) refl
+join-content world scan (t ∷ ts) (u ∷ us) (row ∷ rows) = rw (
+  join_slot world scan t u row,
+  join-content world scan ts us
+      rows,
+) refl
 
 or_else-assoc : (a b c : Option Reading) → or_else (or_else a b) c ≡ or_else a (or_else b c)
 or_else-assoc (Some r) b c = refl
@@ -61,10 +67,18 @@ agree_self None = tt
 agree_self (Some r) = refl
 
 -- contents of one world agree
-pub content-agree : (world : World) (scan : Scanned) (ts us : List Bool) (rows : List Row) → Agree (slots_of world scan ts rows) (slots_of world scan us rows)
+pub content-agree : (world : World) (scan : Scanned) (ts us : List Bool) (rows : List Row)
+    → Agree (slots_of world scan ts rows) (slots_of world scan us rows)
 content-agree world scan [] us rows = tt
 content-agree world scan (t ∷ ts) us [] = tt
 content-agree world scan (t ∷ ts) [] (row ∷ rows) = tt
 content-agree world scan (false ∷ ts) (u ∷ us) (row ∷ rows) = (tt, content-agree world scan ts us rows)
-content-agree world scan (true ∷ ts) (false ∷ us) (row ∷ rows) = (agree_none (slot_of world scan true row), content-agree world scan ts us rows)
-content-agree world scan (true ∷ ts) (true ∷ us) (row ∷ rows) = (agree_self (slot_of world scan true row), content-agree world scan ts us rows)
+content-agree world scan (true ∷ ts) (false ∷ us) (row ∷ rows) = (
+  agree_none (slot_of world scan true row),
+  content-agree world scan ts us rows,
+)
+content-agree world scan (true ∷ ts) (true ∷ us) (row ∷ rows) = (
+  agree_self (slot_of world scan true row),
+  content-agree
+      world scan ts us rows,
+)

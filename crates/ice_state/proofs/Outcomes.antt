@@ -1,5 +1,6 @@
 -- Lemmas on outcomes.
-use Rattle.std.proofs.Common.{◌≡◌, ◌<◌, ◌≤◌, ℕ, zero, suc, List, [], ◌∷◌, refl, sym, ap, ◌∙◌, false, length, get_or, arith, drop, Option, Some, None, is_none}
+use Rattle.std.proofs.Common.{◌≡◌, ◌<◌, ◌≤◌, ℕ, zero, suc, List, [], ◌∷◌, refl, sym, ap, ◌∙◌, false, length, get_or}
+use Rattle.std.proofs.Common.{arith, drop, Option, Some, None, is_none}
 use Rattle.ice_manifest_reading.specs.declared.entry.Entry.{Entry}
 use Rattle.ice_manifest_reading.specs.declared.row.Row.{Row}
 use Rattle.ice_state.specs.declared.reading.Reading.{Reading}
@@ -9,7 +10,9 @@ use Rattle.ice_state.specs.Outcomes.{missing, bad, twice}
 use Rattle.ice_state.specs.Parts.{fault_of}
 
 -- a row that was taken isn't missing
-pub missing_step : (rows : List Row) (slots : Content) (i : ℕ) (s : Option Reading) → i < length rows → i < length slots → s ≡ get_or slots i s → is_none s ≡ false → missing (drop (suc i) rows) (drop (suc i) slots) ≡ missing (drop i rows) (drop i slots)
+pub missing_step : (rows : List Row) (slots : Content) (i : ℕ) (s : Option Reading) → i < length rows → i < length slots
+    → s ≡ get_or slots i s → is_none s ≡ false → missing (drop (suc i) rows) (drop (suc i) slots) ≡ missing
+    (drop i rows) (drop i slots)
 missing_step [] slots i s l m h k = absurd (omega arith)
 missing_step (row ∷ rows) [] i s l m h k = absurd (omega arith)
 missing_step (row ∷ rows) (None ∷ slots) zero s l m h k = cc
@@ -17,7 +20,9 @@ missing_step (row ∷ rows) (Some r ∷ slots) zero s l m h k = refl
 missing_step (row ∷ rows) (t ∷ slots) (suc i) s l m h k = missing_step rows slots i s (omega arith) (omega arith) h k
 
 -- a row that is good isn't bad
-pub bad_step : (rows : List Row) (slots : Content) (i : ℕ) (s : Option Reading) → i < length rows → i < length slots → s ≡ get_or slots i s → fault_of s ≡ None → bad (drop (suc i) rows) (drop (suc i) slots) ≡ bad (drop i rows) (drop i slots)
+pub bad_step : (rows : List Row) (slots : Content) (i : ℕ) (s : Option Reading) → i < length rows → i < length slots
+    → s ≡ get_or slots i s → fault_of s ≡ None → bad (drop (suc i) rows) (drop (suc i) slots) ≡ bad (drop i rows)
+    (drop i slots)
 bad_step [] slots i s l m h k = absurd (omega arith)
 bad_step (row ∷ rows) [] i s l m h k = absurd (omega arith)
 bad_step (row ∷ rows) (None ∷ slots) zero s l m h k = refl

@@ -1,5 +1,6 @@
 -- Lines by the places of their files.
-use Rattle.std.proofs.Common.{◌≡◌, ◌<◌, ℕ, zero, suc, List, [], ◌∷◌, refl, sym, ap, ◌∙◌, true, not, ◌&&◌, length, get_or, arith, map, filter, Some}
+use Rattle.std.proofs.Common.{◌≡◌, ◌<◌, ℕ, zero, suc, List, [], ◌∷◌, refl, sym, ap, ◌∙◌, true, not, ◌&&◌, length}
+use Rattle.std.proofs.Common.{get_or, arith, map, filter, Some}
 use Rattle.std.specs.List.{slice_get, AllByRecursion}
 use Rattle.ice_manifest_reading.specs.declared.entry.Entry.{Entry}
 use Rattle.ice_value.specs.declared.file_content.FileContent.{FileContent}
@@ -18,14 +19,16 @@ one_at [] i l = absurd (omega arith)
 one_at (x ∷ xs) zero l = (x, refl, refl)
 one_at (x ∷ xs) (suc i) l = one_at xs i (omega arith)
 
-pub length-entries_at : (xs : List Entry) (places : List ℕ) → AreWithin (length xs) places → length (entries_at xs places) ≡ length places
+pub length-entries_at : (xs : List Entry) (places : List ℕ) → AreWithin (length xs) places
+    → length (entries_at xs places) ≡ length places
 length-entries_at xs [] within = refl
 length-entries_at xs (i ∷ is) within =
     let one = one_at xs i within.0 in
     rw (one.2) (ap suc (length-entries_at xs is within.1))
 
 -- the entry of a place's place
-pub entries_at-get : (xs : List Entry) (places : List ℕ) (k d : ℕ) (x : Entry) → AreWithin (length xs) places → k < length places → slice_get xs (get_or places k d) ≡ Some x → slice_get (entries_at xs places) k ≡ Some x
+pub entries_at-get : (xs : List Entry) (places : List ℕ) (k d : ℕ) (x : Entry) → AreWithin (length xs) places
+    → k < length places → slice_get xs (get_or places k d) ≡ Some x → slice_get (entries_at xs places) k ≡ Some x
 entries_at-get xs [] k d x within l at = absurd (omega arith)
 entries_at-get xs (j ∷ js) zero d x within l at =
     let one = one_at xs j within.0 in
@@ -40,18 +43,22 @@ within-at n [] k d within l = absurd (omega arith)
 within-at n (j ∷ js) zero d within l = within.0
 within-at n (j ∷ js) (suc k) d within l = within-at n js k d within.1 (omega arith)
 
-pub line_within-at : (n : ℕ) (places : List Places) (k : ℕ) (d : Places) → AllByRecursion (IsLineWithin n) places → k < length places → IsLineWithin n (get_or places k d)
+pub line_within-at : (n : ℕ) (places : List Places) (k : ℕ) (d : Places) → AllByRecursion (IsLineWithin n) places
+    → k < length places → IsLineWithin n (get_or places k d)
 line_within-at n [] k d within l = absurd (omega arith)
 line_within-at n (q ∷ qs) zero d within l = within.0
 line_within-at n (q ∷ qs) (suc k) d within l = line_within-at n qs k d within.1 (omega arith)
 
-pub length-lines_at : (deletes files : List Entry) (places : List Places) → length places ≡ length files → length (lines_at deletes files places) ≡ length places
+pub length-lines_at : (deletes files : List Entry) (places : List Places) → length places ≡ length files
+    → length (lines_at deletes files places) ≡ length places
 length-lines_at deletes [] [] h = refl
 length-lines_at deletes [] (p ∷ ps) h = absurd (omega arith)
 length-lines_at deletes (x ∷ xs) [] h = absurd (omega arith)
 length-lines_at deletes (x ∷ xs) (p ∷ ps) h = ap suc (length-lines_at deletes xs ps (omega arith))
 
-pub lines_at-get : (deletes files : List Entry) (places : List Places) (k : ℕ) (x : Entry) (d : Places) → k < length places → slice_get files k ≡ Some x → slice_get (lines_at deletes files places) k ≡ Some (line_at deletes x (get_or places k d))
+pub lines_at-get : (deletes files : List Entry) (places : List Places) (k : ℕ) (x : Entry) (d : Places)
+    → k < length places → slice_get files k ≡ Some x
+    → slice_get (lines_at deletes files places) k ≡ Some (line_at deletes x (get_or places k d))
 lines_at-get deletes files [] k x d l h = absurd (omega arith)
 lines_at-get deletes [] (q ∷ qs) k x d l h = cc
 lines_at-get deletes (y ∷ ys) (q ∷ qs) zero x d l h = let same : y ≡ x = cc in ap (λ f. Some (line_at deletes f q)) same
@@ -68,16 +75,23 @@ delete_kind EqualityDeletes K other h = refl
 
 line_of-deletes : (xs : List Entry) (x : Entry) → line_of (filter holds_deletes xs) x ≡ line_of xs x
 line_of-deletes xs x =
-    let kept : (K : FileContent) → ((d : Entry) → (holds K d && applies x d) ≡ true → holds_deletes d ≡ true) → filter (λ d. holds K d && applies x d) xs ≡ filter (λ d. holds K d && applies x d) (filter holds_deletes xs) =
-    λ K implied. filter_kept (λ _. Unit {0}) (λ (d : Entry). holds K d && applies x d) holds_deletes (λ d _ h. implied d h) xs (all_unit xs) in
-    let positions : (d : Entry) → (holds PositionDeletes d && applies x d) ≡ true → holds_deletes d ≡ true = λ d h. delete_kind d.file.content PositionDeletes (λ e. cc) (and_true _ _ h).0 in
-    let equalities : (d : Entry) → (holds EqualityDeletes d && applies x d) ≡ true → holds_deletes d ≡ true = λ d h. delete_kind d.file.content EqualityDeletes (λ e. cc) (and_true _ _ h).0 in
+    let kept : (K : FileContent) → ((d : Entry) → (holds K d && applies x d) ≡ true → holds_deletes d ≡ true)
+    → filter (λ d. holds K d && applies x d) xs ≡ filter (λ d. holds K d && applies x d) (filter holds_deletes xs) =
+    λ K implied. filter_kept (λ _. Unit {0}) (λ (d : Entry). holds K d && applies x d) holds_deletes
+    (λ d _ h. implied d h) xs (all_unit xs) in
+    let positions : (d : Entry) → (holds PositionDeletes d && applies x d) ≡ true
+    → holds_deletes d ≡ true = λ d h. delete_kind d.file.content PositionDeletes (λ e. cc) (and_true _ _ h).0 in
+    let equalities : (d : Entry) → (holds EqualityDeletes d && applies x d) ≡ true
+    → holds_deletes d ≡ true = λ d h. delete_kind d.file.content EqualityDeletes (λ e. cc) (and_true _ _ h).0 in
     rw (kept PositionDeletes positions, kept EqualityDeletes equalities) refl
 
 map-same : {X Y : Type 0} (f g : X → Y) → ((x : X) → f x ≡ g x) → (xs : List X) → map f xs ≡ map g xs
 map-same f g same [] = refl
 map-same f g same (x ∷ xs) = rw (same x, map-same f g same xs) refl
 
-pub planned_is : (xs files deletes : List Entry) (places : List Places) → files ≡ filter (holds Data) xs → deletes ≡ filter holds_deletes xs → lines_at deletes files places ≡ map (line_of deletes) files → lines_at deletes files places ≡ plan_over xs xs
+pub planned_is : (xs files deletes : List Entry) (places : List Places) → files ≡ filter (holds Data) xs
+    → deletes ≡ filter holds_deletes xs → lines_at deletes files places ≡ map (line_of deletes) files
+    → lines_at deletes files places ≡ plan_over xs xs
 planned_is xs files deletes places f d is =
-    is ∙ ap (λ ds. map (line_of ds) files) d ∙ ap (map (line_of (filter holds_deletes xs))) f ∙ map-same (line_of (filter holds_deletes xs)) (line_of xs) (line_of-deletes xs) (filter (holds Data) xs)
+    is ∙ ap (λ ds. map (line_of ds) files) d ∙ ap (map (line_of (filter holds_deletes xs))) f ∙ map-same
+    (line_of (filter holds_deletes xs)) (line_of xs) (line_of-deletes xs) (filter (holds Data) xs)

@@ -31,12 +31,16 @@ content_decides EqualityDeletes EqualityDeletes = (λ h. refl, λ h. refl)
 pub files_of : (deletes xs : List Entry) → map (λ line. line.file) (plan_over deletes xs) ≡ filter (holds Data) xs
 files_of deletes [] = refl
 files_of deletes (x ∷ xs) =
-    elim (holds Data x) as (λ v. map (λ (line : OwnedLine). line.file) (map (line_of deletes) (cond v (x ∷ filter (holds Data) xs) (filter (holds Data) xs))) ≡ cond v (x ∷ filter (holds Data) xs) (filter (holds Data) xs)) [
+    elim (holds Data x) as (λ v. map (λ (line : OwnedLine). line.file)
+    (map (line_of deletes) (cond v (x ∷ filter (holds Data) xs) (filter (holds Data) xs))) ≡ cond v
+    (x ∷ filter (holds Data) xs) (filter (holds Data) xs)) [
       | true ↦ ap (λ ys. x ∷ ys) (files_of deletes xs)
       | false ↦ files_of deletes xs
     ]
 
-chosen : (K : FileContent) (deletes : List Entry) (x d : Entry) → Contains (filter (λ (e : Entry). holds K e && applies x e) deletes) d ↔ (Contains deletes d × ((d.file.content ≡ K) × Applies x d))
+chosen : (K : FileContent) (deletes : List Entry) (x d : Entry)
+    → Contains (filter (λ (e : Entry). holds K e && applies x e) deletes) d ↔
+    (Contains deletes d × ((d.file.content ≡ K) × Applies x d))
 chosen K deletes x d = (
   λ c.
       let f = filtered (λ (e : Entry). holds K e && applies x e) deletes d c in
@@ -47,19 +51,30 @@ chosen K deletes x d = (
       refiltered (λ (e : Entry). holds K e && applies x e) deletes d h.0 t,
 )
 
-pub positions_of : (deletes xs : List Entry) (line : OwnedLine) (d : Entry) → Contains (plan_over deletes xs) line → Contains line.positions d ↔ (Contains deletes d × ((d.file.content ≡ PositionDeletes) × Applies line.file d))
+pub positions_of : (deletes xs : List Entry) (line : OwnedLine) (d : Entry) → Contains (plan_over deletes xs) line
+    → Contains line.positions d ↔ (Contains deletes d × ((d.file.content ≡ PositionDeletes) × Applies line.file d))
 positions_of deletes xs line d c =
     let m = mapped (line_of deletes) (filter (holds Data) xs) line c in
-    let Q : OwnedLine → Type 0 = λ l. Contains l.positions d ↔ (Contains deletes d × ((d.file.content ≡ PositionDeletes) × Applies l.file d)) in
+    let Q : OwnedLine → Type 0 = λ l. Contains l.positions d ↔ (Contains deletes d × ((d.file.content ≡ PositionDeletes)
+    × Applies l.file d)) in
     subst Q m.1 (chosen PositionDeletes deletes m.0 d)
 
-pub equalities_of : (deletes xs : List Entry) (line : OwnedLine) (d : Entry) → Contains (plan_over deletes xs) line → Contains line.equalities d ↔ (Contains deletes d × ((d.file.content ≡ EqualityDeletes) × Applies line.file d))
+pub equalities_of : (deletes xs : List Entry) (line : OwnedLine) (d : Entry) → Contains (plan_over deletes xs) line
+    → Contains line.equalities d ↔ (Contains deletes d × ((d.file.content ≡ EqualityDeletes) × Applies line.file d))
 equalities_of deletes xs line d c =
     let m = mapped (line_of deletes) (filter (holds Data) xs) line c in
-    let Q : OwnedLine → Type 0 = λ l. Contains l.equalities d ↔ (Contains deletes d × ((d.file.content ≡ EqualityDeletes) × Applies l.file d)) in
+    let Q : OwnedLine → Type 0 = λ l. Contains l.equalities d ↔
+    (Contains deletes d × ((d.file.content ≡ EqualityDeletes) × Applies l.file d)) in
     subst Q m.1 (chosen EqualityDeletes deletes m.0 d)
 
 -- the delete files of each kind that apply, taken from the delete files of that kind alone
-pub line_with : (all ps es : List Entry) (x : Entry) → ps ≡ filter (λ d. applies x d) (filter (holds PositionDeletes) all) → es ≡ filter (λ d. applies x d) (filter (holds EqualityDeletes) all) →
+pub line_with : (all ps es : List Entry) (x : Entry)
+    → ps ≡ filter (λ d. applies x d) (filter (holds PositionDeletes) all)
+    → es ≡ filter (λ d. applies x d) (filter (holds EqualityDeletes) all) →
     record { file = x; positions = ps; equalities = es } ≡ line_of all x
-line_with all ps es x h k = rw (h, k, filter_twice (holds PositionDeletes) (λ (d : Entry). applies x d) all, filter_twice (holds EqualityDeletes) (λ (d : Entry). applies x d) all) refl
+line_with all ps es x h k = rw (
+  h,
+  k,
+  filter_twice (holds PositionDeletes) (λ (d : Entry). applies x d) all,
+  filter_twice (holds EqualityDeletes) (λ (d : Entry). applies x d) all,
+) refl

@@ -1,5 +1,6 @@
 -- Trees of takes and merges, and the sets of rows that they take.
-use Rattle.std.proofs.Common.{◌≡◌, ◌<◌, ◌==◌, ℕ, zero, suc, List, [], ◌∷◌, refl, sym, ap, ◌∙◌, Bool, true, false, ◌||◌, length, get_or, arith, replicate}
+use Rattle.std.proofs.Common.{◌≡◌, ◌<◌, ◌==◌, ℕ, zero, suc, List, [], ◌∷◌, refl, sym, ap, ◌∙◌, Bool, true, false, ◌||◌}
+use Rattle.std.proofs.Common.{length, get_or, arith, replicate}
 use Rattle.std.proofs.lemmas.Bool.Decides.{nat_tests}
 use Rattle.std.proofs.lemmas.List.{ext_get_or}
 use Rattle.ice_manifest_reading.specs.declared.row.Row.{Row}
@@ -11,11 +12,14 @@ use Rattle.ice_state.proofs.Contents.{took-content, none-content}
 use Rattle.ice_state.proofs.Joins.{join-content}
 
 -- the content is that of the world and the rows taken
-pub after-content : (world : World) (scan : Scanned) (run : Run) → IsIn world scan run → after scan run ≡ content world scan (taken scan run)
+pub after-content : (world : World) (scan : Scanned) (run : Run) → IsIn world scan run
+    → after scan run ≡ content world scan (taken scan run)
 after-content world scan empty is = none-content world scan scan.wanted
-after-content world scan (take run i bytes) is = ap (λ (c : Content). took scan c i bytes) (after-content world scan run is.0) ∙ took-content world scan (taken scan run) scan.wanted i bytes is.1
+after-content world scan (take run i bytes) is = ap (λ (c : Content). took scan c i bytes) (after-content world scan run
+    is.0) ∙ took-content world scan (taken scan run) scan.wanted i bytes is.1
 after-content world scan (merge run other) is =
-    ap (λ (c : Content). join c (after scan other)) (after-content world scan run is.0) ∙ ap (λ (c : Content). join (content world scan (taken scan run)) c) (after-content world scan other is.1)
+    ap (λ (c : Content). join c (after scan other)) (after-content world scan run is.0) ∙ ap
+    (λ (c : Content). join (content world scan (taken scan run)) c) (after-content world scan other is.1)
     ∙ join-content world scan (taken scan run) (taken scan other) scan.wanted
 
 length-add : (ts : List Bool) (i : ℕ) → length (add ts i) ≡ length ts
@@ -36,7 +40,8 @@ length-no (row ∷ rows) = ap suc (length-no rows)
 pub length-taken : (scan : Scanned) (run : Run) → length (taken scan run) ≡ length scan.wanted
 length-taken scan empty = length-no scan.wanted
 length-taken scan (take run i bytes) = length-add (taken scan run) i ∙ length-taken scan run
-length-taken scan (merge run other) = length-either (taken scan run) (taken scan other) (length-taken scan run ∙ sym (length-taken scan other)) ∙ length-taken scan run
+length-taken scan (merge run other) = length-either (taken scan run) (taken scan other) (length-taken scan run ∙ sym
+    (length-taken scan other)) ∙ length-taken scan run
 
 or_true : (a : Bool) → (a || true) ≡ true
 or_true true = refl
@@ -61,9 +66,11 @@ add-at [] i k l = absurd (omega arith)
 add-at (t ∷ ts) zero zero l = sym (or_true t)
 add-at (t ∷ ts) zero (suc k) l = sym (ap (λ b. get_or ts k false || b) (zero-eq-suc k) ∙ or_false (get_or ts k false))
 add-at (t ∷ ts) (suc i) zero l = sym (ap (λ b. t || b) (suc-eq-zero i) ∙ or_false t)
-add-at (t ∷ ts) (suc i) (suc k) l = add-at ts i k (omega arith) ∙ sym (ap (λ b. get_or ts k false || b) (suc-eq-suc i k))
+add-at (t ∷ ts) (suc i) (suc k) l = add-at ts i k (omega arith) ∙ sym (ap (λ b. get_or ts k false || b)
+    (suc-eq-suc i k))
 
-either-at : (ts us : List Bool) (k : ℕ) → length ts ≡ length us → get_or (either ts us) k false ≡ (get_or ts k false || get_or us k false)
+either-at : (ts us : List Bool) (k : ℕ) → length ts ≡ length us
+    → get_or (either ts us) k false ≡ (get_or ts k false || get_or us k false)
 either-at [] [] k h = refl
 either-at [] (u ∷ us) k h = absurd (omega arith)
 either-at (t ∷ ts) [] k h = absurd (omega arith)
@@ -76,14 +83,16 @@ none-at (row ∷ rows) zero = refl
 none-at (row ∷ rows) (suc k) = none-at rows k
 
 -- a row is in the set where it was taken
-pub taken-at : (scan : Scanned) (run : Run) (k : ℕ) → k < length scan.wanted → get_or (taken scan run) k false ≡ takes run k
+pub taken-at : (scan : Scanned) (run : Run) (k : ℕ) → k < length scan.wanted
+    → get_or (taken scan run) k false ≡ takes run k
 taken-at scan empty k l = none-at scan.wanted k
 taken-at scan (take run i bytes) k l =
     let l' : k < length (taken scan run) = omega (arith, length-taken scan run) in
     add-at (taken scan run) i k l' ∙ ap (λ b. b || (i == k)) (taken-at scan run k l)
 taken-at scan (merge run other) k l =
     either-at (taken scan run) (taken scan other) k (length-taken scan run ∙ sym (length-taken scan other))
-    ∙ ap (λ b. b || get_or (taken scan other) k false) (taken-at scan run k l) ∙ ap (λ b. takes run k || b) (taken-at scan other k l)
+    ∙ ap (λ b. b || get_or (taken scan other) k false) (taken-at scan run k l) ∙ ap (λ b. takes run k || b)
+    (taken-at scan other k l)
 
 -- trees that take the same rows end in one set
 same_rows : (scan : Scanned) (run other : Run) → TakeTheSame run other → taken scan run ≡ taken scan other
@@ -93,6 +102,8 @@ same_rows scan run other same =
     let l' : k < length scan.wanted = omega (arith, length-taken scan run) in
     taken-at scan run k l' ∙ same k ∙ sym (taken-at scan other k l'))
 
-pub same_content : (world : World) (scan : Scanned) (run other : Run) → IsIn world scan run → IsIn world scan other → TakeTheSame run other → after scan run ≡ after scan other
+pub same_content : (world : World) (scan : Scanned) (run other : Run) → IsIn world scan run → IsIn world scan other
+    → TakeTheSame run other → after scan run ≡ after scan other
 same_content world scan run other is is' same =
-    after-content world scan run is ∙ ap (λ ts. content world scan ts) (same_rows scan run other same) ∙ sym (after-content world scan other is')
+    after-content world scan run is ∙ ap (λ ts. content world scan ts) (same_rows scan run other same) ∙ sym
+    (after-content world scan other is')

@@ -5,7 +5,13 @@ use Rattle.ice_manifest_reading.specs.declared.entry.Entry.{Entry}
 
 -- what the rules ask of an entry
 abbrev pub key_of : Entry → FileKey
-key_of x = record { content = x.file.content; spec_id = x.spec_id; unpartitioned = x.unpartitioned; tuple = x.file.tuple; sequence_number = x.sequence_number }
+key_of x = record {
+  content = x.file.content;
+  spec_id = x.spec_id;
+  unpartitioned = x.unpartitioned;
+  tuple = x.file.tuple;
+  sequence_number = x.sequence_number;
+}
 
 -- the delete file d applies to the data file x
 abbrev pub Applies : Entry → Entry → Type 0

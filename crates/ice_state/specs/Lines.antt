@@ -27,7 +27,11 @@ entries_at entries places = flat_map (entry_at entries) places
 
 -- a data file with the delete files at these places
 abbrev pub line_at : List Entry → Entry → Places → OwnedLine
-line_at deletes x places = record { file = x; positions = entries_at deletes places.positions; equalities = entries_at deletes places.equalities }
+line_at deletes x places = record {
+  file = x;
+  positions = entries_at deletes places.positions;
+  equalities = entries_at deletes places.equalities;
+}
 
 abbrev pub lines_at : List Entry → List Entry → List Places → List OwnedLine
 lines_at deletes [] places = []

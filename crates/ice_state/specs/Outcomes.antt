@@ -65,7 +65,11 @@ twice (x ∷ y ∷ ys) = if bytes_eq x.file.path y.file.path then faults.PathTwi
 
 -- a data file with those of the delete files that apply to it
 abbrev pub line_of : List Entry → Entry → OwnedLine
-line_of deletes x = record { file = x; positions = filter (λ d. holds PositionDeletes d && applies x d) deletes; equalities = filter (λ d. holds EqualityDeletes d && applies x d) deletes }
+line_of deletes x = record {
+  file = x;
+  positions = filter (λ d. holds PositionDeletes d && applies x d) deletes;
+  equalities = filter (λ d. holds EqualityDeletes d && applies x d) deletes;
+}
 
 -- each of these data files with those of the delete files that apply to it
 abbrev pub plan_over : List Entry → List Entry → List OwnedLine

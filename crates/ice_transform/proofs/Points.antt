@@ -1,5 +1,6 @@
 -- The first code points of a text.
-use Rattle.std.proofs.Common.{◌≡◌, ℕ, zero, suc, ◌+◌, ◌/◌, ◌%◌, ◌<◌, ◌≤◌, Bool, true, false, ◌&&◌, cond, ltb, List, [], ◌∷◌, ◌++◌, length, take, refl, ap, arith, sym, ◌∙◌}
+use Rattle.std.proofs.Common.{◌≡◌, ℕ, zero, suc, ◌+◌, ◌/◌, ◌%◌, ◌<◌, ◌≤◌, Bool, true, false, ◌&&◌, cond, ltb, List, []}
+use Rattle.std.proofs.Common.{◌∷◌, ◌++◌, length, take, refl, ap, arith, sym, ◌∙◌}
 use Rattle.std.specs.Str.{continuation_len, IsUtf8, IsCharBoundary, chars}
 use Rattle.std.proofs.Math.Utf8.{encode, encodes, scalar, scalars}
 use Rattle.std.proofs.lemmas.Bool.Decides.{nat_tests}
@@ -32,10 +33,19 @@ encode_point c = go (ltb c 128) refl (ltb c 2048) refl (ltb c 65536) refl where
   after bits = 128 + bits % 64
 
   go : (x : Bool) → ltb c 128 ≡ x → (y : Bool) → ltb c 2048 ≡ y → (z : Bool) → ltb c 65536 ≡ z →
-      Point (cond x (c ∷ []) (cond y ((192 + c / 64) ∷ (128 + c % 64) ∷ []) (cond z ((224 + c / 4096) ∷ (128 + c / 64 % 64) ∷ (128 + c % 64) ∷ []) ((240 + c / 262144) ∷ (128 + c / 4096 % 64) ∷ (128 + c / 64 % 64) ∷ (128 + c % 64) ∷ []))))
+      Point (cond x (c ∷ []) (cond y ((192 + c / 64) ∷ (128 + c % 64) ∷ [])
+      (cond z ((224 + c / 4096) ∷ (128 + c / 64 % 64) ∷ (128 + c % 64) ∷ [])
+      ((240 + c / 262144) ∷ (128 + c / 4096 % 64) ∷ (128 + c / 64 % 64) ∷ (128 + c % 64) ∷ []))))
   go true p y q z r = (c, [], refl, (rw p refl))
-  go false p true q z r = let l = low c 2048 q in let h = high c 128 p in (192 + c / 64, _, refl, one_more (192 + c / 64) (omega arith) (omega arith))
-  go false p false q true r = let l = low c 65536 r in (224 + c / 4096, _, refl, two_more (224 + c / 4096) (omega arith) (omega arith))
+  go false p true q z r = let l = low c 2048 q in let h = high c 128 p in
+      (192 + c / 64, _, refl, one_more (192 + c / 64) (omega arith) (omega arith))
+  go false p false q true r = let l = low c 65536 r in (
+    224 + c / 4096,
+    _,
+    refl,
+    two_more (224 + c / 4096) (omega arith)
+        (omega arith),
+  )
   go false p false q false r = (240 + c / 262144, _, refl, three_more (240 + c / 262144) (omega arith))
 
 pass_open : (w : ℕ) (bs rest : List ℕ) → points_from w (length bs) (bs ++ rest) ≡ bs ++ points_from w 0 rest
@@ -78,9 +88,17 @@ pub points_IsUtf8 : (w : ℕ) (bs : List ℕ) → IsUtf8 bs → IsUtf8 (first_po
 points_IsUtf8 w bs u = (take w u.0, (scalars-take w u.0 u.1.0, sym (points-encodes w u.0) ∙ ap (first_points w) u.1.1))
 
 -- a text may be cut behind its first code points
-pub cut_boundary : (bs : List ℕ) (w i : ℕ) → IsUtf8 bs → i ≤ length bs → take i bs ≡ first_points w bs → IsCharBoundary bs i
+pub cut_boundary : (bs : List ℕ) (w i : ℕ) → IsUtf8 bs → i ≤ length bs → take i bs ≡ first_points w bs
+    → IsCharBoundary bs i
 cut_boundary bs w i u le e =
-    let front : IsUtf8 (take i bs) = (take w u.0, (scalars-take w u.0 u.1.0, sym (points-encodes w u.0) ∙ ap (first_points w) u.1.1 ∙ sym e)) in
+    let front : IsUtf8 (take i bs) = (
+      take w u.0,
+      (
+        scalars-take w u.0 u.1.0,
+        sym (points-encodes w u.0) ∙ ap
+            (first_points w) u.1.1 ∙ sym e,
+      ),
+    ) in
     IsCharBoundary-from_take bs i u le front
 
 ends_open : (w : ℕ) (bs rest : List ℕ) → ends_points w (length bs) (bs ++ rest) ≡ ends_points w 0 rest
@@ -112,7 +130,11 @@ points_of_text w text u =
     let back : chars text ≡ u.0 = ap chars (sym u.1.1) ∙ chars-encodes u.0 u.1.0 in
     ap (first_points w) (sym u.1.1) ∙ points-encodes w u.0 ∙ ap (λ cs. encodes (take w cs)) (sym back)
 
-pub text_has_points : (w : ℕ) (text : List ℕ) → IsUtf8 text → ((has_points w text ≡ true) → w ≤ length (chars text)) × (w ≤ length (chars text) → has_points w text ≡ true)
+pub text_has_points : (w : ℕ) (text : List ℕ) → IsUtf8 text
+    → ((has_points w text ≡ true) → w ≤ length (chars text)) × (w ≤ length (chars text) → has_points w text ≡ true)
 text_has_points w text u =
-    let back : chars text ≡ u.0 = ap chars (sym u.1.1) ∙ chars-encodes u.0 u.1.0 in
-    (λ h. rw back (ends_within w u.0 (ap (has_points w) u.1.1 ∙ h)), λ h. ap (has_points w) (sym u.1.1) ∙ ends_there w u.0 (rw back at h))
+    let back : chars text ≡ u.0 = ap chars (sym u.1.1) ∙ chars-encodes u.0 u.1.0 in (
+      λ h. rw back (ends_within w u.0 (ap (has_points w) u.1.1 ∙ h)),
+      λ h. ap (has_points w) (sym u.1.1) ∙ ends_there w
+          u.0 (rw back at h),
+    )

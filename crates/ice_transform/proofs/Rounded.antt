@@ -47,10 +47,12 @@ unit_mono_z (negsuc n) v w h le = absurd (omega (arith, ints))
 
 -- products with a natural number keep the order
 pub times_mono : (n : ℕ) (p q : ℤ) → p ≤ℤ q → (p *ℤ pos n) ≤ℤ (q *ℤ pos n)
-times_mono n (pos a) (pos b) le = let m = mul-le a n b n (omega (arith, ints)) (omega arith) in omega (arith, ints, pos-*ℤ-pos a n, pos-*ℤ-pos b n)
+times_mono n (pos a) (pos b) le = let m = mul-le a n b n (omega (arith, ints)) (omega arith) in
+    omega (arith, ints, pos-*ℤ-pos a n, pos-*ℤ-pos b n)
 times_mono n (negsuc a) (pos b) le = omega (arith, ints, negsuc-*ℤ-pos a n, pos-*ℤ-pos b n)
 times_mono n (pos a) (negsuc b) le = absurd (omega (arith, ints))
-times_mono n (negsuc a) (negsuc b) le = let m = mul-le (suc b) n (suc a) n (omega (arith, ints)) (omega arith) in omega (arith, ints, negsuc-*ℤ-pos a n, negsuc-*ℤ-pos b n)
+times_mono n (negsuc a) (negsuc b) le = let m = mul-le (suc b) n (suc a) n (omega (arith, ints)) (omega arith) in
+    omega (arith, ints, negsuc-*ℤ-pos a n, negsuc-*ℤ-pos b n)
 
 pub truncation_mono : (n : ℕ) (v w : ℤ) → 0 < n → v ≤ℤ w → floor_to (pos n) v ≤ℤ floor_to (pos n) w
 truncation_mono n v w h le = times_mono n (floor_div (pos n) v) (floor_div (pos n) w) (unit_mono n v w h le)

@@ -1,5 +1,7 @@
 -- The texts of transforms are read as they are written.
-use Rattle.std.proofs.Common.{◌≡◌, ℕ, ◌+◌, ◌-◌, ◌*◌, ◌/◌, ◌%◌, ◌^◌, ◌<◌, ◌≤◌, ◌==◌, Bool, true, false, ◌&&◌, ◌||◌, cond, List, [], ◌∷◌, ◌++◌, length, drop, get_or, codes, Option, None, Some, refl, ap, arith, sym, ◌∙◌, nat_eq, nat_lt, is_some, append_assoc, subst}
+use Rattle.std.proofs.Common.{◌≡◌, ℕ, ◌+◌, ◌-◌, ◌*◌, ◌/◌, ◌%◌, ◌^◌, ◌<◌, ◌≤◌, ◌==◌, Bool, true, false, ◌&&◌, ◌||◌, cond}
+use Rattle.std.proofs.Common.{List, [], ◌∷◌, ◌++◌, length, drop, get_or, codes, Option, None, Some, refl, ap, arith}
+use Rattle.std.proofs.Common.{sym, ◌∙◌, nat_eq, nat_lt, is_some, append_assoc, subst}
 use Rattle.std.specs.Option.{option_and_then}
 use Rattle.std.specs.List.{starts_with}
 use Rattle.std.specs.Fmt.{decimal}
@@ -7,10 +9,12 @@ use Rattle.std.proofs.lemmas.Fmt.{decimal_step, decimal_digit, decimal_by_steps,
 use Rattle.std.proofs.Math.Bridge.{le_prop}
 use Rattle.std.proofs.lemmas.Bool.Decides.{nat_tests, Decides-eqb}
 use Rattle.ice_transform.specs.Parameters.{parameter_if}
-use Rattle.ice_transform.specs.Names.{with_digit, number_after, parameter_before_bracket, parameter_in, is_plain_name, is_name, IsNamed, name_of, IsOfText}
+use Rattle.ice_transform.specs.Names.{with_digit, number_after, parameter_before_bracket, parameter_in, is_plain_name}
+use Rattle.ice_transform.specs.Names.{is_name, IsNamed, name_of, IsOfText}
 use Rattle.ice_transform.specs.declared.parameter.Parameter.{Parameter}
 use Rattle.ice_transform.specs.declared.transform.Transform.{Transform}
-use Rattle.ice_transform.specs.declared.transform.Transform.TheVariants.{Identity, Bucket, Truncate, Year, Month, Day, Hour, Void, Unknown}
+use Rattle.ice_transform.specs.declared.transform.Transform.TheVariants.{Identity, Bucket, Truncate, Year, Month, Day}
+use Rattle.ice_transform.specs.declared.transform.Transform.TheVariants.{Hour, Void, Unknown}
 
 below : (a b : ℕ) → nat_lt a b ≡ true → a < b
 below a b h = grind (arith, nat_tests)
@@ -27,8 +31,16 @@ IsDigitAfter n b m = (47 < b) × (b < 58) × (m ≡ n * 10 + (b - 48)) × (m < 0
 
 digit_read : (n b m : ℕ) → with_digit n b ≡ Some m → IsDigitAfter n b m
 digit_read n b m h = go (nat_lt 47 b) refl (nat_lt b 58) refl (nat_lt (n * 10 + (b - 48)) 0x1_0000_0000) refl h where
-  go : (x : Bool) → nat_lt 47 b ≡ x → (y : Bool) → nat_lt b 58 ≡ y → (z : Bool) → nat_lt (n * 10 + (b - 48)) 0x1_0000_0000 ≡ z → cond (x && y && z) (Some (n * 10 + (b - 48))) None ≡ Some m → IsDigitAfter n b m
-  go true p true q true r e = let same : n * 10 + (b - 48) ≡ m = cc in (below 47 b p, below b 58 q, sym same, rw same at (below _ _ r))
+  go : (x : Bool) → nat_lt 47 b ≡ x → (y : Bool) → nat_lt b 58 ≡ y → (z : Bool)
+      → nat_lt (n * 10 + (b - 48)) 0x1_0000_0000 ≡ z → cond (x && y && z) (Some (n * 10 + (b - 48))) None ≡ Some m
+      → IsDigitAfter n b m
+  go true p true q true r e = let same : n * 10 + (b - 48) ≡ m = cc in (
+    below 47 b p,
+    below b 58 q,
+    sym same,
+    rw same at
+        (below _ _ r),
+  )
   go true p true q false r e = absurd cc
   go true p false q z r e = absurd cc
   go false p y q z r e = absurd cc
@@ -52,7 +64,8 @@ front n b k rest some (low, high, e, small) =
     ∙ sym (append_assoc (decimal (k / 10)) ((48 + k % 10) ∷ []) rest) ∙ ap (λ x. x ++ rest) (sym step)
 
 -- digits that were read are those that are written
-written_after : (n : ℕ) (bs : List ℕ) (m : ℕ) → 0 < n → number_after n bs ≡ Some m → decimal n ++ bs ≡ decimal m ++ (93 ∷ [])
+written_after : (n : ℕ) (bs : List ℕ) (m : ℕ) → 0 < n → number_after n bs ≡ Some m
+    → decimal n ++ bs ≡ decimal m ++ (93 ∷ [])
 written_after n [] m some h = absurd cc
 written_after n (b ∷ []) m some h = go (b == 93) refl h where
   go : (x : Bool) → (b == 93) ≡ x → cond x (Some n) None ≡ Some m → decimal n ++ (b ∷ []) ≡ decimal m ++ (93 ∷ [])
@@ -62,7 +75,8 @@ written_after n (b ∷ []) m some h = go (b == 93) refl h where
       rw (is, same) refl
   go false p e = absurd cc
 written_after n (b ∷ c ∷ bs) m some h = go (with_digit n b) refl h (λ k. written_after k (c ∷ bs) m) where
-  go : (o : Option ℕ) → with_digit n b ≡ o → option_and_then (λ k. number_after k (c ∷ bs)) o ≡ Some m → ((k : ℕ) → 0 < k → number_after k (c ∷ bs) ≡ Some m → decimal k ++ (c ∷ bs) ≡ decimal m ++ (93 ∷ [])) →
+  go : (o : Option ℕ) → with_digit n b ≡ o → option_and_then (λ k. number_after k (c ∷ bs)) o ≡ Some m
+      → ((k : ℕ) → 0 < k → number_after k (c ∷ bs) ≡ Some m → decimal k ++ (c ∷ bs) ≡ decimal m ++ (93 ∷ [])) →
       decimal n ++ (b ∷ c ∷ bs) ≡ decimal m ++ (93 ∷ [])
   go None p e after = absurd cc
   go (Some k) p e after =
@@ -90,15 +104,18 @@ written_parameter (b ∷ bs) m h = go (b == 48) refl h where
     last true f = let is : 0 ≡ m = cc in absurd (omega arith)
     last false f = absurd cc
   rest (c ∷ cs) p e some = more (with_digit 0 b) refl e where
-    more : (o : Option ℕ) → with_digit 0 b ≡ o → option_and_then (λ k. number_after k (c ∷ cs)) o ≡ Some m → b ∷ c ∷ cs ≡ decimal m ++ (93 ∷ [])
+    more : (o : Option ℕ) → with_digit 0 b ≡ o → option_and_then (λ k. number_after k (c ∷ cs)) o ≡ Some m
+        → b ∷ c ∷ cs ≡ decimal m ++ (93 ∷ [])
     more None q f = absurd cc
     more (Some k) q f =
         let (low, high, is, small) = digit_read 0 b k q in
         let other : b ≡ 48 → ⊥ = λ e. let z = (Decides-eqb b 48).1 e in cc in
         let glyph : 48 + k ≡ b = omega arith in
-        ap (λ x. x ∷ c ∷ cs) (sym glyph) ∙ ap (λ x. x ++ (c ∷ cs)) (sym (decimal_digit k (omega arith))) ∙ written_after k (c ∷ cs) m (omega (arith, other)) f
+        ap (λ x. x ∷ c ∷ cs) (sym glyph) ∙ ap (λ x. x ++ (c ∷ cs)) (sym (decimal_digit k (omega arith))) ∙ written_after
+        k (c ∷ cs) m (omega (arith, other)) f
 
-  go : (x : Bool) → (b == 48) ≡ x → cond x None (option_and_then parameter_if (number_after 0 (b ∷ bs))) ≡ Some m → b ∷ bs ≡ decimal m ++ (93 ∷ [])
+  go : (x : Bool) → (b == 48) ≡ x → cond x None (option_and_then parameter_if (number_after 0 (b ∷ bs))) ≡ Some m
+      → b ∷ bs ≡ decimal m ++ (93 ∷ [])
   go true p e = absurd cc
   go false p e = let s = found (number_after 0 (b ∷ bs)) m e in rest bs p s.0 s.1
 
@@ -115,7 +132,8 @@ begins (x ∷ xs) (y ∷ ys) h =
 
 written_in : (start text : List ℕ) (m : ℕ) → parameter_in start text ≡ Some m → start ++ (decimal m ++ (93 ∷ [])) ≡ text
 written_in start text m h = go (starts_with nat_eq text start) refl h where
-  go : (x : Bool) → starts_with nat_eq text start ≡ x → cond x (parameter_before_bracket (drop (length start) text)) None ≡ Some m → start ++ (decimal m ++ (93 ∷ [])) ≡ text
+  go : (x : Bool) → starts_with nat_eq text start ≡ x → cond x (parameter_before_bracket (drop (length start) text))
+      None ≡ Some m → start ++ (decimal m ++ (93 ∷ [])) ≡ text
   go true p e = sym (begins start text p ∙ ap (λ x. start ++ x) (written_parameter (drop (length start) text) m e))
   go false p e = absurd cc
 
@@ -138,13 +156,15 @@ ReadsOn n ds = n < 0x1_0000_0000 → (c : ℕ) (bs : List ℕ) → number_after 
 reads_on : (n : ℕ) → n < 2 ^ 64 → ReadsOn n (decimal n)
 reads_on = decimal_by_steps ReadsOn one more where
   one : (m : ℕ) → m < 10 → ReadsOn m ((48 + m) ∷ [])
-  one m l small c bs = ap (option_and_then (λ k. number_after k (c ∷ bs))) (digit_back 0 m l (omega arith) ∙ ap Some (omega arith))
+  one m l small c bs = ap (option_and_then (λ k. number_after k (c ∷ bs))) (digit_back 0 m l (omega arith) ∙ ap Some
+      (omega arith))
 
   more : (m : ℕ) (ds : List ℕ) → 10 ≤ m → ReadsOn (m / 10) ds → ReadsOn m (ds ++ ((48 + m % 10) ∷ []))
   more m ds l r small c bs =
       let whole : m / 10 * 10 + m % 10 ≡ m = omega arith in
       ap (number_after 0) (append_assoc ds ((48 + m % 10) ∷ []) (c ∷ bs)) ∙ r (omega arith) (48 + m % 10) (c ∷ bs)
-      ∙ ap (option_and_then (λ k. number_after k (c ∷ bs))) (digit_back (m / 10) (m % 10) (omega arith) (omega arith) ∙ ap Some whole)
+      ∙ ap (option_and_then (λ k. number_after k (c ∷ bs))) (digit_back (m / 10) (m % 10) (omega arith) (omega arith) ∙
+      ap Some whole)
 
 is_parameter : (n : ℕ) → 0 < n → n < 0x8000_0000 → parameter_if n ≡ Some n
 is_parameter n some small =
@@ -153,10 +173,14 @@ is_parameter n some small =
     rw (x, y) refl
 
 parameter_back : (n : ℕ) → 0 < n → n < 0x8000_0000 → parameter_before_bracket (decimal n ++ (93 ∷ [])) ≡ Some n
-parameter_back n some small = go (decimal n) (decimal_nonempty n (omega arith)) (first_decimal n some (omega arith)) (reads_on n (omega arith) (omega arith) 93 []) where
-  go : (ds : List ℕ) → 0 < length ds → 48 < get_or ds 0 0 → number_after 0 (ds ++ (93 ∷ [])) ≡ Some n → parameter_before_bracket (ds ++ (93 ∷ [])) ≡ Some n
-  go [] l h e = absurd (omega arith)
-  go (b ∷ ds) l h e = let other = is_other b 48 h in rw other (ap (option_and_then parameter_if) e ∙ is_parameter n some small)
+parameter_back n some small = go (decimal n) (decimal_nonempty n (omega arith)) (first_decimal n some (omega arith))
+    (reads_on n (omega arith) (omega arith) 93 []) where
+      go : (ds : List ℕ) → 0 < length ds → 48 < get_or ds 0 0 → number_after 0 (ds ++ (93 ∷ [])) ≡ Some n
+          → parameter_before_bracket (ds ++ (93 ∷ [])) ≡ Some n
+      go [] l h e = absurd (omega arith)
+      go (b ∷ ds) l h e = let other = is_other b 48 h in rw other (ap (option_and_then parameter_if) e ∙ is_parameter n
+          some
+          small)
 
 -- what is written of a transform is read as that transform
 pub read_back : (f : Transform) → IsOfText f → IsNamed f (name_of f)
@@ -197,11 +221,15 @@ third false false c h = h
 letter_is : (f : Transform) (text : List ℕ) → IsNamed f text → letter_of f ≡ letter_in text
 letter_is Identity text h = sym (ap letter_in h)
 letter_is (Bucket buckets) text h =
-    let known = second (is_plain_name text) (is_some (parameter_in (codes "bucket[") text)) (is_some (parameter_in (codes "truncate[") text)) (ap is_some h) in
-    sym (ap (λ b. cond b (get_or text 0 0) 0) known ∙ ap (λ t. get_or t 0 0) (sym (written_in (codes "bucket[") text buckets.number h)))
+    let known = second (is_plain_name text) (is_some (parameter_in (codes "bucket[") text))
+    (is_some (parameter_in (codes "truncate[") text)) (ap is_some h) in
+    sym (ap (λ b. cond b (get_or text 0 0) 0) known ∙ ap (λ t. get_or t 0 0)
+    (sym (written_in (codes "bucket[") text buckets.number h)))
 letter_is (Truncate width) text h =
-    let known = third (is_plain_name text) (is_some (parameter_in (codes "bucket[") text)) (is_some (parameter_in (codes "truncate[") text)) (ap is_some h) in
-    sym (ap (λ b. cond b (get_or text 0 0) 0) known ∙ ap (λ t. get_or t 0 0) (sym (written_in (codes "truncate[") text width.number h)))
+    let known = third (is_plain_name text) (is_some (parameter_in (codes "bucket[") text))
+    (is_some (parameter_in (codes "truncate[") text)) (ap is_some h) in
+    sym (ap (λ b. cond b (get_or text 0 0) 0) known ∙ ap (λ t. get_or t 0 0)
+    (sym (written_in (codes "truncate[") text width.number h)))
 letter_is Year text h = sym (ap letter_in h)
 letter_is Month text h = sym (ap letter_in h)
 letter_is Day text h = sym (ap letter_in h)
@@ -213,8 +241,13 @@ number_same : (m n : ℕ) (o : Option ℕ) → o ≡ Some m → o ≡ Some n →
 number_same m n o e f = cc
 
 same_parameter : (a b : Parameter) → a.number ≡ b.number → a ≡ b
-same_parameter a b e = subst (λ n. (some : 0 < n) (small : n < 0x8000_0000) → a ≡ record { number = n; positive = some; below = small }) e same b.positive b.below where
-  same : (some : 0 < a.number) (small : a.number < 0x8000_0000) → a ≡ record { number = a.number; positive = some; below = small }
+same_parameter a b e = subst (λ n. (some : 0 < n) (small : n < 0x8000_0000) → a ≡ record {
+  number = n;
+  positive = some;
+  below = small;
+}) e same b.positive b.below where
+  same : (some : 0 < a.number) (small : a.number < 0x8000_0000)
+      → a ≡ record { number = a.number; positive = some; below = small }
   same some small =
       let positive_prop : IsProp (0 < a.number) = le_prop in
       let below_prop : IsProp (a.number < 0x8000_0000) = le_prop in
@@ -225,8 +258,10 @@ pub one_transform : (f g : Transform) (text : List ℕ) → IsNamed f text → I
 one_transform f g text h k = go f g h k (letter_is f text h ∙ sym (letter_is g text k)) where
   go : (f g : Transform) → IsNamed f text → IsNamed g text → letter_of f ≡ letter_of g → f ≡ g
   go Identity Identity h k e = refl
-  go (Bucket a) (Bucket b) h k e = ap Bucket (same_parameter a b (number_same a.number b.number (parameter_in (codes "bucket[") text) h k))
-  go (Truncate a) (Truncate b) h k e = ap Truncate (same_parameter a b (number_same a.number b.number (parameter_in (codes "truncate[") text) h k))
+  go (Bucket a) (Bucket b) h k e = ap Bucket (same_parameter a b (number_same a.number b.number
+      (parameter_in (codes "bucket[") text) h k))
+  go (Truncate a) (Truncate b) h k e = ap Truncate (same_parameter a b (number_same a.number b.number
+      (parameter_in (codes "truncate[") text) h k))
   go Year Year h k e = refl
   go Month Month h k e = refl
   go Day Day h k e = refl

@@ -93,7 +93,8 @@ not_gt_le Below h = refl
 not_gt_le Equal h = refl
 not_gt_le Greater h = absurd cc
 
-chained : {K : Type 0} {R : K → K → Ordering} → IsTotalOrder R → (x y z : K) → is_le (R x y) ≡ true → is_le (R y z) ≡ true → is_le (R x z) ≡ true
+chained : {K : Type 0} {R : K → K → Ordering} → IsTotalOrder R → (x y z : K) → is_le (R x y) ≡ true
+    → is_le (R y z) ≡ true → is_le (R x z) ≡ true
 chained {K} {R} o x y z h k = not_gt_le (R x z) (upto o x y z (le_not_gt (R x y) h) (le_not_gt (R y z) k))
 
 pub up_to_further : (a b c : Cell) → is_at_most a b ≡ true → is_at_most b c ≡ true → is_at_most a c ≡ true
@@ -106,7 +107,8 @@ up_to_further (Text a) (Text b) (Text c) h k = chained nat_list_cmp_total a b c 
 up_to_further (Bytes a) (Bytes b) (Bytes c) h k = chained nat_list_cmp_total a b c h k
 up_to_further _ _ _ h k = absurd cc
 
-equal_both_ways : (o : Option Ordering) → is_some_and is_le o ≡ true → is_some_and is_le (option_map ordering_reverse o) ≡ true → o ≡ Some Equal
+equal_both_ways : (o : Option Ordering) → is_some_and is_le o ≡ true
+    → is_some_and is_le (option_map ordering_reverse o) ≡ true → o ≡ Some Equal
 equal_both_ways (Some Below) h k = absurd cc
 equal_both_ways (Some Equal) h k = refl
 equal_both_ways (Some Greater) h k = absurd cc

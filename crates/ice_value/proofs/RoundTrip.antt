@@ -1,11 +1,13 @@
 -- What is written is read as the same value.
-use Rattle.std.proofs.Common.{◌≡◌, ℕ, ℤ, pos, negsuc, Bool, true, false, cond, List, None, Some, length, refl, ap, ◌∙◌, arith, SFits, nat_eq}
+use Rattle.std.proofs.Common.{◌≡◌, ℕ, ℤ, pos, negsuc, Bool, true, false, cond, List, None, Some, length, refl, ap, ◌∙◌}
+use Rattle.std.proofs.Common.{arith, SFits, nat_eq}
 use Rattle.std.specs.Int.{w32, w64, cast_signed, cast_unsigned, from_le_bytes, to_le_bytes}
 use Rattle.std.proofs.lemmas.Int.{ints, to_z-of_z}
 use Rattle.std.proofs.lemmas.Nat.{from_le_bytes-to_le_bytes_4, from_le_bytes-to_le_bytes_8}
 use Rattle.std.proofs.lemmas.Bool.Decides.{nat_tests}
 use Rattle.ice_value.specs.declared.column_type.ColumnType.{ColumnType}
-use Rattle.ice_value.specs.declared.column_type.ColumnType.TheVariants.{Boolean, Int, Long, Date, Time, Timestamp, Timestamptz, String, Uuid, Fixed, Binary}
+use Rattle.ice_value.specs.declared.column_type.ColumnType.TheVariants.{Boolean, Int, Long, Date, Time, Timestamp}
+use Rattle.ice_value.specs.declared.column_type.ColumnType.TheVariants.{Timestamptz, String, Uuid, Fixed, Binary}
 use Rattle.ice_value.specs.declared.cell.Cell.{Cell}
 use Rattle.ice_value.specs.declared.cell.Cell.TheVariants.{Bool as Flag, Whole, Text, Bytes}
 use Rattle.ice_value.specs.Bounds.{cell_in, fits_int, fits_long, int_bytes, long_bytes, is_value, bytes_of, written}
@@ -19,10 +21,12 @@ of_long (pos n) h = grind (arith, ints, nat_tests)
 of_long (negsuc n) h = grind (arith, ints, nat_tests)
 
 back_32 : (z : ℤ) → SFits w32 z → cast_signed w32 (from_le_bytes w32 (to_le_bytes w32 (cast_unsigned w32 z))) ≡ z
-back_32 z f = ap (cast_signed w32) (from_le_bytes-to_le_bytes_4 (cast_unsigned w32 z) (omega (arith, ints))) ∙ to_z-of_z w32 z f
+back_32 z f = ap (cast_signed w32) (from_le_bytes-to_le_bytes_4 (cast_unsigned w32 z) (omega (arith, ints))) ∙ to_z-of_z
+    w32 z f
 
 back_64 : (z : ℤ) → SFits w64 z → cast_signed w64 (from_le_bytes w64 (to_le_bytes w64 (cast_unsigned w64 z))) ≡ z
-back_64 z f = ap (cast_signed w64) (from_le_bytes-to_le_bytes_8 (cast_unsigned w64 z) (omega (arith, ints))) ∙ to_z-of_z w64 z f
+back_64 z f = ap (cast_signed w64) (from_le_bytes-to_le_bytes_8 (cast_unsigned w64 z) (omega (arith, ints))) ∙ to_z-of_z
+    w64 z f
 
 int_read : (z : ℤ) → fits_int z ≡ true → cell_in Int (int_bytes z) ≡ Some (Whole z)
 int_read z h = ap (λ (y : ℤ). Some (Whole y)) (back_32 z (of_int z h))
@@ -34,7 +38,8 @@ flag_read : (truth : Bool) → cell_in Boolean (bytes_of Boolean (Flag truth)) �
 flag_read true = refl
 flag_read false = refl
 
-sized_read : (size : ℕ) (value : List ℕ) → nat_eq (length value) size ≡ true → cell_in (Fixed size) value ≡ Some (Bytes value)
+sized_read : (size : ℕ) (value : List ℕ) → nat_eq (length value) size ≡ true
+    → cell_in (Fixed size) value ≡ Some (Bytes value)
 sized_read size value h = rw h refl
 
 -- the bytes of a value are read as that value
@@ -52,7 +57,8 @@ read_value (Fixed size) (Bytes value) h = sized_read size value h
 read_value Binary (Bytes value) h = refl
 read_value _ _ h = absurd cc
 
-if_written : (t : ColumnType) (c : Cell) (b : Bool) (given bs : List ℕ) → cond b (Some given) None ≡ Some bs → (b ≡ true → cell_in t given ≡ Some c) → cell_in t bs ≡ Some c
+if_written : (t : ColumnType) (c : Cell) (b : Bool) (given bs : List ℕ) → cond b (Some given) None ≡ Some bs
+    → (b ≡ true → cell_in t given ≡ Some c) → cell_in t bs ≡ Some c
 if_written t c true given bs e h = let same : given ≡ bs = cc in rw (← same) (h refl)
 if_written t c false given bs e h = absurd cc
 

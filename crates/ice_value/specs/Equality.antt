@@ -139,7 +139,11 @@ cell_cmp_same (cells.Bytes a) (cells.Bytes b) h = ap cells.Bytes (list_same a b 
 cell_cmp_same _ _ h = absurd cc
 
 pub cell_cmp_decides : (a b : Cell) → Decides (is_eq (cell_cmp a b)) (a ≡ b)
-cell_cmp_decides a b = (λ h. cell_cmp_same a b ((Equal-is (cell_cmp a b)).0 h), λ e. let P : Cell → Type 0 = λ v. is_eq (cell_cmp a v) ≡ true in subst P e (ap is_eq (tied_itself cell_cmp_total a)))
+cell_cmp_decides a b = (
+  λ h. cell_cmp_same a b ((Equal-is (cell_cmp a b)).0 h),
+  λ e. let P : Cell
+      → Type 0 = λ v. is_eq (cell_cmp a v) ≡ true in subst P e (ap is_eq (tied_itself cell_cmp_total a)),
+)
 
 pub same_cell-by_cmp : (a b : Cell) → same_cell a b ≡ eq_by_cmp cell_cmp a b
 same_cell-by_cmp a b = one_answer (same_cell a b) (is_eq (cell_cmp a b)) (cell_decides a b) (cell_cmp_decides a b)
@@ -156,4 +160,8 @@ tuple_cmp_same (x ∷ a) (y ∷ b) h =
 
 -- tuples compare equal just where they are one
 pub tuple_cmp_equal : (a b : List Cell) → (tuple_cmp a b ≡ Equal → a ≡ b) × (a ≡ b → tuple_cmp a b ≡ Equal)
-tuple_cmp_equal a b = (tuple_cmp_same a b, λ e. let P : List Cell → Type 0 = λ v. tuple_cmp a v ≡ Equal in subst P e (tied_itself tuple_cmp_total a))
+tuple_cmp_equal a b = (
+  tuple_cmp_same a b,
+  λ e. let P : List Cell → Type 0 = λ v. tuple_cmp a v ≡ Equal in
+      subst P e (tied_itself tuple_cmp_total a),
+)

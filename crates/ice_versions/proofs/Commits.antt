@@ -18,12 +18,14 @@ use Rattle.ice_versions.specs.contracts.change.IdsPartialEq.TheImpl as ids_test
 use Rattle.ice_versions.specs.contracts.change.CommitPartialEq.TheImpl as commit_test
 
 -- lists whose items are seen by v, and compared as v sees them
-pub seen_same : {A B : Type 0} (E : B → B → Bool) (exact : (a b : B) → Decides (E a b) (a ≡ b)) (v : A → B) (xs ys : List A) → Decides (pointwise (λ x y. E (v x) (v y)) xs ys) (map v xs ≡ map v ys)
+pub seen_same : {A B : Type 0} (E : B → B → Bool) (exact : (a b : B) → Decides (E a b) (a ≡ b)) (v : A
+    → B) (xs ys : List A) → Decides (pointwise (λ x y. E (v x) (v y)) xs ys) (map v xs ≡ map v ys)
 seen_same E exact v [] [] = (λ _. refl, λ _. refl)
 seen_same E exact v [] (y ∷ ys) = (λ e. cc, λ e. cc)
 seen_same E exact v (x ∷ xs) [] = (λ e. cc, λ e. cc)
 seen_same E exact v (x ∷ xs) (y ∷ ys) =
-    let all = Decides-and (E (v x) (v y)) (pointwise (λ x y. E (v x) (v y)) xs ys) (exact (v x) (v y)) (seen_same E exact v xs ys) in
+    let all = Decides-and (E (v x) (v y)) (pointwise (λ x y. E (v x) (v y)) xs ys) (exact (v x) (v y))
+    (seen_same E exact v xs ys) in
     (λ e. let h = all.0 e in λ i. h.0 i ∷ h.1 i, λ e. all.1 (cc, cc))
 
 -- ---- files
@@ -41,7 +43,8 @@ content_exact EqualityDeletes EqualityDeletes = (λ _. refl, λ _. refl)
 
 file_exact : (a b : NewFile) → Decides (file_test.ghosts.eq a b) (a ≡ b)
 file_exact a b =
-    let ids = slice_eq-Decides Decides-int_eq a.equality_ids b.equality_ids (pointwise int_eq a.equality_ids b.equality_ids) refl in
+    let ids = slice_eq-Decides Decides-int_eq a.equality_ids b.equality_ids (pointwise int_eq a.equality_ids
+    b.equality_ids) refl in
     let size = Decides-and _ _ (Decides-int_eq a.file_size b.file_size) ids in
     let count = Decides-and _ _ (Decides-int_eq a.record_count b.record_count) size in
     let tuple = Decides-and _ _ (tuple_decides a.tuple b.tuple) count in
@@ -70,7 +73,13 @@ file_exact a b =
                 ap (λ (f : NewFile). f.format) e,
                 (
                   ap (λ (f : NewFile). f.spec_id) e,
-                  (ap (λ (f : NewFile). f.tuple) e, (ap (λ (f : NewFile). f.record_count) e, (ap (λ (f : NewFile). f.file_size) e, ap (λ (f : NewFile). f.equality_ids) e))),
+                  (
+                    ap (λ (f : NewFile). f.tuple) e,
+                    (
+                      ap (λ (f : NewFile). f.record_count) e,
+                      (ap (λ (f : NewFile). f.file_size) e, ap (λ (f : NewFile). f.equality_ids) e),
+                    ),
+                  ),
                 ),
               ),
             ),
@@ -82,9 +91,15 @@ file_exact a b =
 change_exact : (a b : Change) → Decides (change_test.ghosts.eq a b) (a ≡ b)
 change_exact a b =
     let files = slice_eq-Decides file_exact a.files b.files (pointwise file_test.ghosts.eq a.files b.files) refl in
-    let deletes = slice_eq-Decides file_exact a.deletes b.deletes (pointwise file_test.ghosts.eq a.deletes b.deletes) refl in
-    let all = Decides-and _ _ files deletes in
-    (λ e. let h = all.0 e in λ i. record { files = h.0 i; deletes = h.1 i }, λ e. all.1 (ap (λ (c : Change). c.files) e, ap (λ (c : Change). c.deletes) e))
+    let deletes = slice_eq-Decides file_exact a.deletes b.deletes (pointwise file_test.ghosts.eq a.deletes b.deletes)
+    refl in
+    let all = Decides-and _ _ files deletes in (
+      λ e. let h = all.0 e in λ i. record { files = h.0 i; deletes = h.1 i },
+      λ e. all.1 (
+        ap (λ (c : Change). c.files) e,
+        ap (λ (c : Change). c.deletes) e,
+      ),
+    )
 
 ids_exact : (a b : Ids) → Decides (ids_test.ghosts.eq a b) (a ≡ b)
 ids_exact a b =
@@ -97,5 +112,10 @@ ids_exact a b =
 -- the test of two commits
 pub commit_exact : (a b : Commit) → Decides (commit_test.ghosts.eq a b) (a ≡ b)
 commit_exact a b =
-    let all = Decides-and _ _ (change_exact a.change b.change) (ids_exact a.ids b.ids) in
-    (λ e. let h = all.0 e in λ i. record { change = h.0 i; ids = h.1 i }, λ e. all.1 (ap (λ (c : Commit). c.change) e, ap (λ (c : Commit). c.ids) e))
+    let all = Decides-and _ _ (change_exact a.change b.change) (ids_exact a.ids b.ids) in (
+      λ e. let h = all.0 e in λ i. record { change = h.0 i; ids = h.1 i },
+      λ e. all.1 (
+        ap (λ (c : Commit). c.change) e,
+        ap (λ (c : Commit). c.ids) e,
+      ),
+    )

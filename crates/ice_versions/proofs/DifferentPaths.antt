@@ -1,5 +1,6 @@
 -- The paths of the files that a commit adds are different.
-use Rattle.std.proofs.Common.{◌≡◌, ◌<◌, ◌+◌, ◌-◌, ◌^◌, ℕ, Bool, true, false, cond, List, ◌∷◌, ◌++◌, refl, sym, ◌∙◌, ap, arith}
+use Rattle.std.proofs.Common.{◌≡◌, ◌<◌, ◌+◌, ◌-◌, ◌^◌, ℕ, Bool, true, false, cond, List, ◌∷◌, ◌++◌, refl, sym, ◌∙◌, ap}
+use Rattle.std.proofs.Common.{arith}
 use Rattle.std.specs.Prelude.{codes, nat_lt, slice_get, Some}
 use Rattle.std.specs.Fmt.{decimal}
 use Rattle.std.proofs.lemmas.Fmt.{decimal_injective}
@@ -12,12 +13,14 @@ use Rattle.ice_versions.specs.Adding.{list_name, list_path, manifest_name, manif
 same_names : (location a b : List ℕ) → location ++ codes "/metadata/" ++ a ≡ location ++ codes "/metadata/" ++ b → a ≡ b
 same_names location a b e = append_cancel_left (location ++ codes "/metadata/") a b e
 
-pub same_numbers : (t : Table) (ids : Ids) (m n : ℕ) → m < 2 ^ 64 → n < 2 ^ 64 → manifest_path t ids m ≡ manifest_path t ids n → m ≡ n
+pub same_numbers : (t : Table) (ids : Ids) (m n : ℕ) → m < 2 ^ 64 → n < 2 ^ 64
+    → manifest_path t ids m ≡ manifest_path t ids n → m ≡ n
 unfolding manifest_path
 same_numbers t ids m n few less e =
     let names = same_names t.location (manifest_name ids m) (manifest_name ids n) e in
     let front = uuid_text ids ++ codes "-m" in
-    decimal_injective m n few less (append_cancel_left front (decimal m) (decimal n) (append_cancel_right (front ++ decimal m) (front ++ decimal n) (codes ".avro") names))
+    decimal_injective m n few less (append_cancel_left front (decimal m) (decimal n)
+    (append_cancel_right (front ++ decimal m) (front ++ decimal n) (codes ".avro") names))
 
 -- a list's name begins with an s, which is no digit of a uuid
 digit_below : (d : ℕ) → d < 16 → hex_digit lower d < 115
@@ -38,7 +41,8 @@ unfolding manifest_path list_path
 no_list t ids m e =
     let names = same_names t.location (manifest_name ids m) (list_name ids) e in
     let start = first ids in
-    let digit : slice_get (manifest_name ids m) 0 ≡ Some (hex_digit lower (nibble ids.uuid 0)) = ap (λ text. slice_get (text ++ codes "-m" ++ decimal m ++ codes ".avro") 0) start.1 in
+    let digit : slice_get (manifest_name ids m) 0 ≡ Some (hex_digit lower (nibble ids.uuid 0)) =
+    ap (λ text. slice_get (text ++ codes "-m" ++ decimal m ++ codes ".avro") 0) start.1 in
     let letter : slice_get (manifest_name ids m) 0 ≡ Some 115 = ap (λ text. slice_get text 0) names in
     let both : Some (hex_digit lower (nibble ids.uuid 0)) ≡ Some 115 = sym digit ∙ letter in
     let same : hex_digit lower (nibble ids.uuid 0) ≡ 115 = cc in

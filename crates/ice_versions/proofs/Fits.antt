@@ -13,4 +13,5 @@ pub fit_not : (allowed : List Allowed) (cells : List Cell) → length allowed �
 fit_not [] [] h = absurd (h refl)
 fit_not [] (c ∷ cells) h = refl
 fit_not (a ∷ allowed) [] h = refl
-fit_not (a ∷ allowed) (c ∷ cells) h = and_false (allows a c) (fit allowed cells) (fit_not allowed cells (λ e. h (ap suc e)))
+fit_not (a ∷ allowed) (c ∷ cells) h = and_false (allows a c) (fit allowed cells)
+    (fit_not allowed cells (λ e. h (ap suc e)))

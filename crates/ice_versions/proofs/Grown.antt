@@ -11,10 +11,18 @@ use Rattle.ice_versions.specs.Live.{AddInTurn, AddsToBase, IsGrown}
 abbrev with_commits : History → List Commit → History
 with_commits h cs = record { opening = h.opening; journal = h.journal ++ cs }
 
-one_more : (h : History) (cs : List Commit) (c : Commit) → AddInTurn h cs → AddsToBase (with_commits h cs) c → AddInTurn h (cs ++ c ∷ [])
-one_more h [] c all one = (subst (λ j. AddsToBase (record { opening = h.opening; journal = j }) c) (append-nil h.journal) one, tt)
-one_more h (x ∷ cs) c all one =
-    (all.0, one_more (after h x) cs c all.1 (subst (λ j. AddsToBase (record { opening = h.opening; journal = j }) c) (sym (append_assoc h.journal (x ∷ []) cs)) one))
+one_more : (h : History) (cs : List Commit) (c : Commit) → AddInTurn h cs → AddsToBase (with_commits h cs) c
+    → AddInTurn h (cs ++ c ∷ [])
+one_more h [] c all one = (
+  subst (λ j. AddsToBase (record { opening = h.opening; journal = j }) c)
+      (append-nil h.journal) one,
+  tt,
+)
+one_more h (x ∷ cs) c all one = (
+  all.0,
+  one_more (after h x) cs c all.1 (subst (λ j. AddsToBase (record { opening = h.opening; journal = j }) c)
+      (sym (append_assoc h.journal (x ∷ []) cs)) one),
+)
 
 pub grown_after : (h : History) (c : Commit) → IsGrown h → AddsToBase h c → IsGrown (after h c)
 grown_after h c all one = one_more (record { opening = h.opening; journal = [] }) h.journal c all one

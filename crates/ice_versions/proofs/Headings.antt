@@ -15,22 +15,44 @@ use Rattle.ice_versions.specs.Adding.{schema_text, spec_or_none, types_of, headi
 use Rattle.ice_versions.specs.Bases.{table_specs, specs_under, spec_in}
 use Rattle.ice_versions.specs.Groups.{Group}
 
-find_bound : (schema : Schema) (id : ℤ) (specs : List Spec) → spec_in (map (bound_spec schema) specs) id ≡ option_map (bound_spec schema) (find (λ (s : Spec). int_eq s.id id) specs)
+find_bound : (schema : Schema) (id : ℤ) (specs : List Spec)
+    → spec_in (map (bound_spec schema) specs) id ≡ option_map (bound_spec schema) (find (λ (s : Spec). int_eq s.id id)
+    specs)
 find_bound schema id [] = refl
 find_bound schema id (s ∷ specs) =
-    elim (int_eq s.id id) as (λ b. cond b (Some (bound_spec schema s)) (spec_in (map (bound_spec schema) specs) id) ≡ option_map (bound_spec schema) (cond b (Some s) (find (λ (s : Spec). int_eq s.id id) specs))) [
+    elim (int_eq s.id id) as (λ b. cond b (Some (bound_spec schema s)) (spec_in (map (bound_spec schema) specs) id)
+    ≡ option_map (bound_spec schema) (cond b (Some s) (find (λ (s : Spec). int_eq s.id id) specs))) [
       | true ↦ refl
       | false ↦ find_bound schema id specs
     ]
 
 -- the table's spec of an id is that of the metadata, under the current schema
-pub found_bound : (t : Table) (schema : Schema) (id : ℤ) → Some schema ≡ schema_for Main t → spec_in (table_specs t) id ≡ option_map (bound_spec schema) (spec_with id t)
+pub found_bound : (t : Table) (schema : Schema) (id : ℤ) → Some schema ≡ schema_for Main t
+    → spec_in (table_specs t) id ≡ option_map (bound_spec schema) (spec_with id t)
 unfolding table_specs
 found_bound t schema id h = ap (λ s. spec_in (specs_under s t) id) (sym h) ∙ find_bound schema id t.specs
 
-pub heading_is : (m : Described) (ids : Ids) (g : Group) (spec : Spec) (types : List ColumnType) → spec_in (table_specs m.table) g.spec_id ≡ Some spec → types ≡ types_of spec
-    → ◌≡◌ {A = Heading} (record { schema = schema_text m; schema_id = m.table.current_schema_id; spec = spec; types = types; content = g.content; snapshot_id = ids.snapshot; sync = ids.uuid }) (heading_of m ids g)
+pub heading_is : (m : Described) (ids : Ids) (g : Group) (spec : Spec) (types : List ColumnType)
+    → spec_in (table_specs m.table) g.spec_id ≡ Some spec → types ≡ types_of spec
+    → ◌≡◌ {A = Heading} (record {
+      schema = schema_text m;
+      schema_id = m.table.current_schema_id;
+      spec = spec;
+      types = types;
+      content = g.content;
+      snapshot_id = ids.snapshot;
+      sync = ids.uuid;
+    }) (heading_of m ids g)
 unfolding heading_of
 heading_is m ids g spec types s t =
-    let same : spec ≡ spec_or_none g.spec_id (spec_in (table_specs m.table) g.spec_id) = ap (spec_or_none g.spec_id) (sym s) in
-    λ i. record { schema = schema_text m; schema_id = m.table.current_schema_id; spec = same i; types = (t ∙ ap types_of same) i; content = g.content; snapshot_id = ids.snapshot; sync = ids.uuid }
+    let same : spec ≡ spec_or_none g.spec_id (spec_in (table_specs m.table) g.spec_id) = ap (spec_or_none g.spec_id)
+    (sym s) in
+    λ i. record {
+      schema = schema_text m;
+      schema_id = m.table.current_schema_id;
+      spec = same i;
+      types = (t ∙ ap types_of same) i;
+      content = g.content;
+      snapshot_id = ids.snapshot;
+      sync = ids.uuid;
+    }

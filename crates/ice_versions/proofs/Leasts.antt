@@ -15,7 +15,8 @@ kept_path : (b : Bool) (p q : List ℕ) → (r : List ℕ) × (cond b (Some p) (
 kept_path true p q = (p, refl)
 kept_path false p q = (q, refl)
 
-some_path : (ps : List (List ℕ)) (o : Option (List ℕ)) (b : List ℕ) → o ≡ Some b → (r : List ℕ) × (fold lesser_path o ps ≡ Some r)
+some_path : (ps : List (List ℕ)) (o : Option (List ℕ)) (b : List ℕ) → o ≡ Some b
+    → (r : List ℕ) × (fold lesser_path o ps ≡ Some r)
 some_path [] o b e = (b, e)
 some_path (p ∷ ps) o b e =
     let k = kept_path (path_before p b) p b in
@@ -44,11 +45,14 @@ both_empty [] ys h = (refl, h)
 both_empty (x ∷ xs) ys h = absurd cc
 
 -- none passes a test that keeps nothing
-pub none_passes : {A : Type 0} (test : A → Bool) (xs : List A) → filter test xs ≡ [] → AllByRecursion (λ x. test x ≡ false) xs
+pub none_passes : {A : Type 0} (test : A → Bool) (xs : List A) → filter test xs ≡ []
+    → AllByRecursion (λ x. test x ≡ false) xs
 none_passes test [] h = tt
 none_passes {A = A} test (x ∷ xs) h =
-    let P : (b : Bool) → test x ≡ b → cond b (x ∷ filter test xs) (filter test xs) ≡ [] → AllByRecursion (λ x. test x ≡ false) (x ∷ xs) =
-    λ b. elim b as (λ b. test x ≡ b → cond b (x ∷ filter test xs) (filter test xs) ≡ [] → AllByRecursion (λ x. test x ≡ false) (x ∷ xs)) [
+    let P : (b : Bool) → test x ≡ b → cond b (x ∷ filter test xs) (filter test xs) ≡ []
+    → AllByRecursion (λ x. test x ≡ false) (x ∷ xs) =
+    λ b. elim b as (λ b. test x ≡ b → cond b (x ∷ filter test xs) (filter test xs) ≡ []
+    → AllByRecursion (λ x. test x ≡ false) (x ∷ xs)) [
       | true ↦ λ e k. absurd cc
       | false ↦ λ e k. (e, none_passes test xs k)
     ] in

@@ -8,7 +8,8 @@ use Rattle.ice_versions.specs.declared.fault.PrepareFault.{PrepareFault}
 use Rattle.ice_versions.specs.Refusals.{base_bad, path_taken, sorted_paths, first_reason, reasons, refusal}
 use Rattle.ice_versions.specs.States.{State}
 
-first_none : (reason : Option PrepareFault) (rs : List (Option PrepareFault)) → first_reason (reason ∷ rs) ≡ None → (reason ≡ None) × (first_reason rs ≡ None)
+first_none : (reason : Option PrepareFault) (rs : List (Option PrepareFault)) → first_reason (reason ∷ rs) ≡ None
+    → (reason ≡ None) × (first_reason rs ≡ None)
 first_none None rs h = (refl, h)
 first_none (Some f) rs h = absurd cc
 
@@ -22,12 +23,15 @@ unfolding refusal
 none_stand s c h = all_none (reasons s c) h
 
 -- the first that stands, at a place
-stops_at : (n : ℕ) (rs : List (Option PrepareFault)) (f : PrepareFault) → AllByRecursion (λ r. r ≡ None) (take n rs) → slice_get rs n ≡ Some (Some f) → first_reason rs ≡ Some f
+stops_at : (n : ℕ) (rs : List (Option PrepareFault)) (f : PrepareFault) → AllByRecursion (λ r. r ≡ None) (take n rs)
+    → slice_get rs n ≡ Some (Some f) → first_reason rs ≡ Some f
 stops_at n [] f h e = absurd cc
 stops_at zero (r ∷ rs) f h e = let same : r ≡ Some f = cc in ap (λ v. first_reason (v ∷ rs)) same
 stops_at (suc n) (r ∷ rs) f h e = ap (λ v. first_reason (v ∷ rs)) h.0 ∙ stops_at n rs f h.1 e
 
-pub refused_at : (n : ℕ) (s : State) (c : Commit) (f : PrepareFault) → AllByRecursion (λ r. r ≡ None) (take n (reasons s c)) → slice_get (reasons s c) n ≡ Some (Some f) → refusal s c ≡ Some f
+pub refused_at : (n : ℕ) (s : State) (c : Commit) (f : PrepareFault)
+    → AllByRecursion (λ r. r ≡ None) (take n (reasons s c)) → slice_get (reasons s c) n ≡ Some (Some f)
+    → refusal s c ≡ Some f
 unfolding refusal
 refused_at n s c f h e = stops_at n (reasons s c) f h e
 
@@ -45,8 +49,13 @@ both_none None b h = (refl, h)
 both_none (Some f) b h = absurd cc
 
 pub refused_by : (s : State) (c : Commit) (f : PrepareFault) → AllByRecursion (λ r. r ≡ None) (take 7 (reasons s c))
-    → option_or (base_bad s.world s.metadata.table) (path_taken s.world s.metadata.table (sorted_paths c.change)) ≡ Some f → refusal s c ≡ Some f
+    → option_or (base_bad s.world s.metadata.table) (path_taken s.world s.metadata.table (sorted_paths c.change)) ≡ Some
+    f → refusal s c ≡ Some f
 refused_by s c f h e = here (base_bad s.world s.metadata.table) refl e where
-  here : (o : Option PrepareFault) → base_bad s.world s.metadata.table ≡ o → option_or o (path_taken s.world s.metadata.table (sorted_paths c.change)) ≡ Some f → refusal s c ≡ Some f
-  here None was now = refused_at 8 s c f (h.0, (h.1.0, (h.1.1.0, (h.1.1.1.0, (h.1.1.1.1.0, (h.1.1.1.1.1.0, (h.1.1.1.1.1.1.0, (was, tt)))))))) (ap Some now)
+  here : (o : Option PrepareFault) → base_bad s.world s.metadata.table ≡ o
+      → option_or o (path_taken s.world s.metadata.table (sorted_paths c.change)) ≡ Some f → refusal s c ≡ Some f
+  here None was now = refused_at 8 s c f (
+    h.0,
+    (h.1.0, (h.1.1.0, (h.1.1.1.0, (h.1.1.1.1.0, (h.1.1.1.1.1.0, (h.1.1.1.1.1.1.0, (was, tt))))))),
+  ) (ap Some now)
   here (Some g) was now = refused_at 7 s c f h (ap Some (was ∙ now))

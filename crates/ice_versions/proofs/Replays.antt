@@ -1,5 +1,6 @@
 -- One more commit, and one commit less.
-use Rattle.std.proofs.Common.{◌≡◌, ℕ, true, ◌-◌, List, [], ◌∷◌, ◌++◌, length, take, refl, sym, ◌∙◌, ap, arith, length-append, map}
+use Rattle.std.proofs.Common.{◌≡◌, ℕ, true, ◌-◌, List, [], ◌∷◌, ◌++◌, length, take, refl, sym, ◌∙◌, ap, arith}
+use Rattle.std.proofs.Common.{length-append, map}
 use Rattle.std.proofs.lemmas.List.{length-map}
 use Rattle.std.specs.List.{take-map}
 use Rattle.std.specs.Prelude.{Option, Some, None, Ok, Err, ◌↔◌}
@@ -13,7 +14,8 @@ use Rattle.ice_versions.specs.declared.fault.PrepareFault.{PrepareFault}
 use Rattle.ice_versions.specs.declared.opening.Opening.{Opening}
 use Rattle.ice_versions.specs.Adding.{added, next}
 use Rattle.ice_versions.specs.Applying.{apply, unless}
-use Rattle.ice_versions.specs.Histories.{History, Step, openable, start, step, replay, state_of, after, before, prepared_on, prepared_from, added_on}
+use Rattle.ice_versions.specs.Histories.{History, Step, openable, start, step, replay, state_of, after, before}
+use Rattle.ice_versions.specs.Histories.{prepared_on, prepared_from, added_on}
 use Rattle.ice_versions.specs.Refusals.{refusal}
 use Rattle.ice_versions.specs.Replaying.{IsInParts, HasEarlier}
 use Rattle.ice_versions.specs.States.{State}
@@ -51,7 +53,10 @@ before_after h c = λ i. record { opening = h.opening; journal = front h.journal
 pub state_at_start : (o : Opening) (m : Described) → openable o.bytes ≡ Ok m
     → state_of (record { opening = o; journal = [] }) ≡ Some (record { metadata = m; world = o.world })
 unfolding state_of
-state_at_start o m is = ap (λ r. option_map (λ (m : Described). let s : State = record { metadata = m; world = o.world } in s) (result_ok r)) is
+state_at_start o m is = ap (λ r. option_map (λ (m : Described). let s : State = record {
+  metadata = m;
+  world = o.world;
+} in s) (result_ok r)) is
 
 module _ (h : History) (s : State) (is : state_of h ≡ Some s) (c : Commit) where
   -- a commit that is not refused leaves the next state
@@ -61,18 +66,21 @@ module _ (h : History) (s : State) (is : state_of h ≡ Some s) (c : Commit) whe
 
   pub prepared_done : refusal s c ≡ None → prepared_on h c ≡ Ok (record { base = h; commit = c })
   unfolding apply
-  prepared_done none = ap (λ o. prepared_from o h c) is ∙ ap (λ r. unless r (next s c) >>= λ (_ : State). let p : Step = record { base = h; commit = c } in Ok p) none
+  prepared_done none = ap (λ o. prepared_from o h c) is ∙ ap (λ r. unless r (next s c) >>= λ (_ : State). let p : Step =
+      record { base = h; commit = c } in Ok p) none
 
   pub prepared_refused : (f : PrepareFault) → refusal s c ≡ Some f → prepared_on h c ≡ Err f
   unfolding apply
-  prepared_refused f some = ap (λ o. prepared_from o h c) is ∙ ap (λ r. unless r (next s c) >>= λ (_ : State). let p : Step = record { base = h; commit = c } in Ok p) some
+  prepared_refused f some = ap (λ o. prepared_from o h c) is ∙ ap (λ r. unless r (next s c) >>= λ (_ : State). let p :
+      Step = record { base = h; commit = c } in Ok p) some
 
   pub added_done : added_on h c ≡ Some (added s c)
   added_done = ap (option_map (λ (s : State). added s c)) is
 
 -- a journal as the code compares it: the items are seen by v, and the last of the later ones is left out
 pub is_base : {A : Type 0} (v : A → Commit) (o p : Opening) (xs ys : List A) (k : ℕ) → k ≡ length ys - 1 → o ≡ p
-    → (map v xs ≡ map v (take k ys)) ↔ (◌≡◌ {A = History} (record { opening = o; journal = map v xs }) (before (record { opening = p; journal = map v ys })))
+    → (map v xs ≡ map v (take k ys)) ↔ (◌≡◌ {A = History} (record { opening = o; journal = map v xs })
+    (before (record { opening = p; journal = map v ys })))
 is_base v o p xs ys k n same =
     let j : take (length (map v ys) - 1) (map v ys) ≡ map v (take k ys) =
     ap (λ m. take m (map v ys)) (ap (λ m. m - 1) (length-map ys v) ∙ sym n) ∙ take-map v k ys in

@@ -16,7 +16,8 @@ use Rattle.ice_meta.proofs.Kept.{table_fields, table_few}
 use Rattle.ice_versions.specs.Bases.{table_specs, specs_under}
 use Rattle.ice_versions.proofs.Writable.{IsSmall}
 
-bound_ids : (schema : Schema) (fields : List PartitionField) → map field_id (map (bound_field schema) fields) ≡ map field_id fields
+bound_ids : (schema : Schema) (fields : List PartitionField)
+    → map field_id (map (bound_field schema) fields) ≡ map field_id fields
 bound_ids schema [] = refl
 bound_ids schema (f ∷ fields) = ap (λ ids. f.field_id ∷ ids) (bound_ids schema fields)
 
@@ -26,7 +27,8 @@ bound_small schema spec small = record {
   different = rw bound_ids small.different;
 }
 
-all_bound : (schema : Schema) (specs : List Spec) → AllByRecursion IsSmall specs → AllByRecursion IsSmall (map (bound_spec schema) specs)
+all_bound : (schema : Schema) (specs : List Spec) → AllByRecursion IsSmall specs
+    → AllByRecursion IsSmall (map (bound_spec schema) specs)
 all_bound schema [] h = tt
 all_bound schema (s ∷ specs) h = (bound_small schema s h.0, all_bound schema specs h.1)
 
@@ -38,7 +40,8 @@ pub all_small : (t : Table) → AllByRecursion IsSmall t.specs → AllByRecursio
 unfolding table_specs
 all_small t h = all_under (schema_for Main t) t h
 
-small_each : (specs : List Spec) → AllByRecursion (λ (s : Spec). length s.fields ≤ 64) specs → AllByRecursion HasDifferentFields specs → AllByRecursion IsSmall specs
+small_each : (specs : List Spec) → AllByRecursion (λ (s : Spec). length s.fields ≤ 64) specs
+    → AllByRecursion HasDifferentFields specs → AllByRecursion IsSmall specs
 small_each [] h k = tt
 small_each (s ∷ specs) h k = (record { few = h.0; different = k.0 }, small_each specs h.1 k.1)
 

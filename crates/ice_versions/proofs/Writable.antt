@@ -1,5 +1,6 @@
 -- The groups of a change that isn't refused can be written.
-use Rattle.std.proofs.Common.{subst, inl, inr, ◌≡◌, ◌≤◌, ℕ, suc, ℤ, pos, negsuc, Bool, true, false, cond, not, ◌&&◌, ◌||◌, List, [], ◌∷◌, ◌++◌, length, map, filter, find, refl, sym, ap, ◌∙◌, arith}
+use Rattle.std.proofs.Common.{subst, inl, inr, ◌≡◌, ◌≤◌, ℕ, suc, ℤ, pos, negsuc, Bool, true, false, cond, not, ◌&&◌}
+use Rattle.std.proofs.Common.{◌||◌, List, [], ◌∷◌, ◌++◌, length, map, filter, find, refl, sym, ap, ◌∙◌, arith}
 use Rattle.std.specs.Prelude.{Option, None, Some, is_some, is_none, nat_lt, nat_le}
 use Rattle.std.specs.List.{AllByRecursion, dedup, dedup_from}
 use Rattle.std.specs.Ordering.{int_eq}
@@ -23,7 +24,8 @@ use Rattle.ice_manifest.specs.declared.heading.Heading.{Heading}
 use Rattle.ice_manifest.specs.declared.new_file.NewFile.{NewFile}
 use Rattle.ice_manifest_reading.specs.declared.row.ManifestContent.{ManifestContent}
 use Rattle.ice_manifest_reading.specs.declared.row.ManifestContent.TheVariants.{Data, Deletes}
-use Rattle.ice_manifest.specs.Adding.{is_partition_type, is_null_or_of, is_tuple_of, IsHeading, IsAmount, IsNewFile, AreNewFiles}
+use Rattle.ice_manifest.specs.Adding.{is_partition_type, is_null_or_of, is_tuple_of, IsHeading, IsAmount, IsNewFile}
+use Rattle.ice_manifest.specs.Adding.{AreNewFiles}
 use Rattle.ice_manifest_reading.specs.Laws.{MayHold}
 use Rattle.ice_project.specs.Fields.{field_of}
 use Rattle.ice_project.specs.Summaries.{type_of_values}
@@ -38,24 +40,29 @@ use Rattle.ice_versions.specs.Tuples.{allowed_of, allowed_of_type, allows, fit, 
 
 -- ---- lists
 
-pub all_map : {A B : Type 0} (P : B → Type 0) (f : A → B) (xs : List A) → AllByRecursion (λ x. P (f x)) xs → AllByRecursion P (map f xs)
+pub all_map : {A B : Type 0} (P : B → Type 0) (f : A → B) (xs : List A) → AllByRecursion (λ x. P (f x)) xs
+    → AllByRecursion P (map f xs)
 all_map P f [] h = tt
 all_map P f (x ∷ xs) h = (h.0, all_map P f xs h.1)
 
-pub all_weaker : {A : Type 0} (P Q : A → Type 0) (xs : List A) → ((x : A) → P x → Q x) → AllByRecursion P xs → AllByRecursion Q xs
+pub all_weaker : {A : Type 0} (P Q : A → Type 0) (xs : List A) → ((x : A) → P x → Q x) → AllByRecursion P xs
+    → AllByRecursion Q xs
 all_weaker P Q [] f h = tt
 all_weaker P Q (x ∷ xs) f h = (f x h.0, all_weaker P Q xs f h.1)
 
-pub all_append : {A : Type 0} (P : A → Type 0) (xs ys : List A) → AllByRecursion P xs → AllByRecursion P ys → AllByRecursion P (xs ++ ys)
+pub all_append : {A : Type 0} (P : A → Type 0) (xs ys : List A) → AllByRecursion P xs → AllByRecursion P ys
+    → AllByRecursion P (xs ++ ys)
 all_append P [] ys h k = k
 all_append P (x ∷ xs) ys h k = (h.0, all_append P xs ys h.1 k)
 
-pub all_split : {A : Type 0} (P : A → Type 0) (xs ys : List A) → AllByRecursion P (xs ++ ys) → AllByRecursion P xs × AllByRecursion P ys
+pub all_split : {A : Type 0} (P : A → Type 0) (xs ys : List A) → AllByRecursion P (xs ++ ys)
+    → AllByRecursion P xs × AllByRecursion P ys
 all_split P [] ys h = (tt, h)
 all_split P (x ∷ xs) ys h = let k = all_split P xs ys h.1 in ((h.0, k.0), k.1)
 
 -- what passes a test keeps what all have, and passes
-pub all_filter : {A : Type 0} (P : A → Type 0) (test : A → Bool) (xs : List A) → AllByRecursion P xs → AllByRecursion (λ x. P x × (test x ≡ true)) (filter test xs)
+pub all_filter : {A : Type 0} (P : A → Type 0) (test : A → Bool) (xs : List A) → AllByRecursion P xs
+    → AllByRecursion (λ x. P x × (test x ≡ true)) (filter test xs)
 all_filter P test [] h = tt
 all_filter {A = A} P test (x ∷ xs) h =
     let Q : A → Type 0 = λ x. P x × (test x ≡ true) in
@@ -74,24 +81,38 @@ length_filter test (x ∷ xs) =
       | false ↦ let h = length_filter test xs in omega arith
     ]
 
-pub all_put : {A : Type 0} (P : A → Type 0) (before : A → A → Bool) (x : A) (ys : List A) → P x → AllByRecursion P ys → AllByRecursion P (put before x ys)
+pub all_put : {A : Type 0} (P : A → Type 0) (before : A → A → Bool) (x : A) (ys : List A) → P x → AllByRecursion P ys
+    → AllByRecursion P (put before x ys)
 all_put P before x [] p h = (p, h)
-all_put P before x (y ∷ ys) p h = elim (before y x) as (λ b. AllByRecursion P (cond b (y ∷ put before x ys) (x ∷ y ∷ ys))) [ true ↦ (h.0, all_put P before x ys p h.1) | false ↦ (p, h) ]
+all_put P before x (y ∷ ys) p h = elim (before y x) as (λ b. AllByRecursion P (cond b (y ∷ put before x ys)
+    (x ∷ y ∷ ys))) [ true ↦ (h.0, all_put P before x ys p h.1) | false ↦ (p, h) ]
 
-pub all_sorted : {A : Type 0} (P : A → Type 0) (before : A → A → Bool) (xs : List A) → AllByRecursion P xs → AllByRecursion P (sorted before xs)
+pub all_sorted : {A : Type 0} (P : A → Type 0) (before : A → A → Bool) (xs : List A) → AllByRecursion P xs
+    → AllByRecursion P (sorted before xs)
 all_sorted P before [] h = h
 all_sorted P before (x ∷ xs) h = all_put P before x (sorted before xs) h.0 (all_sorted P before xs h.1)
 
-all_dedup_from : {A : Type 0} (P : A → Type 0) (same : A → A → Bool) (k : A) (xs : List A) → P k → AllByRecursion P xs → AllByRecursion P (dedup_from same k xs)
+all_dedup_from : {A : Type 0} (P : A → Type 0) (same : A → A → Bool) (k : A) (xs : List A) → P k → AllByRecursion P xs
+    → AllByRecursion P (dedup_from same k xs)
 all_dedup_from P same k [] p h = (p, h)
-all_dedup_from P same k (x ∷ xs) p h = elim (same x k) as (λ b. AllByRecursion P (cond b (dedup_from same k xs) (k ∷ dedup_from same x xs))) [ true ↦ all_dedup_from P same k xs p h.1 | false ↦ (p, all_dedup_from P same x xs h.0 h.1) ]
+all_dedup_from P same k (x ∷ xs) p h = elim (same x k) as (λ b. AllByRecursion P (cond b (dedup_from same k xs)
+    (k ∷ dedup_from same x xs))) [
+      | true ↦ all_dedup_from P same k xs p h.1
+      | false ↦ (
+        p,
+        all_dedup_from P same x xs h.0
+            h.1,
+      )
+    ]
 
-pub all_dedup : {A : Type 0} (P : A → Type 0) (same : A → A → Bool) (xs : List A) → AllByRecursion P xs → AllByRecursion P (dedup same xs)
+pub all_dedup : {A : Type 0} (P : A → Type 0) (same : A → A → Bool) (xs : List A) → AllByRecursion P xs
+    → AllByRecursion P (dedup same xs)
 all_dedup P same [] h = h
 all_dedup P same (x ∷ xs) h = all_dedup_from P same x xs h.0 h.1
 
 -- what is found has what all have
-pub found_has : {A : Type 0} (P : A → Type 0) (test : A → Bool) (xs : List A) (x : A) → AllByRecursion P xs → find test xs ≡ Some x → P x
+pub found_has : {A : Type 0} (P : A → Type 0) (test : A → Bool) (xs : List A) (x : A) → AllByRecursion P xs
+    → find test xs ≡ Some x → P x
 found_has P test [] x h e = absurd cc
 found_has {A = A} P test (y ∷ xs) x h e =
     let R : (b : Bool) → cond b (Some y) (find test xs) ≡ Some x → P x =
@@ -179,20 +200,23 @@ cell_fits (Value t) (cells.Text s) w h = value_of t (cells.Text s) w h
 cell_fits (Value t) (cells.Bytes bs) w h = value_of t (cells.Bytes bs) w h
 cell_fits Nothing c w h = absurd cc
 
-tuple_fits : (allowed : List Allowed) (cs : List Cell) → AllByRecursion IsWritable allowed → fit allowed cs ≡ true → is_tuple_of (map written_type allowed) cs ≡ true
+tuple_fits : (allowed : List Allowed) (cs : List Cell) → AllByRecursion IsWritable allowed → fit allowed cs ≡ true
+    → is_tuple_of (map written_type allowed) cs ≡ true
 tuple_fits [] [] w h = refl
 tuple_fits [] (c ∷ cs) w h = absurd cc
 tuple_fits (a ∷ allowed) [] w h = absurd cc
 tuple_fits (a ∷ allowed) (c ∷ cs) w h =
     let parts = and_parts (allows a c) (fit allowed cs) h in
-    both_true (is_null_or_of (written_type a) c) (is_tuple_of (map written_type allowed) cs) (cell_fits a c w.0 parts.0) (tuple_fits allowed cs w.1 parts.1)
+    both_true (is_null_or_of (written_type a) c) (is_tuple_of (map written_type allowed) cs) (cell_fits a c w.0 parts.0)
+    (tuple_fits allowed cs w.1 parts.1)
 
 pub all_here : {A : Type 0} (P : A → Type 0) (xs : List A) → ((x : A) → P x) → AllByRecursion P xs
 all_here P [] f = tt
 all_here P (x ∷ xs) f = (f x, all_here P xs f)
 
 writable_fields : (spec : Spec) → AllByRecursion IsWritable (map allowed_of spec.fields)
-writable_fields spec = all_map IsWritable allowed_of spec.fields (all_here (λ f. IsWritable (allowed_of f)) spec.fields writable)
+writable_fields spec = all_map IsWritable allowed_of spec.fields (all_here (λ f. IsWritable (allowed_of f)) spec.fields
+    writable)
 
 -- ---- specs
 
@@ -221,19 +245,23 @@ heading_over m ids content spec = record {
   sync = ids.uuid;
 }
 
-heading_small : (m : Described) (ids : Ids) (content : ManifestContent) (spec : Spec) → IsSmall spec → IsHeading (heading_over m ids content spec)
+heading_small : (m : Described) (ids : Ids) (content : ManifestContent) (spec : Spec) → IsSmall spec
+    → IsHeading (heading_over m ids content spec)
 heading_small m ids content spec small = record {
   few = small.few;
   different = small.different;
   typed = length-map (map allowed_of spec.fields) written_type ∙ length-map spec.fields allowed_of;
-  written = all_map (λ t. is_partition_type t ≡ true) written_type (map allowed_of spec.fields) (all_weaker IsWritable (λ a. is_partition_type (written_type a) ≡ true) (map allowed_of spec.fields) written (writable_fields spec));
+  written = all_map (λ t. is_partition_type t ≡ true) written_type (map allowed_of spec.fields)
+      (all_weaker IsWritable (λ a. is_partition_type (written_type a) ≡ true) (map allowed_of spec.fields) written
+      (writable_fields spec));
 }
 
 -- a file of the change is in its ranges and fits its spec
 abbrev pub IsRight : List Spec → ManifestContent → NewFile → Type 0
 IsRight specs content f = (is_bad content f ≡ false) × (is_wrong specs f ≡ false)
 
-new_file : (m : Described) (ids : Ids) (content : ManifestContent) (specs : List Spec) (id : ℤ) (spec : Spec) → spec_in specs id ≡ Some spec
+new_file : (m : Described) (ids : Ids) (content : ManifestContent) (specs : List Spec) (id : ℤ) (spec : Spec)
+    → spec_in specs id ≡ Some spec
     → (f : NewFile) → IsRight specs content f × (is_of_spec id f ≡ true) → IsNewFile (heading_over m ids content spec) f
 new_file m ids content specs id spec is f h =
     let good = and_parts (is_count f.record_count) _ (not_true (is_good content f) h.0.0) in
@@ -242,7 +270,8 @@ new_file m ids content specs id spec is f h =
     let rest = and_parts (is_for content f.content) (are_ids f.content (length f.equality_ids)) path.1 in
     let same : f.spec_id ≡ id = (Decides-int_eq f.spec_id id).0 h.1 in
     let found : spec_in specs f.spec_id ≡ Some spec = ap (spec_in specs) same ∙ is in
-    let fits : fits_spec (Some spec) f.tuple ≡ true = ap (λ o. fits_spec o f.tuple) (sym found) ∙ not_true (fits_spec (spec_in specs f.spec_id) f.tuple) h.0.1 in
+    let fits : fits_spec (Some spec) f.tuple ≡ true = ap (λ o. fits_spec o f.tuple) (sym found) ∙ not_true
+    (fits_spec (spec_in specs f.spec_id) f.tuple) h.0.1 in
     record {
       content = may_hold content f.content rest.0;
       path = le_from (length f.path) 65535 path.0;
@@ -251,7 +280,8 @@ new_file m ids content specs id spec is f h =
       equality_ids = few_ids f.content (length f.equality_ids) rest.1;
     }
 
-pub all_both : {A : Type 0} (P Q : A → Type 0) (xs : List A) → AllByRecursion P xs → AllByRecursion Q xs → AllByRecursion (λ x. P x × Q x) xs
+pub all_both : {A : Type 0} (P Q : A → Type 0) (xs : List A) → AllByRecursion P xs → AllByRecursion Q xs
+    → AllByRecursion (λ x. P x × Q x) xs
 all_both P Q [] h k = tt
 all_both P Q (x ∷ xs) h k = ((h.0, k.0), all_both P Q xs h.1 k.1)
 
@@ -270,17 +300,21 @@ module _ (m : Described) (ids : Ids) (content : ManifestContent) (files : List N
       let of_spec = filter (is_of_spec id) files in
       let H : Spec → Type 0 = λ s. IsHeading (heading_over m ids content s) in
       let F : Spec → Type 0 = λ s. AreNewFiles (heading_over m ids content s) of_spec in
-      let each = all_weaker (λ f. IsRight specs content f × (is_of_spec id f ≡ true)) (IsNewFile (heading_over m ids content spec)) of_spec (new_file m ids content specs id spec found.1) (all_filter (IsRight specs content) (is_of_spec id) files right) in
+      let each = all_weaker (λ f. IsRight specs content f × (is_of_spec id f ≡ true))
+      (IsNewFile (heading_over m ids content spec)) of_spec (new_file m ids content specs id spec found.1)
+      (all_filter (IsRight specs content) (is_of_spec id) files right) in
       let fewer = length_filter (is_of_spec id) files in
       record {
         known = is_there (spec_in specs id) spec found.1;
-        heading = subst H (sym same) (heading_small m ids content spec (found_has IsSmall (λ (s : Spec). int_eq s.id id) specs spec small found.1));
+        heading = subst H (sym same) (heading_small m ids content spec (found_has IsSmall (λ (s : Spec). int_eq s.id id)
+            specs spec small found.1));
         files = subst F (sym same) (record { each = each; few = omega arith });
       }
 
   pub all_groups : AllByRecursion (CanWrite m ids) (groups_of content files)
   all_groups =
       all_map (CanWrite m ids) (group_of content files) (spec_ids files)
-      (all_weaker (λ id. is_unknown (table_specs m.table) id ≡ false) (λ id. CanWrite m ids (group_of content files id)) (spec_ids files) one_group
+      (all_weaker (λ id. is_unknown (table_specs m.table) id ≡ false) (λ id. CanWrite m ids (group_of content files id))
+      (spec_ids files) one_group
       (all_dedup (λ id. is_unknown (table_specs m.table) id ≡ false) int_eq (sorted id_before (map spec_id_of files))
       (all_sorted (λ id. is_unknown (table_specs m.table) id ≡ false) id_before (map spec_id_of files) known)))

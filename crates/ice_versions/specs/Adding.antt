@@ -154,4 +154,7 @@ snapshot_of t c = record {
 
 -- the next metadata, and the world with the files that are added
 unfoldable pub next : State → Commit → State
-next s c = record { metadata = next_metadata s.metadata (snapshot_of s.metadata.table c); world = with_files s.world (added s c) }
+next s c = record {
+  metadata = next_metadata s.metadata (snapshot_of s.metadata.table c);
+  world = with_files s.world (added s c);
+}

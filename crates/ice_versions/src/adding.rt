@@ -66,34 +66,42 @@ fn group_spec(alloc: Global, metadata: &Metadata, id: i32) -> Result<Spec, Alloc
     }
 }
 
+/// What the manifests of a commit are made of, beside their files: the table, what its partition values may be, the
+/// text of its schema, and the names that the commit takes.
+#[derive(Clone, Copy)]
+struct Common<'a> {
+    metadata: &'a Metadata,
+    partitionings: &'a [Partitioning<'a>],
+    schema: &'a Text,
+    ids: &'a Ids,
+}
+
 /// What the entries of a manifest have in common.
 fn heading_with(
     alloc: Global,
-    metadata: &Metadata,
-    schema: &Text,
-    ids: &Ids,
+    common: &Common<'_>,
     content: ManifestContent,
     spec: Spec,
     types: Items<ColumnType>,
 ) -> Result<Heading, AllocError>
     ensures { IfOk result (λ heading. heading ≡ record {
-      schema = schema.now;
-      schema_id = metadata.now.table.current_schema_id;
+      schema = common.now.schema.now;
+      schema_id = common.now.metadata.now.table.current_schema_id;
       spec = spec;
       types = types;
       content = content;
-      snapshot_id = ids.now.snapshot;
-      sync = ids.now.uuid;
+      snapshot_id = common.now.ids.now.snapshot;
+      sync = common.now.ids.now.uuid;
     }) }
 {
     Ok(Heading {
-        schema: schema.copy(alloc)?,
-        schema_id: metadata.table().current_schema_id,
+        schema: common.schema.copy(alloc)?,
+        schema_id: common.metadata.table().current_schema_id,
         spec,
         types,
         content,
-        snapshot_id: ids.snapshot,
-        sync: *ids.uuid.as_bytes(),
+        snapshot_id: common.ids.snapshot,
+        sync: *common.ids.uuid.as_bytes(),
     })
 }
 
@@ -106,23 +114,18 @@ fn current_schema_text(alloc: Global, metadata: &Metadata) -> Result<Text, Alloc
 }
 
 /// What the entries of a group's manifest have in common. The group's spec is there.
-fn heading_of(
-    alloc: Global,
-    metadata: &Metadata,
-    partitionings: &[Partitioning],
-    schema: &Text,
-    ids: &Ids,
-    group: &Group,
-) -> Result<Heading, AllocError>
-    requires specs { specs_of partitionings.now ≡ table_specs metadata.now.table }
-    requires known { is_some (spec_in (table_specs metadata.now.table) group.now.spec_id) ≡ true }
-    requires schema { schema.now ≡ schema_text (described metadata.now.json metadata.now.table) }
-    ensures { IfOk result (λ heading.
-        heading ≡ heading_of (described metadata.now.json metadata.now.table) ids.now (seen group.now)) }
+fn heading_of(alloc: Global, common: &Common<'_>, group: &Group) -> Result<Heading, AllocError>
+    requires specs { specs_of common.now.partitionings.now ≡ table_specs common.now.metadata.now.table }
+    requires known { is_some (spec_in (table_specs common.now.metadata.now.table) group.now.spec_id) ≡ true }
+    requires schema { common.now.schema.now ≡
+        schema_text (described common.now.metadata.now.json common.now.metadata.now.table) }
+    ensures { IfOk result (λ heading. heading ≡
+        heading_of (described common.now.metadata.now.json common.now.metadata.now.table) common.now.ids.now
+        (seen group.now)) }
 {
-    let spec = group_spec(alloc, metadata, group.spec_id)?;
-    let types = group_types(alloc, partitionings, group.spec_id)?;
-    heading_with(alloc, metadata, schema, ids, group.content, spec, types)
+    let spec = group_spec(alloc, common.metadata, group.spec_id)?;
+    let types = group_types(alloc, common.partitionings, group.spec_id)?;
+    heading_with(alloc, common, group.content, spec, types)
 }
 
 /// The rows of the next list, and the files that are added so far.
@@ -165,27 +168,29 @@ fn add_manifest(
 /// Adds the manifest of a group, which has this number.
 fn add_group(
     alloc: Global,
-    metadata: &Metadata,
-    partitionings: &[Partitioning],
-    schema: &Text,
-    ids: &Ids,
+    common: &Common<'_>,
     number: usize,
     group: &Group,
     sequence: SequenceNumber,
     additions: &mut Additions,
 ) -> Result<(), AllocError>
-    requires specs { specs_of partitionings.now ≡ table_specs metadata.now.table }
-    requires schema { schema.now ≡ schema_text (described metadata.now.json metadata.now.table) }
-    requires writable { CanWrite (described metadata.now.json metadata.now.table) ids.now (seen group.now) }
+    requires specs { specs_of common.now.partitionings.now ≡ table_specs common.now.metadata.now.table }
+    requires schema { common.now.schema.now ≡
+        schema_text (described common.now.metadata.now.json common.now.metadata.now.table) }
+    requires writable { CanWrite (described common.now.metadata.now.json common.now.metadata.now.table)
+        common.now.ids.now (seen group.now) }
     ensures rows { OnOk result (additions.new.rows.items ≡ additions.old.rows.items ++ row_of sequence
-        (manifest_of (described metadata.now.json metadata.now.table) ids.now number (seen group.now)) ∷ []) }
+        (manifest_of (described common.now.metadata.now.json common.now.metadata.now.table) common.now.ids.now number
+        (seen group.now)) ∷ []) }
     ensures files { OnOk result (additions.new.files.items ≡ additions.old.files.items ++ file_of
-        (manifest_of (described metadata.now.json metadata.now.table) ids.now number (seen group.now)) ∷ []) }
+        (manifest_of (described common.now.metadata.now.json common.now.metadata.now.table) common.now.ids.now number
+        (seen group.now)) ∷ []) }
     ensures read { OnOk result (IsReadBack
-        (manifest_of (described metadata.now.json metadata.now.table) ids.now number (seen group.now))) }
+        (manifest_of (described common.now.metadata.now.json common.now.metadata.now.table) common.now.ids.now number
+        (seen group.now))) }
 {
-    let heading = heading_of(alloc, metadata, partitionings, schema, ids, group)?;
-    let path = manifest_path(alloc, metadata.table(), ids, number)?;
+    let heading = heading_of(alloc, common, group)?;
+    let path = manifest_path(alloc, common.metadata.table(), common.ids, number)?;
     add_manifest(alloc, additions, &heading, path, sequence, &group.files)
 }
 
@@ -223,18 +228,14 @@ fn add_manifests(
 {
     let schema = current_schema_text(alloc, metadata)?;
     let sequence = next_sequence(metadata.table());
+    let common = Common {
+        metadata,
+        partitionings,
+        schema: &schema,
+        ids,
+    };
     'groups: for number in 0..groups.len() {
-        add_group(
-            alloc,
-            metadata,
-            partitionings,
-            &schema,
-            ids,
-            number,
-            &groups[number],
-            sequence,
-            additions,
-        )?;
+        add_group(alloc, &common, number, &groups[number], sequence, additions)?;
     }
     Ok(())
 }

@@ -21,7 +21,7 @@ use crate::refusals::lesser_path;
 use contract_words::{Items, Text};
 use ice_manifest::NewFile;
 use ice_meta::{PartitionField, Spec};
-use ice_transform::{Transform, texts_of_transforms};
+use ice_project::transform_named;
 use ice_value::{Cell, ColumnType};
 use std::alloc::{AllocError, Global};
 
@@ -45,14 +45,6 @@ fn is_partition_type(column_type: &ColumnType) -> bool
         ColumnType::Fixed(size) => *size < 0x8000_0000,
         _ => true,
     }
-}
-
-/// The transform that a partition field names.
-fn transform_named(alloc: Global, text: &str) -> Result<Transform, AllocError>
-    ensures { IfOk result (λ transform. transform ≡ transform_named text.now) }
-{
-    texts_of_transforms();
-    Transform::parse(alloc, text)
 }
 
 /// The type of the values of the transform of this name over a source type.

@@ -11,11 +11,16 @@ returns-in_err-rest c =
     let p = err_from_is_err_and c.from_residual-in_err-rest.result c.from_residual-in_err-rest.ensures.1 in
     let entered = rw c.in-Some.is at c.in_ok-here.ensures in
     let here = file_position_of c.in-Some.here in
-    rw (p.1, p.2) (λ total. entered.1 (tree c.args.schema.now) total ∙ object_stops (tree c.args.schema.now) c.args.sync.now total here c.in_err-rest.field-0.0 entered.0 (behind_err _ _ c.in_err-rest.ensures))
+    rw (p.1, p.2) (λ total. entered.1 (tree c.args.schema.now) total ∙ object_stops (tree c.args.schema.now)
+    c.args.sync.now total here c.in_err-rest.field-0.0 entered.0 (behind_err _ _ c.in_err-rest.ensures))
 
 pub returns : goal.returns
 returns c =
     let entered = rw c.in-Some.is at c.in_ok-here.ensures in
     let here = file_position_of c.in-Some.here in
-    let v = behind_ok _ _ c.in_ok-rest.ensures in
-    (v.0, (c.in_ok-rest.rest.now, v.1), λ total. entered.1 (tree c.args.schema.now) total ∙ object_comes (tree c.args.schema.now) c.args.sync.now total here v.0 c.in_ok-rest.rest.now entered.0 v.1)
+    let v = behind_ok _ _ c.in_ok-rest.ensures in (
+      v.0,
+      (c.in_ok-rest.rest.now, v.1),
+      λ total. entered.1 (tree c.args.schema.now) total ∙ object_comes
+          (tree c.args.schema.now) c.args.sync.now total here v.0 c.in_ok-rest.rest.now entered.0 v.1,
+    )

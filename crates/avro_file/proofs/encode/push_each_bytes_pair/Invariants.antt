@@ -5,4 +5,5 @@ use Rattle.avro_file.specs.Writing.{all_written}
 use Rattle.avro_file.proofs.encode.push_each_bytes_pair.Given as goal
 
 abbrev pub invariant-pairs : goal.invariant-pairs
-invariant-pairs l = l.bytes.items ++ all_written (values_of (bytes_pairs (drop l.pair-index l.pairs))) ≡ l.initial.bytes.items ++ all_written (values_of (bytes_pairs l.pairs))
+invariant-pairs l = l.bytes.items ++ all_written (values_of (bytes_pairs (drop l.pair-index l.pairs)))
+    ≡ l.initial.bytes.items ++ all_written (values_of (bytes_pairs l.pairs))

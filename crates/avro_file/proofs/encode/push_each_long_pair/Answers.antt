@@ -9,7 +9,9 @@ abbrev made : (ℤ × ℤ) → Value
 made p = pair_with p.0 (whole p.1)
 
 pub pairs-preserved : goal.pairs-preserved
-pairs-preserved c = copied_on made c.args.pairs.now c.pairs.pair-index _ c.pairs.bytes.items c.in_ok-bytes.bytes.items _ c.pairs-test.true c.in_ok-bytes.ensures c.pairs.invariant
+pairs-preserved c = copied_on made c.args.pairs.now c.pairs.pair-index _ c.pairs.bytes.items c.in_ok-bytes.bytes.items _
+    c.pairs-test.true c.in_ok-bytes.ensures c.pairs.invariant
 
 pub returns : goal.returns
-returns c = sym (append-nil c.pairs.bytes.items) ∙ ap (λ (s : List ℕ). c.pairs.bytes.items ++ s) (sym (made_over made c.args.pairs.now c.pairs.pair-index c.pairs-test.false)) ∙ c.pairs.invariant
+returns c = sym (append-nil c.pairs.bytes.items) ∙ ap (λ (s : List ℕ). c.pairs.bytes.items ++ s)
+    (sym (made_over made c.args.pairs.now c.pairs.pair-index c.pairs-test.false)) ∙ c.pairs.invariant

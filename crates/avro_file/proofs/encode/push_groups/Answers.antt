@@ -14,4 +14,5 @@ groups-preserved c =
 pub returns : goal.returns
 returns c =
     let i = c.groups.invariant in
-    c.in_ok-push-2.ensures.items ∙ ap (λ (s : List ℕ). c.groups.bytes.items ++ s) (sym (groups_end i.0 c.groups.rest (omega (arith, c.groups-test.false)))) ∙ i.2
+    c.in_ok-push-2.ensures.items ∙ ap (λ (s : List ℕ). c.groups.bytes.items ++ s)
+    (sym (groups_end i.0 c.groups.rest (omega (arith, c.groups-test.false)))) ∙ i.2

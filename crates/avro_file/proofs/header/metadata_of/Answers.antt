@@ -4,7 +4,8 @@ use Rattle.avro_file.specs.Place.{position_of}
 use Rattle.avro_file.specs.Where.{wanted_of}
 use Rattle.avro_file.specs.Header.{property_at, properties_at, none_wanted}
 use Rattle.avro_file.proofs.Loop.{blocks_done, count_fails, block_fails, blocks_on, shorter}
-use Rattle.avro_file.proofs.Properties.{no_items, property_takes, wanted_on, properties_read, properties_fail, metadata_fails, metadata_found, none_in_front, some_in_front}
+use Rattle.avro_file.proofs.Properties.{no_items, property_takes, wanted_on, properties_read, properties_fail}
+use Rattle.avro_file.proofs.Properties.{metadata_fails, metadata_found, none_in_front, some_in_front}
 use Rattle.avro_file.proofs.header.metadata_of.Goals as goal
 
 pub each_block-init : goal.each_block-init
@@ -15,18 +16,22 @@ pub returns-in_err-count : goal.returns-in_err-count
 returns-in_err-count c =
     let p = err_from_is_err_and c.from_residual.result c.from_residual.ensures.1 in
     let i = c.each_block.invariant in
-    rw (p.1, p.2) (metadata_fails c.in_err-count.field-0.0 c.args.bytes.now (count_fails c.in_err-count.field-0.0 property_at i.0 i.2 (position_of c.each_block.here) _ (omega (arith, i.3)) c.in_err-count.ensures i.4))
+    rw (p.1, p.2) (metadata_fails c.in_err-count.field-0.0 c.args.bytes.now (count_fails c.in_err-count.field-0.0
+    property_at i.0 i.2 (position_of c.each_block.here) _ (omega (arith, i.3)) c.in_err-count.ensures i.4))
 
 pub returns-then-count-eq0 : goal.returns-then-count-eq0
 returns-then-count-eq0 c =
     let i = c.each_block.invariant in
-    metadata_found c.args.bytes.now (wanted_of c.each_block.wanted) i.0 (position_of c.in_ok-count.after) (blocks_done property_at i.0 i.2 _ _ _ _ (omega (arith, i.3)) c.if-count-eq0.true c.in_ok-count.ensures i.4) i.1
+    metadata_found c.args.bytes.now (wanted_of c.each_block.wanted) i.0 (position_of c.in_ok-count.after)
+    (blocks_done property_at i.0 i.2 _ _ _ _ (omega (arith, i.3)) c.if-count-eq0.true c.in_ok-count.ensures i.4) i.1
 
 pub returns-in_err-more : goal.returns-in_err-more
 returns-in_err-more c =
     let p = err_from_is_err_and c.from_residual-in_err-more.result c.from_residual-in_err-more.ensures.1 in
     let i = c.each_block.invariant in
-    rw (p.1, p.2) (metadata_fails c.in_err-more.field-0.0 c.args.bytes.now (block_fails c.in_err-more.field-0.0 property_at i.0 i.2 _ _ _ _ (omega (arith, i.3)) c.if-count-eq0.false c.in_ok-count.ensures (none_in_front i.0 _ _ (properties_fail c.in_err-more.field-0.0 _ _ c.in_err-more.ensures)) i.4))
+    rw (p.1, p.2) (metadata_fails c.in_err-more.field-0.0 c.args.bytes.now (block_fails c.in_err-more.field-0.0
+    property_at i.0 i.2 _ _ _ _ (omega (arith, i.3)) c.if-count-eq0.false c.in_ok-count.ensures
+    (none_in_front i.0 _ _ (properties_fail c.in_err-more.field-0.0 _ _ c.in_err-more.ensures)) i.4))
 
 pub each_block-smaller : goal.each_block-smaller
 each_block-smaller c =
@@ -37,6 +42,14 @@ pub each_block-preserved : goal.each_block-preserved
 each_block-preserved c =
     let i = c.each_block.invariant in
     let more = properties_read _ _ _ _ c.in_ok-more.ensures in
-    let on = blocks_on property_at i.0 i.2 _ _ _ _ _ _ (omega (arith, i.3)) c.if-count-eq0.false c.in_ok-count.ensures (some_in_front i.0 _ _ _ more.1) i.4 in
-    let less = shorter property_at _ no_items property_takes [] _ _ _ _ _ c.in_ok-count.ensures (some_in_front [] _ _ _ more.1) in
-    (i.0 ++ more.0, wanted_on none_wanted (wanted_of c.each_block.wanted) _ i.0 more.0 i.1 more.2, on.fewer, omega (arith, i.3, less, on.one_less), on.so_far)
+    let on = blocks_on property_at i.0 i.2 _ _ _ _ _ _ (omega (arith, i.3)) c.if-count-eq0.false c.in_ok-count.ensures
+    (some_in_front i.0 _ _ _ more.1) i.4 in
+    let less = shorter property_at _ no_items property_takes [] _ _ _ _ _ c.in_ok-count.ensures
+    (some_in_front [] _ _ _ more.1) in (
+      i.0 ++ more.0,
+      wanted_on none_wanted (wanted_of c.each_block.wanted) _ i.0 more.0 i.1 more.2,
+      on.fewer,
+      omega
+          (arith, i.3, less, on.one_less),
+      on.so_far,
+    )

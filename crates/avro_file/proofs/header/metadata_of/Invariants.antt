@@ -8,7 +8,8 @@ use Rattle.avro_file.proofs.header.metadata_of.Given as goal
 -- the properties that were read, and enough turns are left
 abbrev pub invariant-each_block : goal.invariant-each_block
 invariant-each_block l =
-    (front : List Property) × (wanted_of l.wanted ≡ wanted_with none_wanted front) × (turns : ℕ) × (length l.here.bytes.now < turns)
+    (front : List Property) × (wanted_of l.wanted ≡ wanted_with none_wanted front) × (turns : ℕ) ×
+    (length l.here.bytes.now < turns)
     × (with_front front (blocks_at property_at turns (position_of l.here)) ≡ with_front [] (properties_at l.bytes))
 
 abbrev pub decreases-each_block : goal.decreases-each_block

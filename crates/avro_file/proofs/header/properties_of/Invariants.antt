@@ -9,4 +9,5 @@ use Rattle.avro_file.proofs.header.properties_of.Given as goal
 abbrev pub invariant-properties : goal.invariant-properties
 invariant-properties l =
     (front : List Property) × (wanted_of l.so_far ≡ wanted_with (wanted_of l.fn.wanted) front)
-    × (with_front front (values_at property_at (l.count - l.counter) (position_of l.here)) ≡ with_front [] (values_at property_at l.count (position_of l.fn.place)))
+    × (with_front front (values_at property_at (l.count - l.counter) (position_of l.here)) ≡ with_front []
+    (values_at property_at l.count (position_of l.fn.place)))

@@ -10,4 +10,8 @@ returns-in_default c = rw (c.in_ok-run.ensures, is_utf8-from_not c.in_ok-run.run
 
 pub returns : goal.returns
 unfolding string_at
-returns c = rw (c.in_ok-run.ensures, is_utf8-from_IsUtf8 c.in_ok-run.run'.now c.in-Ok.ensures.cases.1, c.in-Ok.ensures.cases.0) refl
+returns c = rw (
+  c.in_ok-run.ensures,
+  is_utf8-from_IsUtf8 c.in_ok-run.run'.now c.in-Ok.ensures.cases.1,
+  c.in-Ok.ensures.cases.0,
+) refl

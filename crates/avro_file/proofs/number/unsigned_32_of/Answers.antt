@@ -9,7 +9,8 @@ returns-in_err-value c =
     rw (p.1, p.2) (narrow_fails c.in_err-value.field-0.0 c.args.bytes.now c.in_err-value.ensures)
 
 pub returns-then-value-from : goal.returns-then-value-from
-returns-then-value-from c = narrow_large c.args.bytes.now c.in_ok-value.value c.in_ok-value.rest.now c.in_ok-value.ensures (omega arith)
+returns-then-value-from c = narrow_large c.args.bytes.now c.in_ok-value.value c.in_ok-value.rest.now
+    c.in_ok-value.ensures (omega arith)
 
 pub returns : goal.returns
 returns c = narrow_found c.args.bytes.now c.in_ok-value.value c.in_ok-value.rest.now c.in_ok-value.ensures (omega arith)

@@ -11,7 +11,8 @@ use Rattle.avro_file.proofs.pairs.bytes_pairs_of.Given as goal
 abbrev pub invariant-each_block : goal.invariant-each_block
 invariant-each_block l =
     (turns : ℕ) × (length l.here.bytes.now < turns)
-    × (with_front (bytes_pairs l.pairs.items) (blocks_at (datum_at (pair (octets Plain))) turns (position_of l.here)) ≡ blocks_at (datum_at (pair (octets Plain))) (suc (length l.fn.place.bytes.now)) (position_of l.fn.place))
+    × (with_front (bytes_pairs l.pairs.items) (blocks_at (datum_at (pair (octets Plain))) turns (position_of l.here))
+    ≡ blocks_at (datum_at (pair (octets Plain))) (suc (length l.fn.place.bytes.now)) (position_of l.fn.place))
 
 abbrev pub decreases-each_block : goal.decreases-each_block
 decreases-each_block l = length l.here.bytes.now

@@ -9,5 +9,7 @@ use Rattle.avro_file.proofs.pairs.some_bytes_pairs_of.Given as goal
 
 abbrev pub invariant-items : goal.invariant-items
 invariant-items l =
-    with_front (bytes_pairs l.pairs.items) (values_at (datum_at (pair (octets Plain))) (l.count - l.counter) (position_of l.here))
-    ≡ with_front (bytes_pairs l.fn.pairs.items) (values_at (datum_at (pair (octets Plain))) l.count (position_of l.fn.place))
+    with_front (bytes_pairs l.pairs.items) (values_at (datum_at (pair (octets Plain))) (l.count - l.counter)
+    (position_of l.here))
+    ≡ with_front (bytes_pairs l.fn.pairs.items) (values_at (datum_at (pair (octets Plain))) l.count
+    (position_of l.fn.place))

@@ -16,11 +16,18 @@ items-preserved c =
       z.1,
       λ left.
           let front = i.1 left in
-          let v = bytes_pair_ends c.args.bytes.now c.items.here c.in_ok-value.value c.in_ok-here.here left k z in
-          (front.0 ++ v.0 ∷ [], values_on (datum_at (pair (octets Plain))) front.0 c.args.count c.items.counter _ v.0 _ _ c.items-test.true v.1 front.1),
+          let v = bytes_pair_ends c.args.bytes.now c.items.here c.in_ok-value.value c.in_ok-here.here left k z in (
+            front.0 ++ v.0 ∷ [],
+            values_on (datum_at (pair (octets Plain))) front.0 c.args.count c.items.counter _ v.0 _
+                _ c.items-test.true v.1 front.1,
+          ),
     )
 
 pub returns : goal.returns
 returns c =
     let i = c.items.invariant in
-    λ left. let front = i.1 left in (i.0, behind_all front.0 _ _ (values_done (datum_at (pair (octets Plain))) front.0 c.args.count c.items.counter _ _ c.items-test.false front.1))
+    λ left. let front = i.1 left in (
+      i.0,
+      behind_all front.0 _ _ (values_done (datum_at (pair (octets Plain))) front.0
+          c.args.count c.items.counter _ _ c.items-test.false front.1),
+    )

@@ -11,4 +11,6 @@ use Rattle.avro_file.proofs.quick.bytes_pairs_end.Given as goal
 abbrev pub invariant-items : goal.invariant-items
 invariant-items l =
     (l.here ≤ length l.bytes)
-    × ((left : ℕ) → (front : List Value) × (with_front front (values_at (datum_at (pair (octets Plain))) (l.count - l.counter) (standing l.bytes l.here left)) ≡ with_front [] (values_at (datum_at (pair (octets Plain))) l.count (standing l.bytes l.at left))))
+    × ((left : ℕ) → (front : List Value) × (with_front front (values_at (datum_at (pair (octets Plain)))
+    (l.count - l.counter) (standing l.bytes l.here left)) ≡ with_front []
+    (values_at (datum_at (pair (octets Plain))) l.count (standing l.bytes l.at left))))

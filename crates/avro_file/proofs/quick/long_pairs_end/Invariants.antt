@@ -10,4 +10,6 @@ use Rattle.avro_file.proofs.quick.long_pairs_end.Given as goal
 abbrev pub invariant-items : goal.invariant-items
 invariant-items l =
     (l.here ≤ length l.bytes)
-    × ((left : ℕ) → (front : List Value) × (with_front front (values_at (datum_at (pair long)) (l.count - l.counter) (standing l.bytes l.here left)) ≡ with_front [] (values_at (datum_at (pair long)) l.count (standing l.bytes l.at left))))
+    × ((left : ℕ) → (front : List Value) × (with_front front (values_at (datum_at (pair long)) (l.count - l.counter)
+    (standing l.bytes l.here left)) ≡ with_front [] (values_at (datum_at (pair long)) l.count
+    (standing l.bytes l.at left))))

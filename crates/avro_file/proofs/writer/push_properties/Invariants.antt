@@ -4,4 +4,5 @@ use Rattle.avro_file.specs.Property.{shown_properties}
 use Rattle.avro_file.proofs.writer.push_properties.Given as goal
 
 abbrev pub invariant-properties : goal.invariant-properties
-invariant-properties l = l.bytes.items ++ properties_written (shown_properties (drop l.property-index l.properties)) ≡ l.initial.bytes.items ++ properties_written (shown_properties l.properties)
+invariant-properties l = l.bytes.items ++ properties_written (shown_properties (drop l.property-index l.properties))
+    ≡ l.initial.bytes.items ++ properties_written (shown_properties l.properties)

@@ -7,4 +7,5 @@ use Rattle.avro_schema.proofs.full_name.order_from.Given as goal
 abbrev pub invariant-bytes : goal.invariant-bytes
 invariant-bytes l =
     (l.index ≤ l.both)
-    × (slice_cmp nat_cmp (drop l.index (joined l.left)) (drop l.index (joined l.right)) ≡ slice_cmp nat_cmp (drop l.start (joined l.left)) (drop l.start (joined l.right)))
+    × (slice_cmp nat_cmp (drop l.index (joined l.left)) (drop l.index (joined l.right)) ≡ slice_cmp nat_cmp
+    (drop l.start (joined l.left)) (drop l.start (joined l.right)))

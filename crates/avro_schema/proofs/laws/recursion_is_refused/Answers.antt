@@ -10,4 +10,5 @@ pub returns-clause-refused : goal.returns-clause-refused
 returns-clause-refused c = λ text d t is r h. IfOk-at_ok (λ _. ⊥) h (schema_refuses_recursion text d is r)
 
 pub returns-clause-nothing_else : goal.returns-clause-nothing_else
-returns-clause-nothing_else c = λ text d is h. IfErr-at_err (λ e. e ≡ Recursive → HasRecursion [] d) h (schema_finds text d is) refl
+returns-clause-nothing_else c = λ text d is h. IfErr-at_err (λ e. e ≡ Recursive → HasRecursion [] d) h
+    (schema_finds text d is) refl

@@ -10,4 +10,5 @@ pub returns-clause-only : goal.returns-clause-only
 returns-clause-only c = λ text d names t u is of stands ok. schema_only text d names t u is of stands ok
 
 pub returns-clause-accepted : goal.returns-clause-accepted
-returns-clause-accepted c = λ text d names t is of stands many deep unknown recursion name id. schema_accepts text d names t is of stands many deep unknown recursion name id
+returns-clause-accepted c = λ text d names t is of stands many deep unknown recursion name id. schema_accepts text d
+    names t is of stands many deep unknown recursion name id

@@ -4,4 +4,5 @@ use Rattle.avro_schema.specs.Met.{entries}
 use Rattle.avro_schema.proofs.names.set.Goals as goal
 
 pub returns : goal.returns
-returns c = with_names_is c.args.seen.left (sym (ap entries c.in_ok-insert.ensures.entries ∙ entries-insert_entry c.args.seen.names.entries c.args.name c.args.schema))
+returns c = with_names_is c.args.seen.left (sym (ap entries c.in_ok-insert.ensures.entries ∙ entries-insert_entry
+    c.args.seen.names.entries c.args.name c.args.schema))

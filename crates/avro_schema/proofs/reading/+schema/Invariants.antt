@@ -8,12 +8,14 @@ use Rattle.avro_schema.proofs.reading.+schema.Given as goal
 
 abbrev pub invariant-branches_of-branches : goal.invariant-branches_of-branches
 invariant-branches_of-branches l =
-    branches_at (tree_at l.most Branch l.space) (trees l.branches.items) (items_view (drop l.item-index l.item-items)) (met l.now)
+    branches_at (tree_at l.most Branch l.space) (trees l.branches.items) (items_view (drop l.item-index l.item-items))
+    (met l.now)
     ≡ branches_at (tree_at l.most Branch l.space) [] (items_view l.item-items) (met l.fn.seen)
 
 abbrev pub invariant-fields_of-fields : goal.invariant-fields_of-fields
 invariant-fields_of-fields l =
-    fields_at (tree_at l.most Elsewhere l.space) (parts l.fields.items) (items_view (drop l.item-index l.item-items)) (met l.now)
+    fields_at (tree_at l.most Elsewhere l.space) (parts l.fields.items) (items_view (drop l.item-index l.item-items))
+    (met l.now)
     ≡ fields_at (tree_at l.most Elsewhere l.space) [] (items_view l.item-items) (met l.fn.seen)
 
 -- the levels, and then how far a call is from the next level

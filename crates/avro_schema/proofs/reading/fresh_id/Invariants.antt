@@ -5,4 +5,5 @@ use Rattle.avro_schema.specs.Reading.{has_id}
 use Rattle.avro_schema.proofs.reading.fresh_id.Given as goal
 
 abbrev pub invariant-fields : goal.invariant-fields
-invariant-fields l = list_any (has_id l.wanted) (parts (drop l.field-index l.field-items)) ≡ list_any (has_id l.wanted) (parts l.field-items)
+invariant-fields l = list_any (has_id l.wanted) (parts (drop l.field-index l.field-items)) ≡ list_any (has_id l.wanted)
+    (parts l.field-items)

@@ -10,8 +10,18 @@ returns-in_default c = λ _. rw (is_utf8-from_not c.args.text.now c.in_default.e
 
 pub returns-in-Ok-from_str : goal.returns-in-Ok-from_str
 unfolding json_of
-returns-in-Ok-from_str c = rw (is_utf8-from_IsUtf8 c.args.text.now c.in-Ok.ensures.cases.1, ← c.in-Ok.ensures.cases.0, c.in-Ok-from_str.ensures.ok) refl
+returns-in-Ok-from_str c = rw (
+  is_utf8-from_IsUtf8 c.args.text.now c.in-Ok.ensures.cases.1,
+  ← c.in-Ok.ensures.cases.0,
+  c.in-Ok-from_str.ensures.ok,
+) refl
 
 pub returns-in_default-classify : goal.returns-in_default-classify
 unfolding json_of
-returns-in_default-classify c = λ _. rw (is_utf8-from_IsUtf8 c.args.text.now c.in-Ok.ensures.cases.1, ← c.in-Ok.ensures.cases.0, c.in-Err.ensures.err (λ m. c.in_default-classify.not-Memory (c.classify.ensures.memory.1 m))) refl
+returns-in_default-classify c = λ _. rw (
+  is_utf8-from_IsUtf8 c.args.text.now c.in-Ok.ensures.cases.1,
+  ←
+      c.in-Ok.ensures.cases.0,
+  c.in-Err.ensures.err (λ m. c.in_default-classify.not-Memory (c.classify.ensures.memory.1
+      m)),
+) refl

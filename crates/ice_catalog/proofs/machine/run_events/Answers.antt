@@ -11,10 +11,13 @@ pub returns-clause-grown : goal.returns-clause-grown
 returns-clause-grown c = λ front rest parts.
     let first = started c.args.version.now in
     let newest : c.deref.result.now ≡ c.machine-2.inside.book = search rules in
-    let over = ap (machine_after c.events.machine) (drop_all c.events.happens-index c.args.events.now c.events-test.false) in
+    let over = ap (machine_after c.events.machine) (drop_all c.events.happens-index c.args.events.now
+    c.events-test.false) in
     let ended : c.events.machine ≡ machine_after first c.args.events.now = sym over ∙ c.events.invariant.ends in
-    let same : c.deref.result.now ≡ (machine_after first c.args.events.now).history = newest ∙ (ap (λ (m : Machine). m.history) c.machine-2.view_is ∙ ap (λ (m : Machine). m.history) ended) in
-    grown_midway first front rest (subst (λ es. IsGrown (machine_after first es).history) parts (subst IsGrown same c.grew.ensures.grown))
+    let same : c.deref.result.now ≡ (machine_after first c.args.events.now).history =
+    newest ∙ (ap (λ (m : Machine). m.history) c.machine-2.view_is ∙ ap (λ (m : Machine). m.history) ended) in
+    grown_midway first front rest (subst (λ es. IsGrown (machine_after first es).history) parts
+    (subst IsGrown same c.grew.ensures.grown))
 
 pub returns-clause-plans : goal.returns-clause-plans
 returns-clause-plans c = λ before between rest filter w state schema rows parts is began leaves reads took.
@@ -22,10 +25,14 @@ returns-clause-plans c = λ before between rest filter w state schema rows parts
     let m = machine_after first before in
     let front = before ++ on.Pin filter ∷ between in
     let finish = on.Finish (length m.pins) w in
-    let grown = returns-clause-grown c before (on.Pin filter ∷ between ++ finish ∷ rest) (is ∙ append_assoc before (on.Pin filter ∷ between) (finish ∷ rest)) in
-    let over = ap (λ es. c.events.replies.items ++ replies_to c.events.machine es) (drop_all c.events.happens-index c.args.events.now c.events-test.false) in
-    let told : c.events.replies.items ≡ replies_to first c.args.events.now = sym (append-nil c.events.replies.items) ∙ (sym over ∙ c.events.invariant.told) in
+    let grown = returns-clause-grown c before (on.Pin filter ∷ between ++ finish ∷ rest) (is ∙ append_assoc before
+    (on.Pin filter ∷ between) (finish ∷ rest)) in
+    let over = ap (λ es. c.events.replies.items ++ replies_to c.events.machine es) (drop_all c.events.happens-index
+    c.args.events.now c.events-test.false) in
+    let told : c.events.replies.items ≡ replies_to first c.args.events.now = sym (append-nil c.events.replies.items) ∙
+    (sym over ∙ c.events.invariant.told) in
     ap (λ rs. slice_get rs (length front)) (told ∙ ap (replies_to first) is)
     ∙ (reply_at first front rest finish
     ∙ (ap (λ (n : Machine). Some (event n finish).0) (machine_midway first before (on.Pin filter ∷ between))
-    ∙ ap Some (c.pinned_plans_of_commits.ensures m state filter schema rows parts between w grown began leaves reads took)))
+    ∙ ap Some (c.pinned_plans_of_commits.ensures m state filter schema rows parts between w grown began leaves reads
+    took)))

@@ -5,7 +5,9 @@ use Rattle.ice_catalog.proofs.machine_laws.pins_stand_apart.Goals as goal
 
 pub returns : goal.returns
 returns c = record {
-  replies = λ m filter events. stand_apart (pin m filter).1 (length m.pins) (pinned_on m.history filter) events (get_last m.pins (pinned_on m.history filter));
-  after = λ m filter events. after_apart (pin m filter).1 (length m.pins) (pinned_on m.history filter) events (get_last m.pins (pinned_on m.history filter));
+  replies = λ m filter events. stand_apart (pin m filter).1 (length m.pins) (pinned_on m.history filter) events
+      (get_last m.pins (pinned_on m.history filter));
+  after = λ m filter events. after_apart (pin m filter).1 (length m.pins) (pinned_on m.history filter) events
+      (get_last m.pins (pinned_on m.history filter));
   midway = stand_apart;
 }

@@ -12,10 +12,12 @@ returns-clause-taken c =
     let united = c.in_ok-united.united in
     let rows = ap rows_of c.in_ok-merge.ensures.ok ∙ rows_join united c.args.other.now in (
       c.merge.ensures.of_scan scan c.in_ok-united.ensures.of_scan,
-      c.in_ok-merge.ensures.world world scan (rows_of united) (rows_of c.args.other.now) (c.in_ok-united.ensures.taken world taken).1 other.1 ∙ ap (content world scan) (sym rows),
+      c.in_ok-merge.ensures.world world scan (rows_of united) (rows_of c.args.other.now) (c.in_ok-united.ensures.taken
+          world taken).1 other.1 ∙ ap (content world scan) (sym rows),
     )
 
 pub returns-clause-set : goal.returns-clause-set
 returns-clause-set c =
     ap rows_of c.in_ok-merge.ensures.ok
-    ∙ (rows_join c.in_ok-united.united c.args.other.now ∙ ap (λ set. either set (rows_of c.args.other.now)) c.in_ok-united.ensures.set)
+    ∙ (rows_join c.in_ok-united.united c.args.other.now ∙ ap (λ set. either set (rows_of c.args.other.now))
+    c.in_ok-united.ensures.set)

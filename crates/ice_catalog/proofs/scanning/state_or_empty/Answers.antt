@@ -9,10 +9,12 @@ pub returns-in-None-clause-taken : goal.returns-in-None-clause-taken
 returns-in-None-clause-taken c =
     λ world _.
     let scan = c.args.scan.now in
-    all_ok c.empty.result (λ (s : Content). IsOf scan s) (λ (s : Content). s ≡ replicate (length scan.wanted) None) (λ (s : Content). s ≡ content world scan (no_row scan)) (λ (s : Content). IsTaken world scan (Some s))
+    all_ok c.empty.result (λ (s : Content). IsOf scan s) (λ (s : Content). s ≡ replicate (length scan.wanted) None)
+    (λ (s : Content). s ≡ content world scan (no_row scan)) (λ (s : Content). IsTaken world scan (Some s))
     (taken_empty world scan) c.empty.ensures.of_scan c.empty.ensures.none (c.empty.ensures.world world)
 
 pub returns-in-None-clause-set : goal.returns-in-None-clause-set
 returns-in-None-clause-set c =
     let scan = c.args.scan.now in
-    IfOk-weaker c.empty.result _ _ (λ s none. ap rows_of none ∙ (rows_none (length scan.wanted) ∙ sym (ap (set_of scan) c.in-None.is))) c.empty.ensures.none
+    IfOk-weaker c.empty.result _ _ (λ s none. ap rows_of none ∙ (rows_none (length scan.wanted) ∙ sym
+    (ap (set_of scan) c.in-None.is))) c.empty.ensures.none

@@ -21,7 +21,8 @@ returns-clause-written g c =
       plan_is = plan;
       text_is = rw (c.number.ensures, c.requires) refl;
     } in
-    on_ok_weaker c.write_drill.result (λ all. (drill_text c.number.result c.get.result c.lines.result, is, all)) c.write_drill.ensures.all
+    on_ok_weaker c.write_drill.result (λ all. (drill_text c.number.result c.get.result c.lines.result, is, all))
+    c.write_drill.ensures.all
 
 pub returns-clause-front : goal.returns-clause-front
 returns-clause-front g c =

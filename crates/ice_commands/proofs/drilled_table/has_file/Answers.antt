@@ -15,11 +15,13 @@ pub loop-i-preserved : goal.loop-i-preserved
 loop-i-preserved c =
     let miss : bytes_eq c.line.result.file.file.path c.args.path.now ≡ false =
     sym (rw (c.path.ensures, c.file.ensures) at c.if-eq.ensures) in
-    rw add-one (none_next (λ (line : OwnedLine). bytes_eq line.file.file.path c.args.path.now) c.args.lines.now c.loop-i.i
+    rw add-one (none_next (λ (line : OwnedLine). bytes_eq line.file.file.path c.args.path.now) c.args.lines.now
+    c.loop-i.i
     c.line.result c.line.ensures c.loop-i.invariant miss)
 
 pub returns : goal.returns
 returns c =
     let low : length c.args.lines.now ≤ c.loop-i.i = rw c.len-i-end.ensures at c.loop-i-test.false in
-    sym (none_at_all (λ (line : OwnedLine). bytes_eq line.file.file.path c.args.path.now) c.args.lines.now c.loop-i.i low
+    sym (none_at_all (λ (line : OwnedLine). bytes_eq line.file.file.path c.args.path.now) c.args.lines.now c.loop-i.i
+    low
     c.loop-i.invariant)

@@ -26,5 +26,6 @@ returns-clause-seen g t c =
     omega (arith, c.in_ok-right.ensures.len, c.in_ok-right.ensures.tail_len) in
     let next : c.args.first + c.len-half.result / 2 ≡ c.args.first + vec_len c.split_off.new.self =
     omega (arith, c.in_ok-right.ensures.len) in
-    saw_both c.args.first (c.args.first + c.len-half.result / 2) (vec_len c.split_off.new.self) (vec_len c.in_ok-right.right)
+    saw_both c.args.first (c.args.first + c.len-half.result / 2) (vec_len c.split_off.new.self)
+    (vec_len c.in_ok-right.right)
     (vec_len c.args.seats) c.args.drill.commits next len left.1.0 right.1.0

@@ -11,4 +11,19 @@ pub returns-in-Err : goal.returns-in-Err
 returns-in-Err g c =
     let w = c.in-Err.ensures in
     let ran = w.5 in
-    record { run = (w.0, w.1, w.3, w.4, inr (record { fault = c.in-Err.fault; cause = ran.refused; status_is = c.report.ensures.status; nothing = ran.nothing; front = λ is. ran.front (ap Err is); told = record { front = c.report.ensures.front; all = c.report.ensures.all } })) }
+    record {
+      run = (
+        w.0,
+        w.1,
+        w.3,
+        w.4,
+        inr (record {
+          fault = c.in-Err.fault;
+          cause = ran.refused;
+          status_is = c.report.ensures.status;
+          nothing = ran.nothing;
+          front = λ is. ran.front (ap Err is);
+          told = record { front = c.report.ensures.front; all = c.report.ensures.all };
+        }),
+      );
+    }

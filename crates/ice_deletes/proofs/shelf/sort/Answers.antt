@@ -9,10 +9,13 @@ use Rattle.ice_deletes.proofs.shelf.sort.Goals as goal
 pub returns-clause-rising : goal.returns-clause-rising
 returns-clause-rising c =
     c.in_ok-sort_by.ensures.sorted (earlier c.args.group) (earlier_orders c.args.group)
-    (always_returns_same _ (λ (a : Bor Delete × (Bor Delete × Unit {0})) (r : Ordering). is_lt r ≡ earlier c.args.group a.0.now a.1.0.now) _ (λ a r f k. (search rules, search rules)))
+    (always_returns_same _ (λ (a : Bor Delete × (Bor Delete × Unit {0})) (r : Ordering). is_lt r ≡ earlier c.args.group
+    a.0.now a.1.0.now) _ (λ a r f k. (search rules, search rules)))
 
 pub returns-clause-sorted : goal.returns-clause-sorted
 returns-clause-sorted c =
-    sorted_from_sort (earlier c.args.group) (earlier_orders c.args.group) c.args.deletes.now.items c.sort_by.new.self.items (returns-clause-rising c)
+    sorted_from_sort (earlier c.args.group) (earlier_orders c.args.group) c.args.deletes.now.items
+    c.sort_by.new.self.items (returns-clause-rising c)
     (c.in_ok-sort_by.ensures.stable (earlier c.args.group) (earlier_orders c.args.group)
-    (always_returns_same _ (λ (a : Bor Delete × (Bor Delete × Unit {0})) (r : Ordering). is_lt r ≡ earlier c.args.group a.0.now a.1.0.now) _ (λ a r f k. (search rules, search rules))))
+    (always_returns_same _ (λ (a : Bor Delete × (Bor Delete × Unit {0})) (r : Ordering). is_lt r ≡ earlier c.args.group
+    a.0.now a.1.0.now) _ (λ a r f k. (search rules, search rules))))

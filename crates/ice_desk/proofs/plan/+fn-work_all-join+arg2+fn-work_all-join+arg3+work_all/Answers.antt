@@ -5,5 +5,7 @@ pub returns-clause-served : goal.returns-clause-served
 returns-clause-served g t c =
     let first = rw c.in_ok-left.was at c.join-left.ensures.first in
     let second = rw c.in_ok-right-2.was at c.join-left.ensures.second in
-    served_both (g.F.Files.world c.args.files.now) (g.F.Files.may_fail c.args.files.now) c.args.desk.now c.args.scan.now (λ r. r.seats.items) (λ r. r.state) (λ r. r.left) c.both.result _ _ _ _ _ _ first.1 second.1 c.both.ensures.seats c.both.ensures.state c.both.ensures.left
+    served_both (g.F.Files.world c.args.files.now) (g.F.Files.may_fail c.args.files.now) c.args.desk.now c.args.scan.now
+    (λ r. r.seats.items) (λ r. r.state) (λ r. r.left) c.both.result _ _ _ _ _ _ first.1 second.1
+    c.both.ensures.seats c.both.ensures.state c.both.ensures.left
     (λ w. c.both.ensures.content w c.args.scan.now)

@@ -1,6 +1,8 @@
 use Rattle.std.proofs.Common.{⊎_elim, ◌≡◌, ◌<◌, ◌≤◌, true, false, arith, add-one, ap, drop, length, refl, suc, sym, ◌∙◌}
 use Rattle.ice_state.specs.Contents.{is_row_taken, took}
-use Rattle.ice_desk.proofs.Taking.{again, begins, behind_more, below_or_at, ends, goes_on, has_bytes, has_next, none_untaken, reads_next, same_taken, skips, stops_later, taken_before, taken_here, took_behind}
+use Rattle.ice_desk.proofs.Taking.{again, begins, behind_more, below_or_at, ends, goes_on, has_bytes, has_next}
+use Rattle.ice_desk.proofs.Taking.{none_untaken, reads_next, same_taken, skips, stops_later, taken_before, taken_here}
+use Rattle.ice_desk.proofs.Taking.{took_behind}
 use Rattle.ice_desk.proofs.wanted.take_wanted.Goals as goal
 
 pub loop-i-init : goal.loop-i-init
@@ -20,12 +22,14 @@ loop-i-preserved-then-is_taken g c =
     let kept = c.loop-i.invariant in
     let l : i < length scan.wanted = rw c.wanted-row-items.ensures at c.loop-i-test.true in
     let t : is_row_taken c.loop-i.state i ≡ true = sym c.is_taken.ensures ∙ c.if-is_taken.true in
-    let next = skips c.args.state.now scan.wanted i (sym (same_taken c.loop-i.state c.args.state.now i kept.behind) ∙ t) in
+    let next = skips c.args.state.now scan.wanted i (sym (same_taken c.loop-i.state c.args.state.now i kept.behind) ∙
+    t) in
     record {
       of_scan = kept.of_scan;
       behind = rw add-one (behind_more _ _ i kept.behind);
       so_far = λ j m. ⊎_elim (λ l. kept.so_far j l) (λ e. ap (is_row_taken c.loop-i.state) e ∙ t) (below_or_at j i m);
-      taken = λ world ts told h. rw add-one (goes_on world scan c.loop-i.state ts i (omega (arith, l, h.flags)) (again world scan c.loop-i.state ts i t (kept.taken world ts told h)));
+      taken = λ world ts told h. rw add-one (goes_on world scan c.loop-i.state ts i (omega (arith, l, h.flags))
+          (again world scan c.loop-i.state ts i t (kept.taken world ts told h)));
       present = λ world told h. kept.present world told (rw next (rw add-one at h));
       ahead = λ world told e h. kept.ahead world told e (rw next (rw add-one at h));
     }
@@ -39,23 +43,29 @@ loop-i-preserved g c =
     let l : i < length scan.wanted = rw c.wanted-row-items.ensures at c.loop-i-test.true in
     let here = rw c.wanted-row-items.ensures at c.row-item.is in
     let f : is_row_taken c.loop-i.state i ≡ false = sym c.is_taken.ensures ∙ c.if-is_taken.false in
-    let next = reads_next c.args.state.now scan.wanted i row c.requires l here (sym (same_taken c.loop-i.state c.args.state.now i kept.behind) ∙ f) in
+    let next = reads_next c.args.state.now scan.wanted i row c.requires l here
+    (sym (same_taken c.loop-i.state c.args.state.now i kept.behind) ∙ f) in
     record {
       of_scan = c.in_ok-take.ensures.of_scan;
-      behind = rw add-one (ap (drop (suc i)) c.in_ok-take.ensures.ok ∙ took_behind scan c.loop-i.state scan.wanted i c.deref.result.now ∙ behind_more _ _ i kept.behind);
+      behind = rw add-one (ap (drop (suc i)) c.in_ok-take.ensures.ok ∙ took_behind scan c.loop-i.state scan.wanted i
+          c.deref.result.now ∙ behind_more _ _ i kept.behind);
       so_far = λ j m. ap (λ s. is_row_taken s j) c.in_ok-take.ensures.ok ∙ ⊎_elim
           (λ l. taken_before scan c.loop-i.state scan.wanted i j c.deref.result.now (kept.so_far j l))
-          (λ e. ap (is_row_taken (took scan c.loop-i.state i c.deref.result.now)) e ∙ taken_here scan c.loop-i.state scan.wanted i c.deref.result.now kept.of_scan (omega (arith, l, kept.of_scan)))
+          (λ e. ap (is_row_taken (took scan c.loop-i.state i c.deref.result.now)) e ∙ taken_here scan c.loop-i.state
+          scan.wanted i c.deref.result.now kept.of_scan (omega (arith, l, kept.of_scan)))
           (below_or_at j i m);
       taken = λ world ts told h.
           let found = rw (told, c.as_str.ensures, ← c.deref.ensures.value) at c.in_ok-bytes.ensures.found in
-          rw add-one (goes_on world scan c.take.new.self ts i (omega (arith, l, h.flags)) (c.in_ok-take.ensures.world world _ (kept.taken world ts told h) (has_bytes world scan.wanted i row c.deref.result.now l here found)));
+          rw add-one (goes_on world scan c.take.new.self ts i (omega (arith, l, h.flags)) (c.in_ok-take.ensures.world
+          world _ (kept.taken world ts told h) (has_bytes world scan.wanted i row c.deref.result.now l here
+          found)));
       present = λ world told h.
           let found = rw (told, c.as_str.ensures) at c.in_ok-bytes.ensures.found in
           kept.present world told (rw next (has_next world row _ c.in_ok-bytes.bytes.items found (rw add-one at h)));
       ahead = λ world told e h.
           let found = rw (told, c.as_str.ensures) at c.in_ok-bytes.ensures.found in
-          kept.ahead world told e (rw next (stops_later world (g.F.Files.may_fail c.args.files.now) row.path c.in_ok-bytes.bytes.items _ e found (rw add-one at h)));
+          kept.ahead world told e (rw next (stops_later world (g.F.Files.may_fail c.args.files.now) row.path
+          c.in_ok-bytes.bytes.items _ e found (rw add-one at h)));
     }
 
 pub returns-clause-taken : goal.returns-clause-taken
@@ -70,4 +80,5 @@ pub returns-clause-whole : goal.returns-clause-whole
 returns-clause-whole g c =
     let scan = c.args.scan.now in
     let low : length scan.wanted ≤ c.loop-i.i = rw c.wanted-row-items.ensures at c.loop-i-test.false in
-    none_untaken c.loop-i.state scan.wanted c.loop-i.invariant.of_scan (λ j l. c.loop-i.invariant.so_far j (omega (arith, l, low)))
+    none_untaken c.loop-i.state scan.wanted c.loop-i.invariant.of_scan (λ j l. c.loop-i.invariant.so_far j
+    (omega (arith, l, low)))

@@ -11,8 +11,12 @@ invariant-loop-i g l = record {
   of_scan : IsOf l.scan l.state;
   behind : drop l.i l.state ≡ drop l.i l.fn.state;
   so_far : (j : ℕ) → j < l.i → is_row_taken l.state j ≡ true;
-  taken : (world : World) (ts : List Bool) → g.F.Files.world l.files ≡ Some world → IsContentOf world l.scan l.fn.state ts → l.state ≡ content world l.scan (filled ts l.i);
-  present : (world : World) → g.F.Files.world l.files ≡ Some world → HasEach world (untaken (drop l.i l.fn.state) (drop l.i l.scan.wanted)) → HasEach world (untaken l.fn.state l.scan.wanted);
+  taken : (world : World) (ts : List Bool) → g.F.Files.world l.files ≡ Some world
+      → IsContentOf world l.scan l.fn.state ts → l.state ≡ content world l.scan (filled ts l.i);
+  present : (world : World) → g.F.Files.world l.files ≡ Some world
+      → HasEach world (untaken (drop l.i l.fn.state) (drop l.i l.scan.wanted))
+      → HasEach world (untaken l.fn.state l.scan.wanted);
   ahead : (world : World) → g.F.Files.world l.files ≡ Some world → (e : WantedFault) →
-      MayStop world (g.F.Files.may_fail l.files) (paths_of (untaken (drop l.i l.fn.state) (drop l.i l.scan.wanted))) e → MayStop world (g.F.Files.may_fail l.files) (reads_of l.scan l.fn.state) e;
+      MayStop world (g.F.Files.may_fail l.files) (paths_of (untaken (drop l.i l.fn.state) (drop l.i l.scan.wanted))) e
+      → MayStop world (g.F.Files.may_fail l.files) (reads_of l.scan l.fn.state) e;
 }

@@ -12,18 +12,25 @@ returns-in-Ok-take-clause-served g c =
           let found = rw (told, c.as_str.ensures, ← c.deref.ensures.value) at c.in-Ok.ensures.found in
           record {
             flags = add_length ts c.args.i ∙ h.flags;
-            is = c.in-Ok-take.ensures.world world ts h.is (has_bytes world c.args.scan.now.wanted c.args.i c.index-wanted-i.result c.deref.result.now c.requires.manifest here found);
+            is = c.in-Ok-take.ensures.world world ts h.is (has_bytes world c.args.scan.now.wanted c.args.i
+                c.index-wanted-i.result c.deref.result.now c.requires.manifest here found);
           },
     )
 
 pub returns-in-Err-Absent-clause-served : goal.returns-in-Err-Absent-clause-served
 returns-in-Err-Absent-clause-served g c =
     let here = rw c.wanted.ensures at c.index-wanted-i.is in
-    let found = rw c.as_str.ensures at (c.in-Err-Absent.ensures.absent cc) in
-    (refl, path_at (λ path. HasAt (g.F.Files.world c.args.files.now) path None) c.args.scan.now.wanted c.args.i c.index-wanted-i.result c.requires.manifest here found)
+    let found = rw c.as_str.ensures at (c.in-Err-Absent.ensures.absent cc) in (
+      refl,
+      path_at (λ path. HasAt (g.F.Files.world c.args.files.now) path None) c.args.scan.now.wanted c.args.i
+          c.index-wanted-i.result c.requires.manifest here found,
+    )
 
 pub returns-in-Err-Device-clause-served : goal.returns-in-Err-Device-clause-served
 returns-in-Err-Device-clause-served g c =
     let here = rw c.wanted.ensures at c.index-wanted-i.is in
-    let found = rw c.as_str.ensures at (c.in-Err-Device.ensures.device cc) in
-    (refl, path_at (g.F.Files.may_fail c.args.files.now) c.args.scan.now.wanted c.args.i c.index-wanted-i.result c.requires.manifest here found)
+    let found = rw c.as_str.ensures at (c.in-Err-Device.ensures.device cc) in (
+      refl,
+      path_at (g.F.Files.may_fail c.args.files.now) c.args.scan.now.wanted c.args.i c.index-wanted-i.result
+          c.requires.manifest here found,
+    )

@@ -10,7 +10,8 @@ invariant-loop-i g l = record {
   seat : IsSeatOf l.desk l.seat;
   of_scan : IsOf l.scan l.state;
   small : all_left l.left < 2 ^ 32;
-  worked : Worked (g.F.Files.world l.files) (g.F.Files.may_fail l.files) l.desk l.scan l.fn.seat l.seat l.fn.state l.state l.left;
+  worked : Worked (g.F.Files.world l.files) (g.F.Files.may_fail l.files) l.desk l.scan l.fn.seat l.seat l.fn.state
+      l.state l.left;
 }
 
 abbrev pub decreases-loop-i : goal.decreases-loop-i

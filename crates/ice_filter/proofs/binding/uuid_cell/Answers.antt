@@ -8,7 +8,8 @@ no_bytes : (o : Option (List ℕ)) → (((u : List ℕ) × (o ≡ Some u)) → f
 no_bytes None h = refl
 no_bytes (Some u) h = let e : false ≡ true = h (u, refl) in absurd cc
 
-no_uuid : (text seen : List ℕ) → seen ≡ text → (((u : List ℕ) × (uuid_in seen ≡ Some u)) → false ≡ true) → None ≡ option_map Bytes (uuid_in text)
+no_uuid : (text seen : List ℕ) → seen ≡ text → (((u : List ℕ) × (uuid_in seen ≡ Some u)) → false ≡ true)
+    → None ≡ option_map Bytes (uuid_in text)
 no_uuid text seen e h = no_bytes (uuid_in text) (λ p. h (p.0, ap uuid_in e ∙ p.1))
 
 pub returns-in-Err : goal.returns-in-Err

@@ -8,4 +8,5 @@ returns-then-types-tuple c = none_for_each c.args.types.now c.args.tuple.now (λ
 
 pub cells-preserved : goal.cells-preserved
 cells-preserved c =
-    tuple_on c.args.types.now c.args.tuple.now c.cells.place Boolean c.index-tuple-place.result _ c.cells-test.true (omega arith) c.index-tuple-place.is (cc) c.cells.invariant
+    tuple_on c.args.types.now c.args.tuple.now c.cells.place Boolean c.index-tuple-place.result _ c.cells-test.true
+    (omega arith) c.index-tuple-place.is (cc) c.cells.invariant

@@ -15,5 +15,7 @@ returns-clause-text c =
 
 pub returns-clause-read : goal.returns-clause-read
 returns-clause-read c =
-    if_ok _ (λ (text : String Global). read (string_bytes text) ≡ Some (json_of list_type)) c.to_string.result (λ text said.
-    read_again list_type _ (string_bytes text) c.in_ok-list_type.ensures list_height said) c.to_string.ensures.reads_back
+    if_ok _ (λ (text : String Global). read (string_bytes text) ≡ Some (json_of list_type)) c.to_string.result
+    (λ text said.
+    read_again list_type _ (string_bytes text) c.in_ok-list_type.ensures list_height said)
+    c.to_string.ensures.reads_back

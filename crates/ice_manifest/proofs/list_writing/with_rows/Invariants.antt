@@ -9,7 +9,9 @@ use Rattle.ice_manifest.proofs.list_writing.with_rows.Given as goal
 
 abbrev pub invariant-rows : goal.invariant-rows
 invariant-rows l = record {
-  given : (ps : List Property) (s : Tree) → WasGiven l.initial.writer ps s [] → WasGiven l.writer ps s (map row_value (take l.row-index l.rows));
-  exact : (ps : List Property) (sync : List ℕ) → WillWrite l.initial.writer ps sync [] → WillWrite l.writer ps sync (map row_value (take l.row-index l.rows));
+  given : (ps : List Property) (s : Tree) → WasGiven l.initial.writer ps s []
+      → WasGiven l.writer ps s (map row_value (take l.row-index l.rows));
+  exact : (ps : List Property) (sync : List ℕ) → WillWrite l.initial.writer ps sync []
+      → WillWrite l.writer ps sync (map row_value (take l.row-index l.rows));
   fits : AllByRecursion RowFits (take l.row-index l.rows);
 }

@@ -13,19 +13,23 @@ use Rattle.ice_manifest.proofs.list_writing.write_list.Goals as goal
 pub returns-clause-bytes : goal.returns-clause-bytes
 returns-clause-bytes c =
     let ps = in_order (schema_text list_type) (version_property ∷ []) in
-    c.finish.ensures.exact ps c.args.sync (map row_value c.args.rows.now) (c.in_ok-writer.ensures.exact ps c.args.sync c.in_ok-without_rows.ensures.exact)
+    c.finish.ensures.exact ps c.args.sync (map row_value c.args.rows.now) (c.in_ok-writer.ensures.exact ps c.args.sync
+    c.in_ok-without_rows.ensures.exact)
 
 pub returns-clause-holds : goal.returns-clause-holds
 returns-clause-holds c = λ readable.
     let ps = in_order (schema_text list_type) (version_property ∷ []) in
     let t = written_tree list_type in
-    c.finish.ensures.holds ps t (map row_value c.args.rows.now) (c.in_ok-writer.ensures.given ps t c.in_ok-without_rows.ensures.given) (rows_are_of c.args.rows.now c.in_ok-writer.ensures.fits readable)
+    c.finish.ensures.holds ps t (map row_value c.args.rows.now) (c.in_ok-writer.ensures.given ps t
+    c.in_ok-without_rows.ensures.given) (rows_are_of c.args.rows.now c.in_ok-writer.ensures.fits readable)
 
 pub returns-clause-read_back : goal.returns-clause-read_back
 returns-clause-read_back c = λ readable rising few.
     let ps = in_order (schema_text list_type) (version_property ∷ []) in
     let t = written_tree list_type in
     let rows = c.args.rows.now in
-    if_ok (λ (v : Vec ℕ Global). opened_at v.items ≡ Ok (reader_of t (map row_value rows))) (λ (v : Vec ℕ Global). rows_of v.items ≡ Ok rows) c.finish.result (λ v opened.
+    if_ok (λ (v : Vec ℕ Global). opened_at v.items ≡ Ok (reader_of t (map row_value rows)))
+    (λ (v : Vec ℕ Global). rows_of v.items ≡ Ok rows) c.finish.result (λ v opened.
     rows_again rows v.items opened c.in_ok-writer.ensures.fits readable rising few)
-    (c.finish.ensures.read_back ps t (map row_value rows) (c.in_ok-writer.ensures.given ps t c.in_ok-without_rows.ensures.given) (rows_are_of rows c.in_ok-writer.ensures.fits readable))
+    (c.finish.ensures.read_back ps t (map row_value rows) (c.in_ok-writer.ensures.given ps t
+    c.in_ok-without_rows.ensures.given) (rows_are_of rows c.in_ok-writer.ensures.fits readable))

@@ -5,4 +5,5 @@ use Rattle.ice_manifest.proofs.WrittenItems.{joined}
 use Rattle.ice_manifest.proofs.manifest_writing.partition_fields_json.Given as goal
 
 abbrev pub invariant-fields : goal.invariant-fields
-invariant-fields l = joined (items_view l.all.items) (partition_fields_json (drop l.field-index l.fields)) ≡ partition_fields_json l.fields
+invariant-fields l = joined (items_view l.all.items) (partition_fields_json (drop l.field-index l.fields))
+    ≡ partition_fields_json l.fields

@@ -8,4 +8,5 @@ use Rattle.ice_manifest.proofs.manifest_writing.spec_text.Goals as goal
 pub returns : goal.returns
 returns c =
     if_ok _ (λ (text : String Global). string_bytes text ≡ spec_text c.args.spec.now) c.to_string.result (λ text said.
-    spec_compact c.args.spec.now _ (string_bytes text) (c.from.ensures ∙ ap array (c.in_ok-partition_fields_json.ensures ∙ ap partition_fields_json c.as_slice.ensures)) said) c.to_string.ensures.text
+    spec_compact c.args.spec.now _ (string_bytes text) (c.from.ensures ∙ ap array (c.in_ok-partition_fields_json.ensures
+    ∙ ap partition_fields_json c.as_slice.ensures)) said) c.to_string.ensures.text

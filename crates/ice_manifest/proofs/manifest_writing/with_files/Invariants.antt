@@ -10,7 +10,9 @@ use Rattle.ice_manifest.proofs.manifest_writing.with_files.Given as goal
 
 abbrev pub invariant-files : goal.invariant-files
 invariant-files l = record {
-  given : (ps : List Property) (s : Tree) → WasGiven l.initial.writer ps s [] → WasGiven l.writer ps s (map (entry_value l.heading) (lent (take l.file-index l.files)));
-  exact : (ps : List Property) (sync : List ℕ) → WillWrite l.initial.writer ps sync [] → WillWrite l.writer ps sync (map (entry_value l.heading) (lent (take l.file-index l.files)));
+  given : (ps : List Property) (s : Tree) → WasGiven l.initial.writer ps s []
+      → WasGiven l.writer ps s (map (entry_value l.heading) (lent (take l.file-index l.files)));
+  exact : (ps : List Property) (sync : List ℕ) → WillWrite l.initial.writer ps sync []
+      → WillWrite l.writer ps sync (map (entry_value l.heading) (lent (take l.file-index l.files)));
   fits : AllByRecursion FileFits (lent (take l.file-index l.files));
 }

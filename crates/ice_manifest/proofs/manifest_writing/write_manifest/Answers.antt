@@ -22,7 +22,8 @@ pub returns-clause-bytes : goal.returns-clause-bytes
 returns-clause-bytes c =
     let h = c.args.heading.now in
     let ps = in_order (schema_text (manifest_type h)) (manifest_properties h) in
-    c.finish.ensures.exact ps h.sync (map (entry_value h) (lent c.args.files.now)) (c.in_ok-writer-2.ensures.exact ps h.sync c.in_ok-writer.ensures.exact)
+    c.finish.ensures.exact ps h.sync (map (entry_value h) (lent c.args.files.now)) (c.in_ok-writer-2.ensures.exact ps
+    h.sync c.in_ok-writer.ensures.exact)
 
 pub returns-clause-holds : goal.returns-clause-holds
 returns-clause-holds c =
@@ -30,7 +31,9 @@ returns-clause-holds c =
     let fs = lent c.args.files.now in
     let ps = in_order (schema_text (manifest_type h)) (manifest_properties h) in
     let t = written_tree (manifest_type h) in
-    c.finish.ensures.holds ps t (map (entry_value h) fs) (c.in_ok-writer-2.ensures.given ps t c.in_ok-writer.ensures.given) (entries_are_of h fs c.requires.heading c.requires.files.each c.in_ok-writer-2.ensures.fits c.in_ok-writer-2.ensures.snapshot)
+    c.finish.ensures.holds ps t (map (entry_value h) fs) (c.in_ok-writer-2.ensures.given ps t
+    c.in_ok-writer.ensures.given) (entries_are_of h fs c.requires.heading c.requires.files.each
+    c.in_ok-writer-2.ensures.fits c.in_ok-writer-2.ensures.snapshot)
 
 pub returns-clause-read_back : goal.returns-clause-read_back
 returns-clause-read_back c =
@@ -38,6 +41,10 @@ returns-clause-read_back c =
     let fs = lent c.args.files.now in
     let ps = in_order (schema_text (manifest_type h)) (manifest_properties h) in
     let t = written_tree (manifest_type h) in
-    if_ok (λ (v : Vec ℕ Global). opened_at v.items ≡ Ok (reader_of t (map (entry_value h) fs))) (λ (v : Vec ℕ Global). (row : Row) → row.content ≡ h.content → entries_of row h.spec v.items ≡ Ok (new_entries row h 0 fs)) c.finish.result (λ v opened row same.
+    if_ok (λ (v : Vec ℕ Global). opened_at v.items ≡ Ok (reader_of t (map (entry_value h) fs)))
+    (λ (v : Vec ℕ Global). (row : Row) → row.content ≡ h.content → entries_of row h.spec v.items ≡ Ok
+    (new_entries row h 0 fs)) c.finish.result (λ v opened row same.
     entries_again row h fs v.items same opened c.requires.heading c.requires.files.each c.in_ok-writer-2.ensures.fits)
-    (c.finish.ensures.read_back ps t (map (entry_value h) fs) (c.in_ok-writer-2.ensures.given ps t c.in_ok-writer.ensures.given) (entries_are_of h fs c.requires.heading c.requires.files.each c.in_ok-writer-2.ensures.fits c.in_ok-writer-2.ensures.snapshot))
+    (c.finish.ensures.read_back ps t (map (entry_value h) fs) (c.in_ok-writer-2.ensures.given ps t
+    c.in_ok-writer.ensures.given) (entries_are_of h fs c.requires.heading c.requires.files.each
+    c.in_ok-writer-2.ensures.fits c.in_ok-writer-2.ensures.snapshot))

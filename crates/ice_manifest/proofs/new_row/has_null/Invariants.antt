@@ -5,4 +5,5 @@ use Rattle.ice_manifest.specs.NewRows.{is_null, column_of}
 use Rattle.ice_manifest.proofs.new_row.has_null.Given as goal
 
 abbrev pub invariant-files : goal.invariant-files
-invariant-files l = list_any is_null (column_of l.place (lent (drop l.file-index l.files))) ≡ list_any is_null (column_of l.place (lent l.files))
+invariant-files l = list_any is_null (column_of l.place (lent (drop l.file-index l.files))) ≡ list_any is_null
+    (column_of l.place (lent l.files))

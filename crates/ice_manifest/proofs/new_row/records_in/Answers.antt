@@ -9,10 +9,12 @@ pub with_records-records-requires-clause-room : goal.with_records-records-requir
 with_records-records-requires-clause-room c = omega (arith, as_many c.args.files.now)
 
 pub with_records-records-requires-clause-amount : goal.with_records-records-requires-clause-amount
-with_records-records-requires-clause-amount c = all_at (λ (f : NewFile). IsAmount f.record_count) c.args.files.now c.files.file-index c.file-item.result c.files-test.true c.file-item.is c.requires.amounts
+with_records-records-requires-clause-amount c = all_at (λ (f : NewFile). IsAmount f.record_count) c.args.files.now
+    c.files.file-index c.file-item.result c.files-test.true c.file-item.is c.requires.amounts
 
 pub files-preserved : goal.files-preserved
 files-preserved c = record {
-  total = records_on c.args.files.now c.files.file-index c.file-item.result (pos c.files.records) _ _ c.files-test.true c.file-item.is c.with_records-records.ensures.sum c.files.invariant.total;
+  total = records_on c.args.files.now c.files.file-index c.file-item.result (pos c.files.records) _ _ c.files-test.true
+      c.file-item.is c.with_records-records.ensures.sum c.files.invariant.total;
   few = omega arith;
 }

@@ -16,12 +16,17 @@ items-init c = rw (c.in_ok-bounds.ensures.items) refl
 pub returns-in_err-bound_of : goal.returns-in_err-bound_of
 returns-in_err-bound_of c =
     let p = err_from_is_err_and c.from_residual-in_err-bound_of.result c.from_residual-in_err-bound_of.ensures.1 in
-    rw (p.1, p.2) (λ _. ap (told in_manifest) (sym c.items.invariant ∙ item_stops_at (bound_of c.args.map) (tree c.args.schema.now) (bounds_said c.items.bounds.items) c.args.items.now c.items.item-index c.item-item.result _ c.items-test.true c.item-item.is c.in_err-bound_of.ensures))
+    rw (p.1, p.2) (λ _. ap (told in_manifest) (sym c.items.invariant ∙ item_stops_at (bound_of c.args.map)
+    (tree c.args.schema.now) (bounds_said c.items.bounds.items) c.args.items.now c.items.item-index
+    c.item-item.result _ c.items-test.true c.item-item.is c.in_err-bound_of.ensures))
 
 pub items-preserved : goal.items-preserved
 items-preserved c =
     rw (bounds_pushed _ _ _ c.in_ok-push.ensures.items)
-    (sym (item_next (bound_of c.args.map) (tree c.args.schema.now) (bounds_said c.items.bounds.items) c.args.items.now c.items.item-index c.item-item.result _ c.items-test.true c.item-item.is c.in_ok-bound_of.ensures) ∙ c.items.invariant)
+    (sym (item_next (bound_of c.args.map) (tree c.args.schema.now) (bounds_said c.items.bounds.items) c.args.items.now
+    c.items.item-index c.item-item.result _ c.items-test.true c.item-item.is c.in_ok-bound_of.ensures) ∙
+    c.items.invariant)
 
 pub returns : goal.returns
-returns c = ap (told in_manifest) (sym c.items.invariant ∙ items_done (bound_of c.args.map) (tree c.args.schema.now) _ c.args.items.now c.items.item-index c.items-test.false)
+returns c = ap (told in_manifest) (sym c.items.invariant ∙ items_done (bound_of c.args.map) (tree c.args.schema.now) _
+    c.args.items.now c.items.item-index c.items-test.false)

@@ -8,4 +8,5 @@ use Rattle.ice_manifest_reading.proofs.Reading.{joined}
 use Rattle.ice_manifest_reading.proofs.columns.bounds_of.Given as goal
 
 abbrev pub invariant-items : goal.invariant-items
-invariant-items l = joined (bounds_said l.bounds.items) (each (bound_of l.map) (items_seen (tree l.schema) (drop l.item-index l.items))) ≡ each (bound_of l.map) (items_seen (tree l.schema) l.items)
+invariant-items l = joined (bounds_said l.bounds.items) (each (bound_of l.map) (items_seen (tree l.schema)
+    (drop l.item-index l.items))) ≡ each (bound_of l.map) (items_seen (tree l.schema) l.items)

@@ -12,7 +12,8 @@ use Rattle.ice_manifest_reading.proofs.columns.bounds_of_map.Goals as goal
 pub returns-in-Array-BytesPairs : goal.returns-in-Array-BytesPairs
 returns-in-Array-BytesPairs c =
     let at = c.in-Array-BytesPairs in
-    let lies : lies_as_pairs c.args.map (tree at.items.value) ≡ true = rw (c.deref.ensures, c.if-is_lent.true) at (sym c.is_lent.ensures) in
+    let lies : lies_as_pairs c.args.map (tree at.items.value) ≡ true = rw (c.deref.ensures, c.if-is_lent.true) at
+    (sym c.is_lent.ensures) in
     let keys = All-same IsKey at.pairs.items _ (sym c.deref-in-Array-BytesPairs.ensures.value) c.see_keys.ensures in
     let said = c.lent.ensures ∙ ap bounds_said c.deref-in-Array-BytesPairs-2.ensures.value in
     rw (at.is-0, at.is-1, tree-Array at.items at.field-1-0 at.field-2-0, view-BytesPairs at.pairs)

@@ -8,4 +8,5 @@ use Rattle.ice_manifest_reading.proofs.Reading.{joined}
 use Rattle.ice_manifest_reading.proofs.columns.counts_of.Given as goal
 
 abbrev pub invariant-items : goal.invariant-items
-invariant-items l = joined (counts_said l.counts.items) (each (count_of l.map) (items_seen (tree l.schema) (drop l.item-index l.items))) ≡ each (count_of l.map) (items_seen (tree l.schema) l.items)
+invariant-items l = joined (counts_said l.counts.items) (each (count_of l.map) (items_seen (tree l.schema)
+    (drop l.item-index l.items))) ≡ each (count_of l.map) (items_seen (tree l.schema) l.items)

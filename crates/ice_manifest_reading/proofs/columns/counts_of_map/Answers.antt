@@ -12,7 +12,8 @@ use Rattle.ice_manifest_reading.proofs.columns.counts_of_map.Goals as goal
 pub returns-in-Array-LongPairs : goal.returns-in-Array-LongPairs
 returns-in-Array-LongPairs c =
     let at = c.in-Array-LongPairs in
-    let lies : lies_as_pairs c.args.map (tree at.items.value) ≡ true = rw (c.deref.ensures, c.if-is_lent.true) at (sym c.is_lent.ensures) in
+    let lies : lies_as_pairs c.args.map (tree at.items.value) ≡ true = rw (c.deref.ensures, c.if-is_lent.true) at
+    (sym c.is_lent.ensures) in
     let keys = All-same IsKey at.pairs.items _ (sym c.deref-in-Array-LongPairs.ensures.value) c.see_keys.ensures in
     let said = c.lent.ensures ∙ ap counts_said c.deref-in-Array-LongPairs-2.ensures.value in
     rw (at.is-0, at.is-1, tree-Array at.items at.field-1-0 at.field-2-0, view-LongPairs at.pairs)

@@ -10,11 +10,13 @@ returns-then-eq c =
     let said = to_z-of_z w32 c.args.map.said (search rules) in
     let fields = c.deref-fields.ensures.value in
     rw (c.in-Record.is, tree-Record c.in-Record.fields, ← c.deref.ensures, ← fields)
-    (both_lie c.args.map (fields_seen c.deref-fields.result.now) _ _ _ (rw key at c.position_of.ensures.place) (rw said at c.position_of-then-eq.ensures.place) (sym c.eq.ensures ∙ c.if-eq.true) c.eq-then-eq.ensures)
+    (both_lie c.args.map (fields_seen c.deref-fields.result.now) _ _ _ (rw key at c.position_of.ensures.place)
+    (rw said at c.position_of-then-eq.ensures.place) (sym c.eq.ensures ∙ c.if-eq.true) c.eq-then-eq.ensures)
 
 pub returns-else-eq : goal.returns-else-eq
 returns-else-eq c =
     let key = to_z-of_z w32 c.args.map.key (search rules) in
     let fields = c.deref-fields.ensures.value in
     rw (c.in-Record.is, tree-Record c.in-Record.fields, ← c.deref.ensures, ← fields)
-    (key_elsewhere c.args.map (fields_seen c.deref-fields.result.now) _ _ (rw key at c.position_of.ensures.place) c.eq.ensures c.if-eq.false)
+    (key_elsewhere c.args.map (fields_seen c.deref-fields.result.now) _ _ (rw key at c.position_of.ensures.place)
+    c.eq.ensures c.if-eq.false)

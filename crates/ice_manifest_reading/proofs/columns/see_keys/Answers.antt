@@ -5,7 +5,9 @@ use Rattle.ice_manifest_reading.specs.Places.{IsKey}
 use Rattle.ice_manifest_reading.proofs.columns.see_keys.Goals as goal
 
 pub pairs-preserved : goal.pairs-preserved
-pairs-preserved g c = All-more IsKey c.args.pairs.now c.pairs.pair-index c.pair-item.result c.pairs-test.true c.pairs.invariant (subst IsKey c.pair-item.is c.see_key.ensures)
+pairs-preserved g c = All-more IsKey c.args.pairs.now c.pairs.pair-index c.pair-item.result c.pairs-test.true
+    c.pairs.invariant (subst IsKey c.pair-item.is c.see_key.ensures)
 
 pub returns : goal.returns
-returns g c = All-same IsKey c.args.pairs.now _ (sym (take_all c.pairs.pair-index c.args.pairs.now c.pairs-test.false)) c.pairs.invariant
+returns g c = All-same IsKey c.args.pairs.now _ (sym (take_all c.pairs.pair-index c.args.pairs.now c.pairs-test.false))
+    c.pairs.invariant

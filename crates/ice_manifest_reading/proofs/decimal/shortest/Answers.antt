@@ -3,10 +3,12 @@ use Rattle.ice_manifest_reading.proofs.Decimals.{sign_dropped, sign_needed, one_
 use Rattle.ice_manifest_reading.proofs.decimal.shortest.Goals as goal
 
 pub signs-preserved : goal.signs-preserved
-signs-preserved c = sign_dropped c.signs.rest.now c.signs-test.true (sym c.is_redundant.ensures ∙ c.if-is_redundant.true) ∙ c.signs.invariant
+signs-preserved c = sign_dropped c.signs.rest.now c.signs-test.true (sym c.is_redundant.ensures ∙
+    c.if-is_redundant.true) ∙ c.signs.invariant
 
 pub returns-else-is_redundant : goal.returns-else-is_redundant
-returns-else-is_redundant c = sign_needed c.signs.rest.now c.signs-test.true (sym c.is_redundant.ensures ∙ c.if-is_redundant.false) ∙ c.signs.invariant
+returns-else-is_redundant c = sign_needed c.signs.rest.now c.signs-test.true (sym c.is_redundant.ensures ∙
+    c.if-is_redundant.false) ∙ c.signs.invariant
 
 pub returns-after-signs : goal.returns-after-signs
 returns-after-signs c = one_stays c.signs.rest.now c.signs-test.false ∙ c.signs.invariant

@@ -9,7 +9,8 @@ abbrev made : (ℤ × Bor (List ℕ)) → Value
 made p = pair_with p.0 (run p.1.now)
 
 pub pairs-preserved : goal.pairs-preserved
-pairs-preserved c = rw (c.in_ok-push.ensures.items) (built_on made c.args.pairs.now c.pairs.pair-index _ c.pairs.built.items _ c.pairs-test.true c.in_ok-bytes_pair_built.ensures c.pairs.invariant)
+pairs-preserved c = rw (c.in_ok-push.ensures.items) (built_on made c.args.pairs.now c.pairs.pair-index _
+    c.pairs.built.items _ c.pairs-test.true c.in_ok-bytes_pair_built.ensures c.pairs.invariant)
 
 pub returns : goal.returns
 returns c = built_all made c.args.pairs.now c.pairs.pair-index c.pairs.built.items c.pairs-test.false c.pairs.invariant

@@ -7,4 +7,5 @@ use Rattle.ice_manifest_reading.proofs.Reading.{joined}
 use Rattle.ice_manifest_reading.proofs.field.int_items.Given as goal
 
 abbrev pub invariant-items : goal.invariant-items
-invariant-items l = joined l.ids (each (int_item l.id) (items_seen (tree l.schema) (drop l.item-index l.items))) ≡ each (int_item l.id) (items_seen (tree l.schema) l.items)
+invariant-items l = joined l.ids (each (int_item l.id) (items_seen (tree l.schema) (drop l.item-index l.items))) ≡ each
+    (int_item l.id) (items_seen (tree l.schema) l.items)

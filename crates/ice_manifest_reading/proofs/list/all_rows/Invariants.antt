@@ -7,7 +7,8 @@ use Rattle.ice_manifest_reading.proofs.Reading.{joined}
 use Rattle.ice_manifest_reading.proofs.list.all_rows.Given as goal
 
 abbrev pub invariant-objects : goal.invariant-objects
-invariant-objects l = joined l.rows.items (rows_ahead (fields_seen l.fields) (ahead l.reader)) ≡ rows_ahead (fields_seen l.fields) (ahead l.initial.reader)
+invariant-objects l = joined l.rows.items (rows_ahead (fields_seen l.fields) (ahead l.reader)) ≡ rows_ahead
+    (fields_seen l.fields) (ahead l.initial.reader)
 
 abbrev pub decreases-objects : goal.decreases-objects
 decreases-objects l = still_ahead (ahead l.reader)

@@ -14,6 +14,9 @@ unfolding same_row
 returns c =
     let order : IsStrictWeakOrder path_before = ranks_by nat_list_cmp_total (λ (r : Row). r.path) in
     let sort = sorted_from_sort path_before order c.args.rows.now.items c.sort_by.new.self.items
-    (c.in_ok-sort_by.ensures.sorted path_before order (answers_always _ (λ (a : Bor Row × (Bor Row × Unit {0})) (r : Ordering). is_lt r ≡ path_before a.0.now a.1.0.now) _ (λ f a r g h. search rules)))
-    (c.in_ok-sort_by.ensures.stable path_before order (answers_always _ (λ (a : Bor Row × (Bor Row × Unit {0})) (r : Ordering). is_lt r ≡ path_before a.0.now a.1.0.now) _ (λ f a r g h. search rules))) in
-    deduped _ same_row c.sort_by.new.self.items c.dedup.new.self.items c.dedup.ensures.filtered (λ x y. rw (contents_alike x.content y.content) refl) ∙ ap (dedup same_row) sort
+    (c.in_ok-sort_by.ensures.sorted path_before order (answers_always _ (λ (a : Bor Row × (Bor Row × Unit {0}))
+    (r : Ordering). is_lt r ≡ path_before a.0.now a.1.0.now) _ (λ f a r g h. search rules)))
+    (c.in_ok-sort_by.ensures.stable path_before order (answers_always _ (λ (a : Bor Row × (Bor Row × Unit {0}))
+    (r : Ordering). is_lt r ≡ path_before a.0.now a.1.0.now) _ (λ f a r g h. search rules))) in
+    deduped _ same_row c.sort_by.new.self.items c.dedup.new.self.items c.dedup.ensures.filtered
+    (λ x y. rw (contents_alike x.content y.content) refl) ∙ ap (dedup same_row) sort

@@ -7,4 +7,5 @@ use Rattle.ice_manifest_reading.proofs.Reading.{joined}
 use Rattle.ice_manifest_reading.proofs.list.summaries_of.Given as goal
 
 abbrev pub invariant-items : goal.invariant-items
-invariant-items l = joined l.summaries (each summary_of (items_seen (tree l.schema) (drop l.item-index l.items))) ≡ each summary_of (items_seen (tree l.schema) l.items)
+invariant-items l = joined l.summaries (each summary_of (items_seen (tree l.schema) (drop l.item-index l.items))) ≡ each
+    summary_of (items_seen (tree l.schema) l.items)

@@ -7,8 +7,11 @@ use Rattle.ice_manifest_reading.proofs.manifest.read_kept.Goals as goal
 
 pub all_entries-requires : goal.all_entries-requires
 all_entries-requires g c =
-    let fits : entry_fields c.args.spec.now (fields_in (tree_of c.in_ok-container.container)) ≡ Ok tt = ap (entry_fields c.args.spec.now) (sym (c.fields_of-fields.ensures ∙ ap fields_in c.schema.ensures)) ∙ sym c.in_ok-check_entry_fields.ensures in
+    let fits : entry_fields c.args.spec.now (fields_in (tree_of c.in_ok-container.container)) ≡ Ok tt =
+    ap (entry_fields c.args.spec.now) (sym (c.fields_of-fields.ensures ∙ ap fields_in c.schema.ensures)) ∙ sym
+    c.in_ok-check_entry_fields.ensures in
     let takes = entries_take_bytes c.args.spec.now (tree_of c.in_ok-container.container) fits in
-    let few = c.objects_take_bytes.ensures c.args.bytes.now (opened c.in_ok-container.container) c.in_ok-container.ensures.exact takes in
+    let few = c.objects_take_bytes.ensures c.args.bytes.now (opened c.in_ok-container.container)
+    c.in_ok-container.ensures.exact takes in
     let here : still_ahead (ahead c.objects.result) ≤ length c.args.bytes.now = rw c.objects.ensures.ahead few in
     omega (arith, here, c.well_formed)

@@ -9,4 +9,5 @@ use Rattle.ice_manifest_reading.proofs.manifest.read_manifest.Goals as goal
 
 pub returns : goal.returns
 unfolding entries_of
-returns c = subst (λ (read : Result (List Entry) ManifestFault). Gives Memory (λ found. found.items) c.read_kept.result read) (all_kept (live_of c.args.row.now c.args.spec.now c.args.bytes.now)) c.read_kept.ensures
+returns c = subst (λ (read : Result (List Entry) ManifestFault). Gives Memory (λ found. found.items) c.read_kept.result
+    read) (all_kept (live_of c.args.row.now c.args.spec.now c.args.bytes.now)) c.read_kept.ensures

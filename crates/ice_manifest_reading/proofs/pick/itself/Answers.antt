@@ -8,7 +8,8 @@ pub returns-in-Union-NullBranch : goal.returns-in-Union-NullBranch
 returns-in-Union-NullBranch c =
     let bs = c.in-Union-NullBranch.field-0-0 in
     let n = c.in-Union-NullBranch.field-0-1 in
-    rw (c.in-Union-NullBranch.is-0, c.in-Union-NullBranch.is-1, tree-Union bs, view-NullBranch n) (sym (null_branch (branches_of (trees bs.value.items)) n))
+    rw (c.in-Union-NullBranch.is-0, c.in-Union-NullBranch.is-1, tree-Union bs, view-NullBranch n)
+    (sym (null_branch (branches_of (trees bs.value.items)) n))
 
 pub returns-in_ok-schema-in-Union-Union : goal.returns-in_ok-schema-in-Union-Union
 returns-in_ok-schema-in-Union-Union c =

@@ -4,4 +4,5 @@ use Rattle.ice_manifest_reading.specs.Schemas.{is_file, each_branch}
 use Rattle.ice_manifest_reading.proofs.shape.check_files.Given as goal
 
 abbrev pub invariant-branches : goal.invariant-branches
-invariant-branches l = each_branch (is_file l.partition) (branches_of (trees (drop l.branch-index l.branches))) ≡ each_branch (is_file l.partition) (branches_of (trees l.branches))
+invariant-branches l = each_branch (is_file l.partition) (branches_of (trees (drop l.branch-index l.branches)))
+    ≡ each_branch (is_file l.partition) (branches_of (trees l.branches))

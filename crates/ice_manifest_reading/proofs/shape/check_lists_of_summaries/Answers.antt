@@ -7,10 +7,15 @@ use Rattle.ice_manifest_reading.proofs.shape.check_lists_of_summaries.Goals as g
 pub returns-in_err-check_list_of_summaries : goal.returns-in_err-check_list_of_summaries
 returns-in_err-check_list_of_summaries c =
     let p = err_from_is_err_and c.from_residual.result c.from_residual.ensures.1 in
-    rw (p.1, p.2) (sym (sym c.branches.invariant ∙ branch_fails lists_summaries c.args.branches.now c.branches.branch-index c.branch-item.result _ c.branches-test.true c.branch-item.is c.in_err-check_list_of_summaries.ensures))
+    rw (p.1, p.2) (sym (sym c.branches.invariant ∙ branch_fails lists_summaries c.args.branches.now
+    c.branches.branch-index c.branch-item.result _ c.branches-test.true c.branch-item.is
+    c.in_err-check_list_of_summaries.ensures))
 
 pub branches-preserved : goal.branches-preserved
-branches-preserved c = sym (branch_passes lists_summaries c.args.branches.now c.branches.branch-index c.branch-item.result _ c.branches-test.true c.branch-item.is c.in_ok-check_list_of_summaries.ensures) ∙ c.branches.invariant
+branches-preserved c = sym (branch_passes lists_summaries c.args.branches.now c.branches.branch-index
+    c.branch-item.result _ c.branches-test.true c.branch-item.is c.in_ok-check_list_of_summaries.ensures) ∙
+    c.branches.invariant
 
 pub returns : goal.returns
-returns c = sym (branches_end lists_summaries c.args.branches.now c.branches.branch-index c.branches-test.false) ∙ c.branches.invariant
+returns c = sym (branches_end lists_summaries c.args.branches.now c.branches.branch-index c.branches-test.false) ∙
+    c.branches.invariant

@@ -7,12 +7,14 @@ use Rattle.ice_manifest_reading.proofs.shape.type_at.Goals as goal
 pub returns-then-eq : goal.returns-then-eq
 returns-then-eq c =
     let same : to_z w32 (of_z w32 c.args.id) ≡ c.args.id = to_z-of_z w32 c.args.id (search rules) in
-    let step = type_here _ c.args.fields.now c.fields.field-index c.field-item.result c.fields-test.true c.field-item.is in
+    let step = type_here _ c.args.fields.now c.fields.field-index c.field-item.result c.fields-test.true
+    c.field-item.is in
     rw (← same) (sym (sym c.fields.invariant ∙ step ∙ rw (sym c.if-eq.ensures) refl))
 
 pub fields-preserved : goal.fields-preserved
 fields-preserved c =
-    let step = type_here _ c.args.fields.now c.fields.field-index c.field-item.result c.fields-test.true c.field-item.is in
+    let step = type_here _ c.args.fields.now c.fields.field-index c.field-item.result c.fields-test.true
+    c.field-item.is in
     sym (sym c.fields.invariant ∙ step ∙ rw (sym c.if-eq.ensures) refl)
 
 pub returns : goal.returns

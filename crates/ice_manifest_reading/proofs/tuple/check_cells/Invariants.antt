@@ -4,4 +4,5 @@ use Rattle.ice_manifest_reading.specs.Schemas.{cells_fit}
 use Rattle.ice_manifest_reading.proofs.tuple.check_cells.Given as goal
 
 abbrev pub invariant-partition : goal.invariant-partition
-invariant-partition l = cells_fit (drop l.wanted-index l.partition) (fields_seen l.fields) ≡ cells_fit l.partition (fields_seen l.fields)
+invariant-partition l = cells_fit (drop l.wanted-index l.partition) (fields_seen l.fields) ≡ cells_fit l.partition
+    (fields_seen l.fields)

@@ -6,7 +6,8 @@ use Rattle.ice_meta.proofs.schema_text.+texts.Given as goal
 
 abbrev pub invariant-each_field-fields : goal.invariant-each_field-fields
 invariant-each_field-fields l =
-    joined (items_view l.fields.items) (each_field (nested_in l.levels) (items_view (drop l.item-index l.item-items))) ≡ each_field (nested_in l.levels) (items_view l.item-items)
+    joined (items_view l.fields.items) (each_field (nested_in l.levels) (items_view (drop l.item-index l.item-items)))
+    ≡ each_field (nested_in l.levels) (items_view l.item-items)
 
 -- the levels, and then how far a call is from the next level
 abbrev pub decreases-nested_of : goal.decreases-nested_of

@@ -5,4 +5,5 @@ use Rattle.ice_meta.specs.Tables.{partition_field_of}
 use Rattle.ice_meta.proofs.tables.each_partition_field.Given as goal
 
 abbrev pub invariant-fields : goal.invariant-fields
-invariant-fields l = each_into (one_more partition_field_of) (items_view (drop l.item-index l.item-items)) l.fields ≡ each_into (one_more partition_field_of) (items_view l.item-items) []
+invariant-fields l = each_into (one_more partition_field_of) (items_view (drop l.item-index l.item-items)) l.fields
+    ≡ each_into (one_more partition_field_of) (items_view l.item-items) []

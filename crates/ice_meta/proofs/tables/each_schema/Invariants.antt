@@ -5,4 +5,5 @@ use Rattle.ice_meta.specs.Schemas.{schema_of}
 use Rattle.ice_meta.proofs.tables.each_schema.Given as goal
 
 abbrev pub invariant-schemas : goal.invariant-schemas
-invariant-schemas l = each_into (one_more schema_of) (items_view (drop l.item-index l.item-items)) l.schemas ≡ each_into (one_more schema_of) (items_view l.item-items) []
+invariant-schemas l = each_into (one_more schema_of) (items_view (drop l.item-index l.item-items)) l.schemas ≡ each_into
+    (one_more schema_of) (items_view l.item-items) []

@@ -5,4 +5,5 @@ use Rattle.ice_meta.specs.Tables.{snapshot_of}
 use Rattle.ice_meta.proofs.tables.each_snapshot.Given as goal
 
 abbrev pub invariant-snapshots : goal.invariant-snapshots
-invariant-snapshots l = each_into (one_more snapshot_of) (items_view (drop l.item-index l.item-items)) l.snapshots ≡ each_into (one_more snapshot_of) (items_view l.item-items) []
+invariant-snapshots l = each_into (one_more snapshot_of) (items_view (drop l.item-index l.item-items)) l.snapshots
+    ≡ each_into (one_more snapshot_of) (items_view l.item-items) []

@@ -10,10 +10,12 @@ pub returns-in_err-put_named_int-in-len1-up : goal.returns-in_err-put_named_int-
 returns-in_err-put_named_int-in-len1-up g c =
     let f : SFits w32 (get_or c.args.ids.now 0 (pos 0)) = search rules in
     let sent = simp to_z-of_z at c.in_err-put_named_int-in-len1-up.ensures in
-    rw (ids_first c.args.ids.now c.in-len1-up.len_at_least) (sent_less _ _ _ _ _ _ _ _ _ _ _ c.from_residual.ensures.0 sent)
+    rw (ids_first c.args.ids.now c.in-len1-up.len_at_least) (sent_less _ _ _ _ _ _ _ _ _ _ _ c.from_residual.ensures.0
+    sent)
 
 pub returns-in_ok-put_named_int-in-len1-up : goal.returns-in_ok-put_named_int-in-len1-up
 returns-in_ok-put_named_int-in-len1-up g c =
     let f : SFits w32 (get_or c.args.ids.now 0 (pos 0)) = search rules in
     let sent = simp to_z-of_z at c.in_ok-put_named_int-in-len1-up.ensures in
-    rw (ids_first c.args.ids.now c.in-len1-up.len_at_least) (sent_more _ _ _ _ _ _ _ _ _ _ _ _ sent (rw (take_rest c.args.ids.now 1) at c.put_more_ids.ensures))
+    rw (ids_first c.args.ids.now c.in-len1-up.len_at_least) (sent_more _ _ _ _ _ _ _ _ _ _ _ _ sent
+    (rw (take_rest c.args.ids.now 1) at c.put_more_ids.ensures))

@@ -16,7 +16,8 @@ loop-id-preserved g c =
     let l : i < length ids = omega arith in
     let f : SFits w32 (get_or ids i (pos 0)) = search rules in
     let sent = simp to_z-of_z at c.in_ok-put_named_int.ensures in
-    rw (add-one, flat_next behind_comma ids i (get_or ids i (pos 0)) (number_at ids i l)) (sent_more _ _ _ _ _ _ _ _ _ _ _ _ c.loop-id.invariant sent)
+    rw (add-one, flat_next behind_comma ids i (get_or ids i (pos 0)) (number_at ids i l)) (sent_more _ _ _ _ _ _ _ _ _ _
+    _ _ c.loop-id.invariant sent)
 
 pub returns-in_err-put_named_int : goal.returns-in_err-put_named_int
 returns-in_err-put_named_int g c =
@@ -26,4 +27,5 @@ returns-in_err-put_named_int g c =
     let f : SFits w32 (get_or ids i (pos 0)) = search rules in
     let sent = simp to_z-of_z at c.in_err-put_named_int.ensures in
     rw (flat_cut behind_comma ids i (get_or ids i (pos 0)) (number_at ids i l))
-    (sent_more _ _ _ _ _ _ _ _ _ _ _ _ c.loop-id.invariant (sent_less _ _ _ _ _ _ _ _ _ _ _ c.from_residual.ensures.0 sent))
+    (sent_more _ _ _ _ _ _ _ _ _ _ _ _ c.loop-id.invariant (sent_less _ _ _ _ _ _ _ _ _ _ _ c.from_residual.ensures.0
+    sent))

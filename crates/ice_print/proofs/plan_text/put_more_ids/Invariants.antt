@@ -6,4 +6,5 @@ use Rattle.ice_print.proofs.plan_text.put_more_ids.Given as goal
 
 -- the ids so far were sent
 abbrev pub invariant-loop-id : goal.invariant-loop-id
-invariant-loop-id g l = Sent g.S.Sink.taken g.S.Sink.may_fail l.fn.sink l.fn.page (Ok tt) l.sink l.page (flat_map (λ i. 44 ∷ signed_decimal i) (take l.id-index l.ids))
+invariant-loop-id g l = Sent g.S.Sink.taken g.S.Sink.may_fail l.fn.sink l.fn.page (Ok tt) l.sink l.page
+    (flat_map (λ i. 44 ∷ signed_decimal i) (take l.id-index l.ids))

@@ -4,7 +4,8 @@ use Rattle.ice_print.proofs.plan_text.put_position.Goals as goal
 
 pub returns-in_err-put_numbered_path : goal.returns-in_err-put_numbered_path
 unfolding position_text
-returns-in_err-put_numbered_path g c = sent_less _ _ _ _ _ _ _ _ _ _ _ c.from_residual.ensures.0 c.in_err-put_numbered_path.ensures
+returns-in_err-put_numbered_path g c = sent_less _ _ _ _ _ _ _ _ _ _ _ c.from_residual.ensures.0
+    c.in_err-put_numbered_path.ensures
 
 pub returns : goal.returns
 unfolding position_text

@@ -15,7 +15,8 @@ unfolding change_text
 returns-in_err-put_named_number g c =
     let f : SFits w64 c.args.snapshot.now.id = search rules in
     sent_more _ _ _ _ _ _ _ _ _ _ _ _ (simp to_z-of_z at c.in_ok-put_named_long.ensures)
-    (sent_less _ _ _ _ _ _ _ _ _ _ _ c.from_residual-in_err-put_named_number.ensures.0 (rw c.get.ensures.same at c.in_err-put_named_number.ensures))
+    (sent_less _ _ _ _ _ _ _ _ _ _ _ c.from_residual-in_err-put_named_number.ensures.0 (rw c.get.ensures.same at
+    c.in_err-put_named_number.ensures))
 
 pub returns : goal.returns
 unfolding change_text
@@ -23,4 +24,5 @@ returns g c =
     let f : SFits w64 c.args.snapshot.now.id = search rules in
     let f2 : SFits w64 c.args.snapshot.now.timestamp_ms = search rules in
     sent_more _ _ _ _ _ _ _ _ _ _ _ _ (simp to_z-of_z at c.in_ok-put_named_long.ensures)
-    (sent_more _ _ _ _ _ _ _ _ _ _ _ _ (rw c.get.ensures.same at c.in_ok-put_named_number.ensures) (simp to_z-of_z at c.put_named_long-2.ensures))
+    (sent_more _ _ _ _ _ _ _ _ _ _ _ _ (rw c.get.ensures.same at c.in_ok-put_named_number.ensures)
+    (simp to_z-of_z at c.put_named_long-2.ensures))

@@ -12,7 +12,8 @@ pub returns-in_err-put_named_number : goal.returns-in_err-put_named_number
 returns-in_err-put_named_number g c =
     let fits : SFits w32 c.args.id = search rules in
     sent_more _ _ _ _ _ _ _ _ _ _ _ _ (simp to_z-of_z at c.in_ok-put_named_int.ensures)
-    (sent_less _ _ _ _ _ _ _ _ _ _ _ c.from_residual-in_err-put_named_number.ensures.0 c.in_err-put_named_number.ensures)
+    (sent_less _ _ _ _ _ _ _ _ _ _ _ c.from_residual-in_err-put_named_number.ensures.0
+    c.in_err-put_named_number.ensures)
 
 pub returns : goal.returns
 returns g c =

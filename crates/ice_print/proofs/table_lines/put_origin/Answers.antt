@@ -4,12 +4,15 @@ use Rattle.ice_print.proofs.table_lines.put_origin.Goals as goal
 
 pub returns-in_err-put_named_id : goal.returns-in_err-put_named_id
 unfolding origin_text
-returns-in_err-put_named_id g c = sent_less _ _ _ _ _ _ _ _ _ _ _ c.from_residual.ensures.0 c.in_err-put_named_id.ensures
+returns-in_err-put_named_id g c = sent_less _ _ _ _ _ _ _ _ _ _ _ c.from_residual.ensures.0
+    c.in_err-put_named_id.ensures
 
 pub returns-in_err-put_named_text : goal.returns-in_err-put_named_text
 unfolding origin_text
-returns-in_err-put_named_text g c = sent_more _ _ _ _ _ _ _ _ _ _ _ _ c.in_ok-put_named_id.ensures (sent_less _ _ _ _ _ _ _ _ _ _ _ c.from_residual-in_err-put_named_text.ensures.0 c.in_err-put_named_text.ensures)
+returns-in_err-put_named_text g c = sent_more _ _ _ _ _ _ _ _ _ _ _ _ c.in_ok-put_named_id.ensures
+    (sent_less _ _ _ _ _ _ _ _ _ _ _ c.from_residual-in_err-put_named_text.ensures.0 c.in_err-put_named_text.ensures)
 
 pub returns : goal.returns
 unfolding origin_text
-returns g c = sent_more _ _ _ _ _ _ _ _ _ _ _ _ c.in_ok-put_named_id.ensures (sent_more _ _ _ _ _ _ _ _ _ _ _ _ c.in_ok-put_named_text.ensures c.put_named_text-2.ensures)
+returns g c = sent_more _ _ _ _ _ _ _ _ _ _ _ _ c.in_ok-put_named_id.ensures (sent_more _ _ _ _ _ _ _ _ _ _ _ _
+    c.in_ok-put_named_text.ensures c.put_named_text-2.ensures)

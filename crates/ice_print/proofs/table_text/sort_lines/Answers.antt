@@ -9,6 +9,11 @@ returns g c =
     let before = λ (a : Bor g.row.T.Denot) (b : Bor g.row.T.Denot). is_lt (g.T.TableLine.order a.now b.now) in
     let order : IsStrictWeakOrder before = ranks_by g.met.T.TableLine.total (λ (a : Bor g.row.T.Denot). a.now) in
     let sort = sorted_from_sort before order c.args.items.now.items c.sort_by.new.self.items
-    (c.in_ok-sort_by.ensures.sorted before order (answers_always _ (λ (a : Bor (Bor g.row.T.Denot) × (Bor (Bor g.row.T.Denot) × Unit {0})) (r : Ordering). is_lt r ≡ before a.0.now a.1.0.now) _ (λ f a r h k. search rules)))
-    (c.in_ok-sort_by.ensures.stable before order (answers_always _ (λ (a : Bor (Bor g.row.T.Denot) × (Bor (Bor g.row.T.Denot) × Unit {0})) (r : Ordering). is_lt r ≡ before a.0.now a.1.0.now) _ (λ f a r h k. search rules))) in
-    ap (map (λ (x : Bor g.row.T.Denot). x.now)) sort ∙ map-sorted (λ (x : Bor g.row.T.Denot). x.now) (λ a b. is_lt (g.T.TableLine.order a b)) c.args.items.now.items
+    (c.in_ok-sort_by.ensures.sorted before order
+    (answers_always _ (λ (a : Bor (Bor g.row.T.Denot) × (Bor (Bor g.row.T.Denot) × Unit {0})) (r : Ordering). is_lt
+    r ≡ before a.0.now a.1.0.now) _ (λ f a r h k. search rules)))
+    (c.in_ok-sort_by.ensures.stable before order
+    (answers_always _ (λ (a : Bor (Bor g.row.T.Denot) × (Bor (Bor g.row.T.Denot) × Unit {0})) (r : Ordering). is_lt
+    r ≡ before a.0.now a.1.0.now) _ (λ f a r h k. search rules))) in
+    ap (map (λ (x : Bor g.row.T.Denot). x.now)) sort ∙ map-sorted (λ (x : Bor g.row.T.Denot). x.now)
+    (λ a b. is_lt (g.T.TableLine.order a b)) c.args.items.now.items

@@ -3,7 +3,8 @@ use Rattle.ice_print.specs.Escaping.{before}
 use Rattle.ice_print.proofs.unescaping.unescape.Goals as goal
 
 -- a byte at the front of the rest, or at the end of what was read
-moved : (xs ys : List ℕ) (b : ℕ) (rest : Option (List ℕ)) → ys ≡ xs ++ b ∷ [] → option_map (λ more. xs ++ more) (before (Some b) rest) ≡ option_map (λ more. ys ++ more) rest
+moved : (xs ys : List ℕ) (b : ℕ) (rest : Option (List ℕ)) → ys ≡ xs ++ b ∷ []
+    → option_map (λ more. xs ++ more) (before (Some b) rest) ≡ option_map (λ more. ys ++ more) rest
 moved xs ys b None e = refl
 moved xs ys b (Some more) e = rw (e, append_assoc) refl
 

@@ -8,4 +8,5 @@ from_items-requires c =
     let fields = c.as_slice-2.result.now in
     let parts = c.as_slice-3.result.now in
     let whole : is_filter parts ≡ true = ap is_filter c.as_slice-3.ensures.parts ∙ c.as_slice-3.ensures.filter in
-    ap is_filter c.in_ok-parts.ensures ∙ (c.filters_over_other_leaves.ensures.filter (leaf_tests 0 fields) parts ∙ whole)
+    ap is_filter c.in_ok-parts.ensures ∙ (c.filters_over_other_leaves.ensures.filter (leaf_tests 0 fields) parts ∙
+    whole)

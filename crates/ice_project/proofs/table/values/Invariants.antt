@@ -6,4 +6,5 @@ use Rattle.ice_project.proofs.table.values.Given as goal
 
 abbrev pub invariant-literals : goal.invariant-literals
 invariant-literals l =
-    option_map (λ more. l.found ++ more) (values (value_of l.transform l.source) (drop l.literal-index l.literals)) ≡ values (value_of l.transform l.source) l.literals
+    option_map (λ more. l.found ++ more) (values (value_of l.transform l.source) (drop l.literal-index l.literals))
+    ≡ values (value_of l.transform l.source) l.literals

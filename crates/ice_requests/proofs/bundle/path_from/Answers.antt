@@ -14,7 +14,8 @@ no_utf8 bytes false e nope = refl
 text : (o : Option (List ℕ)) (bytes : List ℕ) → Some bytes ≡ o → IsUtf8 bytes → option_and_then if_text o ≡ Some bytes
 text o bytes e h = rw (← e, is_utf8-from_IsUtf8 bytes h) refl
 
-no_text : (o : Option (List ℕ)) (bytes : List ℕ) → Some bytes ≡ o → (IsUtf8 bytes → ⊥) → option_and_then if_text o ≡ None
+no_text : (o : Option (List ℕ)) (bytes : List ℕ) → Some bytes ≡ o → (IsUtf8 bytes → ⊥)
+    → option_and_then if_text o ≡ None
 no_text o bytes e h = rw (← e, no_utf8 bytes (is_utf8 bytes) refl h) refl
 
 pub returns-in-Ok : goal.returns-in-Ok

@@ -14,11 +14,13 @@ returns-in_err-text-clause-refused g c =
 
 pub returns-in_err-read_change-clause-refused : goal.returns-in_err-read_change-clause-refused
 returns-in_err-read_change-clause-refused g c =
-    let p = err_from_is_err_and c.from_residual-in_err-read_change.result c.from_residual-in_err-read_change.ensures.1 in
+    let p = err_from_is_err_and c.from_residual-in_err-read_change.result
+    c.from_residual-in_err-read_change.ensures.1 in
     let f = g.F.Files.may_fail c.args.files.now in
     λ world told.
     let found = (rw c.as_str.ensures at (c.in_ok-text.ensures.found world told)) ∙ ap Ok (sym c.deref.ensures.value) in
-    rw (p.1, p.2) (bad_change f world c.args.request.now _ found c.in_err-read_change.field-0.0 c.in_err-read_change.ensures)
+    rw (p.1, p.2) (bad_change f world c.args.request.now _ found c.in_err-read_change.field-0.0
+    c.in_err-read_change.ensures)
 
 pub returns-clause-found : goal.returns-clause-found
 returns-clause-found g c =

@@ -28,7 +28,8 @@ returns-in_err-put_commit-clause-refused g c =
 
 pub returns-in_err-put_receipt-clause-refused : goal.returns-in_err-put_receipt-clause-refused
 returns-in_err-put_receipt-clause-refused g c =
-    let p = err_from_is_err_and c.from_residual-in_err-put_receipt.result c.from_residual-in_err-put_receipt.ensures.1 in
+    let p = err_from_is_err_and c.from_residual-in_err-put_receipt.result
+    c.from_residual-in_err-put_receipt.ensures.1 in
     λ world told.
     let made = c.in_ok-prepared.ensures.prepared world told in
     rw (p.1, p.2)
@@ -38,7 +39,8 @@ pub returns-clause-made : goal.returns-clause-made
 returns-clause-made g c = λ world told.
     let made = c.in_ok-prepared.ensures.prepared world told in
     let put = c.in_ok-put_commit.ensures.all made.0 made.2 in
-    let table = table_is c.in_ok-prepared.prepared made.0 c.version.result.now _ made.2 c.version.ensures c.metadata.ensures in
+    let table = table_is c.in_ok-prepared.prepared made.0 c.version.result.now _ made.2 c.version.ensures
+    c.metadata.ensures in
     let number = c.get.ensures.same ∙ ap (λ t. t.last_sequence_number) (c.table.ensures ∙ table) in
     let fits : SFits w64 c.args.request.now.ids.snapshot = search rules in
     let receipt = simp to_z-of_z at c.in_ok-put_receipt.ensures.all in (

@@ -26,7 +26,8 @@ returns-clause-prepared g c =
     let f = g.F.Files.may_fail c.args.files.now in
     λ world told.
     let has = (rw c.as_str.ensures at (c.in_ok-bytes.ensures.found world told)) ∙ ap Ok (sym c.deref.ensures.value) in
-    let is = asked_is f world c.args.request.now _ has c.in_ok-change.change (c.in_ok-change.ensures.found world told) in
+    let is = asked_is f world c.args.request.now _ has c.in_ok-change.change (c.in_ok-change.ensures.found world
+    told) in
     rw is (c.prepare_from.ensures.prepared world told)
 
 pub returns-clause-refused : goal.returns-clause-refused
@@ -34,5 +35,6 @@ returns-clause-refused g c =
     let f = g.F.Files.may_fail c.args.files.now in
     λ world told.
     let has = (rw c.as_str.ensures at (c.in_ok-bytes.ensures.found world told)) ∙ ap Ok (sym c.deref.ensures.value) in
-    let is = asked_is f world c.args.request.now _ has c.in_ok-change.change (c.in_ok-change.ensures.found world told) in
+    let is = asked_is f world c.args.request.now _ has c.in_ok-change.change (c.in_ok-change.ensures.found world
+    told) in
     rw is (c.prepare_from.ensures.refused world told)

@@ -7,7 +7,8 @@ use Rattle.ice_requests.proofs.show.show_file.Goals as goal
 pub returns-in_err-bytes-clause-refused : goal.returns-in_err-bytes-clause-refused
 returns-in_err-bytes-clause-refused g c =
     let p = err_from_is_err_and c.from_residual.result c.from_residual.ensures.1 in
-    λ world told. rw (p.1, p.2) (file_ends world c.args.path.now _ (g.W.Sink.may_fail c.args.output.now) c.in_err-bytes.field-0.0 (c.in_err-bytes.ensures.refused world told))
+    λ world told. rw (p.1, p.2) (file_ends world c.args.path.now _ (g.W.Sink.may_fail c.args.output.now)
+    c.in_err-bytes.field-0.0 (c.in_err-bytes.ensures.refused world told))
 
 pub returns-clause-written : goal.returns-clause-written
 returns-clause-written g c =
@@ -20,7 +21,8 @@ pub returns-clause-refused : goal.returns-clause-refused
 returns-clause-refused g c =
     λ world told.
     let has = c.in_ok-bytes.ensures.found world told ∙ ap Ok (sym c.deref.ensures.value) in
-    IfErr-weaker c.run_show.result _ _ (λ e h. bytes_end world c.args.path.now c.deref.result.now has _ (g.W.Sink.may_fail c.args.output.now) e h) c.run_show.ensures.refused
+    IfErr-weaker c.run_show.result _ _ (λ e h. bytes_end world c.args.path.now c.deref.result.now has _
+    (g.W.Sink.may_fail c.args.output.now) e h) c.run_show.ensures.refused
 
 pub returns-clause-front : goal.returns-clause-front
 returns-clause-front g c =

@@ -17,8 +17,11 @@ returns c =
     let first = c.in_ok-in_order.field-0 in
     let rest = c.in_ok-in_order-2.field-0 in
     let Q : List ℕ → Type 0 = λ ns. IsPermutation ns first in
-    let positions : first ≡ numbers_of PositionDeletes c.args.index.now x = ascending_numbers (λ d. holds PositionDeletes d && applies x d) c.args.index.now hits.positions.now first
-    found.positions (subst Q (append-nil hits.positions.now) c.in_ok-in_order.ensures.same) c.in_ok-in_order.ensures.rising in
-    let equalities : rest ≡ numbers_of EqualityDeletes c.args.index.now x = ascending_numbers (λ d. holds EqualityDeletes d && applies x d) c.args.index.now (hits.equalities.now ++ hits.everywhere.now) rest
+    let positions : first ≡ numbers_of PositionDeletes c.args.index.now x = ascending_numbers
+    (λ d. holds PositionDeletes d && applies x d) c.args.index.now hits.positions.now first
+    found.positions (subst Q (append-nil hits.positions.now) c.in_ok-in_order.ensures.same)
+    c.in_ok-in_order.ensures.rising in
+    let equalities : rest ≡ numbers_of EqualityDeletes c.args.index.now x = ascending_numbers
+    (λ d. holds EqualityDeletes d && applies x d) c.args.index.now (hits.equalities.now ++ hits.everywhere.now) rest
     found.equalities c.in_ok-in_order-2.ensures.same c.in_ok-in_order-2.ensures.rising in
     rw (positions, equalities) refl

@@ -6,4 +6,5 @@ use Rattle.ice_state.proofs.finish.check_once.Goals as goal
 
 pub returns : goal.returns
 returns c =
-    sym c.loop-i.invariant ∙ twice_short (map (λ (x : Bor Entry). x.now) (drop (c.loop-i.i - 1) c.args.entries.now)) (simp (length-map, length-drop) (omega arith))
+    sym c.loop-i.invariant ∙ twice_short (map (λ (x : Bor Entry). x.now) (drop (c.loop-i.i - 1) c.args.entries.now))
+    (simp (length-map, length-drop) (omega arith))

@@ -10,6 +10,7 @@ returns c =
     record {
       same_partition = of_same_partition c.projections_of_same_tuples.ensures;
       open_where_unpartitioned = opens;
-      deletes = λ filter specs x l says applies met. kept_together specs (pruner_of filter specs) (opens filter specs) x l says met ((applies-decides x l.entry).1 applies);
+      deletes = λ filter specs x l says applies met. kept_together specs (pruner_of filter specs) (opens filter specs) x
+          l says met ((applies-decides x l.entry).1 applies);
       sound = sound_of c.summary_soundness.ensures;
     }

@@ -9,5 +9,6 @@ returns c = record {
   content = after-content;
   rows = taken-at;
   contents = same_content;
-  outcomes = λ world scan run other is is' same. ap (λ (s : Content). outcome scan s) (same_content world scan run other is is' same);
+  outcomes = λ world scan run other is is' same. ap (λ (s : Content). outcome scan s) (same_content world scan run other
+      is is' same);
 }

@@ -13,5 +13,10 @@ returns c =
             shared = omega (arith, l.0, count-by_path xs p);
             least = λ q k. l.1 q (omega (arith, k, count-by_path xs q));
           };
-      none = λ xs p h. omega (arith, none_shared (by_path xs) p (sorted_rises path_before order xs) h, count-by_path xs p);
+      none = λ xs p h. omega (
+        arith,
+        none_shared (by_path xs) p (sorted_rises path_before order xs) h,
+        count-by_path xs
+            p,
+      );
     }

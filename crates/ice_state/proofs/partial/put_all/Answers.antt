@@ -9,7 +9,8 @@ loop-slot-preserved-in-Some-slot c =
     let at : c.len.result ≡ length c.pop.new.self.items = grind (arith, common_steps) in
     record {
       fits = grind (arith, common_steps, length-with_row, c.put_row.ensures);
-      rest = put_last _ _ _ _ _ _ _ c.put_row.ensures at c.in-Some-slot.is c.in-Some.ensures.items room ∙ c.loop-slot.invariant.rest;
+      rest = put_last _ _ _ _ _ _ _ c.put_row.ensures at c.in-Some-slot.is c.in-Some.ensures.items room ∙
+          c.loop-slot.invariant.rest;
     }
 
 pub loop-slot-preserved : goal.loop-slot-preserved

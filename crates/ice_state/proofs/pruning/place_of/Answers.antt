@@ -7,5 +7,6 @@ use Rattle.ice_state.proofs.pruning.place_of.Goals as goal
 pub returns : goal.returns
 returns c =
     let id = c.args.row.now.spec_id in
-    let point = c.partition_point.ensures.partitioned (λ s. int_lt s.id c.args.row.now.spec_id) (always_returns_same _ _ _ (λ a r f k. search (rules, of_calls))) (parted id c.args.specs.now c.requires) in
+    let point = c.partition_point.ensures.partitioned (λ s. int_lt s.id c.args.row.now.spec_id) (always_returns_same _ _
+    _ (λ a r f k. search (rules, of_calls))) (parted id c.args.specs.now c.requires) in
     found id c.args.specs.now c.partition_point.result c.requires point

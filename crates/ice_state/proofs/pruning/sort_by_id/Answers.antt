@@ -9,5 +9,7 @@ use Rattle.ice_state.proofs.pruning.sort_by_id.Goals as goal
 pub returns : goal.returns
 returns c =
     sorted_from_sort id_before id_order c.args.specs.now.items c.sort_by.new.self.items
-    (c.in_ok-sort_by.ensures.sorted id_before id_order (answers_always _ (λ (a : Bor Spec × (Bor Spec × Unit {0})) (r : Ordering). is_lt r ≡ id_before a.0.now a.1.0.now) _ (λ f a r g h. search rules)))
-    (c.in_ok-sort_by.ensures.stable id_before id_order (answers_always _ (λ (a : Bor Spec × (Bor Spec × Unit {0})) (r : Ordering). is_lt r ≡ id_before a.0.now a.1.0.now) _ (λ f a r g h. search rules)))
+    (c.in_ok-sort_by.ensures.sorted id_before id_order (answers_always _ (λ (a : Bor Spec × (Bor Spec × Unit {0}))
+    (r : Ordering). is_lt r ≡ id_before a.0.now a.1.0.now) _ (λ f a r g h. search rules)))
+    (c.in_ok-sort_by.ensures.stable id_before id_order (answers_always _ (λ (a : Bor Spec × (Bor Spec × Unit {0}))
+    (r : Ordering). is_lt r ≡ id_before a.0.now a.1.0.now) _ (λ f a r g h. search rules)))

@@ -9,5 +9,7 @@ use Rattle.ice_state.proofs.scan.sort_by_path.Goals as goal
 pub returns : goal.returns
 returns c =
     sorted_from_sort row_before row_order c.args.rows.now.items c.sort_by.new.self.items
-    (c.in_ok-sort_by.ensures.sorted row_before row_order (answers_always _ (λ (a : Bor Row × (Bor Row × Unit {0})) (r : Ordering). is_lt r ≡ row_before a.0.now a.1.0.now) _ (λ f a r g h. search rules)))
-    (c.in_ok-sort_by.ensures.stable row_before row_order (answers_always _ (λ (a : Bor Row × (Bor Row × Unit {0})) (r : Ordering). is_lt r ≡ row_before a.0.now a.1.0.now) _ (λ f a r g h. search rules)))
+    (c.in_ok-sort_by.ensures.sorted row_before row_order (answers_always _ (λ (a : Bor Row × (Bor Row × Unit {0}))
+    (r : Ordering). is_lt r ≡ row_before a.0.now a.1.0.now) _ (λ f a r g h. search rules)))
+    (c.in_ok-sort_by.ensures.stable row_before row_order (answers_always _ (λ (a : Bor Row × (Bor Row × Unit {0}))
+    (r : Ordering). is_lt r ≡ row_before a.0.now a.1.0.now) _ (λ f a r g h. search rules)))

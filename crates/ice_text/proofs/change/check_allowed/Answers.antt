@@ -17,5 +17,6 @@ with_some (d ∷ ds) some = refl
 pub returns-then-not-is_empty : goal.returns-then-not-is_empty
 returns-then-not-is_empty c =
     let append : c.args.kind ≡ Append = search rules in
-    let some : (length c.args.deletes.now.items == 0) ≡ false = rw c.as_slice.ensures.value at (sym c.is_empty.ensures ∙ c.if-not-is_empty.true) in
+    let some : (length c.args.deletes.now.items == 0) ≡ false = rw c.as_slice.ensures.value at (sym c.is_empty.ensures ∙
+    c.if-not-is_empty.true) in
     λ _. rw append (with_some c.args.deletes.now.items some)

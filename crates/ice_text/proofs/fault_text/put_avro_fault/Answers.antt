@@ -4,11 +4,13 @@ use Rattle.ice_text.proofs.fault_text.put_avro_fault.Goals as goal
 
 pub returns-in_err-write_all-in-Schema : goal.returns-in_err-write_all-in-Schema
 unfolding avro_text
-returns-in_err-write_all-in-Schema g c = rw c.in-Schema.is (wrote_less _ _ _ _ _ _ _ _ c.from_residual.ensures.0 c.in_err-write_all-in-Schema.ensures)
+returns-in_err-write_all-in-Schema g c = rw c.in-Schema.is (wrote_less _ _ _ _ _ _ _ _ c.from_residual.ensures.0
+    c.in_err-write_all-in-Schema.ensures)
 
 pub returns-in_ok-write_all-in-Schema : goal.returns-in_ok-write_all-in-Schema
 unfolding avro_text
-returns-in_ok-write_all-in-Schema g c = rw c.in-Schema.is (wrote_more _ _ _ _ _ _ _ _ _ c.in_ok-write_all-in-Schema.ensures c.put_schema_fault.ensures)
+returns-in_ok-write_all-in-Schema g c = rw c.in-Schema.is (wrote_more _ _ _ _ _ _ _ _ _
+    c.in_ok-write_all-in-Schema.ensures c.put_schema_fault.ensures)
 
 pub returns-in-Truncated : goal.returns-in-Truncated
 unfolding avro_text

@@ -8,7 +8,8 @@ returns-in-NotJson g c = rw c.in-NotJson.is c.write_all.ensures
 
 pub returns-in_err-write_all-in-Bad : goal.returns-in_err-write_all-in-Bad
 unfolding change_text
-returns-in_err-write_all-in-Bad g c = rw c.in-Bad.is (wrote_less _ _ _ _ _ _ _ _ c.from_residual.ensures.0 c.in_err-write_all-in-Bad.ensures)
+returns-in_err-write_all-in-Bad g c = rw c.in-Bad.is (wrote_less _ _ _ _ _ _ _ _ c.from_residual.ensures.0
+    c.in_err-write_all-in-Bad.ensures)
 
 pub returns-in_ok-write_all-in-Bad : goal.returns-in_ok-write_all-in-Bad
 unfolding change_text

@@ -6,23 +6,28 @@ use Rattle.ice_text.proofs.fault_text.put_list_fault.Goals as goal
 
 pub returns-in_err-write_all-in-Avro : goal.returns-in_err-write_all-in-Avro
 unfolding list_text
-returns-in_err-write_all-in-Avro g c = rw c.in-Avro.is (wrote_less _ _ _ _ _ _ _ _ c.from_residual.ensures.0 c.in_err-write_all-in-Avro.ensures)
+returns-in_err-write_all-in-Avro g c = rw c.in-Avro.is (wrote_less _ _ _ _ _ _ _ _ c.from_residual.ensures.0
+    c.in_err-write_all-in-Avro.ensures)
 
 pub returns-in_ok-write_all-in-Avro : goal.returns-in_ok-write_all-in-Avro
 unfolding list_text
-returns-in_ok-write_all-in-Avro g c = rw c.in-Avro.is (wrote_more _ _ _ _ _ _ _ _ _ c.in_ok-write_all-in-Avro.ensures c.put_avro_fault.ensures)
+returns-in_ok-write_all-in-Avro g c = rw c.in-Avro.is (wrote_more _ _ _ _ _ _ _ _ _ c.in_ok-write_all-in-Avro.ensures
+    c.put_avro_fault.ensures)
 
 pub returns-in-MissingField : goal.returns-in-MissingField
 unfolding list_text
-returns-in-MissingField g c = let fits : SFits w32 c.in-MissingField.id = search rules in rw c.in-MissingField.is (simp to_z-of_z at c.put_named_int.ensures)
+returns-in-MissingField g c = let fits : SFits w32 c.in-MissingField.id = search rules in rw c.in-MissingField.is
+    (simp to_z-of_z at c.put_named_int.ensures)
 
 pub returns-in-WrongFieldType : goal.returns-in-WrongFieldType
 unfolding list_text
-returns-in-WrongFieldType g c = let fits : SFits w32 c.in-WrongFieldType.id = search rules in rw c.in-WrongFieldType.is (simp to_z-of_z at c.put_named_int-in-WrongFieldType.ensures)
+returns-in-WrongFieldType g c = let fits : SFits w32 c.in-WrongFieldType.id = search rules in rw c.in-WrongFieldType.is
+    (simp to_z-of_z at c.put_named_int-in-WrongFieldType.ensures)
 
 pub returns-in-OutOfRange : goal.returns-in-OutOfRange
 unfolding list_text
-returns-in-OutOfRange g c = let fits : SFits w32 c.in-OutOfRange.id = search rules in rw c.in-OutOfRange.is (simp to_z-of_z at c.put_named_int-in-OutOfRange.ensures)
+returns-in-OutOfRange g c = let fits : SFits w32 c.in-OutOfRange.id = search rules in rw c.in-OutOfRange.is
+    (simp to_z-of_z at c.put_named_int-in-OutOfRange.ensures)
 
 pub returns-in-BadContent : goal.returns-in-BadContent
 unfolding list_text

@@ -9,11 +9,13 @@ returns-in-PathTaken g c = rw c.in-PathTaken.is (rw c.as_bytes.ensures at c.put_
 
 pub returns-in-PathTwice : goal.returns-in-PathTwice
 unfolding prepare_text
-returns-in-PathTwice g c = rw c.in-PathTwice.is (rw c.as_bytes-in-PathTwice.ensures at c.put_named_path-in-PathTwice.ensures)
+returns-in-PathTwice g c = rw c.in-PathTwice.is (rw c.as_bytes-in-PathTwice.ensures at
+    c.put_named_path-in-PathTwice.ensures)
 
 pub returns-in-WrongTuple : goal.returns-in-WrongTuple
 unfolding prepare_text
-returns-in-WrongTuple g c = rw c.in-WrongTuple.is (rw c.as_bytes-in-WrongTuple.ensures at c.put_named_path-in-WrongTuple.ensures)
+returns-in-WrongTuple g c = rw c.in-WrongTuple.is (rw c.as_bytes-in-WrongTuple.ensures at
+    c.put_named_path-in-WrongTuple.ensures)
 
 pub returns-in-BadFile : goal.returns-in-BadFile
 unfolding prepare_text

@@ -10,6 +10,9 @@ returns-else-left-gt0-clause-cut c =
 pub bytes-preserved : goal.bytes-preserved
 bytes-preserved c =
     elim c.if-open-gt0.branch [
-      | then-open-gt0 w ↦ rw (w.left-is, w.open-is) (sym (open_step c.args.text.now c.bytes.at c.bytes.left c.bytes.open c.bytes-test.true (omega arith)) ∙ c.bytes.invariant)
-      | else-open-gt0+then-left-gt0 w ↦ rw (w.left-is, w.open-is, w.follow-open.ensures) (sym (lead_step c.args.text.now c.bytes.at c.bytes.left c.bytes.open c.bytes-test.true (omega arith) (omega arith)) ∙ c.bytes.invariant)
+      | then-open-gt0 w ↦ rw (w.left-is, w.open-is) (sym (open_step c.args.text.now c.bytes.at c.bytes.left c.bytes.open
+          c.bytes-test.true (omega arith)) ∙ c.bytes.invariant)
+      | else-open-gt0+then-left-gt0 w ↦ rw (w.left-is, w.open-is, w.follow-open.ensures)
+          (sym (lead_step c.args.text.now c.bytes.at c.bytes.left c.bytes.open c.bytes-test.true (omega arith)
+          (omega arith)) ∙ c.bytes.invariant)
     ]

@@ -11,5 +11,6 @@ up_to a b = (λ h. grind (arith, nat_tests), λ h. grind (arith, nat_tests))
 
 pub returns-clause-test : goal.returns-clause-test
 returns-clause-test c =
-    rw c.count_points.ensures (same_from_decides (leb c.args.width (length (chars c.args.text.now))) (has_points c.args.width c.args.text.now)
+    rw c.count_points.ensures (same_from_decides (leb c.args.width (length (chars c.args.text.now)))
+    (has_points c.args.width c.args.text.now)
     (up_to c.args.width (length (chars c.args.text.now))) (text_has_points c.args.width c.args.text.now c.utf8.text))

@@ -13,7 +13,11 @@ returns-clause-cells c = cell_cmp_total
 
 pub returns-clause-same_cells : goal.returns-clause-same_cells
 returns-clause-same_cells c =
-    λ a b. (cell_cmp_same a b, λ e. let P : Cell → Type 0 = λ v. cell_cmp a v ≡ Equal in subst P e (tied_itself cell_cmp_total a))
+    λ a b. (
+      cell_cmp_same a b,
+      λ e. let P : Cell → Type 0 = λ v. cell_cmp a v ≡ Equal in
+          subst P e (tied_itself cell_cmp_total a),
+    )
 
 pub returns-clause-tuples : goal.returns-clause-tuples
 returns-clause-tuples c = tuple_cmp_total

@@ -16,13 +16,21 @@ groups-preserved c =
     let row = row_of (next_sequence c.args.metadata.now.table) in
     let step = seen_more c.args.groups.now n group c.groups-test.true c.index-groups-number.is in
     let rest = manifests_from m ids (n + 1) (all_seen (drop (n + 1) c.args.groups.now)) in
-    let all : manifest_of m ids n (seen group) ∷ rest ≡ manifests_from m ids n (all_seen (drop n c.args.groups.now)) = ap (manifests_from m ids n) (sym step) in
+    let all : manifest_of m ids n (seen group) ∷ rest ≡ manifests_from m ids n (all_seen (drop n c.args.groups.now)) =
+    ap (manifests_from m ids n) (sym step) in
     let number = c.next_sequence-sequence.ensures ∙ ap next_sequence c.table.ensures in
     record {
-      rows = moved row c.groups.additions.rows.items c.add_group.new.additions.rows.items _ (manifest_of m ids n (seen group)) rest
-          (rw number at c.in_ok-add_group.ensures.rows) (ap (λ ms. c.groups.additions.rows.items ++ map row ms) all ∙ c.groups.invariant.rows);
-      files = moved file_of c.groups.additions.files.items c.add_group.new.additions.files.items _ (manifest_of m ids n (seen group)) rest
-          c.in_ok-add_group.ensures.files (ap (λ ms. c.groups.additions.files.items ++ map file_of ms) all ∙ c.groups.invariant.files);
-      read = λ others. c.groups.invariant.read (subst (AllByRecursion IsReadBack) all (c.in_ok-add_group.ensures.read, others));
+      rows = moved row c.groups.additions.rows.items c.add_group.new.additions.rows.items _
+          (manifest_of m ids n (seen group)) rest
+          (rw number at c.in_ok-add_group.ensures.rows) (ap (λ ms. c.groups.additions.rows.items ++ map row ms) all ∙
+          c.groups.invariant.rows);
+      files = moved file_of c.groups.additions.files.items c.add_group.new.additions.files.items _
+          (manifest_of m ids n (seen group)) rest
+          c.in_ok-add_group.ensures.files (ap (λ ms. c.groups.additions.files.items ++ map file_of ms) all ∙
+          c.groups.invariant.files);
+      read = λ others. c.groups.invariant.read (subst (AllByRecursion IsReadBack) all (
+        c.in_ok-add_group.ensures.read,
+        others,
+      ));
       writable = (rw step at c.groups.invariant.writable).1;
     }

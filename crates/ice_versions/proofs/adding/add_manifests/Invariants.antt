@@ -11,8 +11,12 @@ invariant-groups l =
     let m = described l.metadata.json l.metadata.table in
     let rest = all_seen (drop l.number l.groups) in
     record {
-      rows : l.additions.rows.items ++ map (row_of (next_sequence l.metadata.table)) (manifests_from m l.ids l.number rest) ≡ l.fn.additions.rows.items ++ map (row_of (next_sequence l.metadata.table)) (manifests_from m l.ids 0 (all_seen l.groups));
-      files : l.additions.files.items ++ map file_of (manifests_from m l.ids l.number rest) ≡ l.fn.additions.files.items ++ map file_of (manifests_from m l.ids 0 (all_seen l.groups));
-      read : AllByRecursion IsReadBack (manifests_from m l.ids l.number rest) → AllByRecursion IsReadBack (manifests_from m l.ids 0 (all_seen l.groups));
+      rows : l.additions.rows.items ++ map (row_of (next_sequence l.metadata.table)) (manifests_from m l.ids l.number
+          rest) ≡ l.fn.additions.rows.items ++ map (row_of (next_sequence l.metadata.table)) (manifests_from m l.ids 0
+          (all_seen l.groups));
+      files : l.additions.files.items ++ map file_of (manifests_from m l.ids l.number rest) ≡ l.fn.additions.files.items
+          ++ map file_of (manifests_from m l.ids 0 (all_seen l.groups));
+      read : AllByRecursion IsReadBack (manifests_from m l.ids l.number rest)
+          → AllByRecursion IsReadBack (manifests_from m l.ids 0 (all_seen l.groups));
       writable : AllByRecursion (CanWrite m l.ids) rest;
     }

@@ -8,9 +8,11 @@ use Rattle.ice_versions.proofs.adding.heading_of.Goals as goal
 
 pub returns : goal.returns
 returns c =
-    let m : Described = described c.args.metadata.now.json c.args.metadata.now.table in
+    let m : Described = described c.args.common.now.metadata.now.json c.args.common.now.metadata.now.table in
     let spec = c.in_ok-spec.spec in
     let id : to_z w32 (of_z w32 c.args.group.now.spec_id) ≡ c.args.group.now.spec_id = search rules in
     let there = rw id at c.in_ok-spec.ensures in
-    let types = rw id at c.in_ok-types.ensures spec (ap (λ (specs : _). spec_in specs c.args.group.now.spec_id) c.requires.specs ∙ there) in
-    IfOk-weaker c.heading_with.result _ _ (λ h e. rw c.requires.schema at e ∙ heading_is m c.args.ids.now (seen c.args.group.now) spec c.in_ok-types.types there types) c.heading_with.ensures
+    let types = rw id at c.in_ok-types.ensures spec (ap (λ (specs : _). spec_in specs c.args.group.now.spec_id)
+    c.requires.specs ∙ there) in
+    IfOk-weaker c.heading_with.result _ _ (λ h e. rw c.requires.schema at e ∙ heading_is m c.args.common.now.ids.now
+    (seen c.args.group.now) spec c.in_ok-types.types there types) c.heading_with.ensures

@@ -14,7 +14,8 @@ returns-in-Ok c =
     let found = c.index-paths-at.result in
     let ord = λ (y : Bor (List ℕ)). slice_cmp nat_cmp y.now path in
     let equal = c.in-Ok.ensures.position ord (always_returns_same _ _ _ (λ a r f k. search (rules, of_calls))) in
-    let same = ap (λ (y : Bor (List ℕ)). y.now) c.index-paths-at.is ∙ list_same (get_or c.args.paths.now c.in-Ok.at found).now path (equal found) in
+    let same = ap (λ (y : Bor (List ℕ)). y.now) c.index-paths-at.is ∙ list_same (get_or c.args.paths.now c.in-Ok.at
+    found).now path (equal found) in
     rw (is_there c.args.paths.now path c.in-Ok.at found c.in-Ok.ensures.bound equal) (ap Some same)
 
 pub returns-in-Err : goal.returns-in-Err

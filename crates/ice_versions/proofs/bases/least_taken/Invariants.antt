@@ -12,5 +12,6 @@ invariant-rows l =
     let rest = drop l.row-index l.rows in
     record {
       bad : unreadable (manifest_at l.world specs) rest ≡ unreadable (manifest_at l.world specs) l.rows;
-      taken : fold lesser_path (option_copied l.least) (live_among paths (live_in l.world specs rest)) ≡ least_path (live_among paths (live_in l.world specs l.rows));
+      taken : fold lesser_path (option_copied l.least) (live_among paths (live_in l.world specs rest)) ≡ least_path
+          (live_among paths (live_in l.world specs l.rows));
     }

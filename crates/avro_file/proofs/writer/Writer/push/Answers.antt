@@ -10,14 +10,30 @@ pub returns-clause-given : goal.returns-clause-given
 unfolding WasGiven WillWrite
 returns-clause-given c =
     let v = view c.args.datum.now in
-    let one : c.in_ok-one.one.items ≡ written v = c.in_ok-one.ensures ∙ ap (λ (t : List ℕ). t ++ written v) c.new.ensures.items in
-    let more = c.in_ok-extend_from_slice.ensures.items ∙ ap (λ (t : List ℕ). c.args.self.now.content.items ++ t) (c.deref.ensures.value ∙ one) in
-    λ ps s vs was. (was.0, omega (arith, was.1, length-append vs (v ∷ [])), omega arith, pushed vs v c.args.self.now.content.items c.extend_from_slice.new.self.items was.3 more)
+    let one : c.in_ok-one.one.items ≡ written v = c.in_ok-one.ensures ∙ ap (λ (t : List ℕ). t ++ written v)
+    c.new.ensures.items in
+    let more = c.in_ok-extend_from_slice.ensures.items ∙ ap (λ (t : List ℕ). c.args.self.now.content.items ++ t)
+    (c.deref.ensures.value ∙ one) in
+    λ ps s vs was. (
+      was.0,
+      omega (arith, was.1, length-append vs (v ∷ [])),
+      omega arith,
+      pushed vs v
+          c.args.self.now.content.items c.extend_from_slice.new.self.items was.3 more,
+    )
 
 pub returns-clause-exact : goal.returns-clause-exact
 unfolding WasGiven WillWrite
 returns-clause-exact c =
     let v = view c.args.datum.now in
-    let one : c.in_ok-one.one.items ≡ written v = c.in_ok-one.ensures ∙ ap (λ (t : List ℕ). t ++ written v) c.new.ensures.items in
-    let more = c.in_ok-extend_from_slice.ensures.items ∙ ap (λ (t : List ℕ). c.args.self.now.content.items ++ t) (c.deref.ensures.value ∙ one) in
-    λ ps sync vs was. (was.0, was.1, omega (arith, was.2, length-append vs (v ∷ [])), pushed vs v c.args.self.now.content.items c.extend_from_slice.new.self.items was.3 more)
+    let one : c.in_ok-one.one.items ≡ written v = c.in_ok-one.ensures ∙ ap (λ (t : List ℕ). t ++ written v)
+    c.new.ensures.items in
+    let more = c.in_ok-extend_from_slice.ensures.items ∙ ap (λ (t : List ℕ). c.args.self.now.content.items ++ t)
+    (c.deref.ensures.value ∙ one) in
+    λ ps sync vs was. (
+      was.0,
+      was.1,
+      omega (arith, was.2, length-append vs (v ∷ [])),
+      pushed vs v
+          c.args.self.now.content.items c.extend_from_slice.new.self.items was.3 more,
+    )

@@ -14,15 +14,26 @@ returns-in-Some c =
     let states = c.self.inside.workers.items in
     let state = c.in-Some.state.now in
     let world = world_of (arc_value c.self.inside.version) in
-    let p : PinnedScan = record { history = arc_value c.self.inside.version; scan = scan; workers = sets_of scan states } in
+    let p : PinnedScan = record {
+      history = arc_value c.self.inside.version;
+      scan = scan;
+      workers = sets_of scan states;
+    } in
     let within : c.args.worker < length states = search rules in
     let read : state ≡ slice_index_or states c.args.worker state = search rules in
     let same = finishes p c.args.worker (set_of scan state) (set_at scan states c.args.worker state within read) in
-    IfOk-weaker c.finish_state.result _ _ (λ reply is. is ∙ (sym same ∙ ap (λ (q : PinnedScan). finish q c.args.worker) c.self.view_is)) (c.finish_state.ensures world (state_read (IsTaken world scan) states c.args.worker state c.self.invariant within read))
+    IfOk-weaker c.finish_state.result _ _ (λ reply is. is ∙ (sym same ∙ ap (λ (q : PinnedScan). finish q c.args.worker)
+    c.self.view_is)) (c.finish_state.ensures world (state_read (IsTaken world scan) states c.args.worker state
+    c.self.invariant within read))
 
 pub returns-in-None : goal.returns-in-None
 returns-in-None c =
     let scan = c.self.inside.scan in
     let states = c.self.inside.workers.items in
-    let p : PinnedScan = record { history = arc_value c.self.inside.version; scan = scan; workers = sets_of scan states } in
-    sym (ap (finish_by p) (no_set scan states c.args.worker (search rules))) ∙ ap (λ (q : PinnedScan). finish q c.args.worker) c.self.view_is
+    let p : PinnedScan = record {
+      history = arc_value c.self.inside.version;
+      scan = scan;
+      workers = sets_of scan states;
+    } in
+    sym (ap (finish_by p) (no_set scan states c.args.worker (search rules))) ∙ ap (λ (q : PinnedScan). finish q
+    c.args.worker) c.self.view_is

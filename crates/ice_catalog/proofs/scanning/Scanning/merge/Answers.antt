@@ -17,8 +17,14 @@ pub returns : goal.returns
 returns c =
     let scan = c.self.inside.scan in
     let states = c.self.inside.workers.items in
-    let p : PinnedScan = record { history = arc_value c.self.inside.version; scan = scan; workers = sets_of scan states } in
+    let p : PinnedScan = record {
+      history = arc_value c.self.inside.version;
+      scan = scan;
+      workers = sets_of scan states;
+    } in
     let set = set_found scan states c.args.into (omega (arith, c.if-into-len.false, c.len.ensures)) in
     let other = set_found scan states c.args.from (omega (arith, c.if-from-len.false, c.len-else-into-len.ensures)) in
-    ap (λ ws. let q : PinnedScan = record { history = arc_value c.self.inside.version; scan = scan; workers = ws } in (reply.Merged, q)) (c.in_ok-merge_states.ensures.sets set.0 other.0 set.1 other.1)
-    ∙ (sym (merges p c.args.into c.args.from set.0 other.0 set.1 other.1) ∙ ap (λ (q : PinnedScan). merge q c.args.into c.args.from) c.self.view_is)
+    ap (λ ws. let q : PinnedScan = record { history = arc_value c.self.inside.version; scan = scan; workers = ws } in
+    (reply.Merged, q)) (c.in_ok-merge_states.ensures.sets set.0 other.0 set.1 other.1)
+    ∙ (sym (merges p c.args.into c.args.from set.0 other.0 set.1 other.1) ∙ ap (λ (q : PinnedScan). merge q c.args.into
+    c.args.from) c.self.view_is)

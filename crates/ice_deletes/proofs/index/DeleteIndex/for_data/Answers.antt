@@ -16,8 +16,10 @@ returns-clause-positions c =
     let P : List FileKey → Type 0 = λ fs. IsShelf Positions fs c.self.inside.positions in
     let shelf : P files = subst P c.self.view_is c.self.invariant.positions in
     let number = c.get-number.result in
-    let lends : Lends c.self.inside.positions c.args.spec_id c.args.tuple.now number c.suffix.result.now = search rules in
-    positions_found files x c.args.spec_id c.args.tuple.now number (is.0, is.1, is.2 ∙ sym c.get-number.ensures.same) c.self.inside.positions shelf c.suffix.result.now lends
+    let lends : Lends c.self.inside.positions c.args.spec_id c.args.tuple.now number c.suffix.result.now =
+    search rules in
+    positions_found files x c.args.spec_id c.args.tuple.now number (is.0, is.1, is.2 ∙ sym c.get-number.ensures.same)
+    c.self.inside.positions shelf c.suffix.result.now lends
 
 pub returns-clause-equalities : goal.returns-clause-equalities
 returns-clause-equalities c =
@@ -28,19 +30,32 @@ returns-clause-equalities c =
     let shelf : P files = subst P c.self.view_is c.self.invariant.equalities in
     let other : Q files = subst Q c.self.view_is c.self.invariant.everywhere in
     let number = c.get-number.result in
-    let lends : Lends c.self.inside.equalities c.args.spec_id c.args.tuple.now (number + 1) c.suffix-2.result.now = search rules in
-    let others : Lends c.self.inside.everywhere c.args.spec_id c.args.tuple.now (number + 1) c.suffix-3.result.now = search rules in
-    equalities_found files x c.args.spec_id c.args.tuple.now number (is.0, is.1, is.2 ∙ sym c.get-number.ensures.same) c.self.inside.equalities c.self.inside.everywhere shelf other
+    let lends : Lends c.self.inside.equalities c.args.spec_id c.args.tuple.now (number + 1) c.suffix-2.result.now =
+    search rules in
+    let others : Lends c.self.inside.everywhere c.args.spec_id c.args.tuple.now (number + 1) c.suffix-3.result.now =
+    search rules in
+    equalities_found files x c.args.spec_id c.args.tuple.now number (is.0, is.1, is.2 ∙ sym c.get-number.ensures.same)
+    c.self.inside.equalities c.self.inside.everywhere shelf other
     c.suffix-2.result.now c.suffix-3.result.now lends others
 
 all : (c : goal.After-suffix-3) (x : FileKey) → IsFile c.args.spec_id c.args.tuple.now c.args.sequence_number x →
-    IsPermutation (numbers_where (applies x) c.args.self.now) (c.suffix.result.now ++ (c.suffix-2.result.now ++ c.suffix-3.result.now))
-all c x is = all_found c.args.self.now x c.suffix.result.now (c.suffix-2.result.now ++ c.suffix-3.result.now) (returns-clause-positions c x is) (returns-clause-equalities c x is)
+    IsPermutation (numbers_where (applies x) c.args.self.now) (c.suffix.result.now ++ (c.suffix-2.result.now ++
+    c.suffix-3.result.now))
+all c x is = all_found c.args.self.now x c.suffix.result.now (c.suffix-2.result.now ++ c.suffix-3.result.now)
+    (returns-clause-positions c x is) (returns-clause-equalities c x is)
 
 pub returns-clause-exact : goal.returns-clause-exact
-returns-clause-exact c = λ x n is. lent_applies c.args.self.now x (c.suffix.result.now ++ (c.suffix-2.result.now ++ c.suffix-3.result.now)) (all c x is) n
+returns-clause-exact c = λ x n is. lent_applies c.args.self.now x (c.suffix.result.now ++ (c.suffix-2.result.now ++
+    c.suffix-3.result.now)) (all c x is) n
 
 pub returns-clause-once : goal.returns-clause-once
 returns-clause-once c =
-    let x : FileKey = record { content = Data; spec_id = c.args.spec_id; unpartitioned = false; tuple = c.args.tuple.now; sequence_number = c.args.sequence_number } in
-    lent_once (applies x) c.args.self.now (c.suffix.result.now ++ (c.suffix-2.result.now ++ c.suffix-3.result.now)) (all c x (refl, refl, refl))
+    let x : FileKey = record {
+      content = Data;
+      spec_id = c.args.spec_id;
+      unpartitioned = false;
+      tuple = c.args.tuple.now;
+      sequence_number = c.args.sequence_number;
+    } in
+    lent_once (applies x) c.args.self.now (c.suffix.result.now ++ (c.suffix-2.result.now ++ c.suffix-3.result.now))
+    (all c x (refl, refl, refl))

@@ -15,6 +15,8 @@ returns-clause-front c =
     let g = c.args.self.now.group in
     let p = λ (d : Delete). is_up_to g c.args.spec_id c.args.tuple.now (key_in d) in
     let xs = c.args.self.now.deletes.items in
-    let parted : IsPartitionedBy p xs = sorted_parted (earlier g) (earlier_orders g) p (λ x y before h. up_to_before g c.args.spec_id c.args.tuple.now (key_in x) (key_in y) before h) xs c.requires in
+    let parted : IsPartitionedBy p xs = sorted_parted (earlier g) (earlier_orders g) p (λ x y before h. up_to_before g
+    c.args.spec_id c.args.tuple.now (key_in x) (key_in y) before h) xs c.requires in
     front_passes p xs c.partition_point.result
-    (IsPartitionPoint-from_clause p xs c.partition_point.result (rw c.as_slice.ensures.value at c.partition_point.ensures.partitioned) parted (λ a r f k. (search rules, search rules)))
+    (IsPartitionPoint-from_clause p xs c.partition_point.result (rw c.as_slice.ensures.value at
+    c.partition_point.ensures.partitioned) parted (λ a r f k. (search rules, search rules)))

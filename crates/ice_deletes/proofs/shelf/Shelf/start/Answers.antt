@@ -15,7 +15,9 @@ returns-clause-back c =
     let g = c.args.self.now.group in
     let p = λ (d : Delete). is_older g c.args.spec_id c.args.tuple.now c.args.from (key_in d) in
     let xs = c.args.self.now.deletes.items in
-    let parted : IsPartitionedBy p xs = sorted_parted (earlier g) (earlier_orders g) p (λ x y before h. older_before g c.args.spec_id c.args.tuple.now c.args.from (key_in x) (key_in y) before h) xs c.requires.sorted in
+    let parted : IsPartitionedBy p xs = sorted_parted (earlier g) (earlier_orders g) p (λ x y before h. older_before g
+    c.args.spec_id c.args.tuple.now c.args.from (key_in x) (key_in y) before h) xs c.requires.sorted in
     let front : IsPartitionedBy p (take c.args.end xs) = parted_front p c.args.end xs c.requires.within parted in
     back_fails p (take c.args.end xs) c.partition_point.result
-    (IsPartitionPoint-from_clause p (take c.args.end xs) c.partition_point.result (rw c.deref.ensures.value at c.partition_point.ensures.partitioned) front (λ a r f k. (search rules, search rules)))
+    (IsPartitionPoint-from_clause p (take c.args.end xs) c.partition_point.result (rw c.deref.ensures.value at
+    c.partition_point.ensures.partitioned) front (λ a r f k. (search rules, search rules)))

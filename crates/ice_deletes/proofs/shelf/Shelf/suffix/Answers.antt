@@ -20,4 +20,5 @@ returns c =
     let front : take end xs ≡ filter near xs = search rules in
     let back : drop start (take end xs) ≡ filter (λ (d : Delete). not (old d)) (take end xs) = search rules in
     let numbers : c.deref.result.now ≡ map number xs = c.deref.ensures.value ∙ c.requires.numbered in
-    suffix_is number near old (λ (d : Delete). is_within g s t c.args.from (key_in d)) (λ d. within_tests g s t c.args.from (key_in d)) start end xs c.deref.result.now c.start-start.ensures.within numbers front back
+    suffix_is number near old (λ (d : Delete). is_within g s t c.args.from (key_in d)) (λ d. within_tests g s t
+    c.args.from (key_in d)) start end xs c.deref.result.now c.start-start.ensures.within numbers front back

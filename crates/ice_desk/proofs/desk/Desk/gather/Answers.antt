@@ -8,8 +8,14 @@ use Rattle.ice_desk.proofs.desk.Desk.gather.Goals as goal
 pub join_seat-requires : goal.join_seat-requires
 join_seat-requires c =
     let desk = c.args.self.now in
-    let last = (popped (IsSeatOf desk) _ _ _ c.in-Some-pop.ensures.items c.loop-other.invariant.seats).1 in
-    (c.loop-other.invariant.table, last.table, last.free, wide desk, joins desk.table.shared.key _ _ _ _ c.loop-other.invariant.some_seat (omega (arith, last.one)))
+    let last = (popped (IsSeatOf desk) _ _ _ c.in-Some-pop.ensures.items c.loop-other.invariant.seats).1 in (
+      c.loop-other.invariant.table,
+      last.table,
+      last.free,
+      wide desk,
+      joins desk.table.shared.key _ _ _ _
+          c.loop-other.invariant.some_seat (omega (arith, last.one)),
+    )
 
 pub loop-other-preserved : goal.loop-other-preserved
 loop-other-preserved c =
@@ -22,5 +28,6 @@ loop-other-preserved c =
       some_seat = omega (arith, seats, c.loop-other.invariant.some_seat);
       left = omega (arith, seats, parts.1.one, c.loop-other.invariant.left, one_shorter _ _ _ cut);
       seats = parts.0;
-      drawn = λ t. taken_in (λ s. (hand_of s).drawn) t _ _ _ _ _ _ _ cut (ap (λ (v : Hand). v.drawn) hand) refl (c.loop-other.invariant.drawn t);
+      drawn = λ t. taken_in (λ s. (hand_of s).drawn) t _ _ _ _ _ _ _ cut (ap (λ (v : Hand). v.drawn) hand) refl
+          (c.loop-other.invariant.drawn t);
     }

@@ -11,6 +11,8 @@ use Rattle.ice_meta.proofs.metadata.Metadata.current_schema.Goals as goal
 pub unreachable-requires : goal.unreachable-requires
 unreachable-requires c =
     let t = c.args.self.now.table in
-    let same : to_z w32 (of_z w32 t.current_schema_id) ≡ t.current_schema_id = to_z-of_z w32 t.current_schema_id (search rules) in
-    let none : schema_with (to_z w32 (of_z w32 t.current_schema_id)) t ≡ None = sym c.schema.ensures ∙ ap option_copied c.in-None.is in
+    let same : to_z w32 (of_z w32 t.current_schema_id) ≡ t.current_schema_id = to_z-of_z w32 t.current_schema_id
+    (search rules) in
+    let none : schema_with (to_z w32 (of_z w32 t.current_schema_id)) t ≡ None = sym c.schema.ensures ∙ ap option_copied
+    c.in-None.is in
     is_found (λ (s : Schema). int_eq s.id t.current_schema_id) t.schemas c.args.self.now.named (rw same at none)

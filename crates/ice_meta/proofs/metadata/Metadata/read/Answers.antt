@@ -6,7 +6,8 @@ use Rattle.ice_meta.proofs.metadata.Metadata.read.Goals as goal
 pub returns-in_err-table-clause-order : goal.returns-in_err-table-clause-order
 returns-in_err-table-clause-order c =
     let p = err_from_is_err_and c.from_residual-in_err-table.result c.from_residual-in_err-table.ensures.1 in
-    rw (p.1, p.2) (told c.args.bytes.now _ c.in_err-table.field-0.0 c.in_ok-json.ensures.read c.in_err-table.ensures.read)
+    rw (p.1, p.2) (told c.args.bytes.now _ c.in_err-table.field-0.0 c.in_ok-json.ensures.read
+    c.in_err-table.ensures.read)
 
 pub returns-clause-order : goal.returns-clause-order
 returns-clause-order c = none_told c.args.bytes.now _ _ c.in_ok-json.ensures.read c.in_ok-table.ensures.read

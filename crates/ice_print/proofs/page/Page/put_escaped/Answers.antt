@@ -10,12 +10,14 @@ loop-done-init g c = record { within = omega arith; sent = sent_none _ _ _ _ _ }
 pub returns-in_err-done : goal.returns-in_err-done
 returns-in_err-done g c =
     let failed = rw (take_rest c.args.bytes.now c.loop-done.done) at c.in_err-done.ensures.err in
-    rw (escaped_split c.args.bytes.now c.loop-done.done) (sent_more _ _ _ _ _ _ _ _ _ _ _ _ c.loop-done.invariant.sent (sent_fails _ _ _ _ _ _ _ _ _ _ c.from_residual.ensures.0 failed))
+    rw (escaped_split c.args.bytes.now c.loop-done.done) (sent_more _ _ _ _ _ _ _ _ _ _ _ _ c.loop-done.invariant.sent
+    (sent_fails _ _ _ _ _ _ _ _ _ _ c.from_residual.ensures.0 failed))
 
 pub loop-done-preserved : goal.loop-done-preserved
 loop-done-preserved g c =
     let sent = rw (take_rest c.args.bytes.now c.loop-done.done) at c.in_ok-done.ensures.ok in
     record {
       within = omega (arith, c.in_ok-done.ensures.within);
-      sent = rw (escaped_more c.args.bytes.now c.loop-done.done c.in_ok-done.field-0) (sent_more _ _ _ _ _ _ _ _ _ _ _ _ c.loop-done.invariant.sent sent);
+      sent = rw (escaped_more c.args.bytes.now c.loop-done.done c.in_ok-done.field-0) (sent_more _ _ _ _ _ _ _ _ _ _ _ _
+          c.loop-done.invariant.sent sent);
     }

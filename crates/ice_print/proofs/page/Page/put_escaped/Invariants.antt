@@ -7,7 +7,8 @@ use Rattle.ice_print.proofs.page.Page.put_escaped.Given as goal
 abbrev pub invariant-loop-done : goal.invariant-loop-done
 invariant-loop-done g l = record {
   within : l.done ≤ length l.bytes;
-  sent : Sent g.S.Sink.taken g.S.Sink.may_fail l.fn.sink l.fn.self (Ok tt) l.sink l.self (escaped (take l.done l.bytes));
+  sent : Sent g.S.Sink.taken g.S.Sink.may_fail l.fn.sink l.fn.self (Ok tt) l.sink l.self
+      (escaped (take l.done l.bytes));
 }
 
 abbrev pub decreases-loop-done : goal.decreases-loop-done

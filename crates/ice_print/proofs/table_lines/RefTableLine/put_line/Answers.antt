@@ -6,18 +6,21 @@ use Rattle.ice_print.proofs.table_lines.RefTableLine.put_line.Goals as goal
 
 pub returns-in_err-put_named_path : goal.returns-in_err-put_named_path
 unfolding ref_line
-returns-in_err-put_named_path g c = sent_less _ _ _ _ _ _ _ _ _ _ _ c.from_residual.ensures.0 (rw c.as_bytes.ensures at c.in_err-put_named_path.ensures)
+returns-in_err-put_named_path g c = sent_less _ _ _ _ _ _ _ _ _ _ _ c.from_residual.ensures.0 (rw c.as_bytes.ensures at
+    c.in_err-put_named_path.ensures)
 
 pub returns-in_err-put_named_long : goal.returns-in_err-put_named_long
 unfolding ref_line
 returns-in_err-put_named_long g c =
     let fits : SFits w64 c.args.self.now.snapshot_id = search rules in
     sent_more _ _ _ _ _ _ _ _ _ _ _ _ (rw c.as_bytes.ensures at c.in_ok-put_named_path.ensures)
-    (sent_less _ _ _ _ _ _ _ _ _ _ _ c.from_residual-in_err-put_named_long.ensures.0 (rw c.kind_name.ensures at (simp to_z-of_z at c.in_err-put_named_long.ensures)))
+    (sent_less _ _ _ _ _ _ _ _ _ _ _ c.from_residual-in_err-put_named_long.ensures.0 (rw c.kind_name.ensures at
+    (simp to_z-of_z at c.in_err-put_named_long.ensures)))
 
 pub returns : goal.returns
 unfolding ref_line
 returns g c =
     let fits : SFits w64 c.args.self.now.snapshot_id = search rules in
     sent_more _ _ _ _ _ _ _ _ _ _ _ _ (rw c.as_bytes.ensures at c.in_ok-put_named_path.ensures)
-    (sent_more _ _ _ _ _ _ _ _ _ _ _ _ (rw c.kind_name.ensures at (simp to_z-of_z at c.in_ok-put_named_long.ensures)) c.put.ensures)
+    (sent_more _ _ _ _ _ _ _ _ _ _ _ _ (rw c.kind_name.ensures at (simp to_z-of_z at c.in_ok-put_named_long.ensures))
+    c.put.ensures)

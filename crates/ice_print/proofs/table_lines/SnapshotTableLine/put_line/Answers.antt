@@ -8,8 +8,10 @@ returns-in_err-put_change g c = sent_less _ _ _ _ _ _ _ _ _ _ _ c.from_residual.
 
 pub returns-in_err-put_origin : goal.returns-in_err-put_origin
 unfolding snapshot_line
-returns-in_err-put_origin g c = sent_more _ _ _ _ _ _ _ _ _ _ _ _ c.in_ok-put_change.ensures (sent_less _ _ _ _ _ _ _ _ _ _ _ c.from_residual-in_err-put_origin.ensures.0 c.in_err-put_origin.ensures)
+returns-in_err-put_origin g c = sent_more _ _ _ _ _ _ _ _ _ _ _ _ c.in_ok-put_change.ensures (sent_less _ _ _ _ _ _ _ _
+    _ _ _ c.from_residual-in_err-put_origin.ensures.0 c.in_err-put_origin.ensures)
 
 pub returns : goal.returns
 unfolding snapshot_line
-returns g c = sent_more _ _ _ _ _ _ _ _ _ _ _ _ c.in_ok-put_change.ensures (sent_more _ _ _ _ _ _ _ _ _ _ _ _ c.in_ok-put_origin.ensures c.put.ensures)
+returns g c = sent_more _ _ _ _ _ _ _ _ _ _ _ _ c.in_ok-put_change.ensures (sent_more _ _ _ _ _ _ _ _ _ _ _ _
+    c.in_ok-put_origin.ensures c.put.ensures)

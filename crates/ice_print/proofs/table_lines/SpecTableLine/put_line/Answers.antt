@@ -5,4 +5,5 @@ use Rattle.ice_print.proofs.table_lines.SpecTableLine.put_line.Goals as goal
 
 pub returns : goal.returns
 unfolding spec_line
-returns g c = let fits : SFits w32 c.args.self.now.id = search rules in rw c.as_slice-fields.ensures at (simp to_z-of_z at c.put_counted.ensures)
+returns g c = let fits : SFits w32 c.args.self.now.id = search rules in rw c.as_slice-fields.ensures at
+    (simp to_z-of_z at c.put_counted.ensures)

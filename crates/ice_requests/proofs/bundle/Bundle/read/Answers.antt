@@ -18,11 +18,20 @@ pub returns-in_err-add_line : goal.returns-in_err-add_line
 unfolding with_lines
 returns-in_err-add_line c =
     let p = err_from_is_err_and c.from_residual.result c.from_residual.ensures.1 in
-    rw (p.1, p.2) (λ m. rw (c.loop-rest.invariant.ahead, c.cut_line.ensures.lines, c.in_err-add_line.ensures.err m) refl)
+    rw (p.1, p.2) (λ m. rw (c.loop-rest.invariant.ahead, c.cut_line.ensures.lines, c.in_err-add_line.ensures.err m)
+    refl)
 
 pub loop-rest-preserved : goal.loop-rest-preserved
 unfolding with_lines
-loop-rest-preserved c = record { ahead = rw (c.loop-rest.invariant.ahead, c.cut_line.ensures.lines, c.in_ok-add_line.ensures.ok) refl; fits = omega arith }
+loop-rest-preserved c = record {
+  ahead = rw (
+    c.loop-rest.invariant.ahead,
+    c.cut_line.ensures.lines,
+    c.in_ok-add_line.ensures.ok,
+  ) refl;
+  fits = omega arith;
+}
 
 pub returns : goal.returns
-returns c = c.loop-rest.invariant.ahead ∙ no_more (c.loop-rest.number + 1) c.loop-rest.bundle c.loop-rest.rest.now (zero_len (length c.loop-rest.rest.now) c.loop-rest-test.ensures)
+returns c = c.loop-rest.invariant.ahead ∙ no_more (c.loop-rest.number + 1) c.loop-rest.bundle c.loop-rest.rest.now
+    (zero_len (length c.loop-rest.rest.now) c.loop-rest-test.ensures)

@@ -4,4 +4,5 @@ use Rattle.ice_state.proofs.Places.{length-lines_at}
 use Rattle.ice_state.proofs.lines.Lines.len.Goals as goal
 
 pub returns : goal.returns
-returns c = sym (length-lines_at (entries_of c.self.inside.deletes) (entries_of c.self.inside.files) c.self.inside.places.now c.self.invariant.each) ∙ ap length c.self.view_is
+returns c = sym (length-lines_at (entries_of c.self.inside.deletes) (entries_of c.self.inside.files)
+    c.self.inside.places.now c.self.invariant.each) ∙ ap length c.self.view_is

@@ -6,19 +6,46 @@ use Rattle.ice_state.proofs.lines.Lines.line.Goals as goal
 
 pub bounds-self-inside-i : goal.bounds-self-inside-i
 bounds-self-inside-i c =
-    omega (arith, c.requires, ap length c.self.view_is, length-lines_at (entries_of c.self.inside.deletes) (entries_of c.self.inside.files) c.self.inside.places.now c.self.invariant.each)
+    omega (
+      arith,
+      c.requires,
+      ap length c.self.view_is,
+      length-lines_at (entries_of c.self.inside.deletes)
+          (entries_of c.self.inside.files) c.self.inside.places.now c.self.invariant.each,
+    )
 
 pub entry-requires : goal.entry-requires
 entry-requires c =
-    omega (arith, c.requires, ap length c.self.view_is, length-lines_at (entries_of c.self.inside.deletes) (entries_of c.self.inside.files) c.self.inside.places.now c.self.invariant.each, c.self.invariant.each)
+    omega (
+      arith,
+      c.requires,
+      ap length c.self.view_is,
+      length-lines_at (entries_of c.self.inside.deletes)
+          (entries_of c.self.inside.files) c.self.inside.places.now c.self.invariant.each,
+      c.self.invariant.each,
+    )
 
 pub invariant_of-result : goal.invariant_of-result
 invariant_of-result c =
-    let l : c.args.i < length c.self.inside.places.now = omega (arith, c.requires, ap length c.self.view_is, length-lines_at (entries_of c.self.inside.deletes) (entries_of c.self.inside.files) c.self.inside.places.now c.self.invariant.each) in
-    line_within-at (length (entries_of c.self.inside.deletes)) c.self.inside.places.now c.args.i c.index-self-i.result c.self.invariant.within l
+    let l : c.args.i < length c.self.inside.places.now = omega (
+      arith,
+      c.requires,
+      ap length c.self.view_is,
+      length-lines_at (entries_of c.self.inside.deletes) (entries_of c.self.inside.files) c.self.inside.places.now
+          c.self.invariant.each,
+    ) in
+    line_within-at (length (entries_of c.self.inside.deletes)) c.self.inside.places.now c.args.i c.index-self-i.result
+    c.self.invariant.within l
 
 pub returns : goal.returns
 returns c =
-    let l : c.args.i < length c.self.inside.places.now = omega (arith, c.requires, ap length c.self.view_is, length-lines_at (entries_of c.self.inside.deletes) (entries_of c.self.inside.files) c.self.inside.places.now c.self.invariant.each) in
+    let l : c.args.i < length c.self.inside.places.now = omega (
+      arith,
+      c.requires,
+      ap length c.self.view_is,
+      length-lines_at (entries_of c.self.inside.deletes) (entries_of c.self.inside.files) c.self.inside.places.now
+          c.self.invariant.each,
+    ) in
     ap (λ (ls : List OwnedLine). slice_get ls c.args.i) (sym c.self.view_is)
-    ∙ lines_at-get (entries_of c.self.inside.deletes) (entries_of c.self.inside.files) c.self.inside.places.now c.args.i c.entry.result.now c.index-self-i.result l c.entry.ensures
+    ∙ lines_at-get (entries_of c.self.inside.deletes) (entries_of c.self.inside.files) c.self.inside.places.now c.args.i
+    c.entry.result.now c.index-self-i.result l c.entry.ensures

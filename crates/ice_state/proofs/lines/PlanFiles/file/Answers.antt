@@ -6,15 +6,32 @@ use Rattle.ice_state.proofs.Places.{length-entries_at, entries_at-get}
 use Rattle.ice_state.proofs.lines.PlanFiles.file.Goals as goal
 
 pub bounds-self-inside-i : goal.bounds-self-inside-i
-bounds-self-inside-i c = omega (arith, c.requires, ap length c.self.view_is, length-entries_at (entries_of c.self.inside.files) c.self.inside.places.now c.self.invariant)
+bounds-self-inside-i c = omega (
+  arith,
+  c.requires,
+  ap length c.self.view_is,
+  length-entries_at
+      (entries_of c.self.inside.files) c.self.inside.places.now c.self.invariant,
+)
 
 pub offset_bounds-self-inside-i : goal.offset_bounds-self-inside-i
 offset_bounds-self-inside-i c =
-    let l : c.args.i < length c.self.inside.places.now = omega (arith, c.requires, ap length c.self.view_is, length-entries_at (entries_of c.self.inside.files) c.self.inside.places.now c.self.invariant) in
+    let l : c.args.i < length c.self.inside.places.now = omega (
+      arith,
+      c.requires,
+      ap length c.self.view_is,
+      length-entries_at (entries_of c.self.inside.files) c.self.inside.places.now c.self.invariant,
+    ) in
     omega (arith, l, c.self.told.1)
 
 pub returns : goal.returns
 returns c =
-    let l : c.args.i < length c.self.inside.places.now = omega (arith, c.requires, ap length c.self.view_is, length-entries_at (entries_of c.self.inside.files) c.self.inside.places.now c.self.invariant) in
+    let l : c.args.i < length c.self.inside.places.now = omega (
+      arith,
+      c.requires,
+      ap length c.self.view_is,
+      length-entries_at (entries_of c.self.inside.files) c.self.inside.places.now c.self.invariant,
+    ) in
     ap (λ (xs : List Entry). slice_get xs c.args.i) (sym c.self.view_is)
-    ∙ entries_at-get (entries_of c.self.inside.files) c.self.inside.places.now c.args.i 0 c.entry.result.now c.self.invariant l c.entry.ensures
+    ∙ entries_at-get (entries_of c.self.inside.files) c.self.inside.places.now c.args.i 0 c.entry.result.now
+    c.self.invariant l c.entry.ensures

@@ -4,4 +4,5 @@ use Rattle.ice_state.proofs.Places.{length-entries_at}
 use Rattle.ice_state.proofs.lines.PlanFiles.len.Goals as goal
 
 pub returns : goal.returns
-returns c = sym (length-entries_at (entries_of c.self.inside.files) c.self.inside.places.now c.self.invariant) ∙ ap length c.self.view_is
+returns c = sym (length-entries_at (entries_of c.self.inside.files) c.self.inside.places.now c.self.invariant) ∙ ap
+    length c.self.view_is

@@ -14,5 +14,7 @@ returns-clause-snapshot c =
     λ world rows specs is covered has taken.
     let same = ap (λ (w : List Row). outcome_of w c.deref.result.now) c.wanted.ensures
     ∙ ap (λ (s : Content). outcome_of c.args.scan.now.wanted s) (c.deref.ensures.value ∙ c.self.view_is)
-    ∙ of_snapshot c.filtering.ensures.open_where_unpartitioned c.filtering.ensures.sound world c.args.scan.now rows specs c.args.self.now is covered has taken in
-    subst (λ (o : Result (List OwnedLine) FinishFault). Gives Memory (λ (plan : List OwnedLine). plan) c.plan_or_fault.result o) same c.plan_or_fault.ensures
+    ∙ of_snapshot c.filtering.ensures.open_where_unpartitioned c.filtering.ensures.sound world c.args.scan.now rows
+    specs c.args.self.now is covered has taken in
+    subst (λ (o : Result (List OwnedLine) FinishFault). Gives Memory (λ (plan : List OwnedLine). plan)
+    c.plan_or_fault.result o) same c.plan_or_fault.ensures

@@ -8,4 +8,5 @@ pub returns-in-Some : goal.returns-in-Some
 returns-in-Some c =
     let pruning = c.args.self.now in
     let row = c.args.row.now in
-    c.wants.ensures ∙ by_spec pruning.filter (λ part. summaries_allow part row.partitions) (spec_of pruning.specs row.spec_id) c.in-Some.filter (sym c.of_row.ensures ∙ c.in-Some.is)
+    c.wants.ensures ∙ by_spec pruning.filter (λ part. summaries_allow part row.partitions)
+    (spec_of pruning.specs row.spec_id) c.in-Some.filter (sym c.of_row.ensures ∙ c.in-Some.is)

@@ -8,18 +8,26 @@ use Rattle.ice_state.proofs.scan.Scan.new.Goals as goal
 pub returns : goal.returns
 returns c =
     let pruning = c.in_ok-pruning.pruning in
-    let none : without_spec pruning.specs c.sort_by_path.new.rows.items ≡ [] = rw (← c.deref.ensures.value) c.in_ok-check_specs.ensures in
-    scan_of-sorted c.args.rows.items c.sort_by_path.new.rows.items c.args.specs.items pruning.specs c.args.filter.parts pruning.filter c.in_ok-wanted.wanted.items c.in_ok-sort_by_path.ensures c.in_ok-pruning.ensures.specs c.in_ok-pruning.ensures.filter none c.in_ok-wanted.ensures
+    let none : without_spec pruning.specs c.sort_by_path.new.rows.items ≡ [] = rw (← c.deref.ensures.value)
+    c.in_ok-check_specs.ensures in
+    scan_of-sorted c.args.rows.items c.sort_by_path.new.rows.items c.args.specs.items pruning.specs c.args.filter.parts
+    pruning.filter c.in_ok-wanted.wanted.items c.in_ok-sort_by_path.ensures c.in_ok-pruning.ensures.specs
+    c.in_ok-pruning.ensures.filter none c.in_ok-wanted.ensures
 
 pub invariant_of-result : goal.invariant_of-result
 invariant_of-result c =
     let pruning = c.in_ok-pruning.pruning in
-    let none : without_spec pruning.specs c.sort_by_path.new.rows.items ≡ [] = rw (← c.deref.ensures.value) c.in_ok-check_specs.ensures in
-    subst (AllHaveSpec pruning.specs) (sym c.in_ok-wanted.ensures) (wanted_known pruning.specs (pruner_of pruning.filter pruning.specs).wants c.sort_by_path.new.rows.items none)
+    let none : without_spec pruning.specs c.sort_by_path.new.rows.items ≡ [] = rw (← c.deref.ensures.value)
+    c.in_ok-check_specs.ensures in
+    subst (AllHaveSpec pruning.specs) (sym c.in_ok-wanted.ensures) (wanted_known pruning.specs (pruner_of pruning.filter
+    pruning.specs).wants c.sort_by_path.new.rows.items none)
 
 pub returns-in_err-check_specs : goal.returns-in_err-check_specs
 returns-in_err-check_specs c =
     let pruning = c.in_ok-pruning.pruning in
-    let first : NamesFirst c.in_err-check_specs.field-0.0 (without_spec pruning.specs c.sort_by_path.new.rows.items) = rw (← c.deref.ensures.value) c.in_err-check_specs.ensures in
-    let is = scan_of-missing c.args.rows.items c.sort_by_path.new.rows.items c.args.specs.items pruning.specs c.args.filter.parts c.in_err-check_specs.field-0.0 c.in_ok-sort_by_path.ensures c.in_ok-pruning.ensures.specs first in
+    let first : NamesFirst c.in_err-check_specs.field-0.0 (without_spec pruning.specs c.sort_by_path.new.rows.items) =
+    rw (← c.deref.ensures.value) c.in_err-check_specs.ensures in
+    let is = scan_of-missing c.args.rows.items c.sort_by_path.new.rows.items c.args.specs.items pruning.specs
+    c.args.filter.parts c.in_err-check_specs.field-0.0 c.in_ok-sort_by_path.ensures c.in_ok-pruning.ensures.specs
+    first in
     search (rules, is)

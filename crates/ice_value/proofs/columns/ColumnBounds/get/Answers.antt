@@ -8,9 +8,11 @@ use Rattle.ice_value.proofs.columns.ColumnBounds.get.Goals as goal
 pub returns-in-Some : goal.returns-in-Some
 returns-in-Some c =
     rw (← c.self.view_is, ← last_bound c.args.column (pairs_in c.self.inside.pairs))
-    (ap (λ (o : Option (Bor (List ℕ))). option_map (λ (b : Bor (List ℕ)). b.now) o) (rw (to_z-of_z w32 c.args.column (search rules), c.as_slice.ensures, c.in-Some.is) at c.find_last.ensures))
+    (ap (λ (o : Option (Bor (List ℕ))). option_map (λ (b : Bor (List ℕ)). b.now) o)
+    (rw (to_z-of_z w32 c.args.column (search rules), c.as_slice.ensures, c.in-Some.is) at c.find_last.ensures))
 
 pub returns-in-None : goal.returns-in-None
 returns-in-None c =
     rw (← c.self.view_is, ← last_bound c.args.column (pairs_in c.self.inside.pairs))
-    (ap (λ (o : Option (Bor (List ℕ))). option_map (λ (b : Bor (List ℕ)). b.now) o) (rw (to_z-of_z w32 c.args.column (search rules), c.as_slice.ensures, c.in-None.is) at c.find_last.ensures))
+    (ap (λ (o : Option (Bor (List ℕ))). option_map (λ (b : Bor (List ℕ)). b.now) o)
+    (rw (to_z-of_z w32 c.args.column (search rules), c.as_slice.ensures, c.in-None.is) at c.find_last.ensures))

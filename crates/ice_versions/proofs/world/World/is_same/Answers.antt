@@ -15,7 +15,8 @@ returns c =
     let fs = c.other.inside.files.entries in
     let f = λ (a : _). arc_value {X = List ℕ} {Z = Global} a in
     let same = same_pairs f (λ a b. pointwise nat_eq (f a) (f b)) (λ a b. bytes_eq-Decides (f a) (f b)) es fs in
-    let maps : map.from_sorted {R = slice_cmp nat_cmp} (pairs f es) ≡ map.from_sorted (pairs f fs) → pairs f es ≡ pairs f fs = same_sorted (pairs f es) (pairs f fs) c.self.invariant c.other.invariant in (
+    let maps : map.from_sorted {R = slice_cmp nat_cmp} (pairs f es) ≡ map.from_sorted (pairs f fs)
+    → pairs f es ≡ pairs f fs = same_sorted (pairs f es) (pairs f fs) c.self.invariant c.other.invariant in (
       λ e. sym c.self.view_is ∙ (ap map.from_sorted (same.0 (sym c.eq.ensures ∙ e)) ∙ c.other.view_is),
       λ e. c.eq.ensures ∙ same.1 (maps (c.self.view_is ∙ (e ∙ sym c.other.view_is))),
     )

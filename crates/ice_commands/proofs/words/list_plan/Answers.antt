@@ -1,0 +1,76 @@
+use Rattle.std.proofs.Common.{◌≡◌, Some, refl, ap, ◌∙◌, rules}
+use Rattle.std.proofs.lemmas.Result.{err_from_is_err_and, IfOk-weaker, IfErr-weaker}
+use Rattle.ice_state.specs.Contents.{World}
+use Rattle.ice_print.specs.PlanTexts.{plan_text}
+use Rattle.ice_requests.specs.Bundles.{bytes_at}
+use Rattle.ice_requests.specs.ListPlans.{list_answer, list_reads}
+use Rattle.ice_requests.proofs.Steps.{never_fails}
+use Rattle.ice_commands.specs.Runs.{as_text, bundle_text}
+use Rattle.ice_commands.specs.declared.command_line.Lists.TheVariants as lists
+use Rattle.ice_commands.proofs.Refusals.{ends_refused, is_left, left_of, list_ran, no_bundle_ran, no_plan, plan_from}
+use Rattle.ice_commands.proofs.Refusals.{untold_ran}
+use Rattle.ice_commands.proofs.words.list_plan.Goals as goal
+
+pub returns-in_err-bundle-in-Bundle : goal.returns-in_err-bundle-in-Bundle
+returns-in_err-bundle-in-Bundle g c =
+    let p = err_from_is_err_and c.from_residual.result c.from_residual.ensures.1 in
+    let list = c.in-Bundle.list in
+    let asked : c.args.lists.now ≡ lists.Bundle list = search rules in
+    let no = c.in_err-bundle-in-Bundle.ensures.refused in
+    rw (p.1, p.2, asked) (
+      no.0,
+      no.1,
+      no_bundle_ran (Some (bundle_text list no.0)) no.0
+          (g.W.Sink.may_fail c.args.output.now) _ (no_plan list no.0) c.in_err-bundle-in-Bundle.field-0.0 no.2,
+    )
+
+pub returns-in_err-path-in-Bundle : goal.returns-in_err-path-in-Bundle
+returns-in_err-path-in-Bundle g c =
+    let p = err_from_is_err_and c.from_residual-in_err-path-in-Bundle.result
+    c.from_residual-in_err-path-in-Bundle.ensures.1 in
+    let list = c.in-Bundle.list in
+    let asked : c.args.lists.now ≡ lists.Bundle list = search rules in
+    let found = c.in_ok-bundle-in-Bundle.ensures.found in
+    rw (p.1, p.2, asked) (
+      found.0,
+      found.1,
+      list_ran found.0 c.in_ok-bundle-in-Bundle.bundle found.2 list
+          (g.W.Sink.may_fail c.args.output.now) _ c.in_err-path-in-Bundle.field-0.0 c.in_err-path-in-Bundle.ensures.err,
+    )
+
+pub returns-in_ok-path-in-Bundle : goal.returns-in_ok-path-in-Bundle
+returns-in_ok-path-in-Bundle g c =
+    let list = c.in-Bundle.list in
+    let asked : c.args.lists.now ≡ lists.Bundle list = search rules in
+    let found = c.in_ok-bundle-in-Bundle.ensures.found in
+    let bundle = c.in_ok-bundle-in-Bundle.bundle in
+    let world : World = λ path. bytes_at bundle path in
+    let path = c.in_ok-path-in-Bundle.path.now in
+    let same = plan_from found.0 bundle found.2 list path c.in_ok-path-in-Bundle.ensures.ok in
+    let ran = c.run_list_plan.ensures in
+    let told = ran.answers world refl in
+    rw asked (
+      found.0,
+      found.1,
+      record {
+        written = IfOk-weaker c.run_list_plan.result _ _ (λ _ w. (plan_text w.0, same ∙ ap as_text w.1, w.2))
+            told.written;
+        refused = IfErr-weaker c.run_list_plan.result _ _
+            (λ e h. ends_refused as_text (list_answer world path) (bundle_text list found.0) _
+            (g.W.Sink.may_fail c.args.output.now) e (λ f. refl) (never_fails world (list_reads world path)) same h)
+            told.refused;
+        nothing = ran.refusal.nothing;
+        front = λ failed. let w = told.front failed in (plan_text w.0, same ∙ ap as_text w.1, w.2);
+      },
+    )
+
+pub returns-in-Folder : goal.returns-in-Folder
+returns-in-Folder g c =
+    let left = g.R.Read.remaining c.args.input.now in
+    let asked : c.args.lists.now ≡ lists.Folder c.in-Folder.place c.in-Folder.list = search rules in
+    rw asked (
+      left_of left,
+      is_left left,
+      untold_ran (g.W.Sink.may_fail c.args.output.now)
+          c.run_list_plan-in-Folder.result _ _ c.run_list_plan-in-Folder.ensures.refusal.nothing,
+    )

@@ -1,5 +1,0 @@
-use Rattle.ice_commands.proofs.Refusals.{untold_ran}
-use Rattle.ice_commands.proofs.words.request_folder.Goals as goal
-
-pub returns : goal.returns
-returns g c = untold_ran (g.W.Sink.may_fail c.args.output.now) c.plan_file.result _ _ c.plan_file.ensures.nothing
