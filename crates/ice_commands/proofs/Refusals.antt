@@ -1,8 +1,8 @@
 -- Why the program refuses its words and its input.
 use Rattle.std.proofs.Common.{◌≡◌, ◌≢◌, ℕ, ◌+◌, Bool, true, false, List, [], ◌∷◌, refl, sym, ap, subst, ◌∙◌, ◌⊎◌, inl}
 use Rattle.std.proofs.Common.{inr, Option, Some, None, is_some}
-use Rattle.std.specs.Prelude.{Result, Ok, Err, IfOk, IfErr, IfSome, if◌then◌else◌}
-use Rattle.contract_words.specs.Outcome.{◌>>=◌, Gives}
+use Rattle.std.specs.Prelude.{Result, Ok, Err, IfErr, IfSome, if◌then◌else◌}
+use Rattle.contract_words.specs.Outcome.{◌>>=◌}
 use Rattle.ice_text.specs.declared.fault.RunFault.{RunFault}
 use Rattle.ice_text.specs.declared.fault.RunFault.TheVariants as run
 use Rattle.ice_requests.specs.Bundles.{File, added, bundle_of, bytes_at, file_of, first_path, with_lines}
@@ -50,41 +50,6 @@ list_fault files None e h = first_fault (first_path files) e h
 list_fault files (Some path) e h = absurd cc
 
 -- ---- no bundle
-
-memory_or : (e : RunFault) → (e ≡ run.Memory) ⊎ (e ≢ run.Memory)
-memory_or run.Memory = inl refl
-memory_or run.Input = inr (λ m. absurd cc)
-memory_or run.Write = inr (λ m. absurd cc)
-memory_or (run.Words t) = inr (λ m. absurd cc)
-memory_or (run.Bundle n) = inr (λ m. absurd cc)
-memory_or (run.Absent path) = inr (λ m. absurd cc)
-memory_or (run.Device path) = inr (λ m. absurd cc)
-memory_or (run.List f) = inr (λ m. absurd cc)
-memory_or (run.Scan f) = inr (λ m. absurd cc)
-memory_or (run.Finish f) = inr (λ m. absurd cc)
-memory_or (run.Metadata f) = inr (λ m. absurd cc)
-memory_or (run.Filter f) = inr (λ m. absurd cc)
-memory_or (run.Drill f) = inr (λ m. absurd cc)
-memory_or (run.Change f) = inr (λ m. absurd cc)
-memory_or (run.Prepare f) = inr (λ m. absurd cc)
-memory_or (run.Conflict path) = inr (λ m. absurd cc)
-memory_or run.Workers = inr (λ m. absurd cc)
-
-none_by : (text : List ℕ) (e : RunFault) → (e ≢ run.Memory → bundle_of text ≡ Err e)
-    → (e ≡ run.Memory) ⊎ (e ≢ run.Memory) → NoBundle text e
-none_by text e h (inl is) = inr (inl is)
-none_by text e h (inr other) = inr (inr (h other))
-
--- what reading a bundle gives
-pub bundle_found : (text : List ℕ) (r : Result (List File) RunFault) → Gives run.Memory (λ files. files) r (bundle_of text)
-    → IfOk r (λ files. bundle_of text ≡ Ok files)
-bundle_found text (Ok files) h = h
-bundle_found text (Err e) h = tt
-
-pub bundle_missing : (text : List ℕ) (r : Result (List File) RunFault)
-    → Gives run.Memory (λ files. files) r (bundle_of text) → IfErr r (NoBundle text)
-bundle_missing text (Ok files) h = tt
-bundle_missing text (Err e) h = none_by text e h (memory_or e)
 
 -- standard input can't be read
 pub unread_bundle : (text : List ℕ) (e : RunFault) → (e ≡ run.Input) ⊎ (e ≡ run.Memory) → NoBundle text e
