@@ -53,6 +53,7 @@ new_file thread commit = record {
   record_count = pos 1;
   file_size = pos 1;
   equality_ids = [];
+  referenced = None;
 }
 
 -- no two commits have one number

@@ -50,6 +50,7 @@ fn new_file(alloc: Global, thread: u64, commit: u64) -> Result<NewFile, AllocErr
         record_count: 1,
         file_size: 1,
         equality_ids: Items::new(alloc),
+        referenced: None,
     })
 }
 

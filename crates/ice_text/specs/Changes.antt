@@ -39,6 +39,7 @@ member_name member.RecordCount = codes "record-count"
 member_name member.FileSize = codes "file-size"
 member_name member.Content = codes "content"
 member_name member.EqualityIds = codes "equality-ids"
+member_name member.ReferencedDataFile = codes "referenced-data-file"
 
 -- what a member has to have, or a fault
 abbrev pub asked : {A : Type 0} → ChangeMember → Option A → Result A ChangeFault
@@ -112,6 +113,7 @@ file_of d = do
     record_count = record_count;
     file_size = file_size;
     equality_ids = [];
+    referenced = None;
   })
 
 -- the places of deleted rows, or the values of deleted rows
@@ -131,13 +133,22 @@ ids_of (Some d) = asked member.EqualityIds (as_array d) >>= each (λ item. asked
 unfoldable pub ids_in : Data → Result (List ℤ) ChangeFault
 ids_in d = ids_of (option_and_then not_null (get (member_name member.EqualityIds) d))
 
--- a delete file: it has these two behind all that a data file has
+-- the one data file whose rows it deletes; where the member is left out or null it names none
+abbrev pub name_of : Option Data → Result (Option (List ℕ)) ChangeFault
+name_of None = Ok None
+name_of (Some d) = asked member.ReferencedDataFile (as_str d) >>= λ path. Ok (Some path)
+
+unfoldable pub referenced_in : Data → Result (Option (List ℕ)) ChangeFault
+referenced_in d = name_of (option_and_then not_null (get (member_name member.ReferencedDataFile) d))
+
+-- a delete file: it has these three behind all that a data file has
 unfoldable pub delete_file_of : Data → Result NewFile ChangeFault
 delete_file_of d = do
   file ← file_of d
   content ← content_in d
   ids ← ids_in d
-  Ok (record file { content = content; equality_ids = ids })
+  referenced ← referenced_in d
+  Ok (record file { content = content; equality_ids = ids; referenced = referenced })
 
 -- ---- the change
 

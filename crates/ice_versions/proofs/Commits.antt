@@ -1,7 +1,9 @@
 -- Where the tests of two commits, and of two journals, answer true.
-use Rattle.std.proofs.Common.{◌≡◌, Bool, int_eq, List, [], ◌∷◌, map, refl, ap}
+use Rattle.std.proofs.Common.{◌≡◌, Bool, int_eq, ℕ, List, [], ◌∷◌, map, Option, None, Some, refl, ap}
 use Rattle.std.specs.Bool.{Decides}
 use Rattle.std.specs.Cmp.Lexicographic.{pointwise}
+use Rattle.std.specs.Option.{option_eq}
+use Rattle.std.specs.Str.{bytes_eq}
 use Rattle.std.proofs.lemmas.Bool.Decides.{Decides-and, Decides-int_eq}
 use Rattle.std.proofs.lemmas.Slice.Eq.{slice_eq-Decides, bytes_eq-Decides}
 use Rattle.ice_value.specs.Equality.{tuple_decides}
@@ -41,10 +43,18 @@ content_exact EqualityDeletes Data = (λ e. cc, λ e. cc)
 content_exact EqualityDeletes PositionDeletes = (λ e. cc, λ e. cc)
 content_exact EqualityDeletes EqualityDeletes = (λ _. refl, λ _. refl)
 
+name_exact : (a b : Option (List ℕ)) → Decides (option_eq bytes_eq a b) (a ≡ b)
+name_exact None None = (λ _. refl, λ _. refl)
+name_exact None (Some q) = (λ e. cc, λ e. cc)
+name_exact (Some p) None = (λ e. cc, λ e. cc)
+name_exact (Some p) (Some q) = let same = bytes_eq-Decides p q in (λ e. ap Some (same.0 e), λ e. same.1 cc)
+
 file_exact : (a b : NewFile) → Decides (file_test.ghosts.eq a b) (a ≡ b)
 file_exact a b =
-    let ids = slice_eq-Decides Decides-int_eq a.equality_ids b.equality_ids (pointwise int_eq a.equality_ids
+    let name = name_exact a.referenced b.referenced in
+    let own = slice_eq-Decides Decides-int_eq a.equality_ids b.equality_ids (pointwise int_eq a.equality_ids
     b.equality_ids) refl in
+    let ids = Decides-and _ _ own name in
     let size = Decides-and _ _ (Decides-int_eq a.file_size b.file_size) ids in
     let count = Decides-and _ _ (Decides-int_eq a.record_count b.record_count) size in
     let tuple = Decides-and _ _ (tuple_decides a.tuple b.tuple) count in
@@ -62,7 +72,8 @@ file_exact a b =
             tuple = h.1.1.1.1.0 i;
             record_count = h.1.1.1.1.1.0 i;
             file_size = h.1.1.1.1.1.1.0 i;
-            equality_ids = h.1.1.1.1.1.1.1 i;
+            equality_ids = h.1.1.1.1.1.1.1.0 i;
+            referenced = h.1.1.1.1.1.1.1.1 i;
           },
       λ e.
           all.1 (
@@ -77,7 +88,10 @@ file_exact a b =
                     ap (λ (f : NewFile). f.tuple) e,
                     (
                       ap (λ (f : NewFile). f.record_count) e,
-                      (ap (λ (f : NewFile). f.file_size) e, ap (λ (f : NewFile). f.equality_ids) e),
+                      (
+                        ap (λ (f : NewFile). f.file_size) e,
+                        (ap (λ (f : NewFile). f.equality_ids) e, ap (λ (f : NewFile). f.referenced) e),
+                      ),
                     ),
                   ),
                 ),

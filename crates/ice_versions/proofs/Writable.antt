@@ -35,7 +35,7 @@ use Rattle.ice_versions.specs.declared.tuples.Allowed.TheVariants.{Null, Value, 
 use Rattle.ice_versions.specs.Adding.{CanWrite, schema_text, types_of, heading_of, spec_or_none}
 use Rattle.ice_versions.specs.Bases.{table_specs, spec_in}
 use Rattle.ice_versions.specs.Groups.{id_before, spec_ids, is_of_spec, group_of, groups_of}
-use Rattle.ice_versions.specs.Refusals.{is_count, is_for, are_ids, is_good, is_bad, spec_id_of, is_unknown, is_wrong}
+use Rattle.ice_versions.specs.Refusals.{is_count, is_for, are_ids, may_name, is_good, is_bad, spec_id_of, is_unknown, is_wrong}
 use Rattle.ice_versions.specs.Tuples.{allowed_of, allowed_of_type, allows, fit, fits_spec, written_type}
 
 -- ---- lists
@@ -267,7 +267,8 @@ new_file m ids content specs id spec is f h =
     let good = and_parts (is_count f.record_count) _ (not_true (is_good content f) h.0.0) in
     let size = and_parts (is_count f.file_size) _ good.1 in
     let path = and_parts (nat_le (length f.path) 65535) _ size.1 in
-    let rest = and_parts (is_for content f.content) (are_ids f.content (length f.equality_ids)) path.1 in
+    let rest = and_parts (is_for content f.content) _ path.1 in
+    let ids = and_parts (are_ids f.content (length f.equality_ids)) (may_name f.content f.referenced) rest.1 in
     let same : f.spec_id ≡ id = (Decides-int_eq f.spec_id id).0 h.1 in
     let found : spec_in specs f.spec_id ≡ Some spec = ap (spec_in specs) same ∙ is in
     let fits : fits_spec (Some spec) f.tuple ≡ true = ap (λ o. fits_spec o f.tuple) (sym found) ∙ not_true
@@ -277,7 +278,7 @@ new_file m ids content specs id spec is f h =
       path = le_from (length f.path) 65535 path.0;
       tuple = tuple_fits (map allowed_of spec.fields) f.tuple (writable_fields spec) fits;
       record_count = amount f.record_count good.0;
-      equality_ids = few_ids f.content (length f.equality_ids) rest.1;
+      equality_ids = few_ids f.content (length f.equality_ids) ids.0;
     }
 
 pub all_both : {A : Type 0} (P Q : A → Type 0) (xs : List A) → AllByRecursion P xs → AllByRecursion Q xs

@@ -68,10 +68,12 @@ abbrev content_code : Coded FileContent
 content_code = code_by (Option Bool) (coded_option coded_bool) from_content to_content same_content
 
 abbrev file_code : Coded NewFile
-file_code = code_by (FileContent × (List ℕ × (List ℕ × (ℤ × (List Cell × (ℤ × (ℤ × List ℤ)))))))
-    (coded× content_code (coded× bytes (coded× bytes (coded× coded_ℤ
-    (coded× (coded_list cell_code) (coded× coded_ℤ (coded× coded_ℤ (coded_list coded_ℤ))))))))
-    (λ f. (f.content, (f.path, (f.format, (f.spec_id, (f.tuple, (f.record_count, (f.file_size, f.equality_ids))))))))
+file_code = code_by
+    (FileContent × (List ℕ × (List ℕ × (ℤ × (List Cell × (ℤ × (ℤ × (List ℤ × Option (List ℕ)))))))))
+    (coded× content_code (coded× bytes (coded× bytes (coded× coded_ℤ (coded× (coded_list cell_code)
+    (coded× coded_ℤ (coded× coded_ℤ (coded× (coded_list coded_ℤ) (coded_option bytes)))))))))
+    (λ f. (f.content, (f.path, (f.format, (f.spec_id, (f.tuple,
+    (f.record_count, (f.file_size, (f.equality_ids, f.referenced)))))))))
     (λ p. record {
       content = p.0;
       path = p.1.0;
@@ -80,7 +82,8 @@ file_code = code_by (FileContent × (List ℕ × (List ℕ × (ℤ × (List Cell
       tuple = p.1.1.1.1.0;
       record_count = p.1.1.1.1.1.0;
       file_size = p.1.1.1.1.1.1.0;
-      equality_ids = p.1.1.1.1.1.1.1;
+      equality_ids = p.1.1.1.1.1.1.1.0;
+      referenced = p.1.1.1.1.1.1.1.1;
     })
     (λ _. refl)
 

@@ -34,6 +34,7 @@ data_file f = record {
   record_count = f.record_count;
   file_size = f.file_size;
   equality_ids = f.equality_ids;
+  referenced = f.referenced;
 }
 
 -- the place of a file among the files of its manifest: those of its spec, data files and deletes apart

@@ -122,10 +122,17 @@ abbrev pub are_ids : FileContent → ℕ → Bool
 are_ids holds.EqualityDeletes count = nat_lt 0 count && nat_le count 1000
 are_ids _ count = nat_le count 1000
 
+-- only position deletes name the one data file that they are about, by at most 65,535 bytes
+abbrev pub may_name : FileContent → Option (List ℕ) → Bool
+may_name holds.PositionDeletes (Some path) = nat_le (length path) 65535
+may_name _ (Some path) = false
+may_name _ None = true
+
 abbrev pub is_good : ManifestContent → NewFile → Bool
 is_good content file =
     is_count file.record_count && (is_count file.file_size && (nat_le (length file.path) 65535
-    && (is_for content file.content && are_ids file.content (length file.equality_ids))))
+    && (is_for content file.content && (are_ids file.content (length file.equality_ids)
+    && may_name file.content file.referenced))))
 
 abbrev pub is_bad : ManifestContent → NewFile → Bool
 is_bad content file = not (is_good content file)

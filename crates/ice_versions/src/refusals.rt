@@ -4,7 +4,7 @@ ghost use Rattle.std.specs.Prelude.{◌≡◌, ◌+◌, ◌++◌, length, fold, 
 ghost use Rattle.std.specs.Option.{option_copied};
 ghost use Rattle.ice_versions.specs.Outcome.{Refuses};
 ghost use Rattle.ice_versions.specs.Refusals.{AreSorted, empty, snapshot_taken, sequence_end, first_twice, path_before};
-ghost use Rattle.ice_versions.specs.Refusals.{path_of, all_files, sorted_paths, path_twice, is_count, is_for, are_ids};
+ghost use Rattle.ice_versions.specs.Refusals.{path_of, all_files, sorted_paths, path_twice, is_count, is_for, are_ids, may_name};
 ghost use Rattle.ice_versions.specs.Refusals.{is_good, is_bad, lesser_path, paths_where, bad_file, too_many};
 ghost use Rattle.contract_words.specs.Sorting.{sorted};
 
@@ -138,6 +138,17 @@ fn are_ids(of_file: FileContent, count: usize) -> bool
     }
 }
 
+/// Whether a file of this content may name this data file as the one that it is about.
+fn may_name(of_file: FileContent, referenced: &Option<Text>) -> bool
+    ensures { result ≡ may_name of_file referenced.now }
+{
+    match (of_file, referenced) {
+        (_, None) => true,
+        (FileContent::PositionDeletes, Some(path)) => path.as_bytes().len() <= MOST_PATH_BYTES,
+        (FileContent::Data | FileContent::EqualityDeletes, Some(_)) => false,
+    }
+}
+
 fn is_good(content: ManifestContent, file: &NewFile) -> bool
     ensures { result ≡ is_good content file.now }
 {
@@ -146,6 +157,7 @@ fn is_good(content: ManifestContent, file: &NewFile) -> bool
         && file.path.as_bytes().len() <= MOST_PATH_BYTES
         && is_for(content, file.content)
         && are_ids(file.content, file.equality_ids.as_slice().len())
+        && may_name(file.content, &file.referenced)
 }
 
 fn is_before(path: &Text, other: &Text) -> bool

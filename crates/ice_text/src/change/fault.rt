@@ -19,6 +19,7 @@ pub enum ChangeMember {
     FileSize,
     Content,
     EqualityIds,
+    ReferencedDataFile,
 }
 
 impl ChangeMember {
@@ -37,6 +38,7 @@ impl ChangeMember {
             ChangeMember::FileSize => "file-size",
             ChangeMember::Content => "content",
             ChangeMember::EqualityIds => "equality-ids",
+            ChangeMember::ReferencedDataFile => "referenced-data-file",
         }
     }
 }

@@ -6,7 +6,7 @@ ghost use Rattle.serde_json.specs.Find.{as_str, get};
 ghost use Rattle.serde_json.specs.View.{items_view, view};
 ghost use Rattle.ice_meta.specs.Members.{all_objects, if_int};
 ghost use Rattle.ice_text.specs.Changes.{as_bytes, as_cell, as_int, as_long, as_objects, asked, each, ids_in, ids_of};
-ghost use Rattle.ice_text.specs.Changes.{needed, there, tuple_in};
+ghost use Rattle.ice_text.specs.Changes.{needed, referenced_in, there, tuple_in};
 ghost use Rattle.ice_value.specs.declared.cell.Cell.TheVariants as cell;
 
 use crate::change::fault::{ChangeFault, ChangeMember};
@@ -200,6 +200,20 @@ pub fn ids_at(alloc: Global, json: &Value) -> Result<Items<i32>, ChangeFault>
         Some(value) => match value.as_array() {
             Some(items) => each_id(alloc, items),
             None => Err(ChangeFault::Bad(ChangeMember::EqualityIds)),
+        },
+    }
+}
+
+/// The one data file whose rows a delete file deletes.
+#[tactic(auto, unfolding(crate::specs::Changes::referenced_in))]
+pub fn referenced_at(alloc: Global, json: &Value) -> Result<Option<Text>, ChangeFault>
+    ensures { Gives ChangeFault.Memory (λ path. path) result (referenced_in (view json.now)) }
+{
+    match json.get(ChangeMember::ReferencedDataFile.name()) {
+        None | Some(Value::Null) => Ok(None),
+        Some(value) => match value.as_str() {
+            Some(path) => Ok(Some(kept(alloc, path)?)),
+            None => Err(ChangeFault::Bad(ChangeMember::ReferencedDataFile)),
         },
     }
 }

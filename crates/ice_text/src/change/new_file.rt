@@ -6,7 +6,7 @@ ghost use Rattle.serde_json.specs.View.{view};
 ghost use Rattle.ice_text.specs.Changes.{as_delete_content, content_in, delete_file_of, file_of};
 
 use crate::change::fault::{ChangeFault, ChangeMember};
-use crate::change::members::{ids_at, int_at, kept_text_at, long_at, text_at, tuple_at};
+use crate::change::members::{ids_at, int_at, kept_text_at, long_at, referenced_at, text_at, tuple_at};
 use contract_words::Items;
 use ice_value::FileContent;
 use ice_versions::NewFile;
@@ -27,6 +27,7 @@ pub fn file_from(alloc: Global, json: &Value) -> Result<NewFile, ChangeFault>
         record_count: long_at(json, ChangeMember::RecordCount)?,
         file_size: long_at(json, ChangeMember::FileSize)?,
         equality_ids: Items::new(alloc),
+        referenced: None,
     })
 }
 
@@ -51,6 +52,7 @@ pub fn delete_file_from(alloc: Global, json: &Value) -> Result<NewFile, ChangeFa
     Ok(NewFile {
         content: content_at(json)?,
         equality_ids: ids_at(alloc, json)?,
+        referenced: referenced_at(alloc, json)?,
         ..file
     })
 }
