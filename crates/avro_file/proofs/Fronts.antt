@@ -4,13 +4,14 @@ use Rattle.std.proofs.Common.{Result, Ok, Err, ◌⊎◌, inl, inr, refl, sym, a
 use Rattle.contract_words.specs.Outcome.{◌>>=◌}
 use Rattle.avro_schema.specs.Tree.{Tree}
 use Rattle.avro_schema.specs.Texts.{schema_of}
-use Rattle.avro_file.specs.declared.refusal.Refusal.{Refusal}
+use Rattle.avro_parts.specs.declared.refusal.Refusal.{Refusal}
 use Rattle.avro_file.specs.declared.fault.AvroFault.{AvroFault}
 use Rattle.avro_file.specs.declared.fault.AvroFault.TheVariants.{Schema}
-use Rattle.avro_file.specs.Number.{IsLong}
+use Rattle.avro_parts.specs.Number.{IsLong}
 use Rattle.avro_file.specs.Value.{Value}
 use Rattle.avro_file.specs.Spelling.{AreJoined, Spells}
-use Rattle.avro_file.specs.Blocks.{refused, BlockHead, head_at, object_at, Run, object_then, objects_run, head_then}
+use Rattle.avro_parts.specs.Heads.{BlockHead, head_at}
+use Rattle.avro_file.specs.Blocks.{refused, object_at, Run, object_then, objects_run, head_then}
 use Rattle.avro_file.specs.Blocks.{blocks_run, run_from}
 use Rattle.avro_file.specs.Holding.{AreWithinLimits}
 use Rattle.avro_file.specs.Header.{Wanted, last_under, schema_key, codec_key}

@@ -1,5 +1,3 @@
-pub mod Groups
-pub mod Texts
 pub mod Views
 pub mod Paired
 pub mod Leaves

@@ -3,17 +3,16 @@
 -- the serialized objects and the file's 16-byte sync marker.
 use Rattle.std.specs.Prelude.{◌≡◌, ◌≢◌, ℕ, zero, suc, ◌-◌, ℤ, pos, negsuc, List, [], ◌∷◌, length, Option, Some, None}
 use Rattle.std.specs.Prelude.{Result, Ok, Err, if◌then◌else◌}
-use Rattle.std.specs.Str.{bytes_eq}
 use Rattle.contract_words.specs.Outcome.{◌>>=◌}
 use Rattle.avro_schema.specs.Tree.{Tree}
-use Rattle.avro_file.specs.declared.refusal.Refusal.{Refusal}
-use Rattle.avro_file.specs.declared.refusal.Refusal.TheVariants as refusal
-use Rattle.avro_file.specs.declared.refusal.Refusal.TheVariants.{BadSync, BlockSize}
+use Rattle.avro_parts.specs.declared.refusal.Refusal.{Refusal}
+use Rattle.avro_parts.specs.declared.refusal.Refusal.TheVariants as refusal
+use Rattle.avro_parts.specs.declared.refusal.Refusal.TheVariants.{BadSync, BlockSize}
 use Rattle.avro_file.specs.declared.fault.AvroFault.{AvroFault}
 use Rattle.avro_file.specs.declared.fault.AvroFault.TheVariants as fault
-use Rattle.avro_file.specs.Number.{long_at}
 use Rattle.avro_file.specs.Value.{Value}
-use Rattle.avro_file.specs.Reading.{run_at, datum_at}
+use Rattle.avro_parts.specs.Heads.{BlockHead, head_at}
+use Rattle.avro_file.specs.Reading.{datum_at}
 
 -- what a refusal is called, in a file of so many bytes
 abbrev pub fault_of : ℕ → Refusal → AvroFault
@@ -43,27 +42,6 @@ inside refusal.Memory = refusal.Memory
 abbrev pub refused : {A E F : Type 0} → (E → F) → Result A E → Result A F
 refused f (Ok x) = Ok x
 refused f (Err e) = Err (f e)
-
-pub record BlockHead : Type 0 where
-  pub count : ℕ
-  pub content : List ℕ
-  pub rest : List ℕ
-
--- a number that may not be negative
-abbrev pub natural_of : ℤ → Result ℕ Refusal
-natural_of (pos n) = Ok n
-natural_of (negsuc n) = Err BlockSize
-
--- A block's count, size, content and marker. Each is checked before the next is read.
-unfoldable pub head_at : List ℕ → List ℕ → Result BlockHead Refusal
-head_at sync bytes = do
-  count ← long_at bytes
-  n ← natural_of count.0
-  size ← long_at count.1
-  len ← natural_of size.0
-  content ← run_at len size.1
-  marker ← run_at 16 content.1
-  if bytes_eq marker.0 sync then Ok (record { count = n; content = content.0; rest = marker.1 }) else Err BadSync
 
 -- the most items of one object's arrays and maps
 abbrev pub max_items : ℕ

@@ -1,11 +1,8 @@
-pub mod Exact
-pub mod Number
 pub mod Value
 pub mod View
 pub mod Reading
 pub mod Pairs
 pub mod Ending
-pub mod Place
 pub mod Spelling
 pub mod Blocks
 pub mod Where

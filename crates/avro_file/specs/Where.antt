@@ -1,16 +1,12 @@
--- What the file reader's own types show: a block's head, a header, and where it stands.
+-- What the file reader's own types show: a header, and where a reader stands.
 -- Avro 1.11.1 specification, 'Object Container Files'.
 use Rattle.std.specs.Prelude.{ℕ, List, Option, Some, None}
 use denote.Ref.{Bor}
-use Rattle.avro_file.specs.declared.blocks.Head.{Head}
 use Rattle.avro_file.specs.declared.blocks.Spot.{Spot}
 use Rattle.avro_file.specs.declared.header.Wanted as declared
 use Rattle.avro_file.specs.declared.header.Header.{Header}
-use Rattle.avro_file.specs.Blocks.{BlockHead, FilePosition}
+use Rattle.avro_file.specs.Blocks.{FilePosition}
 use Rattle.avro_file.specs.Header.{Wanted, FileHeader}
-
-abbrev pub head_of_block : Head → BlockHead
-head_of_block h = record { count = h.count; content = h.content.now; rest = h.rest.now }
 
 abbrev pub file_position_of : Spot → FilePosition
 file_position_of p = record { count = p.count; block = p.block.now; bytes = p.bytes.now }

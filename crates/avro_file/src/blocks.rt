@@ -2,34 +2,23 @@
 
 ghost use Rattle.std.specs.Prelude.{◌≡◌, ◌≢◌, List, length, Ok};
 ghost use Rattle.contract_words.specs.Outcome.{Gives};
-ghost use Rattle.avro_file.specs.Exact.{IsRead};
-ghost use Rattle.avro_file.specs.Reading.{behind};
+ghost use Rattle.avro_parts.specs.Exact.{IsRead};
+ghost use Rattle.avro_parts.specs.Parts.{behind};
 ghost use Rattle.avro_schema.specs.View.{tree};
 ghost use Rattle.avro_file.specs.View.{view};
-ghost use Rattle.avro_file.specs.Blocks.{inside, object_at, head_at, Enters, Steps};
-ghost use Rattle.avro_file.specs.Where.{head_of_block, file_position_of};
+ghost use Rattle.avro_file.specs.Blocks.{inside, object_at, Enters, Steps};
+ghost use Rattle.avro_file.specs.Where.{file_position_of};
 
 use crate::datum::Datum;
 use crate::decode::datum_of;
 use crate::ends::end_of;
-use crate::leaf::run_of_len;
-use crate::number::long_of;
-use crate::place::Place;
 use crate::quick::value_end;
-use crate::refusal::Refusal;
+use avro_parts::{Place, Refusal, head_of, long_of, run_of_len};
 use avro_schema::Schema;
 use std::alloc::Global;
 
 /// The most items that the arrays and maps of one object may have.
 const MAX_ITEMS: u64 = 16_777_216;
-
-/// A block's count, its content, and what follows its marker.
-#[derive(Clone, Copy, Debug)]
-pub struct Head<'a> {
-    pub count: u64,
-    pub content: &'a [u8],
-    pub rest: &'a [u8],
-}
 
 /// Where a reader stands: so many objects are still in the block, then come its bytes, then other blocks.
 #[derive(Clone, Copy, Debug)]
@@ -47,31 +36,6 @@ fn refused_inside(refusal: Refusal) -> Refusal
         Refusal::Short(_) => Refusal::BlockSize,
         other => other,
     }
-}
-
-/// The head of a block, its marker among it.
-#[tactic(auto, unfolding(crate::specs::Blocks::head_at))]
-fn head_of<'a>(sync: &[u8], bytes: &'a [u8]) -> Result<Head<'a>, Refusal>
-    ensures { IsRead head_of_block result (head_at sync.now bytes.now) }
-{
-    let (count, rest) = long_of(bytes)?;
-    if count < 0 {
-        return Err(Refusal::BlockSize);
-    }
-    let (size, rest) = long_of(rest)?;
-    if size < 0 {
-        return Err(Refusal::BlockSize);
-    }
-    let (content, rest) = run_of_len(size as u64, rest)?;
-    let (marker, rest) = run_of_len(16, rest)?;
-    if marker != sync {
-        return Err(Refusal::BadSync);
-    }
-    Ok(Head {
-        count: count as u64,
-        content,
-        rest,
-    })
 }
 
 /// An object at the front of what is left of its block.

@@ -2,11 +2,11 @@
 
 ghost use Rattle.std.specs.Prelude.{◌≡◌, List, length, IfOk, IsTrue, Ok, None};
 ghost use Rattle.contract_words.specs.Outcome.{Gives};
-ghost use Rattle.avro_file.specs.Exact.{IsRead};
+ghost use Rattle.avro_parts.specs.Exact.{IsRead};
 ghost use Rattle.avro_schema.specs.View.{tree};
 ghost use Rattle.avro_schema.specs.Texts.{schema_of};
 ghost use Rattle.avro_file.specs.Where.{header_of_file, now_of};
-ghost use Rattle.avro_file.specs.Blocks.{refused};
+ghost use Rattle.avro_file.specs.Blocks.{fault_of, refused};
 ghost use Rattle.avro_file.specs.Files.{begun_at, uncompressed};
 
 use crate::blocks::{Spot, step};
@@ -15,7 +15,7 @@ use crate::header::{Header, MAGIC, NO_CODEC, header_of};
 use crate::known::schema_once;
 use crate::named::{KnownSchema, NamedSchema};
 use crate::object::Object;
-use crate::refusal::Refusal;
+use avro_parts::Refusal;
 use avro_schema::{Schema, SchemaFault};
 use std::alloc::{AllocError, Global};
 
@@ -34,7 +34,24 @@ fn begin(bytes: &[u8]) -> Result<Header<'_>, AvroFault>
     }
     match header_of(rest) {
         Ok(header) => Ok(header),
-        Err(refusal) => Err(refusal.fault(total)),
+        Err(refusal) => Err(fault_of(refusal, total)),
+    }
+}
+
+/// What a refusal is called, in a file of so many bytes.
+fn fault_of(refusal: Refusal, total: usize) -> AvroFault
+    ensures { result ≡ fault_of total refusal }
+{
+    match refusal {
+        Refusal::Short(left) => AvroFault::Truncated(total.saturating_sub(left)),
+        Refusal::BadNumber => AvroFault::BadNumber,
+        Refusal::BadUnion => AvroFault::BadUnion,
+        Refusal::BadUtf8 => AvroFault::BadUtf8,
+        Refusal::BadBoolean => AvroFault::BadBoolean,
+        Refusal::TooManyItems => AvroFault::TooManyItems,
+        Refusal::BadSync => AvroFault::BadSync,
+        Refusal::BlockSize => AvroFault::BlockSize,
+        Refusal::Memory => AvroFault::Memory,
     }
 }
 
@@ -213,7 +230,7 @@ impl<'a> Objects<'a> {
         ensures schema { type_of self.new ≡ type_of self.old }
     {
         if let Some(refusal) = self.refused {
-            return Err(refusal.fault(self.total));
+            return Err(fault_of(refusal, self.total));
         }
         match step(self.schema, self.sync, self.spot) {
             Ok(None) => Ok(None),
@@ -226,7 +243,7 @@ impl<'a> Objects<'a> {
             }
             Err(refusal) => {
                 self.refused = Some(refusal);
-                Err(refusal.fault(self.total))
+                Err(fault_of(refusal, self.total))
             }
         }
     }

@@ -2,41 +2,22 @@
 
 ghost use Rattle.std.specs.Prelude.{◌≡◌, ◌≤◌, ℕ, ℤ, Option, suc, List, length, Ok, IfOk, map, MatchOption, pos, ◌<ℤ◌};
 ghost use Rattle.contract_words.specs.Outcome.{Gives};
-ghost use Rattle.avro_file.specs.Exact.{IsRead};
+ghost use Rattle.avro_parts.specs.Exact.{IsRead};
 ghost use Rattle.avro_schema.specs.declared.schema.ArrayKind.{ArrayKind};
 ghost use Rattle.avro_schema.specs.Tree.{array};
 ghost use Rattle.avro_schema.specs.View.{tree, trees, parts, fields_of, branches_of};
 ghost use Rattle.avro_file.specs.View.{view, views, entry_views};
-ghost use Rattle.avro_file.specs.Place.{position_of};
-ghost use Rattle.avro_file.specs.Reading.{IsScalar, IsRunOfBytes, count_at, with_front, values_at, blocks_at, entry_at};
+ghost use Rattle.avro_parts.specs.Place.{position_of};
+ghost use Rattle.avro_file.specs.Reading.{IsScalar, IsRunOfBytes, with_front, values_at, blocks_at, entry_at};
 ghost use Rattle.avro_file.specs.Reading.{datum_at, fields_at, branch_at, chosen_by};
 
 use crate::datum::Datum;
-use crate::leaf::{boolean_of, bytes_of, run_of_len, symbol_of, text_of};
-use crate::number::{int_of, long_of};
 use crate::pairs::{Second, bytes_pairs_of, long_pairs_of, second_of_pair};
-use crate::place::Place;
-use crate::refusal::Refusal;
+use avro_parts::{
+    Place, Refusal, boolean_of, bytes_of, count_of, int_of, long_of, run_of_len, symbol_of, text_of,
+};
 use avro_schema::{Field, Schema};
 use std::alloc::Global;
-
-/// The count of a block's items.
-#[tactic(auto, unfolding(crate::specs::Reading::count_at))]
-pub fn count_of(place: Place<'_>) -> Result<(u64, Place<'_>), Refusal>
-    ensures { IsRead (λ x. (x.0, position_of x.1)) result (count_at (position_of place.entry)) }
-{
-    let (count, rest) = long_of(place.bytes)?;
-    let items = count.unsigned_abs();
-    if items > place.left {
-        return Err(Refusal::TooManyItems);
-    }
-    let left = place.left - items;
-    if count >= 0 {
-        return Ok((items, Place { bytes: rest, left }));
-    }
-    let (_, rest) = long_of(rest)?;
-    Ok((items, Place { bytes: rest, left }))
-}
 
 /// The value at the front of the bytes, which is a number, a truth value or nothing.
 #[tactic(auto, unfolding(crate::specs::Reading::datum_at))]

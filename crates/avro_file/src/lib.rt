@@ -11,14 +11,10 @@ mod fault;
 mod header;
 mod known;
 mod laws;
-mod leaf;
 mod named;
-mod number;
 mod object;
 mod pairs;
-mod place;
 mod quick;
-mod refusal;
 mod writer;
 
 pub use container::{Container, Objects};

@@ -11,7 +11,7 @@ use Rattle.avro_schema.specs.declared.schema.ArrayKind.{ArrayKind}
 use Rattle.avro_schema.specs.declared.schema.BytesKind.{BytesKind}
 use Rattle.avro_schema.specs.Tree as tree_of
 use Rattle.avro_schema.specs.Tree.{Tree, Fields, no_fields, field, structure}
-use Rattle.avro_file.specs.Number.{IsLong as SpellsLong, IsInt as SpellsInt, signed_of}
+use Rattle.avro_parts.specs.Number.{IsLong as SpellsLong, IsInt as SpellsInt, signed_of}
 use Rattle.avro_file.specs.Value.{Value, nothing, truth, small, whole, text, run, raw, fields, items, chosen, values_of}
 use Rattle.avro_file.specs.Spelling.{AreJoined, AreBlocks, Spells, SpellsFields, bit, item_count}
 use Rattle.avro_file.specs.Blocks.{max_items}

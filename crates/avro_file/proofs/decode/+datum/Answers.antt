@@ -4,7 +4,7 @@ use Rattle.std.proofs.lemmas.List.{map_push}
 use Rattle.std.proofs.lemmas.Int.{ints}
 use Rattle.avro_schema.specs.View.{tree}
 use Rattle.avro_file.specs.View.{view, views, entry_views}
-use Rattle.avro_file.specs.Place.{position_of}
+use Rattle.avro_parts.specs.Place.{position_of}
 use Rattle.avro_file.specs.Reading.{entry_at, datum_at, branch_at}
 use Rattle.avro_file.proofs.Views.{field_trees, branch_trees, tree-Record, branch_there, no_branch, structure_fails}
 use Rattle.avro_file.proofs.Views.{structure_read, chosen_fails, is_chosen, view-Record, view-Union, tree-Map, view-Map}

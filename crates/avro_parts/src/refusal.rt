@@ -1,10 +1,8 @@
 //! Why reading stops.
 
 ghost use Rattle.std.specs.Prelude.{◌≡◌};
-ghost use Rattle.avro_file.specs.declared.refusal.Refusal.TheVariants.{Memory};
-ghost use Rattle.avro_file.specs.Blocks.{fault_of};
+ghost use Rattle.avro_parts.specs.declared.refusal.Refusal.TheVariants.{Memory};
 
-use crate::fault::AvroFault;
 use std::alloc::{AllocError, AllocFailed};
 
 /// The first fault of values and blocks from left to right, or want of memory.
@@ -29,25 +27,6 @@ pub enum Refusal {
     BlockSize,
     /// A growth was refused.
     Memory,
-}
-
-impl Refusal {
-    /// The fault of a file of so many bytes.
-    pub fn fault(self, total: usize) -> AvroFault
-        ensures { result ≡ fault_of total self }
-    {
-        match self {
-            Refusal::Short(left) => AvroFault::Truncated(total.saturating_sub(left)),
-            Refusal::BadNumber => AvroFault::BadNumber,
-            Refusal::BadUnion => AvroFault::BadUnion,
-            Refusal::BadUtf8 => AvroFault::BadUtf8,
-            Refusal::BadBoolean => AvroFault::BadBoolean,
-            Refusal::TooManyItems => AvroFault::TooManyItems,
-            Refusal::BadSync => AvroFault::BadSync,
-            Refusal::BlockSize => AvroFault::BlockSize,
-            Refusal::Memory => AvroFault::Memory,
-        }
-    }
 }
 
 impl From<AllocError> for Refusal {

@@ -1,8 +1,8 @@
 use Rattle.std.proofs.Common.{refl}
 use Rattle.std.proofs.lemmas.Str.{is_utf8-from_IsUtf8}
-use Rattle.avro_file.specs.Reading.{string_at}
-use Rattle.avro_file.proofs.Texts.{is_utf8-from_not}
-use Rattle.avro_file.proofs.leaf.text_of.Goals as goal
+use Rattle.avro_parts.specs.Parts.{string_at}
+use Rattle.avro_parts.proofs.Texts.{is_utf8-from_not}
+use Rattle.avro_parts.proofs.leaf.text_of.Goals as goal
 
 pub returns-in_default : goal.returns-in_default
 unfolding string_at

@@ -1,7 +1,7 @@
 use Rattle.std.proofs.Common.{arith}
 use Rattle.std.proofs.lemmas.Result.{err_from_is_err_and}
-use Rattle.avro_file.proofs.Groups.{narrow_fails, narrow_large, narrow_found}
-use Rattle.avro_file.proofs.number.unsigned_32_of.Goals as goal
+use Rattle.avro_parts.proofs.Groups.{narrow_fails, narrow_large, narrow_found}
+use Rattle.avro_parts.proofs.number.unsigned_32_of.Goals as goal
 
 pub returns-in_err-value : goal.returns-in_err-value
 returns-in_err-value c =

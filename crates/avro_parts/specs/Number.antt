@@ -2,8 +2,8 @@
 -- Avro 1.11.1 specification, 'Binary Encoding', 'Primitive Types': int and long are variable-length zig-zag.
 use Rattle.std.specs.Prelude.{◌≡◌, ℕ, zero, suc, ◌+◌, ◌-◌, ◌*◌, ◌/◌, ◌%◌, ◌^◌, ◌<◌, ◌≤◌, ℤ, pos, negsuc, List, [], ◌∷◌}
 use Rattle.std.specs.Prelude.{length, Result, Ok, Err, nat_lt, ◌==◌, if◌then◌else◌, ◌⊎◌}
-use Rattle.avro_file.specs.declared.refusal.Refusal.{Refusal}
-use Rattle.avro_file.specs.declared.refusal.Refusal.TheVariants.{Short, BadNumber}
+use Rattle.avro_parts.specs.declared.refusal.Refusal.{Refusal}
+use Rattle.avro_parts.specs.declared.refusal.Refusal.TheVariants.{Short, BadNumber}
 use Rattle.contract_words.specs.Outcome.{◌>>=◌}
 
 -- A byte below 128 is the last, and stands for itself. One from 128 on has the low seven bits, and the

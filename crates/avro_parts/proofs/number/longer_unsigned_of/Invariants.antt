@@ -1,7 +1,7 @@
 use Rattle.std.proofs.Common.{◌≡◌, ◌^◌, ◌<◌, ◌≤◌, ◌-◌}
-use Rattle.avro_file.specs.Number.{groups_at}
-use Rattle.avro_file.proofs.Groups.{with_low}
-use Rattle.avro_file.proofs.number.longer_unsigned_of.Given as goal
+use Rattle.avro_parts.specs.Number.{groups_at}
+use Rattle.avro_parts.proofs.Groups.{with_low}
+use Rattle.avro_parts.proofs.number.longer_unsigned_of.Given as goal
 
 abbrev pub invariant-groups : goal.invariant-groups
 invariant-groups l =

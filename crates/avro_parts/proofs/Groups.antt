@@ -3,10 +3,10 @@ use Rattle.std.proofs.Common.{◌≡◌, ℕ, suc, ◌+◌, ◌-◌, ◌*◌, �
 use Rattle.std.proofs.Common.{length, Result, Ok, Err, refl, sym, ap, ◌∙◌, add-one, arith}
 use Rattle.std.proofs.lemmas.Bool.{lt-ltb, le-ltb, ltb-false}
 use Rattle.std.proofs.Math.Nat.{pow-le-pow_right, mul-le-mul_left, pow-suc}
-use Rattle.avro_file.specs.declared.refusal.Refusal.{Refusal}
-use Rattle.avro_file.specs.declared.refusal.Refusal.TheVariants.{Short, BadNumber}
+use Rattle.avro_parts.specs.declared.refusal.Refusal.{Refusal}
+use Rattle.avro_parts.specs.declared.refusal.Refusal.TheVariants.{Short, BadNumber}
 use Rattle.contract_words.specs.Outcome.{◌>>=◌}
-use Rattle.avro_file.specs.Number.{groups_at, from_start, number_at}
+use Rattle.avro_parts.specs.Number.{groups_at, from_start, number_at}
 
 -- what was read before, and what is still read
 abbrev pub with_low : ℕ → ℕ → Result (ℕ × List ℕ) Refusal → Result (ℕ × List ℕ) Refusal

@@ -1,5 +1,5 @@
-use Rattle.avro_file.proofs.Places.{one_group, to_end}
-use Rattle.avro_file.proofs.number.unsigned_of.Goals as goal
+use Rattle.avro_parts.proofs.NumberPlaces.{one_group, to_end}
+use Rattle.avro_parts.proofs.number.unsigned_of.Goals as goal
 
 pub returns-in-len1-up : goal.returns-in-len1-up
 returns-in-len1-up c = rw (c.from.ensures, to_end c.args.bytes.now 1) (one_group c.args.bytes.now 0

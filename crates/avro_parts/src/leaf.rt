@@ -1,14 +1,14 @@
 //! Values that hold no others.
 
 ghost use Rattle.std.specs.Prelude.{◌≡◌, ◌^◌, ◌<◌, List, length, Ok, string_bytes};
-ghost use Rattle.avro_file.specs.Exact.{IsRead};
-ghost use Rattle.avro_file.specs.Reading.{boolean_at, run_at, run_of, bytes_at, string_at, symbol_at};
+ghost use Rattle.avro_parts.specs.Exact.{IsRead};
+ghost use Rattle.avro_parts.specs.Parts.{boolean_at, run_at, run_of, bytes_at, string_at, symbol_at};
 
 use crate::number::{int_of, long_of};
 use crate::refusal::Refusal;
 
 /// A truth value: one byte, which is 0 or 1.
-#[tactic(auto, unfolding(crate::specs::Reading::boolean_at))]
+#[tactic(auto, unfolding(crate::specs::Parts::boolean_at))]
 pub fn boolean_of(bytes: &[u8]) -> Result<(bool, &[u8]), Refusal>
     ensures { IsRead (λ x. (x.0, x.1.now)) result (boolean_at bytes.now) }
 {
@@ -21,7 +21,7 @@ pub fn boolean_of(bytes: &[u8]) -> Result<(bool, &[u8]), Refusal>
 }
 
 /// So many bytes.
-#[tactic(auto, unfolding(crate::specs::Reading::run_at))]
+#[tactic(auto, unfolding(crate::specs::Parts::run_at))]
 pub fn run_of_len(len: u64, bytes: &[u8]) -> Result<(&[u8], &[u8]), Refusal>
     ensures { IsRead (λ x. (x.0.now, x.1.now)) result (run_at len bytes.now) }
 {
@@ -32,7 +32,7 @@ pub fn run_of_len(len: u64, bytes: &[u8]) -> Result<(&[u8], &[u8]), Refusal>
 }
 
 /// A length, and that many bytes.
-#[tactic(auto, unfolding(crate::specs::Reading::bytes_at))]
+#[tactic(auto, unfolding(crate::specs::Parts::bytes_at))]
 pub fn bytes_of(bytes: &[u8]) -> Result<(&[u8], &[u8]), Refusal>
     ensures { IsRead (λ x. (x.0.now, x.1.now)) result (bytes_at bytes.now) }
 {
@@ -44,7 +44,7 @@ pub fn bytes_of(bytes: &[u8]) -> Result<(&[u8], &[u8]), Refusal>
 }
 
 /// A text, by its length.
-#[tactic(auto, unfolding(crate::specs::Reading::string_at))]
+#[tactic(auto, unfolding(crate::specs::Parts::string_at))]
 pub fn text_of(bytes: &[u8]) -> Result<(&str, &[u8]), Refusal>
     ensures { IsRead (λ x. (x.0.now, x.1.now)) result (string_at bytes.now) }
 {
@@ -56,7 +56,7 @@ pub fn text_of(bytes: &[u8]) -> Result<(&str, &[u8]), Refusal>
 }
 
 /// A position among so many symbols.
-#[tactic(auto, unfolding(crate::specs::Reading::symbol_at))]
+#[tactic(auto, unfolding(crate::specs::Parts::symbol_at))]
 pub fn symbol_of(count: usize, bytes: &[u8]) -> Result<(usize, &[u8]), Refusal>
     ensures { IsRead (λ x. (x.0, x.1.now)) result (symbol_at count bytes.now) }
 {

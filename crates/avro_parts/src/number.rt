@@ -1,8 +1,8 @@
 //! Whole numbers.
 
 ghost use Rattle.std.specs.Prelude.{◌≡◌, ◌^◌, ◌<◌, List, length, Ok};
-ghost use Rattle.avro_file.specs.Exact.{IsRead};
-ghost use Rattle.avro_file.specs.Number.{number_at, long_at, int_at, signed_of};
+ghost use Rattle.avro_parts.specs.Exact.{IsRead};
+ghost use Rattle.avro_parts.specs.Number.{number_at, long_at, int_at, signed_of};
 
 use crate::refusal::Refusal;
 

@@ -1,9 +1,9 @@
 use Rattle.std.proofs.Common.{◌≡◌, ℕ, ◌+◌, ◌*◌, ◌^◌, [], Ok, ap, ◌∙◌, arith}
 use Rattle.std.proofs.lemmas.List.{nil_from_length}
-use Rattle.avro_file.specs.Number.{groups_at}
-use Rattle.avro_file.proofs.Groups.{goes_on, ends_small, ends_short, ends_large, place_small, times_small, place_grows}
-use Rattle.avro_file.proofs.Groups.{low_stays, tenth_place, times_one}
-use Rattle.avro_file.proofs.number.longer_unsigned_of.Goals as goal
+use Rattle.avro_parts.specs.Number.{groups_at}
+use Rattle.avro_parts.proofs.Groups.{goes_on, ends_small, ends_short, ends_large, place_small, times_small, place_grows}
+use Rattle.avro_parts.proofs.Groups.{low_stays, tenth_place, times_one}
+use Rattle.avro_parts.proofs.number.longer_unsigned_of.Goals as goal
 
 pub returns-in_default : goal.returns-in_default
 returns-in_default c =

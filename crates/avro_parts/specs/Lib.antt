@@ -1,0 +1,5 @@
+pub mod Exact
+pub mod Number
+pub mod Parts
+pub mod Place
+pub mod Heads
