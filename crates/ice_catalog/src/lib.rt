@@ -1,18 +1,16 @@
-//! The newest version of a table and how commits replace it, by one thread or by many; scans that stay pinned to their
-//! version. What versions are and how commits are prepared on them is in `ice_versions`.
+//! Scans that stay pinned to their version while commits go on, and by its own name all that a table's versions and their
+//! book are: what versions are and how commits are prepared on them is in `ice_versions`, how commits replace the newest
+//! version, by one thread or by many, in `ice_book`.
 #![tactic(auto)]
 
-mod book;
-mod catalog;
 mod event;
 mod machine;
 mod machine_laws;
 mod pinning;
 mod scanning;
 
-pub use book::{Book, Conflict};
-pub use catalog::{Catalog, Seat};
 pub use event::{Event, Reply};
+pub use ice_book::{Book, Catalog, Conflict, Seat};
 pub use ice_versions::{
     Change, Commit, Ids, NewFile, Opening, PrepareFault, Prepared, Receipt, Version, World,
     a_commit_is_one_step, commits_leave_what_was_there, prepare, the_last_commit_is_taken_off,

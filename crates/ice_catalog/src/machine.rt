@@ -7,10 +7,10 @@ ghost use Rattle.ice_catalog.specs.Machines.{commit, event, finish_in, in_scan, 
 ghost use Rattle.ice_catalog.specs.Machines.{machine_after, replies_to, started};
 ghost use Rattle.ice_catalog.specs.declared.event.Event.{Event};
 
-use crate::book::Book;
 use crate::event::{Event, Reply};
 use crate::machine_laws::pinned_plans_of_commits;
 use crate::scanning::Scanning;
+use ice_book::Book;
 use ice_filter::Filter;
 use ice_versions::{Change, Ids, PrepareFault, Version, prepare};
 use std::alloc::{AllocError, Global};
