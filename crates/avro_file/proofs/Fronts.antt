@@ -1,7 +1,6 @@
 -- What a run gives before it ends is held by a front of the blocks.
 use Rattle.std.proofs.Common.{◌≡◌, ℕ, zero, suc, ◌≤◌, pos, List, [], ◌∷◌, ◌++◌, length, drop, Option, Some, None}
 use Rattle.std.proofs.Common.{Result, Ok, Err, ◌⊎◌, inl, inr, refl, sym, ap, subst, ◌∙◌, append_assoc, arith}
-use Rattle.contract_words.specs.Outcome.{◌>>=◌}
 use Rattle.avro_schema.specs.Tree.{Tree}
 use Rattle.avro_schema.specs.Texts.{schema_of}
 use Rattle.avro_parts.specs.declared.refusal.Refusal.{Refusal}
@@ -19,7 +18,7 @@ use Rattle.avro_file.specs.Ahead.{running}
 use Rattle.avro_file.specs.Files.{magic, ahead_of, Opened, begun_at, schema_text, uncompressed, opened_at}
 use Rattle.avro_file.specs.Files.{IsUncompressed}
 use Rattle.avro_file.specs.Writers.{IsHeader}
-use Rattle.avro_file.specs.Fronts.{BlockBegins, FrontHolds, FrontHoldsFile}
+use Rattle.avro_file.specs.Fronts.{FrontHolds, FrontHoldsFile}
 use Rattle.avro_file.proofs.Steps.{bind_ok, ok_is}
 use Rattle.avro_file.proofs.Heads.{refused_ok, head_takes}
 use Rattle.avro_file.proofs.Held.{object_held, limits-both}

@@ -23,7 +23,7 @@ use Rattle.avro_file.specs.Reading.{chosen_by, entry_at, datum_at, fields_at, br
 use Rattle.avro_parts.specs.Heads.{BlockHead, natural_of, head_at}
 use Rattle.avro_file.specs.Blocks.{fault_of, inside, refused, max_items, object_at, Run}
 use Rattle.avro_file.specs.Blocks.{stopped, object_then, objects_run, head_then, blocks_run, FilePosition, run_from}
-use Rattle.avro_file.specs.Header.{Property, property_at, properties_at, metadata_at, header_at}
+use Rattle.avro_file.specs.Header.{property_at, properties_at, metadata_at, header_at}
 use Rattle.avro_file.specs.Ahead.{running}
 use Rattle.avro_file.specs.Files.{magic, null_codec, ahead_of, Opened, begun_at, schema_text, uncompressed, opened_at}
 use Rattle.avro_file.proofs.Steps.{bind_ok, ok_is}

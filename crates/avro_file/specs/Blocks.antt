@@ -1,8 +1,8 @@
 -- Reading the blocks of a file from left to right, with the data before the first fault.
 -- Avro 1.11.1 specification, 'Object Container Files': a file data block is a count of objects, a size in bytes,
 -- the serialized objects and the file's 16-byte sync marker.
-use Rattle.std.specs.Prelude.{◌≡◌, ◌≢◌, ℕ, zero, suc, ◌-◌, ℤ, pos, negsuc, List, [], ◌∷◌, length, Option, Some, None}
-use Rattle.std.specs.Prelude.{Result, Ok, Err, if◌then◌else◌}
+use Rattle.std.specs.Prelude.{◌≡◌, ◌≢◌, ℕ, zero, suc, ◌-◌, List, [], ◌∷◌, length, Option, Some, None}
+use Rattle.std.specs.Prelude.{Result, Ok, Err}
 use Rattle.contract_words.specs.Outcome.{◌>>=◌}
 use Rattle.avro_schema.specs.Tree.{Tree}
 use Rattle.avro_parts.specs.declared.refusal.Refusal.{Refusal}
