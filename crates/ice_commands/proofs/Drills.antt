@@ -135,6 +135,7 @@ prepare_is_no_write (prepare.BaseBad path) h = absurd cc
 prepare_is_no_write prepare.Memory h = absurd cc
 prepare_is_no_write (prepare.BadFile path) h = absurd cc
 prepare_is_no_write prepare.TooManyRows h = absurd cc
+prepare_is_no_write prepare.OutOfOrder h = absurd cc
 
 -- two parts of the seats that made the same number of commits each
 pub counted_by_both : (xs front back : List ℕ) (n m r len k a b all : ℕ) → front ≡ take n xs → back ≡ drop n xs

@@ -10,3 +10,4 @@ pub mod Following
 pub mod Longs
 pub mod Tabled
 pub mod SchemaText
+pub mod Newest

@@ -11,3 +11,4 @@ pub mod Different
 pub mod Committing
 pub mod Laws
 pub mod SchemaTexts
+pub mod Logs

@@ -5,6 +5,7 @@ mod columns;
 mod commit;
 mod fault;
 mod laws;
+mod log;
 mod members;
 mod metadata;
 mod next;

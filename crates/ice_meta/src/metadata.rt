@@ -14,6 +14,7 @@ ghost use Rattle.ice_meta.specs.Tables.{HasCurrentSchema, HasDefaultSpec, HasDif
 ghost use Rattle.ice_meta.specs.Tables.{HasDifferentSnapshots, text_json, json_of, table_of};
 ghost use Rattle.ice_meta.specs.Different.{HasDifferentColumns, HasDifferentFields};
 ghost use Rattle.ice_meta.specs.Order.{IsFirst, metadata_fault};
+ghost use Rattle.ice_meta.specs.Logs.{newest_time};
 ghost use Rattle.ice_meta.specs.SchemaTexts.{schema_in, schema_text};
 ghost use Rattle.ice_meta.specs.Targets.{described, metadata_of, schema_with, spec_with, snapshot_with, ref_with};
 ghost use Rattle.ice_meta.specs.Targets.{bound_field, bound_spec, bound_specs, is_main, current_id, named_id};
@@ -22,6 +23,7 @@ ghost use Rattle.ice_meta.specs.Targets.{schema_for};
 
 use crate::commit::NewSnapshot;
 use crate::fault::{Member, MetaFault};
+use crate::log::newest_time;
 use crate::next::next_json;
 use crate::schema::Schema;
 use crate::schema_text::text_of_schema;
@@ -161,6 +163,14 @@ impl Metadata {
         ensures { result.now ≡ self.now.table }
     {
         &self.table
+    }
+
+    /// When the newest snapshot of the snapshot log came to be the current one, in milliseconds since 1970-01-01 00:00
+    /// UTC; none where the log has no entry, or its last one says no time of 64 bits.
+    pub fn newest_time(&self) -> Option<i64>
+        ensures { result ≡ newest_time (view self.now.json) }
+    {
+        newest_time(&self.json)
     }
 
     /// The schema of this id.

@@ -8,15 +8,13 @@ ghost use Rattle.ice_meta.specs.Committing.{with_log, with_snapshots, next_json}
 
 use crate::commit::NewSnapshot;
 use crate::fault::Member;
+use crate::log::SNAPSHOT_LOG;
 use crate::table::Table;
 use serde_json::{Map, Value, push, put};
 use std::alloc::{AllocError, Global};
 
 /// The name of the branch whose snapshot is the current one.
 const MAIN: &str = "main";
-
-/// The member with the snapshots that were current, in the order of time.
-const SNAPSHOT_LOG: &str = "snapshot-log";
 
 /// A number as JSON.
 #[tactic(auto, using(crate::proofs::Longs::is_long))]

@@ -68,6 +68,7 @@ module _ (r : List ℕ → Type 0) (w : Type 0) where
   prepare_ends read (prepare.BaseBad path) h = ap (as_run of_prepare) (h (λ m. cc))
   prepare_ends read (prepare.BadFile path) h = ap (as_run of_prepare) (h (λ m. cc))
   prepare_ends read prepare.TooManyRows h = ap (as_run of_prepare) (h (λ m. cc))
+  prepare_ends read prepare.OutOfOrder h = ap (as_run of_prepare) (h (λ m. cc))
 
 -- ---- a version that was just opened
 
@@ -228,6 +229,7 @@ fault_prepares prepare.SequenceEnd = tt
 fault_prepares (prepare.BaseBad path) = tt
 fault_prepares (prepare.BadFile path) = tt
 fault_prepares prepare.TooManyRows = tt
+fault_prepares prepare.OutOfOrder = tt
 
 -- a refusal of preparing ends the commit
 pub prepare_refuses : (read : Result Commitment RunFault) (f : List ℕ → Type 0) (out : List ℕ)

@@ -129,6 +129,7 @@ prepare_text (prepare.BaseBad path) = named_path (codes "K8 BaseBad ") path
 prepare_text prepare.Memory = codes "K9 Memory"
 prepare_text (prepare.BadFile path) = named_path (codes "K10 BadFile ") path
 prepare_text prepare.TooManyRows = codes "K11 TooManyRows"
+prepare_text prepare.OutOfOrder = codes "K12 OutOfOrder"
 
 unfoldable pub run_text : RunFault → List ℕ
 run_text (run.Words text) = text

@@ -141,6 +141,7 @@ fn put_prepare_fault<S: Sink>(sink: &mut S, fault: &PrepareFault) -> Result<(), 
         PrepareFault::Memory => write_all(sink, b"K9 Memory"),
         PrepareFault::BadFile(path) => put_named_path(sink, b"K10 BadFile ", path.as_bytes()),
         PrepareFault::TooManyRows => write_all(sink, b"K11 TooManyRows"),
+        PrepareFault::OutOfOrder => write_all(sink, b"K12 OutOfOrder"),
     }
 }
 

@@ -14,6 +14,7 @@ use Rattle.ice_value.specs.declared.file_content.FileContent.{FileContent}
 use Rattle.ice_value.specs.declared.file_content.FileContent.TheVariants as holds
 use Rattle.ice_meta.specs.declared.spec.Spec.{Spec}
 use Rattle.ice_meta.specs.declared.table.Table.{Table}
+use Rattle.ice_meta.specs.Logs.{newest_time}
 use Rattle.ice_meta.specs.Targets.{snapshot_with}
 use Rattle.ice_manifest_reading.specs.declared.entry.Entry.{Entry}
 use Rattle.ice_manifest.specs.declared.new_file.NewFile.{NewFile}
@@ -193,6 +194,13 @@ too_many rows files = if nat_lt 65_536 rows || nat_lt 1_000_000 files then Some 
 abbrev pub too_many_rows : World → Table → Change → Option PrepareFault
 too_many_rows world t c = too_many (length (base_rows world t) + length (groups c)) (length (all_files c))
 
+-- ---- the order in time
+
+-- The commit is of a time before the newest entry of the table's snapshot log, whose entries are in the order of time.
+abbrev pub out_of_order : Option ℤ → ℤ → Option PrepareFault
+out_of_order None now = None
+out_of_order (Some newest) now = if is_lt (int_cmp now newest) then Some fault.OutOfOrder else None
+
 -- ---- all of them
 
 -- the first reason that stands
@@ -214,6 +222,7 @@ reasons s c =
     ∷ base_bad s.world s.metadata.table
     ∷ path_taken s.world s.metadata.table (sorted_paths c.change)
     ∷ too_many_rows s.world s.metadata.table c.change
+    ∷ out_of_order (newest_time s.metadata.json) c.ids.now_ms
     ∷ []
 
 -- why the commit is refused: the first reason that stands

@@ -8,7 +8,7 @@ use std::alloc::{AllocError, AllocFailed};
 
 /// Why a change can't be committed to a version. Where several reasons stand, the first of the order `Empty`,
 /// `SnapshotTaken`, `SequenceEnd`, `PathTwice`, `BadFile`, `NoSuchSpec`, `WrongTuple`, `BaseBad`, `PathTaken`,
-/// `TooManyRows` is answered, with the least of its paths or ids.
+/// `TooManyRows`, `OutOfOrder` is answered, with the least of its paths or ids.
 #[derive(Debug, PartialEq, Drop)]
 pub enum PrepareFault {
     /// The table has a snapshot of the commit's snapshot id, or the id is -1, which stands for none.
@@ -33,6 +33,8 @@ pub enum PrepareFault {
     BadFile(Text),
     /// The new list, or the change, is too long.
     TooManyRows,
+    /// The commit's time is before the newest entry of the table's snapshot log.
+    OutOfOrder,
 }
 
 impl From<AllocError> for PrepareFault {

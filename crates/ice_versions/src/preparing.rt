@@ -24,7 +24,8 @@ use crate::groups::{Group, groups};
 use crate::partitioning::Partitioning;
 use crate::prepared::Prepared;
 use crate::refusals::{
-    check_files, check_not_empty, check_sequence, check_sizes, check_snapshot, distinct_paths,
+    check_files, check_not_empty, check_sequence, check_sizes, check_snapshot, check_time,
+    distinct_paths,
 };
 use crate::tuples::{check_specs, check_tuples, partitionings};
 use crate::version::Version;
@@ -68,6 +69,7 @@ fn check<'a>(
     let groups = groups(alloc, change)?;
     let files = change.files.as_slice().len() + change.deletes.as_slice().len();
     check_sizes(rows.len() + groups.len(), files)?;
+    check_time(metadata, ids)?;
     Ok(Accepted { rows, groups })
 }
 

@@ -4,8 +4,11 @@ ghost use Rattle.std.specs.Prelude.{◌≡◌, ◌+◌, ◌++◌, length, fold, 
 ghost use Rattle.std.specs.Option.{option_copied};
 ghost use Rattle.ice_versions.specs.Outcome.{Refuses};
 ghost use Rattle.ice_versions.specs.Refusals.{AreSorted, empty, snapshot_taken, sequence_end, first_twice, path_before};
-ghost use Rattle.ice_versions.specs.Refusals.{path_of, all_files, sorted_paths, path_twice, is_count, is_for, are_ids, may_name};
+ghost use Rattle.ice_versions.specs.Refusals.{path_of, all_files, sorted_paths, path_twice, is_count, is_for, are_ids};
 ghost use Rattle.ice_versions.specs.Refusals.{is_good, is_bad, lesser_path, paths_where, bad_file, too_many};
+ghost use Rattle.ice_versions.specs.Refusals.{may_name, out_of_order};
+ghost use Rattle.ice_meta.specs.Logs.{newest_time};
+ghost use Rattle.ice_meta.specs.Targets.{described};
 ghost use Rattle.contract_words.specs.Sorting.{sorted};
 
 use crate::change::{Change, Ids};
@@ -219,4 +222,15 @@ pub fn check_sizes(rows: usize, files: usize) -> Result<(), PrepareFault>
         return Err(PrepareFault::TooManyRows);
     }
     Ok(())
+}
+
+/// Stops where the commit would stand in the snapshot log behind an entry of a later time.
+pub fn check_time(metadata: &Metadata, ids: &Ids) -> Result<(), PrepareFault>
+    ensures { Refuses result
+        (out_of_order (newest_time (described metadata.now.json metadata.now.table).json) ids.now.now_ms) }
+{
+    match metadata.newest_time() {
+        Some(newest) if ids.now_ms < newest => Err(PrepareFault::OutOfOrder),
+        _ => Ok(()),
+    }
 }

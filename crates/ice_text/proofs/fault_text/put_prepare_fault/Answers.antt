@@ -29,6 +29,10 @@ pub returns-in-TooManyRows : goal.returns-in-TooManyRows
 unfolding prepare_text
 returns-in-TooManyRows g c = rw c.in-TooManyRows.is c.write_all-in-TooManyRows.ensures
 
+pub returns-in-OutOfOrder : goal.returns-in-OutOfOrder
+unfolding prepare_text
+returns-in-OutOfOrder g c = rw c.in-OutOfOrder.is c.write_all-in-OutOfOrder.ensures
+
 pub returns-in-NoSuchSpec : goal.returns-in-NoSuchSpec
 unfolding prepare_text
 returns-in-NoSuchSpec g c =

@@ -210,6 +210,52 @@ returns-in_err-check_sizes-clause-refuses c =
       ),
     ) (ap Some (sym same ∙ c.in_err-check_sizes.ensures other)))
 
+pub returns-in_err-check_time-clause-refuses : goal.returns-in_err-check_time-clause-refuses
+returns-in_err-check_time-clause-refuses c =
+    let s : State = record {
+      metadata = described c.args.metadata.now.json c.args.metadata.now.table;
+      world = c.args.world.now;
+    } in
+    let commit : Commit = record { change = c.args.change.now; ids = c.args.ids.now } in
+    let paths = ap (map (λ (path : Bor (List ℕ)). path.now)) c.deref.ensures.value ∙ c.in_ok-paths.ensures.paths in
+    let both = both_none (base_bad c.args.world.now c.args.metadata.now.table) (path_taken c.args.world.now
+    c.args.metadata.now.table (sorted_paths c.args.change.now)) (rw paths at c.in_ok-rows.ensures.refuses) in
+    let rows = c.len.ensures ∙ (c.in_ok-rows.rows.ok.0 ∙ ap length c.in_ok-rows.ensures.rows) in
+    let in_groups = c.len-2.ensures ∙ (c.in_ok-groups.groups.ok.0 ∙ (sym (length-map c.in_ok-groups.groups.items seen) ∙
+    ap length c.in_ok-groups.ensures)) in
+    let files : length c.as_slice.result.now + length c.as_slice-2.result.now ≡ length (all_files c.args.change.now) =
+    let some = ap length c.as_slice.ensures in
+    let others = ap length c.as_slice-2.ensures in
+    let all = length-append c.args.change.now.files c.args.change.now.deletes in
+    omega arith in
+    let same : too_many (c.len.result + c.len-2.result) (length c.as_slice.result.now + length c.as_slice-2.result.now)
+    ≡ too_many_rows c.args.world.now c.args.metadata.now.table c.args.change.now =
+    λ i. too_many (rows i + in_groups i) (files i) in
+    let p = err_from_is_err_and c.from_residual-in_err-check_time.result
+    c.from_residual-in_err-check_time.ensures.1 in
+    rw (p.1, p.2) (λ other. refused_at 10 s commit _ (
+      c.in_ok-check_not_empty.ensures,
+      (
+        c.in_ok-check_snapshot.ensures,
+        (
+          c.in_ok-check_sequence.ensures,
+          (
+            c.in_ok-paths.ensures.refuses,
+            (
+              c.in_ok-check_files.ensures,
+              (
+                (ap (λ specs. no_such_spec specs c.args.change.now) (sym c.requires) ∙ c.in_ok-check_specs.ensures),
+                (
+                  (ap (λ specs. wrong_tuple specs c.args.change.now) (sym c.requires) ∙ c.in_ok-check_tuples.ensures),
+                  (both.0, (both.1, (sym same ∙ c.in_ok-check_sizes.ensures, tt))),
+                ),
+              ),
+            ),
+          ),
+        ),
+      ),
+    ) (ap Some (c.in_err-check_time.ensures other)))
+
 pub returns-clause-refuses : goal.returns-clause-refuses
 returns-clause-refuses c =
     let s : State = record {
@@ -245,7 +291,7 @@ returns-clause-refuses c =
                 (ap (λ specs. no_such_spec specs c.args.change.now) (sym c.requires) ∙ c.in_ok-check_specs.ensures),
                 (
                   (ap (λ specs. wrong_tuple specs c.args.change.now) (sym c.requires) ∙ c.in_ok-check_tuples.ensures),
-                  (both.0, (both.1, (sym same ∙ c.in_ok-check_sizes.ensures, tt))),
+                  (both.0, (both.1, (sym same ∙ c.in_ok-check_sizes.ensures, (c.in_ok-check_time.ensures, tt)))),
                 ),
               ),
             ),
