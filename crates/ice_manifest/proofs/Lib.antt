@@ -13,3 +13,4 @@ pub mod ManifestNames
 pub mod FileSpelled
 pub mod EntriesAgain
 pub mod NewRow
+pub mod Summaries

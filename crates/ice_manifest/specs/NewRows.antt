@@ -1,7 +1,7 @@
 -- The row of a manifest that a commit adds (Apache Iceberg table spec v2, "Manifest Lists": its counts and the
 -- summaries of its partition fields).
 use Rattle.std.specs.Prelude.{ℕ, suc, ℤ, pos, ◌+ℤ◌, Bool, true, false, List, [], ◌∷◌, length, map, Option, Some, None}
-use Rattle.std.specs.Prelude.{unwrap_or, option_and_then, if◌then◌else◌}
+use Rattle.std.specs.Prelude.{unwrap_or, option_and_then, not, ◌||◌, if◌then◌else◌}
 use Rattle.std.specs.List.{list_any, slice_get}
 use Rattle.std.specs.Ordering.{is_lt}
 use Rattle.ice_value.specs.declared.column_type.ColumnType.{ColumnType}
@@ -73,6 +73,21 @@ abbrev pub summaries_from : ℕ → List ColumnType → List NewFile → List Su
 summaries_from i [] fs = []
 summaries_from i (t ∷ ts) fs = summary_of t (column_of i fs) ∷ summaries_from (suc i) ts fs
 
+-- a uuid that is not null stands among the values of a field of this type
+abbrev pub has_uuid : ColumnType → List Cell → Bool
+has_uuid Uuid cs = list_any (λ c. not (is_null c)) cs
+has_uuid t cs = false
+
+-- it does in one of the fields from a place on
+abbrev pub some_uuid : ℕ → List ColumnType → List NewFile → Bool
+some_uuid i [] fs = false
+some_uuid i (t ∷ ts) fs = has_uuid t (column_of i fs) || some_uuid (suc i) ts fs
+
+-- The summaries of all fields. A summary without bounds says that all values are null, and a uuid has no bounds here: so
+-- where one stands there are no summaries at all, and no reader passes over the manifest.
+abbrev pub summaries : List ColumnType → List NewFile → Option (List Summary)
+summaries ts fs = if some_uuid 0 ts fs then None else Some (summaries_from 0 ts fs)
+
 -- ---- the row
 
 -- the records of all files
@@ -102,5 +117,5 @@ new_row h path size sequence_number fs = record {
   min_sequence_number = sequence_number;
   added_snapshot_id = h.snapshot_id;
   counts = new_counts fs;
-  partitions = Some (summaries_from 0 h.types fs);
+  partitions = summaries h.types fs;
 }

@@ -11,7 +11,7 @@ ghost use Rattle.ice_manifest.specs.NewRows.{is_null as null_cell, lesser as les
 ghost use Rattle.ice_manifest.specs.NewRows.{unless_null, least as least_value, greatest as greatest_value};
 ghost use Rattle.ice_manifest.specs.NewRows.{bound_of as bound_for, summary_of as summary_with, cell_at as cell_in};
 ghost use Rattle.ice_manifest.specs.NewRows.{column_of, summaries_from, records_in as records_within};
-ghost use Rattle.ice_manifest.specs.NewRows.{new_counts as counts_of, new_row};
+ghost use Rattle.ice_manifest.specs.NewRows.{new_counts as counts_of, new_row, has_uuid, some_uuid, summaries};
 
 use crate::heading::Heading;
 use crate::new_file::NewFile;
@@ -144,6 +144,54 @@ fn summary_of(
     })
 }
 
+/// Whether a value at the place is not null.
+fn has_value(files: &[&NewFile], place: usize) -> bool
+    ensures { result ≡ list_any (λ c. not (null_cell c)) (column_of place (lent files.now)) }
+{
+    'files: for file in files {
+        if value_at(file, place).is_some() {
+            return true;
+        }
+    }
+    false
+}
+
+/// Whether a uuid that is not null stands at the place, where values are of this type.
+fn has_uuid(column_type: &ColumnType, place: usize, files: &[&NewFile]) -> bool
+    ensures { result ≡ has_uuid column_type.now (column_of place (lent files.now)) }
+{
+    match column_type {
+        ColumnType::Uuid => has_value(files, place),
+        _ => false,
+    }
+}
+
+/// Whether one does at some place.
+fn some_uuid(types: &[ColumnType], files: &[&NewFile]) -> bool
+    ensures { result ≡ some_uuid 0 types.now (lent files.now) }
+{
+    'types: for place in 0..types.len() {
+        if has_uuid(&types[place], place, files) {
+            return true;
+        }
+    }
+    false
+}
+
+/// The summaries of all fields; a uuid among their values has no bounds, and then there are none.
+fn summaries_unless_uuid(
+    alloc: Global,
+    types: &[ColumnType],
+    files: &[&NewFile],
+) -> Result<Option<Items<Summary>>, AllocError>
+    ensures { IfOk result (λ found. found ≡ summaries types.now (lent files.now)) }
+{
+    if some_uuid(types, files) {
+        return Ok(None);
+    }
+    Ok(Some(summaries_of(alloc, types, files)?))
+}
+
 fn summaries_of(
     alloc: Global,
     types: &[ColumnType],
@@ -220,7 +268,7 @@ impl Heading {
             min_sequence_number: sequence_number,
             added_snapshot_id: self.snapshot_id,
             counts: new_counts(files),
-            partitions: Some(summaries_of(alloc, self.types.as_slice(), files)?),
+            partitions: summaries_unless_uuid(alloc, self.types.as_slice(), files)?,
         })
     }
 }

@@ -1,7 +1,7 @@
 -- What is live after a commit.
 use Rattle.std.proofs.Common.{◌≡◌, ◌≤◌, ◌<◌, ◌+◌, ℕ, suc, Bool, true, false, cond, List, [], ◌∷◌, ◌++◌, length}
 use Rattle.std.proofs.Common.{length-append, map, find, refl, sym, ◌∙◌, ap, subst, arith}
-use Rattle.std.specs.Prelude.{ℤ, Option, Some, None, Result, Ok, Err, is_none, is_some, option_map, codes}
+use Rattle.std.specs.Prelude.{ℤ, IfSome, Option, Some, None, Result, Ok, Err, is_none, is_some, option_map, codes}
 use Rattle.std.specs.Cmp.Lexicographic.{nat_list_cmp_total}
 use Rattle.std.specs.FinMap.{get, get-insert, insert}
 use Rattle.std.specs.Fmt.{decimal}
@@ -18,6 +18,7 @@ use Rattle.std.proofs.lemmas.Map.Text.{is_eq-slice_cmp}
 use Rattle.std.proofs.lemmas.Slice.Eq.{bytes_eq-Decides}
 use Rattle.contract_words.specs.Sorting.{put, sorted}
 use Rattle.uuid.proofs.TextLemmas.{by_index_length}
+use Rattle.avro_file.specs.Blocks.{max_items}
 use Rattle.ice_meta.specs.Tables.{table_of}
 use Rattle.ice_meta.specs.Targets.{Described, list_of}
 use Rattle.ice_meta.specs.declared.spec.Spec.{Spec}
@@ -31,6 +32,7 @@ use Rattle.ice_manifest.specs.Fitting.{IsReadable}
 use Rattle.ice_manifest_reading.specs.Lists.{path_before, path_order, rows_of}
 use Rattle.ice_manifest_reading.specs.Manifests.{entries_of}
 use Rattle.ice_manifest.specs.NewRows.{new_row, summaries_from}
+use Rattle.ice_manifest.proofs.Summaries.{by_summaries}
 use Rattle.ice_manifest.specs.Writing.{list_bytes, new_entries}
 use Rattle.ice_versions.specs.declared.change.Commit.{Commit}
 use Rattle.ice_versions.specs.declared.change.Ids.{Ids}
@@ -199,7 +201,11 @@ readable m ids sequence n g short few can =
     let count = length_summaries 0 h.types g.files in
     let typed = can.heading.typed in
     let most = can.heading.few in
-    record { path = short_path m.table ids n short few; partitions = omega (arith, count, typed, most) }
+    record {
+      path = short_path m.table ids n short few;
+      partitions = by_summaries (λ o. IfSome o (λ ss. length ss ≤ max_items)) h.types g.files tt
+          (omega (arith, count, typed, most));
+    }
 
 all_readable : (m : Described) (ids : Ids) (sequence n : ℕ) (gs : List Group) → length m.table.location ≤ 65000
     → n + length gs ≤ 65536 → AllByRecursion (CanWrite m ids) gs

@@ -10,7 +10,8 @@ use Rattle.ice_meta.specs.Targets.{Described}
 use Rattle.ice_manifest.specs.declared.new_file.NewFile.{NewFile}
 use Rattle.ice_manifest_reading.specs.declared.row.ManifestContent.{ManifestContent}
 use Rattle.ice_manifest_reading.specs.declared.row.ManifestContent.TheVariants.{Data, Deletes}
-use Rattle.ice_manifest.specs.NewRows.{new_row, summaries_from}
+use Rattle.ice_manifest.specs.NewRows.{new_row, summaries}
+use Rattle.ice_manifest.proofs.Summaries.{by_summaries}
 use Rattle.ice_state.specs.Covering.{Covers}
 use Rattle.ice_state.specs.Specs.{spec_of}
 use Rattle.ice_versions.specs.declared.change.Commit.{Commit}
@@ -75,7 +76,7 @@ found_passes {A} test (y ∷ xs) x e =
 
 abbrev FileIsCovered : List Spec → Spec → List NewFile → NewFile → Type 0
 FileIsCovered specs own files f = (spec : Spec) → spec_of specs own.id ≡ Some spec
-    → Covers spec (Some (summaries_from 0 (types_of own) files)) f.tuple
+    → Covers spec (summaries (types_of own) files) f.tuple
 
 files_covered : (specs : List Spec) (id : ℤ) (files : List NewFile) (o : Option Spec) → spec_in specs id ≡ o
     → AllByRecursion (λ (f : NewFile). fits_spec o f.tuple ≡ true) files
@@ -89,7 +90,8 @@ files_covered specs id files (Some own) is fits =
     (λ f h spec e.
     let both : Some own ≡ Some spec = sym is ∙ (ap (spec_in specs) (sym named) ∙ e) in
     let same : own ≡ spec = cc in
-    subst (λ (s : Spec). Covers s (Some (summaries_from 0 (types_of own) files)) f.tuple) same (λ _. h))
+    subst (λ (s : Spec). Covers s (summaries (types_of own) files) f.tuple) same
+    (by_summaries (λ ss. Covers own ss f.tuple) (types_of own) files tt (λ _. h)))
     (told own.fields files fits)
 
 group_covered : (m : Described) (ids : Ids) (sequence : ℕ) (g : Group) → HasFitting (table_specs m.table) g → (n : ℕ)
