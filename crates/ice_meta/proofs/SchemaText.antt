@@ -12,7 +12,7 @@ use Rattle.serde_json.specs.Written.{has_float, items_have_float, compact_text}
 use Rattle.ice_meta.specs.declared.fault.Member.{Member}
 use Rattle.ice_meta.specs.declared.fault.Member.TheVariants as member
 use Rattle.ice_meta.specs.Members.{member_name}
-use Rattle.ice_meta.specs.Committing.{whole, inside, items_of}
+use Rattle.ice_meta_json.specs.Objects.{whole, inside, items_of}
 use Rattle.ice_meta.specs.Schemas.{most_levels}
 use Rattle.ice_meta.specs.SchemaTexts.{Nested, text_of, number_of, flag_of, type_of, field_of, each_field, fields_of}
 use Rattle.ice_meta.specs.SchemaTexts.{struct_of, list_of, map_of, of_name, object_of, nested_in, schema_json}
