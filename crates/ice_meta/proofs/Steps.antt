@@ -1,6 +1,6 @@
 -- Steps of the loops, and of the levels of a type.
 use Rattle.std.proofs.Common.{◌≡◌, ◌≢◌, ap, ℕ, zero, suc, ◌+◌, ◌-◌, ◌≤◌, ◌<◌, true, false, List, [], ◌∷◌, ◌++◌, length}
-use Rattle.std.proofs.Common.{get_or, drop, Ok, Err, Bool, Some, None, true≢false, refl, sym, ◌∙◌, add-one, drop-cons}
+use Rattle.std.proofs.Common.{get_or, drop, Ok, Err, Bool, Some, None, true≢false, refl, sym, ◌∙◌}
 use Rattle.std.proofs.Common.{arith}
 use Rattle.std.specs.Prelude.{ℤ}
 use Rattle.std.specs.List.{list_any, IsFirstAndRest}

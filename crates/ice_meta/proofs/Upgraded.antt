@@ -1,23 +1,22 @@
 -- A document whose snapshots have their sequence numbers says what the document says that leaves them out, and a commit
 -- leaves none out.
-use Rattle.std.proofs.Common.{◌≡◌, ℕ, suc, List, [], Bool, true, false, ◌&&◌, ◌||◌, not, Option, None, Some, Ok, Err}
-use Rattle.std.proofs.Common.{refl, sym, ap, ◌∙◌, true≢false, bytes_eq}
+use Rattle.std.proofs.Common.{◌≡◌, ℕ, List, [], Bool, true, false, ◌&&◌, ◌||◌, not, Option, None, Some, Ok, Err}
+use Rattle.std.proofs.Common.{refl, sym, ◌∙◌, true≢false, bytes_eq}
 use Rattle.std.specs.Prelude.{Result, option_and_then, unwrap_or, if◌then◌else◌}
 use Rattle.std.specs.Option.{is_some}
 use Rattle.contract_words.specs.Outcome.{◌>>=◌}
 use Rattle.serde_json.specs.Data as json
 use Rattle.serde_json.specs.Data.{Data, Items}
 use Rattle.serde_json.specs.Find.{get, as_object}
-use Rattle.ice_meta_json.specs.Objects.{natural, inside, set, items_of, at_end}
+use Rattle.ice_meta_json.specs.Objects.{natural, set, items_of, at_end}
 use Rattle.ice_meta_json.specs.Upgraded.{snapshots, sequence_number, lacks_number, some_lacks, numbered, each_numbered}
-use Rattle.ice_meta_json.specs.Upgraded.{snapshot_items, filled, IsFilled}
+use Rattle.ice_meta_json.specs.Upgraded.{snapshot_items, filled}
 use Rattle.ice_meta_json.proofs.Filling.{either_filled}
 use Rattle.ice_meta_json.proofs.Members.{set_same, set_other}
 use Rattle.ice_meta.specs.declared.commit.NewSnapshot.{NewSnapshot}
 use Rattle.ice_meta.specs.declared.fault.Member.{Member}
 use Rattle.ice_meta.specs.declared.fault.Member.TheVariants as member
 use Rattle.ice_meta.specs.declared.fault.MetaFault.{MetaFault}
-use Rattle.ice_meta.specs.declared.snapshot.Snapshot.{Snapshot}
 use Rattle.ice_meta.specs.declared.table.Table.{Table}
 use Rattle.ice_meta.specs.Laws.{SaysTheSame, StaysFilled}
 use Rattle.ice_meta.specs.declared.fault.MetaFault.TheVariants.{WrongKind}
@@ -27,7 +26,7 @@ use Rattle.ice_meta.specs.Reading.{each, once}
 use Rattle.ice_meta.specs.Tables.{version_in, uuid_in, location_in, schemas_in, current_schema_in, specs_in}
 use Rattle.ice_meta.specs.Tables.{default_spec_in, current_snapshot_in, snapshot_id, snapshot_of, operation_in, if_snapshots}
 use Rattle.ice_meta.specs.Tables.{snapshots_in, refs_in, table_of}
-use Rattle.ice_meta.specs.Committing.{snapshot_json, next_json}
+use Rattle.ice_meta.specs.Committing.{snapshot_json}
 use Rattle.ice_meta.proofs.Following.{of_parent, base, is_snapshot_object, next_array, list_of, each_list}
 
 -- ---- a commit

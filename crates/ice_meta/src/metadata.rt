@@ -108,8 +108,8 @@ impl Metadata {
     {
         let json = object_from(alloc, bytes)?;
         let table = table_of(alloc, &json)?;
-        let json = filled(alloc, json)?;
-        Ok(Metadata { json, table })
+        let full = filled(alloc, json)?;
+        Ok(Metadata { json: full, table })
     }
 
     /// The text of the metadata file: the JSON object, also what of it isn't read, without white space and with the

@@ -1,12 +1,10 @@
 -- What a filled document is.
-use Rattle.std.proofs.Common.{◌≡◌, ℕ, List, Bool, true, false, ◌&&◌, ◌||◌, not, Option, None, Some, refl, sym, ap, ◌∙◌}
-use Rattle.std.proofs.Common.{true≢false, cond}
-use Rattle.std.specs.Prelude.{unwrap_or}
-use Rattle.std.specs.Option.{is_some}
+use Rattle.std.proofs.Common.{◌≡◌, Bool, true, false, refl}
+use Rattle.std.proofs.Common.{cond}
 use Rattle.serde_json.specs.Data as json
 use Rattle.serde_json.specs.Data.{Data, Items}
-use Rattle.serde_json.specs.Find.{get, as_object, as_array}
-use Rattle.ice_meta_json.specs.Objects.{natural, inside, set, items_of}
+use Rattle.serde_json.specs.Find.{get}
+use Rattle.ice_meta_json.specs.Objects.{natural, set}
 use Rattle.ice_meta_json.specs.Upgraded.{snapshots, sequence_number, lacks_number, some_lacks, numbered, each_numbered}
 use Rattle.ice_meta_json.specs.Upgraded.{snapshot_items, filled, IsFilled}
 use Rattle.ice_meta_json.specs.Laws.{FillsAll, FillsOnce, KeepsFilled, KeepsOtherMembers, KeepsOfSnapshots}

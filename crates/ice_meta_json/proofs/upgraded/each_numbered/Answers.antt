@@ -1,4 +1,4 @@
-use Rattle.std.proofs.Common.{◌≡◌, ◌∙◌, ap}
+use Rattle.std.proofs.Common.{◌∙◌, ap}
 use Rattle.serde_json.specs.View.{items_view}
 use Rattle.ice_meta_json.specs.Upgraded.{each_numbered}
 use Rattle.ice_meta_json.proofs.Joined.{numbered_on, numbered_over}
