@@ -1,30 +1,11 @@
--- What a commit writes.
-use Rattle.std.proofs.Common.{◌≡◌, ℕ, ◌+◌, ◌<◌, ◌≤◌, List, [], ◌∷◌, ◌++◌, length, get_or, drop, refl, sym, ap, ◌∙◌}
+-- The fields of a schema, one after the other.
+use Rattle.std.proofs.Common.{◌≡◌, ℕ, ◌+◌, ◌<◌, ◌≤◌, List, [], ◌∷◌, ◌++◌, length, get_or, drop, sym, ap, ◌∙◌}
 use Rattle.std.proofs.Math.ListN.{drop_of_length-le}
 use Rattle.serde_json.specs.declared.value.Value.{Value}
-use Rattle.serde_json.specs.Data.{Data, Items, no_items, item}
+use Rattle.serde_json.specs.Data.{Data, Items, item}
 use Rattle.serde_json.specs.View.{view, items_view}
-use Rattle.ice_meta.specs.Committing.{at_end}
 use Rattle.ice_meta.specs.SchemaTexts.{field_of, each_field}
-use Rattle.ice_meta.proofs.Steps.{step_of}
-
-pub items_at_end : (vs : List Value) (v : Value) → items_view (vs ++ v ∷ []) ≡ at_end (view v) (items_view vs)
-items_at_end [] v = refl
-items_at_end (w ∷ vs) v = ap (item (view w)) (items_at_end vs v)
-
--- items, and others behind them
-abbrev pub joined : Items → Items → Items
-joined no_items es = es
-joined (item d ds) es = item d (joined ds es)
-
-joined_none : (ds : Items) → joined ds no_items ≡ ds
-joined_none no_items = refl
-joined_none (item d ds) = ap (item d) (joined_none ds)
-
-joined_last : (vs : List Value) (v : Value) (es : Items)
-    → joined (items_view (vs ++ v ∷ [])) es ≡ joined (items_view vs) (item (view v) es)
-joined_last [] v es = refl
-joined_last (w ∷ vs) v es = ap (item (view w)) (joined_last vs v es)
+use Rattle.ice_meta_json.proofs.Joined.{step_of, joined, joined_none, joined_last}
 
 -- one field more
 pub fields_on : (nested : Data → Data) (xs : List Value) (i : ℕ) (x : Value) (vs : List Value) (v : Value) (all : Items)

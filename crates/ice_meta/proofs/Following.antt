@@ -14,8 +14,7 @@ use Rattle.std.proofs.lemmas.Slice.Eq.{bytes_eq-Decides}
 use Rattle.contract_words.specs.Outcome.{◌>>=◌}
 use Rattle.serde_json.specs.Data as json
 use Rattle.serde_json.specs.Data.{Data, Items, Members, put}
-use Rattle.serde_json.specs.Find.{get, get_member, as_i64, as_object, of_integer}
-use Rattle.serde_json.proofs.Views.{get_member-put, get_member-put_other}
+use Rattle.serde_json.specs.Find.{get, as_i64, as_object, of_integer}
 use Rattle.ice_meta.specs.declared.commit.NewSnapshot.{NewSnapshot}
 use Rattle.ice_meta.specs.declared.fault.Member.{Member}
 use Rattle.ice_meta.specs.declared.fault.Member.TheVariants as member
@@ -28,35 +27,19 @@ use Rattle.ice_meta.specs.declared.snapshot.Ref.{Ref}
 use Rattle.ice_meta.specs.declared.snapshot.Snapshot.{Snapshot}
 use Rattle.ice_meta.specs.Laws.{SaysTheNext}
 use Rattle.ice_meta.specs.Members.{asked, there, long_of, member_name, not_null, all_objects, if_int, long_in, int_in}
-use Rattle.ice_meta.specs.Members.{sequence_number_in, text_in, optional_long, optional_int, optional_text}
+use Rattle.ice_meta.specs.Members.{sequence_number_in, sequence_number_or_zero, text_in, optional_long, optional_int}
+use Rattle.ice_meta.specs.Members.{optional_text}
 use Rattle.ice_meta.specs.Reading as reading
 use Rattle.ice_meta.specs.Reading.{each, each_into, again, once}
 use Rattle.ice_meta.specs.Tables.{if_among, version_in, uuid_in, location_in, schemas_in, current_schema_in, specs_in}
 use Rattle.ice_meta.specs.Tables.{default_spec_in, current_snapshot_in, snapshot_id, snapshot_of, operation_of}
 use Rattle.ice_meta.specs.Tables.{operation_in, if_snapshots, snapshots_in, object_of, kind_of, each_ref, ref_of}
 use Rattle.ice_meta.specs.Tables.{if_refs, refs_in, table_of}
-use Rattle.ice_meta.specs.Committing.{inside, members_of, set, items_of, at_end, one_more, no_object, operation_name}
-use Rattle.ice_meta.specs.Committing.{summary_json, with_parent, whole, natural, snapshot_json, branch_to, refs_json}
+use Rattle.ice_meta_json.specs.Objects.{inside, members_of, set, items_of, at_end, one_more, no_object, whole, natural}
+use Rattle.ice_meta_json.proofs.Members.{set_same, set_other}
+use Rattle.ice_meta.specs.Committing.{operation_name, summary_json, with_parent, snapshot_json, branch_to, refs_json}
 use Rattle.ice_meta.specs.Committing.{with_refs, with_log, with_snapshots, next_json, IsLong, AreLongs, CanFollow}
 use Rattle.ice_meta.specs.Committing.{new_snapshot, main_at, placed, next_table}
-
--- ---- members after a change
-
-get_members : (q : List ℕ) (d : Data) → get_member q (members_of d) ≡ get q d
-get_members q json.null = refl
-get_members q (json.boolean b) = refl
-get_members q (json.number x) = refl
-get_members q (json.string s) = refl
-get_members q (json.array ds) = refl
-get_members q (json.object ms) = refl
-
-pub set_same : (k : List ℕ) (x d : Data) → get k (set k x d) ≡ Some x
-set_same k x d = get_member-put k x (members_of d)
-
-pub set_other : (q k : List ℕ) (x d : Data) → bytes_eq q k ≡ false → get q (set k x d) ≡ get q d
-set_other q k x d other =
-    get_member-put_other q k x (members_of d) (λ same. true≢false (sym ((bytes_eq-Decides q k).1 same) ∙ other)) ∙
-    get_members q d
 
 -- ---- members of the next metadata
 
@@ -268,7 +251,7 @@ says_parts d t e =
 
 -- ---- one after the other, without what came before
 
-list_of : {A : Type 0} → (Data → Result A MetaFault) → Items → Result (List A) MetaFault
+unfoldable pub list_of : {A : Type 0} → (Data → Result A MetaFault) → Items → Result (List A) MetaFault
 list_of read json.no_items = Ok []
 list_of read (json.item d ds) = read d >>= λ x. list_of read ds >>= λ xs. Ok (x ∷ xs)
 
@@ -281,7 +264,7 @@ either_ok : {A : Type 0} (front : List A) (x : A) (rest : Result (List A) MetaFa
 either_ok front x (Ok xs) = ap Ok (append_assoc front (x ∷ []) xs)
 either_ok front x (Err fault) = refl
 
-each_list : {A : Type 0} (read : Data → Result A MetaFault) (ds : Items) (front : List A)
+pub each_list : {A : Type 0} (read : Data → Result A MetaFault) (ds : Items) (front : List A)
     → each_into (reading.one_more read) ds front ≡ (list_of read ds >>= λ xs. Ok (front ++ xs))
 unfolding list_of
 each_list read json.no_items front = ap Ok (sym (append-nil front))
@@ -343,12 +326,16 @@ optional_text_says : (m : Member) (d : Data) (s : List ℕ) → get (member_name
     → optional_text m d ≡ Ok (Some s)
 optional_text_says m d s is = rw is refl
 
+number_or_zero_says : (m : Member) (d : Data) (n : ℕ) → get (member_name m) d ≡ Some (natural n) → n < 2 ^ 63
+    → sequence_number_or_zero m d ≡ Ok n
+number_or_zero_says m d n is h = rw (is, lt-ltb n (2 ^ 63) h) refl
+
 text_says : (m : Member) (d : Data) (s : List ℕ) → get (member_name m) d ≡ Some (json.string s) → text_in m d ≡ Ok s
 text_says m d s is = rw is refl
 
 -- ---- the new snapshot
 
-of_parent : (q : List ℕ) (o : Option ℤ) (d : Data) → bytes_eq q (member_name member.ParentSnapshotId) ≡ false
+pub of_parent : (q : List ℕ) (o : Option ℤ) (d : Data) → bytes_eq q (member_name member.ParentSnapshotId) ≡ false
     → get q (with_parent o d) ≡ get q d
 of_parent q None d other = refl
 of_parent q (Some id) d other = set_other q (member_name member.ParentSnapshotId) (whole id) d other
@@ -364,7 +351,7 @@ operation_says : (d : Data) (s : NewSnapshot) → get (member_name member.Summar
 unfolding operation_of
 operation_says d s is = rw is refl
 
-abbrev base : Table → NewSnapshot → Data
+abbrev pub base : Table → NewSnapshot → Data
 base t s =
     set (member_name member.Summary) (summary_json s)
     (set (member_name member.SchemaId) (whole t.current_schema_id)
@@ -382,7 +369,7 @@ snapshot_says t s can longs schema fits =
       long_says member.SnapshotId (with_parent o (base t s)) s.id (of_parent (member_name member.SnapshotId) o
           (base t s) refl) longs.id,
       parent_says o (base t s) refl longs.parent_id,
-      number_says member.SequenceNumber (with_parent o (base t s)) (suc t.last_sequence_number)
+      number_or_zero_says member.SequenceNumber (with_parent o (base t s)) (suc t.last_sequence_number)
           (of_parent (member_name member.SequenceNumber) o (base t s) refl) can.number_fits,
       long_says member.TimestampMs (with_parent o (base t s)) s.timestamp_ms (of_parent (member_name member.TimestampMs)
           o (base t s) refl) longs.timestamp_ms,
@@ -483,7 +470,7 @@ snapshot_object : (o : Option ℤ) (k : List ℕ) (x d : Data) → is_some (as_o
 snapshot_object None k x d = refl
 snapshot_object (Some id) k x d = refl
 
-is_snapshot_object : (t : Table) (s : NewSnapshot) → is_some (as_object (snapshot_json t s)) ≡ true
+pub is_snapshot_object : (t : Table) (s : NewSnapshot) → is_some (as_object (snapshot_json t s)) ≡ true
 unfolding snapshot_json
 is_snapshot_object t s =
     snapshot_object t.current_snapshot_id (member_name member.Summary) (summary_json s)
@@ -492,7 +479,7 @@ is_snapshot_object t s =
     (set (member_name member.SequenceNumber) (natural (suc t.last_sequence_number)) (set (member_name member.SnapshotId)
     (whole s.id) no_object)))))
 
-next_array : (t : Table) (s : NewSnapshot) (d : Data) → get (member_name member.Snapshots) (next_json t s d) ≡ Some
+pub next_array : (t : Table) (s : NewSnapshot) (d : Data) → get (member_name member.Snapshots) (next_json t s d) ≡ Some
     (json.array (at_end (snapshot_json t s) (items_of (inside (member_name member.Snapshots) d))))
 unfolding one_more
 next_array t s d = next_snapshots t s d

@@ -7,6 +7,7 @@ pub mod Appended
 pub mod Committed
 pub mod Nesting
 pub mod Following
+pub mod Upgraded
 pub mod Longs
 pub mod Tabled
 pub mod SchemaText

@@ -1,5 +1,7 @@
--- A commit nests no deeper than what it is made from, or than the little that it adds.
+-- A commit nests no deeper than what it is made from, or than the little that it adds; nor do sequence numbers that are
+-- filled in.
 use Rattle.std.proofs.Common.{◌≤◌, ℕ, suc, List, Option, None, Some, Ordering, Less, Equal, Greater, arith}
+use Rattle.std.proofs.Common.{Bool, true, false, cond}
 use Rattle.std.specs.Ordering.{match_ordering, nat_cmp}
 use Rattle.std.specs.Prelude.{ℤ, unwrap_or, codes}
 use Rattle.std.specs.Cmp.Lexicographic.{slice_cmp}
@@ -11,8 +13,11 @@ use Rattle.ice_meta.specs.declared.commit.NewSnapshot.{NewSnapshot}
 use Rattle.ice_meta.specs.declared.fault.Member.TheVariants as member
 use Rattle.ice_meta.specs.declared.table.Table.{Table}
 use Rattle.ice_meta.specs.Members.{member_name}
-use Rattle.ice_meta.specs.Committing.{inside, members_of, set, items_of, at_end, one_more, no_object, operation_name}
-use Rattle.ice_meta.specs.Committing.{with_parent, summary_json, snapshot_json, log_json, branch_to, refs_json}
+use Rattle.ice_meta_json.specs.Objects.{inside, members_of, natural, set, items_of, at_end, one_more, no_object}
+use Rattle.ice_meta_json.specs.Upgraded.{snapshots, sequence_number, lacks_number, numbered, each_numbered}
+use Rattle.ice_meta_json.specs.Upgraded.{snapshot_items, filled}
+use Rattle.ice_meta_json.proofs.Filling.{either_filled}
+use Rattle.ice_meta.specs.Committing.{operation_name, with_parent, summary_json, snapshot_json, log_json, branch_to, refs_json}
 use Rattle.ice_meta.specs.Committing.{with_refs, with_log, with_snapshots, next_json}
 
 either : (o : Ordering) (a b c : Members) (n : ℕ) → members_depth a ≤ n → members_depth b ≤ n → members_depth c ≤ n
@@ -172,3 +177,36 @@ next_nests t s d h =
 pub under_next : (t : Table) (s : NewSnapshot) (d : Data) → depth d ≤ max_depth → depth (next_json t s d) ≤ max_depth
 unfolding Nests
 under_next t s d h = next_nests t s d h
+
+-- ---- sequence numbers that are filled in
+
+numbered_nests : (d : Data) (n : ℕ) → Nests (suc n) d → Nests (suc n) (numbered d)
+numbered_nests d n h = here (lacks_number d)
+  where
+    here : (b : Bool) → Nests (suc n) (cond b (set sequence_number (natural 0) d) d)
+    here true = under_number sequence_number (json.unsigned 0) d n h
+    here false = h
+
+items_nest : (ds : Items) (n : ℕ) → items_depth ds ≤ suc n → items_depth (each_numbered ds) ≤ suc n
+unfolding Nests
+items_nest json.no_items n h = h
+items_nest (json.item d ds) n h =
+    omega (arith, numbered_nests d n (omega arith), items_nest ds n (omega arith))
+
+array_nests : (ds : Items) (n : ℕ) → items_depth ds ≤ n → Nests (suc n) (json.array ds)
+unfolding Nests
+array_nests ds n h = omega arith
+
+under_snapshots : (d : Data) (n : ℕ) → Nests (suc n) d → items_depth (items_of d) ≤ n
+unfolding Nests
+under_snapshots d n h = under_items d n h
+
+filled_nests : (d : Data) → Nests max_depth d → Nests max_depth (filled d)
+filled_nests d h =
+    either_filled (Nests max_depth) d (λ _. h) (λ _.
+    under_set snapshots (json.array (each_numbered (snapshot_items d))) d 126 (array_nests _ 125
+    (items_nest (snapshot_items d) 124 (under_snapshots (inside snapshots d) 125 (under_inside snapshots d 126 h)))) h)
+
+pub under_filled : (d : Data) → depth d ≤ max_depth → depth (filled d) ≤ max_depth
+unfolding Nests
+under_filled d h = filled_nests d h

@@ -1,5 +1,5 @@
 -- The JSON of a schema with the members that are read alone.
-use Rattle.std.proofs.Common.{◌≡◌, ℕ, zero, suc, ◌-◌, ◌<◌, Bool, true, false, ◌||◌, List, Option, None, Some, refl, ap}
+use Rattle.std.proofs.Common.{◌≡◌, ℕ, zero, suc, ◌-◌, ◌<◌, Bool, true, false, List, Option, None, Some, refl, ap}
 use Rattle.std.proofs.Common.{◌∙◌, arith, rules}
 use Rattle.std.specs.Prelude.{ℤ, pos, negsuc, codes, option_and_then, option_map, unwrap_or, if◌then◌else◌}
 use Rattle.std.specs.Str.{bytes_eq}
@@ -12,7 +12,7 @@ use Rattle.serde_json.specs.Written.{has_float, items_have_float, compact_text}
 use Rattle.ice_meta.specs.declared.fault.Member.{Member}
 use Rattle.ice_meta.specs.declared.fault.Member.TheVariants as member
 use Rattle.ice_meta.specs.Members.{member_name}
-use Rattle.ice_meta.specs.Committing.{whole, inside, items_of}
+use Rattle.ice_meta_json.specs.Objects.{whole, inside, items_of}
 use Rattle.ice_meta.specs.Schemas.{most_levels}
 use Rattle.ice_meta.specs.SchemaTexts.{Nested, text_of, number_of, flag_of, type_of, field_of, each_field, fields_of}
 use Rattle.ice_meta.specs.SchemaTexts.{struct_of, list_of, map_of, of_name, object_of, nested_in, schema_json}

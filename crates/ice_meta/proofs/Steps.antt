@@ -1,6 +1,6 @@
 -- Steps of the loops, and of the levels of a type.
 use Rattle.std.proofs.Common.{◌≡◌, ◌≢◌, ap, ℕ, zero, suc, ◌+◌, ◌-◌, ◌≤◌, ◌<◌, true, false, List, [], ◌∷◌, ◌++◌, length}
-use Rattle.std.proofs.Common.{get_or, drop, Ok, Err, Bool, Some, None, true≢false, refl, sym, ◌∙◌, add-one, drop-cons}
+use Rattle.std.proofs.Common.{get_or, drop, Ok, Err, Bool, Some, None, true≢false, refl, sym, ◌∙◌}
 use Rattle.std.proofs.Common.{arith}
 use Rattle.std.specs.Prelude.{ℤ}
 use Rattle.std.specs.List.{list_any, IsFirstAndRest}
@@ -11,15 +11,12 @@ use Rattle.serde_json.specs.declared.value.Value.{Value}
 use Rattle.serde_json.specs.Data.{Data}
 use Rattle.serde_json.specs.View.{view, items_view}
 use Rattle.serde_json.specs.Events.{items_len}
+use Rattle.ice_meta_json.proofs.Joined.{step_of}
 use Rattle.ice_meta.specs.declared.fault.MetaFault.{MetaFault}
 use Rattle.ice_meta.specs.declared.fault.MetaFault.TheVariants.{TooBig, Memory}
 use Rattle.ice_meta.specs.declared.schema.Column.{Column}
 use Rattle.ice_meta.specs.Reading.{again, each_into, one_more}
 use Rattle.ice_meta.specs.Schemas.{object_at, inside}
-
-pub step_of : {A : Type 0} (xs : List A) (i : ℕ) (x : A) → i < length xs → x ≡ get_or xs i x
-    → drop i xs ≡ x ∷ drop (i + 1) xs
-step_of xs i x lt is = drop-cons xs i x lt ∙ rw (← is, add-one) refl
 
 pub again_later : (ids others : List ℤ) (id shown : ℤ) → shown ≡ id → IsFirstAndRest ids id others
     → list_any (int_eq shown) others ≡ false → again ids ≡ again others

@@ -2,13 +2,13 @@
 -- References"): the new snapshot is added, is the current one, and is what the branch `main` names. All else is kept,
 -- also what this crate does not read.
 use Rattle.std.specs.Prelude.{◌≡◌, ◌<◌, ◌^◌, ◌++◌, ℕ, suc, ℤ, pos, negsuc, false, List, [], ◌∷◌, Option, None, Some}
-use Rattle.std.specs.Prelude.{IfSome, unwrap_or, codes, Result, Ok}
+use Rattle.std.specs.Prelude.{IfSome, codes, Result, Ok}
 use Rattle.std.specs.Cmp.Lexicographic.{slice_cmp}
 use Rattle.std.specs.Ordering.{nat_cmp, int_eq, match_ordering}
 use Rattle.contract_words.specs.Outcome.{◌>>=◌}
 use Rattle.serde_json.specs.Data as json
-use Rattle.serde_json.specs.Data.{Data, Items, Members, put}
-use Rattle.serde_json.specs.Find.{get, as_array, as_object, of_integer}
+use Rattle.serde_json.specs.Data.{Data}
+use Rattle.ice_meta_json.specs.Objects.{whole, natural, no_object, inside, set, one_more}
 use Rattle.ice_meta.specs.declared.commit.NewSnapshot.{NewSnapshot}
 use Rattle.ice_meta.specs.declared.commit.Operation.{Operation}
 use Rattle.ice_meta.specs.declared.commit.Operation.TheVariants as operation
@@ -27,41 +27,6 @@ abbrev pub operation_name : Operation → List ℕ
 operation_name operation.Append = codes "append"
 operation_name operation.Delete = codes "delete"
 operation_name operation.Overwrite = codes "overwrite"
-
--- ---- JSON
-
-abbrev pub whole : ℤ → Data
-whole z = json.number (of_integer z)
-
-abbrev pub natural : ℕ → Data
-natural n = json.number (json.unsigned n)
-
-abbrev pub no_object : Data
-no_object = json.object json.no_members
-
--- the value of a member; null where it is left out
-abbrev pub inside : List ℕ → Data → Data
-inside name d = unwrap_or (get name d) json.null
-
--- the members of an object; another value has none
-abbrev pub members_of : Data → Members
-members_of d = unwrap_or (as_object d) json.no_members
-
--- the object in which a member has this value
-abbrev pub set : List ℕ → Data → Data → Data
-set name x d = json.object (put name x (members_of d))
-
--- the items of an array; another value has none
-abbrev pub items_of : Data → Items
-items_of d = unwrap_or (as_array d) json.no_items
-
-abbrev pub at_end : Data → Items → Items
-at_end x json.no_items = json.item x json.no_items
-at_end x (json.item d ds) = json.item d (at_end x ds)
-
--- the array with one more item at its end
-unfoldable pub one_more : Data → Data → Data
-one_more x d = json.array (at_end x (items_of d))
 
 -- ---- the new snapshot
 

@@ -1,7 +1,8 @@
 -- What a commit comes to, in words of tables alone (Apache Iceberg table spec v2, "Snapshots" and "Snapshot
--- References").
+-- References"), and what filling in the sequence numbers of an upgraded table does.
 use Rattle.std.specs.Prelude.{◌≡◌, ◌≢◌, ℤ, List, ℕ, Some, Ok, codes}
 use Rattle.serde_json.specs.Data.{Data}
+use Rattle.ice_meta_json.specs.Upgraded.{filled, IsFilled}
 use Rattle.ice_meta.specs.declared.commit.NewSnapshot.{NewSnapshot}
 use Rattle.ice_meta.specs.declared.metadata.Target.TheVariants as target
 use Rattle.ice_meta.specs.declared.table.Table.{Table}
@@ -56,3 +57,13 @@ KeepsSchemas = (t : Table) (s : NewSnapshot) (id : ℤ) → schema_with id (next
 
 abbrev pub KeepsSpecs : Type 0
 KeepsSpecs = (t : Table) (s : NewSnapshot) (id : ℤ) → spec_with id (next_table t s) ≡ spec_with id t
+
+-- ---- upgraded tables
+
+-- A document whose sequence numbers are filled in says the same table, or is refused for the same.
+abbrev pub SaysTheSame : Type 0
+SaysTheSame = (d : Data) → table_of (filled d) ≡ table_of d
+
+-- A commit to a document that leaves out no sequence number leaves out none.
+abbrev pub StaysFilled : Type 0
+StaysFilled = (d : Data) (t : Table) (s : NewSnapshot) → IsFilled d → IsFilled (next_json t s d)

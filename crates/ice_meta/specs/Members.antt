@@ -118,6 +118,15 @@ int_in m d = there m d >>= int_of m
 abbrev pub sequence_number_in : Member → Data → Result ℕ MetaFault
 sequence_number_in m d = there m d >>= sequence_number_of m
 
+-- 0 where it is left out; null is no number
+abbrev pub number_or_zero : Member → Option Data → Result ℕ MetaFault
+number_or_zero m None = Ok 0
+number_or_zero m (Some d) = sequence_number_of m d
+
+-- a sequence number that may be left out, as that of a snapshot is by format version 1
+abbrev pub sequence_number_or_zero : Member → Data → Result ℕ MetaFault
+sequence_number_or_zero m d = number_or_zero m (get (member_name m) d)
+
 abbrev pub text_in : Member → Data → Result (List ℕ) MetaFault
 text_in m d = there m d >>= text_of m
 

@@ -13,7 +13,7 @@ use Rattle.serde_json.specs.Written.{compact_text}
 use Rattle.ice_meta.specs.declared.fault.Member.{Member}
 use Rattle.ice_meta.specs.declared.fault.Member.TheVariants as member
 use Rattle.ice_meta.specs.Members.{member_name}
-use Rattle.ice_meta.specs.Committing.{whole, no_object, inside, set, items_of}
+use Rattle.ice_meta_json.specs.Objects.{whole, no_object, inside, set, items_of}
 use Rattle.ice_meta.specs.Schemas.{most_levels}
 
 -- a text, a whole number or a truth of an object; anything else is null

@@ -26,7 +26,7 @@ use Rattle.ice_meta.specs.declared.snapshot.RefKind.{RefKind}
 use Rattle.ice_meta.specs.declared.snapshot.RefKind.TheVariants as kind
 use Rattle.ice_meta.specs.declared.table.Table.{Table}
 use Rattle.ice_meta.specs.Members.{asked, perhaps, objects_of, long_in, int_in, sequence_number_in, text_in, objects_in}
-use Rattle.ice_meta.specs.Members.{optional_long, optional_int, optional_text}
+use Rattle.ice_meta.specs.Members.{sequence_number_or_zero, optional_long, optional_int, optional_text}
 use Rattle.ice_meta.specs.Reading.{each, once}
 use Rattle.ice_meta.specs.Schemas.{schema_of}
 
@@ -147,7 +147,7 @@ unfoldable pub snapshot_of : Data → Result Snapshot MetaFault
 snapshot_of d = do
   id ← long_in member.SnapshotId d
   parent_id ← optional_long member.ParentSnapshotId d
-  sequence_number ← sequence_number_in member.SequenceNumber d
+  sequence_number ← sequence_number_or_zero member.SequenceNumber d
   timestamp_ms ← long_in member.TimestampMs d
   manifest_list ← optional_text member.ManifestList d
   operation ← operation_in d

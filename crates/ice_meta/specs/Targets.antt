@@ -25,6 +25,7 @@ use Rattle.ice_meta.specs.declared.table.Table.{Table}
 use Rattle.ice_meta.specs.Columns.{type_of}
 use Rattle.ice_meta.specs.Members.{asked}
 use Rattle.ice_meta.specs.Tables.{json_of, table_of}
+use Rattle.ice_meta_json.specs.Upgraded.{filled}
 
 -- metadata: the whole JSON object, and what it says
 pub record Described : Type 0 where
@@ -34,12 +35,13 @@ pub record Described : Type 0 where
 abbrev pub described : Value → Table → Described
 described json t = record { json = view json; table = t }
 
--- what the bytes of a metadata file are, or their first fault
+-- What the bytes of a metadata file are, or their first fault. Each snapshot of what is kept has its sequence number,
+-- also where the file leaves it out.
 unfoldable pub metadata_of : List ℕ → Result Described MetaFault
 metadata_of bytes = do
   d ← json_of bytes
   t ← table_of d
-  Ok (record { json = d; table = t })
+  Ok (record { json = filled d; table = t })
 
 -- ---- by id and name
 

@@ -1,7 +1,8 @@
-//! What a commit comes to.
+//! What a commit comes to, and what filling in sequence numbers does.
 
 ghost use Rattle.ice_meta.specs.Laws.{SaysTheNext, HasTheNew, MakesItCurrent, MovesMain, KeepsOtherSnapshots};
 ghost use Rattle.ice_meta.specs.Laws.{KeepsOtherRefs, KeepsOtherTargets, KeepsHistory, KeepsSchemas, KeepsSpecs};
+ghost use Rattle.ice_meta.specs.Laws.{SaysTheSame, StaysFilled};
 
 /// The metadata after a commit says what the metadata before it said, and the commit.
 pub fn a_commit_says_the_next_table()
@@ -23,4 +24,15 @@ pub fn a_commit_keeps_the_rest()
     ensures history { KeepsHistory }
     ensures schemas { KeepsSchemas }
     ensures specs { KeepsSpecs }
+{}
+
+/// Metadata of a table that was upgraded from format version 1 says the same with the sequence numbers that it leaves
+/// out, and is refused for the same.
+pub fn filling_in_says_the_same_table()
+    ensures { SaysTheSame }
+{}
+
+/// A commit to metadata that has the sequence number of each snapshot leaves it so.
+pub fn a_commit_keeps_sequence_numbers()
+    ensures { StaysFilled }
 {}

@@ -6,7 +6,7 @@ ghost use Rattle.serde_json.specs.View.{view, items_view};
 ghost use Rattle.ice_meta.specs.Members.{there, perhaps, long_of, if_int, int_of, if_natural, sequence_number_of};
 ghost use Rattle.ice_meta.specs.Members.{text_of, flag_of, all_objects, if_objects, objects_of, long_in, int_in};
 ghost use Rattle.ice_meta.specs.Members.{sequence_number_in, text_in, flag_in, objects_in, optional_long, optional_int};
-ghost use Rattle.ice_meta.specs.Members.{optional_text};
+ghost use Rattle.ice_meta.specs.Members.{optional_text, sequence_number_or_zero};
 
 use crate::fault::{Member, MetaFault};
 use contract_words::Text;
@@ -127,6 +127,16 @@ pub fn sequence_number_at(json: &Value, member: Member) -> Result<SequenceNumber
     ensures { Gives MetaFault.Memory (λ number. number) result (sequence_number_in member (view json.now)) }
 {
     sequence_number_of(there(json, member)?, member)
+}
+
+/// A sequence number; 0 where it is left out, but not where it is null.
+pub fn sequence_number_or_zero(json: &Value, member: Member) -> Result<SequenceNumber, MetaFault>
+    ensures { Gives MetaFault.Memory (λ number. number) result (sequence_number_or_zero member (view json.now)) }
+{
+    match json.get(member.name()) {
+        Some(value) => sequence_number_of(value, member),
+        None => Ok(SequenceNumber::zero()),
+    }
 }
 
 /// A text.

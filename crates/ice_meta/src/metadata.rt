@@ -9,6 +9,7 @@ ghost use Rattle.serde_json.specs.Find.{as_object};
 ghost use Rattle.serde_json.specs.Read.{max_depth};
 ghost use Rattle.serde_json.specs.View.{view};
 ghost use Rattle.serde_json.specs.Written.{has_float, compact_text, IsInOrder};
+ghost use Rattle.ice_meta_json.specs.Upgraded.{IsFilled};
 ghost use Rattle.ice_meta.specs.Committing.{CanFollow, committed, next_metadata};
 ghost use Rattle.ice_meta.specs.Tables.{HasCurrentSchema, HasDefaultSpec, HasDifferentSchemas, HasDifferentSpecs};
 ghost use Rattle.ice_meta.specs.Tables.{HasDifferentSnapshots, text_json, json_of, table_of};
@@ -32,6 +33,7 @@ use crate::spec::{PartitionField, Spec};
 use crate::table::Table;
 use crate::tables::table_of;
 use contract_words::{Items, Text};
+use ice_meta_json::filled;
 use serde_json::{Category, Value};
 use std::alloc::{AllocError, Global};
 
@@ -54,6 +56,7 @@ pub struct Metadata {
     ghost named: { HasCurrentSchema table },
     ghost object: { is_some (as_object (view json)) ≡ true },
     ghost nests: { depth (view json) ≤ max_depth },
+    ghost filled: { IsFilled (view json) },
     ghost says: { table_of (view json) ≡ Ok table },
 }
 
@@ -90,7 +93,8 @@ fn object_from(alloc: Global, bytes: &[u8]) -> Result<Value, MetaFault>
 
 impl Metadata {
     /// Reads metadata, or answers its first fault in the order in which the members are checked. What of it isn't read
-    /// is kept as it is.
+    /// is kept as it is. A snapshot that leaves out its sequence number, as those of format version 1 do, has 0, and is
+    /// kept with it.
     #[tactic(auto, using(crate::proofs::FirstFault::no_json), unfolding(crate::specs::Targets::metadata_of))]
     pub fn read(alloc: Global, bytes: &[u8]) -> Result<Metadata, MetaFault>
         ensures read { Gives MetaFault.Memory (λ metadata. described metadata.json metadata.table) result
@@ -106,7 +110,8 @@ impl Metadata {
     {
         let json = object_from(alloc, bytes)?;
         let table = table_of(alloc, &json)?;
-        Ok(Metadata { json, table })
+        let full = filled(alloc, json)?;
+        Ok(Metadata { json: full, table })
     }
 
     /// The text of the metadata file: the JSON object, also what of it isn't read, without white space and with the

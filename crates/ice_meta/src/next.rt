@@ -1,8 +1,9 @@
 //! The JSON of the metadata that a commit leaves.
 
 ghost use Rattle.std.specs.Prelude.{◌≡◌, IfOk, IfSome};
-ghost use Rattle.serde_json.specs.View.{view, items_view};
-ghost use Rattle.ice_meta.specs.Committing.{IsLong, AreLongs, whole, inside, set, items_of, one_more, with_parent};
+ghost use Rattle.serde_json.specs.View.{view};
+ghost use Rattle.ice_meta_json.specs.Objects.{whole};
+ghost use Rattle.ice_meta.specs.Committing.{IsLong, AreLongs, with_parent};
 ghost use Rattle.ice_meta.specs.Committing.{summary_json, snapshot_json, log_json, branch_to, refs_json, with_refs};
 ghost use Rattle.ice_meta.specs.Committing.{with_log, with_snapshots, next_json};
 
@@ -10,7 +11,8 @@ use crate::commit::NewSnapshot;
 use crate::fault::Member;
 use crate::log::SNAPSHOT_LOG;
 use crate::table::Table;
-use serde_json::{Map, Value, push, put};
+use ice_meta_json::{inside, one_more, set};
+use serde_json::{Map, Value};
 use std::alloc::{AllocError, Global};
 
 /// The name of the branch whose snapshot is the current one.
@@ -23,48 +25,6 @@ fn whole(number: i64) -> Value
     ensures long { IsLong number }
 {
     Value::from(number)
-}
-
-/// A copy of a member's value; null where it is left out.
-fn inside(json: &Value, name: &str) -> Result<Value, AllocError>
-    ensures { IfOk result (λ value. view value ≡ inside name.now (view json.now)) }
-{
-    match json.get(name) {
-        Some(value) => value.clone(),
-        None => Ok(Value::Null),
-    }
-}
-
-/// The object in which a member has this value; what was no object has this member alone.
-pub fn set(alloc: Global, json: Value, name: &str, value: Value) -> Result<Value, AllocError>
-    ensures { IfOk result (λ object. view object ≡ set name.now (view value) (view json)) }
-{
-    let mut members = match json {
-        Value::Object(members) => members,
-        _ => Map::new(alloc),
-    };
-    put(&mut members, alloc, name, value)?;
-    Ok(Value::from(members))
-}
-
-/// The items of an array; what is no array has none.
-fn items_of(alloc: Global, json: Value) -> Vec<Value>
-    ensures { items_view result.items ≡ items_of (view json) }
-{
-    match json {
-        Value::Array(items) => items,
-        _ => Vec::new(alloc),
-    }
-}
-
-/// The array with one more item at its end; what was no array has this item alone.
-#[tactic(auto, using(crate::proofs::Appended::items_at_end), unfolding(crate::specs::Committing::one_more))]
-fn one_more(alloc: Global, json: Value, item: Value) -> Result<Value, AllocError>
-    ensures { IfOk result (λ array. view array ≡ one_more (view item) (view json)) }
-{
-    let mut items = items_of(alloc, json);
-    push(&mut items, item)?;
-    Ok(Value::from(items))
 }
 
 /// The snapshot with the one that it was made from, where there is one.

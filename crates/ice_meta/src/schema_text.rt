@@ -3,7 +3,7 @@
 ghost use Rattle.std.specs.Prelude.{◌≡◌, IfOk, option_map, unwrap_or};
 ghost use Rattle.serde_json.specs.Data.{null};
 ghost use Rattle.serde_json.specs.View.{view, items_view};
-ghost use Rattle.ice_meta.specs.Committing.{no_object};
+ghost use Rattle.ice_meta_json.specs.Objects.{no_object};
 ghost use Rattle.ice_meta.specs.SchemaTexts.{text_of as text_in, number_of as number_in, flag_of as flag_in};
 ghost use Rattle.ice_meta.specs.SchemaTexts.{type_of as type_with, type_at as type_in, with as with_member};
 ghost use Rattle.ice_meta.specs.SchemaTexts.{field_of as field_in, each_field as each_in, fields_of as fields_in};
@@ -14,8 +14,8 @@ ghost use Rattle.ice_meta.specs.SchemaTexts.{first_with as first_of, schema_in};
 
 use crate::columns::MOST_LEVELS;
 use crate::fault::Member;
-use crate::next::set;
 use contract_words::Text;
+use ice_meta_json::set;
 use serde_json::{Map, Value, push};
 use std::alloc::{AllocError, Global};
 

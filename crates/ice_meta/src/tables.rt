@@ -19,7 +19,7 @@ use crate::columns::schema_of;
 use crate::fault::{Member, MetaFault};
 use crate::members::{
     int_at, kept, kept_text_at, long_at, objects_at, objects_of, optional_int, optional_long,
-    optional_text, perhaps, sequence_number_at, text_at,
+    optional_text, perhaps, sequence_number_at, sequence_number_or_zero, text_at,
 };
 use crate::numbered::{Numbered, once};
 use crate::schema::Schema;
@@ -288,7 +288,7 @@ fn snapshot_of(alloc: Global, json: &Value) -> Result<Snapshot, MetaFault>
     Ok(Snapshot {
         id: long_at(json, Member::SnapshotId)?,
         parent_id: optional_long(json, Member::ParentSnapshotId)?,
-        sequence_number: sequence_number_at(json, Member::SequenceNumber)?,
+        sequence_number: sequence_number_or_zero(json, Member::SequenceNumber)?,
         timestamp_ms: long_at(json, Member::TimestampMs)?,
         manifest_list: optional_text(alloc, json, Member::ManifestList)?,
         operation: operation_at(alloc, json)?,

@@ -100,7 +100,11 @@ const TWO_FAULTS: &str = r#""location": => "x": and "schemas": => "y": gives Mis
 "last-partition-id": => "x": and "default-spec-id": 0 => "default-spec-id": 9 gives Dangling(DefaultSpecId)
 "last-partition-id": => "x": and "current-snapshot-id": -1 => "current-snapshot-id": 1.5 gives Missing(LastPartitionId)
 "current-snapshot-id": -1 => "current-snapshot-id": 1.5 and "snapshots": [] => "snapshots": 1 gives WrongKind(CurrentSnapshotId)
-"current-snapshot-id": -1 => "refs": 1 and "snapshots": [] => "snapshots": 1 gives WrongKind(Snapshots)"#;
+"current-snapshot-id": -1 => "refs": 1 and "snapshots": [] => "snapshots": 1 gives WrongKind(Snapshots)
+"snapshots": [] => "snapshots": [{}, 1] gives WrongKind(Snapshots)
+"snapshots": [] => "snapshots": [{}, {"sequence-number": null}] gives Missing(SnapshotId)
+"snapshots": [] => "snapshots": [{"snapshot-id": 7}, {"snapshot-id": 8, "sequence-number": null}] gives Missing(TimestampMs)
+"snapshots": [] => "snapshots": [{"snapshot-id": 7, "sequence-number": null}] gives WrongKind(SequenceNumber)"#;
 
 #[test]
 fn the_first_of_two_faults(rt: HostRuntime) {
@@ -117,7 +121,12 @@ const VALUES_OF_A_SNAPSHOT: &str =
 "parent-snapshot-id": 6 => "parent-snapshot-id": "6" gives WrongKind(ParentSnapshotId)
 "parent-snapshot-id": 6 => "parent-snapshot-id": null gives read
 "sequence-number": 1 => "sequence-number": -1 gives WrongKind(SequenceNumber)
-"sequence-number": 1 => "x": 1 gives Missing(SequenceNumber)
+"sequence-number": 1 => "sequence-number": null gives WrongKind(SequenceNumber)
+"sequence-number": 1 => "sequence-number": 0.5 gives WrongKind(SequenceNumber)
+"sequence-number": 1 => "sequence-number": "0" gives WrongKind(SequenceNumber)
+"sequence-number": 1 => "sequence-number": 9223372036854775808 gives WrongKind(SequenceNumber)
+"sequence-number": 1 => "sequence-number": 0 gives read
+"sequence-number": 1 => "x": 1 gives read
 "timestamp-ms": 5 => "timestamp-ms": null gives WrongKind(TimestampMs)
 "timestamp-ms": 5 => "x": 5 gives Missing(TimestampMs)
 {"operation": "append"} => [] gives WrongKind(Summary)

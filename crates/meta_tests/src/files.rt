@@ -1,4 +1,4 @@
-//! Metadata files: a small one, and two as Iceberg's Java library lays them out, with less white space.
+//! Metadata files: two small ones, and two as Iceberg's Java library lays them out, with less white space.
 
 /// An empty table of one int column.
 pub const EMPTY: &str =
@@ -7,6 +7,18 @@ pub const EMPTY: &str =
 "schemas": [{"type": "struct", "schema-id": 0, "fields": [{"id": 1, "name": "c", "required": false, "type": "int"}]}],
 "current-schema-id": 0, "partition-specs": [{"spec-id": 0, "fields": []}], "default-spec-id": 0,
 "last-partition-id": 999, "current-snapshot-id": -1, "snapshots": []}"#;
+
+/// A table that was upgraded from format version 1: its first snapshot leaves out its sequence number, its second one
+/// has it.
+pub const UPGRADED: &str =
+    r#"{"format-version": 2, "table-uuid": "f79c3e09-677c-4bbd-a479-3f349cb785e7", "location": "mem://t",
+"last-sequence-number": 1, "last-updated-ms": 9, "last-column-id": 1,
+"schemas": [{"type": "struct", "schema-id": 0, "fields": [{"id": 1, "name": "c", "required": false, "type": "int"}]}],
+"current-schema-id": 0, "partition-specs": [{"spec-id": 0, "fields": []}], "default-spec-id": 0,
+"last-partition-id": 999, "current-snapshot-id": 8, "snapshots": [
+{"snapshot-id": 7, "timestamp-ms": 5, "manifest-list": "mem://t/l7", "extra": [1]},
+{"snapshot-id": 8, "parent-snapshot-id": 7, "sequence-number": 1, "timestamp-ms": 9, "manifest-list": "mem://t/l8"}],
+"refs": {"old": {"snapshot-id": 7, "type": "tag"}}}"#;
 
 /// A table whose schema and partition spec changed, with a tag and a second branch.
 pub const EVENTS: &str =

@@ -1,6 +1,6 @@
 //! What a table, its branches and tags, its snapshots and its columns are.
 
-use crate::files::{EMPTY, EVENTS, PLAIN};
+use crate::files::{EMPTY, EVENTS, PLAIN, UPGRADED};
 use crate::schemas::current_schema_text;
 use crate::specs::spec;
 use crate::texts::{check, check_after};
@@ -18,6 +18,7 @@ pub fn answer(alloc: Global, metadata: &Metadata, question: &str) -> Option<Stri
         "current" => current_schema_text(alloc, metadata),
         "facts" => facts(alloc, metadata.table()),
         "ids" => ids(alloc, metadata.table()),
+        "list" => list(alloc, metadata, name),
         "member" => whether(alloc, metadata.json().get(name).is_some()),
         "ref" => ref_at(alloc, metadata.table(), name),
         "row" => column(alloc, metadata.schema(0)?, &[]),
@@ -258,6 +259,15 @@ fn targets(rt: HostRuntime) {
     check(&rt, rt.alloc(), EVENTS, TARGETS);
 }
 
+/// The manifest list of a target.
+fn list(alloc: Global, metadata: &Metadata, name: &str) -> Option<String> {
+    let target = target_of(alloc, name).ok()?;
+    match metadata.manifest_list(&target) {
+        Ok(list) => String::from_str(alloc, list.as_str()).ok(),
+        Err(fault) => format!(in alloc; "{fault:?}").ok(),
+    }
+}
+
 const TARGETS_OF_NONE: &str = "\
 ids of the table = 0 0 999 None 1 1
 ref 0 = none
@@ -288,4 +298,21 @@ target gone = Err(NoSuchSnapshot) 0";
 #[test]
 fn snapshots_without_lists_and_schemas(rt: HostRuntime) {
     check_after(&rt, rt.alloc(), EMPTY, ODD, TARGETS_OF_ODD);
+}
+
+/// A snapshot that leaves out its sequence number has 0, and is found as any other.
+const UPGRADED_SNAPSHOTS: &str = "\
+snapshot 7 = 7 None 0 5 None - mem://t/l7
+snapshot 8 = 8 Some(7) 1 9 None - mem://t/l8
+target old = Ok(7) 0
+target 7 = Ok(7) 0
+target - = Ok(8) 0
+list old = mem://t/l7
+list 7 = mem://t/l7
+list - = mem://t/l8
+list 5 = NoSuchSnapshot";
+
+#[test]
+fn a_table_that_was_upgraded(rt: HostRuntime) {
+    check(&rt, rt.alloc(), UPGRADED, UPGRADED_SNAPSHOTS);
 }

@@ -1,6 +1,6 @@
 //! What is written of a table, and after a commit to it.
 
-use crate::files::{EMPTY, EVENTS, PLAIN};
+use crate::files::{EMPTY, EVENTS, PLAIN, UPGRADED};
 use crate::tables::text;
 use crate::texts::{changed_by, check, check_after, is_outcome, read};
 use ice_meta::{MetaFault, Metadata, NewSnapshot, Operation, Target};
@@ -256,4 +256,30 @@ const PAST_THE_LAST: &str =
 fn refused_snapshots(rt: HostRuntime) {
     check(&rt, rt.alloc(), PLAIN, TAKEN);
     check(&rt, rt.alloc(), EMPTY, PAST_THE_LAST);
+}
+
+/// What is written of a table that was upgraded has the sequence number of each snapshot.
+const UPGRADED_TEXT: &str =
+    r#"text of the table = {"current-schema-id":0,"current-snapshot-id":8,"default-spec-id":0,"format-version":2,
+"last-column-id":1,"last-partition-id":999,"last-sequence-number":1,"last-updated-ms":9,"location":"mem://t",
+"partition-specs":[{"fields":[],"spec-id":0}],"refs":{"old":{"snapshot-id":7,"type":"tag"}},
+"schemas":[{"fields":[{"id":1,"name":"c","required":false,"type":"int"}],"schema-id":0,"type":"struct"}],
+"snapshots":[
+{"extra":[1],"manifest-list":"mem://t/l7","sequence-number":0,"snapshot-id":7,"timestamp-ms":5},
+{"manifest-list":"mem://t/l8","parent-snapshot-id":7,"sequence-number":1,"snapshot-id":8,"timestamp-ms":9}],
+"table-uuid":"f79c3e09-677c-4bbd-a479-3f349cb785e7"}"#;
+
+/// What a commit changes in it; the snapshot of version 1 stays as it was written.
+const UPGRADED_CHANGES: &str = r#""current-snapshot-id":8 => "current-snapshot-id":9
+"last-sequence-number":1 => "last-sequence-number":2
+"last-updated-ms":9 => "last-updated-ms":1709629200000
+"refs":{"old" => "refs":{"main":{"snapshot-id":9,"type":"branch"},"old"
+"snapshots":[ => "snapshot-log":[{"snapshot-id":9,"timestamp-ms":1709629200000}],"snapshots":[
+"timestamp-ms":9}],"table-uuid" => "timestamp-ms":9},{"manifest-list":"mem://t/list","parent-snapshot-id":8,NEXT,"table-uuid"
+NEXT => "schema-id":0,"sequence-number":2,"snapshot-id":9,"summary":{"operation":"overwrite"},"timestamp-ms":1709629200000}]"#;
+
+#[test]
+fn sequence_numbers_that_were_left_out(rt: HostRuntime) {
+    assert!(rt; is_outcome(rt.alloc(), UPGRADED, UPGRADED_TEXT) == Some(true));
+    assert!(rt; changes_text(rt.alloc(), UPGRADED, NINTH, UPGRADED_CHANGES) == Some(true));
 }

@@ -1,4 +1,4 @@
-use Rattle.std.proofs.Common.{◌≡◌, ◌∙◌, sym, ap, arith}
+use Rattle.std.proofs.Common.{◌∙◌, sym, ap, arith}
 use Rattle.serde_json.specs.View.{view, items_view}
 use Rattle.ice_meta.specs.SchemaTexts.{each_field, nested_in}
 use Rattle.ice_meta.proofs.Appended.{fields_on, fields_over}

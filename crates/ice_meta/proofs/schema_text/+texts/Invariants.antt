@@ -1,7 +1,7 @@
 use Rattle.std.proofs.Common.{◌≡◌, ◌+◌, ◌*◌, drop}
 use Rattle.serde_json.specs.View.{items_view}
 use Rattle.ice_meta.specs.SchemaTexts.{each_field, nested_in}
-use Rattle.ice_meta.proofs.Appended.{joined}
+use Rattle.ice_meta_json.proofs.Joined.{joined}
 use Rattle.ice_meta.proofs.schema_text.+texts.Given as goal
 
 abbrev pub invariant-each_field-fields : goal.invariant-each_field-fields

@@ -2,7 +2,8 @@ use Rattle.std.proofs.Common.{sym, ◌∙◌}
 use Rattle.std.proofs.lemmas.Result.{err_from_is_err_and}
 use Rattle.serde_json.specs.View.{view}
 use Rattle.ice_meta.specs.Targets.{described}
-use Rattle.ice_meta.proofs.Committed.{committed_gives, committed_fails, committed_follows, is_object, nests}
+use Rattle.ice_meta.proofs.Committed.{committed_gives, committed_fails, committed_follows, is_filled}
+use Rattle.ice_meta.proofs.Committed.{is_object, nests}
 use Rattle.ice_meta.proofs.metadata.Metadata.with_snapshot.Goals as goal
 
 pub returns-in_err-table-clause-json : goal.returns-in_err-table-clause-json
@@ -28,6 +29,7 @@ invariant_of-result c =
       named = c.in_ok-table.ensures.current_schema;
       object = is_object (view m.json) _ m.table c.args.added.now c.in_ok-json.ensures.json;
       nests = nests (view m.json) _ m.table c.args.added.now c.in_ok-json.ensures.json m.nests;
+      filled = is_filled (view m.json) _ m.table c.args.added.now c.in_ok-json.ensures.json m.filled;
       says = c.in_ok-table.ensures.read;
     }
 

@@ -1,0 +1,3 @@
+pub mod Members
+pub mod Joined
+pub mod Filling
