@@ -4,7 +4,7 @@ use Rattle.std.proofs.Common.{get_or, cond, refl, sym, ap, ◌∙◌, arith, add
 use Rattle.std.specs.List.{enumerate_from}
 use Rattle.std.proofs.lemmas.List.{take_more, map-append, length-map, length-take-le}
 use Rattle.std.proofs.lemmas.List.Elements.{filter-append}
-use Rattle.ice_value.specs.Applying.{FileKey}
+use Rattle.ice_value.specs.Applying.{DeleteKey}
 use Rattle.ice_deletes.specs.declared.record.Record.{Record}
 use Rattle.ice_deletes.specs.declared.delete.Delete.{Delete}
 use Rattle.ice_deletes.specs.Keys.{key_of, entry_of}
@@ -17,7 +17,7 @@ enumerate_from-push n (y ∷ xs) x =
     ap (λ es. (n, y) ∷ es) (enumerate_from-push (n + 1) xs x ∙ ap (λ k. enumerate_from (n + 1) xs ++ (k, x) ∷ []) e)
 
 -- one record more
-filed_more : (p : ℕ × FileKey → Bool) (rs : List Record) (i : ℕ) (d : Record) → i < length rs →
+filed_more : (p : ℕ × DeleteKey → Bool) (rs : List Record) (i : ℕ) (d : Record) → i < length rs →
     filter p (enumerate_from 0 (map key_of (take (i + 1) rs))) ≡ filter p (enumerate_from 0 (map key_of (take i rs))) ++
     filter p ((i, key_of (get_or rs i d)) ∷ [])
 filed_more p rs i d low =
@@ -32,7 +32,7 @@ filed_more p rs i d low =
       many_from : {n i : ℕ} → n ≡ i → 0 + n ≡ i
       many_from e = omega arith
 
-pub kept_more : (p : ℕ × FileKey → Bool) (rs : List Record) (i : ℕ) (r : Record) (ds : List Delete) (d : Delete)
+pub kept_more : (p : ℕ × DeleteKey → Bool) (rs : List Record) (i : ℕ) (r : Record) (ds : List Delete) (d : Delete)
     → i < length rs → r ≡ get_or rs i r →
     map entry_of ds ≡ filter p (enumerate_from 0 (map key_of (take i rs))) → entry_of d ≡ (i, key_of r)
     → p (i, key_of r) ≡ true →
@@ -45,7 +45,7 @@ kept_more p rs i r ds d low at h e passes =
     ∙ ap (λ v. filter p (enumerate_from 0 (map key_of (take i rs))) ++ filter p ((i, key_of v) ∷ [])) at
     ∙ sym (filed_more p rs i r low)
 
-pub left_more : (p : ℕ × FileKey → Bool) (rs : List Record) (i : ℕ) (r : Record) (ds : List Delete) → i < length rs
+pub left_more : (p : ℕ × DeleteKey → Bool) (rs : List Record) (i : ℕ) (r : Record) (ds : List Delete) → i < length rs
     → r ≡ get_or rs i r →
     map entry_of ds ≡ filter p (enumerate_from 0 (map key_of (take i rs))) → p (i, key_of r) ≡ false →
     map entry_of ds ≡ filter p (enumerate_from 0 (map key_of (take (i + 1) rs)))
