@@ -14,10 +14,9 @@ use Rattle.std.proofs.lemmas.Map.Text.{is_eq-slice_cmp}
 use Rattle.ice_value.specs.declared.cell.Cell.{Cell}
 use Rattle.ice_value.specs.declared.file_content.FileContent.{FileContent}
 use Rattle.ice_value.specs.declared.file_content.FileContent.TheVariants.{Data, PositionDeletes, EqualityDeletes}
-use Rattle.ice_value.specs.Applying.{DataKey, DeleteKey, applies, applies_as, same_partition, names}
+use Rattle.ice_value.specs.Applying.{DataKey, DeleteKey, applies, applies_as, same_partition}
 use Rattle.ice_value.specs.Cells.{tuple_cmp, same_tuple}
 use Rattle.ice_value.specs.Equality.{tuple_decides, tuple_cmp_equal}
-use Rattle.ice_deletes.specs.declared.group.Group.{Group}
 use Rattle.ice_deletes.specs.declared.group.Group.TheVariants.{Positions, Referenced, Equalities, Everywhere}
 use Rattle.ice_deletes.specs.Groups.{SortKey, sort_key, partition_cmp, is_in, is_within}
 use Rattle.ice_deletes.specs.Found.{is_content}

@@ -1,6 +1,6 @@
 -- What the shelves of an index lend for a data file.
 use Rattle.std.proofs.Common.{◌≡◌, ℕ, ◌+◌, ◌≤◌, ◌==◌, ◌&&◌, List, ◌++◌, sym, subst, ◌∙◌}
-use Rattle.std.specs.List.{AllByRecursion, Contains, count_by}
+use Rattle.std.specs.List.{Contains, count_by}
 use Rattle.std.specs.List.Sorted.{IsPermutation}
 use Rattle.std.proofs.lemmas.List.Elements.{recursion_from_All}
 use Rattle.std.proofs.lemmas.List.Sorted.{IsPermutation-refl}

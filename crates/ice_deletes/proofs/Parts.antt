@@ -1,7 +1,7 @@
 -- The delete files among numbered files, by group, and that each number is one file's.
-use Rattle.std.proofs.Common.{◌≡◌, ℕ, ◌+◌, ◌<◌, ◌≤◌, ◌==◌, Bool, true, false, not, ◌&&◌, List, [], ◌∷◌, ◌++◌, map}
+use Rattle.std.proofs.Common.{◌≡◌, ℕ, ◌+◌, ◌<◌, ◌≤◌, ◌==◌, Bool, true, false, not, ◌&&◌, List, [], ◌∷◌, ◌++◌}
 use Rattle.std.proofs.Common.{filter, cond, refl, sym, ap, subst, ◌∙◌, arith, eqb-true, append_assoc, is_none, is_some}
-use Rattle.std.specs.List.{enumerate_from, count_by, sum_by}
+use Rattle.std.specs.List.{enumerate_from, count_by}
 use Rattle.std.specs.List.Sorted.{IsPermutation}
 use Rattle.std.proofs.lemmas.List.Elements.{filter_agree}
 use Rattle.std.proofs.lemmas.List.Filters.{sum_by-filter_both}
@@ -11,7 +11,6 @@ use Rattle.std.proofs.lemmas.List.Sums.{sum_by-cons}
 use Rattle.ice_value.specs.declared.file_content.FileContent.{FileContent}
 use Rattle.ice_value.specs.declared.file_content.FileContent.TheVariants.{Data, PositionDeletes, EqualityDeletes}
 use Rattle.ice_value.specs.Applying.{DeleteKey}
-use Rattle.ice_deletes.specs.declared.group.Group.{Group}
 use Rattle.ice_deletes.specs.declared.group.Group.TheVariants.{Positions, Referenced, Equalities, Everywhere}
 use Rattle.ice_deletes.specs.Found.{is_content, holds, numbered_deletes}
 use Rattle.ice_deletes.specs.Groups.{is_in}

@@ -1,9 +1,6 @@
-use Rattle.std.proofs.Common.{ℕ, List, ◌++◌, map}
+use Rattle.std.proofs.Common.{map}
 use Rattle.std.specs.List.{enumerate_from}
-use Rattle.std.specs.List.Sorted.{IsPermutation}
-use Rattle.ice_value.specs.Applying.{DeleteKey}
-use Rattle.ice_deletes.specs.Found.{numbered_deletes}
-use Rattle.ice_deletes.specs.Keys.{key_of, entry_of}
+use Rattle.ice_deletes.specs.Keys.{key_of}
 use Rattle.ice_deletes.proofs.Parts.{filed, numbered_once}
 use Rattle.ice_deletes.proofs.index.DeleteIndex.build.Goals as goal
 

@@ -1,5 +1,5 @@
-use Rattle.std.proofs.Common.{◌≡◌, ◌≤◌, ◌==◌, ◌&&◌, ℕ, List, sym, ap, subst, rules}
-use Rattle.std.specs.List.{Contains, count_by}
+use Rattle.std.proofs.Common.{◌&&◌, ◌++◌, ℕ, List, subst, rules}
+use Rattle.std.specs.List.{Contains}
 use Rattle.std.specs.List.Sorted.{IsPermutation}
 use Rattle.ice_value.specs.Applying.{DataKey, DeleteKey, applies}
 use Rattle.ice_deletes.specs.declared.group.Group.TheVariants.{Positions, Referenced, Equalities, Everywhere}
@@ -8,11 +8,12 @@ use Rattle.ice_deletes.specs.Groups.{is_in}
 use Rattle.ice_deletes.proofs.Lent.{AreFound, positions_lent, referenced_lent, equalities_lent, everywhere_lent}
 use Rattle.ice_deletes.proofs.Lent.{all_apply, all_once}
 use Rattle.ice_deletes.proofs.index.DeleteIndex.for_data.Goals as goal
+use Rattle.ice_deletes.proofs.index.DeleteIndex.for_data.Goals.{After-suffix-4}
 
-abbrev file : goal.After-suffix-4 → DataKey
+abbrev file : After-suffix-4 → DataKey
 file c = data_key c.args.spec_id c.args.tuple.now c.args.sequence_number c.args.path.now
 
-found : (c : goal.After-suffix-4) → AreFound c.self.inside (file c) c.suffix.result.now c.suffix-2.result.now
+found : (c : After-suffix-4) → AreFound c.self.inside (file c) c.suffix.result.now c.suffix-2.result.now
     c.suffix-3.result.now c.suffix-4.result.now
 found c = rw (← c.get-number.ensures.same) (record {
   positions = search rules;
@@ -20,3 +21,43 @@ found c = rw (← c.get-number.ensures.same) (record {
   equalities = search rules;
   everywhere = search rules;
 })
+
+pub returns-clause-positions : goal.returns-clause-positions
+returns-clause-positions c =
+    let P : List (ℕ × DeleteKey) → Type 0 = λ files. IsPermutation (numbers_where
+    (λ d. is_in Positions d && applies (file c) d) files) c.suffix.result.now in
+    subst P c.self.view_is (positions_lent c.self.inside c.self.invariant (file c) c.suffix.result.now
+    c.suffix-2.result.now c.suffix-3.result.now c.suffix-4.result.now (found c))
+
+pub returns-clause-referenced : goal.returns-clause-referenced
+returns-clause-referenced c =
+    let P : List (ℕ × DeleteKey) → Type 0 = λ files. IsPermutation (numbers_where
+    (λ d. is_in Referenced d && applies (file c) d) files) c.suffix-2.result.now in
+    subst P c.self.view_is (referenced_lent c.self.inside c.self.invariant (file c) c.suffix.result.now
+    c.suffix-2.result.now c.suffix-3.result.now c.suffix-4.result.now (found c))
+
+pub returns-clause-equalities : goal.returns-clause-equalities
+returns-clause-equalities c =
+    let P : List (ℕ × DeleteKey) → Type 0 = λ files. IsPermutation (numbers_where
+    (λ d. is_in Equalities d && applies (file c) d) files) c.suffix-3.result.now in
+    subst P c.self.view_is (equalities_lent c.self.inside c.self.invariant (file c) c.suffix.result.now
+    c.suffix-2.result.now c.suffix-3.result.now c.suffix-4.result.now (found c))
+
+pub returns-clause-everywhere : goal.returns-clause-everywhere
+returns-clause-everywhere c =
+    let P : List (ℕ × DeleteKey) → Type 0 = λ files. IsPermutation (numbers_where
+    (λ d. is_in Everywhere d && applies (file c) d) files) c.suffix-4.result.now in
+    subst P c.self.view_is (everywhere_lent c.self.inside c.self.invariant (file c) c.suffix.result.now
+    c.suffix-2.result.now c.suffix-3.result.now c.suffix-4.result.now (found c))
+
+pub returns-clause-exact : goal.returns-clause-exact
+returns-clause-exact c =
+    let hits = c.suffix.result.now ++ c.suffix-2.result.now ++ c.suffix-3.result.now ++ c.suffix-4.result.now in
+    let P : List (ℕ × DeleteKey) → Type 0 = λ files. (n : ℕ) → (Contains hits n → AppliesAt files (file c) n)
+    × (AppliesAt files (file c) n → Contains hits n) in
+    subst P c.self.view_is (all_apply c.self.inside c.self.invariant (file c) c.suffix.result.now c.suffix-2.result.now
+    c.suffix-3.result.now c.suffix-4.result.now (found c))
+
+pub returns-clause-once : goal.returns-clause-once
+returns-clause-once c = all_once c.self.inside c.self.invariant (file c) c.suffix.result.now c.suffix-2.result.now
+    c.suffix-3.result.now c.suffix-4.result.now (found c)
