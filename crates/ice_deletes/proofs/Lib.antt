@@ -1,8 +1,8 @@
 pub mod Applying
-pub mod Exact
-pub mod Finding
+pub mod Lent
 pub mod Lists
 pub mod Numbered
-pub mod Once
 pub mod Orders
+pub mod Parts
+pub mod Slices
 pub mod Within

@@ -5,6 +5,7 @@ use Rattle.std.specs.Cmp.{IsStrictWeakOrder}
 use Rattle.std.specs.List.{AllWithin, take-map, drop-map}
 use Rattle.std.specs.List.Sorted.{IsSortedBy, IsPartitionedBy, IsPartitionPoint}
 use Rattle.std.proofs.lemmas.List.{drop-take, get_or-take, length-take-le}
+use Rattle.std.proofs.lemmas.List.Elements.{filter_agree}
 use Rattle.std.proofs.lemmas.List.Sorted.{sorted_far}
 
 -- where a sorted list may be split
@@ -76,20 +77,6 @@ filter-filter {X} p q (x ∷ xs) =
       | false ↦ filter-filter p q xs
     ]
 
-pub filter_alike : {X : Type 0} (p q : X → Bool) → ((x : X) → p x ≡ q x) → (xs : List X) → filter p xs ≡ filter q xs
-filter_alike p q same [] = refl
-filter_alike p q same (x ∷ xs) = rw (same x, filter_alike p q same xs) refl
-
-pub filter-map : {X Y : Type 0} (f : X → Y) (p : Y → Bool) (xs : List X)
-    → filter p (map f xs) ≡ map f (filter (λ x. p (f x)) xs)
-filter-map f p [] = refl
-filter-map {X} f p (x ∷ xs) =
-    elim (p (f x)) as (λ v. cond v (f x ∷ filter p (map f xs)) (filter p (map f xs)) ≡ map f
-    (cond v (x ∷ filter (λ (y : X). p (f y)) xs) (filter (λ (y : X). p (f y)) xs))) [
-      | true ↦ ap (λ ys. f x ∷ ys) (filter-map f p xs)
-      | false ↦ filter-map f p xs
-    ]
-
 -- a range of a list
 pub range_is : {X : Type 0} (start end : ℕ) (xs : List X) → start ≤ end
     → take (end - start) (drop start xs) ≡ drop start (take end xs)
@@ -108,4 +95,4 @@ suffix_is number near old within tests start end xs numbers le are front back =
     ∙ ap (drop start) (take-map number end xs)
     ∙ drop-map number start (take end xs)
     ∙ ap (map number) (back ∙ ap (filter (λ x. not (old x))) front ∙ filter-filter near (λ x. not (old x)) xs ∙
-    filter_alike (λ x. near x && not (old x)) within tests xs)
+    filter_agree (λ x. near x && not (old x)) within tests xs)

@@ -1,13 +1,14 @@
 -- Files with their numbers.
 use Rattle.std.proofs.Common.{◌≡◌, ℕ, ◌+◌, ◌<◌, Bool, true, false, List, [], ◌∷◌, ◌++◌, length, take, map, filter}
 use Rattle.std.proofs.Common.{get_or, cond, refl, sym, ap, ◌∙◌, arith, add-zero, append-nil}
-use Rattle.std.specs.List.{enumerate_from}
+use Rattle.std.specs.List.{enumerate_from, All, AllByRecursion}
 use Rattle.std.proofs.lemmas.List.{take_more, map-append, length-map, length-take-le}
-use Rattle.std.proofs.lemmas.List.Elements.{filter-append}
-use Rattle.ice_value.specs.Applying.{FileKey}
+use Rattle.std.proofs.lemmas.List.Elements.{filter-append, filter_passes, All-same, All-from_recursion}
+use Rattle.std.proofs.lemmas.List.Elements.{recursion_from_All}
+use Rattle.ice_value.specs.Applying.{DeleteKey}
 use Rattle.ice_deletes.specs.declared.record.Record.{Record}
 use Rattle.ice_deletes.specs.declared.delete.Delete.{Delete}
-use Rattle.ice_deletes.specs.Keys.{key_of, entry_of}
+use Rattle.ice_deletes.specs.Keys.{key_of, key_in, entry_of}
 
 enumerate_from-push : {X : Type 0} (n : ℕ) (xs : List X) (x : X)
     → enumerate_from n (xs ++ x ∷ []) ≡ enumerate_from n xs ++ (n + length xs, x) ∷ []
@@ -17,7 +18,7 @@ enumerate_from-push n (y ∷ xs) x =
     ap (λ es. (n, y) ∷ es) (enumerate_from-push (n + 1) xs x ∙ ap (λ k. enumerate_from (n + 1) xs ++ (k, x) ∷ []) e)
 
 -- one record more
-filed_more : (p : ℕ × FileKey → Bool) (rs : List Record) (i : ℕ) (d : Record) → i < length rs →
+filed_more : (p : ℕ × DeleteKey → Bool) (rs : List Record) (i : ℕ) (d : Record) → i < length rs →
     filter p (enumerate_from 0 (map key_of (take (i + 1) rs))) ≡ filter p (enumerate_from 0 (map key_of (take i rs))) ++
     filter p ((i, key_of (get_or rs i d)) ∷ [])
 filed_more p rs i d low =
@@ -32,7 +33,7 @@ filed_more p rs i d low =
       many_from : {n i : ℕ} → n ≡ i → 0 + n ≡ i
       many_from e = omega arith
 
-pub kept_more : (p : ℕ × FileKey → Bool) (rs : List Record) (i : ℕ) (r : Record) (ds : List Delete) (d : Delete)
+pub kept_more : (p : ℕ × DeleteKey → Bool) (rs : List Record) (i : ℕ) (r : Record) (ds : List Delete) (d : Delete)
     → i < length rs → r ≡ get_or rs i r →
     map entry_of ds ≡ filter p (enumerate_from 0 (map key_of (take i rs))) → entry_of d ≡ (i, key_of r)
     → p (i, key_of r) ≡ true →
@@ -45,7 +46,7 @@ kept_more p rs i r ds d low at h e passes =
     ∙ ap (λ v. filter p (enumerate_from 0 (map key_of (take i rs))) ++ filter p ((i, key_of v) ∷ [])) at
     ∙ sym (filed_more p rs i r low)
 
-pub left_more : (p : ℕ × FileKey → Bool) (rs : List Record) (i : ℕ) (r : Record) (ds : List Delete) → i < length rs
+pub left_more : (p : ℕ × DeleteKey → Bool) (rs : List Record) (i : ℕ) (r : Record) (ds : List Delete) → i < length rs
     → r ≡ get_or rs i r →
     map entry_of ds ≡ filter p (enumerate_from 0 (map key_of (take i rs))) → p (i, key_of r) ≡ false →
     map entry_of ds ≡ filter p (enumerate_from 0 (map key_of (take (i + 1) rs)))
@@ -55,3 +56,17 @@ left_more p rs i r ds low at h fails =
     ∙ ap (λ v. filter p (enumerate_from 0 (map key_of (take i rs))) ++ cond v ((i, key_of r) ∷ []) []) (sym fails)
     ∙ ap (λ v. filter p (enumerate_from 0 (map key_of (take i rs))) ++ filter p ((i, key_of v) ∷ [])) at
     ∙ sym (filed_more p rs i r low)
+
+-- those that were filed by a test pass it
+pub all_grouped : (p : DeleteKey → Bool) (ds : List Delete) (es : List (ℕ × DeleteKey))
+    → map entry_of ds ≡ filter (λ e. p e.1) es → All (λ d. p (key_in d) ≡ true) ds
+all_grouped p ds es filed =
+    let P : ℕ × DeleteKey → Type 0 = λ e. p e.1 ≡ true in
+    let passes : All P (map entry_of ds) = All-same P (map entry_of ds) (filter (λ (e : ℕ × DeleteKey). p e.1) es) filed
+    (filter_passes (λ (e : ℕ × DeleteKey). p e.1) es) in
+    All-from_recursion (λ d. P (entry_of d)) ds (each P ds (recursion_from_All P (map entry_of ds) passes))
+  where
+    each : (P : ℕ × DeleteKey → Type 0) (ds : List Delete) → AllByRecursion P (map entry_of ds)
+        → AllByRecursion (λ (d : Delete). P (entry_of d)) ds
+    each P [] all = tt
+    each P (d ∷ ds) all = (all.0, each P ds all.1)

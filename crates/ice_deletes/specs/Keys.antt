@@ -1,27 +1,40 @@
--- What the rules of applying see of a record.
+-- What the rules of applying see of a record and of a delete file that is kept, and what is sought.
 use Rattle.std.specs.Prelude.{ℕ}
-use Rattle.ice_value.specs.Applying.{FileKey}
+use Rattle.std.specs.Option.{option_copied}
+use Rattle.ice_value.specs.Applying.{DeleteKey}
 use Rattle.ice_deletes.specs.declared.record.Record.{Record}
 use Rattle.ice_deletes.specs.declared.delete.Delete.{Delete}
+use Rattle.ice_deletes.specs.declared.search_key.SearchKey.{SearchKey}
+use Rattle.ice_deletes.specs.Groups.{SortKey}
 
-abbrev pub key_of : Record → FileKey
+abbrev pub key_of : Record → DeleteKey
 key_of r = record {
   content = r.content;
   spec_id = r.spec_id;
   unpartitioned = r.unpartitioned;
   tuple = r.tuple.now;
   sequence_number = r.sequence_number;
+  referenced = option_copied r.referenced;
 }
 
-abbrev pub key_in : Delete → FileKey
+abbrev pub key_in : Delete → DeleteKey
 key_in d = record {
   content = d.content;
   spec_id = d.spec_id;
   unpartitioned = d.unpartitioned;
-  tuple = d.tuple.now;
+  tuple = d.tuple;
   sequence_number = d.sequence_number;
+  referenced = d.referenced;
 }
 
 -- a delete file with its number
-abbrev pub entry_of : Delete → ℕ × FileKey
+abbrev pub entry_of : Delete → ℕ × DeleteKey
 entry_of d = (d.number, key_in d)
+
+abbrev pub sought : SearchKey → SortKey
+sought k = record {
+  path = option_copied k.path;
+  spec_id = k.spec_id;
+  tuple = k.tuple.now;
+  sequence_number = k.sequence_number;
+}

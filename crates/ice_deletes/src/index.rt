@@ -1,14 +1,16 @@
 //! The index of delete files.
 
-ghost use Rattle.std.specs.Prelude.{◌≡◌, ◌↔◌, ◌&&◌, ◌++◌, ◌==◌, ◌≤◌, ℕ, map, IfOk, Contains, count_by};
+ghost use Rattle.std.specs.Prelude.{◌↔◌, ◌&&◌, ◌==◌, ◌≤◌, ℕ, map, IfOk, Contains, count_by};
 ghost use Rattle.std.specs.List.Sorted.{IsPermutation};
-ghost use Rattle.ice_value.specs.declared.file_content.FileContent.{FileContent};
-ghost use Rattle.ice_value.specs.Applying.{FileKey, applies};
+ghost use Rattle.ice_value.specs.Applying.{applies};
 ghost use Rattle.ice_deletes.specs.Keys.{key_of};
-ghost use Rattle.ice_deletes.specs.Found.{IsFile, holds, numbers_where, AppliesAt};
+ghost use Rattle.ice_deletes.specs.Groups.{is_in};
+ghost use Rattle.ice_deletes.specs.Found.{data_key, numbered_deletes, numbers_where, lent, AppliesAt};
+ghost use Rattle.ice_deletes.specs.declared.group.Group.TheVariants.{Positions, Referenced, Equalities, Everywhere};
 
 use crate::group::Group;
 use crate::record::Record;
+use crate::search_key::SearchKey;
 use crate::shelf::Shelf;
 use ice_value::{Cell, SequenceNumber};
 use std::alloc::{AllocError, Global};
@@ -17,8 +19,10 @@ use std::marker::Model;
 /// The numbers of the delete files that apply to a data file, lent by the index. Each stands in one slice, once.
 #[derive(Clone, Copy, Debug)]
 pub struct Hits<'i> {
-    /// Position delete files of the data file's partition.
+    /// Position delete files of the data file's partition that name no data file.
     pub positions: &'i [usize],
+    /// Position delete files of the data file's partition that name it.
+    pub referenced: &'i [usize],
     /// Equality delete files of the data file's partition.
     pub equalities: &'i [usize],
     /// Equality delete files of unpartitioned specs, the data file's own among them.
@@ -26,51 +30,42 @@ pub struct Hits<'i> {
 }
 
 /// The delete files among some records, sorted so that those that apply to a data file are found by binary search.
-/// Contracts see it as the list of the records.
+/// Contracts see it as the list of its delete files with their numbers, of which no two are the same.
 #[derive(Debug, Drop)]
-pub struct DeleteIndex<'a> {
-    records: &'a [Record<'a>],
-    positions: Shelf<'a>,
-    equalities: Shelf<'a>,
-    everywhere: Shelf<'a>,
+pub struct DeleteIndex {
+    positions: Shelf,
+    referenced: Shelf,
+    equalities: Shelf,
+    everywhere: Shelf,
 }
 
-impl<'a> Model for DeleteIndex<'a> {
-    ghost use Rattle.std.specs.Prelude.{List, map};
-    ghost use Rattle.ice_value.specs.Applying.{FileKey};
+impl Model for DeleteIndex {
+    ghost use Rattle.std.specs.Prelude.{List, ℕ};
+    ghost use Rattle.ice_value.specs.Applying.{DeleteKey};
 
-    ghost Value = { List FileKey };
+    ghost Value = { List (ℕ × DeleteKey) };
 
-    ghost use Rattle.ice_deletes.specs.Keys.{key_of};
-    ghost use Rattle.ice_deletes.specs.Indexes.{IsIndex};
+    ghost use Rattle.ice_deletes.specs.Indexes.{IsIndex, entries_in};
 
-    ghost view = { λ i. map key_of i.records.now };
+    ghost view = { entries_in };
 
     ghost invariant = { IsIndex };
 }
 
-impl<'a> DeleteIndex<'a> {
-    /// The index of the records. A record's number is its place among them.
-    pub fn build(alloc: Global, records: &'a [Record<'a>]) -> Result<DeleteIndex<'a>, AllocError>
-        ensures { IfOk result (λ index. index ≡ map key_of records.entry.now) }
+impl DeleteIndex {
+    /// The index of the delete files among the records. A delete file's number is its place among the records.
+    pub fn build(alloc: Global, records: &[Record]) -> Result<DeleteIndex, AllocError>
+        ensures { IfOk result (λ index. IsPermutation (numbered_deletes (map key_of records.now)) index) }
     {
         Ok(DeleteIndex {
-            records,
             positions: Shelf::build(alloc, records, Group::Positions)?,
+            referenced: Shelf::build(alloc, records, Group::Referenced)?,
             equalities: Shelf::build(alloc, records, Group::Equalities)?,
             everywhere: Shelf::build(alloc, records, Group::Everywhere)?,
         })
     }
 
-    /// The records, in the order of their numbers.
-    pub fn records(&self) -> &'a [Record<'a>]
-        ensures { map key_of result.now ≡ self.now }
-    {
-        self.records
-    }
-
-    /// The delete files that apply to a data file of this spec and tuple, with this sequence number. No rule asks for
-    /// its path yet.
+    /// The delete files that apply to the data file of this spec and tuple, with this sequence number, at this path.
     pub fn for_data(
         &self,
         spec_id: i32,
@@ -78,26 +73,36 @@ impl<'a> DeleteIndex<'a> {
         sequence_number: SequenceNumber,
         path: &[u8],
     ) -> Hits<'_>
-        ensures positions { (x : FileKey) → IsFile spec_id tuple.now sequence_number x
-            → IsPermutation (numbers_where (λ d. holds FileContent.PositionDeletes d && applies x d) self.now)
-            result.positions.now }
-        ensures equalities { (x : FileKey) → IsFile spec_id tuple.now sequence_number x
-            → IsPermutation (numbers_where (λ d. holds FileContent.EqualityDeletes d && applies x d) self.now)
-            (result.equalities.now ++ result.everywhere.now) }
+        ensures positions { let x = data_key spec_id tuple.now sequence_number path.now in
+            IsPermutation (numbers_where (λ d. is_in Positions d && applies x d) self.now) result.positions.now }
+        ensures referenced { let x = data_key spec_id tuple.now sequence_number path.now in
+            IsPermutation (numbers_where (λ d. is_in Referenced d && applies x d) self.now) result.referenced.now }
+        ensures equalities { let x = data_key spec_id tuple.now sequence_number path.now in
+            IsPermutation (numbers_where (λ d. is_in Equalities d && applies x d) self.now) result.equalities.now }
+        ensures everywhere { let x = data_key spec_id tuple.now sequence_number path.now in
+            IsPermutation (numbers_where (λ d. is_in Everywhere d && applies x d) self.now) result.everywhere.now }
 
         // Exactly the numbers of the files that apply, each in one slice, once.
-        ensures exact { (x : FileKey) (n : ℕ) → IsFile spec_id tuple.now sequence_number x
-            → Contains (result.positions.now ++ (result.equalities.now ++ result.everywhere.now)) n
-            ↔ AppliesAt self.now x n }
-        ensures once { (n : ℕ)
-            → count_by (λ m. m == n) (result.positions.now ++ (result.equalities.now ++ result.everywhere.now)) ≤ 1 }
+        ensures exact { let x = data_key spec_id tuple.now sequence_number path.now in
+            (n : ℕ) → Contains (lent result) n ↔ AppliesAt self.now x n }
+        ensures once { (n : ℕ) → count_by (λ m. m == n) (lent result) ≤ 1 }
     {
-        let _ = path;
         let number = sequence_number.get();
+        let from_same = SearchKey {
+            path: Some(path),
+            spec_id,
+            tuple,
+            sequence_number: number,
+        };
+        let from_next = SearchKey {
+            sequence_number: number + 1,
+            ..from_same
+        };
         Hits {
-            positions: self.positions.suffix(spec_id, tuple, number),
-            equalities: self.equalities.suffix(spec_id, tuple, number + 1),
-            everywhere: self.everywhere.suffix(spec_id, tuple, number + 1),
+            positions: self.positions.suffix(&from_same),
+            referenced: self.referenced.suffix(&from_same),
+            equalities: self.equalities.suffix(&from_next),
+            everywhere: self.everywhere.suffix(&from_next),
         }
     }
 }

@@ -15,4 +15,6 @@ pub struct Record<'a> {
     pub tuple: &'a [Cell],
     /// The sequence number, inherited already.
     pub sequence_number: u64,
+    /// The path of the one data file that it names, if it names one. It counts for position delete files alone.
+    pub referenced: Option<&'a [u8]>,
 }

@@ -1,61 +1,63 @@
-use Rattle.std.proofs.Common.{◌+◌, ◌++◌, ◌∙◌, sym, refl, subst, rules, List, false}
+use Rattle.std.proofs.Common.{◌&&◌, ◌++◌, ℕ, List, subst, rules}
+use Rattle.std.specs.List.{Contains}
 use Rattle.std.specs.List.Sorted.{IsPermutation}
-use Rattle.ice_value.specs.declared.file_content.FileContent.TheVariants.{Data}
-use Rattle.ice_value.specs.Applying.{FileKey, applies}
-use Rattle.ice_deletes.specs.declared.group.Group.TheVariants.{Positions, Equalities, Everywhere}
-use Rattle.ice_deletes.specs.Found.{IsFile, numbers_where}
-use Rattle.ice_deletes.specs.Shelves.{IsShelf}
-use Rattle.ice_deletes.proofs.Exact.{Lends, positions_found, equalities_found, all_found}
-use Rattle.ice_deletes.proofs.Once.{lent_applies, lent_once}
+use Rattle.ice_value.specs.Applying.{DataKey, DeleteKey, applies}
+use Rattle.ice_deletes.specs.declared.group.Group.TheVariants.{Positions, Referenced, Equalities, Everywhere}
+use Rattle.ice_deletes.specs.Found.{data_key, numbers_where, AppliesAt}
+use Rattle.ice_deletes.specs.Groups.{is_in}
+use Rattle.ice_deletes.proofs.Lent.{AreFound, positions_lent, referenced_lent, equalities_lent, everywhere_lent}
+use Rattle.ice_deletes.proofs.Lent.{all_apply, all_once}
 use Rattle.ice_deletes.proofs.index.DeleteIndex.for_data.Goals as goal
+use Rattle.ice_deletes.proofs.index.DeleteIndex.for_data.Goals.{After-suffix-4}
+
+abbrev file : After-suffix-4 → DataKey
+file c = data_key c.args.spec_id c.args.tuple.now c.args.sequence_number c.args.path.now
+
+found : (c : After-suffix-4) → AreFound c.self.inside (file c) c.suffix.result.now c.suffix-2.result.now
+    c.suffix-3.result.now c.suffix-4.result.now
+found c = rw (← c.get-number.ensures.same) (record {
+  positions = search rules;
+  referenced = search rules;
+  equalities = search rules;
+  everywhere = search rules;
+})
 
 pub returns-clause-positions : goal.returns-clause-positions
 returns-clause-positions c =
-    λ x is.
-    let files = c.args.self.now in
-    let P : List FileKey → Type 0 = λ fs. IsShelf Positions fs c.self.inside.positions in
-    let shelf : P files = subst P c.self.view_is c.self.invariant.positions in
-    let number = c.get-number.result in
-    let lends : Lends c.self.inside.positions c.args.spec_id c.args.tuple.now number c.suffix.result.now =
-    search rules in
-    positions_found files x c.args.spec_id c.args.tuple.now number (is.0, is.1, is.2 ∙ sym c.get-number.ensures.same)
-    c.self.inside.positions shelf c.suffix.result.now lends
+    let P : List (ℕ × DeleteKey) → Type 0 = λ files. IsPermutation (numbers_where
+    (λ d. is_in Positions d && applies (file c) d) files) c.suffix.result.now in
+    subst P c.self.view_is (positions_lent c.self.inside c.self.invariant (file c) c.suffix.result.now
+    c.suffix-2.result.now c.suffix-3.result.now c.suffix-4.result.now (found c))
+
+pub returns-clause-referenced : goal.returns-clause-referenced
+returns-clause-referenced c =
+    let P : List (ℕ × DeleteKey) → Type 0 = λ files. IsPermutation (numbers_where
+    (λ d. is_in Referenced d && applies (file c) d) files) c.suffix-2.result.now in
+    subst P c.self.view_is (referenced_lent c.self.inside c.self.invariant (file c) c.suffix.result.now
+    c.suffix-2.result.now c.suffix-3.result.now c.suffix-4.result.now (found c))
 
 pub returns-clause-equalities : goal.returns-clause-equalities
 returns-clause-equalities c =
-    λ x is.
-    let files = c.args.self.now in
-    let P : List FileKey → Type 0 = λ fs. IsShelf Equalities fs c.self.inside.equalities in
-    let Q : List FileKey → Type 0 = λ fs. IsShelf Everywhere fs c.self.inside.everywhere in
-    let shelf : P files = subst P c.self.view_is c.self.invariant.equalities in
-    let other : Q files = subst Q c.self.view_is c.self.invariant.everywhere in
-    let number = c.get-number.result in
-    let lends : Lends c.self.inside.equalities c.args.spec_id c.args.tuple.now (number + 1) c.suffix-2.result.now =
-    search rules in
-    let others : Lends c.self.inside.everywhere c.args.spec_id c.args.tuple.now (number + 1) c.suffix-3.result.now =
-    search rules in
-    equalities_found files x c.args.spec_id c.args.tuple.now number (is.0, is.1, is.2 ∙ sym c.get-number.ensures.same)
-    c.self.inside.equalities c.self.inside.everywhere shelf other
-    c.suffix-2.result.now c.suffix-3.result.now lends others
+    let P : List (ℕ × DeleteKey) → Type 0 = λ files. IsPermutation (numbers_where
+    (λ d. is_in Equalities d && applies (file c) d) files) c.suffix-3.result.now in
+    subst P c.self.view_is (equalities_lent c.self.inside c.self.invariant (file c) c.suffix.result.now
+    c.suffix-2.result.now c.suffix-3.result.now c.suffix-4.result.now (found c))
 
-all : (c : goal.After-suffix-3) (x : FileKey) → IsFile c.args.spec_id c.args.tuple.now c.args.sequence_number x →
-    IsPermutation (numbers_where (applies x) c.args.self.now) (c.suffix.result.now ++ (c.suffix-2.result.now ++
-    c.suffix-3.result.now))
-all c x is = all_found c.args.self.now x c.suffix.result.now (c.suffix-2.result.now ++ c.suffix-3.result.now)
-    (returns-clause-positions c x is) (returns-clause-equalities c x is)
+pub returns-clause-everywhere : goal.returns-clause-everywhere
+returns-clause-everywhere c =
+    let P : List (ℕ × DeleteKey) → Type 0 = λ files. IsPermutation (numbers_where
+    (λ d. is_in Everywhere d && applies (file c) d) files) c.suffix-4.result.now in
+    subst P c.self.view_is (everywhere_lent c.self.inside c.self.invariant (file c) c.suffix.result.now
+    c.suffix-2.result.now c.suffix-3.result.now c.suffix-4.result.now (found c))
 
 pub returns-clause-exact : goal.returns-clause-exact
-returns-clause-exact c = λ x n is. lent_applies c.args.self.now x (c.suffix.result.now ++ (c.suffix-2.result.now ++
-    c.suffix-3.result.now)) (all c x is) n
+returns-clause-exact c =
+    let hits = c.suffix.result.now ++ c.suffix-2.result.now ++ c.suffix-3.result.now ++ c.suffix-4.result.now in
+    let P : List (ℕ × DeleteKey) → Type 0 = λ files. (n : ℕ) → (Contains hits n → AppliesAt files (file c) n)
+    × (AppliesAt files (file c) n → Contains hits n) in
+    subst P c.self.view_is (all_apply c.self.inside c.self.invariant (file c) c.suffix.result.now c.suffix-2.result.now
+    c.suffix-3.result.now c.suffix-4.result.now (found c))
 
 pub returns-clause-once : goal.returns-clause-once
-returns-clause-once c =
-    let x : FileKey = record {
-      content = Data;
-      spec_id = c.args.spec_id;
-      unpartitioned = false;
-      tuple = c.args.tuple.now;
-      sequence_number = c.args.sequence_number;
-    } in
-    lent_once (applies x) c.args.self.now (c.suffix.result.now ++ (c.suffix-2.result.now ++ c.suffix-3.result.now))
-    (all c x (refl, refl, refl))
+returns-clause-once c = all_once c.self.inside c.self.invariant (file c) c.suffix.result.now c.suffix-2.result.now
+    c.suffix-3.result.now c.suffix-4.result.now (found c)

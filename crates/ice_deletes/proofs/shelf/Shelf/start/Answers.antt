@@ -2,8 +2,8 @@ use Rattle.std.proofs.Common.{rules, take}
 use Rattle.std.specs.List.Sorted.{IsPartitionedBy}
 use Rattle.std.proofs.lemmas.List.Sorted.{IsPartitionPoint-from_clause}
 use Rattle.ice_deletes.specs.declared.delete.Delete.{Delete}
-use Rattle.ice_deletes.specs.Keys.{key_in}
-use Rattle.ice_deletes.specs.Groups.{is_older}
+use Rattle.ice_deletes.specs.Keys.{key_in, sought}
+use Rattle.ice_deletes.specs.Groups.{is_older, sort_key}
 use Rattle.ice_deletes.specs.Shelves.{earlier}
 use Rattle.ice_deletes.proofs.Lists.{sorted_parted, parted_front, back_fails}
 use Rattle.ice_deletes.proofs.Orders.{earlier_orders}
@@ -13,10 +13,11 @@ use Rattle.ice_deletes.proofs.shelf.Shelf.start.Goals as goal
 pub returns-clause-back : goal.returns-clause-back
 returns-clause-back c =
     let g = c.args.self.now.group in
-    let p = λ (d : Delete). is_older g c.args.spec_id c.args.tuple.now c.args.from (key_in d) in
+    let k = sought c.args.key.now in
+    let p = λ (d : Delete). is_older g k (key_in d) in
     let xs = c.args.self.now.deletes.items in
-    let parted : IsPartitionedBy p xs = sorted_parted (earlier g) (earlier_orders g) p (λ x y before h. older_before g
-    c.args.spec_id c.args.tuple.now c.args.from (key_in x) (key_in y) before h) xs c.requires.sorted in
+    let parted : IsPartitionedBy p xs = sorted_parted (earlier g) (earlier_orders g) p (λ x y before h. older_before g k
+    (sort_key (key_in x)) (sort_key (key_in y)) before h) xs c.requires.sorted in
     let front : IsPartitionedBy p (take c.args.end xs) = parted_front p c.args.end xs c.requires.within parted in
     back_fails p (take c.args.end xs) c.partition_point.result
     (IsPartitionPoint-from_clause p (take c.args.end xs) c.partition_point.result (rw c.deref.ensures.value at
