@@ -18,7 +18,7 @@ use Rattle.ice_manifest_reading.specs.declared.entry.Live.{Live}
 use Rattle.ice_manifest_reading.specs.declared.status.Status.{Status}
 use Rattle.ice_manifest_reading.specs.Each.{each}
 use Rattle.ice_manifest_reading.specs.Naming.{in_list, in_manifest, told, ended}
-use Rattle.ice_manifest_reading.specs.Fields.{at, there, asked, record_of, items_of, int_at, number_at, path_at}
+use Rattle.ice_manifest_reading.specs.Fields.{at, there, asked, record_of, items_of, int_at, path_at}
 use Rattle.ice_manifest_reading.specs.Fields.{ints_at, optional_int, optional_number}
 use Rattle.ice_manifest_reading.specs.Partitions.{cells_of, tuple_at}
 use Rattle.ice_manifest_reading.specs.declared.columns.ColumnMap.{ColumnMap}
@@ -117,7 +117,7 @@ tuple_alike (p ∷ ps) x y s = record_alike (p ∷ ps) (record_of (there (at (po
 
 file_alike : (of_row : ManifestContent) (ps : List PartitionField) (x y : Typed) → SameFile ps x y
     → file_of of_row ps x ≡ file_of of_row ps y
-unfolding file_of content_at int_at path_at ints_at
+unfolding file_of content_at path_at ints_at
 file_alike of_row ps x y s = rw (
   s.content,
   s.path,
@@ -209,7 +209,7 @@ partitions_alike None (Some y) s = absurd s
 partitions_alike (Some x) None s = absurd s
 
 row_alike : (x y : Typed) → SameRow x y → row_of x ≡ row_of y
-unfolding row_of path_at int_at Lists.content_at number_at counts_at optional_int
+unfolding row_of path_at int_at Lists.content_at counts_at optional_int
 row_alike x y s =
     rw (
       s.path,

@@ -16,7 +16,7 @@ use Rattle.ice_manifest_reading.specs.declared.row.ManifestContent.TheVariants.{
 use Rattle.ice_manifest_reading.specs.declared.entry.Live.{Live}
 use Rattle.ice_value.specs.declared.cell.Cell.{Cell}
 use Rattle.ice_meta.specs.declared.spec.PartitionField.{PartitionField}
-use Rattle.ice_manifest_reading.specs.Fields.{int_at, record_at}
+use Rattle.ice_manifest_reading.specs.Fields.{int_or_zero, record_at}
 use Rattle.ice_manifest_reading.specs.Partitions.{cell_at, cells_of, tuple_at}
 use Rattle.ice_manifest_reading.specs.Manifests.{content_of, content_at, kept, live_of, entries, entries_of}
 use Rattle.ice_manifest_reading.specs.Laws.{SayEntries, MayHold, FitsItsRow, IsOfSpec, AreOfTheirSpec, HasACellForEach}
@@ -42,7 +42,7 @@ content_fits Deletes z c h =
 
 said_fits : (of_row : ManifestContent) (x : Typed) (c : FileContent) → content_at of_row x ≡ Ok c → MayHold of_row c
 unfolding content_at
-said_fits of_row x c h = let code = went_on (int_at (pos 134) x) _ c h in content_fits of_row code.0 c code.2
+said_fits of_row x c h = let code = went_on (int_or_zero (pos 134) x) _ c h in content_fits of_row code.0 c code.2
 
 entries_fit : (row : Row) (spec : Spec) (fs : Fields) (k : ℕ) (vs : List Value) (read : List (Option Live))
     → SayEntries row spec fs k vs read → (l : Live) → Contains (kept read) l → MayHold row.content l.entry.file.content

@@ -26,7 +26,7 @@ use Rattle.ice_manifest_reading.specs.declared.status.Status.{Status}
 use Rattle.ice_manifest_reading.specs.declared.status.Status.TheVariants.{Existing, Added, Deleted}
 use Rattle.ice_manifest_reading.specs.Each.{each}
 use Rattle.ice_manifest_reading.specs.Naming.{in_list, in_manifest, told}
-use Rattle.ice_manifest_reading.specs.Fields.{at, there, long_at, int_at, number_at, path_at, record_at, ints_at}
+use Rattle.ice_manifest_reading.specs.Fields.{at, there, long_at, int_at, number_or_zero, path_at, record_at, ints_at}
 use Rattle.ice_manifest_reading.specs.Partitions.{tuple_at}
 use Rattle.ice_manifest_reading.specs.ColumnMaps.{value_counts, null_value_counts, lower_bounds, upper_bounds}
 use Rattle.ice_manifest_reading.specs.Maps as Maps
@@ -65,8 +65,8 @@ row_said x r h =
     let length = went_on (long_at (pos 501) x) _ r path.2 in
     let spec = went_on (int_at (pos 502) x) _ r length.2 in
     let content = went_on (Lists.content_at x) _ r spec.2 in
-    let sequence = went_on (number_at (pos 515) x) _ r content.2 in
-    let least = went_on (number_at (pos 516) x) _ r sequence.2 in
+    let sequence = went_on (number_or_zero (pos 515) x) _ r content.2 in
+    let least = went_on (number_or_zero (pos 516) x) _ r sequence.2 in
     let snapshot = went_on (long_at (pos 503) x) _ r least.2 in
     let counts = went_on (counts_at x) _ r snapshot.2 in
     let partitions = went_on (summaries_in (there (at (pos 507) x))) _ r counts.2 in

@@ -33,9 +33,8 @@ use Rattle.ice_manifest_reading.specs.ColumnMaps.{value_counts, null_value_count
 use Rattle.ice_manifest_reading.specs.Maps as Maps
 use Rattle.ice_manifest_reading.specs.Maps.{bounds_at}
 use Rattle.ice_manifest_reading.specs.Schemas.{Fault, fields_in, row_fields, entry_fields}
-use Rattle.ice_manifest_reading.specs.Fields.{at, there, long_at, int_at, number_at, path_at, record_at, ints_at}
-use Rattle.ice_manifest_reading.specs.Fields.{optional_long}
-use Rattle.ice_manifest_reading.specs.Fields.{optional_number}
+use Rattle.ice_manifest_reading.specs.Fields.{at, there, long_at, int_at, number_or_zero, path_at, record_at, ints_at}
+use Rattle.ice_manifest_reading.specs.Fields.{optional_long, optional_number}
 use Rattle.ice_manifest_reading.specs.Lists as Lists
 use Rattle.ice_manifest_reading.specs.Lists.{row_of, counts_at, summaries_in, same_row, checked, in_order, rows_of}
 use Rattle.ice_manifest_reading.specs.Manifests.{content_at, status_at, snapshot_at, sequence_at, file_sequence_at}
@@ -71,8 +70,8 @@ pub record SaysRow (x : Typed) (r : Row) : Type 0 where
   pub length : long_at (pos 501) x ≡ Ok r.length
   pub spec_id : int_at (pos 502) x ≡ Ok r.spec_id
   pub content : Lists.content_at x ≡ Ok r.content
-  pub sequence_number : number_at (pos 515) x ≡ Ok r.sequence_number
-  pub min_sequence_number : number_at (pos 516) x ≡ Ok r.min_sequence_number
+  pub sequence_number : number_or_zero (pos 515) x ≡ Ok r.sequence_number
+  pub min_sequence_number : number_or_zero (pos 516) x ≡ Ok r.min_sequence_number
   pub added_snapshot_id : long_at (pos 503) x ≡ Ok r.added_snapshot_id
   pub counts : counts_at x ≡ Ok r.counts
   pub partitions : summaries_in (there (at (pos 507) x)) ≡ Ok r.partitions

@@ -12,6 +12,7 @@ ghost use Rattle.ice_manifest_reading.specs.Fields.{asked, whole_of as whole_val
 ghost use Rattle.ice_manifest_reading.specs.Fields.{binary_of as binary_value, items_of as items_value, there, at};
 ghost use Rattle.ice_manifest_reading.specs.Fields.{long_at as long_said, int_at as int_said, number_at as number_said};
 ghost use Rattle.ice_manifest_reading.specs.Fields.{path_at as path_said, truth_at as truth_said};
+ghost use Rattle.ice_manifest_reading.specs.Fields.{int_or_zero as int_or_zero_said, number_or_zero as number_or_zero_said};
 ghost use Rattle.ice_manifest_reading.specs.Fields.{optional_long as long_if_there, optional_int as int_if_there};
 ghost use Rattle.ice_manifest_reading.specs.Fields.{optional_number as number_if_there, optional_truth as truth_if_there};
 ghost use Rattle.ice_manifest_reading.specs.Fields.{optional_binary as binary_if_there, int_item as int_of_item};
@@ -20,6 +21,7 @@ ghost use Rattle.ice_manifest_reading.specs.Seen.{result_map, object, pairs_in, 
 
 use crate::fault::{FieldFault, ManifestFault};
 use crate::pick::{itself, pick};
+use crate::shape::type_at;
 use avro_file::Datum;
 use avro_schema::{Field, Schema};
 use contract_words::Items;
@@ -92,10 +94,36 @@ pub fn optional_int(fields: &[Field], values: &[Datum], id: i32) -> Result<Optio
 
 /// A sequence number.
 #[tactic(auto, unfolding(crate::specs::Fields::number_at))]
-pub fn number_at(fields: &[Field], values: &[Datum], id: i32) -> Result<SequenceNumber, FieldFault>
+fn number_at(fields: &[Field], values: &[Datum], id: i32) -> Result<SequenceNumber, FieldFault>
     ensures { result ≡ number_said id (object fields.now values.now) }
 {
     not_negative(long_at(fields, values, id)?, id)
+}
+
+/// A whole number of 32 bits; 0 where there is no such field.
+#[tactic(auto, unfolding(crate::specs::Fields::int_or_zero))]
+pub fn int_or_zero(fields: &[Field], values: &[Datum], id: i32) -> Result<i32, FieldFault>
+    ensures { result ≡ int_or_zero_said id (object fields.now values.now) }
+{
+    if type_at(fields, id).is_none() {
+        return Ok(0);
+    }
+    int_at(fields, values, id)
+}
+
+/// A sequence number; 0 where there is no such field.
+#[tactic(auto, unfolding(crate::specs::Fields::number_or_zero))]
+pub fn number_or_zero(
+    fields: &[Field],
+    values: &[Datum],
+    id: i32,
+) -> Result<SequenceNumber, FieldFault>
+    ensures { result ≡ number_or_zero_said id (object fields.now values.now) }
+{
+    if type_at(fields, id).is_none() {
+        return Ok(SequenceNumber::zero());
+    }
+    number_at(fields, values, id)
 }
 
 /// A sequence number; none where it is absent or null.

@@ -5,6 +5,8 @@ ghost use Rattle.ice_manifest_reading.specs.Laws.{ReadsEntriesExactly, GivesHeld
 ghost use Rattle.ice_manifest_reading.specs.Laws.{NeedsItsOwn, KeepsItsFileNumber, InheritsTheRowsForItsFile, HasNoFileNumber};
 ghost use Rattle.ice_manifest_reading.specs.Laws.{KeepsItsSnapshot, InheritsItsSnapshot, FitsItsRow, AreOfTheirSpec};
 ghost use Rattle.ice_manifest_reading.specs.Laws.{HasACellForEach};
+ghost use Rattle.ice_manifest_reading.specs.Absent.{IsZeroWhereAbsent, IsRefusedWhereNull, HasRowsOfVersionOne};
+ghost use Rattle.ice_manifest_reading.specs.Absent.{HasFilesOfVersionOne};
 ghost use Rattle.ice_manifest_reading.specs.Faults.{TellsTheFirstRow, TellsTheListsEnd, TellsTheFirstEntry};
 ghost use Rattle.ice_manifest_reading.specs.Faults.{TellsTheManifestsEnd, RefusesAPathExactly, RefusesManyExactly};
 ghost use Rattle.ice_manifest_reading.specs.Decimals.{KeepsTheNumber, LeavesNoneRedundant, KeepsOneSpelling};
@@ -53,6 +55,15 @@ pub fn file_numbers_are_inherited()
 pub fn snapshots_are_inherited()
     ensures own { KeepsItsSnapshot }
     ensures none { InheritsItsSnapshot }
+{}
+
+/// A list or a manifest of version 1 has no field for what was not known then, and this is 0: its rows are of data, their
+/// numbers are 0, and its files hold data. A field that is there and null is refused.
+pub fn absent_fields_are_zero()
+    ensures absent { IsZeroWhereAbsent }
+    ensures null { IsRefusedWhereNull }
+    ensures row { HasRowsOfVersionOne }
+    ensures file { HasFilesOfVersionOne }
 {}
 
 /// The fault of a list or a manifest that opens and has its fields is that of its first object at fault, whatever comes

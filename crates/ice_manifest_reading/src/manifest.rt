@@ -21,7 +21,7 @@ use crate::columns::columns_of;
 use crate::data_file::FileView;
 use crate::entry::{Entry, EntryView, Live};
 use crate::fault::{FieldFault, ManifestFault};
-use crate::field::{int_at, ints_at, long_at, optional_long, optional_number, path_at};
+use crate::field::{int_at, int_or_zero, ints_at, long_at, optional_long, optional_number, path_at};
 use crate::keep::{Everything, Keep};
 use crate::pick::{pick_record, record_values};
 use crate::row::{ManifestContent, Row};
@@ -72,7 +72,7 @@ fn content_at(
 ) -> Result<FileContent, FieldFault>
     ensures { result ≡ content_said of_row (object fields.now values.now) }
 {
-    content_of(of_row, int_at(fields, values, 134)?)
+    content_of(of_row, int_or_zero(fields, values, 134)?)
 }
 
 /// The file that a record's fields say, in a manifest of this content whose spec has these partition fields, and what
