@@ -1,6 +1,6 @@
 -- What lists and manifests of version 1 have no fields for, as they stand in a table that was upgraded. Apache Iceberg
 -- table spec v2, "Appendix E: Format version changes" ("Reading v1 metadata for v2").
-use Rattle.std.specs.Prelude.{◌≡◌, ℤ, pos, List, Option, Some, None, Ok, Err}
+use Rattle.std.specs.Prelude.{◌≡◌, ℤ, pos, List, Some, None, Ok, Err}
 use Rattle.avro_schema.specs.Tree.{Tree}
 use Rattle.avro_file.specs.Picking.{Typed}
 use Rattle.ice_value.specs.declared.file_content.FileContent.TheVariants as holds

@@ -124,6 +124,13 @@ optional_number id x = if_there (not_negative id) (optional_long id x)
 abbrev pub optional_truth : ℤ → Typed → Option Bool
 optional_truth id x = truth_of (there (at id x))
 
+abbrev pub optional_text : ℤ → Typed → Option (List ℕ)
+optional_text id x = text_of (there (at id x))
+
+-- a path, of at most 65,535 bytes
+unfoldable pub optional_path : ℤ → Typed → Result (Option (List ℕ)) FieldFault
+optional_path id x = if_there (short_path id) (optional_text id x)
+
 abbrev pub optional_binary : ℤ → Typed → Option (List ℕ)
 optional_binary id x = binary_of (there (at id x))
 

@@ -197,6 +197,7 @@ file_fields ps fs = do
   size ← required is_whole (pos 104) fs
   columns ← column_fields fs
   ids ← ids_fit fs
+  referenced ← optional is_text (pos 143) fs
   inside (is_tuple ps) tuple
 
 abbrev pub is_file : List PartitionField → Tree → Fault

@@ -15,7 +15,8 @@ ghost use Rattle.ice_manifest_reading.specs.Fields.{path_at as path_said, truth_
 ghost use Rattle.ice_manifest_reading.specs.Fields.{int_or_zero as int_or_zero_said, number_or_zero as number_or_zero_said};
 ghost use Rattle.ice_manifest_reading.specs.Fields.{optional_long as long_if_there, optional_int as int_if_there};
 ghost use Rattle.ice_manifest_reading.specs.Fields.{optional_number as number_if_there, optional_truth as truth_if_there};
-ghost use Rattle.ice_manifest_reading.specs.Fields.{optional_binary as binary_if_there, int_item as int_of_item};
+ghost use Rattle.ice_manifest_reading.specs.Fields.{optional_binary as binary_if_there, optional_path as path_if_there};
+ghost use Rattle.ice_manifest_reading.specs.Fields.{int_item as int_of_item};
 ghost use Rattle.ice_manifest_reading.specs.Fields.{ints_at as ints_said, within_32 as within, not_negative as natural};
 ghost use Rattle.ice_manifest_reading.specs.Seen.{result_map, object, pairs_in, listed};
 
@@ -200,6 +201,25 @@ pub fn path_at<'a, 'd>(
     };
     if text.len() <= 65535 {
         Ok(text)
+    } else {
+        Err(FieldFault::OutOfRange(id))
+    }
+}
+
+/// A path of at most 65,535 bytes; none where it is absent or null.
+#[tactic(auto, unfolding(crate::specs::Fields::optional_path))]
+pub fn optional_path<'a, 'd>(
+    fields: &'a [Field],
+    values: &'a [Datum<'d>],
+    id: i32,
+) -> Result<Option<&'d str>, FieldFault>
+    ensures { result_map option_copied result ≡ path_if_there id (object fields.now values.now) }
+{
+    let Some((_, Datum::String(text))) = pick(fields, values, id) else {
+        return Ok(None);
+    };
+    if text.len() <= 65535 {
+        Ok(Some(text))
     } else {
         Err(FieldFault::OutOfRange(id))
     }

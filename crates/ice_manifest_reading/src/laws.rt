@@ -4,7 +4,7 @@ ghost use Rattle.ice_manifest_reading.specs.Laws.{ReadsRowsExactly, GivesHeldRow
 ghost use Rattle.ice_manifest_reading.specs.Laws.{ReadsEntriesExactly, GivesHeldEntries, KeepsItsNumber, InheritsTheRows};
 ghost use Rattle.ice_manifest_reading.specs.Laws.{NeedsItsOwn, KeepsItsFileNumber, InheritsTheRowsForItsFile, HasNoFileNumber};
 ghost use Rattle.ice_manifest_reading.specs.Laws.{KeepsItsSnapshot, InheritsItsSnapshot, FitsItsRow, AreOfTheirSpec};
-ghost use Rattle.ice_manifest_reading.specs.Laws.{HasACellForEach};
+ghost use Rattle.ice_manifest_reading.specs.Laws.{HasACellForEach, IsOfDeletesWhereReferenced};
 ghost use Rattle.ice_manifest_reading.specs.Absent.{IsZeroWhereAbsent, IsRefusedWhereNull, HasRowsOfVersionOne};
 ghost use Rattle.ice_manifest_reading.specs.Absent.{HasFilesOfVersionOne};
 ghost use Rattle.ice_manifest_reading.specs.Faults.{TellsTheFirstRow, TellsTheListsEnd, TellsTheFirstEntry};
@@ -82,10 +82,12 @@ pub fn rows_are_refused_together()
     ensures many { RefusesManyExactly }
 {}
 
-/// Each entry holds what its row's content allows: data under a row of data, deletes under one of deletes. It is of its
-/// row's spec, and has a partition value for each field of the spec.
+/// Each entry holds what its row's content allows: data under a row of data, deletes under one of deletes. Only position
+/// deletes name one data file that they are about. An entry is of its row's spec, and has a partition value for each
+/// field of the spec.
 pub fn contents_fit()
     ensures content { FitsItsRow }
+    ensures referenced { IsOfDeletesWhereReferenced }
     ensures spec { AreOfTheirSpec }
     ensures cells { HasACellForEach }
 {}

@@ -20,8 +20,8 @@ ghost use Rattle.ice_manifest_reading.specs.Lists.{checked as checked_in, path_o
 use crate::counts::Counts;
 use crate::fault::{FieldFault, ListFault};
 use crate::field::{
-    int_at, int_or_zero, items_of, long_at, number_or_zero, optional_binary, optional_int, optional_long,
-    optional_truth, pairs_built, path_at, truth_at,
+    int_at, int_or_zero, items_of, long_at, number_or_zero, optional_binary, optional_int,
+    optional_long, optional_truth, pairs_built, path_at, truth_at,
 };
 use crate::pick::{itself, pick, record_values};
 use crate::row::{ManifestContent, Row};

@@ -228,6 +228,7 @@ fn check_file_fields(partition: &[PartitionField], fields: &[Field]) -> Result<(
     required(fields, Kind::Whole, 104)?;
     check_column_fields(fields)?;
     check_ids(fields)?;
+    optional(fields, Kind::Text, 143)?;
     match tuple {
         Some(tuple) => check_tuples(partition, branches_of(tuple)),
         None => Ok(()),
