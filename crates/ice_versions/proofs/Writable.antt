@@ -1,7 +1,7 @@
 -- The groups of a change that isn't refused can be written.
 use Rattle.std.proofs.Common.{subst, inl, inr, ◌≡◌, ◌≤◌, ℕ, suc, ℤ, pos, negsuc, Bool, true, false, cond, not, ◌&&◌}
 use Rattle.std.proofs.Common.{◌||◌, List, [], ◌∷◌, ◌++◌, length, map, filter, find, refl, sym, ap, ◌∙◌, arith}
-use Rattle.std.specs.Prelude.{Option, None, Some, is_some, is_none, nat_lt, nat_le}
+use Rattle.std.specs.Prelude.{Option, None, Some, IfSome, is_some, is_none, nat_lt, nat_le}
 use Rattle.std.specs.List.{AllByRecursion, dedup, dedup_from}
 use Rattle.std.specs.Ordering.{int_eq}
 use Rattle.std.proofs.lemmas.Bool.{and_parts, leb-true}
@@ -25,7 +25,7 @@ use Rattle.ice_manifest.specs.declared.new_file.NewFile.{NewFile}
 use Rattle.ice_manifest_reading.specs.declared.row.ManifestContent.{ManifestContent}
 use Rattle.ice_manifest_reading.specs.declared.row.ManifestContent.TheVariants.{Data, Deletes}
 use Rattle.ice_manifest.specs.Adding.{is_partition_type, is_null_or_of, is_tuple_of, IsHeading, IsAmount, IsNewFile}
-use Rattle.ice_manifest.specs.Adding.{AreNewFiles}
+use Rattle.ice_manifest.specs.Adding.{AreNewFiles, MayReference}
 use Rattle.ice_manifest_reading.specs.Laws.{MayHold}
 use Rattle.ice_project.specs.Fields.{field_of}
 use Rattle.ice_project.specs.Summaries.{type_of_values}
@@ -35,7 +35,8 @@ use Rattle.ice_versions.specs.declared.tuples.Allowed.TheVariants.{Null, Value, 
 use Rattle.ice_versions.specs.Adding.{CanWrite, schema_text, types_of, heading_of, spec_or_none}
 use Rattle.ice_versions.specs.Bases.{table_specs, spec_in}
 use Rattle.ice_versions.specs.Groups.{id_before, spec_ids, is_of_spec, group_of, groups_of}
-use Rattle.ice_versions.specs.Refusals.{is_count, is_for, are_ids, may_name, is_good, is_bad, spec_id_of, is_unknown, is_wrong}
+use Rattle.ice_versions.specs.Refusals.{is_count, is_for, are_ids, may_name, is_good, is_bad, spec_id_of, is_unknown}
+use Rattle.ice_versions.specs.Refusals.{is_wrong}
 use Rattle.ice_versions.specs.Tuples.{allowed_of, allowed_of_type, allows, fit, fits_spec, written_type}
 
 -- ---- lists
@@ -147,6 +148,12 @@ few_ids : (c : FileContent) (n : ℕ) → are_ids c n ≡ true → n ≤ 1000
 few_ids holds.Data n h = le_from n 1000 h
 few_ids holds.PositionDeletes n h = le_from n 1000 h
 few_ids holds.EqualityDeletes n h = le_from n 1000 (and_parts (nat_lt 0 n) (nat_le n 1000) h).1
+
+may_reference : (c : FileContent) (o : Option (List ℕ)) → may_name c o ≡ true → IfSome o (MayReference c)
+may_reference c None h = tt
+may_reference holds.Data (Some path) h = absurd cc
+may_reference holds.PositionDeletes (Some path) h = (refl, le_from (length path) 65535 h)
+may_reference holds.EqualityDeletes (Some path) h = absurd cc
 
 -- ---- partition values
 
@@ -279,6 +286,7 @@ new_file m ids content specs id spec is f h =
       tuple = tuple_fits (map allowed_of spec.fields) f.tuple (writable_fields spec) fits;
       record_count = amount f.record_count good.0;
       equality_ids = few_ids f.content (length f.equality_ids) ids.0;
+      referenced = may_reference f.content f.referenced ids.1;
     }
 
 pub all_both : {A : Type 0} (P Q : A → Type 0) (xs : List A) → AllByRecursion P xs → AllByRecursion Q xs
