@@ -1,6 +1,8 @@
 -- Files whose objects say the same in the fields that are read give the same.
 use Rattle.std.proofs.Common.{◌≡◌, ℕ, ℤ, pos, ◌+◌, List, [], ◌∷◌, Option, Some, None, Result, Ok, Err, refl, sym, ap}
-use Rattle.std.proofs.Common.{◌∙◌}
+use Rattle.std.proofs.Common.{◌∙◌, Bool, true, false, cond}
+use Rattle.std.specs.Ordering.{int_eq}
+use Rattle.std.proofs.lemmas.Bool.Decides.{Decides-int_eq}
 use Rattle.std.specs.List.{enumerate_from}
 use Rattle.contract_words.specs.Outcome.{◌>>=◌}
 use Rattle.avro_schema.specs.Tree.{structure, Fields}
@@ -9,17 +11,22 @@ use Rattle.avro_file.specs.Picking.{Typed, pick}
 use Rattle.ice_meta.specs.declared.spec.Spec.{Spec}
 use Rattle.ice_meta.specs.declared.spec.PartitionField.{PartitionField}
 use Rattle.ice_value.specs.declared.file_bounds.FileBounds.{FileBounds}
+use Rattle.ice_value.specs.declared.file_content.FileContent.{FileContent}
+use Rattle.ice_value.specs.declared.file_content.FileContent.TheVariants as holds
 use Rattle.ice_manifest_reading.specs.declared.fault.FieldFault.{FieldFault}
+use Rattle.ice_manifest_reading.specs.declared.fault.FieldFault.TheVariants.{BadContent}
 use Rattle.ice_manifest_reading.specs.declared.fault.ManifestFault.{ManifestFault}
 use Rattle.ice_manifest_reading.specs.declared.row.Row.{Row}
 use Rattle.ice_manifest_reading.specs.declared.row.ManifestContent.{ManifestContent}
+use Rattle.ice_manifest_reading.specs.declared.row.ManifestContent.TheVariants.{Data, Deletes}
 use Rattle.ice_manifest_reading.specs.declared.data_file.DataFile.{DataFile}
 use Rattle.ice_manifest_reading.specs.declared.entry.Live.{Live}
 use Rattle.ice_manifest_reading.specs.declared.status.Status.{Status}
 use Rattle.ice_manifest_reading.specs.Each.{each}
 use Rattle.ice_manifest_reading.specs.Naming.{in_list, in_manifest, told, ended}
-use Rattle.ice_manifest_reading.specs.Fields.{at, there, asked, record_of, items_of, int_at, number_at, path_at}
-use Rattle.ice_manifest_reading.specs.Fields.{ints_at, optional_int, optional_number}
+use Rattle.ice_manifest_reading.specs.Fields.{at, there, asked, record_of, items_of, int_at, path_at}
+use Rattle.ice_manifest_reading.specs.Fields.{ints_at, int_or_zero, optional_int, optional_number, optional_text}
+use Rattle.ice_manifest_reading.specs.Fields.{optional_path}
 use Rattle.ice_manifest_reading.specs.Partitions.{cells_of, tuple_at}
 use Rattle.ice_manifest_reading.specs.declared.columns.ColumnMap.{ColumnMap}
 use Rattle.ice_manifest_reading.specs.ColumnMaps.{value_counts, null_value_counts, lower_bounds, upper_bounds}
@@ -29,10 +36,11 @@ use Rattle.ice_manifest_reading.specs.Lists as Lists
 use Rattle.ice_manifest_reading.specs.Lists.{counts_at, summary_in, summary_of, summaries_in, row_of, says_row, checked}
 use Rattle.ice_manifest_reading.specs.Lists.{in_order}
 use Rattle.ice_manifest_reading.specs.Manifests.{content_at, file_of, status_at, sequence_at, file_sequence_at, live_at}
-use Rattle.ice_manifest_reading.specs.Manifests.{unless_deleted, entry_of, says_entry, kept}
+use Rattle.ice_manifest_reading.specs.Manifests.{content_of, referenced_at, unless_deleted, entry_of, says_entry, kept}
 use Rattle.ice_manifest_reading.specs.Same.{SameFile, SameCells, SameTuple, SameCount, SameBound, SameMap, BothSame}
 use Rattle.ice_manifest_reading.specs.Same.{SameEntry, EachSame, SkipsOtherFieldsOfEntries, SameSummary, SameItems}
 use Rattle.ice_manifest_reading.specs.Same.{SameList, SameRow, SkipsOtherFieldsOfRows}
+use Rattle.ice_manifest_reading.proofs.Guards.{went_on}
 use Rattle.ice_manifest_reading.proofs.Said.{live_made}
 use Rattle.ice_manifest_reading.proofs.Told.{opened_list, opened_manifest}
 
@@ -98,6 +106,51 @@ columns_alike ps x y s =
       bounds_alike upper_bounds x y s.upper_bounds,
     ) refl
 
+-- the same, of what the step gives
+then_alike_at : {A B E : Type 0} (r : Result A E) (f g : A → Result B E) → ((a : A) → r ≡ Ok a → f a ≡ g a)
+    → (r >>= f) ≡ (r >>= g)
+then_alike_at {A} {B} {E} (Ok a) f g h = h a refl
+then_alike_at {A} {B} {E} (Err e) f g h = refl
+
+content_alike : (of_row : ManifestContent) (ps : List PartitionField) (x y : Typed) → SameFile ps x y
+    → content_at of_row x ≡ content_at of_row y
+unfolding content_at
+content_alike of_row ps x y s = rw (s.content) refl
+
+abbrev held : FileContent → Result FileContent FieldFault
+held c = Ok c
+
+no_positions : (b : Bool) → cond b (held holds.Data) (Err BadContent) ≡ held holds.PositionDeletes → ⊥
+no_positions true h = cc
+no_positions false h = cc
+
+one_positions : (z : ℤ) (b c : Bool) → int_eq z (pos 1) ≡ b
+    → cond b (held holds.PositionDeletes) (cond c (held holds.EqualityDeletes) (Err BadContent))
+    ≡ held holds.PositionDeletes → z ≡ pos 1
+one_positions z true c one h = (Decides-int_eq z (pos 1)).0 one
+one_positions z false true one h = absurd cc
+one_positions z false false one h = absurd cc
+
+-- only 1 says position deletes
+code_is_one : (of_row : ManifestContent) (z : ℤ) → content_of of_row z ≡ Ok holds.PositionDeletes → z ≡ pos 1
+code_is_one Data z h = absurd (no_positions (int_eq z (pos 0)) h)
+code_is_one Deletes z h = one_positions z (int_eq z (pos 1)) (int_eq z (pos 2)) refl h
+
+told_positions : (of_row : ManifestContent) (x : Typed) → content_at of_row x ≡ Ok holds.PositionDeletes
+    → int_or_zero (pos 134) x ≡ Ok (pos 1)
+unfolding content_at
+told_positions of_row x h =
+    let code = went_on (int_or_zero (pos 134) x) (content_of of_row) holds.PositionDeletes h in
+    code.1 ∙ ap Ok (code_is_one of_row code.0 code.2)
+
+referenced_alike : (content : FileContent) (x y : Typed)
+    → (content ≡ holds.PositionDeletes → optional_text (pos 143) x ≡ optional_text (pos 143) y)
+    → referenced_at content x ≡ referenced_at content y
+unfolding referenced_at optional_path
+referenced_alike holds.Data x y same = refl
+referenced_alike holds.PositionDeletes x y same = rw (same refl) refl
+referenced_alike holds.EqualityDeletes x y same = refl
+
 cells_alike : (ps : List PartitionField) (x y : Typed) → SameCells ps x y → cells_of ps x ≡ cells_of ps y
 cells_alike [] x y s = refl
 cells_alike (p ∷ ps) x y s = rw (s.0, cells_alike ps x y s.1) refl
@@ -117,16 +170,20 @@ tuple_alike (p ∷ ps) x y s = record_alike (p ∷ ps) (record_of (there (at (po
 
 file_alike : (of_row : ManifestContent) (ps : List PartitionField) (x y : Typed) → SameFile ps x y
     → file_of of_row ps x ≡ file_of of_row ps y
-unfolding file_of content_at int_at path_at ints_at
-file_alike of_row ps x y s = rw (
-  s.content,
-  s.path,
-  tuple_alike ps x y s.tuple,
-  s.record_count,
-  s.file_size,
-  columns_alike ps x y s,
-  s.equality_ids,
-) refl
+unfolding file_of path_at ints_at
+file_alike of_row ps x y s =
+    rw (content_alike of_row ps x y s)
+    (then_alike_at (content_at of_row y) _ _ (λ content is.
+    rw (
+      s.path,
+      tuple_alike ps x y s.tuple,
+      s.record_count,
+      s.file_size,
+      columns_alike ps x y s,
+      s.equality_ids,
+      referenced_alike content x y (λ deletes. s.referenced
+          (told_positions of_row x (content_alike of_row ps x y s ∙ is ∙ ap Ok deletes))),
+    ) refl))
 
 inner_alike : (of_row : ManifestContent) (ps : List PartitionField) (a b : Option Typed) (made : DataFile × FileBounds
     → Live) → BothSame (SameFile ps) a b
@@ -209,7 +266,7 @@ partitions_alike None (Some y) s = absurd s
 partitions_alike (Some x) None s = absurd s
 
 row_alike : (x y : Typed) → SameRow x y → row_of x ≡ row_of y
-unfolding row_of path_at int_at Lists.content_at number_at counts_at optional_int
+unfolding row_of path_at int_at Lists.content_at counts_at optional_int
 row_alike x y s =
     rw (
       s.path,

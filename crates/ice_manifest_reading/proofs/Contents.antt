@@ -1,6 +1,6 @@
 -- What the files of entries hold fits their row, and entries are of its spec.
 use Rattle.std.proofs.Common.{◌≡◌, ◌⊎◌, inl, inr, ℕ, suc, ℤ, pos, ◌+◌, cond, List, [], ◌∷◌, length, map, Option, Some}
-use Rattle.std.proofs.Common.{None, Ok, Err, refl, sym, ap, subst}
+use Rattle.std.proofs.Common.{None, Ok, Err, refl, sym, ap, subst, ◌∙◌}
 use Rattle.std.specs.Ordering.{int_eq}
 use Rattle.std.specs.List.{Contains, AllByRecursion}
 use Rattle.avro_schema.specs.Tree.{Fields}
@@ -16,10 +16,12 @@ use Rattle.ice_manifest_reading.specs.declared.row.ManifestContent.TheVariants.{
 use Rattle.ice_manifest_reading.specs.declared.entry.Live.{Live}
 use Rattle.ice_value.specs.declared.cell.Cell.{Cell}
 use Rattle.ice_meta.specs.declared.spec.PartitionField.{PartitionField}
-use Rattle.ice_manifest_reading.specs.Fields.{int_at, record_at}
+use Rattle.ice_manifest_reading.specs.Fields.{int_or_zero, record_at}
 use Rattle.ice_manifest_reading.specs.Partitions.{cell_at, cells_of, tuple_at}
-use Rattle.ice_manifest_reading.specs.Manifests.{content_of, content_at, kept, live_of, entries, entries_of}
+use Rattle.ice_manifest_reading.specs.Manifests.{content_of, content_at, referenced_at, kept, live_of, entries}
+use Rattle.ice_manifest_reading.specs.Manifests.{entries_of}
 use Rattle.ice_manifest_reading.specs.Laws.{SayEntries, MayHold, FitsItsRow, IsOfSpec, AreOfTheirSpec, HasACellForEach}
+use Rattle.ice_manifest_reading.specs.Laws.{IsOfDeletesWhereReferenced}
 use Rattle.ice_manifest_reading.proofs.Guards.{passed, ok_is, either, went_on}
 use Rattle.ice_manifest_reading.proofs.Sets.{nowhere, cases_of}
 use Rattle.ice_manifest_reading.proofs.Whole.{reads_entries_exactly}
@@ -42,7 +44,7 @@ content_fits Deletes z c h =
 
 said_fits : (of_row : ManifestContent) (x : Typed) (c : FileContent) → content_at of_row x ≡ Ok c → MayHold of_row c
 unfolding content_at
-said_fits of_row x c h = let code = went_on (int_at (pos 134) x) _ c h in content_fits of_row code.0 c code.2
+said_fits of_row x c h = let code = went_on (int_or_zero (pos 134) x) _ c h in content_fits of_row code.0 c code.2
 
 entries_fit : (row : Row) (spec : Spec) (fs : Fields) (k : ℕ) (vs : List Value) (read : List (Option Live))
     → SayEntries row spec fs k vs read → (l : Live) → Contains (kept read) l → MayHold row.content l.entry.file.content
@@ -62,6 +64,40 @@ fits_its_row row spec bytes found l h i =
     let g = (reads_entries_exactly row spec bytes found).0 h in
     let P : List Live → Type 0 = λ ls. Contains ls l in
     entries_fit row spec g.0 0 g.1 g.2 g.4 l (subst P g.5 i)
+
+-- ---- what position deletes are about
+
+no_path : (path : List ℕ) → None ≡ Some path → ⊥
+no_path path h = cc
+
+only_positions : (c : FileContent) (x : Typed) (r : Option (List ℕ)) (path : List ℕ) → referenced_at c x ≡ Ok r
+    → r ≡ Some path → c ≡ holds.PositionDeletes
+unfolding referenced_at
+only_positions holds.Data x r path h some = absurd (no_path path (ok_is None r h ∙ some))
+only_positions holds.PositionDeletes x r path h some = refl
+only_positions holds.EqualityDeletes x r path h some = absurd (no_path path (ok_is None r h ∙ some))
+
+entries_referring : (row : Row) (spec : Spec) (fs : Fields) (k : ℕ) (vs : List Value) (read : List (Option Live))
+    → SayEntries row spec fs k vs read → (l : Live) (path : List ℕ) → Contains (kept read) l
+    → l.entry.file.referenced ≡ Some path → l.entry.file.content ≡ holds.PositionDeletes
+entries_referring row spec fs k [] [] said l path i = absurd (nowhere l i)
+entries_referring row spec fs k [] (e ∷ read) said l path i = absurd said
+entries_referring row spec fs k (v ∷ vs) [] said l path i = absurd said
+entries_referring row spec fs k (v ∷ vs) (None ∷ read) said l path i =
+    entries_referring row spec fs (k + 1) vs read said.1 l path i
+entries_referring row spec fs k (v ∷ vs) (Some m ∷ read) said l path i =
+    let P : Live → Type 0 = λ n. n.entry.file.referenced ≡ Some path → n.entry.file.content ≡ holds.PositionDeletes in
+    elim (cases_of m (kept read) l i) as (λ _. P l) [
+      | inl e ↦ subst P e (only_positions m.entry.file.content said.0.inner m.entry.file.referenced path
+          said.0.file.referenced)
+      | inr j ↦ entries_referring row spec fs (k + 1) vs read said.1 l path j
+    ]
+
+pub is_of_deletes_where_referenced : IsOfDeletesWhereReferenced
+is_of_deletes_where_referenced row spec bytes found l path h i =
+    let g = (reads_entries_exactly row spec bytes found).0 h in
+    let P : List Live → Type 0 = λ ls. Contains ls l in
+    entries_referring row spec g.0 0 g.1 g.2 g.4 l path (subst P g.5 i)
 
 -- ---- the spec of entries
 

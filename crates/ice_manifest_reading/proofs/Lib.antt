@@ -8,6 +8,7 @@ pub mod OneSpelling
 pub mod Rising
 pub mod Sets
 pub mod Said
+pub mod Absent
 pub mod Told
 pub mod Alike
 pub mod Whole

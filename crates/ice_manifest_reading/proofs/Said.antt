@@ -26,7 +26,7 @@ use Rattle.ice_manifest_reading.specs.declared.status.Status.{Status}
 use Rattle.ice_manifest_reading.specs.declared.status.Status.TheVariants.{Existing, Added, Deleted}
 use Rattle.ice_manifest_reading.specs.Each.{each}
 use Rattle.ice_manifest_reading.specs.Naming.{in_list, in_manifest, told}
-use Rattle.ice_manifest_reading.specs.Fields.{at, there, long_at, int_at, number_at, path_at, record_at, ints_at}
+use Rattle.ice_manifest_reading.specs.Fields.{at, there, long_at, int_at, number_or_zero, path_at, record_at, ints_at}
 use Rattle.ice_manifest_reading.specs.Partitions.{tuple_at}
 use Rattle.ice_manifest_reading.specs.ColumnMaps.{value_counts, null_value_counts, lower_bounds, upper_bounds}
 use Rattle.ice_manifest_reading.specs.Maps as Maps
@@ -35,7 +35,7 @@ use Rattle.ice_manifest_reading.specs.Lists as Lists
 use Rattle.ice_manifest_reading.specs.Lists.{row_of, counts_at, summaries_in, says_row}
 use Rattle.ice_manifest_reading.specs.Manifests.{content_at, file_of, status_at, snapshot_at, inherited, file_inherited}
 use Rattle.ice_manifest_reading.specs.Manifests.{sequence_at, file_sequence_at, live_at, unless_deleted, entry_of}
-use Rattle.ice_manifest_reading.specs.Manifests.{says_entry}
+use Rattle.ice_manifest_reading.specs.Manifests.{referenced_at, says_entry}
 use Rattle.ice_manifest_reading.specs.Laws.{SaysRow, SaysFile, SaysLive, SaysEntry, SayRows, SayEntries, KeepsItsNumber}
 use Rattle.ice_manifest_reading.specs.Laws.{InheritsTheRows, NeedsItsOwn, KeepsItsFileNumber, InheritsTheRowsForItsFile}
 use Rattle.ice_manifest_reading.specs.Laws.{HasNoFileNumber, KeepsItsSnapshot, InheritsItsSnapshot}
@@ -65,8 +65,8 @@ row_said x r h =
     let length = went_on (long_at (pos 501) x) _ r path.2 in
     let spec = went_on (int_at (pos 502) x) _ r length.2 in
     let content = went_on (Lists.content_at x) _ r spec.2 in
-    let sequence = went_on (number_at (pos 515) x) _ r content.2 in
-    let least = went_on (number_at (pos 516) x) _ r sequence.2 in
+    let sequence = went_on (number_or_zero (pos 515) x) _ r content.2 in
+    let least = went_on (number_or_zero (pos 516) x) _ r sequence.2 in
     let snapshot = went_on (long_at (pos 503) x) _ r least.2 in
     let counts = went_on (counts_at x) _ r snapshot.2 in
     let partitions = went_on (summaries_in (there (at (pos 507) x))) _ r counts.2 in
@@ -133,8 +133,8 @@ columns_said x b h =
 abbrev Said : Type 0
 Said = DataFile × FileBounds
 
-abbrev file_made : FileContent → List ℕ → List Cell → ℤ → ℤ → List ℤ → FileBounds → Said
-file_made content path tuple count size ids columns = (
+abbrev file_made : FileContent → List ℕ → List Cell → ℤ → ℤ → List ℤ → Option (List ℕ) → FileBounds → Said
+file_made content path tuple count size ids referenced columns = (
   record {
     content = content;
     path = path;
@@ -142,6 +142,7 @@ file_made content path tuple count size ids columns = (
     record_count = count;
     file_size = size;
     equality_ids = ids;
+    referenced = referenced;
   },
   columns,
 )
@@ -157,7 +158,10 @@ file_said of_row ps x d h =
     let size = went_on (long_at (pos 104) x) _ d count.2 in
     let columns = went_on (columns_of x) _ d size.2 in
     let ids = went_on (ints_at (pos 135) (pos 136) x) _ d columns.2 in
-    let is : file_made content.0 path.0 tuple.0 count.0 size.0 ids.0 columns.0 ≡ d = ok_is _ d ids.2 in
+    let referenced = went_on (referenced_at content.0 x) _ d ids.2 in
+    let is : file_made content.0 path.0 tuple.0 count.0 size.0 ids.0 referenced.0 columns.0 ≡ d = ok_is _ d
+    referenced.2 in
+    let same : content.0 ≡ d.0.content = ap (λ (f : Said). f.0.content) is in
     let said = columns_said x d.1 (columns.1 ∙ ap (λ (f : Said). Ok f.1) is) in
     record {
       content = content.1 ∙ ap (λ (f : Said). Ok f.0.content) is;
@@ -170,6 +174,8 @@ file_said of_row ps x d h =
       lower_bounds = said.lower_bounds;
       upper_bounds = said.upper_bounds;
       equality_ids = ids.1 ∙ ap (λ (f : Said). Ok f.0.equality_ids) is;
+      referenced = sym (ap (λ (c : FileContent). referenced_at c x) same) ∙ referenced.1 ∙ ap
+          (λ (f : Said). Ok f.0.referenced) is;
     }
 
 columns_by : (of_row : ManifestContent) (ps : List PartitionField) (x : Typed) (d : DataFile) (b : FileBounds)
@@ -188,6 +194,7 @@ file_by of_row ps x d b m = rw (
   m.file_size,
   columns_by of_row ps x d b m,
   m.equality_ids,
+  m.referenced,
 ) refl
 
 -- ---- an entry

@@ -1,7 +1,7 @@
 -- What the fields of an object hold: fields are found by their ids, never by their names, and fields that no id asks
 -- for are skipped. Apache Iceberg table spec v2, "Column Projection", "Manifests" and "Appendix A: Avro".
 use Rattle.std.specs.Prelude.{ℕ, ℤ, pos, negsuc, ◌^◌, List, [], ◌∷◌, length, Bool, Option, Some, None, Result, Ok, Err}
-use Rattle.std.specs.Prelude.{nat_lt, nat_le, if◌then◌else◌}
+use Rattle.std.specs.Prelude.{nat_lt, nat_le, is_none, if◌then◌else◌}
 use Rattle.contract_words.specs.Outcome.{◌>>=◌}
 use Rattle.avro_schema.specs.Tree.{Tree, structure, array}
 use Rattle.avro_file.specs.Value.{truth, small, whole, text, run, fields, items, Values, no_values, value}
@@ -9,6 +9,7 @@ use Rattle.avro_file.specs.Picking.{Typed, Picked, absent, null_met, present, pi
 use Rattle.ice_manifest_reading.specs.declared.fault.FieldFault.{FieldFault}
 use Rattle.ice_manifest_reading.specs.declared.fault.FieldFault.TheVariants.{Missing, OutOfRange}
 use Rattle.ice_manifest_reading.specs.Each.{each}
+use Rattle.ice_manifest_reading.specs.Schemas.{fields_in, type_at}
 
 -- what stands at the field with this id of a record
 abbrev pub at : ℤ → Typed → Picked
@@ -91,6 +92,20 @@ truth_at id x = asked id (truth_of (there (at id x)))
 abbrev pub record_at : ℤ → Typed → Result Typed FieldFault
 record_at id x = asked id (record_of (there (at id x)))
 
+-- ---- what version 1 has no field for
+
+-- what is read of the field with this id; or 0, where the record has no such field. A field that is null is there.
+abbrev pub unless_absent : {A : Type 0} → A → (ℤ → Typed → Result A FieldFault) → ℤ → Typed → Result A FieldFault
+unless_absent zero read id x = if is_none (type_at id (fields_in x.0)) then Ok zero else read id x
+
+-- a whole number of 32 bits, 0 where there is no such field
+unfoldable pub int_or_zero : ℤ → Typed → Result ℤ FieldFault
+int_or_zero id x = unless_absent (pos 0) int_at id x
+
+-- a sequence number, 0 where there is no such field
+unfoldable pub number_or_zero : ℤ → Typed → Result ℕ FieldFault
+number_or_zero id x = unless_absent 0 number_at id x
+
 -- ---- what may be there
 
 abbrev pub optional_long : ℤ → Typed → Option ℤ
@@ -108,6 +123,13 @@ optional_number id x = if_there (not_negative id) (optional_long id x)
 
 abbrev pub optional_truth : ℤ → Typed → Option Bool
 optional_truth id x = truth_of (there (at id x))
+
+abbrev pub optional_text : ℤ → Typed → Option (List ℕ)
+optional_text id x = text_of (there (at id x))
+
+-- a path, of at most 65,535 bytes
+unfoldable pub optional_path : ℤ → Typed → Result (Option (List ℕ)) FieldFault
+optional_path id x = if_there (short_path id) (optional_text id x)
 
 abbrev pub optional_binary : ℤ → Typed → Option (List ℕ)
 optional_binary id x = binary_of (there (at id x))

@@ -33,14 +33,12 @@ use Rattle.ice_manifest_reading.specs.ColumnMaps.{value_counts, null_value_count
 use Rattle.ice_manifest_reading.specs.Maps as Maps
 use Rattle.ice_manifest_reading.specs.Maps.{bounds_at}
 use Rattle.ice_manifest_reading.specs.Schemas.{Fault, fields_in, row_fields, entry_fields}
-use Rattle.ice_manifest_reading.specs.Fields.{at, there, long_at, int_at, number_at, path_at, record_at, ints_at}
-use Rattle.ice_manifest_reading.specs.Fields.{optional_long}
-use Rattle.ice_manifest_reading.specs.Fields.{optional_number}
+use Rattle.ice_manifest_reading.specs.Fields.{at, there, long_at, int_at, number_or_zero, path_at, record_at, ints_at}
+use Rattle.ice_manifest_reading.specs.Fields.{optional_long, optional_number}
 use Rattle.ice_manifest_reading.specs.Lists as Lists
 use Rattle.ice_manifest_reading.specs.Lists.{row_of, counts_at, summaries_in, same_row, checked, in_order, rows_of}
 use Rattle.ice_manifest_reading.specs.Manifests.{content_at, status_at, snapshot_at, sequence_at, file_sequence_at}
-use Rattle.ice_manifest_reading.specs.Manifests.{kept}
-use Rattle.ice_manifest_reading.specs.Manifests.{live_of, entries_of}
+use Rattle.ice_manifest_reading.specs.Manifests.{referenced_at, kept, live_of, entries_of}
 
 -- ---- files by their objects
 
@@ -71,8 +69,8 @@ pub record SaysRow (x : Typed) (r : Row) : Type 0 where
   pub length : long_at (pos 501) x ≡ Ok r.length
   pub spec_id : int_at (pos 502) x ≡ Ok r.spec_id
   pub content : Lists.content_at x ≡ Ok r.content
-  pub sequence_number : number_at (pos 515) x ≡ Ok r.sequence_number
-  pub min_sequence_number : number_at (pos 516) x ≡ Ok r.min_sequence_number
+  pub sequence_number : number_or_zero (pos 515) x ≡ Ok r.sequence_number
+  pub min_sequence_number : number_or_zero (pos 516) x ≡ Ok r.min_sequence_number
   pub added_snapshot_id : long_at (pos 503) x ≡ Ok r.added_snapshot_id
   pub counts : counts_at x ≡ Ok r.counts
   pub partitions : summaries_in (there (at (pos 507) x)) ≡ Ok r.partitions
@@ -91,6 +89,7 @@ pub record SaysFile (of_row : ManifestContent) (ps : List PartitionField) (x : T
   pub lower_bounds : bounds_at lower_bounds x ≡ Ok b.lower_bounds
   pub upper_bounds : bounds_at upper_bounds x ≡ Ok b.upper_bounds
   pub equality_ids : ints_at (pos 135) (pos 136) x ≡ Ok d.equality_ids
+  pub referenced : referenced_at d.content x ≡ Ok d.referenced
 
 -- the object at a position of a manifest and its live entry, field by field
 pub record SaysLive (row : Row) (spec : Spec) (k : ℕ) (x : Typed) (l : Live) : Type 0 where
@@ -191,6 +190,12 @@ MayHold Deletes c = (c ≡ holds.PositionDeletes) ⊎ (c ≡ holds.EqualityDelet
 abbrev pub FitsItsRow : Type 0
 FitsItsRow = (row : Row) (spec : Spec) (bytes : List ℕ) (found : List Live) (l : Live)
     → live_of row spec bytes ≡ Ok found → Contains found l → MayHold row.content l.entry.file.content
+
+-- each entry that is given and names one data file that it is about holds position deletes
+abbrev pub IsOfDeletesWhereReferenced : Type 0
+IsOfDeletesWhereReferenced = (row : Row) (spec : Spec) (bytes : List ℕ) (found : List Live) (l : Live) (path : List ℕ)
+    → live_of row spec bytes ≡ Ok found → Contains found l → l.entry.file.referenced ≡ Some path
+    → l.entry.file.content ≡ holds.PositionDeletes
 
 -- each entry that is given has a partition value for each field of the spec
 abbrev pub HasACellForEach : Type 0

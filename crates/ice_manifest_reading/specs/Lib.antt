@@ -10,6 +10,7 @@ pub mod Maps
 pub mod Lists
 pub mod Manifests
 pub mod Laws
+pub mod Absent
 pub mod Faults
 pub mod Same
 pub mod Kinds

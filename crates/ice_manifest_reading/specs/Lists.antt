@@ -27,8 +27,8 @@ use Rattle.ice_manifest_reading.specs.declared.row.ManifestContent.TheVariants.{
 use Rattle.ice_manifest_reading.specs.Each.{each}
 use Rattle.ice_manifest_reading.specs.Naming.{in_list, contained, told, ended}
 use Rattle.ice_manifest_reading.specs.Schemas.{fields_in, row_fields}
-use Rattle.ice_manifest_reading.specs.Fields.{at, there, items_of, asked, record_of, long_at, int_at, number_at}
-use Rattle.ice_manifest_reading.specs.Fields.{path_at}
+use Rattle.ice_manifest_reading.specs.Fields.{at, there, items_of, asked, record_of, long_at, int_at, int_or_zero}
+use Rattle.ice_manifest_reading.specs.Fields.{number_or_zero, path_at}
 use Rattle.ice_manifest_reading.specs.Fields.{truth_at, optional_long, optional_int, optional_truth, optional_binary}
 
 -- ---- a row
@@ -38,7 +38,7 @@ abbrev pub row_content : ℤ → Result ManifestContent FieldFault
 row_content z = if int_eq z (pos 0) then Ok Data else (if int_eq z (pos 1) then Ok Deletes else Err BadContent)
 
 unfoldable pub content_at : Typed → Result ManifestContent FieldFault
-content_at x = int_at (pos 517) x >>= row_content
+content_at x = int_or_zero (pos 517) x >>= row_content
 
 -- the counts of a row; null is none
 unfoldable pub counts_at : Typed → Result Counts FieldFault
@@ -81,8 +81,8 @@ row_of x = do
   length ← long_at (pos 501) x
   spec ← int_at (pos 502) x
   content ← content_at x
-  sequence ← number_at (pos 515) x
-  least ← number_at (pos 516) x
+  sequence ← number_or_zero (pos 515) x
+  least ← number_or_zero (pos 516) x
   snapshot ← long_at (pos 503) x
   counts ← counts_at x
   partitions ← summaries_in (there (at (pos 507) x))

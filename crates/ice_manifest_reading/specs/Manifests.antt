@@ -33,8 +33,8 @@ use Rattle.ice_manifest_reading.specs.Naming.{in_manifest, contained, told, ende
 use Rattle.ice_manifest_reading.specs.Partitions.{tuple_at}
 use Rattle.ice_manifest_reading.specs.Maps.{columns_of}
 use Rattle.ice_manifest_reading.specs.Schemas.{fields_in, entry_fields}
-use Rattle.ice_manifest_reading.specs.Fields.{long_at, int_at, path_at, record_at, ints_at, optional_long}
-use Rattle.ice_manifest_reading.specs.Fields.{optional_number}
+use Rattle.ice_manifest_reading.specs.Fields.{long_at, int_at, int_or_zero, path_at, record_at, ints_at}
+use Rattle.ice_manifest_reading.specs.Fields.{optional_long, optional_number, optional_path}
 
 -- ---- a data file
 
@@ -47,7 +47,12 @@ content_of Deletes z =
     )
 
 unfoldable pub content_at : ManifestContent → Typed → Result FileContent FieldFault
-content_at of_row x = int_at (pos 134) x >>= content_of of_row
+content_at of_row x = int_or_zero (pos 134) x >>= content_of of_row
+
+-- the one data file that position deletes are about, where they name one; other files are about none, whatever they say
+unfoldable pub referenced_at : FileContent → Typed → Result (Option (List ℕ)) FieldFault
+referenced_at holds.PositionDeletes x = optional_path (pos 143) x
+referenced_at content x = Ok None
 
 -- the file that a record says, in a manifest of this content whose spec has these partition fields, and what it says of
 -- the file's columns
@@ -60,6 +65,7 @@ file_of of_row ps x = do
   size ← long_at (pos 104) x
   columns ← columns_of x
   ids ← ints_at (pos 135) (pos 136) x
+  referenced ← referenced_at content x
   Ok (
     record {
       content = content;
@@ -68,6 +74,7 @@ file_of of_row ps x = do
       record_count = count;
       file_size = size;
       equality_ids = ids;
+      referenced = referenced;
     },
     columns,
   )

@@ -1,6 +1,6 @@
 -- What is read of a file is what its fields with the ids of this crate say, whatever else it holds: other fields,
 -- names, documentation, and how its objects lie in blocks. Apache Iceberg table spec v2, "Column Projection".
-use Rattle.std.specs.Prelude.{◌≡◌, ℕ, pos, List, [], ◌∷◌, Option, Some, None}
+use Rattle.std.specs.Prelude.{◌≡◌, ℕ, pos, List, [], ◌∷◌, Option, Some, None, Ok}
 use Rattle.std.specs.List.{AllByRecursion}
 use Rattle.avro_schema.specs.Tree.{structure, Fields}
 use Rattle.avro_file.specs.declared.fault.AvroFault.{AvroFault}
@@ -12,7 +12,7 @@ use Rattle.ice_manifest_reading.specs.declared.row.Row.{Row}
 use Rattle.ice_manifest_reading.specs.declared.columns.ColumnMap.{ColumnMap}
 use Rattle.ice_manifest_reading.specs.ColumnMaps.{value_counts, null_value_counts, lower_bounds, upper_bounds}
 use Rattle.ice_manifest_reading.specs.Fields.{at, there, text_of, record_of, items_of, optional_long, optional_truth}
-use Rattle.ice_manifest_reading.specs.Fields.{optional_binary}
+use Rattle.ice_manifest_reading.specs.Fields.{optional_binary, optional_text, int_or_zero, number_or_zero}
 use Rattle.ice_manifest_reading.specs.Partitions.{cell_at}
 use Rattle.ice_manifest_reading.specs.Lists.{rows_of}
 use Rattle.ice_manifest_reading.specs.Manifests.{live_of}
@@ -56,7 +56,7 @@ SameMap Same m x y = SameItems (Same m) (items_of (there (at m.id x))) (items_of
 
 -- records that say the same in each field of a data file that is read, of a spec with these partition fields
 pub record SameFile (ps : List PartitionField) (x y : Typed) : Type 0 where
-  pub content : optional_long (pos 134) x ≡ optional_long (pos 134) y
+  pub content : int_or_zero (pos 134) x ≡ int_or_zero (pos 134) y
   pub path : text_of (there (at (pos 100) x)) ≡ text_of (there (at (pos 100) y))
   pub tuple : SameTuple ps x y
   pub record_count : optional_long (pos 103) x ≡ optional_long (pos 103) y
@@ -66,6 +66,8 @@ pub record SameFile (ps : List PartitionField) (x y : Typed) : Type 0 where
   pub lower_bounds : SameMap SameBound lower_bounds x y
   pub upper_bounds : SameMap SameBound upper_bounds x y
   pub equality_ids : items_of (there (at (pos 135) x)) ≡ items_of (there (at (pos 135) y))
+  -- which data file it is about is read of position deletes alone
+  pub referenced : int_or_zero (pos 134) x ≡ Ok (pos 1) → optional_text (pos 143) x ≡ optional_text (pos 143) y
 
 -- objects that say the same in each field of an entry that is read, of a spec with these partition fields
 pub record SameEntry (ps : List PartitionField) (x y : Typed) : Type 0 where
@@ -106,9 +108,9 @@ pub record SameRow (x y : Typed) : Type 0 where
   pub path : text_of (there (at (pos 500) x)) ≡ text_of (there (at (pos 500) y))
   pub length : optional_long (pos 501) x ≡ optional_long (pos 501) y
   pub spec_id : optional_long (pos 502) x ≡ optional_long (pos 502) y
-  pub content : optional_long (pos 517) x ≡ optional_long (pos 517) y
-  pub sequence_number : optional_long (pos 515) x ≡ optional_long (pos 515) y
-  pub min_sequence_number : optional_long (pos 516) x ≡ optional_long (pos 516) y
+  pub content : int_or_zero (pos 517) x ≡ int_or_zero (pos 517) y
+  pub sequence_number : number_or_zero (pos 515) x ≡ number_or_zero (pos 515) y
+  pub min_sequence_number : number_or_zero (pos 516) x ≡ number_or_zero (pos 516) y
   pub added_snapshot_id : optional_long (pos 503) x ≡ optional_long (pos 503) y
   pub added_files : optional_long (pos 504) x ≡ optional_long (pos 504) y
   pub existing_files : optional_long (pos 505) x ≡ optional_long (pos 505) y

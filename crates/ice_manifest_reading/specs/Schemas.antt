@@ -106,15 +106,15 @@ count_fields fs = do
   deleted_rows ← optional is_whole (pos 514) fs
   Ok tt
 
--- a manifest list's row
+-- a manifest list's row; one of version 1 has no field for its content and its numbers
 unfoldable pub row_fields : Fields → Fault
 row_fields fs = do
   path ← required is_text (pos 500) fs
   length ← required is_whole (pos 501) fs
   spec ← required is_whole (pos 502) fs
-  content ← required is_whole (pos 517) fs
-  sequence ← required is_whole (pos 515) fs
-  least ← required is_whole (pos 516) fs
+  content ← optional is_whole (pos 517) fs
+  sequence ← optional is_whole (pos 515) fs
+  least ← optional is_whole (pos 516) fs
   snapshot ← required is_whole (pos 503) fs
   counts ← count_fields fs
   partitions ← optional is_list (pos 507) fs
@@ -186,16 +186,18 @@ column_fields fs = do
 unfoldable pub ids_fit : Fields → Fault
 ids_fit fs = optional is_list (pos 135) fs >>= inside lists_wholes
 
--- a data file, of a spec that has these partition fields; their types come last
+-- a data file, of a spec that has these partition fields; their types come last. One of version 1 has no field for its
+-- content.
 unfoldable pub file_fields : List PartitionField → Fields → Fault
 file_fields ps fs = do
-  content ← required is_whole (pos 134) fs
+  content ← optional is_whole (pos 134) fs
   path ← required is_text (pos 100) fs
   tuple ← tuple_in ps fs
   count ← required is_whole (pos 103) fs
   size ← required is_whole (pos 104) fs
   columns ← column_fields fs
   ids ← ids_fit fs
+  referenced ← optional is_text (pos 143) fs
   inside (is_tuple ps) tuple
 
 abbrev pub is_file : List PartitionField → Tree → Fault

@@ -1,6 +1,7 @@
 //! The file that a manifest entry is about.
 
 ghost use Rattle.std.specs.Prelude.{◌≡◌, IfOk};
+ghost use Rattle.std.specs.Option.{option_copied};
 
 use contract_words::Items;
 use ice_value::{Cell, FileContent};
@@ -20,6 +21,8 @@ pub struct DataFile {
     /// In bytes, as the manifest says; any number.
     pub file_size: i64,
     pub equality_ids: Items<i32>,
+    /// The path of the one data file that a position delete file is about, where it names one. Other files have none.
+    pub referenced: Option<Items<u8>>,
 }
 
 impl DataFile {
@@ -34,11 +37,36 @@ impl DataFile {
             record_count: self.record_count,
             file_size: self.file_size,
             equality_ids: self.equality_ids.copy(alloc)?,
+            referenced: copied(alloc, &self.referenced)?,
         })
     }
 }
 
-/// A file whose path lies in the manifest still.
+fn copied(alloc: Global, path: &Option<Items<u8>>) -> Result<Option<Items<u8>>, AllocError>
+    ensures { IfOk result (λ copied. copied ≡ path.now) }
+{
+    match path {
+        Some(path) => Ok(Some(path.copy(alloc)?)),
+        None => Ok(None),
+    }
+}
+
+fn bytes_of(alloc: Global, path: &str) -> Result<Items<u8>, AllocError>
+    ensures { IfOk result (λ bytes. bytes ≡ path.now) }
+{
+    Ok(Items::from_vec(path.as_bytes().to_vec(alloc)?))
+}
+
+fn bytes_if_some(alloc: Global, path: Option<&str>) -> Result<Option<Items<u8>>, AllocError>
+    ensures { IfOk result (λ bytes. bytes ≡ option_copied path.entry) }
+{
+    match path {
+        Some(path) => Ok(Some(bytes_of(alloc, path)?)),
+        None => Ok(None),
+    }
+}
+
+/// A file whose paths lie in the manifest still.
 #[derive(Debug, Drop)]
 pub(crate) struct FileView<'a> {
     pub(crate) content: FileContent,
@@ -47,9 +75,11 @@ pub(crate) struct FileView<'a> {
     pub(crate) record_count: i64,
     pub(crate) file_size: i64,
     pub(crate) equality_ids: Items<i32>,
+    pub(crate) referenced: Option<&'a str>,
 }
 
 impl<'a> Model for FileView<'a> {
+    ghost use Rattle.std.specs.Option.{option_copied};
     ghost use Rattle.ice_manifest_reading.specs.declared.data_file.DataFile.{DataFile};
 
     ghost Value = { DataFile };
@@ -61,6 +91,7 @@ impl<'a> Model for FileView<'a> {
       record_count = f.record_count;
       file_size = f.file_size;
       equality_ids = f.equality_ids;
+      referenced = option_copied f.referenced;
     } };
 }
 
@@ -77,7 +108,7 @@ impl<'a> FileView<'a> {
         self.tuple.as_slice()
     }
 
-    /// The file, with a copy of the path.
+    /// The file, with copies of the paths.
     pub(crate) fn owned(self, alloc: Global) -> Result<DataFile, AllocError>
         ensures { IfOk result (λ file. file ≡ self.entry) }
     {
@@ -88,14 +119,16 @@ impl<'a> FileView<'a> {
             record_count,
             file_size,
             equality_ids,
+            referenced,
         } = self;
         Ok(DataFile {
             content,
-            path: Items::from_vec(path.as_bytes().to_vec(alloc)?),
+            path: bytes_of(alloc, path)?,
             tuple,
             record_count,
             file_size,
             equality_ids,
+            referenced: bytes_if_some(alloc, referenced)?,
         })
     }
 }

@@ -40,7 +40,7 @@ impl Entry {
     }
 }
 
-/// An entry of whose file the path lies in the manifest still.
+/// An entry of whose file the paths lie in the manifest still.
 #[derive(Debug, Drop)]
 pub struct EntryView<'a> {
     pub(crate) position: u64,
@@ -83,7 +83,7 @@ impl<'a> EntryView<'a> {
         self.file.tuple()
     }
 
-    /// The entry, with a copy of the path.
+    /// The entry, with copies of the paths.
     pub(crate) fn owned(self, alloc: Global) -> Result<Entry, AllocError>
         ensures { IfOk result (λ entry. entry ≡ self.entry) }
     {

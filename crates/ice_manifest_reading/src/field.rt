@@ -12,14 +12,17 @@ ghost use Rattle.ice_manifest_reading.specs.Fields.{asked, whole_of as whole_val
 ghost use Rattle.ice_manifest_reading.specs.Fields.{binary_of as binary_value, items_of as items_value, there, at};
 ghost use Rattle.ice_manifest_reading.specs.Fields.{long_at as long_said, int_at as int_said, number_at as number_said};
 ghost use Rattle.ice_manifest_reading.specs.Fields.{path_at as path_said, truth_at as truth_said};
+ghost use Rattle.ice_manifest_reading.specs.Fields.{int_or_zero as int_or_zero_said, number_or_zero as number_or_zero_said};
 ghost use Rattle.ice_manifest_reading.specs.Fields.{optional_long as long_if_there, optional_int as int_if_there};
 ghost use Rattle.ice_manifest_reading.specs.Fields.{optional_number as number_if_there, optional_truth as truth_if_there};
-ghost use Rattle.ice_manifest_reading.specs.Fields.{optional_binary as binary_if_there, int_item as int_of_item};
+ghost use Rattle.ice_manifest_reading.specs.Fields.{optional_binary as binary_if_there, optional_path as path_if_there};
+ghost use Rattle.ice_manifest_reading.specs.Fields.{int_item as int_of_item};
 ghost use Rattle.ice_manifest_reading.specs.Fields.{ints_at as ints_said, within_32 as within, not_negative as natural};
 ghost use Rattle.ice_manifest_reading.specs.Seen.{result_map, object, pairs_in, listed};
 
 use crate::fault::{FieldFault, ManifestFault};
 use crate::pick::{itself, pick};
+use crate::shape::type_at;
 use avro_file::Datum;
 use avro_schema::{Field, Schema};
 use contract_words::Items;
@@ -92,10 +95,36 @@ pub fn optional_int(fields: &[Field], values: &[Datum], id: i32) -> Result<Optio
 
 /// A sequence number.
 #[tactic(auto, unfolding(crate::specs::Fields::number_at))]
-pub fn number_at(fields: &[Field], values: &[Datum], id: i32) -> Result<SequenceNumber, FieldFault>
+fn number_at(fields: &[Field], values: &[Datum], id: i32) -> Result<SequenceNumber, FieldFault>
     ensures { result ≡ number_said id (object fields.now values.now) }
 {
     not_negative(long_at(fields, values, id)?, id)
+}
+
+/// A whole number of 32 bits; 0 where there is no such field.
+#[tactic(auto, unfolding(crate::specs::Fields::int_or_zero))]
+pub fn int_or_zero(fields: &[Field], values: &[Datum], id: i32) -> Result<i32, FieldFault>
+    ensures { result ≡ int_or_zero_said id (object fields.now values.now) }
+{
+    if type_at(fields, id).is_none() {
+        return Ok(0);
+    }
+    int_at(fields, values, id)
+}
+
+/// A sequence number; 0 where there is no such field.
+#[tactic(auto, unfolding(crate::specs::Fields::number_or_zero))]
+pub fn number_or_zero(
+    fields: &[Field],
+    values: &[Datum],
+    id: i32,
+) -> Result<SequenceNumber, FieldFault>
+    ensures { result ≡ number_or_zero_said id (object fields.now values.now) }
+{
+    if type_at(fields, id).is_none() {
+        return Ok(SequenceNumber::zero());
+    }
+    number_at(fields, values, id)
 }
 
 /// A sequence number; none where it is absent or null.
@@ -172,6 +201,25 @@ pub fn path_at<'a, 'd>(
     };
     if text.len() <= 65535 {
         Ok(text)
+    } else {
+        Err(FieldFault::OutOfRange(id))
+    }
+}
+
+/// A path of at most 65,535 bytes; none where it is absent or null.
+#[tactic(auto, unfolding(crate::specs::Fields::optional_path))]
+pub fn optional_path<'a, 'd>(
+    fields: &'a [Field],
+    values: &'a [Datum<'d>],
+    id: i32,
+) -> Result<Option<&'d str>, FieldFault>
+    ensures { result_map option_copied result ≡ path_if_there id (object fields.now values.now) }
+{
+    let Some((_, Datum::String(text))) = pick(fields, values, id) else {
+        return Ok(None);
+    };
+    if text.len() <= 65535 {
+        Ok(Some(text))
     } else {
         Err(FieldFault::OutOfRange(id))
     }

@@ -4,7 +4,9 @@ ghost use Rattle.ice_manifest_reading.specs.Laws.{ReadsRowsExactly, GivesHeldRow
 ghost use Rattle.ice_manifest_reading.specs.Laws.{ReadsEntriesExactly, GivesHeldEntries, KeepsItsNumber, InheritsTheRows};
 ghost use Rattle.ice_manifest_reading.specs.Laws.{NeedsItsOwn, KeepsItsFileNumber, InheritsTheRowsForItsFile, HasNoFileNumber};
 ghost use Rattle.ice_manifest_reading.specs.Laws.{KeepsItsSnapshot, InheritsItsSnapshot, FitsItsRow, AreOfTheirSpec};
-ghost use Rattle.ice_manifest_reading.specs.Laws.{HasACellForEach};
+ghost use Rattle.ice_manifest_reading.specs.Laws.{HasACellForEach, IsOfDeletesWhereReferenced};
+ghost use Rattle.ice_manifest_reading.specs.Absent.{IsZeroWhereAbsent, IsRefusedWhereNull, HasRowsOfVersionOne};
+ghost use Rattle.ice_manifest_reading.specs.Absent.{HasFilesOfVersionOne};
 ghost use Rattle.ice_manifest_reading.specs.Faults.{TellsTheFirstRow, TellsTheListsEnd, TellsTheFirstEntry};
 ghost use Rattle.ice_manifest_reading.specs.Faults.{TellsTheManifestsEnd, RefusesAPathExactly, RefusesManyExactly};
 ghost use Rattle.ice_manifest_reading.specs.Decimals.{KeepsTheNumber, LeavesNoneRedundant, KeepsOneSpelling};
@@ -55,6 +57,15 @@ pub fn snapshots_are_inherited()
     ensures none { InheritsItsSnapshot }
 {}
 
+/// A list or a manifest of version 1 has no field for what was not known then, and this is 0: its rows are of data, their
+/// numbers are 0, and its files hold data. A field that is there and null is refused.
+pub fn absent_fields_are_zero()
+    ensures absent { IsZeroWhereAbsent }
+    ensures null { IsRefusedWhereNull }
+    ensures row { HasRowsOfVersionOne }
+    ensures file { HasFilesOfVersionOne }
+{}
+
 /// The fault of a list or a manifest that opens and has its fields is that of its first object at fault, whatever comes
 /// after it. Where no object is at fault, it is the fault with which the container ends.
 pub fn first_faults_are_told()
@@ -71,10 +82,12 @@ pub fn rows_are_refused_together()
     ensures many { RefusesManyExactly }
 {}
 
-/// Each entry holds what its row's content allows: data under a row of data, deletes under one of deletes. It is of its
-/// row's spec, and has a partition value for each field of the spec.
+/// Each entry holds what its row's content allows: data under a row of data, deletes under one of deletes. Only position
+/// deletes name one data file that they are about. An entry is of its row's spec, and has a partition value for each
+/// field of the spec.
 pub fn contents_fit()
     ensures content { FitsItsRow }
+    ensures referenced { IsOfDeletesWhereReferenced }
     ensures spec { AreOfTheirSpec }
     ensures cells { HasACellForEach }
 {}

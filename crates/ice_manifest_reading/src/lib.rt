@@ -26,7 +26,7 @@ pub use fault::{FieldFault, ListFault, ManifestFault};
 pub use keep::{Everything, Keep};
 pub use kind::Kind;
 pub use laws::{
-    contents_fit, decimals_are_kept_shortest, entries_are_the_live_ones,
+    absent_fields_are_zero, contents_fit, decimals_are_kept_shortest, entries_are_the_live_ones,
     file_numbers_are_inherited, first_faults_are_told, numbers_are_inherited,
     other_fields_are_skipped, rows_are_a_set, rows_are_refused_together, snapshots_are_inherited,
 };

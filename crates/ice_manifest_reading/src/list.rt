@@ -20,8 +20,8 @@ ghost use Rattle.ice_manifest_reading.specs.Lists.{checked as checked_in, path_o
 use crate::counts::Counts;
 use crate::fault::{FieldFault, ListFault};
 use crate::field::{
-    int_at, items_of, long_at, number_at, optional_binary, optional_int, optional_long,
-    optional_truth, pairs_built, path_at, truth_at,
+    int_at, int_or_zero, items_of, long_at, number_or_zero, optional_binary, optional_int,
+    optional_long, optional_truth, pairs_built, path_at, truth_at,
 };
 use crate::pick::{itself, pick, record_values};
 use crate::row::{ManifestContent, Row};
@@ -46,7 +46,7 @@ fn row_content(code: i32) -> Result<ManifestContent, FieldFault>
 fn content_at(fields: &[Field], values: &[Datum]) -> Result<ManifestContent, FieldFault>
     ensures { result ≡ content_said (object fields.now values.now) }
 {
-    row_content(int_at(fields, values, 517)?)
+    row_content(int_or_zero(fields, values, 517)?)
 }
 
 #[tactic(auto, unfolding(crate::specs::Lists::counts_at))]
@@ -130,8 +130,8 @@ fn row_at(alloc: Global, fields: &[Field], values: &[Datum]) -> Result<Row, List
         length: long_at(fields, values, 501)?,
         spec_id: int_at(fields, values, 502)?,
         content: content_at(fields, values)?,
-        sequence_number: number_at(fields, values, 515)?,
-        min_sequence_number: number_at(fields, values, 516)?,
+        sequence_number: number_or_zero(fields, values, 515)?,
+        min_sequence_number: number_or_zero(fields, values, 516)?,
         added_snapshot_id: long_at(fields, values, 503)?,
         counts: counts_at(fields, values)?,
         partitions: partitions_at(alloc, fields, values)?,

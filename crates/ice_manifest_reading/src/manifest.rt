@@ -1,18 +1,20 @@
 //! Reading a manifest.
 
 ghost use Rattle.std.specs.Prelude.{◌≡◌, ◌<◌, ◌^◌, [], ◌∷◌, ◌++◌, OnOk};
+ghost use Rattle.std.specs.Option.{option_copied};
 ghost use Rattle.contract_words.specs.Outcome.{Gives};
 ghost use Rattle.avro_schema.specs.Tree.{structure};
 ghost use Rattle.avro_file.specs.View.{view};
 ghost use Rattle.avro_file.specs.Ahead.{still_ahead};
 ghost use Rattle.avro_file.specs.Files.{ahead};
 ghost use Rattle.ice_manifest_reading.specs.Naming.{in_manifest, told};
-ghost use Rattle.ice_manifest_reading.specs.Seen.{fields_seen, object};
+ghost use Rattle.ice_manifest_reading.specs.Seen.{result_map, fields_seen, object};
 ghost use Rattle.ice_manifest_reading.specs.Manifests.{live_of, status_of as status_in, status_at as status_said};
 ghost use Rattle.ice_manifest_reading.specs.Manifests.{content_of as content_in, content_at as content_said};
 ghost use Rattle.ice_manifest_reading.specs.Manifests.{inherited as inherited_in, file_inherited as file_inherited_in};
 ghost use Rattle.ice_manifest_reading.specs.Manifests.{sequence_at as sequence_said, file_sequence_at as file_sequence_said};
-ghost use Rattle.ice_manifest_reading.specs.Manifests.{snapshot_at as snapshot_said, file_of as file_said};
+ghost use Rattle.ice_manifest_reading.specs.Manifests.{snapshot_at as snapshot_said, referenced_at as referenced_said};
+ghost use Rattle.ice_manifest_reading.specs.Manifests.{file_of as file_said};
 ghost use Rattle.ice_manifest_reading.specs.Manifests.{live_at as live_said, entry_of as entry_said, entries_ahead, kept_of};
 ghost use Rattle.ice_manifest_reading.specs.Manifests.{kept_behind, entries_kept, entries_of};
 ghost use Rattle.ice_meta.specs.Partitioning.{is_unpartitioned};
@@ -21,7 +23,9 @@ use crate::columns::columns_of;
 use crate::data_file::FileView;
 use crate::entry::{Entry, EntryView, Live};
 use crate::fault::{FieldFault, ManifestFault};
-use crate::field::{int_at, ints_at, long_at, optional_long, optional_number, path_at};
+use crate::field::{
+    int_at, int_or_zero, ints_at, long_at, optional_long, optional_number, optional_path, path_at,
+};
 use crate::keep::{Everything, Keep};
 use crate::pick::{pick_record, record_values};
 use crate::row::{ManifestContent, Row};
@@ -72,7 +76,22 @@ fn content_at(
 ) -> Result<FileContent, FieldFault>
     ensures { result ≡ content_said of_row (object fields.now values.now) }
 {
-    content_of(of_row, int_at(fields, values, 134)?)
+    content_of(of_row, int_or_zero(fields, values, 134)?)
+}
+
+/// The one data file that position deletes are about, where they name one.
+#[tactic(auto, unfolding(crate::specs::Manifests::referenced_at))]
+fn referenced_at<'a, 'd>(
+    content: FileContent,
+    fields: &'a [Field],
+    values: &'a [Datum<'d>],
+) -> Result<Option<&'d str>, FieldFault>
+    ensures { result_map option_copied result ≡ referenced_said content (object fields.now values.now) }
+{
+    match content {
+        FileContent::PositionDeletes => optional_path(fields, values, 143),
+        FileContent::Data | FileContent::EqualityDeletes => Ok(None),
+    }
 }
 
 /// The file that a record's fields say, in a manifest of this content whose spec has these partition fields, and what
@@ -95,6 +114,7 @@ fn file_of<'a, 'd>(
     let file_size = long_at(fields, values, 104)?;
     let columns = columns_of(alloc, fields, values)?;
     let equality_ids = ints_at(alloc, fields, values, 135, 136)?;
+    let referenced = referenced_at(content, fields, values)?;
     let file = FileView {
         content,
         path,
@@ -102,6 +122,7 @@ fn file_of<'a, 'd>(
         record_count,
         file_size,
         equality_ids,
+        referenced,
     };
     Ok((file, columns))
 }

@@ -197,7 +197,8 @@ fn check_count_fields(fields: &[Field]) -> Result<(), FieldFault>
     Ok(())
 }
 
-/// The fields of a manifest list's row are there and fit; or the first fault.
+/// The fields of a manifest list's row are there and fit; or the first fault. One of version 1 has no field for its
+/// content and its numbers.
 #[tactic(auto, unfolding(crate::specs::Schemas::row_fields, crate::specs::Kinds::wanted))]
 pub fn check_row_fields(fields: &[Field]) -> Result<(), FieldFault>
     ensures { result ≡ fields_of_row (fields_seen fields.now) }
@@ -205,9 +206,9 @@ pub fn check_row_fields(fields: &[Field]) -> Result<(), FieldFault>
     required(fields, Kind::Text, 500)?;
     required(fields, Kind::Whole, 501)?;
     required(fields, Kind::Whole, 502)?;
-    required(fields, Kind::Whole, 517)?;
-    required(fields, Kind::Whole, 515)?;
-    required(fields, Kind::Whole, 516)?;
+    optional(fields, Kind::Whole, 517)?;
+    optional(fields, Kind::Whole, 515)?;
+    optional(fields, Kind::Whole, 516)?;
     required(fields, Kind::Whole, 503)?;
     check_count_fields(fields)?;
     match optional(fields, Kind::List, 507)? {
@@ -220,13 +221,14 @@ pub fn check_row_fields(fields: &[Field]) -> Result<(), FieldFault>
 fn check_file_fields(partition: &[PartitionField], fields: &[Field]) -> Result<(), FieldFault>
     ensures { result ≡ fields_of_file partition.now (fields_seen fields.now) }
 {
-    required(fields, Kind::Whole, 134)?;
+    optional(fields, Kind::Whole, 134)?;
     required(fields, Kind::Text, 100)?;
     let tuple = tuple_in(partition, fields)?;
     required(fields, Kind::Whole, 103)?;
     required(fields, Kind::Whole, 104)?;
     check_column_fields(fields)?;
     check_ids(fields)?;
+    optional(fields, Kind::Text, 143)?;
     match tuple {
         Some(tuple) => check_tuples(partition, branches_of(tuple)),
         None => Ok(()),
