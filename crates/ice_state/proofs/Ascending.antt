@@ -9,10 +9,11 @@ use Rattle.std.specs.declared.cmp.Ordering.TheVariants.{Less, Equal, Greater}
 use Rattle.std.proofs.lemmas.Bool.Decides.{nat_tests}
 use Rattle.std.proofs.lemmas.Cmp.{nat_cmp_total}
 use Rattle.std.proofs.lemmas.List.Sums.{sum_by-cons}
-use Rattle.std.proofs.lemmas.List.Sorted.{ranks_by, sum_by-IsPermutation, IsPermutation-trans}
-use Rattle.contract_words.proofs.Sorted.{Rises, rises_from, unique}
-use Rattle.ice_value.specs.Applying.{FileKey}
+use Rattle.std.proofs.lemmas.List.Sorted.{ranks_by, sum_by-IsPermutation}
+use Rattle.contract_words.proofs.Sorted.{Rises, rises_from, sorted_rises, sorted_ties, unique}
+use Rattle.ice_value.specs.Applying.{DeleteKey}
 use Rattle.ice_deletes.specs.Found.{numbers_where}
+use Rattle.ice_state.specs.Parts.{ascending}
 
 abbrev lower : ℕ → ℕ → Bool
 lower a b = is_lt (nat_cmp a b)
@@ -73,21 +74,61 @@ tied_alike n (k ∷ ks) =
     ] in
     P (ties lower n k) refl
 
+same_ties : (ks ms : List ℕ) → IsPermutation ks ms → (n : ℕ) → filter (ties lower n) ms ≡ filter (ties lower n) ks
+same_ties ks ms same n = tied_alike n ms ∙ ap (λ t. replicate t n) (times-permuted n ks ms same) ∙ sym (tied_alike n ks)
+
 -- one list of the same numbers ascends
-one_ascends : (ks ms : List ℕ) → Rises lower by_size ks → IsPermutation ks ms → IsSorted nat_cmp ms → ms ≡ ks
-one_ascends ks ms up same sorted = unique lower by_size ms ks (rises_from lower by_size ms sorted) up
-    (λ n. tied_alike n ms ∙ ap (λ t. replicate t n) (times-permuted n ks ms same) ∙ sym (tied_alike n ks))
+pub one_ascends : (ks ms : List ℕ) → IsPermutation ks ms → IsSorted nat_cmp ms → ms ≡ ascending ks
+one_ascends ks ms same up = unique lower by_size ms (ascending ks) (rises_from lower by_size ms up)
+    (sorted_rises lower by_size ks) (λ n. same_ties ks ms same n ∙ sym (sorted_ties lower by_size n ks))
+
+-- numbers that stand as often ascend alike
+ascend_alike : (ks ms : List ℕ) → ((n : ℕ) → times n ms ≡ times n ks) → ascending ms ≡ ascending ks
+ascend_alike ks ms same = unique lower by_size (ascending ms) (ascending ks) (sorted_rises lower by_size ms)
+    (sorted_rises lower by_size ks)
+    (λ n. sorted_ties lower by_size n ms ∙ tied_alike n ms ∙ ap (λ t. replicate t n) (same n) ∙ sym (tied_alike n ks)
+    ∙ sym (sorted_ties lower by_size n ks))
+
+already : (ks : List ℕ) → Rises lower by_size ks → ascending ks ≡ ks
+already ks up = unique lower by_size (ascending ks) ks (sorted_rises lower by_size ks) up
+    (λ n. sorted_ties lower by_size n ks)
+
+-- how often a number is one of those that pass
+abbrev passing : (DeleteKey → Bool) → ℕ → ℕ × DeleteKey → ℕ
+passing p n e = cond (p e.1) (cond (ties lower n e.0) 1 0) 0
+
+one_more : (b : Bool) (t s : ℕ) → t ≡ s → cond b (suc t) t ≡ cond b 1 0 + s
+one_more true t s h = omega arith
+one_more false t s h = omega arith
+
+times-where : (p : DeleteKey → Bool) (es : List (ℕ × DeleteKey)) (n : ℕ)
+    → times n (numbers_where p es) ≡ sum_by (passing p n) es
+times-where p [] n = refl
+times-where p (e ∷ es) n =
+    let rest = times-where p es n in
+    elim (p e.1) as (λ v. times n (map (λ (e : ℕ × DeleteKey). e.0) (cond v (e ∷ filter (λ (e : ℕ × DeleteKey). p e.1) es)
+    (filter (λ (e : ℕ × DeleteKey). p e.1) es))) ≡ cond v (cond (ties lower n e.0) 1 0) 0 + sum_by (passing p n) es) [
+      | true ↦ one_more (ties lower n e.0) (times n (numbers_where p es)) (sum_by (passing p n) es) rest
+      | false ↦ omega arith
+    ]
+    ∙ sym (sum_by-cons (passing p n) e es)
+
+-- those that pass ascend alike, in whatever order an index has them
+pub index_ascends : (p : DeleteKey → Bool) (es fs : List (ℕ × DeleteKey)) → IsPermutation es fs
+    → ascending (numbers_where p fs) ≡ ascending (numbers_where p es)
+index_ascends p es fs same = ascend_alike (numbers_where p es) (numbers_where p fs)
+    (λ n. times-where p fs n ∙ sum_by-IsPermutation (passing p n) es fs same ∙ sym (times-where p es n))
 
 -- the numbers, from m on, of those that pass
-abbrev pub numbers_from : ℕ → (FileKey → Bool) → List FileKey → List ℕ
-numbers_from m p files = map (λ (e : ℕ × FileKey). e.0) (filter (λ (e : ℕ × FileKey). p e.1) (enumerate_from m files))
+abbrev pub numbers_from : ℕ → (DeleteKey → Bool) → List DeleteKey → List ℕ
+numbers_from m p files = map (λ (e : ℕ × DeleteKey). e.0) (filter (λ (e : ℕ × DeleteKey). p e.1) (enumerate_from m files))
 
-abbrev pub with_first : (FileKey → Bool) → FileKey → List FileKey → ℕ → Bool → List ℕ
-with_first p f fs m v = map (λ (e : ℕ × FileKey). e.0) (cond v ((m, f) ∷ filter (λ (e : ℕ × FileKey). p e.1)
-    (enumerate_from (m + 1) fs)) (filter (λ (e : ℕ × FileKey). p e.1) (enumerate_from (m + 1) fs)))
+abbrev pub with_first : (DeleteKey → Bool) → DeleteKey → List DeleteKey → ℕ → Bool → List ℕ
+with_first p f fs m v = map (λ (e : ℕ × DeleteKey). e.0) (cond v ((m, f) ∷ filter (λ (e : ℕ × DeleteKey). p e.1)
+    (enumerate_from (m + 1) fs)) (filter (λ (e : ℕ × DeleteKey). p e.1) (enumerate_from (m + 1) fs)))
 
 -- none of them is below m
-from_on : (p : FileKey → Bool) (files : List FileKey) (k m : ℕ) → k ≤ m
+from_on : (p : DeleteKey → Bool) (files : List DeleteKey) (k m : ℕ) → k ≤ m
     → AllByRecursion (λ n. lower n k ≡ false) (numbers_from m p files)
 from_on p [] k m h = tt
 from_on p (f ∷ fs) k m h =
@@ -95,16 +136,14 @@ from_on p (f ∷ fs) k m h =
     elim (p f) as (λ v. AllByRecursion (λ n. lower n k ≡ false) (with_first p f fs m v))
     [ true ↦ (not_lower m k h, rest) | false ↦ rest ]
 
-ascends : (p : FileKey → Bool) (files : List FileKey) (m : ℕ) → Rises lower by_size (numbers_from m p files)
+ascends : (p : DeleteKey → Bool) (files : List DeleteKey) (m : ℕ) → Rises lower by_size (numbers_from m p files)
 ascends p [] m = tt
 ascends p (f ∷ fs) m =
     let rest = ascends p fs (m + 1) in
     elim (p f) as (λ v. Rises lower by_size (with_first p f fs m v))
     [ true ↦ (from_on p fs m (m + 1) (omega arith), rest) | false ↦ rest ]
 
--- the ascending list of the numbers of those that pass
-pub ascending_numbers : (p : FileKey → Bool) (files : List FileKey) (lent ordered : List ℕ)
-    → IsPermutation (numbers_where p files) lent → IsPermutation lent ordered → IsSorted nat_cmp ordered
-    → ordered ≡ numbers_where p files
-ascending_numbers p files lent ordered found same sorted = one_ascends (numbers_where p files) ordered
-    (ascends p files 0) (IsPermutation-trans (numbers_where p files) lent ordered found same) sorted
+-- numbers by place ascend already
+pub numbers_ascend : (p : DeleteKey → Bool) (files : List DeleteKey)
+    → ascending (numbers_where p (enumerate_from 0 files)) ≡ numbers_where p (enumerate_from 0 files)
+numbers_ascend p files = already (numbers_from 0 p files) (ascends p files 0)

@@ -17,7 +17,7 @@ use Rattle.ice_project.specs.Summaries.{summaries_may, IsCovered}
 use Rattle.ice_project.specs.Tuples.{part_meets}
 use Rattle.ice_project.specs.declared.part_filter.PartFilter.{PartFilter}
 use Rattle.ice_manifest_reading.specs.declared.entry.Entry.{Entry}
-use Rattle.ice_state.specs.Applying.{key_of}
+use Rattle.ice_state.specs.Applying.{data_key_of, delete_key_of}
 use Rattle.ice_state.specs.Covering.{Covers, HasSoundSummaries}
 use Rattle.ice_state.specs.Parts.{OfSpec, filtered_by}
 use Rattle.ice_state.specs.Pruning.{by_projection, summaries_allow, pruner_of, IsOpen}
@@ -34,7 +34,7 @@ module _ (same : (part : PartFilter) (tuple other : List Cell) → IsTrue (same_
   same_by parts tuple other t (Some spec) h = sym (same (projection parts spec) tuple other t) ∙ h
 
   pub of_same_partition : (parts : List (Part BoundLeaf)) (specs : List Spec) (x d : Entry)
-      → same_partition (key_of x) (key_of d) ≡ true → (pruner_of parts specs).meets x.spec_id x.file.tuple ≡ true
+      → same_partition (data_key_of x) (delete_key_of d) ≡ true → (pruner_of parts specs).meets x.spec_id x.file.tuple ≡ true
       → (pruner_of parts specs).meets d.spec_id d.file.tuple ≡ true
   of_same_partition parts specs x d s met =
       let b = and_true (int_eq x.spec_id d.spec_id) (same_tuple x.file.tuple d.file.tuple) s in

@@ -1,19 +1,19 @@
 -- The places that the index gives are those of the delete files that apply.
 use Rattle.std.proofs.Common.{◌≡◌, ◌≤◌, ◌+◌, ℕ, suc, Bool, true, false, ◌&&◌, List, [], ◌∷◌, ◌++◌, length, map, filter}
 use Rattle.std.proofs.Common.{cond, refl, sym, ap, subst, ◌∙◌, arith, append_assoc, Bor}
-use Rattle.std.specs.List.{AllByRecursion}
+use Rattle.std.specs.List.{AllByRecursion, enumerate_from}
 use Rattle.ice_value.specs.declared.file_content.FileContent.{FileContent}
 use Rattle.ice_value.specs.declared.file_content.FileContent.TheVariants.{Data, PositionDeletes, EqualityDeletes}
-use Rattle.ice_value.specs.Applying.{FileKey, applies as key_applies}
+use Rattle.ice_value.specs.Applying.{DataKey, DeleteKey, applies as key_applies}
 use Rattle.ice_manifest_reading.specs.declared.entry.Entry.{Entry}
 use Rattle.ice_deletes.specs.Found.{is_content, holds as key_holds}
 use Rattle.ice_state.specs.declared.lines.Places.{Places}
-use Rattle.ice_state.specs.Applying.{key_of, applies}
+use Rattle.ice_state.specs.Applying.{data_key_of, delete_key_of, applies}
 use Rattle.ice_state.specs.Lines.{entry_at, entries_at, line_at, lines_at, AreWithin, IsLineWithin, AreLinesOf}
 use Rattle.ice_state.specs.Outcomes.{line_of}
-use Rattle.ice_state.specs.Parts.{numbers_of, places_of}
+use Rattle.ice_state.specs.Parts.{ascending, numbers_of, places_of}
 use Rattle.ice_state.specs.Pruning.{holds, same_content}
-use Rattle.ice_state.proofs.Ascending.{numbers_from, with_first}
+use Rattle.ice_state.proofs.Ascending.{numbers_from, with_first, numbers_ascend}
 
 at_front : (front : List Entry) (x : Entry) (xs : List Entry) → entry_at (front ++ x ∷ xs) (length front) ≡ x ∷ []
 at_front [] x xs = refl
@@ -24,24 +24,26 @@ length-one_more [] x = refl
 length-one_more (y ∷ ys) x = let e = length-one_more ys x in omega arith
 
 -- the entries of the numbers of those that pass, behind others
-entries_behind : (p : FileKey → Bool) (front xs : List Entry)
-    → entries_at (front ++ xs) (numbers_from (length front) p (map key_of xs)) ≡ filter (λ d. p (key_of d)) xs
+entries_behind : (p : DeleteKey → Bool) (front xs : List Entry)
+    → entries_at (front ++ xs) (numbers_from (length front) p (map delete_key_of xs))
+    ≡ filter (λ d. p (delete_key_of d)) xs
 entries_behind p front [] = refl
 entries_behind p front (x ∷ xs) =
     let whole = front ++ x ∷ xs in
+    let ks = map delete_key_of xs in
     let joined : (front ++ x ∷ []) ++ xs ≡ whole = append_assoc front (x ∷ []) xs in
-    let rest : entries_at whole (numbers_from (length front + 1) p (map key_of xs)) ≡ filter (λ d. p (key_of d)) xs =
-    ap (λ es. entries_at es (numbers_from (length front + 1) p (map key_of xs))) (sym joined)
-    ∙ ap (λ n. entries_at ((front ++ x ∷ []) ++ xs) (numbers_from n p (map key_of xs))) (sym (length-one_more front x))
+    let rest : entries_at whole (numbers_from (length front + 1) p ks) ≡ filter (λ d. p (delete_key_of d)) xs =
+    ap (λ es. entries_at es (numbers_from (length front + 1) p ks)) (sym joined)
+    ∙ ap (λ n. entries_at ((front ++ x ∷ []) ++ xs) (numbers_from n p ks)) (sym (length-one_more front x))
     ∙ entries_behind p (front ++ x ∷ []) xs in
-    elim (p (key_of x)) as (λ v. entries_at whole (with_first p (key_of x) (map key_of xs) (length front) v) ≡ cond v
-    (x ∷ filter (λ d. p (key_of d)) xs) (filter (λ d. p (key_of d)) xs)) [
-      | true ↦ ap (λ es. es ++ entries_at whole (numbers_from (length front + 1) p (map key_of xs)))
-          (at_front front x xs) ∙ ap (λ es. x ∷ es) rest
+    elim (p (delete_key_of x)) as (λ v. entries_at whole (with_first p (delete_key_of x) ks (length front) v)
+    ≡ cond v (x ∷ filter (λ d. p (delete_key_of d)) xs) (filter (λ d. p (delete_key_of d)) xs)) [
+      | true ↦ ap (λ es. es ++ entries_at whole (numbers_from (length front + 1) p ks)) (at_front front x xs)
+          ∙ ap (λ es. x ∷ es) rest
       | false ↦ rest
     ]
 
-numbers_within : (n : ℕ) (p : FileKey → Bool) (files : List FileKey) (m : ℕ) → m + length files ≤ n
+numbers_within : (n : ℕ) (p : DeleteKey → Bool) (files : List DeleteKey) (m : ℕ) → m + length files ≤ n
     → AreWithin n (numbers_from m p files)
 numbers_within n p [] m h = tt
 numbers_within n p (f ∷ fs) m h =
@@ -63,55 +65,69 @@ equalities_hold PositionDeletes = refl
 equalities_hold EqualityDeletes = refl
 
 module _ (deletes : List Entry) where
-  abbrev keys : List FileKey
-  keys = map key_of deletes
+  abbrev keys : List DeleteKey
+  keys = map delete_key_of deletes
+
+  -- the delete files numbered by their places
+  abbrev placed : List (ℕ × DeleteKey)
+  placed = enumerate_from 0 keys
+
+  abbrev chosen : FileContent → Entry → DeleteKey → Bool
+  chosen content x d = key_holds content d && key_applies (data_key_of x) d
 
   files_at : (content : FileContent) → ((a : FileContent) → is_content content a ≡ same_content a content) → (x : Entry)
-      → entries_at deletes (numbers_of content keys (key_of x)) ≡ filter (λ d. holds content d && applies x d) deletes
+      → entries_at deletes (ascending (numbers_of content placed (data_key_of x)))
+      ≡ filter (λ d. holds content d && applies x d) deletes
   files_at content same x =
-      entries_behind (λ d. key_holds content d && key_applies (key_of x) d) [] deletes
-      ∙ filter-same (λ d. key_holds content (key_of d) && applies x d) (λ d. holds content d && applies x d)
+      ap (entries_at deletes) (numbers_ascend (chosen content x) keys)
+      ∙ entries_behind (chosen content x) [] deletes
+      ∙ filter-same (λ d. key_holds content (delete_key_of d) && applies x d) (λ d. holds content d && applies x d)
       (λ d. ap (λ b. b && applies x d) (same d.file.content)) deletes
 
-  line_is : (x : Entry) → line_at deletes x (places_of keys (key_of x)) ≡ line_of deletes x
+  line_is : (x : Entry) → line_at deletes x (places_of placed (data_key_of x)) ≡ line_of deletes x
   line_is x = rw (files_at PositionDeletes positions_hold x, files_at EqualityDeletes equalities_hold x) refl
 
   each_line_is : (files : List (Bor Entry))
-      → lines_at deletes (map (λ x. x.now) files) (map (λ x. places_of keys (key_of x.now)) files) ≡ map
-      (line_of deletes) (map (λ x. x.now) files)
+      → lines_at deletes (map (λ x. x.now) files) (map (λ x. places_of placed (data_key_of x.now)) files)
+      ≡ map (line_of deletes) (map (λ x. x.now) files)
   each_line_is [] = refl
   each_line_is (x ∷ xs) = rw (line_is x.now, each_line_is xs) refl
 
-  length-keys : (xs : List Entry) → length (map key_of xs) ≡ length xs
+  length-keys : (xs : List Entry) → length (map delete_key_of xs) ≡ length xs
   length-keys [] = refl
   length-keys (x ∷ xs) = ap suc (length-keys xs)
 
-  within : (content : FileContent) (x : Entry) → AreWithin (length deletes) (numbers_of content keys (key_of x))
-  within content x = numbers_within (length deletes) (λ d. key_holds content d && key_applies (key_of x) d) keys 0
-      (let e = length-keys deletes in omega arith)
+  within : (content : FileContent) (x : Entry)
+      → AreWithin (length deletes) (ascending (numbers_of content placed (data_key_of x)))
+  within content x =
+      subst (AreWithin (length deletes)) (sym (numbers_ascend (chosen content x) keys))
+      (numbers_within (length deletes) (chosen content x) keys 0 (let e = length-keys deletes in omega arith))
 
   each_within : (files : List (Bor Entry))
-      → AllByRecursion (IsLineWithin (length deletes)) (map (λ x. places_of keys (key_of x.now)) files)
+      → AllByRecursion (IsLineWithin (length deletes)) (map (λ x. places_of placed (data_key_of x.now)) files)
   each_within [] = tt
   each_within (x ∷ xs) = ((within PositionDeletes x.now, within EqualityDeletes x.now), each_within xs)
 
-  one_each : (files : List (Bor Entry)) → length (map (λ x. places_of keys (key_of x.now)) files) ≡ length
-      (map (λ x. x.now) files)
+  one_each : (files : List (Bor Entry))
+      → length (map (λ x. places_of placed (data_key_of x.now)) files) ≡ length (map (λ x. x.now) files)
   one_each [] = refl
   one_each (x ∷ xs) = ap suc (one_each xs)
 
-keys_now : (deletes : List (Bor Entry)) → map (λ d. key_of d.now) deletes ≡ map key_of (map (λ d. d.now) deletes)
+keys_now : (deletes : List (Bor Entry))
+    → map (λ d. delete_key_of d.now) deletes ≡ map delete_key_of (map (λ d. d.now) deletes)
 keys_now [] = refl
-keys_now (d ∷ ds) = ap (λ ks. key_of d.now ∷ ks) (keys_now ds)
+keys_now (d ∷ ds) = ap (λ ks. delete_key_of d.now ∷ ks) (keys_now ds)
 
 -- the lines with these places, and that the places are within
 module _ (deletes files : List (Bor Entry)) (places : List Places)
-    (are : places ≡ map (λ x. places_of (map (λ d. key_of d.now) deletes) (key_of x.now)) files) where
+    (are : places ≡ map (λ x. places_of (enumerate_from 0 (map (λ d. delete_key_of d.now) deletes)) (data_key_of x.now))
+    files) where
   abbrev found : List Entry
   found = map (λ (d : Bor Entry). d.now) deletes
 
-  same : places ≡ map (λ x. places_of (map key_of found) (key_of x.now)) files
-  same = are ∙ ap (λ ks. map (λ (x : Bor Entry). places_of ks (key_of x.now)) files) (keys_now deletes)
+  same : places ≡ map (λ x. places_of (enumerate_from 0 (map delete_key_of found)) (data_key_of x.now)) files
+  same = are ∙ ap (λ ks. map (λ (x : Bor Entry). places_of (enumerate_from 0 ks) (data_key_of x.now)) files)
+      (keys_now deletes)
 
   pub lines_are : lines_at (map (λ d. d.now) deletes) (map (λ x. x.now) files) places ≡ map
       (line_of (map (λ d. d.now) deletes)) (map (λ x. x.now) files)

@@ -8,14 +8,14 @@ use Rattle.ice_value.specs.declared.file_content.FileContent.{FileContent}
 use Rattle.ice_value.specs.declared.file_content.FileContent.TheVariants.{Data, PositionDeletes, EqualityDeletes}
 use Rattle.ice_state.specs.Lines.{OwnedLine}
 use Rattle.ice_value.proofs.Deletes.{applies-decides as key_decides}
-use Rattle.ice_state.specs.Applying.{Applies, applies, key_of}
+use Rattle.ice_state.specs.Applying.{Applies, applies, data_key_of, delete_key_of}
 use Rattle.ice_state.specs.Outcomes.{line_of, plan_over}
 use Rattle.ice_state.specs.Pruning.{holds, same_content}
 use Rattle.ice_state.proofs.Elements.{filtered, refiltered, mapped}
 use Rattle.ice_state.proofs.Filters.{and_true, filter_twice}
 
 pub applies-decides : (x d : Entry) → Decides (applies x d) (Applies x d)
-applies-decides x d = key_decides (key_of x) (key_of d)
+applies-decides x d = key_decides (data_key_of x) (delete_key_of d)
 
 content_decides : (a b : FileContent) → Decides (same_content a b) (a ≡ b)
 content_decides Data Data = (λ h. refl, λ h. refl)

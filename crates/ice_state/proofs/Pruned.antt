@@ -17,7 +17,7 @@ use Rattle.ice_value.specs.declared.file_content.FileContent.TheVariants.{Data, 
 use Rattle.ice_manifest_reading.specs.declared.row.Row.{Row}
 use Rattle.ice_value.specs.Applying.{applies_as, same_partition}
 use Rattle.ice_value.specs.Cells.{same_tuple}
-use Rattle.ice_state.specs.Applying.{applies, key_of}
+use Rattle.ice_state.specs.Applying.{applies, data_key_of, delete_key_of}
 use Rattle.ice_state.specs.Outcomes.{by_path, path_before, line_of, plan_over}
 use Rattle.ice_state.specs.Contents.{World}
 use Rattle.ice_state.specs.Pruning.{Pruner, holds, keeps, kept, SaysItsSpec, IsOpen}
@@ -36,16 +36,16 @@ pub kept_together : (specs : List Spec) (p : Pruner) → IsOpen specs p → (x :
     → SaysItsSpec specs l.entry → meets p x ≡ true → applies x l.entry ≡ true → keeps p l ≡ true
 kept_together specs p open' x l says met a =
     let d = l.entry in
-    let part : same_partition (key_of x) (key_of d) ≡ true → p.meets d.spec_id d.file.tuple ≡ true =
+    let part : same_partition (data_key_of x) (delete_key_of d) ≡ true → p.meets d.spec_id d.file.tuple ≡ true =
     λ s.
     let b = and_true (int_eq x.spec_id d.spec_id) (same_tuple x.file.tuple d.file.tuple) s in
     let ids : x.spec_id ≡ d.spec_id = (Decides-int_eq x.spec_id d.spec_id).0 b.0 in
     let tuples : x.file.tuple ≡ d.file.tuple = (tuple_decides x.file.tuple d.file.tuple).0 b.1 in
     cc in
-    let P : (K : FileContent) → d.file.content ≡ K → applies_as K (key_of x) (key_of d) ≡ true → keeps p l ≡ true =
-    λ K. elim K as (λ v. d.file.content ≡ v → applies_as v (key_of x) (key_of d) ≡ true → keeps p l ≡ true) [
+    let P : (K : FileContent) → d.file.content ≡ K → applies_as K (data_key_of x) (delete_key_of d) ≡ true → keeps p l ≡ true =
+    λ K. elim K as (λ v. d.file.content ≡ v → applies_as v (data_key_of x) (delete_key_of d) ≡ true → keeps p l ≡ true) [
       | Data ↦ λ e t. cc
-      | PositionDeletes ↦ λ e t. let m : p.meets d.spec_id d.file.tuple ≡ true = part (and_true _ _ t).1 in
+      | PositionDeletes ↦ λ e t. let m : p.meets d.spec_id d.file.tuple ≡ true = part (and_true _ _ (and_true _ _ t).0).1 in
           rw (e, m) refl
       | EqualityDeletes ↦ λ e t.
           let m : p.meets d.spec_id d.file.tuple ≡ true = elim (or_true _ _ (and_true _ _ t).1) [

@@ -1,13 +1,14 @@
 -- What the functions within this crate say of their parts. No public contract cites these words.
 use Rattle.std.specs.Prelude.{◌≡◌, ℕ, zero, suc, Bool, true, false, not, ◌&&◌, List, [], ◌∷◌, Option, Some, None}
 use Rattle.std.specs.Prelude.{option_and_then, slice_get, ℤ, if◌then◌else◌}
-use Rattle.std.specs.Ordering.{int_eq}
+use Rattle.std.specs.Ordering.{int_eq, nat_cmp, is_lt}
 use Rattle.std.specs.List.Sorted.{IsSortedBy}
+use Rattle.contract_words.specs.Sorting.{sorted}
 use Rattle.ice_meta.specs.declared.spec.Spec.{Spec}
 use Rattle.ice_manifest_reading.specs.declared.entry.Entry.{Entry}
 use Rattle.ice_value.specs.declared.file_content.FileContent.{FileContent}
 use Rattle.ice_value.specs.declared.file_content.FileContent.TheVariants.{Data, PositionDeletes, EqualityDeletes}
-use Rattle.ice_value.specs.Applying.{FileKey, applies as key_applies}
+use Rattle.ice_value.specs.Applying.{DataKey, DeleteKey, applies as key_applies}
 use Rattle.ice_deletes.specs.Found.{holds as key_holds, numbers_where}
 use Rattle.ice_filter.specs.declared.bound.BoundLeaf.{BoundLeaf}
 use Rattle.ice_filter.specs.declared.parts.Part.{Part}
@@ -76,14 +77,21 @@ if_of id (Some spec) = if int_eq spec.id id then Some spec else None
 abbrev pub holds_deletes : Entry → Bool
 holds_deletes d = not (holds Data d)
 
--- the numbers of the delete files that hold this and apply to x
-abbrev pub numbers_of : FileContent → List FileKey → FileKey → List ℕ
+-- numbers, the lower ones first
+abbrev pub ascending : List ℕ → List ℕ
+ascending numbers = sorted (λ a b. is_lt (nat_cmp a b)) numbers
+
+-- the numbers of the delete files that hold this and apply to x, as they stand in an index
+abbrev pub numbers_of : FileContent → List (ℕ × DeleteKey) → DataKey → List ℕ
 numbers_of content deletes x = numbers_where (λ d. key_holds content d && key_applies x d) deletes
 
--- the places of the delete files that apply to x
-abbrev pub places_of : List FileKey → FileKey → Places
+-- the places of the delete files that apply to x, where their numbers are their places
+abbrev pub places_of : List (ℕ × DeleteKey) → DataKey → Places
 places_of deletes x =
-    record { positions = numbers_of PositionDeletes deletes x; equalities = numbers_of EqualityDeletes deletes x }
+    record {
+      positions = ascending (numbers_of PositionDeletes deletes x);
+      equalities = ascending (numbers_of EqualityDeletes deletes x);
+    }
 
 -- the content with one more row, by what it gave
 abbrev pub with_row : Content → ℕ → Reading → Content

@@ -1,12 +1,12 @@
 //! Which delete files apply to a data file, looked up in the index.
 
-ghost use Rattle.std.specs.Prelude.{◌≡◌, ◌≤◌, ◌↔◌, ◌++◌, ◌&&◌, ◌==◌, ℕ, map, IfOk, Contains, count_by};
+ghost use Rattle.std.specs.Prelude.{◌≡◌, ◌≤◌, ◌↔◌, ◌++◌, ◌==◌, ℕ, map, IfOk, Contains, count_by};
 ghost use Rattle.std.specs.List.Sorted.{IsPermutation, IsSorted};
 ghost use Rattle.std.specs.Ordering.{nat_cmp};
 ghost use Rattle.ice_value.specs.declared.file_content.FileContent.TheVariants.{PositionDeletes, EqualityDeletes};
-ghost use Rattle.ice_deletes.specs.Found.{AppliesAt};
+ghost use Rattle.ice_deletes.specs.Found.{lent, AppliesAt};
 ghost use Rattle.ice_deletes.specs.Keys.{key_of as record_key};
-ghost use Rattle.ice_state.specs.Applying.{key_of};
+ghost use Rattle.ice_state.specs.Applying.{data_key_of, delete_key_of};
 ghost use Rattle.ice_state.specs.Parts.{places_of, numbers_of};
 
 use crate::lines::Places;
@@ -17,7 +17,7 @@ use std::alloc::{AllocError, Global};
 
 /// What the index is told of a delete file.
 fn record<'a>(d: &'a Entry) -> Record<'a>
-    ensures { record_key result ≡ key_of d.now }
+    ensures { record_key result ≡ delete_key_of d.now }
 {
     Record {
         content: d.file.content,
@@ -25,12 +25,14 @@ fn record<'a>(d: &'a Entry) -> Record<'a>
         unpartitioned: d.unpartitioned,
         tuple: d.file.tuple.as_slice(),
         sequence_number: d.sequence_number.get(),
+        referenced: d.file.referenced.as_ref().map(|path| path.as_slice()),
     }
 }
 
 /// What the index is told of the delete files, each at its place.
 pub fn records<'a>(alloc: Global, deletes: &[&'a Entry]) -> Result<Vec<Record<'a>>, AllocError>
-    ensures { IfOk result (λ records. map record_key records.items ≡ map (λ d. key_of d.now) deletes.now) }
+    ensures { IfOk result (λ records. map record_key records.items
+        ≡ map (λ d. delete_key_of d.now) deletes.now) }
 {
     let mut records = Vec::with_capacity(alloc, deletes.len())?;
     'deletes: for d in deletes {
@@ -41,15 +43,14 @@ pub fn records<'a>(alloc: Global, deletes: &[&'a Entry]) -> Result<Vec<Record<'a
 
 /// The numbers of the delete files that apply to the data file.
 fn deletes_for<'i>(index: &'i DeleteIndex, x: &Entry) -> Hits<'i>
-    ensures positions { IsPermutation (numbers_of PositionDeletes index.now (key_of x.now)) result.positions.now }
-    ensures equalities { IsPermutation (numbers_of EqualityDeletes index.now (key_of x.now))
+    ensures positions { IsPermutation (numbers_of PositionDeletes index.now (data_key_of x.now))
+        (result.positions.now ++ result.referenced.now) }
+    ensures equalities { IsPermutation (numbers_of EqualityDeletes index.now (data_key_of x.now))
         (result.equalities.now ++ result.everywhere.now) }
 
     // Exactly those, each once.
-    ensures exact { (n : ℕ) → Contains (result.positions.now ++ (result.equalities.now ++ result.everywhere.now)) n
-        ↔ AppliesAt index.now (key_of x.now) n }
-    ensures once { (n : ℕ)
-        → count_by (λ m. m == n) (result.positions.now ++ (result.equalities.now ++ result.everywhere.now)) ≤ 1 }
+    ensures exact { (n : ℕ) → Contains (lent result) n ↔ AppliesAt index.now (data_key_of x.now) n }
+    ensures once { (n : ℕ) → count_by (λ m. m == n) (lent result) ≤ 1 }
 {
     index.for_data(
         x.spec_id,
@@ -73,11 +74,11 @@ fn in_order(alloc: Global, numbers: &[usize], others: &[usize]) -> Result<Items<
 
 /// The places of the delete files that apply to the data file.
 pub fn places_for(alloc: Global, index: &DeleteIndex, x: &Entry) -> Result<Places, AllocError>
-    ensures { IfOk result (λ places. places ≡ places_of index.now (key_of x.now)) }
+    ensures { IfOk result (λ places. places ≡ places_of index.now (data_key_of x.now)) }
 {
     let hits = deletes_for(index, x);
     Ok(Places {
-        positions: in_order(alloc, hits.positions, &[])?,
+        positions: in_order(alloc, hits.positions, hits.referenced)?,
         equalities: in_order(alloc, hits.equalities, hits.everywhere)?,
     })
 }

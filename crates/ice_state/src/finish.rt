@@ -1,10 +1,11 @@
 //! The plan of a content, or its first fault.
 
 ghost use Rattle.std.specs.Prelude.{◌≡◌, [], ◌++◌, length, map, IfOk, OnOk, MatchResult, filter};
+ghost use Rattle.std.specs.List.{enumerate_from};
 ghost use Rattle.std.specs.Option.{option_copied};
 ghost use Rattle.contract_words.specs.Outcome.{Gives};
 ghost use Rattle.ice_value.specs.declared.file_content.FileContent.TheVariants.{Data};
-ghost use Rattle.ice_state.specs.Applying.{key_of};
+ghost use Rattle.ice_state.specs.Applying.{data_key_of, delete_key_of};
 ghost use Rattle.ice_state.specs.Outcomes.{missing, bad, twice, kept_in, by_path, plan_over, outcome_of};
 ghost use Rattle.ice_state.specs.Parts.{fault_of, Stops, holds_deletes, places_of};
 ghost use Rattle.ice_state.specs.Pruning.{holds};
@@ -129,7 +130,8 @@ fn delete_files<'a>(alloc: Global, entries: &[&'a Entry]) -> Result<Vec<&'a Entr
 /// The places of the delete files that apply, for each of the data files.
 fn lines(alloc: Global, files: &[&Entry], deletes: &[&Entry]) -> Result<Vec<Places>, AllocError>
     ensures { IfOk result (λ places. places.items
-        ≡ map (λ x. places_of (map (λ d. key_of d.now) deletes.now) (key_of x.now)) files.now) }
+        ≡ map (λ x. places_of (enumerate_from 0 (map (λ d. delete_key_of d.now) deletes.now)) (data_key_of x.now))
+        files.now) }
 {
     let records = records(alloc, deletes)?;
     let index = DeleteIndex::build(alloc, &records)?;
@@ -142,7 +144,7 @@ fn looked_up(
     files: &[&Entry],
     index: &DeleteIndex,
 ) -> Result<Vec<Places>, AllocError>
-    ensures { IfOk result (λ places. places.items ≡ map (λ x. places_of index.now (key_of x.now)) files.now) }
+    ensures { IfOk result (λ places. places.items ≡ map (λ x. places_of index.now (data_key_of x.now)) files.now) }
 {
     let mut places = Vec::with_capacity(alloc, files.len())?;
     'files: for x in files {

@@ -16,7 +16,7 @@ ghost use Rattle.ice_state.specs.declared.fault.FinishFault.{FinishFault};
 ghost use Rattle.ice_state.specs.declared.fault.FinishFault.TheVariants.{PathTwice};
 ghost use Rattle.ice_state.specs.declared.fault.ScanFault.TheVariants.{NoSuchSpec};
 ghost use Rattle.ice_value.specs.Applying.{same_partition};
-ghost use Rattle.ice_state.specs.Applying.{Applies, applies, key_of};
+ghost use Rattle.ice_state.specs.Applying.{Applies, applies, data_key_of, delete_key_of};
 ghost use Rattle.ice_state.specs.Contents.{Content, World, content};
 ghost use Rattle.ice_state.specs.Covering.{AreCovered, HasSoundSummaries};
 ghost use Rattle.ice_state.specs.Joins.{Agree, join, either};
@@ -117,7 +117,7 @@ pub fn pruning()
 /// And of a row whose summaries tell the truth it doesn't say no where it keeps an entry.
 pub fn filtering()
     ensures same_partition { (filter : List (Part BoundLeaf)) (specs : List Spec) (x d : Entry) →
-        IsTrue (same_partition (key_of x) (key_of d)) →
+        IsTrue (same_partition (data_key_of x) (delete_key_of d)) →
         (pruner_of filter specs).meets x.spec_id x.file.tuple ≡ true →
         (pruner_of filter specs).meets d.spec_id d.file.tuple ≡ true }
     ensures open_where_unpartitioned { (filter : List (Part BoundLeaf)) (specs : List Spec) →

@@ -5,7 +5,7 @@ ghost use Rattle.ice_state.specs.Contents.{IsOf};
 use ice_manifest_reading::ManifestFault;
 use ice_state::{FinishFault, OwnedPlan, Partial, PlanFile, PlanFiles, Scan};
 
-fn has_paths(files: &PlanFiles<'_>, paths: &[&str]) -> bool {
+pub fn has_paths(files: &PlanFiles<'_>, paths: &[&str]) -> bool {
     if files.len() != paths.len() {
         return false;
     }

@@ -15,11 +15,11 @@ use std::alloc::{AllocError, Global};
 const SCHEMA: &[u8] =
     b"Obj\x01\x04\x16avro.schema\xb4\x08{\"type\":\"record\",\"name\":\"manifest_entry\",\"fields\":[{\"name\":\"status\",\"type\":\"int\",\"field-id\":0},{\"name\":\"sequence_number\",\"type\":[\"null\",\"long\"],\"field-id\":3},{\"name\":\"data_file\",\"type\":{\"type\":\"record\",\"name\":\"r2\",\"fields\":[{\"name\":\"content\",\"type\":\"int\",\"field-id\":134},{\"name\":\"file_path\",\"type\":\"string\",\"field-id\":100},{\"name\":\"record_count\",\"type\":\"long\",\"field-id\":103},{\"name\":\"file_size_in_bytes\",\"type\":\"long\",\"field-id\":104},{\"name\":\"equality_ids\",\"type\":[\"null\",{\"type\":\"array\",\"items\":\"int\"}],\"field-id\":135}]},\"field-id\":2}]}";
 
-const UNCOMPRESSED: &[u8] = b"\x14avro.codec\x08null\x00";
+pub const UNCOMPRESSED: &[u8] = b"\x14avro.codec\x08null\x00";
 
 const DEFLATE: &[u8] = b"\x14avro.codec\x0edeflate\x00";
 
-const MARKER: &[u8] = b"\x00\x01\x02\x03\x04\x05\x06\x07\x08\x09\x0a\x0b\x0c\x0d\x0e\x0f";
+pub const MARKER: &[u8] = b"\x00\x01\x02\x03\x04\x05\x06\x07\x08\x09\x0a\x0b\x0c\x0d\x0e\x0f";
 
 /// One data file, `mem://t/a.parquet`.
 const DATA: &[u8] = b"\x022\x02\x00\x00\"mem://t/a.parquet\x14\xc8\x01\x00";

@@ -12,7 +12,7 @@ use std::alloc::{AllocError, Global};
 use std::test::Fail;
 
 /// Spec 1 before spec 0.
-fn specs(alloc: Global) -> Result<Vec<Spec>, AllocError> {
+pub fn specs(alloc: Global) -> Result<Vec<Spec>, AllocError> {
     let mut fields = Items::new(alloc);
     fields.push(PartitionField {
         source_id: 1,

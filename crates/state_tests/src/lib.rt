@@ -11,6 +11,8 @@ mod filters;
 #[cfg(test)]
 mod plans;
 #[cfg(test)]
+mod referenced;
+#[cfg(test)]
 mod refusals;
 #[cfg(test)]
 mod scans;

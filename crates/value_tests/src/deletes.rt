@@ -18,6 +18,15 @@ fn file<'a>(
         unpartitioned,
         tuple,
         sequence_number,
+        referenced: None,
+    }
+}
+
+/// The same file, which names a data file.
+fn naming<'a>(path: &'a [u8], file: Record<'a>) -> Record<'a> {
+    Record {
+        referenced: Some(path),
+        ..file
     }
 }
 
@@ -27,22 +36,29 @@ struct Case<'a> {
     spec_id: i32,
     tuple: &'a [Cell],
     sequence_number: u64,
-    /// Of positions and of equality in its partition, and of equality everywhere.
-    numbers: [&'static [usize]; 3],
+    path: &'a [u8],
+    /// Of positions, of positions that name it and of equality in its partition, and of equality everywhere.
+    numbers: [&'static [usize]; 4],
 }
 
 fn data_file<'a>(
     spec_id: i32,
     tuple: &'a [Cell],
     sequence_number: u64,
-    numbers: [&'static [usize]; 3],
+    numbers: [&'static [usize]; 4],
 ) -> Case<'a> {
     Case {
         spec_id,
         tuple,
         sequence_number,
+        path: A,
         numbers,
     }
+}
+
+/// The same data file at this path.
+fn at<'a>(path: &'a [u8], case: Case<'a>) -> Case<'a> {
+    Case { path, ..case }
 }
 
 fn number(number: u64) -> SequenceNumber {
@@ -59,35 +75,40 @@ fn are_same(lent: &[usize], wanted: &[usize]) -> bool {
     lent.len() == wanted.len()
 }
 
-/// Whether the index finds what the case says for a data file of this path.
-fn is_found(index: &DeleteIndex<'_>, case: &Case<'_>, path: &[u8]) -> bool {
+/// Whether the index finds what the case says.
+fn is_found(index: &DeleteIndex, case: &Case<'_>) -> bool {
     let number = number(case.sequence_number);
-    let hits = index.for_data(case.spec_id, case.tuple, number, path);
-    let [positions, equalities, everywhere] = case.numbers;
+    let hits = index.for_data(case.spec_id, case.tuple, number, case.path);
+    let [positions, referenced, equalities, everywhere] = case.numbers;
     are_same(hits.positions, positions)
+        && are_same(hits.referenced, referenced)
         && are_same(hits.equalities, equalities)
         && are_same(hits.everywhere, everywhere)
 }
 
 /// Whether it finds what the cases say.
-fn are_found(index: &DeleteIndex<'_>, cases: &[Case<'_>]) -> bool {
+fn are_found(index: &DeleteIndex, cases: &[Case<'_>]) -> bool {
     for case in cases {
-        if !is_found(index, case, b"") || !is_found(index, case, b"mem://t/a") {
+        if !is_found(index, case) {
             return false;
         }
     }
     true
 }
 
-/// Whether the index of these records does, and holds them.
+/// Whether the index of these records does.
 fn finds(alloc: Global, records: &[Record<'_>], cases: &[Case<'_>]) -> Result<bool, AllocError> {
     let index = DeleteIndex::build(alloc, records)?;
-    Ok(index.records().len() == records.len() && are_found(&index, cases))
+    Ok(are_found(&index, cases))
 }
 
 const POSITIONS: FileContent = FileContent::PositionDeletes;
 
 const EQUALITIES: FileContent = FileContent::EqualityDeletes;
+
+const A: &[u8] = b"mem://t/a.parquet";
+
+const B: &[u8] = b"mem://t/b.parquet";
 
 #[test]
 fn equality_deletes_of_later_changes(rt: HostRuntime) -> Result<(), Fail> {
@@ -100,10 +121,10 @@ fn equality_deletes_of_later_changes(rt: HostRuntime) -> Result<(), Fail> {
         file(EQUALITIES, 1, false, &tuple, 4),
     ];
     let cases = [
-        data_file(1, &tuple, 2, [&[], &[0, 1, 2, 4], &[]]),
-        data_file(1, &tuple, 3, [&[], &[1, 2, 4], &[]]),
-        data_file(1, &tuple, 4, [&[], &[1], &[]]),
-        data_file(1, &tuple, 6, [&[], &[], &[]]),
+        data_file(1, &tuple, 2, [&[], &[], &[0, 1, 2, 4], &[]]),
+        data_file(1, &tuple, 3, [&[], &[], &[1, 2, 4], &[]]),
+        data_file(1, &tuple, 4, [&[], &[], &[1], &[]]),
+        data_file(1, &tuple, 6, [&[], &[], &[], &[]]),
     ];
     let are_found = finds(rt.alloc(), &records, &cases)?;
     assert!(rt; are_found);
@@ -119,9 +140,9 @@ fn position_deletes_of_no_older_changes(rt: HostRuntime) -> Result<(), Fail> {
         file(POSITIONS, 0, false, &tuple, 3),
     ];
     let cases = [
-        data_file(0, &tuple, 3, [&[0, 1, 2], &[], &[]]),
-        data_file(0, &tuple, 4, [&[0, 1], &[], &[]]),
-        data_file(0, &tuple, 7, [&[], &[], &[]]),
+        data_file(0, &tuple, 3, [&[0, 1, 2], &[], &[], &[]]),
+        data_file(0, &tuple, 4, [&[0, 1], &[], &[], &[]]),
+        data_file(0, &tuple, 7, [&[], &[], &[], &[]]),
     ];
     let are_found = finds(rt.alloc(), &records, &cases)?;
     assert!(rt; are_found);
@@ -141,12 +162,42 @@ fn partitions(rt: HostRuntime) -> Result<(), Fail> {
         file(POSITIONS, 1, false, &two, 5),
     ];
     let cases = [
-        data_file(0, &[], 4, [&[1], &[], &[0]]),
-        data_file(1, &one, 4, [&[], &[2], &[0]]),
-        data_file(1, &two, 4, [&[6], &[3], &[0]]),
-        data_file(1, &null, 4, [&[], &[4], &[0]]),
-        data_file(2, &one, 5, [&[], &[], &[]]),
-        data_file(3, &one, 4, [&[], &[], &[0]]),
+        data_file(0, &[], 4, [&[1], &[], &[], &[0]]),
+        data_file(1, &one, 4, [&[], &[], &[2], &[0]]),
+        data_file(1, &two, 4, [&[6], &[], &[3], &[0]]),
+        data_file(1, &null, 4, [&[], &[], &[4], &[0]]),
+        data_file(2, &one, 5, [&[], &[], &[], &[]]),
+        data_file(3, &one, 4, [&[], &[], &[], &[0]]),
+    ];
+    let are_found = finds(rt.alloc(), &records, &cases)?;
+    assert!(rt; are_found);
+    Ok(())
+}
+
+#[test]
+fn position_deletes_of_one_file(rt: HostRuntime) -> Result<(), Fail> {
+    let [one, two] = [[Cell::Whole(1)], [Cell::Whole(2)]];
+    let records = [
+        naming(A, file(POSITIONS, 1, false, &one, 5)),
+        naming(B, file(POSITIONS, 1, false, &one, 6)),
+        naming(A, file(POSITIONS, 1, false, &two, 7)),
+        naming(A, file(POSITIONS, 2, false, &one, 8)),
+        naming(A, file(POSITIONS, 1, false, &one, 3)),
+        naming(b"mem://t/zz", file(POSITIONS, 1, false, &one, 9)),
+        file(POSITIONS, 1, false, &one, 5),
+        naming(B, file(EQUALITIES, 1, false, &one, 5)),
+        naming(B, file(EQUALITIES, 0, true, &[], 5)),
+    ];
+    let cases = [
+        data_file(1, &one, 4, [&[6], &[0], &[7], &[8]]),
+        data_file(1, &one, 3, [&[6], &[0, 4], &[7], &[8]]),
+        data_file(1, &one, 6, [&[], &[], &[], &[]]),
+        data_file(1, &two, 4, [&[], &[2], &[], &[8]]),
+        data_file(2, &one, 4, [&[], &[3], &[], &[8]]),
+        at(B, data_file(1, &one, 4, [&[6], &[1], &[7], &[8]])),
+        at(B, data_file(1, &two, 4, [&[], &[], &[], &[8]])),
+        at(b"mem://t/z", data_file(1, &one, 4, [&[6], &[], &[7], &[8]])),
+        at(b"", data_file(1, &one, 4, [&[6], &[], &[7], &[8]])),
     ];
     let are_found = finds(rt.alloc(), &records, &cases)?;
     assert!(rt; are_found);
@@ -155,7 +206,11 @@ fn partitions(rt: HostRuntime) -> Result<(), Fail> {
 
 #[test]
 fn no_records(rt: HostRuntime) -> Result<(), Fail> {
-    let are_found = finds(rt.alloc(), &[], &[data_file(0, &[], 0, [&[], &[], &[]])])?;
+    let are_found = finds(
+        rt.alloc(),
+        &[],
+        &[data_file(0, &[], 0, [&[], &[], &[], &[]])],
+    )?;
     assert!(rt; are_found);
     Ok(())
 }

@@ -1,0 +1,4 @@
+use Rattle.ice_state.proofs.finish.lines.Goals as goal
+
+pub returns : goal.returns
+returns c = ?
