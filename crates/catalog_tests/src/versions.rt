@@ -1,23 +1,17 @@
-//! What no clause says: that calls succeed, and what they give.
+//! Versions, commits to them, and catalogs of them.
 
 ghost use Rattle.std.specs.Prelude.{◌≡◌, [], IfOk};
 
-mod books;
 mod machine;
 mod names;
-mod refusals;
 mod seats;
 mod threads;
 
-use crate::words::in_words;
 use contract_words::{Items, Text};
-use ice_catalog::{
-    Change, Conflict, Ids, NewFile, PrepareFault, Prepared, Receipt, Version, World, prepare,
-};
+use ice_catalog::{Change, Ids, NewFile, PrepareFault, Prepared, Version, World, prepare};
 use ice_meta::MetaFault;
 use ice_value::FileContent;
 use std::alloc::{AllocError, Global};
-use std::test::Fail;
 use uuid::Uuid;
 
 /// A table without partitions or snapshots, whose last sequence number is 4.
@@ -77,27 +71,4 @@ fn prepared(
     number: u8,
 ) -> Result<Prepared, PrepareFault> {
     prepare(alloc, base, &adding(alloc, path)?, ids(number))
-}
-
-/// A fault in words: where it names a path, that stands last.
-fn fault_in_words(alloc: Global, fault: &PrepareFault) -> Result<Vec<u8>, Fail> {
-    match fault {
-        PrepareFault::PathTwice(path) => in_words(alloc, "twice ", path),
-        PrepareFault::BadFile(path) => in_words(alloc, "bad file ", path),
-        PrepareFault::WrongTuple(path) => in_words(alloc, "wrong tuple ", path),
-        PrepareFault::BaseBad(path) => in_words(alloc, "bad ", path),
-        PrepareFault::PathTaken(path) => in_words(alloc, "taken ", path),
-        fault => Ok(format!(in alloc; "{fault:?}")?.into_bytes()),
-    }
-}
-
-/// Whether a commit is handed back for the version of this number.
-fn is_late(commit: &Result<Receipt, Conflict>, number: u64) -> bool {
-    match commit {
-        Err(conflict) => match &conflict.newer {
-            Some(newer) => newer.number() == number,
-            None => false,
-        },
-        Ok(_) => false,
-    }
 }

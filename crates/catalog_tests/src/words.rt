@@ -1,37 +1,42 @@
-//! Plans and faults in words.
+//! Plans in words.
 
-use contract_words::Text;
 use ice_state::{Lines, PlanFiles};
-use std::alloc::{AllocError, Global};
-use std::test::Fail;
 
 /// The plan of all three manifests. Equality deletes of the data file's own sequence number do not apply to it.
 pub const PLAN: &str = "plan data mem://t/a.parquet pos mem://t/p.parquet eq mem://t/e.parquet";
 
-/// Words, and then a path.
-pub fn in_words(alloc: Global, words: &str, path: &Text) -> Result<Vec<u8>, Fail> {
-    let mut said = words.as_bytes().to_vec(alloc)?;
-    said.extend_from_slice(path.as_bytes())?;
-    Ok(said)
+/// What stands in a text behind a word and a path.
+pub fn behind<'a>(text: &'a [u8], word: &[u8], path: &[u8]) -> Option<&'a [u8]> {
+    text.strip_prefix(word)?.strip_prefix(path)
 }
 
-fn push_files(said: &mut Vec<u8>, word: &[u8], files: &PlanFiles<'_>) -> Result<(), AllocError> {
+/// What stands in a text behind files, each with this word before it.
+fn behind_files<'a>(text: &'a [u8], word: &[u8], files: &PlanFiles<'_>) -> Option<&'a [u8]> {
+    let mut left = text;
     for i in 0..files.len() {
-        said.extend_from_slice(word)?;
-        said.extend_from_slice(files.file(i).path())?;
+        left = behind(left, word, files.file(i).path())?;
     }
-    Ok(())
+    Some(left)
 }
 
-/// A plan by its files.
-pub fn plan_in_words(alloc: Global, lines: &Lines<'_>) -> Result<Vec<u8>, Fail> {
-    let mut said = b"plan".to_vec(alloc)?;
+/// What stands in a text behind a plan, by its files.
+fn behind_plan<'a>(text: &'a [u8], lines: &Lines<'_>) -> Option<&'a [u8]> {
+    let mut left = text.strip_prefix(b"plan")?;
     for i in 0..lines.len() {
         let line = lines.line(i);
-        said.extend_from_slice(b" data ")?;
-        said.extend_from_slice(line.file().path())?;
-        push_files(&mut said, b" pos ", &line.positions())?;
-        push_files(&mut said, b" eq ", &line.equalities())?;
+        left = behind(left, b" data ", line.file().path())?;
+        left = behind_files(left, b" pos ", &line.positions())?;
+        left = behind_files(left, b" eq ", &line.equalities())?;
     }
-    Ok(said)
+    Some(left)
+}
+
+/// Whether a text is a plan, by its files.
+pub fn is_plan(text: &str, lines: &Lines<'_>) -> bool {
+    behind_plan(text.as_bytes(), lines) == Some(b"".as_slice())
+}
+
+/// Whether a text is a word and a path.
+pub fn is_path(text: &str, word: &str, path: &str) -> bool {
+    text.strip_prefix(word) == Some(path)
 }

@@ -2,9 +2,6 @@
 //! to it.
 #![tactic(auto)]
 
-#[cfg(test)]
-mod tests;
-
 use contract_words::Text;
 use ice_commands::run_words;
 use ice_text::{Output, RunFault, report};

@@ -1,14 +1,16 @@
 //! Runs the program's commands over the files of a real folder, one after the other, and prints what each wrote. It is
 //! not shipped: `rt ci` runs it in a copy of `data/` and compares what it prints with the file `stdout`.
 //!
-//! A line of standard input has the words of one command, with a tab between two; an empty line has none. Nothing is on
-//! the standard input of the command. Printed are the line behind `> `, the command's standard output, its standard
-//! error behind `! `, and `status N`.
+//! A line of standard input has the words of one command, with a tab between two; an empty line has none. In front of
+//! them may stand `<FILE`, a file of `data/` that is on the standard input of the command, where else nothing is, and
+//! then `>FILE`, a file that takes its standard output. Printed are the line behind `> `, the command's standard output
+//! where no file takes it, its standard error behind `! `, and `status N`. A line that begins with `#` is a heading, and
+//! is printed as it is.
 //!
 //! `data/events` is the table of `examples/events-java`, with partitions, without the manifest list of its first
 //! snapshot and a manifest of its fifth; `data/plain` is that of `examples/plain-java`, as Avro's C library wrote it.
 //! Their plans are those of `expected/` beside either, or were derived in the same way, from what the library was told
-//! to write. The transcript has, in this order:
+//! to write. All other tables and texts were written by hand. The transcript has, in this order:
 //!
 //! - `show`; plans of main, a branch, a tag and a snapshot, with filters, by 1, 2 and 64 workers; `list-plan`
 //! - refusals: no such ref or snapshot, filters, numbers of workers, files that are absent or folders, a path with `..`
@@ -20,14 +22,29 @@
 //!   change files that are none, a folder that is not there, a path with `..`; none leaves new metadata, or a file that
 //!   is not whole, and the plan of the last commit is what it was
 //! - an append, and a row delta of deletes alone, to `data/plain`, whose new list is planned by itself too
+//! - below headings: bundles of lists, well written or not; requests of tables in a bundle; partitions and a summary that
+//!   lies; metadata that is shown; change files; commits to bundles and to folders that refuse; paths below a folder;
+//!   words, in other orders and refused; drills; texts of help
 #![tactic(auto)]
 
 use ice_commands::{Watch, run_words};
 use std::alloc::{AllocError, Global};
+use std::fs;
 use std::io::{self, Write};
 use std::rt::Files;
 use std::sync::Wait;
 use std::thread::Threads;
+
+/// The file that the first word of a line names behind a mark, and the rest of the line; none where no such mark is.
+fn marked(line: &str, mark: char) -> (Option<&str>, &str) {
+    match line.strip_prefix(mark) {
+        Some(rest) => {
+            let (file, words) = rest.split_once('\t').unwrap_or((rest, ""));
+            (Some(file), words)
+        }
+        None => (None, line),
+    }
+}
 
 /// The words of a line, between which tabs stand. An empty line has none.
 fn words_of(alloc: Global, line: &str) -> Result<Vec<String>, AllocError> {
@@ -41,19 +58,24 @@ fn words_of(alloc: Global, line: &str) -> Result<Vec<String>, AllocError> {
     Ok(words)
 }
 
-/// Runs the command of a line, with nothing on its standard input, and tells of it: the line, what the command wrote to
-/// standard output, what it wrote to standard error, and its status.
+/// Runs the command of a line, and tells of it: the line, what the command wrote to standard output and to standard
+/// error, and its status.
 fn play<H, W: Write>(host: &H, alloc: Global, line: &str, page: &mut W) -> io::Result<()>
 where
     H: Files<File: Send, Dir: Send> + Threads + Wait + Watch + Sync,
 {
-    let words = words_of(alloc, line)?;
-    let mut input: &[u8] = &[];
+    let (from, behind) = marked(line, '<');
+    let (to, words) = marked(behind, '>');
+    let words = words_of(alloc, words)?;
+    let mut input = fs::open(host, from.unwrap_or("nothing"))?;
     let mut output = Vec::new(alloc);
     let mut errors = Vec::new(alloc);
     let status = run_words(host, alloc, &words, &mut input, &mut output, &mut errors);
     writeln!(page, "> {line}")?;
-    page.write_all(&output)?;
+    match to {
+        Some(file) => fs::write(host, file, &output)?,
+        None => page.write_all(&output)?,
+    }
     if !errors.is_empty() {
         page.write_all(b"! ")?;
         page.write_all(&errors)?;
@@ -64,7 +86,12 @@ where
 fn main(rt: HostRuntime) -> io::Result<()> {
     let mut page = rt.stdout();
     for line in rt.lines(rt.alloc()) {
-        play(&rt, rt.alloc(), line?.as_str(), &mut page)?;
+        let line = line?;
+        if line.starts_with('#') {
+            writeln!(page, "{line}")?;
+        } else {
+            play(&rt, rt.alloc(), line.as_str(), &mut page)?;
+        }
     }
     Ok(())
 }

@@ -1,17 +1,13 @@
 //! The plan by workers, with each number of them that tells, and what they leave.
 
-ghost use Rattle.std.specs.Prelude.{◌≡◌, ◌≤◌, length};
-ghost use Rattle.ice_state.specs.Contents.{IsOf};
+ghost use Rattle.std.specs.Prelude.{◌≤◌, length};
 
-use crate::desks::table::{Stored, scan_of_first};
-use crate::desks::{close_alone, only};
-use crate::words::{PLAN, in_words, plan_in_words};
-use ice_desk::{Desk, Gate, Left, MOST_WORKERS, PlanFault, plan_scan, take_by_workers, work};
-use ice_state::{FinishFault, Partial, Scan};
+use crate::desks::table::{Stored, scan_of_three};
+use crate::words::{PLAN, is_path, is_plan};
+use ice_desk::{Gate, PlanFault, plan_scan};
+use ice_state::{OwnedPlan, Scan};
 use std::alloc::Global;
-use std::process::Abort;
 use std::sync::atomic::{AtomicU64, Ordering};
-use std::test::Fail;
 use std::thread::Threads;
 
 /// Lets each read pass, and counts it.
@@ -26,184 +22,92 @@ impl Gate for Tally {
     }
 }
 
-fn new_tally() -> Tally {
-    Tally {
-        calls: AtomicU64::new(0),
-    }
-}
-
 /// How many workers are tried.
 const CREWS: [usize; 3] = [1, 2, 64];
 
 /// Numbers of workers that are refused.
 const NO_CREWS: [usize; 3] = [0, 65, usize::MAX];
 
-/// Which files are there, whose first reads fail, and how many; and what comes of it, a plan by its files.
-type Case = ([bool; 3], usize, u64, &'static str);
+/// Which files are there, whose first reads fail, and how many; how many reads workers make, and how many are made in
+/// all; and what comes of it, a plan by its files.
+type Case = ([bool; 3], usize, u64, u64, u64, &'static str);
 
 const ALL: [bool; 3] = [true, true, true];
 
-const NO_FILE: [bool; 3] = [false, false, false];
-
-/// The caller reads again what a worker could not read. Two reads that fail are the fault, and so is the least path that
-/// is not there.
+/// Workers read each file once, and leave what they could not read, and no other. The caller reads that again, in the
+/// order of the paths. Two reads that fail are the fault, and so is the least path that is not there.
 const CASES: [Case; 11] = [
-    (ALL, 0, 0, PLAN),
-    (ALL, 0, 1, PLAN),
-    (ALL, 1, 0, PLAN),
-    (ALL, 1, 1, PLAN),
-    (ALL, 2, 0, PLAN),
-    (ALL, 2, 1, PLAN),
-    (ALL, 1, 2, "device mem://t/m2"),
-    ([false, true, true], 0, 0, "absent mem://t/m1"),
-    ([false, true, false], 0, 0, "absent mem://t/m1"),
-    ([true, false, false], 0, 0, "absent mem://t/m2"),
-    ([true, true, false], 0, 0, "absent mem://t/m3"),
+    (ALL, 0, 0, 3, 3, PLAN),
+    (ALL, 0, 1, 3, 4, PLAN),
+    (ALL, 1, 0, 3, 3, PLAN),
+    (ALL, 1, 1, 3, 4, PLAN),
+    (ALL, 2, 0, 3, 3, PLAN),
+    (ALL, 2, 1, 3, 4, PLAN),
+    (ALL, 1, 9, 3, 4, "device mem://t/m2"),
+    ([false, true, true], 0, 0, 3, 4, "absent mem://t/m1"),
+    ([false, true, false], 0, 0, 3, 4, "absent mem://t/m1"),
+    ([true, false, false], 0, 0, 3, 4, "absent mem://t/m2"),
+    ([true, true, false], 0, 0, 3, 4, "absent mem://t/m3"),
 ];
 
-fn stored(case: Case) -> Stored {
-    Stored {
-        there: case.0,
-        failing: case.1,
-        fails: AtomicU64::new(case.2),
+/// Nothing is read for a crew that is none.
+const NO_CASE: Case = ([false, false, false], 0, 0, 0, 0, "workers");
+
+/// Whether a plan, or why there is none, is this in words.
+fn is_so(planned: &Result<OwnedPlan, PlanFault>, words: &str) -> bool {
+    match planned {
+        Ok(plan) => is_plan(words, &plan.lines()),
+        Err(PlanFault::Absent(path)) => is_path(words, "absent ", path.as_str()),
+        Err(PlanFault::Device(path)) => is_path(words, "device ", path.as_str()),
+        Err(PlanFault::Workers) => words == "workers",
+        Err(_) => false,
     }
 }
 
-/// A plan by workers, or why there is none, in words.
-fn planned<R: Threads + Sync>(
+/// Whether so many workers plan as the case says.
+fn is_planned<R: Threads + Sync>(
     rt: &R,
     alloc: Global,
     scan: &Scan,
     workers: usize,
     case: Case,
-) -> Result<Vec<u8>, Fail>
+) -> bool
     requires { length scan.now.wanted ≤ 65536 }
 {
-    match plan_scan(rt, alloc, &stored(case), scan, workers, &new_tally()) {
-        Ok(plan) => plan_in_words(alloc, &plan.lines()),
-        Err(PlanFault::Absent(path)) => in_words(alloc, "absent ", &path),
-        Err(PlanFault::Device(path)) => in_words(alloc, "device ", &path),
-        Err(fault) => Ok(format!(in alloc; "{fault:?}")?.into_bytes()),
-    }
+    let (there, failing, fails, by_workers, in_all, words) = case;
+    let files = Stored::new(there, failing, fails);
+    let gate = Tally {
+        calls: AtomicU64::new(0),
+    };
+    let planned = plan_scan(rt, alloc, &files, scan, workers, &gate);
+    is_so(&planned, words)
+        && gate.calls.load(Ordering::SeqCst) == by_workers
+        && files.reads() == in_all
 }
 
-/// Compares a case with these numbers of workers.
-fn check_case<R: Threads + Sync + Abort>(
+/// Whether each of these numbers of workers plans as the case says.
+fn are_planned<R: Threads + Sync>(
     rt: &R,
     alloc: Global,
     scan: &Scan,
     crews: [usize; 3],
     case: Case,
-) -> Result<(), Fail>
+) -> bool
     requires { length scan.now.wanted ≤ 65536 }
 {
-    for workers in crews {
-        let found = planned(rt, alloc, scan, workers, case)?;
-        assert!(rt; found.as_slice() == case.3.as_bytes(), "{}", case.3);
-    }
-    Ok(())
+    is_planned(rt, alloc, scan, crews[0], case)
+        && is_planned(rt, alloc, scan, crews[1], case)
+        && is_planned(rt, alloc, scan, crews[2], case)
 }
 
 #[test]
-fn the_outcome_is_the_same_for_all_crews(rt: HostRuntime) -> Result<(), Fail> {
-    let scan = scan_of_first(rt.alloc(), 3)?;
+fn the_outcome_is_the_same_for_all_crews(rt: HostRuntime) {
+    let Some(scan) = scan_of_three(rt.alloc()) else {
+        panic!(rt; "there is memory for a scan");
+    };
     assert!(rt; scan.wanted().len() == 3);
     for case in CASES {
-        check_case(&rt, rt.alloc(), &scan, CREWS, case)?;
+        assert!(rt; are_planned(&rt, rt.alloc(), &scan, CREWS, case), "{}", case.5);
     }
-    check_case(&rt, rt.alloc(), &scan, NO_CREWS, (NO_FILE, 0, 0, "Workers"))
-}
-
-#[test]
-fn an_empty_scan_has_an_empty_plan(rt: HostRuntime) -> Result<(), Fail> {
-    let scan = scan_of_first(rt.alloc(), 0)?;
-    assert!(rt; scan.wanted().len() == 0);
-    check_case(&rt, rt.alloc(), &scan, CREWS, (NO_FILE, 0, 0, "plan"))
-}
-
-/// What a state finishes with.
-fn finished(alloc: Global, scan: &Scan, state: &Partial) -> Result<Vec<u8>, Fail>
-    requires { IsOf scan.now state.now }
-{
-    match state.finish(scan) {
-        Ok(plan) => plan_in_words(alloc, &plan.lines()),
-        Err(FinishFault::Missing(path)) => in_words(alloc, "missing ", &path),
-        Err(fault) => Ok(format!(in alloc; "{fault:?}")?.into_bytes()),
-    }
-}
-
-/// Whether three reads were let pass, so many of them failed, and the state finishes so.
-fn are_taken(
-    alloc: Global,
-    scan: &Scan,
-    state: &Partial,
-    left: Left,
-    gate: &Tally,
-    want: (u64, &str),
-) -> Result<bool, Fail>
-    requires { IsOf scan.now state.now }
-{
-    let as_wanted = Left {
-        absent: 0,
-        device: want.0,
-        memory: 0,
-    };
-    let found = finished(alloc, scan, state)?;
-    let calls = gate.calls.load(Ordering::SeqCst);
-    Ok(calls == 3 && left == as_wanted && found.as_slice() == want.1.as_bytes())
-}
-
-/// Whether workers take so of a scan.
-fn takes<R: Threads + Sync>(
-    rt: &R,
-    alloc: Global,
-    scan: &Scan,
-    workers: usize,
-    fails: u64,
-    want: (u64, &str),
-) -> Result<bool, Fail>
-    requires { length scan.now.wanted ≤ 65536 }
-{
-    if workers == 0 || workers > MOST_WORKERS {
-        return Ok(false);
-    }
-    let gate = new_tally();
-    let files = stored((ALL, 1, fails, ""));
-    let (state, left) = take_by_workers(rt, alloc, &files, scan, workers, &gate)?;
-    are_taken(alloc, scan, &state, left, &gate, want)
-}
-
-/// A manifest whose reads fail is left, and no other.
-#[test]
-fn workers_leave_what_fails(rt: HostRuntime) -> Result<(), Fail> {
-    let alloc = rt.alloc();
-    let scan = scan_of_first(alloc, 3)?;
-    assert!(rt; scan.wanted().len() == 3);
-    for workers in CREWS {
-        assert!(rt; takes(&rt, alloc, &scan, workers, 9, (1, "missing mem://t/m2"))?);
-        assert!(rt; takes(&rt, alloc, &scan, workers, 0, (0, PLAN))?);
-    }
-    Ok(())
-}
-
-/// Whether one worker takes each manifest.
-fn works(alloc: Global, scan: &Scan) -> Result<bool, Fail>
-    requires { length scan.now.wanted ≤ 65536 }
-{
-    let gate = new_tally();
-    let (desk, seats) = Desk::new(alloc, scan.wanted().len(), 1, 1)?;
-    let mut seat = only(&desk, seats);
-    let mut state = Partial::empty(alloc, scan)?;
-    let files = stored((ALL, 0, 0, ""));
-    let left = work(alloc, &files, scan, &desk, &mut seat, &mut state, 0, &gate);
-    let are_all_taken = are_taken(alloc, scan, &state, left, &gate, (0, PLAN))?;
-    Ok(close_alone(alloc, desk, seat)? == 4 && are_all_taken)
-}
-
-#[test]
-fn one_worker_takes_each_manifest(rt: HostRuntime) -> Result<(), Fail> {
-    let scan = scan_of_first(rt.alloc(), 3)?;
-    assert!(rt; scan.wanted().len() == 3);
-    assert!(rt; works(rt.alloc(), &scan)?);
-    Ok(())
+    assert!(rt; are_planned(&rt, rt.alloc(), &scan, NO_CREWS, NO_CASE));
 }

@@ -8,7 +8,7 @@ use ice_desk::{Files, ReadFault};
 use ice_filter::Bound;
 use ice_manifest::{Counts, ManifestContent, Row};
 use ice_meta::Spec;
-use ice_state::{Scan, ScanFault};
+use ice_state::Scan;
 use ice_value::SequenceNumber;
 use std::alloc::{AllocError, Global};
 use std::sync::atomic::{AtomicU64, Ordering};
@@ -46,32 +46,49 @@ fn row(alloc: Global, which: usize) -> Result<Row, AllocError> {
     })
 }
 
-/// A scan of the first manifests, whose rows are not in the order of their paths.
-pub fn scan_of_first(alloc: Global, count: usize) -> Result<Scan, ScanFault> {
+/// A scan of the three manifests, whose rows are not in the order of their paths.
+pub fn scan_of_three(alloc: Global) -> Option<Scan> {
     let mut specs = Vec::new(alloc);
-    specs.push(Spec::empty(alloc, 0))?;
+    specs.push(Spec::empty(alloc, 0)).ok()?;
     let mut rows = Vec::new(alloc);
     for which in [2, 1, 0] {
-        if which < count {
-            rows.push(row(alloc, which)?)?;
-        }
+        rows.push(row(alloc, which).ok()?).ok()?;
     }
-    Scan::new(alloc, rows, specs, Bound::always(alloc))
+    Scan::new(alloc, rows, specs, Bound::always(alloc)).ok()
 }
 
 /// The files of the manifests, of which the first reads at one path fail.
 #[derive(Drop)]
 pub struct Stored {
     /// Which of the files are there.
-    pub there: [bool; 3],
+    there: [bool; 3],
     /// Whose reads fail.
-    pub failing: usize,
+    failing: usize,
     /// How many reads are to fail.
-    pub fails: AtomicU64,
+    fails: AtomicU64,
+    /// How many reads were made.
+    reads: AtomicU64,
+}
+
+impl Stored {
+    /// Files of which so many first reads fail.
+    pub fn new(there: [bool; 3], failing: usize, fails: u64) -> Stored {
+        Stored {
+            there,
+            failing,
+            fails: AtomicU64::new(fails),
+            reads: AtomicU64::new(0),
+        }
+    }
+
+    /// How many reads were made.
+    pub fn reads(&self) -> u64 {
+        self.reads.load(Ordering::SeqCst)
+    }
 }
 
 /// Which of the manifests this path names.
-fn number_of(path: &str) -> Option<usize> {
+pub fn number_of(path: &str) -> Option<usize> {
     for i in 0..PATHS.len() {
         if PATHS[i] == path {
             return Some(i);
@@ -94,6 +111,7 @@ impl Files for Stored {
     ghost may_fail = { λ f path. Unit {0} };
 
     fn read(&self, alloc: Global, path: &str) -> Result<Vec<u8>, ReadFault> {
+        self.reads.fetch_add(1, Ordering::SeqCst);
         let Some(which) = number_of(path) else {
             return Err(ReadFault::Absent);
         };

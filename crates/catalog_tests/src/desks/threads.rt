@@ -2,12 +2,11 @@
 
 ghost use Rattle.std.specs.Prelude.{None};
 
-use crate::desks::table::{file_of, scan_of_first};
-use crate::files::PATHS;
+use crate::desks::table::{file_of, number_of, scan_of_three};
+use crate::words::{PLAN, is_plan};
 use ice_desk::{Files, Gate, ReadFault, plan_scan};
 use std::alloc::Global;
 use std::sync::atomic::{AtomicU64, Ordering};
-use std::test::Fail;
 
 /// For how long one waits for another. A healthy run needs few of them.
 const TURNS: u64 = 1_000_000_000;
@@ -29,6 +28,17 @@ struct TwoAtOnce {
 }
 
 impl TwoAtOnce {
+    /// Nobody has come yet.
+    fn new() -> TwoAtOnce {
+        TwoAtOnce {
+            first: AtomicU64::new(0),
+            came: AtomicU64::new(0),
+            calls: AtomicU64::new(0),
+            reads: AtomicU64::new(0),
+            late: AtomicU64::new(0),
+        }
+    }
+
     /// Waits until the count is above one.
     fn wait_for_two(&self, count: &AtomicU64) {
         if self.late.load(Ordering::SeqCst) > 0 {
@@ -69,28 +79,23 @@ impl Files for TwoAtOnce {
         if self.reads.fetch_add(1, Ordering::SeqCst) == 0 {
             self.wait_for_two(&self.reads);
         }
-        file_of(alloc, if path == PATHS[0] { 0 } else { 1 })
+        file_of(alloc, number_of(path).unwrap_or(0))
     }
 }
 
 #[test]
-fn two_at_once(rt: HostRuntime) -> Result<(), Fail> {
-    let alloc = rt.alloc();
-    let scan = scan_of_first(alloc, 2)?;
-    assert!(rt; scan.wanted().len() == 2);
-    let both = TwoAtOnce {
-        first: AtomicU64::new(0),
-        came: AtomicU64::new(0),
-        calls: AtomicU64::new(0),
-        reads: AtomicU64::new(0),
-        late: AtomicU64::new(0),
+fn two_at_once(rt: HostRuntime) {
+    let Some(scan) = scan_of_three(rt.alloc()) else {
+        panic!(rt; "there is memory for a scan");
     };
-    match plan_scan(&rt, alloc, &both, &scan, 2, &both) {
-        Ok(plan) => assert!(rt; plan.lines().len() == 1),
+    assert!(rt; scan.wanted().len() == 3);
+    let both = TwoAtOnce::new();
+    let planned = plan_scan(&rt, rt.alloc(), &both, &scan, 2, &both);
+    match planned {
+        Ok(plan) => assert!(rt; is_plan(PLAN, &plan.lines())),
         Err(_) => panic!(rt; "all files are there"),
     }
     assert!(rt; both.late.load(Ordering::SeqCst) == 0);
-    assert!(rt; both.calls.load(Ordering::SeqCst) == 2);
-    assert!(rt; both.reads.load(Ordering::SeqCst) == 2);
-    Ok(())
+    assert!(rt; both.calls.load(Ordering::SeqCst) == 3);
+    assert!(rt; both.reads.load(Ordering::SeqCst) == 3);
 }

@@ -1,8 +1,9 @@
 //! What a commit adds, by name.
 
 use crate::versions::{file, ids};
-use contract_words::Items;
+use contract_words::{Items, Text};
 use ice_catalog::{Change, PrepareFault, Prepared, Version, World, prepare};
+use ice_meta::Snapshot;
 use ice_value::{Cell, FileContent};
 use std::alloc::{AllocError, Global};
 
@@ -30,25 +31,34 @@ const PATHS: [&str; 4] = [
     "mem://t/metadata/snap-7-07070707-0707-0707-0707-070707070707.avro",
 ];
 
-/// Whether these are its files, and the table's last snapshot is that of a change of data and deletes.
-fn is_added(prepared: &Prepared) -> bool {
-    let files = prepared.files();
-    let table = prepared.version().metadata().table();
-    let overwrites = match table.snapshots.as_slice() {
+/// Whether the table's only snapshot is that of a change of data and deletes.
+fn overwrites(snapshots: &[Snapshot]) -> bool {
+    match snapshots {
         [snapshot] => match &snapshot.operation {
             Some(operation) => operation.as_str() == "overwrite",
             None => false,
         },
         _ => false,
-    };
-    overwrites
-        && table.last_sequence_number.get() == 5
+    }
+}
+
+/// Whether these are the files of the change, in their order.
+fn are_named(files: &[(Text, Items<u8>)]) -> bool {
+    for i in 0..files.len() {
+        if i >= PATHS.len() || files[i].0.as_str() != PATHS[i] {
+            return false;
+        }
+    }
+    files.len() == PATHS.len()
+}
+
+/// Whether the change was prepared so.
+fn is_added(prepared: &Prepared) -> bool {
+    let table = prepared.version().metadata().table();
+    table.last_sequence_number.get() == 5
         && table.current_snapshot_id == Some(7)
-        && files.len() == PATHS.len()
-        && files
-            .iter()
-            .zip(PATHS)
-            .all(|(file, path)| file.0.as_str() == path)
+        && overwrites(table.snapshots.as_slice())
+        && are_named(prepared.files())
 }
 
 /// The table's version, and the change.
@@ -70,5 +80,9 @@ fn data_come_first_and_then_the_specs(rt: HostRuntime) {
         Err(PrepareFault::Memory) => prepare(alloc, &base, &change, ids(7)),
         prepared => prepared,
     };
-    assert!(rt; prepared.is_ok_and(|prepared| is_added(&prepared)));
+    let is_right = match &prepared {
+        Ok(prepared) => is_added(prepared),
+        Err(_) => false,
+    };
+    assert!(rt; is_right);
 }
