@@ -25,6 +25,9 @@
 //! - below headings: bundles of lists, well written or not; requests of tables in a bundle; partitions and a summary that
 //!   lies; metadata that is shown; change files; commits to bundles and to folders that refuse; paths below a folder;
 //!   words, in other orders and refused; drills; texts of help
+//! - `data/upgraded`, a table that began as version 1: its plans, a row delta with position deletes that name one data
+//!   file, its plan after that, and plans of the version before; refused names of data files, and a time that goes back;
+//!   in `data/events` a position delete that names a data file of another partition, which applies to nothing
 #![tactic(auto)]
 
 use ice_commands::{Watch, run_words};
