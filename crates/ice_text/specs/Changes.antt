@@ -95,7 +95,7 @@ each read items = each_behind read items []
 unfoldable pub tuple_in : Data → Result (List Cell) ChangeFault
 tuple_in d = needed as_array member.Partition d >>= each (λ item. asked member.Partition (as_cell item))
 
--- a data file
+-- what is said of each file, as of a data file that names no other
 unfoldable pub file_of : Data → Result NewFile ChangeFault
 file_of d = do
   path ← needed as_str member.Path d
@@ -133,7 +133,7 @@ ids_of (Some d) = asked member.EqualityIds (as_array d) >>= each (λ item. asked
 unfoldable pub ids_in : Data → Result (List ℤ) ChangeFault
 ids_in d = ids_of (option_and_then not_null (get (member_name member.EqualityIds) d))
 
--- the one data file whose rows it deletes; where the member is left out or null it names none
+-- the one data file that a file names as the one that it is about; where the member is left out or null it names none
 abbrev pub name_of : Option Data → Result (Option (List ℕ)) ChangeFault
 name_of None = Ok None
 name_of (Some d) = asked member.ReferencedDataFile (as_str d) >>= λ path. Ok (Some path)
@@ -141,7 +141,14 @@ name_of (Some d) = asked member.ReferencedDataFile (as_str d) >>= λ path. Ok (S
 unfoldable pub referenced_in : Data → Result (Option (List ℕ)) ChangeFault
 referenced_in d = name_of (option_and_then not_null (get (member_name member.ReferencedDataFile) d))
 
--- a delete file: it has these three behind all that a data file has
+-- a data file: that it may name no other is for the commit to say
+unfoldable pub data_file_of : Data → Result NewFile ChangeFault
+data_file_of d = do
+  file ← file_of d
+  referenced ← referenced_in d
+  Ok (record file { referenced = referenced })
+
+-- a delete file: what it deletes by stands in front of the name
 unfoldable pub delete_file_of : Data → Result NewFile ChangeFault
 delete_file_of d = do
   file ← file_of d
@@ -164,7 +171,7 @@ change_in asked_for d = do
   data_objects ← needed as_objects member.Data d
   delete_objects ← needed as_objects member.Deletes d
   _ ← allowed asked_for delete_objects
-  files ← each file_of data_objects
+  files ← each data_file_of data_objects
   deletes ← each delete_file_of delete_objects
   Ok (record { files = files; deletes = deletes })
 

@@ -3,7 +3,7 @@
 ghost use Rattle.std.specs.Prelude.{◌≡◌};
 ghost use Rattle.contract_words.specs.Outcome.{Gives};
 ghost use Rattle.serde_json.specs.View.{items_view, view};
-ghost use Rattle.ice_text.specs.Changes.{allowed, change_in, change_of, delete_file_of, each, file_of, json_of};
+ghost use Rattle.ice_text.specs.Changes.{allowed, change_in, change_of, data_file_of, delete_file_of, each, json_of};
 ghost use Rattle.ice_text.specs.Changes.{text_json};
 
 mod fault;
@@ -11,7 +11,7 @@ mod members;
 mod new_file;
 
 use crate::change::members::objects_at;
-use crate::change::new_file::{delete_file_from, file_from};
+use crate::change::new_file::{data_file_from, delete_file_from};
 use contract_words::Items;
 pub use fault::{ChangeFault, ChangeMember};
 use ice_versions::{Change, NewFile};
@@ -67,11 +67,11 @@ fn check_allowed(kind: ChangeKind, deletes: &Vec<Value>) -> Result<(), ChangeFau
 
 /// The data files of an array.
 fn files_from(alloc: Global, items: &Vec<Value>) -> Result<Items<NewFile>, ChangeFault>
-    ensures { Gives ChangeFault.Memory (λ files. files) result (each file_of (items_view items.now.items)) }
+    ensures { Gives ChangeFault.Memory (λ files. files) result (each data_file_of (items_view items.now.items)) }
 {
     let mut files = Items::new(alloc);
     'files: for item in items {
-        files.push(file_from(alloc, item)?)?;
+        files.push(data_file_from(alloc, item)?)?;
     }
     Ok(files)
 }

@@ -204,7 +204,7 @@ pub fn ids_at(alloc: Global, json: &Value) -> Result<Items<i32>, ChangeFault>
     }
 }
 
-/// The one data file whose rows a delete file deletes.
+/// The one data file that a file names as the one that it is about.
 #[tactic(auto, unfolding(crate::specs::Changes::referenced_in))]
 pub fn referenced_at(alloc: Global, json: &Value) -> Result<Option<Text>, ChangeFault>
     ensures { Gives ChangeFault.Memory (λ path. path) result (referenced_in (view json.now)) }

@@ -3,19 +3,21 @@
 ghost use Rattle.std.specs.Prelude.{◌≡◌};
 ghost use Rattle.contract_words.specs.Outcome.{Gives};
 ghost use Rattle.serde_json.specs.View.{view};
-ghost use Rattle.ice_text.specs.Changes.{as_delete_content, content_in, delete_file_of, file_of};
+ghost use Rattle.ice_text.specs.Changes.{as_delete_content, content_in, data_file_of, delete_file_of, file_of};
 
 use crate::change::fault::{ChangeFault, ChangeMember};
-use crate::change::members::{ids_at, int_at, kept_text_at, long_at, referenced_at, text_at, tuple_at};
+use crate::change::members::{
+    ids_at, int_at, kept_text_at, long_at, referenced_at, text_at, tuple_at,
+};
 use contract_words::Items;
 use ice_value::FileContent;
 use ice_versions::NewFile;
 use serde_json::Value;
 use std::alloc::Global;
 
-/// A data file.
+/// What is said of each file, as of a data file that names no other.
 #[tactic(auto, unfolding(crate::specs::Changes::file_of))]
-pub fn file_from(alloc: Global, json: &Value) -> Result<NewFile, ChangeFault>
+fn file_from(alloc: Global, json: &Value) -> Result<NewFile, ChangeFault>
     ensures { Gives ChangeFault.Memory (λ file. file) result (file_of (view json.now)) }
 {
     Ok(NewFile {
@@ -29,6 +31,16 @@ pub fn file_from(alloc: Global, json: &Value) -> Result<NewFile, ChangeFault>
         equality_ids: Items::new(alloc),
         referenced: None,
     })
+}
+
+/// A data file.
+#[tactic(auto, unfolding(crate::specs::Changes::data_file_of))]
+pub fn data_file_from(alloc: Global, json: &Value) -> Result<NewFile, ChangeFault>
+    ensures { Gives ChangeFault.Memory (λ file. file) result (data_file_of (view json.now)) }
+{
+    let said = file_from(alloc, json)?;
+    let referenced = referenced_at(alloc, json)?;
+    Ok(NewFile { referenced, ..said })
 }
 
 /// What a delete file deletes by.
