@@ -23,6 +23,55 @@ same ms ns e = let P : List ℕ → Type 0 = λ ks. IsPermutation ms ks in subst
 of_shelf : (g : Group) (s : Shelf) → IsShelf g s → AreIn g s.deletes.items
 of_shelf g s is = recursion_from_All _ s.deletes.items is.grouped
 
+module _ (i : Inside) (is : IsIndex i) (x : DataKey) (numbers : List ℕ) where
+  positions_is : Lends i.positions (key_for x x.sequence_number) numbers
+      → numbers ≡ numbers_where (applies x) (entries i.positions.deletes.items)
+  positions_is found = shelf_lends Positions i.positions is.positions x (key_for x x.sequence_number) numbers
+      (positions_apply x) found
+
+  referenced_is : Lends i.referenced (key_for x x.sequence_number) numbers
+      → numbers ≡ numbers_where (applies x) (entries i.referenced.deletes.items)
+  referenced_is found = shelf_lends Referenced i.referenced is.referenced x (key_for x x.sequence_number) numbers
+      (referenced_apply x) found
+
+  equalities_is : Lends i.equalities (key_for x (x.sequence_number + 1)) numbers
+      → numbers ≡ numbers_where (applies x) (entries i.equalities.deletes.items)
+  equalities_is found = shelf_lends Equalities i.equalities is.equalities x (key_for x (x.sequence_number + 1)) numbers
+      (equalities_apply x) found
+
+  everywhere_is : Lends i.everywhere (key_for x (x.sequence_number + 1)) numbers
+      → numbers ≡ numbers_where (applies x) (entries i.everywhere.deletes.items)
+  everywhere_is found = shelf_lends Everywhere i.everywhere is.everywhere x (key_for x (x.sequence_number + 1)) numbers
+      (everywhere_apply x) found
+
+  pub positions_lent : Lends i.positions (key_for x x.sequence_number) numbers
+      → IsPermutation (numbers_where (λ d. is_in Positions d && applies x d) (entries_in i)) numbers
+  positions_lent found = same _ numbers (positions_are i.positions.deletes.items i.referenced.deletes.items i.equalities.deletes.items
+      i.everywhere.deletes.items (of_shelf Positions i.positions is.positions) (of_shelf Referenced i.referenced
+      is.referenced) (of_shelf Equalities i.equalities is.equalities) (of_shelf Everywhere i.everywhere is.everywhere)
+      (applies x) ∙ sym (positions_is found))
+
+  pub referenced_lent : Lends i.referenced (key_for x x.sequence_number) numbers
+      → IsPermutation (numbers_where (λ d. is_in Referenced d && applies x d) (entries_in i)) numbers
+  referenced_lent found = same _ numbers (referenced_are i.positions.deletes.items i.referenced.deletes.items i.equalities.deletes.items
+      i.everywhere.deletes.items (of_shelf Positions i.positions is.positions) (of_shelf Referenced i.referenced
+      is.referenced) (of_shelf Equalities i.equalities is.equalities) (of_shelf Everywhere i.everywhere is.everywhere)
+      (applies x) ∙ sym (referenced_is found))
+
+  pub equalities_lent : Lends i.equalities (key_for x (x.sequence_number + 1)) numbers
+      → IsPermutation (numbers_where (λ d. is_in Equalities d && applies x d) (entries_in i)) numbers
+  equalities_lent found = same _ numbers (equalities_are i.positions.deletes.items i.referenced.deletes.items i.equalities.deletes.items
+      i.everywhere.deletes.items (of_shelf Positions i.positions is.positions) (of_shelf Referenced i.referenced
+      is.referenced) (of_shelf Equalities i.equalities is.equalities) (of_shelf Everywhere i.everywhere is.everywhere)
+      (applies x) ∙ sym (equalities_is found))
+
+  pub everywhere_lent : Lends i.everywhere (key_for x (x.sequence_number + 1)) numbers
+      → IsPermutation (numbers_where (λ d. is_in Everywhere d && applies x d) (entries_in i)) numbers
+  everywhere_lent found = same _ numbers (everywhere_are i.positions.deletes.items i.referenced.deletes.items i.equalities.deletes.items
+      i.everywhere.deletes.items (of_shelf Positions i.positions is.positions) (of_shelf Referenced i.referenced
+      is.referenced) (of_shelf Equalities i.equalities is.equalities) (of_shelf Everywhere i.everywhere is.everywhere)
+      (applies x) ∙ sym (everywhere_is found))
+
 -- what was found on each shelf
 pub record AreFound (i : Inside) (x : DataKey) (p r e w : List ℕ) : Type 0 where
   pub positions : Lends i.positions (key_for x x.sequence_number) p
@@ -31,44 +80,9 @@ pub record AreFound (i : Inside) (x : DataKey) (p r e w : List ℕ) : Type 0 whe
   pub everywhere : Lends i.everywhere (key_for x (x.sequence_number + 1)) w
 
 module _ (i : Inside) (is : IsIndex i) (x : DataKey) (p r e w : List ℕ) (found : AreFound i x p r e w) where
-  positions_is : p ≡ numbers_where (applies x) (entries i.positions.deletes.items)
-  positions_is = shelf_lends Positions i.positions is.positions x (key_for x x.sequence_number) p (positions_apply x) found.positions
-
-  referenced_is : r ≡ numbers_where (applies x) (entries i.referenced.deletes.items)
-  referenced_is = shelf_lends Referenced i.referenced is.referenced x (key_for x x.sequence_number) r (referenced_apply x) found.referenced
-
-  equalities_is : e ≡ numbers_where (applies x) (entries i.equalities.deletes.items)
-  equalities_is = shelf_lends Equalities i.equalities is.equalities x (key_for x (x.sequence_number + 1)) e (equalities_apply x) found.equalities
-
-  everywhere_is : w ≡ numbers_where (applies x) (entries i.everywhere.deletes.items)
-  everywhere_is = shelf_lends Everywhere i.everywhere is.everywhere x (key_for x (x.sequence_number + 1)) w (everywhere_apply x) found.everywhere
-
-  pub positions_lent : IsPermutation (numbers_where (λ d. is_in Positions d && applies x d) (entries_in i)) p
-  positions_lent = same _ p (positions_are i.positions.deletes.items i.referenced.deletes.items i.equalities.deletes.items
-      i.everywhere.deletes.items (of_shelf Positions i.positions is.positions) (of_shelf Referenced i.referenced
-      is.referenced) (of_shelf Equalities i.equalities is.equalities) (of_shelf Everywhere i.everywhere is.everywhere)
-      (applies x) ∙ sym positions_is)
-
-  pub referenced_lent : IsPermutation (numbers_where (λ d. is_in Referenced d && applies x d) (entries_in i)) r
-  referenced_lent = same _ r (referenced_are i.positions.deletes.items i.referenced.deletes.items i.equalities.deletes.items
-      i.everywhere.deletes.items (of_shelf Positions i.positions is.positions) (of_shelf Referenced i.referenced
-      is.referenced) (of_shelf Equalities i.equalities is.equalities) (of_shelf Everywhere i.everywhere is.everywhere)
-      (applies x) ∙ sym referenced_is)
-
-  pub equalities_lent : IsPermutation (numbers_where (λ d. is_in Equalities d && applies x d) (entries_in i)) e
-  equalities_lent = same _ e (equalities_are i.positions.deletes.items i.referenced.deletes.items i.equalities.deletes.items
-      i.everywhere.deletes.items (of_shelf Positions i.positions is.positions) (of_shelf Referenced i.referenced
-      is.referenced) (of_shelf Equalities i.equalities is.equalities) (of_shelf Everywhere i.everywhere is.everywhere)
-      (applies x) ∙ sym equalities_is)
-
-  pub everywhere_lent : IsPermutation (numbers_where (λ d. is_in Everywhere d && applies x d) (entries_in i)) w
-  everywhere_lent = same _ w (everywhere_are i.positions.deletes.items i.referenced.deletes.items i.equalities.deletes.items
-      i.everywhere.deletes.items (of_shelf Positions i.positions is.positions) (of_shelf Referenced i.referenced
-      is.referenced) (of_shelf Equalities i.equalities is.equalities) (of_shelf Everywhere i.everywhere is.everywhere)
-      (applies x) ∙ sym everywhere_is)
-
   all_is : p ++ r ++ e ++ w ≡ numbers_where (applies x) (entries_in i)
-  all_is = all_four p r e w _ _ _ _ positions_is referenced_is equalities_is everywhere_is
+  all_is = all_four p r e w _ _ _ _ (positions_is i is x p found.positions) (referenced_is i is x r found.referenced)
+      (equalities_is i is x e found.equalities) (everywhere_is i is x w found.everywhere)
       ∙ sym (by_shelf i.positions.deletes.items i.referenced.deletes.items i.equalities.deletes.items
       i.everywhere.deletes.items (of_shelf Positions i.positions is.positions) (of_shelf Referenced i.referenced
       is.referenced) (of_shelf Equalities i.equalities is.equalities) (of_shelf Everywhere i.everywhere is.everywhere)
