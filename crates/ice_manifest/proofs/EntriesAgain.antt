@@ -2,7 +2,7 @@
 use Rattle.std.proofs.Common.{◌≡◌, ℕ, zero, suc, ◌+◌, ◌≤◌, ◌<◌, ◌^◌, ℤ, pos, negsuc, Bool, true, false, ◌&&◌, List, []}
 use Rattle.std.proofs.Common.{◌∷◌, length, map, Option, Some, None, Ok, inl, inr, refl, sym, ap, subst, ◌∙◌, arith}
 use Rattle.std.proofs.Common.{add-one}
-use Rattle.std.specs.Prelude.{nat_le, nat_lt}
+use Rattle.std.specs.Prelude.{nat_le, nat_lt, IfSome}
 use Rattle.std.proofs.lemmas.Bool.{lt-ltb, le-leb}
 use Rattle.std.proofs.lemmas.Bool.Decides.{Decides-int_eq}
 use Rattle.std.specs.List.{AllByRecursion, IsDistinct, filter_map, enumerate_from}
@@ -10,7 +10,7 @@ use Rattle.std.specs.Ordering.{int_eq}
 use Rattle.avro_schema.specs.Tree as tree_of
 use Rattle.avro_schema.specs.Tree.{Tree, Fields, field, structure}
 use Rattle.avro_schema.specs.declared.schema.ArrayKind.TheVariants as stands_for
-use Rattle.avro_file.specs.Value.{Value, Values, small, fields, value, values_of}
+use Rattle.avro_file.specs.Value.{Value, Values, small, text, fields, value, values_of}
 use Rattle.avro_file.specs.Files.{opened_at, reader_of}
 use Rattle.avro_file.specs.Picking.{Typed, pick}
 use Rattle.ice_value.specs.declared.cell.Cell.{Cell}
@@ -29,14 +29,14 @@ use Rattle.ice_manifest_reading.specs.declared.entry.Live.{Live}
 use Rattle.ice_manifest_reading.specs.declared.status.Status.TheVariants.{Added}
 use Rattle.ice_manifest.specs.declared.new_file.NewFile.{NewFile}
 use Rattle.ice_manifest.specs.declared.heading.Heading.{Heading}
-use Rattle.ice_manifest.specs.Adding.{IsId, IsHeading, IsNewFile, is_null_or_of, is_tuple_of}
+use Rattle.ice_manifest.specs.Adding.{IsId, IsHeading, IsNewFile, MayReference, is_null_or_of, is_tuple_of}
 use Rattle.ice_manifest_reading.specs.Each.{each}
-use Rattle.ice_manifest_reading.specs.Fields.{at, there, items_of, items_as, int_at, path_at, number_at}
-use Rattle.ice_manifest_reading.specs.Fields.{optional_number, int_item, ints_at, within_32}
+use Rattle.ice_manifest_reading.specs.Fields.{at, there, text_of, items_of, items_as, int_at, int_or_zero, path_at}
+use Rattle.ice_manifest_reading.specs.Fields.{optional_number, optional_text, optional_path, int_item, ints_at, within_32}
 use Rattle.ice_manifest.specs.Fitting.{FileFits}
 use Rattle.ice_manifest_reading.specs.Laws.{SaysFile, SaysLive, SayEntries, MayHold}
-use Rattle.ice_manifest_reading.specs.Manifests.{content_of, content_at, status_at, sequence_at, file_sequence_at}
-use Rattle.ice_manifest_reading.specs.Manifests.{entries_ahead, live_of, kept, entries, entries_of}
+use Rattle.ice_manifest_reading.specs.Manifests.{content_of, content_at, referenced_at, status_at, sequence_at}
+use Rattle.ice_manifest_reading.specs.Manifests.{file_sequence_at, entries_ahead, live_of, kept, entries, entries_of}
 use Rattle.ice_manifest_reading.specs.Maps.{counts_at, bounds_at}
 use Rattle.ice_manifest_reading.specs.Partitions.{cell_of, cell_at, cells_of, tuple_at}
 use Rattle.ice_manifest_reading.specs.Schemas as schemas
@@ -47,7 +47,8 @@ use Rattle.ice_manifest_reading.specs.Types.{each_is, some_is, fits}
 use Rattle.ice_manifest.specs.WrittenTypes.{null_or, written_tree, written_fields}
 use Rattle.ice_manifest.specs.WrittenSchemas.{value_type, partition_fields, file_type, entry_type}
 use Rattle.ice_manifest.specs.Writing.{manifest_type, new_entry, new_entries}
-use Rattle.ice_manifest.specs.WrittenValues.{cell_value, tuple_values, file_content, ids_value, file_value, entry_value}
+use Rattle.ice_manifest.specs.WrittenValues.{if_some, cell_value, tuple_values, file_content, ids_value, file_value}
+use Rattle.ice_manifest.specs.WrittenValues.{entry_value}
 use Rattle.ice_manifest_reading.proofs.Said.{entries_by}
 
 both : (a b : Bool) → (a && b) ≡ true → (a ≡ true) × (b ≡ true)
@@ -194,6 +195,32 @@ unfolding each
 ids_again [] all = refl
 ids_again (id ∷ ids) all = each_id (id ∷ ids) all
 
+text_again : (path : Option (List ℕ)) → text_of (there (pick [] (null_or tree_of.string, if_some text path))) ≡ path
+text_again None = refl
+text_again (Some s) = refl
+
+positions_alone : (path : List ℕ) → MayReference holds.Data path → ⊥
+positions_alone path may = no_data may.0 where
+  no_data : holds.Data ≡ holds.PositionDeletes → ⊥
+  no_data e = cc
+
+no_equality : (path : List ℕ) → MayReference holds.EqualityDeletes path → ⊥
+no_equality path may = no_ids may.0 where
+  no_ids : holds.EqualityDeletes ≡ holds.PositionDeletes → ⊥
+  no_ids e = cc
+
+referenced_again : (content : FileContent) (x : Typed) (path : Option (List ℕ)) → optional_text (pos 143) x ≡ path
+    → IfSome path (MayReference content) → referenced_at content x ≡ Ok path
+unfolding referenced_at optional_path
+referenced_again holds.PositionDeletes x None said may = rw said refl
+referenced_again holds.PositionDeletes x (Some s) said may =
+    let short : nat_le (length s) 65535 ≡ true = le-leb (length s) 65535 may.1 in
+    rw (said, short) refl
+referenced_again holds.Data x None said may = refl
+referenced_again holds.Data x (Some s) said may = absurd (positions_alone s may)
+referenced_again holds.EqualityDeletes x None said may = refl
+referenced_again holds.EqualityDeletes x (Some s) said may = absurd (no_equality s may)
+
 no_bounds : FileBounds
 no_bounds = record { value_counts = []; null_counts = []; lower_bounds = []; upper_bounds = [] }
 
@@ -210,8 +237,9 @@ file_says : (of_row : ManifestContent) (h : Heading) (f : NewFile) → of_row �
       record_count = f.record_count;
       file_size = f.file_size;
       equality_ids = f.equality_ids;
+      referenced = f.referenced;
     }) no_bounds
-unfolding no_bounds path_at int_at ints_at content_at counts_at bounds_at each
+unfolding no_bounds path_at int_or_zero int_at type_at ints_at content_at counts_at bounds_at each
 file_says of_row h f same heading new fit =
     let short : nat_le (length f.path) 65535 ≡ true = le-leb (length f.path) 65535 new.path in
     let may : MayHold of_row f.content = subst (λ (c : ManifestContent). MayHold c f.content) (sym same) new.content in
@@ -226,6 +254,7 @@ file_says of_row h f same heading new fit =
       lower_bounds = refl;
       upper_bounds = refl;
       equality_ids = ids_again f.equality_ids fit.equality_ids;
+      referenced = referenced_again f.content _ f.referenced (text_again f.referenced) new.referenced;
     }
 
 -- ---- entries

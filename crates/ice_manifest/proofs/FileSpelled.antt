@@ -3,7 +3,7 @@ use Rattle.std.proofs.Common.{◌≡◌, ℕ, zero, suc, ◌+◌, ◌^◌, ◌<�
 use Rattle.std.proofs.Common.{length, map, Option, Some, None, refl, sym, ap, arith}
 use Rattle.std.specs.List.{AllByRecursion}
 use Rattle.std.proofs.lemmas.Bool.{ltb-true, eqb-true}
-use Rattle.std.specs.Prelude.{nat_lt, negsuc}
+use Rattle.std.specs.Prelude.{nat_lt, negsuc, IfSome}
 use Rattle.avro_schema.specs.Tree as tree_of
 use Rattle.avro_schema.specs.declared.schema.BytesKind.TheVariants.{Plain}
 use Rattle.avro_schema.specs.declared.schema.ArrayKind.TheVariants as stands_for
@@ -30,8 +30,8 @@ use Rattle.ice_manifest.specs.WrittenTypes.{null_or, written_tree, written_field
 use Rattle.ice_manifest.specs.WrittenSchemas.{value_type, partition_fields, pair_type, column_fields, file_type}
 use Rattle.ice_manifest.specs.WrittenSchemas.{entry_type}
 use Rattle.ice_manifest.specs.Writing.{manifest_type}
-use Rattle.ice_manifest.specs.WrittenValues.{no_value, cell_value, tuple_values, file_content, ids_value, column_values}
-use Rattle.ice_manifest.specs.WrittenValues.{file_value, entry_value}
+use Rattle.ice_manifest.specs.WrittenValues.{no_value, if_some, cell_value, tuple_values, file_content, ids_value}
+use Rattle.ice_manifest.specs.WrittenValues.{column_values, file_value, entry_value}
 use Rattle.ice_manifest.proofs.Typed.{HasSpelling, HasSpellings, a_long, an_int, a_truth, a_text, a_run, a_raw, a_null}
 use Rattle.ice_manifest.proofs.Typed.{a_some, no_spelling, and_then, a_record, an_array}
 
@@ -93,14 +93,20 @@ ids_spelled (id ∷ ids) all few =
 
 -- ---- a data file and its entry
 
-columns_spelled : (ids : List ℤ) → AllByRecursion IsId ids → length ids ≤ 1000
-    → HasSpellings (written_fields column_fields) (column_values ids)
-columns_spelled ids all few =
+path_spelled : (path : Option (List ℕ)) → IfSome path IsText
+    → HasSpelling (null_or tree_of.string) (if_some text path)
+path_spelled None fits = a_null _
+path_spelled (Some s) fits = a_some _ _ (a_text s fits)
+
+columns_spelled : (f : NewFile) → FileFits f → length f.equality_ids ≤ 1000
+    → HasSpellings (written_fields column_fields) (column_values f)
+columns_spelled f fits few =
     and_then _ _ _ _ _ (a_null _)
     (and_then _ _ _ _ _ (a_null _)
     (and_then _ _ _ _ _ (a_null _)
     (and_then _ _ _ _ _ (a_null _)
-    (and_then _ _ _ _ _ (ids_spelled ids all few) no_spelling))))
+    (and_then _ _ _ _ _ (ids_spelled f.equality_ids fits.equality_ids few)
+    (and_then _ _ _ _ _ (path_spelled f.referenced fits.referenced) no_spelling)))))
 
 content_id : (content : FileContent) → IsId (file_content content)
 content_id holds.Data = omega arith
@@ -116,8 +122,7 @@ file_spelled h f heading new fits =
     (and_then _ _ _ _ _ (a_text f.format fits.format)
     (and_then _ _ _ _ _ (a_record _ _ (tuple_spelled h.spec.fields h.types f.tuple heading.typed new.tuple fits.tuple))
     (and_then _ _ _ _ _ (a_long f.record_count fits.record_count)
-    (and_then _ _ _ _ _ (a_long f.file_size fits.file_size) (columns_spelled f.equality_ids fits.equality_ids
-    new.equality_ids)))))))
+    (and_then _ _ _ _ _ (a_long f.file_size fits.file_size) (columns_spelled f fits new.equality_ids)))))))
 
 entry_spelled : (h : Heading) (f : NewFile) → IsHeading h → IsNewFile h f → FileFits f → IsLong h.snapshot_id
     → HasSpelling (written_tree (manifest_type h)) (entry_value h f)
@@ -170,9 +175,18 @@ ids_items (id ∷ ids) few = omega (
       (id ∷ ids),
 )
 
+path_items : (path : Option (List ℕ)) → item_count (if_some text path) ≡ 0
+path_items None = refl
+path_items (Some s) = refl
+
 few_items : (h : Heading) (f : NewFile) → IsNewFile h f → item_count (entry_value h f) ≤ max_items
 unfolding entry_value
-few_items h f new = omega (arith, tuple_items h.types f.tuple new.tuple, ids_items f.equality_ids new.equality_ids)
+few_items h f new = omega (
+  arith,
+  tuple_items h.types f.tuple new.tuple,
+  ids_items f.equality_ids new.equality_ids,
+  path_items f.referenced,
+)
 
 pub entries_are_of : (h : Heading) (fs : List NewFile) → IsHeading h → AllByRecursion (IsNewFile h) fs
     → AllByRecursion FileFits fs → IsLong h.snapshot_id

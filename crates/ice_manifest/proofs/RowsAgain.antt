@@ -32,7 +32,8 @@ use Rattle.ice_manifest_reading.specs.declared.row.ManifestContent.TheVariants.{
 use Rattle.ice_manifest.specs.Adding.{IsId}
 use Rattle.ice_manifest_reading.specs.Each.{each}
 use Rattle.ice_manifest_reading.specs.Fields.{at, there, whole_of, truth_of, binary_of, items_as, items_of, within_32}
-use Rattle.ice_manifest_reading.specs.Fields.{if_there, path_at, int_at, number_at, long_at, optional_int}
+use Rattle.ice_manifest_reading.specs.Fields.{if_there, path_at, int_at, int_or_zero, number_at, number_or_zero}
+use Rattle.ice_manifest_reading.specs.Fields.{long_at, optional_int}
 use Rattle.ice_manifest_reading.specs.Fields.{optional_long, short_path}
 use Rattle.ice_manifest.specs.Fitting.{RowFits, IsReadable, CountsFit}
 use Rattle.ice_manifest_reading.specs.Kinds.{wanted}
@@ -105,7 +106,8 @@ content_within id Deletes = refl
 -- ---- rows
 
 row_says : (r : Row) → RowFits r → IsReadable r → SaysRow (written_tree list_type, row_value r) r
-unfolding list_type row_value path_at int_at number_at optional_int counts_at content_at
+unfolding list_type row_value path_at int_at int_or_zero number_at number_or_zero type_at optional_int counts_at
+    content_at
 row_says r h k =
     let short : nat_le (length r.path) 65535 ≡ true = le-leb (length r.path) 65535 k.path in record {
       path = rw short refl;

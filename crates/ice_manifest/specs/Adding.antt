@@ -1,10 +1,12 @@
 -- What can be added to a table: the files of a new manifest, and what they have in common.
 use Rattle.std.specs.Prelude.{◌≡◌, ◌<◌, ◌≤◌, ◌^◌, ℕ, ℤ, pos, negsuc, Bool, true, false, ◌&&◌, List, [], ◌∷◌, length}
-use Rattle.std.specs.Prelude.{map, nat_lt}
+use Rattle.std.specs.Prelude.{map, nat_lt, IfSome}
 use Rattle.std.specs.List.{AllByRecursion}
 use denote.Ref.{Bor}
 use Rattle.ice_value.specs.declared.column_type.ColumnType.{ColumnType}
 use Rattle.ice_value.specs.declared.column_type.ColumnType.TheVariants.{Float, Double, Decimal, Fixed}
+use Rattle.ice_value.specs.declared.file_content.FileContent.{FileContent}
+use Rattle.ice_value.specs.declared.file_content.FileContent.TheVariants as holds
 use Rattle.ice_value.specs.declared.cell.Cell.{Cell}
 use Rattle.ice_value.specs.declared.cell.Cell.TheVariants.{Null}
 use Rattle.ice_value.specs.Bounds.{is_value}
@@ -53,6 +55,10 @@ abbrev pub IsAmount : ℤ → Type 0
 IsAmount (pos n) = n ≤ 2 ^ 40
 IsAmount (negsuc n) = ⊥
 
+-- position deletes alone may name one data file that they are about, by a path that is read again
+abbrev pub MayReference : FileContent → List ℕ → Type 0
+MayReference content path = (content ≡ holds.PositionDeletes) × (length path ≤ 65535)
+
 -- a file that a manifest of this heading can have
 pub record IsNewFile (h : Heading) (f : NewFile) : Type 0 where
   pub content : MayHold h.content f.content
@@ -60,6 +66,7 @@ pub record IsNewFile (h : Heading) (f : NewFile) : Type 0 where
   pub tuple : is_tuple_of h.types f.tuple ≡ true
   pub record_count : IsAmount f.record_count
   pub equality_ids : length f.equality_ids ≤ 1000
+  pub referenced : IfSome f.referenced (MayReference f.content)
 
 pub record AreNewFiles (h : Heading) (fs : List NewFile) : Type 0 where
   pub each : AllByRecursion (IsNewFile h) fs

@@ -55,6 +55,7 @@ pub record FileFits (f : NewFile) : Type 0 where
   pub record_count : IsLong f.record_count
   pub file_size : IsLong f.file_size
   pub equality_ids : AllByRecursion IsId f.equality_ids
+  pub referenced : IfSome f.referenced IsText
 
 -- ---- what is asked
 

@@ -97,6 +97,7 @@ new_entry row h position f = record {
     record_count = f.record_count;
     file_size = f.file_size;
     equality_ids = f.equality_ids;
+    referenced = f.referenced;
   };
 }
 

@@ -87,7 +87,7 @@ pair_type name key said w =
     (required (codes "key") key (word written.int)
     (required (codes "value") said (word w) no_more))
 
--- what is said of the file's columns
+-- what is said of the file's columns; behind it stands what deletes say of themselves
 abbrev pub column_fields : WrittenFields
 column_fields =
     optional (codes "value_counts") (pos 109) (map (pair_type (codes "k119_v120") (pos 119) (pos 120) written.long))
@@ -95,7 +95,8 @@ column_fields =
     (map (pair_type (codes "k121_v122") (pos 121) (pos 122) written.long))
     (optional (codes "lower_bounds") (pos 125) (map (pair_type (codes "k126_v127") (pos 126) (pos 127) written.bytes))
     (optional (codes "upper_bounds") (pos 128) (map (pair_type (codes "k129_v130") (pos 129) (pos 130) written.bytes))
-    (optional (codes "equality_ids") (pos 135) (list (pos 136) (word written.int)) no_more))))
+    (optional (codes "equality_ids") (pos 135) (list (pos 136) (word written.int))
+    (optional (codes "referenced_data_file") (pos 143) (word written.string) no_more)))))
 
 -- a data file, with these partition fields
 abbrev pub file_type : WrittenFields → Written

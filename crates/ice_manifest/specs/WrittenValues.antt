@@ -97,9 +97,10 @@ abbrev pub ids_value : List ℤ → Value
 ids_value [] = no_value
 ids_value (id ∷ ids) = chosen 1 (items (values_of (map small (id ∷ ids))))
 
--- nothing is said of the columns; behind stand the equality ids
-abbrev pub column_values : List ℤ → List Value
-column_values ids = no_value ∷ no_value ∷ no_value ∷ no_value ∷ ids_value ids ∷ []
+-- nothing is said of the columns; behind stand the equality ids, and the data file that position deletes are about
+abbrev pub column_values : NewFile → List Value
+column_values f =
+    no_value ∷ no_value ∷ no_value ∷ no_value ∷ ids_value f.equality_ids ∷ if_some text f.referenced ∷ []
 
 -- a data file
 abbrev pub file_value : List ColumnType → NewFile → Value
@@ -111,7 +112,7 @@ file_value types f =
     ∷ fields (values_of (tuple_values types f.tuple))
     ∷ whole f.record_count
     ∷ whole f.file_size
-    ∷ column_values f.equality_ids
+    ∷ column_values f
     ))
 
 -- the entry of a file that is added: its sequence numbers are left to be inherited

@@ -21,6 +21,8 @@ pub struct NewFile {
     /// In bytes.
     pub file_size: i64,
     pub equality_ids: Items<i32>,
+    /// The path of the one data file that a position delete file is about; none where it is about several.
+    pub referenced: Option<Text>,
 }
 
 impl NewFile {
@@ -37,6 +39,16 @@ impl NewFile {
             record_count: self.record_count,
             file_size: self.file_size,
             equality_ids: self.equality_ids.copy(alloc)?,
+            referenced: copied(alloc, &self.referenced)?,
         })
+    }
+}
+
+fn copied(alloc: Global, path: &Option<Text>) -> Result<Option<Text>, AllocError>
+    ensures { IfOk result (λ copied. copied ≡ path.now) }
+{
+    match path {
+        Some(path) => Ok(Some(path.copy(alloc)?)),
+        None => Ok(None),
     }
 }

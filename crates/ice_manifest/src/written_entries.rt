@@ -1,22 +1,23 @@
 //! The data that are written for the entries of manifests.
 
-ghost use Rattle.std.specs.Prelude.{◌≡◌, true, map, length, IfOk};
+ghost use Rattle.std.specs.Prelude.{◌≡◌, true, map, length, IfOk, IfSome};
 ghost use Rattle.std.specs.List.{AllByRecursion};
-ghost use Rattle.avro_file.specs.Value.{small};
+ghost use Rattle.avro_file.specs.Value.{small, text as text_value};
 ghost use Rattle.avro_file.specs.View.{view, views};
 ghost use Rattle.ice_value.specs.Bounds.{is_value};
 ghost use Rattle.ice_value.specs.declared.cell.Cell.{Cell as CellValue};
 ghost use Rattle.ice_meta.specs.Committing.{IsLong};
 ghost use Rattle.ice_manifest.specs.Adding.{IsId, is_null_or_of, is_tuple_of};
-ghost use Rattle.ice_manifest.specs.Fitting.{IsShort, CellFits, FileFits};
+ghost use Rattle.ice_manifest.specs.Fitting.{IsShort, IsText, CellFits, FileFits};
 ghost use Rattle.ice_manifest.specs.WrittenValues.{whole_value, bytes_value, cell_value, tuple_values, file_content};
-ghost use Rattle.ice_manifest.specs.WrittenValues.{ids_value, column_values, file_value as value_of_file};
+ghost use Rattle.ice_manifest.specs.WrittenValues.{if_some, ids_value, column_values, file_value as value_of_file};
 ghost use Rattle.ice_manifest.specs.WrittenValues.{entry_value as value_of_entry};
 
 use crate::heading::Heading;
 use crate::new_file::NewFile;
 use crate::written_values::{int_datum, long_datum, no_value, record, some_value, text_of};
 use avro_file::Datum;
+use contract_words::Text;
 use ice_value::{Cell, ColumnType, FileContent};
 use std::alloc::{AllocError, Global};
 
@@ -112,13 +113,26 @@ fn code_of(content: FileContent) -> i32
     }
 }
 
-/// Nothing is said of the columns, and the equality ids stand behind.
-fn column_data<'a>(alloc: Global, ids: &[i32]) -> Result<Vec<Datum<'a>>, AllocError>
-    ensures value { IfOk result (λ all. views all.items ≡ column_values ids.now) }
-    ensures fits { IfOk result (λ _. AllByRecursion IsId ids.now) }
+/// A text; null where there is none.
+fn optional_text<'a>(alloc: Global, text: &'a Option<Text>) -> Result<Datum<'a>, AllocError>
+    ensures value { IfOk result (λ datum. view datum ≡ if_some text_value text.now) }
+    ensures fits { IfOk result (λ _. IfSome text.now IsText) }
 {
-    let ids = ids_datum(alloc, ids)?;
-    Ok(vec![in alloc; no_value(), no_value(), no_value(), no_value(), ids]?)
+    match text {
+        Some(text) => some_value(alloc, text_of(text)),
+        None => Ok(no_value()),
+    }
+}
+
+/// Nothing is said of the columns. Behind stand the equality ids, and the data file that position deletes are about.
+fn column_data<'a>(alloc: Global, file: &'a NewFile) -> Result<Vec<Datum<'a>>, AllocError>
+    ensures value { IfOk result (λ all. views all.items ≡ column_values file.now) }
+    ensures ids { IfOk result (λ _. AllByRecursion IsId file.now.equality_ids) }
+    ensures referenced { IfOk result (λ _. IfSome file.now.referenced IsText) }
+{
+    let ids = ids_datum(alloc, file.equality_ids.as_slice())?;
+    let referenced = optional_text(alloc, &file.referenced)?;
+    Ok(vec![in alloc; no_value(), no_value(), no_value(), no_value(), ids, referenced]?)
 }
 
 /// A data file.
@@ -140,7 +154,7 @@ fn file_datum<'a>(
         long_datum(file.record_count),
         long_datum(file.file_size),
     ]?;
-    values.append(&mut column_data(alloc, file.equality_ids.as_slice())?)?;
+    values.append(&mut column_data(alloc, file)?)?;
     Ok(record(values))
 }
 

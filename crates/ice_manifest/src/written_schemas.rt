@@ -139,12 +139,12 @@ fn bounds_type(alloc: Global, name: &str, key: i32, said: i32) -> Result<Value, 
     map(alloc, structure(alloc, name, vec![in alloc; key, said]?)?)
 }
 
-/// What is said of the columns of a file.
+/// What is said of the columns of a file, and behind it what deletes say of themselves.
 #[tactic(auto, unfolding(crate::specs::WrittenTypes::json_of, crate::specs::WrittenTypes::fields_json))]
 fn column_fields(alloc: Global) -> Result<Vec<Value>, AllocError>
     ensures { IfOk result (λ fields. items_view fields.items ≡ fields_json fields_of_columns) }
 {
-    let mut fields = Vec::with_capacity(alloc, 5)?;
+    let mut fields = Vec::with_capacity(alloc, 6)?;
     let value_counts = counts_type(alloc, "k119_v120", 119, 120)?;
     fields.push(optional(alloc, "value_counts", 109, value_counts)?)?;
     let null_value_counts = counts_type(alloc, "k121_v122", 121, 122)?;
@@ -155,6 +155,7 @@ fn column_fields(alloc: Global) -> Result<Vec<Value>, AllocError>
     fields.push(optional(alloc, "upper_bounds", 128, upper_bounds)?)?;
     let equality_ids = list(alloc, 136, text(alloc, "int")?)?;
     fields.push(optional(alloc, "equality_ids", 135, equality_ids)?)?;
+    fields.push(nullable(alloc, "referenced_data_file", 143, "string")?)?;
     Ok(fields)
 }
 
@@ -201,7 +202,7 @@ fn file_type(
         json_of (type_of_file (fields_of_partition partition.now types.now))) }
     ensures ids { IfOk result (λ _. AllByRecursion (λ (p : DeclaredField). IsId p.field_id) partition.now) }
 {
-    let mut fields = Vec::with_capacity(alloc, 11)?;
+    let mut fields = Vec::with_capacity(alloc, 12)?;
     fields.push(field(alloc, "content", 134, "int")?)?;
     fields.push(field(alloc, "file_path", 100, "string")?)?;
     fields.push(field(alloc, "file_format", 101, "string")?)?;
