@@ -7,9 +7,11 @@ mod files;
 mod lists;
 mod manifests;
 mod outcomes;
+mod referenced;
 mod rows;
 mod transcript;
 mod tuples;
+mod upgraded;
 mod ways;
 
 use columns::COLUMNS;
@@ -20,21 +22,25 @@ use ice_manifest_reading::read_list;
 use lists::LISTS;
 use manifests::MANIFESTS;
 use outcomes::list_outcome;
+use referenced::REFERENCED;
 use rows::ROWS;
 use std::alloc::{AllocError, Global};
 use std::test::*;
 use transcript::difference;
 use tuples::TUPLES;
+use upgraded::UPGRADED;
 use ways::wrong_pair;
 
 /// What is played, and its name.
-static TRANSCRIPTS: [(&str, &str); 6] = [
+static TRANSCRIPTS: [(&str, &str); 8] = [
     ("lists", LISTS),
     ("rows", ROWS),
     ("manifests", MANIFESTS),
     ("entries", ENTRIES),
     ("tuples", TUPLES),
     ("columns", COLUMNS),
+    ("upgraded", UPGRADED),
+    ("referenced", REFERENCED),
 ];
 
 #[test]

@@ -28,17 +28,17 @@ pub const ROW_FAULTS: &str = r#"0 {"name":"p","type":"string"} | 02 61 | 1 Missi
 2 {"name":"p","type":["null","int"],"field-id":502} | 00 | 3 MissingField(502)
 2 {"name":"p","type":"long","field-id":502} | 80 80 80 80 10 | 3 OutOfRange(502)
 2 {"name":"p","type":"long","field-id":502} | 81 80 80 80 10 | 3 OutOfRange(502)
-3 {"name":"p","type":"int"} | 00 | 1 MissingField(517)
+3 {"name":"p","type":"int"} | 00 | 4
 3 {"name":"p","type":"boolean","field-id":517} | 00 | 1 WrongFieldType(517)
 3 {"name":"p","type":["int","null"],"field-id":517} | 02 | 3 MissingField(517)
 3 {"name":"p","type":"long","field-id":517} | 80 80 80 80 10 | 3 OutOfRange(517)
 3 {"name":"p","type":"int","field-id":517} | 04 | 3 BadContent
 3 {"name":"p","type":"int","field-id":517} | 01 | 3 BadContent
-4 {"name":"p","type":"long"} | 00 | 1 MissingField(515)
+4 {"name":"p","type":"long"} | 00 | 4
 4 {"name":"p","type":["long","string"],"field-id":515} | 00 00 | 1 WrongFieldType(515)
 4 {"name":"p","type":["null","long"],"field-id":515} | 00 | 3 MissingField(515)
 4 {"name":"p","type":"int","field-id":515} | 01 | 3 OutOfRange(515)
-5 {"name":"p","type":"long"} | 00 | 1 MissingField(516)
+5 {"name":"p","type":"long"} | 00 | 4
 5 {"name":"p","type":["null"],"field-id":516} | 00 | 1 WrongFieldType(516)
 5 {"name":"p","type":["null","long"],"field-id":516} | 00 | 3 MissingField(516)
 5 {"name":"p","type":"long","field-id":516} | 01 | 3 OutOfRange(516)
@@ -96,7 +96,8 @@ pub const USUAL_FILE: &str = r#"5 {"name":"p","type":"int","field-id":134} | 00 
 11 {"name":"p","type":["null",{"type":"array","items":{"type":"record","name":"m110","fields":[{"name":"k","type":"int","field-id":121},{"name":"v","type":"long","field-id":122}]},"logicalType":"map"}],"field-id":110} | 00 | 4
 12 {"name":"p","type":["null",{"type":"array","items":{"type":"record","name":"m125","fields":[{"name":"k","type":"int","field-id":126},{"name":"v","type":"bytes","field-id":127}]},"logicalType":"map"}],"field-id":125} | 00 | 4
 13 {"name":"p","type":["null",{"type":"array","items":{"type":"record","name":"m128","fields":[{"name":"k","type":"int","field-id":129},{"name":"v","type":"bytes","field-id":130}]},"logicalType":"map"}],"field-id":128} | 00 | 4
-14 {"name":"p","type":["null",{"type":"array","items":"int"}],"field-id":135} | 00 | 4"#;
+14 {"name":"p","type":["null",{"type":"array","items":"int"}],"field-id":135} | 00 | 4
+15 {"name":"p","type":["null","string"],"field-id":143} | 00 | 4"#;
 
 /// How else a manifest may have both.
 pub const ENTRY_FAULTS: &str = r#"0 {"name":"p","type":"int"} | 02 | 1 MissingField(0)
@@ -117,7 +118,7 @@ pub const ENTRY_FAULTS: &str = r#"0 {"name":"p","type":"int"} | 02 | 1 MissingFi
 4 {"name":"p","type":{"type":"record","name":"inner","fields":[%]}} | % | 1 MissingField(2)
 4 {"name":"p","type":["null"],"field-id":2} | 00 | 1 WrongFieldType(2)
 4 {"name":"p","type":["null",{"type":"record","name":"inner","fields":[%]}],"field-id":2} | 00 | 3 MissingField(2)
-5 {"name":"p","type":"int"} | 00 | 1 MissingField(134)
+5 {"name":"p","type":"int"} | 00 | 4
 5 {"name":"p","type":"boolean","field-id":134} | 00 | 1 WrongFieldType(134)
 5 {"name":"p","type":["null","int"],"field-id":134} | 00 | 3 MissingField(134)
 5 {"name":"p","type":"long","field-id":134} | 80 80 80 80 10 | 3 OutOfRange(134)
@@ -204,4 +205,9 @@ pub const ENTRY_FAULTS: &str = r#"0 {"name":"p","type":"int"} | 02 | 1 MissingFi
 14 {"name":"p","type":{"type":"array","items":"string"},"field-id":135} | 00 | 1 WrongFieldType(136)
 14 {"name":"p","type":{"type":"array","items":["null","int"]},"field-id":135} | 04 02 06 00 00 | 3 MissingField(136)
 14 {"name":"p","type":{"type":"array","items":"long"},"field-id":135} | 04 02 80 80 80 80 10 00 | 3 OutOfRange(136)
-14 {"name":"p","type":{"type":"array","items":"long"},"field-id":135} | 02 81 80 80 80 10 00 | 3 OutOfRange(136)"#;
+14 {"name":"p","type":{"type":"array","items":"long"},"field-id":135} | 02 81 80 80 80 10 00 | 3 OutOfRange(136)
+15 {"name":"p","type":["null","string"]} | 00 | 4
+15 {"name":"p","type":"bytes","field-id":143} | 00 | 1 WrongFieldType(143)
+15 {"name":"p","type":"null","field-id":143} |  | 1 WrongFieldType(143)
+15 {"name":"p","type":["null","string","long"],"field-id":143} | 00 | 1 WrongFieldType(143)
+15 {"name":"p","type":"string","field-id":143} | *65536 | 4"#;

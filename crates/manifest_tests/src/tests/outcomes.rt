@@ -65,6 +65,16 @@ pub fn list_outcome(alloc: Global, bytes: &[u8]) -> Result<String, AllocError> {
     Ok(text)
 }
 
+/// The data file that a file is about, if it names one.
+fn put_referenced(text: &mut String, alloc: Global, file: &DataFile) -> Result<(), AllocError> {
+    let Some(path) = &file.referenced else {
+        return Ok(());
+    };
+    let path = std::str::from_utf8(path.as_slice()).unwrap_or("no text");
+    text.push_str(" about ")?;
+    text.push_str(&shown(alloc, path)?)
+}
+
 fn put_entry(text: &mut String, alloc: Global, entry: &Entry) -> Result<(), AllocError> {
     let Entry {
         position,
@@ -91,9 +101,11 @@ fn put_entry(text: &mut String, alloc: Global, entry: &Entry) -> Result<(), Allo
     )?;
     text.push_str(&start)?;
     let rest = format!(in alloc;
-        "{record_count} {file_size} {ids:?} {spec_id} {unpartitioned} {tuple:?};"
+        "{record_count} {file_size} {ids:?} {spec_id} {unpartitioned} {tuple:?}"
     )?;
-    text.push_str(&rest)
+    text.push_str(&rest)?;
+    put_referenced(text, alloc, file)?;
+    text.push_str(";")
 }
 
 /// Of columns 1, 2, 3 and 10 the counts of values and of nulls, and the lower and the upper bound.
