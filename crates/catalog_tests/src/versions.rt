@@ -41,6 +41,7 @@ fn file(
         record_count: 10,
         file_size: 100,
         equality_ids: Items::new(alloc),
+        referenced: None,
     })
 }
 

@@ -41,7 +41,7 @@ const OF_METADATA: [Told; 11] = [
     (RunFault::Metadata(MetaFault::TooBig), "M12 TooBig", 1),
 ];
 
-const OF_FILTERS_AND_COMMITS: [Told; 9] = [
+const OF_FILTERS_AND_COMMITS: [Told; 10] = [
     (RunFault::Filter(FilterFault::Syntax(3)), "F1 Syntax 3", 2),
     (RunFault::Filter(FilterFault::TooBig), "F5 TooBig", 2),
     (RunFault::Filter(FilterFault::Memory), "F6 Memory", 5),
@@ -51,6 +51,7 @@ const OF_FILTERS_AND_COMMITS: [Told; 9] = [
     (RunFault::Prepare(PrepareFault::SequenceEnd), "K7 SequenceEnd", 1),
     (RunFault::Prepare(PrepareFault::Memory), "K9 Memory", 5),
     (RunFault::Prepare(PrepareFault::TooManyRows), "K11 TooManyRows", 1),
+    (RunFault::Prepare(PrepareFault::OutOfOrder), "K12 OutOfOrder", 1),
 ];
 
 const OF_LISTS: [Told; 15] = [
