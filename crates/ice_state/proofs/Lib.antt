@@ -7,7 +7,7 @@ pub mod Filtered
 pub mod Filters
 pub mod Gains
 pub mod Joins
-pub mod Kinds
+pub mod Lent
 pub mod Planned
 pub mod OfSpecs
 pub mod Outcomes

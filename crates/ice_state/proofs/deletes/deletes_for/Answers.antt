@@ -9,7 +9,7 @@ use Rattle.ice_deletes.specs.declared.group.Group.TheVariants.{Positions, Refere
 use Rattle.ice_deletes.specs.Found.{data_key, lent, numbers_where, AppliesAt}
 use Rattle.ice_deletes.specs.Groups.{is_in}
 use Rattle.ice_state.specs.Applying.{data_key_of}
-use Rattle.ice_state.proofs.Kinds.{both_positions, both_equalities}
+use Rattle.ice_state.proofs.Lent.{both_positions, both_equalities}
 use Rattle.ice_state.proofs.deletes.deletes_for.Goals as goal
 use Rattle.ice_state.proofs.deletes.deletes_for.Goals.{After-for_data}
 
