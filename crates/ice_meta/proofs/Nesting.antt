@@ -17,8 +17,8 @@ use Rattle.ice_meta_json.specs.Objects.{inside, members_of, natural, set, items_
 use Rattle.ice_meta_json.specs.Upgraded.{snapshots, sequence_number, lacks_number, numbered, each_numbered}
 use Rattle.ice_meta_json.specs.Upgraded.{snapshot_items, filled}
 use Rattle.ice_meta_json.proofs.Filling.{either_filled}
-use Rattle.ice_meta.specs.Committing.{operation_name, with_parent, summary_json, snapshot_json, log_json, branch_to, refs_json}
-use Rattle.ice_meta.specs.Committing.{with_refs, with_log, with_snapshots, next_json}
+use Rattle.ice_meta.specs.Committing.{operation_name, with_parent, summary_json, snapshot_json, log_json, branch_to}
+use Rattle.ice_meta.specs.Committing.{refs_json, with_refs, with_log, with_snapshots, next_json}
 
 either : (o : Ordering) (a b c : Members) (n : ℕ) → members_depth a ≤ n → members_depth b ≤ n → members_depth c ≤ n
     → members_depth (match_ordering o a b c) ≤ n

@@ -24,8 +24,8 @@ use Rattle.ice_meta.specs.Members.{asked, member_name, not_null, all_objects, lo
 use Rattle.ice_meta.specs.Members.{sequence_number_or_zero, optional_long, optional_int, optional_text}
 use Rattle.ice_meta.specs.Reading.{each, once}
 use Rattle.ice_meta.specs.Tables.{version_in, uuid_in, location_in, schemas_in, current_schema_in, specs_in}
-use Rattle.ice_meta.specs.Tables.{default_spec_in, current_snapshot_in, snapshot_id, snapshot_of, operation_in, if_snapshots}
-use Rattle.ice_meta.specs.Tables.{snapshots_in, refs_in, table_of}
+use Rattle.ice_meta.specs.Tables.{default_spec_in, current_snapshot_in, snapshot_id, snapshot_of, operation_in}
+use Rattle.ice_meta.specs.Tables.{if_snapshots, snapshots_in, refs_in, table_of}
 use Rattle.ice_meta.specs.Committing.{snapshot_json}
 use Rattle.ice_meta.proofs.Following.{of_parent, base, is_snapshot_object, next_array, list_of, each_list}
 
@@ -232,7 +232,8 @@ same_table d e s =
 set_snapshots : (d : Data) → some_lacks (snapshot_items d) ≡ true
     → snapshots_in (set snapshots (json.array (each_numbered (snapshot_items d))) d) ≡ snapshots_in d
 unfolding snapshots_in
-set_snapshots d e = rw (set_same snapshots (json.array (each_numbered (snapshot_items d))) d) (if_says (get snapshots d) e)
+set_snapshots d e =
+    rw (set_same snapshots (json.array (each_numbered (snapshot_items d))) d) (if_says (get snapshots d) e)
 
 pub says_the_same : SaysTheSame
 says_the_same d =
