@@ -13,7 +13,6 @@ use Rattle.ice_value.specs.Applying.{DataKey, DeleteKey, applies}
 use Rattle.ice_manifest_reading.specs.declared.entry.Entry.{Entry}
 use Rattle.ice_deletes.proofs.Lists.{filter-filter}
 use Rattle.ice_deletes.proofs.Parts.{parted}
-use Rattle.ice_deletes.specs.declared.group.Group.{Group}
 use Rattle.ice_deletes.specs.declared.group.Group.TheVariants.{Positions, Referenced, Equalities, Everywhere}
 use Rattle.ice_deletes.specs.Found.{is_content, holds, numbers_where, numbered_deletes}
 use Rattle.ice_deletes.specs.Groups.{is_in}
