@@ -112,7 +112,8 @@ module _ (x : DataKey) (d : DeleteKey) where
         ap (λ v. v && nat_le x.sequence_number d.sequence_number)
         (is_eq-then (option_cmp (slice_cmp nat_cmp) d.referenced (Some x.path))
         (partition_cmp (sort_key d) (key_for x x.sequence_number))
-        ∙ ap (λ v. v && is_eq (partition_cmp (sort_key d) (key_for x x.sequence_number))) (paths_tie d.referenced x.path)
+        ∙ ap (λ v. v && is_eq (partition_cmp (sort_key d) (key_for x x.sequence_number)))
+        (paths_tie d.referenced x.path)
         ∙ ap (λ v. option_eq bytes_eq d.referenced (Some x.path) && v) (partitions_tie x d x.sequence_number))
         ∙ referenced_order (is_some d.referenced) (option_eq bytes_eq d.referenced (Some x.path)) (same_partition x d)
         (nat_le x.sequence_number d.sequence_number) h

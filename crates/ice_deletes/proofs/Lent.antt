@@ -14,7 +14,8 @@ use Rattle.ice_deletes.specs.Groups.{is_in}
 use Rattle.ice_deletes.specs.Indexes.{IsIndex, entries_in}
 use Rattle.ice_deletes.specs.Shelves.{IsShelf}
 use Rattle.ice_deletes.proofs.Applying.{key_for, positions_apply, referenced_apply, equalities_apply, everywhere_apply}
-use Rattle.ice_deletes.proofs.Slices.{AreIn, Lends, entries, shelf_lends, all_four, by_shelf, positions_are, referenced_are}
+use Rattle.ice_deletes.proofs.Slices.{AreIn, Lends, entries, shelf_lends, all_four, by_shelf, positions_are}
+use Rattle.ice_deletes.proofs.Slices.{referenced_are}
 use Rattle.ice_deletes.proofs.Slices.{equalities_are, everywhere_are, lent_applies, lent_once}
 
 same : (ms ns : List ℕ) → ms ≡ ns → IsPermutation ms ns
@@ -46,30 +47,34 @@ module _ (i : Inside) (is : IsIndex i) (x : DataKey) (numbers : List ℕ) where
 
   pub positions_lent : Lends i.positions (key_for x x.sequence_number) numbers
       → IsPermutation (numbers_where (λ d. is_in Positions d && applies x d) (entries_in i)) numbers
-  positions_lent found = same _ numbers (positions_are i.positions.deletes.items i.referenced.deletes.items i.equalities.deletes.items
-      i.everywhere.deletes.items (of_shelf Positions i.positions is.positions) (of_shelf Referenced i.referenced
-      is.referenced) (of_shelf Equalities i.equalities is.equalities) (of_shelf Everywhere i.everywhere is.everywhere)
+  positions_lent found = same _ numbers (positions_are i.positions.deletes.items i.referenced.deletes.items
+      i.equalities.deletes.items i.everywhere.deletes.items (of_shelf Positions i.positions is.positions)
+      (of_shelf Referenced i.referenced is.referenced)
+      (of_shelf Equalities i.equalities is.equalities) (of_shelf Everywhere i.everywhere is.everywhere)
       (applies x) ∙ sym (positions_is found))
 
   pub referenced_lent : Lends i.referenced (key_for x x.sequence_number) numbers
       → IsPermutation (numbers_where (λ d. is_in Referenced d && applies x d) (entries_in i)) numbers
-  referenced_lent found = same _ numbers (referenced_are i.positions.deletes.items i.referenced.deletes.items i.equalities.deletes.items
-      i.everywhere.deletes.items (of_shelf Positions i.positions is.positions) (of_shelf Referenced i.referenced
-      is.referenced) (of_shelf Equalities i.equalities is.equalities) (of_shelf Everywhere i.everywhere is.everywhere)
+  referenced_lent found = same _ numbers (referenced_are i.positions.deletes.items i.referenced.deletes.items
+      i.equalities.deletes.items i.everywhere.deletes.items (of_shelf Positions i.positions is.positions)
+      (of_shelf Referenced i.referenced is.referenced)
+      (of_shelf Equalities i.equalities is.equalities) (of_shelf Everywhere i.everywhere is.everywhere)
       (applies x) ∙ sym (referenced_is found))
 
   pub equalities_lent : Lends i.equalities (key_for x (x.sequence_number + 1)) numbers
       → IsPermutation (numbers_where (λ d. is_in Equalities d && applies x d) (entries_in i)) numbers
-  equalities_lent found = same _ numbers (equalities_are i.positions.deletes.items i.referenced.deletes.items i.equalities.deletes.items
-      i.everywhere.deletes.items (of_shelf Positions i.positions is.positions) (of_shelf Referenced i.referenced
-      is.referenced) (of_shelf Equalities i.equalities is.equalities) (of_shelf Everywhere i.everywhere is.everywhere)
+  equalities_lent found = same _ numbers (equalities_are i.positions.deletes.items i.referenced.deletes.items
+      i.equalities.deletes.items i.everywhere.deletes.items (of_shelf Positions i.positions is.positions)
+      (of_shelf Referenced i.referenced is.referenced)
+      (of_shelf Equalities i.equalities is.equalities) (of_shelf Everywhere i.everywhere is.everywhere)
       (applies x) ∙ sym (equalities_is found))
 
   pub everywhere_lent : Lends i.everywhere (key_for x (x.sequence_number + 1)) numbers
       → IsPermutation (numbers_where (λ d. is_in Everywhere d && applies x d) (entries_in i)) numbers
-  everywhere_lent found = same _ numbers (everywhere_are i.positions.deletes.items i.referenced.deletes.items i.equalities.deletes.items
-      i.everywhere.deletes.items (of_shelf Positions i.positions is.positions) (of_shelf Referenced i.referenced
-      is.referenced) (of_shelf Equalities i.equalities is.equalities) (of_shelf Everywhere i.everywhere is.everywhere)
+  everywhere_lent found = same _ numbers (everywhere_are i.positions.deletes.items i.referenced.deletes.items
+      i.equalities.deletes.items i.everywhere.deletes.items (of_shelf Positions i.positions is.positions)
+      (of_shelf Referenced i.referenced is.referenced)
+      (of_shelf Equalities i.equalities is.equalities) (of_shelf Everywhere i.everywhere is.everywhere)
       (applies x) ∙ sym (everywhere_is found))
 
 -- what was found on each shelf

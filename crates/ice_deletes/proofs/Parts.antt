@@ -40,7 +40,8 @@ positions_of d = go d.content where
 
 equalities_of : (d : DeleteKey) → (not (holds Data d) && not (holds PositionDeletes d)) ≡ holds EqualityDeletes d
 equalities_of d = go d.content where
-  go : (K : FileContent) → (not (is_content Data K) && not (is_content PositionDeletes K)) ≡ is_content EqualityDeletes K
+  go : (K : FileContent) → (not (is_content Data K) && not (is_content PositionDeletes K))
+      ≡ is_content EqualityDeletes K
   go Data = refl
   go PositionDeletes = refl
   go EqualityDeletes = refl
@@ -78,7 +79,8 @@ by_group es =
 
 -- what a permutation, group by group, leaves
 pub filed : (es a b c d : List (ℕ × DeleteKey)) → IsPermutation (filter (of_file (is_in Positions)) es) a
-    → IsPermutation (filter (of_file (is_in Referenced)) es) b → IsPermutation (filter (of_file (is_in Equalities)) es) c
+    → IsPermutation (filter (of_file (is_in Referenced)) es) b
+    → IsPermutation (filter (of_file (is_in Equalities)) es) c
     → IsPermutation (filter (of_file (is_in Everywhere)) es) d
     → IsPermutation (filter (of_file (λ e. not (holds Data e))) es) (a ++ b ++ c ++ d)
 filed es a b c d first second third fourth =
@@ -122,7 +124,8 @@ times_once (f ∷ fs) m n =
     rw e h
 
 -- numbers by place are distinct
-pub numbered_once : (files : List DeleteKey) (index : List (ℕ × DeleteKey)) → IsPermutation (numbered_deletes files) index
+pub numbered_once : (files : List DeleteKey) (index : List (ℕ × DeleteKey))
+    → IsPermutation (numbered_deletes files) index
     → AreDistinct index
 numbered_once files index same n =
     let p = of_file (λ d. not (holds Data d)) in

@@ -1,6 +1,7 @@
 -- The numbers of the files that pass a test, shelf by shelf.
 use Rattle.std.proofs.Common.{◌≡◌, ℕ, zero, suc, ◌+◌, ◌≤◌, ◌==◌, Bool, true, false, ◌&&◌, List, [], ◌∷◌, ◌++◌}
-use Rattle.std.proofs.Common.{not, is_some, map, filter, cond, refl, sym, ap, subst, ◌∙◌, arith, append-nil, ◌⊎◌, inl, inr}
+use Rattle.std.proofs.Common.{not, is_some, map, filter, cond, refl, sym, ap, subst, ◌∙◌, arith, append-nil, ◌⊎◌}
+use Rattle.std.proofs.Common.{inl, inr}
 use Rattle.std.specs.List.{AllByRecursion, Contains, count_by}
 use Rattle.std.proofs.lemmas.List.{map-append}
 use Rattle.std.proofs.lemmas.List.Elements.{filter-append, recursion_from_All}
@@ -58,7 +59,8 @@ agree g p q same [] all = refl
 agree g p q same (d ∷ ds) all =
     let rest = agree g p q same ds all.1 in
     ap (λ v. with_first p (entry_of d) (entries ds) v) (same (key_in d) all.0)
-    ∙ elim (q (key_in d)) as (λ v. with_first p (entry_of d) (entries ds) v ≡ with_first q (entry_of d) (entries ds) v) [
+    ∙ elim (q (key_in d)) as (λ v. with_first p (entry_of d) (entries ds) v
+    ≡ with_first q (entry_of d) (entries ds) v) [
       | true ↦ ap (λ ns. d.number ∷ ns) rest
       | false ↦ rest
     ]
@@ -74,7 +76,8 @@ none g p fails ds all = agree g p (λ k. false) fails ds all ∙ never ds
 
 -- what a search on a shelf gave
 abbrev pub Lends : Shelf → SortKey → List ℕ → Type 0
-Lends s k numbers = numbers ≡ map (λ (d : Delete). d.number) (filter (λ d. is_within s.group k (key_in d)) s.deletes.items)
+Lends s k numbers = numbers ≡ map (λ (d : Delete). d.number)
+    (filter (λ d. is_within s.group k (key_in d)) s.deletes.items)
 
 pub shelf_lends : (g : Group) (s : Shelf) → IsShelf g s → (x : DataKey) (k : SortKey) (numbers : List ℕ)
     → ((d : DeleteKey) → is_in g d ≡ true → is_within g k d ≡ applies x d) → Lends s k numbers
@@ -117,8 +120,9 @@ module _ (a b c d : List Delete) (in_a : AreIn Positions a) (in_b : AreIn Refere
   abbrev files : List (ℕ × DeleteKey)
   files = entries a ++ entries b ++ entries c ++ entries d
 
-  pub by_shelf : (p : DeleteKey → Bool) → numbers_where p files ≡ numbers_where p (entries a) ++ numbers_where p (entries b)
-      ++ numbers_where p (entries c) ++ numbers_where p (entries d)
+  pub by_shelf : (p : DeleteKey → Bool) → numbers_where p files
+      ≡ numbers_where p (entries a) ++ numbers_where p (entries b) ++ numbers_where p (entries c)
+      ++ numbers_where p (entries d)
   by_shelf p =
       numbers-append p (entries a ++ entries b ++ entries c) (entries d)
       ∙ ap (λ ns. ns ++ numbers_where p (entries d)) (numbers-append p (entries a ++ entries b) (entries c)
@@ -145,8 +149,8 @@ module _ (a b c d : List Delete) (in_a : AreIn Positions a) (in_b : AreIn Refere
         in_b)
         (none Equalities p (λ k h. other Positions k (no_positions k.content (not k.unpartitioned)
         (not (is_some k.referenced)) h)) c in_c)
-        (none Everywhere p (λ k h. other Positions k (no_positions k.content k.unpartitioned (not (is_some k.referenced))
-        h)) d in_d)
+        (none Everywhere p (λ k h. other Positions k (no_positions k.content k.unpartitioned
+        (not (is_some k.referenced)) h)) d in_d)
         ∙ append-nil _ ∙ append-nil _ ∙ append-nil _
 
     pub referenced_are : numbers_where (of_group Referenced) files ≡ numbers_where q (entries b)
@@ -154,7 +158,8 @@ module _ (a b c d : List Delete) (in_a : AreIn Positions a) (in_b : AreIn Refere
         let p = of_group Referenced in
         by_shelf p
         ∙ all_four _ _ _ _ [] (numbers_where q (entries b)) [] []
-        (none Positions p (λ k h. other Referenced k (one_way (holds PositionDeletes k) (is_some k.referenced) h)) a in_a)
+        (none Positions p (λ k h. other Referenced k (one_way (holds PositionDeletes k) (is_some k.referenced) h)) a
+        in_a)
         (agree Referenced p q (own Referenced) b in_b)
         (none Equalities p (λ k h. other Referenced k (no_positions k.content (not k.unpartitioned)
         (is_some k.referenced) h)) c in_c)
@@ -182,8 +187,8 @@ module _ (a b c d : List Delete) (in_a : AreIn Positions a) (in_b : AreIn Refere
         ∙ all_four _ _ _ _ [] [] [] (numbers_where q (entries d))
         (none Positions p (λ k h. other Everywhere k (no_equalities k.content (not (is_some k.referenced))
         k.unpartitioned h)) a in_a)
-        (none Referenced p (λ k h. other Everywhere k (no_equalities k.content (is_some k.referenced) k.unpartitioned h))
-        b in_b)
+        (none Referenced p (λ k h. other Everywhere k (no_equalities k.content (is_some k.referenced) k.unpartitioned
+        h)) b in_b)
         (none Equalities p (λ k h. other Everywhere k (one_way (holds EqualityDeletes k) k.unpartitioned h)) c in_c)
         (agree Everywhere p q (own Everywhere) d in_d)
 

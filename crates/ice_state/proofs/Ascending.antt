@@ -106,8 +106,9 @@ times-where : (p : DeleteKey → Bool) (es : List (ℕ × DeleteKey)) (n : ℕ)
 times-where p [] n = refl
 times-where p (e ∷ es) n =
     let rest = times-where p es n in
-    elim (p e.1) as (λ v. times n (map (λ (e : ℕ × DeleteKey). e.0) (cond v (e ∷ filter (λ (e : ℕ × DeleteKey). p e.1) es)
-    (filter (λ (e : ℕ × DeleteKey). p e.1) es))) ≡ cond v (cond (ties lower n e.0) 1 0) 0 + sum_by (passing p n) es) [
+    elim (p e.1) as (λ v. times n (map (λ (e : ℕ × DeleteKey). e.0)
+    (cond v (e ∷ filter (λ (e : ℕ × DeleteKey). p e.1) es) (filter (λ (e : ℕ × DeleteKey). p e.1) es)))
+    ≡ cond v (cond (ties lower n e.0) 1 0) 0 + sum_by (passing p n) es) [
       | true ↦ one_more (ties lower n e.0) (times n (numbers_where p es)) (sum_by (passing p n) es) rest
       | false ↦ omega arith
     ]
@@ -121,7 +122,8 @@ index_ascends p es fs same = ascend_alike (numbers_where p es) (numbers_where p 
 
 -- the numbers, from m on, of those that pass
 abbrev pub numbers_from : ℕ → (DeleteKey → Bool) → List DeleteKey → List ℕ
-numbers_from m p files = map (λ (e : ℕ × DeleteKey). e.0) (filter (λ (e : ℕ × DeleteKey). p e.1) (enumerate_from m files))
+numbers_from m p files = map (λ (e : ℕ × DeleteKey). e.0)
+    (filter (λ (e : ℕ × DeleteKey). p e.1) (enumerate_from m files))
 
 abbrev pub with_first : (DeleteKey → Bool) → DeleteKey → List DeleteKey → ℕ → Bool → List ℕ
 with_first p f fs m v = map (λ (e : ℕ × DeleteKey). e.0) (cond v ((m, f) ∷ filter (λ (e : ℕ × DeleteKey). p e.1)

@@ -34,7 +34,8 @@ module _ (same : (part : PartFilter) (tuple other : List Cell) → IsTrue (same_
   same_by parts tuple other t (Some spec) h = sym (same (projection parts spec) tuple other t) ∙ h
 
   pub of_same_partition : (parts : List (Part BoundLeaf)) (specs : List Spec) (x d : Entry)
-      → same_partition (data_key_of x) (delete_key_of d) ≡ true → (pruner_of parts specs).meets x.spec_id x.file.tuple ≡ true
+      → same_partition (data_key_of x) (delete_key_of d) ≡ true
+      → (pruner_of parts specs).meets x.spec_id x.file.tuple ≡ true
       → (pruner_of parts specs).meets d.spec_id d.file.tuple ≡ true
   of_same_partition parts specs x d s met =
       let b = and_true (int_eq x.spec_id d.spec_id) (same_tuple x.file.tuple d.file.tuple) s in

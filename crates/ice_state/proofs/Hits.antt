@@ -4,7 +4,7 @@ use Rattle.std.proofs.Common.{cond, refl, sym, ap, subst, ◌∙◌, arith, appe
 use Rattle.std.specs.List.{AllByRecursion, enumerate_from}
 use Rattle.ice_value.specs.declared.file_content.FileContent.{FileContent}
 use Rattle.ice_value.specs.declared.file_content.FileContent.TheVariants.{Data, PositionDeletes, EqualityDeletes}
-use Rattle.ice_value.specs.Applying.{DataKey, DeleteKey, applies as key_applies}
+use Rattle.ice_value.specs.Applying.{DeleteKey, applies as key_applies}
 use Rattle.ice_manifest_reading.specs.declared.entry.Entry.{Entry}
 use Rattle.ice_deletes.specs.Found.{is_content, holds as key_holds}
 use Rattle.ice_state.specs.declared.lines.Places.{Places}

@@ -1,5 +1,6 @@
 -- The numbers of the delete files of each kind that apply, by what an index lends.
-use Rattle.std.proofs.Common.{◌≡◌, ℕ, Bool, true, false, not, ◌&&◌, List, [], ◌∷◌, ◌++◌, map, filter, refl, sym, ap, subst, ◌∙◌}
+use Rattle.std.proofs.Common.{◌≡◌, ℕ, Bool, true, false, not, ◌&&◌, List, [], ◌∷◌, ◌++◌, map, filter, refl, ap, subst}
+use Rattle.std.proofs.Common.{◌∙◌}
 use Rattle.std.proofs.Common.{is_none, is_some, Bor}
 use Rattle.std.specs.List.{enumerate_from}
 use Rattle.std.specs.List.Sorted.{IsPermutation}
@@ -12,7 +13,6 @@ use Rattle.ice_value.specs.Applying.{DataKey, DeleteKey, applies}
 use Rattle.ice_manifest_reading.specs.declared.entry.Entry.{Entry}
 use Rattle.ice_deletes.proofs.Lists.{filter-filter}
 use Rattle.ice_deletes.proofs.Parts.{parted}
-use Rattle.ice_deletes.specs.declared.group.Group.{Group}
 use Rattle.ice_deletes.specs.declared.group.Group.TheVariants.{Positions, Referenced, Equalities, Everywhere}
 use Rattle.ice_deletes.specs.Found.{is_content, holds, numbers_where, numbered_deletes}
 use Rattle.ice_deletes.specs.Groups.{is_in}
@@ -34,7 +34,8 @@ numbers_parted p u q r both one index =
     let split = parted (of_file p) (of_file u) (of_file q) (of_file r) (λ e. both e.1) (λ e. one e.1) index in
     let P : List ℕ → Type 0 = λ ns. IsPermutation (numbers_where p index) ns in
     subst P (map-append number_of (filter (of_file q) index) (filter (of_file r) index))
-    (IsPermutation-map number_of (filter (of_file p) index) (filter (of_file q) index ++ filter (of_file r) index) split)
+    (IsPermutation-map number_of (filter (of_file p) index) (filter (of_file q) index ++ filter (of_file r) index)
+    split)
 
 moved : (a b c : Bool) → ((a && b) && c) ≡ ((a && c) && b)
 moved true true true = refl
@@ -53,7 +54,8 @@ pub both_positions : (index : List (ℕ × DeleteKey)) (x : DataKey) (some other
     → IsPermutation (numbers_where (λ d. is_in Referenced d && applies x d) index) others
     → IsPermutation (numbers_of PositionDeletes index x) (some ++ others)
 both_positions index x some others first rest =
-    IsPermutation-trans (numbers_of PositionDeletes index x) (numbers_where (λ d. is_in Positions d && applies x d) index
+    IsPermutation-trans (numbers_of PositionDeletes index x)
+    (numbers_where (λ d. is_in Positions d && applies x d) index
     ++ numbers_where (λ d. is_in Referenced d && applies x d) index) (some ++ others)
     (numbers_parted (λ d. holds PositionDeletes d && applies x d) (λ d. is_none d.referenced)
     (λ d. is_in Positions d && applies x d) (λ d. is_in Referenced d && applies x d)
@@ -68,7 +70,8 @@ pub both_equalities : (index : List (ℕ × DeleteKey)) (x : DataKey) (some othe
     → IsPermutation (numbers_where (λ d. is_in Everywhere d && applies x d) index) others
     → IsPermutation (numbers_of EqualityDeletes index x) (some ++ others)
 both_equalities index x some others first rest =
-    IsPermutation-trans (numbers_of EqualityDeletes index x) (numbers_where (λ d. is_in Equalities d && applies x d) index
+    IsPermutation-trans (numbers_of EqualityDeletes index x)
+    (numbers_where (λ d. is_in Equalities d && applies x d) index
     ++ numbers_where (λ d. is_in Everywhere d && applies x d) index) (some ++ others)
     (numbers_parted (λ d. holds EqualityDeletes d && applies x d) (λ d. not d.unpartitioned)
     (λ d. is_in Equalities d && applies x d) (λ d. is_in Everywhere d && applies x d)
@@ -112,8 +115,9 @@ equalities_stay d = go d.content where
   go EqualityDeletes = refl
 
 -- the places that an index of files gives are those that the files give by their own places
-pub all_by_place : (files : List DeleteKey) (index : List (ℕ × DeleteKey)) → IsPermutation (numbered_deletes files) index
-    → (xs : List (Bor Entry)) → map (λ x. places_of index (data_key_of x.now)) xs
+pub all_by_place : (files : List DeleteKey) (index : List (ℕ × DeleteKey))
+    → IsPermutation (numbered_deletes files) index → (xs : List (Bor Entry))
+    → map (λ x. places_of index (data_key_of x.now)) xs
     ≡ map (λ x. places_of (enumerate_from 0 files) (data_key_of x.now)) xs
 all_by_place files index same [] = refl
 all_by_place files index same (x ∷ xs) = rw (

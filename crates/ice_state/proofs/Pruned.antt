@@ -42,10 +42,13 @@ kept_together specs p open' x l says met a =
     let ids : x.spec_id ≡ d.spec_id = (Decides-int_eq x.spec_id d.spec_id).0 b.0 in
     let tuples : x.file.tuple ≡ d.file.tuple = (tuple_decides x.file.tuple d.file.tuple).0 b.1 in
     cc in
-    let P : (K : FileContent) → d.file.content ≡ K → applies_as K (data_key_of x) (delete_key_of d) ≡ true → keeps p l ≡ true =
-    λ K. elim K as (λ v. d.file.content ≡ v → applies_as v (data_key_of x) (delete_key_of d) ≡ true → keeps p l ≡ true) [
+    let P : (K : FileContent) → d.file.content ≡ K → applies_as K (data_key_of x) (delete_key_of d) ≡ true
+    → keeps p l ≡ true =
+    λ K. elim K as (λ v. d.file.content ≡ v → applies_as v (data_key_of x) (delete_key_of d) ≡ true
+    → keeps p l ≡ true) [
       | Data ↦ λ e t. cc
-      | PositionDeletes ↦ λ e t. let m : p.meets d.spec_id d.file.tuple ≡ true = part (and_true _ _ (and_true _ _ t).0).1 in
+      | PositionDeletes ↦ λ e t.
+          let m : p.meets d.spec_id d.file.tuple ≡ true = part (and_true _ _ (and_true _ _ t).0).1 in
           rw (e, m) refl
       | EqualityDeletes ↦ λ e t.
           let m : p.meets d.spec_id d.file.tuple ≡ true = elim (or_true _ _ (and_true _ _ t).1) [

@@ -1,4 +1,4 @@
-use Rattle.std.proofs.Common.{◌≡◌, ℕ, List, IfOk, map, ap, subst, ◌∙◌, Bor}
+use Rattle.std.proofs.Common.{◌≡◌, List, IfOk, map, ap, subst, ◌∙◌, Bor}
 use Rattle.std.specs.List.Sorted.{IsPermutation}
 use Rattle.ice_value.specs.Applying.{DeleteKey}
 use Rattle.ice_manifest_reading.specs.declared.entry.Entry.{Entry}
