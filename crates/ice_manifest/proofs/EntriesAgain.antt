@@ -1,11 +1,11 @@
 -- The entries of a manifest that was written are read again.
-use Rattle.std.proofs.Common.{◌≡◌, ℕ, zero, suc, ◌+◌, ◌≤◌, ◌<◌, ◌^◌, ℤ, pos, negsuc, Bool, true, false, ◌&&◌, List, []}
+use Rattle.std.proofs.Common.{◌≡◌, ℕ, suc, ◌^◌, ℤ, pos, negsuc, Bool, true, false, ◌&&◌, List, []}
 use Rattle.std.proofs.Common.{◌∷◌, length, map, Option, Some, None, Ok, inl, inr, refl, sym, ap, subst, ◌∙◌, arith}
 use Rattle.std.proofs.Common.{add-one}
 use Rattle.std.specs.Prelude.{nat_le, nat_lt, IfSome}
 use Rattle.std.proofs.lemmas.Bool.{lt-ltb, le-leb}
 use Rattle.std.proofs.lemmas.Bool.Decides.{Decides-int_eq}
-use Rattle.std.specs.List.{AllByRecursion, IsDistinct, filter_map, enumerate_from}
+use Rattle.std.specs.List.{AllByRecursion, IsDistinct}
 use Rattle.std.specs.Ordering.{int_eq}
 use Rattle.avro_schema.specs.Tree as tree_of
 use Rattle.avro_schema.specs.Tree.{Tree, Fields, field, structure}
@@ -31,14 +31,14 @@ use Rattle.ice_manifest.specs.declared.new_file.NewFile.{NewFile}
 use Rattle.ice_manifest.specs.declared.heading.Heading.{Heading}
 use Rattle.ice_manifest.specs.Adding.{IsId, IsHeading, IsNewFile, MayReference, is_null_or_of, is_tuple_of}
 use Rattle.ice_manifest_reading.specs.Each.{each}
-use Rattle.ice_manifest_reading.specs.Fields.{at, there, text_of, items_of, items_as, int_at, int_or_zero, path_at}
+use Rattle.ice_manifest_reading.specs.Fields.{there, text_of, items_of, items_as, int_at, int_or_zero, path_at}
 use Rattle.ice_manifest_reading.specs.Fields.{optional_number, optional_text, optional_path, int_item, ints_at, within_32}
 use Rattle.ice_manifest.specs.Fitting.{FileFits}
 use Rattle.ice_manifest_reading.specs.Laws.{SaysFile, SaysLive, SayEntries, MayHold}
 use Rattle.ice_manifest_reading.specs.Manifests.{content_of, content_at, referenced_at, status_at, sequence_at}
 use Rattle.ice_manifest_reading.specs.Manifests.{file_sequence_at, entries_ahead, live_of, kept, entries, entries_of}
 use Rattle.ice_manifest_reading.specs.Maps.{counts_at, bounds_at}
-use Rattle.ice_manifest_reading.specs.Partitions.{cell_of, cell_at, cells_of, tuple_at}
+use Rattle.ice_manifest_reading.specs.Partitions.{cell_of, cells_of, tuple_at}
 use Rattle.ice_manifest_reading.specs.Schemas as schemas
 use Rattle.ice_manifest_reading.specs.Schemas.{fields_in, type_at, required, optional, each_branch, cells_fit, tuple_in}
 use Rattle.ice_manifest_reading.specs.Schemas.{map_fits, pair_fields, ids_fit, file_fields, entry_fields}

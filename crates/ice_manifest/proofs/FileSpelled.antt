@@ -1,16 +1,16 @@
 -- An entry that is written has a spelling.
-use Rattle.std.proofs.Common.{◌≡◌, ℕ, zero, suc, ◌+◌, ◌^◌, ◌<◌, ◌≤◌, ℤ, pos, Bool, true, false, ◌&&◌, List, [], ◌∷◌}
-use Rattle.std.proofs.Common.{length, map, Option, Some, None, refl, sym, ap, arith}
+use Rattle.std.proofs.Common.{◌≡◌, ℕ, suc, ◌≤◌, ℤ, pos, Bool, true, false, ◌&&◌, List, [], ◌∷◌}
+use Rattle.std.proofs.Common.{length, map, Option, Some, None, refl, ap, arith}
 use Rattle.std.specs.List.{AllByRecursion}
 use Rattle.std.proofs.lemmas.Bool.{ltb-true, eqb-true}
-use Rattle.std.specs.Prelude.{nat_lt, negsuc, IfSome}
+use Rattle.std.specs.Prelude.{negsuc, IfSome}
 use Rattle.avro_schema.specs.Tree as tree_of
 use Rattle.avro_schema.specs.declared.schema.BytesKind.TheVariants.{Plain}
 use Rattle.avro_schema.specs.declared.schema.ArrayKind.TheVariants as stands_for
-use Rattle.avro_file.specs.Value.{Value, truth, small, whole, text, run, raw, items, values_of, chosen}
-use Rattle.avro_file.specs.Spelling.{item_count, item_counts, values_len}
+use Rattle.avro_file.specs.Value.{small, text, items, values_of}
+use Rattle.avro_file.specs.Spelling.{item_count, item_counts}
 use Rattle.avro_file.specs.Blocks.{max_items}
-use Rattle.avro_file.specs.Writers.{IsOf, AreOf}
+use Rattle.avro_file.specs.Writers.{AreOf}
 use Rattle.avro_file.proofs.Taken.{values_len-values_of}
 use Rattle.ice_value.specs.declared.cell.Cell.{Cell}
 use Rattle.ice_value.specs.declared.cell.Cell.TheVariants as cell
@@ -18,19 +18,18 @@ use Rattle.ice_value.specs.declared.column_type.ColumnType.{ColumnType}
 use Rattle.ice_value.specs.declared.column_type.ColumnType.TheVariants as column
 use Rattle.ice_value.specs.declared.file_content.FileContent.{FileContent}
 use Rattle.ice_value.specs.declared.file_content.FileContent.TheVariants as holds
-use Rattle.ice_value.specs.Bounds.{fits_int, is_value}
+use Rattle.ice_value.specs.Bounds.{fits_int}
 use Rattle.ice_meta.specs.Committing.{IsLong}
 use Rattle.ice_meta.specs.declared.spec.PartitionField.{PartitionField}
 use Rattle.ice_manifest.specs.declared.new_file.NewFile.{NewFile}
 use Rattle.ice_manifest.specs.declared.heading.Heading.{Heading}
-use Rattle.ice_manifest.specs.Adding.{IsId, IsHeading, IsNewFile, AreNewFiles, is_null_or_of, is_tuple_of}
-use Rattle.ice_manifest.specs.Fitting.{IsShort, IsText, CellFits, FileFits}
-use Rattle.ice_manifest.specs.WrittenTypes as written
+use Rattle.ice_manifest.specs.Adding.{IsId, IsHeading, IsNewFile, is_null_or_of, is_tuple_of}
+use Rattle.ice_manifest.specs.Fitting.{IsText, CellFits, FileFits}
 use Rattle.ice_manifest.specs.WrittenTypes.{null_or, written_tree, written_fields}
-use Rattle.ice_manifest.specs.WrittenSchemas.{value_type, partition_fields, pair_type, column_fields, file_type}
+use Rattle.ice_manifest.specs.WrittenSchemas.{value_type, partition_fields, column_fields, file_type}
 use Rattle.ice_manifest.specs.WrittenSchemas.{entry_type}
 use Rattle.ice_manifest.specs.Writing.{manifest_type}
-use Rattle.ice_manifest.specs.WrittenValues.{no_value, if_some, cell_value, tuple_values, file_content, ids_value}
+use Rattle.ice_manifest.specs.WrittenValues.{if_some, cell_value, tuple_values, file_content, ids_value}
 use Rattle.ice_manifest.specs.WrittenValues.{column_values, file_value, entry_value}
 use Rattle.ice_manifest.proofs.Typed.{HasSpelling, HasSpellings, a_long, an_int, a_truth, a_text, a_run, a_raw, a_null}
 use Rattle.ice_manifest.proofs.Typed.{a_some, no_spelling, and_then, a_record, an_array}

@@ -1,27 +1,23 @@
 -- The schema of a manifest is read as its tree.
-use Rattle.std.proofs.Common.{◌≡◌, ℕ, zero, suc, ◌+◌, ◌*◌, ◌≤◌, ◌<◌, ◌^◌, max, Bool, true, false, not, ◌&&◌, ◌||◌, List}
-use Rattle.std.proofs.Common.{[], ◌∷◌, ◌++◌, length, map, refl, sym, ap, subst, ◌∙◌, arith, lit≤}
-use Rattle.std.specs.Prelude.{Ok, Some, ℤ, pos, negsuc, nat_lt, codes}
-use Rattle.std.specs.Fmt.{signed_decimal}
-use Rattle.std.proofs.lemmas.Fmt.{signed_decimal_injective}
+use Rattle.std.proofs.Common.{◌≡◌, ◌*◌, ◌≤◌, ◌^◌, true, false, List}
+use Rattle.std.proofs.Common.{[], ◌∷◌, length, map, refl, ap, arith}
+use Rattle.std.specs.Prelude.{ℤ, pos, negsuc}
 use Rattle.std.proofs.lemmas.Bool.{lt-ltb}
 use Rattle.std.specs.List.{AllByRecursion, IsDistinct, list_any}
 use Rattle.std.specs.Ordering.{int_eq}
-use Rattle.std.specs.Str.{is_utf8, bytes_eq}
-use Rattle.serde_json.specs.Read.{read}
 use Rattle.avro_schema.specs.Size.{height, deepest_field, deepest_branch, nodes, below, in_fields, in_branches}
 use Rattle.avro_schema.specs.Names.{dotted}
-use Rattle.avro_schema.specs.Texts.{schema_of, most_nodes}
+use Rattle.avro_schema.specs.Texts.{most_nodes}
 use Rattle.ice_value.specs.declared.column_type.ColumnType.{ColumnType}
 use Rattle.ice_value.specs.declared.column_type.ColumnType.TheVariants as column
 use Rattle.ice_meta.specs.declared.spec.PartitionField.{PartitionField}
 use Rattle.ice_manifest.specs.declared.heading.Heading.{Heading}
 use Rattle.ice_manifest.specs.Adding.{IsHeading, IsId, is_partition_type}
-use Rattle.ice_manifest.specs.WrittenTypes.{Written, WrittenFields, json_of, written_tree, written_fields}
-use Rattle.ice_manifest.specs.WrittenSchemas.{value_type, partition_fields, file_type, entry_type}
+use Rattle.ice_manifest.specs.WrittenTypes.{written_tree, written_fields}
+use Rattle.ice_manifest.specs.WrittenSchemas.{value_type, partition_fields, entry_type}
 use Rattle.ice_manifest.specs.Writing.{manifest_type}
-use Rattle.ice_manifest.proofs.WrittenRead.{schema_read, fine, fine_fields, different, different_ids, ids_in, is_among}
-use Rattle.ice_manifest.proofs.WrittenRead.{is_id, names_in, field_names}
+use Rattle.ice_manifest.proofs.WrittenRead.{fine, fine_fields, different_ids, ids_in}
+use Rattle.ice_manifest.proofs.WrittenRead.{is_id}
 
 -- ---- its size
 

@@ -1,6 +1,6 @@
 -- No two types of a manifest's schema have one name.
-use Rattle.std.proofs.Common.{◌≡◌, ℕ, suc, ◌+◌, ◌≤◌, ◌<◌, ◌^◌, Bool, true, false, not, ◌&&◌, ◌||◌, List, [], ◌∷◌, ◌++◌}
-use Rattle.std.proofs.Common.{length, map, inl, inr, refl, sym, ap, subst, ◌∙◌, arith, append_assoc}
+use Rattle.std.proofs.Common.{◌≡◌, ℕ, ◌<◌, ◌^◌, Bool, true, false, ◌||◌, List, [], ◌∷◌, ◌++◌}
+use Rattle.std.proofs.Common.{map, inl, inr, refl, sym, ap, subst, arith, append_assoc}
 use Rattle.std.specs.Prelude.{Ok, Some, ℤ, pos, negsuc, codes, ◌⊎◌}
 use lib.Signed.{mag}
 use Rattle.std.specs.Fmt.{signed_decimal}
@@ -18,7 +18,7 @@ use Rattle.ice_value.specs.declared.column_type.ColumnType.TheVariants as column
 use Rattle.ice_meta.specs.declared.spec.PartitionField.{PartitionField}
 use Rattle.ice_manifest.specs.declared.heading.Heading.{Heading}
 use Rattle.ice_manifest.specs.Adding.{IsHeading, IsId}
-use Rattle.ice_manifest.specs.WrittenTypes.{WrittenFields, json_of, written_tree}
+use Rattle.ice_manifest.specs.WrittenTypes.{json_of, written_tree}
 use Rattle.ice_manifest.specs.WrittenSchemas.{fixed_name, value_type, partition_fields, entry_type}
 use Rattle.ice_manifest.specs.Writing.{manifest_type}
 use Rattle.ice_manifest.proofs.WrittenRead.{schema_read, different, is_among, names_in, field_names}

@@ -1,5 +1,5 @@
 -- A row that is written has a spelling.
-use Rattle.std.proofs.Common.{◌≡◌, ℕ, suc, ◌+◌, ◌^◌, ◌<◌, ◌≤◌, ℤ, pos, Bool, List, [], ◌∷◌, length, map, Option, Some}
+use Rattle.std.proofs.Common.{◌≡◌, suc, ◌≤◌, ℤ, pos, Bool, List, [], ◌∷◌, length, map, Option, Some}
 use Rattle.std.proofs.Common.{None, refl, ap, arith}
 use Rattle.std.specs.Prelude.{IfSome}
 use Rattle.std.specs.List.{AllByRecursion}
@@ -7,7 +7,7 @@ use Rattle.avro_schema.specs.Tree as tree_of
 use Rattle.avro_schema.specs.declared.schema.BytesKind.TheVariants.{Plain}
 use Rattle.avro_schema.specs.declared.schema.ArrayKind.TheVariants as stands_for
 use Rattle.avro_file.specs.Value.{Value, truth, small, whole, run, values_of}
-use Rattle.avro_file.specs.Spelling.{item_count, item_counts, values_len}
+use Rattle.avro_file.specs.Spelling.{item_count, item_counts}
 use Rattle.avro_file.specs.Blocks.{max_items}
 use Rattle.avro_file.specs.Writers.{IsOf}
 use Rattle.ice_value.specs.declared.file_bounds.Summary.{Summary}

@@ -1,42 +1,35 @@
 -- The rows of a list that was written are read again.
-use Rattle.std.proofs.Common.{◌≡◌, ℕ, zero, suc, ◌+◌, ◌≤◌, ◌<◌, ◌^◌, ℤ, pos, negsuc, Bool, true, false, cond, List, []}
-use Rattle.std.proofs.Common.{◌∷◌, length, map, Option, Some, None, Result, Ok, Err, refl, sym, ap, subst, ◌∙◌, arith}
+use Rattle.std.proofs.Common.{◌≡◌, ℕ, ◌≤◌, ◌^◌, ℤ, pos, negsuc, Bool, true, false, List, []}
+use Rattle.std.proofs.Common.{◌∷◌, length, map, Option, Some, None, Ok, refl, sym, ap, subst, ◌∙◌}
 use Rattle.std.specs.Prelude.{IfSome, nat_le, nat_lt}
 use Rattle.std.proofs.lemmas.Bool.{lt-ltb, le-leb}
 use Rattle.std.specs.declared.cmp.Ordering.{Ordering}
-use Rattle.std.specs.declared.cmp.Ordering.TheVariants.{Less, Equal, Greater}
+use Rattle.std.specs.declared.cmp.Ordering.TheVariants.{Less, Equal}
 use Rattle.std.specs.List.{AllByRecursion, dedup, dedup_from}
 use Rattle.std.specs.List.Sorted.{IsStrictlySortedBy}
-use Rattle.std.specs.Ordering.{is_lt, is_eq, nat_cmp, ordering_reverse}
+use Rattle.std.specs.Ordering.{is_lt, is_eq, ordering_reverse}
 use Rattle.std.specs.Str.{bytes_eq}
-use Rattle.std.specs.Cmp.Lexicographic.{slice_cmp}
 use Rattle.std.proofs.lemmas.Cmp.{nat_list_cmp_total, tied_itself}
 use Rattle.std.proofs.lemmas.Map.Text.{is_eq-slice_cmp}
-use Rattle.contract_words.specs.Outcome.{◌>>=◌}
 use Rattle.contract_words.specs.Sorting.{put, sorted}
 use Rattle.avro_schema.specs.Tree as tree_of
 use Rattle.avro_schema.specs.Tree.{Tree, Fields}
 use Rattle.avro_schema.specs.declared.schema.BytesKind.TheVariants.{Plain}
 use Rattle.avro_schema.specs.declared.schema.ArrayKind.TheVariants as stands_for
-use Rattle.avro_file.specs.Value.{Value, truth, small, whole, run, values_of}
+use Rattle.avro_file.specs.Value.{truth, small, whole, run, values_of}
 use Rattle.avro_file.specs.Files.{opened_at, reader_of}
-use Rattle.avro_file.specs.Picking.{Typed, pick}
+use Rattle.avro_file.specs.Picking.{pick}
 use Rattle.avro_file.specs.Writers.{AreOf}
 use Rattle.ice_value.specs.declared.file_bounds.Summary.{Summary}
-use Rattle.ice_meta.specs.Committing.{IsLong}
-use Rattle.ice_manifest_reading.specs.declared.fault.FieldFault.{FieldFault}
-use Rattle.ice_manifest_reading.specs.declared.fault.ListFault.{ListFault}
 use Rattle.ice_manifest_reading.specs.declared.row.Row.{Row}
 use Rattle.ice_manifest_reading.specs.declared.row.ManifestContent.{ManifestContent}
 use Rattle.ice_manifest_reading.specs.declared.row.ManifestContent.TheVariants.{Data, Deletes}
 use Rattle.ice_manifest.specs.Adding.{IsId}
 use Rattle.ice_manifest_reading.specs.Each.{each}
-use Rattle.ice_manifest_reading.specs.Fields.{at, there, whole_of, truth_of, binary_of, items_as, items_of, within_32}
+use Rattle.ice_manifest_reading.specs.Fields.{there, whole_of, truth_of, binary_of, items_as, within_32}
 use Rattle.ice_manifest_reading.specs.Fields.{if_there, path_at, int_at, int_or_zero, number_at, number_or_zero}
-use Rattle.ice_manifest_reading.specs.Fields.{long_at, optional_int}
-use Rattle.ice_manifest_reading.specs.Fields.{optional_long, short_path}
-use Rattle.ice_manifest.specs.Fitting.{RowFits, IsReadable, CountsFit}
-use Rattle.ice_manifest_reading.specs.Kinds.{wanted}
+use Rattle.ice_manifest_reading.specs.Fields.{optional_int}
+use Rattle.ice_manifest.specs.Fitting.{RowFits, IsReadable}
 use Rattle.ice_manifest_reading.specs.Laws.{SaysRow, SayRows}
 use Rattle.ice_manifest_reading.specs.Lists as Lists
 use Rattle.ice_manifest_reading.specs.Lists.{says_row, summary_in, summary_of, summaries_in, counts_at, content_at}
@@ -49,7 +42,7 @@ use Rattle.ice_manifest_reading.specs.Types.{each_is, some_is, fits}
 use Rattle.ice_manifest.specs.WrittenTypes.{null_or, written_tree}
 use Rattle.ice_manifest.specs.WrittenSchemas.{summary_type, list_type}
 use Rattle.ice_manifest.specs.WrittenValues.{if_some, summary_value, summaries_value, row_content, row_value}
-use Rattle.ice_manifest_reading.proofs.Said.{row_by, rows_by}
+use Rattle.ice_manifest_reading.proofs.Said.{rows_by}
 use Rattle.ice_manifest_reading.proofs.Sets.{same_is}
 use Rattle.ice_manifest.proofs.RowSpelled.{row_is_of}
 

@@ -1,21 +1,19 @@
 -- Values that have a spelling.
-use Rattle.std.proofs.Common.{◌≡◌, ℕ, zero, suc, ◌+◌, ◌*◌, ◌/◌, ◌%◌, ◌^◌, ◌<◌, ◌≤◌, ℤ, pos, negsuc, Bool, true, false}
-use Rattle.std.proofs.Common.{cond, eqb, List, [], ◌∷◌, ◌++◌, length, map, Option, Some, None, inl, inr, refl, sym, ap}
-use Rattle.std.proofs.Common.{◌∙◌, arith}
+use Rattle.std.proofs.Common.{◌≡◌, ℕ, suc, ◌+◌, ◌*◌, ◌/◌, ◌%◌, ◌^◌, ◌<◌, ℤ, pos, negsuc, Bool, true, false}
+use Rattle.std.proofs.Common.{cond, eqb, List, [], ◌∷◌, ◌++◌, length, Option, Some, None, inl, refl, sym, ap}
+use Rattle.std.proofs.Common.{arith}
 use Rattle.std.specs.Prelude.{IfSome}
 use Rattle.std.specs.List.{AllByRecursion}
-use Rattle.std.specs.Str.{IsUtf8}
-use Rattle.std.proofs.lemmas.Bool.{eqb-true, eqb-false}
+use Rattle.std.proofs.lemmas.Bool.{eqb-true}
 use Rattle.std.proofs.lemmas.List.{append-nil}
 use Rattle.avro_schema.specs.declared.schema.ArrayKind.{ArrayKind}
 use Rattle.avro_schema.specs.declared.schema.BytesKind.{BytesKind}
 use Rattle.avro_schema.specs.Tree as tree_of
 use Rattle.avro_schema.specs.Tree.{Tree, Fields, no_fields, field, structure}
-use Rattle.avro_parts.specs.Number.{IsLong as SpellsLong, IsInt as SpellsInt, signed_of}
+use Rattle.avro_parts.specs.Number.{IsLong as SpellsLong, IsInt as SpellsInt}
 use Rattle.avro_file.specs.Value.{Value, nothing, truth, small, whole, text, run, raw, fields, items, chosen, values_of}
-use Rattle.avro_file.specs.Spelling.{AreJoined, AreBlocks, Spells, SpellsFields, bit, item_count}
-use Rattle.avro_file.specs.Blocks.{max_items}
-use Rattle.avro_file.specs.Writing.{groups_of, unsigned_of, long_bytes, run_bytes}
+use Rattle.avro_file.specs.Spelling.{AreJoined, Spells, SpellsFields, bit}
+use Rattle.avro_file.specs.Writing.{long_bytes, run_bytes}
 use Rattle.avro_file.proofs.Written.{number_written, signed_either, count_written, zero_written}
 use Rattle.ice_meta.specs.Committing.{IsLong}
 use Rattle.ice_manifest.specs.Adding.{IsId}

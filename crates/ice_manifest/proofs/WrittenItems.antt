@@ -9,7 +9,7 @@ use Rattle.serde_json.specs.View.{view, items_view}
 use Rattle.ice_value.specs.declared.column_type.ColumnType.{ColumnType}
 use Rattle.ice_meta.specs.declared.spec.PartitionField.{PartitionField}
 use denote.Ref.{Bor}
-use Rattle.ice_manifest.specs.Adding.{IsId, lent}
+use Rattle.ice_manifest.specs.Adding.{lent}
 use Rattle.ice_manifest.specs.Writing.{partition_field_json, partition_fields_json}
 use Rattle.ice_manifest.specs.WrittenTypes.{fields_json}
 use Rattle.ice_manifest.specs.WrittenSchemas.{partition_field_type, partition_fields}

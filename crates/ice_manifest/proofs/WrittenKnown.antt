@@ -1,13 +1,13 @@
 -- The schemas of lists and manifests are read as their trees.
-use Rattle.std.proofs.Common.{◌≡◌, ℕ, zero, suc, ◌+◌, ◌*◌, ◌≤◌, ◌<◌, ◌^◌, max, Bool, true, false, not, ◌&&◌, ◌||◌, List}
-use Rattle.std.proofs.Common.{[], ◌∷◌, ◌++◌, length, map, refl, sym, ap, ◌∙◌, arith, lit≤}
+use Rattle.std.proofs.Common.{◌≡◌, ℕ, ◌≤◌, true, List}
+use Rattle.std.proofs.Common.{[], refl, lit≤}
 use Rattle.std.specs.Prelude.{Ok, Some}
 use Rattle.std.specs.Str.{is_utf8}
 use Rattle.serde_json.specs.Read.{read}
 use Rattle.avro_schema.specs.Size.{height, deepest_field, deepest_branch, nodes, below, in_fields, in_branches}
 use Rattle.avro_schema.specs.Names.{dotted}
 use Rattle.avro_schema.specs.Texts.{schema_of, most_nodes}
-use Rattle.ice_manifest.specs.WrittenTypes.{Written, WrittenFields, json_of, written_tree}
+use Rattle.ice_manifest.specs.WrittenTypes.{json_of, written_tree}
 use Rattle.ice_manifest.specs.WrittenSchemas.{list_type}
 use Rattle.ice_manifest.proofs.WrittenRead.{schema_read, fine, different, names_in}
 

@@ -1,17 +1,15 @@
 -- A schema that is written is read as its tree.
-use Rattle.std.proofs.Common.{◌≡◌, ℕ, zero, suc, ◌+◌, ◌-◌, ◌≤◌, ◌<◌, ◌^◌, max, Bool, true, false, not, ◌&&◌, ◌||◌, List}
-use Rattle.std.proofs.Common.{[], ◌∷◌, ◌++◌, length, map, Option, Some, None, Result, Ok, Err, Ordering, Less, Equal}
-use Rattle.std.proofs.Common.{Greater, refl, sym, ap, subst, ◌∙◌, arith, append_assoc}
+use Rattle.std.proofs.Common.{◌≡◌, ℕ, zero, suc, ◌+◌, ◌-◌, ◌≤◌, ◌<◌, ◌^◌, Bool, true, false, not, ◌&&◌, ◌||◌, List}
+use Rattle.std.proofs.Common.{[], ◌∷◌, ◌++◌, length, Option, Some, None, Ok, Ordering, Less, Equal}
+use Rattle.std.proofs.Common.{Greater, refl, ap, subst, ◌∙◌, arith, append_assoc}
 use Rattle.std.proofs.lemmas.Bool.{lt-ltb, ltb-true}
 use Rattle.std.proofs.lemmas.List.{append-nil}
 use Rattle.std.specs.Prelude.{codes, ℤ, pos, negsuc, nat_lt, option_and_then, if◌then◌else◌}
 use Rattle.std.specs.Cmp.Lexicographic.{slice_cmp}
 use Rattle.std.specs.Ordering.{int_eq, nat_cmp, match_ordering}
-use Rattle.std.specs.Option.{option_eq}
 use Rattle.std.specs.List.{list_any, AllByRecursion}
 use Rattle.std.specs.Str.{bytes_eq, is_utf8}
 use Rattle.std.proofs.lemmas.Slice.Eq.{bytes_eq-Decides}
-use Rattle.contract_words.specs.Outcome.{◌>>=◌}
 use Rattle.serde_json.specs.Data as json
 use Rattle.serde_json.specs.Data.{Data, Items}
 use Rattle.serde_json.specs.Find.{get, as_i64, of_integer}
@@ -23,12 +21,12 @@ use Rattle.avro_schema.specs.Tree as tree_of
 use Rattle.avro_schema.specs.Tree.{Tree, Fields, field, union, branch, no_branches}
 use Rattle.avro_schema.specs.Size.{below, in_fields, in_branches, height, deepest_field, deepest_branch, nodes}
 use Rattle.avro_schema.specs.View.{Part, fields_of}
-use Rattle.avro_schema.specs.Names.{Entry, lookup, put, dotted, space_of, full, within}
-use Rattle.avro_schema.specs.Attributes.{name_in, not_empty, id_in, id_of, size_in, is_object, items_in, all_items}
-use Rattle.avro_schema.specs.Reading.{Seen, Read, has_id, fresh, named, defined, if_new, each_at, fields_at}
-use Rattle.avro_schema.specs.Reading.{branches_at, field_at, record_at, array_at, fixed_at, object_at, text_at}
-use Rattle.avro_schema.specs.Reading.{union_at, node_at, counted, tree_at}
-use Rattle.avro_schema.specs.Texts.{json_of as json_in, schema_of, most_nodes, most_levels}
+use Rattle.avro_schema.specs.Names.{Entry, lookup, put, dotted, space_of, full}
+use Rattle.avro_schema.specs.Attributes.{name_in, not_empty, id_in, id_of, is_object, all_items}
+use Rattle.avro_schema.specs.Reading.{Seen, Read, has_id, named, defined, each_at, fields_at}
+use Rattle.avro_schema.specs.Reading.{field_at, record_at, array_at, fixed_at, object_at, text_at}
+use Rattle.avro_schema.specs.Reading.{union_at, node_at, tree_at}
+use Rattle.avro_schema.specs.Texts.{json_of as json_in, schema_of, most_nodes}
 use Rattle.std.proofs.lemmas.Map.Lookups.{exact_bytes}
 use Rattle.avro_schema.proofs.Kept.{lookup-put}
 use Rattle.ice_manifest.specs.Adding.{IsId}

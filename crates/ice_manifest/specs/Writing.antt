@@ -1,6 +1,6 @@
 -- The bytes of the manifest lists and manifests that are written, and the entries that are read of such a manifest
 -- (Apache Iceberg table spec v2, "Manifest Lists" and "Manifests": the metadata of a manifest's file).
-use Rattle.std.specs.Prelude.{ℕ, suc, ℤ, List, [], ◌∷◌, map, Some, codes}
+use Rattle.std.specs.Prelude.{ℕ, suc, List, [], ◌∷◌, map, Some, codes}
 use Rattle.std.specs.Fmt.{signed_decimal}
 use Rattle.serde_json.specs.Data as json
 use Rattle.serde_json.specs.Data.{Data, Items}

@@ -1,6 +1,6 @@
 -- Avro schemas as they are written: types with the names and ids that they are given, as JSON and as trees (Avro
 -- 1.11.1, "Schema Declaration"; ids and logical types by the Apache Iceberg table spec v2, "Appendix A: Avro").
-use Rattle.std.specs.Prelude.{ℕ, ℤ, pos, Bool, List, [], ◌∷◌, ◌++◌, Some, None, codes}
+use Rattle.std.specs.Prelude.{ℕ, ℤ, Bool, List, Some, None, codes}
 use Rattle.serde_json.specs.Data as json
 use Rattle.serde_json.specs.Data.{Data, Items}
 use Rattle.avro_schema.specs.declared.schema.ArrayKind.TheVariants as stands_for

@@ -132,7 +132,14 @@ fn column_data<'a>(alloc: Global, file: &'a NewFile) -> Result<Vec<Datum<'a>>, A
 {
     let ids = ids_datum(alloc, file.equality_ids.as_slice())?;
     let referenced = optional_text(alloc, &file.referenced)?;
-    Ok(vec![in alloc; no_value(), no_value(), no_value(), no_value(), ids, referenced]?)
+    Ok(vec![in alloc;
+        no_value(),
+        no_value(),
+        no_value(),
+        no_value(),
+        ids,
+        referenced,
+    ]?)
 }
 
 /// A data file.

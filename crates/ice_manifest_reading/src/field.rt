@@ -16,7 +16,7 @@ ghost use Rattle.ice_manifest_reading.specs.Fields.{int_or_zero as int_or_zero_s
 ghost use Rattle.ice_manifest_reading.specs.Fields.{optional_long as long_if_there, optional_int as int_if_there};
 ghost use Rattle.ice_manifest_reading.specs.Fields.{optional_number as number_if_there, optional_truth as truth_if_there};
 ghost use Rattle.ice_manifest_reading.specs.Fields.{optional_binary as binary_if_there, optional_path as path_if_there};
-ghost use Rattle.ice_manifest_reading.specs.Fields.{int_item as int_of_item};
+ghost use Rattle.ice_manifest_reading.specs.Fields.{int_item as int_of_item, short_path as short_path_of};
 ghost use Rattle.ice_manifest_reading.specs.Fields.{ints_at as ints_said, within_32 as within, not_negative as natural};
 ghost use Rattle.ice_manifest_reading.specs.Seen.{result_map, object, pairs_in, listed};
 
@@ -187,6 +187,17 @@ pub fn optional_binary(
     }
 }
 
+/// The text, where a path may be so long.
+fn short_path<'d>(text: &'d str, id: i32) -> Result<&'d str, FieldFault>
+    ensures { result_map (λ path. path.now) result ≡ short_path_of id text.now }
+{
+    if text.len() <= 65535 {
+        Ok(text)
+    } else {
+        Err(FieldFault::OutOfRange(id))
+    }
+}
+
 /// A path of at most 65,535 bytes.
 #[tactic(auto, unfolding(crate::specs::Fields::path_at))]
 pub fn path_at<'a, 'd>(
@@ -199,11 +210,7 @@ pub fn path_at<'a, 'd>(
     let Some((_, Datum::String(text))) = pick(fields, values, id) else {
         return Err(FieldFault::Missing(id));
     };
-    if text.len() <= 65535 {
-        Ok(text)
-    } else {
-        Err(FieldFault::OutOfRange(id))
-    }
+    short_path(text, id)
 }
 
 /// A path of at most 65,535 bytes; none where it is absent or null.
@@ -218,11 +225,7 @@ pub fn optional_path<'a, 'd>(
     let Some((_, Datum::String(text))) = pick(fields, values, id) else {
         return Ok(None);
     };
-    if text.len() <= 65535 {
-        Ok(Some(text))
-    } else {
-        Err(FieldFault::OutOfRange(id))
-    }
+    Ok(Some(short_path(text, id)?))
 }
 
 /// A record of an int and a long.

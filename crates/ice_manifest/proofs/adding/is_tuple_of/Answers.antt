@@ -1,4 +1,4 @@
-use Rattle.std.proofs.Common.{◌≡◌, true, sym, ◌∙◌, arith}
+use Rattle.std.proofs.Common.{arith}
 use Rattle.ice_value.specs.declared.column_type.ColumnType.TheVariants.{Boolean}
 use Rattle.ice_manifest.proofs.Tuples.{none_for_each, tuple_on}
 use Rattle.ice_manifest.proofs.adding.is_tuple_of.Goals as goal

@@ -1,8 +1,6 @@
-use Rattle.std.proofs.Common.{◌≡◌, List, ℕ, [], sym, subst, ◌∙◌, ap, Ok, Err}
+use Rattle.std.proofs.Common.{◌∙◌, ap}
 use Rattle.avro_schema.specs.Texts.{schema_of}
-use Rattle.avro_file.specs.Writing.{in_order}
 use Rattle.avro_file.specs.Property.{shown_properties}
-use Rattle.avro_file.specs.Writers.{WasGiven}
 use Rattle.ice_manifest.proofs.WrittenFiles.{of_tree, never_refused}
 use Rattle.ice_manifest.proofs.file_writing.begun.Goals as goal
 

@@ -1,4 +1,4 @@
-use Rattle.std.proofs.Common.{◌≡◌, ◌∷◌, [], List, ℕ, Vec, Global, Ok, map}
+use Rattle.std.proofs.Common.{◌≡◌, ◌∷◌, [], ℕ, Vec, Global, Ok, map}
 use Rattle.avro_file.specs.Files.{opened_at, reader_of}
 use Rattle.avro_file.specs.Writing.{in_order}
 use Rattle.avro_file.proofs.Filed.{if_ok}

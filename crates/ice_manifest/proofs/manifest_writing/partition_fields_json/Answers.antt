@@ -1,4 +1,3 @@
-use Rattle.std.proofs.Common.{ap, sym, ◌∙◌}
 use Rattle.ice_manifest.proofs.WrittenItems.{specs_on, specs_over}
 use Rattle.ice_manifest.proofs.manifest_writing.partition_fields_json.Goals as goal
 

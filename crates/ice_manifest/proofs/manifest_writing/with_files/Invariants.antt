@@ -1,4 +1,4 @@
-use Rattle.std.proofs.Common.{◌≡◌, ℕ, List, [], take, map}
+use Rattle.std.proofs.Common.{ℕ, List, [], take, map}
 use Rattle.std.specs.List.{AllByRecursion}
 use Rattle.avro_schema.specs.Tree.{Tree}
 use Rattle.avro_file.specs.Header.{Property}

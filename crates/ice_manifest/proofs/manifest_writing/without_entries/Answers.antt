@@ -1,4 +1,4 @@
-use Rattle.std.proofs.Common.{◌≡◌, List, ℕ, [], ◌∷◌, ◌∙◌, Ok, sym, subst, Some, ap, codes}
+use Rattle.std.proofs.Common.{◌≡◌, List, ℕ, [], ◌∙◌, Ok, sym, subst, Some}
 use Rattle.std.proofs.lemmas.Str.{is_utf8-from_IsUtf8}
 use Rattle.serde_json.specs.Read.{read}
 use Rattle.avro_schema.specs.Texts.{schema_of}

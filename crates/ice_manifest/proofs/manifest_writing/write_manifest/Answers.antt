@@ -1,9 +1,7 @@
-use Rattle.std.proofs.Common.{◌≡◌, ◌∷◌, [], List, ℕ, Vec, Global, Ok, map}
-use Rattle.std.specs.List.{AllByRecursion}
+use Rattle.std.proofs.Common.{◌≡◌, ℕ, Vec, Global, Ok, map}
 use Rattle.avro_file.specs.Files.{opened_at, reader_of}
 use Rattle.avro_file.specs.Writing.{in_order}
 use Rattle.avro_file.proofs.Filed.{if_ok}
-use Rattle.ice_manifest.specs.declared.new_file.NewFile.{NewFile}
 use Rattle.ice_manifest_reading.specs.declared.row.Row.{Row}
 use Rattle.ice_manifest.specs.Adding.{lent}
 use Rattle.ice_manifest_reading.specs.Manifests.{entries_of}

@@ -1,4 +1,4 @@
-use Rattle.std.proofs.Common.{◌≤◌, pos, length, arith}
+use Rattle.std.proofs.Common.{pos, arith}
 use Rattle.ice_manifest.specs.declared.new_file.NewFile.{NewFile}
 use Rattle.ice_manifest.specs.Adding.{IsAmount}
 use Rattle.ice_manifest.proofs.WrittenItems.{all_at}

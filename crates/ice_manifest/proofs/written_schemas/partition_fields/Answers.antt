@@ -1,4 +1,4 @@
-use Rattle.std.proofs.Common.{◌≡◌, ◌<◌, length, refl, arith}
+use Rattle.std.proofs.Common.{◌<◌, length, refl, arith}
 use Rattle.ice_meta.specs.declared.spec.PartitionField.{PartitionField}
 use Rattle.ice_manifest.specs.Adding.{IsId}
 use Rattle.ice_manifest.proofs.WrittenItems.{fields_on, fields_over, all_on, all_over}

@@ -1,4 +1,4 @@
-use Rattle.std.proofs.Common.{◌≡◌, ◌<◌, ◌^◌, take, drop}
+use Rattle.std.proofs.Common.{◌≡◌, take, drop}
 use Rattle.std.specs.List.{AllByRecursion}
 use Rattle.serde_json.specs.View.{items_view}
 use Rattle.ice_meta.specs.declared.spec.PartitionField.{PartitionField}
