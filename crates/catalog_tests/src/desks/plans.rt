@@ -107,7 +107,11 @@ fn the_outcome_is_the_same_for_all_crews(rt: HostRuntime) {
     };
     assert!(rt; scan.wanted().len() == 3);
     for case in CASES {
-        assert!(rt; are_planned(&rt, rt.alloc(), &scan, CREWS, case), "{}", case.5);
+        assert!(rt;
+            are_planned(&rt, rt.alloc(), &scan, CREWS, case),
+            "{}",
+            case.5
+        );
     }
     assert!(rt; are_planned(&rt, rt.alloc(), &scan, NO_CREWS, NO_CASE));
 }

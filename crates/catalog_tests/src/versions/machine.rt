@@ -28,7 +28,9 @@ const ROWS: &[u8] =
 /// The list and two of its manifests.
 fn most_files(alloc: Global) -> Option<World> {
     let mut world = World::new(alloc);
-    world.put("mem://t/list", container(alloc, LIST, ROWS).ok()?).ok()?;
+    world
+        .put("mem://t/list", container(alloc, LIST, ROWS).ok()?)
+        .ok()?;
     world.put(PATHS[0], manifest(alloc, 0).ok()?).ok()?;
     world.put(PATHS[2], manifest(alloc, 2).ok()?).ok()?;
     Some(world)
@@ -99,7 +101,11 @@ fn is_said(alloc: Global, reply: &Reply, words: &str) -> bool {
         Reply::Committed(receipt) => is_committed(alloc, *receipt, words),
         Reply::Absent(path) => is_path(words, "absent ", path.as_str()),
         Reply::Unfinished(FinishFault::Missing(path)) => is_path(words, "missing ", path.as_str()),
-        Reply::NotPrepared(PrepareFault::PathTaken(path)) => is_path(words, "taken ", path.as_str()),
+        Reply::NotPrepared(PrepareFault::PathTaken(path)) => is_path(
+            words,
+            "taken ",
+            path.as_str(),
+        ),
         Reply::NotPrepared(PrepareFault::BaseBad(path)) => is_path(words, "bad ", path.as_str()),
         reply => match format!(in alloc; "{reply:?}") {
             Ok(said) => said.as_str() == words,
@@ -119,7 +125,12 @@ fn count_said(alloc: Global, replies: &[Reply], rows: &[Row]) -> usize {
 }
 
 /// How many of the replies to what happens on a table, from the first, are as the rows say.
-fn count_right(alloc: Global, metadata: &[u8], world: Option<World>, rows: &[Row]) -> Option<usize> {
+fn count_right(
+    alloc: Global,
+    metadata: &[u8],
+    world: Option<World>,
+    rows: &[Row],
+) -> Option<usize> {
     let version = Version::open(alloc, metadata, world?).ok()?;
     let replies = run_events(alloc, &version, &events(alloc, rows).ok()?).ok()?;
     Some(count_said(alloc, &replies, rows))
@@ -190,11 +201,26 @@ const NOTHING: [Row; 2] = [
 #[test]
 fn replies(rt: HostRuntime) {
     let alloc = rt.alloc();
-    assert_eq!(rt; count_right(alloc, METADATA, all_files(alloc), &WORKERS), Some(16));
-    assert_eq!(rt; count_right(alloc, METADATA, all_files(alloc), &TWO_COMMITS), Some(16));
-    assert_eq!(rt; count_right(alloc, METADATA, most_files(alloc), &NOT_THERE), Some(7));
-    assert_eq!(rt; count_right(alloc, METADATA, Some(World::new(alloc)), &NOTHING), Some(2));
-    assert_eq!(rt; count_right(alloc, TABLE, all_files(alloc), &NOTHING), Some(2));
+    assert_eq!(rt;
+        count_right(alloc, METADATA, all_files(alloc), &WORKERS),
+        Some(16)
+    );
+    assert_eq!(rt;
+        count_right(alloc, METADATA, all_files(alloc), &TWO_COMMITS),
+        Some(16)
+    );
+    assert_eq!(rt;
+        count_right(alloc, METADATA, most_files(alloc), &NOT_THERE),
+        Some(7)
+    );
+    assert_eq!(rt;
+        count_right(alloc, METADATA, Some(World::new(alloc)), &NOTHING),
+        Some(2)
+    );
+    assert_eq!(rt;
+        count_right(alloc, TABLE, all_files(alloc), &NOTHING),
+        Some(2)
+    );
 }
 
 /// A scan around a commit, by two workers.

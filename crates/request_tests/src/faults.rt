@@ -21,23 +21,55 @@ const OF_RUNS: [Told; 10] = [
     (RunFault::Write, "W1 Write", 3),
     (RunFault::Memory, "Memory", 5),
     (RunFault::Change(ChangeFault::NotJson), "C1 BadChange -", 2),
-    (RunFault::Change(ChangeFault::Bad(ChangeMember::EqualityIds)), "C1 BadChange equality-ids", 2),
+    (
+        RunFault::Change(ChangeFault::Bad(ChangeMember::EqualityIds)),
+        "C1 BadChange equality-ids",
+        2,
+    ),
     (RunFault::Change(ChangeFault::Memory), "Memory", 5),
-    (RunFault::Scan(ScanFault::NoSuchSpec(-2147483648)), "X1 NoSuchSpec -2147483648", 1),
+    (
+        RunFault::Scan(ScanFault::NoSuchSpec(-2147483648)),
+        "X1 NoSuchSpec -2147483648",
+        1,
+    ),
     (RunFault::Drill(DrillFault::Conflict), "Conflict", 4),
 ];
 
 const OF_METADATA: [Told; 11] = [
     (RunFault::Metadata(MetaFault::NotJson), "M1 NotJson", 1),
     (RunFault::Metadata(MetaFault::Version(3)), "M2 Version 3", 1),
-    (RunFault::Metadata(MetaFault::Missing(Member::Location)), "M3 Missing location", 1),
-    (RunFault::Metadata(MetaFault::WrongKind(Member::LastSequenceNumber)), "M4 WrongKind last-sequence-number", 1),
+    (
+        RunFault::Metadata(MetaFault::Missing(Member::Location)),
+        "M3 Missing location",
+        1,
+    ),
+    (
+        RunFault::Metadata(MetaFault::WrongKind(Member::LastSequenceNumber)),
+        "M4 WrongKind last-sequence-number",
+        1,
+    ),
     (RunFault::Metadata(MetaFault::NoSuchRef), "M6 NoSuchRef", 1),
-    (RunFault::Metadata(MetaFault::NoSuchSnapshot), "M7 NoSuchSnapshot", 1),
-    (RunFault::Metadata(MetaFault::NoSnapshot), "M8 NoSnapshot", 1),
-    (RunFault::Metadata(MetaFault::IdTwice(-7)), "M9 IdTwice -7", 1),
+    (
+        RunFault::Metadata(MetaFault::NoSuchSnapshot),
+        "M7 NoSuchSnapshot",
+        1,
+    ),
+    (
+        RunFault::Metadata(MetaFault::NoSnapshot),
+        "M8 NoSnapshot",
+        1,
+    ),
+    (
+        RunFault::Metadata(MetaFault::IdTwice(-7)),
+        "M9 IdTwice -7",
+        1,
+    ),
     (RunFault::Metadata(MetaFault::Memory), "M10 Memory", 5),
-    (RunFault::Metadata(MetaFault::Dangling(Member::DefaultSpecId)), "M11 Dangling default-spec-id", 1),
+    (
+        RunFault::Metadata(MetaFault::Dangling(Member::DefaultSpecId)),
+        "M11 Dangling default-spec-id",
+        1,
+    ),
     (RunFault::Metadata(MetaFault::TooBig), "M12 TooBig", 1),
 ];
 
@@ -45,40 +77,124 @@ const OF_FILTERS_AND_COMMITS: [Told; 10] = [
     (RunFault::Filter(FilterFault::Syntax(3)), "F1 Syntax 3", 2),
     (RunFault::Filter(FilterFault::TooBig), "F5 TooBig", 2),
     (RunFault::Filter(FilterFault::Memory), "F6 Memory", 5),
-    (RunFault::Prepare(PrepareFault::SnapshotTaken), "K1 SnapshotTaken", 1),
+    (
+        RunFault::Prepare(PrepareFault::SnapshotTaken),
+        "K1 SnapshotTaken",
+        1,
+    ),
     (RunFault::Prepare(PrepareFault::Empty), "K4 Empty", 1),
-    (RunFault::Prepare(PrepareFault::NoSuchSpec(-3)), "K5 NoSuchSpec -3", 1),
-    (RunFault::Prepare(PrepareFault::SequenceEnd), "K7 SequenceEnd", 1),
+    (
+        RunFault::Prepare(PrepareFault::NoSuchSpec(-3)),
+        "K5 NoSuchSpec -3",
+        1,
+    ),
+    (
+        RunFault::Prepare(PrepareFault::SequenceEnd),
+        "K7 SequenceEnd",
+        1,
+    ),
     (RunFault::Prepare(PrepareFault::Memory), "K9 Memory", 5),
-    (RunFault::Prepare(PrepareFault::TooManyRows), "K11 TooManyRows", 1),
-    (RunFault::Prepare(PrepareFault::OutOfOrder), "K12 OutOfOrder", 1),
+    (
+        RunFault::Prepare(PrepareFault::TooManyRows),
+        "K11 TooManyRows",
+        1,
+    ),
+    (
+        RunFault::Prepare(PrepareFault::OutOfOrder),
+        "K12 OutOfOrder",
+        1,
+    ),
 ];
 
 const OF_LISTS: [Told; 15] = [
-    (RunFault::List(ListFault::Avro(AvroFault::NotAvro)), "N1 Avro V1 NotAvro", 1),
-    (RunFault::List(ListFault::Avro(AvroFault::Truncated(42))), "N1 Avro V3 Truncated 42", 1),
-    (RunFault::List(ListFault::Avro(AvroFault::BadNumber)), "N1 Avro V4 BadNumber", 1),
-    (RunFault::List(ListFault::Avro(AvroFault::BadUnion)), "N1 Avro V5 BadUnion", 1),
-    (RunFault::List(ListFault::Avro(AvroFault::BadUtf8)), "N1 Avro V6 BadUtf8", 1),
-    (RunFault::List(ListFault::Avro(AvroFault::BadSync)), "N1 Avro V7 BadSync", 1),
-    (RunFault::List(ListFault::Avro(AvroFault::BlockSize)), "N1 Avro V8 BlockSize", 1),
-    (RunFault::List(ListFault::Avro(AvroFault::Memory)), "N1 Avro V10 Memory", 5),
-    (RunFault::List(ListFault::Avro(AvroFault::BadBoolean)), "N1 Avro V11 BadBoolean", 1),
-    (RunFault::List(ListFault::Avro(AvroFault::TooManyItems)), "N1 Avro V12 TooManyItems", 1),
-    (RunFault::List(ListFault::MissingField(500)), "N2 MissingField 500", 1),
-    (RunFault::List(ListFault::WrongFieldType(502)), "N3 WrongFieldType 502", 1),
-    (RunFault::List(ListFault::OutOfRange(515)), "N4 OutOfRange 515", 1),
+    (
+        RunFault::List(ListFault::Avro(AvroFault::NotAvro)),
+        "N1 Avro V1 NotAvro",
+        1,
+    ),
+    (
+        RunFault::List(ListFault::Avro(AvroFault::Truncated(42))),
+        "N1 Avro V3 Truncated 42",
+        1,
+    ),
+    (
+        RunFault::List(ListFault::Avro(AvroFault::BadNumber)),
+        "N1 Avro V4 BadNumber",
+        1,
+    ),
+    (
+        RunFault::List(ListFault::Avro(AvroFault::BadUnion)),
+        "N1 Avro V5 BadUnion",
+        1,
+    ),
+    (
+        RunFault::List(ListFault::Avro(AvroFault::BadUtf8)),
+        "N1 Avro V6 BadUtf8",
+        1,
+    ),
+    (
+        RunFault::List(ListFault::Avro(AvroFault::BadSync)),
+        "N1 Avro V7 BadSync",
+        1,
+    ),
+    (
+        RunFault::List(ListFault::Avro(AvroFault::BlockSize)),
+        "N1 Avro V8 BlockSize",
+        1,
+    ),
+    (
+        RunFault::List(ListFault::Avro(AvroFault::Memory)),
+        "N1 Avro V10 Memory",
+        5,
+    ),
+    (
+        RunFault::List(ListFault::Avro(AvroFault::BadBoolean)),
+        "N1 Avro V11 BadBoolean",
+        1,
+    ),
+    (
+        RunFault::List(ListFault::Avro(AvroFault::TooManyItems)),
+        "N1 Avro V12 TooManyItems",
+        1,
+    ),
+    (
+        RunFault::List(ListFault::MissingField(500)),
+        "N2 MissingField 500",
+        1,
+    ),
+    (
+        RunFault::List(ListFault::WrongFieldType(502)),
+        "N3 WrongFieldType 502",
+        1,
+    ),
+    (
+        RunFault::List(ListFault::OutOfRange(515)),
+        "N4 OutOfRange 515",
+        1,
+    ),
     (RunFault::List(ListFault::BadContent), "N6 BadContent", 1),
     (RunFault::List(ListFault::TooManyRows), "N11 TooManyRows", 1),
 ];
 
 const OF_SCHEMAS: [(SchemaFault, &str, u8); 8] = [
     (SchemaFault::NotJson, "N1 Avro V9 Schema S1 NotJson", 1),
-    (SchemaFault::UnknownType, "N1 Avro V9 Schema S2 UnknownType", 1),
-    (SchemaFault::UnknownName, "N1 Avro V9 Schema S3 UnknownName", 1),
+    (
+        SchemaFault::UnknownType,
+        "N1 Avro V9 Schema S2 UnknownType",
+        1,
+    ),
+    (
+        SchemaFault::UnknownName,
+        "N1 Avro V9 Schema S3 UnknownName",
+        1,
+    ),
     (SchemaFault::Recursive, "N1 Avro V9 Schema S4 Recursive", 1),
     (SchemaFault::TooBig, "N1 Avro V9 Schema S5 TooBig", 1),
-    (SchemaFault::FieldTwice(1), "N1 Avro V9 Schema S6 FieldTwice 1", 1),
+    (
+        SchemaFault::FieldTwice(1),
+        "N1 Avro V9 Schema S6 FieldTwice 1",
+        1,
+    ),
     (SchemaFault::Memory, "N1 Avro V9 Schema S7 Memory", 5),
     (SchemaFault::NameTwice, "N1 Avro V9 Schema S8 NameTwice", 1),
 ];
@@ -216,7 +332,10 @@ fn lines_of_lists(rt: HostRuntime) {
 fn lines_of_schemas(rt: HostRuntime) {
     for (fault, line, status) in &OF_SCHEMAS {
         let fault = RunFault::List(ListFault::Avro(AvroFault::Schema(*fault)));
-        assert!(rt; prints(rt.alloc(), &fault, (line, "", ""), *status), "{line}");
+        assert!(rt;
+            prints(rt.alloc(), &fault, (line, "", ""), *status),
+            "{line}"
+        );
     }
 }
 
@@ -233,5 +352,11 @@ fn sentences(rt: HostRuntime) {
     let list = RunFault::List(ListFault::MissingField(500));
     assert!(rt; says(rt.alloc(), &RunFault::Memory, "memory ran out"));
     assert!(rt; says(rt.alloc(), &RunFault::Input, "standard input can't be read"));
-    assert!(rt; says(rt.alloc(), &list, "the manifest list is refused: MissingField(500)"));
+    assert!(rt;
+        says(
+            rt.alloc(),
+            &list,
+            "the manifest list is refused: MissingField(500)"
+        )
+    );
 }
