@@ -72,8 +72,22 @@ file_code = code_by
     (FileContent × (List ℕ × (List ℕ × (ℤ × (List Cell × (ℤ × (ℤ × (List ℤ × Option (List ℕ)))))))))
     (coded× content_code (coded× bytes (coded× bytes (coded× coded_ℤ (coded× (coded_list cell_code)
     (coded× coded_ℤ (coded× coded_ℤ (coded× (coded_list coded_ℤ) (coded_option bytes)))))))))
-    (λ f. (f.content, (f.path, (f.format, (f.spec_id, (f.tuple,
-    (f.record_count, (f.file_size, (f.equality_ids, f.referenced)))))))))
+    (λ f. (
+      f.content,
+      (
+        f.path,
+        (
+          f.format,
+          (
+            f.spec_id,
+            (
+              f.tuple,
+              (f.record_count, (f.file_size, (f.equality_ids, f.referenced))),
+            ),
+          ),
+        ),
+      ),
+    ))
     (λ p. record {
       content = p.0;
       path = p.1.0;
