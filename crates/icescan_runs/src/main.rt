@@ -33,7 +33,7 @@
 use ice_commands::{Watch, run_words};
 use std::alloc::{AllocError, Global};
 use std::fs;
-use std::io::{self, Read, Write};
+use std::io::{self, Write};
 use std::rt::Files;
 use std::sync::Wait;
 use std::thread::Threads;
@@ -61,23 +61,6 @@ fn words_of(alloc: Global, line: &str) -> Result<Vec<String>, AllocError> {
     Ok(words)
 }
 
-/// Runs the command of these words on this standard input: its status, and what it wrote to standard output and to
-/// standard error. No fact of it is needed behind the call, so it stands alone.
-fn run<H, R: Read>(
-    host: &H,
-    alloc: Global,
-    words: &[String],
-    input: &mut R,
-) -> (u8, Vec<u8>, Vec<u8>)
-where
-    H: Files<File: Send, Dir: Send> + Threads + Wait + Watch + Sync,
-{
-    let mut output = Vec::new(alloc);
-    let mut errors = Vec::new(alloc);
-    let status = run_words(host, alloc, words, input, &mut output, &mut errors);
-    (status, output, errors)
-}
-
 /// Runs the command of a line, and tells of it: the line, what the command wrote to standard output and to standard
 /// error, and its status.
 fn play<H, W: Write>(host: &H, alloc: Global, line: &str, page: &mut W) -> io::Result<()>
@@ -88,7 +71,9 @@ where
     let (to, words) = marked(behind, '>');
     let words = words_of(alloc, words)?;
     let mut input = fs::open(host, from.unwrap_or("nothing"))?;
-    let (status, output, errors) = run(host, alloc, &words, &mut input);
+    let mut output = Vec::new(alloc);
+    let mut errors = Vec::new(alloc);
+    let status = run_words(host, alloc, &words, &mut input, &mut output, &mut errors);
     writeln!(page, "> {line}")?;
     match to {
         Some(file) => fs::write(host, file, &output)?,
