@@ -32,15 +32,13 @@ use upgraded::UPGRADED;
 use ways::wrong_pair;
 
 /// What is played, and its name.
-static TRANSCRIPTS: [(&str, &str); 8] = [
+static TRANSCRIPTS: [(&str, &str); 6] = [
     ("lists", LISTS),
     ("rows", ROWS),
     ("manifests", MANIFESTS),
     ("entries", ENTRIES),
     ("tuples", TUPLES),
     ("columns", COLUMNS),
-    ("upgraded", UPGRADED),
-    ("referenced", REFERENCED),
 ];
 
 #[test]
@@ -48,6 +46,20 @@ fn transcripts(rt: HostRuntime) -> Result<(), Fail> {
     for (name, transcript) in &TRANSCRIPTS {
         assert_eq!(rt; difference(rt.alloc(), transcript)?.as_str(), "", "{name}");
     }
+    Ok(())
+}
+
+/// Lists and manifests of a table that was upgraded.
+#[test]
+fn upgraded_tables(rt: HostRuntime) -> Result<(), Fail> {
+    assert_eq!(rt; difference(rt.alloc(), UPGRADED)?.as_str(), "");
+    Ok(())
+}
+
+/// Which data file a position delete file names.
+#[test]
+fn named_data_files(rt: HostRuntime) -> Result<(), Fail> {
+    assert_eq!(rt; difference(rt.alloc(), REFERENCED)?.as_str(), "");
     Ok(())
 }
 
