@@ -42,7 +42,9 @@ fn commit_from_two<L: Ledger, R: Wait>(rt: &R, alloc: Global, blank: Blank) -> O
     requires parts { (blank.parts ≡ L.parts) × (blank.parts ≡ 2) }
 {
     let opening = opened(alloc, TABLE).ok()?;
-    let (catalog, mut seats) = Catalog::<L>::new(alloc, blank, opening, 2).ok()?;
+    let Ok((catalog, mut seats)) = Catalog::<L>::new(alloc, blank, opening, 2) else {
+        return None;
+    };
     let opening = catalog.pin(rt, &mut seats[1]).ok()?;
     let commit = prepared(alloc, &opening, "mem://t/a.parquet", 7).ok()?;
     let late = prepared(alloc, &opening, "mem://t/b.parquet", 8).ok()?;
