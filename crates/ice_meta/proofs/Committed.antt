@@ -11,8 +11,8 @@ use Rattle.ice_meta_json.proofs.Filling.{keeps_filled}
 use Rattle.ice_meta.specs.declared.table.Table.{Table}
 use Rattle.ice_meta.specs.Tables.{text_json, table_of}
 use Rattle.ice_meta.specs.Targets.{Described, metadata_of}
-use Rattle.ice_meta.specs.Committing.{next_json, next_metadata, committed, CanFollow, AreLongs}
-use Rattle.ice_meta.proofs.Following.{says_next}
+use Rattle.ice_meta.specs.Committing.{next_json, next_metadata, committed, CanFollow, HasTime, AreLongs}
+use Rattle.ice_meta.proofs.Following.{says_next, has_time}
 use Rattle.ice_meta.specs.declared.commit.NewSnapshot.{NewSnapshot}
 use Rattle.ice_meta.specs.declared.fault.MetaFault.{MetaFault}
 use Rattle.ice_meta.proofs.Nesting.{under_next}
@@ -55,3 +55,9 @@ pub committed_follows : (m : Described) (s : NewSnapshot) → table_of m.json �
     → AreLongs m.table s → committed m s ≡ Ok (next_metadata m s)
 unfolding committed
 committed_follows m s says can longs = rw (says_next m.json m.table s says can longs) refl
+
+pub tells_time : (m : Described) (s : NewSnapshot) (d : Data) (t : Table) → d ≡ next_json m.table s m.json
+    → table_of d ≡ Ok t → AreLongs m.table s → HasTime s.timestamp_ms (record { json = d; table = t })
+tells_time m s d t is says longs =
+    let said : table_of (next_json m.table s m.json) ≡ Ok t = rw (← is) says in
+    rw is (has_time m.json m.table t s longs.timestamp_ms said)

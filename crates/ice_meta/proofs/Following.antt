@@ -25,7 +25,8 @@ use Rattle.ice_meta.specs.declared.schema.Schema.{Schema}
 use Rattle.ice_meta.specs.declared.spec.Spec.{Spec}
 use Rattle.ice_meta.specs.declared.snapshot.Ref.{Ref}
 use Rattle.ice_meta.specs.declared.snapshot.Snapshot.{Snapshot}
-use Rattle.ice_meta.specs.Laws.{SaysTheNext}
+use Rattle.ice_meta.specs.Laws.{SaysTheNext, WritesTheUuid, ReadsTheUuid, UpdatesAtItsTime, LogsItsTime}
+use Rattle.ice_meta.specs.Laws.{KeepsOtherMembers}
 use Rattle.ice_meta.specs.Members.{asked, there, long_of, member_name, not_null, all_objects, if_int, long_in, int_in}
 use Rattle.ice_meta.specs.Members.{sequence_number_in, sequence_number_or_zero, text_in, optional_long, optional_int}
 use Rattle.ice_meta.specs.Members.{optional_text}
@@ -37,13 +38,18 @@ use Rattle.ice_meta.specs.Tables.{operation_in, if_snapshots, snapshots_in, obje
 use Rattle.ice_meta.specs.Tables.{if_refs, refs_in, table_of}
 use Rattle.ice_meta_json.specs.Objects.{inside, members_of, set, items_of, at_end, one_more, no_object, whole, natural}
 use Rattle.ice_meta_json.proofs.Members.{set_same, set_other}
-use Rattle.ice_meta.specs.Committing.{operation_name, summary_json, with_parent, snapshot_json, branch_to, refs_json}
-use Rattle.ice_meta.specs.Committing.{with_refs, with_log, with_snapshots, next_json, IsLong, AreLongs, CanFollow}
+use Rattle.ice_meta.specs.Committing.{operation_name, summary_json, with_parent, snapshot_json, log_json, branch_to}
+use Rattle.ice_meta.specs.Committing.{refs_json, with_refs, with_log, with_snapshots, uuid_json, next_json}
+use Rattle.ice_meta.specs.Committing.{written_members, HasTime, IsLong, AreLongs, CanFollow}
 use Rattle.ice_meta.specs.Committing.{new_snapshot, main_at, placed, next_table}
+use Rattle.ice_meta.specs.Logs.{last_behind, last_of, time_of}
+use Rattle.ice_meta.proofs.Uuids.{reads_again}
+use Rattle.uuid.specs.Text.{parsed}
 
 -- ---- members of the next metadata
 
 pub record Apart (q : List ℕ) : Type 0 where
+  pub uuid : bytes_eq q (member_name member.TableUuid) ≡ false
   pub number : bytes_eq q (member_name member.LastSequenceNumber) ≡ false
   pub updated : bytes_eq q (member_name member.LastUpdatedMs) ≡ false
   pub current : bytes_eq q (member_name member.CurrentSnapshotId) ≡ false
@@ -74,52 +80,80 @@ found q d o h = h
 stays_has : (q : List ℕ) (t : Table) (s : NewSnapshot) (d : Data) → Apart q → Has q (next_json t s d) (get q d)
 unfolding next_json
 stays_has q t s d a =
-    past q (member_name member.LastSequenceNumber) (natural (suc t.last_sequence_number)) _ _ a.number
+    past q (member_name member.TableUuid) (uuid_json t.uuid) _ _ a.uuid
+    (past q (member_name member.LastSequenceNumber) (natural (suc t.last_sequence_number)) _ _ a.number
     (past q (member_name member.LastUpdatedMs) (whole s.timestamp_ms) _ _ a.updated
     (past q (member_name member.CurrentSnapshotId) (whole s.id) _ _ a.current
     (past q (member_name member.Snapshots) _ (with_log s (with_refs s d)) _ a.snapshots
     (past q (codes "snapshot-log") _ (with_refs s d) _ a.log
-    (past q (member_name member.Refs) _ d _ a.refs (old q d))))))
+    (past q (member_name member.Refs) _ d _ a.refs (old q d)))))))
 
 pub stays : (q : List ℕ) (t : Table) (s : NewSnapshot) (d : Data) → Apart q → get q (next_json t s d) ≡ get q d
 stays q t s d a = found q _ _ (stays_has q t s d a)
 
+uuid_has : (t : Table) (s : NewSnapshot) (d : Data)
+    → Has (member_name member.TableUuid) (next_json t s d) (Some (uuid_json t.uuid))
+unfolding next_json
+uuid_has t s d = here (member_name member.TableUuid) (uuid_json t.uuid)
+    (set (member_name member.LastSequenceNumber) (natural (suc t.last_sequence_number))
+    (set (member_name member.LastUpdatedMs) (whole s.timestamp_ms) (set (member_name member.CurrentSnapshotId)
+    (whole s.id) (with_snapshots t s (with_log s (with_refs s d))))))
+
 number_has : (t : Table) (s : NewSnapshot) (d : Data) → Has (member_name member.LastSequenceNumber) (next_json t s d)
     (Some (natural (suc t.last_sequence_number)))
 unfolding next_json
-number_has t s d = here (member_name member.LastSequenceNumber) (natural (suc t.last_sequence_number))
+number_has t s d =
+    let name = member_name member.LastSequenceNumber in
+    past name (member_name member.TableUuid) (uuid_json t.uuid) _ _ refl
+    (here name (natural (suc t.last_sequence_number))
     (set (member_name member.LastUpdatedMs) (whole s.timestamp_ms) (set (member_name member.CurrentSnapshotId)
-    (whole s.id) (with_snapshots t s (with_log s (with_refs s d)))))
+    (whole s.id) (with_snapshots t s (with_log s (with_refs s d))))))
 
 updated_has : (t : Table) (s : NewSnapshot) (d : Data)
     → Has (member_name member.LastUpdatedMs) (next_json t s d) (Some (whole s.timestamp_ms))
 unfolding next_json
 updated_has t s d =
     let name = member_name member.LastUpdatedMs in
-    past name (member_name member.LastSequenceNumber) (natural (suc t.last_sequence_number)) _ _ refl
+    past name (member_name member.TableUuid) (uuid_json t.uuid) _ _ refl
+    (past name (member_name member.LastSequenceNumber) (natural (suc t.last_sequence_number)) _ _ refl
     (here name (whole s.timestamp_ms) (set (member_name member.CurrentSnapshotId) (whole s.id)
-    (with_snapshots t s (with_log s (with_refs s d)))))
+    (with_snapshots t s (with_log s (with_refs s d))))))
 
 current_has : (t : Table) (s : NewSnapshot) (d : Data) → Has (member_name member.CurrentSnapshotId) (next_json t s d)
     (Some (whole s.id))
 unfolding next_json
 current_has t s d =
     let name = member_name member.CurrentSnapshotId in
-    past name (member_name member.LastSequenceNumber) (natural (suc t.last_sequence_number)) _ _ refl
+    past name (member_name member.TableUuid) (uuid_json t.uuid) _ _ refl
+    (past name (member_name member.LastSequenceNumber) (natural (suc t.last_sequence_number)) _ _ refl
     (past name (member_name member.LastUpdatedMs) (whole s.timestamp_ms) _ _ refl
-    (here name (whole s.id) (with_snapshots t s (with_log s (with_refs s d)))))
+    (here name (whole s.id) (with_snapshots t s (with_log s (with_refs s d))))))
+
+log_has : (t : Table) (s : NewSnapshot) (d : Data)
+    → Has (codes "snapshot-log") (next_json t s d)
+    (Some (one_more (log_json s) (inside (codes "snapshot-log") (with_refs s d))))
+unfolding next_json
+log_has t s d =
+    let name = codes "snapshot-log" in
+    past name (member_name member.TableUuid) (uuid_json t.uuid) _ _ refl
+    (past name (member_name member.LastSequenceNumber) (natural (suc t.last_sequence_number)) _ _ refl
+    (past name (member_name member.LastUpdatedMs) (whole s.timestamp_ms) _ _ refl
+    (past name (member_name member.CurrentSnapshotId) (whole s.id) _ _ refl
+    (past name (member_name member.Snapshots) _ (with_log s (with_refs s d)) _ refl
+    (here name (one_more (log_json s) (inside name (with_refs s d))) (with_refs s d))))))
 
 refs_has : (t : Table) (s : NewSnapshot) (d : Data)
     → Has (member_name member.Refs) (next_json t s d) (Some (refs_json s (inside (member_name member.Refs) d)))
 unfolding next_json
 refs_has t s d =
     let name = member_name member.Refs in
-    past name (member_name member.LastSequenceNumber) (natural (suc t.last_sequence_number)) _ _ refl
+    past name (member_name member.TableUuid) (uuid_json t.uuid) _ _ refl
+    (past name (member_name member.LastSequenceNumber) (natural (suc t.last_sequence_number)) _ _ refl
     (past name (member_name member.LastUpdatedMs) (whole s.timestamp_ms) _ _ refl
     (past name (member_name member.CurrentSnapshotId) (whole s.id) _ _ refl
     (past name (member_name member.Snapshots) _ (with_log s (with_refs s d)) _ refl
     (past name (codes "snapshot-log") _ (with_refs s d) _ refl
-    (here name (refs_json s (inside name d)) d)))))
+    (here name (refs_json s (inside name d)) d))))))
 
 same_inside : (q : List ℕ) (d e : Data) → get q d ≡ get q e → inside q d ≡ inside q e
 same_inside q d e same = ap (λ o. unwrap_or o json.null) same
@@ -137,10 +171,12 @@ snapshots_has : (t : Table) (s : NewSnapshot) (d : Data)
 unfolding next_json
 snapshots_has t s d =
     let name = member_name member.Snapshots in
-    past name (member_name member.LastSequenceNumber) (natural (suc t.last_sequence_number)) _ _ refl
+    past name (member_name member.TableUuid) (uuid_json t.uuid) _ _ refl
+    (past name (member_name member.LastSequenceNumber) (natural (suc t.last_sequence_number)) _ _ refl
     (past name (member_name member.LastUpdatedMs) (whole s.timestamp_ms) _ _ refl
     (past name (member_name member.CurrentSnapshotId) (whole s.id) _ _ refl
-    (here name (one_more (snapshot_json t s) (inside name (with_log s (with_refs s d)))) (with_log s (with_refs s d)))))
+    (here name (one_more (snapshot_json t s) (inside name (with_log s (with_refs s d))))
+    (with_log s (with_refs s d))))))
 
 next_snapshots : (t : Table) (s : NewSnapshot) (d : Data) → get (member_name member.Snapshots) (next_json t s d) ≡ Some
     (one_more (snapshot_json t s) (inside (member_name member.Snapshots) d))
@@ -573,30 +609,33 @@ neither : (a b : Bool) → (a || b) ≡ false → (a ≡ false) × (b ≡ false)
 neither true b e = absurd (true≢false e)
 neither false b e = (refl, e)
 
--- a name that is none of those that change
+-- a name that is one of those that change
 changes : List ℕ → Bool
-changes q =
-    bytes_eq q (member_name member.LastSequenceNumber) || (bytes_eq q (member_name member.LastUpdatedMs) ||
-    (bytes_eq q (member_name member.CurrentSnapshotId)
-    || (bytes_eq q (member_name member.Snapshots) || (bytes_eq q (codes "snapshot-log") || bytes_eq q
-    (member_name member.Refs)))))
+changes q = list_any (bytes_eq q) written_members
 
 apart : (q : List ℕ) → changes q ≡ false → Apart q
 unfolding changes
 apart q e =
-    let number = neither (bytes_eq q (member_name member.LastSequenceNumber)) _ e in
+    let uuid = neither (bytes_eq q (member_name member.TableUuid)) _ e in
+    let number = neither (bytes_eq q (member_name member.LastSequenceNumber)) _ uuid.1 in
     let updated = neither (bytes_eq q (member_name member.LastUpdatedMs)) _ number.1 in
     let current = neither (bytes_eq q (member_name member.CurrentSnapshotId)) _ updated.1 in
     let snapshots = neither (bytes_eq q (member_name member.Snapshots)) _ current.1 in
-    let log = neither (bytes_eq q (codes "snapshot-log")) (bytes_eq q (member_name member.Refs)) snapshots.1 in
+    let log = neither (bytes_eq q (codes "snapshot-log")) _ snapshots.1 in
+    let refs = neither (bytes_eq q (member_name member.Refs)) false log.1 in
     record {
+      uuid = uuid.0;
       number = number.0;
       updated = updated.0;
       current = current.0;
       snapshots = snapshots.0;
       log = log.0;
-      refs = log.1;
+      refs = refs.0;
     }
+
+pub other_members_stay : KeepsOtherMembers
+unfolding changes
+other_members_stay d t s q other = stays q t s d (apart q other)
 
 -- e has the members of d but those that change
 Keeps : Data → Data → Type 0
@@ -613,10 +652,6 @@ int_stays m d e other k = rw (k (member_name m) other) refl
 version_stays : (d e : Data) → Keeps d e → version_in e ≡ version_in d
 unfolding version_in Keeps changes
 version_stays d e k = rw (k (member_name member.FormatVersion) refl) refl
-
-uuid_stays : (d e : Data) → Keeps d e → uuid_in e ≡ uuid_in d
-unfolding uuid_in Keeps changes
-uuid_stays d e k = rw (k (member_name member.TableUuid) refl) refl
 
 location_stays : (d e : Data) → Keeps d e → location_in e ≡ location_in d
 unfolding location_in Keeps changes
@@ -682,6 +717,61 @@ current_next t s d h one = rw (
   one,
 ) refl
 
+-- ---- the uuid
+
+pub writes_uuid : WritesTheUuid
+writes_uuid d t s = found _ _ _ (uuid_has t s d)
+
+pub uuid_next : ReadsTheUuid
+unfolding uuid_in
+uuid_next d t s says =
+    take _ (text_in member.TableUuid d) _ t.uuid says (λ text was e.
+    rw (writes_uuid d t s, reads_again text t.uuid (asked_is (WrongKind member.TableUuid) (parsed text) t.uuid e)) refl)
+
+-- ---- the time
+
+pub updated_next : UpdatesAtItsTime
+updated_next d t s h = long_says member.LastUpdatedMs (next_json t s d) s.timestamp_ms (found _ _ _ (updated_has t s d)) h
+
+last_at_end : (x d : Data) (ds : Items) → last_behind d (at_end x ds) ≡ x
+last_at_end x d json.no_items = refl
+last_at_end x d (json.item e ds) = last_at_end x e ds
+
+last_end : (x : Data) (ds : Items) → last_of (at_end x ds) ≡ Some x
+last_end x json.no_items = refl
+last_end x (json.item d ds) = ap Some (last_at_end x d ds)
+
+log_time : (s : NewSnapshot) → IsLong s.timestamp_ms → time_of (log_json s) ≡ Some s.timestamp_ms
+unfolding log_json
+log_time s h =
+    rw (
+      set_other (member_name member.TimestampMs) (member_name member.SnapshotId) (whole s.id)
+          (set (member_name member.TimestampMs) (whole s.timestamp_ms) no_object) refl,
+      set_same (member_name member.TimestampMs) (whole s.timestamp_ms) no_object,
+      long s.timestamp_ms h,
+    ) refl
+
+next_log : (t : Table) (s : NewSnapshot) (d : Data) → get (codes "snapshot-log") (next_json t s d) ≡ Some
+    (json.array (at_end (log_json s) (items_of (inside (codes "snapshot-log") (with_refs s d)))))
+unfolding one_more
+next_log t s d = found _ _ _ (log_has t s d)
+
+pub logged_next : LogsItsTime
+logged_next d t s h = rw (
+  next_log t s d,
+  last_end (log_json s) (items_of (inside (codes "snapshot-log") (with_refs s d))),
+  log_time s h,
+) refl
+
+-- the metadata of a commit have its time
+pub has_time : (d : Data) (t u : Table) (s : NewSnapshot) → IsLong s.timestamp_ms → table_of (next_json t s d) ≡ Ok u
+    → HasTime s.timestamp_ms (record { json = next_json t s d; table = u })
+has_time d t u s h says = record {
+  updated = ok_is u.last_updated_ms s.timestamp_ms
+      (sym (says_parts (next_json t s d) u says).last_updated_ms ∙ updated_next d t s h);
+  logged = logged_next d t s h;
+}
+
 pub says_next : SaysTheNext
 says_next d t s says can longs =
     let p = says_parts d t says in
@@ -690,12 +780,11 @@ says_next d t s says can longs =
     let schema = schema_fits d t.schemas t.current_schema_id p.current_schema_id in
     says_all e (next_table t s) (record {
       version = (p.version.0, version_stays d e k ∙ p.version.1);
-      uuid = uuid_stays d e k ∙ p.uuid;
+      uuid = uuid_next d t s p.uuid;
       location = location_stays d e k ∙ p.location;
       last_sequence_number = number_says member.LastSequenceNumber e (suc t.last_sequence_number)
           (found _ _ _ (number_has t s d)) can.number_fits;
-      last_updated_ms = long_says member.LastUpdatedMs e s.timestamp_ms (found _ _ _ (updated_has t s d))
-          longs.timestamp_ms;
+      last_updated_ms = updated_next d t s longs.timestamp_ms;
       last_column_id = column_id_stays d e k ∙ p.last_column_id;
       schemas = schemas_stay d e k ∙ p.schemas;
       current_schema_id = current_schema_stays t.schemas d e k ∙ p.current_schema_id;

@@ -12,3 +12,4 @@ pub mod Longs
 pub mod Tabled
 pub mod SchemaText
 pub mod Newest
+pub mod Uuids

@@ -17,6 +17,7 @@ use Rattle.ice_meta_json.specs.Objects.{inside, members_of, natural, set, items_
 use Rattle.ice_meta_json.specs.Upgraded.{snapshots, sequence_number, lacks_number, numbered, each_numbered}
 use Rattle.ice_meta_json.specs.Upgraded.{snapshot_items, filled}
 use Rattle.ice_meta_json.proofs.Filling.{either_filled}
+use Rattle.uuid.specs.Text.{hyphenated_text, lower}
 use Rattle.ice_meta.specs.Committing.{operation_name, with_parent, summary_json, snapshot_json, log_json, branch_to}
 use Rattle.ice_meta.specs.Committing.{refs_json, with_refs, with_log, with_snapshots, next_json}
 
@@ -169,10 +170,11 @@ with_snapshots_nests t s d h =
 next_nests : (t : Table) (s : NewSnapshot) (d : Data) → Nests max_depth d → Nests max_depth (next_json t s d)
 unfolding next_json
 next_nests t s d h =
-    under_number (member_name member.LastSequenceNumber) (json.unsigned (suc t.last_sequence_number)) _ 126
+    under_text (member_name member.TableUuid) (hyphenated_text lower t.uuid) _ 126
+    (under_number (member_name member.LastSequenceNumber) (json.unsigned (suc t.last_sequence_number)) _ 126
     (under_number (member_name member.LastUpdatedMs) (of_integer s.timestamp_ms) _ 126
     (under_number (member_name member.CurrentSnapshotId) (of_integer s.id) _ 126
-    (with_snapshots_nests t s _ (with_log_nests s _ (with_refs_nests s d h)))))
+    (with_snapshots_nests t s _ (with_log_nests s _ (with_refs_nests s d h))))))
 
 pub under_next : (t : Table) (s : NewSnapshot) (d : Data) → depth d ≤ max_depth → depth (next_json t s d) ≤ max_depth
 unfolding Nests

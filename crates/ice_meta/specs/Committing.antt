@@ -1,6 +1,7 @@
 -- The metadata that a commit leaves (Apache Iceberg table spec v2, "Table Metadata Fields", "Snapshots" and "Snapshot
--- References"): the new snapshot is added, is the current one, and is what the branch `main` names. All else is kept,
--- also what this crate does not read.
+-- References"): the new snapshot is added, is the current one, and is what the branch `main` names. The table's id is
+-- written in the one form of its text that every reader takes (RFC 4122, section 3). All else is kept, also what this
+-- crate does not read.
 use Rattle.std.specs.Prelude.{◌≡◌, ◌<◌, ◌^◌, ◌++◌, ℕ, suc, ℤ, pos, negsuc, false, List, [], ◌∷◌, Option, None, Some}
 use Rattle.std.specs.Prelude.{IfSome, codes, Result, Ok}
 use Rattle.std.specs.Cmp.Lexicographic.{slice_cmp}
@@ -8,6 +9,7 @@ use Rattle.std.specs.Ordering.{nat_cmp, int_eq, match_ordering}
 use Rattle.contract_words.specs.Outcome.{◌>>=◌}
 use Rattle.serde_json.specs.Data as json
 use Rattle.serde_json.specs.Data.{Data}
+use Rattle.uuid.specs.Text.{hyphenated_text, lower}
 use Rattle.ice_meta_json.specs.Objects.{whole, natural, no_object, inside, set, one_more}
 use Rattle.ice_meta.specs.declared.commit.NewSnapshot.{NewSnapshot}
 use Rattle.ice_meta.specs.declared.commit.Operation.{Operation}
@@ -18,6 +20,7 @@ use Rattle.ice_meta.specs.declared.snapshot.Ref.{Ref}
 use Rattle.ice_meta.specs.declared.snapshot.RefKind.TheVariants as kind
 use Rattle.ice_meta.specs.declared.snapshot.Snapshot.{Snapshot}
 use Rattle.ice_meta.specs.declared.table.Table.{Table}
+use Rattle.ice_meta.specs.Logs.{newest_time}
 use Rattle.ice_meta.specs.Members.{member_name}
 use Rattle.ice_meta.specs.Tables.{table_of}
 use Rattle.ice_meta.specs.Targets.{Described, snapshot_with}
@@ -78,13 +81,30 @@ with_log s = changed (codes "snapshot-log") (one_more (log_json s))
 abbrev pub with_snapshots : Table → NewSnapshot → Data → Data
 with_snapshots t s = changed (member_name member.Snapshots) (one_more (snapshot_json t s))
 
+-- a uuid: 32 hexadecimal digits in lower case, in five groups with hyphens between them
+abbrev pub uuid_json : List ℕ → Data
+uuid_json uuid = json.string (hyphenated_text lower uuid)
+
 -- the metadata after the commit
 unfoldable pub next_json : Table → NewSnapshot → Data → Data
 next_json t s d =
-    set (member_name member.LastSequenceNumber) (natural (suc t.last_sequence_number))
+    set (member_name member.TableUuid) (uuid_json t.uuid)
+    (set (member_name member.LastSequenceNumber) (natural (suc t.last_sequence_number))
     (set (member_name member.LastUpdatedMs) (whole s.timestamp_ms)
     (set (member_name member.CurrentSnapshotId) (whole s.id)
-    (with_snapshots t s (with_log s (with_refs s d)))))
+    (with_snapshots t s (with_log s (with_refs s d))))))
+
+-- the members that it writes
+abbrev pub written_members : List (List ℕ)
+written_members =
+    member_name member.TableUuid ∷ member_name member.LastSequenceNumber ∷ member_name member.LastUpdatedMs ∷
+    member_name member.CurrentSnapshotId ∷ member_name member.Snapshots ∷ codes "snapshot-log" ∷
+    member_name member.Refs ∷ []
+
+-- The time of the commit is when its metadata were written, and when its snapshot came to be the current one.
+pub record HasTime (time : ℤ) (m : Described) : Type 0 where
+  pub updated : m.table.last_updated_ms ≡ time
+  pub logged : newest_time m.json ≡ Some time
 
 -- the same as metadata, or the first fault with which it could not be read again
 unfoldable pub committed : Described → NewSnapshot → Result Described MetaFault

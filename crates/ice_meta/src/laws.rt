@@ -2,6 +2,7 @@
 
 ghost use Rattle.ice_meta.specs.Laws.{SaysTheNext, HasTheNew, MakesItCurrent, MovesMain, KeepsOtherSnapshots};
 ghost use Rattle.ice_meta.specs.Laws.{KeepsOtherRefs, KeepsOtherTargets, KeepsHistory, KeepsSchemas, KeepsSpecs};
+ghost use Rattle.ice_meta.specs.Laws.{WritesTheUuid, ReadsTheUuid, UpdatesAtItsTime, LogsItsTime, KeepsOtherMembers};
 ghost use Rattle.ice_meta.specs.Laws.{SaysTheSame, StaysFilled};
 
 /// The metadata after a commit says what the metadata before it said, and the commit.
@@ -16,8 +17,24 @@ pub fn a_commit_adds_its_snapshot()
     ensures main { MovesMain }
 {}
 
-/// A commit leaves the other snapshots, branches and tags, what they lead to, the schemas and the partition specs.
+/// A commit writes the table's uuid as its text with hyphens, in lower case, in whichever form it was read; it is the
+/// same uuid.
+pub fn a_commit_writes_the_canonical_uuid()
+    ensures written { WritesTheUuid }
+    ensures same { ReadsTheUuid }
+{}
+
+/// What a commit writes says when it was made: as the time of the metadata, and as that of the newest element of the
+/// snapshot log.
+pub fn a_commit_tells_its_time()
+    ensures updated { UpdatesAtItsTime }
+    ensures log { LogsItsTime }
+{}
+
+/// A commit leaves the other snapshots, branches and tags, what they lead to, the schemas and the partition specs, and
+/// each member that it doesn't write.
 pub fn a_commit_keeps_the_rest()
+    ensures members { KeepsOtherMembers }
     ensures snapshots { KeepsOtherSnapshots }
     ensures refs { KeepsOtherRefs }
     ensures targets { KeepsOtherTargets }

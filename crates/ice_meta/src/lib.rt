@@ -22,7 +22,8 @@ pub use commit::{NewSnapshot, Operation};
 pub use fault::{Member, MetaFault};
 pub use laws::{
     a_commit_adds_its_snapshot, a_commit_keeps_sequence_numbers, a_commit_keeps_the_rest,
-    a_commit_says_the_next_table, filling_in_says_the_same_table,
+    a_commit_says_the_next_table, a_commit_tells_its_time, a_commit_writes_the_canonical_uuid,
+    filling_in_says_the_same_table,
 };
 pub use metadata::{Metadata, Target};
 pub use schema::{Column, Schema};

@@ -1,6 +1,6 @@
 //! Table metadata: the JSON value that it is, and what it says.
 
-ghost use Rattle.std.specs.Prelude.{◌≡◌, ◌≤◌, IfOk, Some, Ok, map, true, false};
+ghost use Rattle.std.specs.Prelude.{◌≡◌, ◌≢◌, ◌≤◌, IfOk, Some, Ok, Err, map, true, false};
 ghost use Rattle.std.specs.List.{All};
 ghost use Rattle.std.specs.Option.{option_copied, option_map, is_some};
 ghost use Rattle.contract_words.specs.Outcome.{Gives};
@@ -10,7 +10,7 @@ ghost use Rattle.serde_json.specs.Read.{max_depth};
 ghost use Rattle.serde_json.specs.View.{view};
 ghost use Rattle.serde_json.specs.Written.{has_float, compact_text, IsInOrder};
 ghost use Rattle.ice_meta_json.specs.Upgraded.{IsFilled};
-ghost use Rattle.ice_meta.specs.Committing.{CanFollow, committed, next_metadata};
+ghost use Rattle.ice_meta.specs.Committing.{CanFollow, HasTime, committed, next_metadata};
 ghost use Rattle.ice_meta.specs.Tables.{HasCurrentSchema, HasDefaultSpec, HasDifferentSchemas, HasDifferentSpecs};
 ghost use Rattle.ice_meta.specs.Tables.{HasDifferentSnapshots, text_json, json_of, table_of};
 ghost use Rattle.ice_meta.specs.Different.{HasDifferentColumns, HasDifferentFields};
@@ -129,14 +129,16 @@ impl Metadata {
 
     /// The metadata after a commit to this table: with the new snapshot, which is made from the current one and under
     /// the current schema, as the current one and as the branch `main`, the next sequence number, and one more element
-    /// of the snapshot log. All else is kept. It is refused where the table has a snapshot of this id, and after the
-    /// last of all sequence numbers.
+    /// of the snapshot log. The table's uuid is written in its hyphenated form, in lower case, in whichever form it was
+    /// read. All else is kept. It is refused where the table has a snapshot of this id, and after the last of all
+    /// sequence numbers.
     pub fn with_snapshot(&self, alloc: Global, added: &NewSnapshot) -> Result<Metadata, MetaFault>
         ensures json { Gives MetaFault.Memory (λ next. described next.json next.table) result
             (committed (described self.now.json self.now.table) added.now) }
         ensures table { CanFollow self.now.table added.now
             → Gives MetaFault.Memory (λ next. described next.json next.table) result
             (Ok (next_metadata (described self.now.json self.now.table) added.now)) }
+        ensures time { IfOk result (λ next. HasTime added.now.timestamp_ms (described next.json next.table)) }
     {
         let json = next_json(alloc, &self.json, &self.table, added)?;
         let table = table_of(alloc, &json)?;
@@ -294,7 +296,8 @@ impl Metadata {
     /// The path of the manifest list of the snapshot that is asked for.
     #[tactic(auto, unfolding(crate::specs::Targets::list_of))]
     pub fn manifest_list(&self, target: &Target) -> Result<&Text, MetaFault>
-        ensures { Gives MetaFault.Memory (λ list. list.now) result (list_of target.now self.now.table) }
+        ensures list { Gives MetaFault.Memory (λ list. list.now) result (list_of target.now self.now.table) }
+        ensures memory { result ≢ Err MetaFault.Memory }
     {
         let id = self.target_id(target)?;
         let Some(snapshot) = self.snapshot(id) else {

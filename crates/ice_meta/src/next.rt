@@ -5,7 +5,7 @@ ghost use Rattle.serde_json.specs.View.{view};
 ghost use Rattle.ice_meta_json.specs.Objects.{whole};
 ghost use Rattle.ice_meta.specs.Committing.{IsLong, AreLongs, with_parent};
 ghost use Rattle.ice_meta.specs.Committing.{summary_json, snapshot_json, log_json, branch_to, refs_json, with_refs};
-ghost use Rattle.ice_meta.specs.Committing.{with_log, with_snapshots, next_json};
+ghost use Rattle.ice_meta.specs.Committing.{with_log, with_snapshots, uuid_json, next_json};
 
 use crate::commit::NewSnapshot;
 use crate::fault::Member;
@@ -14,6 +14,7 @@ use crate::table::Table;
 use ice_meta_json::{inside, one_more, set};
 use serde_json::{Map, Value};
 use std::alloc::{AllocError, Global};
+use uuid::Uuid;
 
 /// The name of the branch whose snapshot is the current one.
 const MAIN: &str = "main";
@@ -139,6 +140,14 @@ fn with_snapshots(
     set(alloc, json, Member::Snapshots.name(), snapshots)
 }
 
+/// A uuid as text with hyphens, in lower case: the one form that every reader takes.
+fn uuid_json(alloc: Global, uuid: Uuid) -> Result<Value, AllocError>
+    ensures { IfOk result (λ json. view json ≡ uuid_json uuid) }
+{
+    let mut buffer = Uuid::encode_buffer();
+    Value::try_from_str(alloc, uuid.hyphenated().encode_lower(&mut buffer))
+}
+
 /// The metadata after the commit.
 #[tactic(auto, unfolding(crate::specs::Committing::next_json))]
 pub fn next_json(
@@ -166,10 +175,12 @@ pub fn next_json(
         Member::LastUpdatedMs.name(),
         whole(added.timestamp_ms),
     )?;
-    set(
+    let next = set(
         alloc,
         next,
         Member::LastSequenceNumber.name(),
         sequence_number,
-    )
+    )?;
+    let uuid = uuid_json(alloc, table.uuid)?;
+    set(alloc, next, Member::TableUuid.name(), uuid)
 }

@@ -1,6 +1,10 @@
 use Rattle.std.proofs.Common.{refl}
+use Rattle.ice_meta.proofs.Following.{other_members_stay}
 use Rattle.ice_meta.proofs.Tabled.{others_stay, other_refs_stay, other_targets_stay, history_stays}
 use Rattle.ice_meta.proofs.laws.a_commit_keeps_the_rest.Goals as goal
+
+pub returns-clause-members : goal.returns-clause-members
+returns-clause-members c = other_members_stay
 
 pub returns-clause-snapshots : goal.returns-clause-snapshots
 returns-clause-snapshots c = others_stay

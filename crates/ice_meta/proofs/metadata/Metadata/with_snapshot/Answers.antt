@@ -3,7 +3,7 @@ use Rattle.std.proofs.lemmas.Result.{err_from_is_err_and}
 use Rattle.serde_json.specs.View.{view}
 use Rattle.ice_meta.specs.Targets.{described}
 use Rattle.ice_meta.proofs.Committed.{committed_gives, committed_fails, committed_follows, is_filled}
-use Rattle.ice_meta.proofs.Committed.{is_object, nests}
+use Rattle.ice_meta.proofs.Committed.{is_object, nests, tells_time}
 use Rattle.ice_meta.proofs.metadata.Metadata.with_snapshot.Goals as goal
 
 pub returns-in_err-table-clause-json : goal.returns-in_err-table-clause-json
@@ -46,3 +46,9 @@ returns-clause-table c =
     λ can. sym (committed_follows (described m.json m.table) s m.says can c.in_ok-json.ensures.longs)
     ∙ committed_gives (described m.json m.table) s (view c.in_ok-json.json) c.in_ok-table.table
     c.in_ok-json.ensures.json c.in_ok-table.ensures.read
+
+pub returns-clause-time : goal.returns-clause-time
+returns-clause-time c =
+    let m = c.args.self.now in
+    tells_time (described m.json m.table) c.args.added.now (view c.in_ok-json.json) c.in_ok-table.table
+    c.in_ok-json.ensures.json c.in_ok-table.ensures.read c.in_ok-json.ensures.longs
