@@ -2,7 +2,7 @@
 
 use crate::files::{EMPTY, EVENTS, PLAIN, UPGRADED};
 use crate::tables::text;
-use crate::texts::{changed_by, check, check_after, is_outcome, read};
+use crate::texts::{changed_by, changed_once, check, check_after, is_outcome, read};
 use ice_meta::{MetaFault, Metadata, NewSnapshot, Operation, Target};
 use std::alloc::{AllocError, Global};
 
@@ -107,6 +107,31 @@ const FIRST: &str =
 #[test]
 fn first_snapshot(rt: HostRuntime) {
     assert!(rt; is_outcome(rt.alloc(), EMPTY, FIRST) == Some(true));
+}
+
+/// The uuid of the empty table in each form in which it may be read.
+const UUID_FORMS: &str = "f79c3e09-677c-4bbd-a479-3f349cb785e7
+F79C3E09-677C-4BBD-A479-3F349CB785E7
+f79c3E09-677C-4bbd-A479-3f349cB785E7
+{f79c3e09-677c-4bbd-a479-3f349cb785e7}
+{F79C3E09-677C-4BBD-A479-3F349CB785E7}
+urn:uuid:f79c3e09-677c-4bbd-a479-3f349cb785e7
+URN:UUID:F79C3E09-677C-4BBD-A479-3F349CB785E7
+f79c3e09677c4bbda4793f349cb785e7
+F79C3E09677C4BBDA4793F349CB785E7";
+
+/// Whether the empty table with its uuid in this form is after one append what it is with the hyphenated one.
+fn gives_first(alloc: Global, form: &str) -> Option<bool> {
+    let change = format!(in alloc; "f79c3e09-677c-4bbd-a479-3f349cb785e7 => {form}").ok()?;
+    let text = changed_once(alloc, EMPTY, change.as_str())?;
+    is_outcome(alloc, text.as_str(), FIRST)
+}
+
+#[test]
+fn uuid_in_each_form(rt: HostRuntime) {
+    for form in UUID_FORMS.lines() {
+        assert!(rt; gives_first(rt.alloc(), form) == Some(true), "{form}");
+    }
 }
 
 const DELETES: Added = Added {
