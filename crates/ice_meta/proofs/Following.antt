@@ -731,7 +731,8 @@ uuid_next d t s says =
 -- ---- the time
 
 pub updated_next : UpdatesAtItsTime
-updated_next d t s h = long_says member.LastUpdatedMs (next_json t s d) s.timestamp_ms (found _ _ _ (updated_has t s d)) h
+updated_next d t s h =
+    long_says member.LastUpdatedMs (next_json t s d) s.timestamp_ms (found _ _ _ (updated_has t s d)) h
 
 last_at_end : (x d : Data) (ds : Items) → last_behind d (at_end x ds) ≡ x
 last_at_end x d json.no_items = refl

@@ -1,12 +1,12 @@
 -- A uuid that was read from a text is read again from its hyphenated text.
-use Rattle.std.proofs.Common.{◌≡◌, ℕ, ◌+◌, ◌*◌, ◌<◌, ◌==◌, ◌&&◌, Bool, true, false, List, length, get_or, take, drop, All}
-use Rattle.std.proofs.Common.{Option, None, Some, if◌then◌else◌, inl, refl, sym, arith}
+use Rattle.std.proofs.Common.{◌≡◌, ℕ, ◌+◌, ◌*◌, ◌<◌, ◌==◌, ◌&&◌, Bool, true, false, List, length, get_or, take, drop}
+use Rattle.std.proofs.Common.{All, Option, None, Some, if◌then◌else◌, inl, refl, sym, arith}
 use Rattle.std.proofs.lemmas.Bool.{eqb-true}
 use Rattle.std.proofs.lemmas.Bool.Decides.{nat_tests}
 use Rattle.std.proofs.lemmas.List.Sums.{AllPass-from_list_all}
 use Rattle.std.specs.List.{list_all}
 use Rattle.uuid.specs.Text.{by_index, byte_of_digits, digits_of, has_hyphens, has_urn_prefix, hyphenated_text}
-use Rattle.uuid.specs.Text.{is_hex_digit, lower, open_brace, close_brace, parsed, parsed_simple, parsed_hyphenated}
+use Rattle.uuid.specs.Text.{is_hex_digit, lower, parsed, parsed_simple, parsed_hyphenated}
 use Rattle.uuid.specs.Text.{parsed_braced, parsed_urn, value_of}
 use Rattle.uuid.proofs.RoundTrips.{parses_hyphenated}
 use Rattle.uuid.proofs.TextLemmas.{all_fit, by_index_at, by_index_length}
@@ -40,7 +40,7 @@ digits_give hex long all = record {
       rw (by_index_at 16 (byte_of_digits hex) j 0 here) (byte_small hex long all j here));
 }
 
--- each form
+-- ---- each form
 
 simple_gives : (s u : List ℕ) → parsed_simple s ≡ Some u → IsUuid u
 simple_gives s u e = here ((length s == 32) && list_all is_hex_digit s) refl e

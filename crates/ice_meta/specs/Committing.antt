@@ -1,7 +1,6 @@
 -- The metadata that a commit leaves (Apache Iceberg table spec v2, "Table Metadata Fields", "Snapshots" and "Snapshot
--- References"): the new snapshot is added, is the current one, and is what the branch `main` names. The table's id is
--- written in the one form of its text that every reader takes (RFC 4122, section 3). All else is kept, also what this
--- crate does not read.
+-- References"): the new snapshot is added, is the current one, and is what the branch `main` names. The table's uuid is
+-- written in its hyphenated form (RFC 4122, section 3). All else is kept, also what this crate does not read.
 use Rattle.std.specs.Prelude.{◌≡◌, ◌<◌, ◌^◌, ◌++◌, ℕ, suc, ℤ, pos, negsuc, false, List, [], ◌∷◌, Option, None, Some}
 use Rattle.std.specs.Prelude.{IfSome, codes, Result, Ok}
 use Rattle.std.specs.Cmp.Lexicographic.{slice_cmp}
@@ -81,7 +80,7 @@ with_log s = changed (codes "snapshot-log") (one_more (log_json s))
 abbrev pub with_snapshots : Table → NewSnapshot → Data → Data
 with_snapshots t s = changed (member_name member.Snapshots) (one_more (snapshot_json t s))
 
--- a uuid: 32 hexadecimal digits in lower case, in five groups with hyphens between them
+-- the hyphenated text of a uuid: its 32 hexadecimal digits in lower case, in five groups
 abbrev pub uuid_json : List ℕ → Data
 uuid_json uuid = json.string (hyphenated_text lower uuid)
 

@@ -9,5 +9,5 @@ returns-clause-scan c =
     let list = c.in_ok-list.list.now in
     let rows = rw c.as_str.ensures at (c.in_ok-rows.ensures.found (λ path. map.get world path) refl) in
     let scan = rw (c.into_vec.ensures, c.in_ok-specs.ensures, c.always.ensures.parts) at c.in_ok-new.ensures in
-    scan_there _ list c.schema_for-schema.result.now c.in_ok-rows.rows.items c.in_ok-new.field-0 c.in_ok-list.ensures
-    (sym c.schema_for-schema.ensures) rows scan
+    scan_there _ list c.schema_for-schema.result.now c.in_ok-rows.rows.items c.in_ok-new.field-0
+    c.in_ok-list.ensures.list (sym c.schema_for-schema.ensures) rows scan

@@ -10,7 +10,7 @@ pub returns-in-Err-clause-base : goal.returns-in-Err-clause-base
 returns-in-Err-clause-base g c = λ world told.
     let other = no_memory c.in-Err.fault (sym c.meta_wants_memory.ensures ∙ c.if-meta_wants_memory.false) in
     c.new-kept.ensures ∙ sym (no_list world (list_of Main c.args.metadata.now.table) c.in-Err.fault
-    (c.in-Err.ensures other))
+    (c.in-Err.ensures.list other))
 
 pub returns-clause-base : goal.returns-clause-base
 returns-clause-base g c = λ world told.
