@@ -744,13 +744,7 @@ last_end x (json.item d ds) = ap Some (last_at_end x d ds)
 
 log_time : (s : NewSnapshot) → IsLong s.timestamp_ms → time_of (log_json s) ≡ Some s.timestamp_ms
 unfolding log_json
-log_time s h =
-    rw (
-      set_other (member_name member.TimestampMs) (member_name member.SnapshotId) (whole s.id)
-          (set (member_name member.TimestampMs) (whole s.timestamp_ms) no_object) refl,
-      set_same (member_name member.TimestampMs) (whole s.timestamp_ms) no_object,
-      long s.timestamp_ms h,
-    ) refl
+log_time s h = long s.timestamp_ms h
 
 next_log : (t : Table) (s : NewSnapshot) (d : Data) → get (codes "snapshot-log") (next_json t s d) ≡ Some
     (json.array (at_end (log_json s) (items_of (inside (codes "snapshot-log") (with_refs s d)))))
