@@ -1,5 +1,6 @@
 pub mod Json
 pub mod WrittenTypes
+pub mod PartitionNames
 pub mod WrittenSchemas
 pub mod WrittenValues
 pub mod Adding

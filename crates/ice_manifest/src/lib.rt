@@ -9,6 +9,7 @@ mod list_writing;
 mod manifest_writing;
 mod new_file;
 mod new_row;
+mod partition_names;
 mod written_entries;
 mod written_schemas;
 mod written_types;
