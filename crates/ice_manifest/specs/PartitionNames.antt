@@ -19,14 +19,14 @@ is_in_names c = is_ascii_alphanumeric c || nat_eq c 95
 abbrev pub spelled : ℕ → List ℕ
 spelled c = if is_in_names c then encode_utf8 c else codes "_x" ++ digits 16 true c
 
--- what stands before the spelling of a name: no digit comes first
+-- what stands before the spelling of these characters: no digit comes first
 abbrev pub before : List ℕ → List ℕ
 before [] = []
-before (b ∷ bs) = if is_ascii_digit b then codes "_" else []
+before (c ∷ cs) = if is_ascii_digit c then codes "_" else []
 
 -- the Avro name of a name
 unfoldable pub avro_name : List ℕ → List ℕ
-avro_name name = before name ++ flat_map spelled (chars name)
+avro_name name = before (chars name) ++ flat_map spelled (chars name)
 
 -- whether no name is empty and no two are alike
 abbrev pub are_apart : List (List ℕ) → Bool

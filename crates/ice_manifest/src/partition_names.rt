@@ -1,6 +1,6 @@
 //! What partition fields are called in a manifest.
 
-ghost use Rattle.std.specs.Prelude.{◌≡◌, ◌++◌, [], ℕ, List, IfOk, OnOk, codes, string_bytes, map};
+ghost use Rattle.std.specs.Prelude.{◌≡◌, ◌++◌, [], ℕ, List, IfOk, OnOk, codes, chars, string_bytes, map};
 ghost use Rattle.std.specs.Fmt.{signed_decimal};
 ghost use Rattle.ice_manifest.specs.Adding.{IsId};
 ghost use Rattle.ice_meta.specs.declared.spec.PartitionField.{PartitionField as DeclaredField};
@@ -43,10 +43,10 @@ fn push_spelled(alloc: Global, name: &mut String, c: char) -> Result<(), AllocEr
 
 /// What stands before the spelling of a name.
 fn before_name(name: &str) -> &'static str
-    ensures { result.now ≡ before name.now }
+    ensures { result.now ≡ before (chars name.now) }
 {
-    match name.as_bytes().first() {
-        Some(byte) if byte.is_ascii_digit() => "_",
+    match name.chars().next() {
+        Some(c) if c.is_ascii_digit() => "_",
         _ => "",
     }
 }

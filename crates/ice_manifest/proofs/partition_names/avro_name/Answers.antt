@@ -12,7 +12,7 @@ one_more cs c = flat_map-append spelled cs (c ∷ []) ∙ ap (λ s. flat_map spe
 
 pub characters-preserved : goal.characters-preserved
 characters-preserved c =
-    let front = before c.args.name.now in
+    let front = before (chars c.args.name.now) in
     c.in_ok-push_spelled.ensures ∙ ap (λ s. s ++ spelled c.in-Some.c) c.characters.invariant
     ∙ append_assoc front (flat_map spelled c.characters.yielded) (spelled c.in-Some.c)
     ∙ ap (λ s. front ++ s) (sym (one_more c.characters.yielded c.in-Some.c))
@@ -22,5 +22,5 @@ unfolding avro_name
 returns c =
     let done = YieldsList-end (YieldsList-from_chars c.args.name.now c.utf8.name cc) c.characters.yielded _
     c.characters.yielded_by _ _ c.in-None.is c.next.ensures.steps in
-    c.characters.invariant ∙ ap (λ cs. before c.args.name.now ++ flat_map spelled cs)
+    c.characters.invariant ∙ ap (λ cs. before (chars c.args.name.now) ++ flat_map spelled cs)
     (sym (map-id c.characters.yielded) ∙ done.0)
