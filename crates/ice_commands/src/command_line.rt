@@ -122,12 +122,16 @@ With --dir the new files are written below the folder, whose folders have to be 
 another; the metadata at --out comes last, so that a reader sees all of the commit or none. With --bundle they are
 printed as the lines of a bundle.
 
+Two commits compete for the path at --out alone: it is the one name that all writers of a table share for the
+metadata that follows, vN+1.metadata.json behind vN, and the second to come is a conflict (status 4). A table that a
+catalog owns is committed to through its catalog, never past it.
+
 Example, at the top of icescan's repository:
   cp -r examples/plain-java/table /tmp/plain
   echo '{\"data\": [{\"path\": \"s3://warehouse/db/plain/data/new.parquet\", \"format\": \"parquet\",
     \"spec-id\": 0, \"partition\": [], \"record-count\": 10, \"file-size\": 1000}], \"deletes\": []}' > /tmp/plain/change.json
   icescan append --dir /tmp/plain --prefix s3://warehouse/db/plain --snapshot-id 7 \\
-    --uuid f79c3e09-677c-4bbd-a479-3f349cb785e7 --now-ms 1709942400000 \\
+    --uuid $(uuidgen) --now-ms $(date +%s000) \\
     --out s3://warehouse/db/plain/metadata/00006.metadata.json \\
     s3://warehouse/db/plain/metadata/00005-c64aaab7-8283-c18e-53ea-99e6e56da046.metadata.json \\
     s3://warehouse/db/plain/change.json
@@ -146,6 +150,10 @@ With --dir the new files are written below the folder, whose folders have to be 
 another; the metadata at --out comes last, so that a reader sees all of the commit or none. With --bundle they are
 printed as the lines of a bundle.
 
+Two commits compete for the path at --out alone: it is the one name that all writers of a table share for the
+metadata that follows, vN+1.metadata.json behind vN, and the second to come is a conflict (status 4). A table that a
+catalog owns is committed to through its catalog, never past it.
+
 Example, at the top of icescan's repository:
   cp -r examples/plain-java/table /tmp/plain
   echo '{\"data\": [{\"path\": \"s3://warehouse/db/plain/data/new.parquet\", \"format\": \"parquet\",
@@ -153,7 +161,7 @@ Example, at the top of icescan's repository:
     \"s3://warehouse/db/plain/data/eq.parquet\", \"format\": \"parquet\", \"spec-id\": 0, \"partition\": [], \"record-count\": 1,
     \"file-size\": 300, \"content\": \"equality\", \"equality-ids\": [1]}]}' > /tmp/plain/change.json
   icescan row-delta --dir /tmp/plain --prefix s3://warehouse/db/plain --snapshot-id 7 \\
-    --uuid f79c3e09-677c-4bbd-a479-3f349cb785e7 --now-ms 1709942400000 \\
+    --uuid $(uuidgen) --now-ms $(date +%s000) \\
     --out s3://warehouse/db/plain/metadata/00006.metadata.json \\
     s3://warehouse/db/plain/metadata/00005-c64aaab7-8283-c18e-53ea-99e6e56da046.metadata.json \\
     s3://warehouse/db/plain/change.json

@@ -45,6 +45,8 @@ use Rattle.ice_manifest_reading.specs.Schemas.{map_fits, pair_fields, ids_fit, f
 use Rattle.ice_manifest_reading.specs.Kinds.{wanted}
 use Rattle.ice_manifest_reading.specs.Types.{each_is, some_is, fits}
 use Rattle.ice_manifest.specs.WrittenTypes.{null_or, written_tree, written_fields}
+use Rattle.ice_manifest.specs.declared.partition_names.Naming.{Naming}
+use Rattle.ice_manifest.specs.PartitionNames.{naming_of}
 use Rattle.ice_manifest.specs.WrittenSchemas.{value_type, partition_fields, file_type, entry_type}
 use Rattle.ice_manifest.specs.Writing.{manifest_type, new_entry, new_entries}
 use Rattle.ice_manifest.specs.WrittenValues.{if_some, cell_value, tuple_values, file_content, ids_value, file_value}
@@ -84,32 +86,32 @@ passed_over : (id : ℤ) (t : Tree) (v : Value) (fs : Fields) (vs : Values) (ps 
 passed_over id t v fs vs [] apart = refl
 passed_over id t v fs vs (p ∷ ps) apart = rw (apart.0, passed_over id t v fs vs ps apart.1) refl
 
-cells_again : (ps : List PartitionField) (ts : List ColumnType) (cs : List Cell) → length ts ≡ length ps
+cells_again : (naming : Naming) (ps : List PartitionField) (ts : List ColumnType) (cs : List Cell) → length ts ≡ length ps
     → IsDistinct int_eq (map (λ (p : PartitionField). p.field_id) ps) → is_tuple_of ts cs ≡ true
-    → cells_of ps (structure (written_fields (partition_fields ps ts)), fields (values_of (tuple_values ts cs))) ≡ cs
+    → cells_of ps (structure (written_fields (partition_fields naming ps ts)), fields (values_of (tuple_values ts cs))) ≡ cs
 unfolding IsDistinct
-cells_again [] [] [] e apart h = refl
-cells_again [] [] (c ∷ cs) e apart h = absurd cc
-cells_again [] (t ∷ ts) cs e apart h = absurd (omega (arith, e))
-cells_again (p ∷ ps) [] cs e apart h = absurd (omega (arith, e))
-cells_again (p ∷ ps) (t ∷ ts) [] e apart h = absurd cc
-cells_again (p ∷ ps) (t ∷ ts) (c ∷ cs) e apart h =
+cells_again naming [] [] [] e apart h = refl
+cells_again naming [] [] (c ∷ cs) e apart h = absurd cc
+cells_again naming [] (t ∷ ts) cs e apart h = absurd (omega (arith, e))
+cells_again naming (p ∷ ps) [] cs e apart h = absurd (omega (arith, e))
+cells_again naming (p ∷ ps) (t ∷ ts) [] e apart h = absurd cc
+cells_again naming (p ∷ ps) (t ∷ ts) (c ∷ cs) e apart h =
     let parts = both (is_null_or_of t c) (is_tuple_of ts cs) h in
     let rest = passed_over p.field_id (null_or (written_tree (value_type p.field_id t))) (cell_value t c)
-    (written_fields (partition_fields ps ts)) (values_of (tuple_values ts cs)) ps apart.0 ∙ cells_again ps ts cs
+    (written_fields (partition_fields naming ps ts)) (values_of (tuple_values ts cs)) ps apart.0 ∙ cells_again naming ps ts cs
     (omega (arith, e)) apart.1 parts.1 in
     rw (same_id p.field_id, cell_again p.field_id t c parts.0) (ap (λ (ds : List Cell). c ∷ ds) rest)
 
-tuple_again : (ps : List PartitionField) (ts : List ColumnType) (f : NewFile) → length ts ≡ length ps
+tuple_again : (naming : Naming) (ps : List PartitionField) (ts : List ColumnType) (f : NewFile) → length ts ≡ length ps
     → IsDistinct int_eq (map (λ (p : PartitionField). p.field_id) ps) → is_tuple_of ts f.tuple ≡ true
-    → tuple_at ps (written_tree (file_type (partition_fields ps ts)), file_value ts f) ≡ Ok f.tuple
+    → tuple_at ps (written_tree (file_type (partition_fields naming ps ts)), file_value ts f) ≡ Ok f.tuple
 unfolding tuple_at
-tuple_again [] [] f e apart h = ap Ok (no_cells f.tuple h) where
+tuple_again naming [] [] f e apart h = ap Ok (no_cells f.tuple h) where
   no_cells : (cs : List Cell) → is_tuple_of [] cs ≡ true → [] ≡ cs
   no_cells [] h = refl
   no_cells (c ∷ cs) h = absurd cc
-tuple_again [] (t ∷ ts) f e apart h = absurd (omega (arith, e))
-tuple_again (p ∷ ps) ts f e apart h = ap Ok (cells_again (p ∷ ps) ts f.tuple e apart h)
+tuple_again naming [] (t ∷ ts) f e apart h = absurd (omega (arith, e))
+tuple_again naming (p ∷ ps) ts f e apart h = ap Ok (cells_again naming (p ∷ ps) ts f.tuple e apart h)
 
 -- ---- types of partition values
 
@@ -136,28 +138,28 @@ unfolding cells_fit type_at
 types_over id t fs [] apart = refl
 types_over id t fs (p ∷ ps) apart = rw (apart.0, types_over id t fs ps apart.1) refl
 
-types_fit : (ps : List PartitionField) (ts : List ColumnType) → length ts ≡ length ps
+types_fit : (naming : Naming) (ps : List PartitionField) (ts : List ColumnType) → length ts ≡ length ps
     → IsDistinct int_eq (map (λ (p : PartitionField). p.field_id) ps)
-    → cells_fit ps (written_fields (partition_fields ps ts)) ≡ Ok tt
+    → cells_fit ps (written_fields (partition_fields naming ps ts)) ≡ Ok tt
 unfolding cells_fit type_at each_branch IsDistinct
-types_fit [] ts e apart = refl
-types_fit (p ∷ ps) [] e apart = absurd (omega (arith, e))
-types_fit (p ∷ ps) (t ∷ ts) e apart =
+types_fit naming [] ts e apart = refl
+types_fit naming (p ∷ ps) [] e apart = absurd (omega (arith, e))
+types_fit naming (p ∷ ps) (t ∷ ts) e apart =
     let rest = types_over p.field_id (null_or (written_tree (value_type p.field_id t)))
-    (written_fields (partition_fields ps ts)) ps apart.0 ∙ types_fit ps ts (omega (arith, e)) apart.1 in
+    (written_fields (partition_fields naming ps ts)) ps apart.0 ∙ types_fit naming ps ts (omega (arith, e)) apart.1 in
     rw (same_id p.field_id, cell_type p.field_id t, rest) refl
 
-file_fits : (ps : List PartitionField) (ts : List ColumnType) → length ts ≡ length ps
+file_fits : (naming : Naming) (ps : List PartitionField) (ts : List ColumnType) → length ts ≡ length ps
     → IsDistinct int_eq (map (λ (p : PartitionField). p.field_id) ps)
-    → file_fields ps (fields_in (written_tree (file_type (partition_fields ps ts)))) ≡ Ok tt
+    → file_fields ps (fields_in (written_tree (file_type (partition_fields naming ps ts)))) ≡ Ok tt
 unfolding file_fields tuple_in schemas.column_fields map_fits pair_fields ids_fit required optional type_at each_branch
     each_is some_is fits wanted
-file_fits [] ts e apart = refl
-file_fits (p ∷ ps) ts e apart = rw (types_fit (p ∷ ps) ts e apart) refl
+file_fits naming [] ts e apart = refl
+file_fits naming (p ∷ ps) ts e apart = rw (types_fit naming (p ∷ ps) ts e apart) refl
 
 entry_fits : (h : Heading) → IsHeading h → entry_fields h.spec (fields_in (written_tree (manifest_type h))) ≡ Ok tt
 unfolding entry_type entry_fields required optional type_at each_branch each_is some_is fits
-entry_fits h is = rw (file_fits h.spec.fields h.types is.typed is.different) refl
+entry_fits h is = rw (file_fits (naming_of h.spec.fields) h.spec.fields h.types is.typed is.different) refl
 
 -- ---- a data file
 
@@ -227,7 +229,7 @@ no_bounds = record { value_counts = []; null_counts = []; lower_bounds = []; upp
 file_says : (of_row : ManifestContent) (h : Heading) (f : NewFile) → of_row ≡ h.content → IsHeading h → IsNewFile h f
     → FileFits f
     → SaysFile of_row h.spec.fields (
-      written_tree (file_type (partition_fields h.spec.fields h.types)),
+      written_tree (file_type (partition_fields (naming_of h.spec.fields) h.spec.fields h.types)),
       file_value
           h.types f,
     ) (record {
@@ -246,7 +248,7 @@ file_says of_row h f same heading new fit =
     record {
       content = rw (content_within (pos 134) f.content) (content_again of_row f.content may);
       path = rw short refl;
-      tuple = tuple_again h.spec.fields h.types f heading.typed heading.different new.tuple;
+      tuple = tuple_again (naming_of h.spec.fields) h.spec.fields h.types f heading.typed heading.different new.tuple;
       record_count = refl;
       file_size = refl;
       value_counts = refl;
@@ -271,7 +273,7 @@ live_says : (row : Row) (h : Heading) (k : ℕ) (f : NewFile) → row.content �
 unfolding entry_type entry_value status_at int_at sequence_at file_sequence_at optional_number
 live_says row h k f same heading new fit = record {
   status = Added;
-  inner = (written_tree (file_type (partition_fields h.spec.fields h.types)), file_value h.types f);
+  inner = (written_tree (file_type (partition_fields (naming_of h.spec.fields) h.spec.fields h.types)), file_value h.types f);
   status_is = refl;
   lives = inr refl;
   position = refl;

@@ -14,3 +14,4 @@ pub mod FileSpelled
 pub mod EntriesAgain
 pub mod NewRow
 pub mod Summaries
+pub mod NamesApart

@@ -13,6 +13,8 @@ use Rattle.ice_value.specs.declared.column_type.ColumnType.TheVariants as column
 use Rattle.ice_meta.specs.declared.spec.PartitionField.{PartitionField}
 use Rattle.ice_manifest.specs.declared.heading.Heading.{Heading}
 use Rattle.ice_manifest.specs.Adding.{IsHeading, IsId, is_partition_type}
+use Rattle.ice_manifest.specs.declared.partition_names.Naming.{Naming}
+use Rattle.ice_manifest.specs.PartitionNames.{naming_of}
 use Rattle.ice_manifest.specs.WrittenTypes.{written_tree, written_fields}
 use Rattle.ice_manifest.specs.WrittenSchemas.{value_type, partition_fields, entry_type}
 use Rattle.ice_manifest.specs.Writing.{manifest_type}
@@ -38,16 +40,16 @@ value_height id (column.Fixed size) = refl
 value_height id column.Binary = refl
 value_height id (column.Decimal precision scale) = refl
 
-partition_height : (ps : List PartitionField) (ts : List ColumnType)
-    → deepest_field (written_fields (partition_fields ps ts)) ≤ 2
+partition_height : (naming : Naming) (ps : List PartitionField) (ts : List ColumnType)
+    → deepest_field (written_fields (partition_fields naming ps ts)) ≤ 2
 unfolding height deepest_field deepest_branch
-partition_height [] ts = omega arith
-partition_height (p ∷ ps) [] = omega arith
-partition_height (p ∷ ps) (t ∷ ts) = omega (arith, value_height p.field_id t, partition_height ps ts)
+partition_height naming [] ts = omega arith
+partition_height naming (p ∷ ps) [] = omega arith
+partition_height naming (p ∷ ps) (t ∷ ts) = omega (arith, value_height p.field_id t, partition_height naming ps ts)
 
 pub manifest_height : (h : Heading) → height (written_tree (manifest_type h)) ≤ 31
 unfolding entry_type height deepest_field deepest_branch
-manifest_height h = omega (arith, partition_height h.spec.fields h.types)
+manifest_height h = omega (arith, partition_height (naming_of h.spec.fields) h.spec.fields h.types)
 
 value_below : (id : ℤ) (t : ColumnType) → below (written_tree (value_type id t)) ≡ 0
 unfolding below
@@ -66,16 +68,16 @@ value_below id (column.Fixed size) = refl
 value_below id column.Binary = refl
 value_below id (column.Decimal precision scale) = refl
 
-partition_nodes : (ps : List PartitionField) (ts : List ColumnType)
-    → in_fields (written_fields (partition_fields ps ts)) ≤ 3 * length ps
+partition_nodes : (naming : Naming) (ps : List PartitionField) (ts : List ColumnType)
+    → in_fields (written_fields (partition_fields naming ps ts)) ≤ 3 * length ps
 unfolding below in_fields in_branches
-partition_nodes [] ts = omega arith
-partition_nodes (p ∷ ps) [] = omega arith
-partition_nodes (p ∷ ps) (t ∷ ts) = omega (arith, value_below p.field_id t, partition_nodes ps ts)
+partition_nodes naming [] ts = omega arith
+partition_nodes naming (p ∷ ps) [] = omega arith
+partition_nodes naming (p ∷ ps) (t ∷ ts) = omega (arith, value_below p.field_id t, partition_nodes naming ps ts)
 
 pub manifest_nodes : (h : Heading) → length h.spec.fields ≤ 64 → nodes (written_tree (manifest_type h)) ≤ most_nodes
 unfolding entry_type below in_fields in_branches
-manifest_nodes h few = omega (arith, partition_nodes h.spec.fields h.types)
+manifest_nodes h few = omega (arith, partition_nodes (naming_of h.spec.fields) h.spec.fields h.types)
 
 -- ---- its numbers and names
 
@@ -99,23 +101,23 @@ value_fine id (column.Fixed size) h = h
 value_fine id column.Binary h = refl
 value_fine id (column.Decimal precision scale) h = refl
 
-partition_fine : (ps : List PartitionField) (ts : List ColumnType)
+partition_fine : (naming : Naming) (ps : List PartitionField) (ts : List ColumnType)
     → AllByRecursion (λ (p : PartitionField). IsId p.field_id) ps → AllByRecursion (λ t. is_partition_type t ≡ true) ts
-    → fine_fields (partition_fields ps ts) ≡ true
-partition_fine [] ts ids types = refl
-partition_fine (p ∷ ps) [] ids types = refl
-partition_fine (p ∷ ps) (t ∷ ts) ids types = rw (
+    → fine_fields (partition_fields naming ps ts) ≡ true
+partition_fine naming [] ts ids types = refl
+partition_fine naming (p ∷ ps) [] ids types = refl
+partition_fine naming (p ∷ ps) (t ∷ ts) ids types = rw (
   id_is p.field_id ids.0,
   value_fine p.field_id t types.0,
   partition_fine
       ps ts ids.1 types.1,
 ) refl
 
-partition_ids : (ps : List PartitionField) (ts : List ColumnType) → length ts ≡ length ps
-    → ids_in (partition_fields ps ts) ≡ map (λ (p : PartitionField). p.field_id) ps
-partition_ids [] ts e = refl
-partition_ids (p ∷ ps) [] e = absurd (omega (arith, e))
-partition_ids (p ∷ ps) (t ∷ ts) e = ap (λ ids. p.field_id ∷ ids) (partition_ids ps ts (omega (arith, e)))
+partition_ids : (naming : Naming) (ps : List PartitionField) (ts : List ColumnType) → length ts ≡ length ps
+    → ids_in (partition_fields naming ps ts) ≡ map (λ (p : PartitionField). p.field_id) ps
+partition_ids naming [] ts e = refl
+partition_ids naming (p ∷ ps) [] e = absurd (omega (arith, e))
+partition_ids naming (p ∷ ps) (t ∷ ts) e = ap (λ ids. p.field_id ∷ ids) (partition_ids naming ps ts (omega (arith, e)))
 
 none_equal : (id : ℤ) (ids : List ℤ) → AllByRecursion (λ other. int_eq id other ≡ false) ids
     → list_any (int_eq id) ids ≡ false
@@ -131,6 +133,6 @@ pub manifest_fine : (h : Heading) → IsHeading h → AllByRecursion (λ (p : Pa
     → fine (manifest_type h) ≡ true
 unfolding entry_type dotted
 manifest_fine h is ids =
-    let apart : different_ids (ids_in (partition_fields h.spec.fields h.types)) ≡ true =
-    rw (partition_ids h.spec.fields h.types is.typed) (ids_differ _ is.different) in
-    rw (apart, partition_fine h.spec.fields h.types ids is.written) refl
+    let apart : different_ids (ids_in (partition_fields (naming_of h.spec.fields) h.spec.fields h.types)) ≡ true =
+    rw (partition_ids (naming_of h.spec.fields) h.spec.fields h.types is.typed) (ids_differ _ is.different) in
+    rw (apart, partition_fine (naming_of h.spec.fields) h.spec.fields h.types ids is.written) refl

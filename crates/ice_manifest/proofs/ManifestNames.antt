@@ -18,6 +18,8 @@ use Rattle.ice_value.specs.declared.column_type.ColumnType.TheVariants as column
 use Rattle.ice_meta.specs.declared.spec.PartitionField.{PartitionField}
 use Rattle.ice_manifest.specs.declared.heading.Heading.{Heading}
 use Rattle.ice_manifest.specs.Adding.{IsHeading, IsId}
+use Rattle.ice_manifest.specs.declared.partition_names.Naming.{Naming}
+use Rattle.ice_manifest.specs.PartitionNames.{naming_of}
 use Rattle.ice_manifest.specs.WrittenTypes.{json_of, written_tree}
 use Rattle.ice_manifest.specs.WrittenSchemas.{fixed_name, value_type, partition_fields, entry_type}
 use Rattle.ice_manifest.specs.Writing.{manifest_type}
@@ -41,8 +43,8 @@ value_names id (column.Fixed size) = inr refl
 value_names id column.Binary = inl refl
 value_names id (column.Decimal precision scale) = inl refl
 
-abbrev fixed_names : List PartitionField → List ColumnType → List (List ℕ)
-fixed_names ps ts = field_names (partition_fields ps ts)
+abbrev fixed_names : Naming → List PartitionField → List ColumnType → List (List ℕ)
+fixed_names naming ps ts = field_names (partition_fields naming ps ts)
 
 -- ---- one name among others
 
@@ -92,34 +94,35 @@ still_new known p (q ∷ ps) h ids apart new =
           apart.1 new.1,
     )
 
-partition_different : (known tail : List (List ℕ)) (ps : List PartitionField) (ts : List ColumnType)
+partition_different : (naming : Naming) (known tail : List (List ℕ)) (ps : List PartitionField) (ts : List ColumnType)
     → AllByRecursion (λ (p : PartitionField). IsId p.field_id) ps
     → IsDistinct int_eq (map (λ (p : PartitionField). p.field_id) ps) → AreNew known ps
-    → different (known ++ fixed_names ps ts) tail ≡ true → different known (fixed_names ps ts ++ tail) ≡ true
+    → different (known ++ fixed_names naming ps ts) tail ≡ true
+    → different known (fixed_names naming ps ts ++ tail) ≡ true
 unfolding IsDistinct
-partition_different known tail [] ts ids apart new h = rw (append-nil known) at h
-partition_different known tail (p ∷ ps) [] ids apart new h = rw (append-nil known) at h
-partition_different known tail (p ∷ ps) (t ∷ ts) ids apart new h =
-    let rest = fixed_names ps ts in
+partition_different naming known tail [] ts ids apart new h = rw (append-nil known) at h
+partition_different naming known tail (p ∷ ps) [] ids apart new h = rw (append-nil known) at h
+partition_different naming known tail (p ∷ ps) (t ∷ ts) ids apart new h =
+    let rest = fixed_names naming ps ts in
     let P : List (List ℕ) → Type 0 = λ ns. different (known ++ (ns ++ rest)) tail ≡ true
     → different known ((ns ++ rest) ++ tail) ≡ true in
     elim (value_names p.field_id t) [
-      | inl none ↦ subst P (sym none) (λ k. partition_different known tail ps ts ids.1 apart.1 new.1 k) h
+      | inl none ↦ subst P (sym none) (λ k. partition_different naming known tail ps ts ids.1 apart.1 new.1 k) h
       | inr one ↦ subst P (sym one) (λ k.
           let further : different ((known ++ fixed_name p.field_id ∷ []) ++ rest) tail ≡ true =
           rw (append_assoc known (fixed_name p.field_id ∷ []) rest) k in
-          rw new.0 (partition_different (known ++ fixed_name p.field_id ∷ []) tail ps ts ids.1 apart.1
+          rw new.0 (partition_different naming (known ++ fixed_name p.field_id ∷ []) tail ps ts ids.1 apart.1
           (still_new known p ps ids.0 ids.1 apart.0 new.1) further)) h
     ]
 
 -- a name of another letter is none of theirs
-other_letter : (n : List ℕ) (ps : List PartitionField) (ts : List ColumnType)
-    → is_among (107 ∷ n) (fixed_names ps ts) ≡ false
-other_letter n [] ts = refl
-other_letter n (p ∷ ps) [] = refl
-other_letter n (p ∷ ps) (t ∷ ts) = elim (value_names p.field_id t) [
-  | inl none ↦ rw none (other_letter n ps ts)
-  | inr one ↦ rw one (other_letter n ps ts)
+other_letter : (naming : Naming) (n : List ℕ) (ps : List PartitionField) (ts : List ColumnType)
+    → is_among (107 ∷ n) (fixed_names naming ps ts) ≡ false
+other_letter naming n [] ts = refl
+other_letter naming n (p ∷ ps) [] = refl
+other_letter naming n (p ∷ ps) (t ∷ ts) = elim (value_names p.field_id t) [
+  | inl none ↦ rw none (other_letter naming n ps ts)
+  | inr one ↦ rw one (other_letter naming n ps ts)
 ]
 
 -- ---- all names
@@ -130,9 +133,9 @@ front = codes "manifest_entry" ∷ codes "r2" ∷ codes "r102" ∷ []
 abbrev tail : List (List ℕ)
 tail = codes "k119_v120" ∷ codes "k121_v122" ∷ codes "k126_v127" ∷ codes "k129_v130" ∷ []
 
-all_names : (h : Heading) → names_in (manifest_type h) ≡ front ++ (fixed_names h.spec.fields h.types ++ tail)
+all_names : (h : Heading) → names_in (manifest_type h) ≡ front ++ (fixed_names (naming_of h.spec.fields) h.spec.fields h.types ++ tail)
 unfolding entry_type
-all_names h = ap (λ (ns : List (List ℕ)). front ++ ns) (append-nil (fixed_names h.spec.fields h.types ++ tail))
+all_names h = ap (λ (ns : List (List ℕ)). front ++ ns) (append-nil (fixed_names (naming_of h.spec.fields) h.spec.fields h.types ++ tail))
 
 none_known : (ps : List PartitionField) → AreNew front ps
 none_known [] = tt
@@ -161,8 +164,9 @@ manifest_different : (h : Heading) → IsHeading h
     → AllByRecursion (λ (p : PartitionField). IsId p.field_id) h.spec.fields
     → different [] (names_in (manifest_type h)) ≡ true
 manifest_different h is ids =
-    let tails = tail_different (fixed_names h.spec.fields h.types) (λ n. other_letter n h.spec.fields h.types) in
-    rw (all_names h) (partition_different front tail h.spec.fields h.types ids is.different (none_known h.spec.fields)
+    let tails = tail_different (fixed_names (naming_of h.spec.fields) h.spec.fields h.types) (λ n. other_letter (naming_of h.spec.fields) n h.spec.fields
+    h.types) in
+    rw (all_names h) (partition_different (naming_of h.spec.fields) front tail h.spec.fields h.types ids is.different (none_known h.spec.fields)
     tails)
 
 pub manifest_read : (h : Heading) (text : List ℕ) → IsHeading h

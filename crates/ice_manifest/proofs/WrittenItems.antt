@@ -10,6 +10,7 @@ use Rattle.ice_value.specs.declared.column_type.ColumnType.{ColumnType}
 use Rattle.ice_meta.specs.declared.spec.PartitionField.{PartitionField}
 use denote.Ref.{Bor}
 use Rattle.ice_manifest.specs.Adding.{lent}
+use Rattle.ice_manifest.specs.declared.partition_names.Naming.{Naming}
 use Rattle.ice_manifest.specs.Writing.{partition_field_json, partition_fields_json}
 use Rattle.ice_manifest.specs.WrittenTypes.{fields_json}
 use Rattle.ice_manifest.specs.WrittenSchemas.{partition_field_type, partition_fields}
@@ -40,36 +41,36 @@ got_or (x ∷ xs) (suc i) d e lt = got_or xs i d e (omega arith)
 
 -- ---- the fields of partition values
 
-next_field : (p : PartitionField) (ps rest : List PartitionField) (t : ColumnType) (ts others : List ColumnType)
+next_field : (naming : Naming) (p : PartitionField) (ps rest : List PartitionField) (t : ColumnType) (ts others : List ColumnType)
     → ps ≡ p ∷ rest → ts ≡ t ∷ others
-    → fields_json (partition_fields ps ts) ≡ item (partition_field_type p t)
-    (fields_json (partition_fields rest others))
+    → fields_json (partition_fields naming ps ts) ≡ item (partition_field_type naming p t)
+    (fields_json (partition_fields naming rest others))
 unfolding fields_json
-next_field p ps rest t ts others e f = rw (e, f) refl
+next_field naming p ps rest t ts others e f = rw (e, f) refl
 
 -- one field more
-pub fields_on : (ps : List PartitionField) (ts : List ColumnType) (i : ℕ) (p : PartitionField) (t u : ColumnType)
+pub fields_on : (naming : Naming) (ps : List PartitionField) (ts : List ColumnType) (i : ℕ) (p : PartitionField) (t u : ColumnType)
     (vs : List Value) (v : Value) (all : Items) → i < length ps → i < length ts
-    → p ≡ get_or ps i p → t ≡ get_or ts i u → view v ≡ partition_field_type p t
-    → joined (items_view vs) (fields_json (partition_fields (drop i ps) (drop i ts))) ≡ all
-    → joined (items_view (vs ++ v ∷ [])) (fields_json (partition_fields (drop (i + 1) ps) (drop (i + 1) ts))) ≡ all
-fields_on ps ts i p t u vs v all within in_types is types made so_far =
-    let rest = fields_json (partition_fields (drop (i + 1) ps) (drop (i + 1) ts)) in
-    let next = next_field p (drop i ps) (drop (i + 1) ps) t (drop i ts) (drop (i + 1) ts) (step_of ps i p within is)
+    → p ≡ get_or ps i p → t ≡ get_or ts i u → view v ≡ partition_field_type naming p t
+    → joined (items_view vs) (fields_json (partition_fields naming (drop i ps) (drop i ts))) ≡ all
+    → joined (items_view (vs ++ v ∷ [])) (fields_json (partition_fields naming (drop (i + 1) ps) (drop (i + 1) ts))) ≡ all
+fields_on naming ps ts i p t u vs v all within in_types is types made so_far =
+    let rest = fields_json (partition_fields naming (drop (i + 1) ps) (drop (i + 1) ts)) in
+    let next = next_field naming p (drop i ps) (drop (i + 1) ps) t (drop i ts) (drop (i + 1) ts) (step_of ps i p within is)
     (step_of ts i t in_types (types ∙ got_or ts i u t in_types)) in
     joined_last vs v rest ∙ ap (λ (d : Data). joined (items_view vs) (item d rest)) made ∙ ap (joined (items_view vs))
     (sym next) ∙ so_far
 
-no_field : (ts : List ColumnType) → fields_json (partition_fields [] ts) ≡ no_items
+no_field : (naming : Naming) (ts : List ColumnType) → fields_json (partition_fields naming [] ts) ≡ no_items
 unfolding fields_json
-no_field ts = refl
+no_field naming ts = refl
 
 -- at the end no field is left
-pub fields_over : (ps : List PartitionField) (ts : List ColumnType) (i : ℕ) (ds all : Items) → length ps ≤ i
-    → joined ds (fields_json (partition_fields (drop i ps) (drop i ts))) ≡ all → ds ≡ all
-fields_over ps ts i ds all past so_far =
-    let none : fields_json (partition_fields (drop i ps) (drop i ts)) ≡ no_items = rw (drop_of_length-le ps past)
-    (no_field (drop i ts)) in
+pub fields_over : (naming : Naming) (ps : List PartitionField) (ts : List ColumnType) (i : ℕ) (ds all : Items) → length ps ≤ i
+    → joined ds (fields_json (partition_fields naming (drop i ps) (drop i ts))) ≡ all → ds ≡ all
+fields_over naming ps ts i ds all past so_far =
+    let none : fields_json (partition_fields naming (drop i ps) (drop i ts)) ≡ no_items = rw (drop_of_length-le ps past)
+    (no_field naming (drop i ts)) in
     sym (joined_none ds) ∙ ap (joined ds) (sym none) ∙ so_far
 
 -- ---- a fact of each element so far

@@ -1,5 +1,7 @@
 pub mod Json
 pub mod WrittenTypes
+pub mod PartitionNames
+pub mod NamesApart
 pub mod WrittenSchemas
 pub mod WrittenValues
 pub mod Adding

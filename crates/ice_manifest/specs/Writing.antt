@@ -17,6 +17,7 @@ use Rattle.ice_manifest_reading.specs.declared.entry.Entry.{Entry}
 use Rattle.ice_manifest.specs.declared.new_file.NewFile.{NewFile}
 use Rattle.ice_manifest.specs.declared.heading.Heading.{Heading}
 use Rattle.ice_manifest.specs.Json.{set, whole, no_object}
+use Rattle.ice_manifest.specs.PartitionNames.{naming_of}
 use Rattle.ice_manifest.specs.WrittenTypes.{Written, json_of}
 use Rattle.ice_manifest.specs.WrittenSchemas.{list_type, entry_type, partition_fields}
 use Rattle.ice_manifest.specs.WrittenValues.{row_value, entry_value}
@@ -72,7 +73,7 @@ manifest_properties h =
     properties_with h.schema (signed_decimal h.schema_id) (spec_text h.spec) (signed_decimal h.spec.id) h.content
 
 abbrev pub manifest_type : Heading → Written
-manifest_type h = entry_type (partition_fields h.spec.fields h.types)
+manifest_type h = entry_type (partition_fields (naming_of h.spec.fields) h.spec.fields h.types)
 
 -- the bytes of a manifest of these files, in their order
 abbrev pub manifest_bytes : Heading → List NewFile → List ℕ

@@ -6,6 +6,8 @@ use Rattle.std.specs.Fmt.{signed_decimal}
 use Rattle.ice_value.specs.declared.column_type.ColumnType.{ColumnType}
 use Rattle.ice_value.specs.declared.column_type.ColumnType.TheVariants as column
 use Rattle.ice_meta.specs.declared.spec.PartitionField.{PartitionField}
+use Rattle.ice_manifest.specs.declared.partition_names.Naming.{Naming}
+use Rattle.ice_manifest.specs.PartitionNames.{field_name}
 use Rattle.ice_manifest.specs.WrittenTypes as written
 use Rattle.ice_manifest.specs.WrittenTypes.{Written, WrittenFields, word, date, time, timestamp, fixed, uuid, list, map}
 use Rattle.ice_manifest.specs.WrittenTypes.{structure, no_more, required, optional, optional_json, json_of}
@@ -47,11 +49,7 @@ list_type =
 
 -- ---- manifests
 
--- what a partition field is called
-abbrev pub partition_name : ℤ → List ℕ
-partition_name id = codes "p" ++ signed_decimal id
-
--- and a fixed type that belongs to it
+-- a fixed type that belongs to a partition field
 abbrev pub fixed_name : ℤ → List ℕ
 fixed_name id = codes "f" ++ signed_decimal id
 
@@ -70,15 +68,15 @@ value_type id (column.Fixed size) = fixed (fixed_name id) size
 value_type id t = word written.bytes
 
 -- a partition field, with the type of its values
-abbrev pub partition_field_type : PartitionField → ColumnType → Data
-partition_field_type p t = optional_json (partition_name p.field_id) p.field_id (json_of (value_type p.field_id t))
+abbrev pub partition_field_type : Naming → PartitionField → ColumnType → Data
+partition_field_type naming p t = optional_json (field_name naming p) p.field_id (json_of (value_type p.field_id t))
 
 -- the partition fields, with the types of their values
-abbrev pub partition_fields : List PartitionField → List ColumnType → WrittenFields
-partition_fields [] ts = no_more
-partition_fields (p ∷ ps) [] = no_more
-partition_fields (p ∷ ps) (t ∷ ts) =
-    optional (partition_name p.field_id) p.field_id (value_type p.field_id t) (partition_fields ps ts)
+abbrev pub partition_fields : Naming → List PartitionField → List ColumnType → WrittenFields
+partition_fields naming [] ts = no_more
+partition_fields naming (p ∷ ps) [] = no_more
+partition_fields naming (p ∷ ps) (t ∷ ts) =
+    optional (field_name naming p) p.field_id (value_type p.field_id t) (partition_fields naming ps ts)
 
 -- a pair of a column's id and what is said of the column
 abbrev pub pair_type : List ℕ → ℤ → ℤ → written.Word → Written

@@ -5,10 +5,12 @@ mod adding;
 mod file_writing;
 mod heading;
 mod json;
+mod laws;
 mod list_writing;
 mod manifest_writing;
 mod new_file;
 mod new_row;
+mod partition_names;
 mod written_entries;
 mod written_schemas;
 mod written_types;
@@ -23,6 +25,7 @@ pub use ice_manifest_reading::{
     numbers_are_inherited, other_fields_are_skipped, read_kept, read_list, read_manifest,
     rows_are_a_set, rows_are_refused_together, snapshots_are_inherited,
 };
+pub use laws::partition_names_tell_fields_apart;
 pub use list_writing::write_list;
 pub use manifest_writing::write_manifest;
 pub use new_file::NewFile;

@@ -1,24 +1,25 @@
 //! The schemas of the manifest lists and manifests that are written.
 
-ghost use Rattle.std.specs.Prelude.{◌≡◌, ◌≤◌, ◌++◌, codes, length, string_bytes, IfOk};
-ghost use Rattle.std.specs.Fmt.{signed_decimal};
+ghost use Rattle.std.specs.Prelude.{◌≡◌, ◌≤◌, codes, length, IfOk};
 ghost use Rattle.std.specs.List.{AllByRecursion};
 ghost use Rattle.serde_json.specs.Data.{string};
 ghost use Rattle.serde_json.specs.View.{view, items_view};
 ghost use Rattle.ice_meta.specs.declared.spec.PartitionField.{PartitionField as DeclaredField};
 ghost use Rattle.ice_manifest.specs.Adding.{IsId};
+ghost use Rattle.ice_manifest.specs.PartitionNames.{naming_of as naming_for};
 ghost use Rattle.ice_manifest.specs.WrittenTypes.{Word, map as map_of, json_of, fields_json, required_json};
 ghost use Rattle.ice_manifest.specs.WrittenTypes.{optional_json};
 ghost use Rattle.ice_manifest.specs.Writing.{manifest_type as type_of_manifest};
 ghost use Rattle.ice_manifest.specs.WrittenSchemas.{summary_type as type_of_summary, count_fields as fields_of_counts};
 ghost use Rattle.ice_manifest.specs.WrittenSchemas.{list_type as type_of_row, fixed_name as name_of_fixed};
-ghost use Rattle.ice_manifest.specs.WrittenSchemas.{partition_name as name_of_field, value_type as type_of_value};
+ghost use Rattle.ice_manifest.specs.WrittenSchemas.{value_type as type_of_value};
 ghost use Rattle.ice_manifest.specs.WrittenSchemas.{partition_field_type as field_of_partition};
 ghost use Rattle.ice_manifest.specs.WrittenSchemas.{partition_fields as fields_of_partition, pair_type as type_of_pair};
 ghost use Rattle.ice_manifest.specs.WrittenSchemas.{column_fields as fields_of_columns, file_type as type_of_file};
 
 use crate::heading::Heading;
 use crate::json::text;
+use crate::partition_names::{field_name, naming_of, with_id, Naming};
 use crate::written_types::{
     fixed, list, logical, map, optional, required, structure, timestamp, uuid,
 };
@@ -89,15 +90,6 @@ pub fn list_type(alloc: Global) -> Result<Value, AllocError>
     structure(alloc, "manifest_file", fields)
 }
 
-/// A letter and the id of a partition field.
-#[tactic(auto, using(crate::proofs::Ids::is_id))]
-fn with_id(alloc: Global, letter: &str, id: i32) -> Result<String, AllocError>
-    ensures id { IsId id }
-    ensures name { IfOk result (λ name. string_bytes name ≡ letter.now ++ signed_decimal id) }
-{
-    format!(in alloc; "{letter}{id}")
-}
-
 /// How a partition value of this type is written.
 #[tactic(auto, unfolding(crate::specs::WrittenTypes::json_of))]
 fn value_type(alloc: Global, id: i32, column_type: &ColumnType) -> Result<Value, AllocError>
@@ -160,32 +152,35 @@ fn column_fields(alloc: Global) -> Result<Vec<Value>, AllocError>
 }
 
 /// A partition field, with the type of its values.
+#[tactic(auto, using(crate::proofs::Ids::is_id))]
 fn partition_field(
     alloc: Global,
+    naming: Naming,
     field: &PartitionField,
     column_type: &ColumnType,
 ) -> Result<Value, AllocError>
-    ensures json { IfOk result (λ json. view json ≡ field_of_partition field.now column_type.now) }
+    ensures json { IfOk result (λ json. view json ≡ field_of_partition naming field.now column_type.now) }
     ensures id { IfOk result (λ _. IsId field.now.field_id) }
 {
     let id = field.field_id;
     let kind = value_type(alloc, id, column_type)?;
-    optional(alloc, with_id(alloc, "p", id)?.as_str(), id, kind)
+    optional(alloc, field_name(alloc, naming, field)?.as_str(), id, kind)
 }
 
 /// The partition fields, with the types of their values.
 fn partition_fields(
     alloc: Global,
+    naming: Naming,
     fields: &[PartitionField],
     types: &[ColumnType],
 ) -> Result<Vec<Value>, AllocError>
     requires { length types.now ≡ length fields.now }
-    ensures json { IfOk result (λ all. items_view all.items ≡ fields_json (fields_of_partition fields.now types.now)) }
+    ensures json { IfOk result (λ all. items_view all.items ≡ fields_json (fields_of_partition naming fields.now types.now)) }
     ensures ids { IfOk result (λ _. AllByRecursion (λ (p : DeclaredField). IsId p.field_id) fields.now) }
 {
     let mut all = Vec::new(alloc);
     'fields: for place in 0..fields.len() {
-        all.push(partition_field(alloc, &fields[place], &types[place])?)?;
+        all.push(partition_field(alloc, naming, &fields[place], &types[place])?)?;
     }
     Ok(all)
 }
@@ -199,15 +194,16 @@ fn file_type(
 ) -> Result<Value, AllocError>
     requires { length types.now ≡ length partition.now }
     ensures json { IfOk result (λ json. view json ≡
-        json_of (type_of_file (fields_of_partition partition.now types.now))) }
+        json_of (type_of_file (fields_of_partition (naming_for partition.now) partition.now types.now))) }
     ensures ids { IfOk result (λ _. AllByRecursion (λ (p : DeclaredField). IsId p.field_id) partition.now) }
 {
     let mut fields = Vec::with_capacity(alloc, 12)?;
     fields.push(field(alloc, "content", 134, "int")?)?;
     fields.push(field(alloc, "file_path", 100, "string")?)?;
     fields.push(field(alloc, "file_format", 101, "string")?)?;
-    let partition = structure(alloc, "r102", partition_fields(alloc, partition, types)?)?;
-    fields.push(required(alloc, "partition", 102, partition)?)?;
+    let naming = naming_of(alloc, partition)?;
+    let tuple = structure(alloc, "r102", partition_fields(alloc, naming, partition, types)?)?;
+    fields.push(required(alloc, "partition", 102, tuple)?)?;
     fields.push(field(alloc, "record_count", 103, "long")?)?;
     fields.push(field(alloc, "file_size_in_bytes", 104, "long")?)?;
     fields.append(&mut column_fields(alloc)?)?;

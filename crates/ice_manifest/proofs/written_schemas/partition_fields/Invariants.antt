@@ -10,7 +10,8 @@ use Rattle.ice_manifest.proofs.written_schemas.partition_fields.Given as goal
 
 abbrev pub invariant-fields : goal.invariant-fields
 invariant-fields l = record {
-  json : joined (items_view l.all.items) (fields_json (partition_fields (drop l.place l.fields) (drop l.place l.types)))
-      ≡ fields_json (partition_fields l.fields l.types);
+  json : joined (items_view l.all.items)
+      (fields_json (partition_fields l.naming (drop l.place l.fields) (drop l.place l.types)))
+      ≡ fields_json (partition_fields l.naming l.fields l.types);
   ids : AllByRecursion (λ (p : PartitionField). IsId p.field_id) (take l.place l.fields);
 }

@@ -1,0 +1,11 @@
+//! What the names of partition fields come to.
+
+ghost use Rattle.ice_manifest.specs.NamesApart.{KeepsNames, SpellsNames, TellsApart};
+
+/// The names of a manifest's partition fields tell them apart: no two of a spec's fields are called alike. Where the
+/// spec's own names are taken, each is a name that Avro has, and one that Avro has already stays as it is.
+pub fn partition_names_tell_fields_apart()
+    ensures kept { KeepsNames }
+    ensures spelled { SpellsNames }
+    ensures apart { TellsApart }
+{}
