@@ -1,6 +1,7 @@
 -- What objects say, and that reading them gives this and nothing else.
 use Rattle.std.proofs.Common.{◌≡◌, ◌≢◌, ◌⊎◌, inl, inr, ℕ, ℤ, pos, ◌+◌, Bool, List, [], ◌∷◌, Option, Some, None, Result}
-use Rattle.std.proofs.Common.{Ok, Err, refl, sym, ap, subst, ◌∙◌, ◌==◌, eqb-true}
+use Rattle.std.proofs.Common.{Ok, Err, refl, sym, ap, subst, ◌∙◌, ◌==◌}
+use Rattle.std.proofs.lemmas.Bool.{ne_eqb}
 use Rattle.std.specs.Prelude.{unwrap_or}
 use Rattle.std.specs.List.{enumerate_from}
 use Rattle.contract_words.specs.Outcome.{◌>>=◌}
@@ -16,7 +17,6 @@ use Rattle.ice_meta.specs.Partitioning.{is_unpartitioned}
 use Rattle.ice_value.specs.declared.file_content.FileContent.{FileContent}
 use Rattle.ice_meta.specs.declared.spec.Spec.{Spec}
 use Rattle.ice_manifest_reading.specs.declared.fault.ManifestFault.{ManifestFault}
-use Rattle.ice_manifest_reading.specs.declared.fault.ManifestFault.TheVariants.{NoSequence}
 use Rattle.ice_manifest_reading.specs.declared.counts.Counts.{Counts}
 use Rattle.ice_manifest_reading.specs.declared.row.Row.{Row}
 use Rattle.ice_manifest_reading.specs.declared.row.ManifestContent.{ManifestContent}
@@ -33,12 +33,13 @@ use Rattle.ice_manifest_reading.specs.Maps as Maps
 use Rattle.ice_manifest_reading.specs.Maps.{bounds_at, columns_of}
 use Rattle.ice_manifest_reading.specs.Lists as Lists
 use Rattle.ice_manifest_reading.specs.Lists.{row_of, counts_at, summaries_in, says_row}
-use Rattle.ice_manifest_reading.specs.Manifests.{content_at, file_of, status_at, snapshot_at, inherited, file_inherited}
+use Rattle.ice_manifest_reading.specs.Manifests.{content_at, file_of, status_at, snapshot_at}
 use Rattle.ice_manifest_reading.specs.Manifests.{sequence_at, file_sequence_at, live_at, unless_deleted, entry_of}
 use Rattle.ice_manifest_reading.specs.Manifests.{referenced_at, says_entry}
 use Rattle.ice_manifest_reading.specs.Laws.{SaysRow, SaysFile, SaysLive, SaysEntry, SayRows, SayEntries, KeepsItsNumber}
-use Rattle.ice_manifest_reading.specs.Laws.{InheritsTheRows, NeedsItsOwn, KeepsItsFileNumber, InheritsTheRowsForItsFile}
-use Rattle.ice_manifest_reading.specs.Laws.{HasNoFileNumber, KeepsItsSnapshot, InheritsItsSnapshot}
+use Rattle.ice_manifest_reading.specs.Laws.{InheritsTheRows, NeedsItsOwn, HasZeroUnderZero, KeepsItsFileNumber}
+use Rattle.ice_manifest_reading.specs.Laws.{InheritsTheRowsForItsFile, HasNoFileNumber, HasZeroForItsFile}
+use Rattle.ice_manifest_reading.specs.Laws.{KeepsItsSnapshot, InheritsItsSnapshot}
 use Rattle.ice_manifest_reading.proofs.Guards.{passed, either, ok_is, went_on}
 use Rattle.ice_manifest_reading.proofs.Reading.{told_ok}
 
@@ -376,42 +377,35 @@ entries_by row spec fs k (v ∷ vs) (e ∷ read) said = rw (
 
 pub keeps_its_number : KeepsItsNumber
 unfolding sequence_at
-keeps_its_number row status x m n own h = let is : m ≡ n = ok_is m n (sym (rw own refl) ∙ h) in sym is
+keeps_its_number row status x m own = rw own refl
 
 pub inherits_the_rows : InheritsTheRows
 unfolding sequence_at
-inherits_the_rows row x n none h = let is : row.sequence_number ≡ n = ok_is row.sequence_number n
-    (sym (rw none refl) ∙ h) in sym is
-
-zero_given : (of_row n : ℕ) → inherited of_row Existing None ≡ Ok n → (of_row ≡ 0) × (n ≡ 0)
-zero_given of_row n h =
-    let p = passed (of_row == 0) NoSequence (Ok 0) n h in
-    let is : 0 ≡ n = ok_is 0 n p.1 in
-    (eqb-true of_row 0 p.0, sym is)
+inherits_the_rows row x none = rw none refl
 
 pub needs_its_own : NeedsItsOwn
 unfolding sequence_at
-needs_its_own row x n none h = zero_given row.sequence_number n (sym (rw none refl) ∙ h)
+needs_its_own row x none other = rw (none, ne_eqb row.sequence_number 0 other) refl
+
+pub has_zero_under_zero : HasZeroUnderZero
+unfolding sequence_at
+has_zero_under_zero row x none zero = rw (none, zero) refl
 
 pub keeps_its_file_number : KeepsItsFileNumber
 unfolding file_sequence_at
-keeps_its_file_number row status x m n own h = let is : Some m ≡ n = ok_is (Some m) n (sym (rw own refl) ∙ h) in sym is
+keeps_its_file_number row status x m own = rw own refl
 
 pub inherits_the_rows_for_its_file : InheritsTheRowsForItsFile
 unfolding file_sequence_at
-inherits_the_rows_for_its_file row x n none h = let is : Some row.sequence_number ≡ n = ok_is (Some row.sequence_number)
-    n (sym (rw none refl) ∙ h) in sym is
-
-none_given : (of_row : ℕ) (n : Option ℕ) → of_row ≢ 0 → file_inherited of_row Existing None ≡ n → n ≡ None
-none_given of_row n other h = elim (either (of_row == 0) (Some 0) None n h) as (λ _. n ≡ None) [
-  | inl p ↦ absurd (other (eqb-true of_row 0 p.0))
-  | inr p ↦ sym p.1
-]
+inherits_the_rows_for_its_file row x none = rw none refl
 
 pub has_no_file_number : HasNoFileNumber
 unfolding file_sequence_at
-has_no_file_number row x n none other h = none_given row.sequence_number n other
-    (ok_is (file_inherited row.sequence_number Existing None) n (sym (rw none refl) ∙ h))
+has_no_file_number row x none other = rw (none, ne_eqb row.sequence_number 0 other) refl
+
+pub has_zero_for_its_file : HasZeroForItsFile
+unfolding file_sequence_at
+has_zero_for_its_file row x none zero = rw (none, zero) refl
 
 -- ---- snapshots
 

@@ -20,6 +20,7 @@ use Rattle.ice_meta.specs.declared.spec.PartitionField.{PartitionField}
 use Rattle.ice_meta.specs.declared.spec.Spec.{Spec}
 use Rattle.ice_meta.specs.Partitioning.{is_unpartitioned}
 use Rattle.ice_manifest_reading.specs.declared.fault.ListFault.TheVariants.{ManifestTwice}
+use Rattle.ice_manifest_reading.specs.declared.fault.ManifestFault.TheVariants.{NoSequence}
 use Rattle.ice_manifest_reading.specs.declared.row.Row.{Row}
 use Rattle.ice_manifest_reading.specs.declared.row.ManifestContent.{ManifestContent}
 use Rattle.ice_manifest_reading.specs.declared.row.ManifestContent.TheVariants.{Data, Deletes}
@@ -143,34 +144,45 @@ abbrev pub GivesHeldEntries : Type 0
 GivesHeldEntries = (row : Row) (spec : Spec) (bytes : List ℕ) (found : List Live) → length bytes < 2 ^ 64
     → live_of row spec bytes ≡ Ok found ↔ HoldsEntries row spec bytes found
 
--- an entry keeps the number that it has
+-- an entry has the number that it names
 abbrev pub KeepsItsNumber : Type 0
-KeepsItsNumber = (row : Row) (status : Status) (x : Typed) (m n : ℕ) → optional_number (pos 3) x ≡ Ok (Some m)
-    → sequence_at row status x ≡ Ok n → n ≡ m
+KeepsItsNumber = (row : Row) (status : Status) (x : Typed) (m : ℕ) → optional_number (pos 3) x ≡ Ok (Some m)
+    → sequence_at row status x ≡ Ok m
 
--- an added one that has none has its row's
+-- an added one that names none has its row's
 abbrev pub InheritsTheRows : Type 0
-InheritsTheRows = (row : Row) (x : Typed) (n : ℕ) → optional_number (pos 3) x ≡ Ok None
-    → sequence_at row Added x ≡ Ok n → n ≡ row.sequence_number
+InheritsTheRows =
+    (row : Row) (x : Typed) → optional_number (pos 3) x ≡ Ok None → sequence_at row Added x ≡ Ok row.sequence_number
 
--- an existing one that has none is given only under a row whose number is 0, and has this
+-- an existing one that names none is refused under a row of another number than 0
 abbrev pub NeedsItsOwn : Type 0
-NeedsItsOwn = (row : Row) (x : Typed) (n : ℕ) → optional_number (pos 3) x ≡ Ok None
-    → sequence_at row Existing x ≡ Ok n → (row.sequence_number ≡ 0) × (n ≡ 0)
+NeedsItsOwn = (row : Row) (x : Typed) → optional_number (pos 3) x ≡ Ok None → row.sequence_number ≢ 0
+    → sequence_at row Existing x ≡ Err NoSequence
 
--- the same of the number of its file
+-- and has 0 under one of 0
+abbrev pub HasZeroUnderZero : Type 0
+HasZeroUnderZero = (row : Row) (x : Typed) → optional_number (pos 3) x ≡ Ok None → row.sequence_number ≡ 0
+    → sequence_at row Existing x ≡ Ok 0
+
+-- the file of an entry has the number that the entry names for it
 abbrev pub KeepsItsFileNumber : Type 0
-KeepsItsFileNumber = (row : Row) (status : Status) (x : Typed) (m : ℕ) (n : Option ℕ)
-    → optional_number (pos 4) x ≡ Ok (Some m) → file_sequence_at row status x ≡ Ok n → n ≡ Some m
+KeepsItsFileNumber = (row : Row) (status : Status) (x : Typed) (m : ℕ) → optional_number (pos 4) x ≡ Ok (Some m)
+    → file_sequence_at row status x ≡ Ok (Some m)
 
+-- that of an added one that names none has its row's
 abbrev pub InheritsTheRowsForItsFile : Type 0
-InheritsTheRowsForItsFile = (row : Row) (x : Typed) (n : Option ℕ) → optional_number (pos 4) x ≡ Ok None
-    → file_sequence_at row Added x ≡ Ok n → n ≡ Some row.sequence_number
+InheritsTheRowsForItsFile = (row : Row) (x : Typed) → optional_number (pos 4) x ≡ Ok None
+    → file_sequence_at row Added x ≡ Ok (Some row.sequence_number)
 
--- but an existing one that has none is given without one, unless its row's number is 0
+-- that of an existing one that names none has none under a row of another number than 0
 abbrev pub HasNoFileNumber : Type 0
-HasNoFileNumber = (row : Row) (x : Typed) (n : Option ℕ) → optional_number (pos 4) x ≡ Ok None
-    → row.sequence_number ≢ 0 → file_sequence_at row Existing x ≡ Ok n → n ≡ None
+HasNoFileNumber = (row : Row) (x : Typed) → optional_number (pos 4) x ≡ Ok None → row.sequence_number ≢ 0
+    → file_sequence_at row Existing x ≡ Ok None
+
+-- and 0 under one of 0
+abbrev pub HasZeroForItsFile : Type 0
+HasZeroForItsFile = (row : Row) (x : Typed) → optional_number (pos 4) x ≡ Ok None → row.sequence_number ≡ 0
+    → file_sequence_at row Existing x ≡ Ok (Some 0)
 
 -- an entry is of the snapshot that it names
 abbrev pub KeepsItsSnapshot : Type 0

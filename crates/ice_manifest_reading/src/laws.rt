@@ -2,7 +2,8 @@
 
 ghost use Rattle.ice_manifest_reading.specs.Laws.{ReadsRowsExactly, GivesHeldRows, GivesTheRows, RefusesTwo, RefusesTheLeast};
 ghost use Rattle.ice_manifest_reading.specs.Laws.{ReadsEntriesExactly, GivesHeldEntries, KeepsItsNumber, InheritsTheRows};
-ghost use Rattle.ice_manifest_reading.specs.Laws.{NeedsItsOwn, KeepsItsFileNumber, InheritsTheRowsForItsFile, HasNoFileNumber};
+ghost use Rattle.ice_manifest_reading.specs.Laws.{NeedsItsOwn, HasZeroUnderZero, KeepsItsFileNumber, InheritsTheRowsForItsFile};
+ghost use Rattle.ice_manifest_reading.specs.Laws.{HasNoFileNumber, HasZeroForItsFile};
 ghost use Rattle.ice_manifest_reading.specs.Laws.{KeepsItsSnapshot, InheritsItsSnapshot, FitsItsRow, AreOfTheirSpec};
 ghost use Rattle.ice_manifest_reading.specs.Laws.{HasACellForEach, IsOfDeletesWhereReferenced};
 ghost use Rattle.ice_manifest_reading.specs.Absent.{IsZeroWhereAbsent, IsRefusedWhereNull, HasRowsOfVersionOne};
@@ -35,20 +36,22 @@ pub fn entries_are_the_live_ones()
     held_is_read();
 }
 
-/// An entry keeps the sequence number that it has. Without one an added entry has its row's, and an existing one is
-/// refused, but has 0 where its row has 0.
+/// An entry has the sequence number that it names. Where it names none an added entry has its row's, and an existing one
+/// is refused, but has 0 where its row has 0.
 pub fn numbers_are_inherited()
     ensures own { KeepsItsNumber }
     ensures added { InheritsTheRows }
     ensures existing { NeedsItsOwn }
+    ensures zero { HasZeroUnderZero }
 {}
 
-/// A file keeps the sequence number that its entry gives it. Without one the file of an added entry has the row's, and
-/// that of an existing one has none, unless the row has 0.
+/// A file has the sequence number that its entry names for it. Without one the file of an added entry has the row's, and
+/// that of an existing one has none, but 0 where the row has 0.
 pub fn file_numbers_are_inherited()
     ensures own { KeepsItsFileNumber }
     ensures added { InheritsTheRowsForItsFile }
     ensures existing { HasNoFileNumber }
+    ensures zero { HasZeroForItsFile }
 {}
 
 /// An entry is of the snapshot that it names, and else, also where it exists already, of that which added its manifest.
