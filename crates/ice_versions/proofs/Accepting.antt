@@ -22,19 +22,19 @@ use Rattle.ice_versions.proofs.Reasons.{none_stand}
 use Rattle.ice_versions.proofs.Specs.{read_small}
 use Rattle.ice_versions.proofs.Writable.{all_append, all_split, all_both, all_groups}
 
-if_none : (b : Bool) (f : PrepareFault) → cond b (Some f) None ≡ None → b ≡ false
+pub if_none : (b : Bool) (f : PrepareFault) → cond b (Some f) None ≡ None → b ≡ false
 if_none true f h = absurd cc
 if_none false f h = refl
 
-unless_none : (b : Bool) (f : PrepareFault) → cond b None (Some f) ≡ None → b ≡ true
+pub unless_none : (b : Bool) (f : PrepareFault) → cond b None (Some f) ≡ None → b ≡ true
 unless_none true f h = refl
 unless_none false f h = absurd cc
 
-or_false : (a b : Bool) → (a || b) ≡ false → (a ≡ false) × (b ≡ false)
+pub or_false : (a b : Bool) → (a || b) ≡ false → (a ≡ false) × (b ≡ false)
 or_false true b h = absurd cc
 or_false false b h = (refl, h)
 
-is_none_of : {A : Type 0} (o : Option A) → is_some o ≡ false → o ≡ None
+pub is_none_of : {A : Type 0} (o : Option A) → is_some o ≡ false → o ≡ None
 is_none_of None h = refl
 is_none_of (Some x) h = absurd cc
 

@@ -23,3 +23,9 @@ pub mod NewSummaries
 pub mod NewRows
 pub mod Covered
 pub mod Grown
+pub mod FirstFound
+pub mod Minima
+pub mod Doubles
+pub mod FaultKinds
+pub mod LeastFaults
+pub mod NewNames

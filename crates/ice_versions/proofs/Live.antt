@@ -94,7 +94,7 @@ all_there w (f ∷ fs) apart = (
 
 -- ---- lists
 
-no_rows : IsStrictlySortedBy path_order []
+pub no_rows : IsStrictlySortedBy path_order []
 unfolding IsStrictlySortedBy
 no_rows = tt
 
@@ -103,7 +103,7 @@ length_put before x [] = refl
 length_put before x (y ∷ ys) = elim (before y x) as (λ b. length (cond b (y ∷ put before x ys) (x ∷ y ∷ ys)) ≡ suc
     (suc (length ys))) [ true ↦ ap suc (length_put before x ys) | false ↦ refl ]
 
-length_sorted : {X : Type 0} (before : X → X → Bool) (xs : List X) → length (sorted before xs) ≡ length xs
+pub length_sorted : {X : Type 0} (before : X → X → Bool) (xs : List X) → length (sorted before xs) ≡ length xs
 length_sorted before [] = refl
 length_sorted before (x ∷ xs) = length_put before x (sorted before xs) ∙ ap suc (length_sorted before xs)
 
@@ -216,7 +216,7 @@ all_readable m ids sequence n (g ∷ gs) short few can = (
   all_readable m ids sequence (n + 1) gs short (omega (arith, few)) can.1,
 )
 
-length_manifests : (m : Described) (ids : Ids) (n : ℕ) (gs : List Group)
+pub length_manifests : (m : Described) (ids : Ids) (n : ℕ) (gs : List Group)
     → length (manifests_from m ids n gs) ≡ length gs
 length_manifests m ids n [] = refl
 length_manifests m ids n (g ∷ gs) = ap suc (length_manifests m ids (n + 1) gs)
@@ -305,7 +305,7 @@ file_of_found s row found e = with_spec (spec_in (table_specs s.metadata.table) 
   with_spec (Some spec) e = with_file spec (get s.world row.path) refl e
 
 -- what all lists that can be read have, and none, the rows of the base have
-of_base : (s : State) (P : List Row → Type 0) → P [] → ((bytes : List ℕ) (rows : List Row) → rows_of bytes ≡ Ok rows
+pub of_base : (s : State) (P : List Row → Type 0) → P [] → ((bytes : List ℕ) (rows : List Row) → rows_of bytes ≡ Ok rows
     → P rows) → P (base_rows s.world s.metadata.table)
 of_base s P none each = at (current_list s.metadata.table) where
   read : (bytes : List ℕ) (r : Result (List Row) _) → rows_of bytes ≡ r → P (unwrap_or (result_ok r) [])

@@ -41,7 +41,8 @@ use Rattle.ice_versions.proofs.Live.{found_id}
 
 -- ---- elements of lists that are made of others
 
-in_map : {X Y : Type 0} (f : X → Y) (xs : List X) (y : Y) → Contains (map f xs) y → (x : X) × Contains xs x × (f x ≡ y)
+pub in_map : {X Y : Type 0} (f : X → Y) (xs : List X) (y : Y) → Contains (map f xs) y
+    → (x : X) × Contains xs x × (f x ≡ y)
 in_map f [] y h = absurd (nowhere y h)
 in_map {X} {Y} f (x ∷ xs) y h =
     elim (cases_of (f x) (map f xs) y h) as (λ _. (z : X) × Contains (x ∷ xs) z × (f z ≡ y)) [
@@ -49,7 +50,7 @@ in_map {X} {Y} f (x ∷ xs) y h =
       | inr m ↦ let r = in_map f xs y m in (r.0, later x xs r.0 r.1, r.2)
     ]
 
-to_map : {X Y : Type 0} (f : X → Y) (xs : List X) (x : X) → Contains xs x → Contains (map f xs) (f x)
+pub to_map : {X Y : Type 0} (f : X → Y) (xs : List X) (x : X) → Contains xs x → Contains (map f xs) (f x)
 to_map f [] x h = absurd (nowhere x h)
 to_map f (z ∷ zs) x h =
     elim (cases_of z zs x h) as (λ _. Contains (map f (z ∷ zs)) (f x)) [
@@ -138,10 +139,10 @@ module _ (s t : State) (c : Commit) (has : HasBaseAndChange s c t) where
 
 -- ---- places in lists
 
-some_is : {X : Type 0} (x y : X) → Some x ≡ Some y → x ≡ y
+pub some_is : {X : Type 0} (x y : X) → Some x ≡ Some y → x ≡ y
 some_is x y h = cc
 
-contained : {X : Type 0} (xs : List X) (k : ℕ) (x : X) → slice_get xs k ≡ Some x → Contains xs x
+pub contained : {X : Type 0} (xs : List X) (k : ℕ) (x : X) → slice_get xs k ≡ Some x → Contains xs x
 contained [] k x h = absurd cc
 contained (y ∷ ys) zero x h = here y ys x (some_is y x h)
 contained (y ∷ ys) (suc k) x h = later y ys x (contained ys k x h)

@@ -16,3 +16,5 @@ pub mod Staying
 pub mod Live
 pub mod LiveAfter
 pub mod Covered
+pub mod LeastFaults
+pub mod NewNames

@@ -1,7 +1,9 @@
 //! What replaying comes to.
 
 ghost use Rattle.ice_versions.specs.Covered.{EmptyIsCovered, KeepsCovering, NewRowsCover, StaysCovered};
+ghost use Rattle.ice_versions.specs.LeastFaults.{PreparesWhereNoneIsThere, TellsTheLeast};
 ghost use Rattle.ice_versions.specs.LiveAfter.{AddsItsFiles, EachIsLive, JoinsFiles, JoinsManifests};
+ghost use Rattle.ice_versions.specs.NewNames.{CarriesItsUuid, MakesNewNames};
 ghost use Rattle.ice_versions.specs.Replaying.{AddsAStep, IsTakenOff, HasEarlier, IsInParts};
 ghost use Rattle.ice_versions.specs.Staying.{KeepsFiles, KeepsRows, KeepsEntries};
 
@@ -48,4 +50,18 @@ pub fn versions_stay_covered()
     ensures commit { KeepsCovering }
     ensures empty { EmptyIsCovered }
     ensures versions { StaysCovered }
+{}
+
+/// Of all that is at fault with a commit the least is told: what is asked first, and of faults of one kind that of the
+/// least path or id. A commit is prepared exactly where nothing is at fault.
+pub fn the_least_fault_is_told()
+    ensures told { TellsTheLeast }
+    ensures prepared { PreparesWhereNoneIsThere }
+{}
+
+/// Each file that a commit adds has the commit's uuid in its path. So where no file that is there has the text of the
+/// uuid in its path, the files that are added take the place of none.
+pub fn a_new_uuid_makes_new_names()
+    ensures names { CarriesItsUuid }
+    ensures new { MakesNewNames }
 {}

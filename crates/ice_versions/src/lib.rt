@@ -24,8 +24,9 @@ pub use change::{Change, Commit, Ids};
 pub use fault::PrepareFault;
 pub use ice_manifest::NewFile;
 pub use laws::{
-    a_commit_is_one_step, commits_leave_what_was_there, the_last_commit_is_taken_off,
-    versions_stay_covered, what_is_live_after_a_commit,
+    a_commit_is_one_step, a_new_uuid_makes_new_names, commits_leave_what_was_there,
+    the_last_commit_is_taken_off, the_least_fault_is_told, versions_stay_covered,
+    what_is_live_after_a_commit,
 };
 pub use opening::Opening;
 pub use prepared::Prepared;
