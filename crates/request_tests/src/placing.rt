@@ -11,10 +11,10 @@ use uuid::Uuid;
 
 /// A file that refuses to be written, or to be kept, and is known by this metadata.
 #[derive(Drop)]
-struct Refusing {
+struct Refusing<'a> {
     written: Option<ErrorKind>,
     kept: Option<ErrorKind>,
-    known: Option<Metadata>,
+    known: Option<&'a Metadata>,
 }
 
 /// What a file answers that refuses so.
@@ -26,14 +26,14 @@ fn answer(refused: Option<ErrorKind>) -> io::Result<()> {
 }
 
 /// What is told of a file that is known so.
-fn told(known: &Option<Metadata>) -> io::Result<Metadata> {
+fn told(known: Option<&Metadata>) -> io::Result<Metadata> {
     match known {
-        Some(known) => Ok(known.clone()),
+        Some(known) => Ok(known.clone()?),
         None => Err(io::Error::from(ErrorKind::NotFound)),
     }
 }
 
-impl Write for Refusing {
+impl Write for Refusing<'_> {
     fn write(&mut self, buf: &[u8]) -> io::Result<usize> {
         answer(self.written)?;
         Ok(buf.len())
@@ -44,21 +44,21 @@ impl Write for Refusing {
     }
 }
 
-impl Read for Refusing {
+impl Read for Refusing<'_> {
     fn read(&mut self, _buf: &mut [u8]) -> io::Result<usize> {
         Ok(0)
     }
 }
 
-impl Seek for Refusing {
+impl Seek for Refusing<'_> {
     fn seek(&mut self, _to: SeekFrom) -> io::Result<u64> {
         Ok(0)
     }
 }
 
-impl OpenFile for Refusing {
+impl OpenFile for Refusing<'_> {
     fn metadata(&self) -> io::Result<Metadata> {
-        told(&self.known)
+        told(self.known)
     }
 
     fn set_len(&self, _size: u64) -> io::Result<()> {
@@ -77,24 +77,24 @@ impl OpenFile for Refusing {
 /// A host whose one folder refuses to be opened, to be synced or to link a file, with what is known of a new file and
 /// of the one at its place. It counts the names that it has.
 #[derive(Drop)]
-struct Host {
+struct Host<'a> {
     opened: Option<ErrorKind>,
     synced: Option<ErrorKind>,
     linked: Option<ErrorKind>,
-    known: Option<Metadata>,
-    found: Option<Metadata>,
+    known: Option<&'a Metadata>,
+    found: Option<&'a Metadata>,
     names: Cell<u32>,
 }
 
-impl Files for Host {
-    type File = Refusing;
+impl<'a> Files for Host<'a> {
+    type File = Refusing<'a>;
 
-    type Dir = Refusing;
+    type Dir = Refusing<'a>;
 
-    fn open_file(&self, how: &OpenOptions, _path: &str) -> io::Result<Refusing> {
+    fn open_file(&self, how: &OpenOptions, _path: &str) -> io::Result<Refusing<'a>> {
         let (kept, known) = if how.asks_create_new() {
             self.names.set(self.names.get().saturating_add(1));
-            (None, self.known.clone())
+            (None, self.known)
         } else {
             answer(self.opened)?;
             (self.synced, None)
@@ -106,16 +106,16 @@ impl Files for Host {
         })
     }
 
-    fn open_dir(&self, _path: &str) -> io::Result<Refusing> {
+    fn open_dir(&self, _path: &str) -> io::Result<Refusing<'a>> {
         Err(io::Error::from(ErrorKind::Unsupported))
     }
 
     fn metadata(&self, _path: &str) -> io::Result<Metadata> {
-        told(&self.found)
+        told(self.found)
     }
 
     fn symlink_metadata(&self, _path: &str) -> io::Result<Metadata> {
-        told(&self.found)
+        told(self.found)
     }
 
     fn copy(&self, _from: &str, _to: &str) -> io::Result<u64> {
@@ -167,7 +167,7 @@ fn files_that_refuse(rt: HostRuntime) {
 }
 
 /// How a file is put in the folder of a host, and how many names the host has then.
-fn puts(rt: &HostRuntime, host: &Host) -> (Result<(), StoreFault>, u32) {
+fn puts(rt: &HostRuntime, host: &Host<'_>) -> (Result<(), StoreFault>, u32) {
     let ids = Ids {
         snapshot: 1,
         uuid: Uuid::from_bytes([7; 16]),
@@ -220,8 +220,8 @@ fn links_that_refuse(rt: HostRuntime) -> io::Result<()> {
             opened: None,
             synced: None,
             linked: Some(ErrorKind::AlreadyExists),
-            known: known.map(|known| known.clone()),
-            found: found.map(|found| found.clone()),
+            known,
+            found,
             names: Cell::new(0),
         };
         assert_eq!(rt; puts(&rt, &host), (wanted, 0));
