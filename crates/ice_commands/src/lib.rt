@@ -16,7 +16,7 @@ pub use drill::Drill;
 pub use drill_text::run_drill;
 pub use drilling::drill_table;
 pub use ice_requests::{
-    Bundle, CommitRequest, Folder, Request, Selection, Store, StoreFault, commit_to,
+    Bundle, CommitFolder, CommitRequest, Folder, Request, Selection, Store, StoreFault, commit_to,
     commits_are_put, file_name, fill_file, plan_file, plans_of_true_summaries, prepare_commit,
     put_commit, put_files, read_all, run_list_plan, run_plan, run_plan_with, run_show, select,
     show_file,

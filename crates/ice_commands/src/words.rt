@@ -18,8 +18,8 @@ use crate::watch::Watch;
 use contract_words::Text;
 use ice_desk::ReadFault;
 use ice_requests::{
-    Bundle, CommitRequest, Folder, Request, commit_to, plan_file, prepare_commit, read_all,
-    run_list_plan, show_file,
+    Bundle, CommitFolder, CommitRequest, Folder, Request, commit_to, plan_file, prepare_commit,
+    read_all, run_list_plan, show_file,
 };
 use ice_text::{RunFault, Sink, report, write_all};
 use std::alloc::Global;
@@ -193,7 +193,7 @@ fn commit<H: Files, R: Read, W: Sink>(
             print_commit(alloc, &bundle, request, output)
         }
         Source::Folder(place) => {
-            let mut store = place.files(host);
+            let mut store = CommitFolder::new(place.files(host), &request.ids);
             commit_to(alloc, &place.files(host), request, &mut store, output)
         }
     }

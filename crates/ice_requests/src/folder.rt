@@ -9,7 +9,7 @@ mod placing;
 use crate::bundle::find_byte;
 use crate::input::read_all;
 use ice_desk::{Files, ReadFault};
-pub use placing::fill_file;
+pub use placing::{CommitFolder, fill_file};
 use std::alloc::{AllocError, Global};
 use std::fs;
 use std::io::{self, ErrorKind};

@@ -17,7 +17,7 @@ mod table_plans;
 
 pub use bundle::Bundle;
 pub use committing::{CommitRequest, commit_to, commits_are_put, prepare_commit, put_commit};
-pub use folder::{Folder, file_name, fill_file};
+pub use folder::{CommitFolder, Folder, file_name, fill_file};
 pub use input::read_all;
 pub use list_plans::run_list_plan;
 pub use plans_by_workers::{plan_file, run_plan_with};
