@@ -1,6 +1,6 @@
 #!/usr/bin/env python3
-"""stopped_commits.py [--rounds N] [--same-words] PROGRAM: commits that are killed, commits to a disk that fails or loses
-its power, and two commits at once.
+"""stopped_commits.py [--rounds N] [--same-words] PROGRAM: commits that are killed, commits to a disk that fails or
+loses its power, and two commits at once.
 
 PROGRAM is the built icescan; `tools/stopped_commits.py crates/icescan/out/icescan`. A small table is made in a new
 folder, and a row delta to it is made again and again:
@@ -15,9 +15,9 @@ folder, and a row delta to it is made again and again:
 
 After each the files that were there are as they were, and the table before has its plan; each new file under a name
 that is not `.icescan-*.tmp` is whole; the new metadata has the whole commit's plan, or is absent; a commit that is told
-was made, and the status is the one that is wanted. Then the commit is made again: with the same words it is made where no
-file of it stands, and under new names where its metadata does not stand; else it is a conflict. Where some file of it
-stands, the same words may also be refused as a failed write; with --same-words they may not.
+was made, and the status is the one that is wanted. Then the commit is made again: with the same words it is made where
+no file of it stands, and under new names where its metadata does not stand; else it is a conflict. Where some file of
+it stands, the same words may also be refused as a failed write; with --same-words they may not.
 
 Then two commits compete for one path, N times (500): one tells its receipt and the other the conflict, and the table
 has what the first wrote. A reader who plans meanwhile finds no file or the whole plan, and no file is seen in part.
@@ -235,7 +235,7 @@ def calls_of(text, folder):
 
 
 class Disk:
-    """What a commit did to the folder: its names, those that a power loss leaves, and the files that it leaves whole."""
+    """What a commit did to the folder: its names, those that a power loss leaves, and the files that are left whole."""
 
     def __init__(self):
         self.names, self.kept, self.synced, self.is_told = {}, {}, set(), False
