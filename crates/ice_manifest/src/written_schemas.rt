@@ -19,7 +19,7 @@ ghost use Rattle.ice_manifest.specs.WrittenSchemas.{column_fields as fields_of_c
 
 use crate::heading::Heading;
 use crate::json::text;
-use crate::partition_names::{field_name, naming_of, with_id, Naming};
+use crate::partition_names::{Naming, field_name, naming_of, with_id};
 use crate::written_types::{
     fixed, list, logical, map, optional, required, structure, timestamp, uuid,
 };
@@ -202,7 +202,11 @@ fn file_type(
     fields.push(field(alloc, "file_path", 100, "string")?)?;
     fields.push(field(alloc, "file_format", 101, "string")?)?;
     let naming = naming_of(alloc, partition)?;
-    let tuple = structure(alloc, "r102", partition_fields(alloc, naming, partition, types)?)?;
+    let tuple = structure(
+        alloc,
+        "r102",
+        partition_fields(alloc, naming, partition, types)?,
+    )?;
     fields.push(required(alloc, "partition", 102, tuple)?)?;
     fields.push(field(alloc, "record_count", 103, "long")?)?;
     fields.push(field(alloc, "file_size_in_bytes", 104, "long")?)?;
