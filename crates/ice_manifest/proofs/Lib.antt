@@ -8,10 +8,10 @@ pub mod RowSpelled
 pub mod WrittenFiles
 pub mod RowsAgain
 pub mod Tuples
+pub mod NamesApart
 pub mod ManifestKnown
 pub mod ManifestNames
 pub mod FileSpelled
 pub mod EntriesAgain
 pub mod NewRow
 pub mod Summaries
-pub mod NamesApart

@@ -14,12 +14,13 @@ use Rattle.ice_meta.specs.declared.spec.PartitionField.{PartitionField}
 use Rattle.ice_manifest.specs.declared.heading.Heading.{Heading}
 use Rattle.ice_manifest.specs.Adding.{IsHeading, IsId, is_partition_type}
 use Rattle.ice_manifest.specs.declared.partition_names.Naming.{Naming}
-use Rattle.ice_manifest.specs.PartitionNames.{naming_of}
+use Rattle.ice_manifest.specs.PartitionNames.{naming_of, field_name}
 use Rattle.ice_manifest.specs.WrittenTypes.{written_tree, written_fields}
 use Rattle.ice_manifest.specs.WrittenSchemas.{value_type, partition_fields, entry_type}
 use Rattle.ice_manifest.specs.Writing.{manifest_type}
 use Rattle.ice_manifest.proofs.WrittenRead.{fine, fine_fields, different_ids, ids_in}
-use Rattle.ice_manifest.proofs.WrittenRead.{is_id}
+use Rattle.ice_manifest.proofs.WrittenRead.{is_id, is_filled}
+use Rattle.ice_manifest.proofs.NamesApart.{names_filled}
 
 -- ---- its size
 
@@ -103,14 +104,14 @@ value_fine id (column.Decimal precision scale) h = refl
 
 partition_fine : (naming : Naming) (ps : List PartitionField) (ts : List ColumnType)
     → AllByRecursion (λ (p : PartitionField). IsId p.field_id) ps → AllByRecursion (λ t. is_partition_type t ≡ true) ts
-    → fine_fields (partition_fields naming ps ts) ≡ true
-partition_fine naming [] ts ids types = refl
-partition_fine naming (p ∷ ps) [] ids types = refl
-partition_fine naming (p ∷ ps) (t ∷ ts) ids types = rw (
+    → AllByRecursion (λ p. is_filled (field_name naming p) ≡ true) ps → fine_fields (partition_fields naming ps ts) ≡ true
+partition_fine naming [] ts ids types filled = refl
+partition_fine naming (p ∷ ps) [] ids types filled = refl
+partition_fine naming (p ∷ ps) (t ∷ ts) ids types filled = rw (
+  filled.0,
   id_is p.field_id ids.0,
   value_fine p.field_id t types.0,
-  partition_fine
-      ps ts ids.1 types.1,
+  partition_fine naming ps ts ids.1 types.1 filled.1,
 ) refl
 
 partition_ids : (naming : Naming) (ps : List PartitionField) (ts : List ColumnType) → length ts ≡ length ps
@@ -135,4 +136,8 @@ unfolding entry_type dotted
 manifest_fine h is ids =
     let apart : different_ids (ids_in (partition_fields (naming_of h.spec.fields) h.spec.fields h.types)) ≡ true =
     rw (partition_ids (naming_of h.spec.fields) h.spec.fields h.types is.typed) (ids_differ _ is.different) in
-    rw (apart, partition_fine (naming_of h.spec.fields) h.spec.fields h.types ids is.written) refl
+    rw (
+      apart,
+      partition_fine (naming_of h.spec.fields) h.spec.fields h.types ids is.written
+          (names_filled h.spec.fields),
+    ) refl

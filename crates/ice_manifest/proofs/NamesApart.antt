@@ -1,12 +1,11 @@
 -- The names of partition fields are names that Avro has, and tell the fields apart.
-use Rattle.std.proofs.Common.{◌≡◌, ℕ, zero, suc, ◌<◌, ◌≤◌, ◌^◌, ◌/◌, ◌%◌, Bool, true, false, ◌||◌, ◌&&◌, not, List, [], ◌∷◌, ◌++◌}
-use Rattle.std.proofs.Common.{map, flat_map, chars, refl, sym, ap, subst, arith, ◌∙◌, nat_eq, nat_lt, nat_le, if◌then◌else◌, ◌==◌, inl, inr}
-use Rattle.std.specs.Prelude.{ℤ, pos, negsuc, codes, encode_utf8, ◌⊎◌}
+use Rattle.std.proofs.Common.{◌≡◌, ℕ, zero, suc, ◌<◌, ◌≤◌, ◌^◌, ◌/◌, ◌%◌, Bool, true, false, not, List, [], ◌∷◌, ◌++◌}
+use Rattle.std.proofs.Common.{map, flat_map, chars, refl, sym, ap, subst, arith, ◌∙◌, nat_lt, nat_le, if◌then◌else◌, ◌==◌}
+use Rattle.std.specs.Prelude.{ℤ, pos, negsuc, codes, encode_utf8}
 use lib.Signed.{mag}
 use Rattle.std.specs.Fmt.{signed_decimal, digits, digits_onto, digit_glyph}
-use Rattle.std.specs.Char.{is_ascii_digit, is_ascii_alphanumeric}
+use Rattle.std.specs.Char.{is_ascii_digit}
 use Rattle.std.proofs.lemmas.Fmt.{signed_decimal_injective}
-use Rattle.std.proofs.lemmas.List.{append-nil}
 use Rattle.std.proofs.lemmas.List.Folds.{list_all-append}
 use Rattle.std.proofs.lemmas.Str.{chars-IsAscii, encode_ascii}
 use Rattle.std.proofs.lemmas.Slice.Eq.{bytes_eq-Decides}
@@ -19,9 +18,9 @@ use Rattle.std.specs.Ordering.{int_eq}
 use Rattle.std.specs.Str.{bytes_eq, IsAscii}
 use Rattle.ice_manifest.specs.Adding.{IsId}
 use Rattle.ice_manifest.specs.PartitionNames.{is_in_names, spelled, before, avro_name, are_apart, naming_of, numbered_name, field_name}
+use Rattle.ice_manifest.proofs.WrittenRead.{is_filled}
 use Rattle.ice_manifest.specs.NamesApart.{is_avro_name, KeepsNames, SpellsNames, TellsApart}
 use Rattle.ice_meta.specs.declared.spec.PartitionField.{PartitionField}
-use Rattle.ice_manifest.specs.declared.partition_names.Naming.{Naming}
 use Rattle.ice_manifest.specs.declared.partition_names.Naming.TheVariants as by
 
 -- ---- booleans
@@ -196,6 +195,31 @@ pub spelled_names : SpellsNames
 spelled_names ps own =
     subst (λ naming. AllByRecursion (λ p. is_avro_name (field_name naming p) ≡ true) ps) (sym own)
     (each_named ps (own_apart _ own))
+
+-- no name is empty
+filled_name : (name : List ℕ) → is_avro_name name ≡ true → is_filled name ≡ true
+filled_name [] h = absurd cc
+filled_name (c ∷ cs) h = refl
+
+each_filled : (ps : List PartitionField) → are_apart (map (λ (p : PartitionField). avro_name p.name) ps) ≡ true
+    → AllByRecursion (λ p. is_filled (field_name by.Own p) ≡ true) ps
+each_filled [] h = tt
+each_filled (p ∷ ps) h =
+    let parts = first_apart (avro_name p.name) (map (λ (q : PartitionField). avro_name q.name) ps) h in
+    (filled_name (avro_name p.name) (avro_named p.name parts.0), each_filled ps parts.1)
+
+numbers_filled : (ps : List PartitionField) → AllByRecursion (λ p. is_filled (field_name by.Numbered p) ≡ true) ps
+numbers_filled [] = tt
+numbers_filled (p ∷ ps) = (refl, numbers_filled ps)
+
+filled_by : (b : Bool) (ps : List PartitionField) → b ≡ are_apart (map (λ (p : PartitionField). avro_name p.name) ps)
+    → AllByRecursion (λ p. is_filled (field_name (if b then by.Own else by.Numbered) p) ≡ true) ps
+filled_by true ps e = each_filled ps (sym e)
+filled_by false ps e = numbers_filled ps
+
+pub names_filled : (ps : List PartitionField)
+    → AllByRecursion (λ p. is_filled (field_name (naming_of ps) p) ≡ true) ps
+names_filled ps = filled_by (are_apart (map (λ (p : PartitionField). avro_name p.name) ps)) ps refl
 
 -- characters that Avro's names have are spelled as they are
 stays : (cs : List ℕ) → AllIn cs → flat_map spelled cs ≡ cs

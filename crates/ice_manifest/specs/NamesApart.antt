@@ -7,7 +7,6 @@ use Rattle.std.specs.Str.{bytes_eq}
 use Rattle.ice_manifest.specs.Adding.{IsId}
 use Rattle.ice_manifest.specs.PartitionNames.{is_in_names, avro_name, naming_of, field_name}
 use Rattle.ice_meta.specs.declared.spec.PartitionField.{PartitionField}
-use Rattle.ice_manifest.specs.declared.partition_names.Naming.{Naming}
 use Rattle.ice_manifest.specs.declared.partition_names.Naming.TheVariants as by
 
 -- a name that Avro has: letters of ASCII, digits and `_`, no digit first

@@ -1,7 +1,7 @@
 -- What the partition fields are called in the schema of a manifest (Apache Iceberg table spec v2, "Manifests": the
 -- partition's fields have the names of the spec's; Avro 1.11.1, "Names": a letter of ASCII or `_`, and behind it
 -- letters, digits and `_`). Names that Avro does not have are spelled as the writers of the field spell them.
-use Rattle.std.specs.Prelude.{◌≡◌, ℕ, ℤ, Bool, true, false, ◌||◌, ◌&&◌, not, List, [], ◌∷◌, ◌++◌, map, flat_map}
+use Rattle.std.specs.Prelude.{ℕ, ℤ, Bool, true, false, ◌||◌, ◌&&◌, not, List, [], ◌∷◌, ◌++◌, map, flat_map}
 use Rattle.std.specs.Prelude.{nat_eq, if◌then◌else◌, codes, chars, encode_utf8}
 use Rattle.std.specs.Char.{is_ascii_alphanumeric, is_ascii_digit}
 use Rattle.std.specs.Fmt.{digits, signed_decimal}
