@@ -28,6 +28,8 @@
 //! - `data/upgraded`, a table that began as version 1: its plans, a row delta with position deletes that name one data
 //!   file, its plan after that, and plans of the version before; refused names of data files, and a time that goes back;
 //!   in `data/events` a position delete that names a data file of another partition, which applies to nothing
+//! - an append under three specs, whose manifests, list and metadata are printed byte by byte: names of partition fields
+//!   as Avro spells them, or by id where two would be alike; no summaries where a uuid stands; a uuid with hyphens
 #![tactic(auto)]
 
 use ice_commands::{Watch, run_words};
