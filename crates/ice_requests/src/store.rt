@@ -12,7 +12,7 @@ use std::alloc::Global;
 pub enum StoreFault {
     /// Something stands at the path already; it is as it was.
     There,
-    /// The path names no place here, or writing failed.
+    /// The path names no place here, writing failed, or it is not sure that the file lasts.
     Failed,
     /// A growth was refused.
     Memory,
@@ -26,8 +26,8 @@ pub trait Store {
     /// Putting a file may fail.
     ghost may_fail: { Self → Type 0 };
 
-    /// Puts a file where there was none. A reader finds the whole file, or, also after a refusal and where the process
-    /// is killed, none.
+    /// Puts a file where there was none. A reader finds the whole file or none, also after a refusal and where the
+    /// process is killed.
     fn create_new(&mut self, alloc: Global, path: &str, bytes: &[u8]) -> Result<(), StoreFault>
         ensures free { OnOk result (MayLack (files self.old) path.now) }
         ensures puts { OnOk result (Puts (files self.old) (files self.new) path.now bytes.now) }

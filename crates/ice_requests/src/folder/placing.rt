@@ -16,11 +16,11 @@ use uuid::Uuid;
 /// How many names are tried for a file that is not whole yet.
 const MOST_NAMES: u32 = 1_000;
 
-/// A folder in which one commit puts its files. What it has not written whole stands under names with the commit's
-/// UUID, so what a commit that was killed left stands in no other's way.
+/// A folder in which one commit puts its files. What is not whole yet stands under names with the commit's UUID, so
+/// what a commit that was killed left is in no other's way.
 ///
-/// A file that is put is on the disk, and so is its name, where the file system can see to that: else it is `Failed`,
-/// and stays in its place. The folder of the file has to be one that may be read.
+/// A file that is put is on the disk, and so is its name. Where the file system has such a sync and it fails, the put
+/// is `Failed`, and the file stays in its place. The folder that it is in has to be one that may be read.
 #[derive(Drop)]
 pub struct CommitFolder<'a, H> {
     folder: Folder<'a, H>,
