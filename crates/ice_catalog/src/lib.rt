@@ -13,8 +13,9 @@ pub use event::{Event, Reply};
 pub use ice_book::{Book, Catalog, Conflict, Seat};
 pub use ice_versions::{
     Change, Commit, Ids, NewFile, Opening, PrepareFault, Prepared, Receipt, Version, World,
-    a_commit_is_one_step, commits_leave_what_was_there, prepare, the_last_commit_is_taken_off,
-    versions_stay_covered, what_is_live_after_a_commit,
+    a_commit_is_one_step, a_new_uuid_makes_new_names, commits_leave_what_was_there, prepare,
+    the_last_commit_is_taken_off, the_least_fault_is_told, versions_stay_covered,
+    what_is_live_after_a_commit,
 };
 pub use machine::run_events;
 pub use machine_laws::{pinned_plans, pinned_plans_of_commits, pins_stand_apart};
