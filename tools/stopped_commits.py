@@ -8,7 +8,8 @@ folder, and a row delta to it is made again and again:
 - with the power lost behind each call of the system: of what was not synced any part may be there;
 - killed at each call of the system that has to do with a file, from the first that reads the table on;
 - with each of these calls refused, by ENOSPC, by EIO and by EROFS; the sync of a folder also as one that the system has
-  not got (EINVAL, EOPNOTSUPP, ENOSYS), and the opening of a folder also as one that may not be read (EACCES);
+  not got (EINVAL, EOPNOTSUPP, ENOSYS), the opening of a folder also as one that may not be read (EACCES), and a link
+  also as one that the file system has not got (EPERM);
 - with files that may not grow past some sizes, so that a write ends in the middle: refused then, and killed then;
 - with each link made, and EEXIST said all the same;
 - with files of stopped commits lying around.
@@ -87,7 +88,8 @@ NOT_WRITTEN = (3, "", "icescan: W1 Write\n")
 STATUSES = {"read": 3, "create": 3, "write": 3, "sync": 3, "link": 3, "unlink": 0, "open folder": 3, "sync folder": 3,
             "close": 0, "tell": 3, "look": None}
 NO_SYNC = ("EINVAL", "EOPNOTSUPP", "ENOSYS")
-REFUSALS = ["ENOSPC", "EIO", "EROFS"]
+REFUSALS = ("ENOSPC", "EIO", "EROFS")
+MORE_REFUSALS = {"sync folder": NO_SYNC, "open folder": ("EACCES",), "link": ("EPERM",)}
 KINDS = {"read": "read", "pread64": "read", "write": "write", "pwrite64": "write", "writev": "write", "fsync": "sync",
          "fdatasync": "sync", "link": "link", "linkat": "link", "unlink": "unlink", "unlinkat": "unlink",
          "close": "close", "stat": "look", "lstat": "look", "fstat": "look", "newfstatat": "look", "statx": "look",
@@ -499,9 +501,8 @@ def main():
         calls = check_whole(table)
         check_losses(table, calls)
         for call in calls:
-            errors = [None] + (REFUSALS if call.kind != "look" else [])
-            errors += NO_SYNC if call.kind == "sync folder" else ["EACCES"] if call.kind == "open folder" else []
-            for error in errors:
+            refusals = REFUSALS if call.kind != "look" else ()
+            for error in (None, *refusals, *MORE_REFUSALS.get(call.kind, ())):
                 check_stop(table, call, error, strict)
         check_sizes(table, strict)
         check_links(table, sum(call.kind == "link" for call in calls))
