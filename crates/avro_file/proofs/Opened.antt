@@ -37,7 +37,8 @@ begun_takes bytes h e =
     let inner : Result FileHeader AvroFault = refused (fault_of (length bytes)) (header_at (drop 4 bytes)) in
     let a = guard_ok (ltb (length bytes) 4) NotAvro (cond (bytes_eq (take 4 bytes) magic) inner (Err NotAvro)) h e in
     let b = passed (bytes_eq (take 4 bytes) magic) NotAvro inner h a.1 in
-    let taken = header_takes (drop 4 bytes) h (refused_ok (fault_of (length bytes)) (header_at (drop 4 bytes)) h b.1) in (
+    let taken =
+    header_takes (drop 4 bytes) h (refused_ok (fault_of (length bytes)) (header_at (drop 4 bytes)) h b.1) in (
       taken,
       begun_parts bytes (take 4 bytes) (drop 4 bytes) (drop 4 bytes) (sym (take-append-drop 4 bytes))
           (same_bytes (take 4 bytes) magic b.0) refl,

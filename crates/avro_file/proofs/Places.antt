@@ -17,7 +17,8 @@ use Rattle.avro_file.specs.Blocks.{max_items, object_at}
 use Rattle.avro_file.specs.Ending.{standing, EndsWith, Ends, EndsCounted}
 use Rattle.avro_parts.proofs.Groups.{narrow_found, tenth_place}
 use Rattle.avro_parts.proofs.Groups.{times_one}
-use Rattle.avro_parts.proofs.NumberPlaces.{at_place, drop_drop, GroupsUpTo, no_groups, last_fits, found, one_group, to_end}
+use Rattle.avro_parts.proofs.NumberPlaces.{at_place, drop_drop, GroupsUpTo, no_groups, last_fits, found, one_group}
+use Rattle.avro_parts.proofs.NumberPlaces.{to_end}
 use Rattle.avro_file.proofs.Taken.{number_takes}
 use Rattle.avro_file.proofs.Loop.{long_len}
 use Rattle.avro_file.proofs.Steps.{ok_is}

@@ -1,5 +1,6 @@
--- Reading what needs no schema from left to right, with the first fault that is met: truth values, runs of bytes, texts,
--- positions, counts of items. Avro 1.11.1 specification, 'Binary Encoding', 'Primitive Types' and 'Complex Types'.
+-- Reading what needs no schema from left to right, with the first fault that is met: truth values, runs of bytes,
+-- texts, positions, counts of items. Avro 1.11.1 specification, 'Binary Encoding', 'Primitive Types' and 'Complex
+-- Types'.
 use Rattle.std.specs.Prelude.{ℕ, zero, suc, ◌-◌, ℤ, pos, negsuc, List, [], ◌∷◌, length, take, drop, Bool, true}
 use Rattle.std.specs.Prelude.{false, Result, Ok, Err, nat_lt, if◌then◌else◌}
 use Rattle.std.specs.Str.{is_utf8}

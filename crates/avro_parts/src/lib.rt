@@ -1,5 +1,5 @@
-//! The parts of an Avro file that need no schema: numbers, runs of bytes, texts, counts of items and heads of blocks. Each is
-//! read at the front of the bytes, with what stands behind it, or with the first fault.
+//! The parts of an Avro file that need no schema: numbers, runs of bytes, texts, counts of items and heads of blocks.
+//! Each is read at the front of the bytes, with what stands behind it, or with the first fault.
 #![tactic(auto)]
 
 mod count;

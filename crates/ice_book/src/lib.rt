@@ -1,5 +1,5 @@
-//! The newest version of a table and how commits replace it, by one thread or by many. What versions are and how commits are
-//! prepared on them is in `ice_versions`.
+//! The newest version of a table and how commits replace it, by one thread or by many. What versions are and how
+//! commits are prepared on them is in `ice_versions`.
 #![tactic(auto)]
 
 mod book;

@@ -530,7 +530,8 @@ finish_says m s p o h =
     rw o at l in omega (arith, k) in
     let c : 0 + leaves_of s.read ≡ s.leaves = rw p at h.counted in
     let told : place_tokens After s.now [] s.read ≡ read_tokens s = rw (p, o) refl in
-    let same : leaves_in (top js) + leaves_of (below js) ≡ leaves_of s.read = top_leaves js ∙ or_leaves s.now s.read in (
+    let same : leaves_in (top js) + leaves_of (below js) ≡ leaves_of s.read =
+    top_leaves js ∙ or_leaves s.now s.read in (
       record { stands = r.2.0; spelled = sym told ∙ sym r.0 },
       record {
         few = omega (arith, same, c, h.few);

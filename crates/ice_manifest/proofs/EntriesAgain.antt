@@ -32,7 +32,8 @@ use Rattle.ice_manifest.specs.declared.heading.Heading.{Heading}
 use Rattle.ice_manifest.specs.Adding.{IsId, IsHeading, IsNewFile, MayReference, is_null_or_of, is_tuple_of}
 use Rattle.ice_manifest_reading.specs.Each.{each}
 use Rattle.ice_manifest_reading.specs.Fields.{there, text_of, items_of, items_as, int_at, int_or_zero, path_at}
-use Rattle.ice_manifest_reading.specs.Fields.{optional_number, optional_text, optional_path, int_item, ints_at, within_32}
+use Rattle.ice_manifest_reading.specs.Fields.{optional_number, optional_text, optional_path, int_item, ints_at}
+use Rattle.ice_manifest_reading.specs.Fields.{within_32}
 use Rattle.ice_manifest.specs.Fitting.{FileFits}
 use Rattle.ice_manifest_reading.specs.Laws.{SaysFile, SaysLive, SayEntries, MayHold}
 use Rattle.ice_manifest_reading.specs.Manifests.{content_of, content_at, referenced_at, status_at, sequence_at}
@@ -86,9 +87,10 @@ passed_over : (id : ℤ) (t : Tree) (v : Value) (fs : Fields) (vs : Values) (ps 
 passed_over id t v fs vs [] apart = refl
 passed_over id t v fs vs (p ∷ ps) apart = rw (apart.0, passed_over id t v fs vs ps apart.1) refl
 
-cells_again : (naming : Naming) (ps : List PartitionField) (ts : List ColumnType) (cs : List Cell) → length ts ≡ length ps
-    → IsDistinct int_eq (map (λ (p : PartitionField). p.field_id) ps) → is_tuple_of ts cs ≡ true
-    → cells_of ps (structure (written_fields (partition_fields naming ps ts)), fields (values_of (tuple_values ts cs))) ≡ cs
+cells_again : (naming : Naming) (ps : List PartitionField) (ts : List ColumnType) (cs : List Cell)
+    → length ts ≡ length ps → IsDistinct int_eq (map (λ (p : PartitionField). p.field_id) ps) → is_tuple_of ts cs ≡ true
+    → cells_of ps (structure (written_fields (partition_fields naming ps ts)), fields (values_of (tuple_values ts cs)))
+    ≡ cs
 unfolding IsDistinct
 cells_again naming [] [] [] e apart h = refl
 cells_again naming [] [] (c ∷ cs) e apart h = absurd cc
@@ -98,8 +100,8 @@ cells_again naming (p ∷ ps) (t ∷ ts) [] e apart h = absurd cc
 cells_again naming (p ∷ ps) (t ∷ ts) (c ∷ cs) e apart h =
     let parts = both (is_null_or_of t c) (is_tuple_of ts cs) h in
     let rest = passed_over p.field_id (null_or (written_tree (value_type p.field_id t))) (cell_value t c)
-    (written_fields (partition_fields naming ps ts)) (values_of (tuple_values ts cs)) ps apart.0 ∙ cells_again naming ps ts cs
-    (omega (arith, e)) apart.1 parts.1 in
+    (written_fields (partition_fields naming ps ts)) (values_of (tuple_values ts cs)) ps apart.0
+    ∙ cells_again naming ps ts cs (omega (arith, e)) apart.1 parts.1 in
     rw (same_id p.field_id, cell_again p.field_id t c parts.0) (ap (λ (ds : List Cell). c ∷ ds) rest)
 
 tuple_again : (naming : Naming) (ps : List PartitionField) (ts : List ColumnType) (f : NewFile) → length ts ≡ length ps
@@ -273,7 +275,10 @@ live_says : (row : Row) (h : Heading) (k : ℕ) (f : NewFile) → row.content �
 unfolding entry_type entry_value status_at int_at sequence_at file_sequence_at optional_number
 live_says row h k f same heading new fit = record {
   status = Added;
-  inner = (written_tree (file_type (partition_fields (naming_of h.spec.fields) h.spec.fields h.types)), file_value h.types f);
+  inner = (
+    written_tree (file_type (partition_fields (naming_of h.spec.fields) h.spec.fields h.types)),
+    file_value h.types f,
+  );
   status_is = refl;
   lives = inr refl;
   position = refl;

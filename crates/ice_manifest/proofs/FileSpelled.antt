@@ -63,8 +63,8 @@ cell_spelled id (column.Fixed size) (cell.Bytes bs) h fits = a_some _ _ (a_raw s
 cell_spelled id column.Binary (cell.Bytes bs) h fits = a_some _ _ (a_run Plain bs fits)
 cell_spelled id t c h fits = absurd cc
 
-tuple_spelled : (naming : Naming) (ps : List PartitionField) (ts : List ColumnType) (cs : List Cell) → length ts ≡ length ps
-    → is_tuple_of ts cs ≡ true → AllByRecursion CellFits cs
+tuple_spelled : (naming : Naming) (ps : List PartitionField) (ts : List ColumnType) (cs : List Cell)
+    → length ts ≡ length ps → is_tuple_of ts cs ≡ true → AllByRecursion CellFits cs
     → HasSpellings (written_fields (partition_fields naming ps ts)) (tuple_values ts cs)
 tuple_spelled naming [] [] cs e h fits = no_spelling
 tuple_spelled naming [] (t ∷ ts) cs e h fits = absurd (omega (arith, e))
@@ -72,8 +72,8 @@ tuple_spelled naming (p ∷ ps) [] cs e h fits = absurd (omega (arith, e))
 tuple_spelled naming (p ∷ ps) (t ∷ ts) [] e h fits = absurd cc
 tuple_spelled naming (p ∷ ps) (t ∷ ts) (c ∷ cs) e h fits =
     let parts = both (is_null_or_of t c) (is_tuple_of ts cs) h in
-    and_then _ _ _ _ _ (cell_spelled p.field_id t c parts.0 fits.0) (tuple_spelled naming ps ts cs (omega (arith, e)) parts.1
-    fits.1)
+    and_then _ _ _ _ _ (cell_spelled p.field_id t c parts.0 fits.0)
+    (tuple_spelled naming ps ts cs (omega (arith, e)) parts.1 fits.1)
 
 -- ---- equality ids
 
@@ -115,13 +115,15 @@ content_id holds.PositionDeletes = omega arith
 content_id holds.EqualityDeletes = omega arith
 
 file_spelled : (h : Heading) (f : NewFile) → IsHeading h → IsNewFile h f → FileFits f
-    → HasSpelling (written_tree (file_type (partition_fields (naming_of h.spec.fields) h.spec.fields h.types))) (file_value h.types f)
+    → HasSpelling (written_tree (file_type (partition_fields (naming_of h.spec.fields) h.spec.fields h.types)))
+    (file_value h.types f)
 file_spelled h f heading new fits =
     a_record _ _
     (and_then _ _ _ _ _ (an_int (file_content f.content) (content_id f.content))
     (and_then _ _ _ _ _ (a_text f.path fits.path)
     (and_then _ _ _ _ _ (a_text f.format fits.format)
-    (and_then _ _ _ _ _ (a_record _ _ (tuple_spelled (naming_of h.spec.fields) h.spec.fields h.types f.tuple heading.typed new.tuple fits.tuple))
+    (and_then _ _ _ _ _ (a_record _ _
+    (tuple_spelled (naming_of h.spec.fields) h.spec.fields h.types f.tuple heading.typed new.tuple fits.tuple))
     (and_then _ _ _ _ _ (a_long f.record_count fits.record_count)
     (and_then _ _ _ _ _ (a_long f.file_size fits.file_size) (columns_spelled f fits new.equality_ids)))))))
 

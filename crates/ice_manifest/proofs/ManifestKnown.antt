@@ -104,7 +104,8 @@ value_fine id (column.Decimal precision scale) h = refl
 
 partition_fine : (naming : Naming) (ps : List PartitionField) (ts : List ColumnType)
     → AllByRecursion (λ (p : PartitionField). IsId p.field_id) ps → AllByRecursion (λ t. is_partition_type t ≡ true) ts
-    → AllByRecursion (λ p. is_filled (field_name naming p) ≡ true) ps → fine_fields (partition_fields naming ps ts) ≡ true
+    → AllByRecursion (λ p. is_filled (field_name naming p) ≡ true) ps
+    → fine_fields (partition_fields naming ps ts) ≡ true
 partition_fine naming [] ts ids types filled = refl
 partition_fine naming (p ∷ ps) [] ids types filled = refl
 partition_fine naming (p ∷ ps) (t ∷ ts) ids types filled = rw (

@@ -1,8 +1,7 @@
 -- No two types of a manifest's schema have one name.
-use Rattle.std.proofs.Common.{◌≡◌, ℕ, ◌<◌, ◌^◌, Bool, true, false, ◌||◌, List, [], ◌∷◌, ◌++◌}
-use Rattle.std.proofs.Common.{map, inl, inr, refl, sym, ap, subst, arith, append_assoc}
-use Rattle.std.specs.Prelude.{Ok, Some, ℤ, pos, negsuc, codes, ◌⊎◌}
-use lib.Signed.{mag}
+use Rattle.std.proofs.Common.{◌≡◌, ℕ, Bool, true, false, ◌||◌, List, [], ◌∷◌, ◌++◌}
+use Rattle.std.proofs.Common.{map, inl, inr, refl, sym, ap, subst, append_assoc}
+use Rattle.std.specs.Prelude.{Ok, Some, ℤ, codes, ◌⊎◌}
 use Rattle.std.specs.Fmt.{signed_decimal}
 use Rattle.std.proofs.lemmas.Fmt.{signed_decimal_injective}
 use Rattle.std.proofs.lemmas.List.{append-nil}
@@ -23,6 +22,7 @@ use Rattle.ice_manifest.specs.PartitionNames.{naming_of}
 use Rattle.ice_manifest.specs.WrittenTypes.{json_of, written_tree}
 use Rattle.ice_manifest.specs.WrittenSchemas.{fixed_name, value_type, partition_fields, entry_type}
 use Rattle.ice_manifest.specs.Writing.{manifest_type}
+use Rattle.ice_manifest.proofs.NamesApart.{few_digits}
 use Rattle.ice_manifest.proofs.WrittenRead.{schema_read, different, is_among, names_in, field_names}
 use Rattle.ice_manifest.proofs.ManifestKnown.{manifest_height, manifest_nodes, manifest_fine}
 
@@ -62,10 +62,6 @@ among_both : (n : List ℕ) (xs ys : List (List ℕ)) → is_among n xs ≡ fals
 among_both n [] ys h k = k
 among_both n (x ∷ xs) ys h k = let parts = neither (bytes_eq n x) (is_among n xs) h in
     rw (parts.0, among_both n xs ys parts.1 k) refl
-
-few_digits : (id : ℤ) → IsId id → mag id < 2 ^ 63
-few_digits (pos n) h = omega arith
-few_digits (negsuc n) h = omega arith
 
 -- fixed types of two ids have two names
 other_fixed : (id other : ℤ) → IsId id → IsId other → int_eq id other ≡ false
@@ -133,9 +129,11 @@ front = codes "manifest_entry" ∷ codes "r2" ∷ codes "r102" ∷ []
 abbrev tail : List (List ℕ)
 tail = codes "k119_v120" ∷ codes "k121_v122" ∷ codes "k126_v127" ∷ codes "k129_v130" ∷ []
 
-all_names : (h : Heading) → names_in (manifest_type h) ≡ front ++ (fixed_names (naming_of h.spec.fields) h.spec.fields h.types ++ tail)
+all_names : (h : Heading)
+    → names_in (manifest_type h) ≡ front ++ (fixed_names (naming_of h.spec.fields) h.spec.fields h.types ++ tail)
 unfolding entry_type
-all_names h = ap (λ (ns : List (List ℕ)). front ++ ns) (append-nil (fixed_names (naming_of h.spec.fields) h.spec.fields h.types ++ tail))
+all_names h = ap (λ (ns : List (List ℕ)). front ++ ns)
+    (append-nil (fixed_names (naming_of h.spec.fields) h.spec.fields h.types ++ tail))
 
 none_known : (ps : List PartitionField) → AreNew front ps
 none_known [] = tt
@@ -164,10 +162,11 @@ manifest_different : (h : Heading) → IsHeading h
     → AllByRecursion (λ (p : PartitionField). IsId p.field_id) h.spec.fields
     → different [] (names_in (manifest_type h)) ≡ true
 manifest_different h is ids =
-    let tails = tail_different (fixed_names (naming_of h.spec.fields) h.spec.fields h.types) (λ n. other_letter (naming_of h.spec.fields) n h.spec.fields
-    h.types) in
-    rw (all_names h) (partition_different (naming_of h.spec.fields) front tail h.spec.fields h.types ids is.different (none_known h.spec.fields)
-    tails)
+    let naming = naming_of h.spec.fields in
+    let tails = tail_different (fixed_names naming h.spec.fields h.types)
+    (λ n. other_letter naming n h.spec.fields h.types) in
+    rw (all_names h) (partition_different naming front tail h.spec.fields h.types ids is.different
+    (none_known h.spec.fields) tails)
 
 pub manifest_read : (h : Heading) (text : List ℕ) → IsHeading h
     → AllByRecursion (λ (p : PartitionField). IsId p.field_id) h.spec.fields → is_utf8 text ≡ true

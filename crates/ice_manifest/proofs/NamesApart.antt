@@ -1,6 +1,8 @@
 -- The names of partition fields are names that Avro has, and tell the fields apart.
-use Rattle.std.proofs.Common.{◌≡◌, ℕ, zero, suc, ◌<◌, ◌≤◌, ◌^◌, ◌/◌, ◌%◌, Bool, true, false, not, List, [], ◌∷◌, ◌++◌}
-use Rattle.std.proofs.Common.{map, flat_map, chars, refl, sym, ap, subst, arith, ◌∙◌, nat_lt, nat_le, if◌then◌else◌, ◌==◌}
+use Rattle.std.proofs.Common.{◌≡◌, ◌≢◌, ℕ, zero, suc, ◌<◌, ◌≤◌, ◌^◌, ◌/◌, ◌%◌, Bool, true, false, not, List, [], ◌∷◌}
+use Rattle.std.proofs.Common.{◌++◌}
+use Rattle.std.proofs.Common.{map, flat_map, chars, refl, sym, ap, subst, arith, ◌∙◌, nat_lt, nat_le, if◌then◌else◌}
+use Rattle.std.proofs.Common.{◌==◌}
 use Rattle.std.specs.Prelude.{ℤ, pos, negsuc, codes, encode_utf8}
 use lib.Signed.{mag}
 use Rattle.std.specs.Fmt.{signed_decimal, digits, digits_onto, digit_glyph}
@@ -10,24 +12,20 @@ use Rattle.std.proofs.lemmas.List.Folds.{list_all-append}
 use Rattle.std.proofs.lemmas.Str.{chars-IsAscii, encode_ascii}
 use Rattle.std.proofs.lemmas.Slice.Eq.{bytes_eq-Decides}
 use Rattle.std.proofs.lemmas.Bool.{leb-true, ltb-true, ltb-false, eqb-true, or_from, or_parts}
-use Rattle.std.proofs.lemmas.Bool.{and_parts, and_right, false_from_ne_true}
+use Rattle.std.proofs.lemmas.Bool.{and_parts, and_right, false_from_ne_true, not-true}
 use Rattle.std.proofs.lemmas.Nat.{mod_below}
 use Rattle.std.proofs.lemmas.Bool.Decides.{Decides-int_eq}
 use Rattle.std.specs.List.{AllByRecursion, IsDistinct, list_any, list_all}
 use Rattle.std.specs.Ordering.{int_eq}
 use Rattle.std.specs.Str.{bytes_eq, IsAscii}
 use Rattle.ice_manifest.specs.Adding.{IsId}
-use Rattle.ice_manifest.specs.PartitionNames.{is_in_names, spelled, before, avro_name, are_apart, naming_of, numbered_name, field_name}
+use Rattle.ice_manifest.specs.PartitionNames.{is_in_names, spelled, before, avro_name, are_apart, naming_of}
+use Rattle.ice_manifest.specs.PartitionNames.{numbered_name, field_name}
 use Rattle.ice_manifest.proofs.WrittenRead.{is_filled}
-use Rattle.ice_manifest.specs.NamesApart.{is_avro_name, KeepsNames, SpellsNames, TellsApart}
+use Rattle.ice_manifest.specs.NamesApart.{is_avro_name, own_names, KeepsNames, OwnWhereTheyDiffer, SpellsNames}
+use Rattle.ice_manifest.specs.NamesApart.{TellsApart}
 use Rattle.ice_meta.specs.declared.spec.PartitionField.{PartitionField}
 use Rattle.ice_manifest.specs.declared.partition_names.Naming.TheVariants as by
-
--- ---- booleans
-
-unnot : (b : Bool) → not b ≡ true → b ≡ false
-unnot true h = absurd cc
-unnot false h = refl
 
 -- ---- names that are apart
 
@@ -35,7 +33,8 @@ none_alike : (name : List ℕ) (names : List (List ℕ)) → list_any (bytes_eq 
     → AllByRecursion (λ other. bytes_eq name other ≡ false) names
 none_alike name [] h = tt
 none_alike name (other ∷ names) h =
-    let parts = or_parts (bytes_eq name other) (list_any (bytes_eq name) names) h in (parts.0, none_alike name names parts.1)
+    let parts = or_parts (bytes_eq name other) (list_any (bytes_eq name) names) h in
+    (parts.0, none_alike name names parts.1)
 
 apart_distinct : (names : List (List ℕ)) → are_apart names ≡ true → IsDistinct bytes_eq names
 unfolding IsDistinct
@@ -43,7 +42,27 @@ apart_distinct [] h = tt
 apart_distinct ([] ∷ names) h = absurd cc
 apart_distinct ((c ∷ cs) ∷ names) h =
     let parts = and_parts (not (list_any (bytes_eq (c ∷ cs)) names)) (are_apart names) h in
-    (none_alike (c ∷ cs) names (unnot _ parts.0), apart_distinct names parts.1)
+    (none_alike (c ∷ cs) names (not-true _ parts.0), apart_distinct names parts.1)
+
+filled_apart : (names : List (List ℕ)) → are_apart names ≡ true → AllByRecursion (λ name. name ≢ []) names
+filled_apart [] h = tt
+filled_apart ([] ∷ names) h = absurd cc
+filled_apart ((c ∷ cs) ∷ names) h =
+    let parts = and_parts (not (list_any (bytes_eq (c ∷ cs)) names)) (are_apart names) h in
+    ((λ e. absurd cc), filled_apart names parts.1)
+
+alike_none : (name : List ℕ) (names : List (List ℕ)) → AllByRecursion (λ other. bytes_eq name other ≡ false) names
+    → list_any (bytes_eq name) names ≡ false
+alike_none name [] h = refl
+alike_none name (other ∷ names) h = rw (h.0, alike_none name names h.1) refl
+
+distinct_apart : (names : List (List ℕ)) → AllByRecursion (λ name. name ≢ []) names → IsDistinct bytes_eq names
+    → are_apart names ≡ true
+unfolding IsDistinct
+distinct_apart [] filled distinct = refl
+distinct_apart ([] ∷ names) filled distinct = absurd (filled.0 refl)
+distinct_apart ((c ∷ cs) ∷ names) filled distinct =
+    rw (alike_none (c ∷ cs) names distinct.0, distinct_apart names filled.1 distinct.1) refl
 
 own_apart : (b : Bool) → (if b then by.Own else by.Numbered) ≡ by.Own → b ≡ true
 own_apart true h = refl
@@ -51,14 +70,15 @@ own_apart false h = absurd cc
 
 -- ---- numbers
 
-few_digits : (id : ℤ) → IsId id → mag id < 2 ^ 63
+pub few_digits : (id : ℤ) → IsId id → mag id < 2 ^ 63
 few_digits (pos n) h = omega arith
 few_digits (negsuc n) h = omega arith
 
 other_number : (id other : ℤ) → IsId id → IsId other → int_eq id other ≡ false
     → bytes_eq (numbered_name id) (numbered_name other) ≡ false
 other_number id other h k apart = false_from_ne_true _ (λ e.
-    let same : numbered_name id ≡ numbered_name other = (bytes_eq-Decides (numbered_name id) (numbered_name other)).0 e in
+    let same : numbered_name id ≡ numbered_name other =
+    (bytes_eq-Decides (numbered_name id) (numbered_name other)).0 e in
     let digits_same : signed_decimal id ≡ signed_decimal other = cc in
     let one : id ≡ other = signed_decimal_injective id other (few_digits id h) (few_digits other k) digits_same in
     let equal : int_eq id other ≡ true = (Decides-int_eq id other).1 one in
@@ -95,6 +115,11 @@ by_naming false ps e ids apart = numbered_apart ps ids apart
 pub told_apart : TellsApart
 told_apart ps ids apart = by_naming (are_apart (map (λ (p : PartitionField). avro_name p.name) ps)) ps refl ids apart
 
+pub own_where_they_differ : OwnWhereTheyDiffer
+own_where_they_differ ps =
+    (λ e. let apart = own_apart (are_apart (own_names ps)) e in (filled_apart _ apart, apart_distinct _ apart),
+    λ both. rw (distinct_apart (own_names ps) both.0 both.1) refl)
+
 -- ---- names that Avro has
 
 abbrev AllIn : List ℕ → Type 0
@@ -121,7 +146,8 @@ glyph_in (suc (suc (suc (suc (suc (suc (suc (suc (suc (suc (suc (suc zero)))))))
 glyph_in (suc (suc (suc (suc (suc (suc (suc (suc (suc (suc (suc (suc (suc zero))))))))))))) h = refl
 glyph_in (suc (suc (suc (suc (suc (suc (suc (suc (suc (suc (suc (suc (suc (suc zero)))))))))))))) h = refl
 glyph_in (suc (suc (suc (suc (suc (suc (suc (suc (suc (suc (suc (suc (suc (suc (suc zero))))))))))))))) h = refl
-glyph_in (suc (suc (suc (suc (suc (suc (suc (suc (suc (suc (suc (suc (suc (suc (suc (suc d)))))))))))))))) h = absurd (omega arith)
+glyph_in (suc (suc (suc (suc (suc (suc (suc (suc (suc (suc (suc (suc (suc (suc (suc (suc d)))))))))))))))) h =
+    absurd (omega arith)
 
 digits_in : (k n : ℕ) (acc : List ℕ) → AllIn acc → AllIn (digits_onto k 16 true n acc)
 digits_in zero n acc h = h
@@ -243,5 +269,5 @@ kept_names (c ∷ cs) h =
     let parts = and_parts (not (is_ascii_digit c)) (list_all is_in_names (c ∷ cs)) h in
     let same : chars (c ∷ cs) ≡ c ∷ cs = chars-IsAscii (c ∷ cs) (ascii (c ∷ cs) parts.1) in
     ap (λ ds. before ds ++ flat_map spelled ds) same
-    ∙ ap (λ front. front ++ flat_map spelled (c ∷ cs)) (nothing_before c cs (unnot _ parts.0))
+    ∙ ap (λ front. front ++ flat_map spelled (c ∷ cs)) (nothing_before c cs (not-true _ parts.0))
     ∙ stays (c ∷ cs) parts.1

@@ -41,23 +41,24 @@ got_or (x ∷ xs) (suc i) d e lt = got_or xs i d e (omega arith)
 
 -- ---- the fields of partition values
 
-next_field : (naming : Naming) (p : PartitionField) (ps rest : List PartitionField) (t : ColumnType) (ts others : List ColumnType)
-    → ps ≡ p ∷ rest → ts ≡ t ∷ others
+next_field : (naming : Naming) (p : PartitionField) (ps rest : List PartitionField) (t : ColumnType)
+    (ts others : List ColumnType) → ps ≡ p ∷ rest → ts ≡ t ∷ others
     → fields_json (partition_fields naming ps ts) ≡ item (partition_field_type naming p t)
     (fields_json (partition_fields naming rest others))
 unfolding fields_json
 next_field naming p ps rest t ts others e f = rw (e, f) refl
 
 -- one field more
-pub fields_on : (naming : Naming) (ps : List PartitionField) (ts : List ColumnType) (i : ℕ) (p : PartitionField) (t u : ColumnType)
-    (vs : List Value) (v : Value) (all : Items) → i < length ps → i < length ts
+pub fields_on : (naming : Naming) (ps : List PartitionField) (ts : List ColumnType) (i : ℕ) (p : PartitionField)
+    (t u : ColumnType) (vs : List Value) (v : Value) (all : Items) → i < length ps → i < length ts
     → p ≡ get_or ps i p → t ≡ get_or ts i u → view v ≡ partition_field_type naming p t
     → joined (items_view vs) (fields_json (partition_fields naming (drop i ps) (drop i ts))) ≡ all
-    → joined (items_view (vs ++ v ∷ [])) (fields_json (partition_fields naming (drop (i + 1) ps) (drop (i + 1) ts))) ≡ all
+    → joined (items_view (vs ++ v ∷ [])) (fields_json (partition_fields naming (drop (i + 1) ps) (drop (i + 1) ts)))
+    ≡ all
 fields_on naming ps ts i p t u vs v all within in_types is types made so_far =
     let rest = fields_json (partition_fields naming (drop (i + 1) ps) (drop (i + 1) ts)) in
-    let next = next_field naming p (drop i ps) (drop (i + 1) ps) t (drop i ts) (drop (i + 1) ts) (step_of ps i p within is)
-    (step_of ts i t in_types (types ∙ got_or ts i u t in_types)) in
+    let next = next_field naming p (drop i ps) (drop (i + 1) ps) t (drop i ts) (drop (i + 1) ts)
+    (step_of ps i p within is) (step_of ts i t in_types (types ∙ got_or ts i u t in_types)) in
     joined_last vs v rest ∙ ap (λ (d : Data). joined (items_view vs) (item d rest)) made ∙ ap (joined (items_view vs))
     (sym next) ∙ so_far
 
@@ -66,8 +67,8 @@ unfolding fields_json
 no_field naming ts = refl
 
 -- at the end no field is left
-pub fields_over : (naming : Naming) (ps : List PartitionField) (ts : List ColumnType) (i : ℕ) (ds all : Items) → length ps ≤ i
-    → joined ds (fields_json (partition_fields naming (drop i ps) (drop i ts))) ≡ all → ds ≡ all
+pub fields_over : (naming : Naming) (ps : List PartitionField) (ts : List ColumnType) (i : ℕ) (ds all : Items)
+    → length ps ≤ i → joined ds (fields_json (partition_fields naming (drop i ps) (drop i ts))) ≡ all → ds ≡ all
 fields_over naming ps ts i ds all past so_far =
     let none : fields_json (partition_fields naming (drop i ps) (drop i ts)) ≡ no_items = rw (drop_of_length-le ps past)
     (no_field naming (drop i ts)) in
@@ -108,7 +109,7 @@ specs_on ps i p vs v all lt is made so_far =
     joined_last vs v rest ∙ ap (λ (d : Data). joined (items_view vs) (item d rest)) made ∙ ap
     (λ qs. joined (items_view vs) (partition_fields_json qs)) (sym (step_of ps i p lt is)) ∙ so_far
 
-pub specs_over : (ps : List PartitionField) (i : ℕ) (ds all : Items) → length ps ≤ i
-    → joined ds (partition_fields_json (drop i ps)) ≡ all → ds ≡ all
+pub specs_over : (ps : List PartitionField) (i : ℕ) (ds all : Items)
+    → length ps ≤ i → joined ds (partition_fields_json (drop i ps)) ≡ all → ds ≡ all
 specs_over ps i ds all past so_far = sym (joined_none ds) ∙ ap (λ qs. joined ds (partition_fields_json qs))
     (sym (drop_of_length-le ps past)) ∙ so_far

@@ -1,5 +1,5 @@
 -- Names that Avro has, and that tell partition fields apart (Avro 1.11.1, "Names").
-use Rattle.std.specs.Prelude.{◌≡◌, ℕ, Bool, true, false, ◌&&◌, not, List, [], ◌∷◌, map}
+use Rattle.std.specs.Prelude.{◌≡◌, ◌≢◌, ◌↔◌, ℕ, Bool, true, false, ◌&&◌, not, List, [], ◌∷◌, map}
 use Rattle.std.specs.Char.{is_ascii_digit}
 use Rattle.std.specs.List.{AllByRecursion, IsDistinct, list_all}
 use Rattle.std.specs.Ordering.{int_eq}
@@ -8,6 +8,15 @@ use Rattle.ice_manifest.specs.Adding.{IsId}
 use Rattle.ice_manifest.specs.PartitionNames.{is_in_names, avro_name, naming_of, field_name}
 use Rattle.ice_meta.specs.declared.spec.PartitionField.{PartitionField}
 use Rattle.ice_manifest.specs.declared.partition_names.Naming.TheVariants as by
+
+-- the Avro names of the fields' own names
+abbrev pub own_names : List PartitionField → List (List ℕ)
+own_names ps = map (λ (p : PartitionField). avro_name p.name) ps
+
+-- fields are called by their own names exactly where none of these is empty and no two are alike
+abbrev pub OwnWhereTheyDiffer : Type 0
+OwnWhereTheyDiffer = (ps : List PartitionField) → naming_of ps ≡ by.Own
+    ↔ AllByRecursion (λ name. name ≢ []) (own_names ps) × IsDistinct bytes_eq (own_names ps)
 
 -- a name that Avro has: letters of ASCII, digits and `_`, no digit first
 abbrev pub is_avro_name : List ℕ → Bool

@@ -83,8 +83,8 @@ abbrev pub some_uuid : ℕ → List ColumnType → List NewFile → Bool
 some_uuid i [] fs = false
 some_uuid i (t ∷ ts) fs = has_uuid t (column_of i fs) || some_uuid (suc i) ts fs
 
--- The summaries of all fields. A summary without bounds says that all values are null, and a uuid has no bounds here: so
--- where one stands there are no summaries at all, and no reader passes over the manifest.
+-- The summaries of all fields. A summary without bounds says that all values are null, and a uuid has no bounds here:
+-- so where one stands there are no summaries at all, and no reader passes over the manifest.
 abbrev pub summaries : List ColumnType → List NewFile → Option (List Summary)
 summaries ts fs = if some_uuid 0 ts fs then None else Some (summaries_from 0 ts fs)
 

@@ -175,7 +175,8 @@ fn partition_fields(
     types: &[ColumnType],
 ) -> Result<Vec<Value>, AllocError>
     requires { length types.now ≡ length fields.now }
-    ensures json { IfOk result (λ all. items_view all.items ≡ fields_json (fields_of_partition naming fields.now types.now)) }
+    ensures json { IfOk result (λ all.
+        items_view all.items ≡ fields_json (fields_of_partition naming fields.now types.now)) }
     ensures ids { IfOk result (λ _. AllByRecursion (λ (p : DeclaredField). IsId p.field_id) fields.now) }
 {
     let mut all = Vec::new(alloc);

@@ -1,5 +1,5 @@
--- The snapshot log: when which snapshot came to be the current one, the newest entry last (Apache Iceberg table spec v2,
--- "Table Metadata Fields").
+-- The snapshot log: when which snapshot came to be the current one, the newest entry last (Apache Iceberg table spec
+-- v2, "Table Metadata Fields").
 use Rattle.std.specs.Prelude.{ℤ, codes, Option, None, Some, option_and_then}
 use Rattle.serde_json.specs.Data as json
 use Rattle.serde_json.specs.Data.{Data, Items}

@@ -82,7 +82,8 @@ escape_of : (a b c d v : ℕ) → escape_byte a b c d ≡ Some v → a ∷ b ∷
 escape_of a b c d v h =
     let P : (t : Bool) → (a == 92 && b == 120) ≡ t → escape_byte a b c d ≡ Some v
     → a ∷ b ∷ c ∷ d ∷ [] ≡ escaped_byte v =
-    λ t. elim t as (λ t. (a == 92 && b == 120) ≡ t → escape_byte a b c d ≡ Some v → a ∷ b ∷ c ∷ d ∷ [] ≡ escaped_byte v) [
+    λ t. elim t as (λ t. (a == 92 && b == 120) ≡ t → escape_byte a b c d ≡ Some v
+    → a ∷ b ∷ c ∷ d ∷ [] ≡ escaped_byte v) [
       | true ↦ λ e k.
           let k' = rw e at k in
           let x : a ≡ 92 = grind (arith, tests) in

@@ -1,5 +1,6 @@
 //! What the program prints, over any sink: the pieces of a text, which wait on a page for their sink; the text of a
-//! plan and that of a table's metadata; and how paths and names are escaped in them, and what such an escape stands for.
+//! plan and that of a table's metadata; and how paths and names are escaped in them, and what such an escape stands
+//! for.
 #![tactic(auto)]
 
 mod escape;

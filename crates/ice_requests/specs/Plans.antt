@@ -132,8 +132,8 @@ pub record Answers (read : Result (List OwnedLine) RunFault) (may_fail_at : List
   pub refused : IfErr result (MayEnd read may_fail_at write_may_fail)
   pub front : IsErrOf result run.Write → WrotePlanFront read output output'
 
--- What a refusal tells over any files: nothing was written but after a failed write, a file that is called absent is not
--- there, a read failed at a path where it may, and a write failed that may fail.
+-- What a refusal tells over any files: nothing was written but after a failed write, a file that is called absent is
+-- not there, a read failed at a path where it may, and a write failed that may fail.
 pub record OnRefusal (world : Option World) (may_fail_at : List ℕ → Type 0) (write_may_fail : Type 0)
     (result : Result Unit RunFault) (output output' : Option (List ℕ)) : Type 0 where
   pub nothing : IfErr result (λ fault. fault ≢ run.Write → output' ≡ output)

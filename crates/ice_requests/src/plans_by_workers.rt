@@ -53,8 +53,8 @@ fn plan_rows_with<R: Threads + Sync, F: Files + Sync, G: Gate + Sync, W: Sink>(
     write_plan(alloc, &plan.lines(), output)
 }
 
-/// Writes the plan that a request asks for, of the table whose metadata these are the bytes of: by so many workers, from
-/// 1 to 64, each in a thread of its own where one can be started. They read and take the wanted manifests at once;
+/// Writes the plan that a request asks for, of the table whose metadata these are the bytes of: by so many workers,
+/// from 1 to 64, each in a thread of its own where one can be started. They read and take the wanted manifests at once;
 /// `gate` is told of each of their reads.
 ///
 /// The refusal is `Workers` where there are to be none, or more than 64; it comes before all others. Else plan and

@@ -107,7 +107,8 @@ map_agree : {X Y : Type 0} (f g : X → Y) (k t : X → Bool) → ((x : X) → k
     → AllByRecursion (λ x. k x ≡ true) xs → map f (filter t xs) ≡ map g (filter t xs)
 map_agree f g k t h [] all = refl
 map_agree f g k t h (x ∷ xs) all =
-    elim (t x) as (λ v. map f (cond v (x ∷ filter t xs) (filter t xs)) ≡ map g (cond v (x ∷ filter t xs) (filter t xs))) [
+    elim (t x) as (λ v. map f (cond v (x ∷ filter t xs) (filter t xs))
+    ≡ map g (cond v (x ∷ filter t xs) (filter t xs))) [
       | true ↦ rw (h x all.0, map_agree f g k t h xs all.1) refl
       | false ↦ map_agree f g k t h xs all.1
     ]

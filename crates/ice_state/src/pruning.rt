@@ -81,7 +81,10 @@ impl Model for Pruning {
 
     ghost view = { λ p. record { specs = p.specs.items; filter = p.filter.parts } };
 
-    ghost invariant = { λ p. record { by_id : AreById p.specs.items; projected : p.parts.items ≡ map (projection p.filter.parts) p.specs.items } };
+    ghost invariant = { λ p. record {
+      by_id : AreById p.specs.items;
+      projected : p.parts.items ≡ map (projection p.filter.parts) p.specs.items;
+    } };
 }
 
 impl Pruning {

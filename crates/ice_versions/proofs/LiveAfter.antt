@@ -284,10 +284,11 @@ is_of_change change f k at = elim at as (λ _. Contains (all_files change) f) [
 ]
 
 stands : (change : Change) (f : NewFile) → Contains (all_files change) f → (k : ℕ) × StandsAt change f k
-stands change f i = elim (Contains-append_cases change.files change.deletes f i) as (λ _. (k : ℕ) × StandsAt change f k) [
-  | inl a ↦ let r = own_place change.files f a in (r.0, inl r.1)
-  | inr b ↦ let r = own_place change.deletes f b in (r.0, inr r.1)
-]
+stands change f i = elim (Contains-append_cases change.files change.deletes f i)
+    as (λ _. (k : ℕ) × StandsAt change f k) [
+      | inl a ↦ let r = own_place change.files f a in (r.0, inl r.1)
+      | inr b ↦ let r = own_place change.deletes f b in (r.0, inr r.1)
+    ]
 
 -- ---- entries of files
 

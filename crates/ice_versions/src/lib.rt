@@ -1,5 +1,5 @@
-//! Versions of a table that replay their journals: the files that a version sees, what a commit adds, and how a commit is
-//! prepared on a version.
+//! Versions of a table that replay their journals: the files that a version sees, what a commit adds, and how a commit
+//! is prepared on a version.
 #![tactic(auto)]
 
 mod adding;

@@ -4,8 +4,8 @@
 //! A line of standard input has the words of one command, with a tab between two; an empty line has none. In front of
 //! them may stand `<FILE`, a file of `data/` that is on the standard input of the command, where else nothing is, and
 //! then `>FILE`, a file that takes its standard output. Printed are the line behind `> `, the command's standard output
-//! where no file takes it, its standard error behind `! `, and `status N`. A line that begins with `#` is a heading, and
-//! is printed as it is.
+//! where no file takes it, its standard error behind `! `, and `status N`. A line that begins with `#` is a heading,
+//! and is printed as it is.
 //!
 //! `data/events` is the table of `examples/events-java`, with partitions, without the manifest list of its first
 //! snapshot and a manifest of its fifth; `data/plain` is that of `examples/plain-java`, as Avro's C library wrote it.
@@ -22,14 +22,16 @@
 //!   change files that are none, a folder that is not there, a path with `..`; none leaves new metadata, or a file that
 //!   is not whole, and the plan of the last commit is what it was
 //! - an append, and a row delta of deletes alone, to `data/plain`, whose new list is planned by itself too
-//! - below headings: bundles of lists, well written or not; requests of tables in a bundle; partitions and a summary that
-//!   lies; metadata that is shown; change files; commits to bundles and to folders that refuse; paths below a folder;
-//!   words, in other orders and refused; drills; texts of help
+//! - below headings: bundles of lists, well written or not; requests of tables in a bundle; partitions and a summary
+//!   that lies; metadata that is shown; change files; commits to bundles and to folders that refuse; paths below a
+//!   folder; words, in other orders and refused; drills; texts of help
 //! - `data/upgraded`, a table that began as version 1: its plans, a row delta with position deletes that name one data
-//!   file, its plan after that, and plans of the version before; refused names of data files, and a time that goes back;
+//!   file, its plan after that, and plans of the version before; refused names of data files, and a time that goes
+//!   back;
 //!   in `data/events` a position delete that names a data file of another partition, which applies to nothing
-//! - an append under three specs, whose manifests, list and metadata are printed byte by byte: names of partition fields
-//!   as Avro spells them, or by id where two would be alike; no summaries where a uuid stands; a uuid with hyphens
+//! - an append under three specs, whose manifests, list and metadata are printed byte by byte: names of partition
+//!   fields as Avro spells them, or by id where two would be alike; no summaries where a uuid stands; a uuid with
+//!   hyphens
 #![tactic(auto)]
 
 use ice_commands::{Watch, run_words};

@@ -14,6 +14,6 @@ returns-clause-read c =
     let m : Described = described c.args.common.now.metadata.now.json c.args.common.now.metadata.now.table in
     let path = c.in_ok-path.ensures ∙ ap (λ (t : Table). manifest_path t c.args.common.now.ids.now c.args.number)
     c.table.ensures in
-    let is = same_manifest m c.args.common.now.ids.now c.args.number (seen c.args.group.now) _ _ _ c.in_ok-heading.ensures path
-    (ap lent c.deref.ensures.value) in
+    let is = same_manifest m c.args.common.now.ids.now c.args.number (seen c.args.group.now) _ _ _
+    c.in_ok-heading.ensures path (ap lent c.deref.ensures.value) in
     subst (λ (x : NewManifest). OnOk c.add_manifest.result (IsReadBack x)) is c.add_manifest.ensures.read
