@@ -16,7 +16,8 @@ use crate::store::{Store, StoreFault, put_files};
 use contract_words::Text;
 use ice_desk::Files;
 use ice_text::{
-    CommitRequest, RunFault, Sink, SinkFault, put_named_long, put_named_number, read_change, read_file, write_all,
+    CommitRequest, RunFault, Sink, SinkFault, put_named_long, put_named_number, read_change,
+    read_file, write_all,
 };
 use ice_versions::{Change, Ids, Prepared, Version, prepare};
 use std::alloc::Global;
