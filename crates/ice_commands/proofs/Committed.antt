@@ -6,11 +6,11 @@ use Rattle.serde_json.specs.Written.{compact_text, has_float}
 use Rattle.ice_requests.specs.Bundles.{File, bundle_of, bytes_at}
 use Rattle.ice_requests.specs.Commits.{Commitment, IsTextOf, bundle_lines, commitment, committed_text, in_order}
 use Rattle.ice_requests.specs.Commits.{told_text}
-use Rattle.ice_requests.specs.ListPlans.{MayEnd}
+use Rattle.ice_text.specs.Reads.{MayEnd}
 use Rattle.ice_requests.specs.Shows.{WroteText}
 use Rattle.ice_commands.specs.Runs.{MayRefuse, Ran}
 use Rattle.ice_print.specs.Written.{Appends, AppendsFront}
-use Rattle.ice_requests.specs.declared.committing.CommitRequest.{CommitRequest}
+use Rattle.ice_text.specs.declared.request.CommitRequest.{CommitRequest}
 use Rattle.ice_text.specs.declared.fault.RunFault.{RunFault}
 use Rattle.ice_text.specs.declared.fault.RunFault.TheVariants as run
 use Rattle.ice_commands.proofs.Refusals.{memory_ran}

@@ -1,3 +1,2 @@
 pub mod Committed
-pub mod Drills
 pub mod Refusals

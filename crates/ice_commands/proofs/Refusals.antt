@@ -6,13 +6,14 @@ use Rattle.contract_words.specs.Outcome.{◌>>=◌}
 use Rattle.ice_text.specs.declared.fault.RunFault.{RunFault}
 use Rattle.ice_text.specs.declared.fault.RunFault.TheVariants as run
 use Rattle.ice_requests.specs.Bundles.{File, added, bundle_of, bytes_at, file_of, first_path, with_lines}
-use Rattle.ice_requests.specs.ListPlans.{MayEnd, list_answer}
-use Rattle.ice_commands.specs.Runs.{IsInput, IsWordsFault, MayRefuse, NoBundle, Ran, as_text, bundle_text, list_in}
-use Rattle.ice_commands.specs.Runs.{or_first_line}
+use Rattle.ice_text.specs.Reads.{MayEnd}
+use Rattle.ice_requests.specs.ListPlans.{list_answer}
+use Rattle.ice_commands.specs.Runs.{IsInput, MayRefuse, NoBundle, Ran, as_text, bundle_text, list_in, or_first_line}
 use Rattle.ice_commands.specs.Runs.{planned_text, shown_text}
+use Rattle.ice_command_line.specs.CommandLines.{IsWordsFault}
 use Rattle.ice_requests.specs.Plans.{answer_at, over_wanted_rows}
 use Rattle.ice_requests.specs.Shows.{shown_at}
-use Rattle.ice_requests.specs.declared.selection.Request.{Request}
+use Rattle.ice_text.specs.declared.request.Request.{Request}
 
 -- a bundle is refused for a line of it
 there : (n : ℕ) (b : Bool) (files : List File) (e : RunFault)

@@ -1,11 +1,10 @@
 -- The whole program: what it makes of its words and of standard input.
-use Rattle.std.specs.Prelude.{◌≡◌, ◌≢◌, ◌⊎◌, ℕ, Bool, true, false, ◌&&◌, List, [], ◌∷◌, codes, Option, Some, None}
-use Rattle.std.specs.Prelude.{IfSome, Result, Ok, Err, OnOk, IfErr, IsErrOf}
-use Rattle.std.specs.Str.{bytes_eq}
+use Rattle.std.specs.Prelude.{◌≡◌, ◌≢◌, ◌⊎◌, ℕ, List, Option, Some, None, IfSome, Result, Ok, Err, OnOk, IfErr}
+use Rattle.std.specs.Prelude.{IsErrOf}
 use Rattle.contract_words.specs.Outcome.{◌>>=◌}
 use Rattle.ice_state.specs.Lines.{OwnedLine}
 use Rattle.ice_requests.specs.Bundles.{File, bundle_of, bytes_at, first_path}
-use Rattle.ice_commands.specs.Drills.{WroteDrill}
+use Rattle.ice_drill.specs.Drills.{WroteDrill}
 use Rattle.ice_requests.specs.Commits.{committed_text}
 use Rattle.ice_requests.specs.ListPlans.{list_answer}
 use Rattle.ice_requests.specs.Plans.{answer_at, over_wanted_rows}
@@ -14,32 +13,13 @@ use Rattle.ice_text.specs.FaultTexts.{fault_text}
 use Rattle.ice_print.specs.PlanTexts.{plan_text}
 use Rattle.ice_requests.specs.Shows.{WroteFront, WroteText, shown_at}
 use Rattle.ice_print.specs.Written.{Appends, AppendsFront}
-use Rattle.ice_commands.specs.declared.command_line.Lists.TheVariants as lists
-use Rattle.ice_commands.specs.declared.command_line.Source.TheVariants as source
-use Rattle.ice_commands.specs.declared.command_line.Words.{Words}
-use Rattle.ice_commands.specs.declared.command_line.Words.TheVariants as words
+use Rattle.ice_command_line.specs.declared.command_line.Lists.TheVariants as lists
+use Rattle.ice_command_line.specs.declared.command_line.Source.TheVariants as source
+use Rattle.ice_command_line.specs.declared.command_line.Words.{Words}
+use Rattle.ice_command_line.specs.declared.command_line.Words.TheVariants as words
 use Rattle.ice_text.specs.declared.fault.RunFault.{RunFault}
 use Rattle.ice_text.specs.declared.fault.RunFault.TheVariants as run
-use Rattle.ice_requests.specs.declared.selection.Request.{Request}
-
--- the words that ask for the plan of a bundle's first file, before any others are read: none, or these two
-abbrev pub asks_first_list : List (List ℕ) → Bool
-asks_first_list [] = true
-asks_first_list (command ∷ []) = false
-asks_first_list (command ∷ way ∷ []) = bytes_eq command (codes "list-plan") && bytes_eq way (codes "--bundle")
-asks_first_list (command ∷ way ∷ word ∷ words) = false
-
-abbrev pub first_list : Words
-first_list = words.ListPlan (lists.Bundle None)
-
--- why words are refused
-abbrev pub IsWordsFault : RunFault → Type 0
-IsWordsFault fault = (fault ≡ run.Memory) ⊎ ((text : List ℕ) × (fault ≡ run.Words text))
-
--- what the words were read as: any of the program's commands, or a refusal of the words
-pub record ReadAs (texts : List (List ℕ)) (asked : Result Words RunFault) : Type 0 where
-  pub first : asks_first_list texts ≡ true → asked ≡ Ok first_list
-  pub causes : IfErr asked IsWordsFault
+use Rattle.ice_text.specs.declared.request.Request.{Request}
 
 -- the list is the bundle's first file
 abbrev pub or_first_line : Option (List ℕ) → Result (List ℕ) RunFault

@@ -4,24 +4,23 @@ ghost use Rattle.std.specs.Prelude.{◌≡◌, ◌⊎◌, ℕ, List, Option, Som
 ghost use Rattle.std.specs.Prelude.{IfOk, IfErr, OnOk};
 ghost use Rattle.ice_requests.specs.Bundles.{bundle_of};
 ghost use Rattle.ice_requests.specs.Commits.{committed_text};
-ghost use Rattle.ice_commands.specs.Drills.{WroteDrill};
-ghost use Rattle.ice_commands.specs.Runs.{Answered, IsInput, IsOfDrill, NoBundle, Ran, ReadAs, Refused, answer_to};
-ghost use Rattle.ice_commands.specs.Runs.{list_in, run_of};
-ghost use Rattle.ice_commands.specs.declared.command_line.Words.{Words};
+ghost use Rattle.ice_drill.specs.Drills.{WroteDrill};
+ghost use Rattle.ice_commands.specs.Runs.{Answered, IsInput, IsOfDrill, NoBundle, Ran, Refused, answer_to, list_in};
+ghost use Rattle.ice_commands.specs.Runs.{run_of};
+ghost use Rattle.ice_command_line.specs.CommandLines.{ReadAs};
+ghost use Rattle.ice_command_line.specs.declared.command_line.Words.{Words};
 ghost use Rattle.ice_text.specs.declared.fault.RunFault.{RunFault};
 
-use crate::command_line::{Lists, Place, Source, Words, parse_words};
 use crate::commit_lines::commit_lines;
-use crate::drill::Drill;
-use crate::drill_text::run_drill;
-use crate::watch::Watch;
 use contract_words::Text;
+use ice_command_line::{Lists, Place, Source, Words, parse_words};
 use ice_desk::ReadFault;
+use ice_drill::{Watch, run_drill};
 use ice_requests::{
-    Bundle, CommitFolder, CommitRequest, Folder, Request, commit_to, plan_file, prepare_commit,
-    read_all, run_list_plan, show_file,
+    Bundle, CommitFolder, Folder, commit_to, plan_file, prepare_commit, read_all, run_list_plan,
+    show_file,
 };
-use ice_text::{RunFault, Sink, report, write_all};
+use ice_text::{CommitRequest, Drill, Request, RunFault, Sink, report, write_all};
 use std::alloc::Global;
 use std::io::Read;
 use std::rt::Files;
@@ -65,13 +64,11 @@ fn read_bundle<R: Read>(alloc: Global, input: &mut R) -> Result<Bundle, RunFault
     Bundle::read(alloc, &text)
 }
 
-impl Place {
-    /// The files below the folder.
-    fn files<'a, H: Files>(&'a self, host: &'a H) -> Folder<'a, H>
-        ensures { (result.folder.now ≡ self.now.folder) × (result.prefix.now ≡ self.now.prefix) }
-    {
-        Folder::new(host, self.folder.as_str(), self.prefix.as_str())
-    }
+/// The files below the folder of a place.
+fn files_of<'a, H: Files>(host: &'a H, place: &'a Place) -> Folder<'a, H>
+    ensures { (result.folder.now ≡ place.now.folder) × (result.prefix.now ≡ place.now.prefix) }
+{
+    Folder::new(host, place.folder.as_str(), place.prefix.as_str())
 }
 
 /// Writes the plan of a manifest list.
@@ -94,7 +91,7 @@ fn list_plan<H: Files, R: Read, W: Sink>(
         }
         Lists::Folder(place, list) => run_list_plan(
             alloc,
-            &place.files(host),
+            &files_of(host, place),
             list.as_str(),
             output,
         ),
@@ -125,7 +122,7 @@ fn plan<H: Files<File: Send, Dir: Send> + Threads + Sync, R: Read, W: Sink>(
         Source::Folder(place) => plan_file(
             host,
             alloc,
-            &place.files(host),
+            &files_of(host, place),
             path,
             request,
             workers,
@@ -152,7 +149,7 @@ fn show<H: Files, R: Read, W: Sink>(
             let bundle = read_bundle(alloc, input)?;
             show_file(alloc, &bundle, path.as_str(), output)
         }
-        Source::Folder(place) => show_file(alloc, &place.files(host), path.as_str(), output),
+        Source::Folder(place) => show_file(alloc, &files_of(host, place), path.as_str(), output),
     }
 }
 
@@ -193,8 +190,8 @@ fn commit<H: Files, R: Read, W: Sink>(
             print_commit(alloc, &bundle, request, output)
         }
         Source::Folder(place) => {
-            let mut store = CommitFolder::new(place.files(host), &request.ids);
-            commit_to(alloc, &place.files(host), request, &mut store, output)
+            let mut store = CommitFolder::new(files_of(host, place), &request.ids);
+            commit_to(alloc, &files_of(host, place), request, &mut store, output)
         }
     }
 }

@@ -10,7 +10,7 @@ use Rattle.ice_versions.specs.declared.opening.Opening.{Opening}
 use Rattle.ice_versions.specs.declared.world.World.{World as Kept}
 use Rattle.ice_versions.specs.Adding.{added}
 use Rattle.ice_versions.specs.Applying.{apply}
-use Rattle.ice_versions.specs.Histories.{History, Step, after, opened, openable, prepared_on, state_of}
+use Rattle.ice_versions.specs.Histories.{History, Step, after, openable, opened, prepared_on, state_of}
 use Rattle.ice_versions.specs.States.{State}
 use Rattle.ice_desk.specs.Worlds.{EndsAt}
 use Rattle.ice_meta.specs.declared.fault.MetaFault.{MetaFault}
@@ -20,7 +20,7 @@ use Rattle.ice_meta.specs.Targets.{Described, list_of}
 use Rattle.ice_state.specs.Contents.{World}
 use Rattle.ice_text.specs.declared.change.fault.ChangeFault.{ChangeFault}
 use Rattle.ice_text.specs.declared.change.fault.ChangeFault.TheVariants as change
-use Rattle.ice_requests.specs.declared.committing.CommitRequest.{CommitRequest}
+use Rattle.ice_text.specs.declared.request.CommitRequest.{CommitRequest}
 use Rattle.ice_text.specs.declared.fault.RunFault.{RunFault}
 use Rattle.ice_text.specs.declared.fault.RunFault.TheVariants as run
 use Rattle.ice_text.specs.Changes.{change_of}
@@ -28,8 +28,8 @@ use Rattle.ice_requests.specs.Bundles.{File}
 use Rattle.ice_requests.specs.Commits.{Commitment, IsOfPreparing, MayEndCommit, MayNotPut, Writes, base_files, base_of}
 use Rattle.ice_requests.specs.Commits.{change_asked, commitment, commitment_from, commitment_on}
 use Rattle.ice_text.specs.Faults.{of_change, of_meta, of_prepare}
-use Rattle.ice_requests.specs.ListPlans.{MayEnd, as_run, file_in}
-use Rattle.ice_requests.proofs.Steps.{first_ends, then_ends}
+use Rattle.ice_text.specs.Reads.{MayEnd, as_run, file_in}
+use Rattle.ice_text.proofs.Steps.{first_ends, then_ends}
 
 -- ---- a part's fault is the run's
 

@@ -24,10 +24,10 @@ use Rattle.ice_state.proofs.Scans.{scan_made}
 use Rattle.ice_text.specs.declared.fault.RunFault.{RunFault}
 use Rattle.ice_text.specs.declared.fault.RunFault.TheVariants as run
 use Rattle.ice_text.specs.Faults.{of_plan, of_wanted}
-use Rattle.ice_requests.specs.ListPlans.{MayEnd}
+use Rattle.ice_text.specs.Reads.{MayEnd}
 use Rattle.ice_requests.specs.Plans.{by_workers, manifests, over_wanted_rows, rows_plan}
 use Rattle.ice_requests.proofs.Plans.{finish_is_no_write, no_plan, not_taken}
-use Rattle.ice_requests.proofs.Steps.{each_present, untaken_all}
+use Rattle.ice_text.proofs.Steps.{each_present, untaken_all}
 
 -- ---- how many workers
 

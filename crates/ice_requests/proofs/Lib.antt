@@ -7,5 +7,4 @@ pub mod Lookups
 pub mod Plans
 pub mod Segments
 pub mod Shows
-pub mod Steps
 pub mod Stored

@@ -17,12 +17,16 @@ use Rattle.ice_state.specs.Scans.{Scanned, scan_of}
 use Rattle.ice_state.specs.Snapshots.{plan_of_snapshot}
 use Rattle.ice_text.specs.declared.fault.RunFault.{RunFault}
 use Rattle.ice_text.specs.Faults.{of_finish, of_scan}
-use Rattle.ice_requests.specs.ListPlans.{MayEnd, all_present, as_run, list_answer, list_reads, list_scan, plan_in}
-use Rattle.ice_requests.specs.ListPlans.{rows_at, scan_at}
-use Rattle.ice_requests.specs.ListPlans.{specs_of, wanted_of}
+use Rattle.ice_text.specs.Reads.{MayEnd, all_present, as_run, rows_at}
+use Rattle.ice_requests.specs.ListPlans.{list_answer, list_reads, list_scan, plan_in, scan_at, specs_of, wanted_of}
 use Rattle.ice_requests.specs.Plans.{manifests, over_all_rows, over_wanted_rows, rows_plan}
 use Rattle.ice_requests.proofs.Plans.{list_there, same_plan}
-use Rattle.ice_requests.proofs.Steps.{are_without_fields, fails_later, first_ends, only_first}
+use Rattle.ice_text.proofs.Steps.{fails_later, first_ends, only_first}
+
+-- specs without fields
+pub are_without_fields : (rows : List Row) → AllByRecursion (λ spec. spec.fields ≡ []) (specs_of rows)
+are_without_fields [] = tt
+are_without_fields (row ∷ rows) = (refl, are_without_fields rows)
 
 -- the plan of the rows of a list
 abbrev listed : World → List Row → Result (List OwnedLine) RunFault

@@ -10,10 +10,7 @@ use Rattle.ice_desk.specs.Wanted.{MayStop, paths_of, reads_of as wanted_reads}
 use Rattle.ice_desk.specs.Worlds.{EndsAt}
 use Rattle.ice_filter.specs.declared.bound.BoundLeaf.{BoundLeaf}
 use Rattle.ice_filter.specs.declared.parts.Part.{Part}
-use Rattle.ice_manifest_reading.specs.declared.fault.ListFault.{ListFault}
-use Rattle.ice_manifest_reading.specs.declared.fault.ListFault.TheVariants as list
 use Rattle.ice_manifest_reading.specs.declared.row.Row.{Row}
-use Rattle.ice_manifest_reading.specs.Lists.{rows_of}
 use Rattle.ice_meta.specs.declared.spec.Spec.{Spec}
 use Rattle.ice_state.specs.declared.fault.FinishFault.{FinishFault}
 use Rattle.ice_state.specs.declared.fault.FinishFault.TheVariants as finish
@@ -29,17 +26,17 @@ use Rattle.ice_state.proofs.Scans.{made}
 use Rattle.ice_state.proofs.Snapshots.{of_snapshot}
 use Rattle.ice_text.specs.declared.fault.RunFault.{RunFault}
 use Rattle.ice_text.specs.declared.fault.RunFault.TheVariants as run
-use Rattle.ice_requests.specs.declared.selection.Request.{Request}
+use Rattle.ice_text.specs.declared.request.Request.{Request}
 use Rattle.ice_requests.specs.declared.selection.Selection.{Selection}
-use Rattle.ice_text.specs.Faults.{of_finish, of_list, of_scan, of_wanted}
-use Rattle.ice_requests.specs.ListPlans.{MayEnd, all_present, as_run, file_in, rows_at, rows_in, wanted_of}
+use Rattle.ice_text.specs.Faults.{of_finish, of_scan, of_wanted}
+use Rattle.ice_text.specs.Reads.{MayEnd, all_present, as_run, file_in, rows_at, rows_in}
+use Rattle.ice_requests.specs.ListPlans.{wanted_of}
 use Rattle.ice_requests.specs.Plans.{Answers, Ending, TellsTheTruth, answer_at, answer_by, by_workers, manifests}
 use Rattle.ice_requests.specs.Plans.{manifests_of, over_all_rows, over_wanted_rows, reads, reads_at, reads_behind}
-use Rattle.ice_requests.specs.Plans.{reads_of}
-use Rattle.ice_requests.specs.Plans.{rows_plan, scan_in}
+use Rattle.ice_requests.specs.Plans.{reads_of, rows_plan, scan_in}
 use Rattle.ice_requests.specs.Selections.{IsOfRequest, selected}
-use Rattle.ice_requests.proofs.Steps.{fails_later, finish_ends, first_ends, has_each, list_ends, only_first, scan_ends}
-use Rattle.ice_requests.proofs.Steps.{stops_end, then_ends, untaken_all}
+use Rattle.ice_text.proofs.Steps.{fails_later, finish_ends, first_ends, has_each, only_first, scan_ends, stops_end}
+use Rattle.ice_text.proofs.Steps.{then_ends, untaken_all}
 
 -- a refusal of the request itself comes before any read
 pub request_ends : {A : Type 0} (read : Result A RunFault) (r : List ℕ → Type 0) (w : Type 0) (e : RunFault)
@@ -102,25 +99,6 @@ refused_answers read r w e o o' h not_write = record
     { written = tt; refused = h; front = λ is. let q : e ≡ run.Write = cc in absurd (not_write q) }
 
 -- ---- the rows of a list
-
-module _ (f : List ℕ → Type 0) (world : World) (path : List ℕ) where
-  pub no_file : (e : RunFault) → MayEnd (file_in world path) (EndsAt world f (path ∷ [])) ⊥ e
-      → MayEnd (rows_at world path) (EndsAt world f (path ∷ [])) ⊥ e
-  unfolding rows_at
-  no_file e h = first_ends (EndsAt world f (path ∷ [])) ⊥ (EndsAt world f (path ∷ [])) (file_in world path) rows_in e
-      (λ p m. m) h
-
-  pub no_rows : (bytes : List ℕ) → file_in world path ≡ Ok bytes → (e : ListFault)
-      → (e ≢ list.Memory → rows_of bytes ≡ Err e)
-      → MayEnd (rows_at world path) (EndsAt world f (path ∷ [])) ⊥ (of_list e)
-  unfolding rows_at rows_in
-  no_rows bytes has e h = then_ends (EndsAt world f (path ∷ [])) ⊥ (file_in world path) rows_in bytes (of_list e) has
-      (list_ends (EndsAt world f (path ∷ [])) ⊥ (rows_of bytes) e h)
-
-  pub rows_there : (bytes : List ℕ) (rows : List Row) → file_in world path ≡ Ok bytes → rows_of bytes ≡ Ok rows
-      → rows_at world path ≡ Ok rows
-  unfolding rows_at rows_in
-  rows_there bytes rows has is = rw has (ap (as_run of_list) is)
 
 file_there : (found : Result (List ℕ) RunFault) (rows : List Row) → (found >>= rows_in) ≡ Ok rows → (bytes : List ℕ)
     × (found ≡ Ok bytes)

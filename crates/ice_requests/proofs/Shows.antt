@@ -9,10 +9,10 @@ use Rattle.ice_state.specs.Contents.{World}
 use Rattle.ice_text.specs.declared.fault.RunFault.{RunFault}
 use Rattle.ice_text.specs.declared.fault.RunFault.TheVariants as run
 use Rattle.ice_text.specs.Faults.{of_meta}
-use Rattle.ice_requests.specs.ListPlans.{MayEnd, as_run, file_in}
+use Rattle.ice_text.specs.Reads.{MayEnd, as_run, file_in}
 use Rattle.ice_requests.specs.Shows.{show_of, shown_at}
 use Rattle.ice_print.specs.TableTexts.{table_text}
-use Rattle.ice_requests.proofs.Steps.{first_ends}
+use Rattle.ice_text.proofs.Steps.{first_ends}
 
 abbrev text_in : Result Described MetaFault → Result (List ℕ) RunFault
 text_in read = as_run of_meta read >>= λ metadata. Ok (table_text metadata.table)

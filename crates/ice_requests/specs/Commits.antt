@@ -27,11 +27,11 @@ use Rattle.ice_requests.specs.Bundles.{File, bundle_of, bytes_at}
 use Rattle.ice_text.specs.Changes.{change_of}
 use Rattle.ice_print.specs.Escaping.{escaped}
 use Rattle.ice_text.specs.Faults.{of_change, of_meta, of_prepare}
-use Rattle.ice_requests.specs.ListPlans.{MayEnd, as_run, file_in}
+use Rattle.ice_text.specs.Reads.{MayEnd, as_run, file_in}
 use Rattle.ice_print.specs.Pieces.{named_number, named_signed}
 use Rattle.ice_requests.specs.Stores.{MayHave, PutsAll, PutsFront, StopsAt, WereFree}
 use Rattle.ice_print.specs.Written.{Appends}
-use Rattle.ice_requests.specs.declared.committing.CommitRequest.{CommitRequest}
+use Rattle.ice_text.specs.declared.request.CommitRequest.{CommitRequest}
 use Rattle.ice_requests.specs.declared.store.StoreFault.TheVariants as store
 use Rattle.ice_text.specs.declared.fault.RunFault.{RunFault}
 use Rattle.ice_text.specs.declared.fault.RunFault.TheVariants as run

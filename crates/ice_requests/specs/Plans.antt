@@ -16,13 +16,14 @@ use Rattle.ice_state.specs.Scans.{Scanned, scan_of}
 use Rattle.ice_state.specs.Snapshots.{plan_of_snapshot}
 use Rattle.ice_state.specs.declared.fault.FinishFault.{FinishFault}
 use Rattle.ice_text.specs.Faults.{of_finish, of_scan}
-use Rattle.ice_requests.specs.ListPlans.{MayEnd, all_present, as_run, file_in, rows_at, wanted_of}
+use Rattle.ice_text.specs.Reads.{MayEnd, all_present, as_run, file_in, rows_at}
+use Rattle.ice_requests.specs.ListPlans.{wanted_of}
 use Rattle.ice_print.specs.PlanTexts.{plan_text}
 use Rattle.ice_requests.specs.Selections.{selected}
 use Rattle.ice_print.specs.Written.{Appends, AppendsFront}
 use Rattle.ice_text.specs.declared.fault.RunFault.{RunFault}
 use Rattle.ice_text.specs.declared.fault.RunFault.TheVariants as run
-use Rattle.ice_requests.specs.declared.selection.Request.{Request}
+use Rattle.ice_text.specs.declared.request.Request.{Request}
 use Rattle.ice_requests.specs.declared.selection.Selection.{Selection}
 
 -- ---- the plan of a list's rows

@@ -8,19 +8,15 @@ use Rattle.ice_filter.specs.declared.bound.BoundLeaf.{BoundLeaf}
 use Rattle.ice_filter.specs.declared.fault.FilterFault.{FilterFault}
 use Rattle.ice_filter.specs.declared.leaf.Leaf.{Leaf}
 use Rattle.ice_filter.specs.declared.parts.Part.{Part}
-use Rattle.ice_meta.specs.declared.fault.Member.TheVariants as member
-use Rattle.ice_meta.specs.declared.fault.MetaFault.{MetaFault}
-use Rattle.ice_meta.specs.declared.fault.MetaFault.TheVariants.{Dangling}
 use Rattle.ice_meta.specs.declared.metadata.Target.{Target}
 use Rattle.ice_meta.specs.declared.schema.Schema.{Schema}
 use Rattle.ice_meta.specs.declared.table.Table.{Table}
-use Rattle.ice_meta.specs.Members.{asked}
-use Rattle.ice_meta.specs.Targets.{bound_specs, list_of, metadata_of, schema_for}
+use Rattle.ice_meta.specs.Targets.{bound_specs, list_of, metadata_of}
 use Rattle.ice_text.specs.Faults.{of_filter, of_meta}
-use Rattle.ice_requests.specs.ListPlans.{as_run}
+use Rattle.ice_text.specs.Reads.{as_run, schema_of}
 use Rattle.ice_text.specs.declared.fault.RunFault.{RunFault}
 use Rattle.ice_text.specs.declared.fault.RunFault.TheVariants as run
-use Rattle.ice_requests.specs.declared.selection.Request.{Request}
+use Rattle.ice_text.specs.declared.request.Request.{Request}
 use Rattle.ice_requests.specs.declared.selection.Selection.{Selection}
 
 -- the parts of the filter's text, where there is one
@@ -32,10 +28,6 @@ parts_in (Some text) = mapped Some (parsed text)
 abbrev pub bound_in : Schema → Option (List (Part Leaf)) → Result (List (Part BoundLeaf)) FilterFault
 bound_in schema None = Ok []
 bound_in schema (Some parts) = bound_parts schema parts
-
--- the schema whose columns the filter names; metadata that was read has one
-abbrev pub schema_of : Target → Table → Result Schema MetaFault
-schema_of target table = asked (Dangling member.CurrentSchemaId) (schema_for target table)
 
 -- What a snapshot of a table and a filter select, or the first refusal: that of the snapshot, or of what the filter
 -- asks of the schema.

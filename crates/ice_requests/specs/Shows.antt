@@ -5,7 +5,7 @@ use Rattle.contract_words.specs.Outcome.{◌>>=◌}
 use Rattle.ice_meta.specs.Targets.{metadata_of}
 use Rattle.ice_text.specs.Faults.{of_meta}
 use Rattle.ice_state.specs.Contents.{World}
-use Rattle.ice_requests.specs.ListPlans.{as_run, file_in}
+use Rattle.ice_text.specs.Reads.{as_run, file_in}
 use Rattle.ice_print.specs.TableTexts.{table_text}
 use Rattle.ice_print.specs.Written.{Appends, AppendsFront}
 use Rattle.ice_text.specs.declared.fault.RunFault.{RunFault}

@@ -3,40 +3,24 @@
 
 ghost use Rattle.std.specs.Prelude.{◌≡◌, ◌≢◌, ℕ, List, Option, Some, Ok, Err, OnOk, OnErr, IfOk, IfErr};
 ghost use Rattle.ice_state.specs.Contents.{World};
-ghost use Rattle.ice_requests.specs.Commits.{Commitment, IsLeft, IsOfPreparing, IsPut, Made, MayEndCommit};
-ghost use Rattle.ice_requests.specs.Commits.{MayNotPut, Stopped, Writes, change_asked, commitment, commitment_from};
-ghost use Rattle.ice_requests.specs.Commits.{receipt_text};
+ghost use Rattle.ice_requests.specs.Commits.{Commitment, IsLeft, IsOfPreparing, IsPut, Made, MayEndCommit, MayNotPut};
+ghost use Rattle.ice_requests.specs.Commits.{Stopped, Writes, change_asked, commitment, commitment_from, receipt_text};
 ghost use Rattle.ice_requests.specs.Bundles.{File};
-ghost use Rattle.ice_requests.specs.ListPlans.{MayEnd};
+ghost use Rattle.ice_text.specs.Reads.{MayEnd};
 ghost use Rattle.ice_requests.specs.Stores.{MayHave, WereFree};
 ghost use Rattle.ice_text.specs.declared.fault.RunFault.{RunFault};
 ghost use Rattle.ice_print.specs.Written.{Wrote};
 
 use crate::base::{read_base, read_metadata};
-use crate::reading::read_file;
 use crate::store::{Store, StoreFault, put_files};
 use contract_words::Text;
 use ice_desk::Files;
 use ice_text::{
-    ChangeKind, RunFault, Sink, SinkFault, put_named_long, put_named_number, read_change, write_all,
+    CommitRequest, RunFault, Sink, SinkFault, put_named_long, put_named_number, read_change,
+    read_file, write_all,
 };
 use ice_versions::{Change, Ids, Prepared, Version, prepare};
 use std::alloc::Global;
-
-/// A commit that is asked for.
-#[derive(Debug, Drop)]
-pub struct CommitRequest {
-    /// What it may add.
-    pub kind: ChangeKind,
-    /// The names that it takes, and its time.
-    pub ids: Ids,
-    /// The path of the table's metadata.
-    pub metadata: Text,
-    /// The path of the change file.
-    pub change: Text,
-    /// The path of the new metadata.
-    pub out: Text,
-}
 
 /// The change that is asked for. The refusal is `Absent` or `Device` for the change file, or `Change`; or `Memory`.
 fn change_at<F: Files>(

@@ -6,14 +6,13 @@ ghost use Rattle.ice_state.specs.Contents.{World};
 ghost use Rattle.ice_requests.specs.ListPlans.{list_answer, list_reads, specs_of};
 ghost use Rattle.ice_requests.specs.Plans.{Answers, OnRefusal};
 
-use crate::reading::read_rows;
 use crate::table_plans::{Listed, plan_rows};
 use ice_desk::Files;
 use ice_filter::Bound;
 use ice_manifest::Row;
 use ice_meta::Spec;
 use ice_state::laws::{covering_without_fields, filtering, unfiltered};
-use ice_text::{RunFault, Sink};
+use ice_text::{RunFault, Sink, read_rows};
 use std::alloc::{AllocError, Global};
 
 /// For each row a spec without fields, of the row's spec id.

@@ -5,18 +5,16 @@ ghost use Rattle.std.specs.Prelude.{IsErrOf};
 ghost use Rattle.ice_desk.specs.Worlds.{EndsAt};
 ghost use Rattle.ice_state.specs.Contents.{World};
 ghost use Rattle.ice_requests.specs.Plans.{Answers, OnRefusal, TellsTheTruth, TellsTheTruthAt, answer, answer_at};
-ghost use Rattle.ice_requests.specs.Plans.{by_workers};
-ghost use Rattle.ice_requests.specs.Plans.{manifests, over_all_rows, over_wanted_rows, reads, reads_at, rows_plan};
-ghost use Rattle.ice_requests.specs.Plans.{wanted_answer};
+ghost use Rattle.ice_requests.specs.Plans.{by_workers, manifests, over_all_rows, over_wanted_rows, reads, reads_at};
+ghost use Rattle.ice_requests.specs.Plans.{rows_plan, wanted_answer};
 ghost use Rattle.ice_requests.specs.Selections.{selected};
 ghost use Rattle.ice_requests.specs.declared.selection.Selection.{Selection};
 
-use crate::reading::{read_file, read_rows};
-use crate::selection::{Request, Selection, select};
+use crate::selection::{Selection, select};
 use crate::table_plans::{Listed, plans_of_true_summaries, run_plan};
 use ice_desk::{Files, Gate, MOST_WORKERS, plan_scan};
 use ice_state::Scan;
-use ice_text::{RunFault, Sink, write_plan};
+use ice_text::{Request, RunFault, Sink, read_file, read_rows, write_plan};
 use std::alloc::Global;
 use std::thread::Threads;
 

@@ -4,23 +4,14 @@ ghost use Rattle.std.specs.Prelude.{IfErr};
 ghost use Rattle.contract_words.specs.Outcome.{Gives};
 ghost use Rattle.ice_meta.specs.Targets.{described, metadata_of};
 ghost use Rattle.ice_text.specs.Faults.{of_filter, of_meta};
-ghost use Rattle.ice_requests.specs.ListPlans.{as_run};
+ghost use Rattle.ice_text.specs.Reads.{as_run};
 ghost use Rattle.ice_requests.specs.Selections.{IsOfRequest, bound_in, parts_in, selected, selected_by};
 
 use contract_words::{Items, Text};
 use ice_filter::{Bound, Filter, FilterFault, bind, parse};
 use ice_meta::{Metadata, Schema, Spec, Target};
-use ice_text::RunFault;
+use ice_text::{Request, RunFault};
 use std::alloc::Global;
-
-/// What of a table is asked for.
-#[derive(Debug, Drop)]
-pub struct Request {
-    /// The snapshot.
-    pub target: Target,
-    /// The text of a filter; without one every row is asked for.
-    pub filter: Option<Text>,
-}
 
 /// What a request selects of a table.
 #[derive(Debug, Drop)]

@@ -3,15 +3,14 @@
 ghost use Rattle.std.specs.Prelude.{◌≡◌, ◌≢◌, ◌⊎◌, ◌∷◌, [], Some, OnOk, IfErr, IsErrOf};
 ghost use Rattle.ice_desk.specs.Worlds.{EndsAt};
 ghost use Rattle.ice_state.specs.Contents.{World};
-ghost use Rattle.ice_requests.specs.ListPlans.{MayEnd};
+ghost use Rattle.ice_text.specs.Reads.{MayEnd};
 ghost use Rattle.ice_requests.specs.Shows.{WroteFront, WroteText, show_of, shown_at};
 ghost use Rattle.ice_print.specs.TableTexts.{table_text};
 ghost use Rattle.ice_print.specs.Written.{Appends, AppendsFront};
 
-use crate::reading::read_file;
 use ice_desk::Files;
 use ice_meta::{Metadata, Table};
-use ice_text::{Page, RunFault, Shown, Sink, main_of, put_table};
+use ice_text::{Page, RunFault, Shown, Sink, main_of, put_table, read_file};
 use std::alloc::Global;
 
 /// Writes the text of a table and nothing else. It refuses for want of memory, and then nothing was written, or where a

@@ -4,21 +4,19 @@ ghost use Rattle.std.specs.Prelude.{◌≡◌, ℕ, List, Some, Ok, OnOk};
 ghost use Rattle.ice_desk.specs.Worlds.{EndsAt};
 ghost use Rattle.ice_state.specs.Contents.{World};
 ghost use Rattle.ice_requests.specs.Plans.{Answers, OnRefusal, TellsTheTruth, answer, manifests, over_wanted_rows};
-ghost use Rattle.ice_requests.specs.Plans.{reads, rows_plan};
-ghost use Rattle.ice_requests.specs.Plans.{wanted_answer};
+ghost use Rattle.ice_requests.specs.Plans.{reads, rows_plan, wanted_answer};
 ghost use Rattle.ice_requests.specs.Selections.{selected};
-ghost use Rattle.ice_requests.specs.declared.selection.Request.{Request};
+ghost use Rattle.ice_text.specs.declared.request.Request.{Request};
 ghost use Rattle.ice_requests.specs.declared.selection.Selection.{Selection};
 
-use crate::reading::read_rows;
-use crate::selection::{Request, Selection, select};
+use crate::selection::{Selection, select};
 use ice_desk::{Files, take_wanted};
 use ice_filter::Bound;
 use ice_manifest::Row;
 use ice_meta::Spec;
 use ice_state::laws::filtering;
 use ice_state::{Partial, Scan};
-use ice_text::{RunFault, Sink, write_plan};
+use ice_text::{Request, RunFault, Sink, read_rows, write_plan};
 use std::alloc::Global;
 
 /// The rows of a manifest list, and what is asked of them.

@@ -1,3 +1,4 @@
 pub mod Changes
 pub mod FaultTexts
 pub mod Faults
+pub mod Reads

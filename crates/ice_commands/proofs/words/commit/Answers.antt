@@ -1,7 +1,7 @@
 use Rattle.std.proofs.Common.{◌≡◌, rules}
 use Rattle.std.proofs.lemmas.Result.{err_from_is_err_and}
 use Rattle.ice_requests.specs.Commits.{committed_text}
-use Rattle.ice_commands.specs.declared.command_line.Source.TheVariants as source
+use Rattle.ice_command_line.specs.declared.command_line.Source.TheVariants as source
 use Rattle.ice_commands.proofs.Committed.{no_files}
 use Rattle.ice_commands.proofs.Refusals.{is_left, left_of, no_bundle_ran, untold_ran}
 use Rattle.ice_commands.proofs.words.commit.Goals as goal

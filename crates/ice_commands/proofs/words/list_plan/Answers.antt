@@ -4,9 +4,9 @@ use Rattle.ice_state.specs.Contents.{World}
 use Rattle.ice_print.specs.PlanTexts.{plan_text}
 use Rattle.ice_requests.specs.Bundles.{bytes_at}
 use Rattle.ice_requests.specs.ListPlans.{list_answer, list_reads}
-use Rattle.ice_requests.proofs.Steps.{never_fails}
+use Rattle.ice_text.proofs.Steps.{never_fails}
 use Rattle.ice_commands.specs.Runs.{as_text, bundle_text}
-use Rattle.ice_commands.specs.declared.command_line.Lists.TheVariants as lists
+use Rattle.ice_command_line.specs.declared.command_line.Lists.TheVariants as lists
 use Rattle.ice_commands.proofs.Refusals.{ends_refused, is_left, left_of, list_ran, no_bundle_ran, no_plan, plan_from}
 use Rattle.ice_commands.proofs.Refusals.{untold_ran}
 use Rattle.ice_commands.proofs.words.list_plan.Goals as goal

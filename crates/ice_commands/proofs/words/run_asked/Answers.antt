@@ -1,5 +1,5 @@
 use Rattle.std.proofs.Common.{rules, ◌≡◌}
-use Rattle.ice_commands.specs.declared.command_line.Words.TheVariants as words
+use Rattle.ice_command_line.specs.declared.command_line.Words.TheVariants as words
 use Rattle.ice_commands.proofs.Refusals.{is_left, left_of}
 use Rattle.ice_commands.proofs.words.run_asked.Goals as goal
 

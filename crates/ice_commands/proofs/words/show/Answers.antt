@@ -3,9 +3,9 @@ use Rattle.std.proofs.lemmas.Result.{err_from_is_err_and, IfOk-weaker, IfErr-wea
 use Rattle.ice_state.specs.Contents.{World}
 use Rattle.ice_requests.specs.Bundles.{bytes_at}
 use Rattle.ice_requests.specs.Shows.{shown_at}
-use Rattle.ice_requests.proofs.Steps.{never_fails}
+use Rattle.ice_text.proofs.Steps.{never_fails}
 use Rattle.ice_commands.specs.Runs.{shown_text}
-use Rattle.ice_commands.specs.declared.command_line.Source.TheVariants as source
+use Rattle.ice_command_line.specs.declared.command_line.Source.TheVariants as source
 use Rattle.ice_commands.proofs.Refusals.{ends_refused, is_left, left_of, no_bundle_ran, no_show, shown_from, untold_ran}
 use Rattle.ice_commands.proofs.words.show.Goals as goal
 

@@ -3,7 +3,7 @@ use Rattle.std.specs.Prelude.{Err}
 use Rattle.std.proofs.lemmas.Result.{err_from_is_err_and, on_ok_weaker}
 use Rattle.ice_requests.proofs.Crews.{few_wanted, in_range, not_planned, plan_is_no_write}
 use Rattle.ice_requests.proofs.Plans.{no_scan, plan_there, refused_answers, scan_is_no_write, write_ends}
-use Rattle.ice_requests.proofs.Steps.{each_present}
+use Rattle.ice_text.proofs.Steps.{each_present}
 use Rattle.ice_requests.proofs.plans_by_workers.plan_rows_with.Goals as goal
 
 pub returns-in_err-scan-clause-answers : goal.returns-in_err-scan-clause-answers

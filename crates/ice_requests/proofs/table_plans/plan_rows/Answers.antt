@@ -2,7 +2,7 @@ use Rattle.std.proofs.lemmas.Result.{err_from_is_err_and, on_ok_weaker}
 use Rattle.ice_state.specs.Contents.{no_row}
 use Rattle.ice_requests.proofs.Plans.{finish_is_no_write, no_plan, no_scan, not_taken, plan_there, refused_answers}
 use Rattle.ice_requests.proofs.Plans.{scan_is_no_write, wanted_is_no_write, write_ends}
-use Rattle.ice_requests.proofs.Steps.{each_present, nothing_taken, untaken_all}
+use Rattle.ice_text.proofs.Steps.{each_present, nothing_taken, untaken_all}
 use Rattle.ice_requests.proofs.table_plans.plan_rows.Goals as goal
 
 pub returns-in_err-scan-clause-answers : goal.returns-in_err-scan-clause-answers

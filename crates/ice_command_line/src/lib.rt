@@ -1,0 +1,6 @@
+//! The words on the command line, and what they ask for.
+#![tactic(auto)]
+
+mod command_line;
+
+pub use command_line::{Lists, Place, Source, Words, parse_words};
