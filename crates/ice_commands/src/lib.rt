@@ -1,5 +1,5 @@
-//! The program's commands as calls: those that `ice_requests` has, drills of `ice_drill`, and all of them over the words
-//! of a command line, which `ice_command_line` reads.
+//! The program's commands as calls: those that `ice_requests` has, drills of `ice_drill`, and all of them over the
+//! words of a command line, which `ice_command_line` reads.
 #![tactic(auto)]
 
 mod commit_lines;

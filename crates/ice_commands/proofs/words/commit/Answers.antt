@@ -15,7 +15,8 @@ returns-in_err-bundle-in-Bundle g c =
       no.0,
       no.1,
       no_bundle_ran (committed_text c.args.request.now no.0) no.0
-          (g.W.Sink.may_fail c.args.output.now) _ (no_files c.args.request.now no.0) c.in_err-bundle-in-Bundle.field-0.0 no.2,
+          (g.W.Sink.may_fail c.args.output.now) _ (no_files c.args.request.now no.0)
+          c.in_err-bundle-in-Bundle.field-0.0 no.2,
     )
 
 pub returns-in_ok-bundle-in-Bundle : goal.returns-in_ok-bundle-in-Bundle
