@@ -20,11 +20,11 @@ use Rattle.avro_file.specs.declared.writer.Property as declared
 use Rattle.avro_file.specs.Property.{shown_properties}
 use Rattle.avro_file.specs.Value.{Value, values_of}
 use Rattle.avro_file.specs.Spelling.{IsRun, AreJoined, Spells}
-use Rattle.avro_file.specs.Holding.{AreWithinLimits}
 use Rattle.avro_file.specs.Header.{Property, schema_key, codec_key, last_under, IsProperty, AreProperties}
 use Rattle.avro_file.specs.Files.{magic, null_codec, IsUncompressed, HoldsFile}
 use Rattle.avro_file.specs.Writing.{long_bytes, run_bytes, block_bytes, written, all_written, properties_written}
 use Rattle.avro_file.specs.Writing.{key_before, in_order, header_bytes, blocks_bytes, file_bytes}
+use Rattle.avro_file.specs.Counted.{IsCounted}
 use Rattle.avro_file.specs.Writers.{AreOf, HasMetadata, IsHeader}
 use Rattle.avro_file.proofs.Heads.{same_bytes}
 use Rattle.avro_file.proofs.Written.{count_written, zero_written, datum_written}
@@ -240,20 +240,22 @@ pub pushed : (vs : List Value) (v : Value) (old new : List ℕ) → old ≡ all_
     → new ≡ old ++ written v → new ≡ all_written (values_of (vs ++ v ∷ []))
 pushed vs v old new e f = f ∙ ap (λ (t : List ℕ). t ++ written v) e ∙ sym (all_last vs v)
 
-objects_written : (s : Tree) (vs : List Value) → AreOf s vs → AreJoined (Spells s) vs (all_written (values_of vs))
+objects_written : (s : Tree) (vs : List Value) → AreOf s vs → AllByRecursion IsCounted vs
+    → AreJoined (Spells s) vs (all_written (values_of vs))
 unfolding all_written
-objects_written s [] are = refl
-objects_written s (v ∷ vs) are = (
+objects_written s [] are counted = refl
+objects_written s (v ∷ vs) are counted = (
   written v,
   all_written (values_of vs),
-  datum_written s v are.0.0.0 are.0.0.1 are.0.1,
-  objects_written s vs are.1,
+  datum_written s v are.0.0 are.0.1 counted.0,
+  objects_written s vs are.1 counted.1,
   refl,
 )
 
-pub within_limits : (s : Tree) (vs : List Value) → AreOf s vs → AreWithinLimits vs
-within_limits s [] are = tt
-within_limits s (v ∷ vs) are = (are.0.1, within_limits s vs are.1)
+pub counted_last : (vs : List Value) (v : Value) → AllByRecursion IsCounted vs → IsCounted v
+    → AllByRecursion IsCounted (vs ++ v ∷ [])
+counted_last [] v all one = (one, tt)
+counted_last (w ∷ vs) v all one = (all.0, counted_last vs v all.1 one)
 
 no_values : (vs : List Value) → length vs ≡ 0 → vs ≡ []
 no_values [] e = refl
@@ -291,9 +293,9 @@ chained header count size body sync one two three all e f g h =
 
 pub whole_file : (ps : List Property) (s : Tree) (sync header body bytes : List ℕ) (count size : ℕ) (vs : List Value)
     → IsHeader ps s sync header → count ≡ length vs → count < 2 ^ 63 → size ≡ length body → size < 2 ^ 63
-    → body ≡ all_written (values_of vs) → AreOf s vs
+    → body ≡ all_written (values_of vs) → AllByRecursion IsCounted vs → AreOf s vs
     → bytes ≡ (((header ++ long_bytes (pos count)) ++ long_bytes (pos size)) ++ body) ++ sync → HoldsFile s vs bytes
-whole_file ps s sync header body bytes count size vs is many few len lt made are e =
+whole_file ps s sync header body bytes count size vs is many few len lt made each are e =
     let first = long_bytes (pos count) in
     let second = long_bytes (pos size) in
     let counted : IsLong first (pos (length vs)) = subst (λ (k : ℕ). IsLong first (pos k)) many
@@ -301,7 +303,7 @@ whole_file ps s sync header body bytes count size vs is many few len lt made are
     let sized : IsLong second (pos (length body)) = subst (λ (k : ℕ). IsLong second (pos k)) len
     (count_written size lt) in
     let spelled : AreJoined (Spells s) vs body = subst (AreJoined (Spells s) vs) (sym made)
-    (objects_written s vs are) in (
+    (objects_written s vs are each) in (
       ps,
       is.0,
       is.1,

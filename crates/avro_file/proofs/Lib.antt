@@ -7,6 +7,7 @@ pub mod Loop
 pub mod Behind
 pub mod Places
 pub mod Encoded
+pub mod Counted
 pub mod Written
 pub mod Again
 pub mod Heads
@@ -22,3 +23,4 @@ pub mod Few
 pub mod Cuts
 pub mod CutFiles
 pub mod Fronts
+pub mod Passed

@@ -12,8 +12,10 @@ pub mod Ahead
 pub mod Sets
 pub mod Known
 pub mod Files
+pub mod Passing
 pub mod Picking
 pub mod Writing
+pub mod Counted
 pub mod Property
 pub mod Writers
 pub mod Fronts

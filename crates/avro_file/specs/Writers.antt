@@ -1,20 +1,20 @@
 -- What a writer was given, and what its file has.
 -- Avro 1.11.1 specification, 'Object Container Files'.
-use Rattle.std.specs.Prelude.{◌≡◌, ℕ, ◌<◌, ◌≤◌, ◌^◌, List, ◌++◌, length, Some, None, Ok}
+use Rattle.std.specs.Prelude.{◌≡◌, ℕ, ◌<◌, ◌^◌, List, ◌++◌, length, Some, None, Ok}
 use Rattle.std.specs.List.{AllByRecursion}
 use Rattle.avro_schema.specs.Tree.{Tree}
 use Rattle.avro_schema.specs.Texts.{schema_of}
 use Rattle.avro_file.specs.declared.writer.Writer.{Writer}
 use Rattle.avro_file.specs.Value.{Value, values_of}
-use Rattle.avro_file.specs.Spelling.{Spells, item_count}
-use Rattle.avro_file.specs.Blocks.{max_items}
+use Rattle.avro_file.specs.Spelling.{Spells}
 use Rattle.avro_file.specs.Header.{Property, schema_key, codec_key, last_under, AreProperties}
 use Rattle.avro_file.specs.Files.{magic, IsUncompressed}
 use Rattle.avro_file.specs.Writing.{header_bytes, all_written}
+use Rattle.avro_file.specs.Counted.{IsCounted}
 
--- Which data a type has: those that some bytes spell. And no object has more items than are read.
+-- which data a type has: those that some bytes spell
 abbrev pub IsOf : Tree → Value → Type 0
-IsOf s v = ((bytes : List ℕ) × Spells s v bytes) × (item_count v ≤ max_items)
+IsOf s v = (bytes : List ℕ) × Spells s v bytes
 
 abbrev pub AreOf : Tree → List Value → Type 0
 AreOf s vs = AllByRecursion (IsOf s) vs
@@ -30,10 +30,10 @@ IsHeader ps s sync bytes =
     × (schema_of text ≡ Ok s) × IsUncompressed (last_under codec_key None ps)
     × (length sync ≡ 16) × (bytes ≡ magic ++ (front ++ sync))
 
--- a writer of a file of this schema with these metadata, to which these data were pushed
+-- a writer of a file of this schema with these metadata, to which these data were pushed, as they lay in memory
 unfoldable pub WasGiven : Writer → List Property → Tree → List Value → Type 0
 WasGiven w ps s vs = IsHeader ps s w.sync w.header.items × (w.count ≡ length vs) × (w.count < 2 ^ 63)
-    × (w.content.items ≡ all_written (values_of vs))
+    × (w.content.items ≡ all_written (values_of vs)) × AllByRecursion IsCounted vs
 
 -- a writer of a file with these metadata and this marker, to which these data were pushed
 unfoldable pub WillWrite : Writer → List Property → List ℕ → List Value → Type 0

@@ -1,15 +1,18 @@
 //! Laws of the format, over its definitions alone.
 
-ghost use Rattle.std.specs.Prelude.{◌≡◌, ◌≢◌, ◌^◌, ◌<◌, ◌≤◌, ℕ, true, List, ◌++◌, length, Option, Some, None, Ok, Err};
+ghost use Rattle.std.specs.Prelude.{◌≡◌, ◌≢◌, ◌^◌, ◌<◌, ◌≤◌, ◌↔◌, ℕ, true, List, ◌++◌, length, drop, Option, Some};
+ghost use Rattle.std.specs.Prelude.{None, Ok, Err};
 ghost use Rattle.avro_schema.specs.Tree.{Tree};
 ghost use Rattle.avro_file.specs.Value.{Value};
 ghost use Rattle.avro_file.specs.Spelling.{takes_bytes};
-ghost use Rattle.avro_file.specs.Ahead.{running, still_ahead};
+ghost use Rattle.avro_file.specs.Ahead.{Ahead, running, still_ahead};
 ghost use Rattle.avro_file.specs.Holding.{AreWithinLimits};
-ghost use Rattle.avro_file.specs.Files.{opened_at, reader_of, HoldsFile, Opened};
+ghost use Rattle.avro_file.specs.Files.{opened_at, reader_of, HoldsFile, Next, Opened, Shows};
+ghost use Rattle.avro_file.specs.Passing.{Passes, PassesAll};
 ghost use Rattle.avro_file.specs.Fronts.{FrontHoldsFile, IsCutFile};
 
 use crate::fault::AvroFault;
+use crate::object::Object;
 
 /// A file holds one list of data of one schema at most, however many items its objects have.
 pub fn one_list()
@@ -34,6 +37,13 @@ pub fn held_is_read()
         AreWithinLimits vs → opened_at bytes ≡ Ok (reader_of s vs) }
     ensures only { (bytes : List ℕ) (o : Opened) (vs : List Value) → opened_at bytes ≡ Ok o →
         o.ahead ≡ running vs None → HoldsFile o.schema vs bytes × AreWithinLimits vs }
+{}
+
+/// What follows objects that a reader gave is what stood behind them, whether each was built or skipped.
+pub fn a_skip_leaves_what_follows()
+    ensures given { (old new : Ahead) (object : Object) → Next Shows old (Ok (Some object)) new → Passes old new }
+    ensures behind { (n : ℕ) (vs : List Value) (ending : Option AvroFault) (new : Ahead) →
+        PassesAll n (running vs ending) new ↔ ((n ≤ length vs) × (new ≡ running (drop n vs) ending)) }
 {}
 
 /// What is left of a file whose end was cut off begins as none, is refused as cut, or gives a front of the same data.

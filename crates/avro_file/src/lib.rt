@@ -21,8 +21,8 @@ pub use container::{Container, Objects};
 pub use datum::Datum;
 pub use fault::{AvroFault, CodecName};
 pub use laws::{
-    before_a_fault, cut_files, held_is_read, no_fault_is_memory, no_item_limit, objects_take_bytes,
-    one_list,
+    a_skip_leaves_what_follows, before_a_fault, cut_files, held_is_read, no_fault_is_memory,
+    no_item_limit, objects_take_bytes, one_list,
 };
 pub use named::KnownSchema;
 pub use object::Object;

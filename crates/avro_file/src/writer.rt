@@ -110,6 +110,7 @@ impl Writer {
     ghost use Rattle.std.specs.List.{AllByRecursion};
     ghost use Rattle.avro_file.specs.Value.{Value};
     ghost use Rattle.avro_file.specs.View.{view};
+    ghost use Rattle.avro_file.specs.Holding.{AreWithinLimits};
     ghost use Rattle.avro_file.specs.Files.{HoldsFile, opened_at, reader_of};
     ghost use Rattle.avro_file.specs.Writers.{WasGiven, WillWrite, AreOf, HasMetadata};
 
@@ -160,8 +161,8 @@ impl Writer {
         Ok(())
     }
 
-    /// The file's bytes, all objects in one block. Where they are of the schema and within the limits, the file holds
-    /// exactly them, and a reader gives them back.
+    /// The file's bytes, all objects in one block. Where they are of the schema, the file holds exactly them; a reader
+    /// gives them back where they are within its limits too.
     #[tactic(auto, unfolding(crate::specs::Writers::WasGiven, crate::specs::Writers::WillWrite))]
     pub fn finish(self) -> Result<Vec<u8>, AllocError>
         ensures exact { (ps : List Shown) (sync : List ℕ) (vs : List Value) → WillWrite self ps sync vs →
@@ -171,7 +172,7 @@ impl Writer {
         ensures metadata { (ps : List Shown) (s : Tree) (vs : List Value) → WasGiven self ps s vs →
             IfOk result (λ bytes. HasMetadata ps bytes.items) }
         ensures read_back { (ps : List Shown) (s : Tree) (vs : List Value) → WasGiven self ps s vs → AreOf s vs →
-            IfOk result (λ bytes. opened_at bytes.items ≡ Ok (reader_of s vs)) }
+            AreWithinLimits vs → IfOk result (λ bytes. opened_at bytes.items ≡ Ok (reader_of s vs)) }
     {
         let Writer {
             header,

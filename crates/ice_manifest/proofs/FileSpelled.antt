@@ -10,6 +10,7 @@ use Rattle.avro_schema.specs.declared.schema.ArrayKind.TheVariants as stands_for
 use Rattle.avro_file.specs.Value.{small, text, items, values_of}
 use Rattle.avro_file.specs.Spelling.{item_count, item_counts}
 use Rattle.avro_file.specs.Blocks.{max_items}
+use Rattle.avro_file.specs.Holding.{AreWithinLimits}
 use Rattle.avro_file.specs.Writers.{AreOf}
 use Rattle.avro_file.proofs.Taken.{values_len-values_of}
 use Rattle.ice_value.specs.declared.cell.Cell.{Cell}
@@ -197,4 +198,9 @@ pub entries_are_of : (h : Heading) (fs : List NewFile) → IsHeading h → AllBy
 entries_are_of h [] heading new fits snapshot = tt
 entries_are_of h (f ∷ fs) heading new fits snapshot =
     let s = entry_spelled h f heading new.0 fits.0 snapshot in
-    (((s.bytes, s.spells), few_items h f new.0), entries_are_of h fs heading new.1 fits.1 snapshot)
+    ((s.bytes, s.spells), entries_are_of h fs heading new.1 fits.1 snapshot)
+
+pub entries_within_limits : (h : Heading) (fs : List NewFile) → AllByRecursion (IsNewFile h) fs
+    → AreWithinLimits (map (entry_value h) fs)
+entries_within_limits h [] new = tt
+entries_within_limits h (f ∷ fs) new = (few_items h f new.0, entries_within_limits h fs new.1)

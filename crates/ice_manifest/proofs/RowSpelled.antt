@@ -122,7 +122,7 @@ partitions_items (Some ss) few = omega (
   as_many ss,
 )
 
-few_items : (r : Row) → IsReadable r → item_count (row_value r) ≤ max_items
+pub few_items : (r : Row) → IsReadable r → item_count (row_value r) ≤ max_items
 unfolding row_value
 few_items r h =
     omega (
@@ -138,4 +138,4 @@ few_items r h =
 
 -- a row is of the type of rows
 pub row_is_of : (r : Row) → RowFits r → IsReadable r → IsOf (written_tree list_type) (row_value r)
-row_is_of r h few = let s = row_spelled r h few in ((s.bytes, s.spells), few_items r few)
+row_is_of r h few = let s = row_spelled r h few in (s.bytes, s.spells)

@@ -18,6 +18,7 @@ use Rattle.avro_schema.specs.declared.schema.BytesKind.TheVariants.{Plain}
 use Rattle.avro_schema.specs.declared.schema.ArrayKind.TheVariants as stands_for
 use Rattle.avro_file.specs.Value.{truth, small, whole, run, values_of}
 use Rattle.avro_file.specs.Files.{opened_at, reader_of}
+use Rattle.avro_file.specs.Holding.{AreWithinLimits}
 use Rattle.avro_file.specs.Picking.{pick}
 use Rattle.avro_file.specs.Writers.{AreOf}
 use Rattle.ice_value.specs.declared.file_bounds.Summary.{Summary}
@@ -44,7 +45,7 @@ use Rattle.ice_manifest.specs.WrittenSchemas.{summary_type, list_type}
 use Rattle.ice_manifest.specs.WrittenValues.{if_some, summary_value, summaries_value, row_content, row_value}
 use Rattle.ice_manifest_reading.proofs.Said.{rows_by}
 use Rattle.ice_manifest_reading.proofs.Sets.{same_is}
-use Rattle.ice_manifest.proofs.RowSpelled.{row_is_of}
+use Rattle.ice_manifest.proofs.RowSpelled.{few_items, row_is_of}
 
 -- ---- fields
 
@@ -139,6 +140,10 @@ pub rows_are_of : (rows : List Row) → AllByRecursion RowFits rows → AllByRec
     → AreOf (written_tree list_type) (map row_value rows)
 rows_are_of [] fit readable = tt
 rows_are_of (r ∷ rows) fit readable = (row_is_of r fit.0 readable.0, rows_are_of rows fit.1 readable.1)
+
+pub rows_within_limits : (rows : List Row) → AllByRecursion IsReadable rows → AreWithinLimits (map row_value rows)
+rows_within_limits [] readable = tt
+rows_within_limits (r ∷ rows) readable = (few_items r readable.0, rows_within_limits rows readable.1)
 
 -- ---- their order
 

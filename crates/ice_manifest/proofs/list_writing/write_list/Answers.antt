@@ -7,7 +7,7 @@ use Rattle.ice_manifest.specs.WrittenTypes.{written_tree}
 use Rattle.ice_manifest.specs.WrittenSchemas.{list_type}
 use Rattle.ice_manifest.specs.WrittenValues.{row_value}
 use Rattle.ice_manifest.specs.Writing.{schema_text, version_property}
-use Rattle.ice_manifest.proofs.RowsAgain.{rows_are_of, rows_again}
+use Rattle.ice_manifest.proofs.RowsAgain.{rows_are_of, rows_within_limits, rows_again}
 use Rattle.ice_manifest.proofs.list_writing.write_list.Goals as goal
 
 pub returns-clause-bytes : goal.returns-clause-bytes
@@ -32,4 +32,5 @@ returns-clause-read_back c = λ readable rising few.
     (λ (v : Vec ℕ Global). rows_of v.items ≡ Ok rows) c.finish.result (λ v opened.
     rows_again rows v.items opened c.in_ok-writer.ensures.fits readable rising few)
     (c.finish.ensures.read_back ps t (map row_value rows) (c.in_ok-writer.ensures.given ps t
-    c.in_ok-without_rows.ensures.given) (rows_are_of rows c.in_ok-writer.ensures.fits readable))
+    c.in_ok-without_rows.ensures.given) (rows_are_of rows c.in_ok-writer.ensures.fits readable)
+    (rows_within_limits rows readable))

@@ -9,7 +9,7 @@ use Rattle.ice_manifest.specs.WrittenTypes.{written_tree}
 use Rattle.ice_manifest.specs.WrittenValues.{entry_value}
 use Rattle.ice_manifest.specs.Writing.{schema_text, manifest_type, manifest_properties, new_entries}
 use Rattle.ice_manifest.proofs.Tuples.{their_tuples}
-use Rattle.ice_manifest.proofs.FileSpelled.{entries_are_of}
+use Rattle.ice_manifest.proofs.FileSpelled.{entries_are_of, entries_within_limits}
 use Rattle.ice_manifest.proofs.EntriesAgain.{entries_again}
 use Rattle.ice_manifest.proofs.manifest_writing.write_manifest.Goals as goal
 
@@ -45,4 +45,5 @@ returns-clause-read_back c =
     entries_again row h fs v.items same opened c.requires.heading c.requires.files.each c.in_ok-writer-2.ensures.fits)
     (c.finish.ensures.read_back ps t (map (entry_value h) fs) (c.in_ok-writer-2.ensures.given ps t
     c.in_ok-writer.ensures.given) (entries_are_of h fs c.requires.heading c.requires.files.each
-    c.in_ok-writer-2.ensures.fits c.in_ok-writer-2.ensures.snapshot))
+    c.in_ok-writer-2.ensures.fits c.in_ok-writer-2.ensures.snapshot)
+    (entries_within_limits h fs c.requires.files.each))

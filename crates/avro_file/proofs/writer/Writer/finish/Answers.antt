@@ -3,7 +3,7 @@ use Rattle.avro_file.specs.Files.{HoldsFile, opened_at, reader_of}
 use Rattle.avro_file.specs.Writing.{file_bytes}
 use Rattle.avro_file.specs.Writers.{HasMetadata, WasGiven, WillWrite}
 use Rattle.avro_file.proofs.Opened.{file_read}
-use Rattle.avro_file.proofs.Filed.{within_limits, empty_file, header_alone, file_written, chained, whole_file}
+use Rattle.avro_file.proofs.Filed.{empty_file, header_alone, file_written, chained, whole_file}
 use Rattle.avro_file.proofs.Filed.{behind_header, has_metadata, if_ok}
 use Rattle.avro_file.proofs.writer.Writer.finish.Goals as goal
 
@@ -17,9 +17,9 @@ returns-then-count-eq0-clause-holds c = λ ps s vs was are. empty_file ps s c.ar
 
 pub returns-then-count-eq0-clause-read_back : goal.returns-then-count-eq0-clause-read_back
 unfolding WasGiven WillWrite
-returns-then-count-eq0-clause-read_back c = λ ps s vs was are. file_read s vs c.args.self.header.items
+returns-then-count-eq0-clause-read_back c = λ ps s vs was are few. file_read s vs c.args.self.header.items
     (omega (arith, fits c.args.self.header)) (returns-then-count-eq0-clause-holds c ps s vs was are)
-    (within_limits s vs are)
+    few
 
 pub returns-clause-holds : goal.returns-clause-holds
 unfolding WasGiven WillWrite
@@ -27,7 +27,7 @@ returns-clause-holds c = λ ps s vs was are.
     if_ok _ (λ (all : Vec ℕ Global). HoldsFile s vs all.items) c.push_raw-2.result (λ all e.
     whole_file ps s c.args.self.sync c.args.self.header.items c.args.self.content.items all.items c.args.self.count _ vs
     was.0 was.1 was.2 (omega (arith, c.len.ensures, c.args.self.content.ok))
-    (omega (arith, c.len.ensures, c.args.self.content.ok, c.args.self.content.small)) was.3 are
+    (omega (arith, c.len.ensures, c.args.self.content.ok, c.args.self.content.small)) was.3 was.4 are
     (chained c.args.self.header.items _ _ c.args.self.content.items c.args.self.sync c.in_ok-bytes.bytes.items
     c.in_ok-bytes-2.bytes.items c.in_ok-bytes-3.bytes.items all.items c.in_ok-bytes.ensures c.in_ok-bytes-2.ensures
     (c.in_ok-bytes-3.ensures ∙ ap (λ (t : List ℕ). c.in_ok-bytes-2.bytes.items ++ t) c.deref.ensures.value) e))
@@ -46,10 +46,10 @@ returns-clause-metadata c = λ ps s vs was.
 
 pub returns-clause-read_back : goal.returns-clause-read_back
 unfolding WasGiven WillWrite
-returns-clause-read_back c = λ ps s vs was are.
+returns-clause-read_back c = λ ps s vs was are few.
     if_ok (λ (all : Vec ℕ Global). HoldsFile s vs all.items) (λ (all : Vec ℕ Global). opened_at all.items ≡ Ok
     (reader_of s vs)) c.push_raw-2.result (λ all held.
-    file_read s vs all.items (omega (arith, fits all)) held (within_limits s vs are)) (returns-clause-holds c ps s vs
+    file_read s vs all.items (omega (arith, fits all)) held few) (returns-clause-holds c ps s vs
     was are)
 
 pub returns-then-count-eq0-clause-exact : goal.returns-then-count-eq0-clause-exact

@@ -31,6 +31,7 @@ returns-clause-begun c =
         refl,
         omega arith,
         c.new-2.ensures.items ∙ sym none_written,
+        tt,
       ),
     )
 

@@ -3,7 +3,8 @@ use Rattle.std.proofs.lemmas.List.{length-append}
 use Rattle.avro_file.specs.View.{view}
 use Rattle.avro_file.specs.Writing.{written}
 use Rattle.avro_file.specs.Writers.{WasGiven, WillWrite}
-use Rattle.avro_file.proofs.Filed.{pushed}
+use Rattle.avro_file.proofs.Counted.{counted}
+use Rattle.avro_file.proofs.Filed.{counted_last, pushed}
 use Rattle.avro_file.proofs.writer.Writer.push.Goals as goal
 
 pub returns-clause-given : goal.returns-clause-given
@@ -20,6 +21,7 @@ returns-clause-given c =
       omega arith,
       pushed vs v
           c.args.self.now.content.items c.extend_from_slice.new.self.items was.3 more,
+      counted_last vs v was.4 (counted c.args.datum.now),
     )
 
 pub returns-clause-exact : goal.returns-clause-exact
