@@ -20,7 +20,7 @@ ghost use Rattle.ice_manifest_fields.specs.Maps.{columns_of as columns_said};
 use crate::fault::{FieldFault, ManifestFault};
 use crate::field::{int_at, items_of, lent_binary, long_at, pairs_built};
 use crate::kind::Kind;
-use crate::pick::{itself, pick, position_of};
+use crate::picking::{itself, pick, position_of};
 use crate::shape::{branches_of, has_items, items_of as types_of_items, optional, required};
 use avro_file::Datum;
 use avro_schema::{Field, Schema};

@@ -21,7 +21,7 @@ ghost use Rattle.ice_manifest_fields.specs.Fields.{ints_at as ints_said, within_
 ghost use Rattle.ice_manifest_fields.specs.Seen.{result_map, object, pairs_in, listed};
 
 use crate::fault::{FieldFault, ManifestFault};
-use crate::pick::{itself, pick};
+use crate::picking::{itself, pick};
 use crate::shape::type_at;
 use avro_file::Datum;
 use avro_schema::{Field, Schema};

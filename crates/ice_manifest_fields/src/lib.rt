@@ -8,7 +8,7 @@ mod fault;
 mod field;
 mod kind;
 mod laws;
-mod pick;
+mod picking;
 mod shape;
 
 pub use columns::{check_column_fields, columns_of};
@@ -20,7 +20,7 @@ pub use field::{
 };
 pub use kind::Kind;
 pub use laws::decimals_are_kept_shortest;
-pub use pick::{itself, pick, pick_record, record_values};
+pub use picking::{itself, pick, pick_record, record_values};
 pub use shape::{
     branches_of, check_ids, check_row_fields, fields_of, optional, required, type_at,
 };

@@ -2,7 +2,7 @@ use Rattle.std.proofs.Common.{◌≡◌, sym, ◌∙◌, refl, rules, w32}
 use mir.Val.{to_z, of_z}
 use Rattle.std.proofs.lemmas.Int.{to_z-of_z}
 use Rattle.ice_manifest_fields.proofs.Steps.{place_here, place_end}
-use Rattle.ice_manifest_fields.proofs.pick.position_of.Goals as goal
+use Rattle.ice_manifest_fields.proofs.picking.position_of.Goals as goal
 
 pub returns-then-eq-clause-place : goal.returns-then-eq-clause-place
 returns-then-eq-clause-place c =

@@ -2,7 +2,7 @@ use Rattle.std.proofs.Common.{◌≡◌, sym}
 use Rattle.avro_schema.specs.View.{trees, branches_of}
 use Rattle.avro_file.specs.View.{view}
 use Rattle.ice_manifest_fields.proofs.Built.{tree-Union, view-Union, view-NullBranch, null_branch}
-use Rattle.ice_manifest_fields.proofs.pick.itself.Goals as goal
+use Rattle.ice_manifest_fields.proofs.picking.itself.Goals as goal
 
 pub returns-in-Union-NullBranch : goal.returns-in-Union-NullBranch
 returns-in-Union-NullBranch c =

@@ -2,7 +2,7 @@ use Rattle.std.proofs.Common.{◌≡◌, sym, arith, rules, w32}
 use mir.Val.{to_z, of_z}
 use Rattle.std.proofs.lemmas.Int.{to_z-of_z}
 use Rattle.ice_manifest_fields.proofs.Steps.{found_nowhere, found_past, found_there}
-use Rattle.ice_manifest_fields.proofs.pick.find.Goals as goal
+use Rattle.ice_manifest_fields.proofs.picking.find.Goals as goal
 
 pub returns-in_err-position : goal.returns-in_err-position
 returns-in_err-position c =
