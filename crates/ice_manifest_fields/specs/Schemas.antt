@@ -1,6 +1,7 @@
--- Which fields the schema of a list or a manifest must have, of which types, and the first that is missing or does not
--- fit. Apache Iceberg table spec v2, "Manifest Lists" and "Manifests"; the order is this program's own.
-use Rattle.std.specs.Prelude.{ℤ, pos, Bool, true, List, [], ◌∷◌, Option, Some, None, Result, Ok, Err, if◌then◌else◌}
+-- Which types the fields of a schema have, which a row of a manifest list and parts of a data file must have, and the
+-- first that is missing or does not fit. Apache Iceberg table spec v2, "Manifest Lists" and "Manifests"; the order is this
+-- program's own.
+use Rattle.std.specs.Prelude.{ℤ, pos, Bool, true, Option, Some, None, Result, Ok, Err, if◌then◌else◌}
 use Rattle.std.specs.Ordering.{int_eq}
 use Rattle.std.specs.Option.{option_eq}
 use Rattle.contract_words.specs.Outcome.{◌>>=◌}
@@ -164,7 +165,7 @@ column_fields fs = do
   lower ← map_fits lower_bounds fs
   map_fits upper_bounds fs
 
--- ---- entries
+-- ---- equality ids
 
 -- the equality ids
 unfoldable pub ids_fit : Fields → Fault

@@ -21,6 +21,4 @@ pub use field::{
 pub use kind::Kind;
 pub use laws::decimals_are_kept_shortest;
 pub use picking::{itself, pick, pick_record, record_values};
-pub use shape::{
-    branches_of, check_ids, check_row_fields, fields_of, optional, required, type_at,
-};
+pub use shape::{branches_of, check_ids, check_row_fields, fields_of, optional, required, type_at};

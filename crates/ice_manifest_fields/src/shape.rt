@@ -8,10 +8,8 @@ ghost use Rattle.ice_manifest_fields.specs.Schemas.{type_at as type_said, requir
 ghost use Rattle.ice_manifest_fields.specs.Schemas.{optional as optional_type, has_items as has_items_wanted, items_in};
 ghost use Rattle.ice_manifest_fields.specs.Schemas.{branches_in, each_branch, lists_wholes as list_of_wholes};
 ghost use Rattle.ice_manifest_fields.specs.Schemas.{summary_fields as fields_of_summary, is_summary};
-ghost use Rattle.ice_manifest_fields.specs.Schemas.{lists_summaries as list_of_summaries};
-ghost use Rattle.ice_manifest_fields.specs.Schemas.{count_fields as fields_of_counts};
-ghost use Rattle.ice_manifest_fields.specs.Schemas.{row_fields as fields_of_row, ids_fit};
-ghost use Rattle.ice_manifest_fields.specs.Schemas.{fields_in};
+ghost use Rattle.ice_manifest_fields.specs.Schemas.{lists_summaries as list_of_summaries, ids_fit, fields_in};
+ghost use Rattle.ice_manifest_fields.specs.Schemas.{count_fields as fields_of_counts, row_fields as fields_of_row};
 
 use crate::fault::FieldFault;
 use crate::kind::{Kind, fits};

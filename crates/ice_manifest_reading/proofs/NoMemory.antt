@@ -18,7 +18,6 @@ use Rattle.ice_meta.specs.declared.spec.Spec.{Spec}
 use Rattle.ice_manifest_fields.specs.declared.fault.FieldFault.{FieldFault}
 use Rattle.ice_manifest_fields.specs.declared.fault.FieldFault.TheVariants.{Missing, WrongType, OutOfRange, BadContent}
 use Rattle.ice_manifest_fields.specs.declared.fault.FieldFault.TheVariants.{FloatPartition}
-use Rattle.ice_manifest_fields.specs.declared.fault.ListFault.{ListFault}
 use Rattle.ice_manifest_fields.specs.declared.fault.ListFault.TheVariants as list
 use Rattle.ice_manifest_fields.specs.declared.fault.ManifestFault.{ManifestFault}
 use Rattle.ice_manifest_fields.specs.declared.fault.ManifestFault.TheVariants as manifest

@@ -1,6 +1,6 @@
 -- Which fields the schema of a manifest must have under its spec, of which types, and the first that is missing or does
 -- not fit. Apache Iceberg table spec v2, "Manifests"; the order is this program's own.
-use Rattle.std.specs.Prelude.{ℤ, pos, List, [], ◌∷◌, Option, Some, None, Result, Ok}
+use Rattle.std.specs.Prelude.{pos, List, [], ◌∷◌, Option, Some, None, Result, Ok}
 use Rattle.contract_words.specs.Outcome.{◌>>=◌}
 use Rattle.avro_schema.specs.Tree.{Tree, structure, Fields}
 use Rattle.ice_meta.specs.declared.spec.PartitionField.{PartitionField}
