@@ -9,8 +9,8 @@ use Rattle.ice_filter.specs.declared.fault.FilterFault.TheVariants as filter
 use Rattle.ice_filter.specs.declared.leaf.Leaf.{Leaf}
 use Rattle.ice_filter.specs.declared.parts.Part.{Part}
 use Rattle.ice_manifest_reading.specs.Lists.{rows_of}
-use Rattle.ice_manifest_reading.specs.declared.fault.ListFault.{ListFault}
-use Rattle.ice_manifest_reading.specs.declared.fault.ListFault.TheVariants as list
+use Rattle.ice_manifest_fields.specs.declared.fault.ListFault.{ListFault}
+use Rattle.ice_manifest_fields.specs.declared.fault.ListFault.TheVariants as list
 use Rattle.ice_manifest_reading.specs.declared.row.Row.{Row}
 use Rattle.ice_meta.specs.Targets.{bound_specs, list_of, schema_for}
 use Rattle.ice_meta.specs.declared.fault.MetaFault.{MetaFault}

@@ -30,21 +30,23 @@ use Rattle.ice_manifest_reading.specs.declared.status.Status.TheVariants.{Added}
 use Rattle.ice_manifest.specs.declared.new_file.NewFile.{NewFile}
 use Rattle.ice_manifest.specs.declared.heading.Heading.{Heading}
 use Rattle.ice_manifest.specs.Adding.{IsId, IsHeading, IsNewFile, MayReference, is_null_or_of, is_tuple_of}
-use Rattle.ice_manifest_reading.specs.Each.{each}
-use Rattle.ice_manifest_reading.specs.Fields.{there, text_of, items_of, items_as, int_at, int_or_zero, path_at}
-use Rattle.ice_manifest_reading.specs.Fields.{optional_number, optional_text, optional_path, int_item, ints_at}
-use Rattle.ice_manifest_reading.specs.Fields.{within_32}
+use Rattle.ice_manifest_fields.specs.Each.{each}
+use Rattle.ice_manifest_fields.specs.Fields.{there, text_of, items_of, items_as, int_at, int_or_zero, path_at}
+use Rattle.ice_manifest_fields.specs.Fields.{optional_number, optional_text, optional_path, int_item, ints_at}
+use Rattle.ice_manifest_fields.specs.Fields.{within_32}
 use Rattle.ice_manifest.specs.Fitting.{FileFits}
 use Rattle.ice_manifest_reading.specs.Laws.{SaysFile, SaysLive, SayEntries, MayHold}
 use Rattle.ice_manifest_reading.specs.Manifests.{content_of, content_at, referenced_at, status_at, sequence_at}
 use Rattle.ice_manifest_reading.specs.Manifests.{file_sequence_at, entries_ahead, live_of, kept, entries, entries_of}
-use Rattle.ice_manifest_reading.specs.Maps.{counts_at, bounds_at}
+use Rattle.ice_manifest_fields.specs.Maps.{counts_at, bounds_at}
 use Rattle.ice_manifest_reading.specs.Partitions.{cell_of, cells_of, tuple_at}
-use Rattle.ice_manifest_reading.specs.Schemas as schemas
-use Rattle.ice_manifest_reading.specs.Schemas.{fields_in, type_at, required, optional, each_branch, cells_fit, tuple_in}
-use Rattle.ice_manifest_reading.specs.Schemas.{map_fits, pair_fields, ids_fit, file_fields, entry_fields}
-use Rattle.ice_manifest_reading.specs.Kinds.{wanted}
-use Rattle.ice_manifest_reading.specs.Types.{each_is, some_is, fits}
+use Rattle.ice_manifest_fields.specs.Schemas as schemas
+use Rattle.ice_manifest_fields.specs.Schemas.{fields_in, type_at, required, optional, each_branch}
+use Rattle.ice_manifest_reading.specs.ManifestSchemas.{cells_fit, tuple_in}
+use Rattle.ice_manifest_fields.specs.Schemas.{map_fits, pair_fields, ids_fit}
+use Rattle.ice_manifest_reading.specs.ManifestSchemas.{file_fields, entry_fields}
+use Rattle.ice_manifest_fields.specs.Kinds.{wanted}
+use Rattle.ice_manifest_fields.specs.Types.{each_is, some_is, fits}
 use Rattle.ice_manifest.specs.WrittenTypes.{null_or, written_tree, written_fields}
 use Rattle.ice_manifest.specs.declared.partition_names.Naming.{Naming}
 use Rattle.ice_manifest.specs.PartitionNames.{naming_of}

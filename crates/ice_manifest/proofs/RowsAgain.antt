@@ -26,20 +26,20 @@ use Rattle.ice_manifest_reading.specs.declared.row.Row.{Row}
 use Rattle.ice_manifest_reading.specs.declared.row.ManifestContent.{ManifestContent}
 use Rattle.ice_manifest_reading.specs.declared.row.ManifestContent.TheVariants.{Data, Deletes}
 use Rattle.ice_manifest.specs.Adding.{IsId}
-use Rattle.ice_manifest_reading.specs.Each.{each}
-use Rattle.ice_manifest_reading.specs.Fields.{there, whole_of, truth_of, binary_of, items_as, within_32}
-use Rattle.ice_manifest_reading.specs.Fields.{if_there, path_at, int_at, int_or_zero, number_at, number_or_zero}
-use Rattle.ice_manifest_reading.specs.Fields.{optional_int}
+use Rattle.ice_manifest_fields.specs.Each.{each}
+use Rattle.ice_manifest_fields.specs.Fields.{there, whole_of, truth_of, binary_of, items_as, within_32}
+use Rattle.ice_manifest_fields.specs.Fields.{if_there, path_at, int_at, int_or_zero, number_at, number_or_zero}
+use Rattle.ice_manifest_fields.specs.Fields.{optional_int}
 use Rattle.ice_manifest.specs.Fitting.{RowFits, IsReadable}
 use Rattle.ice_manifest_reading.specs.Laws.{SaysRow, SayRows}
 use Rattle.ice_manifest_reading.specs.Lists as Lists
 use Rattle.ice_manifest_reading.specs.Lists.{says_row, summary_in, summary_of, summaries_in, counts_at, content_at}
 use Rattle.ice_manifest_reading.specs.Lists.{rows_ahead, path_order, path_before, same_row, twice_after, path_twice}
 use Rattle.ice_manifest_reading.specs.Lists.{checked, in_order, rows_of}
-use Rattle.ice_manifest_reading.specs.Schemas as schemas
-use Rattle.ice_manifest_reading.specs.Schemas.{fields_in, type_at, required, optional, each_branch, summary_fields}
-use Rattle.ice_manifest_reading.specs.Schemas.{row_fields}
-use Rattle.ice_manifest_reading.specs.Types.{each_is, some_is, fits}
+use Rattle.ice_manifest_fields.specs.Schemas as schemas
+use Rattle.ice_manifest_fields.specs.Schemas.{fields_in, type_at, required, optional, each_branch, summary_fields}
+use Rattle.ice_manifest_fields.specs.Schemas.{row_fields}
+use Rattle.ice_manifest_fields.specs.Types.{each_is, some_is, fits}
 use Rattle.ice_manifest.specs.WrittenTypes.{null_or, written_tree}
 use Rattle.ice_manifest.specs.WrittenSchemas.{summary_type, list_type}
 use Rattle.ice_manifest.specs.WrittenValues.{if_some, summary_value, summaries_value, row_content, row_value}

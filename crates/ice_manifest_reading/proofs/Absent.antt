@@ -3,10 +3,10 @@ use Rattle.std.proofs.Common.{◌≡◌, ℕ, ℤ, pos, Ok, Err, refl, sym, ◌�
 use Rattle.avro_file.specs.Picking.{Typed}
 use Rattle.ice_value.specs.declared.file_content.FileContent.{FileContent}
 use Rattle.ice_value.specs.declared.file_content.FileContent.TheVariants as holds
-use Rattle.ice_manifest_reading.specs.declared.fault.FieldFault.TheVariants.{BadContent}
+use Rattle.ice_manifest_fields.specs.declared.fault.FieldFault.TheVariants.{BadContent}
 use Rattle.ice_manifest_reading.specs.declared.row.ManifestContent.{ManifestContent}
 use Rattle.ice_manifest_reading.specs.declared.row.ManifestContent.TheVariants.{Data, Deletes}
-use Rattle.ice_manifest_reading.specs.Fields.{int_at, int_or_zero, number_at, number_or_zero}
+use Rattle.ice_manifest_fields.specs.Fields.{int_at, int_or_zero, number_at, number_or_zero}
 use Rattle.ice_manifest_reading.specs.Lists as Lists
 use Rattle.ice_manifest_reading.specs.Manifests.{content_at}
 use Rattle.ice_manifest_reading.specs.Absent.{Lacks, IsZeroWhereAbsent, IsRefusedWhereNull, HasRowsOfVersionOne}

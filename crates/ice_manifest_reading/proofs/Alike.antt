@@ -13,25 +13,25 @@ use Rattle.ice_meta.specs.declared.spec.PartitionField.{PartitionField}
 use Rattle.ice_value.specs.declared.file_bounds.FileBounds.{FileBounds}
 use Rattle.ice_value.specs.declared.file_content.FileContent.{FileContent}
 use Rattle.ice_value.specs.declared.file_content.FileContent.TheVariants as holds
-use Rattle.ice_manifest_reading.specs.declared.fault.FieldFault.{FieldFault}
-use Rattle.ice_manifest_reading.specs.declared.fault.FieldFault.TheVariants.{BadContent}
-use Rattle.ice_manifest_reading.specs.declared.fault.ManifestFault.{ManifestFault}
+use Rattle.ice_manifest_fields.specs.declared.fault.FieldFault.{FieldFault}
+use Rattle.ice_manifest_fields.specs.declared.fault.FieldFault.TheVariants.{BadContent}
+use Rattle.ice_manifest_fields.specs.declared.fault.ManifestFault.{ManifestFault}
 use Rattle.ice_manifest_reading.specs.declared.row.Row.{Row}
 use Rattle.ice_manifest_reading.specs.declared.row.ManifestContent.{ManifestContent}
 use Rattle.ice_manifest_reading.specs.declared.row.ManifestContent.TheVariants.{Data, Deletes}
 use Rattle.ice_manifest_reading.specs.declared.data_file.DataFile.{DataFile}
 use Rattle.ice_manifest_reading.specs.declared.entry.Live.{Live}
 use Rattle.ice_manifest_reading.specs.declared.status.Status.{Status}
-use Rattle.ice_manifest_reading.specs.Each.{each}
-use Rattle.ice_manifest_reading.specs.Naming.{in_list, in_manifest, told, ended}
-use Rattle.ice_manifest_reading.specs.Fields.{at, there, asked, record_of, items_of, int_at, path_at}
-use Rattle.ice_manifest_reading.specs.Fields.{ints_at, int_or_zero, optional_int, optional_number, optional_text}
-use Rattle.ice_manifest_reading.specs.Fields.{optional_path}
+use Rattle.ice_manifest_fields.specs.Each.{each}
+use Rattle.ice_manifest_fields.specs.Naming.{in_list, in_manifest, told, ended}
+use Rattle.ice_manifest_fields.specs.Fields.{at, there, asked, record_of, items_of, int_at, path_at}
+use Rattle.ice_manifest_fields.specs.Fields.{ints_at, int_or_zero, optional_int, optional_number, optional_text}
+use Rattle.ice_manifest_fields.specs.Fields.{optional_path}
 use Rattle.ice_manifest_reading.specs.Partitions.{cells_of, tuple_at}
-use Rattle.ice_manifest_reading.specs.declared.columns.ColumnMap.{ColumnMap}
-use Rattle.ice_manifest_reading.specs.ColumnMaps.{value_counts, null_value_counts, lower_bounds, upper_bounds}
-use Rattle.ice_manifest_reading.specs.Maps as Maps
-use Rattle.ice_manifest_reading.specs.Maps.{count_in, count_of, bound_in, bound_of, bounds_at, columns_of}
+use Rattle.ice_manifest_fields.specs.declared.columns.ColumnMap.{ColumnMap}
+use Rattle.ice_manifest_fields.specs.ColumnMaps.{value_counts, null_value_counts, lower_bounds, upper_bounds}
+use Rattle.ice_manifest_fields.specs.Maps as Maps
+use Rattle.ice_manifest_fields.specs.Maps.{count_in, count_of, bound_in, bound_of, bounds_at, columns_of}
 use Rattle.ice_manifest_reading.specs.Lists as Lists
 use Rattle.ice_manifest_reading.specs.Lists.{counts_at, summary_in, summary_of, summaries_in, row_of, says_row, checked}
 use Rattle.ice_manifest_reading.specs.Lists.{in_order}

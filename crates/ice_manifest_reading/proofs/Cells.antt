@@ -6,10 +6,11 @@ use Rattle.avro_schema.specs.Tree.{Fields}
 use Rattle.avro_file.specs.Picking.{Typed}
 use Rattle.ice_value.specs.declared.cell.Cell.{Cell}
 use Rattle.ice_meta.specs.declared.spec.PartitionField.{PartitionField}
-use Rattle.ice_manifest_reading.specs.declared.fault.FieldFault.{FieldFault}
-use Rattle.ice_manifest_reading.specs.Schemas.{type_at, each_is_cell, cells_fit}
+use Rattle.ice_manifest_fields.specs.declared.fault.FieldFault.{FieldFault}
+use Rattle.ice_manifest_fields.specs.Schemas.{type_at, each_is_cell}
+use Rattle.ice_manifest_reading.specs.ManifestSchemas.{cells_fit}
 use Rattle.ice_manifest_reading.specs.Partitions.{cell_at, cells_of}
-use Rattle.ice_manifest_reading.proofs.Steps.{step_of, end_of}
+use Rattle.ice_manifest_fields.proofs.Steps.{step_of, end_of}
 
 -- ---- types
 

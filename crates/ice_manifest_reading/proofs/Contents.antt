@@ -9,14 +9,14 @@ use Rattle.avro_file.specs.Picking.{Typed}
 use Rattle.ice_meta.specs.declared.spec.Spec.{Spec}
 use Rattle.ice_value.specs.declared.file_content.FileContent.{FileContent}
 use Rattle.ice_value.specs.declared.file_content.FileContent.TheVariants as holds
-use Rattle.ice_manifest_reading.specs.declared.fault.FieldFault.TheVariants.{BadContent}
+use Rattle.ice_manifest_fields.specs.declared.fault.FieldFault.TheVariants.{BadContent}
 use Rattle.ice_manifest_reading.specs.declared.row.Row.{Row}
 use Rattle.ice_manifest_reading.specs.declared.row.ManifestContent.{ManifestContent}
 use Rattle.ice_manifest_reading.specs.declared.row.ManifestContent.TheVariants.{Data, Deletes}
 use Rattle.ice_manifest_reading.specs.declared.entry.Live.{Live}
 use Rattle.ice_value.specs.declared.cell.Cell.{Cell}
 use Rattle.ice_meta.specs.declared.spec.PartitionField.{PartitionField}
-use Rattle.ice_manifest_reading.specs.Fields.{int_or_zero, record_at}
+use Rattle.ice_manifest_fields.specs.Fields.{int_or_zero, record_at}
 use Rattle.ice_manifest_reading.specs.Partitions.{cell_at, cells_of, tuple_at}
 use Rattle.ice_manifest_reading.specs.Manifests.{content_of, content_at, referenced_at, kept, live_of, entries}
 use Rattle.ice_manifest_reading.specs.Manifests.{entries_of}

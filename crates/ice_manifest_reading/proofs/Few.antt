@@ -6,9 +6,10 @@ use Rattle.avro_schema.specs.Tree.{Tree, null, boolean, int, long, float, double
 use Rattle.avro_schema.specs.Tree.{structure, array, map, union, Fields, no_fields, field}
 use Rattle.avro_file.specs.Spelling.{takes_bytes, some_takes_bytes}
 use Rattle.ice_meta.specs.declared.spec.Spec.{Spec}
-use Rattle.ice_manifest_reading.specs.declared.fault.FieldFault.TheVariants.{WrongType}
-use Rattle.ice_manifest_reading.specs.Types.{is_whole, fits}
-use Rattle.ice_manifest_reading.specs.Schemas.{fields_in, type_at, must_fit, required, entry_fields}
+use Rattle.ice_manifest_fields.specs.declared.fault.FieldFault.TheVariants.{WrongType}
+use Rattle.ice_manifest_fields.specs.Types.{is_whole, fits}
+use Rattle.ice_manifest_fields.specs.Schemas.{fields_in, type_at, must_fit, required}
+use Rattle.ice_manifest_reading.specs.ManifestSchemas.{entry_fields}
 use Rattle.ice_manifest_reading.proofs.Guards.{passed, ok_is, went_on}
 
 whole_takes_bytes : (t : Tree) → fits is_whole t ≡ true → takes_bytes t ≡ true

@@ -5,7 +5,8 @@ use Rattle.avro_file.specs.Value.{Value}
 use Rattle.avro_file.specs.Ahead.{running}
 use Rattle.avro_file.specs.Holding.{AreWithinLimits}
 use Rattle.avro_file.specs.Files.{opened_at, Opened, reader_of, HoldsFile}
-use Rattle.ice_manifest_reading.specs.Schemas.{Fault, row_fields, entry_fields}
+use Rattle.ice_manifest_fields.specs.Schemas.{Fault, row_fields}
+use Rattle.ice_manifest_reading.specs.ManifestSchemas.{entry_fields}
 use Rattle.ice_manifest_reading.specs.Laws.{IsFile, HoldsObjects, GivesHeldRows, GivesHeldEntries}
 use Rattle.ice_manifest_reading.proofs.Whole.{reads_rows_exactly, reads_entries_exactly}
 

@@ -9,14 +9,15 @@ use Rattle.avro_file.specs.Value.{Value}
 use Rattle.avro_file.specs.Ahead.{Ahead}
 use Rattle.avro_file.specs.Files.{Next, Shows}
 use Rattle.ice_meta.specs.declared.spec.Spec.{Spec}
-use Rattle.ice_manifest_reading.specs.declared.fault.ManifestFault.{ManifestFault}
+use Rattle.ice_manifest_fields.specs.declared.fault.ManifestFault.{ManifestFault}
 use Rattle.ice_manifest_reading.specs.declared.row.Row.{Row}
 use Rattle.ice_manifest_reading.specs.declared.entry.Entry.{Entry}
 use Rattle.ice_manifest_reading.specs.declared.entry.Live.{Live}
-use Rattle.ice_manifest_reading.specs.Naming.{in_manifest}
+use Rattle.ice_manifest_fields.specs.Naming.{in_manifest}
 use Rattle.ice_manifest_reading.specs.Manifests.{says_entry, kept, entries_ahead, entries, entries_kept, kept_of}
 use Rattle.ice_manifest_reading.specs.Manifests.{kept_behind}
-use Rattle.ice_manifest_reading.proofs.Reading.{joined, joined_err, joined_end, Is, next_entry, entry_fails, no_entry}
+use Rattle.ice_manifest_fields.proofs.Joining.{joined, joined_err, joined_end}
+use Rattle.ice_manifest_reading.proofs.Reading.{Is, next_entry, entry_fails, no_entry}
 use Rattle.ice_manifest_reading.proofs.Reading.{entries_end}
 
 joined_twice : {X E : Type 0} (front more : List X) (r : Result (List X) E)

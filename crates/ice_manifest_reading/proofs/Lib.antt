@@ -1,10 +1,8 @@
 pub mod Guards
 pub mod Reading
-pub mod Steps
+pub mod Neighbours
 pub mod Records
 pub mod Cells
-pub mod Decimals
-pub mod OneSpelling
 pub mod Rising
 pub mod Sets
 pub mod Said
@@ -15,6 +13,5 @@ pub mod Whole
 pub mod Contents
 pub mod Few
 pub mod Held
-pub mod Built
-pub mod Lent
 pub mod Keeping
+pub mod NoMemory

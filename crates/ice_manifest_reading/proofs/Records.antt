@@ -4,13 +4,13 @@ use Rattle.avro_schema.specs.Tree.{structure, Fields}
 use Rattle.avro_file.specs.Value.{Value, nothing, truth, small, whole, single, twice, text, run, raw, symbol, fields}
 use Rattle.avro_file.specs.Value.{items, entries, chosen}
 use Rattle.ice_meta.specs.declared.spec.Spec.{Spec}
-use Rattle.ice_manifest_reading.specs.declared.fault.FieldFault.TheVariants.{Missing}
-use Rattle.ice_manifest_reading.specs.declared.fault.ManifestFault.TheVariants.{MissingField}
+use Rattle.ice_manifest_fields.specs.declared.fault.FieldFault.TheVariants.{Missing}
+use Rattle.ice_manifest_fields.specs.declared.fault.ManifestFault.TheVariants.{MissingField}
 use Rattle.ice_manifest_reading.specs.declared.row.Row.{Row}
-use Rattle.ice_manifest_reading.specs.Fields.{path_at, int_at}
+use Rattle.ice_manifest_fields.specs.Fields.{path_at, int_at}
 use Rattle.ice_manifest_reading.specs.Lists.{row_of}
 use Rattle.ice_manifest_reading.specs.Manifests.{status_at, entry_of}
-use Rattle.ice_manifest_reading.specs.Seen.{as_record}
+use Rattle.ice_manifest_fields.specs.Seen.{as_record}
 
 -- a value that is a record is this record
 pub record_is : (v w : Value) → Some w ≡ as_record v → v ≡ w

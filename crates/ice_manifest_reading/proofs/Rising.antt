@@ -16,8 +16,8 @@ use Rattle.std.proofs.lemmas.Map.Text.{is_eq-slice_cmp}
 use Rattle.contract_words.specs.Outcome.{Gives}
 use Rattle.contract_words.specs.Sorting.{sorted}
 use Rattle.contract_words.proofs.Sorted.{Rises, sorted_rises}
-use Rattle.ice_manifest_reading.specs.declared.fault.ListFault.{ListFault}
-use Rattle.ice_manifest_reading.specs.declared.fault.ListFault.TheVariants.{TooManyRows, Memory}
+use Rattle.ice_manifest_fields.specs.declared.fault.ListFault.{ListFault}
+use Rattle.ice_manifest_fields.specs.declared.fault.ListFault.TheVariants.{TooManyRows, Memory}
 use Rattle.ice_manifest_reading.specs.declared.row.Row.{Row}
 use Rattle.ice_manifest_reading.specs.Lists.{path_order, path_before, same_row, twice_after, path_twice, unless_twice}
 use Rattle.ice_manifest_reading.specs.Lists.{checked, in_order}

@@ -16,7 +16,7 @@ use Rattle.ice_meta.specs.declared.spec.PartitionField.{PartitionField}
 use Rattle.ice_meta.specs.Partitioning.{is_unpartitioned}
 use Rattle.ice_value.specs.declared.file_content.FileContent.{FileContent}
 use Rattle.ice_meta.specs.declared.spec.Spec.{Spec}
-use Rattle.ice_manifest_reading.specs.declared.fault.ManifestFault.{ManifestFault}
+use Rattle.ice_manifest_fields.specs.declared.fault.ManifestFault.{ManifestFault}
 use Rattle.ice_manifest_reading.specs.declared.counts.Counts.{Counts}
 use Rattle.ice_manifest_reading.specs.declared.row.Row.{Row}
 use Rattle.ice_manifest_reading.specs.declared.row.ManifestContent.{ManifestContent}
@@ -24,13 +24,13 @@ use Rattle.ice_manifest_reading.specs.declared.data_file.DataFile.{DataFile}
 use Rattle.ice_manifest_reading.specs.declared.entry.Live.{Live}
 use Rattle.ice_manifest_reading.specs.declared.status.Status.{Status}
 use Rattle.ice_manifest_reading.specs.declared.status.Status.TheVariants.{Existing, Added, Deleted}
-use Rattle.ice_manifest_reading.specs.Each.{each}
-use Rattle.ice_manifest_reading.specs.Naming.{in_list, in_manifest, told}
-use Rattle.ice_manifest_reading.specs.Fields.{at, there, long_at, int_at, number_or_zero, path_at, record_at, ints_at}
+use Rattle.ice_manifest_fields.specs.Each.{each}
+use Rattle.ice_manifest_fields.specs.Naming.{in_list, in_manifest, told}
+use Rattle.ice_manifest_fields.specs.Fields.{at, there, long_at, int_at, number_or_zero, path_at, record_at, ints_at}
 use Rattle.ice_manifest_reading.specs.Partitions.{tuple_at}
-use Rattle.ice_manifest_reading.specs.ColumnMaps.{value_counts, null_value_counts, lower_bounds, upper_bounds}
-use Rattle.ice_manifest_reading.specs.Maps as Maps
-use Rattle.ice_manifest_reading.specs.Maps.{bounds_at, columns_of}
+use Rattle.ice_manifest_fields.specs.ColumnMaps.{value_counts, null_value_counts, lower_bounds, upper_bounds}
+use Rattle.ice_manifest_fields.specs.Maps as Maps
+use Rattle.ice_manifest_fields.specs.Maps.{bounds_at, columns_of}
 use Rattle.ice_manifest_reading.specs.Lists as Lists
 use Rattle.ice_manifest_reading.specs.Lists.{row_of, counts_at, summaries_in, says_row}
 use Rattle.ice_manifest_reading.specs.Manifests.{content_at, file_of, status_at, snapshot_at}
@@ -41,7 +41,7 @@ use Rattle.ice_manifest_reading.specs.Laws.{InheritsTheRows, NeedsItsOwn, HasZer
 use Rattle.ice_manifest_reading.specs.Laws.{InheritsTheRowsForItsFile, HasNoFileNumber, HasZeroForItsFile}
 use Rattle.ice_manifest_reading.specs.Laws.{KeepsItsSnapshot, InheritsItsSnapshot}
 use Rattle.ice_manifest_reading.proofs.Guards.{passed, either, ok_is, went_on}
-use Rattle.ice_manifest_reading.proofs.Reading.{told_ok}
+use Rattle.ice_manifest_fields.proofs.Joining.{told_ok}
 
 -- ---- a row
 

@@ -15,7 +15,7 @@ use Rattle.std.proofs.lemmas.List.Elements.{Contains-push_cases, Contains-append
 use Rattle.std.proofs.lemmas.List.Kept.{Contains-dedup, Contains-from_dedup}
 use Rattle.std.proofs.lemmas.Slice.Eq.{slice_eq-Decides, bytes_eq-Decides}
 use Rattle.contract_words.specs.Sorting.{put, sorted}
-use Rattle.ice_manifest_reading.specs.declared.fault.ListFault.TheVariants.{ManifestTwice, TooManyRows}
+use Rattle.ice_manifest_fields.specs.declared.fault.ListFault.TheVariants.{ManifestTwice, TooManyRows}
 use Rattle.ice_value.specs.declared.file_bounds.Summary.{Summary}
 use Rattle.ice_manifest_reading.specs.declared.counts.Counts.{Counts}
 use Rattle.ice_manifest_reading.specs.declared.row.Row.{Row}

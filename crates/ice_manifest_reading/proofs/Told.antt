@@ -6,12 +6,12 @@ use Rattle.avro_schema.specs.Tree.{structure, Fields}
 use Rattle.avro_file.specs.declared.fault.AvroFault.{AvroFault}
 use Rattle.avro_file.specs.Value.{Value}
 use Rattle.ice_meta.specs.declared.spec.Spec.{Spec}
-use Rattle.ice_manifest_reading.specs.declared.fault.ListFault.{ListFault}
-use Rattle.ice_manifest_reading.specs.declared.fault.ManifestFault.{ManifestFault}
+use Rattle.ice_manifest_fields.specs.declared.fault.ListFault.{ListFault}
+use Rattle.ice_manifest_fields.specs.declared.fault.ManifestFault.{ManifestFault}
 use Rattle.ice_manifest_reading.specs.declared.row.Row.{Row}
 use Rattle.ice_manifest_reading.specs.declared.entry.Live.{Live}
-use Rattle.ice_manifest_reading.specs.Each.{each}
-use Rattle.ice_manifest_reading.specs.Naming.{in_list, in_manifest, ended}
+use Rattle.ice_manifest_fields.specs.Each.{each}
+use Rattle.ice_manifest_fields.specs.Naming.{in_list, in_manifest, ended}
 use Rattle.ice_manifest_reading.specs.Lists.{says_row, rows_ahead, checked, in_order, rows_of}
 use Rattle.ice_manifest_reading.specs.Manifests.{kept, entry_of, says_entry, entries_ahead, live_of}
 use Rattle.ice_manifest_reading.specs.Laws.{IsList, IsManifest, SayRows, SayEntries, HasRows}

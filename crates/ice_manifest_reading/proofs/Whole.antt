@@ -21,15 +21,16 @@ use Rattle.avro_file.specs.Value.{Value}
 use Rattle.avro_file.specs.Ahead.{Ahead, running, refusing}
 use Rattle.avro_file.specs.Files.{opened_at}
 use Rattle.ice_meta.specs.declared.spec.Spec.{Spec}
-use Rattle.ice_manifest_reading.specs.declared.fault.FieldFault.{FieldFault}
-use Rattle.ice_manifest_reading.specs.declared.fault.FieldFault.TheVariants as field
-use Rattle.ice_manifest_reading.specs.declared.fault.ListFault.{ListFault}
-use Rattle.ice_manifest_reading.specs.declared.fault.ListFault.TheVariants.{ManifestTwice, TooManyRows}
+use Rattle.ice_manifest_fields.specs.declared.fault.FieldFault.{FieldFault}
+use Rattle.ice_manifest_fields.specs.declared.fault.FieldFault.TheVariants as field
+use Rattle.ice_manifest_fields.specs.declared.fault.ListFault.{ListFault}
+use Rattle.ice_manifest_fields.specs.declared.fault.ListFault.TheVariants.{ManifestTwice, TooManyRows}
 use Rattle.ice_manifest_reading.specs.declared.row.Row.{Row}
 use Rattle.ice_manifest_reading.specs.declared.entry.Live.{Live}
-use Rattle.ice_manifest_reading.specs.Each.{each}
-use Rattle.ice_manifest_reading.specs.Naming.{Naming, in_list, in_manifest, contained, told, ended}
-use Rattle.ice_manifest_reading.specs.Schemas.{fields_in, row_fields, entry_fields}
+use Rattle.ice_manifest_fields.specs.Each.{each}
+use Rattle.ice_manifest_fields.specs.Naming.{Naming, in_list, in_manifest, contained, told, ended}
+use Rattle.ice_manifest_fields.specs.Schemas.{fields_in, row_fields}
+use Rattle.ice_manifest_reading.specs.ManifestSchemas.{entry_fields}
 use Rattle.ice_manifest_reading.specs.Lists.{row_of, says_row, rows_ahead, path_order, same_row, path_twice}
 use Rattle.ice_manifest_reading.specs.Lists.{unless_twice, checked, in_order, rows_of}
 use Rattle.ice_manifest_reading.specs.Manifests.{kept, says_entry, entries_ahead, live_of}
@@ -37,7 +38,7 @@ use Rattle.ice_manifest_reading.specs.Laws.{IsManifest, SayEntries, HasRows, Has
 use Rattle.ice_manifest_reading.specs.Laws.{ReadsEntriesExactly}
 use Rattle.ice_manifest_reading.specs.Faults.{IsLeastTwice, RefusesAPathExactly, RefusesManyExactly}
 use Rattle.ice_manifest_reading.proofs.Guards.{went_on, ok_is}
-use Rattle.ice_manifest_reading.proofs.Reading.{told_ok}
+use Rattle.ice_manifest_fields.proofs.Joining.{told_ok}
 use Rattle.ice_manifest_reading.proofs.Rising.{less_from, in_order_rises, strict_of, given}
 use Rattle.ice_manifest_reading.proofs.Said.{rows_said, entries_said, entries_by}
 use Rattle.ice_manifest_reading.proofs.Sets.{nowhere, cases_of, among, same_is, equality, from_order, to_order}

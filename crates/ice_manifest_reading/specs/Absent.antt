@@ -6,13 +6,13 @@ use Rattle.avro_file.specs.Picking.{Typed}
 use Rattle.ice_value.specs.declared.file_content.FileContent.TheVariants as holds
 use Rattle.ice_value.specs.declared.file_bounds.FileBounds.{FileBounds}
 use Rattle.ice_meta.specs.declared.spec.PartitionField.{PartitionField}
-use Rattle.ice_manifest_reading.specs.declared.fault.FieldFault.TheVariants.{Missing}
+use Rattle.ice_manifest_fields.specs.declared.fault.FieldFault.TheVariants.{Missing}
 use Rattle.ice_manifest_reading.specs.declared.row.Row.{Row}
 use Rattle.ice_manifest_reading.specs.declared.row.ManifestContent.{ManifestContent}
 use Rattle.ice_manifest_reading.specs.declared.row.ManifestContent.TheVariants.{Data}
 use Rattle.ice_manifest_reading.specs.declared.data_file.DataFile.{DataFile}
-use Rattle.ice_manifest_reading.specs.Schemas.{fields_in, type_at}
-use Rattle.ice_manifest_reading.specs.Fields.{int_or_zero, number_or_zero, optional_long}
+use Rattle.ice_manifest_fields.specs.Schemas.{fields_in, type_at}
+use Rattle.ice_manifest_fields.specs.Fields.{int_or_zero, number_or_zero, optional_long}
 use Rattle.ice_manifest_reading.specs.Laws.{SaysRow, SaysFile}
 
 -- an object has no field with this id

@@ -7,12 +7,12 @@ use Rattle.avro_schema.specs.Tree.{Fields, structure}
 use Rattle.avro_file.specs.declared.fault.AvroFault.{AvroFault}
 use Rattle.avro_file.specs.Value.{Value}
 use Rattle.ice_meta.specs.declared.spec.Spec.{Spec}
-use Rattle.ice_manifest_reading.specs.declared.fault.ListFault.{ListFault}
-use Rattle.ice_manifest_reading.specs.declared.fault.ListFault.TheVariants.{ManifestTwice, TooManyRows}
-use Rattle.ice_manifest_reading.specs.declared.fault.ManifestFault.{ManifestFault}
+use Rattle.ice_manifest_fields.specs.declared.fault.ListFault.{ListFault}
+use Rattle.ice_manifest_fields.specs.declared.fault.ListFault.TheVariants.{ManifestTwice, TooManyRows}
+use Rattle.ice_manifest_fields.specs.declared.fault.ManifestFault.{ManifestFault}
 use Rattle.ice_manifest_reading.specs.declared.row.Row.{Row}
 use Rattle.ice_manifest_reading.specs.declared.entry.Live.{Live}
-use Rattle.ice_manifest_reading.specs.Naming.{in_list, in_manifest}
+use Rattle.ice_manifest_fields.specs.Naming.{in_list, in_manifest}
 use Rattle.ice_manifest_reading.specs.Lists.{says_row, same_row, rows_of}
 use Rattle.ice_manifest_reading.specs.Manifests.{entry_of, live_of}
 use Rattle.ice_manifest_reading.specs.Laws.{IsList, IsManifest, SayRows, SayEntries, HasRows, HasEachPathOnce, HasTwo}

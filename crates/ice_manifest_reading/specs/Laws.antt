@@ -19,8 +19,8 @@ use Rattle.ice_value.specs.declared.file_bounds.FileBounds.{FileBounds}
 use Rattle.ice_meta.specs.declared.spec.PartitionField.{PartitionField}
 use Rattle.ice_meta.specs.declared.spec.Spec.{Spec}
 use Rattle.ice_meta.specs.Partitioning.{is_unpartitioned}
-use Rattle.ice_manifest_reading.specs.declared.fault.ListFault.TheVariants.{ManifestTwice}
-use Rattle.ice_manifest_reading.specs.declared.fault.ManifestFault.TheVariants.{NoSequence}
+use Rattle.ice_manifest_fields.specs.declared.fault.ListFault.TheVariants.{ManifestTwice}
+use Rattle.ice_manifest_fields.specs.declared.fault.ManifestFault.TheVariants.{NoSequence}
 use Rattle.ice_manifest_reading.specs.declared.row.Row.{Row}
 use Rattle.ice_manifest_reading.specs.declared.row.ManifestContent.{ManifestContent}
 use Rattle.ice_manifest_reading.specs.declared.row.ManifestContent.TheVariants.{Data, Deletes}
@@ -30,12 +30,13 @@ use Rattle.ice_manifest_reading.specs.declared.entry.Live.{Live}
 use Rattle.ice_manifest_reading.specs.declared.status.Status.{Status}
 use Rattle.ice_manifest_reading.specs.declared.status.Status.TheVariants.{Existing, Added, Deleted}
 use Rattle.ice_manifest_reading.specs.Partitions.{tuple_at}
-use Rattle.ice_manifest_reading.specs.ColumnMaps.{value_counts, null_value_counts, lower_bounds, upper_bounds}
-use Rattle.ice_manifest_reading.specs.Maps as Maps
-use Rattle.ice_manifest_reading.specs.Maps.{bounds_at}
-use Rattle.ice_manifest_reading.specs.Schemas.{Fault, fields_in, row_fields, entry_fields}
-use Rattle.ice_manifest_reading.specs.Fields.{at, there, long_at, int_at, number_or_zero, path_at, record_at, ints_at}
-use Rattle.ice_manifest_reading.specs.Fields.{optional_long, optional_number}
+use Rattle.ice_manifest_fields.specs.ColumnMaps.{value_counts, null_value_counts, lower_bounds, upper_bounds}
+use Rattle.ice_manifest_fields.specs.Maps as Maps
+use Rattle.ice_manifest_fields.specs.Maps.{bounds_at}
+use Rattle.ice_manifest_fields.specs.Schemas.{Fault, fields_in, row_fields}
+use Rattle.ice_manifest_reading.specs.ManifestSchemas.{entry_fields}
+use Rattle.ice_manifest_fields.specs.Fields.{at, there, long_at, int_at, number_or_zero, path_at, record_at, ints_at}
+use Rattle.ice_manifest_fields.specs.Fields.{optional_long, optional_number}
 use Rattle.ice_manifest_reading.specs.Lists as Lists
 use Rattle.ice_manifest_reading.specs.Lists.{row_of, counts_at, summaries_in, same_row, checked, in_order, rows_of}
 use Rattle.ice_manifest_reading.specs.Manifests.{content_at, status_at, snapshot_at, sequence_at, file_sequence_at}

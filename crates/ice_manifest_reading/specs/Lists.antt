@@ -16,20 +16,20 @@ use Rattle.avro_file.specs.Ahead.{Ahead, running, refusing}
 use Rattle.avro_file.specs.Files.{opened_at}
 use Rattle.avro_file.specs.Picking.{Typed, pick}
 use Rattle.ice_value.specs.declared.file_bounds.Summary.{Summary}
-use Rattle.ice_manifest_reading.specs.declared.fault.FieldFault.{FieldFault}
-use Rattle.ice_manifest_reading.specs.declared.fault.FieldFault.TheVariants.{BadContent}
-use Rattle.ice_manifest_reading.specs.declared.fault.ListFault.{ListFault}
-use Rattle.ice_manifest_reading.specs.declared.fault.ListFault.TheVariants.{ManifestTwice, TooManyRows}
+use Rattle.ice_manifest_fields.specs.declared.fault.FieldFault.{FieldFault}
+use Rattle.ice_manifest_fields.specs.declared.fault.FieldFault.TheVariants.{BadContent}
+use Rattle.ice_manifest_fields.specs.declared.fault.ListFault.{ListFault}
+use Rattle.ice_manifest_fields.specs.declared.fault.ListFault.TheVariants.{ManifestTwice, TooManyRows}
 use Rattle.ice_manifest_reading.specs.declared.counts.Counts.{Counts}
 use Rattle.ice_manifest_reading.specs.declared.row.Row.{Row}
 use Rattle.ice_manifest_reading.specs.declared.row.ManifestContent.{ManifestContent}
 use Rattle.ice_manifest_reading.specs.declared.row.ManifestContent.TheVariants.{Data, Deletes}
-use Rattle.ice_manifest_reading.specs.Each.{each}
-use Rattle.ice_manifest_reading.specs.Naming.{in_list, contained, told, ended}
-use Rattle.ice_manifest_reading.specs.Schemas.{fields_in, row_fields}
-use Rattle.ice_manifest_reading.specs.Fields.{at, there, items_of, asked, record_of, long_at, int_at, int_or_zero}
-use Rattle.ice_manifest_reading.specs.Fields.{number_or_zero, path_at}
-use Rattle.ice_manifest_reading.specs.Fields.{truth_at, optional_long, optional_int, optional_truth, optional_binary}
+use Rattle.ice_manifest_fields.specs.Each.{each}
+use Rattle.ice_manifest_fields.specs.Naming.{in_list, contained, told, ended}
+use Rattle.ice_manifest_fields.specs.Schemas.{fields_in, row_fields}
+use Rattle.ice_manifest_fields.specs.Fields.{at, there, items_of, asked, record_of, long_at, int_at, int_or_zero}
+use Rattle.ice_manifest_fields.specs.Fields.{number_or_zero, path_at}
+use Rattle.ice_manifest_fields.specs.Fields.{truth_at, optional_long, optional_int, optional_truth, optional_binary}
 
 -- ---- a row
 

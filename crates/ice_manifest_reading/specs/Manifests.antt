@@ -16,10 +16,10 @@ use Rattle.ice_value.specs.declared.file_content.FileContent.TheVariants as hold
 use Rattle.ice_meta.specs.declared.spec.PartitionField.{PartitionField}
 use Rattle.ice_meta.specs.declared.spec.Spec.{Spec}
 use Rattle.ice_meta.specs.Partitioning.{is_unpartitioned}
-use Rattle.ice_manifest_reading.specs.declared.fault.FieldFault.{FieldFault}
-use Rattle.ice_manifest_reading.specs.declared.fault.FieldFault.TheVariants as field
-use Rattle.ice_manifest_reading.specs.declared.fault.ManifestFault.{ManifestFault}
-use Rattle.ice_manifest_reading.specs.declared.fault.ManifestFault.TheVariants.{BadStatus, NoSequence}
+use Rattle.ice_manifest_fields.specs.declared.fault.FieldFault.{FieldFault}
+use Rattle.ice_manifest_fields.specs.declared.fault.FieldFault.TheVariants as field
+use Rattle.ice_manifest_fields.specs.declared.fault.ManifestFault.{ManifestFault}
+use Rattle.ice_manifest_fields.specs.declared.fault.ManifestFault.TheVariants.{BadStatus, NoSequence}
 use Rattle.ice_manifest_reading.specs.declared.row.Row.{Row}
 use Rattle.ice_manifest_reading.specs.declared.row.ManifestContent.{ManifestContent}
 use Rattle.ice_manifest_reading.specs.declared.row.ManifestContent.TheVariants.{Data, Deletes}
@@ -28,13 +28,14 @@ use Rattle.ice_manifest_reading.specs.declared.entry.Entry.{Entry}
 use Rattle.ice_manifest_reading.specs.declared.entry.Live.{Live}
 use Rattle.ice_manifest_reading.specs.declared.status.Status.{Status}
 use Rattle.ice_manifest_reading.specs.declared.status.Status.TheVariants.{Existing, Added, Deleted}
-use Rattle.ice_manifest_reading.specs.Each.{each}
-use Rattle.ice_manifest_reading.specs.Naming.{in_manifest, contained, told, ended}
+use Rattle.ice_manifest_fields.specs.Each.{each}
+use Rattle.ice_manifest_fields.specs.Naming.{in_manifest, contained, told, ended}
 use Rattle.ice_manifest_reading.specs.Partitions.{tuple_at}
-use Rattle.ice_manifest_reading.specs.Maps.{columns_of}
-use Rattle.ice_manifest_reading.specs.Schemas.{fields_in, entry_fields}
-use Rattle.ice_manifest_reading.specs.Fields.{long_at, int_at, int_or_zero, path_at, record_at, ints_at}
-use Rattle.ice_manifest_reading.specs.Fields.{optional_long, optional_number, optional_path}
+use Rattle.ice_manifest_fields.specs.Maps.{columns_of}
+use Rattle.ice_manifest_fields.specs.Schemas.{fields_in}
+use Rattle.ice_manifest_reading.specs.ManifestSchemas.{entry_fields}
+use Rattle.ice_manifest_fields.specs.Fields.{long_at, int_at, int_or_zero, path_at, record_at, ints_at}
+use Rattle.ice_manifest_fields.specs.Fields.{optional_long, optional_number, optional_path}
 
 -- ---- a data file
 

@@ -10,9 +10,9 @@ use Rattle.avro_file.specs.Picking.{Typed}
 use Rattle.ice_value.specs.declared.cell.Cell.{Cell}
 use Rattle.ice_value.specs.declared.cell.Cell.TheVariants.{Null, Bool as Flag, Whole, Text, Bytes}
 use Rattle.ice_meta.specs.declared.spec.PartitionField.{PartitionField}
-use Rattle.ice_manifest_reading.specs.declared.fault.FieldFault.{FieldFault}
-use Rattle.ice_manifest_reading.specs.Decimals.{shortest}
-use Rattle.ice_manifest_reading.specs.Fields.{at, there, record_at}
+use Rattle.ice_manifest_fields.specs.declared.fault.FieldFault.{FieldFault}
+use Rattle.ice_manifest_fields.specs.Decimals.{shortest}
+use Rattle.ice_manifest_fields.specs.Fields.{at, there, record_at}
 
 -- what the bytes of a type stand for
 abbrev pub bytes_kind : Tree → BytesKind

@@ -9,10 +9,10 @@ use Rattle.avro_file.specs.Picking.{Typed, pick}
 use Rattle.ice_meta.specs.declared.spec.PartitionField.{PartitionField}
 use Rattle.ice_meta.specs.declared.spec.Spec.{Spec}
 use Rattle.ice_manifest_reading.specs.declared.row.Row.{Row}
-use Rattle.ice_manifest_reading.specs.declared.columns.ColumnMap.{ColumnMap}
-use Rattle.ice_manifest_reading.specs.ColumnMaps.{value_counts, null_value_counts, lower_bounds, upper_bounds}
-use Rattle.ice_manifest_reading.specs.Fields.{at, there, text_of, record_of, items_of, optional_long, optional_truth}
-use Rattle.ice_manifest_reading.specs.Fields.{optional_binary, optional_text, int_or_zero, number_or_zero}
+use Rattle.ice_manifest_fields.specs.declared.columns.ColumnMap.{ColumnMap}
+use Rattle.ice_manifest_fields.specs.ColumnMaps.{value_counts, null_value_counts, lower_bounds, upper_bounds}
+use Rattle.ice_manifest_fields.specs.Fields.{at, there, text_of, record_of, items_of, optional_long, optional_truth}
+use Rattle.ice_manifest_fields.specs.Fields.{optional_binary, optional_text, int_or_zero, number_or_zero}
 use Rattle.ice_manifest_reading.specs.Partitions.{cell_at}
 use Rattle.ice_manifest_reading.specs.Lists.{rows_of}
 use Rattle.ice_manifest_reading.specs.Manifests.{live_of}

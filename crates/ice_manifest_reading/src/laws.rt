@@ -1,5 +1,12 @@
 //! What the definitions of rows and entries come to.
 
+ghost use Rattle.std.specs.Prelude.{◌≢◌, ℕ, List, Err};
+ghost use Rattle.ice_meta.specs.declared.spec.Spec.{Spec};
+ghost use Rattle.ice_manifest_fields.specs.declared.fault.ListFault.TheVariants as list;
+ghost use Rattle.ice_manifest_fields.specs.declared.fault.ManifestFault.TheVariants as manifest;
+ghost use Rattle.ice_manifest_reading.specs.declared.row.Row.{Row};
+ghost use Rattle.ice_manifest_reading.specs.Lists.{rows_of};
+ghost use Rattle.ice_manifest_reading.specs.Manifests.{live_of};
 ghost use Rattle.ice_manifest_reading.specs.Laws.{ReadsRowsExactly, GivesHeldRows, GivesTheRows, RefusesTwo, RefusesTheLeast};
 ghost use Rattle.ice_manifest_reading.specs.Laws.{ReadsEntriesExactly, GivesHeldEntries, KeepsItsNumber, InheritsTheRows};
 ghost use Rattle.ice_manifest_reading.specs.Laws.{NeedsItsOwn, HasZeroUnderZero, KeepsItsFileNumber, InheritsTheRowsForItsFile};
@@ -10,10 +17,9 @@ ghost use Rattle.ice_manifest_reading.specs.Absent.{IsZeroWhereAbsent, IsRefused
 ghost use Rattle.ice_manifest_reading.specs.Absent.{HasFilesOfVersionOne};
 ghost use Rattle.ice_manifest_reading.specs.Faults.{TellsTheFirstRow, TellsTheListsEnd, TellsTheFirstEntry};
 ghost use Rattle.ice_manifest_reading.specs.Faults.{TellsTheManifestsEnd, RefusesAPathExactly, RefusesManyExactly};
-ghost use Rattle.ice_manifest_reading.specs.Decimals.{KeepsTheNumber, LeavesNoneRedundant, KeepsOneSpelling};
 ghost use Rattle.ice_manifest_reading.specs.Same.{SkipsOtherFieldsOfEntries, SkipsOtherFieldsOfRows};
 
-use avro_file::held_is_read;
+use avro_file::{held_is_read, no_fault_is_memory};
 
 /// The rows of a list are the set of the rows that its objects say. It is refused for a path only where two different
 /// rows have it, and then for the least such path.
@@ -95,17 +101,17 @@ pub fn contents_fit()
     ensures cells { HasACellForEach }
 {}
 
-/// The bytes that are kept of a decimal are the same number in two's complement, and the first of them is not
-/// redundant. So two cells of one number are the same, however many bytes each was written with.
-pub fn decimals_are_kept_shortest()
-    ensures number { KeepsTheNumber }
-    ensures front { LeavesNoneRedundant }
-    ensures spelling { KeepsOneSpelling }
-{}
-
 /// Two files whose objects say the same in the fields that are read give the same, whatever else they hold: other
 /// fields, other names, and objects that lie otherwise in blocks.
 pub fn other_fields_are_skipped()
     ensures entries { SkipsOtherFieldsOfEntries }
     ensures rows { SkipsOtherFieldsOfRows }
 {}
+
+/// No fault of a list or a manifest is want of memory: reading answers `Memory` for want of it alone.
+pub fn no_refusal_is_memory()
+    ensures list { (bytes : List ℕ) → rows_of bytes ≢ Err list.Memory }
+    ensures manifest { (row : Row) (spec : Spec) (bytes : List ℕ) → live_of row spec bytes ≢ Err manifest.Memory }
+{
+    no_fault_is_memory();
+}

@@ -7,10 +7,10 @@ ghost use Rattle.avro_schema.specs.Tree.{structure};
 ghost use Rattle.avro_schema.specs.View.{tree};
 ghost use Rattle.avro_file.specs.View.{view};
 ghost use Rattle.avro_file.specs.Files.{ahead};
-ghost use Rattle.ice_manifest_reading.specs.Each.{each};
-ghost use Rattle.ice_manifest_reading.specs.Fields.{at, there};
-ghost use Rattle.ice_manifest_reading.specs.Naming.{in_list, told};
-ghost use Rattle.ice_manifest_reading.specs.Seen.{fields_seen, object, listed};
+ghost use Rattle.ice_manifest_fields.specs.Each.{each};
+ghost use Rattle.ice_manifest_fields.specs.Fields.{at, there};
+ghost use Rattle.ice_manifest_fields.specs.Naming.{in_list, told};
+ghost use Rattle.ice_manifest_fields.specs.Seen.{fields_seen, object, listed};
 ghost use Rattle.ice_manifest_reading.specs.Lists.{rows_of, row_of as row_said, row_content as content_in};
 ghost use Rattle.ice_manifest_reading.specs.Lists.{content_at as content_said, counts_at as counts_said};
 ghost use Rattle.ice_manifest_reading.specs.Lists.{summary_in as summary_said, summary_of as summary_of_item, summaries_in};
@@ -18,17 +18,15 @@ ghost use Rattle.ice_manifest_reading.specs.Lists.{rows_ahead, path_twice as twi
 ghost use Rattle.ice_manifest_reading.specs.Lists.{checked as checked_in, path_order};
 
 use crate::counts::Counts;
-use crate::fault::{FieldFault, ListFault};
-use crate::field::{
-    int_at, int_or_zero, items_of, long_at, number_or_zero, optional_binary, optional_int,
-    optional_long, optional_truth, pairs_built, path_at, truth_at,
-};
-use crate::pick::{itself, pick, record_values};
 use crate::row::{ManifestContent, Row};
-use crate::shape::{check_row_fields, fields_of};
 use avro_file::{Container, Datum, Objects};
 use avro_schema::{Field, Schema};
 use contract_words::{Items, Text};
+use ice_manifest_fields::{
+    FieldFault, ListFault, check_row_fields, fields_of, int_at, int_or_zero, items_of, itself,
+    long_at, number_or_zero, optional_binary, optional_int, optional_long, optional_truth,
+    pairs_built, path_at, pick, record_values, truth_at,
+};
 use ice_value::Summary;
 use std::alloc::{AllocError, Global};
 

@@ -7,8 +7,8 @@ ghost use Rattle.avro_schema.specs.Tree.{structure};
 ghost use Rattle.avro_file.specs.View.{view};
 ghost use Rattle.avro_file.specs.Ahead.{still_ahead};
 ghost use Rattle.avro_file.specs.Files.{ahead};
-ghost use Rattle.ice_manifest_reading.specs.Naming.{in_manifest, told};
-ghost use Rattle.ice_manifest_reading.specs.Seen.{result_map, fields_seen, object};
+ghost use Rattle.ice_manifest_fields.specs.Naming.{in_manifest, told};
+ghost use Rattle.ice_manifest_fields.specs.Seen.{result_map, fields_seen, object};
 ghost use Rattle.ice_manifest_reading.specs.Manifests.{live_of, status_of as status_in, status_at as status_said};
 ghost use Rattle.ice_manifest_reading.specs.Manifests.{content_of as content_in, content_at as content_said};
 ghost use Rattle.ice_manifest_reading.specs.Manifests.{inherited as inherited_in, file_inherited as file_inherited_in};
@@ -19,21 +19,19 @@ ghost use Rattle.ice_manifest_reading.specs.Manifests.{live_at as live_said, ent
 ghost use Rattle.ice_manifest_reading.specs.Manifests.{kept_behind, entries_kept, entries_of};
 ghost use Rattle.ice_meta.specs.Partitioning.{is_unpartitioned};
 
-use crate::columns::columns_of;
 use crate::data_file::FileView;
 use crate::entry::{Entry, EntryView, Live};
-use crate::fault::{FieldFault, ManifestFault};
-use crate::field::{
-    int_at, int_or_zero, ints_at, long_at, optional_long, optional_number, optional_path, path_at,
-};
 use crate::keep::{Everything, Keep};
-use crate::pick::{pick_record, record_values};
 use crate::row::{ManifestContent, Row};
-use crate::shape::{check_entry_fields, fields_of};
+use crate::shape::check_entry_fields;
 use crate::status::Status;
 use crate::tuple::tuple_at;
 use avro_file::{Container, Datum, Objects, objects_take_bytes};
 use avro_schema::Field;
+use ice_manifest_fields::{
+    FieldFault, ManifestFault, columns_of, fields_of, int_at, int_or_zero, ints_at, long_at,
+    optional_long, optional_number, optional_path, path_at, pick_record, record_values,
+};
 use ice_meta::{PartitionField, Spec};
 use ice_value::{FileBounds, FileContent, SequenceNumber};
 use std::alloc::{AllocError, Global};
@@ -350,8 +348,6 @@ pub fn read_kept<K: Keep>(
     keep: &K,
     bytes: &[u8],
 ) -> Result<Vec<Entry>, ManifestFault>
-    // The spec is that of the row's id.
-    requires { spec.now.id ≡ row.now.spec_id }
     ensures { Gives ManifestFault.Memory (λ found. found.items) result
         (kept_of (K.kept keep.now) (live_of row.now spec.now bytes.now)) }
 {
@@ -376,8 +372,6 @@ pub fn read_manifest(
     spec: &Spec,
     bytes: &[u8],
 ) -> Result<Vec<Entry>, ManifestFault>
-    // The spec is that of the row's id.
-    requires { spec.now.id ≡ row.now.spec_id }
     ensures { Gives ManifestFault.Memory (λ found. found.items) result (entries_of row.now spec.now bytes.now) }
 {
     read_kept(alloc, row, spec, &Everything, bytes)

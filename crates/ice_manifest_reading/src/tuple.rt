@@ -3,21 +3,21 @@
 ghost use Rattle.std.specs.Prelude.{◌≡◌, [], ◌∷◌, map, IfOk, option_map};
 ghost use Rattle.contract_words.specs.Outcome.{Gives};
 ghost use Rattle.avro_schema.specs.View.{tree, trees, branches_of as branches_of_trees};
-ghost use Rattle.ice_manifest_reading.specs.Naming.{in_manifest, told};
-ghost use Rattle.ice_manifest_reading.specs.Seen.{result_map, fields_seen, object};
-ghost use Rattle.ice_manifest_reading.specs.Schemas.{each_branch, is_cell, each_is_cell, cells_fit, is_tuple};
-ghost use Rattle.ice_manifest_reading.specs.Schemas.{tuple_in as tuple_within, type_at as type_said};
+ghost use Rattle.ice_manifest_fields.specs.Naming.{in_manifest, told};
+ghost use Rattle.ice_manifest_fields.specs.Seen.{result_map, fields_seen, object};
+ghost use Rattle.ice_manifest_fields.specs.Schemas.{each_branch, is_cell, each_is_cell};
+ghost use Rattle.ice_manifest_reading.specs.ManifestSchemas.{cells_fit, is_tuple};
+ghost use Rattle.ice_manifest_fields.specs.Schemas.{type_at as type_said};
+ghost use Rattle.ice_manifest_reading.specs.ManifestSchemas.{tuple_in as tuple_within};
 ghost use Rattle.ice_manifest_reading.specs.Partitions.{bytes_kind as kind_of_bytes, kept_bytes as bytes_to_keep};
 ghost use Rattle.ice_manifest_reading.specs.Partitions.{cell_at as cell_said, cells_of as cells_said, tuple_at as tuple_said};
 
-use crate::decimal::shortest;
-use crate::fault::{FieldFault, ManifestFault};
-use crate::kind::Kind;
-use crate::pick::{pick, pick_record};
-use crate::shape::{branches_of, required, type_at};
 use avro_file::Datum;
 use avro_schema::{BytesKind, Field, Schema};
 use contract_words::{Items, Text};
+use ice_manifest_fields::{
+    FieldFault, Kind, ManifestFault, branches_of, pick, pick_record, required, shortest, type_at,
+};
 use ice_meta::PartitionField;
 use ice_value::Cell;
 use std::alloc::{AllocError, Global};
@@ -87,7 +87,7 @@ pub fn check_tuples(partition: &[PartitionField], branches: &[Schema]) -> Result
 }
 
 /// The type of the record of the partition values, which has to be there where the spec has a field.
-#[tactic(auto, unfolding(crate::specs::Schemas::tuple_in, crate::specs::Kinds::wanted))]
+#[tactic(auto, unfolding(crate::specs::ManifestSchemas::tuple_in, ice_manifest_fields::specs::Kinds::wanted))]
 pub fn tuple_in<'a>(
     partition: &[PartitionField],
     fields: &'a [Field],

@@ -16,7 +16,7 @@ use Rattle.ice_versions.specs.Adding.{added}
 use Rattle.ice_versions.specs.Histories.{Step, added_on, after, openable, state_of}
 use Rattle.ice_versions.specs.States.{Added, State}
 use Rattle.ice_desk.specs.Wanted.{paths_of}
-use Rattle.ice_manifest_reading.specs.declared.fault.ListFault.{ListFault}
+use Rattle.ice_manifest_fields.specs.declared.fault.ListFault.{ListFault}
 use Rattle.ice_manifest_reading.specs.declared.row.Row.{Row}
 use Rattle.ice_manifest_reading.specs.Lists.{rows_of}
 use Rattle.ice_meta.specs.declared.fault.MetaFault.{MetaFault}

@@ -4,7 +4,7 @@ use Rattle.std.proofs.Common.{Some, None, option_map, Result, Ok, Err}
 use Rattle.std.specs.List.{AllByRecursion}
 use Rattle.ice_meta.specs.declared.spec.Spec.{Spec}
 use Rattle.ice_meta.specs.Partitioning.{is_unpartitioned}
-use Rattle.ice_manifest_reading.specs.declared.fault.ManifestFault.{ManifestFault}
+use Rattle.ice_manifest_fields.specs.declared.fault.ManifestFault.{ManifestFault}
 use Rattle.ice_manifest_reading.specs.declared.row.Row.{Row}
 use Rattle.ice_manifest_reading.specs.declared.entry.Live.{Live}
 use Rattle.ice_manifest_reading.specs.Laws.{IsOfSpec}

@@ -146,14 +146,3 @@ parted id specs up i j d l m low =
           cc
     ] in
     P (below id (get_or specs i d)) refl
-
--- the spec of an id has it
-pub spec_has_id : (specs : List Spec) (id : ℤ) (spec : Spec) → spec_of specs id ≡ Some spec → spec.id ≡ id
-spec_has_id [] id spec h = cc
-spec_has_id (x ∷ xs) id spec h =
-    let P : (b : Bool) → has id x ≡ b → cond b (Some x) (find (has id) xs) ≡ Some spec → spec.id ≡ id =
-    λ b. elim b as (λ v. has id x ≡ v → cond v (Some x) (find (has id) xs) ≡ Some spec → spec.id ≡ id) [
-      | true ↦ λ t e. let same : x ≡ spec = cc in ap (λ (s : Spec). s.id) (sym same) ∙ (Decides-int_eq x.id id).0 t
-      | false ↦ λ f e. spec_has_id xs id spec e
-    ] in
-    P (has id x) refl h

@@ -15,7 +15,7 @@ use Rattle.ice_filter.specs.declared.parts.Part.{Part}
 use Rattle.ice_project.specs.Files.{file_may}
 use Rattle.ice_project.specs.Projection.{projection}
 use Rattle.ice_project.specs.Tuples.{part_meets}
-use Rattle.ice_manifest_reading.specs.declared.fault.ManifestFault.{ManifestFault}
+use Rattle.ice_manifest_fields.specs.declared.fault.ManifestFault.{ManifestFault}
 use Rattle.ice_manifest_reading.specs.declared.row.Row.{Row}
 use Rattle.ice_manifest_reading.specs.Manifests.{live_of}
 use Rattle.ice_state.specs.declared.fault.FinishFault.{FinishFault}

@@ -44,7 +44,6 @@ pub fn read(
     filter: &SpecFilter<'_>,
     bytes: &[u8],
 ) -> Result<Reading, AllocError>
-    requires { filter.now.spec.id ≡ row.now.spec_id }
     ensures { IfOk result (λ reading. reading ≡ reading_by filter.now row.now bytes.now) }
 {
     match read_kept(alloc, row, filter.spec(), filter, bytes) {

@@ -8,8 +8,8 @@ use Rattle.ice_desk.specs.declared.fault.WantedFault.TheVariants as wanted
 use Rattle.ice_desk.specs.Wanted.{IsContentOf, MayStop, paths_of, untaken}
 use Rattle.ice_desk.specs.Worlds.{EndsAt, EndsAtAbsent}
 use Rattle.ice_state.specs.Contents.{Content, HasEach, World, content, no_row}
-use Rattle.ice_manifest_reading.specs.declared.fault.ListFault.{ListFault}
-use Rattle.ice_manifest_reading.specs.declared.fault.ListFault.TheVariants as list
+use Rattle.ice_manifest_fields.specs.declared.fault.ListFault.{ListFault}
+use Rattle.ice_manifest_fields.specs.declared.fault.ListFault.TheVariants as list
 use Rattle.ice_manifest_reading.specs.declared.row.Row.{Row}
 use Rattle.ice_manifest_reading.specs.Lists.{rows_of}
 use Rattle.ice_state.specs.declared.fault.ScanFault.{ScanFault}

@@ -6,10 +6,10 @@ use Rattle.avro_schema.specs.declared.fault.SchemaFault.{SchemaFault}
 use Rattle.avro_schema.specs.declared.fault.SchemaFault.TheVariants as schema
 use Rattle.avro_file.specs.declared.fault.AvroFault.{AvroFault}
 use Rattle.avro_file.specs.declared.fault.AvroFault.TheVariants as avro
-use Rattle.ice_manifest_reading.specs.declared.fault.ListFault.{ListFault}
-use Rattle.ice_manifest_reading.specs.declared.fault.ListFault.TheVariants as list
-use Rattle.ice_manifest_reading.specs.declared.fault.ManifestFault.{ManifestFault}
-use Rattle.ice_manifest_reading.specs.declared.fault.ManifestFault.TheVariants as manifest
+use Rattle.ice_manifest_fields.specs.declared.fault.ListFault.{ListFault}
+use Rattle.ice_manifest_fields.specs.declared.fault.ListFault.TheVariants as list
+use Rattle.ice_manifest_fields.specs.declared.fault.ManifestFault.{ManifestFault}
+use Rattle.ice_manifest_fields.specs.declared.fault.ManifestFault.TheVariants as manifest
 use Rattle.ice_meta.specs.declared.fault.MetaFault.{MetaFault}
 use Rattle.ice_meta.specs.declared.fault.MetaFault.TheVariants as meta
 use Rattle.ice_meta.specs.Members.{member_name}

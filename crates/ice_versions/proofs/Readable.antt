@@ -19,11 +19,11 @@ use Rattle.avro_file.specs.Spelling.{item_count, values_len}
 use Rattle.avro_file.specs.Value.{Value, Values, chosen, fields, items, no_values, nothing, value}
 use Rattle.avro_file.proofs.Opened.{file_held}
 use Rattle.ice_value.specs.declared.file_bounds.Summary.{Summary}
-use Rattle.ice_manifest_reading.specs.declared.fault.FieldFault.{FieldFault}
-use Rattle.ice_manifest_reading.specs.declared.fault.FieldFault.TheVariants.{OutOfRange}
+use Rattle.ice_manifest_fields.specs.declared.fault.FieldFault.{FieldFault}
+use Rattle.ice_manifest_fields.specs.declared.fault.FieldFault.TheVariants.{OutOfRange}
 use Rattle.ice_manifest_reading.specs.declared.row.Row.{Row}
-use Rattle.ice_manifest_reading.specs.Each.{each}
-use Rattle.ice_manifest_reading.specs.Fields.{asked, at, items_as, items_of, path_at, short_path, text_of, there}
+use Rattle.ice_manifest_fields.specs.Each.{each}
+use Rattle.ice_manifest_fields.specs.Fields.{asked, at, items_as, items_of, path_at, short_path, text_of, there}
 use Rattle.ice_manifest.specs.Fitting.{IsReadable}
 use Rattle.ice_manifest_reading.specs.Laws.{SayRows}
 use Rattle.ice_manifest_reading.specs.Lists.{path_before, path_order, rows_of, same_row, summaries_in, summary_of}

@@ -1,6 +1,6 @@
 //! The partition values that new files may have.
 
-ghost use Rattle.std.specs.Prelude.{◌≡◌, IfOk, IfSome, map, fold, filter, option_map};
+ghost use Rattle.std.specs.Prelude.{◌≡◌, IfOk, map, fold, filter, option_map};
 ghost use Rattle.std.specs.Option.{option_copied};
 ghost use Rattle.ice_meta.specs.declared.spec.Spec.{Spec};
 ghost use Rattle.ice_transform.specs.Values.{type_of};
@@ -118,8 +118,7 @@ pub fn partitioning_of<'a, 'b>(
     partitionings: &'b [Partitioning<'a>],
     id: i32,
 ) -> Option<&'b Partitioning<'a>>
-    ensures spec { option_map (λ p. p.now.spec.now) result ≡ spec_in (specs_of partitionings.now) id }
-    ensures id { IfSome result (λ p. p.now.spec.now.id ≡ id) }
+    ensures { option_map (λ p. p.now.spec.now) result ≡ spec_in (specs_of partitionings.now) id }
 {
     'partitionings: for partitioning in partitionings {
         if partitioning.spec.id == id {

@@ -2,7 +2,8 @@ use Rattle.std.proofs.Common.{sym, ◌∙◌, refl}
 use Rattle.std.proofs.lemmas.Result.{err_from_is_err_and}
 use Rattle.avro_file.specs.View.{view}
 use Rattle.avro_file.specs.Files.{ahead}
-use Rattle.ice_manifest_reading.proofs.Reading.{joined, fewer, next_row, row_fails, no_row, rows_end}
+use Rattle.ice_manifest_fields.proofs.Joining.{joined}
+use Rattle.ice_manifest_reading.proofs.Reading.{fewer, next_row, row_fails, no_row, rows_end}
 use Rattle.ice_manifest_reading.proofs.list.all_rows.Goals as goal
 
 pub objects-init : goal.objects-init

@@ -1,9 +1,9 @@
 use Rattle.std.proofs.Common.{◌≡◌}
 use Rattle.avro_file.specs.Ahead.{still_ahead}
 use Rattle.avro_file.specs.Files.{ahead}
-use Rattle.ice_manifest_reading.specs.Seen.{fields_seen}
+use Rattle.ice_manifest_fields.specs.Seen.{fields_seen}
 use Rattle.ice_manifest_reading.specs.Lists.{rows_ahead}
-use Rattle.ice_manifest_reading.proofs.Reading.{joined}
+use Rattle.ice_manifest_fields.proofs.Joining.{joined}
 use Rattle.ice_manifest_reading.proofs.list.all_rows.Given as goal
 
 abbrev pub invariant-objects : goal.invariant-objects

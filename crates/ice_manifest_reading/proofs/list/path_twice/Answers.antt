@@ -1,5 +1,5 @@
 use Rattle.std.proofs.Common.{sym, ◌∙◌, refl}
-use Rattle.ice_manifest_reading.proofs.Steps.{twice_here, twice_end}
+use Rattle.ice_manifest_reading.proofs.Neighbours.{twice_here, twice_end}
 use Rattle.ice_manifest_reading.proofs.list.path_twice.Goals as goal
 
 pub returns-then-eq : goal.returns-then-eq

@@ -3,7 +3,7 @@ use Rattle.std.specs.Cmp.{IsStrictWeakOrder}
 use Rattle.std.specs.List.{dedup}
 use Rattle.std.proofs.lemmas.Cmp.{nat_list_cmp_total}
 use Rattle.std.proofs.lemmas.List.Sorted.{answers_always, ranks_by}
-use Rattle.ice_manifest_reading.proofs.Steps.{deduped, contents_alike}
+use Rattle.ice_manifest_reading.proofs.Neighbours.{deduped, contents_alike}
 use Rattle.contract_words.proofs.Sorted.{sorted_from_sort}
 use Rattle.ice_manifest_reading.specs.declared.row.Row.{Row}
 use Rattle.ice_manifest_reading.specs.Lists.{path_before, same_row}

@@ -1,6 +1,6 @@
 use Rattle.std.proofs.Common.{refl}
 use Rattle.avro_file.specs.View.{view}
-use Rattle.ice_manifest_reading.specs.Seen.{fields_seen}
+use Rattle.ice_manifest_fields.specs.Seen.{fields_seen}
 use Rattle.ice_manifest_reading.proofs.Records.{no_record_row}
 use Rattle.ice_manifest_reading.proofs.list.row_of.Goals as goal
 

@@ -2,10 +2,10 @@ use Rattle.std.proofs.Common.{sym, ap, ◌∙◌, refl}
 use Rattle.std.proofs.lemmas.Result.{err_from_is_err_and}
 use Rattle.avro_schema.specs.View.{tree}
 use Rattle.avro_file.specs.View.{view}
-use Rattle.ice_manifest_reading.specs.Naming.{in_list, told}
+use Rattle.ice_manifest_fields.specs.Naming.{in_list, told}
 use Rattle.ice_manifest_reading.specs.Lists.{summary_of}
-use Rattle.ice_manifest_reading.proofs.Reading.{joined, told_ok}
-use Rattle.ice_manifest_reading.proofs.Steps.{item_next, item_fails_at, items_done}
+use Rattle.ice_manifest_fields.proofs.Joining.{joined, told_ok}
+use Rattle.ice_manifest_fields.proofs.Steps.{item_next, item_fails_at, items_done}
 use Rattle.ice_manifest_reading.proofs.list.summaries_of.Goals as goal
 
 pub items-init : goal.items-init

@@ -1,9 +1,9 @@
 use Rattle.std.proofs.Common.{◌≡◌, drop}
 use Rattle.avro_schema.specs.View.{tree}
-use Rattle.ice_manifest_reading.specs.Seen.{items_seen}
-use Rattle.ice_manifest_reading.specs.Each.{each}
+use Rattle.ice_manifest_fields.specs.Seen.{items_seen}
+use Rattle.ice_manifest_fields.specs.Each.{each}
 use Rattle.ice_manifest_reading.specs.Lists.{summary_of}
-use Rattle.ice_manifest_reading.proofs.Reading.{joined}
+use Rattle.ice_manifest_fields.proofs.Joining.{joined}
 use Rattle.ice_manifest_reading.proofs.list.summaries_of.Given as goal
 
 abbrev pub invariant-items : goal.invariant-items

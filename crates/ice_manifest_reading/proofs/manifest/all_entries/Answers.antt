@@ -2,8 +2,9 @@ use Rattle.std.proofs.Common.{sym, ◌∙◌, refl, arith, rules}
 use Rattle.std.proofs.lemmas.Result.{err_from_is_err_and}
 use Rattle.avro_file.specs.View.{view}
 use Rattle.avro_file.specs.Files.{ahead}
-use Rattle.ice_manifest_reading.specs.Seen.{fields_seen}
-use Rattle.ice_manifest_reading.proofs.Reading.{joined, fewer}
+use Rattle.ice_manifest_fields.specs.Seen.{fields_seen}
+use Rattle.ice_manifest_fields.proofs.Joining.{joined}
+use Rattle.ice_manifest_reading.proofs.Reading.{fewer}
 use Rattle.ice_manifest_reading.proofs.Keeping.{next_kept, none_kept, kept_fails, kept_end}
 use Rattle.ice_manifest_reading.proofs.manifest.all_entries.Goals as goal
 

@@ -1,5 +1,5 @@
 use Rattle.avro_file.specs.View.{view}
-use Rattle.ice_manifest_reading.specs.Seen.{fields_seen}
+use Rattle.ice_manifest_fields.specs.Seen.{fields_seen}
 use Rattle.ice_manifest_reading.proofs.Records.{no_record_entry}
 use Rattle.ice_manifest_reading.proofs.manifest.entry_of.Goals as goal
 

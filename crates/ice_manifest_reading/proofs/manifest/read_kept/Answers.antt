@@ -1,7 +1,8 @@
 use Rattle.std.proofs.Common.{◌≡◌, ◌≤◌, Ok, length, sym, ap, ◌∙◌, arith}
 use Rattle.avro_file.specs.Ahead.{still_ahead}
 use Rattle.avro_file.specs.Files.{ahead, tree_of, opened}
-use Rattle.ice_manifest_reading.specs.Schemas.{fields_in, entry_fields}
+use Rattle.ice_manifest_fields.specs.Schemas.{fields_in}
+use Rattle.ice_manifest_reading.specs.ManifestSchemas.{entry_fields}
 use Rattle.ice_manifest_reading.proofs.Few.{entries_take_bytes}
 use Rattle.ice_manifest_reading.proofs.manifest.read_kept.Goals as goal
 

@@ -1,7 +1,7 @@
 use Rattle.std.proofs.Common.{List, Result, subst}
 use Rattle.contract_words.specs.Outcome.{Gives}
-use Rattle.ice_manifest_reading.specs.declared.fault.ManifestFault.{ManifestFault}
-use Rattle.ice_manifest_reading.specs.declared.fault.ManifestFault.TheVariants.{Memory}
+use Rattle.ice_manifest_fields.specs.declared.fault.ManifestFault.{ManifestFault}
+use Rattle.ice_manifest_fields.specs.declared.fault.ManifestFault.TheVariants.{Memory}
 use Rattle.ice_manifest_reading.specs.declared.entry.Entry.{Entry}
 use Rattle.ice_manifest_reading.specs.Manifests.{live_of, entries_of}
 use Rattle.ice_manifest_reading.proofs.Keeping.{all_kept}

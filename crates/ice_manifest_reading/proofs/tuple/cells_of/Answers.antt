@@ -1,5 +1,5 @@
 use Rattle.std.proofs.Common.{sym, ◌∙◌, refl}
-use Rattle.ice_manifest_reading.specs.Seen.{object}
+use Rattle.ice_manifest_fields.specs.Seen.{object}
 use Rattle.ice_manifest_reading.proofs.Cells.{cell_next, cells_end}
 use Rattle.ice_manifest_reading.proofs.tuple.cells_of.Goals as goal
 

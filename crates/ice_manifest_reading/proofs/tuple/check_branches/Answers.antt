@@ -1,7 +1,7 @@
 use Rattle.std.proofs.Common.{sym, ◌∙◌}
 use Rattle.std.proofs.lemmas.Result.{err_from_is_err_and}
-use Rattle.ice_manifest_reading.specs.Schemas.{is_cell}
-use Rattle.ice_manifest_reading.proofs.Steps.{branch_fails, branch_passes, branches_end}
+use Rattle.ice_manifest_fields.specs.Schemas.{is_cell}
+use Rattle.ice_manifest_fields.proofs.Steps.{branch_fails, branch_passes, branches_end}
 use Rattle.ice_manifest_reading.proofs.tuple.check_branches.Goals as goal
 
 pub returns-in_err-check_cell : goal.returns-in_err-check_cell

@@ -1,6 +1,6 @@
 use Rattle.std.proofs.Common.{◌≡◌, drop}
 use Rattle.avro_schema.specs.View.{trees, branches_of}
-use Rattle.ice_manifest_reading.specs.Schemas.{is_cell, each_branch}
+use Rattle.ice_manifest_fields.specs.Schemas.{is_cell, each_branch}
 use Rattle.ice_manifest_reading.proofs.tuple.check_branches.Given as goal
 
 abbrev pub invariant-branches : goal.invariant-branches

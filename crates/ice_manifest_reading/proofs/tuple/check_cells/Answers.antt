@@ -1,6 +1,6 @@
 use Rattle.std.proofs.Common.{sym, ◌∙◌}
 use Rattle.std.proofs.lemmas.Result.{err_from_is_err_and}
-use Rattle.ice_manifest_reading.specs.Seen.{fields_seen}
+use Rattle.ice_manifest_fields.specs.Seen.{fields_seen}
 use Rattle.ice_manifest_reading.proofs.Cells.{fit_fails, fit_passes, fits_end}
 use Rattle.ice_manifest_reading.proofs.tuple.check_cells.Goals as goal
 

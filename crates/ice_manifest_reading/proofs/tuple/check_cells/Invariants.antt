@@ -1,6 +1,6 @@
 use Rattle.std.proofs.Common.{◌≡◌, drop}
-use Rattle.ice_manifest_reading.specs.Seen.{fields_seen}
-use Rattle.ice_manifest_reading.specs.Schemas.{cells_fit}
+use Rattle.ice_manifest_fields.specs.Seen.{fields_seen}
+use Rattle.ice_manifest_reading.specs.ManifestSchemas.{cells_fit}
 use Rattle.ice_manifest_reading.proofs.tuple.check_cells.Given as goal
 
 abbrev pub invariant-partition : goal.invariant-partition

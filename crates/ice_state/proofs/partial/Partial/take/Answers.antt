@@ -2,18 +2,7 @@ use Rattle.std.proofs.Common.{◌∙◌, ◌≡◌, ap, subst, sym, rules, refl,
 use Rattle.ice_manifest_reading.specs.declared.row.Row.{Row}
 use Rattle.ice_state.specs.Contents.{Content, took}
 use Rattle.ice_state.proofs.Contents.{with_row-took, took-in_world, length-took}
-use Rattle.ice_state.proofs.Scans.{spec_at-row}
-use Rattle.ice_state.proofs.Specs.{spec_has_id}
 use Rattle.ice_state.proofs.partial.Partial.take.Goals as goal
-
-pub read-requires : goal.read-requires
-read-requires c =
-    let row = c.index-wanted-i.is ∙ ap (λ (rs : List Row). get_or rs c.args.i c.index-wanted-i.result)
-    c.wanted.ensures in
-    let scan = c.args.scan.now in
-    spec_has_id scan.specs c.index-wanted-i.result.spec_id c.filter_of.result.spec
-    (sym (spec_at-row scan.specs scan.wanted c.args.i c.index-wanted-i.result c.requires.row row) ∙
-    c.filter_of.ensures.spec)
 
 pub returns-then-is_slot_taken-clause-ok : goal.returns-then-is_slot_taken-clause-ok
 returns-then-is_slot_taken-clause-ok c =

@@ -1,0 +1,20 @@
+use Rattle.std.proofs.Common.{sym, ◌∙◌}
+use Rattle.std.proofs.lemmas.Result.{err_from_is_err_and}
+use Rattle.ice_manifest_fields.specs.Schemas.{is_pair}
+use Rattle.ice_manifest_fields.proofs.Steps.{branch_fails, branch_passes, branches_end}
+use Rattle.ice_manifest_fields.proofs.columns.check_pairs.Goals as goal
+
+pub returns-in_err-check_pair : goal.returns-in_err-check_pair
+returns-in_err-check_pair c =
+    let p = err_from_is_err_and c.from_residual.result c.from_residual.ensures.1 in
+    rw (p.1, p.2) (sym (sym c.branches.invariant ∙ branch_fails (is_pair c.args.map) c.args.branches.now
+    c.branches.branch-index c.branch-item.result _ c.branches-test.true c.branch-item.is
+    c.in_err-check_pair.ensures))
+
+pub branches-preserved : goal.branches-preserved
+branches-preserved c = sym (branch_passes (is_pair c.args.map) c.args.branches.now c.branches.branch-index
+    c.branch-item.result _ c.branches-test.true c.branch-item.is c.in_ok-check_pair.ensures) ∙ c.branches.invariant
+
+pub returns : goal.returns
+returns c = sym (branches_end (is_pair c.args.map) c.args.branches.now c.branches.branch-index c.branches-test.false) ∙
+    c.branches.invariant

@@ -1,0 +1,19 @@
+use Rattle.std.proofs.Common.{sym, ◌∙◌}
+use Rattle.std.proofs.lemmas.Result.{err_from_is_err_and}
+use Rattle.ice_manifest_fields.specs.Schemas.{lists_wholes}
+use Rattle.ice_manifest_fields.proofs.Steps.{branch_fails, branch_passes, branches_end}
+use Rattle.ice_manifest_fields.proofs.shape.check_lists_of_wholes.Goals as goal
+
+pub returns-in_err-check_wholes : goal.returns-in_err-check_wholes
+returns-in_err-check_wholes c =
+    let p = err_from_is_err_and c.from_residual.result c.from_residual.ensures.1 in
+    rw (p.1, p.2) (sym (sym c.branches.invariant ∙ branch_fails lists_wholes c.args.branches.now c.branches.branch-index
+    c.branch-item.result _ c.branches-test.true c.branch-item.is c.in_err-check_wholes.ensures))
+
+pub branches-preserved : goal.branches-preserved
+branches-preserved c = sym (branch_passes lists_wholes c.args.branches.now c.branches.branch-index c.branch-item.result
+    _ c.branches-test.true c.branch-item.is c.in_ok-check_wholes.ensures) ∙ c.branches.invariant
+
+pub returns : goal.returns
+returns c = sym (branches_end lists_wholes c.args.branches.now c.branches.branch-index c.branches-test.false) ∙
+    c.branches.invariant

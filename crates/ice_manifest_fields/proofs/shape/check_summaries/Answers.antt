@@ -1,0 +1,19 @@
+use Rattle.std.proofs.Common.{sym, ◌∙◌}
+use Rattle.std.proofs.lemmas.Result.{err_from_is_err_and}
+use Rattle.ice_manifest_fields.specs.Schemas.{is_summary}
+use Rattle.ice_manifest_fields.proofs.Steps.{branch_fails, branch_passes, branches_end}
+use Rattle.ice_manifest_fields.proofs.shape.check_summaries.Goals as goal
+
+pub returns-in_err-check_summary : goal.returns-in_err-check_summary
+returns-in_err-check_summary c =
+    let p = err_from_is_err_and c.from_residual.result c.from_residual.ensures.1 in
+    rw (p.1, p.2) (sym (sym c.branches.invariant ∙ branch_fails is_summary c.args.branches.now c.branches.branch-index
+    c.branch-item.result _ c.branches-test.true c.branch-item.is c.in_err-check_summary.ensures))
+
+pub branches-preserved : goal.branches-preserved
+branches-preserved c = sym (branch_passes is_summary c.args.branches.now c.branches.branch-index c.branch-item.result _
+    c.branches-test.true c.branch-item.is c.in_ok-check_summary.ensures) ∙ c.branches.invariant
+
+pub returns : goal.returns
+returns c = sym (branches_end is_summary c.args.branches.now c.branches.branch-index c.branches-test.false) ∙
+    c.branches.invariant

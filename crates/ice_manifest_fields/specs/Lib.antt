@@ -1,0 +1,11 @@
+pub mod Types
+pub mod Schemas
+pub mod Fields
+pub mod Naming
+pub mod Each
+pub mod ColumnMaps
+pub mod Decimals
+pub mod Maps
+pub mod Kinds
+pub mod Seen
+pub mod Places

@@ -1,0 +1,351 @@
+//! What the fields of an object hold.
+
+ghost use Rattle.std.specs.Prelude.{◌≡◌, [], ◌∷◌, option_map, Some, IfOk};
+ghost use Rattle.std.specs.Option.{option_copied};
+ghost use Rattle.contract_words.specs.Outcome.{Gives};
+ghost use Rattle.avro_schema.specs.View.{tree};
+ghost use Rattle.avro_file.specs.Value.{whole, run};
+ghost use Rattle.avro_file.specs.View.{view, views, pair_with, long_pairs, bytes_pairs};
+ghost use Rattle.ice_manifest_fields.specs.Each.{each};
+ghost use Rattle.ice_manifest_fields.specs.Naming.{in_manifest, told};
+ghost use Rattle.ice_manifest_fields.specs.Fields.{asked, whole_of as whole_value, truth_of as truth_value};
+ghost use Rattle.ice_manifest_fields.specs.Fields.{binary_of as binary_value, items_of as items_value, there, at};
+ghost use Rattle.ice_manifest_fields.specs.Fields.{long_at as long_said, int_at as int_said, number_at as number_said};
+ghost use Rattle.ice_manifest_fields.specs.Fields.{path_at as path_said, truth_at as truth_said};
+ghost use Rattle.ice_manifest_fields.specs.Fields.{int_or_zero as int_or_zero_said, number_or_zero as number_or_zero_said};
+ghost use Rattle.ice_manifest_fields.specs.Fields.{optional_long as long_if_there, optional_int as int_if_there};
+ghost use Rattle.ice_manifest_fields.specs.Fields.{optional_number as number_if_there, optional_truth as truth_if_there};
+ghost use Rattle.ice_manifest_fields.specs.Fields.{optional_binary as binary_if_there, optional_path as path_if_there};
+ghost use Rattle.ice_manifest_fields.specs.Fields.{int_item as int_of_item, short_path as short_path_of};
+ghost use Rattle.ice_manifest_fields.specs.Fields.{ints_at as ints_said, within_32 as within, not_negative as natural};
+ghost use Rattle.ice_manifest_fields.specs.Seen.{result_map, object, pairs_in, listed};
+
+use crate::fault::{FieldFault, ManifestFault};
+use crate::picking::{itself, pick};
+use crate::shape::type_at;
+use avro_file::Datum;
+use avro_schema::{Field, Schema};
+use contract_words::Items;
+use ice_value::SequenceNumber;
+use std::alloc::{AllocError, Global};
+
+/// The whole number at a field; none where it is absent or null.
+pub fn optional_long(fields: &[Field], values: &[Datum], id: i32) -> Option<i64>
+    ensures { result ≡ long_if_there id (object fields.now values.now) }
+{
+    match pick(fields, values, id)? {
+        (_, Datum::Int(number)) => Some(i64::from(*number)),
+        (_, Datum::Long(number)) => Some(*number),
+        _ => None,
+    }
+}
+
+/// A whole number of 64 bits.
+pub fn long_at(fields: &[Field], values: &[Datum], id: i32) -> Result<i64, FieldFault>
+    ensures { result ≡ long_said id (object fields.now values.now) }
+{
+    match optional_long(fields, values, id) {
+        Some(number) => Ok(number),
+        None => Err(FieldFault::Missing(id)),
+    }
+}
+
+/// The number, where it fits 32 bits.
+fn within_32(number: i64, id: i32) -> Result<i32, FieldFault>
+    ensures { result ≡ within id number }
+{
+    if number < -2147483648 || number > 2147483647 {
+        Err(FieldFault::OutOfRange(id))
+    } else {
+        Ok(number as i32)
+    }
+}
+
+/// The number, where it is not negative.
+fn not_negative(number: i64, id: i32) -> Result<SequenceNumber, FieldFault>
+    ensures { result ≡ natural id number }
+{
+    if number < 0 {
+        return Err(FieldFault::OutOfRange(id));
+    }
+    match SequenceNumber::new(number as u64) {
+        Some(number) => Ok(number),
+        None => Err(FieldFault::OutOfRange(id)),
+    }
+}
+
+/// A whole number of 32 bits.
+#[tactic(auto, unfolding(crate::specs::Fields::int_at))]
+pub fn int_at(fields: &[Field], values: &[Datum], id: i32) -> Result<i32, FieldFault>
+    ensures { result ≡ int_said id (object fields.now values.now) }
+{
+    within_32(long_at(fields, values, id)?, id)
+}
+
+/// A whole number of 32 bits; none where it is absent or null.
+#[tactic(auto, unfolding(crate::specs::Fields::optional_int))]
+pub fn optional_int(fields: &[Field], values: &[Datum], id: i32) -> Result<Option<i32>, FieldFault>
+    ensures { result ≡ int_if_there id (object fields.now values.now) }
+{
+    match optional_long(fields, values, id) {
+        Some(number) => Ok(Some(within_32(number, id)?)),
+        None => Ok(None),
+    }
+}
+
+/// A sequence number.
+#[tactic(auto, unfolding(crate::specs::Fields::number_at))]
+fn number_at(fields: &[Field], values: &[Datum], id: i32) -> Result<SequenceNumber, FieldFault>
+    ensures { result ≡ number_said id (object fields.now values.now) }
+{
+    not_negative(long_at(fields, values, id)?, id)
+}
+
+/// A whole number of 32 bits; 0 where there is no such field.
+#[tactic(auto, unfolding(crate::specs::Fields::int_or_zero))]
+pub fn int_or_zero(fields: &[Field], values: &[Datum], id: i32) -> Result<i32, FieldFault>
+    ensures { result ≡ int_or_zero_said id (object fields.now values.now) }
+{
+    if type_at(fields, id).is_none() {
+        return Ok(0);
+    }
+    int_at(fields, values, id)
+}
+
+/// A sequence number; 0 where there is no such field.
+#[tactic(auto, unfolding(crate::specs::Fields::number_or_zero))]
+pub fn number_or_zero(
+    fields: &[Field],
+    values: &[Datum],
+    id: i32,
+) -> Result<SequenceNumber, FieldFault>
+    ensures { result ≡ number_or_zero_said id (object fields.now values.now) }
+{
+    if type_at(fields, id).is_none() {
+        return Ok(SequenceNumber::zero());
+    }
+    number_at(fields, values, id)
+}
+
+/// A sequence number; none where it is absent or null.
+#[tactic(auto, unfolding(crate::specs::Fields::optional_number))]
+pub fn optional_number(
+    fields: &[Field],
+    values: &[Datum],
+    id: i32,
+) -> Result<Option<SequenceNumber>, FieldFault>
+    ensures { result ≡ number_if_there id (object fields.now values.now) }
+{
+    match optional_long(fields, values, id) {
+        Some(number) => Ok(Some(not_negative(number, id)?)),
+        None => Ok(None),
+    }
+}
+
+/// A boolean; none where it is absent or null.
+pub fn optional_truth(fields: &[Field], values: &[Datum], id: i32) -> Option<bool>
+    ensures { result ≡ truth_if_there id (object fields.now values.now) }
+{
+    match pick(fields, values, id)? {
+        (_, Datum::Boolean(truth)) => Some(*truth),
+        _ => None,
+    }
+}
+
+/// A boolean.
+pub fn truth_at(fields: &[Field], values: &[Datum], id: i32) -> Result<bool, FieldFault>
+    ensures { result ≡ truth_said id (object fields.now values.now) }
+{
+    match optional_truth(fields, values, id) {
+        Some(truth) => Ok(truth),
+        None => Err(FieldFault::Missing(id)),
+    }
+}
+
+/// Bytes; none where they are absent or null.
+pub fn lent_binary<'d>(fields: &[Field], values: &[Datum<'d>], id: i32) -> Option<&'d [u8]>
+    ensures { option_copied result ≡ binary_if_there id (object fields.now values.now) }
+{
+    match pick(fields, values, id)? {
+        (_, Datum::Bytes(bytes)) => Some(bytes),
+        _ => None,
+    }
+}
+
+/// A copy of bytes; none where they are absent or null.
+pub fn optional_binary(
+    alloc: Global,
+    fields: &[Field],
+    values: &[Datum],
+    id: i32,
+) -> Result<Option<Items<u8>>, AllocError>
+    ensures { IfOk result (λ bytes. bytes ≡ binary_if_there id (object fields.now values.now)) }
+{
+    match lent_binary(fields, values, id) {
+        Some(bytes) => Ok(Some(Items::from_vec(bytes.to_vec(alloc)?))),
+        None => Ok(None),
+    }
+}
+
+/// The text, where a path may be so long.
+fn short_path<'d>(text: &'d str, id: i32) -> Result<&'d str, FieldFault>
+    ensures { result_map (λ path. path.now) result ≡ short_path_of id text.now }
+{
+    if text.len() <= 65535 {
+        Ok(text)
+    } else {
+        Err(FieldFault::OutOfRange(id))
+    }
+}
+
+/// A path of at most 65,535 bytes.
+#[tactic(auto, unfolding(crate::specs::Fields::path_at))]
+pub fn path_at<'a, 'd>(
+    fields: &'a [Field],
+    values: &'a [Datum<'d>],
+    id: i32,
+) -> Result<&'d str, FieldFault>
+    ensures { result_map (λ path. path.now) result ≡ path_said id (object fields.now values.now) }
+{
+    let Some((_, Datum::String(text))) = pick(fields, values, id) else {
+        return Err(FieldFault::Missing(id));
+    };
+    short_path(text, id)
+}
+
+/// A path of at most 65,535 bytes; none where it is absent or null.
+#[tactic(auto, unfolding(crate::specs::Fields::optional_path))]
+pub fn optional_path<'a, 'd>(
+    fields: &'a [Field],
+    values: &'a [Datum<'d>],
+    id: i32,
+) -> Result<Option<&'d str>, FieldFault>
+    ensures { result_map option_copied result ≡ path_if_there id (object fields.now values.now) }
+{
+    let Some((_, Datum::String(text))) = pick(fields, values, id) else {
+        return Ok(None);
+    };
+    Ok(Some(short_path(text, id)?))
+}
+
+/// A record of an int and a long.
+fn long_pair_built<'a>(alloc: Global, pair: &(i32, i64)) -> Result<Datum<'a>, AllocError>
+    ensures { IfOk result (λ built. view built ≡ pair_with pair.now.0 (whole pair.now.1)) }
+{
+    let mut values = Vec::with_capacity(alloc, 2)?;
+    values.push(Datum::Int(pair.0))?;
+    values.push(Datum::Long(pair.1))?;
+    Ok(Datum::Record(values))
+}
+
+/// A record of an int and bytes.
+fn bytes_pair_built<'a>(alloc: Global, pair: &(i32, &'a [u8])) -> Result<Datum<'a>, AllocError>
+    ensures { IfOk result (λ built. view built ≡ pair_with pair.now.0 (run pair.now.1.now)) }
+{
+    let mut values = Vec::with_capacity(alloc, 2)?;
+    values.push(Datum::Int(pair.0))?;
+    values.push(Datum::Bytes(pair.1))?;
+    Ok(Datum::Record(values))
+}
+
+fn long_pairs_built<'a>(alloc: Global, pairs: &[(i32, i64)]) -> Result<Vec<Datum<'a>>, AllocError>
+    ensures { IfOk result (λ built. views built.items ≡ long_pairs pairs.now) }
+{
+    let mut built = Vec::with_capacity(alloc, pairs.len())?;
+    'pairs: for pair in pairs {
+        built.push(long_pair_built(alloc, pair)?)?;
+    }
+    Ok(built)
+}
+
+fn bytes_pairs_built<'a>(
+    alloc: Global,
+    pairs: &[(i32, &'a [u8])],
+) -> Result<Vec<Datum<'a>>, AllocError>
+    ensures { IfOk result (λ built. views built.items ≡ bytes_pairs pairs.now) }
+{
+    let mut built = Vec::with_capacity(alloc, pairs.len())?;
+    'pairs: for pair in pairs {
+        built.push(bytes_pair_built(alloc, pair)?)?;
+    }
+    Ok(built)
+}
+
+/// A datum for each item of an array of pairs. Any other value gives none.
+pub fn pairs_built<'d>(alloc: Global, datum: &Datum<'d>) -> Result<Vec<Datum<'d>>, AllocError>
+    ensures { IfOk result (λ built. views built.items ≡ pairs_in datum.now) }
+{
+    match datum {
+        Datum::LongPairs(pairs) => long_pairs_built(alloc, pairs),
+        Datum::BytesPairs(pairs) => bytes_pairs_built(alloc, pairs),
+        _ => Ok(Vec::new(alloc)),
+    }
+}
+
+/// The items of a list and their type, where its pairs were built. Any other value has none.
+pub fn items_of<'a, 'd>(
+    schema: &'a Schema,
+    datum: &'a Datum<'d>,
+    built: &'a [Datum<'d>],
+) -> (&'a Schema, &'a [Datum<'d>])
+    requires { views built.now ≡ pairs_in datum.now }
+    ensures { listed result ≡ items_value (Some (tree schema.now, view datum.now)) }
+{
+    match (schema, datum) {
+        (Schema::Array(items, _, _), Datum::Array(data)) => (items, data),
+        (Schema::Array(items, _, _), Datum::LongPairs(_)) => (items, built),
+        (Schema::Array(items, _, _), Datum::BytesPairs(_)) => (items, built),
+        _ => (schema, &built[..0]),
+    }
+}
+
+/// A whole number of 32 bits that is an item of a list.
+#[tactic(auto, unfolding(crate::specs::Fields::int_item))]
+fn int_item(schema: &Schema, datum: &Datum, id: i32) -> Result<i32, FieldFault>
+    ensures { result ≡ int_of_item id (tree schema.now, view datum.now) }
+{
+    match itself(schema, datum) {
+        Some((_, Datum::Int(number))) => within_32(i64::from(*number), id),
+        Some((_, Datum::Long(number))) => within_32(*number, id),
+        _ => Err(FieldFault::Missing(id)),
+    }
+}
+
+/// Whole numbers of 32 bits, the items of a list.
+fn int_items(
+    alloc: Global,
+    schema: &Schema,
+    items: &[Datum],
+    id: i32,
+) -> Result<Items<i32>, ManifestFault>
+    ensures { Gives ManifestFault.Memory (λ ids. ids) result
+        (told in_manifest (each (int_of_item id) (listed (schema.entry, items.entry)))) }
+{
+    let mut ids = Items::new(alloc);
+    'items: for item in items {
+        ids.push(int_item(schema, item, id)?)?;
+    }
+    Ok(ids)
+}
+
+/// The whole numbers of a list, whose items have an id; none where there is no list.
+#[tactic(auto, unfolding(crate::specs::Fields::ints_at, crate::specs::Each::each))]
+pub fn ints_at(
+    alloc: Global,
+    fields: &[Field],
+    values: &[Datum],
+    id: i32,
+    item: i32,
+) -> Result<Items<i32>, ManifestFault>
+    ensures { Gives ManifestFault.Memory (λ ids. ids) result
+        (told in_manifest (ints_said id item (object fields.now values.now))) }
+{
+    match pick(fields, values, id) {
+        Some((schema, datum)) => {
+            let built = pairs_built(alloc, datum)?;
+            let (schema, items) = items_of(schema, datum, &built);
+            int_items(alloc, schema, items, item)
+        }
+        None => Ok(Items::new(alloc)),
+    }
+}

@@ -1,0 +1,24 @@
+//! What the fields of a manifest list's rows and of a manifest's entries hold, found by field id, and which types they may
+//! have; or the first fault.
+#![tactic(auto)]
+
+mod columns;
+mod decimal;
+mod fault;
+mod field;
+mod kind;
+mod laws;
+mod picking;
+mod shape;
+
+pub use columns::{check_column_fields, columns_of};
+pub use decimal::shortest;
+pub use fault::{FieldFault, ListFault, ManifestFault};
+pub use field::{
+    int_at, int_or_zero, ints_at, items_of, long_at, number_or_zero, optional_binary, optional_int,
+    optional_long, optional_number, optional_path, optional_truth, pairs_built, path_at, truth_at,
+};
+pub use kind::Kind;
+pub use laws::decimals_are_kept_shortest;
+pub use picking::{itself, pick, pick_record, record_values};
+pub use shape::{branches_of, check_ids, check_row_fields, fields_of, optional, required, type_at};

@@ -1,8 +1,0 @@
-use Rattle.std.proofs.Common.{◌≡◌, drop}
-use Rattle.ice_manifest_reading.specs.Seen.{fields_seen}
-use Rattle.ice_manifest_reading.specs.Places.{place_from}
-use Rattle.ice_manifest_reading.proofs.pick.position_of.Given as goal
-
-abbrev pub invariant-fields : goal.invariant-fields
-invariant-fields l = place_from l.position l.id (fields_seen (drop l.position l.fields)) ≡ place_from 0 l.id
-    (fields_seen l.fields)
