@@ -51,22 +51,22 @@ told_never {A} {E} named e tells (Err f) = λ h. let same : named.of_field f ≡
 
 contained_never : {A E : Type 0} (named : Naming E) (e : E) → Tells named e → (r : Result A AvroFault)
     → Never container.Memory r → Never e (contained named r)
-contained_never {A} {E} named e tells (Ok x) no = λ h. cc
-contained_never {A} {E} named e tells (Err f) no = λ h. let same : named.of_container f ≡ e = cc in
-    tells.1 f (λ is. no (ap (λ (g : AvroFault). Err g) is)) same
+contained_never {A} {E} named e tells (Ok x) never = λ h. cc
+contained_never {A} {E} named e tells (Err f) never = λ h. let same : named.of_container f ≡ e = cc in
+    tells.1 f (λ is. never (ap (λ (g : AvroFault). Err g) is)) same
 
 ended_never : {A E : Type 0} (named : Naming E) (e : E) → Tells named e → (ending : Option AvroFault) (x : A)
     → ending ≢ Some container.Memory → Never e (ended named ending x)
-ended_never {A} {E} named e tells None x no = λ h. cc
-ended_never {A} {E} named e tells (Some f) x no = λ h. let same : named.of_container f ≡ e = cc in
-    tells.1 f (λ is. no (ap (λ (g : AvroFault). Some g) is)) same
+ended_never {A} {E} named e tells None x never = λ h. cc
+ended_never {A} {E} named e tells (Some f) x never = λ h. let same : named.of_container f ≡ e = cc in
+    tells.1 f (λ is. never (ap (λ (g : AvroFault). Some g) is)) same
 
 each_never : {Y X E : Type 0} (e : E) (says : Y → Result X E) → ((y : Y) → Never e (says y)) → (ys : List Y)
     → Never e (each says ys)
 unfolding each
-each_never {Y} {X} {E} e says no [] = λ h. cc
-each_never {Y} {X} {E} e says no (y ∷ ys) = bind_never e (says y) (λ x. each says ys >>= λ xs. Ok (x ∷ xs)) (no y)
-    (λ x is. bind_never e (each says ys) (λ xs. Ok (x ∷ xs)) (each_never e says no ys) (λ xs was g. cc))
+each_never {Y} {X} {E} e says never [] = λ h. cc
+each_never {Y} {X} {E} e says never (y ∷ ys) = bind_never e (says y) (λ x. each says ys >>= λ xs. Ok (x ∷ xs)) (never y)
+    (λ x is. bind_never e (each says ys) (λ xs. Ok (x ∷ xs)) (each_never e says never ys) (λ xs was g. cc))
 
 -- what is still to come of a file that was opened: no refusal, and no want of memory at its end
 opened_runs : (bytes : List ℕ) (o : Opened) (f : AvroFault) → opened_at bytes ≡ Ok o → o.ahead ≢ refusing f
@@ -104,18 +104,18 @@ list_field BadContent = λ h. cc
 list_field (FloatPartition id) = λ h. cc
 
 list_container : (f : AvroFault) → f ≢ container.Memory → in_list.of_container f ≢ list.Memory
-list_container container.NotAvro no = λ h. cc
-list_container (container.Codec n) no = λ h. cc
-list_container (container.Truncated n) no = λ h. cc
-list_container container.BadNumber no = λ h. cc
-list_container container.BadUnion no = λ h. cc
-list_container container.BadUtf8 no = λ h. cc
-list_container container.BadSync no = λ h. cc
-list_container container.BlockSize no = λ h. cc
-list_container (container.Schema s) no = λ h. cc
-list_container container.Memory no = λ h. no refl
-list_container container.BadBoolean no = λ h. cc
-list_container container.TooManyItems no = λ h. cc
+list_container container.NotAvro never = λ h. cc
+list_container (container.Codec n) never = λ h. cc
+list_container (container.Truncated n) never = λ h. cc
+list_container container.BadNumber never = λ h. cc
+list_container container.BadUnion never = λ h. cc
+list_container container.BadUtf8 never = λ h. cc
+list_container container.BadSync never = λ h. cc
+list_container container.BlockSize never = λ h. cc
+list_container (container.Schema s) never = λ h. cc
+list_container container.Memory never = λ h. never refl
+list_container container.BadBoolean never = λ h. cc
+list_container container.TooManyItems never = λ h. cc
 
 list_tells : Tells in_list list.Memory
 list_tells = (list_field, list_container)
@@ -123,11 +123,11 @@ list_tells = (list_field, list_container)
 rows_never : (fs : Fields) (now : Ahead) → ((f : AvroFault) → now ≢ refusing f)
     → ((vs : List Value) → now ≢ running vs (Some container.Memory)) → Never list.Memory (rows_ahead fs now)
 unfolding rows_ahead
-rows_never fs (running vs ending) runs no = bind_never list.Memory (each (says_row fs) vs) (ended in_list ending)
+rows_never fs (running vs ending) runs never = bind_never list.Memory (each (says_row fs) vs) (ended in_list ending)
     (each_never list.Memory (says_row fs) (λ v. told_never in_list list.Memory list_tells (row_of (structure fs, v))) vs)
     (λ rows is. ended_never in_list list.Memory list_tells ending rows
-    (λ (was : ending ≡ Some container.Memory). no vs (ap (λ (x : Option AvroFault). running vs x) was)))
-rows_never fs (refusing f) runs no = λ h. runs f refl
+    (λ (was : ending ≡ Some container.Memory). never vs (ap (λ (x : Option AvroFault). running vs x) was)))
+rows_never fs (refusing f) runs never = λ h. runs f refl
 
 unless_never : (path : Option (List ℕ)) (rows : List Row) → Never list.Memory (unless_twice path rows)
 unless_never (Some path) rows = λ h. cc
@@ -156,18 +156,18 @@ manifest_field BadContent = λ h. cc
 manifest_field (FloatPartition id) = λ h. cc
 
 manifest_container : (f : AvroFault) → f ≢ container.Memory → in_manifest.of_container f ≢ manifest.Memory
-manifest_container container.NotAvro no = λ h. cc
-manifest_container (container.Codec n) no = λ h. cc
-manifest_container (container.Truncated n) no = λ h. cc
-manifest_container container.BadNumber no = λ h. cc
-manifest_container container.BadUnion no = λ h. cc
-manifest_container container.BadUtf8 no = λ h. cc
-manifest_container container.BadSync no = λ h. cc
-manifest_container container.BlockSize no = λ h. cc
-manifest_container (container.Schema s) no = λ h. cc
-manifest_container container.Memory no = λ h. no refl
-manifest_container container.BadBoolean no = λ h. cc
-manifest_container container.TooManyItems no = λ h. cc
+manifest_container container.NotAvro never = λ h. cc
+manifest_container (container.Codec n) never = λ h. cc
+manifest_container (container.Truncated n) never = λ h. cc
+manifest_container container.BadNumber never = λ h. cc
+manifest_container container.BadUnion never = λ h. cc
+manifest_container container.BadUtf8 never = λ h. cc
+manifest_container container.BadSync never = λ h. cc
+manifest_container container.BlockSize never = λ h. cc
+manifest_container (container.Schema s) never = λ h. cc
+manifest_container container.Memory never = λ h. never refl
+manifest_container container.BadBoolean never = λ h. cc
+manifest_container container.TooManyItems never = λ h. cc
 
 manifest_tells : Tells in_manifest manifest.Memory
 manifest_tells = (manifest_field, manifest_container)
@@ -200,9 +200,9 @@ live_at_never row spec k status x =
 
 unless_deleted_never : (status : Status) (r : Result Live ManifestFault) → Never manifest.Memory r
     → Never manifest.Memory (unless_deleted status r)
-unless_deleted_never Deleted r no = λ h. cc
-unless_deleted_never Existing r no = bind_never manifest.Memory r (λ l. Ok (Some l)) no (λ l is g. cc)
-unless_deleted_never Added r no = bind_never manifest.Memory r (λ l. Ok (Some l)) no (λ l is g. cc)
+unless_deleted_never Deleted r never = λ h. cc
+unless_deleted_never Existing r never = bind_never manifest.Memory r (λ l. Ok (Some l)) never (λ l is g. cc)
+unless_deleted_never Added r never = bind_never manifest.Memory r (λ l. Ok (Some l)) never (λ l is g. cc)
 
 status_never : (z : ℤ) → Never manifest.Memory (status_of z)
 status_never z = cond_never manifest.Memory (int_eq z (pos 0)) (Ok Existing) _ (λ g. cc)
@@ -222,12 +222,12 @@ entries_never : (row : Row) (spec : Spec) (fs : Fields) (now : Ahead) → ((f : 
     → ((vs : List Value) → now ≢ running vs (Some container.Memory))
     → Never manifest.Memory (entries_ahead row spec fs 0 now)
 unfolding entries_ahead
-entries_never row spec fs (running vs ending) runs no =
+entries_never row spec fs (running vs ending) runs never =
     bind_never manifest.Memory (each (says_entry row spec fs) (enumerate_from 0 vs)) _ (each_never manifest.Memory
     (says_entry row spec fs) (λ p. entry_never row spec p.0 (structure fs, p.1)) (enumerate_from 0 vs))
     (λ read is. ended_never in_manifest manifest.Memory manifest_tells ending (kept read)
-    (λ (was : ending ≡ Some container.Memory). no vs (ap (λ (x : Option AvroFault). running vs x) was)))
-entries_never row spec fs (refusing f) runs no = λ h. runs f refl
+    (λ (was : ending ≡ Some container.Memory). never vs (ap (λ (x : Option AvroFault). running vs x) was)))
+entries_never row spec fs (refusing f) runs never = λ h. runs f refl
 
 pub manifest_never : Opening → Objects → (row : Row) (spec : Spec) (bytes : List ℕ)
     → live_of row spec bytes ≢ Err manifest.Memory
