@@ -116,9 +116,10 @@ pub told_apart : TellsApart
 told_apart ps ids apart = by_naming (are_apart (map (λ (p : PartitionField). avro_name p.name) ps)) ps refl ids apart
 
 pub own_where_they_differ : OwnWhereTheyDiffer
-own_where_they_differ ps =
-    (λ e. let apart = own_apart (are_apart (own_names ps)) e in (filled_apart _ apart, apart_distinct _ apart),
-    λ both. rw (distinct_apart (own_names ps) both.0 both.1) refl)
+own_where_they_differ ps = (
+  λ e. let apart = own_apart (are_apart (own_names ps)) e in (filled_apart _ apart, apart_distinct _ apart),
+  λ both. rw (distinct_apart (own_names ps) both.0 both.1) refl,
+)
 
 -- ---- names that Avro has
 

@@ -12,9 +12,11 @@ ghost use Rattle.ice_manifest_fields.specs.Fields.{asked, whole_of as whole_valu
 ghost use Rattle.ice_manifest_fields.specs.Fields.{binary_of as binary_value, items_of as items_value, there, at};
 ghost use Rattle.ice_manifest_fields.specs.Fields.{long_at as long_said, int_at as int_said, number_at as number_said};
 ghost use Rattle.ice_manifest_fields.specs.Fields.{path_at as path_said, truth_at as truth_said};
-ghost use Rattle.ice_manifest_fields.specs.Fields.{int_or_zero as int_or_zero_said, number_or_zero as number_or_zero_said};
+ghost use Rattle.ice_manifest_fields.specs.Fields.{int_or_zero as int_or_zero_said};
+ghost use Rattle.ice_manifest_fields.specs.Fields.{number_or_zero as number_or_zero_said};
 ghost use Rattle.ice_manifest_fields.specs.Fields.{optional_long as long_if_there, optional_int as int_if_there};
-ghost use Rattle.ice_manifest_fields.specs.Fields.{optional_number as number_if_there, optional_truth as truth_if_there};
+ghost use Rattle.ice_manifest_fields.specs.Fields.{optional_number as number_if_there};
+ghost use Rattle.ice_manifest_fields.specs.Fields.{optional_truth as truth_if_there};
 ghost use Rattle.ice_manifest_fields.specs.Fields.{optional_binary as binary_if_there, optional_path as path_if_there};
 ghost use Rattle.ice_manifest_fields.specs.Fields.{int_item as int_of_item, short_path as short_path_of};
 ghost use Rattle.ice_manifest_fields.specs.Fields.{ints_at as ints_said, within_32 as within, not_negative as natural};

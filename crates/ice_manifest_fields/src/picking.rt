@@ -7,7 +7,8 @@ ghost use Rattle.avro_file.specs.View.{view};
 ghost use Rattle.avro_file.specs.Picking.{present, of_branch, field_value, unless_null as unless_null_value};
 ghost use Rattle.avro_file.specs.Picking.{pick as pick_value};
 ghost use Rattle.ice_manifest_fields.specs.Fields.{at, there, record_of};
-ghost use Rattle.ice_manifest_fields.specs.Seen.{fields_seen, values as values_seen, object, typed, record_lent, as_record};
+ghost use Rattle.ice_manifest_fields.specs.Seen.{fields_seen, values as values_seen, object, typed, record_lent};
+ghost use Rattle.ice_manifest_fields.specs.Seen.{as_record};
 ghost use Rattle.ice_manifest_fields.specs.Places.{place_of};
 
 use avro_file::Datum;

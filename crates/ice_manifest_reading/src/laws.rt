@@ -7,9 +7,12 @@ ghost use Rattle.ice_manifest_fields.specs.declared.fault.ManifestFault.TheVaria
 ghost use Rattle.ice_manifest_reading.specs.declared.row.Row.{Row};
 ghost use Rattle.ice_manifest_reading.specs.Lists.{rows_of};
 ghost use Rattle.ice_manifest_reading.specs.Manifests.{live_of};
-ghost use Rattle.ice_manifest_reading.specs.Laws.{ReadsRowsExactly, GivesHeldRows, GivesTheRows, RefusesTwo, RefusesTheLeast};
-ghost use Rattle.ice_manifest_reading.specs.Laws.{ReadsEntriesExactly, GivesHeldEntries, KeepsItsNumber, InheritsTheRows};
-ghost use Rattle.ice_manifest_reading.specs.Laws.{NeedsItsOwn, HasZeroUnderZero, KeepsItsFileNumber, InheritsTheRowsForItsFile};
+ghost use Rattle.ice_manifest_reading.specs.Laws.{ReadsRowsExactly, GivesHeldRows, GivesTheRows, RefusesTwo};
+ghost use Rattle.ice_manifest_reading.specs.Laws.{RefusesTheLeast};
+ghost use Rattle.ice_manifest_reading.specs.Laws.{ReadsEntriesExactly, GivesHeldEntries, KeepsItsNumber};
+ghost use Rattle.ice_manifest_reading.specs.Laws.{InheritsTheRows};
+ghost use Rattle.ice_manifest_reading.specs.Laws.{NeedsItsOwn, HasZeroUnderZero, KeepsItsFileNumber};
+ghost use Rattle.ice_manifest_reading.specs.Laws.{InheritsTheRowsForItsFile};
 ghost use Rattle.ice_manifest_reading.specs.Laws.{HasNoFileNumber, HasZeroForItsFile};
 ghost use Rattle.ice_manifest_reading.specs.Laws.{KeepsItsSnapshot, InheritsItsSnapshot, FitsItsRow, AreOfTheirSpec};
 ghost use Rattle.ice_manifest_reading.specs.Laws.{HasACellForEach, IsOfDeletesWhereReferenced};
@@ -42,8 +45,8 @@ pub fn entries_are_the_live_ones()
     held_is_read();
 }
 
-/// An entry has the sequence number that it names. Where it names none an added entry has its row's, and an existing one
-/// is refused, but has 0 where its row has 0.
+/// An entry has the sequence number that it names. Where it names none an added entry has its row's, and an existing
+/// one is refused, but has 0 where its row has 0.
 pub fn numbers_are_inherited()
     ensures own { KeepsItsNumber }
     ensures added { InheritsTheRows }
@@ -51,8 +54,8 @@ pub fn numbers_are_inherited()
     ensures zero { HasZeroUnderZero }
 {}
 
-/// A file has the sequence number that its entry names for it. Without one the file of an added entry has the row's, and
-/// that of an existing one has none, but 0 where the row has 0.
+/// A file has the sequence number that its entry names for it. Without one the file of an added entry has the row's,
+/// and that of an existing one has none, but 0 where the row has 0.
 pub fn file_numbers_are_inherited()
     ensures own { KeepsItsFileNumber }
     ensures added { InheritsTheRowsForItsFile }
@@ -66,8 +69,8 @@ pub fn snapshots_are_inherited()
     ensures none { InheritsItsSnapshot }
 {}
 
-/// A list or a manifest of version 1 has no field for what was not known then, and this is 0: its rows are of data, their
-/// numbers are 0, and its files hold data. A field that is there and null is refused.
+/// A list or a manifest of version 1 has no field for what was not known then, and this is 0: its rows are of data,
+/// their numbers are 0, and its files hold data. A field that is there and null is refused.
 pub fn absent_fields_are_zero()
     ensures absent { IsZeroWhereAbsent }
     ensures null { IsRefusedWhereNull }
@@ -91,9 +94,9 @@ pub fn rows_are_refused_together()
     ensures many { RefusesManyExactly }
 {}
 
-/// Each entry holds what its row's content allows: data under a row of data, deletes under one of deletes. Only position
-/// deletes name one data file that they are about. An entry is of its row's spec, and has a partition value for each
-/// field of the spec.
+/// Each entry holds what its row's content allows: data under a row of data, deletes under one of deletes. Only
+/// position deletes name one data file that they are about. An entry is of its row's spec, and has a partition value
+/// for each field of the spec.
 pub fn contents_fit()
     ensures content { FitsItsRow }
     ensures referenced { IsOfDeletesWhereReferenced }

@@ -13,7 +13,8 @@ ghost use Rattle.ice_manifest_fields.specs.Naming.{in_list, told};
 ghost use Rattle.ice_manifest_fields.specs.Seen.{fields_seen, object, listed};
 ghost use Rattle.ice_manifest_reading.specs.Lists.{rows_of, row_of as row_said, row_content as content_in};
 ghost use Rattle.ice_manifest_reading.specs.Lists.{content_at as content_said, counts_at as counts_said};
-ghost use Rattle.ice_manifest_reading.specs.Lists.{summary_in as summary_said, summary_of as summary_of_item, summaries_in};
+ghost use Rattle.ice_manifest_reading.specs.Lists.{summary_in as summary_said, summary_of as summary_of_item};
+ghost use Rattle.ice_manifest_reading.specs.Lists.{summaries_in};
 ghost use Rattle.ice_manifest_reading.specs.Lists.{rows_ahead, path_twice as twice_in, in_order as ordered};
 ghost use Rattle.ice_manifest_reading.specs.Lists.{checked as checked_in, path_order};
 

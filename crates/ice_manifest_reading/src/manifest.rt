@@ -12,10 +12,12 @@ ghost use Rattle.ice_manifest_fields.specs.Seen.{result_map, fields_seen, object
 ghost use Rattle.ice_manifest_reading.specs.Manifests.{live_of, status_of as status_in, status_at as status_said};
 ghost use Rattle.ice_manifest_reading.specs.Manifests.{content_of as content_in, content_at as content_said};
 ghost use Rattle.ice_manifest_reading.specs.Manifests.{inherited as inherited_in, file_inherited as file_inherited_in};
-ghost use Rattle.ice_manifest_reading.specs.Manifests.{sequence_at as sequence_said, file_sequence_at as file_sequence_said};
+ghost use Rattle.ice_manifest_reading.specs.Manifests.{sequence_at as sequence_said};
+ghost use Rattle.ice_manifest_reading.specs.Manifests.{file_sequence_at as file_sequence_said};
 ghost use Rattle.ice_manifest_reading.specs.Manifests.{snapshot_at as snapshot_said, referenced_at as referenced_said};
 ghost use Rattle.ice_manifest_reading.specs.Manifests.{file_of as file_said};
-ghost use Rattle.ice_manifest_reading.specs.Manifests.{live_at as live_said, entry_of as entry_said, entries_ahead, kept_of};
+ghost use Rattle.ice_manifest_reading.specs.Manifests.{live_at as live_said, entry_of as entry_said, entries_ahead};
+ghost use Rattle.ice_manifest_reading.specs.Manifests.{kept_of};
 ghost use Rattle.ice_manifest_reading.specs.Manifests.{kept_behind, entries_kept, entries_of};
 ghost use Rattle.ice_meta.specs.Partitioning.{is_unpartitioned};
 

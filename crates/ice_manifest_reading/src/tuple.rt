@@ -10,7 +10,8 @@ ghost use Rattle.ice_manifest_reading.specs.ManifestSchemas.{cells_fit, is_tuple
 ghost use Rattle.ice_manifest_fields.specs.Schemas.{type_at as type_said};
 ghost use Rattle.ice_manifest_reading.specs.ManifestSchemas.{tuple_in as tuple_within};
 ghost use Rattle.ice_manifest_reading.specs.Partitions.{bytes_kind as kind_of_bytes, kept_bytes as bytes_to_keep};
-ghost use Rattle.ice_manifest_reading.specs.Partitions.{cell_at as cell_said, cells_of as cells_said, tuple_at as tuple_said};
+ghost use Rattle.ice_manifest_reading.specs.Partitions.{cell_at as cell_said, cells_of as cells_said};
+ghost use Rattle.ice_manifest_reading.specs.Partitions.{tuple_at as tuple_said};
 
 use avro_file::Datum;
 use avro_schema::{BytesKind, Field, Schema};
