@@ -1,6 +1,6 @@
 -- Which types the fields of a schema have, which a row of a manifest list and parts of a data file must have, and the
--- first that is missing or does not fit. Apache Iceberg table spec v2, "Manifest Lists" and "Manifests"; the order is this
--- program's own.
+-- first that is missing or does not fit. Apache Iceberg table spec v2, "Manifest Lists" and "Manifests"; the order is
+-- this program's own.
 use Rattle.std.specs.Prelude.{ℤ, pos, Bool, true, Option, Some, None, Result, Ok, Err, if◌then◌else◌}
 use Rattle.std.specs.Ordering.{int_eq}
 use Rattle.std.specs.Option.{option_eq}

@@ -1,5 +1,5 @@
-//! What the fields of a manifest list's rows and of a manifest's entries hold, found by field id, and which types they may
-//! have; or the first fault.
+//! What the fields of a manifest list's rows and of a manifest's entries hold, found by field id, and which types they
+//! may have; or the first fault.
 #![tactic(auto)]
 
 mod columns;

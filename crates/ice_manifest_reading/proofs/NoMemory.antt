@@ -32,8 +32,8 @@ use Rattle.ice_manifest_reading.specs.declared.status.Status.TheVariants.{Existi
 use Rattle.ice_manifest_reading.specs.ManifestSchemas.{entry_fields}
 use Rattle.ice_manifest_reading.specs.Lists.{row_of, says_row, rows_ahead, path_twice, unless_twice, in_order}
 use Rattle.ice_manifest_reading.specs.Lists.{rows_of}
-use Rattle.ice_manifest_reading.specs.Manifests.{status_of, status_at, inherited, sequence_at, file_sequence_at, file_of}
-use Rattle.ice_manifest_reading.specs.Manifests.{live_at, unless_deleted, entry_of, says_entry, kept}
+use Rattle.ice_manifest_reading.specs.Manifests.{status_of, status_at, inherited, sequence_at, file_sequence_at}
+use Rattle.ice_manifest_reading.specs.Manifests.{file_of, live_at, unless_deleted, entry_of, says_entry, kept}
 use Rattle.ice_manifest_reading.specs.Manifests.{entries_ahead, live_of}
 use Rattle.ice_manifest_reading.proofs.Guards.{ok_is, went_on}
 
@@ -124,7 +124,8 @@ rows_never : (fs : Fields) (now : Ahead) → ((f : AvroFault) → now ≢ refusi
     → ((vs : List Value) → now ≢ running vs (Some container.Memory)) → Never list.Memory (rows_ahead fs now)
 unfolding rows_ahead
 rows_never fs (running vs ending) runs never = bind_never list.Memory (each (says_row fs) vs) (ended in_list ending)
-    (each_never list.Memory (says_row fs) (λ v. told_never in_list list.Memory list_tells (row_of (structure fs, v))) vs)
+    (each_never list.Memory (says_row fs) (λ v. told_never in_list list.Memory list_tells
+    (row_of (structure fs, v))) vs)
     (λ rows is. ended_never in_list list.Memory list_tells ending rows
     (λ (was : ending ≡ Some container.Memory). never vs (ap (λ (x : Option AvroFault). running vs x) was)))
 rows_never fs (refusing f) runs never = λ h. runs f refl
