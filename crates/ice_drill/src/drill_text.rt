@@ -26,7 +26,7 @@ fn put_drill<S: Sink>(
     commits: u64,
     sequence: u64,
     lines: &Lines<'_>,
-    deletes: u64,
+    deletes: u128,
 ) -> Result<(), SinkFault>
     requires { deletes ≡ sum_by deletes_of lines.now }
     ensures { Sent S.taken S.may_fail sink.old page.old result sink.new page.new
@@ -54,11 +54,8 @@ fn write_drill<S: Sink>(
         AppendsFront (S.taken sink.old) (S.taken sink.new) (drill_text commits sequence lines.now) }
     ensures cause { IsErrOf result RunFault.Write → S.may_fail sink.old }
 {
-    // No memory holds a plan with more delete lines than a number of 64 bits.
-    let Some(deletes) = count_deletes(lines) else {
-        return Err(RunFault::Memory);
-    };
     let mut page = Page::new(alloc)?;
+    let deletes = count_deletes(lines);
     put_drill(&mut page, sink, commits, sequence, lines, deletes)?;
     page.flush(sink)?;
     Ok(())

@@ -1,6 +1,6 @@
 //! The text of a plan, sent to a sink piece by piece.
 
-ghost use Rattle.std.specs.Prelude.{◌≡◌, ◌≤◌, ◌^◌, ◌∷◌, sum_by, MatchOption};
+ghost use Rattle.std.specs.Prelude.{◌≡◌, ◌∷◌, sum_by};
 ghost use Rattle.std.specs.List.{flat_map};
 ghost use Rattle.std.specs.Fmt.{signed_decimal};
 ghost use Rattle.ice_print.specs.PlanTexts.{totals_text, ids_text, numbered_path, size_text, file_text, position_text};
@@ -12,17 +12,18 @@ use crate::page::Page;
 use crate::sink::{Sink, SinkFault};
 use ice_state::{Line, Lines, PlanFile, PlanFiles};
 
-/// How many lines of delete files a plan has; none where that takes more than 64 bits, as it does in no memory.
-pub fn count_deletes(lines: &Lines<'_>) -> Option<u64>
-    ensures { MatchOption result (2 ^ 64 ≤ sum_by deletes_of lines.now) (λ n. n ≡ sum_by deletes_of lines.now) }
+/// How many lines of delete files a plan has. A delete file has a line for each data file that it applies to, so there
+/// may be more of them than memory has bytes.
+pub fn count_deletes(lines: &Lines<'_>) -> u128
+    ensures { result ≡ sum_by deletes_of lines.now }
 {
-    let mut deletes: u64 = 0;
+    let mut deletes: u128 = 0;
     for i in 0..lines.len() {
         let line = lines.line(i);
-        deletes = deletes.checked_add(line.positions().len() as u64)?;
-        deletes = deletes.checked_add(line.equalities().len() as u64)?;
+        deletes += line.positions().len() as u128;
+        deletes += line.equalities().len() as u128;
     }
-    Some(deletes)
+    deletes
 }
 
 /// Sends the text of a plan: a line for each data file, each with the lines of its delete files, and then their
@@ -32,7 +33,7 @@ pub fn put_plan<S: Sink>(
     page: &mut Page,
     sink: &mut S,
     lines: &Lines<'_>,
-    deletes: u64,
+    deletes: u128,
 ) -> Result<(), SinkFault>
     requires { deletes ≡ sum_by deletes_of lines.now }
     ensures { Sent S.taken S.may_fail sink.old page.old result sink.new page.new (plan_text lines.now) }
@@ -47,7 +48,7 @@ pub fn put_totals<S: Sink>(
     page: &mut Page,
     sink: &mut S,
     lines: &Lines<'_>,
-    deletes: u64,
+    deletes: u128,
 ) -> Result<(), SinkFault>
     requires { deletes ≡ sum_by deletes_of lines.now }
     ensures { Sent S.taken S.may_fail sink.old page.old result sink.new page.new (totals_text lines.now) }

@@ -1,6 +1,6 @@
 //! The lines of a plan as they are lent: whoever owns the files, callers see the same.
 
-ghost use Rattle.std.specs.Prelude.{◌≡◌, ◌<◌, length, map, Some, slice_get};
+ghost use Rattle.std.specs.Prelude.{◌≡◌, ◌<◌, ◌^◌, length, map, Some, slice_get};
 
 use contract_words::Items;
 use ice_manifest_reading::Entry;
@@ -132,7 +132,8 @@ impl<'a> Model for PlanFiles<'a> {
 impl<'a> PlanFiles<'a> {
     /// How many there are.
     pub fn len(&self) -> usize
-        ensures { result ≡ length self.now }
+        ensures counted { result ≡ length self.now }
+        ensures few { result < 2 ^ 63 }
     {
         self.places.len()
     }
@@ -218,7 +219,8 @@ impl<'a> Model for Lines<'a> {
 impl<'a> Lines<'a> {
     /// How many there are.
     pub fn len(&self) -> usize
-        ensures { result ≡ length self.now }
+        ensures counted { result ≡ length self.now }
+        ensures few { result < 2 ^ 63 }
     {
         self.places.len()
     }

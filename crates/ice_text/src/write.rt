@@ -19,11 +19,8 @@ pub fn write_plan<S: Sink>(alloc: Global, lines: &Lines<'_>, sink: &mut S) -> Re
         AppendsFront (S.taken sink.old) (S.taken sink.new) (plan_text lines.now) }
     ensures cause { IsErrOf result RunFault.Write → S.may_fail sink.old }
 {
-    // No memory holds a plan with more delete lines than a number of 64 bits.
-    let Some(deletes) = count_deletes(lines) else {
-        return Err(RunFault::Memory);
-    };
     let mut page = Page::new(alloc)?;
+    let deletes = count_deletes(lines);
     put_plan(&mut page, sink, lines, deletes)?;
     page.flush(sink)?;
     Ok(())

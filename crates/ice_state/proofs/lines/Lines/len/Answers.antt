@@ -3,6 +3,6 @@ use Rattle.ice_state.specs.Lines.{entries_of}
 use Rattle.ice_state.proofs.Places.{length-lines_at}
 use Rattle.ice_state.proofs.lines.Lines.len.Goals as goal
 
-pub returns : goal.returns
-returns c = sym (length-lines_at (entries_of c.self.inside.deletes) (entries_of c.self.inside.files)
+pub returns-clause-counted : goal.returns-clause-counted
+returns-clause-counted c = sym (length-lines_at (entries_of c.self.inside.deletes) (entries_of c.self.inside.files)
     c.self.inside.places.now c.self.invariant.each) ∙ ap length c.self.view_is
