@@ -315,7 +315,7 @@ fn finish_wants_memory(fault: &FinishFault) -> bool
 }
 
 /// Whether memory ran out.
-pub fn meta_wants_memory(fault: &MetaFault) -> bool
+fn meta_wants_memory(fault: &MetaFault) -> bool
     ensures { result ≡ meta_wants_memory fault.now }
 {
     match fault {

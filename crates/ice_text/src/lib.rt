@@ -16,7 +16,7 @@ mod write;
 pub use change::{ChangeFault, ChangeKind, ChangeMember, read_change};
 pub use drill::Drill;
 pub use drill_fault::DrillFault;
-pub use fault::{RunFault, meta_wants_memory};
+pub use fault::RunFault;
 pub use ice_print::{
     Output, Page, Shown, Sink, SinkFault, count_deletes, escaping, main_of, put_escaped,
     put_named_long, put_named_number, put_table, put_totals, unescape, write_all,
