@@ -1,19 +1,13 @@
 -- The files of the table that a commit is made on.
-use Rattle.std.proofs.Common.{◌≡◌, ◌≢◌, ℕ, List, true, false, cond, Option, Some, None, refl, ap, ◌∙◌}
+use Rattle.std.proofs.Common.{◌≡◌, ℕ, List, cond, Option, Some, None, refl, ap, ◌∙◌}
 use Rattle.std.specs.Prelude.{Result, Ok, Err}
 use Rattle.std.specs.Cmp.{eq_by_cmp_equiv}
 use Rattle.std.specs.Cmp.Lexicographic.{slice_cmp, nat_list_cmp_total}
 use Rattle.std.specs.FinMap.{empty, get, get-empty, get-insert}
 use Rattle.std.specs.Ordering.{nat_cmp}
 use Rattle.ice_meta.specs.declared.fault.MetaFault.{MetaFault}
-use Rattle.ice_meta.specs.declared.fault.MetaFault.TheVariants.{Memory}
 use Rattle.ice_state.specs.Contents.{World}
 use Rattle.ice_requests.specs.Commits.{base_files, keep_all, keep_found, manifests_in}
-use Rattle.ice_text.specs.Faults.{meta_wants_memory}
-
--- a fault that isn't want of memory
-pub no_memory : (e : MetaFault) → meta_wants_memory e ≡ false → e ≢ Memory
-no_memory e other is = let want : meta_wants_memory e ≡ true = ap meta_wants_memory is in absurd cc
 
 -- a table without a list
 pub no_list : (world : World) (read : Result (List ℕ) MetaFault) (e : MetaFault) → read ≡ Err e

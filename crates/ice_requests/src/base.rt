@@ -13,7 +13,7 @@ use contract_words::Text;
 use ice_desk::{Files, ReadFault};
 use ice_manifest::{ListFault, Row, read_list};
 use ice_meta::{MetaFault, Metadata, Target};
-use ice_text::{RunFault, meta_wants_memory};
+use ice_text::RunFault;
 use ice_versions::World;
 use std::alloc::{AllocError, Global};
 
@@ -103,12 +103,7 @@ pub fn read_base<F: Files>(alloc: Global, files: &F, metadata: &Metadata) -> Res
     let mut kept = World::new(alloc);
     let list = match metadata.manifest_list(&Target::Main) {
         Ok(list) => list.as_str(),
-        Err(fault) => {
-            if meta_wants_memory(&fault) {
-                return Err(RunFault::Memory);
-            }
-            return Ok(kept);
-        }
+        Err(_) => return Ok(kept),
     };
     keep_file(alloc, files, list, &mut kept)?;
     let manifests = manifests_of(alloc, kept.get(list))?;

@@ -1,6 +1,6 @@
 //! What a commit is made on: the rows of the current snapshot, and which paths are live in it.
 
-ghost use Rattle.std.specs.Prelude.{◌≡◌, ◌≢◌, IfOk, IfErr, MatchResult, None, Some, fold, find, map, option_map};
+ghost use Rattle.std.specs.Prelude.{◌≡◌, ◌≢◌, IfOk, IfErr, None, Some, fold, find, map, option_map};
 ghost use Rattle.std.specs.Prelude.{is_none, if◌then◌else◌};
 ghost use Rattle.std.specs.Option.{option_copied, option_or};
 ghost use Rattle.std.specs.Ordering.{nat_cmp};
@@ -19,20 +19,15 @@ use crate::tuples::partitioning_of;
 use crate::world::World;
 use contract_words::Text;
 use ice_manifest::{Entry, ListFault, ManifestFault, Row, read_list, read_manifest};
-use ice_meta::{MetaFault, Metadata, Target};
+use ice_meta::{Metadata, Target};
 use std::alloc::Global;
 use std::cmp::Ordering;
 
 /// The path of the current snapshot's manifest list.
-fn current_list(metadata: &Metadata) -> Result<Option<&Text>, PrepareFault>
-    ensures { MatchResult result (λ list. option_copied list ≡ current_list metadata.now.table)
-        (λ f. f ≡ fault.Memory) }
+fn current_list(metadata: &Metadata) -> Option<&Text>
+    ensures { option_copied result ≡ current_list metadata.now.table }
 {
-    match metadata.manifest_list(&Target::Main) {
-        Ok(list) => Ok(Some(list)),
-        Err(MetaFault::Memory) => Err(PrepareFault::Memory),
-        Err(_) => Ok(None),
-    }
+    metadata.manifest_list(&Target::Main).ok()
 }
 
 /// That a file of the base is bad, unless memory ran out.
@@ -160,8 +155,7 @@ pub fn base_rows(
         (path_taken world.now metadata.now.table (map (λ p. p.now) paths.now))) }
     ensures rows { IfOk result (λ rows. rows.items ≡ base_rows world.now metadata.now.table) }
 {
-    let list = current_list(metadata)?;
-    let rows = rows_at(alloc, world, list)?;
+    let rows = rows_at(alloc, world, current_list(metadata))?;
     match least_taken(alloc, world, partitionings, &rows, paths)? {
         Some(path) => Err(PrepareFault::PathTaken(path.copy(alloc)?)),
         None => Ok(rows),

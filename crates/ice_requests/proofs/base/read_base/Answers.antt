@@ -1,16 +1,15 @@
 use Rattle.std.proofs.Common.{◌≡◌, sym, ap, ◌∙◌, rules}
-use Rattle.std.specs.Prelude.{Ok}
+use Rattle.std.specs.Prelude.{Ok, Err}
 use Rattle.ice_meta.specs.declared.metadata.Target.TheVariants.{Main}
 use Rattle.ice_meta.specs.Targets.{list_of}
 use Rattle.ice_requests.specs.Commits.{manifests_in}
-use Rattle.ice_requests.proofs.Bases.{kept_is_found, no_list, no_memory, with_list}
+use Rattle.ice_requests.proofs.Bases.{kept_is_found, no_list, with_list}
 use Rattle.ice_requests.proofs.base.read_base.Goals as goal
 
 pub returns-in-Err-clause-base : goal.returns-in-Err-clause-base
 returns-in-Err-clause-base g c = λ world told.
-    let other = no_memory c.in-Err.fault (sym c.meta_wants_memory.ensures ∙ c.if-meta_wants_memory.false) in
-    c.new-kept.ensures ∙ sym (no_list world (list_of Main c.args.metadata.now.table) c.in-Err.fault
-    (c.in-Err.ensures.list other))
+    c.new-kept.ensures ∙ sym (no_list world (list_of Main c.args.metadata.now.table) c.in-Err.field-0
+    (c.in-Err.ensures.list (λ is. c.in-Err.ensures.memory (ap Err is))))
 
 pub returns-clause-base : goal.returns-clause-base
 returns-clause-base g c = λ world told.
