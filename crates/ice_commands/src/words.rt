@@ -1,7 +1,7 @@
 //! The program over its words, standard input, the files of the system, output and errors.
 
 ghost use Rattle.std.specs.Prelude.{◌≡◌, ◌⊎◌, ℕ, List, Option, Some, None, Result, Ok, Err, map, string_bytes};
-ghost use Rattle.std.specs.Prelude.{IfOk, IfErr, OnOk};
+ghost use Rattle.std.specs.Prelude.{◌≤◌, ◌*◌, length, IfOk, IfErr, OnOk};
 ghost use Rattle.ice_requests.specs.Bundles.{bundle_of};
 ghost use Rattle.ice_requests.specs.Commits.{committed_text};
 ghost use Rattle.ice_drill.specs.Drills.{WroteDrill};
@@ -17,8 +17,8 @@ use ice_command_line::{Lists, Place, Source, Words, parse_words};
 use ice_desk::ReadFault;
 use ice_drill::{Watch, run_drill};
 use ice_requests::{
-    Bundle, CommitFolder, Folder, commit_to, plan_file, prepare_commit, read_all, run_list_plan,
-    show_file,
+    Bundle, CommitFolder, Folder, MOST_READS, commit_to, plan_file, prepare_commit, read_all,
+    run_list_plan, show_file,
 };
 use ice_text::{CommitRequest, Drill, Request, RunFault, Sink, report, write_all};
 use std::alloc::Global;
@@ -26,9 +26,6 @@ use std::io::Read;
 use std::rt::Files;
 use std::sync::Wait;
 use std::thread::Threads;
-
-/// How many reads of standard input are made at most.
-const MOST_READS: u64 = 16_777_216;
 
 /// The path of the list: the one that is asked for, else the bundle's first.
 fn list_in<'a>(bundle: &'a Bundle, list: &'a Option<Text>) -> Result<&'a str, RunFault>
@@ -44,6 +41,8 @@ fn list_in<'a>(bundle: &'a Bundle, list: &'a Option<Text>) -> Result<&'a str, Ru
 /// All that standard input has left.
 fn read_input<R: Read>(alloc: Global, input: &mut R) -> Result<Vec<u8>, RunFault>
     ensures all { IfOk result (λ text. IsInput (R.remaining input.old) text.items) }
+    // At most 16,777,216 reads are made, each of at most 65,536 bytes.
+    ensures most { IfOk result (λ text. length text.items ≤ 16777216 * 65536) }
     ensures causes { IfErr result (λ e. (e ≡ RunFault.Input) ⊎ (e ≡ RunFault.Memory)) }
 {
     match read_all(alloc, input, MOST_READS) {

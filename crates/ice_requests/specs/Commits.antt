@@ -2,7 +2,7 @@
 -- "File System Tables". It is made on the table's current snapshot; the metadata that names the new files comes last,
 -- so that whoever reads the table has all of the commit or none of it.
 use Rattle.std.specs.Prelude.{◌≡◌, ◌⊎◌, false, ℕ, ℤ, List, [], ◌∷◌, ◌++◌, codes, Option, Some, None, option_map, Result}
-use Rattle.std.specs.Prelude.{Ok, Err, if◌then◌else◌}
+use Rattle.std.specs.Prelude.{Ok, Err, IfErr, IsErrOf, OnOk, if◌then◌else◌}
 use Rattle.std.specs.FinMap.{empty, insert}
 use Rattle.std.specs.List.{flat_map}
 use Rattle.hex.specs.Hex.{encode_lower}
@@ -16,6 +16,7 @@ use Rattle.ice_versions.specs.Adding.{added}
 use Rattle.ice_versions.specs.Histories.{Step, added_on, after, openable, state_of}
 use Rattle.ice_versions.specs.States.{Added, State}
 use Rattle.ice_desk.specs.Wanted.{paths_of}
+use Rattle.ice_desk.specs.Worlds.{HasAt}
 use Rattle.ice_manifest_fields.specs.declared.fault.ListFault.{ListFault}
 use Rattle.ice_manifest_reading.specs.declared.row.Row.{Row}
 use Rattle.ice_manifest_reading.specs.Lists.{rows_of}
@@ -30,7 +31,7 @@ use Rattle.ice_text.specs.Faults.{of_change, of_meta, of_prepare}
 use Rattle.ice_text.specs.Reads.{MayEnd, as_run, file_in}
 use Rattle.ice_print.specs.Pieces.{named_number, named_signed}
 use Rattle.ice_requests.specs.Stores.{MayHave, PutsAll, PutsFront, StopsAt, WereFree}
-use Rattle.ice_print.specs.Written.{Appends}
+use Rattle.ice_print.specs.Written.{Appends, AppendsFront}
 use Rattle.ice_text.specs.declared.request.CommitRequest.{CommitRequest}
 use Rattle.ice_requests.specs.declared.store.StoreFault.TheVariants as store
 use Rattle.ice_text.specs.declared.fault.RunFault.{RunFault}
@@ -197,6 +198,31 @@ IsOfPreparing (run.Metadata fault) = Unit {0}
 IsOfPreparing (run.Prepare fault) = Unit {0}
 IsOfPreparing run.Memory = Unit {0}
 IsOfPreparing _ = ⊥
+
+-- the faults of a request to commit
+abbrev pub MayRefuseACommit : RunFault → Type 0
+MayRefuseACommit run.Write = Unit {0}
+MayRefuseACommit (run.Conflict path) = Unit {0}
+MayRefuseACommit fault = IsOfPreparing fault
+
+-- why a file is not written: the store may fail, or a file stands there
+abbrev pub MayFailToPut : Option (List File) → Type 0 → Type 0
+MayFailToPut files' store_may_fail = store_may_fail ⊎ ((path : List ℕ) × MayHave files' path)
+
+-- What a refused commit tells over any files and any store: a file that is called absent is not there, a read failed at a
+-- path where it may, where the metadata was to be another file stands, and a write failed that may fail, or found a file.
+pub record OnCommitRefusal (world : Option World) (may_fail_at : List ℕ → Type 0) (out : List ℕ)
+    (files' : Option (List File)) (store_may_fail sink_may_fail : Type 0) (result : Result Unit RunFault) : Type 0 where
+  pub kinds : IfErr result MayRefuseACommit
+  pub absent : (path : List ℕ) → IsErrOf result (run.Absent path) → HasAt world path None
+  pub device : (path : List ℕ) → IsErrOf result (run.Device path) → may_fail_at path
+  pub conflict : (path : List ℕ) → IsErrOf result (run.Conflict path) → (path ≡ out) × MayHave files' out
+  pub write : IsErrOf result run.Write → MayFailToPut files' store_may_fail ⊎ sink_may_fail
+
+-- What is told of a commit over any files and any store: its receipt, or after a failed write a front of one.
+pub record TellsACommit (id : ℤ) (result : Result Unit RunFault) (output output' : Option (List ℕ)) : Type 0 where
+  pub all : OnOk result ((number : ℕ) × Appends output output' (receipt_text id number))
+  pub front : IsErrOf result run.Write → (number : ℕ) × AppendsFront output output' (receipt_text id number)
 
 -- ---- the text of a commit in a bundle
 

@@ -133,6 +133,11 @@ pub record Answers (read : Result (List OwnedLine) RunFault) (may_fail_at : List
   pub refused : IfErr result (MayEnd read may_fail_at write_may_fail)
   pub front : IsErrOf result run.Write → WrotePlanFront read output output'
 
+-- What was written, whatever the files tell of themselves: the text of a plan, and after a failed write a front of one.
+pub record WritesAPlan (result : Result Unit RunFault) (output output' : Option (List ℕ)) : Type 0 where
+  pub all : OnOk result ((plan : List OwnedLine) × Appends output output' (plan_text plan))
+  pub front : IsErrOf result run.Write → (plan : List OwnedLine) × AppendsFront output output' (plan_text plan)
+
 -- What a refusal tells over any files: nothing was written but after a failed write, a file that is called absent is
 -- not there, a read failed at a path where it may, and a write failed that may fail.
 pub record OnRefusal (world : Option World) (may_fail_at : List ℕ → Type 0) (write_may_fail : Type 0)

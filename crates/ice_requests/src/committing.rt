@@ -1,10 +1,13 @@
 //! Commits to a table: the change is prepared on the current snapshot, and its files are put where they belong, the
 //! metadata that names them last.
 
-ghost use Rattle.std.specs.Prelude.{◌≡◌, ◌≢◌, ℕ, List, Option, Some, Ok, Err, OnOk, OnErr, IfOk, IfErr};
+ghost use Rattle.std.specs.Prelude.{◌≡◌, ◌≢◌, ℕ, List, Option, Some, None, Ok, Err, OnOk, OnErr, IfOk, IfErr};
+ghost use Rattle.std.specs.Prelude.{IsErrOf};
+ghost use Rattle.ice_desk.specs.Worlds.{HasAt};
 ghost use Rattle.ice_state.specs.Contents.{World};
 ghost use Rattle.ice_requests.specs.Commits.{Commitment, IsLeft, IsOfPreparing, IsPut, Made, MayEndCommit, MayNotPut};
-ghost use Rattle.ice_requests.specs.Commits.{Stopped, Writes, change_asked, commitment, commitment_from, receipt_text};
+ghost use Rattle.ice_requests.specs.Commits.{MayFailToPut, MayRefuseACommit, OnCommitRefusal, Stopped, TellsACommit, Writes};
+ghost use Rattle.ice_requests.specs.Commits.{change_asked, commitment, commitment_from, receipt_text};
 ghost use Rattle.ice_requests.specs.Bundles.{File};
 ghost use Rattle.ice_text.specs.Reads.{MayEnd};
 ghost use Rattle.ice_requests.specs.Stores.{MayHave, WereFree};
@@ -36,6 +39,8 @@ fn change_at<F: Files>(
 
     // Over all files.
     ensures causes { IfErr result IsOfPreparing }
+    ensures absent { (path : List ℕ) → IsErrOf result (RunFault.Absent path) → HasAt (F.world files.now) path None }
+    ensures device { (path : List ℕ) → IsErrOf result (RunFault.Device path) → F.may_fail files.now path }
 {
     let text = read_file(alloc, files, request.change.as_str())?;
     Ok(read_change(alloc, &text, request.kind)?)
@@ -60,6 +65,8 @@ fn prepare_from<F: Files>(
 
     // Over all files.
     ensures causes { IfErr result IsOfPreparing }
+    ensures absent { (path : List ℕ) → IsErrOf result (RunFault.Absent path) → HasAt (F.world files.now) path None }
+    ensures device { (path : List ℕ) → IsErrOf result (RunFault.Device path) → F.may_fail files.now path }
 {
     let metadata = read_metadata(alloc, bytes)?;
     let kept = read_base(alloc, files, &metadata)?;
@@ -83,6 +90,8 @@ pub fn prepare_commit<F: Files>(
 
     // Over all files.
     ensures causes { IfErr result IsOfPreparing }
+    ensures absent { (path : List ℕ) → IsErrOf result (RunFault.Absent path) → HasAt (F.world files.now) path None }
+    ensures device { (path : List ℕ) → IsErrOf result (RunFault.Device path) → F.may_fail files.now path }
 {
     let bytes = read_file(alloc, files, request.metadata.as_str())?;
     let change = change_at(alloc, files, request)?;
@@ -104,6 +113,12 @@ pub fn put_commit<S: Store>(
         OnErr result (Stopped c (S.files store.old) (S.files store.new)) }
     ensures cause { (c : Commitment) → Writes prepared.now c →
         IfErr result (MayNotPut c out.now (S.files store.old) (S.files store.new) (S.may_fail store.old)) }
+
+    // Over all stores.
+    ensures kinds { IfErr result MayRefuseACommit }
+    ensures conflict { (path : List ℕ) → IsErrOf result (RunFault.Conflict path) →
+        (path ≡ out.now) × MayHave (S.files store.new) out.now }
+    ensures write { IsErrOf result RunFault.Write → MayFailToPut (S.files store.new) (S.may_fail store.old) }
 {
     let place = out.copy(alloc)?;
     let metadata = prepared.version().metadata().write(alloc)?;
@@ -161,8 +176,11 @@ pub fn commit_to<F: Files, S: Store, W: Sink>(
         commitment world request.now ≡ Ok c →
         OnErr result (IsLeft c request.now.out (S.files store.old) (S.files store.new)) }
 
-    // Over all files.
+    // Over all files and stores.
     ensures nothing { IfErr result (λ fault. fault ≢ RunFault.Write → W.taken output.new ≡ W.taken output.old) }
+    ensures told { TellsACommit request.now.ids.snapshot result (W.taken output.old) (W.taken output.new) }
+    ensures refusal { OnCommitRefusal (F.world files.now) (F.may_fail files.now) request.now.out (S.files store.new)
+        (S.may_fail store.old) (W.may_fail output.old) result }
 {
     let prepared = prepare_commit(alloc, files, request)?;
     put_commit(alloc, store, &prepared, &request.out)?;

@@ -7,15 +7,12 @@ ghost use Rattle.ice_requests.specs.Folders.{Inside, IsNamed, climbs};
 mod placing;
 
 use crate::bundle::find_byte;
-use crate::input::read_all;
+use crate::input::{MOST_READS, read_all};
 use ice_desk::{Files, ReadFault};
 pub use placing::{CommitFolder, fill_file};
 use std::alloc::{AllocError, Global};
 use std::fs;
 use std::io::{self, ErrorKind};
-
-/// How many reads of one file are made at most.
-const MOST_READS: u64 = 16_777_216;
 
 /// Files below a folder. A path that begins with the prefix is the file that its rest names below the folder; any other
 /// path, and one with a segment `..` behind the prefix, is absent, and nothing is opened. What lies below a folder may

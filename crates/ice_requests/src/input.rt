@@ -1,14 +1,17 @@
 //! Reading standard input, or a file, to its end.
 
-ghost use Rattle.std.specs.Prelude.{◌≡◌, ◌⊎◌, ◌<◌, vec_len, IfOk, IfErr, IfSome};
+ghost use Rattle.std.specs.Prelude.{◌≡◌, ◌⊎◌, ◌≤◌, ◌*◌, length, vec_len, IfOk, IfErr, IfSome};
 
 use ice_desk::ReadFault;
 use std::alloc::{AllocError, Global};
 use std::io::{ErrorKind, Read};
 
+/// How many reads of standard input, or of one file, are made at most.
+pub const MOST_READS: u64 = 16_777_216;
+
 /// Room for the bytes of one read.
 fn room(alloc: Global) -> Result<Vec<u8>, AllocError>
-    ensures { IfOk result (λ room. 0 < vec_len room) }
+    ensures { IfOk result (λ room. vec_len room ≡ 65536) }
 {
     vec![in alloc; 0; 65_536]
 }
@@ -17,13 +20,15 @@ fn room(alloc: Global) -> Result<Vec<u8>, AllocError>
 /// fails, it is `Device`. A read that a signal interrupted is made again, and counts.
 pub fn read_all<R: Read>(alloc: Global, reader: &mut R, turns: u64) -> Result<Vec<u8>, ReadFault>
     ensures all { IfOk result (λ bytes. IfSome (R.remaining reader.old) (λ left. bytes.items ≡ left)) }
+    // A read gives at most 65,536 bytes.
+    ensures most { IfOk result (λ bytes. length bytes.items ≤ turns * 65536) }
     ensures causes { IfErr result (λ e. (e ≡ ReadFault.Device) ⊎ (e ≡ ReadFault.Memory)) }
 {
     let Ok(mut room) = room(alloc) else {
         return Err(ReadFault::Memory);
     };
     let mut bytes = Vec::new(alloc);
-    for _ in 0..turns {
+    for turn in 0..turns {
         match reader.read(&mut room) {
             Ok(0) => return Ok(bytes),
             Ok(count) => {

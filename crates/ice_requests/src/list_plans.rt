@@ -4,7 +4,7 @@ ghost use Rattle.std.specs.Prelude.{◌≡◌, List, Some, IfOk};
 ghost use Rattle.ice_desk.specs.Worlds.{EndsAt};
 ghost use Rattle.ice_state.specs.Contents.{World};
 ghost use Rattle.ice_requests.specs.ListPlans.{list_answer, list_reads, specs_of};
-ghost use Rattle.ice_requests.specs.Plans.{Answers, OnRefusal};
+ghost use Rattle.ice_requests.specs.Plans.{Answers, OnRefusal, WritesAPlan};
 
 use crate::table_plans::{Listed, plan_rows};
 use ice_desk::Files;
@@ -45,6 +45,7 @@ pub fn run_list_plan<F: Files, W: Sink>(
         (W.may_fail output.old) result (W.taken output.old) (W.taken output.new) }
 
     // Over all files.
+    ensures text { WritesAPlan result (W.taken output.old) (W.taken output.new) }
     ensures refusal { OnRefusal (F.world files.now) (F.may_fail files.now) (W.may_fail output.old) result
         (W.taken output.old) (W.taken output.new) }
 {

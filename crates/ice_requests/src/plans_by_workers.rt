@@ -4,7 +4,8 @@ ghost use Rattle.std.specs.Prelude.{◌≡◌, ◌⊎◌, ◌<◌, ◌≤◌, �
 ghost use Rattle.std.specs.Prelude.{IsErrOf};
 ghost use Rattle.ice_desk.specs.Worlds.{EndsAt};
 ghost use Rattle.ice_state.specs.Contents.{World};
-ghost use Rattle.ice_requests.specs.Plans.{Answers, OnRefusal, TellsTheTruth, TellsTheTruthAt, answer, answer_at};
+ghost use Rattle.ice_requests.specs.Plans.{Answers, OnRefusal, WritesAPlan, TellsTheTruth, TellsTheTruthAt, answer};
+ghost use Rattle.ice_requests.specs.Plans.{answer_at};
 ghost use Rattle.ice_requests.specs.Plans.{by_workers, manifests, over_all_rows, over_wanted_rows, reads, reads_at};
 ghost use Rattle.ice_requests.specs.Plans.{rows_plan, wanted_answer};
 ghost use Rattle.ice_requests.specs.Selections.{selected};
@@ -42,6 +43,7 @@ fn plan_rows_with<R: Threads + Sync, F: Files + Sync, G: Gate + Sync, W: Sink>(
         Answers (rows_plan over_wanted_rows world listed.specs.items listed.filter.parts listed.rows.items)
         (EndsAt world (F.may_fail files.now) (manifests listed.specs.items listed.filter.parts listed.rows.items))
         (W.may_fail output.old) result (W.taken output.old) (W.taken output.new) }
+    ensures text { WritesAPlan result (W.taken output.old) (W.taken output.new) }
     ensures refusal { OnRefusal (F.world files.now) (F.may_fail files.now) (W.may_fail output.old) result
         (W.taken output.old) (W.taken output.new) }
     ensures workers { IsErrOf result RunFault.Workers → ⊥ }
@@ -82,6 +84,7 @@ pub fn run_plan_with<R: Threads + Sync, F: Files + Sync, G: Gate + Sync, W: Sink
 
     // Over all files.
     ensures selection { OnOk result ((selection : Selection) × (selected metadata.now request.now ≡ Ok selection)) }
+    ensures text { WritesAPlan result (W.taken output.old) (W.taken output.new) }
     ensures refusal { OnRefusal (F.world files.now) (F.may_fail files.now) (W.may_fail output.old) result
         (W.taken output.old) (W.taken output.new) }
 {
@@ -123,6 +126,7 @@ fn plan_bytes<R: Threads + Sync, F: Files + Sync, W: Sink>(
         Answers (by_workers workers (wanted_answer world metadata.now request.now))
         (EndsAt world (F.may_fail files.now) (reads world metadata.now request.now))
         (W.may_fail output.old) result (W.taken output.old) (W.taken output.new) }
+    ensures text { WritesAPlan result (W.taken output.old) (W.taken output.new) }
     ensures refusal { OnRefusal (F.world files.now) (F.may_fail files.now) (W.may_fail output.old) result
         (W.taken output.old) (W.taken output.new) }
 {
@@ -158,6 +162,7 @@ pub fn plan_file<R: Threads + Sync, F: Files + Sync, W: Sink>(
         (W.may_fail output.old) result (W.taken output.old) (W.taken output.new) }
 
     // Over all files.
+    ensures text { WritesAPlan result (W.taken output.old) (W.taken output.new) }
     ensures refusal { OnRefusal (F.world files.now) (F.may_fail files.now) (W.may_fail output.old) result
         (W.taken output.old) (W.taken output.new) }
 {

@@ -3,7 +3,8 @@
 ghost use Rattle.std.specs.Prelude.{◌≡◌, ℕ, List, Some, Ok, OnOk};
 ghost use Rattle.ice_desk.specs.Worlds.{EndsAt};
 ghost use Rattle.ice_state.specs.Contents.{World};
-ghost use Rattle.ice_requests.specs.Plans.{Answers, OnRefusal, TellsTheTruth, answer, manifests, over_wanted_rows};
+ghost use Rattle.ice_requests.specs.Plans.{Answers, OnRefusal, WritesAPlan, TellsTheTruth, answer, manifests};
+ghost use Rattle.ice_requests.specs.Plans.{over_wanted_rows};
 ghost use Rattle.ice_requests.specs.Plans.{reads, rows_plan, wanted_answer};
 ghost use Rattle.ice_requests.specs.Selections.{selected};
 ghost use Rattle.ice_text.specs.declared.request.Request.{Request};
@@ -41,6 +42,7 @@ pub fn plan_rows<F: Files, W: Sink>(
         Answers (rows_plan over_wanted_rows world listed.specs.items listed.filter.parts listed.rows.items)
         (EndsAt world (F.may_fail files.now) (manifests listed.specs.items listed.filter.parts listed.rows.items))
         (W.may_fail output.old) result (W.taken output.old) (W.taken output.new) }
+    ensures text { WritesAPlan result (W.taken output.old) (W.taken output.new) }
     ensures refusal { OnRefusal (F.world files.now) (F.may_fail files.now) (W.may_fail output.old) result
         (W.taken output.old) (W.taken output.new) }
 {
@@ -88,6 +90,7 @@ pub fn run_plan<F: Files, W: Sink>(
 
     // Over all files.
     ensures selection { OnOk result ((selection : Selection) × (selected metadata.now request.now ≡ Ok selection)) }
+    ensures text { WritesAPlan result (W.taken output.old) (W.taken output.new) }
     ensures refusal { OnRefusal (F.world files.now) (F.may_fail files.now) (W.may_fail output.old) result
         (W.taken output.old) (W.taken output.new) }
 {

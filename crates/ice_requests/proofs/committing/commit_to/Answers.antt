@@ -54,3 +54,8 @@ returns-clause-made g c = λ world told.
         told = rw number at receipt;
       },
     )
+
+pub returns-clause-told : goal.returns-clause-told
+returns-clause-told g c =
+    let fits : SFits w64 c.args.request.now.ids.snapshot = search rules in
+    record { all = (c.get.result, simp to_z-of_z at c.in_ok-put_receipt.ensures.all); front = λ is. cc }

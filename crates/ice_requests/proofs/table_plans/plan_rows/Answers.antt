@@ -66,3 +66,11 @@ returns-clause-answers g c =
       refused = write_ends c.write_plan.result _ _ w c.write_plan.ensures.causes c.write_plan.ensures.cause;
       front = λ failed. (lines, is, rw c.lines.ensures at (c.write_plan.ensures.front failed));
     }
+
+pub returns-clause-text : goal.returns-clause-text
+returns-clause-text g c =
+    let plan = c.in_ok-plan.plan in
+    record {
+      all = on_ok_weaker c.write_plan.result (λ all. (plan, all)) (rw c.lines.ensures at c.write_plan.ensures.all);
+      front = λ failed. (plan, rw c.lines.ensures at (c.write_plan.ensures.front failed));
+    }
