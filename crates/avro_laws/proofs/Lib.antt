@@ -1,0 +1,14 @@
+mod Once
+mod Begun
+mod Longest
+mod Numbers
+mod Bad
+mod Stopped
+mod ValueStops
+mod Failing
+mod ValueFails
+mod Objects
+mod Heads
+mod Runs
+mod Headers
+mod Files

@@ -1,0 +1,4 @@
+pub mod Fronts
+pub mod Parts
+pub mod Coming
+pub mod Faults

@@ -1,0 +1,10 @@
+pub mod Passing
+pub mod Reading
+pub mod Marks
+pub mod Words
+pub mod Numbers
+pub mod Quotes
+pub mod Hex
+pub mod Fronts
+pub mod Lying
+pub mod Filters

@@ -1,0 +1,6 @@
+//! Laws of the filter language's lexer.
+#![tactic(auto)]
+
+mod laws;
+
+pub use laws::{texts_say_filters, tokens_are_spelled};

@@ -1,0 +1,4 @@
+pub mod Calls
+pub mod Counts
+pub mod Playing
+pub mod Workers

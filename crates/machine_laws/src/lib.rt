@@ -1,0 +1,11 @@
+//! Laws of the machine of scans and commits: what its events do to the states into which manifests are read, to the plans
+//! of many workers, and to the counts of those who commit. Nothing builds on this crate.
+#![tactic(auto)]
+
+mod laws;
+pub mod steps;
+
+pub use laws::{
+    a_machine_changes_only_where_it_says_so, a_merge_is_merged, a_scan_begins_with_nothing_taken,
+    a_take_is_taken, a_tree_is_played, commits_are_counted, finishing_tells_the_outcome,
+};

@@ -1,0 +1,6 @@
+pub mod Entries
+pub mod Finishing
+pub mod Honest
+pub mod Lists
+pub mod Refusals
+pub mod Snapshots

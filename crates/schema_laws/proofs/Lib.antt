@@ -1,0 +1,7 @@
+mod Passing
+mod Stops
+mod Matching
+mod Closing
+mod Naming
+mod Parts
+mod Telling
