@@ -153,20 +153,20 @@ Low high c = up c.around ≤ high
 -- it stands elsewhere.
 pub record First (read : Reader) (around : Option ℕ) (name : List ℕ) (fields : Items) (cs out : List Column) : Type 0
   where
-  pub field : Data
-  pub place : ℕ
-  pub at : get_item place fields ≡ Some field
-  pub before : (k : ℕ) (other : Data) → k < place → get_item k fields ≡ Some other → IsNamed name other → ⊥
-  pub front : List Column
-  pub mid : List Column
-  pub back : List Column
-  pub starts : length cs ≤ length front
-  pub low : Each (Low (length front)) front
-  pub clear : Clear around name front
-  pub is_read : FieldRead read around field front mid
-  pub same : is_read.name ≡ name
-  pub is : out ≡ mid ++ back
-  pub under : Each (Under around (length mid) (length out)) back
+    pub field : Data
+    pub place : ℕ
+    pub at : get_item place fields ≡ Some field
+    pub before : (k : ℕ) (other : Data) → k < place → get_item k fields ≡ Some other → IsNamed name other → ⊥
+    pub front : List Column
+    pub mid : List Column
+    pub back : List Column
+    pub starts : length cs ≤ length front
+    pub low : Each (Low (length front)) front
+    pub clear : Clear around name front
+    pub is_read : FieldRead read around field front mid
+    pub same : is_read.name ≡ name
+    pub is : out ≡ mid ++ back
+    pub under : Each (Under around (length mid) (length out)) back
 
 -- no field has the name
 pub record Lacking (around : Option ℕ) (name : List ℕ) (fields : Items) (out : List Column) : Type 0 where

@@ -1,6 +1,7 @@
 -- What is at fault with a leaf of a filter over the columns of a schema, and which fault of a filter is told: each is
 -- said by itself here, and not by a walk that stops at the first.
-use Rattle.std.specs.Prelude.{◌≡◌, ◌≢◌, ◌↔◌, ◌⊎◌, ◌^◌, ◌<◌, ◌≤◌, ◌≤ℤ◌, ◌<ℤ◌, ℕ, ℤ, pos, neg_ℤ, true, List, [], ◌∷◌, ◌++◌}
+use Rattle.std.specs.Prelude.{◌≡◌, ◌≢◌, ◌↔◌, ◌⊎◌, ◌^◌, ◌<◌, ◌≤◌, ◌≤ℤ◌, ◌<ℤ◌, ℕ, ℤ, pos, neg_ℤ, true, List, [], ◌∷◌}
+use Rattle.std.specs.Prelude.{◌++◌}
 use Rattle.std.specs.Prelude.{length, slice_get, Option, None, Some, Ok, Err}
 use Rattle.std.specs.List.{AllByRecursion, Contains}
 use Rattle.uuid.specs.Text.{parsed as uuid_in}

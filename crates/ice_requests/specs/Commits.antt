@@ -209,8 +209,9 @@ MayRefuseACommit fault = IsOfPreparing fault
 abbrev pub MayFailToPut : Option (List File) → Type 0 → Type 0
 MayFailToPut files' store_may_fail = store_may_fail ⊎ ((path : List ℕ) × MayHave files' path)
 
--- What a refused commit tells over any files and any store: a file that is called absent is not there, a read failed at a
--- path where it may, where the metadata was to be another file stands, and a write failed that may fail, or found a file.
+-- What a refused commit tells over any files and any store: a file that is called absent is not there, a read failed at
+-- a path where it may, where the metadata was to be another file stands, and a write failed that may fail, or found a
+-- file.
 pub record OnCommitRefusal (world : Option World) (may_fail_at : List ℕ → Type 0) (out : List ℕ)
     (files' : Option (List File)) (store_may_fail sink_may_fail : Type 0) (result : Result Unit RunFault) : Type 0 where
   pub kinds : IfErr result MayRefuseACommit

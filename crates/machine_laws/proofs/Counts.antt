@@ -1,5 +1,6 @@
 -- The commits that a machine makes, and their counts.
-use Rattle.std.proofs.Common.{◌≡◌, ◌≢◌, ◌==◌, ℕ, zero, suc, ◌+◌, ◌<◌, ◌≤◌, Bool, true, false, List, [], ◌∷◌, ◌++◌, length}
+use Rattle.std.proofs.Common.{◌≡◌, ◌≢◌, ◌==◌, ℕ, zero, suc, ◌+◌, ◌<◌, ◌≤◌, Bool, true, false, List, [], ◌∷◌, ◌++◌}
+use Rattle.std.proofs.Common.{length}
 use Rattle.std.proofs.Common.{refl, sym, ◌∙◌, ap, subst, arith, append_assoc, length-append, Option, Some, None}
 use Rattle.std.specs.Prelude.{cond, slice_get, Result, Ok, Err}
 use Rattle.std.specs.List.{AllByRecursion}
@@ -91,12 +92,12 @@ within (suc n) x many f near =
     let before = sum_of_seats n (λ s. cond (x == s) many 0 + f s) in
     elim (x == n) as (λ b. (x == n) ≡ b → before + (cond b many 0 + f n) ≡ many + (sum_of_seats n f + f n)) [
       | true ↦ λ is.
-        let same : x ≡ n = (Decides-eqb x n).0 is in
-        let rest : before ≡ sum_of_seats n f = past n x many f (omega (arith, same)) in omega (arith, rest)
+          let same : x ≡ n = (Decides-eqb x n).0 is in
+          let rest : before ≡ sum_of_seats n f = past n x many f (omega (arith, same)) in omega (arith, rest)
       | false ↦ λ is.
-        let apart : x ≢ n = λ same. let yes = (Decides-eqb x n).1 same in cc in
-        let rest : before ≡ many + sum_of_seats n f = within n x many f (omega (arith, near, apart)) in
-        omega (arith, rest)
+          let apart : x ≢ n = λ same. let yes = (Decides-eqb x n).1 same in cc in
+          let rest : before ≡ many + sum_of_seats n f = within n x many f (omega (arith, near, apart)) in
+          omega (arith, rest)
     ] refl
 
 sum_none : (n : ℕ) → sum_of_seats n (λ s. 0) ≡ 0

@@ -63,7 +63,6 @@ pub fn a_machine_changes_only_where_it_says_so()
     ensures { (m : Machine) (e : Event) → tells_a_change (event m e).0 ≡ false → (event m e).1 ≡ m }
 {}
 
-
 /// Every tree of takes and merges can be played by workers of a scan that took nothing, as many as it has states, where
 /// its bytes are those of the scanned version: each step is done, nothing is changed but the states of these workers,
 /// and in the end the first of them has the state that the tree ends in.
@@ -75,8 +74,9 @@ pub fn a_tree_is_played()
 {}
 
 /// The journal of a machine goes on by exactly the commits that it replies to with `Committed`, in their order, and the
-/// receipt has the number of the version that the commit makes. So, where each event is of one of n seats, the number of
-/// the newest version went up by the counts of all seats together, and at no time is it less than what one seat made.
+/// receipt has the number of the version that the commit makes. So, where each event is of one of n seats, the number
+/// of the newest version went up by the counts of all seats together, and at no time is it less than what one seat
+/// made.
 pub fn commits_are_counted()
     ensures journal { (m : Machine) (events : List Event) →
         (machine_after m events).history ≡ followed_by m.history (made events (replies_to m events)) }
