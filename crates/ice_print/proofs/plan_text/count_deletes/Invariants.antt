@@ -1,4 +1,4 @@
-use Rattle.std.proofs.Common.{◌≡◌, ◌≤◌, ◌*◌, ◌^◌, ◌×◌, take}
+use Rattle.std.proofs.Common.{◌≡◌, ◌≤◌, ◌*◌, ◌^◌, take}
 use Rattle.std.specs.Prelude.{sum_by}
 use Rattle.ice_print.specs.PlanTexts.{deletes_of}
 use Rattle.ice_print.proofs.plan_text.count_deletes.Given as goal

@@ -19,5 +19,5 @@ loop-i-preserved g c =
 
 pub returns : goal.returns
 returns g c =
-    let low : length c.args.files.now ≤ c.loop-i.i = rw c.len-i-end.ensures at c.loop-i-test.false in
+    let low : length c.args.files.now ≤ c.loop-i.i = rw c.len-i-end.ensures.counted at c.loop-i-test.false in
     rw (flat_all position_text c.args.files.now c.loop-i.i low) at c.loop-i.invariant
