@@ -8,7 +8,6 @@ use Rattle.std.specs.Option.{option_eq, option_and_then}
 use Rattle.std.proofs.lemmas.Slice.Eq.{bytes_eq-Decides}
 use Rattle.std.proofs.lemmas.List.{append_cancel_left}
 use Rattle.std.proofs.lemmas.Bool.Decides.{nat_tests}
-use Rattle.contract_words.specs.Outcome.{◌>>=◌}
 use Rattle.serde_json.specs.Data as json
 use Rattle.serde_json.specs.Data.{Data, Items, Members, Num}
 use Rattle.serde_json.specs.Find.{get, get_item, as_integer}
@@ -26,7 +25,7 @@ use Rattle.ice_meta.specs.Schemas.{schema_of}
 use Rattle.ice_meta.specs.Types.{primitive}
 use Rattle.binding_laws.specs.Columns.{IsNamed, IsStruct, IsFirstField, LeadsTo, HasId, HasType, FindsTheField}
 use Rattle.binding_laws.specs.Columns.{FindsNoOther}
-use Rattle.binding_laws.proofs.Grown.{went, Each, each_as, each_both, up, Under, elsewhere, one, fields_so, Kinds}
+use Rattle.binding_laws.proofs.Grown.{take, Each, each_as, each_both, up, Under, elsewhere, one, fields_so, Kinds}
 use Rattle.binding_laws.proofs.Grown.{one_level, type_so, inside_grows, Free, list_free, map_free}
 use Rattle.binding_laws.proofs.Fields.{asked_is, text_there, objects_there, id_there, type_there, Clear, nowhere}
 use Rattle.binding_laws.proofs.Fields.{is_place, at_place, Low, First, Lacking, search_for}
@@ -422,33 +421,26 @@ pub record SchemaRead (d : Data) (schema : Schema) : Type 0 where
   pub of_id : int_in member.SchemaId d ≡ Ok schema.id
   pub columns : fields_at (inside most_levels) None d [] ≡ Ok schema.columns
 
-made_of : (id : ℤ) (columns : List Column) (schema : Schema)
-    → (let made : Result Schema MetaFault = Ok (record { id = id; columns = columns }) in made ≡ Ok schema)
-    → (id ≡ schema.id) × (columns ≡ schema.columns)
-made_of id columns schema e =
-    let is : record { id = id; columns = columns } ≡ schema = cc in
-    (ap (λ (s : Schema). s.id) is, ap (λ (s : Schema). s.columns) is)
+-- the end of a schema: its columns have different ids
+schema_end : (d : Data) (schema : Schema) (id : ℤ) (columns different : List Column) → int_in member.SchemaId d ≡ Ok id
+    → fields_at (inside most_levels) None d [] ≡ Ok columns → columns ≡ different
+    → record { id = id; columns = different } ≡ schema → SchemaRead d schema
+schema_end d schema id columns different of_id read same made = record {
+  of_id = of_id ∙ ap Ok (ap (λ (s : Schema). s.id) made);
+  columns = read ∙ ap Ok (same ∙ ap (λ (s : Schema). s.columns) made);
+}
+
+ok_is : (x y : Schema) → (let one : Result Schema MetaFault = Ok x in one ≡ Ok y) → x ≡ y
+ok_is x y e = cc
 
 pub schema_so : (d : Data) (schema : Schema) → schema_of d ≡ Ok schema → SchemaRead d schema
 unfolding schema_of
 schema_so d schema e =
-    let last : ℤ → List Column → Result Schema MetaFault =
-    λ id different. Ok (record { id = id; columns = different }) in
-    let a = went (text_in member.Type d) (λ type. if_struct type >>= λ struct. int_in member.SchemaId d >>= λ id.
-    fields_at (inside most_levels) None d [] >>= λ columns. once column_id columns >>= last id) schema e in
-    let b = went (if_struct a.first) (λ struct. int_in member.SchemaId d >>= λ id.
-    fields_at (inside most_levels) None d [] >>= λ columns. once column_id columns >>= last id) schema a.next in
-    let c = went (int_in member.SchemaId d) (λ id. fields_at (inside most_levels) None d [] >>= λ columns.
-    once column_id columns >>= last id) schema b.next in
-    let f = went (fields_at (inside most_levels) None d []) (λ columns. once column_id columns >>= last c.first) schema
-    c.next in
-    let g = went (once column_id f.first) (last c.first) schema f.next in
-    let same : f.first ≡ g.first = from_once (again (map column_id f.first)) f.first g.first g.gave in
-    let made = made_of c.first g.first schema g.next in
-    record {
-      of_id = c.gave ∙ ap Ok made.0;
-      columns = f.gave ∙ ap Ok (same ∙ made.1);
-    }
+    take _ (text_in member.Type d) _ schema e (λ type was_type e1. take _ (if_struct type) _ schema e1
+    (λ struct was_struct e2. take _ (int_in member.SchemaId d) _ schema e2 (λ id was_id e3. take _
+    (fields_at (inside most_levels) None d []) _ schema e3 (λ columns were_columns e4. take _ (once column_id columns) _
+    schema e4 (λ different were_different e5. schema_end d schema id columns different was_id were_columns
+    (from_once (again (map column_id columns)) columns different were_different) (ok_is _ schema e5))))))
 
 pub agrees : (d : Data) (schema : Schema) (names : List (List ℕ)) → schema_of d ≡ Ok schema
     → Agrees (column_on names schema) d names

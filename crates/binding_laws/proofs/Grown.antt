@@ -34,6 +34,12 @@ pub went : {A B E : Type 0} (r : Result A E) (f : A → Result B E) (y : B) → 
 went (Ok x) f y e = record { first = x; gave = refl; next = e }
 went (Err g) f y e = absurd cc
 
+-- the same, for what follows from it
+pub take : {A B E : Type 0} (G : Type 0) (r : Result A E) (f : A → Result B E) (y : B) → (r >>= f) ≡ Ok y
+    → ((x : A) → r ≡ Ok x → f x ≡ Ok y → G) → G
+take G (Ok x) f y e h = h x refl e
+take G (Err g) f y e h = absurd cc
+
 -- ---- columns
 
 abbrev pub Each : (Column → Type 0) → List Column → Type 0

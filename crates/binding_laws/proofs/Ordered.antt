@@ -1,12 +1,12 @@
 -- The leaves of a filter stand in its text from left to right.
-use Rattle.std.proofs.Common.{◌≡◌, List, [], ◌∷◌, ◌++◌, Ok, refl, sym, ap, ◌∙◌, subst, append_assoc, append-nil}
+use Rattle.std.proofs.Common.{◌≡◌, List, [], ◌∷◌, ◌++◌, sym, ap, ◌∙◌, subst, append_assoc, append-nil}
 use Rattle.std.specs.List.{AllByRecursion}
 use Rattle.ice_filter.specs.declared.leaf.Leaf.{Leaf}
 use Rattle.ice_filter.specs.declared.token.Token.{Token}
 use Rattle.ice_filter.specs.declared.token.Token.TheVariants as token
 use Rattle.ice_filter.specs.Grammar.{Written, truth, leaf, group, both, either, bare, leaf_tokens, tokens_in}
 use Rattle.ice_filter.specs.Trees.{Tree}
-use Rattle.binding_laws.specs.Faults.{leaves, IsBetween, AreOf, HasThemInOrder}
+use Rattle.binding_laws.specs.Faults.{leaves, IsBetween, AreOf, HasItsLeavesInOrder}
 
 all_both : (xs ys : List Token) → AllByRecursion IsBetween xs → AllByRecursion IsBetween ys
     → AllByRecursion IsBetween (xs ++ ys)
@@ -55,8 +55,8 @@ written (either v w) =
     joined (leaves (bare v)) (leaves (bare w)) (tokens_in v) (token.Or ∷ tokens_in w) (written v)
     (behind (leaves (bare w)) (token.Or ∷ []) (tokens_in w) (tt, tt) (written w))
 
-pub has_them_in_order : HasThemInOrder
-has_them_in_order text filter r =
+pub has_its_leaves_in_order : HasItsLeavesInOrder
+has_its_leaves_in_order text filter r =
     let w = r.0 in
     let says = r.1.0 in
     let P : Tree Leaf → Type 0 = λ v. AreOf (leaves v) (tokens_in w) in

@@ -1,6 +1,6 @@
 -- The schemas of a table, and their JSON in its metadata.
 use Rattle.std.proofs.Common.{◌≡◌, ℕ, zero, suc, Bool, true, false, cond, List, [], ◌∷◌, ◌++◌, map, Option, None, Some}
-use Rattle.std.proofs.Common.{Result, Ok, Err, refl, sym, ap, ◌∙◌, subst, slice_get, find, codes}
+use Rattle.std.proofs.Common.{Result, Ok, refl, sym, ap, ◌∙◌, subst, slice_get, find, codes}
 use Rattle.std.proofs.Common.{append_assoc, append-nil}
 use Rattle.std.specs.Prelude.{ℤ}
 use Rattle.std.specs.List.{AllByRecursion, IsDistinct}
@@ -19,10 +19,9 @@ use Rattle.ice_meta.specs.Reading.{again, or_twice, once, each_into, one_more, e
 use Rattle.ice_meta.specs.Schemas.{schema_of}
 use Rattle.ice_meta.specs.Tables.{version_in, uuid_in, location_in, schema_id, schemas_in, current_schema_in, specs_in}
 use Rattle.ice_meta.specs.Tables.{default_spec_in, current_snapshot_in, snapshots_in, refs_in, table_of}
-use Rattle.ice_meta.specs.Targets.{schema_with}
 use Rattle.ice_meta.proofs.Different.{distinct}
 use Rattle.binding_laws.specs.Columns.{IsSchemaIn, HasTheSchema}
-use Rattle.binding_laws.proofs.Grown.{went}
+use Rattle.binding_laws.proofs.Grown.{take, went}
 use Rattle.binding_laws.proofs.Fields.{objects_there, number_there}
 use Rattle.binding_laws.proofs.Found.{schema_so}
 
@@ -159,22 +158,15 @@ ok_is x y e = cc
 table_so : (d : Data) (t : Table) → table_of d ≡ Ok t → schemas_in d ≡ Ok t.schemas
 unfolding table_of
 table_so d t e =
-    let version = went (version_in d) _ t e in
-    let uuid = went (uuid_in d) _ t version.next in
-    let location = went (location_in d) _ t uuid.next in
-    let last_sequence_number = went (sequence_number_in member.LastSequenceNumber d) _ t location.next in
-    let last_updated_ms = went (long_in member.LastUpdatedMs d) _ t last_sequence_number.next in
-    let last_column_id = went (int_in member.LastColumnId d) _ t last_updated_ms.next in
-    let schemas = went (schemas_in d) _ t last_column_id.next in
-    let current_schema_id = went (current_schema_in schemas.first d) _ t schemas.next in
-    let specs = went (specs_in d) _ t current_schema_id.next in
-    let default_spec_id = went (default_spec_in specs.first d) _ t specs.next in
-    let last_partition_id = went (int_in member.LastPartitionId d) _ t default_spec_id.next in
-    let current_snapshot_id = went (current_snapshot_in d) _ t last_partition_id.next in
-    let snapshots = went (snapshots_in d) _ t current_snapshot_id.next in
-    let refs = went (refs_in d) _ t snapshots.next in
-    let made = ok_is _ t refs.next in
-    schemas.gave ∙ ap (λ (x : Table). Ok x.schemas) made
+    take _ (version_in d) _ t e (λ version was_version e1. take _ (uuid_in d) _ t e1 (λ uuid was_uuid e2. take _
+    (location_in d) _ t e2 (λ location was_location e3. take _ (sequence_number_in member.LastSequenceNumber d) _ t e3
+    (λ number was_number e4. take _ (long_in member.LastUpdatedMs d) _ t e4 (λ updated was_updated e5. take _
+    (int_in member.LastColumnId d) _ t e5 (λ column was_column e6. take _ (schemas_in d) _ t e6
+    (λ schemas were_schemas e7. take _ (current_schema_in schemas d) _ t e7 (λ current was_current e8. take _
+    (specs_in d) _ t e8 (λ specs were_specs e9. take _ (default_spec_in specs d) _ t e9 (λ spec was_spec e10. take _
+    (int_in member.LastPartitionId d) _ t e10 (λ partition was_partition e11. take _ (current_snapshot_in d) _ t e11
+    (λ snapshot was_snapshot e12. take _ (snapshots_in d) _ t e12 (λ snapshots were_snapshots e13. take _ (refs_in d) _
+    t e13 (λ refs were_refs e14. were_schemas ∙ ap (λ (x : Table). Ok x.schemas) (ok_is _ t e14)))))))))))))))
 
 -- ---- the law
 

@@ -1,6 +1,6 @@
 -- The field to which a name with dots leads in the JSON of a schema (Apache Iceberg table spec v2, "Schemas and Data
--- Types" and "Appendix C: JSON serialization", Schemas), and the column that is found by that name. The names are those
--- between the dots; a field whose own name has a dot is a single name.
+-- Types" and "Appendix C: JSON serialization", Schemas), and the column that is found by that name. Its names are those
+-- between its dots. A field's own name may have a dot too: it is one name then, which a filter has in quotes.
 use Rattle.std.specs.Prelude.{◌≡◌, ◌↔◌, ◌<◌, ℕ, ℤ, List, [], ◌∷◌, codes, Option, None, Some, Ok}
 use Rattle.serde_json.specs.Data as json
 use Rattle.serde_json.specs.Data.{Data, Items, Members, Num}

@@ -1,8 +1,7 @@
 -- What is at fault with a leaf of a filter over the columns of a schema, and which fault of a filter is told: each is
 -- said by itself here, and not by a walk that stops at the first.
 use Rattle.std.specs.Prelude.{◌≡◌, ◌≢◌, ◌↔◌, ◌⊎◌, ◌^◌, ◌<◌, ◌≤◌, ◌≤ℤ◌, ◌<ℤ◌, ℕ, ℤ, pos, neg_ℤ, true, List, [], ◌∷◌}
-use Rattle.std.specs.Prelude.{◌++◌}
-use Rattle.std.specs.Prelude.{length, slice_get, Option, None, Some, Ok, Err}
+use Rattle.std.specs.Prelude.{◌++◌, length, slice_get, Option, None, Some, Ok, Err}
 use Rattle.std.specs.List.{AllByRecursion, Contains}
 use Rattle.uuid.specs.Text.{parsed as uuid_in}
 use Rattle.ice_value.specs.declared.column_type.ColumnType.{ColumnType}
@@ -88,8 +87,8 @@ Takes _ _ = ⊥
 abbrev pub IsOfType : Schema → Leaf → Option ColumnType → Type 0
 IsOfType schema l type = (id : ℤ) × IsFound (path l.column) schema id type
 
--- the leaf has this fault: no column has its names; its column can't be asked so; its column's type takes one of its
--- literals not
+-- the leaf has this fault: no column has its names; its column can't be asked so; its column doesn't take one of its
+-- literals
 abbrev pub HasFault : Schema → Leaf → FilterFault → Type 0
 HasFault schema l NoSuchColumn = (type : Option ColumnType) → IsOfType schema l type → ⊥
 HasFault schema l NotComparable = (type : Option ColumnType) × IsOfType schema l type × CannotBeAsked type l.question
@@ -155,6 +154,6 @@ AreOf (l ∷ ls) tokens = (before after : List Token) × (tokens ≡ before ++ (
     × AllByRecursion IsBetween before × AreOf ls after
 
 -- The text of a filter has its leaves in their order.
-abbrev pub HasThemInOrder : Type 0
-HasThemInOrder = (text : List ℕ) (filter : Tree Leaf) → IsReadAs text (Ok filter)
+abbrev pub HasItsLeavesInOrder : Type 0
+HasItsLeavesInOrder = (text : List ℕ) (filter : Tree Leaf) → IsReadAs text (Ok filter)
     → AreOf (leaves filter) (words (tokens_of text))

@@ -8,3 +8,4 @@ pub mod Hex
 pub mod Fronts
 pub mod Lying
 pub mod Filters
+pub mod Parts

@@ -5,8 +5,8 @@ use Rattle.ice_filter.specs.declared.fault.FilterFault.TheVariants.{Syntax, TooB
 use Rattle.ice_filter.specs.declared.leaf.Leaf.{Leaf}
 use Rattle.ice_filter.specs.declared.token.Token.{Token}
 use Rattle.ice_filter.specs.Grammar.{Written, Says, IsWithin, IsInLimits, Begins, limits, bare, words}
-use Rattle.ice_filter.specs.Parsing.{filter_of}
-use Rattle.ice_filter.specs.Trees.{Tree}
+use Rattle.ice_filter.specs.Parsing.{filter_of, mapped, parsed}
+use Rattle.ice_filter.specs.Trees.{Tree, parts_of}
 use Rattle.lexer_laws.specs.Lying.{Stands, Lie, NoneBegins}
 
 -- the text is blanks and the spellings of tokens that say the filter, which is within the limits
@@ -56,3 +56,7 @@ RefusesTooMuch = (text : List ℕ) → (filter_of text ≡ Err TooBig) ↔ Overf
 abbrev pub RefusesNothingElse : Type 0
 RefusesNothingElse = (text : List ℕ) (e : FilterFault) → filter_of text ≡ Err e
     → ((at : ℕ) × (e ≡ Syntax at)) ⊎ (e ≡ TooBig)
+
+-- The parts that are kept are those of the filter, operands before operators.
+abbrev pub KeepsTheParts : Type 0
+KeepsTheParts = (text : List ℕ) → parsed text ≡ mapped parts_of (filter_of text)

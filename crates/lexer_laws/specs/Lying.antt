@@ -53,7 +53,8 @@ abbrev pub AreSpelled : Type 0
 AreSpelled = (text : List ℕ) (tokens : List (ℕ × Token))
     → ((tokens_of text ≡ tokens) × AreGood tokens) ↔ Lie tokens 0 text (length text) []
 
--- and its first bad token is at an offset exactly where before it are blanks and spellings in turn, and none begins.
+-- and its first bad token is at an offset exactly where before it are blanks and spellings in turn, and none
+-- begins there.
 abbrev pub BadIsNoSpelling : Type 0
 BadIsNoSpelling = (text : List ℕ) (before : List (ℕ × Token)) (at : ℕ)
     → IsBadAt at before text ↔ ((rest : List ℕ) × Lie before 0 text at rest × NoneBegins rest)

@@ -45,7 +45,7 @@ pub record IsPlain (name : List ℕ) : Type 0 where
   pub first : is_ascii_digit (slice_index name 0) ≡ false
   pub free : (t : Token) → spelling_of t ≢ Some name
 
--- decimal digits that write the number, behind a minus where they write what it is less than 0
+-- decimal digits write the number, or what it is below 0 behind a minus
 abbrev pub WritesNumber : List ℕ → ℤ → Type 0
 WritesNumber bytes z = (digits : List ℕ) × IsNumeral 10 digits
     × (((bytes ≡ digits) × (z ≡ pos (digits_value 10 digits)))

@@ -1,7 +1,7 @@
 //! What the lexer reads, and the parser above it.
 
 ghost use Rattle.lexer_laws.specs.Filters.{ReadsWhatIsWritten, RefusesWhereItStops, RefusesTooMuch};
-ghost use Rattle.lexer_laws.specs.Filters.{RefusesNothingElse};
+ghost use Rattle.lexer_laws.specs.Filters.{RefusesNothingElse, KeepsTheParts};
 ghost use Rattle.lexer_laws.specs.Lying.{AreSpelled, BadIsNoSpelling};
 
 /// The lexer: a text whose tokens are all good is blanks and spellings in turn, each token at the offset where its
@@ -19,4 +19,9 @@ pub fn texts_say_filters()
     ensures stops { RefusesWhereItStops }
     ensures too_big { RefusesTooMuch }
     ensures others { RefusesNothingElse }
+{}
+
+/// What is kept of a text are the parts of the filter that it is read as.
+pub fn texts_are_kept_as_parts()
+    ensures { KeepsTheParts }
 {}

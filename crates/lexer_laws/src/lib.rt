@@ -3,4 +3,4 @@
 
 mod laws;
 
-pub use laws::{texts_say_filters, tokens_are_spelled};
+pub use laws::{texts_are_kept_as_parts, texts_say_filters, tokens_are_spelled};

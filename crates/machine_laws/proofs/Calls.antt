@@ -1,5 +1,5 @@
 -- What calls come to, as events of a machine.
-use Rattle.std.proofs.Common.{◌≡◌, ◌≢◌, ◌==◌, ℕ, zero, suc, ◌+◌, ◌<◌, Bool, true, false, List, [], ◌∷◌, ◌++◌, length}
+use Rattle.std.proofs.Common.{◌≡◌, ◌≢◌, ◌==◌, ℕ, zero, suc, ◌+◌, ◌<◌, Bool, true, false, List, [], ◌∷◌, length}
 use Rattle.std.proofs.Common.{refl, replicate, sym, ◌∙◌, ap, subst, arith, length-append, Option, Some, None}
 use Rattle.std.specs.Prelude.{cond, slice_get, unwrap_or, IfErr, IfOk, OnErr, OnOk, Result, Ok, Err}
 use Rattle.std.specs.Result.{result_ok}
@@ -7,7 +7,7 @@ use Rattle.std.proofs.lemmas.Bool.Decides.{Decides-eqb}
 use Rattle.contract_words.specs.Outcome.{◌>>=◌, Gives}
 use Rattle.ice_book.specs.declared.book.Conflict.{Conflict}
 use Rattle.ice_catalog.proofs.Apart.{get_last}
-use Rattle.ice_catalog.specs.Machines.{Machine, PinnedScan, commit, committed, event, finished, receipt_of, scan_of}
+use Rattle.ice_catalog.specs.Machines.{Machine, PinnedScan, committed, event, finished, receipt_of, scan_of}
 use Rattle.ice_catalog.specs.Machines.{world_of}
 use Rattle.ice_catalog.specs.declared.event.Event.TheVariants as on
 use Rattle.ice_catalog.specs.declared.event.Reply.{Reply}

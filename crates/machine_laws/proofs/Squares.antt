@@ -1,15 +1,12 @@
 -- What events do to the states of workers.
-use Rattle.std.proofs.Common.{◌≡◌, ℕ, zero, suc, Bool, true, false, List, [], ◌∷◌, ◌++◌, length, map, replicate, refl}
-use Rattle.std.proofs.Common.{sym, ◌∙◌}
+use Rattle.std.proofs.Common.{◌≡◌, ℕ, zero, suc, Bool, true, false, List, [], ◌∷◌, ◌++◌, length, map, replicate, refl, sym, ◌∙◌}
 use Rattle.std.proofs.Common.{ap, subst, Option, Some, None}
 use Rattle.std.specs.Prelude.{◌==◌, cond, ◌↔◌, option_map, slice_get, slice_set, Result, Ok, Err}
 use Rattle.std.proofs.lemmas.List.{map-set}
 use Rattle.std.proofs.lemmas.Option.{slice_get-map}
 use Rattle.ice_catalog.proofs.Steps.{finishes, merges, takes}
-use Rattle.ice_catalog.specs.Machines.{Machine, PinnedScan, at_pin, begun, commit, committed, event, finish_at}
-use Rattle.ice_catalog.specs.Machines.{finished}
-use Rattle.ice_catalog.specs.Machines.{in_scan, merge, merge_by, pin, pinned, pinned_on, scan_of, take, take_by}
-use Rattle.ice_catalog.specs.Machines.{took_row}
+use Rattle.ice_catalog.specs.Machines.{Machine, PinnedScan, at_pin, begun, commit, committed, event, finish_at, finished}
+use Rattle.ice_catalog.specs.Machines.{merge, merge_by, pinned, pinned_on, scan_of, take, take_by, took_row}
 use Rattle.ice_catalog.specs.Machines.{with_worker, world_of}
 use Rattle.ice_catalog.specs.declared.event.Event.{Event}
 use Rattle.ice_catalog.specs.declared.event.Event.TheVariants as on
@@ -24,10 +21,10 @@ use Rattle.ice_state.specs.Contents.{Content, HasBytesAt, World, add, content, n
 use Rattle.ice_state.specs.Joins.{either, join}
 use Rattle.ice_state.specs.Outcomes.{outcome}
 use Rattle.ice_state.specs.Scans.{Scanned}
-use Rattle.ice_versions.specs.Histories.{History, Step, prepared_on}
+use Rattle.ice_versions.specs.Histories.{Step, prepared_on}
 use Rattle.ice_versions.specs.declared.change.Commit.{Commit}
 use Rattle.ice_versions.specs.declared.fault.PrepareFault.{PrepareFault}
-use Rattle.machine_laws.specs.Workers.{Begins, CanMerge, CanTake, HasManifest, HasState, IsPut, Lacks, nothing_taken}
+use Rattle.machine_laws.specs.Workers.{Begins, CanMerge, CanTake, HasManifest, HasState, IsPut, Lacks}
 use Rattle.machine_laws.specs.Workers.{states_of, tells_a_change}
 
 -- ---- lists

@@ -1,6 +1,6 @@
 -- Trees of takes and merges, played by workers of a scan.
-use Rattle.std.proofs.Common.{◌≡◌, ◌⊎◌, inl, inr, ⊎_elim, ℕ, zero, suc, ◌+◌, Bool, true, List, [], ◌∷◌, ◌++◌, length}
-use Rattle.std.proofs.Common.{refl, sym, ◌∙◌, ap, subst, arith, Option, Some, None}
+use Rattle.std.proofs.Common.{◌≡◌, ◌⊎◌, inl, inr, ℕ, zero, suc, ◌+◌, true, List, [], ◌∷◌, ◌++◌}
+use Rattle.std.proofs.Common.{refl, sym, ◌∙◌, ap, subst, arith, Some}
 use Rattle.std.specs.Prelude.{◌<◌, ◌≤◌, slice_get, slice_set}
 use Rattle.std.specs.List.{AllByRecursion}
 use Rattle.std.proofs.lemmas.List.{set-set}
@@ -8,7 +8,7 @@ use Rattle.ice_catalog.specs.Machines.{Machine, PinnedScan, event, machine_after
 use Rattle.ice_catalog.specs.declared.event.Event.{Event}
 use Rattle.ice_catalog.specs.declared.event.Event.TheVariants as on
 use Rattle.ice_catalog.specs.declared.event.Reply.{Reply}
-use Rattle.ice_state.specs.Contents.{Content, HasBytes, took}
+use Rattle.ice_state.specs.Contents.{Content, took}
 use Rattle.ice_state.specs.Joins.{join}
 use Rattle.ice_state.specs.Runs.{Run, empty, take, merge, IsIn, after}
 use Rattle.ice_state.specs.Scans.{Scanned}

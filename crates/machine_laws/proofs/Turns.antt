@@ -1,13 +1,12 @@
 -- One event after the other: what a worker takes in turn.
-use Rattle.std.proofs.Common.{◌≡◌, ◌⊎◌, inl, inr, ⊎_elim, ℕ, zero, suc, Bool, true, false, List, [], ◌∷◌, length, map}
+use Rattle.std.proofs.Common.{◌≡◌, ◌⊎◌, inl, inr, ℕ, zero, suc, Bool, true, false, List, [], ◌∷◌, length, map}
 use Rattle.std.proofs.Common.{refl, sym, ◌∙◌, ap, subst, arith, Option, Some, None, is_some}
-use Rattle.std.specs.Prelude.{◌<◌, ◌≤◌, ◌%◌, IsTrue, option_map, slice_get, slice_set, slice_index_or}
+use Rattle.std.specs.Prelude.{IsTrue, option_map, slice_get, slice_set}
 use Rattle.std.specs.List.{AllByRecursion}
 use Rattle.std.proofs.lemmas.List.{set-set}
 use Rattle.ice_catalog.specs.Machines.{Machine, PinnedScan, event, machine_after, replies_to, world_of}
 use Rattle.ice_catalog.specs.declared.event.Event.TheVariants as on
 use Rattle.ice_catalog.specs.declared.event.Reply.TheVariants as reply
-use Rattle.ice_desk.specs.Wanted.{IsContentOf}
 use Rattle.ice_desk.specs.Works.{Worked}
 use Rattle.ice_desk.specs.declared.desk.Desk.{Desk}
 use Rattle.ice_desk.specs.declared.desk.Seat.{Seat}

@@ -1,6 +1,5 @@
 -- What the workers of pinned scans have: states into which manifests are read.
-use Rattle.std.specs.Prelude.{◌≡◌, ℕ, Bool, true, false, List, [], ◌∷◌, ◌++◌, length, map, replicate, Option, Some}
-use Rattle.std.specs.Prelude.{None}
+use Rattle.std.specs.Prelude.{◌≡◌, ℕ, Bool, true, false, List, [], ◌∷◌, ◌++◌, length, map, replicate, Some, None}
 use Rattle.std.specs.Prelude.{slice_get, slice_set}
 use Rattle.ice_catalog.specs.Machines.{Machine, PinnedScan, world_of}
 use Rattle.ice_catalog.specs.declared.event.Reply.{Reply}

@@ -1,5 +1,5 @@
-//! Laws of the machine of scans and commits: what its events do to the states into which manifests are read, to the
-//! plans of many workers, and to the counts of those who commit. Nothing builds on this crate.
+//! Laws of the machine of scans and commits: what its events do to the states into which manifests are read, to the plans
+//! of many workers, and to the counts of those who commit. Nothing builds on this crate.
 #![tactic(auto)]
 
 mod laws;

@@ -1,8 +1,6 @@
 -- What is live and what is kept, and paths that kept entries share.
-use Rattle.std.proofs.Common.{◌≡◌, ◌<◌, ◌≤◌, ◌+◌, ◌⊎◌, inl, inr, ℕ, suc, List, [], ◌∷◌, ◌++◌, refl, sym, ap, ◌∙◌, Bool}
-use Rattle.std.proofs.Common.{true}
-use Rattle.std.proofs.Common.{false, map, filter, cond, arith, subst, length, length-append, not, ◌&&◌, ◌||◌, Ordering}
-use Rattle.std.proofs.Common.{is_lt}
+use Rattle.std.proofs.Common.{◌≡◌, ◌<◌, ◌≤◌, ◌+◌, ◌⊎◌, inl, inr, ℕ, suc, List, [], ◌∷◌, ◌++◌, refl, sym, ap, ◌∙◌, Bool, true}
+use Rattle.std.proofs.Common.{false, map, filter, cond, arith, subst, length, length-append, not, ◌&&◌, ◌||◌, Ordering, is_lt}
 use Rattle.std.specs.List.{Contains, AllByRecursion, flat_map}
 use Rattle.std.specs.Cmp.Lexicographic.{slice_cmp}
 use Rattle.std.specs.Ordering.{nat_cmp, ordering_reverse}

@@ -1,6 +1,5 @@
 -- What a state finishes with that took every wanted row, and which row is missing where it didn't.
-use Rattle.std.proofs.Common.{◌≡◌, ◌⊎◌, inl, inr, ◌<◌, ℕ, ℤ, zero, suc, List, [], ◌∷◌, ◌++◌, refl, sym, ap, ◌∙◌, Bool}
-use Rattle.std.proofs.Common.{true}
+use Rattle.std.proofs.Common.{◌≡◌, ◌⊎◌, inl, inr, ◌<◌, ℕ, ℤ, zero, suc, List, [], ◌∷◌, ◌++◌, refl, sym, ap, ◌∙◌, Bool, true}
 use Rattle.std.proofs.Common.{false, filter, arith, subst, length, Option, Some, None, option_map, Result, Ok, Err}
 use Rattle.std.specs.List.{Contains, AllByRecursion, flat_map, slice_get}
 use Rattle.contract_words.specs.Sorting.{sorted}

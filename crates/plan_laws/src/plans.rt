@@ -7,6 +7,7 @@ ghost use Rattle.ice_meta.specs.declared.spec.Spec.{Spec};
 ghost use Rattle.ice_manifest_fields.specs.declared.fault.ManifestFault.{ManifestFault};
 ghost use Rattle.ice_manifest_reading.specs.declared.row.Row.{Row};
 ghost use Rattle.ice_manifest_reading.specs.Laws.{HasEachPathOnce};
+ghost use Rattle.ice_manifest_reading.specs.Lists.{rows_of};
 ghost use Rattle.ice_state.specs.declared.fault.FinishFault.{FinishFault};
 ghost use Rattle.ice_state.specs.declared.fault.FinishFault.TheVariants.{Bad, Missing, PathTwice};
 ghost use Rattle.ice_state.specs.Contents.{Content, IsOf, World, content};
@@ -18,13 +19,14 @@ ghost use Rattle.ice_state.specs.Snapshots.{plan_of_snapshot};
 ghost use Rattle.plan_laws.specs.Finishing.{IsLeastUntaken, TookAll};
 ghost use Rattle.plan_laws.specs.Plans.{IsLeastBad, IsPathTwice, IsPlan};
 
+use ice_manifest_reading::rows_are_a_set;
 use ice_state::laws::{filtering, pruning, scanning};
 
 /// The plan of a snapshot under a filter, over all its rows. There is one exactly where no wanted row is bad and no two
 /// kept entries share a path: each line's file is a live data file of which the filter keeps the partition values and
-/// the bounds, and each such file has a line; in a line stand exactly the live delete files, of whatever row, that
-/// apply to its file; lines and delete files stand by path, each path once. Else the bad wanted row with the least path
-/// is told, and where none is bad the least path that is shared.
+/// the bounds, and each such file has a line; in a line stand exactly the live delete files, of whatever row, that apply
+/// to its file; lines and delete files stand by path, each path once. Else the bad wanted row with the least path is
+/// told, and where none is bad the least path that is shared.
 pub fn snapshot_plans()
     ensures planned { (world : World) (specs : List Spec) (filter : List (Part BoundLeaf)) (rows : List Row)
         (plan : List OwnedLine) →
@@ -47,8 +49,7 @@ pub fn snapshot_plans()
 }
 
 /// What a state finishes with. `Missing` is told exactly where a wanted row wasn't taken, of the least path; a state
-/// that took all of them has the plan of a snapshot that has these rows alone, whatever the summaries of the others
-/// say.
+/// that took all of them has the plan of a snapshot that has these rows alone, whatever the summaries of the others say.
 pub fn finished_plans()
     ensures missing { (rows : List Row) (specs : List Spec) (scan : Scanned) (c : Content) (path : List ℕ) →
         IsScanOf rows specs scan → IsOf scan c →
@@ -63,4 +64,11 @@ pub fn finished_plans()
     filtering();
     pruning();
     scanning();
+}
+
+/// No two rows of a manifest list that can be read have one path.
+pub fn lists_have_each_path_once()
+    ensures { (bytes : List ℕ) (rows : List Row) → rows_of bytes ≡ Ok rows → HasEachPathOnce rows }
+{
+    rows_are_a_set();
 }

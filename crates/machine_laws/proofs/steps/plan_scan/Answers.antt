@@ -1,4 +1,3 @@
-use Rattle.std.proofs.Common.{ap}
 use Rattle.machine_laws.proofs.Calls.{plan_call}
 use Rattle.machine_laws.proofs.steps.plan_scan.Goals as goal
 use Rattle.ice_catalog.specs.Machines.{world_of}
