@@ -63,6 +63,9 @@ pub fn plans_of_true_summaries()
 
 /// Writes the plan that a request asks for, of the table whose metadata these are the bytes of.
 ///
+/// A live data file that the plan lacks, honest about its rows, has no row that meets the filter: the crate
+/// `answer_laws` says so of `answer` and of `wanted_answer`, which this writes.
+///
 /// The refusal is `Metadata` with the first fault of the bytes; `Filter` where the filter's text is none; `Metadata`
 /// where there is no such snapshot; `Filter` where the filter can't be asked of the schema, which is the current one,
 /// or that of the snapshot itself for a tag and for a snapshot's id; then, of reading the manifest list and after it
