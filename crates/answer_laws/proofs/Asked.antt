@@ -1,6 +1,6 @@
 -- The steps of an answer that there is.
-use Rattle.std.proofs.Common.{◌≡◌, ℕ, suc, Bool, true, List, [], ◌∷◌, length, replicate, refl, sym, ap, ◌∙◌, subst, Option}
-use Rattle.std.proofs.Common.{Some, None, Result, Ok, Err}
+use Rattle.std.proofs.Common.{◌≡◌, ℕ, suc, Bool, true, List, [], ◌∷◌, length, replicate, refl, sym, ap, ◌∙◌, subst}
+use Rattle.std.proofs.Common.{Option, Some, None, Result, Ok, Err}
 use Rattle.contract_words.specs.Outcome.{◌>>=◌}
 use Rattle.ice_filter.specs.Binding.{bound_parts}
 use Rattle.ice_filter.specs.Rows as table
@@ -45,7 +45,8 @@ pub rows_of_answer : (ending : Ending) (world : World) (metadata : List ℕ) (re
     → rows_plan ending world selection.specs selection.filter.parts rows ≡ Ok plan
 unfolding answer_by
 rows_of_answer ending world metadata request selection rows plan (is, has) h =
-    let e : answer_by ending world metadata request ≡ rows_plan ending world selection.specs selection.filter.parts rows =
+    let e : answer_by ending world metadata request ≡ rows_plan ending world selection.specs
+    selection.filter.parts rows =
     rw (is, has) refl in
     sym e ∙ h
 
@@ -85,15 +86,18 @@ unfolding selected_by
 of_snapshot table' target parts schema selection row h is =
     let made : List ℕ → Schema → List (Part BoundLeaf) → Result Selection RunFault = λ list s filter.
     Ok (record { list = list; specs = bound_specs s table'; filter = record { parts = filter } }) in
-    let l = then_read (as_run of_meta (list_of target table')) (λ list. as_run of_meta (schema_of target table') >>= λ s.
+    let l = then_read (as_run of_meta (list_of target table'))
+    (λ list. as_run of_meta (schema_of target table') >>= λ s.
     as_run of_filter (bound_in s parts) >>= made list s) selection h in
-    let s = then_read (as_run of_meta (schema_of target table')) (λ s. as_run of_filter (bound_in s parts) >>= made l.0 s)
+    let s = then_read (as_run of_meta (schema_of target table'))
+    (λ s. as_run of_filter (bound_in s parts) >>= made l.0 s)
     selection l.2 in
     let f = then_read (as_run of_filter (bound_in s.0 parts)) (made l.0 s.0) selection s.2 in
     let same : Ok s.0 ≡ Ok schema = sym (as_read of_meta (schema_of target table') s.0 s.1) ∙ is in
     let one : s.0 ≡ schema = cc in
     let bound : bound_in s.0 parts ≡ Ok f.0 = as_read of_filter (bound_in s.0 parts) f.0 f.1 in
-    let whole : record { list = l.0; specs = bound_specs s.0 table'; filter = record { parts = f.0 } } ≡ selection = cc in
+    let whole : record { list = l.0; specs = bound_specs s.0 table'; filter = record { parts = f.0 } } ≡ selection =
+    cc in
     ap (λ (x : Selection). row_meets x.filter.parts row) (sym whole)
     ∙ same_bound s.0 parts f.0 row bound ∙ ap (λ (x : Schema). meets x parts row) one
 

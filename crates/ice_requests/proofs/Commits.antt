@@ -25,7 +25,8 @@ use Rattle.ice_text.specs.declared.fault.RunFault.{RunFault}
 use Rattle.ice_text.specs.declared.fault.RunFault.TheVariants as run
 use Rattle.ice_text.specs.Changes.{change_of}
 use Rattle.ice_requests.specs.Bundles.{File}
-use Rattle.ice_requests.specs.Commits.{Commitment, IsOfPreparing, MayEndCommit, MayNotPut, Writes, base_files, base_of}
+use Rattle.ice_requests.specs.Commits.{Commitment, IsOfPreparing, IsOfPutting, MayEndCommit, MayNotPut}
+use Rattle.ice_requests.specs.Commits.{MayRefuseACommit, Writes, base_files, base_of}
 use Rattle.ice_requests.specs.Commits.{change_asked, commitment, commitment_from, commitment_on}
 use Rattle.ice_text.specs.Faults.{of_change, of_meta, of_prepare}
 use Rattle.ice_text.specs.Reads.{MayEnd, as_run, file_in}
@@ -230,6 +231,46 @@ fault_prepares (prepare.BaseBad path) = tt
 fault_prepares (prepare.BadFile path) = tt
 fault_prepares prepare.TooManyRows = tt
 fault_prepares prepare.OutOfOrder = tt
+
+-- the faults of reading a file
+abbrev pub IsOfReading : RunFault → Type 0
+IsOfReading (run.Absent path) = Unit {0}
+IsOfReading (run.Device path) = Unit {0}
+IsOfReading _ = ⊥
+
+pub prepare_reads_nothing : (e : PrepareFault) → IsOfReading (of_prepare e) → ⊥
+prepare_reads_nothing prepare.Memory h = h
+prepare_reads_nothing prepare.SnapshotTaken h = h
+prepare_reads_nothing (prepare.PathTaken path) h = h
+prepare_reads_nothing (prepare.PathTwice path) h = h
+prepare_reads_nothing prepare.Empty h = h
+prepare_reads_nothing (prepare.NoSuchSpec id) h = h
+prepare_reads_nothing (prepare.WrongTuple path) h = h
+prepare_reads_nothing prepare.SequenceEnd h = h
+prepare_reads_nothing (prepare.BaseBad path) h = h
+prepare_reads_nothing (prepare.BadFile path) h = h
+prepare_reads_nothing prepare.TooManyRows h = h
+prepare_reads_nothing prepare.OutOfOrder h = h
+
+-- a refusal of putting is one of the commit
+pub putting_refuses : (e : RunFault) → IsOfPutting e → MayRefuseACommit e
+putting_refuses run.Write of = tt
+putting_refuses (run.Conflict path) of = tt
+putting_refuses run.Memory of = tt
+putting_refuses (run.Absent path) of = absurd of
+putting_refuses (run.Device path) of = absurd of
+putting_refuses (run.Metadata m) of = absurd of
+putting_refuses (run.Change m) of = absurd of
+putting_refuses (run.Prepare m) of = absurd of
+putting_refuses run.Input of = absurd of
+putting_refuses (run.Words t) of = absurd of
+putting_refuses (run.Bundle n) of = absurd of
+putting_refuses (run.List m) of = absurd of
+putting_refuses (run.Scan m) of = absurd of
+putting_refuses (run.Finish m) of = absurd of
+putting_refuses (run.Filter m) of = absurd of
+putting_refuses (run.Drill m) of = absurd of
+putting_refuses run.Workers of = absurd of
 
 -- a refusal of preparing ends the commit
 pub prepare_refuses : (read : Result Commitment RunFault) (f : List ℕ → Type 0) (out : List ℕ)

@@ -199,6 +199,13 @@ IsOfPreparing (run.Prepare fault) = Unit {0}
 IsOfPreparing run.Memory = Unit {0}
 IsOfPreparing _ = ⊥
 
+-- the faults of putting what was prepared
+abbrev pub IsOfPutting : RunFault → Type 0
+IsOfPutting run.Write = Unit {0}
+IsOfPutting (run.Conflict path) = Unit {0}
+IsOfPutting run.Memory = Unit {0}
+IsOfPutting _ = ⊥
+
 -- the faults of a request to commit
 abbrev pub MayRefuseACommit : RunFault → Type 0
 MayRefuseACommit run.Write = Unit {0}

@@ -5,8 +5,8 @@ ghost use Rattle.std.specs.Prelude.{◌≡◌, ◌≢◌, ℕ, List, Option, Som
 ghost use Rattle.std.specs.Prelude.{IsErrOf};
 ghost use Rattle.ice_desk.specs.Worlds.{HasAt};
 ghost use Rattle.ice_state.specs.Contents.{World};
-ghost use Rattle.ice_requests.specs.Commits.{Commitment, IsLeft, IsOfPreparing, IsPut, Made, MayEndCommit, MayNotPut};
-ghost use Rattle.ice_requests.specs.Commits.{MayFailToPut, MayRefuseACommit, OnCommitRefusal, Stopped, TellsACommit};
+ghost use Rattle.ice_requests.specs.Commits.{Commitment, IsLeft, IsOfPreparing, IsOfPutting, IsPut, Made, MayEndCommit, MayNotPut};
+ghost use Rattle.ice_requests.specs.Commits.{MayFailToPut, OnCommitRefusal, Stopped, TellsACommit};
 ghost use Rattle.ice_requests.specs.Commits.{Writes};
 ghost use Rattle.ice_requests.specs.Commits.{change_asked, commitment, commitment_from, receipt_text};
 ghost use Rattle.ice_requests.specs.Bundles.{File};
@@ -116,7 +116,7 @@ pub fn put_commit<S: Store>(
         IfErr result (MayNotPut c out.now (S.files store.old) (S.files store.new) (S.may_fail store.old)) }
 
     // Over all stores.
-    ensures kinds { IfErr result MayRefuseACommit }
+    ensures kinds { IfErr result IsOfPutting }
     ensures conflict { (path : List ℕ) → IsErrOf result (RunFault.Conflict path) →
         (path ≡ out.now) × MayHave (S.files store.new) out.now }
     ensures write { IsErrOf result RunFault.Write → MayFailToPut (S.files store.new) (S.may_fail store.old) }

@@ -32,7 +32,7 @@ use Rattle.ice_versions.specs.declared.change.Commit.{Commit}
 use Rattle.ice_versions.specs.declared.fault.PrepareFault.{PrepareFault}
 use Rattle.ice_versions.specs.declared.receipt.Receipt.{Receipt}
 use Rattle.machine_laws.proofs.Counts.{same_journal}
-use Rattle.machine_laws.proofs.Squares.{begins, finish_outcome, merge_state, merged_where, state_of_set, take_state}
+use Rattle.machine_laws.proofs.Squares.{begins, finish_outcome, merge_state, merged_where, take_state}
 use Rattle.machine_laws.proofs.Squares.{taken_where}
 use Rattle.machine_laws.specs.Calls.{GoesOnFrom, IsOfReply, reply_to}
 use Rattle.machine_laws.specs.Counts.{followed_by}
@@ -112,16 +112,11 @@ module _ (m : Machine) (k w : ℕ) (p : PinnedScan) (scan : Scanned) (c : Conten
   plan_by (Err plan.Workers) gives = tt
 
 pub plan_call : (m : Machine) (k w : ℕ) (p : PinnedScan) (scan : Scanned) (r : Result (List OwnedLine) PlanFault)
-    → p.scan ≡ scan → slice_get m.pins k ≡ Some (Some p) → slice_get p.workers w ≡ Some (every_row p.scan)
+    → p.scan ≡ scan → HasState m k w p (content (world_of p.history) scan (every_row scan))
     → GivesPlan (λ lines. lines) r (outcome scan (content (world_of p.history) scan (every_row scan)))
     → IsOfReply r (event m (on.Finish k w)).0
-plan_call m k w p scan r same at every gives =
-    let world = world_of p.history in
-    plan_by m k w p scan (content world scan (every_row scan)) same (record {
-      pinned = at;
-      state = state_of_set p w (every_row p.scan) every ∙ ap (λ (s : Scanned). Some (content world s (every_row s)))
-          same;
-    }) r gives
+plan_call m k w p scan r same has gives =
+    plan_by m k w p scan (content (world_of p.history) scan (every_row scan)) same has r gives
 
 -- ---- commits
 

@@ -1,12 +1,12 @@
 -- What events do to the states of workers.
-use Rattle.std.proofs.Common.{◌≡◌, ℕ, zero, suc, Bool, true, false, List, [], ◌∷◌, ◌++◌, length, map, replicate, refl, sym, ◌∙◌}
-use Rattle.std.proofs.Common.{ap, subst, Option, Some, None}
+use Rattle.std.proofs.Common.{◌≡◌, ℕ, zero, suc, Bool, true, false, List, [], ◌∷◌, ◌++◌, length, map, replicate, refl}
+use Rattle.std.proofs.Common.{sym, ◌∙◌, ap, subst, Option, Some, None}
 use Rattle.std.specs.Prelude.{◌==◌, cond, ◌↔◌, option_map, slice_get, slice_set, Result, Ok, Err}
 use Rattle.std.proofs.lemmas.List.{map-set}
 use Rattle.std.proofs.lemmas.Option.{slice_get-map}
 use Rattle.ice_catalog.proofs.Steps.{finishes, merges, takes}
-use Rattle.ice_catalog.specs.Machines.{Machine, PinnedScan, at_pin, begun, commit, committed, event, finish_at, finished}
-use Rattle.ice_catalog.specs.Machines.{merge, merge_by, pinned, pinned_on, scan_of, take, take_by, took_row}
+use Rattle.ice_catalog.specs.Machines.{Machine, PinnedScan, at_pin, begun, commit, committed, event, finish_at}
+use Rattle.ice_catalog.specs.Machines.{finished, merge, merge_by, pinned, pinned_on, scan_of, take, take_by, took_row}
 use Rattle.ice_catalog.specs.Machines.{with_worker, world_of}
 use Rattle.ice_catalog.specs.declared.event.Event.{Event}
 use Rattle.ice_catalog.specs.declared.event.Event.TheVariants as on

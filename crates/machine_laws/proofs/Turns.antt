@@ -1,12 +1,13 @@
 -- One event after the other: what a worker takes in turn.
 use Rattle.std.proofs.Common.{◌≡◌, ◌⊎◌, inl, inr, ℕ, zero, suc, Bool, true, false, List, [], ◌∷◌, length, map}
-use Rattle.std.proofs.Common.{refl, sym, ◌∙◌, ap, subst, arith, Option, Some, None, is_some}
+use Rattle.std.proofs.Common.{refl, sym, ◌∙◌, ap, subst, arith, replicate, Option, Some, None, is_some}
 use Rattle.std.specs.Prelude.{IsTrue, option_map, slice_get, slice_set}
 use Rattle.std.specs.List.{AllByRecursion}
-use Rattle.std.proofs.lemmas.List.{set-set}
+use Rattle.std.proofs.lemmas.List.{length-replicate, set-set}
 use Rattle.ice_catalog.specs.Machines.{Machine, PinnedScan, event, machine_after, replies_to, world_of}
 use Rattle.ice_catalog.specs.declared.event.Event.TheVariants as on
 use Rattle.ice_catalog.specs.declared.event.Reply.TheVariants as reply
+use Rattle.ice_desk.specs.Wanted.{IsContentOf}
 use Rattle.ice_desk.specs.Works.{Worked}
 use Rattle.ice_desk.specs.declared.desk.Desk.{Desk}
 use Rattle.ice_desk.specs.declared.desk.Seat.{Seat}
@@ -20,7 +21,7 @@ use Rattle.ice_state.specs.declared.reading.Reading.{Reading}
 use Rattle.ice_versions.specs.Histories.{History}
 use Rattle.machine_laws.proofs.Squares.{set_of_state, set_same, take_state, taken_where}
 use Rattle.machine_laws.specs.Playing.{ComesByTakes, IsOfTicket, takes}
-use Rattle.machine_laws.specs.Workers.{HasManifest, HasState, IsPut, states_of}
+use Rattle.machine_laws.specs.Workers.{HasManifest, HasState, IsPut, nothing_taken, states_of}
 
 -- ---- one thing changed after the other
 
@@ -220,35 +221,67 @@ not_taken : {X : Type 0} (b : Bool) → b ≡ false → IsTrue b ⊎ X → X
 not_taken b not_yet (inl taken) = absurd cc
 not_taken b not_yet (inr x) = x
 
+-- of two contents of the scanned version's files, what the second has more can be taken in turn
+pub comes_by : (m : Machine) (k w : ℕ) (p : PinnedScan) (scan : Scanned) (before after : Content) (ts us : List Bool)
+    (so : ℕ → Type 0) → p.scan ≡ scan → HasState m k w p before → IsContentOf (world_of p.history) scan before ts
+    → IsContentOf (world_of p.history) scan after us
+    → ((i : ℕ) → IsTrue (is_row_taken before i) → IsTrue (is_row_taken after i))
+    → ((i : ℕ) → IsTrue (is_row_taken after i) → is_row_taken before i ≡ false → so i)
+    → ComesByTakes m k w p so after
+comes_by m k w p scan before after ts us so same has first then kept each =
+    let world = world_of p.history in
+    let rows = scan.wanted in
+    let cs = content world scan ts in
+    let ds = content world scan us in
+    let still = kept_from cs ds (λ i taken. subst (λ (c : Content). IsTrue (is_row_taken c i)) then.is (kept i
+    (subst (λ (c : Content). IsTrue (is_row_taken c i)) (sym first.is) taken))) in
+    let gained = gains cs ds in
+    let played = plays p.history scan k w gained m p ts refl same (subst (HasState m k w p) first.is has)
+    (gained_each (There p.history scan k w) cs ds (λ i taken before. has_manifest world scan rows us i taken)) in
+    record {
+      rows = gained;
+      each = gained_each so cs ds (λ i taken not_yet. each i (subst (λ (c : Content). IsTrue (is_row_taken c i))
+          (sym then.is) taken) (ap (λ (c : Content). is_row_taken c i) first.is ∙ not_yet));
+      taken = played.0;
+      put = subst (IsPut m (machine_after m (takes k w gained)) k w p) (gained_all world scan rows ts us first.flags
+          then.flags still ∙ sym then.is) played.1;
+    }
+
+-- a state of a worker is the content of a set
+set_of_worker : (m : Machine) (k w : ℕ) (p : PinnedScan) (scan : Scanned) (c : Content) → p.scan ≡ scan
+    → HasState m k w p c → IsOf scan c → (ts : List Bool) × IsContentOf (world_of p.history) scan c ts
+set_of_worker m k w p scan c same has of =
+    let world = world_of p.history in
+    let set = set_of_state p w c has.state in
+    let is : content world scan set.0 ≡ c = ap (λ (s : Scanned). content world s set.0) (sym same) ∙ set.2 in
+    let flags = trimmed world scan scan.wanted set.0 (ap length is ∙ of) in
+    (flags.0, record { flags = flags.1; is = sym (flags.2 ∙ is) })
+
 pub comes_by_takes : (m : Machine) (k w : ℕ) (p : PinnedScan) (world : Option World) (may_fail : List ℕ → Type 0)
     (desk : Desk) (scan : Scanned) (old new : Seat) (before after : Content) (left : Left)
     → world ≡ Some (world_of p.history) → p.scan ≡ scan → HasState m k w p before → IsOf scan before
     → (worked : Worked world may_fail desk scan old new before after left)
-    → ComesByTakes m k w p desk worked.tickets after
+    → ComesByTakes m k w p (IsOfTicket desk worked.tickets) after
 comes_by_takes m k w p told may_fail desk scan old new before after left tells same has of worked =
-    let world = world_of p.history in
-    let rows = scan.wanted in
-    let set = set_of_state p w before has.state in
-    let is : content world scan set.0 ≡ before = ap (λ (s : Scanned). content world s set.0) (sym same) ∙ set.2 in
-    let flags = trimmed world scan rows set.0 (ap length is ∙ of) in
-    let ts = flags.0 in
-    let first : before ≡ content world scan ts = sym (flags.2 ∙ is) in
-    let then = worked.content world ts tells (record { flags = flags.1; is = first }) in
-    let us = then.0 in
-    let second : after ≡ content world scan us = then.1.is in
-    let cs = content world scan ts in
-    let ds = content world scan us in
-    let kept = kept_from cs ds (λ i taken. subst (λ (c : Content). IsTrue (is_row_taken c i)) second (worked.kept i
-    (subst (λ (c : Content). IsTrue (is_row_taken c i)) (sym first) taken))) in
-    let gained = gains cs ds in
-    let played = plays p.history scan k w gained m p ts refl same (subst (HasState m k w p) first has)
-    (gained_each (There p.history scan k w) cs ds (λ i taken before. has_manifest world scan rows us i taken)) in
-    record {
-      rows = gained;
-      drawn = gained_each (IsOfTicket desk worked.tickets) cs ds (λ i taken not_yet. not_taken (is_row_taken before i)
-          (ap (λ (c : Content). is_row_taken c i) first ∙ not_yet) (worked.gained i (subst (λ (c : Content). IsTrue
-          (is_row_taken c i)) (sym second) taken)));
-      taken = played.0;
-      put = subst (IsPut m (machine_after m (takes k w gained)) k w p) (gained_all world scan rows ts us flags.1
-          then.1.flags kept ∙ sym second) played.1;
-    }
+    let first = set_of_worker m k w p scan before same has of in
+    let then = worked.content (world_of p.history) first.0 tells first.1 in
+    comes_by m k w p scan before after first.0 then.0 (IsOfTicket desk worked.tickets) same has first.1 then.1
+    worked.kept (λ i taken not_yet. not_taken (is_row_taken before i) not_yet (worked.gained i taken))
+
+none_taken : (n i : ℕ) → IsTrue (is_row_taken (replicate n None) i) → ⊥
+none_taken zero zero taken = cc
+none_taken zero (suc i) taken = cc
+none_taken (suc n) zero taken = cc
+none_taken (suc n) (suc i) taken = none_taken n i taken
+
+-- so each content of the scanned version's files can be taken by a worker that took nothing
+pub comes_from_nothing : (m : Machine) (k w : ℕ) (p : PinnedScan) (scan : Scanned) (after : Content)
+    → p.scan ≡ scan → HasState m k w p (nothing_taken scan)
+    → ((us : List Bool) × IsContentOf (world_of p.history) scan after us)
+    → ComesByTakes m k w p (λ i. IsTrue (is_row_taken after i)) after
+comes_from_nothing m k w p scan after same has then =
+    let n = length scan.wanted in
+    let none = nothing_taken scan in
+    let first = set_of_worker m k w p scan none same has (length-replicate n None) in
+    comes_by m k w p scan none after first.0 then.0 (λ i. IsTrue (is_row_taken after i)) same has first.1 then.1
+    (λ i taken. absurd (none_taken n i taken)) (λ i taken not_yet. taken)

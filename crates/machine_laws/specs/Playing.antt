@@ -24,14 +24,13 @@ takes k w rows = map (λ i. on.Take k w i) rows
 abbrev pub IsOfTicket : Desk → List ℕ → ℕ → Type 0
 IsOfTicket desk tickets i = (t : ℕ) × (0 < times t tickets) × (t < limit_of desk) × (t % desk.manifests ≡ i)
 
--- The worker w of the pin k can take rows of these tickets in turn, each take is replied `Taken`, and in the end its
--- state is this one, and nothing else is changed.
-pub record ComesByTakes (m : Machine) (k w : ℕ) (p : PinnedScan) (desk : Desk) (tickets : List ℕ) (c : Content) : Type 0
-  where
-    pub rows : List ℕ
-    pub drawn : AllByRecursion (IsOfTicket desk tickets) rows
-    pub taken : AllByRecursion (λ r. r ≡ reply.Taken) (replies_to m (takes k w rows))
-    pub put : IsPut m (machine_after m (takes k w rows)) k w p c
+-- The worker w of the pin k can take some rows in turn, each of which is so. Each take is replied `Taken`, and in the
+-- end its state is this one, and nothing else is changed.
+pub record ComesByTakes (m : Machine) (k w : ℕ) (p : PinnedScan) (so : ℕ → Type 0) (c : Content) : Type 0 where
+  pub rows : List ℕ
+  pub each : AllByRecursion so rows
+  pub taken : AllByRecursion (λ r. r ≡ reply.Taken) (replies_to m (takes k w rows))
+  pub put : IsPut m (machine_after m (takes k w rows)) k w p c
 
 -- ---- trees
 

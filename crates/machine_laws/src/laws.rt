@@ -74,8 +74,9 @@ pub fn a_tree_is_played()
 {}
 
 /// The journal of a machine goes on by exactly the commits that it replies to with `Committed`, in their order, and the
-/// receipt has the number of the version that the commit makes. So, where each event is of one of n seats, the number of
-/// the newest version went up by the counts of all seats together, and at no time is it less than what one seat made.
+/// receipt has the number of the version that the commit makes. So, where each event is of one of n seats, the number
+/// of the newest version went up by the counts of all seats together, and at no time is it less than what one seat
+/// made.
 pub fn commits_are_counted()
     ensures journal { (m : Machine) (events : List Event) →
         (machine_after m events).history ≡ followed_by m.history (made events (replies_to m events)) }

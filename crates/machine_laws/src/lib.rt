@@ -1,5 +1,6 @@
-//! Laws of the machine of scans and commits: what its events do to the states into which manifests are read, to the plans
-//! of many workers, and to the counts of those who commit. Nothing builds on this crate.
+//! Laws of the machine of scans and commits: what its events do to the states into which manifests are read, how the
+//! plans of many workers come of them, and how many commits each of those who commit made. Nothing builds on this
+//! crate.
 #![tactic(auto)]
 
 mod laws;

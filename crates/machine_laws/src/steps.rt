@@ -1,16 +1,16 @@
 //! Calls on states, desks and books, with what each is as an event of a machine. They do nothing else.
 
-ghost use Rattle.std.specs.Prelude.{◌≡◌, ◌≢◌, ◌<◌, ◌≤◌, ◌++◌, ℕ, List, Some, IfErr, IfOk, OnOk, length, slice_get};
+ghost use Rattle.std.specs.Prelude.{◌≡◌, ◌≢◌, ◌<◌, ◌≤◌, ◌++◌, ℕ, List, Some, IfErr, IfOk, IsTrue, OnOk, length};
 ghost use Rattle.ice_catalog.specs.Machines.{Machine, PinnedScan, event, scan_of, world_of};
 ghost use Rattle.ice_catalog.specs.declared.event.Event.TheVariants.{Commit, Finish, Merge, Pin, Take};
 ghost use Rattle.ice_catalog.specs.declared.event.Reply.TheVariants.{Merged, Planned, Taken, Unfinished};
 ghost use Rattle.ice_desk.specs.Seats.{IsSeatOf, hand_of};
 ghost use Rattle.ice_filter.specs.declared.leaf.Leaf.{Leaf};
 ghost use Rattle.ice_filter.specs.declared.parts.Part.{Part};
-ghost use Rattle.ice_state.specs.Contents.{IsOf, every_row};
+ghost use Rattle.ice_state.specs.Contents.{IsOf, content, every_row, is_row_taken};
 ghost use Rattle.machine_laws.specs.Calls.{GoesOnFrom, IsOfReply, reply_to};
-ghost use Rattle.machine_laws.specs.Playing.{ComesByTakes};
-ghost use Rattle.machine_laws.specs.Workers.{HasManifest, HasState, IsPut};
+ghost use Rattle.machine_laws.specs.Playing.{ComesByTakes, IsOfTicket};
+ghost use Rattle.machine_laws.specs.Workers.{HasManifest, HasState, IsPut, nothing_taken};
 
 use ice_book::{Book, Conflict};
 use ice_desk::{Desk, Files, Gate, Left, PlanFault, Seat};
@@ -80,13 +80,32 @@ pub fn work<F: Files, G: Gate>(
     ensures { (m : Machine) (k w : ℕ) (p : PinnedScan) → F.world files.now ≡ Some (world_of p.history) →
         p.scan ≡ scan.now → HasState m k w p state.old →
         (tickets : List ℕ) × ((hand_of seat.new).drawn ≡ (hand_of seat.old).drawn ++ tickets)
-        × ComesByTakes m k w p desk.now tickets state.new }
+        × ComesByTakes m k w p (IsOfTicket desk.now tickets) state.new }
 {
     ice_desk::work(alloc, files, scan, desk, seat, state, worker, gate)
 }
 
+/// What many workers took together, however they shared the manifests and merged their states, is what one worker of a
+/// scan has that takes the same rows, one after the other, where the files are those of the scanned version.
+pub fn take_by_workers<R: Threads + Sync, F: Files + Sync, G: Gate + Sync>(
+    rt: &R,
+    alloc: Global,
+    files: &F,
+    scan: &Scan,
+    workers: usize,
+    gate: &G,
+) -> Result<(Partial, Left), AllocError>
+    requires scan { length scan.now.wanted ≤ 65536 }
+    requires workers { (0 < workers) × (workers ≤ 64) }
+    ensures { (m : Machine) (k w : ℕ) (p : PinnedScan) → F.world files.now ≡ Some (world_of p.history) →
+        p.scan ≡ scan.now → HasState m k w p (nothing_taken scan.now) →
+        IfOk result (λ r. ComesByTakes m k w p (λ i. IsTrue (is_row_taken r.0 i)) r.0) }
+{
+    ice_desk::take_by_workers(rt, alloc, files, scan, workers, gate)
+}
+
 /// The plan by many workers, or the fault that finishing gives, is what is replied to the event `Finish` of each worker
-/// that took every wanted row, where the files are those of the scanned version.
+/// whose state has all that every wanted manifest gives, where the files are those of the scanned version.
 pub fn plan_scan<R: Threads + Sync, F: Files + Sync, G: Gate + Sync>(
     rt: &R,
     alloc: Global,
@@ -97,7 +116,7 @@ pub fn plan_scan<R: Threads + Sync, F: Files + Sync, G: Gate + Sync>(
 ) -> Result<OwnedPlan, PlanFault>
     requires { length scan.now.wanted ≤ 65536 }
     ensures { (m : Machine) (k w : ℕ) (p : PinnedScan) → F.world files.now ≡ Some (world_of p.history) →
-        p.scan ≡ scan.now → slice_get m.pins k ≡ Some (Some p) → slice_get p.workers w ≡ Some (every_row p.scan) →
+        p.scan ≡ scan.now → HasState m k w p (content (world_of p.history) scan.now (every_row scan.now)) →
         IsOfReply result (event m (Finish k w)).0 }
 {
     ice_desk::plan_scan(rt, alloc, files, scan, workers, gate)

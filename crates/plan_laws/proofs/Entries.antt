@@ -1,6 +1,6 @@
 -- What is live and what is kept, and paths that kept entries share.
-use Rattle.std.proofs.Common.{◌≡◌, ◌<◌, ◌≤◌, ◌+◌, ◌⊎◌, inl, inr, ℕ, suc, List, [], ◌∷◌, ◌++◌, refl, sym, ap, ◌∙◌, Bool, true}
-use Rattle.std.proofs.Common.{false, map, filter, cond, arith, subst, length, length-append, not, ◌&&◌, ◌||◌, Ordering, is_lt}
+use Rattle.std.proofs.Common.{◌≡◌, ◌<◌, ◌≤◌, ◌+◌, ℕ, suc, List, [], ◌∷◌, ◌++◌, refl, sym, ap, ◌∙◌, Bool, true}
+use Rattle.std.proofs.Common.{false, map, filter, cond, arith, length, length-append, not, ◌&&◌, ◌||◌, Ordering, is_lt}
 use Rattle.std.specs.List.{Contains, AllByRecursion, flat_map}
 use Rattle.std.specs.Cmp.Lexicographic.{slice_cmp}
 use Rattle.std.specs.Ordering.{nat_cmp, ordering_reverse}
@@ -10,7 +10,7 @@ use Rattle.std.proofs.lemmas.Cmp.{nat_list_cmp_total}
 use Rattle.std.proofs.lemmas.List.Elements.{filter-append}
 use Rattle.std.proofs.lemmas.Map.Text.{is_eq-slice_cmp}
 use Rattle.std.proofs.lemmas.Slice.Eq.{bytes_eq-Decides}
-use Rattle.contract_words.specs.Sorting.{put, sorted}
+use Rattle.contract_words.specs.Sorting.{put}
 use Rattle.contract_words.proofs.Sorted.{Rises}
 use Rattle.ice_value.specs.declared.file_content.FileContent.{FileContent}
 use Rattle.ice_value.specs.declared.file_content.FileContent.TheVariants.{Data, PositionDeletes, EqualityDeletes}
@@ -20,7 +20,7 @@ use Rattle.ice_manifest_reading.specs.declared.entry.Live.{Live}
 use Rattle.ice_manifest_reading.specs.declared.row.Row.{Row}
 use Rattle.ice_manifest_reading.specs.Manifests.{entries}
 use Rattle.ice_state.specs.Contents.{World}
-use Rattle.ice_state.specs.Outcomes.{path_before, by_path}
+use Rattle.ice_state.specs.Outcomes.{path_before}
 use Rattle.ice_state.specs.Pruning.{Pruner, holds, same_content, keeps, kept}
 use Rattle.ice_state.specs.Scans.{by_row_path, row_before}
 use Rattle.ice_state.specs.Shares.{count_at}
@@ -123,7 +123,8 @@ module _ (p : Pruner) (found : Row → List Live) (q : List ℕ) where
   number-put : (row : Row) (rows : List Row) → number (put row_before row rows) ≡ number (row ∷ rows)
   number-put row [] = refl
   number-put row (other ∷ rows) =
-      elim (row_before other row) as (λ v. number (cond v (other ∷ put row_before row rows) (row ∷ other ∷ rows)) ≡ number
+      elim (row_before other row) as (λ v. number (cond v (other ∷ put row_before row rows)
+      (row ∷ other ∷ rows)) ≡ number
       (row ∷ other ∷ rows)) [
         | true ↦ omega (
           arith,

@@ -1,20 +1,14 @@
 -- What a state finishes with that took every wanted row, and which row is missing where it didn't.
-use Rattle.std.proofs.Common.{◌≡◌, ◌⊎◌, inl, inr, ◌<◌, ℕ, ℤ, zero, suc, List, [], ◌∷◌, ◌++◌, refl, sym, ap, ◌∙◌, Bool, true}
-use Rattle.std.proofs.Common.{false, filter, arith, subst, length, Option, Some, None, option_map, Result, Ok, Err}
+use Rattle.std.proofs.Common.{◌≡◌, inl, inr, ◌<◌, ℕ, ℤ, zero, suc, List, [], ◌∷◌, ◌++◌, refl, sym, ap, ◌∙◌, Bool, true}
+use Rattle.std.proofs.Common.{false, filter, arith, subst, length, Option, Some, None, option_map, Ok, Err}
 use Rattle.std.specs.List.{Contains, AllByRecursion, flat_map, slice_get}
-use Rattle.contract_words.specs.Sorting.{sorted}
-use Rattle.contract_words.proofs.Sorted.{Rises, irreflexive, rises_from, sorted_rises, sorted_ties, unique}
-use Rattle.ice_filter.specs.declared.bound.BoundLeaf.{BoundLeaf}
-use Rattle.ice_filter.specs.declared.parts.Part.{Part}
+use Rattle.contract_words.proofs.Sorted.{Rises, irreflexive, sorted_rises, sorted_ties, unique}
 use Rattle.ice_meta.specs.declared.spec.Spec.{Spec}
-use Rattle.ice_manifest_reading.specs.declared.entry.Entry.{Entry}
 use Rattle.ice_manifest_reading.specs.declared.entry.Live.{Live}
-use Rattle.ice_manifest_fields.specs.declared.fault.ManifestFault.{ManifestFault}
 use Rattle.ice_manifest_reading.specs.declared.row.Row.{Row}
 use Rattle.ice_manifest_reading.specs.Manifests.{entries}
 use Rattle.ice_state.specs.declared.fault.FinishFault.{FinishFault}
 use Rattle.ice_state.specs.declared.fault.FinishFault.TheVariants as faults
-use Rattle.ice_state.specs.declared.reading.Reading.{Reading}
 use Rattle.ice_state.specs.declared.reading.Reading.TheVariants.{Good, Bad}
 use Rattle.ice_state.specs.Contents.{Content, World, IsOf, live_by, manifest_of, reading, reading_of, slot_of, slots_of}
 use Rattle.ice_state.specs.Contents.{content, is_row_taken}
@@ -22,15 +16,15 @@ use Rattle.ice_state.specs.Lines.{OwnedLine}
 use Rattle.ice_state.specs.Outcomes.{missing, missing_at, bad, bad_at, entries_in, kept_in, by_path, twice, plan_over}
 use Rattle.ice_state.specs.Outcomes.{first_or, faults_of, outcome, outcome_of}
 use Rattle.ice_state.specs.Pruning.{Pruner, pruner_of, kept, IsOpen}
-use Rattle.ice_state.specs.Scans.{Scanned, pruner, by_row_path, row_before, IsScanOf}
+use Rattle.ice_state.specs.Scans.{Scanned, pruner, by_row_path, row_before}
 use Rattle.ice_state.specs.Snapshots.{live, live_or_none, fault_or_none, bad_row, plan_of_rows, plan_of_snapshot}
 use Rattle.ice_state.specs.Specs.{spec_of}
 use Rattle.ice_state.proofs.Elements.{all_at}
 use Rattle.ice_state.proofs.Filters.{filter_all}
 use Rattle.ice_state.proofs.Scans.{row_order}
-use Rattle.plan_laws.specs.Finishing.{IsUntaken, IsLeastUntaken, TookAll}
+use Rattle.plan_laws.specs.Finishing.{IsLeastUntaken, TookAll}
 use Rattle.plan_laws.proofs.Entries.{kept-append, one_path}
-use Rattle.plan_laws.proofs.Lists.{at_head, all_in, both_none, none_or_first, first_or_behind}
+use Rattle.plan_laws.proofs.Lists.{at_head, all_in, both_none, none_or_first}
 use Rattle.plan_laws.proofs.Refusals.{first_or_ok, first_or_err, first_of_both, first_twice, IsTwice}
 use Rattle.plan_laws.proofs.Snapshots.{Prunes, SameEntries, over_kept}
 
@@ -131,7 +125,8 @@ not_twice faults.Memory h k = k
 pub took_all : (scan : Scanned) (c : Content) → IsOf scan c → (plan : List OwnedLine) → outcome scan c ≡ Ok plan
     → TookAll scan c
 took_all scan c of plan h =
-    let none = (first_or_ok (faults_of scan.wanted c) (plan_over (by_path (kept_in c)) (by_path (kept_in c))) plan h).0 in
+    let none = (first_or_ok (faults_of scan.wanted c) (plan_over (by_path (kept_in c)) (by_path (kept_in c)))
+    plan h).0 in
     let front = (both_none (missing scan.wanted c ++ bad scan.wanted c) (twice (by_path (kept_in c))) none).0 in
     all_taken scan.wanted c of (both_none (missing scan.wanted c) (bad scan.wanted c) front).0
 
@@ -145,7 +140,8 @@ module _ (scan : Scanned) (c : Content) (of : IsOf scan c) (rises : Rises row_be
   is_missing : (path : List ℕ) (fs : List FinishFault) → faults_of scan.wanted c ≡ faults.Missing path ∷ fs
       → (gs : List FinishFault) × (missing scan.wanted c ≡ faults.Missing path ∷ gs)
   is_missing path fs h =
-      elim (first_of_both (missing scan.wanted c ++ bad scan.wanted c) (twice (by_path (kept_in c))) (faults.Missing path)
+      elim (first_of_both (missing scan.wanted c ++ bad scan.wanted c) (twice (by_path (kept_in c)))
+      (faults.Missing path)
       fs h) as (λ _. (gs : List FinishFault) × (missing scan.wanted c ≡ faults.Missing path ∷ gs)) [
         | inr (none, t) ↦ absurd (not_twice (faults.Missing path) tt
             (first_twice (by_path (kept_in c)) (faults.Missing path) fs t))
@@ -183,7 +179,8 @@ module _ (scan : Scanned) (c : Content) (of : IsOf scan c) (rises : Rises row_be
 module _ (world : World) (scan : Scanned) where
   -- a row that was taken gives what it has in the world
   given : (row : Row) (o : Option (List ℕ)) → missing_at row (option_map (reading_of scan row) o) ≡ []
-      → (bad_at row (option_map (reading_of scan row) o) ≡ fault_or_none row (option_map (manifest_of scan.specs row) o))
+      → (bad_at row (option_map (reading_of scan row) o) ≡ fault_or_none row
+      (option_map (manifest_of scan.specs row) o))
       × (entries_in (option_map (reading_of scan row) o) ≡ kept (pruner scan)
       (live_or_none (option_map (manifest_of scan.specs row) o)))
   given row None h = cc
@@ -249,7 +246,8 @@ module _ (world : World) (specs other : List Spec) (same : (id : ℤ) → spec_o
   ) refl
 
 module _ (same : SameEntries) (prunes : Prunes) (world : World) (scan : Scanned) (specs : List Spec)
-    (opens : IsOpen specs (pruner_of scan.filter specs)) (specs_are : (id : ℤ) → spec_of scan.specs id ≡ spec_of specs id)
+    (opens : IsOpen specs (pruner_of scan.filter specs)) (specs_are : (id : ℤ)
+    → spec_of scan.specs id ≡ spec_of specs id)
     (pruner_is : pruner scan ≡ pruner_of scan.filter specs) (rises : Rises row_before row_order scan.wanted)
     (wanted : (row : Row) → Contains scan.wanted row → (pruner scan).wants row ≡ true) where
   abbrev p : Pruner

@@ -1,6 +1,6 @@
 -- What isn't kept has no row that meets the filter, where it is honest about its rows.
-use Rattle.std.proofs.Common.{◌≡◌, ◌⊎◌, inl, inr, ℕ, ℤ, List, [], ◌∷◌, refl, sym, ap, ◌∙◌, Bool, true, false, not, ◌&&◌}
-use Rattle.std.proofs.Common.{◌||◌, subst, Option, Some, None, option_map, Ok}
+use Rattle.std.proofs.Common.{◌≡◌, ◌⊎◌, inl, inr, List, [], refl, sym, ap, ◌∙◌, Bool, true, false, not, ◌&&◌}
+use Rattle.std.proofs.Common.{◌||◌, subst, Option, Some, None, option_map}
 use Rattle.std.specs.List.{Contains, AllByRecursion, list_any}
 use Rattle.ice_value.specs.declared.cell.Cell.{Cell}
 use Rattle.ice_value.specs.declared.file_bounds.FileBounds.{FileBounds}
@@ -12,9 +12,7 @@ use Rattle.ice_filter.specs.declared.bound.BoundLeaf.{BoundLeaf}
 use Rattle.ice_filter.specs.declared.parts.Part.{Part}
 use Rattle.ice_project.specs.Files.{file_may, AreCounted}
 use Rattle.ice_project.specs.Honesty.{IsSound, NoneMeets}
-use Rattle.ice_project.specs.Projection.{projection}
 use Rattle.ice_project.specs.Tuples.{part_meets}
-use Rattle.ice_manifest_reading.specs.declared.entry.Entry.{Entry}
 use Rattle.ice_manifest_reading.specs.declared.entry.Live.{Live}
 use Rattle.ice_manifest_reading.specs.declared.row.Row.{Row}
 use Rattle.ice_state.specs.Contents.{World, live_by, manifest_of}
@@ -35,7 +33,8 @@ abbrev pub SoundTuples : Type 0
 SoundTuples = (filter : List (Part BoundLeaf)) (spec : Spec) (tuple : List Cell) → IsSound filter spec tuple
 
 abbrev pub SoundBounds : Type 0
-SoundBounds = (filter : List (Part BoundLeaf)) (file : FileBounds) (rows : List table.Row) → file_may filter file ≡ false
+SoundBounds = (filter : List (Part BoundLeaf)) (file : FileBounds) (rows : List table.Row)
+    → file_may filter file ≡ false
     → AreCounted file filter rows → NoneMeets filter rows
 
 -- what is live has the spec id of its row
@@ -51,7 +50,8 @@ either_is : (b : Bool) → (b ≡ true) ⊎ (b ≡ false)
 either_is true = inl refl
 either_is false = inr refl
 
-pub none_where : (filter : List (Part BoundLeaf)) (file : List table.Row) → (list_any (row_meets filter) file ≡ true → ⊥)
+pub none_where : (filter : List (Part BoundLeaf)) (file : List table.Row)
+    → (list_any (row_meets filter) file ≡ true → ⊥)
     → NoneMeets filter file
 none_where filter file h = elim (either_is (list_any (row_meets filter) file)) as (λ _. NoneMeets filter file)
     [ inl m ↦ absurd (h m) | inr n ↦ n ]
@@ -70,7 +70,8 @@ module _ (tuples : SoundTuples) (bounds : SoundBounds) (of_row : SameSpecs) (wor
   p = pruner_of filter specs
 
   id_is : (row : Row) (l : Live) → Contains (live world specs row) l → l.entry.spec_id ≡ row.spec_id
-  id_is row l c = all_at (λ (m : Live). m.entry.spec_id ≡ row.spec_id) (live world specs row) l (of_row world specs row) c
+  id_is row l c = all_at (λ (m : Live). m.entry.spec_id ≡ row.spec_id) (live world specs row) l
+      (of_row world specs row) c
 
   known : (rows : List Row) (l : Live) → IsLive world specs rows l → spec_of specs l.entry.spec_id ≡ None → ⊥
   known rows l (row, c, d) h =
@@ -82,7 +83,8 @@ module _ (tuples : SoundTuples) (bounds : SoundBounds) (of_row : SameSpecs) (wor
       → IsHonest specs filter l file → (o : Option Spec) → spec_of specs l.entry.spec_id ≡ o
       → by_projection filter (λ part. part_meets part l.entry.file.tuple) o ≡ false → NoneMeets filter file
   by_values rows l file lives honest None e h = absurd (known rows l lives e)
-  by_values rows l file lives honest (Some spec) e h = tuples filter spec l.entry.file.tuple file h (honest.values spec e)
+  by_values rows l file lives honest (Some spec) e h = tuples filter spec l.entry.file.tuple file h
+      (honest.values spec e)
 
   not_kept : (rows : List Row) (l : Live) (file : List table.Row) → IsLive world specs rows l
       → IsHonest specs filter l file → keeps p l ≡ false → NoneMeets filter file
@@ -90,7 +92,8 @@ module _ (tuples : SoundTuples) (bounds : SoundBounds) (of_row : SameSpecs) (wor
       elim (and_false (p.meets l.entry.spec_id l.entry.file.tuple) (not (holds Data l.entry) || p.bounds l.bounds) h) as
       (λ _. NoneMeets filter file) [
         | inl m ↦ by_values rows l file lives honest (spec_of specs l.entry.spec_id) refl m
-        | inr b ↦ bounds filter l.bounds file (or_false (not (holds Data l.entry)) (p.bounds l.bounds) b).1 honest.columns
+        | inr b ↦ bounds filter l.bounds file (or_false (not (holds Data l.entry)) (p.bounds l.bounds) b).1
+            honest.columns
       ]
 
   -- of what has a match

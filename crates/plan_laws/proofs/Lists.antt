@@ -1,11 +1,11 @@
 -- Elements of lists, and lists whose elements have rising keys.
-use Rattle.std.proofs.Common.{◌≡◌, ◌↔◌, ◌<◌, ◌⊎◌, inl, inr, ℕ, List, [], ◌∷◌, ◌++◌, refl, sym, ap, ◌∙◌, Bool, true, false}
-use Rattle.std.proofs.Common.{map, filter, cond, arith, subst, Ordering}
+use Rattle.std.proofs.Common.{◌≡◌, ◌⊎◌, inl, inr, ℕ, List, [], ◌∷◌, ◌++◌, refl, sym, ap, ◌∙◌, Bool, true, false}
+use Rattle.std.proofs.Common.{map, filter, cond, arith, subst}
 use Rattle.std.specs.List.{Contains, AllByRecursion, flat_map}
 use Rattle.std.specs.List.Sorted.{IsStrictlySortedBy}
 use Rattle.std.specs.Cmp.Lexicographic.{slice_cmp}
 use Rattle.std.specs.Ordering.{nat_cmp, ordering_reverse}
-use Rattle.std.specs.declared.cmp.Ordering.TheVariants.{Less, Equal, Greater}
+use Rattle.std.specs.declared.cmp.Ordering.TheVariants.{Less, Greater}
 use Rattle.std.proofs.lemmas.Cmp.{nat_list_cmp_total}
 use Rattle.std.proofs.lemmas.List.Elements.{Contains-append_left, Contains-append_right, Contains-append_cases}
 use Rattle.ice_state.proofs.Elements.{contains_more, contains_at}
@@ -102,10 +102,11 @@ module _ {X : Type 0} (key : X → List ℕ) where
   all_filter : (P : List ℕ → Type 0) (t : X → Bool) (xs : List X) → AllByRecursion P (map key xs)
       → AllByRecursion P (map key (filter t xs))
   all_filter P t [] all = tt
-  all_filter P t (x ∷ xs) all = elim (t x) as (λ v. AllByRecursion P (map key (cond v (x ∷ filter t xs) (filter t xs)))) [
-    | true ↦ (all.0, all_filter P t xs all.1)
-    | false ↦ all_filter P t xs all.1
-  ]
+  all_filter P t (x ∷ xs) all = elim (t x) as (λ v. AllByRecursion P
+      (map key (cond v (x ∷ filter t xs) (filter t xs)))) [
+        | true ↦ (all.0, all_filter P t xs all.1)
+        | false ↦ all_filter P t xs all.1
+      ]
 
   pub rise_filter : (t : X → Bool) (xs : List X) → Rise xs → Rise (filter t xs)
   rise_filter t [] r = r
@@ -121,7 +122,8 @@ module _ {X : Type 0} (key : X → List ℕ) where
     | inr m ↦ all_keys P xs y all.1 m
   ]
 
-  head_is_less : (x : X) (xs : List X) (y : X) → Rise (x ∷ xs) → Contains xs y → slice_cmp nat_cmp (key x) (key y) ≡ Less
+  head_is_less : (x : X) (xs : List X) (y : X) → Rise (x ∷ xs) → Contains xs y → slice_cmp nat_cmp (key x)
+      (key y) ≡ Less
   head_is_less x xs y r c = all_keys (λ q. slice_cmp nat_cmp (key x) q ≡ Less) xs y (head_less x xs r) c
 
   heads_are_one : (x y : X) (xs ys : List X) → Rise (x ∷ xs) → Rise (y ∷ ys)

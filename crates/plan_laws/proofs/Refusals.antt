@@ -2,11 +2,8 @@
 use Rattle.std.proofs.Common.{◌≡◌, ◌⊎◌, inl, inr, ℕ, List, [], ◌∷◌, ◌++◌, refl, sym, ap, ◌∙◌, Bool, true, false, cond}
 use Rattle.std.proofs.Common.{filter, subst, Option, Some, None, option_map, Result, Ok, Err}
 use Rattle.std.specs.List.{Contains, AllByRecursion, flat_map}
-use Rattle.std.specs.Cmp.Lexicographic.{slice_cmp}
-use Rattle.std.specs.Ordering.{nat_cmp, is_lt}
 use Rattle.std.specs.Str.{bytes_eq}
-use Rattle.std.proofs.lemmas.Slice.Eq.{bytes_eq-Decides}
-use Rattle.contract_words.proofs.Sorted.{Rises, sorted_rises, irreflexive}
+use Rattle.contract_words.proofs.Sorted.{Rises, irreflexive}
 use Rattle.ice_meta.specs.declared.spec.Spec.{Spec}
 use Rattle.ice_manifest_reading.specs.declared.entry.Entry.{Entry}
 use Rattle.ice_manifest_reading.specs.declared.entry.Live.{Live}
@@ -101,7 +98,8 @@ module _ (world : World) (specs : List Spec) where
   pub one_fault : (row : Row) (fault other : ManifestFault) → IsBad world specs row fault → IsBad world specs row other
       → fault ≡ other
   one_fault row fault other h k =
-      let e : faults.Bad row.path fault ∷ [] ≡ faults.Bad row.path other ∷ [] = sym (in_bad row fault h) ∙ in_bad row other
+      let e : faults.Bad row.path fault ∷ [] ≡ faults.Bad row.path other ∷ [] = sym (in_bad row fault h)
+      ∙ in_bad row other
       k in
       cc
 

@@ -1,13 +1,11 @@
 -- The plan of a snapshot is what the words of rows and live entries say, and so is each reason why there is none.
-use Rattle.std.proofs.Common.{◌≡◌, ◌↔◌, ◌⊎◌, inl, inr, ◌<◌, ◌≤◌, ℕ, List, [], ◌∷◌, ◌++◌, refl, sym, ap, ◌∙◌, Bool, true}
-use Rattle.std.proofs.Common.{false, map, filter, arith, subst, Ok, Err, is_lt, ◌&&◌}
-use Rattle.std.specs.List.{Contains, AllByRecursion, flat_map, list_any}
+use Rattle.std.proofs.Common.{◌≡◌, ◌⊎◌, inl, inr, ◌≤◌, ℕ, List, [], ◌∷◌, ◌++◌, refl, sym, ap, ◌∙◌, true}
+use Rattle.std.proofs.Common.{map, filter, arith, subst, Ok, Err, ◌&&◌}
+use Rattle.std.specs.List.{Contains, flat_map}
 use Rattle.std.specs.List.Sorted.{IsStrictlySortedBy}
 use Rattle.std.specs.Cmp.Lexicographic.{slice_cmp}
 use Rattle.std.specs.Ordering.{nat_cmp}
-use Rattle.std.proofs.lemmas.List.Sorted.{ranks_by}
 use Rattle.contract_words.proofs.Sorted.{Rises, sorted_rises}
-use Rattle.ice_value.specs.declared.file_content.FileContent.{FileContent}
 use Rattle.ice_value.specs.declared.file_content.FileContent.TheVariants.{Data, PositionDeletes, EqualityDeletes}
 use Rattle.ice_meta.specs.declared.spec.Spec.{Spec}
 use Rattle.ice_manifest_reading.specs.declared.entry.Entry.{Entry}
@@ -18,14 +16,14 @@ use Rattle.ice_manifest_reading.specs.Laws.{HasEachPathOnce}
 use Rattle.ice_manifest_reading.specs.Manifests.{entries}
 use Rattle.ice_state.specs.declared.fault.FinishFault.{FinishFault}
 use Rattle.ice_state.specs.declared.fault.FinishFault.TheVariants as faults
-use Rattle.ice_state.specs.Applying.{Applies, applies}
+use Rattle.ice_state.specs.Applying.{applies}
 use Rattle.ice_state.specs.Contents.{World}
 use Rattle.ice_state.specs.Lines.{OwnedLine}
 use Rattle.ice_state.specs.Outcomes.{by_path, path_before, twice, line_of, plan_over, first_or}
 use Rattle.ice_state.specs.Pruning.{Pruner, holds, keeps, kept, IsOpen}
 use Rattle.ice_state.specs.Scans.{by_row_path, row_before}
 use Rattle.ice_state.specs.Shares.{IsLeastShared, count_at}
-use Rattle.ice_state.specs.Snapshots.{live, AreKeptWanted, kept_of_wanted, bad_row, plan_of_snapshot}
+use Rattle.ice_state.specs.Snapshots.{live, AreKeptWanted, kept_of_wanted, plan_of_snapshot}
 use Rattle.ice_state.proofs.Elements.{filtered, refiltered, sorted_contains, contains_sorted}
 use Rattle.ice_state.proofs.Planned.{files_of, positions_of, equalities_of}
 use Rattle.ice_state.proofs.Scans.{row_order}
@@ -35,7 +33,7 @@ use Rattle.plan_laws.specs.Plans.{IsLeastBad, IsPathTwice}
 use Rattle.plan_laws.proofs.Entries.{from_kept, in_kept, holds_data, data_holds, kept_data, data_kept, live_in_flat}
 use Rattle.plan_laws.proofs.Entries.{live_from_flat, live_sorted, sorted_live, number-sorted, rise_apart, one_path}
 use Rattle.plan_laws.proofs.Lists.{in_map, from_map, both_none, none_or_first, Rise, rise_filter, one_list}
-use Rattle.plan_laws.proofs.Refusals.{first_or_ok, first_or_err, first_of_both, first_twice, path_of_twice, IsTwice}
+use Rattle.plan_laws.proofs.Refusals.{first_or_ok, first_or_err, first_of_both, first_twice, path_of_twice}
 use Rattle.plan_laws.proofs.Refusals.{one_fault, bads, good_from, from_good, IsFirstBad, first_bad}
 
 -- what the law of pruning says of the plan over kept entries
@@ -60,8 +58,10 @@ all_wanted : (p : Pruner) (found : Row → List Live) (rows : List Row) → AreK
 all_wanted p found [] = tt
 all_wanted p found (row ∷ rows) = (λ h. refl, all_wanted p found rows)
 
-pub over_kept : SameEntries → Prunes → (p : Pruner) (world : World) (specs : List Spec) (rows : List Row) → IsOpen specs p
-    → plan_over (by_path (entries (flat_map (live world specs) rows))) (by_path (kept p (flat_map (live world specs) rows)))
+pub over_kept : SameEntries → Prunes → (p : Pruner) (world : World) (specs : List Spec) (rows : List Row)
+    → IsOpen specs p
+    → plan_over (by_path (entries (flat_map (live world specs) rows)))
+    (by_path (kept p (flat_map (live world specs) rows)))
     ≡ plan_over (by_path (kept p (flat_map (live world specs) rows)))
     (by_path (kept p (flat_map (live world specs) rows)))
 over_kept same prunes p world specs rows opens =
@@ -183,7 +183,8 @@ module _ (p : Pruner) (world : World) (specs : List Spec) (rows : List Row) wher
     -- what stands in a line of the plan over the kept entries
     in_line : (line : OwnedLine) → Contains made line → (x : Entry) × (line_of ks x ≡ line)
     in_line line c =
-        let m = from_map (line_of ks) (filter (holds Data) ks) line (subst (λ (ls : List OwnedLine). Contains ls line) over
+        let m = from_map (line_of ks) (filter (holds Data) ks) line
+        (subst (λ (ls : List OwnedLine). Contains ls line) over
         c) in
         (m.0, m.2)
 
@@ -210,23 +211,29 @@ module _ (p : Pruner) (world : World) (specs : List Spec) (rows : List Row) wher
                 λ m. let r = both.0 m in let f = from_all d r.0 in (f.0, f.1, f.2, r.1.0, r.1.1),
                 λ (l, h, e, k, a). both.1 (in_all d l h e, (k, a)),
               );
-          by_path = subst (λ (xs : List Entry). IsStrictlySortedBy (slice_cmp nat_cmp) (map (λ (x : Entry). x.file.path) xs))
+          by_path = subst (λ (xs : List Entry). IsStrictlySortedBy (slice_cmp nat_cmp)
+              (map (λ (x : Entry). x.file.path) xs))
               (sym (files_of (by_path (entries found)) ks))
               (rise_filter (λ (x : Entry). x.file.path) (holds Data) ks up);
           positions_by_path = λ line c.
               let m = in_line line c in
-              subst (λ (l : OwnedLine). IsStrictlySortedBy (slice_cmp nat_cmp) (map (λ (x : Entry). x.file.path) l.positions))
-              m.1 (rise_filter (λ (x : Entry). x.file.path) (λ (d : Entry). holds PositionDeletes d && applies m.0 d) ks up);
+              subst (λ (l : OwnedLine). IsStrictlySortedBy (slice_cmp nat_cmp)
+              (map (λ (x : Entry). x.file.path) l.positions))
+              m.1 (rise_filter (λ (x : Entry). x.file.path) (λ (d : Entry). holds PositionDeletes d && applies m.0 d) ks
+              up);
           equalities_by_path = λ line c.
               let m = in_line line c in
-              subst (λ (l : OwnedLine). IsStrictlySortedBy (slice_cmp nat_cmp) (map (λ (x : Entry). x.file.path) l.equalities))
-              m.1 (rise_filter (λ (x : Entry). x.file.path) (λ (d : Entry). holds EqualityDeletes d && applies m.0 d) ks up);
+              subst (λ (l : OwnedLine). IsStrictlySortedBy (slice_cmp nat_cmp)
+              (map (λ (x : Entry). x.file.path) l.equalities))
+              m.1 (rise_filter (λ (x : Entry). x.file.path) (λ (d : Entry). holds EqualityDeletes d && applies m.0 d) ks
+              up);
         }
 
     abbrev all_faults : List FinishFault
     all_faults = bads world specs p (by_row_path rows) ++ twice ks
 
-    pub to_plan : (plan : List OwnedLine) → plan_of_snapshot p world specs rows ≡ Ok plan → IsPlan p world specs rows plan
+    pub to_plan : (plan : List OwnedLine) → plan_of_snapshot p world specs rows ≡ Ok plan
+        → IsPlan p world specs rows plan
     to_plan plan h =
         let o = first_or_ok all_faults made plan h in
         let n = both_none (bads world specs p (by_row_path rows)) (twice ks) o.0 in
@@ -272,13 +279,15 @@ module _ (p : Pruner) (world : World) (specs : List Spec) (rows : List Row) wher
     pub what_is_told : (g : FinishFault) → plan_of_snapshot p world specs rows ≡ Err g
         → IsFirstBad world specs p (by_row_path rows) g
         ⊎ (NoneIsBad p world specs rows
-        × ((path : List ℕ) × (g ≡ faults.PathTwice path) × IsLeastShared (kept p (flat_map (live world specs) rows)) path))
+        × ((path : List ℕ) × (g ≡ faults.PathTwice path) × IsLeastShared (kept p (flat_map (live world specs) rows))
+        path))
     what_is_told g h =
         let e = first_or_err all_faults made g h in
         elim (first_of_both (bads world specs p (by_row_path rows)) (twice ks) g e.0 e.1) as
         (λ _. IsFirstBad world specs p (by_row_path rows) g
         ⊎ (NoneIsBad p world specs rows
-        × ((path : List ℕ) × (g ≡ faults.PathTwice path) × IsLeastShared (kept p (flat_map (live world specs) rows)) path))) [
+        × ((path : List ℕ) × (g ≡ faults.PathTwice path) × IsLeastShared (kept p (flat_map (live world specs) rows))
+        path))) [
           | inl (hs, k) ↦ inl (first_bad world specs p (by_row_path rows) g hs
               (sorted_rises row_before row_order rows) k)
           | inr (k, t) ↦ inr (good_from world specs p rows k, shared_of g e.0 t)
@@ -301,7 +310,8 @@ module _ (p : Pruner) (world : World) (specs : List Spec) (rows : List Row) wher
           | inr (good, (q, e, s)) ↦ cc
         ]
 
-    told_where : (row : Row) (fault : ManifestFault) → Contains rows row → p.wants row ≡ true → IsBad world specs row fault
+    told_where : (row : Row) (fault : ManifestFault) → Contains rows row → p.wants row ≡ true
+        → IsBad world specs row fault
         → (g : FinishFault) × (plan_of_snapshot p world specs rows ≡ Err g)
         × IsFirstBad world specs p (by_row_path rows) g
     told_where row fault c w b =

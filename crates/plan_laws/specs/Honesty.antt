@@ -12,7 +12,8 @@ use Rattle.ice_state.specs.Specs.{spec_of}
 
 -- What the manifest says of the file is true of its rows: each has the file's partition values, and of each column that
 -- the filter asks for the counts and bounds are those of the rows.
-pub record IsHonest (specs : List Spec) (filter : List (Part BoundLeaf)) (l : Live) (rows : List table.Row) : Type 0 where
+pub record IsHonest (specs : List Spec) (filter : List (Part BoundLeaf)) (l : Live) (rows : List table.Row)
+    : Type 0 where
   pub values : (spec : Spec) → spec_of specs l.entry.spec_id ≡ Some spec
       → project.IsHonest (fields_of spec) l.entry.file.tuple rows
   pub columns : AreCounted l.bounds filter rows

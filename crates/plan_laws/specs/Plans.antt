@@ -1,6 +1,6 @@
 -- The plan of a snapshot in words of rows, manifests and live entries: what is in it, in which order, and why there is
 -- none. Apache Iceberg table spec, version 2, "Scan Planning".
-use Rattle.std.specs.Prelude.{◌≡◌, ◌↔◌, ◌≤◌, ℕ, true, false, List, map, Some, Ok, Err}
+use Rattle.std.specs.Prelude.{◌≡◌, ◌↔◌, ◌≤◌, ℕ, true, false, List, map, Some, Err}
 use Rattle.std.specs.List.{Contains, flat_map}
 use Rattle.std.specs.List.Sorted.{IsStrictlySortedBy}
 use Rattle.std.specs.Cmp.Lexicographic.{slice_cmp}
@@ -52,7 +52,8 @@ AreByPath xs = IsStrictlySortedBy (slice_cmp nat_cmp) (map (λ x. x.file.path) x
 
 -- the row's manifest is there and can't be read, for this fault
 abbrev pub IsBad : World → List Spec → Row → ManifestFault → Type 0
-IsBad world specs row fault = (bytes : List ℕ) × (world row.path ≡ Some bytes) × (manifest_of specs row bytes ≡ Err fault)
+IsBad world specs row fault = (bytes : List ℕ) × (world row.path ≡ Some bytes)
+    × (manifest_of specs row bytes ≡ Err fault)
 
 abbrev pub NoneIsBad : Pruner → World → List Spec → List Row → Type 0
 NoneIsBad p world specs rows = (row : Row) (fault : ManifestFault) → Contains rows row → p.wants row ≡ true
@@ -61,7 +62,8 @@ NoneIsBad p world specs rows = (row : Row) (fault : ManifestFault) → Contains 
 -- The plan of these rows: no wanted row is bad, and no two kept entries share a path. The files of its lines are the
 -- data files that are kept; a line has the live delete files that apply to its file, of all rows; and both stand by
 -- path.
-pub record IsPlan (p : Pruner) (world : World) (specs : List Spec) (rows : List Row) (plan : List OwnedLine) : Type 0 where
+pub record IsPlan (p : Pruner) (world : World) (specs : List Spec) (rows : List Row) (plan : List OwnedLine)
+    : Type 0 where
   pub good : NoneIsBad p world specs rows
   pub apart : (path : List ℕ) → count_at (kept p (flat_map (live world specs) rows)) path ≤ 1
   pub files : (x : Entry) → HasLine plan x ↔ IsKeptFile p world specs rows x

@@ -23,10 +23,10 @@ use ice_manifest_reading::rows_are_a_set;
 use ice_state::laws::{filtering, pruning, scanning};
 
 /// The plan of a snapshot under a filter, over all its rows. There is one exactly where no wanted row is bad and no two
-/// kept entries share a path: each line's file is a live data file of which the filter keeps the partition values and
-/// the bounds, and each such file has a line; in a line stand exactly the live delete files, of whatever row, that apply
-/// to its file; lines and delete files stand by path, each path once. Else the bad wanted row with the least path is
-/// told, and where none is bad the least path that is shared.
+/// kept entries share a path. A file has a line exactly where it is a live data file of which the filter keeps the
+/// partition values and the bounds. In the line stand exactly the live delete files, of whatever row, that apply to the
+/// file. Lines and delete files stand by path, each path once. Else the bad wanted row with the least path is told, and
+/// where none is bad the least path that is shared.
 pub fn snapshot_plans()
     ensures planned { (world : World) (specs : List Spec) (filter : List (Part BoundLeaf)) (rows : List Row)
         (plan : List OwnedLine) →
@@ -42,14 +42,16 @@ pub fn snapshot_plans()
         IsPathTwice (pruner_of filter specs) world specs rows path }
     ensures nothing_else { (world : World) (specs : List Spec) (filter : List (Part BoundLeaf)) (rows : List Row)
         (told : FinishFault) → plan_of_snapshot (pruner_of filter specs) world specs rows ≡ Err told →
-        ((path : List ℕ) × (fault : ManifestFault) × (told ≡ Bad path fault)) ⊎ ((path : List ℕ) × (told ≡ PathTwice path)) }
+        ((path : List ℕ) × (fault : ManifestFault) × (told ≡ Bad path fault)) ⊎
+        ((path : List ℕ) × (told ≡ PathTwice path)) }
 {
     filtering();
     pruning();
 }
 
-/// What a state finishes with. `Missing` is told exactly where a wanted row wasn't taken, of the least path; a state
-/// that took all of them has the plan of a snapshot that has these rows alone, whatever the summaries of the others say.
+/// What a state finishes with. `Missing` is told exactly where a wanted row wasn't taken, with the least path of these.
+/// A state that took all of them has the plan of a snapshot of these rows alone, whatever the summaries of the others
+/// say.
 pub fn finished_plans()
     ensures missing { (rows : List Row) (specs : List Spec) (scan : Scanned) (c : Content) (path : List ℕ) →
         IsScanOf rows specs scan → IsOf scan c →

@@ -20,8 +20,10 @@ returns c =
           let p = plan_of_rows over_wanted_rows world selection.specs selection.filter.parts rows plan
           (rows_of_answer over_wanted_rows world metadata request selection rows plan asked h) in
           let made = c.scanning.ensures.made rows selection.specs selection.filter.parts p.0 p.1 in
-          let none : NoneMeets p.0.filter file = law.finished world selection.specs rows p.0 (every_row p.0) plan row l file
+          let none : NoneMeets p.0.filter file = law.finished world selection.specs rows p.0 (every_row p.0)
+          plan row l file
           made.1 (is_of world p.0) p.2 d e content
-          (subst (λ (ps : List (Part BoundLeaf)). IsHonest selection.specs ps l file) (sym made.0) honest) covers lacks in
+          (subst (λ (ps : List (Part BoundLeaf)). IsHonest selection.specs ps l file) (sym made.0) honest)
+          covers lacks in
           subst (λ (ps : List (Part BoundLeaf)). NoneMeets ps file) made.0 none;
     }

@@ -1,8 +1,10 @@
-use Rattle.std.proofs.Common.{ap, ◌∙◌, inr, rules, SFits, w64}
+use Rattle.std.proofs.Common.{◌≡◌, ap, subst, ◌∙◌, inl, inr, rules, SFits, w64}
 use Rattle.std.proofs.Math.Facts.{to_z-of_z}
 use Rattle.std.proofs.lemmas.Result.{err_from_is_err_and}
-use Rattle.ice_requests.specs.Commits.{commitment}
-use Rattle.ice_requests.proofs.Commits.{prepare_refuses, put_refuses}
+use Rattle.std.specs.Prelude.{Err}
+use Rattle.ice_text.specs.declared.fault.RunFault.TheVariants as run
+use Rattle.ice_requests.specs.Commits.{IsOfPutting, commitment}
+use Rattle.ice_requests.proofs.Commits.{prepare_refuses, put_refuses, putting_refuses}
 use Rattle.ice_requests.proofs.Stored.{table_is}
 use Rattle.ice_requests.proofs.committing.commit_to.Goals as goal
 
@@ -59,3 +61,17 @@ pub returns-clause-told : goal.returns-clause-told
 returns-clause-told g c =
     let fits : SFits w64 c.args.request.now.ids.snapshot = search rules in
     record { all = (c.get.result, simp to_z-of_z at c.in_ok-put_receipt.ensures.all); front = λ is. cc }
+
+pub returns-in_err-put_commit-clause-refusal : goal.returns-in_err-put_commit-clause-refusal
+returns-in_err-put_commit-clause-refusal g c =
+    let p = err_from_is_err_and c.from_residual-in_err-put_commit.result c.from_residual-in_err-put_commit.ensures.1 in
+    let e = c.in_err-put_commit.field-0.0 in
+    let putting = c.in_err-put_commit.ensures.kinds in
+    rw (p.1, p.2) (record {
+      kinds = putting_refuses e putting;
+      absent = λ path is. let same : e ≡ run.Absent path = cc in absurd (subst IsOfPutting same putting);
+      device = λ path is. let same : e ≡ run.Device path = cc in absurd (subst IsOfPutting same putting);
+      conflict = λ path is. let same : e ≡ run.Conflict path = cc in
+          c.in_err-put_commit.ensures.conflict path (ap Err same);
+      write = λ is. let same : e ≡ run.Write = cc in inl (c.in_err-put_commit.ensures.write (ap Err same));
+    })

@@ -3,5 +3,5 @@ use Rattle.machine_laws.proofs.steps.plan_scan.Goals as goal
 use Rattle.ice_catalog.specs.Machines.{world_of}
 
 pub returns : goal.returns
-returns g c = λ m k w p tells same at every.
-    plan_call m k w p _ c.plan_scan.result same at every (c.plan_scan.ensures.outcome (world_of p.history) tells)
+returns g c = λ m k w p tells same has.
+    plan_call m k w p _ c.plan_scan.result same has (c.plan_scan.ensures.outcome (world_of p.history) tells)

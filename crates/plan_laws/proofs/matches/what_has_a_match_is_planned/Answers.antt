@@ -1,4 +1,4 @@
-use Rattle.std.proofs.Common.{◌≡◌, sym, ap, ◌∙◌, List, Ok, true}
+use Rattle.std.proofs.Common.{◌≡◌, sym, ap, ◌∙◌, Ok, true}
 use Rattle.std.specs.List.{Contains}
 use Rattle.ice_manifest_reading.specs.declared.row.Row.{Row}
 use Rattle.ice_state.specs.Pruning.{Pruner, pruner_of}
@@ -22,7 +22,8 @@ returns c =
           let made : plan_of_snapshot (pruner_of scan.filter specs) world specs scan.wanted ≡ Ok plan =
           sym (c.finished_plans.ensures.taken world rows specs scan ts is of took) ∙ h in
           let same = c.scanning.ensures.same_pruner rows specs scan is in
-          let among : (r : Row) → Contains rows r → (pruner_of scan.filter specs).wants r ≡ true → Contains scan.wanted r =
+          let among : (r : Row) → Contains rows r → (pruner_of scan.filter specs).wants r ≡ true
+          → Contains scan.wanted r =
           λ r k w. (c.scanning.ensures.wanted rows specs scan r is).1 (k, ap (λ (q : Pruner). q.wants r) same ∙ w) in
           is_planned tuples bounds live_of_row world specs scan.filter scan.wanted plan l file
           ((planned world specs scan.filter scan.wanted plan).0 made)

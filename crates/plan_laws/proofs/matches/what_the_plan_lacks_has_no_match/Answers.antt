@@ -1,4 +1,3 @@
-use Rattle.std.proofs.Common.{List}
 use Rattle.plan_laws.proofs.Honest.{none_where}
 use Rattle.plan_laws.proofs.matches.what_the_plan_lacks_has_no_match.Goals as goal
 
@@ -7,8 +6,10 @@ returns c =
     let match_of = c.what_has_a_match_is_planned.ensures in
     record {
       snapshot = λ world specs filter rows plan l file h lives of_data honest lacks.
-          none_where filter file (λ m. lacks (match_of.snapshot world specs filter rows plan l file h lives of_data honest m));
+          none_where filter file (λ m. lacks (match_of.snapshot world specs filter rows plan l file h lives
+          of_data honest m));
       finished = λ world specs rows scan ts plan row l file is of h d e of_data honest covers lacks.
-          none_where scan.filter file (λ m. lacks (match_of.finished world specs rows scan ts plan row l file is of h d e
+          none_where scan.filter file (λ m. lacks (match_of.finished world specs rows scan ts plan row l
+          file is of h d e
           of_data honest covers m));
     }

@@ -1,6 +1,4 @@
-use Rattle.std.proofs.Common.{List}
 use Rattle.contract_words.proofs.Sorted.{rises_from}
-use Rattle.ice_state.specs.Contents.{content}
 use Rattle.ice_state.specs.Scans.{row_before}
 use Rattle.ice_state.proofs.Scans.{row_order}
 use Rattle.plan_laws.proofs.Finishing.{to_missing, from_missing, took_all, finished}

@@ -8,7 +8,8 @@ use Rattle.ice_state.specs.declared.fault.FinishFault.TheVariants as faults
 use Rattle.ice_state.specs.Contents.{World}
 use Rattle.ice_state.specs.Pruning.{pruner_of}
 use Rattle.ice_state.specs.Scans.{by_row_path}
-use Rattle.plan_laws.proofs.Snapshots.{over_kept, to_plan, from_plan, to_bad, from_least_bad, to_twice, from_twice, what_is_told}
+use Rattle.plan_laws.proofs.Snapshots.{over_kept, to_plan, from_plan, to_bad, from_least_bad, to_twice, from_twice}
+use Rattle.plan_laws.proofs.Snapshots.{what_is_told}
 use Rattle.plan_laws.proofs.plans.snapshot_plans.Goals as goal
 
 pub returns : goal.returns
