@@ -21,7 +21,7 @@ loop-i-preserved c =
 
 pub returns : goal.returns
 returns c =
-    let low : length c.args.lines.now ≤ c.loop-i.i = rw c.len-i-end.ensures at c.loop-i-test.false in
+    let low : length c.args.lines.now ≤ c.loop-i.i = rw c.len-i-end.ensures.counted at c.loop-i-test.false in
     sym (none_at_all (λ (line : OwnedLine). bytes_eq line.file.file.path c.args.path.now) c.args.lines.now c.loop-i.i
     low
     c.loop-i.invariant)
