@@ -1,15 +1,14 @@
 -- The steps of an answer that there is.
-use Rattle.std.proofs.Common.{◌≡◌, ℕ, suc, Bool, true, List, [], ◌∷◌, length, replicate, refl, sym, ap, ◌∙◌, subst}
+use Rattle.std.proofs.Common.{◌≡◌, ℕ, suc, true, List, [], ◌∷◌, length, replicate, refl, sym, ap, ◌∙◌}
 use Rattle.std.proofs.Common.{Option, Some, None, Result, Ok, Err}
 use Rattle.contract_words.specs.Outcome.{◌>>=◌}
-use Rattle.ice_filter.specs.Binding.{bound_parts}
 use Rattle.ice_filter.specs.Rows as table
 use Rattle.ice_filter.specs.Rows.{row_meets}
 use Rattle.ice_filter.specs.declared.bound.BoundLeaf.{BoundLeaf}
 use Rattle.ice_filter.specs.declared.leaf.Leaf.{Leaf}
 use Rattle.ice_filter.specs.declared.parts.Part.{Part}
 use Rattle.ice_filter.proofs.Answering.{bound_means}
-use Rattle.ice_meta.specs.Targets.{bound_specs, list_of, metadata_of}
+use Rattle.ice_meta.specs.Targets.{bound_specs, list_of}
 use Rattle.ice_meta.specs.declared.metadata.Target.{Target}
 use Rattle.ice_meta.specs.declared.schema.Schema.{Schema}
 use Rattle.ice_meta.specs.declared.spec.Spec.{Spec}
@@ -20,9 +19,9 @@ use Rattle.ice_state.specs.Lines.{OwnedLine}
 use Rattle.ice_state.specs.Scans.{Scanned, scan_of}
 use Rattle.ice_text.specs.declared.fault.RunFault.{RunFault}
 use Rattle.ice_text.specs.Faults.{of_filter, of_finish, of_meta, of_scan}
-use Rattle.ice_text.specs.Reads.{all_present, as_run, rows_at, schema_of}
+use Rattle.ice_text.specs.Reads.{all_present, as_run, schema_of}
 use Rattle.ice_requests.specs.Plans.{Ending, answer_by, rows_plan, scan_in}
-use Rattle.ice_requests.specs.Selections.{bound_in, parts_in, selected, selected_by}
+use Rattle.ice_requests.specs.Selections.{bound_in, selected, selected_by}
 use Rattle.ice_text.specs.declared.request.Request.{Request}
 use Rattle.ice_requests.specs.declared.selection.Selection.{Selection}
 use Rattle.answer_laws.specs.Asked.{IsAsked, IsRead, meets}
