@@ -1,5 +1,6 @@
 pub mod Calls
 pub mod Counts
+pub mod Rows
 pub mod Squares
 pub mod Trees
 pub mod Turns

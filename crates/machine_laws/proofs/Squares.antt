@@ -61,7 +61,7 @@ module _ (p : PinnedScan) where
   state_of_set w set is = slice_get-map of_set p.workers w ∙ ap (option_map of_set) is
 
 -- the row of a manifest
-row_of : (world : World) (rows : List Row) (i : ℕ) (bytes : List ℕ) → HasBytesAt world rows i bytes
+pub row_of : (world : World) (rows : List Row) (i : ℕ) (bytes : List ℕ) → HasBytesAt world rows i bytes
     → (row : Row) × (slice_get rows i ≡ Some row) × (world row.path ≡ Some bytes)
 row_of world [] i bytes has = absurd has
 row_of world (row ∷ rows) zero bytes has = (row, refl, has)
@@ -75,10 +75,10 @@ bytes_of world (r ∷ rows) (suc i) row bytes at is = bytes_of world rows i row 
 
 -- ---- a step of a scan that was pinned
 
-abbrev with_pin : Machine → ℕ → Reply × PinnedScan → Reply × Machine
+abbrev pub with_pin : Machine → ℕ → Reply × PinnedScan → Reply × Machine
 with_pin m k r = (r.0, record { history = m.history; pins = slice_set m.pins k (Some r.1) })
 
-steps : (m : Machine) (k : ℕ) (p : PinnedScan) (f : PinnedScan → Reply × PinnedScan) (r : Reply × PinnedScan)
+pub steps : (m : Machine) (k : ℕ) (p : PinnedScan) (f : PinnedScan → Reply × PinnedScan) (r : Reply × PinnedScan)
     → slice_get m.pins k ≡ Some (Some p) → f p ≡ r → at_pin m k f (slice_get m.pins k) ≡ with_pin m k r
 steps m k p f r at is = ap (at_pin m k f) at ∙ ap (with_pin m k) is
 

@@ -18,7 +18,8 @@ use Rattle.machine_laws.proofs.Turns.{get_here, manifest}
 use Rattle.machine_laws.specs.Playing.{AreFresh, IsPlayed, events_of, is_done, states}
 use Rattle.machine_laws.specs.Workers.{HasManifest, HasState, IsPut, nothing_taken, states_of}
 
-get_apart : {A : Type 0} (i j : ℕ) (xs : List A) (x : A) → (i ≡ j → ⊥) → slice_get (slice_set xs i x) j ≡ slice_get xs j
+pub get_apart : {A : Type 0} (i j : ℕ) (xs : List A) (x : A) → (i ≡ j → ⊥)
+    → slice_get (slice_set xs i x) j ≡ slice_get xs j
 get_apart zero j [] x n = refl
 get_apart (suc i) j [] x n = refl
 get_apart zero zero (z ∷ zs) x n = absurd (n refl)
@@ -28,7 +29,7 @@ get_apart (suc i) (suc j) (z ∷ zs) x n = get_apart i j zs x (λ e. n (ap suc e
 
 -- ---- events one behind the other
 
-after_on : (m : Machine) (es fs : List Event) → machine_after m (es ++ fs) ≡ machine_after (machine_after m es) fs
+pub after_on : (m : Machine) (es fs : List Event) → machine_after m (es ++ fs) ≡ machine_after (machine_after m es) fs
 after_on m [] fs = refl
 after_on m (e ∷ es) fs = after_on (event m e).1 es fs
 
@@ -39,7 +40,7 @@ replies_on P m (e ∷ es) fs all more = (all.0, replies_on P (event m e).1 es fs
 
 -- ---- one thing changed after the other
 
-some_state : (run : Run) → 0 < states run
+pub some_state : (run : Run) → 0 < states run
 some_state empty = omega arith
 some_state (take run i bytes) = some_state run
 some_state (merge run other) = let a = some_state run in omega (arith, a)
@@ -63,7 +64,7 @@ module _ (k : ℕ) where
     state = played.state;
   }
 
-  apart : (v w s : ℕ) → 0 < s → (v < w) ⊎ (w + s ≤ v) → w ≡ v → ⊥
+  pub apart : (v w s : ℕ) → 0 < s → (v < w) ⊎ (w + s ≤ v) → w ≡ v → ⊥
   apart v w s some (inl less) same = omega (arith, less, same)
   apart v w s some (inr more) same = omega (arith, some, more, same)
 
@@ -81,11 +82,11 @@ module _ (k : ℕ) where
         (apart v w s some away) ∙ played.others v away);
   }
 
-  first_away : (v w s t : ℕ) → (v < w) ⊎ (w + (s + t) ≤ v) → (v < w) ⊎ (w + s ≤ v)
+  pub first_away : (v w s t : ℕ) → (v < w) ⊎ (w + (s + t) ≤ v) → (v < w) ⊎ (w + s ≤ v)
   first_away v w s t (inl less) = inl less
   first_away v w s t (inr more) = inr (omega (arith, more))
 
-  then_away : (v w s t : ℕ) → (v < w) ⊎ (w + (s + t) ≤ v) → (v < w + s) ⊎ (w + s + t ≤ v)
+  pub then_away : (v w s t : ℕ) → (v < w) ⊎ (w + (s + t) ≤ v) → (v < w + s) ⊎ (w + s + t ≤ v)
   then_away v w s t (inl less) = inl (omega (arith, less))
   then_away v w s t (inr more) = inr (omega (arith, more))
 

@@ -1,6 +1,6 @@
 -- How workers of a scan do in the machine what states have done elsewhere: by events one after the other.
-use Rattle.std.specs.Prelude.{◌≡◌, ◌⊎◌, ℕ, ◌+◌, ◌%◌, ◌<◌, ◌≤◌, true, Bool, false, List, [], ◌∷◌, ◌++◌, map, Some}
-use Rattle.std.specs.Prelude.{slice_get, slice_set}
+use Rattle.std.specs.Prelude.{◌≡◌, ◌⊎◌, ℕ, ◌+◌, ◌%◌, ◌<◌, ◌≤◌, true, Bool, false, List, [], ◌∷◌, ◌++◌, length}
+use Rattle.std.specs.Prelude.{map, Some, slice_get, slice_set}
 use Rattle.std.specs.List.{AllByRecursion}
 use Rattle.ice_catalog.specs.Machines.{Machine, PinnedScan, machine_after, replies_to}
 use Rattle.ice_catalog.specs.declared.event.Event.{Event}
@@ -10,8 +10,9 @@ use Rattle.ice_catalog.specs.declared.event.Reply.TheVariants as reply
 use Rattle.ice_desk.specs.Seats.{limit_of}
 use Rattle.ice_desk.specs.Tickets.{times}
 use Rattle.ice_desk.specs.declared.desk.Desk.{Desk}
-use Rattle.ice_state.specs.Contents.{Content}
-use Rattle.ice_state.specs.Runs.{Run, empty, take, merge}
+use Rattle.ice_state.specs.Contents.{Content, no_row}
+use Rattle.ice_state.specs.Runs.{Run, empty, take, merge, takes as has_row}
+use Rattle.ice_state.specs.Scans.{Scanned}
 use Rattle.machine_laws.specs.Workers.{IsPut, nothing_taken, states_of}
 
 -- ---- one worker
@@ -76,3 +77,11 @@ pub record IsPlayed (m after : Machine) (k w n : ℕ) (p : PinnedScan) (c : Cont
   pub scan : now.scan ≡ p.scan
   pub state : slice_get (states_of now) w ≡ Some c
   pub others : (v : ℕ) → (v < w) ⊎ (w + n ≤ v) → slice_get (states_of now) v ≡ slice_get (states_of p) v
+
+-- n workers of a scan, from w on, have the set of no row
+abbrev pub HaveNoRow : PinnedScan → ℕ → ℕ → Type 0
+HaveNoRow p w n = (v : ℕ) → w ≤ v → v < w + n → slice_get p.workers v ≡ Some (no_row p.scan)
+
+-- the tree takes every wanted row
+abbrev pub TakesEvery : Scanned → Run → Type 0
+TakesEvery scan run = (i : ℕ) → i < length scan.wanted → has_row run i ≡ true

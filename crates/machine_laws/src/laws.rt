@@ -2,6 +2,7 @@
 
 ghost use Rattle.std.specs.Prelude.{◌≡◌, ◌↔◌, ◌+◌, ◌<◌, ◌≤◌, ℕ, List, Some, true, false, length, slice_get};
 ghost use Rattle.std.specs.List.{AllByRecursion};
+ghost use Rattle.ice_catalog.specs.Apart.{TookEvery};
 ghost use Rattle.ice_catalog.specs.Machines.{Machine, PinnedScan, event, finished, machine_after, replies_to};
 ghost use Rattle.ice_catalog.specs.Machines.{scan_of, world_of};
 ghost use Rattle.ice_catalog.specs.declared.event.Event.{Event};
@@ -16,7 +17,8 @@ ghost use Rattle.ice_state.specs.Runs.{Run, IsIn, after};
 ghost use Rattle.ice_state.specs.Scans.{Scanned};
 ghost use Rattle.ice_versions.specs.declared.receipt.Receipt.{Receipt};
 ghost use Rattle.machine_laws.specs.Counts.{count_of, followed_by, made, sum_of_seats};
-ghost use Rattle.machine_laws.specs.Playing.{AreFresh, IsPlayed, events_of, is_done, states};
+ghost use Rattle.machine_laws.specs.Playing.{AreFresh, HaveNoRow, IsPlayed, TakesEvery, events_of, is_done};
+ghost use Rattle.machine_laws.specs.Playing.{states};
 ghost use Rattle.machine_laws.specs.Workers.{Begins, CanMerge, CanTake, HasManifest, HasState, IsPut, Lacks};
 ghost use Rattle.machine_laws.specs.Workers.{tells_a_change};
 
@@ -71,6 +73,14 @@ pub fn a_tree_is_played()
         slice_get m.pins k ≡ Some (Some p) → AreFresh p w (states run) → IsIn (world_of p.history) p.scan run →
         AllByRecursion (λ r. is_done r ≡ true) (replies_to m (events_of k w run))
         × IsPlayed m (machine_after m (events_of k w run)) k w (states run) p (after p.scan run) }
+{}
+
+/// After a tree that takes every wanted row the worker that played it took every row. So `pinned_plans` tells what it
+/// then finishes with, whatever the tree.
+pub fn a_tree_takes_its_rows()
+    ensures { (m : Machine) (k w : ℕ) (p : PinnedScan) (run : Run) →
+        slice_get m.pins k ≡ Some (Some p) → HaveNoRow p w (states run) → IsIn (world_of p.history) p.scan run →
+        TakesEvery p.scan run → TookEvery (machine_after m (events_of k w run)) k w }
 {}
 
 /// The journal of a machine goes on by exactly the commits that it replies to with `Committed`, in their order, and the
