@@ -185,7 +185,7 @@ impl<'a> Container<'a> {
     }
 
     /// The objects, from the first on.
-    pub fn objects(&self) -> Objects<'_>
+    pub fn objects(&self) -> Objects<'_, 'a>
         ensures ahead { ahead result ≡ at_start self.now }
         ensures schema { type_of result ≡ tree_of self.now }
     {
@@ -205,15 +205,15 @@ impl<'a> Container<'a> {
 
 /// The objects of a file, one after the other. Nothing of them is built unasked.
 #[derive(Debug, Drop)]
-pub struct Objects<'a> {
-    schema: &'a Schema,
+pub struct Objects<'s, 'a> {
+    schema: &'s Schema,
     sync: &'a [u8],
     total: usize,
     spot: Spot<'a>,
     refused: Option<Refusal>,
 }
 
-impl<'a> Objects<'a> {
+impl<'s, 'a> Objects<'s, 'a> {
     ghost use Rattle.std.specs.Prelude.{[]};
     ghost use Rattle.avro_file.specs.Ahead.{running};
     ghost use Rattle.avro_file.specs.Files.{ahead, type_of, Next, Shows};
@@ -223,7 +223,7 @@ impl<'a> Objects<'a> {
     /// A block's count, size, content and marker are checked before its first object. An object that runs past its
     /// block, or bytes left behind the last one, are `BlockSize`. After a refusal each further call gives the same
     /// refusal. An object only lends: whether it is built, skipped or dropped changes nothing of what follows.
-    pub fn next(&mut self) -> Result<Option<Object<'a>>, AvroFault>
+    pub fn next(&mut self) -> Result<Option<Object<'s, 'a>>, AvroFault>
         ensures next { Next Shows (ahead self.old) result (ahead self.new) }
         // At the end of the file it always answers so, and stays there.
         ensures end { ahead self.old ≡ running [] None → (result ≡ Ok None) × (ahead self.new ≡ running [] None) }

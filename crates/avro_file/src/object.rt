@@ -7,14 +7,15 @@ use crate::datum::Datum;
 use avro_schema::Schema;
 use std::alloc::{AllocError, Global};
 
-/// An object of a file, which was checked whole. It lends the file's bytes and owns nothing.
+/// An object of a file, which was checked whole. It lends the file's bytes, owns nothing, and
+/// knows the schema of the container.
 #[derive(Clone, Copy, Debug)]
-pub struct Object<'a> {
-    pub(crate) schema: &'a Schema,
+pub struct Object<'s, 'a> {
+    pub(crate) schema: &'s Schema,
     pub(crate) bytes: &'a [u8],
 }
 
-impl<'a> Object<'a> {
+impl<'s, 'a> Object<'s, 'a> {
     ghost use Rattle.avro_file.specs.Files.{Shows};
     ghost use Rattle.avro_file.specs.View.{view};
     ghost use Rattle.avro_file.specs.Value.{Value};

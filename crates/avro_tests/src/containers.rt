@@ -56,7 +56,7 @@ fn is_fault(alloc: Global, fault: &AvroFault, look: &str) -> bool {
 }
 
 /// Whether an object that looks like this comes next, or this fault, or the `end`.
-fn is_next(alloc: Global, objects: &mut Objects<'_>, look: &str) -> bool {
+fn is_next(alloc: Global, objects: &mut Objects<'_, '_>, look: &str) -> bool {
     match objects.next() {
         Ok(Some(object)) => match object.datum(alloc) {
             Ok(datum) => looks(alloc, &datum, look),
@@ -68,7 +68,7 @@ fn is_next(alloc: Global, objects: &mut Objects<'_>, look: &str) -> bool {
 }
 
 /// Whether what comes next looks like these lines, each of one call.
-fn are_next(alloc: Global, objects: &mut Objects<'_>, lines: &str) -> bool {
+fn are_next(alloc: Global, objects: &mut Objects<'_, '_>, lines: &str) -> bool {
     for look in lines.lines() {
         if !is_next(alloc, objects, look) {
             return false;
@@ -86,7 +86,7 @@ fn gives(alloc: Global, bytes: &[u8], lines: &str) -> bool {
 }
 
 /// Whether there are so many objects more.
-fn are_skipped(objects: &mut Objects<'_>, count: usize) -> bool {
+fn are_skipped(objects: &mut Objects<'_, '_>, count: usize) -> bool {
     for _ in 0..count {
         match objects.next() {
             Ok(Some(object)) => object.skip(),

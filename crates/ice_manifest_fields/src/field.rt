@@ -1,6 +1,6 @@
 //! What the fields of an object hold.
 
-ghost use Rattle.std.specs.Prelude.{◌≡◌, [], ◌∷◌, option_map, Some, IfOk};
+ghost use Rattle.std.specs.Prelude.{◌≡◌, ◌≤◌, [], ◌∷◌, option_map, Some, IfOk, IfSome, length};
 ghost use Rattle.std.specs.Option.{option_copied};
 ghost use Rattle.contract_words.specs.Outcome.{Gives};
 ghost use Rattle.avro_schema.specs.View.{tree};
@@ -191,7 +191,8 @@ pub fn optional_binary(
 
 /// The text, where a path may be so long.
 fn short_path<'d>(text: &'d str, id: i32) -> Result<&'d str, FieldFault>
-    ensures { result_map (λ path. path.now) result ≡ short_path_of id text.now }
+    ensures said { result_map (λ path. path.now) result ≡ short_path_of id text.now }
+    ensures short { IfOk result (λ path. length path.now ≤ 65535) }
 {
     if text.len() <= 65535 {
         Ok(text)
@@ -207,7 +208,8 @@ pub fn path_at<'a, 'd>(
     values: &'a [Datum<'d>],
     id: i32,
 ) -> Result<&'d str, FieldFault>
-    ensures { result_map (λ path. path.now) result ≡ path_said id (object fields.now values.now) }
+    ensures said { result_map (λ path. path.now) result ≡ path_said id (object fields.now values.now) }
+    ensures short { IfOk result (λ path. length path.now ≤ 65535) }
 {
     let Some((_, Datum::String(text))) = pick(fields, values, id) else {
         return Err(FieldFault::Missing(id));
@@ -222,7 +224,8 @@ pub fn optional_path<'a, 'd>(
     values: &'a [Datum<'d>],
     id: i32,
 ) -> Result<Option<&'d str>, FieldFault>
-    ensures { result_map option_copied result ≡ path_if_there id (object fields.now values.now) }
+    ensures said { result_map option_copied result ≡ path_if_there id (object fields.now values.now) }
+    ensures short { IfOk result (λ found. IfSome found (λ path. length path.now ≤ 65535)) }
 {
     let Some((_, Datum::String(text))) = pick(fields, values, id) else {
         return Ok(None);

@@ -3,6 +3,7 @@ pub mod Partitions
 pub mod Lists
 pub mod Manifests
 pub mod Laws
+pub mod Lending
 pub mod Absent
 pub mod Faults
 pub mod Same

@@ -1,6 +1,6 @@
 //! The file that a manifest entry is about.
 
-ghost use Rattle.std.specs.Prelude.{◌≡◌, IfOk};
+ghost use Rattle.std.specs.Prelude.{◌≡◌, ◌≤◌, IfOk, IfSome, length};
 ghost use Rattle.std.specs.Option.{option_copied};
 
 use contract_words::Items;
@@ -66,7 +66,7 @@ fn bytes_if_some(alloc: Global, path: Option<&str>) -> Result<Option<Items<u8>>,
     }
 }
 
-/// A file whose paths lie in the manifest still.
+/// A file whose paths lie in the manifest still. They have at most 65,535 bytes.
 #[derive(Debug, Drop)]
 pub(crate) struct FileView<'a> {
     pub(crate) content: FileContent,
@@ -93,6 +93,10 @@ impl<'a> Model for FileView<'a> {
       equality_ids = f.equality_ids;
       referenced = option_copied f.referenced;
     } };
+
+    ghost use Rattle.std.specs.Prelude.{◌≤◌, length, IfSome};
+
+    ghost invariant = { λ f. (length f.path.now ≤ 65535) × IfSome f.referenced (λ path. length path.now ≤ 65535) };
 }
 
 impl<'a> FileView<'a> {
@@ -106,6 +110,38 @@ impl<'a> FileView<'a> {
         ensures { result.now ≡ self.now.tuple }
     {
         self.tuple.as_slice()
+    }
+
+    pub(crate) fn path(&self) -> &'a [u8]
+        ensures same { result.now ≡ self.now.path }
+        ensures short { length result.now ≤ 65535 }
+    {
+        self.path.as_bytes()
+    }
+
+    pub(crate) fn referenced(&self) -> Option<&'a [u8]>
+        ensures same { option_copied result ≡ self.now.referenced }
+        ensures short { IfSome result (λ path. length path.now ≤ 65535) }
+    {
+        self.referenced.map(|path| path.as_bytes())
+    }
+
+    pub(crate) fn equality_ids(&self) -> &[i32]
+        ensures { result.now ≡ self.now.equality_ids }
+    {
+        self.equality_ids.as_slice()
+    }
+
+    pub(crate) fn record_count(&self) -> i64
+        ensures { result ≡ self.now.record_count }
+    {
+        self.record_count
+    }
+
+    pub(crate) fn file_size(&self) -> i64
+        ensures { result ≡ self.now.file_size }
+    {
+        self.file_size
     }
 
     /// The file, with copies of the paths.

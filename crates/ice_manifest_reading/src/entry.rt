@@ -1,6 +1,7 @@
 //! Live entries of a manifest.
 
 ghost use Rattle.std.specs.Prelude.{◌≡◌, IfOk};
+ghost use Rattle.ice_manifest_reading.specs.Lending.{lent, HasShortPaths};
 
 use crate::data_file::{DataFile, FileView};
 use ice_value::{Cell, FileBounds, FileContent, SequenceNumber};
@@ -40,7 +41,48 @@ impl Entry {
     }
 }
 
-/// An entry of whose file the paths lie in the manifest still.
+/// An entry that is lent, by whoever keeps it.
+#[derive(Clone, Copy, Debug)]
+pub struct LentEntry<'a> {
+    pub position: u64,
+    pub spec_id: i32,
+    pub unpartitioned: bool,
+    pub snapshot_id: i64,
+    pub sequence_number: SequenceNumber,
+    pub file_sequence_number: Option<SequenceNumber>,
+    pub content: FileContent,
+    pub path: &'a [u8],
+    pub tuple: &'a [Cell],
+    pub record_count: i64,
+    pub file_size: i64,
+    pub equality_ids: &'a [i32],
+    pub referenced: Option<&'a [u8]>,
+}
+
+impl Entry {
+    /// The entry, lent.
+    pub fn lent(&self) -> LentEntry<'_>
+        ensures { lent result ≡ self.now }
+    {
+        LentEntry {
+            position: self.position,
+            spec_id: self.spec_id,
+            unpartitioned: self.unpartitioned,
+            snapshot_id: self.snapshot_id,
+            sequence_number: self.sequence_number,
+            file_sequence_number: self.file_sequence_number,
+            content: self.file.content,
+            path: self.file.path.as_slice(),
+            tuple: self.file.tuple.as_slice(),
+            record_count: self.file.record_count,
+            file_size: self.file.file_size,
+            equality_ids: self.file.equality_ids.as_slice(),
+            referenced: self.file.referenced.as_ref().map(|path| path.as_slice()),
+        }
+    }
+}
+
+/// An entry of whose file the paths lie in the manifest still. They have at most 65,535 bytes.
 #[derive(Debug, Drop)]
 pub struct EntryView<'a> {
     pub(crate) position: u64,
@@ -81,6 +123,28 @@ impl<'a> EntryView<'a> {
         ensures { result.now ≡ self.now.file.tuple }
     {
         self.file.tuple()
+    }
+
+    /// The entry, lent.
+    pub fn lent(&self) -> LentEntry<'_>
+        ensures same { lent result ≡ self.now }
+        ensures short { HasShortPaths result }
+    {
+        LentEntry {
+            position: self.position,
+            spec_id: self.spec_id,
+            unpartitioned: self.unpartitioned,
+            snapshot_id: self.snapshot_id,
+            sequence_number: self.sequence_number,
+            file_sequence_number: self.file_sequence_number,
+            content: self.file.content,
+            path: self.file.path(),
+            tuple: self.file.tuple(),
+            record_count: self.file.record_count(),
+            file_size: self.file.file_size(),
+            equality_ids: self.file.equality_ids(),
+            referenced: self.file.referenced(),
+        }
     }
 
     /// The entry, with copies of the paths.

@@ -15,7 +15,7 @@ mod tuple;
 
 pub use counts::Counts;
 pub use data_file::DataFile;
-pub use entry::{Entry, EntryView, Live};
+pub use entry::{Entry, EntryView, LentEntry, Live};
 pub use ice_manifest_fields::{
     FieldFault, Kind, ListFault, ManifestFault, decimals_are_kept_shortest,
 };

@@ -1,6 +1,6 @@
 //! Reading a manifest.
 
-ghost use Rattle.std.specs.Prelude.{◌≡◌, ◌<◌, ◌^◌, [], ◌∷◌, ◌++◌, OnOk};
+ghost use Rattle.std.specs.Prelude.{◌≡◌, ◌≤◌, ◌<◌, ◌^◌, [], ◌∷◌, ◌++◌, OnOk, IfOk, IfSome, length};
 ghost use Rattle.std.specs.Option.{option_copied};
 ghost use Rattle.contract_words.specs.Outcome.{Gives};
 ghost use Rattle.avro_schema.specs.Tree.{structure};
@@ -86,7 +86,8 @@ fn referenced_at<'a, 'd>(
     fields: &'a [Field],
     values: &'a [Datum<'d>],
 ) -> Result<Option<&'d str>, FieldFault>
-    ensures { result_map option_copied result ≡ referenced_said content (object fields.now values.now) }
+    ensures said { result_map option_copied result ≡ referenced_said content (object fields.now values.now) }
+    ensures short { IfOk result (λ found. IfSome found (λ path. length path.now ≤ 65535)) }
 {
     match content {
         FileContent::PositionDeletes => optional_path(fields, values, 143),
@@ -276,29 +277,28 @@ fn entry_of<'a, 'd>(
 }
 
 /// Puts a live entry last, if it is kept.
-fn push_kept<K: Keep>(
-    alloc: Global,
+fn push_kept<'d, K: Keep>(
     keep: &K,
-    found: &mut Vec<Entry>,
-    live: Live<'_, '_>,
+    found: &mut Vec<EntryView<'d>>,
+    live: Live<'_, 'd>,
 ) -> Result<(), AllocError>
     ensures { OnOk result (found.new.items ≡ found.old.items ++ entries_kept (K.kept keep.now) (live.entry ∷ [])) }
 {
     if keep.keeps(&live) {
-        found.push(live.entry.owned(alloc)?)?;
+        found.push(live.entry)?;
     }
     Ok(())
 }
 
 /// Puts the entry that an object of these fields says last, if it is live and kept.
-fn read_object<K: Keep>(
+fn read_object<'d, K: Keep>(
     alloc: Global,
     source: &Source<'_>,
     keep: &K,
-    found: &mut Vec<Entry>,
+    found: &mut Vec<EntryView<'d>>,
     position: u64,
     fields: &[Field],
-    datum: &Datum<'_>,
+    datum: &Datum<'d>,
 ) -> Result<(), ManifestFault>
     ensures { Gives ManifestFault.Memory (λ _. found.new.items) result
         (kept_behind (K.kept keep.now) found.old.items
@@ -306,19 +306,19 @@ fn read_object<K: Keep>(
         (structure (fields_seen fields.now), view datum.now))) }
 {
     if let Some(live) = entry_of(alloc, source, position, fields, datum)? {
-        push_kept(alloc, keep, found, live)?;
+        push_kept(keep, found, live)?;
     }
     Ok(())
 }
 
 /// The kept entries of all objects that are to come, which are few enough to be numbered.
-fn all_entries<K: Keep>(
+fn all_entries<'d, K: Keep>(
     alloc: Global,
     source: &Source<'_>,
     keep: &K,
     fields: &[Field],
-    mut reader: Objects<'_>,
-) -> Result<Vec<Entry>, ManifestFault>
+    mut reader: Objects<'_, 'd>,
+) -> Result<Vec<EntryView<'d>>, ManifestFault>
     requires { still_ahead (ahead reader) < 2 ^ 64 }
     ensures { Gives ManifestFault.Memory (λ found. found.items) result
         (kept_of (K.kept keep.now) (entries_ahead source.now.row.now source.now.spec.now (fields_seen fields.now) 0
@@ -332,24 +332,23 @@ fn all_entries<K: Keep>(
         drop(datum);
         position += 1;
     }
-    found.shrink_to_fit();
     Ok(found)
 }
 
 /// Those live entries of a row's manifest that are kept, in the order of their positions, with their numbers inherited.
-/// Nothing is copied of an entry that is not kept.
+/// Their paths are lent by the bytes.
 ///
 /// The fault is the first of these: the file's as it is opened; that of the first field that the schema lacks or has
 /// with another type; entry by entry, also of entries that are not kept, the file's, or that of the entry's first field
 /// at fault. Of a deleted entry nothing but the status is looked at.
 #[tactic(auto, unfolding(crate::specs::Manifests::live_of))]
-pub fn read_kept<K: Keep>(
+pub fn read_kept<'d, K: Keep>(
     alloc: Global,
     row: &Row,
     spec: &Spec,
     keep: &K,
-    bytes: &[u8],
-) -> Result<Vec<Entry>, ManifestFault>
+    bytes: &'d [u8],
+) -> Result<Vec<EntryView<'d>>, ManifestFault>
     ensures { Gives ManifestFault.Memory (λ found. found.items) result
         (kept_of (K.kept keep.now) (live_of row.now spec.now bytes.now)) }
 {
@@ -366,6 +365,17 @@ pub fn read_kept<K: Keep>(
     all_entries(alloc, &source, keep, fields, container.objects())
 }
 
+/// The entries, with copies of their paths.
+fn owned(alloc: Global, views: Vec<EntryView<'_>>) -> Result<Vec<Entry>, AllocError>
+    ensures { IfOk result (λ entries. entries.items ≡ views.items) }
+{
+    let mut entries = Vec::with_capacity(alloc, views.len())?;
+    'views: for view in views {
+        entries.push(view.owned(alloc)?)?;
+    }
+    Ok(entries)
+}
+
 /// All live entries of a row's manifest, in the order of their positions, with their numbers inherited. The fault is
 /// that of `read_kept`.
 pub fn read_manifest(
@@ -376,5 +386,6 @@ pub fn read_manifest(
 ) -> Result<Vec<Entry>, ManifestFault>
     ensures { Gives ManifestFault.Memory (λ found. found.items) result (entries_of row.now spec.now bytes.now) }
 {
-    read_kept(alloc, row, spec, &Everything, bytes)
+    let views = read_kept(alloc, row, spec, &Everything, bytes)?;
+    Ok(owned(alloc, views)?)
 }

@@ -13,7 +13,7 @@ const LONGS: [u8; 62] = [
 ];
 
 /// Whether -1 follows where the first object is dropped.
-fn follows_the_first(alloc: Global, objects: &mut Objects<'_>) -> bool {
+fn follows_the_first(alloc: Global, objects: &mut Objects<'_, '_>) -> bool {
     are_skipped(objects, 1) && is_next(alloc, objects, "Long(-1)")
 }
 

@@ -135,7 +135,7 @@ const EVERY_LOOK: &str =
 /// Whether an object looks like this, and a writer of this schema makes this file of it.
 fn is_written_back(
     alloc: Global,
-    object: Object<'_>,
+    object: Object<'_, '_>,
     look: &str,
     schema: &[u8],
     bytes: &[u8],
