@@ -1,0 +1,6 @@
+//! Entries that are kept, by their numbers.
+#![tactic(auto)]
+
+mod entries;
+
+pub use entries::{Entries, EntryNumber, Room};
