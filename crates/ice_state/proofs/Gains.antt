@@ -1,7 +1,7 @@
 -- What a merge adds.
 use Rattle.std.proofs.Common.{◌≡◌, ◌<◌, ◌≤◌, ℕ, zero, suc, List, [], ◌∷◌, ◌++◌, refl, sym, ap, ◌∙◌, Bool, true, false}
 use Rattle.std.proofs.Common.{length, get_or, drop, arith, Option, Some, None}
-use Rattle.ice_state.specs.declared.reading.Reading.{Reading}
+use Rattle.ice_state.specs.Readings.{Reading}
 use Rattle.ice_state.specs.Contents.{Content, World, content, or_else}
 use Rattle.ice_state.specs.Joins.{join, either, IsNoGain, TookAllOf}
 use Rattle.ice_state.specs.Parts.{with_row, gains, is_gain}
