@@ -22,7 +22,7 @@ use crate::merging::{are_apart, gained, has_taken_all_of};
 use crate::plan::{OwnedPlan, Plan};
 use crate::scan::Scan;
 use crate::slots::{is_slot_taken, put_all, put_row};
-use crate::taken::{Taken, taken};
+use crate::taken::{Taken, take_manifest};
 use ice_entries::Entries;
 use std::alloc::{AllocError, Global};
 use std::marker::Model;
@@ -97,7 +97,7 @@ impl Partial {
             return Ok(());
         }
         let row = &scan.wanted()[i];
-        let taken = taken(self.alloc, &mut self.entries, row, &scan.filter_of(i), bytes)?;
+        let taken = take_manifest(self.alloc, &mut self.entries, row, &scan.filter_of(i), bytes)?;
         put_row(&mut self.slots, i, taken);
         Ok(())
     }

@@ -20,7 +20,7 @@ pub enum Taken {
 
 /// What a row's manifest with these bytes gives, read by the filter through its spec. Its kept entries are put to the
 /// others.
-pub fn taken(
+pub fn take_manifest(
     alloc: Global,
     entries: &mut Entries,
     row: &Row,
