@@ -87,7 +87,11 @@ impl Entries {
     }
 
     /// Keeps entries that others keep. A refusal, for want of memory, forgets none that was kept.
-    pub fn add_kept(&mut self, others: &Entries, numbers: &[EntryNumber]) -> Result<Vec<EntryNumber>, AllocError>
+    pub fn add_kept(
+        &mut self,
+        others: &Entries,
+        numbers: &[EntryNumber],
+    ) -> Result<Vec<EntryNumber>, AllocError>
         requires { AreKept others.now numbers.now }
 
         ensures keeps { Keeps self.old self.new }

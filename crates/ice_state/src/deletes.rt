@@ -60,12 +60,7 @@ fn deletes_for<'i>(index: &'i DeleteIndex, x: LentEntry<'_>) -> Hits<'i>
     ensures exact { (n : ℕ) → Contains (lent result) n ↔ AppliesAt index.now (data_key_of (lent_entry x)) n }
     ensures once { (n : ℕ) → count_by (λ m. m == n) (lent result) ≤ 1 }
 {
-    index.for_data(
-        x.spec_id,
-        x.tuple,
-        x.sequence_number,
-        x.path,
-    )
+    index.for_data(x.spec_id, x.tuple, x.sequence_number, x.path)
 }
 
 /// The numbers of both lists, the lower ones first.
@@ -81,7 +76,11 @@ fn in_order(alloc: Global, numbers: &[usize], others: &[usize]) -> Result<Items<
 }
 
 /// The places of the delete files that apply to the data file.
-pub fn places_for(alloc: Global, index: &DeleteIndex, x: LentEntry<'_>) -> Result<Places, AllocError>
+pub fn places_for(
+    alloc: Global,
+    index: &DeleteIndex,
+    x: LentEntry<'_>,
+) -> Result<Places, AllocError>
     ensures { IfOk result (λ places. places ≡ places_of index.now (data_key_of (lent_entry x))) }
 {
     let hits = deletes_for(index, x);

@@ -147,7 +147,11 @@ fn sort_by_path(named: &mut Vec<Named<'_>>) -> Result<(), AllocError>
 }
 
 /// Those of the entries whose files hold data.
-fn data_files(alloc: Global, entries: &Entries, named: &[Named<'_>]) -> Result<Vec<EntryNumber>, AllocError>
+fn data_files(
+    alloc: Global,
+    entries: &Entries,
+    named: &[Named<'_>],
+) -> Result<Vec<EntryNumber>, AllocError>
     requires { AreNamed entries.now named.now }
     ensures kept { IfOk result (λ found. AreKept entries.now found.items) }
     ensures data { IfOk result (λ found. entries_at entries.now found.items
@@ -163,7 +167,11 @@ fn data_files(alloc: Global, entries: &Entries, named: &[Named<'_>]) -> Result<V
 }
 
 /// Those of the entries whose files hold deletes.
-fn delete_files(alloc: Global, entries: &Entries, named: &[Named<'_>]) -> Result<Vec<EntryNumber>, AllocError>
+fn delete_files(
+    alloc: Global,
+    entries: &Entries,
+    named: &[Named<'_>],
+) -> Result<Vec<EntryNumber>, AllocError>
     requires { AreNamed entries.now named.now }
     ensures kept { IfOk result (λ found. AreKept entries.now found.items) }
     ensures deletes { IfOk result (λ found. entries_at entries.now found.items

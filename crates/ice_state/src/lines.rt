@@ -44,7 +44,6 @@ pub struct PlanFile<'a> {
 
 impl<'a> Model for PlanFile<'a> {
     ghost use Rattle.ice_manifest_reading.specs.declared.entry.Entry.{Entry};
-
     ghost use Rattle.ice_manifest_reading.specs.Lending.{lent};
 
     ghost Value = { Entry };

@@ -97,7 +97,13 @@ impl Partial {
             return Ok(());
         }
         let row = &scan.wanted()[i];
-        let taken = take_manifest(self.alloc, &mut self.entries, row, &scan.filter_of(i), bytes)?;
+        let taken = take_manifest(
+            self.alloc,
+            &mut self.entries,
+            row,
+            &scan.filter_of(i),
+            bytes,
+        )?;
         put_row(&mut self.slots, i, taken);
         Ok(())
     }
@@ -120,7 +126,13 @@ impl Partial {
         if has_taken_all_of(&self.slots, &other.slots) {
             return Ok(());
         }
-        let gained = gained(self.alloc, &mut self.entries, &self.slots, &other.entries, &other.slots)?;
+        let gained = gained(
+            self.alloc,
+            &mut self.entries,
+            &self.slots,
+            &other.entries,
+            &other.slots,
+        )?;
         put_all(&mut self.slots, gained);
         Ok(())
     }
