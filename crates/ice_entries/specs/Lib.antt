@@ -1,1 +1,6 @@
+pub mod InCommon
 pub mod Kept
+pub mod Own
+pub mod Sharing
+pub mod Short
+pub mod Tables
