@@ -27,6 +27,14 @@ common_in e =
       equality_ids = e.file.equality_ids;
     }
 
+-- the files are of one kind and one spec
+abbrev pub IsOfSpec : Common → Common → Type 0
+IsOfSpec a b = (a.spec_id ≡ b.spec_id) × (a.unpartitioned ≡ b.unpartitioned) × (a.content ≡ b.content)
+
+-- the partition values and the equality ids are the same
+abbrev pub HasListsOf : Common → Common → Type 0
+HasListsOf a b = (a.tuple ≡ b.tuple) × (a.equality_ids ≡ b.equality_ids)
+
 -- what no number stands for
 abbrev pub no_common : Common
 no_common = record { content = Data; spec_id = pos 0; unpartitioned = false; tuple = []; equality_ids = [] }

@@ -2,7 +2,7 @@
 
 ghost use Rattle.std.specs.Prelude.{◌≡◌, ◌↔◌, IfOk, IsTrue};
 ghost use Rattle.ice_manifest_reading.specs.Lending.{lent};
-ghost use Rattle.ice_entries.specs.InCommon.{common_of, common_in};
+ghost use Rattle.ice_entries.specs.InCommon.{common_of, common_in, IsOfSpec, HasListsOf};
 
 use contract_words::{Duplicate, Items};
 use ice_manifest_reading::LentEntry;
@@ -43,15 +43,28 @@ impl Common {
         }
     }
 
+    /// Whether the files are of one kind and one spec.
+    fn is_of_spec(&self, wanted: &LentCommon<'_>) -> bool
+        ensures { IsTrue result ↔ IsOfSpec self.now (common_of wanted.now) }
+    {
+        self.spec_id == wanted.spec_id
+            && self.unpartitioned == wanted.unpartitioned
+            && self.content == wanted.content
+    }
+
+    /// Whether the files have the same partition values and equality ids.
+    fn has_lists_of(&self, wanted: &LentCommon<'_>) -> bool
+        ensures { IsTrue result ↔ HasListsOf self.now (common_of wanted.now) }
+    {
+        is_same_tuple(self.tuple.as_slice(), wanted.tuple)
+            && self.equality_ids.as_slice() == wanted.equality_ids
+    }
+
     /// Whether it is the same as one that is lent.
     pub(crate) fn is(&self, wanted: &LentCommon<'_>) -> bool
         ensures { IsTrue result ↔ (self.now ≡ common_of wanted.now) }
     {
-        self.content == wanted.content
-            && self.spec_id == wanted.spec_id
-            && self.unpartitioned == wanted.unpartitioned
-            && is_same_tuple(self.tuple.as_slice(), wanted.tuple)
-            && self.equality_ids.as_slice() == wanted.equality_ids
+        self.is_of_spec(wanted) && self.has_lists_of(wanted)
     }
 }
 

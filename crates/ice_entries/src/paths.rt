@@ -1,7 +1,7 @@
 //! Paths, each once, by its number.
 
-ghost use Rattle.std.specs.Prelude.{◌≡◌, ◌<◌, ◌≤◌, ◌^◌, ◌↔◌, [], length, IfOk, OnOk, OnErr};
-ghost use Rattle.path_arena.specs.Arena.{string, Distinct, HasNot, Interned, KeepsNumbers};
+ghost use Rattle.std.specs.Prelude.{◌≡◌, ◌≢◌, ◌<◌, ◌≤◌, ◌^◌, ◌++◌, ◌∷◌, [], length, IfOk, OnErr};
+ghost use Rattle.path_arena.specs.Arena.{string, Distinct, KeepsNumbers};
 
 use path_arena::{Arena, PathId};
 use std::alloc::{AllocError, Global};
@@ -63,16 +63,16 @@ impl Paths {
     /// memory.
     pub(crate) fn intern(&mut self, path: &[u8]) -> Result<PathId, AllocError>
         requires { length path.now ≤ 65535 }
-        ensures ok { OnOk result (Interned self.old path.now self.new) }
         ensures id { IfOk result (λ id. (id < length self.new) × (string self.new id ≡ path.now)) }
-        ensures new { IfOk result (λ id. (id ≡ length self.old) ↔ HasNot self.old path.now) }
+        ensures new { IfOk result (λ id. id ≡ length self.old → self.new ≡ self.old ++ path.now ∷ []) }
+        ensures known { IfOk result (λ id. id ≢ length self.old → self.new ≡ self.old) }
         ensures keeps { KeepsNumbers self.old self.new }
         ensures err { OnErr result (self.new ≡ self.old) }
     {
-        match self.arena.intern(path) {
-            Ok(id) => Ok(id),
-            Err(_) => Err(AllocError),
-        }
+        let Ok(id) = self.arena.intern(path) else {
+            return Err(AllocError);
+        };
+        Ok(id)
     }
 
     /// The same by the same numbers.

@@ -1,0 +1,4 @@
+pub mod Growing
+pub mod Interning
+pub mod Lists
+pub mod Rows
