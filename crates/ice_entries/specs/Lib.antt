@@ -1,4 +1,5 @@
 pub mod InCommon
+pub mod Keeping
 pub mod Kept
 pub mod Own
 pub mod Sharing

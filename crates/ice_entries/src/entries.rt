@@ -66,18 +66,14 @@ pub struct Entries {
 }
 
 impl Model for Entries {
-    ghost use Rattle.std.specs.Prelude.{map};
     ghost use Rattle.ice_entries.specs.Kept.{Kept};
-    ghost use Rattle.ice_entries.specs.Sharing.{entry_in, AreWithin};
+    ghost use Rattle.ice_entries.specs.Keeping.{kept_of, HasAllOf};
 
     ghost Value = { Kept };
 
-    ghost view = { λ e. record {
-      records = map (entry_in e.shared) e.table.records;
-      clashes = map (entry_in e.shared) e.table.clashes;
-    } };
+    ghost view = { λ e. kept_of e.shared e.table };
 
-    ghost invariant = { λ e. AreWithin e.shared e.table.records × AreWithin e.shared e.table.clashes };
+    ghost invariant = { λ e. HasAllOf e.shared e.table };
 }
 
 /// How many there are.
