@@ -1,9 +1,9 @@
 -- What is kept stays under its number.
-use Rattle.std.proofs.Common.{◌≡◌, ◌≢◌, ℕ, ◌+◌, ◌<◌, List, [], ◌∷◌, ◌++◌, length, slice_index_or, refl, sym, ap, ◌∙◌, subst, arith, length-append}
-use Rattle.std.specs.Prelude.{map}
+use Rattle.std.proofs.Common.{◌≡◌, ◌≢◌, ℕ, ◌+◌, ◌<◌, List, [], ◌∷◌, ◌++◌, length, slice_index_or, refl, sym, ap, ◌∙◌, subst, arith, add-one, length-append}
+use Rattle.std.specs.Prelude.{map, take, Result, Ok, Err, IfOk, OnErr}
 use Rattle.std.specs.List.{AllByRecursion}
 use Rattle.std.proofs.Math.ListN.{get_or-append}
-use Rattle.std.proofs.Math.Seq.{get_or-append_seam}
+use Rattle.std.proofs.Math.Seq.{get_or-append_seam, take-suc}
 use Rattle.std.proofs.lemmas.List.{length-map, get_or-map, map-append}
 use Rattle.ice_manifest_reading.specs.declared.entry.Entry.{Entry}
 use Rattle.ice_entries.specs.declared.entries.EntryNumber.{EntryNumber}
@@ -79,11 +79,10 @@ keeps_grown s t rows keeps all = keeps_same (kept_of s rows) (kept_of t rows) (k
 pub keeps_put : (s t : Shared) (rows : Rows) (number : EntryNumber) (row : List ℕ × Record) (new : Rows) → KeepsShared s t → HasAllOf s rows → Puts rows number row new → Keeps (kept_of s rows) (kept_of t new)
 keeps_put s t rows number row new keeps all puts n kept =
     let within = in_rows s rows n kept in
-    let still = stays rows number row new puts n within in
-    (
+    let still = stays rows number row new puts n within in (
       is_kept t new n still.0,
       entry_at-row t new n still.0 ∙ ap (entry_in t) still.1 ∙ entry_in-keeps s t (row_at rows n) keeps (row_within s rows n all within)
-      ∙ sym (entry_at-row s rows n within),
+          ∙ sym (entry_at-row s rows n within),
     )
 
 pub put_kept : (t : Shared) (rows : Rows) (number : EntryNumber) (row : List ℕ × Record) (new : Rows) → Puts rows number row new → IsKept (kept_of t new) number × (entry_at (kept_of t new) number ≡ entry_in t row)
@@ -106,3 +105,45 @@ paths_once s rows own m n lt within same =
     let first = entry_at-row s rows (First m) (omega (arith, lt, within, count)) in
     let later = entry_at-row s rows (First n) (omega (arith, within, count)) in
     own m n lt (omega (arith, within, count)) (sym (ap (λ (e : Entry). e.file.path) first) ∙ same ∙ ap (λ (e : Entry). e.file.path) later)
+
+-- a row is put, or memory is refused
+pub put_or_refused : {E : Type 0} (s t : Shared) (rows new : Rows) (row : List ℕ × Record) (r : Result EntryNumber E) → KeepsShared s t → HasAllOf s rows → IsWithin t row.1 → IfOk r (λ number. Puts rows number row new) → OnErr r (new ≡ rows) → HasAllOf t new × Keeps (kept_of s rows) (kept_of t new)
+put_or_refused s t rows new row (Ok number) keeps all within puts same =
+    (has_all-put t rows number row new puts (has_all-keeps s t rows keeps all) within, keeps_put s t rows number row new keeps all puts)
+put_or_refused s t rows new row (Err e) keeps all within puts same = (
+  subst (HasAllOf t) (sym same) (has_all-keeps s t rows keeps all),
+  subst (λ (rows' : Rows). Keeps (kept_of s rows) (kept_of t rows')) (sym same) (keeps_grown s t rows keeps all),
+)
+
+-- these entries were added under these numbers, and no other was forgotten
+pub record AreAdded (old new : Kept) (numbers : List EntryNumber) (entries : List Entry) : Type 0 where
+  pub keeps : Keeps old new
+  pub kept : AreKept new numbers
+  pub same : entries_at new numbers ≡ entries
+
+pub none_added : (kept : Kept) → AreAdded kept kept [] []
+none_added kept = record { keeps = keeps_same kept kept refl; kept = tt; same = refl }
+
+pub one_added : (old mid new : Kept) (ns : List EntryNumber) (es : List Entry) (n : EntryNumber) (e : Entry) → AreAdded old mid ns es → Keeps mid new → IsKept new n → entry_at new n ≡ e → AreAdded old new (ns ++ n ∷ []) (es ++ e ∷ [])
+one_added old mid new ns es n e added keeps kept same = record {
+  keeps = keeps_further old mid new added.keeps keeps;
+  kept = all_push (IsKept new) ns n (all_kept mid new ns keeps added.kept) kept;
+  same = map-append (entry_at new) ns (n ∷ []) ∙ (λ i. (entries_kept mid new ns keeps added.kept ∙ added.same) i ++ same i ∷ []);
+}
+
+one_more : {X : Type 0} (xs : List X) (k : ℕ) (d : X) → k < length xs → take (k + 1) xs ≡ take k xs ++ slice_index_or xs k d ∷ []
+one_more xs k d lt = rw add-one (take-suc xs k d lt)
+
+pub one_read : (old mid new : Kept) (views : List Entry) (k : ℕ) (ns pushed : List EntryNumber) (n : EntryNumber) (e : Entry) → AreAdded old mid ns (take k views) → Keeps mid new → IsKept new n → entry_at new n ≡ e → k < length views → e ≡ slice_index_or views k e → pushed ≡ ns ++ n ∷ [] → AreAdded old new pushed (take (k + 1) views)
+one_read old mid new views k ns pushed n e added keeps kept same lt at items =
+    let all = one_added old mid new ns (take k views) n e added keeps kept same in
+    let more : take k views ++ e ∷ [] ≡ take (k + 1) views = (λ i. take k views ++ at i ∷ []) ∙ sym (one_more views k e lt) in
+    subst (λ (p : List EntryNumber × List Entry). AreAdded old new p.0 p.1) (λ i. (sym items i, more i)) all
+
+pub one_kept : (old mid new others : Kept) (numbers : List EntryNumber) (k : ℕ) (d : EntryNumber) (ns pushed : List EntryNumber) (n : EntryNumber) → AreAdded old mid ns (entries_at others (take k numbers)) → Keeps mid new → IsKept new n → entry_at new n ≡ entry_at others (slice_index_or numbers k d) → k < length numbers → pushed ≡ ns ++ n ∷ [] → AreAdded old new pushed (entries_at others (take (k + 1) numbers))
+one_kept old mid new others numbers k d ns pushed n added keeps kept same lt items =
+    let number = slice_index_or numbers k d in
+    let all = one_added old mid new ns (entries_at others (take k numbers)) n (entry_at others number) added keeps kept same in
+    let more : entries_at others (take k numbers) ++ entry_at others number ∷ [] ≡ entries_at others (take (k + 1) numbers) =
+    sym (ap (entries_at others) (one_more numbers k d lt) ∙ map-append (entry_at others) (take k numbers) (number ∷ [])) in
+    subst (λ (p : List EntryNumber × List Entry). AreAdded old new p.0 p.1) (λ i. (sym items i, more i)) all

@@ -64,4 +64,4 @@ Keeps old new = (n : EntryNumber) → IsKept old n → IsKept new n × (entry_at
 abbrev pub HasEachPathOnce : Kept → Type 0
 HasEachPathOnce kept =
     (m n : ℕ) → m < n → n < length kept.records →
-        (entry_at kept (Record m)).file.path ≢ (entry_at kept (Record n)).file.path
+    (entry_at kept (Record m)).file.path ≢ (entry_at kept (Record n)).file.path

@@ -31,20 +31,19 @@ pub record IsTable (paths : List (List ℕ)) (records : List Record) (clashes : 
 
 -- what no number stands for
 abbrev pub no_row : List ℕ × Record
-no_row =
-    (
-      [],
-      record {
-        position = 0;
-        snapshot_id = pos 0;
-        sequence_number = 0;
-        file_sequence_number = None;
-        record_count = pos 0;
-        file_size = pos 0;
-        common = 0;
-        referenced = None;
-      },
-    )
+no_row = (
+  [],
+  record {
+    position = 0;
+    snapshot_id = pos 0;
+    sequence_number = 0;
+    file_sequence_number = None;
+    record_count = pos 0;
+    file_size = pos 0;
+    common = 0;
+    referenced = None;
+  },
+)
 
 abbrev pub IsIn : Rows → EntryNumber → Type 0
 IsIn rows (First n) = n < length rows.records
@@ -65,4 +64,4 @@ Puts old (Further n) row new =
 abbrev pub HasOwnPaths : Rows → Type 0
 HasOwnPaths rows =
     (m n : ℕ) → m < n → n < length rows.records →
-        (slice_index_or rows.records m no_row).0 ≢ (slice_index_or rows.records n no_row).0
+    (slice_index_or rows.records m no_row).0 ≢ (slice_index_or rows.records n no_row).0

@@ -50,7 +50,9 @@ impl Room {
         Room {
             entries: self.entries.saturating_add(1),
             path_bytes: self.path_bytes.saturating_add(entry.path.len()),
-            names: self.names.saturating_add(entry.referenced.is_some() as usize),
+            names: self
+                .names
+                .saturating_add(entry.referenced.is_some() as usize),
             name_bytes: self.name_bytes.saturating_add(named),
         }
     }
@@ -163,7 +165,11 @@ impl Entries {
     }
 
     /// Keeps entries that others keep. A refusal, for want of memory, forgets none that was kept.
-    pub fn add_kept(&mut self, others: &Entries, numbers: &[EntryNumber]) -> Result<Vec<EntryNumber>, AllocError>
+    pub fn add_kept(
+        &mut self,
+        others: &Entries,
+        numbers: &[EntryNumber],
+    ) -> Result<Vec<EntryNumber>, AllocError>
         requires { AreKept others.now numbers.now }
 
         ensures keeps { Keeps self.old self.new }
@@ -183,7 +189,8 @@ impl Entries {
         ensures same { lent result ≡ entry_at self.now number }
         ensures short { HasShortPaths result }
     {
-        self.shared.lent(self.table.path(number), self.table.record(number))
+        self.shared
+            .lent(self.table.path(number), self.table.record(number))
     }
 
     /// The path of an entry.

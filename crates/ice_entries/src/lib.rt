@@ -11,4 +11,3 @@ mod spelling;
 mod table;
 
 pub use entries::{Entries, EntryNumber, Room};
-

@@ -13,12 +13,11 @@ returns-then-place-len-clause-ok c =
     let paths : c.intern.new.self ≡ ps ++ path ∷ [] = c.in_ok-id.ensures.new new in
     let records : c.push_reserved.new.self.items ≡ rs ++ own ∷ [] = c.push_reserved.ensures.items ∙ ap (λ (xs : List Record). xs ++ own ∷ []) c.reserve.ensures.items in
     let first =
-        (λ i. with_paths (paths i) (records i)) ∙ with_paths-push ps rs path own many
-        ∙ ap (λ (rows : Rows). rows.records ++ (path, own) ∷ []) c.self.view_is in
+    (λ i. with_paths (paths i) (records i)) ∙ with_paths-push ps rs path own many
+    ∙ ap (λ (rows : Rows). rows.records ++ (path, own) ∷ []) c.self.view_is in
     let further =
-        ap (λ (xs : List (List ℕ)). with_their_paths xs cs) paths ∙ with_their_paths-new ps path cs c.self.invariant.known
-        ∙ ap (λ (rows : Rows). rows.clashes) c.self.view_is in
-    (
+    ap (λ (xs : List (List ℕ)). with_their_paths xs cs) paths ∙ with_their_paths-new ps path cs c.self.invariant.known
+    ∙ ap (λ (rows : Rows). rows.clashes) c.self.view_is in (
       omega (arith, new, many, c.place-then-place-len.ensures, length-with_paths ps rs many, ap (λ (rows : Rows). length rows.records) c.self.view_is),
       λ i. record { records = first i; clashes = further i },
     )

@@ -21,7 +21,10 @@ returns-in-Record c =
     let t = c.self.inside in let n = c.in-Record.number in let many = c.self.invariant.as_many in
     let within = subst (IsIn c.args.self.now) c.in-Record.is c.requires in
     let lt : n < length t.records.items = omega (
-      arith, within, length-with_paths t.paths t.records.items many, ap (λ (rows : Rows). length rows.records) c.self.view_is
+      arith,
+      within,
+      length-with_paths t.paths t.records.items many,
+      ap (λ (rows : Rows). length rows.records) c.self.view_is,
     ) in
     c.index.ensures
     ∙ sym (ap (λ (row : List ℕ × Record). row.1) (with_paths-at t.paths t.records.items n c.index.result.now many lt))
