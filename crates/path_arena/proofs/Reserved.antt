@@ -1,6 +1,8 @@
 -- Strings for which room was made are taken in, one after another.
-use Rattle.std.proofs.Common.{◌≡◌, ◌≢◌, ℕ, zero, suc, ◌+◌, ◌<◌, ◌≤◌, ◌⊎◌, inl, inr, Bool, true, false, ◌||◌, if◌then◌else◌}
-use Rattle.std.proofs.Common.{List, [], ◌∷◌, ◌++◌, length, refl, sym, ap, ◌∙◌, subst, arith, append-nil, append_assoc, length-append}
+use Rattle.std.proofs.Common.{◌≡◌, ◌≢◌, ℕ, zero, suc, ◌+◌, ◌<◌, ◌≤◌, ◌⊎◌, inl, inr, Bool, true, false, ◌||◌}
+use Rattle.std.proofs.Common.{if◌then◌else◌}
+use Rattle.std.proofs.Common.{List, [], ◌∷◌, ◌++◌, length, refl, sym, ap, ◌∙◌, subst, arith, append-nil, append_assoc}
+use Rattle.std.proofs.Common.{length-append}
 use Rattle.std.specs.Prelude.{Result, Ok, Err, IsOk, OnOk}
 use Rattle.std.specs.List.{AllByRecursion}
 use Rattle.std.specs.Str.{bytes_eq}
@@ -29,7 +31,8 @@ has_yes : (ss : List (List ℕ)) (t : List ℕ) → has ss t ≡ true → Has ss
 has_yes [] t e = cc
 has_yes (s ∷ ss) t e = elim (either (bytes_eq s t)) [
   | inl same ↦ (0, omega arith, same_text s t (sym same))
-  | inr other ↦ let w = has_yes ss t (right_true (bytes_eq s t) (has ss t) other e) in (suc w.0, omega (arith, w.1), w.2)
+  | inr other ↦ let w = has_yes ss t (right_true (bytes_eq s t) (has ss t) other e) in
+      (suc w.0, omega (arith, w.1), w.2)
 ]
 
 has_no : (ss : List (List ℕ)) (t : List ℕ) → has ss t ≡ false → HasNot ss t
@@ -51,7 +54,8 @@ on_ok (Err e) p i = cc
 put_last : (ss : List (List ℕ)) (s : List ℕ) (ts : List (List ℕ)) → HasNot ss s → Interned ss s ts → ts ≡ ss ++ s ∷ []
 put_last ss s ts new w = elim w [ inl old ↦ absurd (new old.0.0 old.0.1 old.0.2) | inr last ↦ last.1 ]
 
-room_known : (a b : Kept) (s : List ℕ) (ss : List (List ℕ)) → b ≡ a → has a.strings s ≡ true → HasRoomFor a (s ∷ ss) → HasRoomFor b ss
+room_known : (a b : Kept) (s : List ℕ) (ss : List (List ℕ)) → b ≡ a → has a.strings s ≡ true → HasRoomFor a (s ∷ ss)
+    → HasRoomFor b ss
 room_known a b s ss same e w =
     let less = new_known a.strings s ss e in
     subst (λ k. HasRoomFor k ss) (sym same) (
@@ -61,7 +65,8 @@ room_known a b s ss same e w =
       w.3.1,
     )
 
-room_first : (a : Kept) (s : List ℕ) (ss : List (List ℕ)) → has a.strings s ≡ false → HasRoomFor a (s ∷ ss) → HasRoom a s
+room_first : (a : Kept) (s : List ℕ) (ss : List (List ℕ)) → has a.strings s ≡ false → HasRoomFor a (s ∷ ss)
+    → HasRoom a s
 room_first a s ss e w =
     let more = new_first a.strings s ss e in (
       omega (arith, w.0, ap length more),
@@ -82,7 +87,8 @@ room_rest a b s ss e last ids bytes w =
       w.3.1,
     )
 
-pub reserved : (a c : Kept) (ss : List (List ℕ)) (answers : List (Result ℕ ArenaFault)) → Run a ss answers c → HasRoomFor a ss
+pub reserved : (a c : Kept) (ss : List (List ℕ)) (answers : List (Result ℕ ArenaFault)) → Run a ss answers c
+    → HasRoomFor a ss
     → AllByRecursion IsOk answers × (c.strings ≡ a.strings ++ new_to a.strings ss)
 reserved a c [] [] run w = (tt, ap Kept.strings run ∙ sym (append-nil a.strings))
 reserved a c [] (answer ∷ answers) run w = absurd run
@@ -92,14 +98,18 @@ reserved a c (s ∷ ss) (answer ∷ answers) run w =
       | inl old ↦
           let known = step.1 (has_yes a.strings s old) in
           let rest = reserved b c ss answers run.2 (room_known a b s ss known.1 old w) in
-          let same = ap Kept.strings known.1 in
-          ((known.0, rest.0), rest.1 ∙ (λ i. same i ++ new_to (same i) ss) ∙ ap (λ l. a.strings ++ l) (sym (new_known a.strings s ss old)))
+          let same = ap Kept.strings known.1 in (
+            (known.0, rest.0),
+            rest.1 ∙ (λ i. same i ++ new_to (same i) ss)
+                ∙ ap (λ l. a.strings ++ l) (sym (new_known a.strings s ss old)),
+          )
       | inr new ↦
           let ok = step.2 (room_first a s ss new w) in
           let last = put_last a.strings s b.strings (has_no a.strings s new) (on_ok answer step.0 ok) in
           let rest = reserved b c ss answers run.2 (room_rest a b s ss new last step.3.0 step.3.1 w) in (
             (ok, rest.0),
-            rest.1 ∙ (λ i. last i ++ new_to (last i) ss) ∙ append_assoc a.strings (s ∷ []) (new_to (a.strings ++ s ∷ []) ss)
+            rest.1 ∙ (λ i. last i ++ new_to (last i) ss)
+                ∙ append_assoc a.strings (s ∷ []) (new_to (a.strings ++ s ∷ []) ss)
                 ∙ ap (λ l. a.strings ++ l) (sym (new_first a.strings s ss new)),
           )
     ]

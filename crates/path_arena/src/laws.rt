@@ -6,9 +6,9 @@ ghost use Rattle.path_arena.specs.declared.arena.ArenaFault.{ArenaFault};
 ghost use Rattle.path_arena.specs.Strings.{Kept};
 ghost use Rattle.path_arena.specs.Runs.{new_to, Run, HasRoomFor};
 
-/// After room was made for n strings of b bytes in all, strings can be interned one after another, known ones and new
-/// ones mixed, as long as at most n are new, these have at most b bytes in all, none is longer than 65,535 bytes and the
-/// numbers don't run out: each is taken in, and the new ones stand last in the order in which they came.
+/// After room was made for n strings of b bytes in all, strings are interned one after another, known ones and new ones
+/// mixed. As long as at most n are new, these have at most b bytes in all, none is longer than 65,535 bytes and the
+/// numbers don't run out, each is taken in, and the new ones stand last, in the order in which they came.
 pub fn reserved_interns_succeed()
     ensures succeed { (a b : Kept) (ss : List (List ℕ)) (answers : List (Result ℕ ArenaFault)) → Run a ss answers b →
         HasRoomFor a ss → AllByRecursion IsOk answers }
