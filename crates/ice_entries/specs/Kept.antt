@@ -1,5 +1,5 @@
 -- Entries that are kept, by their numbers: the first one of each path, and the further ones.
-use Rattle.std.specs.Prelude.{◌≡◌, ℕ, ◌+◌, ◌<◌, false, List, [], length, map, slice_index_or, None, pos}
+use Rattle.std.specs.Prelude.{◌≡◌, ◌≢◌, ℕ, ◌+◌, ◌<◌, false, List, [], length, map, slice_index_or, None, pos}
 use Rattle.std.specs.List.{AllByRecursion}
 use Rattle.ice_value.specs.declared.file_content.FileContent.TheVariants.{Data}
 use Rattle.ice_manifest_reading.specs.declared.entry.Entry.{Entry}
@@ -59,3 +59,9 @@ entries_at kept numbers = map (entry_at kept) numbers
 -- each number of the old ones stands for the same entry in the new ones
 abbrev pub Keeps : Kept → Kept → Type 0
 Keeps old new = (n : EntryNumber) → IsKept old n → IsKept new n × (entry_at new n ≡ entry_at old n)
+
+-- no two records have a path in common
+abbrev pub HasEachPathOnce : Kept → Type 0
+HasEachPathOnce kept =
+    (m n : ℕ) → m < n → n < length kept.records →
+    (entry_at kept (Record m)).file.path ≢ (entry_at kept (Record n)).file.path

@@ -3,9 +3,14 @@
 ghost use Rattle.std.specs.Prelude.{◌≡◌, length, IfOk};
 ghost use Rattle.ice_manifest_reading.specs.Lending.{lent, HasShortPaths};
 ghost use Rattle.ice_entries.specs.Kept.{nothing_kept, IsKept, AreKept, entry_at, entries_at, count, Keeps};
+ghost use Rattle.ice_entries.specs.Kept.{HasEachPathOnce};
 
+use crate::record::Shared;
+use crate::table::Table;
 use ice_manifest_reading::{EntryView, LentEntry};
 use std::alloc::{AllocError, Global};
+use std::fmt;
+use std::fmt::{Debug, Formatter};
 use std::marker::Model;
 
 /// The number of an entry that is kept.
@@ -21,28 +26,72 @@ pub enum EntryNumber {
 #[derive(Clone, Copy, Debug)]
 pub struct Room {
     entries: usize,
+    /// All bytes of the entries' paths.
+    path_bytes: usize,
+    /// The paths that position deletes name, and all their bytes.
+    names: usize,
+    name_bytes: usize,
 }
 
 impl Room {
     /// For nothing.
     pub fn none() -> Room {
-        Room { entries: 0 }
+        Room {
+            entries: 0,
+            path_bytes: 0,
+            names: 0,
+            name_bytes: 0,
+        }
+    }
+
+    /// For one more entry. Where more is asked than there can be, there is no more to ask for.
+    fn with(self, entry: &LentEntry<'_>) -> Room {
+        let named = entry.referenced.map_or(0, |path| path.len());
+        Room {
+            entries: self.entries.saturating_add(1),
+            path_bytes: self.path_bytes.saturating_add(entry.path.len()),
+            names: self
+                .names
+                .saturating_add(entry.referenced.is_some() as usize),
+            name_bytes: self.name_bytes.saturating_add(named),
+        }
     }
 }
 
 /// Entries that are kept, each under a number that stands for no other. Each path stands once, and so does what else
 /// is the same in many of them.
-#[derive(Debug, Drop)]
+#[derive(Drop)]
 pub struct Entries {
     alloc: Global,
+    shared: Shared,
+    table: Table,
 }
 
 impl Model for Entries {
-    ghost use Rattle.ice_entries.specs.Kept.{Kept, nothing_kept};
+    ghost use Rattle.ice_entries.specs.Kept.{Kept};
+    ghost use Rattle.ice_entries.specs.Keeping.{kept_of, HasAllOf};
 
     ghost Value = { Kept };
 
-    ghost view = { λ e. nothing_kept };
+    ghost view = { λ e. kept_of e.shared e.table };
+
+    ghost invariant = { λ e. HasAllOf e.shared e.table };
+}
+
+/// How many there are.
+impl Debug for Entries {
+    fn fmt<W: fmt::Write>(&self, f: &mut Formatter<W>) -> fmt::Result {
+        f.debug_struct("Entries").field("len", &self.len()).finish()
+    }
+}
+
+/// The room that entries of a manifest take.
+fn room_of(views: &[EntryView<'_>]) -> Room {
+    let mut room = Room::none();
+    for view in views {
+        room = room.with(&view.lent());
+    }
+    room
 }
 
 impl Entries {
@@ -50,14 +99,36 @@ impl Entries {
     pub fn new(alloc: Global) -> Entries
         ensures { result ≡ nothing_kept }
     {
-        Entries { alloc }
+        Entries {
+            alloc,
+            shared: Shared::new(alloc),
+            table: Table::new(alloc),
+        }
     }
 
     /// How many there are.
     pub fn len(&self) -> usize
         ensures { result ≡ count self.now }
     {
-        0
+        self.table.len()
+    }
+
+    /// No two records have a path in common.
+    pub fn has_each_path_once(&self)
+        ensures { HasEachPathOnce self.now }
+    {
+        let _ = self.table.len();
+    }
+
+    /// Keeps an entry, as a clash if its path is known.
+    fn add(&mut self, entry: &LentEntry<'_>) -> Result<EntryNumber, AllocError>
+        requires { HasShortPaths entry.now }
+        ensures keeps { Keeps self.old self.new }
+        ensures kept { IfOk result (λ number. IsKept self.new number) }
+        ensures ok { IfOk result (λ number. entry_at self.new number ≡ lent entry.now) }
+    {
+        let record = self.shared.record_of(self.alloc, entry)?;
+        self.table.put(entry.path, record)
     }
 
     /// Keeps entries of a manifest. A refusal, for want of memory, forgets none that was kept.
@@ -66,23 +137,30 @@ impl Entries {
         ensures kept { IfOk result (λ numbers. AreKept self.new numbers.items) }
         ensures ok { IfOk result (λ numbers. entries_at self.new numbers.items ≡ views.now) }
     {
-        let _ = views;
-        Err(AllocError)
+        self.reserve(room_of(views))?;
+        let mut numbers = Vec::with_capacity(self.alloc, views.len())?;
+        'views: for view in views {
+            numbers.push(self.add(&view.lent())?)?;
+        }
+        Ok(numbers)
     }
 
     /// Makes room. A refusal, for want of memory, forgets nothing.
     pub fn reserve(&mut self, room: Room) -> Result<(), AllocError>
         ensures { self.new ≡ self.old }
     {
-        let _ = room;
-        Ok(())
+        self.shared.names.reserve(room.names, room.name_bytes)?;
+        self.table.reserve(room.entries, room.path_bytes)
     }
 
     /// The room, and that which these entries take.
     pub fn room_with(&self, numbers: &[EntryNumber], room: Room) -> Room
         requires { AreKept self.now numbers.now }
     {
-        let _ = numbers;
+        let mut room = room;
+        for number in numbers {
+            room = room.with(&self.entry(*number));
+        }
         room
     }
 
@@ -98,8 +176,11 @@ impl Entries {
         ensures kept { IfOk result (λ added. AreKept self.new added.items) }
         ensures ok { IfOk result (λ added. entries_at self.new added.items ≡ entries_at others.now numbers.now) }
     {
-        let _ = (others, numbers);
-        Err(AllocError)
+        let mut added = Vec::with_capacity(self.alloc, numbers.len())?;
+        'numbers: for number in numbers {
+            added.push(self.add(&others.entry(*number))?)?;
+        }
+        Ok(added)
     }
 
     /// The entry of a number.
@@ -108,7 +189,8 @@ impl Entries {
         ensures same { lent result ≡ entry_at self.now number }
         ensures short { HasShortPaths result }
     {
-        unreachable!()
+        self.shared
+            .lent(self.table.path(number), self.table.record(number))
     }
 
     /// The path of an entry.
@@ -116,13 +198,17 @@ impl Entries {
         requires { IsKept self.now number }
         ensures { result.now ≡ (entry_at self.now number).file.path }
     {
-        unreachable!()
+        self.table.path(number)
     }
 
     /// The same entries by the same numbers.
     pub fn copy(&self, alloc: Global) -> Result<Entries, AllocError>
         ensures { IfOk result (λ copied. copied ≡ self.now) }
     {
-        Err(AllocError)
+        Ok(Entries {
+            alloc: self.alloc,
+            shared: self.shared.copy(self.alloc)?,
+            table: self.table.copy(self.alloc)?,
+        })
     }
 }

@@ -1,0 +1,12 @@
+-- What an entry has of its own, and the numbers of what it shares.
+use Rattle.std.specs.Prelude.{ℕ, ℤ, Option}
+
+pub record Own : Type 0 where
+  pub position : ℕ
+  pub snapshot_id : ℤ
+  pub sequence_number : ℕ
+  pub file_sequence_number : Option ℕ
+  pub record_count : ℤ
+  pub file_size : ℤ
+  pub common : ℕ
+  pub referenced : Option ℕ

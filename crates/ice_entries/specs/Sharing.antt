@@ -1,0 +1,43 @@
+-- What entries share: what many have in common, and the paths that position deletes name.
+use Rattle.std.specs.Prelude.{ℕ, ◌<◌, List, length, IfSome}
+use Rattle.std.specs.List.{AllByRecursion}
+use Rattle.std.specs.Option.{option_map}
+use Rattle.path_arena.specs.Arena.{string, KeepsNumbers}
+use Rattle.ice_manifest_reading.specs.declared.entry.Entry.{Entry}
+use Rattle.ice_entries.specs.declared.record.Record.{Record}
+use Rattle.ice_entries.specs.declared.record.Shared.{Shared}
+use Rattle.ice_entries.specs.InCommon.{common_at, KeepsCommons}
+
+-- the entry of a path and a record
+abbrev pub entry_in : Shared → List ℕ × Record → Entry
+entry_in shared row =
+    let common = common_at shared.commons row.1.common in
+    record {
+      position = row.1.position;
+      spec_id = common.spec_id;
+      unpartitioned = common.unpartitioned;
+      snapshot_id = row.1.snapshot_id;
+      sequence_number = row.1.sequence_number;
+      file_sequence_number = row.1.file_sequence_number;
+      file = record {
+        content = common.content;
+        path = row.0;
+        tuple = common.tuple;
+        record_count = row.1.record_count;
+        file_size = row.1.file_size;
+        equality_ids = common.equality_ids;
+        referenced = option_map (string shared.names) row.1.referenced;
+      };
+    }
+
+-- what a record shares is there
+abbrev pub IsWithin : Shared → Record → Type 0
+IsWithin shared r = (r.common < length shared.commons) × IfSome r.referenced (λ n. n < length shared.names)
+
+abbrev pub AreWithin : Shared → List (List ℕ × Record) → Type 0
+AreWithin shared rows = AllByRecursion (λ row. IsWithin shared row.1) rows
+
+-- each number stands for the same as before
+pub record KeepsShared (old new : Shared) : Type 0 where
+  pub commons : KeepsCommons old.commons new.commons
+  pub names : KeepsNumbers old.names new.names

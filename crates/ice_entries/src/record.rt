@@ -1,0 +1,159 @@
+//! What each entry has of its own, and what it shares.
+
+ghost use Rattle.std.specs.Prelude.{◌≡◌, ◌<◌, ◌≤◌, length, IfOk, IfSome};
+ghost use Rattle.std.specs.Option.{option_copied, option_map};
+ghost use Rattle.path_arena.specs.Arena.{string, KeepsNumbers};
+ghost use Rattle.ice_manifest_reading.specs.Lending.{lent, HasShortPaths};
+ghost use Rattle.ice_entries.specs.Sharing.{entry_in, IsWithin, KeepsShared};
+
+use crate::common::LentCommon;
+use crate::commons::Commons;
+use crate::paths::Paths;
+use ice_manifest_reading::LentEntry;
+use ice_value::SequenceNumber;
+use path_arena::PathId;
+use std::alloc::{AllocError, Global};
+use std::marker::Model;
+
+/// An entry but for its path: what it has of its own, and the numbers of what it shares. It owns nothing.
+#[derive(Clone, Copy)]
+pub(crate) struct Record {
+    position: u64,
+    snapshot_id: i64,
+    sequence_number: SequenceNumber,
+    file_sequence_number: Option<SequenceNumber>,
+    record_count: i64,
+    file_size: i64,
+    common: u32,
+    referenced: Option<PathId>,
+}
+
+impl Model for Record {
+    ghost use Rattle.ice_entries.specs.Own.{Own};
+
+    ghost Value = { Own };
+
+    ghost view = { λ r. record {
+      position = r.position;
+      snapshot_id = r.snapshot_id;
+      sequence_number = r.sequence_number;
+      file_sequence_number = r.file_sequence_number;
+      record_count = r.record_count;
+      file_size = r.file_size;
+      common = r.common;
+      referenced = r.referenced;
+    } };
+
+    ghost inverse = { λ r. record {
+      position = r.position;
+      snapshot_id = r.snapshot_id;
+      sequence_number = r.sequence_number;
+      file_sequence_number = r.file_sequence_number;
+      record_count = r.record_count;
+      file_size = r.file_size;
+      common = r.common;
+      referenced = r.referenced;
+    } };
+}
+
+/// What entries share: what they have in common, and the paths that position deletes name.
+#[derive(Drop)]
+pub(crate) struct Shared {
+    pub(crate) commons: Commons,
+    pub(crate) names: Paths,
+}
+
+impl Shared {
+    /// Nothing yet.
+    pub(crate) fn new(alloc: Global) -> Shared {
+        Shared {
+            commons: Commons::new(alloc),
+            names: Paths::new(alloc),
+        }
+    }
+
+    /// The record of an entry. What there was keeps its numbers, also where memory is refused.
+    pub(crate) fn record_of(
+        &mut self,
+        alloc: Global,
+        entry: &LentEntry<'_>,
+    ) -> Result<Record, AllocError>
+        requires { HasShortPaths entry.now }
+        ensures keeps { KeepsShared self.old self.new }
+        ensures ok { IfOk result (λ own. IsWithin self.new own ×
+            (entry_in self.new (entry.now.path.now, own) ≡ lent entry.now)) }
+    {
+        let common = self.commons.number(alloc, &LentCommon::new(entry))?;
+        let referenced = named(&mut self.names, entry.referenced)?;
+        Ok(Record {
+            position: entry.position,
+            snapshot_id: entry.snapshot_id,
+            sequence_number: entry.sequence_number,
+            file_sequence_number: entry.file_sequence_number,
+            record_count: entry.record_count,
+            file_size: entry.file_size,
+            common,
+            referenced,
+        })
+    }
+
+    /// The entry of a path and a record.
+    pub(crate) fn lent<'a>(&'a self, path: &'a [u8], own: &Record) -> LentEntry<'a>
+        requires within { IsWithin self.now own.now }
+        requires short { length path.now ≤ 65535 }
+        ensures same { lent result ≡ entry_in self.now (path.now, own.now) }
+        ensures short { HasShortPaths result }
+    {
+        let common = self.commons.get(own.common);
+        LentEntry {
+            position: own.position,
+            spec_id: common.spec_id,
+            unpartitioned: common.unpartitioned,
+            snapshot_id: own.snapshot_id,
+            sequence_number: own.sequence_number,
+            file_sequence_number: own.file_sequence_number,
+            content: common.content,
+            path,
+            tuple: common.tuple.as_slice(),
+            record_count: own.record_count,
+            file_size: own.file_size,
+            equality_ids: common.equality_ids.as_slice(),
+            referenced: path_of(&self.names, own.referenced),
+        }
+    }
+
+    /// The same by the same numbers.
+    pub(crate) fn copy(&self, alloc: Global) -> Result<Shared, AllocError>
+        ensures { IfOk result (λ copied. copied ≡ self.now) }
+    {
+        Ok(Shared {
+            commons: self.commons.copy(alloc)?,
+            names: self.names.copy(alloc)?,
+        })
+    }
+}
+
+/// The number of a path, if there is one.
+fn named(names: &mut Paths, path: Option<&[u8]>) -> Result<Option<PathId>, AllocError>
+    requires { IfSome path (λ path. length path.now ≤ 65535) }
+    ensures keeps { KeepsNumbers names.old names.new }
+    ensures ok { IfOk result (λ name. IfSome name (λ id. id < length names.new) ×
+        (option_map (string names.new) name ≡ option_copied path.entry)) }
+{
+    match path {
+        Some(path) => Ok(Some(names.intern(path)?)),
+        None => Ok(None),
+    }
+}
+
+/// The path of a number, if there is one.
+fn path_of(names: &Paths, name: Option<PathId>) -> Option<&[u8]>
+    requires { IfSome name (λ id. id < length names.now) }
+    ensures same { option_copied result ≡ option_map (string names.now) name }
+    ensures short { IfSome result (λ path. length path.now ≤ 65535) }
+{
+    match name {
+        Some(id) => Some(names.get(id)),
+        None => None,
+    }
+}
