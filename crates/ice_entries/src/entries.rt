@@ -206,9 +206,9 @@ impl Entries {
         ensures { IfOk result (λ copied. copied ≡ self.now) }
     {
         Ok(Entries {
-            alloc: self.alloc,
-            shared: self.shared.copy(self.alloc)?,
-            table: self.table.copy(self.alloc)?,
+            alloc,
+            shared: self.shared.copy(alloc)?,
+            table: self.table.copy(alloc)?,
         })
     }
 }

@@ -8,7 +8,7 @@ use Rattle.ice_state.specs.Parts.{with_row, gain_of, gains, is_gain, IsApart, Ar
 use Rattle.ice_state.specs.Scans.{Scanned}
 use Rattle.ice_state.proofs.Joins.{join-comm, join-content}
 
-join-nil : (cs : Content) → join cs [] ≡ cs
+pub join-nil : (cs : Content) → join cs [] ≡ cs
 join-nil [] = refl
 join-nil (c ∷ cs) = refl
 
@@ -115,6 +115,14 @@ gains-step (x ∷ xs) [] i c d l m h k = absurd (omega arith)
 gains-step (x ∷ xs) (y ∷ ys) zero c d l m h k = rw (h, k) refl
 gains-step (x ∷ xs) (y ∷ ys) (suc i) c d l m h k = gains-step xs ys i c d (omega arith) (omega arith) h k
 
+pub behind-nothing : {X : Type 0} (xs ys : List X) → ys ≡ [] → xs ++ ys ≡ xs
+behind-nothing [] ys none = none
+behind-nothing (x ∷ xs) ys none = ap (λ zs. x ∷ zs) (behind-nothing xs ys none)
+
+pub nothing-before : {X : Type 0} (ds es : List X) → es ≡ ds ++ [] → length ds ≡ 0 → es ≡ []
+nothing-before [] es h l = h
+nothing-before (d ∷ ds) es h l = absurd (omega arith)
+
 pub gains-end : (cs ds : Content) (i : ℕ) → length cs ≤ i → gains (drop i cs) ds ≡ []
 gains-end [] ds zero l = refl
 gains-end [] ds (suc i) l = refl
@@ -137,10 +145,10 @@ apart_here (Some r) (Some q) h = cc
 pub apart-step : (cs ds : Content) (i : ℕ) (c d : Option Reading) → i < length cs → i < length ds → c ≡ get_or cs i c
     → d ≡ get_or ds i d → (is_some c && is_some d) ≡ false → AreApart (drop (suc i) cs) (drop (suc i) ds)
     → AreApart (drop i cs) (drop i ds)
-apart-step [] ds i c d l m h k no rest = absurd (omega arith)
-apart-step (x ∷ xs) [] i c d l m h k no rest = absurd (omega arith)
-apart-step (x ∷ xs) (y ∷ ys) zero c d l m h k no rest = (apart_here x y (rw (← h, ← k) no), rest)
-apart-step (x ∷ xs) (y ∷ ys) (suc i) c d l m h k no rest = apart-step xs ys i c d (omega arith) (omega arith) h k no rest
+apart-step [] ds i c d l m h k apart rest = absurd (omega arith)
+apart-step (x ∷ xs) [] i c d l m h k apart rest = absurd (omega arith)
+apart-step (x ∷ xs) (y ∷ ys) zero c d l m h k apart rest = (apart_here x y (rw (← h, ← k) apart), rest)
+apart-step (x ∷ xs) (y ∷ ys) (suc i) c d l m h k apart rest = apart-step xs ys i c d (omega arith) (omega arith) h k apart rest
 
 pub apart-end : (cs ds : Content) (i : ℕ) → length cs ≤ i → AreApart (drop i cs) ds
 apart-end [] ds zero l = tt

@@ -13,12 +13,13 @@ pub mod Named
 pub mod OfSpecs
 pub mod Outcomes
 pub mod Places
+pub mod Planning
 pub mod Pruned
 pub mod Runs
 pub mod Scanning
 pub mod Scans
 pub mod Sharing
-pub mod Slots
+pub mod SlotContents
 pub mod Snapshots
 pub mod Specs
 pub mod Unfiltered

@@ -3,9 +3,9 @@ use Rattle.std.specs.Prelude.{◌≡◌, ℕ, ◌<◌, zero, suc, List, [], ◌�
 use Rattle.std.specs.List.{flat_map, AllByRecursion}
 use Rattle.ice_manifest_reading.specs.declared.entry.Entry.{Entry}
 use Rattle.ice_entries.specs.Kept.{Kept, AreKept, entries_at as kept_at}
-use Rattle.ice_entries.specs.declared.entries.EntryNumber.{EntryNumber}
 use Rattle.ice_state.specs.declared.lines.Files.{Files}
 use Rattle.ice_state.specs.declared.lines.Places.{Places}
+use Rattle.ice_state.specs.declared.plan.NumberedPlan.{NumberedPlan}
 
 -- a data file, and by path the position delete files and the equality delete files that apply to it
 pub record OwnedLine : Type 0 where
@@ -55,11 +55,11 @@ pub record AreLinesOf (files deletes : List Entry) (places : List Places) : Type
   pub each : length places ≡ length files
   pub within : AllByRecursion (IsLineWithin (length deletes)) places
 
--- lines by the numbers of the entries
-abbrev pub lines_of : Kept → List EntryNumber → List EntryNumber → List Places → List OwnedLine
-lines_of kept deletes files places = lines_at (kept_at kept deletes) (kept_at kept files) places
+-- the lines of a plan by numbers
+abbrev pub lines_of : Kept → NumberedPlan → List OwnedLine
+lines_of kept plan = lines_at (kept_at kept plan.deletes.items) (kept_at kept plan.files.items) plan.places.items
 
-pub record ArePlanned (kept : Kept) (deletes files : List EntryNumber) (places : List Places) : Type 0 where
-  pub files : AreKept kept files
-  pub deletes : AreKept kept deletes
-  pub lines : AreLinesOf (kept_at kept files) (kept_at kept deletes) places
+pub record IsPlanned (kept : Kept) (plan : NumberedPlan) : Type 0 where
+  pub files : AreKept kept plan.files.items
+  pub deletes : AreKept kept plan.deletes.items
+  pub lines : AreLinesOf (kept_at kept plan.files.items) (kept_at kept plan.deletes.items) plan.places.items

@@ -19,8 +19,8 @@ use ice_manifest_reading::LentEntry;
 use std::alloc::{AllocError, Global};
 
 /// What the index is told of a delete file.
-fn record(d: LentEntry<'_>) -> Record<'_>
-    ensures { record_key result ≡ delete_key_of (lent_entry d) }
+fn record<'a>(d: &LentEntry<'a>) -> Record<'a>
+    ensures { record_key result ≡ delete_key_of (lent_entry d.now) }
 {
     Record {
         content: d.content,
@@ -44,20 +44,20 @@ pub fn records<'a>(
 {
     let mut records = Vec::with_capacity(alloc, deletes.len())?;
     'deletes: for d in deletes {
-        records.push(record(entries.entry(*d)))?;
+        records.push(record(&entries.entry(*d)))?;
     }
     Ok(records)
 }
 
 /// The numbers of the delete files that apply to the data file.
-fn deletes_for<'i>(index: &'i DeleteIndex, x: LentEntry<'_>) -> Hits<'i>
-    ensures positions { IsPermutation (numbers_of PositionDeletes index.now (data_key_of (lent_entry x)))
+fn deletes_for<'i>(index: &'i DeleteIndex, x: &LentEntry<'_>) -> Hits<'i>
+    ensures positions { IsPermutation (numbers_of PositionDeletes index.now (data_key_of (lent_entry x.now)))
         (result.positions.now ++ result.referenced.now) }
-    ensures equalities { IsPermutation (numbers_of EqualityDeletes index.now (data_key_of (lent_entry x)))
+    ensures equalities { IsPermutation (numbers_of EqualityDeletes index.now (data_key_of (lent_entry x.now)))
         (result.equalities.now ++ result.everywhere.now) }
 
     // Exactly those, each once.
-    ensures exact { (n : ℕ) → Contains (lent result) n ↔ AppliesAt index.now (data_key_of (lent_entry x)) n }
+    ensures exact { (n : ℕ) → Contains (lent result) n ↔ AppliesAt index.now (data_key_of (lent_entry x.now)) n }
     ensures once { (n : ℕ) → count_by (λ m. m == n) (lent result) ≤ 1 }
 {
     index.for_data(x.spec_id, x.tuple, x.sequence_number, x.path)
@@ -79,9 +79,9 @@ fn in_order(alloc: Global, numbers: &[usize], others: &[usize]) -> Result<Items<
 pub fn places_for(
     alloc: Global,
     index: &DeleteIndex,
-    x: LentEntry<'_>,
+    x: &LentEntry<'_>,
 ) -> Result<Places, AllocError>
-    ensures { IfOk result (λ places. places ≡ places_of index.now (data_key_of (lent_entry x))) }
+    ensures { IfOk result (λ places. places ≡ places_of index.now (data_key_of (lent_entry x.now))) }
 {
     let hits = deletes_for(index, x);
     Ok(Places {

@@ -1,12 +1,14 @@
 //! The plan of a content, or its first fault.
 
 ghost use Rattle.std.specs.Prelude.{◌≡◌, [], ◌++◌, length, map, IfOk, OnOk, MatchResult, filter};
+ghost use Rattle.std.specs.Prelude.{option_map};
 ghost use Rattle.std.specs.List.{enumerate_from};
 ghost use Rattle.std.specs.Option.{option_copied};
 ghost use Rattle.contract_words.specs.Outcome.{Gives};
 ghost use Rattle.ice_entries.specs.Kept.{Kept, AreKept, entries_at};
 ghost use Rattle.ice_value.specs.declared.file_content.FileContent.TheVariants.{Data};
 ghost use Rattle.ice_state.specs.Applying.{data_key_of, delete_key_of};
+ghost use Rattle.ice_state.specs.Lines.{lines_of, IsPlanned};
 ghost use Rattle.ice_state.specs.Named.{entry_named, IsNamed, AreNamed, entries_named};
 ghost use Rattle.ice_state.specs.Outcomes.{missing, bad, twice, kept_in, by_path, plan_over, outcome_of};
 ghost use Rattle.ice_state.specs.Parts.{fault_of, Stops, holds_deletes, places_of};
@@ -16,7 +18,7 @@ ghost use Rattle.ice_state.specs.Slots.{contents, given, HaveNumbers};
 use crate::deletes::{places_for, records};
 use crate::fault::FinishFault;
 use crate::lines::Places;
-use crate::plan::Plan;
+use crate::plan::NumberedPlan;
 use crate::taken::Taken;
 use contract_words::Items;
 use ice_deletes::DeleteIndex;
@@ -154,7 +156,7 @@ fn data_files(
 ) -> Result<Vec<EntryNumber>, AllocError>
     requires { AreNamed entries.now named.now }
     ensures kept { IfOk result (λ found. AreKept entries.now found.items) }
-    ensures data { IfOk result (λ found. entries_at entries.now found.items
+    ensures all { IfOk result (λ found. entries_at entries.now found.items
         ≡ filter (holds Data) (entries_named entries.now named.now)) }
 {
     let mut found = Vec::new(alloc);
@@ -174,7 +176,7 @@ fn delete_files(
 ) -> Result<Vec<EntryNumber>, AllocError>
     requires { AreNamed entries.now named.now }
     ensures kept { IfOk result (λ found. AreKept entries.now found.items) }
-    ensures deletes { IfOk result (λ found. entries_at entries.now found.items
+    ensures all { IfOk result (λ found. entries_at entries.now found.items
         ≡ filter holds_deletes (entries_named entries.now named.now)) }
 {
     let mut found = Vec::new(alloc);
@@ -217,26 +219,26 @@ fn looked_up(
 {
     let mut places = Vec::with_capacity(alloc, files.len())?;
     'files: for file in files {
-        places.push(places_for(alloc, index, entries.entry(*file))?)?;
+        places.push(places_for(alloc, index, &entries.entry(*file))?)?;
     }
     Ok(places)
 }
 
 /// A line for each data file.
-fn planned<'a>(
+fn planned(
     alloc: Global,
-    entries: &'a Entries,
+    entries: &Entries,
     named: &[Named<'_>],
-) -> Result<Plan<'a>, AllocError>
+) -> Result<NumberedPlan, AllocError>
     requires { AreNamed entries.now named.now }
-    ensures { IfOk result (λ plan. plan
+    ensures planned { IfOk result (IsPlanned entries.now) }
+    ensures lines { IfOk result (λ plan. lines_of entries.now plan
         ≡ plan_over (entries_named entries.now named.now) (entries_named entries.now named.now)) }
 {
     let files = data_files(alloc, entries, named)?;
     let deletes = delete_files(alloc, entries, named)?;
     let places = lines(alloc, entries, &files, &deletes)?;
-    Ok(Plan {
-        entries,
+    Ok(NumberedPlan {
         files,
         deletes,
         places,
@@ -244,15 +246,16 @@ fn planned<'a>(
 }
 
 /// The plan of slots, or their first fault.
-pub fn plan_or_fault<'a>(
+pub fn plan_or_fault(
     alloc: Global,
     rows: &[Row],
-    entries: &'a Entries,
+    entries: &Entries,
     slots: &[Option<Taken>],
-) -> Result<Plan<'a>, FinishFault>
+) -> Result<NumberedPlan, FinishFault>
     requires each { length rows.now ≡ length slots.now }
     requires numbers { HaveNumbers entries.now slots.now }
-    ensures { Gives FinishFault.Memory (λ plan. plan) result
+    ensures planned { IfOk result (IsPlanned entries.now) }
+    ensures outcome { Gives FinishFault.Memory (lines_of entries.now) result
         (outcome_of rows.now (contents entries.now slots.now)) }
 {
     check_taken(alloc, rows, slots)?;

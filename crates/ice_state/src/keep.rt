@@ -3,8 +3,9 @@
 ghost use Rattle.std.specs.Prelude.{◌≡◌, IfOk};
 
 use crate::lines::Places;
-use crate::plan::{OwnedPlan, Plan};
+use crate::plan::{NumberedPlan, OwnedPlan, Plan};
 use contract_words::Items;
+use ice_entries::EntryNumber;
 use std::alloc::{AllocError, Global};
 
 impl<'a> Plan<'a> {
@@ -14,11 +15,30 @@ impl<'a> Plan<'a> {
     {
         Ok(OwnedPlan {
             entries: self.entries.copy(alloc)?,
-            files: self.files.to_vec(alloc)?,
-            deletes: self.deletes.to_vec(alloc)?,
+            numbered: self.numbered.copy(alloc)?,
+        })
+    }
+}
+
+impl NumberedPlan {
+    /// The same plan.
+    fn copy(&self, alloc: Global) -> Result<NumberedPlan, AllocError>
+        ensures files { IfOk result (λ plan. plan.files.items ≡ self.now.files.items) }
+        ensures deletes { IfOk result (λ plan. plan.deletes.items ≡ self.now.deletes.items) }
+        ensures places { IfOk result (λ plan. plan.places.items ≡ self.now.places.items) }
+    {
+        Ok(NumberedPlan {
+            files: copied_entries(alloc, &self.files)?,
+            deletes: copied_entries(alloc, &self.deletes)?,
             places: copied_places(alloc, &self.places)?,
         })
     }
+}
+
+fn copied_entries(alloc: Global, numbers: &[EntryNumber]) -> Result<Vec<EntryNumber>, AllocError>
+    ensures { IfOk result (λ copied. copied.items ≡ numbers.now) }
+{
+    numbers.to_vec(alloc)
 }
 
 fn copied_places(alloc: Global, lines: &[Places]) -> Result<Vec<Places>, AllocError>

@@ -1,6 +1,6 @@
 //! What a merge adds to slots.
 
-ghost use Rattle.std.specs.Prelude.{◌≡◌, ◌≤◌, ◌↔◌, length, IfOk, IfSome, IsTrue, option_map};
+ghost use Rattle.std.specs.Prelude.{◌≡◌, ◌↔◌, ◌&&◌, is_some, length, IfOk, IfSome, IsTrue, option_map};
 ghost use Rattle.ice_entries.specs.Kept.{Kept, Keeps};
 ghost use Rattle.ice_state.specs.Joins.{TookAllOf};
 ghost use Rattle.ice_state.specs.Parts.{AreApart, gain_of, gains, is_gain};
@@ -31,11 +31,18 @@ pub fn are_apart(slots: &[Option<Taken>], other: &[Option<Taken>]) -> bool
     ensures { (kept others : Kept) → IsTrue result → AreApart (contents kept slots.now) (contents others other.now) }
 {
     for i in 0..slots.len() {
-        if slots[i].is_some() && other[i].is_some() {
+        if are_taken(&slots[i], &other[i]) {
             return false;
         }
     }
     true
+}
+
+/// Whether a row was taken in both slots.
+fn are_taken(slot: &Option<Taken>, other: &Option<Taken>) -> bool
+    ensures { result ≡ (is_some slot.now && is_some other.now) }
+{
+    slot.is_some() && other.is_some()
 }
 
 /// Whether a row that isn't taken in the first slot was taken in the other.

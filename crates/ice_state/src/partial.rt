@@ -26,7 +26,6 @@ use crate::taken::{Taken, take_manifest};
 use ice_entries::Entries;
 use std::alloc::{AllocError, Global};
 use std::marker::Model;
-use std::mem;
 
 /// What the wanted rows gave that were taken: of each the numbers of its kept entries, which are kept together.
 #[derive(Debug, Drop)]
@@ -152,15 +151,28 @@ impl Partial {
             other ≡ content world scan us →
             OnOk result (self.new ≡ content world scan (either ts us)) }
     {
-        if !self.is_outgrown_by(&other) {
-            return self.merge(&other);
+        if self.is_outgrown_by(&other) {
+            return self.grow_into(other);
         }
-        mem::swap(self, &mut other);
-        let merged = self.merge(&other);
-        if merged.is_err() {
-            mem::swap(self, &mut other);
-        }
-        merged
+        self.merge(&other)
+    }
+
+    /// Merges this into the other, which then stands in its place.
+    fn grow_into(&mut self, mut other: Partial) -> Result<(), AllocError>
+        requires same { length self.old ≡ length other }
+        requires apart { AreApart self.old other }
+
+        ensures of_scan { (scan : Scanned) → IsOf scan self.old → IsOf scan self.new }
+        ensures ok { OnOk result (self.new ≡ join self.old other) }
+        ensures err { OnErr result (self.new ≡ self.old) }
+        ensures world { (world : World) (scan : Scanned) (ts us : List Bool) →
+            self.old ≡ content world scan ts →
+            other ≡ content world scan us →
+            OnOk result (self.new ≡ content world scan (either ts us)) }
+    {
+        other.merge(self)?;
+        *self = other;
+        Ok(())
     }
 
     /// Whether the other has more entries, and took none of the rows that were taken here.
@@ -169,9 +181,13 @@ impl Partial {
 
         ensures { IsTrue result → AreApart self.now other.now × (TookAllOf self.now other.now → ⊥) }
     {
-        self.entries.len() < other.entries.len()
-            && are_apart(&self.slots, &other.slots)
-            && !has_taken_all_of(&self.slots, &other.slots)
+        if self.entries.len() >= other.entries.len() {
+            return false;
+        }
+        if has_taken_all_of(&self.slots, &other.slots) {
+            return false;
+        }
+        are_apart(&self.slots, &other.slots)
     }
 
     /// The plan, or what keeps the content from being one.
@@ -190,7 +206,11 @@ impl Partial {
             (plan_of_snapshot (pruner_of scan.now.filter specs) world specs rows) }
     {
         filtering();
-        plan_or_fault(self.alloc, scan.wanted(), &self.entries, &self.slots)
+        let numbered = plan_or_fault(self.alloc, scan.wanted(), &self.entries, &self.slots)?;
+        Ok(Plan {
+            entries: &self.entries,
+            numbered,
+        })
     }
 
     /// The plan that `finish` gives, which takes the state's files over and copies none.
@@ -206,17 +226,11 @@ impl Partial {
             Gives FinishFault.Memory (λ plan. plan) result
             (plan_of_snapshot (pruner_of scan.now.filter specs) world specs rows) }
     {
-        let Plan {
-            entries: _,
-            files,
-            deletes,
-            places,
-        } = self.finish(scan)?;
+        filtering();
+        let numbered = plan_or_fault(self.alloc, scan.wanted(), &self.entries, &self.slots)?;
         Ok(OwnedPlan {
             entries: self.entries,
-            files,
-            deletes,
-            places,
+            numbered,
         })
     }
 }

@@ -1,44 +1,33 @@
 //! Plans: lent from a state, or owned.
 
 ghost use Rattle.std.specs.Prelude.{◌≡◌};
+ghost use Rattle.ice_state.specs.Lines.{lines_of, IsPlanned};
 
 use crate::lines::{Files, Lines, Places};
 use ice_entries::{Entries, EntryNumber};
 use std::marker::Model;
 
-/// The data files that a scan has to read, by path, each with the delete files that apply to it. It is lent from the
-/// state that it was finished from.
+/// A plan by the numbers of its entries: the data files, the delete files, and which of these apply to each of those.
 #[derive(Debug, Drop)]
-pub struct Plan<'a> {
-    pub(crate) entries: &'a Entries,
+pub(crate) struct NumberedPlan {
     pub(crate) files: Vec<EntryNumber>,
     pub(crate) deletes: Vec<EntryNumber>,
     pub(crate) places: Vec<Places>,
 }
 
-impl<'a> Model for Plan<'a> {
-    ghost use Rattle.std.specs.Prelude.{List};
-    ghost use Rattle.ice_state.specs.Lines.{OwnedLine, lines_of, ArePlanned};
-
-    ghost Value = { List OwnedLine };
-
-    ghost view = { λ p. lines_of p.entries.now p.deletes.items p.files.items p.places.items };
-
-    ghost invariant = { λ p. ArePlanned p.entries.now p.deletes.items p.files.items p.places.items };
-}
-
-impl<'a> Plan<'a> {
-    /// Its lines.
-    pub fn lines(&self) -> Lines<'_>
-        ensures { result ≡ self.now }
+impl NumberedPlan {
+    /// Its lines, where these are the entries.
+    fn lines<'a>(&'a self, entries: &'a Entries) -> Lines<'a>
+        requires { IsPlanned entries.now self.now }
+        ensures { result ≡ lines_of entries.now self.now }
     {
         Lines {
             files: Files {
-                entries: self.entries,
+                entries,
                 numbers: &self.files,
             },
             deletes: Files {
-                entries: self.entries,
+                entries,
                 numbers: &self.deletes,
             },
             places: &self.places,
@@ -46,24 +35,50 @@ impl<'a> Plan<'a> {
     }
 }
 
+/// The data files that a scan has to read, by path, each with the delete files that apply to it. It is lent from the
+/// state that it was finished from.
+#[derive(Debug, Drop)]
+pub struct Plan<'a> {
+    pub(crate) entries: &'a Entries,
+    pub(crate) numbered: NumberedPlan,
+}
+
+impl<'a> Model for Plan<'a> {
+    ghost use Rattle.std.specs.Prelude.{List};
+    ghost use Rattle.ice_state.specs.Lines.{OwnedLine, lines_of, IsPlanned};
+
+    ghost Value = { List OwnedLine };
+
+    ghost view = { λ p. lines_of p.entries.now p.numbered };
+
+    ghost invariant = { λ p. IsPlanned p.entries.now p.numbered };
+}
+
+impl<'a> Plan<'a> {
+    /// Its lines.
+    pub fn lines(&self) -> Lines<'_>
+        ensures { result ≡ self.now }
+    {
+        self.numbered.lines(self.entries)
+    }
+}
+
 /// A plan that owns its files, each once, in however many lines a delete file stands.
 #[derive(Debug, Drop)]
 pub struct OwnedPlan {
     pub(crate) entries: Entries,
-    pub(crate) files: Vec<EntryNumber>,
-    pub(crate) deletes: Vec<EntryNumber>,
-    pub(crate) places: Vec<Places>,
+    pub(crate) numbered: NumberedPlan,
 }
 
 impl Model for OwnedPlan {
     ghost use Rattle.std.specs.Prelude.{List};
-    ghost use Rattle.ice_state.specs.Lines.{OwnedLine, lines_of, ArePlanned};
+    ghost use Rattle.ice_state.specs.Lines.{OwnedLine, lines_of, IsPlanned};
 
     ghost Value = { List OwnedLine };
 
-    ghost view = { λ p. lines_of p.entries p.deletes.items p.files.items p.places.items };
+    ghost view = { λ p. lines_of p.entries p.numbered };
 
-    ghost invariant = { λ p. ArePlanned p.entries p.deletes.items p.files.items p.places.items };
+    ghost invariant = { λ p. IsPlanned p.entries p.numbered };
 }
 
 impl OwnedPlan {
@@ -71,16 +86,6 @@ impl OwnedPlan {
     pub fn lines(&self) -> Lines<'_>
         ensures { result ≡ self.now }
     {
-        Lines {
-            files: Files {
-                entries: &self.entries,
-                numbers: &self.files,
-            },
-            deletes: Files {
-                entries: &self.entries,
-                numbers: &self.deletes,
-            },
-            places: &self.places,
-        }
+        self.numbered.lines(&self.entries)
     }
 }

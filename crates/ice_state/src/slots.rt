@@ -23,6 +23,7 @@ pub fn is_slot_taken(slots: &[Option<Taken>], i: usize) -> bool
 /// Adds a row.
 pub fn put_row(slots: &mut Vec<Option<Taken>>, i: usize, taken: Taken)
     requires { i < vec_len slots.old }
+    ensures len { vec_len slots.new ≡ vec_len slots.old }
     ensures row { (kept : Kept) →
         contents kept slots.new.items ≡ with_row (contents kept slots.old.items) i (given kept taken) }
     ensures numbers { (kept : Kept) → HaveNumbers kept slots.old.items → HasNumbers kept taken →

@@ -9,7 +9,7 @@ use Rattle.ice_state.proofs.deletes.places_for.Goals as goal
 
 pub returns : goal.returns
 returns c =
-    let x = data_key_of (lent_entry c.args.x) in
+    let x = data_key_of (lent_entry c.args.x.now) in
     let index = c.args.index.now in
     let hits = c.deletes_for-hits.result in
     let found = c.deletes_for-hits.ensures in

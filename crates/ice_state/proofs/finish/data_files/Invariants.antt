@@ -8,6 +8,6 @@ use Rattle.ice_state.proofs.finish.data_files.Given as goal
 abbrev pub invariant-named : goal.invariant-named
 invariant-named l = record {
   kept : AreKept l.entries l.found.items;
-  data : entries_at l.entries l.found.items
+  all : entries_at l.entries l.found.items
       ≡ filter (holds Data) (entries_named l.entries (take l.x-index l.named));
 }

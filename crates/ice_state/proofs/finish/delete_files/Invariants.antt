@@ -7,6 +7,6 @@ use Rattle.ice_state.proofs.finish.delete_files.Given as goal
 abbrev pub invariant-named : goal.invariant-named
 invariant-named l = record {
   kept : AreKept l.entries l.found.items;
-  deletes : entries_at l.entries l.found.items
+  all : entries_at l.entries l.found.items
       ≡ filter holds_deletes (entries_named l.entries (take l.d-index l.named));
 }

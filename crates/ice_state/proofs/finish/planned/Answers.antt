@@ -1,17 +1,25 @@
-use Rattle.std.proofs.Common.{map, Bor}
-use Rattle.ice_manifest_reading.specs.declared.entry.Entry.{Entry}
+use Rattle.ice_entries.specs.Kept.{entries_at}
+use Rattle.ice_state.specs.Named.{entries_named}
 use Rattle.ice_state.proofs.Hits.{lines_are, lines_fit}
 use Rattle.ice_state.proofs.Places.{planned_is}
 use Rattle.ice_state.proofs.finish.planned.Goals as goal
 
-pub invariant_of-result : goal.invariant_of-result
-invariant_of-result c = rw (← c.deref.ensures.value, ← c.deref-2.ensures.value) (lines_fit c.deref-2.result.now
-    c.deref.result.now c.in_ok-places.places.items c.in_ok-places.ensures)
+pub returns-clause-planned : goal.returns-clause-planned
+returns-clause-planned c =
+    let kept = c.args.entries.now in
+    record {
+      files = c.in_ok-files.ensures.kept;
+      deletes = c.in_ok-deletes.ensures.kept;
+      lines = rw (← c.deref.ensures.value, ← c.deref-2.ensures.value)
+          (lines_fit (entries_at kept c.deref-2.result.now) (entries_at kept c.deref.result.now)
+          c.in_ok-places.places.items c.in_ok-places.ensures);
+    }
 
-pub returns : goal.returns
-returns c =
-    let now = λ (d : Bor Entry). d.now in
-    planned_is (map now c.args.entries.now) (map now c.in_ok-files.files.items) (map now c.in_ok-deletes.deletes.items)
-    c.in_ok-places.places.items c.in_ok-files.ensures c.in_ok-deletes.ensures
-    (rw (← c.deref.ensures.value, ← c.deref-2.ensures.value) (lines_are c.deref-2.result.now c.deref.result.now
+pub returns-clause-lines : goal.returns-clause-lines
+returns-clause-lines c =
+    let kept = c.args.entries.now in
+    planned_is (entries_named kept c.args.named.now) (entries_at kept c.in_ok-files.files.items)
+    (entries_at kept c.in_ok-deletes.deletes.items) c.in_ok-places.places.items c.in_ok-files.ensures.all
+    c.in_ok-deletes.ensures.all (rw (← c.deref.ensures.value, ← c.deref-2.ensures.value)
+    (lines_are (entries_at kept c.deref-2.result.now) (entries_at kept c.deref.result.now)
     c.in_ok-places.places.items c.in_ok-places.ensures))

@@ -1,7 +1,7 @@
-use Rattle.std.proofs.Common.{◌∙◌, ◌<◌, sym, arith, add-one, length, option_map}
+use Rattle.std.proofs.Common.{◌∙◌, ◌<◌, refl, sym, arith, add-one, drop, length, option_map}
 use Rattle.ice_state.specs.Slots.{contents, given}
-use Rattle.ice_state.proofs.Gains.{gain_at, all_step}
-use Rattle.ice_state.proofs.Slots.{at-contents, length-contents}
+use Rattle.ice_state.proofs.Gains.{gain_at, all_step, all-end}
+use Rattle.ice_state.proofs.SlotContents.{at-contents, length-contents}
 use Rattle.ice_state.proofs.merging.has_taken_all_of.Goals as goal
 
 pub returns-then-is_gain : goal.returns-then-is_gain
@@ -42,3 +42,12 @@ loop-i-preserved c = λ kept others.
     (at-contents kept slots i c.index-slots-i.result c.index-slots-i.is)
     (at-contents others other i c.index-other-i.result c.index-other-i.is)
     (sym (c.is_gain.ensures kept others) ∙ c.if-is_gain.false) rest))
+
+pub returns : goal.returns
+returns c = λ kept others.
+    let slots = c.args.slots.now in
+    let other = c.args.other.now in (
+      λ h. c.loop-i.invariant kept others (all-end (contents kept slots) (drop c.loop-i.i (contents others other))
+          c.loop-i.i (omega (arith, length-contents kept slots))),
+      λ h. refl,
+    )

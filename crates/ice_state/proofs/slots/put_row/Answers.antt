@@ -1,7 +1,7 @@
 use Rattle.std.proofs.Common.{rules, ◌∙◌, option_map}
 use Rattle.ice_state.specs.Slots.{contents, given}
 use Rattle.ice_state.proofs.Contents.{with_row-kept, with_row-new}
-use Rattle.ice_state.proofs.Slots.{at-contents, is-some-given, set-contents, set-numbers}
+use Rattle.ice_state.proofs.SlotContents.{at-contents, is-some-given, set-contents, set-numbers}
 use Rattle.ice_state.proofs.slots.put_row.Goals as goal
 
 pub returns-then-is_none-clause-row : goal.returns-then-is_none-clause-row

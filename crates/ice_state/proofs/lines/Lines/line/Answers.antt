@@ -15,8 +15,11 @@ bounds-self-inside-i c =
           (entries_of c.self.inside.files) c.self.inside.places.now c.self.invariant.lines.each,
     )
 
-pub entry-requires : goal.entry-requires
-entry-requires c =
+pub entry-requires-clause-kept : goal.entry-requires-clause-kept
+entry-requires-clause-kept c = c.self.invariant.files
+
+pub entry-requires-clause-within : goal.entry-requires-clause-within
+entry-requires-clause-within c =
     omega (
       arith,
       c.requires,
@@ -35,8 +38,11 @@ invariant_of-result c =
       length-lines_at (entries_of c.self.inside.deletes) (entries_of c.self.inside.files) c.self.inside.places.now
           c.self.invariant.lines.each,
     ) in
-    line_within-at (length (entries_of c.self.inside.deletes)) c.self.inside.places.now c.args.i c.index-self-i.result
-    c.self.invariant.lines.within l
+    record {
+      files = c.self.invariant.deletes;
+      within = line_within-at (length (entries_of c.self.inside.deletes)) c.self.inside.places.now c.args.i
+          c.index-self-i.result c.self.invariant.lines.within l;
+    }
 
 pub returns : goal.returns
 returns c =

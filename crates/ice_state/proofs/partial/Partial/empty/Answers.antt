@@ -1,9 +1,14 @@
-use Rattle.std.proofs.Common.{◌≡◌, ◌∙◌, ap, arith, length, replicate, None}
+use Rattle.std.proofs.Common.{◌≡◌, ◌∙◌, ap, subst, sym, arith, length, replicate, None, Option, List}
+use Rattle.ice_state.specs.declared.taken.Taken.{Taken}
+use Rattle.ice_state.specs.Slots.{contents, HaveNumbers}
 use Rattle.ice_state.proofs.Contents.{none-content}
+use Rattle.ice_state.proofs.SlotContents.{none-contents}
 use Rattle.ice_state.proofs.partial.Partial.empty.Goals as goal
 
-pub returns-clause-world : goal.returns-clause-world
-returns-clause-world c =
-    λ world.
+pub returns-clause-none : goal.returns-clause-none
+returns-clause-none c =
     let all : c.loop.counter ≡ length c.args.scan.now.wanted = omega (arith, ap length c.wanted-end.ensures) in
-    c.loop.invariant ∙ ap (λ n. replicate n None) all ∙ none-content world c.args.scan.now c.args.scan.now.wanted
+    ap (contents _) c.loop.invariant ∙ none-contents _ c.loop.counter ∙ ap (λ n. replicate n None) all
+
+pub returns-clause-world : goal.returns-clause-world
+returns-clause-world c = λ world. returns-clause-none c ∙ none-content world c.args.scan.now c.args.scan.now.wanted

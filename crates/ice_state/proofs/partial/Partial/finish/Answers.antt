@@ -1,20 +1,32 @@
-use Rattle.std.proofs.Common.{◌∙◌, List, Result, ap, subst}
-use Rattle.contract_words.specs.Outcome.{Gives}
+use Rattle.std.proofs.Common.{◌≡◌, ◌∙◌, List, Option, Result, ap, sym}
+use Rattle.std.proofs.lemmas.Result.{err_from_is_err_and}
+use Rattle.ice_meta.specs.declared.spec.Spec.{Spec}
 use Rattle.ice_manifest_reading.specs.declared.row.Row.{Row}
-use Rattle.ice_state.specs.declared.fault.FinishFault.{FinishFault}
-use Rattle.ice_state.specs.declared.fault.FinishFault.TheVariants.{Memory}
-use Rattle.ice_state.specs.Lines.{OwnedLine}
+use Rattle.ice_state.specs.declared.taken.Taken.{Taken}
 use Rattle.ice_state.specs.Contents.{Content}
 use Rattle.ice_state.specs.Outcomes.{outcome_of}
+use Rattle.ice_state.specs.Slots.{contents}
 use Rattle.ice_state.proofs.Snapshots.{of_snapshot}
 use Rattle.ice_state.proofs.partial.Partial.finish.Goals as goal
 
-pub returns-clause-snapshot : goal.returns-clause-snapshot
-returns-clause-snapshot c =
+pub returns-in_err-numbered-clause-snapshot : goal.returns-in_err-numbered-clause-snapshot
+returns-in_err-numbered-clause-snapshot c =
+    let p = err_from_is_err_and c.from_residual.result c.from_residual.ensures.1 in
     λ world rows specs is covered has taken.
-    let same = ap (λ (w : List Row). outcome_of w c.deref.result.now) c.wanted.ensures
-    ∙ ap (λ (s : Content). outcome_of c.args.scan.now.wanted s) (c.deref.ensures.value ∙ c.self.view_is)
+    let kept = c.self.inside.entries in
+    let same = ap (λ (w : List Row). outcome_of w (contents kept c.deref.result.now)) c.wanted.ensures
+    ∙ ap (λ (ss : List (Option Taken)). outcome_of c.args.scan.now.wanted (contents kept ss)) c.deref.ensures.value
+    ∙ ap (outcome_of c.args.scan.now.wanted) c.self.view_is
     ∙ of_snapshot c.filtering.ensures.open_where_unpartitioned c.filtering.ensures.sound world c.args.scan.now rows
     specs c.args.self.now is covered has taken in
-    subst (λ (o : Result (List OwnedLine) FinishFault). Gives Memory (λ (plan : List OwnedLine). plan)
-    c.plan_or_fault.result o) same c.plan_or_fault.ensures
+    rw (p.1, p.2) (λ other. sym same ∙ c.in_err-numbered.ensures.outcome other)
+
+pub returns-clause-snapshot : goal.returns-clause-snapshot
+returns-clause-snapshot c = λ world rows specs is covered has taken.
+    let kept = c.self.inside.entries in
+    let same = ap (λ (w : List Row). outcome_of w (contents kept c.deref.result.now)) c.wanted.ensures
+    ∙ ap (λ (ss : List (Option Taken)). outcome_of c.args.scan.now.wanted (contents kept ss)) c.deref.ensures.value
+    ∙ ap (outcome_of c.args.scan.now.wanted) c.self.view_is
+    ∙ of_snapshot c.filtering.ensures.open_where_unpartitioned c.filtering.ensures.sound world c.args.scan.now rows
+    specs c.args.self.now is covered has taken in
+    sym same ∙ c.in_ok-numbered.ensures.outcome

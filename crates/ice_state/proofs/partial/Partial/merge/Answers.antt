@@ -1,41 +1,107 @@
-use Rattle.std.proofs.Common.{◌∙◌, ◌≡◌, ap, sym, subst, arith, refl, length}
+use Rattle.std.proofs.Common.{◌∙◌, ◌≡◌, ◌≤◌, ap, sym, subst, arith, length, true, false}
+use Rattle.std.proofs.lemmas.Result.{err_from_is_err_and}
 use Rattle.ice_state.specs.Contents.{Content}
-use Rattle.ice_state.specs.Joins.{TookAllOf}
+use Rattle.ice_state.specs.Joins.{join, TookAllOf}
+use Rattle.ice_state.specs.Parts.{gains}
+use Rattle.ice_state.specs.Slots.{contents}
 use Rattle.ice_state.proofs.Gains.{join-gains, join-in_world, length-gains, length-join, join-known}
+use Rattle.ice_state.proofs.SlotContents.{contents-kept, have-kept, length-contents}
 use Rattle.ice_state.proofs.partial.Partial.merge.Goals as goal
-
-pub put_all-requires : goal.put_all-requires
-put_all-requires c = grind (arith, length-gains, c.in_ok-gained.ensures, c.deref-3.ensures.value)
 
 pub returns-then-has_taken_all_of-clause-ok : goal.returns-then-has_taken_all_of-clause-ok
 returns-then-has_taken_all_of-clause-ok c =
-    let all : TookAllOf c.deref.result.now c.deref-2.result.now = c.has_taken_all_of.ensures.0
-    c.if-has_taken_all_of.true in
-    let mine = subst (λ (s : Content). TookAllOf s c.deref-2.result.now) (c.deref.ensures.value ∙ c.self.view_is) all in
-    let both = subst (λ (s : Content). TookAllOf c.args.self.now s) (c.deref-2.ensures.value ∙ c.other.view_is) mine in
+    let kept = c.self.inside.entries in
+    let others = c.other.inside.entries in
+    let all : TookAllOf (contents kept c.deref.result.now) (contents others c.deref-2.result.now) =
+    (c.has_taken_all_of.ensures kept others).0 c.if-has_taken_all_of.true in
+    let mine = subst (λ (s : Content). TookAllOf s (contents others c.deref-2.result.now))
+    (ap (contents kept) c.deref.ensures.value ∙ c.self.view_is) all in
+    let both = subst (λ (s : Content). TookAllOf c.args.self.now s)
+    (ap (contents others) c.deref-2.ensures.value ∙ c.other.view_is) mine in
     sym (join-known c.args.self.now c.args.other.now c.requires both)
 
 pub returns-then-has_taken_all_of-clause-world : goal.returns-then-has_taken_all_of-clause-world
 returns-then-has_taken_all_of-clause-world c = λ world scan ts us is is'. join-in_world world scan ts us _ _ _
     (returns-then-has_taken_all_of-clause-ok c) is is'
 
+pub invariant_of-self : goal.invariant_of-self
+invariant_of-self c = have-kept c.self.inside.entries c.gained.new.entries c.gained.ensures.keeps
+    c.self.inside.slots.items c.self.invariant
+
+pub returns-in_err-gained-clause-known : goal.returns-in_err-gained-clause-known
+returns-in_err-gained-clause-known c = λ all.
+    let kept = c.self.inside.entries in
+    let others = c.other.inside.entries in
+    let mine = subst (λ (s : Content). TookAllOf s c.args.other.now)
+    (sym (ap (contents kept) c.deref.ensures.value ∙ c.self.view_is)) all in
+    let both = subst (λ (s : Content). TookAllOf (contents kept c.deref.result.now) s)
+    (sym (ap (contents others) c.deref-2.ensures.value ∙ c.other.view_is)) mine in
+    let no_more : true ≡ false = sym ((c.has_taken_all_of.ensures kept others).1 both) ∙ c.if-has_taken_all_of.false in
+    absurd cc
+
+pub returns-in_err-gained-clause-still : goal.returns-in_err-gained-clause-still
+returns-in_err-gained-clause-still c = λ h.
+    contents-kept c.self.inside.entries c.gained.new.entries c.gained.ensures.keeps
+    c.self.inside.slots.items c.self.invariant ∙ c.self.view_is
+
+pub returns-in_err-gained-clause-err : goal.returns-in_err-gained-clause-err
+returns-in_err-gained-clause-err c =
+    let p = err_from_is_err_and c.from_residual.result c.from_residual.ensures.1 in
+    rw p.1 (contents-kept c.self.inside.entries c.gained.new.entries c.gained.ensures.keeps
+    c.self.inside.slots.items c.self.invariant ∙ c.self.view_is)
+
+pub put_all-requires : goal.put_all-requires
+put_all-requires c =
+    let kept = c.self.inside.entries in
+    let others = c.other.inside.entries in
+    let slots = c.deref-3.result.now in
+    let other = c.deref-4.result.now in
+    let more : length c.in_ok-gained.gained.items ≤ length slots =
+    omega (
+      arith,
+      length-contents c.gained.new.entries c.in_ok-gained.gained.items,
+      ap length (c.in_ok-gained.ensures.gained kept),
+      length-gains (contents kept slots) (contents others other),
+      length-contents kept slots,
+    ) in
+    grind (arith, more, c.deref-3.ensures.value)
+
+pub invariant_of-self-2 : goal.invariant_of-self-2
+invariant_of-self-2 c =
+    c.put_all.ensures.numbers c.gained.new.entries
+    (have-kept c.self.inside.entries c.gained.new.entries c.gained.ensures.keeps c.self.inside.slots.items
+    c.self.invariant) c.in_ok-gained.ensures.numbers
+
+pub returns-clause-still : goal.returns-clause-still
+returns-clause-still c = λ all.
+    let kept = c.self.inside.entries in
+    let others = c.other.inside.entries in
+    let mine = subst (λ (s : Content). TookAllOf s c.args.other.now)
+    (sym (ap (contents kept) c.deref.ensures.value ∙ c.self.view_is)) all in
+    let both = subst (λ (s : Content). TookAllOf (contents kept c.deref.result.now) s)
+    (sym (ap (contents others) c.deref-2.ensures.value ∙ c.other.view_is)) mine in
+    let no_more : true ≡ false = sym ((c.has_taken_all_of.ensures kept others).1 both) ∙ c.if-has_taken_all_of.false in
+    absurd cc
+
 pub returns-clause-ok : goal.returns-clause-ok
 returns-clause-ok c =
-    let same : length c.self.inside.slots.items ≡ length c.other.inside.slots.items = ap length c.self.view_is ∙
-    c.requires ∙ sym (ap length c.other.view_is) in
-    rw (
-      c.put_all.ensures,
-      c.in_ok-gained.ensures,
-      c.deref-3.ensures.value,
-      c.deref-4.ensures.value,
-      join-gains _ _
-          same,
-      c.self.view_is,
-      c.other.view_is,
-    ) refl
-
-pub returns-clause-world : goal.returns-clause-world
-returns-clause-world c = λ world scan ts us is is'. join-in_world world scan ts us _ _ _ (returns-clause-ok c) is is'
+    let kept = c.self.inside.entries in
+    let others = c.other.inside.entries in
+    let new = c.gained.new.entries in
+    let gained = c.in_ok-gained.gained.items in
+    let mine = c.args.self.now in
+    c.put_all.ensures.rows new
+    ∙ ap (λ (s : Content). join s (contents new gained))
+    (contents-kept kept new c.gained.ensures.keeps c.self.inside.slots.items c.self.invariant ∙ c.self.view_is)
+    ∙ ap (join mine)
+    (c.in_ok-gained.ensures.gained kept
+    ∙ ap (λ (s : Content). gains s (contents others c.deref-4.result.now))
+    (ap (contents kept) c.deref-3.ensures.value ∙ c.self.view_is)
+    ∙ ap (gains mine) (ap (contents others) c.deref-4.ensures.value ∙ c.other.view_is))
+    ∙ join-gains mine c.args.other.now c.requires
 
 pub returns-clause-of_scan : goal.returns-clause-of_scan
 returns-clause-of_scan c = λ scan of. ap length (returns-clause-ok c) ∙ length-join _ _ c.requires ∙ of
+
+pub returns-clause-world : goal.returns-clause-world
+returns-clause-world c = λ world scan ts us is is'. join-in_world world scan ts us _ _ _ (returns-clause-ok c) is is'

@@ -1,26 +1,78 @@
-use Rattle.std.proofs.Common.{◌∙◌, ◌≡◌, ap, subst, sym, rules, refl, length, get_or, List}
+use Rattle.std.proofs.Common.{◌∙◌, ◌≡◌, ap, subst, sym, rules, length, get_or, List, Option, true, false, is_some}
+use Rattle.std.proofs.lemmas.Result.{err_from_is_err_and}
 use Rattle.ice_manifest_reading.specs.declared.row.Row.{Row}
-use Rattle.ice_state.specs.Contents.{Content, took}
+use Rattle.ice_state.specs.declared.taken.Taken.{Taken}
+use Rattle.ice_state.specs.Contents.{Content, is_row_taken, took}
+use Rattle.ice_state.specs.Parts.{with_row}
+use Rattle.ice_state.specs.Readings.{Reading}
+use Rattle.ice_state.specs.Slots.{contents, given}
 use Rattle.ice_state.proofs.Contents.{with_row-took, took-in_world, length-took}
+use Rattle.ice_state.proofs.SlotContents.{contents-kept, have-kept}
 use Rattle.ice_state.proofs.partial.Partial.take.Goals as goal
 
 pub returns-then-is_slot_taken-clause-ok : goal.returns-then-is_slot_taken-clause-ok
 returns-then-is_slot_taken-clause-ok c =
-    subst (λ (s : Content). s ≡ took c.args.scan.now s c.args.i c.args.bytes.now) (c.deref.ensures.value ∙
-    c.self.view_is) (c.is_slot_taken.ensures.kept (search rules) c.args.scan.now c.args.bytes.now)
+    let kept = c.self.inside.entries in
+    subst (λ (s : Content). s ≡ took c.args.scan.now s c.args.i c.args.bytes.now)
+    (ap (contents kept) c.deref.ensures.value ∙ c.self.view_is)
+    (c.is_slot_taken.ensures.still (search rules) kept c.args.scan.now c.args.bytes.now)
 
 pub returns-then-is_slot_taken-clause-world : goal.returns-then-is_slot_taken-clause-world
 returns-then-is_slot_taken-clause-world c = λ world ts is has. took-in_world world c.args.scan.now ts _ _ _ _
     (returns-then-is_slot_taken-clause-ok c) is has
 
+pub invariant_of-self : goal.invariant_of-self
+invariant_of-self c = have-kept c.self.inside.entries c.take_manifest.new.entries c.take_manifest.ensures.keeps
+    c.self.inside.slots.items c.self.invariant
+
+pub returns-in_err-taken-clause-still : goal.returns-in_err-taken-clause-still
+returns-in_err-taken-clause-still c = λ h.
+    contents-kept c.self.inside.entries c.take_manifest.new.entries c.take_manifest.ensures.keeps
+    c.self.inside.slots.items c.self.invariant ∙ c.self.view_is
+
+pub returns-in_err-taken-clause-err : goal.returns-in_err-taken-clause-err
+returns-in_err-taken-clause-err c =
+    let p = err_from_is_err_and c.from_residual.result c.from_residual.ensures.1 in
+    rw p.1 (contents-kept c.self.inside.entries c.take_manifest.new.entries c.take_manifest.ensures.keeps
+    c.self.inside.slots.items c.self.invariant ∙ c.self.view_is)
+
+pub returns-in_err-taken-clause-again : goal.returns-in_err-taken-clause-again
+returns-in_err-taken-clause-again c = λ h.
+    let kept = c.self.inside.entries in
+    let test : c.is_slot_taken.result ≡ is_row_taken c.args.self.now c.args.i = c.is_slot_taken.ensures.test kept
+    ∙ ap (λ (ss : List (Option Taken)). is_row_taken (contents kept ss) c.args.i) c.deref.ensures.value
+    ∙ ap (λ (s : Content). is_row_taken s c.args.i) c.self.view_is in
+    let no_more : true ≡ false = sym h ∙ sym test ∙ c.if-is_slot_taken.false in
+    absurd cc
+
+pub invariant_of-self-2 : goal.invariant_of-self-2
+invariant_of-self-2 c =
+    c.put_row.ensures.numbers c.take_manifest.new.entries
+    (have-kept c.self.inside.entries c.take_manifest.new.entries c.take_manifest.ensures.keeps
+    c.self.inside.slots.items c.self.invariant) c.in_ok-taken.ensures.numbers
+
+pub returns-clause-still : goal.returns-clause-still
+returns-clause-still c = λ h.
+    let kept = c.self.inside.entries in
+    let test : c.is_slot_taken.result ≡ is_row_taken c.args.self.now c.args.i = c.is_slot_taken.ensures.test kept
+    ∙ ap (λ (ss : List (Option Taken)). is_row_taken (contents kept ss) c.args.i) c.deref.ensures.value
+    ∙ ap (λ (s : Content). is_row_taken s c.args.i) c.self.view_is in
+    let no_more : true ≡ false = sym h ∙ sym test ∙ c.if-is_slot_taken.false in
+    absurd cc
+
 pub returns-clause-ok : goal.returns-clause-ok
 returns-clause-ok c =
     let row = c.index-wanted-i.is ∙ ap (λ (rs : List Row). get_or rs c.args.i c.index-wanted-i.result)
     c.wanted.ensures in
-    let step = with_row-took c.args.scan.now c.self.inside.slots.items c.args.scan.now.wanted c.args.i c.args.bytes.now
+    let new = c.take_manifest.new.entries in
+    let step = with_row-took c.args.scan.now c.args.self.now c.args.scan.now.wanted c.args.i c.args.bytes.now
     c.index-wanted-i.result c.filter_of.result c.filter_of.ensures.filter c.requires.row row
     c.filter_of.ensures.spec in
-    rw (c.put_row.ensures, c.in_ok-reading.ensures, step, c.self.view_is) refl
+    c.put_row.ensures.row new
+    ∙ ap (λ (s : Content). with_row s c.args.i (given new c.in_ok-taken.taken))
+    (contents-kept c.self.inside.entries new c.take_manifest.ensures.keeps c.self.inside.slots.items c.self.invariant
+    ∙ c.self.view_is)
+    ∙ ap (λ (r : Reading). with_row c.args.self.now c.args.i r) c.in_ok-taken.ensures.given ∙ step
 
 pub returns-clause-world : goal.returns-clause-world
 returns-clause-world c = λ world ts is has. took-in_world world c.args.scan.now ts _ _ _ _ (returns-clause-ok c) is has

@@ -1,6 +1,6 @@
 -- Slots and their content.
 use Rattle.std.proofs.Common.{◌≡◌, ℕ, zero, suc, List, [], ◌∷◌, ◌++◌, refl, ap, ◌∙◌, Option, Some, None, option_map}
-use Rattle.std.proofs.Common.{IfSome, is_some, get_or, slice_set, length, map, ◌<◌, sym, arith}
+use Rattle.std.proofs.Common.{IfSome, is_some, is_none, replicate, get_or, slice_set, length, map, ◌<◌, sym, arith}
 use Rattle.std.specs.List.{AllByRecursion}
 use Rattle.ice_manifest_reading.specs.declared.entry.Entry.{Entry}
 use Rattle.ice_entries.specs.Kept.{Kept, AreKept, Keeps, entry_at, entries_at, IsKept}
@@ -34,7 +34,7 @@ module _ (old new : Kept) (keeps : Keeps old new) where
       ∙ ap (λ (xs : List Entry). entry_at old n ∷ xs) (entries-kept ns all.1)
 
   pub given-kept : (t : Taken) → HasNumbers old t → given new t ≡ given old t
-  given-kept (taken.Good ns) all = ap Good (entries-kept ns.items all)
+  given-kept (taken.Good ns) all = ap Good (entries-kept ns all)
   given-kept (taken.Bad fault) all = refl
 
   pub has-kept : (t : Taken) → HasNumbers old t → HasNumbers new t
@@ -69,6 +69,18 @@ module _ (kept : Kept) where
   pub is-some-given : (s : Option Taken) → is_some (option_map (given kept) s) ≡ is_some s
   is-some-given None = refl
   is-some-given (Some t) = refl
+
+  pub is-none-given : (s : Option Taken) → is_none (option_map (given kept) s) ≡ is_none s
+  is-none-given None = refl
+  is-none-given (Some t) = refl
+
+  pub none-contents : (n : ℕ) → contents kept (replicate n None) ≡ replicate n None
+  none-contents zero = refl
+  none-contents (suc n) = ap (λ c. None ∷ c) (none-contents n)
+
+  pub none-numbers : (n : ℕ) → HaveNumbers kept (replicate n None)
+  none-numbers zero = tt
+  none-numbers (suc n) = (tt, none-numbers n)
 
   pub taken-at : (ss : List (Option Taken)) (i : ℕ) (s : Option Taken) → i < length ss → s ≡ get_or ss i s
       → is_row_taken (contents kept ss) i ≡ is_some s

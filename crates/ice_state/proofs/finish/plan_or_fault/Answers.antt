@@ -1,0 +1,60 @@
+use Rattle.std.proofs.Common.{◌≡◌, ◌∙◌, [], ap, subst, List}
+use Rattle.std.proofs.lemmas.Result.{err_from_is_err_and}
+use Rattle.ice_manifest_reading.specs.declared.entry.Entry.{Entry}
+use Rattle.ice_state.specs.declared.finish.Named.{Named}
+use Rattle.ice_state.specs.declared.fault.FinishFault.{FinishFault}
+use Rattle.ice_state.specs.Lines.{lines_of}
+use Rattle.ice_state.specs.Named.{entries_named}
+use Rattle.ice_state.specs.Outcomes.{by_path, twice}
+use Rattle.ice_state.specs.Parts.{Stops}
+use Rattle.ice_state.specs.Slots.{contents}
+use Rattle.ice_state.proofs.Outcomes.{stopped_missing, stopped_bad, stopped_twice, finished}
+use Rattle.ice_state.proofs.finish.plan_or_fault.Goals as goal
+
+pub returns-in_err-check_taken-clause-outcome : goal.returns-in_err-check_taken-clause-outcome
+returns-in_err-check_taken-clause-outcome c =
+    let p = err_from_is_err_and c.from_residual.result c.from_residual.ensures.1 in
+    let kept = c.args.entries.now in
+    rw (p.1, p.2) (stopped_missing c.args.rows.now (contents kept c.args.slots.now) c.in_err-check_taken.field-0.0
+    (c.in_err-check_taken.ensures kept))
+
+pub returns-in_err-check_good-clause-outcome : goal.returns-in_err-check_good-clause-outcome
+returns-in_err-check_good-clause-outcome c =
+    let p = err_from_is_err_and c.from_residual-in_err-check_good.result
+    c.from_residual-in_err-check_good.ensures.1 in
+    let kept = c.args.entries.now in
+    rw (p.1, p.2) (stopped_bad c.args.rows.now (contents kept c.args.slots.now) c.in_err-check_good.field-0.0
+    (c.in_ok-check_taken.ensures kept) (c.in_err-check_good.ensures kept))
+
+pub check_once-requires : goal.check_once-requires
+check_once-requires c = rw c.deref.ensures.value
+    (c.in_ok-sort_by_path.ensures.named c.args.entries.now c.in_ok-named.ensures.named)
+
+pub returns-in_err-check_once-clause-outcome : goal.returns-in_err-check_once-clause-outcome
+returns-in_err-check_once-clause-outcome c =
+    let p = err_from_is_err_and c.from_residual-in_err-check_once.result
+    c.from_residual-in_err-check_once.ensures.1 in
+    let kept = c.args.entries.now in
+    let sorted = c.in_ok-sort_by_path.ensures.sorted kept c.in_ok-named.ensures.named
+    ∙ ap by_path c.in_ok-named.ensures.all in
+    let stops = subst (λ (xs : List Named). Stops c.in_err-check_once.field-0.0 (twice (entries_named kept xs)))
+    c.deref.ensures.value c.in_err-check_once.ensures in
+    rw (p.1, p.2) (stopped_twice c.args.rows.now (contents kept c.args.slots.now) c.in_err-check_once.field-0.0
+    (entries_named kept c.sort_by_path.new.named.items) (c.in_ok-check_taken.ensures kept)
+    (c.in_ok-check_good.ensures kept) sorted stops)
+
+pub planned-requires : goal.planned-requires
+planned-requires c = rw c.deref-2.ensures.value
+    (c.in_ok-sort_by_path.ensures.named c.args.entries.now c.in_ok-named.ensures.named)
+
+pub returns-clause-outcome : goal.returns-clause-outcome
+returns-clause-outcome c =
+    let kept = c.args.entries.now in
+    let xs = entries_named kept c.sort_by_path.new.named.items in
+    let sorted = c.in_ok-sort_by_path.ensures.sorted kept c.in_ok-named.ensures.named
+    ∙ ap by_path c.in_ok-named.ensures.all in
+    let once : twice xs ≡ [] = subst (λ (ys : List Named). twice (entries_named kept ys) ≡ []) c.deref.ensures.value
+    c.in_ok-check_once.ensures in
+    finished c.args.rows.now (contents kept c.args.slots.now) xs (lines_of kept c.in_ok-planned.field-0)
+    (c.in_ok-check_taken.ensures kept) (c.in_ok-check_good.ensures kept) sorted once
+    (rw (← c.deref-2.ensures.value) c.in_ok-planned.ensures.lines)
