@@ -65,3 +65,10 @@ abbrev pub HasOwnPaths : Rows → Type 0
 HasOwnPaths rows =
     (m n : ℕ) → m < n → n < length rows.records →
     (slice_index_or rows.records m no_row).0 ≢ (slice_index_or rows.records n no_row).0
+
+-- the path of each further record is that of a record
+abbrev pub HasKnownPaths : Rows → Type 0
+HasKnownPaths rows =
+    (n : ℕ) → n < length rows.clashes →
+    (m : ℕ) × (m < length rows.records) ×
+    ((slice_index_or rows.records m no_row).0 ≡ (slice_index_or rows.clashes n no_row).0)
