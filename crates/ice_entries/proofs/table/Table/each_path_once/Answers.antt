@@ -6,7 +6,8 @@ use Rattle.ice_entries.proofs.table.Table.each_path_once.Goals as goal
 pub returns-clause-own : goal.returns-clause-own
 returns-clause-own c =
     let t = c.self.inside in
-    subst HasOwnPaths c.self.view_is (own_paths t.paths t.records.items t.clashes.items c.self.invariant.as_many c.len.ensures.distinct)
+    subst HasOwnPaths c.self.view_is
+    (own_paths t.paths t.records.items t.clashes.items c.self.invariant.as_many c.len.ensures.distinct)
 
 pub returns-clause-known : goal.returns-clause-known
 returns-clause-known c =
