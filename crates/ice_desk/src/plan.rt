@@ -95,7 +95,7 @@ fn both(first: Crew, second: Crew) -> Result<Crew, AllocError>
         state: other,
         left: more,
     } = second;
-    state.merge(&other)?;
+    state.absorb(other)?;
     seats.append(&mut others)?;
     Ok(Crew {
         seats,
@@ -222,6 +222,6 @@ pub fn plan_scan<R: Threads + Sync, F: Files + Sync, G: Gate + Sync>(
     }
     let (mut state, _) = take_by_workers(rt, alloc, files, scan, workers, gate)?;
     take_wanted(alloc, files, scan, &mut state)?;
-    let plan = state.finish(scan)?;
-    Ok(plan.keep(alloc)?)
+    let plan = state.into_plan(scan)?;
+    Ok(plan)
 }

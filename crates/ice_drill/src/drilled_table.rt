@@ -118,8 +118,8 @@ pub fn plan_version(alloc: Global, version: &Version) -> Result<OwnedPlan, RunFa
     let scan = scan_version(alloc, metadata, world)?;
     let mut state = Partial::empty(alloc, &scan)?;
     take_wanted(alloc, world, &scan, &mut state)?;
-    let plan = state.finish(&scan)?;
-    Ok(plan.keep(alloc)?)
+    let plan = state.into_plan(&scan)?;
+    Ok(plan)
 }
 
 /// Whether a plan has a data file of this path.

@@ -203,7 +203,7 @@ impl Entries {
     }
 
     /// The same entries by the same numbers.
-    pub fn copy(&self) -> Result<Entries, AllocError>
+    pub fn copy(&self, alloc: Global) -> Result<Entries, AllocError>
         ensures { IfOk result (λ copied. copied ≡ self.now) }
     {
         Ok(Entries {

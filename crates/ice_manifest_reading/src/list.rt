@@ -149,7 +149,11 @@ fn row_of(alloc: Global, fields: &[Field], datum: &Datum) -> Result<Row, ListFau
 }
 
 /// The rows of all objects that are to come, in the file's order.
-fn all_rows(alloc: Global, fields: &[Field], mut reader: Objects<'_, '_>) -> Result<Vec<Row>, ListFault>
+fn all_rows(
+    alloc: Global,
+    fields: &[Field],
+    mut reader: Objects<'_, '_>,
+) -> Result<Vec<Row>, ListFault>
     ensures { Gives ListFault.Memory (λ rows. rows.items) result
         (rows_ahead (fields_seen fields.now) (ahead reader.entry)) }
 {

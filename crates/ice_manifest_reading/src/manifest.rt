@@ -367,7 +367,7 @@ pub fn read_kept<'d, K: Keep>(
 
 /// The entries, with copies of their paths.
 fn owned(alloc: Global, views: Vec<EntryView<'_>>) -> Result<Vec<Entry>, AllocError>
-    ensures { IfOk result (λ entries. entries.items ≡ views.items) }
+    ensures { IfOk result (λ entries. entries.items ≡ views.entry.items) }
 {
     let mut entries = Vec::with_capacity(alloc, views.len())?;
     'views: for view in views {

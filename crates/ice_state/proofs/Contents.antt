@@ -4,7 +4,7 @@ use Rattle.std.proofs.Common.{Option, Some, None, is_some, replicate, slice_set,
 use Rattle.std.specs.List.{slice_get}
 use Rattle.std.specs.Option.{option_and_then}
 use Rattle.ice_manifest_reading.specs.declared.row.Row.{Row}
-use Rattle.ice_state.specs.declared.reading.Reading.{Reading}
+use Rattle.ice_state.specs.Readings.{Reading}
 use Rattle.ice_state.specs.Scans.{Scanned}
 use Rattle.ice_state.specs.Specs.{spec_of}
 use Rattle.ice_state.specs.Contents.{Content, World, slot_of, slots_of, content, add, or_else, took_at, took}

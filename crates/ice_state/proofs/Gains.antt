@@ -1,12 +1,12 @@
 -- What a merge adds.
 use Rattle.std.proofs.Common.{◌≡◌, ◌<◌, ◌≤◌, ℕ, zero, suc, List, [], ◌∷◌, ◌++◌, refl, sym, ap, ◌∙◌, Bool, true, false}
-use Rattle.std.proofs.Common.{length, get_or, drop, arith, Option, Some, None}
-use Rattle.ice_state.specs.declared.reading.Reading.{Reading}
+use Rattle.std.proofs.Common.{length, get_or, drop, arith, Option, Some, None, is_some, ◌&&◌}
+use Rattle.ice_state.specs.Readings.{Reading}
 use Rattle.ice_state.specs.Contents.{Content, World, content, or_else}
-use Rattle.ice_state.specs.Joins.{join, either, IsNoGain, TookAllOf}
-use Rattle.ice_state.specs.Parts.{with_row, gains, is_gain}
+use Rattle.ice_state.specs.Joins.{join, either, Agree, IsNoGain, TookAllOf}
+use Rattle.ice_state.specs.Parts.{with_row, gain_of, gains, is_gain, IsApart, AreApart}
 use Rattle.ice_state.specs.Scans.{Scanned}
-use Rattle.ice_state.proofs.Joins.{join-content}
+use Rattle.ice_state.proofs.Joins.{join-comm, join-content}
 
 join-nil : (cs : Content) → join cs [] ≡ cs
 join-nil [] = refl
@@ -104,3 +104,57 @@ pub join-in_world : (world : World) (scan : Scanned) (ts us : List Bool) (old ot
     → new ≡ content world scan (either ts us)
 join-in_world world scan ts us old other new step is is' = step ∙ ap (λ c. join c other) is ∙ ap
     (λ c. join (content world scan ts) c) is' ∙ join-content world scan ts us scan.wanted
+
+-- ---- from place i on
+
+pub gains-step : (cs ds : Content) (i : ℕ) (c d : Option Reading) → i < length cs → i < length ds → c ≡ get_or cs i c
+    → d ≡ get_or ds i d
+    → gains (drop i cs) (drop i ds) ≡ gain_of c d ∷ gains (drop (suc i) cs) (drop (suc i) ds)
+gains-step [] ds i c d l m h k = absurd (omega arith)
+gains-step (x ∷ xs) [] i c d l m h k = absurd (omega arith)
+gains-step (x ∷ xs) (y ∷ ys) zero c d l m h k = rw (h, k) refl
+gains-step (x ∷ xs) (y ∷ ys) (suc i) c d l m h k = gains-step xs ys i c d (omega arith) (omega arith) h k
+
+pub gains-end : (cs ds : Content) (i : ℕ) → length cs ≤ i → gains (drop i cs) ds ≡ []
+gains-end [] ds zero l = refl
+gains-end [] ds (suc i) l = refl
+gains-end (c ∷ cs) ds zero l = absurd (omega arith)
+gains-end (c ∷ cs) ds (suc i) l = gains-end cs ds i (omega arith)
+
+pub all-end : (cs ds : Content) (i : ℕ) → length cs ≤ i → TookAllOf (drop i cs) ds
+all-end [] ds zero l = tt
+all-end [] ds (suc i) l = tt
+all-end (c ∷ cs) ds zero l = absurd (omega arith)
+all-end (c ∷ cs) ds (suc i) l = all-end cs ds i (omega arith)
+
+-- ---- states that took different rows
+
+apart_here : (c d : Option Reading) → (is_some c && is_some d) ≡ false → IsApart c d
+apart_here None d h = tt
+apart_here (Some r) None h = tt
+apart_here (Some r) (Some q) h = cc
+
+pub apart-step : (cs ds : Content) (i : ℕ) (c d : Option Reading) → i < length cs → i < length ds → c ≡ get_or cs i c
+    → d ≡ get_or ds i d → (is_some c && is_some d) ≡ false → AreApart (drop (suc i) cs) (drop (suc i) ds)
+    → AreApart (drop i cs) (drop i ds)
+apart-step [] ds i c d l m h k no rest = absurd (omega arith)
+apart-step (x ∷ xs) [] i c d l m h k no rest = absurd (omega arith)
+apart-step (x ∷ xs) (y ∷ ys) zero c d l m h k no rest = (apart_here x y (rw (← h, ← k) no), rest)
+apart-step (x ∷ xs) (y ∷ ys) (suc i) c d l m h k no rest = apart-step xs ys i c d (omega arith) (omega arith) h k no rest
+
+pub apart-end : (cs ds : Content) (i : ℕ) → length cs ≤ i → AreApart (drop i cs) ds
+apart-end [] ds zero l = tt
+apart-end [] ds (suc i) l = tt
+apart-end (c ∷ cs) ds zero l = absurd (omega arith)
+apart-end (c ∷ cs) ds (suc i) l = apart-end cs ds i (omega arith)
+
+agree_apart : (cs ds : Content) → AreApart cs ds → Agree cs ds
+agree_apart [] ds h = tt
+agree_apart (c ∷ cs) [] h = tt
+agree_apart (None ∷ cs) (d ∷ ds) h = (tt, agree_apart cs ds h.1)
+agree_apart (Some r ∷ cs) (None ∷ ds) h = (tt, agree_apart cs ds h.1)
+agree_apart (Some r ∷ cs) (Some q ∷ ds) h = absurd h.0
+
+-- so it doesn't matter which is merged into which
+pub join-apart : (cs ds : Content) → AreApart cs ds → join ds cs ≡ join cs ds
+join-apart cs ds h = sym (join-comm cs ds (agree_apart cs ds h))

@@ -1,6 +1,6 @@
 -- The places that the index gives are those of the delete files that apply.
 use Rattle.std.proofs.Common.{◌≡◌, ◌≤◌, ◌+◌, ℕ, suc, Bool, true, false, ◌&&◌, List, [], ◌∷◌, ◌++◌, length, map, filter}
-use Rattle.std.proofs.Common.{cond, refl, sym, ap, subst, ◌∙◌, arith, append_assoc, Bor}
+use Rattle.std.proofs.Common.{cond, refl, sym, ap, subst, ◌∙◌, arith, append_assoc}
 use Rattle.std.specs.List.{AllByRecursion, enumerate_from}
 use Rattle.ice_value.specs.declared.file_content.FileContent.{FileContent}
 use Rattle.ice_value.specs.declared.file_content.FileContent.TheVariants.{Data, PositionDeletes, EqualityDeletes}
@@ -87,11 +87,10 @@ module _ (deletes : List Entry) where
   line_is : (x : Entry) → line_at deletes x (places_of placed (data_key_of x)) ≡ line_of deletes x
   line_is x = rw (files_at PositionDeletes positions_hold x, files_at EqualityDeletes equalities_hold x) refl
 
-  each_line_is : (files : List (Bor Entry))
-      → lines_at deletes (map (λ x. x.now) files) (map (λ x. places_of placed (data_key_of x.now)) files)
-      ≡ map (line_of deletes) (map (λ x. x.now) files)
+  each_line_is : (files : List Entry)
+      → lines_at deletes files (map (λ x. places_of placed (data_key_of x)) files) ≡ map (line_of deletes) files
   each_line_is [] = refl
-  each_line_is (x ∷ xs) = rw (line_is x.now, each_line_is xs) refl
+  each_line_is (x ∷ xs) = rw (line_is x, each_line_is xs) refl
 
   length-keys : (xs : List Entry) → length (map delete_key_of xs) ≡ length xs
   length-keys [] = refl
@@ -103,36 +102,21 @@ module _ (deletes : List Entry) where
       subst (AreWithin (length deletes)) (sym (numbers_ascend (chosen content x) keys))
       (numbers_within (length deletes) (chosen content x) keys 0 (let e = length-keys deletes in omega arith))
 
-  each_within : (files : List (Bor Entry))
-      → AllByRecursion (IsLineWithin (length deletes)) (map (λ x. places_of placed (data_key_of x.now)) files)
+  each_within : (files : List Entry)
+      → AllByRecursion (IsLineWithin (length deletes)) (map (λ x. places_of placed (data_key_of x)) files)
   each_within [] = tt
-  each_within (x ∷ xs) = ((within PositionDeletes x.now, within EqualityDeletes x.now), each_within xs)
+  each_within (x ∷ xs) = ((within PositionDeletes x, within EqualityDeletes x), each_within xs)
 
-  one_each : (files : List (Bor Entry))
-      → length (map (λ x. places_of placed (data_key_of x.now)) files) ≡ length (map (λ x. x.now) files)
+  one_each : (files : List Entry) → length (map (λ x. places_of placed (data_key_of x)) files) ≡ length files
   one_each [] = refl
   one_each (x ∷ xs) = ap suc (one_each xs)
 
-keys_now : (deletes : List (Bor Entry))
-    → map (λ d. delete_key_of d.now) deletes ≡ map delete_key_of (map (λ d. d.now) deletes)
-keys_now [] = refl
-keys_now (d ∷ ds) = ap (λ ks. delete_key_of d.now ∷ ks) (keys_now ds)
-
 -- the lines with these places, and that the places are within
-module _ (deletes files : List (Bor Entry)) (places : List Places)
-    (are : places ≡ map (λ x. places_of (enumerate_from 0 (map (λ d. delete_key_of d.now) deletes)) (data_key_of x.now))
-    files) where
-  abbrev found : List Entry
-  found = map (λ (d : Bor Entry). d.now) deletes
+module _ (deletes files : List Entry) (places : List Places)
+    (are : places ≡ map (λ x. places_of (enumerate_from 0 (map delete_key_of deletes)) (data_key_of x)) files) where
+  pub lines_are : lines_at deletes files places ≡ map (line_of deletes) files
+  lines_are = ap (lines_at deletes files) are ∙ each_line_is deletes files
 
-  same : places ≡ map (λ x. places_of (enumerate_from 0 (map delete_key_of found)) (data_key_of x.now)) files
-  same = are ∙ ap (λ ks. map (λ (x : Bor Entry). places_of (enumerate_from 0 ks) (data_key_of x.now)) files)
-      (keys_now deletes)
-
-  pub lines_are : lines_at (map (λ d. d.now) deletes) (map (λ x. x.now) files) places ≡ map
-      (line_of (map (λ d. d.now) deletes)) (map (λ x. x.now) files)
-  lines_are = ap (λ ps. lines_at found (map (λ (x : Bor Entry). x.now) files) ps) same ∙ each_line_is found files
-
-  pub lines_fit : AreLinesOf (map (λ x. x.now) files) (map (λ d. d.now) deletes) places
-  lines_fit = subst (λ (ps : List Places). AreLinesOf (map (λ (x : Bor Entry). x.now) files) found ps) (sym same)
-      (record { each = one_each found files; within = each_within found files })
+  pub lines_fit : AreLinesOf files deletes places
+  lines_fit = subst (λ (ps : List Places). AreLinesOf files deletes ps) (sym are)
+      (record { each = one_each deletes files; within = each_within deletes files })

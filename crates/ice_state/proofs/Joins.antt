@@ -1,7 +1,7 @@
 -- The laws of the union.
 use Rattle.std.proofs.Common.{◌≡◌, ◌||◌, List, [], ◌∷◌, refl, ap, Bool, true, false, Option, Some, None}
 use Rattle.ice_manifest_reading.specs.declared.row.Row.{Row}
-use Rattle.ice_state.specs.declared.reading.Reading.{Reading}
+use Rattle.ice_state.specs.Readings.{Reading}
 use Rattle.ice_state.specs.Contents.{Content, World, slot_of, slots_of, or_else}
 use Rattle.ice_state.specs.Joins.{join, either, Agree, AgreeAt}
 use Rattle.ice_state.specs.Scans.{Scanned}

@@ -1,7 +1,7 @@
 -- The numbers of the delete files of each kind that apply, by what an index lends.
 use Rattle.std.proofs.Common.{◌≡◌, ℕ, Bool, true, false, not, ◌&&◌, List, [], ◌∷◌, ◌++◌, map, filter, refl, ap, subst}
 use Rattle.std.proofs.Common.{◌∙◌}
-use Rattle.std.proofs.Common.{is_none, is_some, Bor}
+use Rattle.std.proofs.Common.{is_none, is_some}
 use Rattle.std.specs.List.{enumerate_from}
 use Rattle.std.specs.List.Sorted.{IsPermutation}
 use Rattle.std.proofs.lemmas.List.{map-append}
@@ -116,12 +116,11 @@ equalities_stay d = go d.content where
 
 -- the places that an index of files gives are those that the files give by their own places
 pub all_by_place : (files : List DeleteKey) (index : List (ℕ × DeleteKey))
-    → IsPermutation (numbered_deletes files) index → (xs : List (Bor Entry))
-    → map (λ x. places_of index (data_key_of x.now)) xs
-    ≡ map (λ x. places_of (enumerate_from 0 files) (data_key_of x.now)) xs
+    → IsPermutation (numbered_deletes files) index → (xs : List Entry)
+    → map (λ x. places_of index (data_key_of x)) xs ≡ map (λ x. places_of (enumerate_from 0 files) (data_key_of x)) xs
 all_by_place files index same [] = refl
 all_by_place files index same (x ∷ xs) = rw (
-  numbers_by_place PositionDeletes positions_stay files index same (data_key_of x.now),
-  numbers_by_place EqualityDeletes equalities_stay files index same (data_key_of x.now),
+  numbers_by_place PositionDeletes positions_stay files index same (data_key_of x),
+  numbers_by_place EqualityDeletes equalities_stay files index same (data_key_of x),
   all_by_place files index same xs,
 ) refl

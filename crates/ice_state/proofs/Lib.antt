@@ -9,6 +9,7 @@ pub mod Gains
 pub mod Joins
 pub mod Lent
 pub mod Planned
+pub mod Named
 pub mod OfSpecs
 pub mod Outcomes
 pub mod Places
@@ -17,6 +18,7 @@ pub mod Runs
 pub mod Scanning
 pub mod Scans
 pub mod Sharing
+pub mod Slots
 pub mod Snapshots
 pub mod Specs
 pub mod Unfiltered

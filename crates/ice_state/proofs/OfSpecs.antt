@@ -13,7 +13,7 @@ use Rattle.ice_manifest_reading.proofs.Contents.{are_of_their_spec}
 use Rattle.ice_value.specs.declared.file_content.FileContent.TheVariants.{Data}
 use Rattle.ice_project.specs.Files.{file_may}
 use Rattle.ice_project.specs.Tuples.{part_meets}
-use Rattle.ice_state.specs.declared.reading.Reading.TheVariants.{Good}
+use Rattle.ice_state.specs.Readings.{Good}
 use Rattle.ice_state.specs.Contents.{World, live_by, manifest_of, reading, reading_of}
 use Rattle.ice_state.specs.Parts.{OfSpec, filtered_by, pruner_by, reading_by}
 use Rattle.ice_state.specs.Pruning.{Pruner, by_projection, holds, keeps, SaysItsSpec}

@@ -3,8 +3,8 @@ use Rattle.std.proofs.Common.{◌≡◌, ◌<◌, ◌≤◌, ℕ, zero, suc, Lis
 use Rattle.std.proofs.Common.{arith, drop, Option, Some, None, is_none}
 use Rattle.ice_manifest_reading.specs.declared.entry.Entry.{Entry}
 use Rattle.ice_manifest_reading.specs.declared.row.Row.{Row}
-use Rattle.ice_state.specs.declared.reading.Reading.{Reading}
-use Rattle.ice_state.specs.declared.reading.Reading.TheVariants.{Good, Bad}
+use Rattle.ice_state.specs.Readings.{Reading}
+use Rattle.ice_state.specs.Readings.{Good, Bad}
 use Rattle.ice_state.specs.Contents.{Content}
 use Rattle.ice_state.specs.Outcomes.{missing, bad, twice}
 use Rattle.ice_state.specs.Parts.{fault_of}

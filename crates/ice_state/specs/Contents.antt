@@ -7,8 +7,8 @@ use Rattle.ice_manifest_reading.specs.declared.entry.Live.{Live}
 use Rattle.ice_manifest_fields.specs.declared.fault.ManifestFault.{ManifestFault}
 use Rattle.ice_manifest_reading.specs.declared.row.Row.{Row}
 use Rattle.ice_manifest_reading.specs.Manifests.{live_of}
-use Rattle.ice_state.specs.declared.reading.Reading.{Reading}
-use Rattle.ice_state.specs.declared.reading.Reading.TheVariants.{Good, Bad}
+use Rattle.ice_state.specs.Readings.{Reading}
+use Rattle.ice_state.specs.Readings.{Good, Bad}
 use Rattle.ice_state.specs.Pruning.{Pruner, kept}
 use Rattle.ice_state.specs.Scans.{Scanned, pruner}
 use Rattle.ice_state.specs.Specs.{spec_of}

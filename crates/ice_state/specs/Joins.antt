@@ -1,6 +1,6 @@
 -- The union of what two partial states contain.
 use Rattle.std.specs.Prelude.{◌≡◌, Bool, ◌||◌, List, [], ◌∷◌, Option, Some, None}
-use Rattle.ice_state.specs.declared.reading.Reading.{Reading}
+use Rattle.ice_state.specs.Readings.{Reading}
 use Rattle.ice_state.specs.Contents.{Content, or_else}
 
 -- the union of two contents

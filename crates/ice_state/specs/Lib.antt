@@ -3,11 +3,14 @@ pub mod Contents
 pub mod Covering
 pub mod Joins
 pub mod Lines
+pub mod Named
 pub mod Outcomes
 pub mod Parts
 pub mod Pruning
+pub mod Readings
 pub mod Runs
 pub mod Scans
 pub mod Shares
+pub mod Slots
 pub mod Snapshots
 pub mod Specs

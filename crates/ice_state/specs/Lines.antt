@@ -1,7 +1,9 @@
 -- The lines of a plan, and how a plan keeps them.
-use Rattle.std.specs.Prelude.{◌≡◌, ℕ, ◌<◌, zero, suc, List, [], ◌∷◌, ◌++◌, length, map}
+use Rattle.std.specs.Prelude.{◌≡◌, ℕ, ◌<◌, zero, suc, List, [], ◌∷◌, length}
 use Rattle.std.specs.List.{flat_map, AllByRecursion}
 use Rattle.ice_manifest_reading.specs.declared.entry.Entry.{Entry}
+use Rattle.ice_entries.specs.Kept.{Kept, AreKept, entries_at as kept_at}
+use Rattle.ice_entries.specs.declared.entries.EntryNumber.{EntryNumber}
 use Rattle.ice_state.specs.declared.lines.Files.{Files}
 use Rattle.ice_state.specs.declared.lines.Places.{Places}
 
@@ -11,9 +13,12 @@ pub record OwnedLine : Type 0 where
   pub positions : List Entry
   pub equalities : List Entry
 
--- the entries of a table of files
+-- the entries of a plan's files
 abbrev pub entries_of : Files → List Entry
-entries_of files = map (λ x. x.now) files.lent.now ++ files.owned.now
+entries_of files = kept_at files.entries.now files.numbers.now
+
+abbrev pub AreFiles : Files → Type 0
+AreFiles files = AreKept files.entries.now files.numbers.now
 
 -- the entry at a place, where there is one
 abbrev pub entry_at : List Entry → ℕ → List Entry
@@ -49,3 +54,12 @@ IsLineWithin n places = AreWithin n places.positions × AreWithin n places.equal
 pub record AreLinesOf (files deletes : List Entry) (places : List Places) : Type 0 where
   pub each : length places ≡ length files
   pub within : AllByRecursion (IsLineWithin (length deletes)) places
+
+-- lines by the numbers of the entries
+abbrev pub lines_of : Kept → List EntryNumber → List EntryNumber → List Places → List OwnedLine
+lines_of kept deletes files places = lines_at (kept_at kept deletes) (kept_at kept files) places
+
+pub record ArePlanned (kept : Kept) (deletes files : List EntryNumber) (places : List Places) : Type 0 where
+  pub files : AreKept kept files
+  pub deletes : AreKept kept deletes
+  pub lines : AreLinesOf (kept_at kept files) (kept_at kept deletes) places

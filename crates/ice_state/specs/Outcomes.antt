@@ -12,8 +12,8 @@ use Rattle.ice_manifest_reading.specs.declared.row.Row.{Row}
 use Rattle.ice_state.specs.declared.fault.FinishFault.{FinishFault}
 use Rattle.ice_state.specs.declared.fault.FinishFault.TheVariants as faults
 use Rattle.ice_state.specs.Lines.{OwnedLine}
-use Rattle.ice_state.specs.declared.reading.Reading.{Reading}
-use Rattle.ice_state.specs.declared.reading.Reading.TheVariants.{Good, Bad}
+use Rattle.ice_state.specs.Readings.{Reading}
+use Rattle.ice_state.specs.Readings.{Good, Bad}
 use Rattle.ice_state.specs.Applying.{applies}
 use Rattle.ice_state.specs.Contents.{Content}
 use Rattle.ice_state.specs.Pruning.{holds}

@@ -23,8 +23,8 @@ use Rattle.ice_state.specs.declared.fault.FinishFault.TheVariants as faults
 use Rattle.ice_state.specs.declared.fault.ScanFault.{ScanFault}
 use Rattle.ice_state.specs.declared.fault.ScanFault.TheVariants.{NoSuchSpec}
 use Rattle.ice_state.specs.declared.lines.Places.{Places}
-use Rattle.ice_state.specs.declared.reading.Reading.{Reading}
-use Rattle.ice_state.specs.declared.reading.Reading.TheVariants.{Good, Bad}
+use Rattle.ice_state.specs.Readings.{Reading}
+use Rattle.ice_state.specs.Readings.{Good, Bad}
 use Rattle.ice_state.specs.Contents.{Content, or_else, reading}
 use Rattle.ice_state.specs.Pruning.{Pruner, holds, summaries_allow}
 use Rattle.ice_state.specs.Scans.{Scanned}
@@ -114,6 +114,17 @@ abbrev pub gains : Content → Content → Content
 gains [] ds = []
 gains (c ∷ cs) [] = []
 gains (c ∷ cs) (d ∷ ds) = gain_of c d ∷ gains cs ds
+
+-- no row is taken in both
+abbrev pub IsApart : Option Reading → Option Reading → Type 0
+IsApart (Some r) (Some q) = ⊥
+IsApart None d = Unit {0}
+IsApart (Some r) None = Unit {0}
+
+abbrev pub AreApart : Content → Content → Type 0
+AreApart [] ds = Unit {0}
+AreApart (c ∷ cs) [] = Unit {0}
+AreApart (c ∷ cs) (d ∷ ds) = IsApart c d × AreApart cs ds
 
 -- the fault of a bad manifest
 abbrev pub fault_of : Option Reading → Option ManifestFault

@@ -4,26 +4,32 @@ ghost use Rattle.std.specs.Prelude.{◌≡◌, [], ◌++◌, length, map, IfOk, 
 ghost use Rattle.std.specs.List.{enumerate_from};
 ghost use Rattle.std.specs.Option.{option_copied};
 ghost use Rattle.contract_words.specs.Outcome.{Gives};
+ghost use Rattle.ice_entries.specs.Kept.{Kept, AreKept, entries_at};
 ghost use Rattle.ice_value.specs.declared.file_content.FileContent.TheVariants.{Data};
 ghost use Rattle.ice_state.specs.Applying.{data_key_of, delete_key_of};
+ghost use Rattle.ice_state.specs.Named.{entry_named, IsNamed, AreNamed, entries_named};
 ghost use Rattle.ice_state.specs.Outcomes.{missing, bad, twice, kept_in, by_path, plan_over, outcome_of};
 ghost use Rattle.ice_state.specs.Parts.{fault_of, Stops, holds_deletes, places_of};
 ghost use Rattle.ice_state.specs.Pruning.{holds};
+ghost use Rattle.ice_state.specs.Slots.{contents, given, HaveNumbers};
 
 use crate::deletes::{places_for, records};
 use crate::fault::FinishFault;
 use crate::lines::Places;
 use crate::plan::Plan;
-use crate::reading::Reading;
+use crate::taken::Taken;
+use contract_words::Items;
 use ice_deletes::DeleteIndex;
-use ice_manifest_reading::{Entry, ManifestFault, Row};
+use ice_entries::{Entries, EntryNumber};
+use ice_manifest_reading::{ManifestFault, Row};
 use ice_value::FileContent;
 use std::alloc::{AllocError, Global};
 
 /// Stops at the first row that wasn't taken.
-fn check_taken(alloc: Global, rows: &[Row], slots: &[Option<Reading>]) -> Result<(), FinishFault>
+fn check_taken(alloc: Global, rows: &[Row], slots: &[Option<Taken>]) -> Result<(), FinishFault>
     requires { length rows.now ≡ length slots.now }
-    ensures { MatchResult result (λ _. missing rows.now slots.now ≡ []) (λ f. Stops f (missing rows.now slots.now)) }
+    ensures { (kept : Kept) → MatchResult result (λ _. missing rows.now (contents kept slots.now) ≡ [])
+        (λ f. Stops f (missing rows.now (contents kept slots.now))) }
 {
     for i in 0..rows.len() {
         if slots[i].is_none() {
@@ -34,19 +40,20 @@ fn check_taken(alloc: Global, rows: &[Row], slots: &[Option<Reading>]) -> Result
 }
 
 /// The fault of a bad manifest.
-fn fault_in(slot: &Option<Reading>) -> Option<&ManifestFault>
-    ensures { option_copied result ≡ fault_of slot.now }
+fn fault_in(slot: &Option<Taken>) -> Option<&ManifestFault>
+    ensures { (kept : Kept) → option_copied result ≡ fault_of (option_map (given kept) slot.now) }
 {
     match slot {
-        Some(Reading::Bad(fault)) => Some(fault),
+        Some(Taken::Bad(fault)) => Some(fault),
         _ => None,
     }
 }
 
 /// Stops at the first bad row.
-fn check_good(alloc: Global, rows: &[Row], slots: &[Option<Reading>]) -> Result<(), FinishFault>
+fn check_good(alloc: Global, rows: &[Row], slots: &[Option<Taken>]) -> Result<(), FinishFault>
     requires { length rows.now ≡ length slots.now }
-    ensures { MatchResult result (λ _. bad rows.now slots.now ≡ []) (λ f. Stops f (bad rows.now slots.now)) }
+    ensures { (kept : Kept) → MatchResult result (λ _. bad rows.now (contents kept slots.now) ≡ [])
+        (λ f. Stops f (bad rows.now (contents kept slots.now))) }
 {
     for i in 0..rows.len() {
         if let Some(fault) = fault_in(&slots[i]) {
@@ -56,111 +63,180 @@ fn check_good(alloc: Global, rows: &[Row], slots: &[Option<Reading>]) -> Result<
     Ok(())
 }
 
+/// A kept entry by its path.
+#[derive(Clone, Copy, Debug, Drop)]
+struct Named<'a> {
+    path: &'a [u8],
+    number: EntryNumber,
+}
+
 /// Stops at the first path that two neighbours share.
-fn check_once(alloc: Global, entries: &[&Entry]) -> Result<(), FinishFault>
-    ensures { MatchResult result (λ _. twice (map (λ x. x.now) entries.now) ≡ [])
-        (λ f. Stops f (twice (map (λ x. x.now) entries.now))) }
+fn check_once(alloc: Global, entries: &Entries, named: &[Named<'_>]) -> Result<(), FinishFault>
+    requires { AreNamed entries.now named.now }
+    ensures { MatchResult result (λ _. twice (entries_named entries.now named.now) ≡ [])
+        (λ f. Stops f (twice (entries_named entries.now named.now))) }
 {
-    for i in 1..entries.len() {
-        let before = entries[i - 1];
-        if before.file.path.as_slice() == entries[i].file.path.as_slice() {
-            return Err(FinishFault::PathTwice(before.file.path.copy(alloc)?));
+    for i in 1..named.len() {
+        let before = named[i - 1].path;
+        if before == named[i].path {
+            return Err(FinishFault::PathTwice(Items::from_vec(before.to_vec(alloc)?)));
         }
     }
     Ok(())
 }
 
-fn push_entries<'a>(found: &mut Vec<&'a Entry>, entries: &'a [Entry]) -> Result<(), AllocError>
-    ensures { OnOk result (map (λ x. x.now) found.new.items ≡ map (λ x. x.now) found.old.items ++ entries.now) }
+/// Puts kept entries last.
+fn push_named<'a>(
+    found: &mut Vec<Named<'a>>,
+    entries: &'a Entries,
+    numbers: &[EntryNumber],
+) -> Result<(), AllocError>
+    requires { AreKept entries.now numbers.now }
+    ensures named { AreNamed entries.now found.old.items → AreNamed entries.now found.new.items }
+    ensures pushed { OnOk result (entries_named entries.now found.new.items
+        ≡ entries_named entries.now found.old.items ++ entries_at entries.now numbers.now) }
 {
-    'entries: for entry in entries {
-        found.push(entry)?;
+    'numbers: for number in numbers {
+        found.push(Named {
+            path: entries.path(*number),
+            number: *number,
+        })?;
     }
     Ok(())
 }
 
+/// How many entries are kept of all rows.
+fn count(slots: &[Option<Taken>]) -> usize {
+    let mut count: usize = 0;
+    for slot in slots {
+        if let Some(Taken::Good(numbers)) = slot {
+            count = count.saturating_add(numbers.as_slice().len());
+        }
+    }
+    count
+}
+
 /// The kept entries, row by row.
-fn gathered<'a>(alloc: Global, slots: &'a [Option<Reading>]) -> Result<Vec<&'a Entry>, AllocError>
-    ensures { IfOk result (λ found. map (λ x. x.now) found.items ≡ kept_in slots.now) }
+fn gathered<'a>(
+    alloc: Global,
+    entries: &'a Entries,
+    slots: &[Option<Taken>],
+) -> Result<Vec<Named<'a>>, AllocError>
+    requires { HaveNumbers entries.now slots.now }
+    ensures named { IfOk result (λ found. AreNamed entries.now found.items) }
+    ensures all { IfOk result (λ found. entries_named entries.now found.items
+        ≡ kept_in (contents entries.now slots.now)) }
 {
-    let mut found = Vec::new(alloc);
+    let mut found = Vec::with_capacity(alloc, count(slots))?;
     'slots: for slot in slots {
-        if let Some(Reading::Good(entries)) = slot {
-            push_entries(&mut found, entries.as_slice())?;
+        if let Some(Taken::Good(numbers)) = slot {
+            push_named(&mut found, entries, numbers.as_slice())?;
         }
     }
     Ok(found)
 }
 
 /// Puts entries in the order of their paths.
-fn sort_by_path(entries: &mut Vec<&Entry>) -> Result<(), AllocError>
-    ensures { OnOk result (map (λ x. x.now) entries.new.items ≡ by_path (map (λ x. x.now) entries.old.items)) }
+fn sort_by_path(named: &mut Vec<Named<'_>>) -> Result<(), AllocError>
+    ensures named { (kept : Kept) → AreNamed kept named.old.items → AreNamed kept named.new.items }
+    ensures sorted { (kept : Kept) → AreNamed kept named.old.items →
+        OnOk result (entries_named kept named.new.items ≡ by_path (entries_named kept named.old.items)) }
 {
-    entries.sort_by(|a, b| a.file.path.as_slice().cmp(b.file.path.as_slice()))?;
+    named.sort_by(|a, b| a.path.cmp(b.path))?;
     Ok(())
 }
 
 /// Those of the entries whose files hold data.
-fn data_files<'a>(alloc: Global, entries: &[&'a Entry]) -> Result<Vec<&'a Entry>, AllocError>
-    ensures { IfOk result (λ found. map (λ x. x.now) found.items ≡ filter (holds Data) (map (λ x. x.now) entries.now)) }
+fn data_files(
+    alloc: Global,
+    entries: &Entries,
+    named: &[Named<'_>],
+) -> Result<Vec<EntryNumber>, AllocError>
+    requires { AreNamed entries.now named.now }
+    ensures kept { IfOk result (λ found. AreKept entries.now found.items) }
+    ensures data { IfOk result (λ found. entries_at entries.now found.items
+        ≡ filter (holds Data) (entries_named entries.now named.now)) }
 {
     let mut found = Vec::new(alloc);
-    'entries: for x in entries {
-        if x.file.content == FileContent::Data {
-            found.push(*x)?;
+    'named: for x in named {
+        if entries.entry(x.number).content == FileContent::Data {
+            found.push(x.number)?;
         }
     }
     Ok(found)
 }
 
 /// Those of the entries whose files hold deletes.
-fn delete_files<'a>(alloc: Global, entries: &[&'a Entry]) -> Result<Vec<&'a Entry>, AllocError>
-    ensures { IfOk result (λ found. map (λ d. d.now) found.items
-        ≡ filter holds_deletes (map (λ d. d.now) entries.now)) }
+fn delete_files(
+    alloc: Global,
+    entries: &Entries,
+    named: &[Named<'_>],
+) -> Result<Vec<EntryNumber>, AllocError>
+    requires { AreNamed entries.now named.now }
+    ensures kept { IfOk result (λ found. AreKept entries.now found.items) }
+    ensures deletes { IfOk result (λ found. entries_at entries.now found.items
+        ≡ filter holds_deletes (entries_named entries.now named.now)) }
 {
     let mut found = Vec::new(alloc);
-    'entries: for d in entries {
-        if d.file.content != FileContent::Data {
-            found.push(*d)?;
+    'named: for d in named {
+        if entries.entry(d.number).content != FileContent::Data {
+            found.push(d.number)?;
         }
     }
     Ok(found)
 }
 
 /// The places of the delete files that apply, for each of the data files.
-fn lines(alloc: Global, files: &[&Entry], deletes: &[&Entry]) -> Result<Vec<Places>, AllocError>
+fn lines(
+    alloc: Global,
+    entries: &Entries,
+    files: &[EntryNumber],
+    deletes: &[EntryNumber],
+) -> Result<Vec<Places>, AllocError>
+    requires files { AreKept entries.now files.now }
+    requires deletes { AreKept entries.now deletes.now }
     ensures { IfOk result (λ places. places.items
-        ≡ map (λ x. places_of (enumerate_from 0 (map (λ d. delete_key_of d.now) deletes.now)) (data_key_of x.now))
-        files.now) }
+        ≡ map (λ x. places_of (enumerate_from 0 (map delete_key_of (entries_at entries.now deletes.now)))
+        (data_key_of x)) (entries_at entries.now files.now)) }
 {
-    let records = records(alloc, deletes)?;
+    let records = records(alloc, entries, deletes)?;
     let index = DeleteIndex::build(alloc, &records)?;
-    looked_up(alloc, files, &index)
+    looked_up(alloc, entries, files, &index)
 }
 
 /// The places of the delete files of the index that apply, for each of the data files.
 fn looked_up(
     alloc: Global,
-    files: &[&Entry],
+    entries: &Entries,
+    files: &[EntryNumber],
     index: &DeleteIndex,
 ) -> Result<Vec<Places>, AllocError>
-    ensures { IfOk result (λ places. places.items ≡ map (λ x. places_of index.now (data_key_of x.now)) files.now) }
+    requires { AreKept entries.now files.now }
+    ensures { IfOk result (λ places. places.items
+        ≡ map (λ x. places_of index.now (data_key_of x)) (entries_at entries.now files.now)) }
 {
     let mut places = Vec::with_capacity(alloc, files.len())?;
-    'files: for x in files {
-        places.push(places_for(alloc, index, x)?)?;
+    'files: for file in files {
+        places.push(places_for(alloc, index, entries.entry(*file))?)?;
     }
     Ok(places)
 }
 
 /// A line for each data file.
-fn planned<'a>(alloc: Global, entries: &[&'a Entry]) -> Result<Plan<'a>, AllocError>
-    ensures { IfOk result (λ plan. plan ≡ plan_over (map (λ d. d.now) entries.now) (map (λ d. d.now) entries.now)) }
+fn planned<'a>(
+    alloc: Global,
+    entries: &'a Entries,
+    named: &[Named<'_>],
+) -> Result<Plan<'a>, AllocError>
+    requires { AreNamed entries.now named.now }
+    ensures { IfOk result (λ plan. plan
+        ≡ plan_over (entries_named entries.now named.now) (entries_named entries.now named.now)) }
 {
-    let files = data_files(alloc, entries)?;
-    let deletes = delete_files(alloc, entries)?;
-    let places = lines(alloc, &files, &deletes)?;
+    let files = data_files(alloc, entries, named)?;
+    let deletes = delete_files(alloc, entries, named)?;
+    let places = lines(alloc, entries, &files, &deletes)?;
     Ok(Plan {
+        entries,
         files,
         deletes,
         places,
@@ -171,15 +247,18 @@ fn planned<'a>(alloc: Global, entries: &[&'a Entry]) -> Result<Plan<'a>, AllocEr
 pub fn plan_or_fault<'a>(
     alloc: Global,
     rows: &[Row],
-    slots: &'a [Option<Reading>],
+    entries: &'a Entries,
+    slots: &[Option<Taken>],
 ) -> Result<Plan<'a>, FinishFault>
-    requires { length rows.now ≡ length slots.now }
-    ensures { Gives FinishFault.Memory (λ plan. plan) result (outcome_of rows.now slots.now) }
+    requires each { length rows.now ≡ length slots.now }
+    requires numbers { HaveNumbers entries.now slots.now }
+    ensures { Gives FinishFault.Memory (λ plan. plan) result
+        (outcome_of rows.now (contents entries.now slots.now)) }
 {
     check_taken(alloc, rows, slots)?;
     check_good(alloc, rows, slots)?;
-    let mut entries = gathered(alloc, slots)?;
-    sort_by_path(&mut entries)?;
-    check_once(alloc, &entries)?;
-    Ok(planned(alloc, &entries)?)
+    let mut named = gathered(alloc, entries, slots)?;
+    sort_by_path(&mut named)?;
+    check_once(alloc, entries, &named)?;
+    Ok(planned(alloc, entries, &named)?)
 }

@@ -1,11 +1,10 @@
 //! Copying a plan out of its state.
 
-ghost use Rattle.std.specs.Prelude.{◌≡◌, map, IfOk};
+ghost use Rattle.std.specs.Prelude.{◌≡◌, IfOk};
 
 use crate::lines::Places;
 use crate::plan::{OwnedPlan, Plan};
 use contract_words::Items;
-use ice_manifest_reading::Entry;
 use std::alloc::{AllocError, Global};
 
 impl<'a> Plan<'a> {
@@ -14,21 +13,12 @@ impl<'a> Plan<'a> {
         ensures { IfOk result (λ plan. plan ≡ self.now) }
     {
         Ok(OwnedPlan {
-            files: copied_entries(alloc, &self.files)?,
-            deletes: copied_entries(alloc, &self.deletes)?,
+            entries: self.entries.copy(alloc)?,
+            files: self.files.to_vec(alloc)?,
+            deletes: self.deletes.to_vec(alloc)?,
             places: copied_places(alloc, &self.places)?,
         })
     }
-}
-
-fn copied_entries(alloc: Global, entries: &[&Entry]) -> Result<Vec<Entry>, AllocError>
-    ensures { IfOk result (λ copied. copied.items ≡ map (λ d. d.now) entries.now) }
-{
-    let mut copied = Vec::with_capacity(alloc, entries.len())?;
-    'entries: for entry in entries {
-        copied.push(entry.copy(alloc)?)?;
-    }
-    Ok(copied)
 }
 
 fn copied_places(alloc: Global, lines: &[Places]) -> Result<Vec<Places>, AllocError>

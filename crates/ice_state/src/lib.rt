@@ -7,11 +7,13 @@ mod finish;
 mod keep;
 pub mod laws;
 mod lines;
+mod merging;
 mod partial;
 mod plan;
 mod pruning;
-mod reading;
 mod scan;
+mod slots;
+mod taken;
 
 pub use fault::{FinishFault, ScanFault};
 pub use lines::{Line, Lines, PlanFile, PlanFiles};

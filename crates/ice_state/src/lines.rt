@@ -1,46 +1,31 @@
-//! The lines of a plan as they are lent: whoever owns the files, callers see the same.
+//! The lines of a plan as they are lent: whoever owns the entries, callers see the same.
 
-ghost use Rattle.std.specs.Prelude.{◌≡◌, ◌<◌, ◌^◌, length, map, Some, slice_get};
+ghost use Rattle.std.specs.Prelude.{◌≡◌, ◌<◌, ◌^◌, length, Some, slice_get};
+ghost use Rattle.ice_manifest_reading.specs.Lending.{lent};
 
 use contract_words::Items;
-use ice_manifest_reading::Entry;
+use ice_entries::{Entries, EntryNumber};
+use ice_manifest_reading::LentEntry;
 use ice_value::SequenceNumber;
 use std::marker::Model;
 
-/// Files of a plan: those that a state lends, and then those that the plan owns.
+/// Files of a plan, by the numbers of their entries.
 #[derive(Clone, Copy, Debug)]
 pub(crate) struct Files<'a> {
-    lent: &'a [&'a Entry],
-    owned: &'a [Entry],
+    pub(crate) entries: &'a Entries,
+    pub(crate) numbers: &'a [EntryNumber],
 }
 
 impl<'a> Files<'a> {
-    ghost use Rattle.ice_state.specs.Lines.{entries_of};
-
-    /// Files of a state.
-    pub(crate) fn lent(lent: &'a [&'a Entry]) -> Files<'a>
-        ensures { entries_of result ≡ map (λ x. x.now) lent.now }
-    {
-        Files { lent, owned: &[] }
-    }
-
-    /// Files of a plan.
-    pub(crate) fn owned(owned: &'a [Entry]) -> Files<'a>
-        ensures { entries_of result ≡ owned.now }
-    {
-        Files { lent: &[], owned }
-    }
+    ghost use Rattle.ice_state.specs.Lines.{entries_of, AreFiles};
 
     /// The entry at a place.
-    pub(crate) fn entry(&self, i: usize) -> &'a Entry
-        requires { i < length (entries_of self.now) }
-        ensures { slice_get (entries_of self.now) i ≡ Some result.now }
+    pub(crate) fn entry(&self, i: usize) -> LentEntry<'a>
+        requires kept { AreFiles self.now }
+        requires within { i < length (entries_of self.now) }
+        ensures { slice_get (entries_of self.now) i ≡ Some (lent result) }
     {
-        if i < self.lent.len() {
-            self.lent[i]
-        } else {
-            &self.owned[i - self.lent.len()]
-        }
+        self.entries.entry(self.numbers[i])
     }
 }
 
@@ -54,15 +39,16 @@ pub(crate) struct Places {
 /// A file of a plan.
 #[derive(Debug, Drop)]
 pub struct PlanFile<'a> {
-    entry: &'a Entry,
+    entry: LentEntry<'a>,
 }
 
 impl<'a> Model for PlanFile<'a> {
     ghost use Rattle.ice_manifest_reading.specs.declared.entry.Entry.{Entry};
+    ghost use Rattle.ice_manifest_reading.specs.Lending.{lent};
 
     ghost Value = { Entry };
 
-    ghost view = { λ f. f.entry.now };
+    ghost view = { λ f. lent f.entry };
 }
 
 impl<'a> PlanFile<'a> {
@@ -70,7 +56,7 @@ impl<'a> PlanFile<'a> {
     pub fn path(&self) -> &[u8]
         ensures { result.now ≡ self.now.file.path }
     {
-        self.entry.file.path.as_slice()
+        self.entry.path
     }
 
     /// The id of its partition spec.
@@ -91,21 +77,21 @@ impl<'a> PlanFile<'a> {
     pub fn record_count(&self) -> i64
         ensures { result ≡ self.now.file.record_count }
     {
-        self.entry.file.record_count
+        self.entry.record_count
     }
 
     /// How many bytes it has, as its manifest says; any number.
     pub fn file_size(&self) -> i64
         ensures { result ≡ self.now.file.file_size }
     {
-        self.entry.file.file_size
+        self.entry.file_size
     }
 
     /// The ids of the columns by which an equality delete file deletes.
     pub fn equality_ids(&self) -> &[i32]
         ensures { result.now ≡ self.now.file.equality_ids }
     {
-        self.entry.file.equality_ids.as_slice()
+        self.entry.equality_ids
     }
 }
 
@@ -122,11 +108,14 @@ impl<'a> Model for PlanFiles<'a> {
 
     ghost Value = { List Entry };
 
-    ghost use Rattle.ice_state.specs.Lines.{entries_of, entries_at, AreWithin};
+    ghost use Rattle.ice_state.specs.Lines.{entries_of, entries_at, AreFiles, AreWithin};
 
     ghost view = { λ f. entries_at (entries_of f.files) f.places.now };
 
-    ghost invariant = { λ f. AreWithin (length (entries_of f.files)) f.places.now };
+    ghost invariant = { λ f. record {
+      files : AreFiles f.files;
+      within : AreWithin (length (entries_of f.files)) f.places.now;
+    } };
 }
 
 impl<'a> PlanFiles<'a> {
@@ -152,20 +141,24 @@ impl<'a> PlanFiles<'a> {
 /// A line of a plan: a data file, with the delete files that apply to it.
 #[derive(Debug, Drop)]
 pub struct Line<'a> {
-    file: &'a Entry,
+    file: LentEntry<'a>,
     deletes: Files<'a>,
     places: &'a Places,
 }
 
 impl<'a> Model for Line<'a> {
     ghost use Rattle.std.specs.Prelude.{length};
-    ghost use Rattle.ice_state.specs.Lines.{OwnedLine, entries_of, line_at, IsLineWithin};
+    ghost use Rattle.ice_manifest_reading.specs.Lending.{lent};
+    ghost use Rattle.ice_state.specs.Lines.{OwnedLine, entries_of, line_at, AreFiles, IsLineWithin};
 
     ghost Value = { OwnedLine };
 
-    ghost view = { λ l. line_at (entries_of l.deletes) l.file.now l.places.now };
+    ghost view = { λ l. line_at (entries_of l.deletes) (lent l.file) l.places.now };
 
-    ghost invariant = { λ l. IsLineWithin (length (entries_of l.deletes)) l.places.now };
+    ghost invariant = { λ l. record {
+      files : AreFiles l.deletes;
+      within : IsLineWithin (length (entries_of l.deletes)) l.places.now;
+    } };
 }
 
 impl<'a> Line<'a> {
@@ -207,13 +200,17 @@ pub struct Lines<'a> {
 
 impl<'a> Model for Lines<'a> {
     ghost use Rattle.std.specs.Prelude.{List};
-    ghost use Rattle.ice_state.specs.Lines.{OwnedLine, entries_of, lines_at, AreLinesOf};
+    ghost use Rattle.ice_state.specs.Lines.{OwnedLine, entries_of, lines_at, AreFiles, AreLinesOf};
 
     ghost Value = { List OwnedLine };
 
     ghost view = { λ l. lines_at (entries_of l.deletes) (entries_of l.files) l.places.now };
 
-    ghost invariant = { λ l. AreLinesOf (entries_of l.files) (entries_of l.deletes) l.places.now };
+    ghost invariant = { λ l. record {
+      files : AreFiles l.files;
+      deletes : AreFiles l.deletes;
+      lines : AreLinesOf (entries_of l.files) (entries_of l.deletes) l.places.now;
+    } };
 }
 
 impl<'a> Lines<'a> {

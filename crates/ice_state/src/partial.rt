@@ -10,7 +10,7 @@ ghost use Rattle.ice_state.specs.Contents.{HasEach};
 ghost use Rattle.ice_state.specs.Outcomes.{outcome};
 ghost use Rattle.ice_state.specs.Covering.{AreCovered};
 ghost use Rattle.ice_state.specs.Joins.{join, either, TookAllOf};
-ghost use Rattle.ice_state.specs.Parts.{with_row, gain_of, gains, is_gain};
+ghost use Rattle.ice_state.specs.Parts.{AreApart};
 ghost use Rattle.ice_state.specs.Pruning.{pruner_of};
 ghost use Rattle.ice_state.specs.Scans.{Scanned, IsScanOf};
 ghost use Rattle.ice_state.specs.Snapshots.{plan_of_snapshot};
@@ -18,16 +18,21 @@ ghost use Rattle.ice_state.specs.Snapshots.{plan_of_snapshot};
 use crate::fault::FinishFault;
 use crate::finish::plan_or_fault;
 use crate::laws::filtering;
-use crate::plan::Plan;
-use crate::reading::{Reading, read};
+use crate::merging::{are_apart, gained, has_taken_all_of};
+use crate::plan::{OwnedPlan, Plan};
 use crate::scan::Scan;
+use crate::slots::{is_slot_taken, put_all, put_row};
+use crate::taken::{Taken, take_manifest};
+use ice_entries::Entries;
 use std::alloc::{AllocError, Global};
 use std::marker::Model;
+use std::mem;
 
-/// What the wanted rows gave that were taken.
+/// What the wanted rows gave that were taken: of each the numbers of its kept entries, which are kept together.
 #[derive(Debug, Drop)]
 pub struct Partial {
-    slots: Vec<Option<Reading>>,
+    entries: Entries,
+    slots: Vec<Option<Taken>>,
     alloc: Global,
 }
 
@@ -36,7 +41,11 @@ impl Model for Partial {
 
     ghost Value = { Content };
 
-    ghost view = { λ p. p.slots.items };
+    ghost use Rattle.ice_state.specs.Slots.{contents, HaveNumbers};
+
+    ghost view = { λ p. contents p.entries p.slots.items };
+
+    ghost invariant = { λ p. HaveNumbers p.entries p.slots.items };
 }
 
 impl Partial {
@@ -50,7 +59,11 @@ impl Partial {
         for _ in 0..scan.wanted().len() {
             slots.push(None)?;
         }
-        Ok(Partial { slots, alloc })
+        Ok(Partial {
+            entries: Entries::new(alloc),
+            slots,
+            alloc,
+        })
     }
 
     /// Whether the wanted row `i` was taken; no row past the last was.
@@ -84,8 +97,14 @@ impl Partial {
             return Ok(());
         }
         let row = &scan.wanted()[i];
-        let reading = read(self.alloc, row, &scan.filter_of(i), bytes)?;
-        put_row(&mut self.slots, i, reading);
+        let taken = take_manifest(
+            self.alloc,
+            &mut self.entries,
+            row,
+            &scan.filter_of(i),
+            bytes,
+        )?;
+        put_row(&mut self.slots, i, taken);
         Ok(())
     }
 
@@ -107,9 +126,52 @@ impl Partial {
         if has_taken_all_of(&self.slots, &other.slots) {
             return Ok(());
         }
-        let gained = gained(self.alloc, &self.slots, &other.slots)?;
+        let gained = gained(
+            self.alloc,
+            &mut self.entries,
+            &self.slots,
+            &other.entries,
+            &other.slots,
+        )?;
         put_all(&mut self.slots, gained);
         Ok(())
+    }
+
+    /// The same as `merge`, of a state that nobody needs any more. Where the states took different rows, the one with
+    /// more entries keeps them where they are.
+    pub fn absorb(&mut self, mut other: Partial) -> Result<(), AllocError>
+        requires { length self.old ≡ length other }
+
+        ensures of_scan { (scan : Scanned) → IsOf scan self.old → IsOf scan self.new }
+        ensures known { TookAllOf self.old other → IsOk result }
+        ensures still { TookAllOf self.old other → self.new ≡ self.old }
+        ensures ok { OnOk result (self.new ≡ join self.old other) }
+        ensures err { OnErr result (self.new ≡ self.old) }
+        ensures world { (world : World) (scan : Scanned) (ts us : List Bool) →
+            self.old ≡ content world scan ts →
+            other ≡ content world scan us →
+            OnOk result (self.new ≡ content world scan (either ts us)) }
+    {
+        if !self.is_outgrown_by(&other) {
+            return self.merge(&other);
+        }
+        mem::swap(self, &mut other);
+        let merged = self.merge(&other);
+        if merged.is_err() {
+            mem::swap(self, &mut other);
+        }
+        merged
+    }
+
+    /// Whether the other has more entries, and took none of the rows that were taken here.
+    fn is_outgrown_by(&self, other: &Partial) -> bool
+        requires { length self.now ≡ length other.now }
+
+        ensures { IsTrue result → AreApart self.now other.now × (TookAllOf self.now other.now → ⊥) }
+    {
+        self.entries.len() < other.entries.len()
+            && are_apart(&self.slots, &other.slots)
+            && !has_taken_all_of(&self.slots, &other.slots)
     }
 
     /// The plan, or what keeps the content from being one.
@@ -128,86 +190,33 @@ impl Partial {
             (plan_of_snapshot (pruner_of scan.now.filter specs) world specs rows) }
     {
         filtering();
-        plan_or_fault(self.alloc, scan.wanted(), &self.slots)
+        plan_or_fault(self.alloc, scan.wanted(), &self.entries, &self.slots)
     }
-}
 
-/// Whether the row was taken.
-fn is_slot_taken(slots: &[Option<Reading>], i: usize) -> bool
-    requires { i < length slots.now }
-    ensures test { result ≡ is_row_taken slots.now i }
-    ensures kept { IsTrue result → (scan : Scanned) (bytes : List ℕ) → slots.now ≡ took scan slots.now i bytes }
-{
-    slots[i].is_some()
-}
+    /// The plan that `finish` gives, which takes the state's files over and copies none.
+    pub fn into_plan(self, scan: &Scan) -> Result<OwnedPlan, FinishFault>
+        requires { IsOf scan.now self }
 
-/// Adds a row.
-fn put_row(slots: &mut Vec<Option<Reading>>, i: usize, reading: Reading)
-    requires { i < vec_len slots.old }
-    ensures { slots.new.items ≡ with_row slots.old.items i reading }
-{
-    if slots[i].is_none() {
-        slots[i] = Some(reading);
-    }
-}
-
-/// Whether each row that the second slots took is taken in the first.
-fn has_taken_all_of(slots: &[Option<Reading>], other: &[Option<Reading>]) -> bool
-    requires { length slots.now ≡ length other.now }
-    ensures { IsTrue result ↔ TookAllOf slots.now other.now }
-{
-    for i in 0..slots.len() {
-        if is_gain(&slots[i], &other[i]) {
-            return false;
-        }
-    }
-    true
-}
-
-/// Whether a row that isn't taken in the first slot was taken in the other.
-fn is_gain(slot: &Option<Reading>, other: &Option<Reading>) -> bool
-    ensures { result ≡ is_gain slot.now other.now }
-{
-    matches!((slot, other), (None, Some(_)))
-}
-
-/// What the first slots lack of the second.
-fn gained(
-    alloc: Global,
-    slots: &[Option<Reading>],
-    other: &[Option<Reading>],
-) -> Result<Vec<Option<Reading>>, AllocError>
-    requires { length slots.now ≡ length other.now }
-    ensures { IfOk result (λ gained. gained.items ≡ gains slots.now other.now) }
-{
-    let mut gained = Vec::with_capacity(alloc, slots.len())?;
-    for i in 0..slots.len() {
-        gained.push(gain(alloc, &slots[i], &other[i])?)?;
-    }
-    Ok(gained)
-}
-
-fn gain(
-    alloc: Global,
-    slot: &Option<Reading>,
-    other: &Option<Reading>,
-) -> Result<Option<Reading>, AllocError>
-    ensures { IfOk result (λ gained. gained ≡ gain_of slot.now other.now) }
-{
-    match (slot, other) {
-        (None, Some(reading)) => Ok(Some(reading.copy(alloc)?)),
-        _ => Ok(None),
-    }
-}
-
-/// Adds all that was gained.
-fn put_all(slots: &mut Vec<Option<Reading>>, mut gained: Vec<Option<Reading>>)
-    requires { vec_len gained ≤ vec_len slots.old }
-    ensures { slots.new.items ≡ join slots.old.items gained.items }
-{
-    while let Some(slot) = gained.pop() {
-        if let Some(reading) = slot {
-            put_row(slots, gained.len(), reading);
-        }
+        ensures outcome { Gives FinishFault.Memory (λ plan. plan) result (outcome scan.now self) }
+        ensures snapshot { (world : World) (rows : List Row) (specs : List Spec) →
+            IsScanOf rows specs scan.now →
+            AreCovered world specs rows →
+            HasEach world scan.now.wanted →
+            self ≡ content world scan.now (every_row scan.now) →
+            Gives FinishFault.Memory (λ plan. plan) result
+            (plan_of_snapshot (pruner_of scan.now.filter specs) world specs rows) }
+    {
+        let Plan {
+            entries: _,
+            files,
+            deletes,
+            places,
+        } = self.finish(scan)?;
+        Ok(OwnedPlan {
+            entries: self.entries,
+            files,
+            deletes,
+            places,
+        })
     }
 }

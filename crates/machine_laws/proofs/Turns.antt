@@ -17,7 +17,7 @@ use Rattle.ice_state.proofs.Contents.{took-content}
 use Rattle.ice_state.specs.Contents.{Content, HasBytes, HasBytesAt, IsOf, World, add, content, is_row_taken, reading_of}
 use Rattle.ice_state.specs.Contents.{slot_of, slots_of, took}
 use Rattle.ice_state.specs.Scans.{Scanned}
-use Rattle.ice_state.specs.declared.reading.Reading.{Reading}
+use Rattle.ice_state.specs.Readings.{Reading}
 use Rattle.ice_versions.specs.Histories.{History}
 use Rattle.machine_laws.proofs.Squares.{set_of_state, set_same, take_state, taken_where}
 use Rattle.machine_laws.specs.Playing.{ComesByTakes, IsOfTicket, takes}

@@ -9,7 +9,7 @@ use Rattle.ice_manifest_reading.specs.declared.row.Row.{Row}
 use Rattle.ice_manifest_reading.specs.Manifests.{entries}
 use Rattle.ice_state.specs.declared.fault.FinishFault.{FinishFault}
 use Rattle.ice_state.specs.declared.fault.FinishFault.TheVariants as faults
-use Rattle.ice_state.specs.declared.reading.Reading.TheVariants.{Good, Bad}
+use Rattle.ice_state.specs.Readings.{Good, Bad}
 use Rattle.ice_state.specs.Contents.{Content, World, IsOf, live_by, manifest_of, reading, reading_of, slot_of, slots_of}
 use Rattle.ice_state.specs.Contents.{content, is_row_taken}
 use Rattle.ice_state.specs.Lines.{OwnedLine}

@@ -66,13 +66,12 @@ pub returns-clause-snapshot : goal.returns-clause-snapshot
 returns-clause-snapshot g c = λ world rows specs told is covered.
     let some = c.in_ok-state.ensures.content world told in
     let whole = c.in_ok-take_wanted.ensures.taken world some.0 told some.1 in
-    rw c.in_ok-keep.ensures (c.in_ok-plan.ensures.snapshot world rows specs is covered (returns-clause-present g c world
-    told) whole.is)
+    c.in_ok-plan.ensures.snapshot world rows specs is covered (returns-clause-present g c world told) whole.is
 
 pub returns-clause-taken : goal.returns-clause-taken
 returns-clause-taken g c = (
   c.take_wanted.new.state,
   c.in_ok-take_wanted.ensures.of_scan,
   c.in_ok-take_wanted.ensures.whole,
-  rw c.in_ok-keep.ensures c.in_ok-plan.ensures.outcome,
+  c.in_ok-plan.ensures.outcome,
 )

@@ -1,5 +1,5 @@
-use Rattle.std.proofs.Common.{◌∙◌, ap, sym, refl}
-use Rattle.std.specs.Prelude.{Some, Ok}
+use Rattle.std.proofs.Common.{◌∙◌, ap, refl}
+use Rattle.std.specs.Prelude.{Some}
 use Rattle.std.specs.FinMap as map
 use Rattle.std.specs.Option.{option_map}
 use Rattle.ice_state.specs.Contents.{World, no_row}
@@ -18,4 +18,4 @@ returns-clause-plan c =
     (nothing_taken files scan c.in_ok-state.state (c.in_ok-state.ensures.world files)) in
     let plan = rw taken.is at c.in_ok-plan.ensures.outcome in
     let is = plan_there _ scan c.in_ok-plan.plan c.in_ok-scan.ensures.scan present plan in
-    ap (option_map plan_of_state) c.state.ensures ∙ ap Some (is ∙ ap Ok (sym c.in_ok-keep.ensures))
+    ap (option_map plan_of_state) c.state.ensures ∙ ap Some is

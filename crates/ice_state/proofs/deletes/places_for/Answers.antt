@@ -1,6 +1,7 @@
 use Rattle.std.proofs.Common.{◌≡◌, ◌++◌, refl}
 use Rattle.ice_value.specs.declared.file_content.FileContent.TheVariants.{PositionDeletes, EqualityDeletes}
 use Rattle.std.proofs.lemmas.List.Sorted.{IsPermutation-trans}
+use Rattle.ice_manifest_reading.specs.Lending.{lent as lent_entry}
 use Rattle.ice_state.specs.Applying.{data_key_of}
 use Rattle.ice_state.specs.Parts.{ascending, numbers_of}
 use Rattle.ice_state.proofs.Ascending.{one_ascends}
@@ -8,7 +9,7 @@ use Rattle.ice_state.proofs.deletes.places_for.Goals as goal
 
 pub returns : goal.returns
 returns c =
-    let x = data_key_of c.args.x.now in
+    let x = data_key_of (lent_entry c.args.x) in
     let index = c.args.index.now in
     let hits = c.deletes_for-hits.result in
     let found = c.deletes_for-hits.ensures in

@@ -1,7 +1,13 @@
-use Rattle.std.proofs.Common.{◌≡◌, take, map, filter}
+use Rattle.std.proofs.Common.{◌≡◌, take, filter}
+use Rattle.ice_entries.specs.Kept.{AreKept, entries_at}
 use Rattle.ice_value.specs.declared.file_content.FileContent.TheVariants.{Data}
+use Rattle.ice_state.specs.Named.{entries_named}
 use Rattle.ice_state.specs.Pruning.{holds}
 use Rattle.ice_state.proofs.finish.data_files.Given as goal
 
-abbrev pub invariant-entries : goal.invariant-entries
-invariant-entries l = map (λ x. x.now) l.found.items ≡ filter (holds Data) (map (λ x. x.now) (take l.x-index l.entries))
+abbrev pub invariant-named : goal.invariant-named
+invariant-named l = record {
+  kept : AreKept l.entries l.found.items;
+  data : entries_at l.entries l.found.items
+      ≡ filter (holds Data) (entries_named l.entries (take l.x-index l.named));
+}

@@ -5,4 +5,4 @@ use Rattle.ice_state.proofs.lines.Lines.len.Goals as goal
 
 pub returns-clause-counted : goal.returns-clause-counted
 returns-clause-counted c = sym (length-lines_at (entries_of c.self.inside.deletes) (entries_of c.self.inside.files)
-    c.self.inside.places.now c.self.invariant.each) ∙ ap length c.self.view_is
+    c.self.inside.places.now c.self.invariant.lines.each) ∙ ap length c.self.view_is

@@ -1,5 +1,6 @@
 use Rattle.std.proofs.Common.{◌∙◌, ◌<◌, arith, sym, ap, length, List}
 use Rattle.std.specs.List.{slice_get}
+use Rattle.ice_manifest_reading.specs.Lending.{lent}
 use Rattle.ice_state.specs.Lines.{OwnedLine, entries_of}
 use Rattle.ice_state.proofs.Places.{length-lines_at, lines_at-get, line_within-at}
 use Rattle.ice_state.proofs.lines.Lines.line.Goals as goal
@@ -11,7 +12,7 @@ bounds-self-inside-i c =
       c.requires,
       ap length c.self.view_is,
       length-lines_at (entries_of c.self.inside.deletes)
-          (entries_of c.self.inside.files) c.self.inside.places.now c.self.invariant.each,
+          (entries_of c.self.inside.files) c.self.inside.places.now c.self.invariant.lines.each,
     )
 
 pub entry-requires : goal.entry-requires
@@ -21,8 +22,8 @@ entry-requires c =
       c.requires,
       ap length c.self.view_is,
       length-lines_at (entries_of c.self.inside.deletes)
-          (entries_of c.self.inside.files) c.self.inside.places.now c.self.invariant.each,
-      c.self.invariant.each,
+          (entries_of c.self.inside.files) c.self.inside.places.now c.self.invariant.lines.each,
+      c.self.invariant.lines.each,
     )
 
 pub invariant_of-result : goal.invariant_of-result
@@ -32,10 +33,10 @@ invariant_of-result c =
       c.requires,
       ap length c.self.view_is,
       length-lines_at (entries_of c.self.inside.deletes) (entries_of c.self.inside.files) c.self.inside.places.now
-          c.self.invariant.each,
+          c.self.invariant.lines.each,
     ) in
     line_within-at (length (entries_of c.self.inside.deletes)) c.self.inside.places.now c.args.i c.index-self-i.result
-    c.self.invariant.within l
+    c.self.invariant.lines.within l
 
 pub returns : goal.returns
 returns c =
@@ -44,8 +45,8 @@ returns c =
       c.requires,
       ap length c.self.view_is,
       length-lines_at (entries_of c.self.inside.deletes) (entries_of c.self.inside.files) c.self.inside.places.now
-          c.self.invariant.each,
+          c.self.invariant.lines.each,
     ) in
     ap (λ (ls : List OwnedLine). slice_get ls c.args.i) (sym c.self.view_is)
     ∙ lines_at-get (entries_of c.self.inside.deletes) (entries_of c.self.inside.files) c.self.inside.places.now c.args.i
-    c.entry.result.now c.index-self-i.result l c.entry.ensures
+    (lent c.entry.result) c.index-self-i.result l c.entry.ensures

@@ -1,5 +1,6 @@
 use Rattle.std.proofs.Common.{◌∙◌, ◌<◌, arith, sym, ap, length, List}
 use Rattle.std.specs.List.{slice_get}
+use Rattle.ice_manifest_reading.specs.Lending.{lent}
 use Rattle.ice_manifest_reading.specs.declared.entry.Entry.{Entry}
 use Rattle.ice_state.specs.Lines.{entries_of}
 use Rattle.ice_state.proofs.Places.{length-entries_at, entries_at-get}
@@ -11,7 +12,7 @@ bounds-self-inside-i c = omega (
   c.requires,
   ap length c.self.view_is,
   length-entries_at
-      (entries_of c.self.inside.files) c.self.inside.places.now c.self.invariant,
+      (entries_of c.self.inside.files) c.self.inside.places.now c.self.invariant.within,
 )
 
 pub offset_bounds-self-inside-i : goal.offset_bounds-self-inside-i
@@ -20,7 +21,7 @@ offset_bounds-self-inside-i c =
       arith,
       c.requires,
       ap length c.self.view_is,
-      length-entries_at (entries_of c.self.inside.files) c.self.inside.places.now c.self.invariant,
+      length-entries_at (entries_of c.self.inside.files) c.self.inside.places.now c.self.invariant.within,
     ) in
     omega (arith, l, c.self.told.1)
 
@@ -30,8 +31,8 @@ returns c =
       arith,
       c.requires,
       ap length c.self.view_is,
-      length-entries_at (entries_of c.self.inside.files) c.self.inside.places.now c.self.invariant,
+      length-entries_at (entries_of c.self.inside.files) c.self.inside.places.now c.self.invariant.within,
     ) in
     ap (λ (xs : List Entry). slice_get xs c.args.i) (sym c.self.view_is)
-    ∙ entries_at-get (entries_of c.self.inside.files) c.self.inside.places.now c.args.i 0 c.entry.result.now
-    c.self.invariant l c.entry.ensures
+    ∙ entries_at-get (entries_of c.self.inside.files) c.self.inside.places.now c.args.i 0 (lent c.entry.result)
+    c.self.invariant.within l c.entry.ensures

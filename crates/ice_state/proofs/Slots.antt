@@ -1,0 +1,114 @@
+-- Slots and their content.
+use Rattle.std.proofs.Common.{◌≡◌, ℕ, zero, suc, List, [], ◌∷◌, ◌++◌, refl, ap, ◌∙◌, Option, Some, None, option_map}
+use Rattle.std.proofs.Common.{IfSome, is_some, get_or, slice_set, length, map, ◌<◌, sym, arith}
+use Rattle.std.specs.List.{AllByRecursion}
+use Rattle.ice_manifest_reading.specs.declared.entry.Entry.{Entry}
+use Rattle.ice_entries.specs.Kept.{Kept, AreKept, Keeps, entry_at, entries_at, IsKept}
+use Rattle.ice_entries.specs.declared.entries.EntryNumber.{EntryNumber}
+use Rattle.ice_state.specs.declared.taken.Taken.{Taken}
+use Rattle.ice_state.specs.declared.taken.Taken.TheVariants as taken
+use Rattle.ice_state.specs.Contents.{is_row_taken}
+use Rattle.ice_state.specs.Readings.{Good}
+use Rattle.ice_state.specs.Slots.{given, HasNumbers, contents, HaveNumbers}
+
+-- ---- entries that stay
+
+pub keeps-refl : (kept : Kept) → Keeps kept kept
+keeps-refl kept = λ n here. (here, refl)
+
+pub keeps-trans : (a b c : Kept) → Keeps a b → Keeps b c → Keeps a c
+keeps-trans a b c first next = λ n here.
+    let one = first n here in
+    let two = next n one.0 in
+    (two.0, two.1 ∙ one.1)
+
+module _ (old new : Kept) (keeps : Keeps old new) where
+  pub are-kept : (ns : List EntryNumber) → AreKept old ns → AreKept new ns
+  are-kept [] all = tt
+  are-kept (n ∷ ns) all = ((keeps n all.0).0, are-kept ns all.1)
+
+  pub entries-kept : (ns : List EntryNumber) → AreKept old ns → entries_at new ns ≡ entries_at old ns
+  entries-kept [] all = refl
+  entries-kept (n ∷ ns) all =
+      ap (λ (x : Entry). x ∷ entries_at new ns) ((keeps n all.0).1)
+      ∙ ap (λ (xs : List Entry). entry_at old n ∷ xs) (entries-kept ns all.1)
+
+  pub given-kept : (t : Taken) → HasNumbers old t → given new t ≡ given old t
+  given-kept (taken.Good ns) all = ap Good (entries-kept ns.items all)
+  given-kept (taken.Bad fault) all = refl
+
+  pub has-kept : (t : Taken) → HasNumbers old t → HasNumbers new t
+  has-kept (taken.Good ns) all = are-kept ns all
+  has-kept (taken.Bad fault) all = tt
+
+  pub contents-kept : (ss : List (Option Taken)) → HaveNumbers old ss → contents new ss ≡ contents old ss
+  contents-kept [] all = refl
+  contents-kept (None ∷ ss) all = ap (λ c. None ∷ c) (contents-kept ss all.1)
+  contents-kept (Some t ∷ ss) all =
+      ap (λ r. Some r ∷ contents new ss) (given-kept t all.0) ∙ ap (λ c. Some (given old t) ∷ c)
+      (contents-kept ss all.1)
+
+  pub have-kept : (ss : List (Option Taken)) → HaveNumbers old ss → HaveNumbers new ss
+  have-kept [] all = tt
+  have-kept (None ∷ ss) all = (tt, have-kept ss all.1)
+  have-kept (Some t ∷ ss) all = (has-kept t all.0, have-kept ss all.1)
+
+-- ---- a slot
+
+module _ (kept : Kept) where
+  pub at-contents : (ss : List (Option Taken)) (i : ℕ) (s : Option Taken) → s ≡ get_or ss i s
+      → option_map (given kept) s ≡ get_or (contents kept ss) i (option_map (given kept) s)
+  at-contents [] i s h = refl
+  at-contents (t ∷ ts) zero s h = ap (option_map (given kept)) h
+  at-contents (t ∷ ts) (suc i) s h = at-contents ts i s h
+
+  pub length-contents : (ss : List (Option Taken)) → length (contents kept ss) ≡ length ss
+  length-contents [] = refl
+  length-contents (s ∷ ss) = ap suc (length-contents ss)
+
+  pub is-some-given : (s : Option Taken) → is_some (option_map (given kept) s) ≡ is_some s
+  is-some-given None = refl
+  is-some-given (Some t) = refl
+
+  pub taken-at : (ss : List (Option Taken)) (i : ℕ) (s : Option Taken) → i < length ss → s ≡ get_or ss i s
+      → is_row_taken (contents kept ss) i ≡ is_some s
+  taken-at [] i s l h = absurd (omega arith)
+  taken-at (t ∷ ts) zero s l h = is-some-given t ∙ ap is_some (sym h)
+  taken-at (t ∷ ts) (suc i) s l h = taken-at ts i s (omega arith) h
+
+  pub numbers-at : (ss : List (Option Taken)) (i : ℕ) (s : Option Taken) → s ≡ get_or ss i s → HaveNumbers kept ss
+      → IfSome s (HasNumbers kept) → IfSome (get_or ss i s) (HasNumbers kept)
+  numbers-at [] i s h all none = none
+  numbers-at (t ∷ ts) zero s h all none = all.0
+  numbers-at (t ∷ ts) (suc i) s h all none = numbers-at ts i s h all.1 none
+
+  pub set-contents : (ss : List (Option Taken)) (i : ℕ) (t : Taken)
+      → contents kept (slice_set ss i (Some t)) ≡ slice_set (contents kept ss) i (Some (given kept t))
+  set-contents [] i t = refl
+  set-contents (s ∷ ss) zero t = refl
+  set-contents (s ∷ ss) (suc i) t = ap (λ c. option_map (given kept) s ∷ c) (set-contents ss i t)
+
+  pub set-numbers : (ss : List (Option Taken)) (i : ℕ) (t : Taken) → HaveNumbers kept ss → HasNumbers kept t
+      → HaveNumbers kept (slice_set ss i (Some t))
+  set-numbers [] i t all one = tt
+  set-numbers (s ∷ ss) zero t all one = (one, all.1)
+  set-numbers (s ∷ ss) (suc i) t all one = (all.0, set-numbers ss i t all.1 one)
+
+  -- ---- a slot that is put last
+
+  pub last-contents : (ss : List (Option Taken)) (s : Option Taken)
+      → contents kept (ss ++ s ∷ []) ≡ contents kept ss ++ option_map (given kept) s ∷ []
+  last-contents [] s = refl
+  last-contents (t ∷ ts) s = ap (λ c. option_map (given kept) t ∷ c) (last-contents ts s)
+
+  pub last-numbers : (ss : List (Option Taken)) (s : Option Taken) → HaveNumbers kept ss → IfSome s (HasNumbers kept)
+      → HaveNumbers kept (ss ++ s ∷ [])
+  last-numbers [] s all one = (one, tt)
+  last-numbers (t ∷ ts) s all one = (all.0, last-numbers ts s all.1 one)
+
+  pub but-last-numbers : (ss : List (Option Taken)) (s : Option Taken) → HaveNumbers kept (ss ++ s ∷ [])
+      → HaveNumbers kept ss × IfSome s (HasNumbers kept)
+  but-last-numbers [] s all = (tt, all.0)
+  but-last-numbers (t ∷ ts) s all =
+      let rest = but-last-numbers ts s all.1 in
+      ((all.0, rest.0), rest.1)

@@ -1,0 +1,127 @@
+//! What a merge adds to slots.
+
+ghost use Rattle.std.specs.Prelude.{◌≡◌, ◌≤◌, ◌↔◌, length, IfOk, IfSome, IsTrue, option_map};
+ghost use Rattle.ice_entries.specs.Kept.{Kept, Keeps};
+ghost use Rattle.ice_state.specs.Joins.{TookAllOf};
+ghost use Rattle.ice_state.specs.Parts.{AreApart, gain_of, gains, is_gain};
+ghost use Rattle.ice_state.specs.Slots.{contents, given, HasNumbers, HaveNumbers};
+
+use crate::taken::Taken;
+use contract_words::Items;
+use ice_entries::{Entries, Room};
+use std::alloc::{AllocError, Global};
+
+/// Whether each row that the second slots took is taken in the first.
+pub fn has_taken_all_of(slots: &[Option<Taken>], other: &[Option<Taken>]) -> bool
+    requires { length slots.now ≡ length other.now }
+    ensures { (kept others : Kept) →
+        (IsTrue result ↔ TookAllOf (contents kept slots.now) (contents others other.now)) }
+{
+    for i in 0..slots.len() {
+        if is_gain(&slots[i], &other[i]) {
+            return false;
+        }
+    }
+    true
+}
+
+/// Whether no row is taken in both.
+pub fn are_apart(slots: &[Option<Taken>], other: &[Option<Taken>]) -> bool
+    requires { length slots.now ≡ length other.now }
+    ensures { (kept others : Kept) → IsTrue result → AreApart (contents kept slots.now) (contents others other.now) }
+{
+    for i in 0..slots.len() {
+        if slots[i].is_some() && other[i].is_some() {
+            return false;
+        }
+    }
+    true
+}
+
+/// Whether a row that isn't taken in the first slot was taken in the other.
+fn is_gain(slot: &Option<Taken>, other: &Option<Taken>) -> bool
+    ensures { (kept others : Kept) →
+        result ≡ is_gain (option_map (given kept) slot.now) (option_map (given others) other.now) }
+{
+    matches!((slot, other), (None, Some(_)))
+}
+
+/// The room that the entries take that the first slots lack of the second.
+fn room_of_gains(slots: &[Option<Taken>], others: &Entries, other: &[Option<Taken>]) -> Room
+    requires same { length slots.now ≡ length other.now }
+    requires numbers { HaveNumbers others.now other.now }
+{
+    let mut room = Room::none();
+    for i in 0..slots.len() {
+        if let (None, Some(Taken::Good(numbers))) = (&slots[i], &other[i]) {
+            room = others.room_with(numbers.as_slice(), room);
+        }
+    }
+    room
+}
+
+/// What the first slots lack of the second, by the numbers of entries that are put to those of the first.
+pub fn gained(
+    alloc: Global,
+    entries: &mut Entries,
+    slots: &[Option<Taken>],
+    others: &Entries,
+    other: &[Option<Taken>],
+) -> Result<Vec<Option<Taken>>, AllocError>
+    requires same { length slots.now ≡ length other.now }
+    requires numbers { HaveNumbers others.now other.now }
+
+    ensures keeps { Keeps entries.old entries.new }
+    ensures numbers { IfOk result (λ gained. HaveNumbers entries.new gained.items) }
+    ensures gained { (kept : Kept) → IfOk result (λ gained. contents entries.new gained.items
+        ≡ gains (contents kept slots.now) (contents others.now other.now)) }
+{
+    entries.reserve(room_of_gains(slots, others, other))?;
+    let mut gained = Vec::with_capacity(alloc, slots.len())?;
+    for i in 0..slots.len() {
+        gained.push(gain(alloc, entries, &slots[i], others, &other[i])?)?;
+    }
+    Ok(gained)
+}
+
+fn gain(
+    alloc: Global,
+    entries: &mut Entries,
+    slot: &Option<Taken>,
+    others: &Entries,
+    other: &Option<Taken>,
+) -> Result<Option<Taken>, AllocError>
+    requires { IfSome other.now (HasNumbers others.now) }
+
+    ensures keeps { Keeps entries.old entries.new }
+    ensures numbers { IfOk result (λ gained. IfSome gained (HasNumbers entries.new)) }
+    ensures gained { (kept : Kept) → IfOk result (λ gained. option_map (given entries.new) gained
+        ≡ gain_of (option_map (given kept) slot.now) (option_map (given others.now) other.now)) }
+{
+    match (slot, other) {
+        (None, Some(taken)) => Ok(Some(put_taken(alloc, entries, others, taken)?)),
+        _ => Ok(None),
+    }
+}
+
+/// What a manifest gave, by the numbers of entries that are put to those that are kept.
+fn put_taken(
+    alloc: Global,
+    entries: &mut Entries,
+    others: &Entries,
+    taken: &Taken,
+) -> Result<Taken, AllocError>
+    requires { HasNumbers others.now taken.now }
+
+    ensures keeps { Keeps entries.old entries.new }
+    ensures numbers { IfOk result (HasNumbers entries.new) }
+    ensures given { IfOk result (λ put. given entries.new put ≡ given others.now taken.now) }
+{
+    match taken {
+        Taken::Good(numbers) => {
+            let added = entries.add_kept(others, numbers.as_slice())?;
+            Ok(Taken::Good(Items::from_vec(added)))
+        }
+        Taken::Bad(fault) => Ok(Taken::Bad(fault.copy(alloc)?)),
+    }
+}
