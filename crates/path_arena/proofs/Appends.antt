@@ -1,6 +1,6 @@
 -- A call of `copied`, which fills slots with a copy of the items. Assumes `Logic`.
-use mathlib.Core.Path.{◌≡◌, refl, sym, subst, ap, ◌∙◌}
-use Prim.Native.Nat.{ℕ, ◌*◌, ◌<◌, ◌^◌}
+use mathlib.Core.Path.{◌≡◌, refl, sym, ap, ◌∙◌}
+use Prim.Native.Nat.{ℕ}
 use mathlib.Core.List.{List, [], ◌∷◌}
 use lib.ListN.{length}
 use seplogic.Ra.Ura.{Ura}
@@ -14,7 +14,7 @@ use types.Logic.{Logic, sem}
 use contract.BorrowLft.{◌⊑◌}
 use contract.Monad.{Fun, fact, fact_i}
 use types.Kit.{‵, raw, ◌⊛◌, some, later, ◌$◌, ◌∵◌, !, qed, move, keep, drop, use0, use1, split, split3, join, pick}
-use types.Kit.{rewrite, fsplit, fjoin, check, show, await, updating, now, done}
+use types.Kit.{rewrite, fjoin, check, show, await, updating, now, done}
 use denote.RattleType.{RattleType}
 use denote.Param.{copied}
 use denote.RawPtr.{block_ptr}

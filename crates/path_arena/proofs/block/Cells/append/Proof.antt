@@ -1,59 +1,54 @@
 -- `append` makes slots of the room behind the items, has them filled, and puts them back as items. Assumes `Logic`.
 use mathlib.Core.Path.{◌≡◌, refl, sym, ap, subst, ◌∙◌}
-use mathlib.Core.Bool.{Bool, false}
+use mathlib.Core.Bool.{false}
 use Prim.Native.Nat.{ℕ, ◌+◌, ◌*◌, ◌<◌, ◌≤◌, ◌^◌}
 use native.Mathlib.Omega.{arith}
 use mathlib.Core.List.{List, [], ◌∷◌, ◌++◌, map}
 use lib.ListN.{length, take, drop as drop_l, replicate, length-append, length-replicate, length-map}
-use seplogic.Ra.Ura.{Ura}
 use base.Fraction.{full_share}
-use mir.Syntax.{Fn, Args, Dict, a_type, dcons, dnil, named, w64, ty_array}
+use mir.Syntax.{Fn, Args, a_type, dcons, dnil, named, w64, ty_array}
 use mir.MapTy.{inst_fn}
 use mir.Val.{Val, vptr, vint, vunit}
-use base.Logic.{SProp, ent, emp, never, id⊢}
-use base.Fml.{Lft, Share, ftrue, fat, froom, flft}
+use base.Logic.{SProp, emp, never, id⊢}
+use base.Fml.{ftrue, fat, froom, flft}
 use prog.Wp.{Env, WpFn}
-use types.Logic.{Logic}
 use types.SemTy.{cells}
 use contract.BorrowLft.{◌⊑◌}
 use contract.Monad.{fact, fact_i}
 use contract.Running.{tables}
-use types.Kit.{‵, raw, ◌⊛◌, some, given, later, prop, at_ret, ◌$◌, ◌∵◌, !, qed, by, move, keep, drop, use0, use1, use2}
+use types.Kit.{‵, raw, ◌⊛◌, some, given, later, prop, at_ret, ◌$◌, ◌∵◌, !, qed, by, move, keep, use0, use1, use2}
 use types.Kit.{use3, split, split3, join, pick, learn, rewrite, regoal, fsplit, fsplit3, fjoin, fjoin3, feq_i, flt_l}
-use types.Kit.{flt_i, await, done}
+use types.Kit.{flt_i, await}
 use types.Part.{whole, sub}
 use types.Run.{stop, fld, bin, size_word, unit_lit, of_opd, no_more, and_then, first, blocks, exec, returns, enter}
 use types.ByLocal.{alloc_all, pass_all, free_all, look_at, get, get_in, sets, is, take_at, give_at, lands_as}
 use types.ByLocal.{lands_last, env}
 use denote.RattleType.{RattleType, owns}
-use denote.Builtin.{unit, usize, RefMutOf, SliceRefOf}
+use denote.Builtin.{usize, SliceRefOf}
 use denote.Index.{row, whole_in}
 use denote.Memory.{mem}
 use denote.Param.{bounded, copied, layout}
-use denote.Param.Laws.{Laws}
 use denote.Plain.{uint_Tells}
 use denote.RawPtr.{Ptr, block_ptr, in_a_block}
 use denote.Ref.{mut_Tells}
 use denote.Signature.{plain, types_at}
-use denote.Slice.{ShrSlice, slice_val, shr_slice_vals, shr_slice_Tells, Room}
+use denote.Slice.{ShrSlice, slice_val, shr_slice_Tells}
 use denote.Steps.{heard, nothing, opens, closes}
 use denote.Triple.Call.{calls_at, calls_at_last}
 use denote.Triple.Walked.{Stays, stay_dropped, stay_ref, walk_of, Goes-dropped, Goes-ref}
 use Rattle.core.proofs.alloc.Shapes.{after}
 use Rattle.core.proofs.atomic.Steps.{fm}
-use Rattle.core.proofs.mem.Param as core
 use Rattle.core.proofs.slots.Opens.{row_val}
 use Rattle.core.proofs.slots.Places.{to_row}
 use Rattle.core.proofs.slots.Runs.{of_space}
 use Rattle.core.proofs.slots.Slots.from_raw_parts.Met as from_raw
 use Rattle.core.proofs.slots.Slots.into_raw_parts.Met as into_raw
 use Rattle.core.specs.Mem.Slots.{slots_items, slots_filled, slots_ptr, slots_len}
-use Rattle.core.specs.declared.clone.Clone.{Ghosts}
 use Rattle.std_alloc.proofs.VecSteps.El as vec
 use Rattle.std_alloc.proofs.vec.Blocks.{el, all}
 use Rattle.std_alloc.proofs.vec.Spares.{Row, From, at_from, Made, from_goes, from_gives, Into, at_into, Into-goes}
-use Rattle.std_alloc.proofs.vec.Spares.{Into-gives, row_Typed, parts_typed}
-use Rattle.std.specs.Prelude.{Some, None}
+use Rattle.std_alloc.proofs.vec.Spares.{Into-gives, parts_typed}
+use Rattle.std.specs.Prelude.{Some}
 use Rattle.std.proofs.mem.Param.{El, R, el_x, elτ}
 use Rattle.std.proofs.ptr.Rows.{times_below}
 use Rattle.std.proofs.RcSteps.{word, word-Good}
