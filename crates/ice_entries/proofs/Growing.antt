@@ -1,19 +1,20 @@
 -- Entries stay the same where what they share grows.
-use Rattle.std.proofs.Common.{◌≡◌, ℕ, ◌+◌, ◌<◌, List, [], ◌∷◌, ◌++◌, length, slice_index_or, refl, sym, ap, ◌∙◌, subst, arith, length-append}
+use Rattle.std.proofs.Common.{◌≡◌, ℕ, ◌+◌, ◌<◌, List, [], ◌∷◌, ◌++◌, length, slice_index_or, refl, sym, ap, ◌∙◌, subst}
+use Rattle.std.proofs.Common.{arith, length-append}
 use Rattle.std.specs.Prelude.{map, Option, None, Some, IfSome}
 use Rattle.std.specs.Option.{option_map}
 use Rattle.std.specs.List.{AllByRecursion}
 use Rattle.path_arena.specs.Arena.{string, KeepsNumbers}
 use Rattle.ice_manifest_reading.specs.declared.entry.Entry.{Entry}
 use Rattle.ice_entries.specs.declared.common.Common.{Common}
-use Rattle.ice_entries.specs.declared.record.Record.{Record}
 use Rattle.ice_entries.specs.declared.record.Shared.{Shared}
 use Rattle.ice_entries.specs.InCommon.{common_at, KeepsCommons}
-use Rattle.ice_entries.specs.Sharing.{entry_in, IsWithin, AreWithin, KeepsShared}
+use Rattle.ice_entries.specs.Own.{Own, Row}
+use Rattle.ice_entries.specs.Sharing.{entry_in, HasShared, IsWithin, AreWithin, KeepsShared}
 use Rattle.ice_entries.proofs.Lists.{all_weaker, map_same}
 
 -- the entry of a path and a record that share this
-abbrev made : Common → Option (List ℕ) → List ℕ × Record → Entry
+abbrev made : Common → Option (List ℕ) → Row → Entry
 made common referenced row =
     record {
       position = row.1.position;
@@ -33,27 +34,36 @@ made common referenced row =
       };
     }
 
-named-keeps : (old new : List (List ℕ)) (r : Option ℕ) → KeepsNumbers old new → IfSome r (λ n. n < length old) → option_map (string new) r ≡ option_map (string old) r
+named-keeps : (old new : List (List ℕ)) (r : Option ℕ) → KeepsNumbers old new → IfSome r (λ n. n < length old) →
+    option_map (string new) r ≡ option_map (string old) r
 named-keeps old new None keeps within = refl
 named-keeps old new (Some n) keeps within = ap Some (keeps n within).1
 
-pub entry_in-keeps : (old new : Shared) (row : List ℕ × Record) → KeepsShared old new → IsWithin old row.1 → entry_in new row ≡ entry_in old row
+pub entry_in-keeps : (old new : Shared) (row : Row) → KeepsShared old new → IsWithin old row.1 →
+    entry_in new row ≡ entry_in old row
 entry_in-keeps old new row keeps within =
-    let common : common_at new.commons row.1.common ≡ common_at old.commons row.1.common = (keeps.commons row.1.common within.0).1 in
-    let referenced : option_map (string new.names) row.1.referenced ≡ option_map (string old.names) row.1.referenced = named-keeps old.names new.names row.1.referenced keeps.names within.1 in
+    let common = (keeps.commons row.1.common within.0).1 in
+    let referenced = named-keeps old.names new.names row.1.referenced keeps.names within.1 in
     λ i. made (common i) (referenced i) row
 
-name_within-keeps : (old new : List (List ℕ)) (r : Option ℕ) → KeepsNumbers old new → IfSome r (λ n. n < length old) → IfSome r (λ n. n < length new)
+name_within-keeps : (old new : List (List ℕ)) (r : Option ℕ) → KeepsNumbers old new → IfSome r (λ n. n < length old) →
+    IfSome r (λ n. n < length new)
 name_within-keeps old new None keeps within = within
 name_within-keeps old new (Some n) keeps within = (keeps n within).0
 
-pub within-keeps : (old new : Shared) (r : Record) → KeepsShared old new → IsWithin old r → IsWithin new r
-within-keeps old new r keeps within = ((keeps.commons r.common within.0).0, name_within-keeps old.names new.names r.referenced keeps.names within.1)
+pub within-keeps : (old new : Shared) (r : Own) → KeepsShared old new → IsWithin old r → IsWithin new r
+within-keeps old new r keeps within = (
+  (keeps.commons r.common within.0).0,
+  name_within-keeps old.names new.names r.referenced keeps.names within.1,
+)
 
-pub all_within-keeps : (old new : Shared) (rows : List (List ℕ × Record)) → KeepsShared old new → AreWithin old rows → AreWithin new rows
+pub all_within-keeps : (old new : Shared) (rows : List Row) → KeepsShared old new → AreWithin old rows →
+    AreWithin new rows
 all_within-keeps old new rows keeps all =
-    all_weaker (λ (row : List ℕ × Record). IsWithin old row.1) (λ (row : List ℕ × Record). IsWithin new row.1) (λ row within. within-keeps old new row.1 keeps within) rows all
+    all_weaker (HasShared old) (HasShared new) (λ row within. within-keeps old new row.1 keeps within) rows all
 
-pub entries-keep : (old new : Shared) (rows : List (List ℕ × Record)) → KeepsShared old new → AreWithin old rows → map (entry_in new) rows ≡ map (entry_in old) rows
+pub entries-keep : (old new : Shared) (rows : List Row) → KeepsShared old new → AreWithin old rows →
+    map (entry_in new) rows ≡ map (entry_in old) rows
 entries-keep old new rows keeps all =
-    map_same (entry_in new) (entry_in old) (λ (row : List ℕ × Record). IsWithin old row.1) (λ row within. entry_in-keeps old new row keeps within) rows all
+    map_same (entry_in new) (entry_in old) (HasShared old) (λ row within. entry_in-keeps old new row keeps within)
+    rows all

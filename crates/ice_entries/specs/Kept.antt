@@ -65,3 +65,10 @@ abbrev pub HasEachPathOnce : Kept → Type 0
 HasEachPathOnce kept =
     (m n : ℕ) → m < n → n < length kept.records →
     (entry_at kept (Record m)).file.path ≢ (entry_at kept (Record n)).file.path
+
+-- the path of each clash is that of a record
+abbrev pub HasKnownPaths : Kept → Type 0
+HasKnownPaths kept =
+    (n : ℕ) → n < length kept.clashes →
+    (m : ℕ) × (m < length kept.records) ×
+    ((entry_at kept (Record m)).file.path ≡ (entry_at kept (Clash n)).file.path)

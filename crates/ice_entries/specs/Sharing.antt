@@ -4,12 +4,12 @@ use Rattle.std.specs.List.{AllByRecursion}
 use Rattle.std.specs.Option.{option_map}
 use Rattle.path_arena.specs.Arena.{string, KeepsNumbers}
 use Rattle.ice_manifest_reading.specs.declared.entry.Entry.{Entry}
-use Rattle.ice_entries.specs.declared.record.Record.{Record}
 use Rattle.ice_entries.specs.declared.record.Shared.{Shared}
 use Rattle.ice_entries.specs.InCommon.{common_at, KeepsCommons}
+use Rattle.ice_entries.specs.Own.{Own, Row}
 
 -- the entry of a path and a record
-abbrev pub entry_in : Shared → List ℕ × Record → Entry
+abbrev pub entry_in : Shared → Row → Entry
 entry_in shared row =
     let common = common_at shared.commons row.1.common in
     record {
@@ -31,11 +31,14 @@ entry_in shared row =
     }
 
 -- what a record shares is there
-abbrev pub IsWithin : Shared → Record → Type 0
+abbrev pub IsWithin : Shared → Own → Type 0
 IsWithin shared r = (r.common < length shared.commons) × IfSome r.referenced (λ n. n < length shared.names)
 
-abbrev pub AreWithin : Shared → List (List ℕ × Record) → Type 0
-AreWithin shared rows = AllByRecursion (λ row. IsWithin shared row.1) rows
+abbrev pub HasShared : Shared → Row → Type 0
+HasShared shared row = IsWithin shared row.1
+
+abbrev pub AreWithin : Shared → List Row → Type 0
+AreWithin shared rows = AllByRecursion (HasShared shared) rows
 
 -- each number stands for the same as before
 pub record KeepsShared (old new : Shared) : Type 0 where

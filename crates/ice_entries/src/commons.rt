@@ -82,8 +82,8 @@ impl Commons {
         }
     }
 
-    /// The number of one, which is put last if it is not found. Those that were there keep their numbers, also where memory
-    /// is refused.
+    /// The number of one, which is put last if it is not found. Those that were there keep their numbers, also where
+    /// memory is refused.
     pub(crate) fn number(
         &mut self,
         alloc: Global,

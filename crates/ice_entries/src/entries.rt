@@ -3,7 +3,7 @@
 ghost use Rattle.std.specs.Prelude.{◌≡◌, length, IfOk};
 ghost use Rattle.ice_manifest_reading.specs.Lending.{lent, HasShortPaths};
 ghost use Rattle.ice_entries.specs.Kept.{nothing_kept, IsKept, AreKept, entry_at, entries_at, count, Keeps};
-ghost use Rattle.ice_entries.specs.Kept.{HasEachPathOnce};
+ghost use Rattle.ice_entries.specs.Kept.{HasEachPathOnce, HasKnownPaths};
 
 use crate::record::Shared;
 use crate::table::Table;
@@ -113,11 +113,12 @@ impl Entries {
         self.table.len()
     }
 
-    /// No two records have a path in common.
-    pub fn has_each_path_once(&self)
-        ensures { HasEachPathOnce self.now }
+    /// Each path is that of one record, and may be that of clashes too.
+    pub fn each_path_once(&self)
+        ensures once { HasEachPathOnce self.now }
+        ensures known { HasKnownPaths self.now }
     {
-        let _ = self.table.len();
+        self.table.each_path_once();
     }
 
     /// Keeps an entry, as a clash if its path is known.

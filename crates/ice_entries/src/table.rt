@@ -1,7 +1,7 @@
 //! Records by the numbers of their paths.
 
 ghost use Rattle.std.specs.Prelude.{◌≡◌, ◌+◌, ◌<◌, ◌≤◌, ◌^◌, ◌++◌, ◌∷◌, [], length, IfOk, OnErr};
-ghost use Rattle.ice_entries.specs.Tables.{no_rows, IsIn, row_at, Puts, HasOwnPaths};
+ghost use Rattle.ice_entries.specs.Tables.{no_rows, IsIn, row_at, Puts, HasOwnPaths, HasKnownPaths};
 
 use crate::entries::EntryNumber;
 use crate::paths::Paths;
@@ -66,11 +66,17 @@ impl Table {
 
     /// How many records there are.
     pub(crate) fn len(&self) -> usize
-        ensures count { result ≡ length self.now.records + length self.now.clashes }
-        ensures distinct { HasOwnPaths self.now }
+        ensures { result ≡ length self.now.records + length self.now.clashes }
+    {
+        self.records.len() + self.clashes.len()
+    }
+
+    /// Each path is that of one record, and may be that of further ones.
+    pub(crate) fn each_path_once(&self)
+        ensures own { HasOwnPaths self.now }
+        ensures known { HasKnownPaths self.now }
     {
         let _ = self.paths.len();
-        self.records.len() + self.clashes.len()
     }
 
     /// Makes room for so many more records, and for so many more paths of so many bytes in all.

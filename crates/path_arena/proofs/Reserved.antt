@@ -1,5 +1,5 @@
 -- Strings for which room was made are taken in, one after another.
-use Rattle.std.proofs.Common.{◌≡◌, ◌≢◌, ℕ, zero, suc, ◌+◌, ◌<◌, ◌≤◌, ◌⊎◌, inl, inr, Bool, true, false, ◌||◌}
+use Rattle.std.proofs.Common.{◌≡◌, ℕ, zero, suc, ◌+◌, ◌≤◌, ◌⊎◌, inl, inr, Bool, true, false, ◌||◌}
 use Rattle.std.proofs.Common.{if◌then◌else◌}
 use Rattle.std.proofs.Common.{List, [], ◌∷◌, ◌++◌, length, refl, sym, ap, ◌∙◌, subst, arith, append-nil, append_assoc}
 use Rattle.std.proofs.Common.{length-append}
@@ -10,7 +10,7 @@ use Rattle.std.specs.Cmp.Lexicographic.{same_text, other_text}
 use Rattle.path_arena.specs.declared.arena.ArenaFault.{ArenaFault}
 use Rattle.path_arena.specs.Strings.{Kept}
 use Rattle.path_arena.specs.Arena.{Has, HasNot, HasRoom, Interned}
-use Rattle.path_arena.specs.Runs.{has, new_to, bytes_of, Interns, Run, HasRoomFor}
+use Rattle.path_arena.specs.Runs.{has, new_to, bytes_of, Run, HasRoomFor}
 
 either : (b : Bool) → (b ≡ true) ⊎ (b ≡ false)
 either true = inl refl

@@ -1,7 +1,7 @@
 use Rattle.std.proofs.Common.{sym, ap, ◌∙◌}
 use Rattle.std.specs.Int.{w64, from_le_bytes}
 use Rattle.path_arena.specs.Hashing.{mixed, hash_words}
-use Rattle.path_arena.proofs.Hashes.{words_step, words_end}
+use Rattle.path_arena.proofs.Hashes.{words_step}
 use Rattle.path_arena.proofs.hash.mix_words.Goals as goal
 
 pub loop-word-preserved : goal.loop-word-preserved

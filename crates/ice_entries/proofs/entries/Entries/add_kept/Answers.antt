@@ -5,6 +5,8 @@ use Rattle.ice_entries.proofs.entries.Entries.add_kept.Goals as goal
 
 pub numbers-preserved : goal.numbers-preserved
 numbers-preserved c =
-    one_kept c.args.self.now c.numbers.self c.add.new.self c.args.others.now c.args.numbers.now c.numbers.number-index (First 0)
-    c.numbers.added.items c.push.new.self.items c.in_ok-add.field-0 c.numbers.invariant c.in_ok-add.ensures.keeps
-    c.in_ok-add.ensures.kept (c.in_ok-add.ensures.ok ∙ c.entry.ensures.same) c.numbers-test.true c.in_ok-push.ensures.items
+    let l = c.numbers in
+    one_kept c.args.self.now l.self c.add.new.self c.args.others.now c.args.numbers.now l.number-index (First 0)
+    l.added.items c.push.new.self.items c.in_ok-add.field-0 l.invariant c.in_ok-add.ensures.keeps
+    c.in_ok-add.ensures.kept (c.in_ok-add.ensures.ok ∙ c.entry.ensures.same) c.numbers-test.true
+    c.in_ok-push.ensures.items

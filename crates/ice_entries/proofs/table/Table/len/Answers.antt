@@ -1,16 +1,16 @@
-use Rattle.std.proofs.Common.{ℕ, List, length, ap, subst, arith}
+use Rattle.std.proofs.Common.{ℕ, List, length, ap, arith}
 use Rattle.std.proofs.lemmas.List.{length-map}
-use Rattle.ice_entries.specs.declared.record.Record.{Record}
 use Rattle.ice_entries.specs.declared.table.Clash.{Clash}
 use Rattle.path_arena.specs.Arena.{string}
-use Rattle.ice_entries.specs.Tables.{Rows, HasOwnPaths}
-use Rattle.ice_entries.proofs.Rows.{length-with_paths, own_paths}
+use Rattle.ice_entries.specs.Own.{Row}
+use Rattle.ice_entries.specs.Tables.{Rows}
+use Rattle.ice_entries.proofs.Rows.{length-with_paths}
 use Rattle.ice_entries.proofs.table.Table.len.Goals as goal
 
-pub returns-clause-count : goal.returns-clause-count
-returns-clause-count c =
+pub returns : goal.returns
+returns c =
     let t = c.self.inside in
-    let of_clash : Clash → List ℕ × Record = λ d. (string t.paths d.path, d.own) in
+    let of_clash : Clash → Row = λ d. (string t.paths d.path, d.own) in
     omega (
       arith,
       length-with_paths t.paths t.records.items c.self.invariant.as_many,
@@ -18,8 +18,3 @@ returns-clause-count c =
       ap (λ (rows : Rows). length rows.records) c.self.view_is,
       ap (λ (rows : Rows). length rows.clashes) c.self.view_is,
     )
-
-pub returns-clause-distinct : goal.returns-clause-distinct
-returns-clause-distinct c =
-    let t = c.self.inside in
-    subst HasOwnPaths c.self.view_is (own_paths t.paths t.records.items c.self.invariant.as_many c.len.ensures.distinct)

@@ -1,7 +1,7 @@
 use Rattle.std.proofs.Common.{List, ℕ, ◌<◌, length, sym, ap, subst, ◌∙◌, arith}
 use Rattle.path_arena.specs.Arena.{string}
-use Rattle.ice_entries.specs.declared.record.Record.{Record}
 use Rattle.ice_entries.specs.declared.entries.EntryNumber.TheVariants.{Record as First}
+use Rattle.ice_entries.specs.Own.{Row}
 use Rattle.ice_entries.specs.Tables.{IsIn, row_at, no_row, Rows}
 use Rattle.ice_entries.proofs.Rows.{length-with_paths, with_paths-at}
 use Rattle.ice_entries.proofs.table.Table.path.Goals as goal
@@ -30,6 +30,6 @@ returns-in-Record-clause-same c =
       ap (λ (rows : Rows). length rows.records) c.self.view_is,
     ) in
     c.get.ensures.same ∙ ap (string t.paths) c.new.ensures
-    ∙ sym (ap (λ (row : List ℕ × Record). row.0) (with_paths-at t.paths t.records.items n no_row.1 many lt))
+    ∙ sym (ap (λ (row : Row). row.0) (with_paths-at t.paths t.records.items n no_row.1 many lt))
     ∙ ap (λ rows. (row_at rows (First n)).0) c.self.view_is
     ∙ ap (λ number. (row_at c.args.self.now number).0) (sym c.in-Record.is)

@@ -1,6 +1,6 @@
 use Rattle.std.proofs.Common.{List, ℕ, ◌<◌, length, sym, ap, subst, ◌∙◌, arith}
-use Rattle.ice_entries.specs.declared.record.Record.{Record}
 use Rattle.ice_entries.specs.declared.entries.EntryNumber.TheVariants.{Record as First}
+use Rattle.ice_entries.specs.Own.{Row}
 use Rattle.ice_entries.specs.Tables.{IsIn, row_at, no_row, Rows}
 use Rattle.ice_entries.proofs.Rows.{length-with_paths, with_paths-at}
 use Rattle.ice_entries.proofs.table.Table.record.Goals as goal
@@ -27,6 +27,6 @@ returns-in-Record c =
       ap (λ (rows : Rows). length rows.records) c.self.view_is,
     ) in
     c.index.ensures
-    ∙ sym (ap (λ (row : List ℕ × Record). row.1) (with_paths-at t.paths t.records.items n c.index.result.now many lt))
+    ∙ sym (ap (λ (row : Row). row.1) (with_paths-at t.paths t.records.items n c.index.result.now many lt))
     ∙ ap (λ rows. (row_at rows (First n)).1) c.self.view_is
     ∙ ap (λ number. (row_at c.args.self.now number).1) (sym c.in-Record.is)
