@@ -1,6 +1,7 @@
 //! The lines of a plan as they are lent: whoever owns the entries, callers see the same.
 
 ghost use Rattle.std.specs.Prelude.{◌≡◌, ◌<◌, ◌^◌, length, Some, slice_get};
+ghost use Rattle.ice_entries.specs.Kept.{IsKept, entry_at};
 ghost use Rattle.ice_manifest_reading.specs.Lending.{lent};
 
 use contract_words::Items;
@@ -19,13 +20,23 @@ pub(crate) struct Files<'a> {
 impl<'a> Files<'a> {
     ghost use Rattle.ice_state.specs.Lines.{entries_of, AreFiles};
 
+    /// The number of the entry at a place.
+    fn number(&self, i: usize) -> EntryNumber
+        requires kept { AreFiles self.now }
+        requires within { i < length (entries_of self.now) }
+        ensures kept { IsKept self.now.entries.now result }
+        ensures at { slice_get (entries_of self.now) i ≡ Some (entry_at self.now.entries.now result) }
+    {
+        self.numbers[i]
+    }
+
     /// The entry at a place.
-    pub(crate) fn entry(&self, i: usize) -> LentEntry<'a>
+    fn entry(&self, i: usize) -> LentEntry<'a>
         requires kept { AreFiles self.now }
         requires within { i < length (entries_of self.now) }
         ensures { slice_get (entries_of self.now) i ≡ Some (lent result) }
     {
-        self.entries.entry(self.numbers[i])
+        self.entries.entry(self.number(i))
     }
 }
 
@@ -141,22 +152,24 @@ impl<'a> PlanFiles<'a> {
 /// A line of a plan: a data file, with the delete files that apply to it.
 #[derive(Debug, Drop)]
 pub struct Line<'a> {
-    file: LentEntry<'a>,
+    entries: &'a Entries,
+    file: EntryNumber,
     deletes: Files<'a>,
     places: &'a Places,
 }
 
 impl<'a> Model for Line<'a> {
     ghost use Rattle.std.specs.Prelude.{length};
-    ghost use Rattle.ice_manifest_reading.specs.Lending.{lent};
+    ghost use Rattle.ice_entries.specs.Kept.{IsKept, entry_at};
     ghost use Rattle.ice_state.specs.Lines.{OwnedLine, entries_of, line_at, AreFiles, IsLineWithin};
 
     ghost Value = { OwnedLine };
 
-    ghost view = { λ l. line_at (entries_of l.deletes) (lent l.file) l.places.now };
+    ghost view = { λ l. line_at (entries_of l.deletes) (entry_at l.entries.now l.file) l.places.now };
 
     ghost invariant = { λ l. record {
-      files : AreFiles l.deletes;
+      kept : IsKept l.entries.now l.file;
+      deletes : AreFiles l.deletes;
       within : IsLineWithin (length (entries_of l.deletes)) l.places.now;
     } };
 }
@@ -166,7 +179,9 @@ impl<'a> Line<'a> {
     pub fn file(&self) -> PlanFile<'a>
         ensures { result ≡ self.now.file }
     {
-        PlanFile { entry: self.file }
+        PlanFile {
+            entry: self.entries.entry(self.file),
+        }
     }
 
     /// The position delete files that apply to it.
@@ -228,7 +243,8 @@ impl<'a> Lines<'a> {
         ensures { slice_get self.now i ≡ Some result }
     {
         Line {
-            file: self.files.entry(i),
+            entries: self.files.entries,
+            file: self.files.number(i),
             deletes: self.deletes,
             places: &self.places[i],
         }

@@ -1,6 +1,6 @@
 use Rattle.std.proofs.Common.{◌∙◌, ◌<◌, arith, sym, ap, length, List}
 use Rattle.std.specs.List.{slice_get}
-use Rattle.ice_manifest_reading.specs.Lending.{lent}
+use Rattle.ice_entries.specs.Kept.{entry_at}
 use Rattle.ice_state.specs.Lines.{OwnedLine, entries_of}
 use Rattle.ice_state.proofs.Places.{length-lines_at, lines_at-get, line_within-at}
 use Rattle.ice_state.proofs.lines.Lines.line.Goals as goal
@@ -15,11 +15,11 @@ bounds-self-inside-i c =
           (entries_of c.self.inside.files) c.self.inside.places.now c.self.invariant.lines.each,
     )
 
-pub entry-requires-clause-kept : goal.entry-requires-clause-kept
-entry-requires-clause-kept c = c.self.invariant.files
+pub number-requires-clause-kept : goal.number-requires-clause-kept
+number-requires-clause-kept c = c.self.invariant.files
 
-pub entry-requires-clause-within : goal.entry-requires-clause-within
-entry-requires-clause-within c =
+pub number-requires-clause-within : goal.number-requires-clause-within
+number-requires-clause-within c =
     omega (
       arith,
       c.requires,
@@ -39,7 +39,8 @@ invariant_of-result c =
           c.self.invariant.lines.each,
     ) in
     record {
-      files = c.self.invariant.deletes;
+      kept = c.number.ensures.kept;
+      deletes = c.self.invariant.deletes;
       within = line_within-at (length (entries_of c.self.inside.deletes)) c.self.inside.places.now c.args.i
           c.index-self-i.result c.self.invariant.lines.within l;
     }
@@ -55,4 +56,4 @@ returns c =
     ) in
     ap (λ (ls : List OwnedLine). slice_get ls c.args.i) (sym c.self.view_is)
     ∙ lines_at-get (entries_of c.self.inside.deletes) (entries_of c.self.inside.files) c.self.inside.places.now c.args.i
-    (lent c.entry.result) c.index-self-i.result l c.entry.ensures
+    (entry_at c.self.inside.files.entries.now c.number.result) c.index-self-i.result l c.number.ensures.at
