@@ -60,7 +60,6 @@ impl Room {
 
 /// Entries that are kept, each under a number that stands for no other. Each path stands once, and so does what else
 /// is the same in many of them.
-#[derive(Drop)]
 pub struct Entries {
     alloc: Global,
     shared: Shared,
@@ -76,6 +75,19 @@ impl Model for Entries {
     ghost view = { λ e. kept_of e.shared e.table };
 
     ghost invariant = { λ e. HasAllOf e.shared e.table };
+}
+
+/// Drops the whole, so that callers don't have to know of what it is made.
+impl Drop for Entries {
+    fn drop(self) {
+        let Entries {
+            alloc: _,
+            shared,
+            table,
+        } = self;
+        drop(shared);
+        drop(table);
+    }
 }
 
 /// How many there are.
