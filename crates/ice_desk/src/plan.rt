@@ -78,6 +78,7 @@ fn both(first: Crew, second: Crew) -> Result<Crew, AllocError>
     requires state { length first.state ≡ length second.state }
     requires small { all_left first.left + all_left second.left < 2 ^ 64 }
     ensures seats { IfOk result (λ crew. crew.seats.items ≡ first.seats.items ++ second.seats.items) }
+    ensures count { IfOk result (λ crew. vec_len crew.seats ≡ vec_len first.seats + vec_len second.seats) }
     ensures state { IfOk result (λ crew. crew.state ≡ join first.state second.state) }
     ensures left { IfOk result (λ crew. crew.left ≡ left_by_both first.left second.left) }
     ensures content { (world : World) (scan : Scanned) (ts us : List Bool) →

@@ -68,6 +68,12 @@ returns-clause-snapshot g c = λ world rows specs told is covered.
     let whole = c.in_ok-take_wanted.ensures.taken world some.0 told some.1 in
     c.in_ok-plan.ensures.snapshot world rows specs is covered (returns-clause-present g c world told) whole.is
 
+pub returns-clause-outcome : goal.returns-clause-outcome
+returns-clause-outcome g c = λ world told.
+    let some = c.in_ok-state.ensures.content world told in
+    let whole = c.in_ok-take_wanted.ensures.taken world some.0 told some.1 in
+    rw whole.is at c.in_ok-plan.ensures.outcome
+
 pub returns-clause-taken : goal.returns-clause-taken
 returns-clause-taken g c = (
   c.take_wanted.new.state,
