@@ -1,6 +1,7 @@
 //! What is kept, by tables.
 
-ghost use Rattle.ice_entries.specs.Kept.{AreKept};
+ghost use Rattle.std.specs.Prelude.{IfOk};
+ghost use Rattle.ice_entries.specs.Kept.{AreKept, Keeps};
 
 use crate::files::{Held, manifest, put_entry};
 use crate::stores::{shown, take, take_all};
@@ -61,21 +62,45 @@ static CASES: [Case; 9] = [
     ),
 ];
 
-/// What a store keeps that took these manifests, and then what another one took; its copy is to keep the same.
-#[tactic(auto, using(ice_entries::proofs::Keeping::all_kept))]
-fn kept(alloc: Global, case: &Case) -> Result<String, ManifestFault> {
-    let mut entries = Entries::new(alloc);
-    let numbers = take_all(alloc, &mut entries, case.1)?;
+/// Keeps what another store keeps that took these manifests.
+fn add_others(
+    alloc: Global,
+    entries: &mut Entries,
+    manifests: &[&str],
+) -> Result<Vec<EntryNumber>, ManifestFault>
+    ensures keeps { Keeps entries.old entries.new }
+    ensures kept { IfOk result (λ added. AreKept entries.new added.items) }
+{
     let mut others = Entries::new(alloc);
-    let of_others = take_all(alloc, &mut others, case.2)?;
-    let added = entries.add_kept(&others, &of_others)?;
-    let copied = entries.copy()?;
-    let mut text = shown(alloc, &entries, &numbers)?;
-    text.push_str(&shown(alloc, &copied, &added)?)?;
-    if copied.len() != numbers.len().wrapping_add(added.len()) {
+    let numbers = take_all(alloc, &mut others, manifests)?;
+    Ok(entries.add_kept(&others, &numbers)?)
+}
+
+/// The entries of these numbers, and of those, and whether there are others.
+fn both_shown(
+    alloc: Global,
+    entries: &Entries,
+    numbers: &[EntryNumber],
+    added: &[EntryNumber],
+) -> Result<String, AllocError>
+    requires numbers { AreKept entries.now numbers.now }
+    requires added { AreKept entries.now added.now }
+{
+    let mut text = shown(alloc, entries, numbers)?;
+    text.push_str(&shown(alloc, entries, added)?)?;
+    if entries.len() != numbers.len().wrapping_add(added.len()) {
         text.push_str("others too")?;
     }
     Ok(text)
+}
+
+/// What is kept of the manifests that a store took, and of those that another one took whose entries it added.
+fn kept(alloc: Global, case: &Case) -> Result<String, ManifestFault> {
+    let mut entries = Entries::new(alloc);
+    let numbers = take_all(alloc, &mut entries, case.1)?;
+    let added = add_others(alloc, &mut entries, case.2)?;
+    let copied = entries.copy(alloc)?;
+    Ok(both_shown(alloc, &copied, &numbers, &added)?)
 }
 
 #[test]
@@ -116,7 +141,6 @@ fn sent<T: Send + Sync>(value: T) -> T {
 }
 
 /// Each of 3,000 values in two entries, and the values of another store, which has them under other numbers.
-#[tactic(auto, using(ice_entries::proofs::Keeping::all_kept))]
 #[test]
 fn many_values(rt: HostRuntime) -> Result<(), Fail> {
     let alloc = rt.alloc();

@@ -1,6 +1,6 @@
 //! What a refused growth leaves.
 
-ghost use Rattle.std.specs.Prelude.{IfOk};
+ghost use Rattle.std.specs.Prelude.{◌≡◌, IfOk};
 ghost use Rattle.ice_entries.specs.Kept.{AreKept, Keeps};
 
 use crate::stores::{put_kept, take_all};
@@ -36,7 +36,6 @@ fn are_seen(
 }
 
 /// Takes manifests, again where a growth was refused.
-#[tactic(auto, using(ice_entries::proofs::Keeping::keeps_further))]
 fn take_at_last(
     alloc: Global,
     entries: &mut Entries,
@@ -52,7 +51,6 @@ fn take_at_last(
 }
 
 /// Keeps what others keep, again where a growth was refused.
-#[tactic(auto, using(ice_entries::proofs::Keeping::keeps_further))]
 fn add_at_last(
     entries: &mut Entries,
     others: &Entries,
@@ -73,12 +71,12 @@ fn add_at_last(
 }
 
 /// A copy, made again where a growth was refused.
-fn copied_at_last(entries: &Entries) -> Result<Entries, AllocError>
+fn copied_at_last(alloc: Global, entries: &Entries) -> Result<Entries, AllocError>
     ensures { IfOk result (λ copied. copied ≡ entries.now) }
 {
-    match entries.copy() {
+    match entries.copy(alloc) {
         Ok(copied) => Ok(copied),
-        Err(_) => entries.copy(),
+        Err(_) => entries.copy(alloc),
     }
 }
 
@@ -91,7 +89,6 @@ const THEIRS: &[&str] = &["p:1>c r:4>b e:4=", "d:2 c:5"];
 const THEIRS_SEEN: &str = "0 p:1>c;1 r:4>b;2 e:4=;0 d:2;1 c:5;";
 
 /// Run with each allocation refused in turn: what was kept stays, and the call succeeds when it is repeated.
-#[tactic(auto, using(ice_entries::proofs::Keeping::all_kept))]
 #[test]
 fn a_refused_growth_forgets_nothing(rt: HostRuntime) -> Result<(), Fail> {
     let alloc = rt.alloc();
@@ -103,7 +100,7 @@ fn a_refused_growth_forgets_nothing(rt: HostRuntime) -> Result<(), Fail> {
     let added = add_at_last(&mut entries, &others, &of_others)?;
     assert!(rt; are_seen(alloc, &entries, &mine, MINE_SEEN)?);
     assert!(rt; are_seen(alloc, &entries, &added, THEIRS_SEEN)?);
-    let copied = copied_at_last(&entries)?;
+    let copied = copied_at_last(alloc, &entries)?;
     assert!(rt; are_seen(alloc, &copied, &mine, MINE_SEEN)?);
     assert!(rt; are_seen(alloc, &copied, &added, THEIRS_SEEN)?);
     Ok(())

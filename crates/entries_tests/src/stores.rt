@@ -20,18 +20,17 @@ fn put_word(bytes: &mut Vec<u8>, word: &str) -> Result<(), AllocError> {
         (None, Some((value, _))) => (value, Held::Values),
         (None, None) => (said, Held::Rows),
     };
-    match value.strip_prefix('*').and_then(|long| long.split_once('+')) {
-        Some((letters, value)) =>
-            put_entry(bytes, path, letters.parse().unwrap_or(0), value, held),
+    match value
+        .strip_prefix('*')
+        .and_then(|long| long.split_once('+'))
+    {
+        Some((letters, value)) => put_entry(bytes, path, letters.parse().unwrap_or(0), value, held),
         None => put_entry(bytes, path, 0, value, held),
     }
 }
 
 /// The manifest of the entries that words stand for, and what its files hold.
-fn manifest_of(
-    alloc: Global,
-    words: &str,
-) -> Result<(ManifestContent, Vec<u8>), AllocError> {
+fn manifest_of(alloc: Global, words: &str) -> Result<(ManifestContent, Vec<u8>), AllocError> {
     let mut entries = Vec::new(alloc);
     let mut count: usize = 0;
     for word in words.split_whitespace() {
@@ -137,7 +136,11 @@ pub fn put_kept(
     let entry = entries.entry(number);
     put_entry_of(text, alloc, &entry)?;
     let same = entries.path(number) == entry.path;
-    text.push_str(if same && is_usual(&entry) { ";" } else { " odd;" })
+    text.push_str(if same && is_usual(&entry) {
+        ";"
+    } else {
+        " odd;"
+    })
 }
 
 /// The entries of these numbers, each behind its number and with a `;` behind it.
