@@ -3,7 +3,9 @@
 ghost use Rattle.std.specs.Prelude.{◌≡◌, List, ◌++◌, IfOk, length, vec_len};
 ghost use Rattle.ice_catalog.specs.Apart.{TellsPinnedPlans};
 ghost use Rattle.ice_versions.specs.Live.{IsGrown};
-ghost use Rattle.ice_catalog.specs.Machines.{commit, event, finish_in, in_scan, merge, pin, take};
+ghost use Rattle.std.specs.Prelude.{slice_get};
+ghost use Rattle.ice_versions.specs.Histories.{History};
+ghost use Rattle.ice_catalog.specs.Machines.{at_pin, commit, event, finish_at, finish_in, in_scan, merge, pin, take};
 ghost use Rattle.ice_catalog.specs.Machines.{machine_after, replies_to, started};
 ghost use Rattle.ice_catalog.specs.declared.event.Event.{Event};
 
@@ -44,18 +46,9 @@ impl Machine {
         match happens {
             Event::Pin { filter } => self.pin(filter),
             Event::Commit { base, change, ids } => self.commit(*base, change, *ids),
-            Event::Take { pin, worker, i } => match self.pins.get_mut(*pin) {
-                Some(scan) => take(scan, *worker, *i),
-                None => Ok(Reply::NoSuch),
-            },
-            Event::Merge { pin, into, from } => match self.pins.get_mut(*pin) {
-                Some(scan) => merge(scan, *into, *from),
-                None => Ok(Reply::NoSuch),
-            },
-            Event::Finish { pin, worker } => match self.pins.get(*pin) {
-                Some(scan) => finish(scan, *worker),
-                None => Ok(Reply::NoSuch),
-            },
+            Event::Take { pin, worker, i } => take_at(&mut self.pins, *pin, *worker, *i),
+            Event::Merge { pin, into, from } => merge_at(&mut self.pins, *pin, *into, *from),
+            Event::Finish { pin, worker } => finish_at(&self.pins, *pin, *worker),
         }
     }
 
@@ -91,6 +84,50 @@ impl Machine {
             Err(PrepareFault::Memory) => Err(AllocError),
             Err(fault) => Ok(Reply::NotPrepared(fault)),
         }
+    }
+}
+
+/// A worker of the pin takes a wanted row, where there is such a pin.
+fn take_at(
+    pins: &mut Vec<Option<Scanning>>,
+    pin: usize,
+    worker: usize,
+    i: usize,
+) -> Result<Reply, AllocError>
+    ensures { (h : History) → IfOk result (λ reply. (reply, record { history = h; pins = pins.new.items }) ≡
+        at_pin (record { history = h; pins = pins.old.items }) pin (λ p. take p worker i)
+        (slice_get pins.old.items pin)) }
+{
+    match pins.get_mut(pin) {
+        Some(scan) => take(scan, worker, i),
+        None => Ok(Reply::NoSuch),
+    }
+}
+
+/// A worker of the pin takes over what another one took, where there is such a pin.
+fn merge_at(
+    pins: &mut Vec<Option<Scanning>>,
+    pin: usize,
+    into: usize,
+    from: usize,
+) -> Result<Reply, AllocError>
+    ensures { (h : History) → IfOk result (λ reply. (reply, record { history = h; pins = pins.new.items }) ≡
+        at_pin (record { history = h; pins = pins.old.items }) pin (λ p. merge p into from)
+        (slice_get pins.old.items pin)) }
+{
+    match pins.get_mut(pin) {
+        Some(scan) => merge(scan, into, from),
+        None => Ok(Reply::NoSuch),
+    }
+}
+
+/// A worker of the pin finishes, where there is such a pin.
+fn finish_at(pins: &[Option<Scanning>], pin: usize, worker: usize) -> Result<Reply, AllocError>
+    ensures { IfOk result (λ reply. reply ≡ finish_at (slice_get pins.now pin) worker) }
+{
+    match pins.get(pin) {
+        Some(scan) => finish(scan, worker),
+        None => Ok(Reply::NoSuch),
     }
 }
 
