@@ -1,0 +1,157 @@
+//! Strings and their numbers.
+
+use crate::held::{has_at, holds, place};
+use path_arena::{Arena, ArenaFault};
+use std::alloc::{AllocError, Global};
+use std::test::Fail;
+
+/// A string, and the number that interning it gives.
+type Row = (&'static [u8], u32);
+
+/// In room for two strings of four bytes.
+const RESERVED: [Row; 3] = [(b"ab", 0), (b"cd", 1), (b"ab", 0)];
+
+/// Without room that was made before.
+const PATHS: [Row; 9] = [
+    (b"s3://a/one", 0),
+    (b"", 1),
+    (b"s3://a/two", 2),
+    (b"s3://a/one", 0),
+    (b"", 1),
+    (b"s3://a/one.", 3),
+    (b"s3://a/on", 4),
+    (b"\x00", 5),
+    (b"s3://a/two", 2),
+];
+
+/// Whether each string gets its number.
+fn are_interned(arena: &mut Arena, rows: &[Row]) -> bool {
+    for row in rows {
+        if place(arena.intern(row.0)) != Ok(row.1) {
+            return false;
+        }
+    }
+    true
+}
+
+/// An arena may go to another thread.
+fn sent<T: Send>(value: T) -> T {
+    value
+}
+
+#[test]
+fn reserved(rt: HostRuntime) -> Result<(), Fail> {
+    let mut arena = Arena::new(rt.alloc());
+    arena.reserve(2, 4)?;
+    assert!(rt; are_interned(&mut arena, &RESERVED));
+    assert!(rt; holds(&arena, &[b"ab", b"cd"]));
+    Ok(())
+}
+
+#[test]
+fn unreserved(rt: HostRuntime) {
+    let mut arena = sent(Arena::new(rt.alloc()));
+    assert!(rt; arena.find(b"").is_none() && arena.len() == 0);
+    assert!(rt; are_interned(&mut arena, &PATHS));
+    assert!(rt;
+        holds(
+            &arena,
+            &[
+                b"s3://a/one",
+                b"",
+                b"s3://a/two",
+                b"s3://a/one.",
+                b"s3://a/on",
+                b"\x00"
+            ]
+        )
+    );
+    assert!(rt; arena.find(b"s3://a/ONE").is_none());
+}
+
+/// Whether a string of so many bytes gets the number that is wanted.
+fn is_taken(
+    alloc: Global,
+    arena: &mut Arena,
+    length: usize,
+    wanted: Result<u32, ArenaFault>,
+) -> Result<bool, AllocError> {
+    let string = Vec::from_elem(alloc, 7u8, length)?;
+    Ok(place(arena.intern(string.as_slice())) == wanted)
+}
+
+/// Lengths, and what interning a string of that length into one arena gives.
+const LENGTHS: [(usize, Result<u32, ArenaFault>); 7] = [
+    (65_535, Ok(0)),
+    (65_536, Err(ArenaFault::TooLong)),
+    (1, Ok(1)),
+    (65_535, Ok(0)),
+    (65_534, Ok(2)),
+    (0, Ok(3)),
+    (1_000_000, Err(ArenaFault::TooLong)),
+];
+
+fn are_taken(
+    alloc: Global,
+    arena: &mut Arena,
+    rows: &[(usize, Result<u32, ArenaFault>)],
+) -> Result<bool, AllocError> {
+    for row in rows {
+        if !is_taken(alloc, arena, row.0, row.1)? {
+            return Ok(false);
+        }
+    }
+    Ok(true)
+}
+
+#[test]
+fn long_strings(rt: HostRuntime) -> Result<(), Fail> {
+    let alloc = rt.alloc();
+    let mut arena = Arena::new(alloc);
+    assert!(rt; are_taken(alloc, &mut arena, &LENGTHS)?);
+    assert_eq!(rt; arena.len(), 4);
+    let mut other = Arena::new(alloc);
+    assert!(rt; is_taken(alloc, &mut other, 1, Ok(0))?);
+    assert!(rt; is_taken(alloc, &mut other, 65_535, Ok(1))?);
+    Ok(())
+}
+
+fn path(alloc: Global, number: u32) -> Result<String, AllocError> {
+    format!(in alloc; "s3://bucket/table/data/{number}.parquet")
+}
+
+/// Whether so many paths get their numbers.
+fn are_paths_interned(alloc: Global, arena: &mut Arena, count: u32) -> Result<bool, AllocError> {
+    for number in 0..count {
+        if place(arena.intern(path(alloc, number)?.as_bytes())) != Ok(number) {
+            return Ok(false);
+        }
+    }
+    Ok(true)
+}
+
+/// Whether so many paths are found.
+fn are_paths_found(alloc: Global, arena: &Arena, count: u32) -> Result<bool, AllocError> {
+    for number in 0..count {
+        if !has_at(arena, number as usize, path(alloc, number)?.as_bytes()) {
+            return Ok(false);
+        }
+    }
+    Ok(true)
+}
+
+#[test]
+fn many_paths(rt: HostRuntime) -> Result<(), Fail> {
+    let alloc = rt.alloc();
+    let mut arena = Arena::new(alloc);
+    assert!(rt; are_paths_interned(alloc, &mut arena, 3_000)?);
+    assert!(rt; are_paths_found(alloc, &arena, 3_000)?);
+    let mut copied = arena.copy(alloc)?;
+    assert!(rt; are_paths_found(alloc, &copied, 3_000)? && copied.len() == 3_000);
+    // What one of them takes in, the other does not have.
+    assert_eq!(rt; place(copied.intern(b"s3://a/one")), Ok(3_000));
+    assert!(rt; arena.find(b"s3://a/one").is_none() && arena.len() == 3_000);
+    assert!(rt; are_paths_interned(alloc, &mut arena, 3_001)?);
+    assert!(rt; are_paths_found(alloc, &arena, 3_001)?);
+    Ok(())
+}
