@@ -7,7 +7,7 @@ use Rattle.ice_value.specs.declared.file_content.FileContent.TheVariants.{Data, 
 use Rattle.ice_value.specs.Applying.{DeleteKey, applies as key_applies}
 use Rattle.ice_manifest_reading.specs.declared.entry.Entry.{Entry}
 use Rattle.ice_deletes.specs.Found.{is_content, holds as key_holds}
-use Rattle.ice_state.specs.declared.lines.Places.{Places}
+use Rattle.ice_state.specs.PlaceLists.{LinePlaces}
 use Rattle.ice_state.specs.Applying.{data_key_of, delete_key_of, applies}
 use Rattle.ice_state.specs.Lines.{entry_at, entries_at, line_at, lines_at, AreWithin, IsLineWithin, AreLinesOf}
 use Rattle.ice_state.specs.Outcomes.{line_of}
@@ -112,11 +112,11 @@ module _ (deletes : List Entry) where
   one_each (x ∷ xs) = ap suc (one_each xs)
 
 -- the lines with these places, and that the places are within
-module _ (deletes files : List Entry) (places : List Places)
+module _ (deletes files : List Entry) (places : List LinePlaces)
     (are : places ≡ map (λ x. places_of (enumerate_from 0 (map delete_key_of deletes)) (data_key_of x)) files) where
   pub lines_are : lines_at deletes files places ≡ map (line_of deletes) files
   lines_are = ap (lines_at deletes files) are ∙ each_line_is deletes files
 
   pub lines_fit : AreLinesOf files deletes places
-  lines_fit = subst (λ (ps : List Places). AreLinesOf files deletes ps) (sym are)
+  lines_fit = subst (λ (ps : List LinePlaces). AreLinesOf files deletes ps) (sym are)
       (record { each = one_each deletes files; within = each_within deletes files })

@@ -12,7 +12,8 @@ pub mod Planned
 pub mod Named
 pub mod OfSpecs
 pub mod Outcomes
-pub mod Places
+pub mod LinesAt
+pub mod PlaceTables
 pub mod Planning
 pub mod Pruned
 pub mod Runs

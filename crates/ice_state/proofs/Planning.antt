@@ -6,7 +6,7 @@ use Rattle.ice_state.specs.Lines.{lines_of, IsPlanned}
 
 -- the same numbers are planned alike
 module _ (kept : Kept) (p q : NumberedPlan) (files : q.files.items ≡ p.files.items)
-    (deletes : q.deletes.items ≡ p.deletes.items) (places : q.places.items ≡ p.places.items) where
+    (deletes : q.deletes.items ≡ p.deletes.items) (places : q.places ≡ p.places) where
   pub planned_alike : IsPlanned kept p → IsPlanned kept q
   planned_alike is = record {
     files = rw files is.files;

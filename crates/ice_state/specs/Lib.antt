@@ -6,6 +6,7 @@ pub mod Lines
 pub mod Named
 pub mod Outcomes
 pub mod Parts
+pub mod PlaceLists
 pub mod Pruning
 pub mod Readings
 pub mod Runs

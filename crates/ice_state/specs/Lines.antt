@@ -4,7 +4,7 @@ use Rattle.std.specs.List.{flat_map, AllByRecursion}
 use Rattle.ice_manifest_reading.specs.declared.entry.Entry.{Entry}
 use Rattle.ice_entries.specs.Kept.{Kept, AreKept, entries_at as kept_at}
 use Rattle.ice_state.specs.declared.lines.Files.{Files}
-use Rattle.ice_state.specs.declared.lines.Places.{Places}
+use Rattle.ice_state.specs.PlaceLists.{LinePlaces}
 use Rattle.ice_state.specs.declared.plan.NumberedPlan.{NumberedPlan}
 
 -- a data file, and by path the position delete files and the equality delete files that apply to it
@@ -31,14 +31,14 @@ abbrev pub entries_at : List Entry → List ℕ → List Entry
 entries_at entries places = flat_map (entry_at entries) places
 
 -- a data file with the delete files at these places
-abbrev pub line_at : List Entry → Entry → Places → OwnedLine
+abbrev pub line_at : List Entry → Entry → LinePlaces → OwnedLine
 line_at deletes x places = record {
   file = x;
   positions = entries_at deletes places.positions;
   equalities = entries_at deletes places.equalities;
 }
 
-abbrev pub lines_at : List Entry → List Entry → List Places → List OwnedLine
+abbrev pub lines_at : List Entry → List Entry → List LinePlaces → List OwnedLine
 lines_at deletes [] places = []
 lines_at deletes (x ∷ xs) [] = []
 lines_at deletes (x ∷ xs) (p ∷ ps) = line_at deletes x p ∷ lines_at deletes xs ps
@@ -47,19 +47,19 @@ lines_at deletes (x ∷ xs) (p ∷ ps) = line_at deletes x p ∷ lines_at delete
 abbrev pub AreWithin : ℕ → List ℕ → Type 0
 AreWithin n places = AllByRecursion (λ i. i < n) places
 
-abbrev pub IsLineWithin : ℕ → Places → Type 0
+abbrev pub IsLineWithin : ℕ → LinePlaces → Type 0
 IsLineWithin n places = AreWithin n places.positions × AreWithin n places.equalities
 
 -- a place for each data file, each of them within the delete files
-pub record AreLinesOf (files deletes : List Entry) (places : List Places) : Type 0 where
+pub record AreLinesOf (files deletes : List Entry) (places : List LinePlaces) : Type 0 where
   pub each : length places ≡ length files
   pub within : AllByRecursion (IsLineWithin (length deletes)) places
 
 -- the lines of a plan by numbers
 abbrev pub lines_of : Kept → NumberedPlan → List OwnedLine
-lines_of kept plan = lines_at (kept_at kept plan.deletes.items) (kept_at kept plan.files.items) plan.places.items
+lines_of kept plan = lines_at (kept_at kept plan.deletes.items) (kept_at kept plan.files.items) plan.places
 
 pub record IsPlanned (kept : Kept) (plan : NumberedPlan) : Type 0 where
   pub files : AreKept kept plan.files.items
   pub deletes : AreKept kept plan.deletes.items
-  pub lines : AreLinesOf (kept_at kept plan.files.items) (kept_at kept plan.deletes.items) plan.places.items
+  pub lines : AreLinesOf (kept_at kept plan.files.items) (kept_at kept plan.deletes.items) plan.places

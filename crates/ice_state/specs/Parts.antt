@@ -22,7 +22,7 @@ use Rattle.ice_state.specs.declared.fault.FinishFault.{FinishFault}
 use Rattle.ice_state.specs.declared.fault.FinishFault.TheVariants as faults
 use Rattle.ice_state.specs.declared.fault.ScanFault.{ScanFault}
 use Rattle.ice_state.specs.declared.fault.ScanFault.TheVariants.{NoSuchSpec}
-use Rattle.ice_state.specs.declared.lines.Places.{Places}
+use Rattle.ice_state.specs.PlaceLists.{LinePlaces}
 use Rattle.ice_state.specs.Readings.{Reading}
 use Rattle.ice_state.specs.Readings.{Good, Bad}
 use Rattle.ice_state.specs.Contents.{Content, or_else, reading}
@@ -86,7 +86,7 @@ abbrev pub numbers_of : FileContent → List (ℕ × DeleteKey) → DataKey → 
 numbers_of content deletes x = numbers_where (λ d. key_holds content d && key_applies x d) deletes
 
 -- the places of the delete files that apply to x, where their numbers are their places
-abbrev pub places_of : List (ℕ × DeleteKey) → DataKey → Places
+abbrev pub places_of : List (ℕ × DeleteKey) → DataKey → LinePlaces
 places_of deletes x =
     record {
       positions = ascending (numbers_of PositionDeletes deletes x);

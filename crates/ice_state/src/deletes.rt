@@ -1,8 +1,7 @@
 //! Which delete files apply to a data file, looked up in the index.
 
-ghost use Rattle.std.specs.Prelude.{◌≡◌, ◌≤◌, ◌↔◌, ◌++◌, ◌==◌, ℕ, map, IfOk, Contains, count_by};
-ghost use Rattle.std.specs.List.Sorted.{IsPermutation, IsSorted};
-ghost use Rattle.std.specs.Ordering.{nat_cmp};
+ghost use Rattle.std.specs.Prelude.{◌≡◌, ◌≤◌, ◌↔◌, ◌++◌, ◌∷◌, [], ◌==◌, ℕ, map, IfOk, OnOk, OnErr, Contains, count_by};
+ghost use Rattle.std.specs.List.Sorted.{IsPermutation};
 ghost use Rattle.ice_value.specs.declared.file_content.FileContent.TheVariants.{PositionDeletes, EqualityDeletes};
 ghost use Rattle.ice_deletes.specs.Found.{lent, AppliesAt};
 ghost use Rattle.ice_deletes.specs.Keys.{key_of as record_key};
@@ -11,8 +10,7 @@ ghost use Rattle.ice_manifest_reading.specs.Lending.{lent as lent_entry};
 ghost use Rattle.ice_state.specs.Applying.{data_key_of, delete_key_of};
 ghost use Rattle.ice_state.specs.Parts.{places_of, numbers_of};
 
-use crate::lines::Places;
-use contract_words::Items;
+use crate::places::PlaceTable;
 use ice_deletes::{DeleteIndex, Hits, Record};
 use ice_entries::{Entries, EntryNumber};
 use ice_manifest_reading::LentEntry;
@@ -63,29 +61,21 @@ fn deletes_for<'i>(index: &'i DeleteIndex, x: &LentEntry<'_>) -> Hits<'i>
     index.for_data(x.spec_id, x.tuple, x.sequence_number, x.path)
 }
 
-/// The numbers of both lists, the lower ones first.
-fn in_order(alloc: Global, numbers: &[usize], others: &[usize]) -> Result<Items<usize>, AllocError>
-    ensures same { IfOk result (λ ordered. IsPermutation (numbers.now ++ others.now) ordered) }
-    ensures rising { IfOk result (λ ordered. IsSorted nat_cmp ordered) }
-{
-    let mut ordered = Vec::with_capacity(alloc, numbers.len() + others.len())?;
-    ordered.extend_from_slice(numbers)?;
-    ordered.extend_from_slice(others)?;
-    ordered.sort_unstable();
-    Ok(Items::from_vec(ordered))
-}
-
-/// The places of the delete files that apply to the data file.
-pub fn places_for(
-    alloc: Global,
+/// Puts a line last: the places of the delete files that apply to the data file. A refusal, for want of memory, leaves
+/// the lines as they were.
+pub fn push_places(
+    places: &mut PlaceTable,
     index: &DeleteIndex,
     x: &LentEntry<'_>,
-) -> Result<Places, AllocError>
-    ensures { IfOk result (λ places. places ≡ places_of index.now (data_key_of (lent_entry x.now))) }
+) -> Result<(), AllocError>
+    ensures ok { OnOk result (places.new ≡ places.old ++ places_of index.now (data_key_of (lent_entry x.now)) ∷ []) }
+    ensures err { OnErr result (places.new ≡ places.old) }
 {
     let hits = deletes_for(index, x);
-    Ok(Places {
-        positions: in_order(alloc, hits.positions, hits.referenced)?,
-        equalities: in_order(alloc, hits.equalities, hits.everywhere)?,
-    })
+    places.push(
+        hits.positions,
+        hits.referenced,
+        hits.equalities,
+        hits.everywhere,
+    )
 }

@@ -15,9 +15,9 @@ ghost use Rattle.ice_state.specs.Parts.{fault_of, Stops, holds_deletes, places_o
 ghost use Rattle.ice_state.specs.Pruning.{holds};
 ghost use Rattle.ice_state.specs.Slots.{contents, given, HaveNumbers};
 
-use crate::deletes::{places_for, records};
+use crate::deletes::{push_places, records};
 use crate::fault::FinishFault;
-use crate::lines::Places;
+use crate::places::PlaceTable;
 use crate::plan::NumberedPlan;
 use crate::taken::Taken;
 use contract_words::Items;
@@ -194,10 +194,10 @@ fn lines(
     entries: &Entries,
     files: &[EntryNumber],
     deletes: &[EntryNumber],
-) -> Result<Vec<Places>, AllocError>
+) -> Result<PlaceTable, AllocError>
     requires files { AreKept entries.now files.now }
     requires deletes { AreKept entries.now deletes.now }
-    ensures { IfOk result (λ places. places.items
+    ensures { IfOk result (λ places. places
         ≡ map (λ x. places_of (enumerate_from 0 (map delete_key_of (entries_at entries.now deletes.now)))
         (data_key_of x)) (entries_at entries.now files.now)) }
 {
@@ -212,14 +212,14 @@ fn looked_up(
     entries: &Entries,
     files: &[EntryNumber],
     index: &DeleteIndex,
-) -> Result<Vec<Places>, AllocError>
+) -> Result<PlaceTable, AllocError>
     requires { AreKept entries.now files.now }
-    ensures { IfOk result (λ places. places.items
+    ensures { IfOk result (λ places. places
         ≡ map (λ x. places_of index.now (data_key_of x)) (entries_at entries.now files.now)) }
 {
-    let mut places = Vec::with_capacity(alloc, files.len())?;
+    let mut places = PlaceTable::with_capacity(alloc, files.len())?;
     'files: for file in files {
-        places.push(places_for(alloc, index, &entries.entry(*file))?)?;
+        push_places(&mut places, index, &entries.entry(*file))?;
     }
     Ok(places)
 }

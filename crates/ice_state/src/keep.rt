@@ -2,9 +2,7 @@
 
 ghost use Rattle.std.specs.Prelude.{◌≡◌, IfOk};
 
-use crate::lines::Places;
 use crate::plan::{NumberedPlan, OwnedPlan, Plan};
-use contract_words::Items;
 use ice_entries::EntryNumber;
 use std::alloc::{AllocError, Global};
 
@@ -25,12 +23,12 @@ impl NumberedPlan {
     fn copy(&self, alloc: Global) -> Result<NumberedPlan, AllocError>
         ensures files { IfOk result (λ plan. plan.files.items ≡ self.now.files.items) }
         ensures deletes { IfOk result (λ plan. plan.deletes.items ≡ self.now.deletes.items) }
-        ensures places { IfOk result (λ plan. plan.places.items ≡ self.now.places.items) }
+        ensures places { IfOk result (λ plan. plan.places ≡ self.now.places) }
     {
         Ok(NumberedPlan {
             files: copied_entries(alloc, &self.files)?,
             deletes: copied_entries(alloc, &self.deletes)?,
-            places: copied_places(alloc, &self.places)?,
+            places: self.places.copy(alloc)?,
         })
     }
 }
@@ -39,23 +37,4 @@ fn copied_entries(alloc: Global, numbers: &[EntryNumber]) -> Result<Vec<EntryNum
     ensures { IfOk result (λ copied. copied.items ≡ numbers.now) }
 {
     numbers.to_vec(alloc)
-}
-
-fn copied_places(alloc: Global, lines: &[Places]) -> Result<Vec<Places>, AllocError>
-    ensures { IfOk result (λ copied. copied.items ≡ lines.now) }
-{
-    let mut copied = Vec::with_capacity(alloc, lines.len())?;
-    'lines: for line in lines {
-        copied.push(Places {
-            positions: copied_numbers(alloc, line.positions.as_slice())?,
-            equalities: copied_numbers(alloc, line.equalities.as_slice())?,
-        })?;
-    }
-    Ok(copied)
-}
-
-fn copied_numbers(alloc: Global, numbers: &[usize]) -> Result<Items<usize>, AllocError>
-    ensures { IfOk result (λ copied. copied ≡ numbers.now) }
-{
-    Ok(Items::from_vec(numbers.to_vec(alloc)?))
 }

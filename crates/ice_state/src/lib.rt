@@ -9,6 +9,7 @@ pub mod laws;
 mod lines;
 mod merging;
 mod partial;
+mod places;
 mod plan;
 mod pruning;
 mod scan;

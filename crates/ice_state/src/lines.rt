@@ -4,7 +4,7 @@ ghost use Rattle.std.specs.Prelude.{◌≡◌, ◌<◌, ◌^◌, length, Some, s
 ghost use Rattle.ice_entries.specs.Kept.{IsKept, entry_at};
 ghost use Rattle.ice_manifest_reading.specs.Lending.{lent};
 
-use contract_words::Items;
+use crate::places::PlaceTable;
 use ice_entries::{Entries, EntryNumber};
 use ice_manifest_reading::LentEntry;
 use ice_value::SequenceNumber;
@@ -38,13 +38,6 @@ impl<'a> Files<'a> {
     {
         self.entries.entry(self.number(i))
     }
-}
-
-/// The places of the delete files that apply to a data file, among those of its plan.
-#[derive(Debug, Drop)]
-pub(crate) struct Places {
-    pub(crate) positions: Items<usize>,
-    pub(crate) equalities: Items<usize>,
 }
 
 /// A file of a plan.
@@ -110,7 +103,7 @@ impl<'a> PlanFile<'a> {
 #[derive(Debug, Drop)]
 pub struct PlanFiles<'a> {
     files: Files<'a>,
-    places: &'a [usize],
+    places: &'a [u32],
 }
 
 impl<'a> Model for PlanFiles<'a> {
@@ -144,7 +137,7 @@ impl<'a> PlanFiles<'a> {
         ensures { slice_get self.now i ≡ Some result }
     {
         PlanFile {
-            entry: self.files.entry(self.places[i]),
+            entry: self.files.entry(self.places[i] as usize),
         }
     }
 }
@@ -155,7 +148,8 @@ pub struct Line<'a> {
     entries: &'a Entries,
     file: EntryNumber,
     deletes: Files<'a>,
-    places: &'a Places,
+    positions: &'a [u32],
+    equalities: &'a [u32],
 }
 
 impl<'a> Model for Line<'a> {
@@ -165,12 +159,14 @@ impl<'a> Model for Line<'a> {
 
     ghost Value = { OwnedLine };
 
-    ghost view = { λ l. line_at (entries_of l.deletes) (entry_at l.entries.now l.file) l.places.now };
+    ghost view = { λ l. line_at (entries_of l.deletes) (entry_at l.entries.now l.file)
+        (record { positions = l.positions.now; equalities = l.equalities.now }) };
 
     ghost invariant = { λ l. record {
       kept : IsKept l.entries.now l.file;
       deletes : AreFiles l.deletes;
-      within : IsLineWithin (length (entries_of l.deletes)) l.places.now;
+      within : IsLineWithin (length (entries_of l.deletes))
+          (record { positions = l.positions.now; equalities = l.equalities.now });
     } };
 }
 
@@ -190,7 +186,7 @@ impl<'a> Line<'a> {
     {
         PlanFiles {
             files: self.deletes,
-            places: self.places.positions.as_slice(),
+            places: self.positions,
         }
     }
 
@@ -200,7 +196,7 @@ impl<'a> Line<'a> {
     {
         PlanFiles {
             files: self.deletes,
-            places: self.places.equalities.as_slice(),
+            places: self.equalities,
         }
     }
 }
@@ -210,7 +206,7 @@ impl<'a> Line<'a> {
 pub struct Lines<'a> {
     pub(crate) files: Files<'a>,
     pub(crate) deletes: Files<'a>,
-    pub(crate) places: &'a [Places],
+    pub(crate) places: &'a PlaceTable,
 }
 
 impl<'a> Model for Lines<'a> {
@@ -246,7 +242,8 @@ impl<'a> Lines<'a> {
             entries: self.files.entries,
             file: self.files.number(i),
             deletes: self.deletes,
-            places: &self.places[i],
+            positions: self.places.positions(i),
+            equalities: self.places.equalities(i),
         }
     }
 }

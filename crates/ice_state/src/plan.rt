@@ -3,7 +3,8 @@
 ghost use Rattle.std.specs.Prelude.{◌≡◌};
 ghost use Rattle.ice_state.specs.Lines.{lines_of, IsPlanned};
 
-use crate::lines::{Files, Lines, Places};
+use crate::lines::{Files, Lines};
+use crate::places::PlaceTable;
 use ice_entries::{Entries, EntryNumber};
 use std::marker::Model;
 
@@ -12,7 +13,7 @@ use std::marker::Model;
 pub(crate) struct NumberedPlan {
     pub(crate) files: Vec<EntryNumber>,
     pub(crate) deletes: Vec<EntryNumber>,
-    pub(crate) places: Vec<Places>,
+    pub(crate) places: PlaceTable,
 }
 
 impl NumberedPlan {

@@ -5,7 +5,7 @@ use Rattle.ice_deletes.specs.Found.{numbered_deletes}
 use Rattle.ice_deletes.specs.Keys.{key_of as record_key}
 use Rattle.ice_entries.specs.Kept.{entries_at}
 use Rattle.ice_state.specs.Applying.{delete_key_of}
-use Rattle.ice_state.specs.declared.lines.Places.{Places}
+use Rattle.ice_state.specs.PlaceLists.{LinePlaces}
 use Rattle.ice_state.proofs.Lent.{all_by_place}
 use Rattle.ice_state.proofs.finish.lines.Goals as goal
 
@@ -16,6 +16,6 @@ returns c =
     ∙ c.in_ok-records.ensures in
     let P : List DeleteKey → Type 0 = λ ks. IsPermutation (numbered_deletes ks) c.in_ok-index.index in
     let index : P files = subst P keys c.in_ok-index.ensures in
-    let Q : List Places → Type 0 = λ ps. IfOk c.looked_up.result (λ places. places.items ≡ ps) in
+    let Q : List LinePlaces → Type 0 = λ ps. IfOk c.looked_up.result (λ places. places ≡ ps) in
     subst Q (all_by_place files c.in_ok-index.index index (entries_at c.args.entries.now c.args.files.now))
     c.looked_up.ensures

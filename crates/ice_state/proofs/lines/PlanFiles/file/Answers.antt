@@ -3,7 +3,7 @@ use Rattle.std.specs.List.{slice_get}
 use Rattle.ice_manifest_reading.specs.Lending.{lent}
 use Rattle.ice_manifest_reading.specs.declared.entry.Entry.{Entry}
 use Rattle.ice_state.specs.Lines.{entries_of}
-use Rattle.ice_state.proofs.Places.{length-entries_at, entries_at-get}
+use Rattle.ice_state.proofs.LinesAt.{length-entries_at, entries_at-get}
 use Rattle.ice_state.proofs.lines.PlanFiles.file.Goals as goal
 
 pub bounds-self-inside-i : goal.bounds-self-inside-i

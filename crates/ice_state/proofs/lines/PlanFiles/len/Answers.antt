@@ -1,6 +1,6 @@
 use Rattle.std.proofs.Common.{◌∙◌, sym, ap, length}
 use Rattle.ice_state.specs.Lines.{entries_of}
-use Rattle.ice_state.proofs.Places.{length-entries_at}
+use Rattle.ice_state.proofs.LinesAt.{length-entries_at}
 use Rattle.ice_state.proofs.lines.PlanFiles.len.Goals as goal
 
 pub returns-clause-counted : goal.returns-clause-counted

@@ -1,5 +1,5 @@
 -- Lines by the places of their files.
-use Rattle.std.proofs.Common.{◌≡◌, ◌<◌, ℕ, zero, suc, List, [], ◌∷◌, refl, sym, ap, ◌∙◌, true, not, ◌&&◌, length}
+use Rattle.std.proofs.Common.{◌≡◌, ◌<◌, ℕ, zero, suc, List, [], ◌∷◌, refl, sym, ap, subst, ◌∙◌, true, not, ◌&&◌, length}
 use Rattle.std.proofs.Common.{get_or, arith, map, filter, Some}
 use Rattle.std.specs.List.{slice_get, AllByRecursion}
 use Rattle.ice_manifest_reading.specs.declared.entry.Entry.{Entry}
@@ -10,7 +10,7 @@ use Rattle.ice_state.specs.Outcomes.{line_of, plan_over}
 use Rattle.ice_state.specs.Parts.{holds_deletes}
 use Rattle.ice_state.specs.Pruning.{holds, same_content}
 use Rattle.ice_state.proofs.Filters.{and_true, all_unit, filter_kept}
-use Rattle.ice_state.specs.declared.lines.Places.{Places}
+use Rattle.ice_state.specs.PlaceLists.{LinePlaces}
 use Rattle.ice_state.specs.Lines.{entry_at, entries_at, line_at, lines_at, AreWithin, IsLineWithin}
 
 -- one entry stands at each place within
@@ -43,26 +43,29 @@ within-at n [] k d within l = absurd (omega arith)
 within-at n (j ∷ js) zero d within l = within.0
 within-at n (j ∷ js) (suc k) d within l = within-at n js k d within.1 (omega arith)
 
-pub line_within-at : (n : ℕ) (places : List Places) (k : ℕ) (d : Places) → AllByRecursion (IsLineWithin n) places
-    → k < length places → IsLineWithin n (get_or places k d)
-line_within-at n [] k d within l = absurd (omega arith)
-line_within-at n (q ∷ qs) zero d within l = within.0
-line_within-at n (q ∷ qs) (suc k) d within l = line_within-at n qs k d within.1 (omega arith)
+pub line_within-at : (n : ℕ) (places : List LinePlaces) (k : ℕ) (d : LinePlaces) → AllByRecursion (IsLineWithin n) places
+    → slice_get places k ≡ Some d → IsLineWithin n d
+line_within-at n [] k d within at = cc
+line_within-at n (q ∷ qs) zero d within at = let same : q ≡ d = cc in subst (IsLineWithin n) same within.0
+line_within-at n (q ∷ qs) (suc k) d within at = line_within-at n qs k d within.1 at
 
-pub length-lines_at : (deletes files : List Entry) (places : List Places) → length places ≡ length files
+pub length-lines_at : (deletes files : List Entry) (places : List LinePlaces) → length places ≡ length files
     → length (lines_at deletes files places) ≡ length places
 length-lines_at deletes [] [] h = refl
 length-lines_at deletes [] (p ∷ ps) h = absurd (omega arith)
 length-lines_at deletes (x ∷ xs) [] h = absurd (omega arith)
 length-lines_at deletes (x ∷ xs) (p ∷ ps) h = ap suc (length-lines_at deletes xs ps (omega arith))
 
-pub lines_at-get : (deletes files : List Entry) (places : List Places) (k : ℕ) (x : Entry) (d : Places)
-    → k < length places → slice_get files k ≡ Some x
-    → slice_get (lines_at deletes files places) k ≡ Some (line_at deletes x (get_or places k d))
-lines_at-get deletes files [] k x d l h = absurd (omega arith)
-lines_at-get deletes [] (q ∷ qs) k x d l h = cc
-lines_at-get deletes (y ∷ ys) (q ∷ qs) zero x d l h = let same : y ≡ x = cc in ap (λ f. Some (line_at deletes f q)) same
-lines_at-get deletes (y ∷ ys) (q ∷ qs) (suc k) x d l h = lines_at-get deletes ys qs k x d (omega arith) h
+pub lines_at-get : (deletes files : List Entry) (places : List LinePlaces) (k : ℕ) (x : Entry) (d : LinePlaces)
+    → slice_get files k ≡ Some x → slice_get places k ≡ Some d
+    → slice_get (lines_at deletes files places) k ≡ Some (line_at deletes x d)
+lines_at-get deletes [] places k x d file at = cc
+lines_at-get deletes (y ∷ ys) [] k x d file at = cc
+lines_at-get deletes (y ∷ ys) (q ∷ qs) zero x d file at =
+    let first : y ≡ x = cc in
+    let same : q ≡ d = cc in
+    ap (λ f. Some (line_at deletes f q)) first ∙ ap (λ l. Some (line_at deletes x l)) same
+lines_at-get deletes (y ∷ ys) (q ∷ qs) (suc k) x d file at = lines_at-get deletes ys qs k x d file at
 
 -- ---- the whole plan
 
@@ -89,7 +92,7 @@ map-same : {X Y : Type 0} (f g : X → Y) → ((x : X) → f x ≡ g x) → (xs 
 map-same f g same [] = refl
 map-same f g same (x ∷ xs) = rw (same x, map-same f g same xs) refl
 
-pub planned_is : (xs files deletes : List Entry) (places : List Places) → files ≡ filter (holds Data) xs
+pub planned_is : (xs files deletes : List Entry) (places : List LinePlaces) → files ≡ filter (holds Data) xs
     → deletes ≡ filter holds_deletes xs → lines_at deletes files places ≡ map (line_of deletes) files
     → lines_at deletes files places ≡ plan_over xs xs
 planned_is xs files deletes places f d is =

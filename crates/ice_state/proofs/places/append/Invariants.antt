@@ -1,0 +1,5 @@
+use Rattle.std.proofs.Common.{◌≡◌, ◌++◌, take}
+use Rattle.ice_state.proofs.places.append.Given as goal
+
+abbrev pub invariant-numbers : goal.invariant-numbers
+invariant-numbers l = l.places.items ≡ l.initial.places.items ++ take l.n-index l.numbers
