@@ -4,10 +4,8 @@ use Rattle.std.proofs.Common.{length, get_or, arith, take, append_assoc, add-one
 use Rattle.std.specs.List.{flat_map, AllByRecursion}
 use Rattle.std.specs.List.Sorted.{ties}
 use Rattle.std.specs.Cmp.{IsStrictWeakOrder}
-use Rattle.std.proofs.lemmas.Cmp.{nat_list_cmp_total}
 use Rattle.std.proofs.lemmas.List.{map-append}
 use Rattle.std.proofs.lemmas.List.Elements.{filter-append}
-use Rattle.std.proofs.lemmas.List.Sorted.{ranks_by}
 use Rattle.contract_words.specs.Sorting.{sorted}
 use Rattle.contract_words.proofs.Sorted.{sorted_rises, sorted_ties, unique}
 use Rattle.ice_manifest_reading.specs.declared.entry.Entry.{Entry}
@@ -21,6 +19,7 @@ use Rattle.ice_state.specs.Named.{entry_named, entries_named, IsNamed, AreNamed}
 use Rattle.ice_state.specs.Orders.{IsOrder, runs_in}
 use Rattle.ice_state.specs.Outcomes.{by_path, entries_in, kept_in, path_before}
 use Rattle.ice_state.specs.Placed.{place_of, entry_placed, entries_placed, ArePlaced}
+use Rattle.ice_state.proofs.Sharing.{order}
 
 -- ---- places
 
@@ -121,9 +120,6 @@ module _ {X S : Type 0} (lt : X → X → Bool) (o : IsStrictWeakOrder lt) (f : 
   sorted_runs ss = unique lt o (sorted lt (runs ss)) (sorted lt (flat_map f ss)) (sorted_rises lt o (runs ss))
       (sorted_rises lt o (flat_map f ss)) (λ w. sorted_ties lt o w (runs ss) ∙ runs_tie w ss
       ∙ sym (sorted_ties lt o w (flat_map f ss)))
-
-pub order : IsStrictWeakOrder path_before
-order = ranks_by nat_list_cmp_total (λ (a : Entry). a.file.path)
 
 -- a sort of the rows' runs is one of their entries
 pub by_path_runs : (c : Content) → by_path (runs_in c) ≡ by_path (kept_in c)
