@@ -11,6 +11,7 @@ pub mod Lent
 pub mod Planned
 pub mod Named
 pub mod OfSpecs
+pub mod Orders
 pub mod Outcomes
 pub mod LinesAt
 pub mod PlaceTables

@@ -1,6 +1,6 @@
 -- Slots and their content.
 use Rattle.std.proofs.Common.{◌≡◌, ℕ, zero, suc, List, [], ◌∷◌, ◌++◌, refl, ap, ◌∙◌, Option, Some, None, option_map}
-use Rattle.std.proofs.Common.{IfSome, is_some, is_none, replicate, get_or, slice_set, length, map, ◌<◌, sym, arith}
+use Rattle.std.proofs.Common.{IfSome, is_some, is_none, replicate, get_or, slice_set, length, map, ◌<◌, sym, arith, subst}
 use Rattle.std.specs.List.{AllByRecursion}
 use Rattle.ice_manifest_reading.specs.declared.entry.Entry.{Entry}
 use Rattle.ice_entries.specs.Kept.{Kept, AreKept, Keeps, entry_at, entries_at, IsKept}
@@ -8,6 +8,7 @@ use Rattle.ice_entries.specs.declared.entries.EntryNumber.{EntryNumber}
 use Rattle.ice_state.specs.declared.taken.Taken.{Taken}
 use Rattle.ice_state.specs.declared.taken.Taken.TheVariants as taken
 use Rattle.ice_state.specs.Contents.{is_row_taken}
+use Rattle.ice_state.specs.Orders.{IsOrder}
 use Rattle.ice_state.specs.Readings.{Good}
 use Rattle.ice_state.specs.Slots.{given, HasNumbers, contents, HaveNumbers}
 
@@ -34,11 +35,15 @@ module _ (old new : Kept) (keeps : Keeps old new) where
       ∙ ap (λ (xs : List Entry). entry_at old n ∷ xs) (entries-kept ns all.1)
 
   pub given-kept : (t : Taken) → HasNumbers old t → given new t ≡ given old t
-  given-kept (taken.Good ns) all = ap Good (entries-kept ns all)
+  given-kept (taken.Good ordered) all = ap Good (entries-kept ordered.numbers all.numbers)
   given-kept (taken.Bad fault) all = refl
 
   pub has-kept : (t : Taken) → HasNumbers old t → HasNumbers new t
-  has-kept (taken.Good ns) all = are-kept ns all
+  has-kept (taken.Good ordered) all = record {
+    numbers = are-kept ordered.numbers all.numbers;
+    order = subst (λ (xs : List Entry). IsOrder xs ordered.order) (sym (entries-kept ordered.numbers all.numbers))
+        all.order;
+  }
   has-kept (taken.Bad fault) all = tt
 
   pub contents-kept : (ss : List (Option Taken)) → HaveNumbers old ss → contents new ss ≡ contents old ss

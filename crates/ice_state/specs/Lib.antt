@@ -4,9 +4,11 @@ pub mod Covering
 pub mod Joins
 pub mod Lines
 pub mod Named
+pub mod Orders
 pub mod Outcomes
 pub mod Parts
 pub mod PlaceLists
+pub mod Placed
 pub mod Pruning
 pub mod Readings
 pub mod Runs

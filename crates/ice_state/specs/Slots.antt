@@ -1,20 +1,21 @@
 -- How a state keeps what its manifests gave: by the numbers of entries. No public contract cites these words.
 use Rattle.std.specs.Prelude.{List, map, Option, option_map, IfSome}
 use Rattle.std.specs.List.{AllByRecursion}
-use Rattle.ice_entries.specs.Kept.{Kept, AreKept, entries_at}
+use Rattle.ice_entries.specs.Kept.{Kept, entries_at}
 use Rattle.ice_state.specs.declared.taken.Taken.{Taken}
 use Rattle.ice_state.specs.declared.taken.Taken.TheVariants as taken
 use Rattle.ice_state.specs.Contents.{Content}
+use Rattle.ice_state.specs.Orders.{AreOrdered}
 use Rattle.ice_state.specs.Readings.{Reading, Good, Bad}
 
 -- what a manifest gave that was taken
 abbrev pub given : Kept → Taken → Reading
-given kept (taken.Good numbers) = Good (entries_at kept numbers)
+given kept (taken.Good ordered) = Good (entries_at kept ordered.numbers)
 given kept (taken.Bad fault) = Bad fault
 
--- each of its numbers stands for an entry
+-- each of its numbers stands for an entry, and the entries are in order
 abbrev pub HasNumbers : Kept → Taken → Type 0
-HasNumbers kept (taken.Good numbers) = AreKept kept numbers
+HasNumbers kept (taken.Good ordered) = AreOrdered kept ordered
 HasNumbers kept (taken.Bad fault) = Unit {0}
 
 -- the content of slots

@@ -10,13 +10,15 @@ ghost use Rattle.ice_value.specs.declared.file_content.FileContent.TheVariants.{
 ghost use Rattle.ice_state.specs.Applying.{data_key_of, delete_key_of};
 ghost use Rattle.ice_state.specs.Lines.{lines_of, IsPlanned};
 ghost use Rattle.ice_state.specs.Named.{entry_named, IsNamed, AreNamed, entries_named};
-ghost use Rattle.ice_state.specs.Outcomes.{missing, bad, twice, kept_in, by_path, plan_over, outcome_of};
+ghost use Rattle.ice_state.specs.Orders.{AreOrdered, runs_in};
+ghost use Rattle.ice_state.specs.Outcomes.{missing, bad, twice, by_path, plan_over, outcome_of};
 ghost use Rattle.ice_state.specs.Parts.{fault_of, Stops, holds_deletes, places_of};
 ghost use Rattle.ice_state.specs.Pruning.{holds};
 ghost use Rattle.ice_state.specs.Slots.{contents, given, HaveNumbers};
 
 use crate::deletes::{push_places, records};
 use crate::fault::FinishFault;
+use crate::ordered::Ordered;
 use crate::places::PlaceTable;
 use crate::plan::NumberedPlan;
 use crate::taken::Taken;
@@ -87,21 +89,23 @@ fn check_once(alloc: Global, entries: &Entries, named: &[Named<'_>]) -> Result<(
     Ok(())
 }
 
-/// Puts kept entries last.
+/// Puts kept entries last, by path.
 fn push_named<'a>(
     found: &mut Vec<Named<'a>>,
     entries: &'a Entries,
-    numbers: &[EntryNumber],
+    ordered: &Ordered,
 ) -> Result<(), AllocError>
-    requires { AreKept entries.now numbers.now }
+    requires { AreOrdered entries.now ordered.now }
     ensures named { AreNamed entries.now found.old.items → AreNamed entries.now found.new.items }
     ensures pushed { OnOk result (entries_named entries.now found.new.items
-        ≡ entries_named entries.now found.old.items ++ entries_at entries.now numbers.now) }
+        ≡ entries_named entries.now found.old.items ++ by_path (entries_at entries.now ordered.now.numbers)) }
 {
-    'numbers: for number in numbers {
+    let numbers = ordered.numbers.as_slice();
+    'order: for place in ordered.order.as_slice() {
+        let number = numbers[*place as usize];
         found.push(Named {
-            path: entries.path(*number),
-            number: *number,
+            path: entries.path(number),
+            number,
         })?;
     }
     Ok(())
@@ -111,14 +115,14 @@ fn push_named<'a>(
 fn count(slots: &[Option<Taken>]) -> usize {
     let mut count: usize = 0;
     for slot in slots {
-        if let Some(Taken::Good(numbers)) = slot {
-            count = count.saturating_add(numbers.as_slice().len());
+        if let Some(Taken::Good(ordered)) = slot {
+            count = count.saturating_add(ordered.order.as_slice().len());
         }
     }
     count
 }
 
-/// The kept entries, row by row.
+/// The kept entries, row by row, those of each row by path: what is left is to merge them.
 fn gathered<'a>(
     alloc: Global,
     entries: &'a Entries,
@@ -127,12 +131,12 @@ fn gathered<'a>(
     requires { HaveNumbers entries.now slots.now }
     ensures named { IfOk result (λ found. AreNamed entries.now found.items) }
     ensures all { IfOk result (λ found. entries_named entries.now found.items
-        ≡ kept_in (contents entries.now slots.now)) }
+        ≡ runs_in (contents entries.now slots.now)) }
 {
     let mut found = Vec::with_capacity(alloc, count(slots))?;
     'slots: for slot in slots {
-        if let Some(Taken::Good(numbers)) = slot {
-            push_named(&mut found, entries, numbers.as_slice())?;
+        if let Some(Taken::Good(ordered)) = slot {
+            push_named(&mut found, entries, ordered)?;
         }
     }
     Ok(found)

@@ -8,6 +8,7 @@ mod keep;
 pub mod laws;
 mod lines;
 mod merging;
+mod ordered;
 mod partial;
 mod places;
 mod plan;

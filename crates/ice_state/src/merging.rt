@@ -6,6 +6,7 @@ ghost use Rattle.ice_state.specs.Joins.{TookAllOf};
 ghost use Rattle.ice_state.specs.Parts.{AreApart, gain_of, gains, is_gain};
 ghost use Rattle.ice_state.specs.Slots.{contents, given, HasNumbers, HaveNumbers};
 
+use crate::ordered::Ordered;
 use crate::taken::Taken;
 use contract_words::Items;
 use ice_entries::{Entries, Room};
@@ -60,8 +61,8 @@ fn room_of_gains(slots: &[Option<Taken>], others: &Entries, other: &[Option<Take
 {
     let mut room = Room::none();
     for i in 0..slots.len() {
-        if let (None, Some(Taken::Good(numbers))) = (&slots[i], &other[i]) {
-            room = others.room_with(numbers.as_slice(), room);
+        if let (None, Some(Taken::Good(ordered))) = (&slots[i], &other[i]) {
+            room = others.room_with(ordered.numbers.as_slice(), room);
         }
     }
     room
@@ -125,9 +126,12 @@ fn put_taken(
     ensures given { IfOk result (λ put. given entries.new put ≡ given others.now taken.now) }
 {
     match taken {
-        Taken::Good(numbers) => {
-            let added = entries.add_kept(others, numbers.as_slice())?;
-            Ok(Taken::Good(Items::from_vec(added)))
+        Taken::Good(ordered) => {
+            let added = entries.add_kept(others, ordered.numbers.as_slice())?;
+            Ok(Taken::Good(Ordered {
+                numbers: Items::from_vec(added),
+                order: Items::from_vec(ordered.order.as_slice().to_vec(alloc)?),
+            }))
         }
         Taken::Bad(fault) => Ok(Taken::Bad(fault.copy(alloc)?)),
     }

@@ -5,16 +5,16 @@ ghost use Rattle.ice_entries.specs.Kept.{Keeps};
 ghost use Rattle.ice_state.specs.Parts.{reading_by};
 ghost use Rattle.ice_state.specs.Slots.{given, HasNumbers};
 
+use crate::ordered::Ordered;
 use crate::pruning::SpecFilter;
-use contract_words::Items;
-use ice_entries::{Entries, EntryNumber};
+use ice_entries::Entries;
 use ice_manifest_reading::{ManifestFault, Row, read_kept};
 use std::alloc::{AllocError, Global};
 
-/// What a manifest gave: the numbers of its kept entries in the order of their positions, or why it can't be read.
+/// What a manifest gave: its kept entries, or why it can't be read.
 #[derive(Debug, Drop)]
 pub enum Taken {
-    Good(Items<EntryNumber>),
+    Good(Ordered),
     Bad(ManifestFault),
 }
 
@@ -32,7 +32,10 @@ pub fn take_manifest(
     ensures given { IfOk result (λ taken. given entries.new taken ≡ reading_by filter.now row.now bytes.now) }
 {
     match read_kept(alloc, row, filter.spec(), filter, bytes) {
-        Ok(views) => Ok(Taken::Good(Items::from_vec(entries.add_read(&views)?))),
+        Ok(views) => {
+            let numbers = entries.add_read(&views)?;
+            Ok(Taken::Good(Ordered::new(alloc, entries, numbers)?))
+        }
         Err(ManifestFault::Memory) => Err(AllocError),
         Err(fault) => Ok(Taken::Bad(fault)),
     }

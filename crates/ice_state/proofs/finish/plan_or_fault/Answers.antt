@@ -8,6 +8,7 @@ use Rattle.ice_state.specs.Named.{entries_named}
 use Rattle.ice_state.specs.Outcomes.{by_path, twice}
 use Rattle.ice_state.specs.Parts.{Stops}
 use Rattle.ice_state.specs.Slots.{contents}
+use Rattle.ice_state.proofs.Orders.{by_path_runs}
 use Rattle.ice_state.proofs.Outcomes.{stopped_missing, stopped_bad, stopped_twice, finished}
 use Rattle.ice_state.proofs.finish.plan_or_fault.Goals as goal
 
@@ -36,7 +37,7 @@ returns-in_err-check_once-clause-outcome c =
     c.from_residual-in_err-check_once.ensures.1 in
     let kept = c.args.entries.now in
     let sorted = c.in_ok-sort_by_path.ensures.sorted kept c.in_ok-named.ensures.named
-    ∙ ap by_path c.in_ok-named.ensures.all in
+    ∙ ap by_path c.in_ok-named.ensures.all ∙ by_path_runs (contents kept c.args.slots.now) in
     let stops = subst (λ (xs : List Named). Stops c.in_err-check_once.field-0.0 (twice (entries_named kept xs)))
     c.deref.ensures.value c.in_err-check_once.ensures in
     rw (p.1, p.2) (stopped_twice c.args.rows.now (contents kept c.args.slots.now) c.in_err-check_once.field-0.0
@@ -52,7 +53,7 @@ returns-clause-outcome c =
     let kept = c.args.entries.now in
     let xs = entries_named kept c.sort_by_path.new.named.items in
     let sorted = c.in_ok-sort_by_path.ensures.sorted kept c.in_ok-named.ensures.named
-    ∙ ap by_path c.in_ok-named.ensures.all in
+    ∙ ap by_path c.in_ok-named.ensures.all ∙ by_path_runs (contents kept c.args.slots.now) in
     let once : twice xs ≡ [] = subst (λ (ys : List Named). twice (entries_named kept ys) ≡ []) c.deref.ensures.value
     c.in_ok-check_once.ensures in
     finished c.args.rows.now (contents kept c.args.slots.now) xs (lines_of kept c.in_ok-planned.field-0)

@@ -1,0 +1,126 @@
+-- The entries of manifests in the order of their paths.
+use Rattle.std.proofs.Common.{◌≡◌, ◌<◌, ℕ, zero, suc, List, [], ◌∷◌, ◌++◌, refl, sym, ap, ◌∙◌, Bool, map, filter}
+use Rattle.std.proofs.Common.{length, get_or, arith, take, append_assoc, add-one, subst, ◌+◌}
+use Rattle.std.specs.List.{flat_map, AllByRecursion}
+use Rattle.std.specs.List.Sorted.{ties}
+use Rattle.std.specs.Cmp.{IsStrictWeakOrder}
+use Rattle.std.proofs.lemmas.List.{map-append}
+use Rattle.std.proofs.lemmas.List.Elements.{filter-append}
+use Rattle.contract_words.specs.Sorting.{sorted}
+use Rattle.contract_words.proofs.Sorted.{sorted_rises, sorted_ties, unique}
+use Rattle.ice_manifest_reading.specs.declared.entry.Entry.{Entry}
+use Rattle.ice_entries.specs.declared.entries.EntryNumber.{EntryNumber}
+use Rattle.ice_entries.specs.Kept.{Kept, IsKept, AreKept, entry_at as kept_entry, entries_at as kept_at, no_entry}
+use Rattle.ice_state.specs.declared.finish.Named.{Named}
+use Rattle.ice_state.specs.declared.ordered.Placed.{Placed}
+use Rattle.ice_state.specs.Contents.{Content}
+use Rattle.ice_state.specs.Lines.{entry_at, entries_at, AreWithin}
+use Rattle.ice_state.specs.Named.{entry_named, entries_named, IsNamed, AreNamed}
+use Rattle.ice_state.specs.Orders.{IsOrder, runs_in}
+use Rattle.ice_state.specs.Outcomes.{by_path, entries_in, kept_in, path_before}
+use Rattle.ice_state.specs.Placed.{place_of, entry_placed, entries_placed, ArePlaced}
+use Rattle.ice_state.proofs.Sharing.{order}
+
+-- ---- places
+
+-- one entry stands at a place within
+one_at : (xs : List Entry) (i : ℕ) → i < length xs → entry_at xs i ≡ get_or xs i no_entry ∷ []
+one_at [] i l = absurd (omega arith)
+one_at (x ∷ xs) zero l = refl
+one_at (x ∷ xs) (suc i) l = one_at xs i (omega arith)
+
+at_places : (xs : List Entry) (ps : List Placed) → ArePlaced xs ps
+    → entries_at xs (map place_of ps) ≡ entries_placed xs ps
+at_places xs [] all = refl
+at_places xs (p ∷ ps) all = rw (one_at xs p.place all.0.0) (ap (λ ys. entry_placed xs p ∷ ys) (at_places xs ps all.1))
+
+within_all : (xs : List Entry) (ps : List Placed) → ArePlaced xs ps → AreWithin (length xs) (map place_of ps)
+within_all xs [] all = tt
+within_all xs (p ∷ ps) all = (all.0.0, within_all xs ps all.1)
+
+-- the places of sorted paths are the order of their entries
+pub is_order : (xs : List Entry) (ps : List Placed) → ArePlaced xs ps → entries_placed xs ps ≡ by_path xs
+    → IsOrder xs (map place_of ps)
+is_order xs ps all is = record { within = within_all xs ps all; sorted = at_places xs ps all ∙ is }
+
+-- ---- numbers at places
+
+of_number : (kept : Kept) (ns : List EntryNumber) (i : ℕ) (d : EntryNumber) → i < length (kept_at kept ns)
+    → entry_at (kept_at kept ns) i ≡ kept_entry kept (get_or ns i d) ∷ []
+of_number kept [] i d l = absurd (omega arith)
+of_number kept (n ∷ ns) zero d l = refl
+of_number kept (n ∷ ns) (suc i) d l = of_number kept ns i d (omega arith)
+
+one_more : (kept : Kept) (ns : List EntryNumber) (places : List ℕ) (i : ℕ) (d : EntryNumber) → i < length places
+    → AreWithin (length (kept_at kept ns)) places → entries_at (kept_at kept ns) (take (suc i) places)
+    ≡ entries_at (kept_at kept ns) (take i places) ++ kept_entry kept (get_or ns (get_or places i 0) d) ∷ []
+one_more kept ns [] i d l within = absurd (omega arith)
+one_more kept ns (p ∷ ps) zero d l within = rw (of_number kept ns p d within.0) refl
+one_more kept ns (p ∷ ps) (suc i) d l within =
+    ap (λ xs. entry_at (kept_at kept ns) p ++ xs) (one_more kept ns ps i d (omega arith) within.1)
+    ∙ sym (append_assoc (entry_at (kept_at kept ns) p) (entries_at (kept_at kept ns) (take i ps)) _)
+
+-- the entry of one more place, put last
+pub pushed_more : (kept : Kept) (ns : List EntryNumber) (places : List ℕ) (i : ℕ) (d : EntryNumber) (old : List Entry)
+    (found new : List Named) (x : Named) → i < length places → AreWithin (length (kept_at kept ns)) places
+    → x.number ≡ get_or ns (get_or places i 0) d → new ≡ found ++ x ∷ []
+    → entries_named kept found ≡ old ++ entries_at (kept_at kept ns) (take i places)
+    → entries_named kept new ≡ old ++ entries_at (kept_at kept ns) (take (i + 1) places)
+pushed_more kept ns places i d old found new x l within at is before =
+    ap (entries_named kept) is
+    ∙ map-append (entry_named kept) found (x ∷ [])
+    ∙ ap (λ n. entries_named kept found ++ kept_entry kept n ∷ []) at
+    ∙ ap (λ xs. xs ++ kept_entry kept (get_or ns (get_or places i 0) d) ∷ []) before
+    ∙ append_assoc old (entries_at (kept_at kept ns) (take i places)) _
+    ∙ ap (λ xs. old ++ xs) (sym (one_more kept ns places i d l within))
+    ∙ ap (λ n. old ++ entries_at (kept_at kept ns) (take n places)) (sym (add-one i))
+
+last_named : (kept : Kept) (xs : List Named) (x : Named) → AreNamed kept xs → IsNamed kept x
+    → AreNamed kept (xs ++ x ∷ [])
+last_named kept [] x all one = (one, tt)
+last_named kept (y ∷ ys) x all one = (all.0, last_named kept ys x all.1 one)
+
+number_kept : (kept : Kept) (ns : List EntryNumber) (i : ℕ) (d : EntryNumber) → AreKept kept ns
+    → i < length (kept_at kept ns) → IsKept kept (get_or ns i d)
+number_kept kept [] i d all l = absurd (omega arith)
+number_kept kept (n ∷ ns) zero d all l = all.0
+number_kept kept (n ∷ ns) (suc i) d all l = number_kept kept ns i d all.1 (omega arith)
+
+place_within : (n : ℕ) (places : List ℕ) (i : ℕ) → AreWithin n places → i < length places → get_or places i 0 < n
+place_within n [] i all l = absurd (omega arith)
+place_within n (p ∷ ps) zero all l = all.0
+place_within n (p ∷ ps) (suc i) all l = place_within n ps i all.1 (omega arith)
+
+-- it bears the entry's path
+pub named_more : (kept : Kept) (ns : List EntryNumber) (places : List ℕ) (i : ℕ) (d : EntryNumber)
+    (found new : List Named) (x : Named) → i < length places → AreKept kept ns
+    → AreWithin (length (kept_at kept ns)) places → x.number ≡ get_or ns (get_or places i 0) d
+    → x.path.now ≡ (entry_named kept x).file.path → new ≡ found ++ x ∷ [] → AreNamed kept found → AreNamed kept new
+named_more kept ns places i d found new x l all within at path is before =
+    let number : IsKept kept x.number = subst (IsKept kept) (sym at)
+    (number_kept kept ns (get_or places i 0) d all (place_within (length (kept_at kept ns)) places i within l)) in
+    subst (AreNamed kept) (sym is) (last_named kept found x before (number, path))
+
+-- ---- runs
+
+-- what is sorted piece by piece is sorted alike: those that tie stand as they stood
+module _ {X S : Type 0} (lt : X → X → Bool) (o : IsStrictWeakOrder lt) (f : S → List X) where
+  abbrev runs : List S → List X
+  runs ss = flat_map (λ s. sorted lt (f s)) ss
+
+  runs_tie : (w : X) (ss : List S) → filter (ties lt w) (runs ss) ≡ filter (ties lt w) (flat_map f ss)
+  runs_tie w [] = refl
+  runs_tie w (s ∷ ss) =
+      filter-append (ties lt w) (sorted lt (f s)) (runs ss)
+      ∙ ap (λ xs. xs ++ filter (ties lt w) (runs ss)) (sorted_ties lt o w (f s))
+      ∙ ap (λ xs. filter (ties lt w) (f s) ++ xs) (runs_tie w ss)
+      ∙ sym (filter-append (ties lt w) (f s) (flat_map f ss))
+
+  sorted_runs : (ss : List S) → sorted lt (runs ss) ≡ sorted lt (flat_map f ss)
+  sorted_runs ss = unique lt o (sorted lt (runs ss)) (sorted lt (flat_map f ss)) (sorted_rises lt o (runs ss))
+      (sorted_rises lt o (flat_map f ss)) (λ w. sorted_ties lt o w (runs ss) ∙ runs_tie w ss
+      ∙ sym (sorted_ties lt o w (flat_map f ss)))
+
+-- a sort of the rows' runs is one of their entries
+pub by_path_runs : (c : Content) → by_path (runs_in c) ≡ by_path (kept_in c)
+by_path_runs c = sorted_runs path_before order entries_in c

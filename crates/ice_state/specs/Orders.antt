@@ -1,0 +1,23 @@
+-- The entries of a manifest, kept by position, in the order of their paths. No public contract cites these words.
+use Rattle.std.specs.Prelude.{◌≡◌, ℕ, List, length}
+use Rattle.std.specs.List.{flat_map}
+use Rattle.ice_manifest_reading.specs.declared.entry.Entry.{Entry}
+use Rattle.ice_entries.specs.Kept.{Kept, AreKept, entries_at as kept_at}
+use Rattle.ice_state.specs.declared.ordered.Ordered.{Ordered}
+use Rattle.ice_state.specs.Contents.{Content}
+use Rattle.ice_state.specs.Lines.{entries_at, AreWithin}
+use Rattle.ice_state.specs.Outcomes.{by_path, entries_in}
+
+-- at these places stand the entries by path
+pub record IsOrder (entries : List Entry) (places : List ℕ) : Type 0 where
+  pub within : AreWithin (length entries) places
+  pub sorted : entries_at entries places ≡ by_path entries
+
+-- each number stands for an entry, and the order is that of these entries
+pub record AreOrdered (kept : Kept) (ordered : Ordered) : Type 0 where
+  pub numbers : AreKept kept ordered.numbers
+  pub order : IsOrder (kept_at kept ordered.numbers) ordered.order
+
+-- the kept entries of a content, row by row, those of each row by path
+abbrev pub runs_in : Content → List Entry
+runs_in c = flat_map (λ slot. by_path (entries_in slot)) c

@@ -1,0 +1,106 @@
+//! The kept entries of a manifest, by position and by path.
+
+ghost use Rattle.std.specs.Prelude.{◌≡◌, IfOk, List, OnOk, map};
+ghost use Rattle.ice_entries.specs.Kept.{AreKept, entries_at};
+ghost use Rattle.ice_manifest_reading.specs.declared.entry.Entry.{Entry};
+ghost use Rattle.ice_state.specs.Orders.{AreOrdered, IsOrder};
+ghost use Rattle.ice_state.specs.Outcomes.{by_path};
+ghost use Rattle.ice_state.specs.Placed.{ArePlaced, entries_placed, place_of};
+
+use contract_words::Items;
+use ice_entries::{Entries, EntryNumber};
+use std::alloc::{AllocError, Global};
+
+/// Kept entries: their numbers in the order of their positions, and the places of these numbers in the order of the
+/// entries' paths.
+#[derive(Debug, Drop)]
+pub struct Ordered {
+    pub numbers: Items<EntryNumber>,
+    pub order: Items<u32>,
+}
+
+impl Ordered {
+    /// Puts entries in order that are kept by these numbers.
+    pub fn new(
+        alloc: Global,
+        entries: &Entries,
+        numbers: Vec<EntryNumber>,
+    ) -> Result<Ordered, AllocError>
+        requires { AreKept entries.now numbers.items }
+        ensures same { IfOk result (λ ordered. ordered.numbers ≡ numbers.items) }
+        ensures ordered { IfOk result (AreOrdered entries.now) }
+    {
+        let order = order_of(alloc, entries, &numbers)?;
+        Ok(Ordered {
+            numbers: Items::from_vec(numbers),
+            order,
+        })
+    }
+}
+
+/// The path of an entry beside the entry's place.
+#[derive(Clone, Copy, Debug, Drop)]
+struct Placed<'a> {
+    path: &'a [u8],
+    place: u32,
+}
+
+/// The places of entries in the order of their paths. More entries than can be numbered count as want of memory.
+fn order_of(
+    alloc: Global,
+    entries: &Entries,
+    numbers: &[EntryNumber],
+) -> Result<Items<u32>, AllocError>
+    requires { AreKept entries.now numbers.now }
+    ensures { IfOk result (IsOrder (entries_at entries.now numbers.now)) }
+{
+    let mut placed = paths_of(alloc, entries, numbers)?;
+    sort_by_path(&mut placed)?;
+    places_of(alloc, &placed)
+}
+
+/// The paths of entries, each beside its place.
+fn paths_of<'a>(
+    alloc: Global,
+    entries: &'a Entries,
+    numbers: &[EntryNumber],
+) -> Result<Vec<Placed<'a>>, AllocError>
+    requires { AreKept entries.now numbers.now }
+    ensures placed { IfOk result (λ placed. ArePlaced (entries_at entries.now numbers.now) placed.items) }
+    ensures all { IfOk result (λ placed. entries_placed (entries_at entries.now numbers.now) placed.items
+        ≡ entries_at entries.now numbers.now) }
+{
+    let mut placed = Vec::with_capacity(alloc, numbers.len())?;
+    'numbers: for i in 0..numbers.len() {
+        let Ok(place) = u32::try_from(i) else {
+            return Err(AllocError);
+        };
+        placed.push(Placed {
+            path: entries.path(numbers[i]),
+            place,
+        })?;
+    }
+    Ok(placed)
+}
+
+/// Puts paths in their order.
+fn sort_by_path(placed: &mut Vec<Placed<'_>>) -> Result<(), AllocError>
+    ensures placed { (entries : List Entry) →
+        ArePlaced entries placed.old.items → ArePlaced entries placed.new.items }
+    ensures sorted { (entries : List Entry) → ArePlaced entries placed.old.items →
+        OnOk result (entries_placed entries placed.new.items ≡ by_path (entries_placed entries placed.old.items)) }
+{
+    placed.sort_by(|a, b| a.path.cmp(b.path))?;
+    Ok(())
+}
+
+/// The places alone.
+fn places_of(alloc: Global, placed: &[Placed<'_>]) -> Result<Items<u32>, AllocError>
+    ensures { IfOk result (λ places. places ≡ map place_of placed.now) }
+{
+    let mut places = Vec::with_capacity(alloc, placed.len())?;
+    'placed: for p in placed {
+        places.push(p.place)?;
+    }
+    Ok(Items::from_vec(places))
+}
