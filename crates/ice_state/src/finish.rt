@@ -152,18 +152,19 @@ fn sort_by_path(named: &mut Vec<Named<'_>>) -> Result<(), AllocError>
     Ok(())
 }
 
-/// Those of the entries whose files hold data.
+/// Those of the entries whose files hold data: all but so many.
 fn data_files(
     alloc: Global,
     entries: &Entries,
     named: &[Named<'_>],
+    others: usize,
 ) -> Result<Vec<EntryNumber>, AllocError>
     requires { AreNamed entries.now named.now }
     ensures kept { IfOk result (λ found. AreKept entries.now found.items) }
     ensures all { IfOk result (λ found. entries_at entries.now found.items
         ≡ filter (holds Data) (entries_named entries.now named.now)) }
 {
-    let mut found = Vec::new(alloc);
+    let mut found = Vec::with_capacity(alloc, named.len().saturating_sub(others))?;
     'named: for x in named {
         if entries.entry(x.number).content == FileContent::Data {
             found.push(x.number)?;
@@ -232,15 +233,17 @@ fn looked_up(
 fn planned(
     alloc: Global,
     entries: &Entries,
-    named: &[Named<'_>],
+    named: Vec<Named<'_>>,
 ) -> Result<NumberedPlan, AllocError>
-    requires { AreNamed entries.now named.now }
+    requires { AreNamed entries.now named.items }
     ensures planned { IfOk result (IsPlanned entries.now) }
     ensures lines { IfOk result (λ plan. lines_of entries.now plan
-        ≡ plan_over (entries_named entries.now named.now) (entries_named entries.now named.now)) }
+        ≡ plan_over (entries_named entries.now named.entry.items) (entries_named entries.now named.entry.items)) }
 {
-    let files = data_files(alloc, entries, named)?;
-    let deletes = delete_files(alloc, entries, named)?;
+    let deletes = delete_files(alloc, entries, &named)?;
+    let files = data_files(alloc, entries, &named, deletes.len())?;
+    // The lines need its room.
+    drop(named);
     let places = lines(alloc, entries, &files, &deletes)?;
     Ok(NumberedPlan {
         files,
@@ -267,5 +270,5 @@ pub fn plan_or_fault(
     let mut named = gathered(alloc, entries, slots)?;
     sort_by_path(&mut named)?;
     check_once(alloc, entries, &named)?;
-    Ok(planned(alloc, entries, &named)?)
+    Ok(planned(alloc, entries, named)?)
 }

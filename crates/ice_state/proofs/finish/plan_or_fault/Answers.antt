@@ -45,8 +45,7 @@ returns-in_err-check_once-clause-outcome c =
     (c.in_ok-check_good.ensures kept) sorted stops)
 
 pub planned-requires : goal.planned-requires
-planned-requires c = rw c.deref-2.ensures.value
-    (c.in_ok-sort_by_path.ensures.named c.args.entries.now c.in_ok-named.ensures.named)
+planned-requires c = c.in_ok-sort_by_path.ensures.named c.args.entries.now c.in_ok-named.ensures.named
 
 pub returns-clause-outcome : goal.returns-clause-outcome
 returns-clause-outcome c =
@@ -58,4 +57,4 @@ returns-clause-outcome c =
     c.in_ok-check_once.ensures in
     finished c.args.rows.now (contents kept c.args.slots.now) xs (lines_of kept c.in_ok-planned.field-0)
     (c.in_ok-check_taken.ensures kept) (c.in_ok-check_good.ensures kept) sorted once
-    (rw (← c.deref-2.ensures.value) c.in_ok-planned.ensures.lines)
+    c.in_ok-planned.ensures.lines
