@@ -11,6 +11,9 @@ use avro_picked::{Layout, Places};
 use std::alloc::{AllocError, Global};
 use std::test::*;
 
+mod compared;
+mod random;
+
 const MARKER: [u8; 16] = [0, 1, 2, 3, 4, 5, 6, 7, 8, 9, 10, 11, 12, 13, 14, 15];
 
 /// The number of up to 14 bits, as a file has it.
@@ -19,20 +22,39 @@ fn number(count: usize) -> [u8; 2] {
     [(twice % 128) as u8 + 128, (twice / 128) as u8]
 }
 
-/// A file of one block of so many objects with this content.
-fn file(alloc: Global, schema: &[u8], count: usize, content: &[u8]) -> Result<Vec<u8>, AllocError> {
+/// A block of so many objects with this content.
+fn block(alloc: Global, count: usize, content: &[u8]) -> Result<Vec<u8>, AllocError> {
     [
-        b"Obj\x01\x02\x16avro.schema".as_slice(),
-        number(schema.len()).as_slice(),
-        schema,
-        [0].as_slice(),
-        MARKER.as_slice(),
         number(count).as_slice(),
         number(content.len()).as_slice(),
         content,
         MARKER.as_slice(),
     ]
     .concat(alloc)
+}
+
+/// A file of these blocks.
+fn file(alloc: Global, schema: &[u8], blocks: &[u8]) -> Result<Vec<u8>, AllocError> {
+    [
+        b"Obj\x01\x02\x16avro.schema".as_slice(),
+        number(schema.len()).as_slice(),
+        schema,
+        [0].as_slice(),
+        MARKER.as_slice(),
+        blocks,
+    ]
+    .concat(alloc)
+}
+
+/// A file of one block of so many objects with this content.
+fn file_of_one(
+    alloc: Global,
+    schema: &[u8],
+    count: usize,
+    content: &[u8],
+) -> Result<Vec<u8>, AllocError> {
+    let block = block(alloc, count, content)?;
+    file(alloc, schema, &block)
 }
 
 fn ways_of(alloc: Global, ways: &[&[i32]]) -> Result<Vec<Vec<i32>>, AllocError> {
@@ -139,7 +161,10 @@ fn gives(
     ways: &[&[i32]],
     lines: &str,
 ) -> bool {
-    let (Ok(bytes), Ok(ways)) = (file(alloc, schema, count, content), ways_of(alloc, ways)) else {
+    let (Ok(bytes), Ok(ways)) = (
+        file_of_one(alloc, schema, count, content),
+        ways_of(alloc, ways),
+    ) else {
         return false;
     };
     let Ok(container) = Container::open(alloc, &bytes) else {
