@@ -86,11 +86,7 @@ fn at<'t, 'd>(
 }
 
 /// What stands on a way.
-fn picked<'t, 'd>(
-    schema: &'t Schema,
-    datum: &'t Datum<'d>,
-    way: &[i32],
-) -> Option<&'t Datum<'d>> {
+fn picked<'t, 'd>(schema: &'t Schema, datum: &'t Datum<'d>, way: &[i32]) -> Option<&'t Datum<'d>> {
     let mut here = bare(schema, datum)?;
     for id in way {
         here = at(here.0, here.1, *id)?;

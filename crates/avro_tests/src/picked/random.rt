@@ -103,7 +103,9 @@ impl Maker {
     /// Adds a field, whose id may be that of another record's field.
     #[cycle(types)]
     fn push_field(&mut self, position: u64, depth: u8) -> Result<(), AllocError> {
-        let front = format!(in self.alloc; "{{\"name\":\"f{position}\",\"field-id\":{position},\"type\":")?;
+        let front = format!(in self.alloc;
+            "{{\"name\":\"f{position}\",\"field-id\":{position},\"type\":"
+        )?;
         self.push_around(&front, depth, "}")
     }
 
