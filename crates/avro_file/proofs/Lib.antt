@@ -24,3 +24,4 @@ pub mod Cuts
 pub mod CutFiles
 pub mod Fronts
 pub mod Passed
+pub mod Front

@@ -9,24 +9,24 @@ use Rattle.std.proofs.lemmas.List.{length-drop, length-append}
 use Rattle.std.proofs.Math.Seq.{drop-append_seam}
 use Rattle.avro_parts.specs.declared.refusal.Refusal.{Refusal}
 use Rattle.avro_parts.specs.Number.{number_at, long_at, int_at, signed_of}
-use Rattle.avro_parts.specs.Parts.{Position, Read, behind, boolean_at, run_at, bytes_at, string_at, symbol_at}
+use Rattle.avro_parts.specs.Parts.{Read, behind, boolean_at, run_at, bytes_at, string_at, symbol_at}
 use Rattle.avro_file.specs.Reading.{leaf}
 use Rattle.avro_parts.specs.Parts.{count_at}
-use Rattle.avro_file.specs.Reading.{values_at, blocks_at, datum_at, fields_at, branch_at}
+use Rattle.avro_file.specs.Reading.{blocks_at, entry_at, datum_at, fields_at, branch_at}
 use Rattle.avro_file.specs.Blocks.{max_items, object_at}
 use Rattle.avro_file.specs.Ending.{standing, EndsWith, Ends, EndsCounted}
 use Rattle.avro_parts.proofs.Groups.{narrow_found, tenth_place}
 use Rattle.avro_parts.proofs.Groups.{times_one}
-use Rattle.avro_parts.proofs.NumberPlaces.{at_place, drop_drop, GroupsUpTo, no_groups, last_fits, found, one_group}
+use Rattle.avro_parts.proofs.NumberPlaces.{at_place, drop_drop, GroupsUpTo, no_groups, last_fits, found}
 use Rattle.avro_parts.proofs.NumberPlaces.{to_end}
 use Rattle.avro_file.proofs.Taken.{number_takes}
 use Rattle.avro_file.proofs.Loop.{long_len}
 use Rattle.avro_file.proofs.Steps.{ok_is}
-use Rattle.avro_file.proofs.Behind.{behind_ok, structure_ends, array_ends, chosen_ends, object_ends}
+use Rattle.avro_file.proofs.Behind.{behind_ok, structure_ends, array_ends, map_ends, chosen_ends, object_ends}
 use Rattle.avro_file.proofs.Views.{branch_trees, branch_there}
 use Rattle.avro_schema.specs.declared.schema.Schema.{Schema}
 use Rattle.avro_schema.specs.Tree.{Tree, null, boolean, int, long, float, double, symbols, octets, string, fixed}
-use Rattle.avro_schema.specs.Tree.{structure, array, union, Fields}
+use Rattle.avro_schema.specs.Tree.{structure, array, union, Fields, map as of_keys}
 use Rattle.avro_schema.specs.View.{tree}
 use Rattle.avro_file.specs.Value.{Value}
 use Rattle.avro_file.specs.Value as value
@@ -312,6 +312,12 @@ pub array_ends_there : (s : Tree) (id : Option ℤ) (kind : _) (bytes : List ℕ
 array_ends_there s id kind bytes at left after o h = some_weaker o _ _
     (λ end e. (e.0, array_ends s id kind (standing bytes at left) ∙ e.1)) h
 
+pub map_ends_there : (s : Tree) (bytes : List ℕ) (at left after : ℕ) (o : Option ℕ)
+    → IfSome o (λ end. EndsCounted (blocks_at (entry_at (datum_at s)) (suc (length (drop at bytes)))) bytes at left end
+    after) → IfSome o (λ end. EndsCounted (datum_at (of_keys s)) bytes at left end after)
+map_ends_there s bytes at left after o h = some_weaker o _ _
+    (λ end e. (e.0, map_ends s (standing bytes at left) ∙ e.1)) h
+
 chosen_there : (ss : List Schema) (bytes : List ℕ) (at n start left : ℕ) (d : Schema)
     → EndsWith (number_at (2 ^ 64)) bytes at n start → n % 2 ≡ 0 → n / 2 < length ss
     → behind (datum_at (union (branch_trees ss)) (standing bytes at left)) ≡ behind
@@ -328,53 +334,6 @@ pub union_ends_there : (ss : List Schema) (bytes : List ℕ) (at n start left af
     → IfSome o (λ end. EndsCounted (datum_at (union (branch_trees ss))) bytes at left end after)
 union_ends_there ss bytes at n start left after d o e is lt h = some_weaker o _ _
     (λ end f. (f.0, chosen_there ss bytes at n start left d e is lt ∙ f.1)) h
-
--- ---- one block
-
-abbrev pub IsCountAt : List ℕ → ℕ → ℕ → ℕ → Type 0
-IsCountAt bytes at n start = (at < start) × (start ≤ length bytes) × ((left : ℕ) → n ≤ left
-    → count_at (standing bytes at left) ≡ Ok (n, standing bytes start (left - n)))
-
-none_found : {A : Type 0} (read : Position → Read A) (turns : ℕ) (p q : Position) → count_at p ≡ Ok (0, q)
-    → behind (blocks_at read (suc turns) p) ≡ Ok q
-unfolding blocks_at
-none_found read turns p q e = rw e refl
-
-pub no_items : {A : Type 0} (read : Position → Read A) (turns : ℕ) (bytes : List ℕ) (at n start left : ℕ)
-    → IsCountAt bytes at n start → n ≤ left → n ≡ 0 → EndsCounted (blocks_at read (suc turns)) bytes at left start
-    (left - n)
-no_items read turns bytes at n start left e le is = (
-  e.1,
-  none_found read turns (standing bytes at left)
-      (standing bytes start (left - n)) (e.2 left le ∙ ap (λ (k : ℕ). Ok (k, standing bytes start (left - n))) is),
-)
-
-closed_there : (bytes : List ℕ) (end left : ℕ) → end < length bytes → get_or bytes end 0 ≡ 0
-    → count_at (standing bytes end left) ≡ Ok (0, standing bytes (end + 1) left)
-closed_there bytes end left lt is =
-    let b = one_group bytes end lt (omega (arith, is)) ∙ ap (λ (k : ℕ). Ok (k, drop (end + 1) bytes)) is in
-    (count_ends bytes end 0 (end + 1) (omega arith, omega (arith, lt), b) refl).2 left (omega arith) ∙ ap
-    (λ (k : ℕ). Ok (0, standing bytes (end + 1) k)) (omega arith)
-
-block_found : {A : Type 0} (read : Position → Read A) (turns : ℕ) (p q r t : Position) (n : ℕ) (vs : List A) → n ≢ 0
-    → 0 < turns → count_at p ≡ Ok (n, q) → values_at read n q ≡ Ok (vs, r) → count_at r ≡ Ok (0, t)
-    → behind (blocks_at read (suc turns) p) ≡ Ok t
-unfolding blocks_at
-block_found read turns p q r t zero vs some more e f g = absurd (some refl)
-block_found read zero p q r t (suc n) vs some more e f g = absurd (omega arith)
-block_found read (suc turns) p q r t (suc n) vs some more e f g = rw (e, f, g) refl
-
-pub one_block : {A : Type 0} (read : Position → Read A) (bytes : List ℕ) (at n start left end after : ℕ)
-    → IsCountAt bytes at n start → n ≤ left → n ≢ 0 → EndsCounted (values_at read n) bytes start (left - n) end after
-    → end < length bytes → get_or bytes end 0 ≡ 0
-    → EndsCounted (blocks_at read (suc (length (drop at bytes)))) bytes at left (end + 1) after
-one_block read bytes at n start left end after e le some h lt is =
-    let vs = behind_ok (values_at read n (standing bytes start (left - n))) (standing bytes end after) h.1 in (
-      omega (arith, lt),
-      block_found read (length (drop at bytes)) (standing bytes at left)
-          (standing bytes start (left - n)) (standing bytes end after) (standing bytes (end + 1) after) n vs.0 some
-          (omega (arith, length-drop at bytes, e.0, e.1)) (e.2 left le) vs.1 (closed_there bytes end after lt is),
-    )
 
 -- ---- objects
 

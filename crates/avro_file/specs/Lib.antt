@@ -19,3 +19,4 @@ pub mod Counted
 pub mod Property
 pub mod Writers
 pub mod Fronts
+pub mod Front

@@ -83,7 +83,7 @@ fn behind_object<'a>(schema: &Schema, block: &'a [u8]) -> Result<&'a [u8], Refus
 }
 
 /// Goes over the blocks' ends and heads to the next object; none at the end of the file.
-fn entered<'a>(sync: &[u8], start: Spot<'a>) -> Result<Option<Spot<'a>>, Refusal>
+pub fn entered<'a>(sync: &[u8], start: Spot<'a>) -> Result<Option<Spot<'a>>, Refusal>
     ensures { Enters file_position_of sync.now (file_position_of start.entry) result }
 {
     let mut here = start;

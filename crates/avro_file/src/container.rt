@@ -9,7 +9,7 @@ ghost use Rattle.avro_file.specs.Where.{header_of_file, now_of};
 ghost use Rattle.avro_file.specs.Blocks.{fault_of, refused};
 ghost use Rattle.avro_file.specs.Files.{begun_at, uncompressed};
 
-use crate::blocks::{Spot, step};
+use crate::blocks::{Spot, entered, step};
 use crate::fault::{AvroFault, CodecName};
 use crate::header::{Header, MAGIC, NO_CODEC, header_of};
 use crate::known::schema_once;
@@ -214,9 +214,10 @@ pub struct Objects<'s, 'a> {
 }
 
 impl<'s, 'a> Objects<'s, 'a> {
-    ghost use Rattle.std.specs.Prelude.{[]};
+    ghost use Rattle.std.specs.Prelude.{[], IfSome};
     ghost use Rattle.avro_file.specs.Ahead.{running};
     ghost use Rattle.avro_file.specs.Files.{ahead, type_of, Next, Shows};
+    ghost use Rattle.avro_file.specs.Front.{Front, StandsBefore, EndsAtFront};
 
     /// The next object, which was checked whole; none at the end of the file. This takes no memory.
     ///
@@ -228,6 +229,7 @@ impl<'s, 'a> Objects<'s, 'a> {
         // At the end of the file it always answers so, and stays there.
         ensures end { ahead self.old ≡ running [] None → (result ≡ Ok None) × (ahead self.new ≡ running [] None) }
         ensures schema { type_of self.new ≡ type_of self.old }
+        ensures object { IfOk result (λ next. IfSome next (λ o. tree o.schema.now ≡ type_of self.old)) }
     {
         if let Some(refusal) = self.refused {
             return Err(fault_of(refusal, self.total));
@@ -246,5 +248,60 @@ impl<'s, 'a> Objects<'s, 'a> {
                 Err(fault_of(refusal, self.total))
             }
         }
+    }
+
+    /// A reader that stands where this one does, and goes on by itself.
+    pub fn fork(&self) -> Objects<'s, 'a>
+        ensures { result ≡ self.now }
+    {
+        Objects {
+            schema: self.schema,
+            sync: self.sync,
+            total: self.total,
+            spot: self.spot,
+            refused: self.refused,
+        }
+    }
+
+    /// The bytes up to its block's end at whose front the next object stands, of which nothing was looked at yet; none
+    /// at the end of the file. The objects that come stay the same. Refusals are those that `next` gives here.
+    pub fn front(&mut self) -> Result<Option<&'a [u8]>, AvroFault>
+        ensures front { Front self.old result self.new }
+        ensures schema { type_of self.new ≡ type_of self.old }
+    {
+        if let Some(earlier) = self.refused {
+            return Err(fault_of(earlier, self.total));
+        }
+        match entered(self.sync, self.spot) {
+            Ok(None) => Ok(None),
+            Ok(Some(spot)) => {
+                self.spot = spot;
+                Ok(Some(spot.block))
+            }
+            Err(met) => {
+                self.refused = Some(met);
+                Err(fault_of(met, self.total))
+            }
+        }
+    }
+
+    /// Passes the object at whose front the reader stands, where a caller found its end. It is given as `next` does.
+    pub fn pass(&mut self, end: usize) -> Object<'s, 'a>
+        requires { EndsAtFront self.old end }
+        ensures next { Next Shows (ahead self.old) (Ok (Some result)) (ahead self.new) }
+        ensures object { tree result.schema.now ≡ type_of self.old }
+        ensures bytes { StandsBefore self.old result.bytes.now }
+        ensures schema { type_of self.new ≡ type_of self.old }
+    {
+        let object = Object {
+            schema: self.schema,
+            bytes: self.spot.block,
+        };
+        self.spot = Spot {
+            count: self.spot.count - 1,
+            block: &self.spot.block[end..],
+            bytes: self.spot.bytes,
+        };
+        object
     }
 }

@@ -19,6 +19,8 @@ mod writer;
 
 pub use container::{Container, Objects};
 pub use datum::Datum;
+pub use decode::{datum_of, natural};
+pub use ends::end_of;
 pub use fault::{AvroFault, CodecName};
 pub use laws::{
     a_skip_leaves_what_follows, before_a_fault, cut_files, held_is_read, no_fault_is_memory,
@@ -26,4 +28,5 @@ pub use laws::{
 };
 pub use named::KnownSchema;
 pub use object::Object;
+pub use quick::value_end;
 pub use writer::{Property, Writer};

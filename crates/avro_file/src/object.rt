@@ -31,6 +31,20 @@ impl<'s, 'a> Object<'s, 'a> {
         }
     }
 
+    /// Its type.
+    pub fn schema(self) -> &'s Schema
+        ensures { result.now ≡ self.entry.schema.now }
+    {
+        self.schema
+    }
+
+    /// The bytes at whose front it stands.
+    pub fn bytes(self) -> &'a [u8]
+        ensures { result.now ≡ self.entry.bytes.now }
+    {
+        self.bytes
+    }
+
     /// Lets go of the object, of which nothing was built. This takes no memory and cannot fail; the reader gives what
     /// follows as if the object had been built.
     pub fn skip(self) {}

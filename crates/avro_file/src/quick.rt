@@ -5,7 +5,7 @@ ghost use Rattle.std.specs.Prelude.{drop};
 ghost use Rattle.avro_schema.specs.View.{tree, trees, parts, fields_of, branches_of};
 ghost use Rattle.avro_parts.specs.Number.{number_at, long_at, int_at};
 ghost use Rattle.avro_parts.specs.Parts.{boolean_at, run_at, bytes_at, string_at, symbol_at, count_at as items_at};
-ghost use Rattle.avro_file.specs.Reading.{values_at, blocks_at, datum_at, fields_at};
+ghost use Rattle.avro_file.specs.Reading.{values_at, blocks_at, entry_at, datum_at, fields_at};
 ghost use Rattle.avro_schema.specs.declared.schema.BytesKind.TheVariants.{Plain};
 ghost use Rattle.avro_schema.specs.Tree.{long, octets, union};
 ghost use Rattle.avro_file.specs.Pairs.{pair};
@@ -256,6 +256,7 @@ pub fn value_end(schema: &Schema, bytes: &[u8], at: usize, left: &mut u64) -> Op
     match schema {
         Schema::Record(fields) => fields_end(fields, bytes, at, left),
         Schema::Array(items, _, _) => items_end(items, bytes, at, left),
+        Schema::Map(values) => entries_end(values, bytes, at, left),
         Schema::Union(branches) => branch_end(branches, bytes, at, left),
         _ => leaf_end(schema, bytes, at),
     }
@@ -291,7 +292,7 @@ fn branch_end(branches: &[Schema], bytes: &[u8], at: usize, left: &mut u64) -> O
     value_end(&branches[(value / 2) as usize], bytes, start, left)
 }
 
-/// Where an array ends that is one block.
+/// Where the blocks of an array end.
 #[cycle(quick)]
 #[inline(never)]
 fn items_end(schema: &Schema, bytes: &[u8], at: usize, left: &mut u64) -> Option<usize>
@@ -300,19 +301,18 @@ fn items_end(schema: &Schema, bytes: &[u8], at: usize, left: &mut u64) -> Option
         EndsCounted (blocks_at (datum_at (tree schema.now)) (suc (length (drop at bytes.now)))) bytes.now at left.old
         end left.new) }
 {
-    let (count, start) = count_at(bytes, at);
-    if start == 0 || count > *left {
-        return None;
+    let mut here = at;
+    'each_block: loop {
+        let (count, start) = count_at(bytes, here);
+        if start == 0 || count > *left {
+            return None;
+        }
+        *left -= count;
+        if count == 0 {
+            return Some(start);
+        }
+        here = some_end(schema, count, bytes, start, left)?;
     }
-    *left -= count;
-    if count == 0 {
-        return Some(start);
-    }
-    let end = some_end(schema, count, bytes, start, left)?;
-    if end < bytes.len() && bytes[end] == 0 {
-        return Some(end + 1);
-    }
-    None
 }
 
 /// Where so many items end. Those that take no bytes end where they begin.
@@ -334,6 +334,50 @@ fn some_end(schema: &Schema, count: u64, bytes: &[u8], at: usize, left: &mut u64
     let mut here = at;
     'items: for _ in 0..count {
         here = value_end(schema, bytes, here, left)?;
+    }
+    Some(here)
+}
+
+/// Where the blocks of a map end.
+#[cycle(quick)]
+#[inline(never)]
+fn entries_end(schema: &Schema, bytes: &[u8], at: usize, left: &mut u64) -> Option<usize>
+    requires { at ≤ length bytes.now }
+    ensures { IfSome result (λ end. EndsCounted (blocks_at (entry_at (datum_at (tree schema.now)))
+        (suc (length (drop at bytes.now)))) bytes.now at left.old end left.new) }
+{
+    let mut here = at;
+    'each_block: loop {
+        let (count, start) = count_at(bytes, here);
+        if start == 0 || count > *left {
+            return None;
+        }
+        *left -= count;
+        if count == 0 {
+            return Some(start);
+        }
+        here = some_entries_end(schema, count, bytes, start, left)?;
+    }
+}
+
+/// Where so many entries end.
+#[cycle(quick)]
+#[inline(never)]
+fn some_entries_end(
+    schema: &Schema,
+    count: u64,
+    bytes: &[u8],
+    at: usize,
+    left: &mut u64,
+) -> Option<usize>
+    requires { at ≤ length bytes.now }
+    ensures { IfSome result (λ end. EndsCounted (values_at (entry_at (datum_at (tree schema.now))) count)
+        bytes.now at left.old end left.new) }
+{
+    let mut here = at;
+    'items: for _ in 0..count {
+        let value = text_end(bytes, here)?;
+        here = value_end(schema, bytes, value, left)?;
     }
     Some(here)
 }

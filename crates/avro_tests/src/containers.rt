@@ -6,7 +6,7 @@ use std::alloc::{AllocError, Global};
 use std::test::*;
 
 mod files;
-mod libraries;
+pub mod libraries;
 mod values;
 mod written;
 

@@ -1,10 +1,12 @@
-//! Tests of avro_schema and avro_file: which trees and which faults schemas' texts give, and files that are read and
-//! written.
+//! Tests of avro_schema, avro_file and avro_picked: which trees and which faults schemas' texts give, files that are read
+//! and written, and wanted values alone.
 #![tactic(auto)]
 
 #[cfg(test)]
 mod containers;
 #[cfg(test)]
 mod look;
+#[cfg(test)]
+mod picked;
 #[cfg(test)]
 mod schemas;

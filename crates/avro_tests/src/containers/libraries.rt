@@ -3,16 +3,16 @@
 use super::*;
 
 /// A file and what it has to give.
-struct Sample {
-    bytes: &'static [u8],
+pub struct Sample {
+    pub bytes: &'static [u8],
     /// The rows, a line each, and the end.
-    rows: &'static str,
+    pub rows: &'static str,
     /// Where the file is cut, how many rows come then, and what comes behind them.
     cuts: &'static [(usize, usize, &'static str)],
 }
 
 /// A list by the library for C.
-const C: Sample = Sample {
+pub const C: Sample = Sample {
     bytes: b"Obj\x01\x0c\x14avro.codec\x08null\x16avro.schema\xe4\x14\
 {\"type\":\"record\",\"name\":\"manifest_file\",\"fields\":[{\"name\":\"manifest_path\",\"type\":\"string\",\"field-id\"\
 :500},\
@@ -76,7 +76,7 @@ end"#,
 };
 
 /// A manifest by the library for Go.
-const GO: Sample = Sample {
+pub const GO: Sample = Sample {
     bytes: b"Obj\x01\x10\x16avro.schema\x925\
 {\"type\":\"record\",\"name\":\"manifest_entry\",\"fields\":[{\"name\":\"status\",\"type\":\"int\",\"field-id\":0},\
 {\"name\":\"snapshot_id\",\"type\":[\"null\",\"long\"],\"default\":null,\"field-id\":1},\
@@ -163,7 +163,7 @@ end"#,
 };
 
 /// A list by the library for Java.
-const JAVA: Sample = Sample {
+pub const JAVA: Sample = Sample {
     bytes: b"Obj\x01\x0c\x16avro.schema\xe6\x1f\
 {\"type\":\"record\",\"name\":\"manifest_file\",\"fields\":[{\"name\":\"manifest_path\",\"type\":\"string\",\"doc\":\"Lo\
 cation URI with FS scheme\",\"field-id\":500},\
@@ -235,7 +235,7 @@ end"#,
 };
 
 /// A list by the library for Python.
-const PYTHON: Sample = Sample {
+pub const PYTHON: Sample = Sample {
     bytes: b"Obj\x01\x0c\x14avro.codec\x08null\x16avro.schema\x80\x17\
 {\"type\": \"record\", \"name\": \"manifest_file\", \"fields\": [{\"field-id\": 500, \"type\": \"string\", \"name\": \"m\
 anifest_path\"}, \

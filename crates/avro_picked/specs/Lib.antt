@@ -1,0 +1,4 @@
+pub mod Picked
+pub mod Finding
+pub mod Rows
+pub mod Placing

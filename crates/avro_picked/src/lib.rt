@@ -1,0 +1,11 @@
+//! Wanted values of the objects of an Avro file, by the ids of their fields, without the others.
+#![tactic(auto)]
+
+mod found;
+mod layout;
+mod places;
+mod row;
+
+pub use found::Found;
+pub use layout::Layout;
+pub use places::Places;
