@@ -34,11 +34,6 @@ fn are_interned(arena: &mut Arena, rows: &[Row]) -> bool {
     true
 }
 
-/// An arena may go to another thread.
-fn sent<T: Send>(value: T) -> T {
-    value
-}
-
 #[test]
 fn reserved(rt: HostRuntime) -> Result<(), Fail> {
     let mut arena = Arena::new(rt.alloc());
@@ -50,7 +45,7 @@ fn reserved(rt: HostRuntime) -> Result<(), Fail> {
 
 #[test]
 fn unreserved(rt: HostRuntime) {
-    let mut arena = sent(Arena::new(rt.alloc()));
+    let mut arena = Arena::new(rt.alloc());
     assert!(rt; arena.find(b"").is_none() && arena.len() == 0);
     assert!(rt; are_interned(&mut arena, &PATHS));
     assert!(rt;
@@ -67,53 +62,6 @@ fn unreserved(rt: HostRuntime) {
         )
     );
     assert!(rt; arena.find(b"s3://a/ONE").is_none());
-}
-
-/// Whether a string of so many bytes gets the number that is wanted.
-fn is_taken(
-    alloc: Global,
-    arena: &mut Arena,
-    length: usize,
-    wanted: Result<u32, ArenaFault>,
-) -> Result<bool, AllocError> {
-    let string = Vec::from_elem(alloc, 7u8, length)?;
-    Ok(place(arena.intern(string.as_slice())) == wanted)
-}
-
-/// Lengths, and what interning a string of that length into one arena gives.
-const LENGTHS: [(usize, Result<u32, ArenaFault>); 7] = [
-    (65_535, Ok(0)),
-    (65_536, Err(ArenaFault::TooLong)),
-    (1, Ok(1)),
-    (65_535, Ok(0)),
-    (65_534, Ok(2)),
-    (0, Ok(3)),
-    (1_000_000, Err(ArenaFault::TooLong)),
-];
-
-fn are_taken(
-    alloc: Global,
-    arena: &mut Arena,
-    rows: &[(usize, Result<u32, ArenaFault>)],
-) -> Result<bool, AllocError> {
-    for row in rows {
-        if !is_taken(alloc, arena, row.0, row.1)? {
-            return Ok(false);
-        }
-    }
-    Ok(true)
-}
-
-#[test]
-fn long_strings(rt: HostRuntime) -> Result<(), Fail> {
-    let alloc = rt.alloc();
-    let mut arena = Arena::new(alloc);
-    assert!(rt; are_taken(alloc, &mut arena, &LENGTHS)?);
-    assert_eq!(rt; arena.len(), 4);
-    let mut other = Arena::new(alloc);
-    assert!(rt; is_taken(alloc, &mut other, 1, Ok(0))?);
-    assert!(rt; is_taken(alloc, &mut other, 65_535, Ok(1))?);
-    Ok(())
 }
 
 fn path(alloc: Global, number: u32) -> Result<String, AllocError> {

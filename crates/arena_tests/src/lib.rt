@@ -1,5 +1,5 @@
 //! Tests of path_arena, of what no clause says: that calls succeed where memory is ample, also at the limit of a string's
-//! length, and what a refused growth leaves.
+//! length and in another thread, and what a refused growth leaves.
 #![tactic(auto)]
 
 #[cfg(test)]
@@ -7,4 +7,10 @@ mod held;
 #[cfg(test)]
 mod interns;
 #[cfg(test)]
+mod lengths;
+#[cfg(test)]
+mod random;
+#[cfg(test)]
 mod refusals;
+#[cfg(test)]
+mod threads;

@@ -1,6 +1,6 @@
 //! What a refused growth leaves.
 
-use crate::held::holds;
+use crate::held::{has_at, holds};
 use path_arena::{Arena, ArenaFault};
 use std::alloc::{AllocError, Global};
 use std::test::Fail;
@@ -71,5 +71,45 @@ fn a_refused_growth_changes_nothing(rt: HostRuntime) -> Result<(), Fail> {
     assert!(rt; is_interned_at_last(&mut copied, b"s3://a/more", &PATHS)?);
     assert_eq!(rt; copied.len(), 5);
     assert!(rt; holds(&arena, &PATHS));
+    Ok(())
+}
+
+/// A string of 200 bytes. Forty of them take two chunks, and buckets that are made anew again and again.
+fn long_string(number: u8) -> [u8; 200] {
+    let mut string = [b'a'; 200];
+    string[199] = number;
+    string
+}
+
+/// Whether the arena holds so many long strings and no others.
+fn holds_long(arena: &Arena, count: u8) -> bool {
+    for number in 0..count {
+        if !has_at(arena, number as usize, &long_string(number)) {
+            return false;
+        }
+    }
+    arena.len() == count as usize && arena.find(&long_string(count)).is_none()
+}
+
+/// Interns so many long strings, each again where a growth was refused, and says whether the arena still held what it
+/// held before.
+fn are_long_interned_at_last(arena: &mut Arena, count: u8) -> Result<bool, ArenaFault> {
+    for number in 0..count {
+        if arena.intern(&long_string(number)).is_err() {
+            if !holds_long(arena, number) {
+                return Ok(false);
+            }
+            arena.intern(&long_string(number))?;
+        }
+    }
+    Ok(true)
+}
+
+/// Run with each allocation refused in turn, too: here it is interning that makes the room.
+#[test]
+fn a_refused_intern_changes_nothing(rt: HostRuntime) -> Result<(), Fail> {
+    let mut arena = Arena::new(rt.alloc());
+    assert!(rt; are_long_interned_at_last(&mut arena, 40)?);
+    assert!(rt; holds_long(&arena, 40));
     Ok(())
 }

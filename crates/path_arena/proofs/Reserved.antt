@@ -7,10 +7,9 @@ use Rattle.std.specs.Prelude.{Result, Ok, Err, IsOk, OnOk}
 use Rattle.std.specs.List.{AllByRecursion}
 use Rattle.std.specs.Str.{bytes_eq}
 use Rattle.std.specs.Cmp.Lexicographic.{same_text, other_text}
-use Rattle.path_arena.specs.declared.arena.ArenaFault.{ArenaFault}
 use Rattle.path_arena.specs.Strings.{Kept}
 use Rattle.path_arena.specs.Arena.{Has, HasNot, HasRoom, Interned}
-use Rattle.path_arena.specs.Runs.{has, new_to, bytes_of, Run, HasRoomFor}
+use Rattle.path_arena.specs.Runs.{has, new_to, bytes_of, Answers, Run, HasRoomFor}
 
 either : (b : Bool) → (b ≡ true) ⊎ (b ≡ false)
 either true = inl refl
@@ -87,7 +86,7 @@ room_rest a b s ss e last ids bytes w =
       w.3.1,
     )
 
-pub reserved : (a c : Kept) (ss : List (List ℕ)) (answers : List (Result ℕ ArenaFault)) → Run a ss answers c
+pub reserved : (a c : Kept) (ss : List (List ℕ)) (answers : Answers) → Run a ss answers c
     → HasRoomFor a ss
     → AllByRecursion IsOk answers × (c.strings ≡ a.strings ++ new_to a.strings ss)
 reserved a c [] [] run w = (tt, ap Kept.strings run ∙ sym (append-nil a.strings))

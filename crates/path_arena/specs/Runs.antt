@@ -27,8 +27,12 @@ Interns a s answer b =
     OnOk answer (Interned a.strings s b.strings) × (Has a.strings s → IsOk answer × (b ≡ a)) ×
     (HasRoom a s → IsOk answer) × Spends a s b
 
+-- what the interns of a run answer: the string's number each, or why it was not taken in
+abbrev pub Answers : Type 0
+Answers = List (Result ℕ ArenaFault)
+
 -- one string after another is interned, each with its answer
-abbrev pub Run : Kept → List (List ℕ) → List (Result ℕ ArenaFault) → Kept → Type 0
+abbrev pub Run : Kept → List (List ℕ) → Answers → Kept → Type 0
 Run a [] [] c = c ≡ a
 Run a [] (answer ∷ answers) c = ⊥
 Run a (s ∷ ss) [] c = ⊥
