@@ -1,28 +1,26 @@
 -- Entries stay the same where what they share grows.
-use Rattle.std.proofs.Common.{◌≡◌, ℕ, ◌+◌, ◌<◌, List, [], ◌∷◌, ◌++◌, length, slice_index_or, refl, sym, ap, ◌∙◌, subst}
-use Rattle.std.proofs.Common.{arith, length-append}
+use Rattle.std.proofs.Common.{◌≡◌, ℕ, ◌<◌, List, length, refl, ap}
 use Rattle.std.specs.Prelude.{map, Option, None, Some, IfSome}
 use Rattle.std.specs.Option.{option_map}
-use Rattle.std.specs.List.{AllByRecursion}
 use Rattle.path_arena.specs.Arena.{string, KeepsNumbers}
 use Rattle.ice_manifest_reading.specs.declared.entry.Entry.{Entry}
 use Rattle.ice_entries.specs.declared.common.Common.{Common}
 use Rattle.ice_entries.specs.declared.record.Shared.{Shared}
-use Rattle.ice_entries.specs.InCommon.{common_at, KeepsCommons}
+use Rattle.ice_entries.specs.CameFrom.{CameFrom}
 use Rattle.ice_entries.specs.Own.{Own, Row}
 use Rattle.ice_entries.specs.Sharing.{entry_in, HasShared, IsWithin, AreWithin, KeepsShared}
 use Rattle.ice_entries.proofs.Lists.{all_weaker, map_same}
 
 -- the entry of a path and a record that share this
-abbrev made : Common → Option (List ℕ) → Row → Entry
-made common referenced row =
+abbrev made : Common → CameFrom → Option (List ℕ) → Row → Entry
+made common origin referenced row =
     record {
       position = row.1.position;
       spec_id = common.spec_id;
       unpartitioned = common.unpartitioned;
-      snapshot_id = row.1.snapshot_id;
-      sequence_number = row.1.sequence_number;
-      file_sequence_number = row.1.file_sequence_number;
+      snapshot_id = origin.snapshot_id;
+      sequence_number = origin.sequence_number;
+      file_sequence_number = origin.file_sequence_number;
       file = record {
         content = common.content;
         path = row.0;
@@ -43,8 +41,9 @@ pub entry_in-keeps : (old new : Shared) (row : Row) → KeepsShared old new → 
     entry_in new row ≡ entry_in old row
 entry_in-keeps old new row keeps within =
     let common = (keeps.commons row.1.common within.0).1 in
-    let referenced = named-keeps old.names new.names row.1.referenced keeps.names within.1 in
-    λ i. made (common i) (referenced i) row
+    let origin = (keeps.origins row.1.origin within.1).1 in
+    let referenced = named-keeps old.names new.names row.1.referenced keeps.names within.2 in
+    λ i. made (common i) (origin i) (referenced i) row
 
 name_within-keeps : (old new : List (List ℕ)) (r : Option ℕ) → KeepsNumbers old new → IfSome r (λ n. n < length old) →
     IfSome r (λ n. n < length new)
@@ -54,7 +53,8 @@ name_within-keeps old new (Some n) keeps within = (keeps n within).0
 pub within-keeps : (old new : Shared) (r : Own) → KeepsShared old new → IsWithin old r → IsWithin new r
 within-keeps old new r keeps within = (
   (keeps.commons r.common within.0).0,
-  name_within-keeps old.names new.names r.referenced keeps.names within.1,
+  (keeps.origins r.origin within.1).0,
+  name_within-keeps old.names new.names r.referenced keeps.names within.2,
 )
 
 pub all_within-keeps : (old new : Shared) (rows : List Row) → KeepsShared old new → AreWithin old rows →

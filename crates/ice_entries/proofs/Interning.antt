@@ -1,6 +1,6 @@
 -- What interning a path leaves.
-use Rattle.std.proofs.Common.{◌≡◌, ◌≢◌, ℕ, ◌<◌, ◌≤◌, List, [], ◌∷◌, ◌++◌, length, inl, inr, sym, subst, arith}
-use Rattle.path_arena.specs.Arena.{string, HasNot, Has, Interned}
+use Rattle.std.proofs.Common.{◌≡◌, ℕ, ◌≤◌, List, [], ◌∷◌, ◌++◌, length, inl, inr, sym, subst}
+use Rattle.path_arena.specs.Arena.{HasNot, Interned}
 use Rattle.ice_entries.specs.Short.{AreShort}
 use Rattle.ice_entries.proofs.Lists.{all_push}
 

@@ -1,8 +1,7 @@
 -- What is kept stays under its number.
-use Rattle.std.proofs.Common.{◌≡◌, ◌≢◌, ℕ, ◌+◌, ◌<◌, List, [], ◌∷◌, ◌++◌, length, slice_index_or, refl, sym, ap, ◌∙◌}
+use Rattle.std.proofs.Common.{◌≡◌, ℕ, ◌+◌, ◌<◌, List, [], ◌∷◌, ◌++◌, length, slice_index_or, refl, sym, ap, ◌∙◌}
 use Rattle.std.proofs.Common.{subst, arith, add-one, length-append}
-use Rattle.std.specs.Prelude.{map, take, Result, Ok, Err, IfOk, OnErr}
-use Rattle.std.specs.List.{AllByRecursion}
+use Rattle.std.specs.Prelude.{take, Result, Ok, Err, IfOk, OnErr}
 use Rattle.std.proofs.Math.ListN.{get_or-append}
 use Rattle.std.proofs.Math.Seq.{get_or-append_seam, take-suc}
 use Rattle.std.proofs.lemmas.List.{length-map, get_or-map, map-append}
@@ -14,10 +13,10 @@ use Rattle.ice_entries.specs.Kept.{Kept, IsKept, AreKept, entry_at, entries_at, 
 use Rattle.ice_entries.specs.Kept.{HasKnownPaths}
 use Rattle.ice_entries.specs.Keeping.{kept_of, HasAllOf}
 use Rattle.ice_entries.specs.Own.{Row}
-use Rattle.ice_entries.specs.Sharing.{entry_in, HasShared, IsWithin, AreWithin, KeepsShared}
+use Rattle.ice_entries.specs.Sharing.{entry_in, HasShared, IsWithin, KeepsShared}
 use Rattle.ice_entries.specs.Tables.{Rows, IsIn, row_at, no_row, Puts, HasOwnPaths, HasKnownPaths as KnownRows}
 use Rattle.ice_entries.proofs.Lists.{all_at, all_push, all_weaker, map_same}
-use Rattle.ice_entries.proofs.Growing.{entry_in-keeps, entries-keep, all_within-keeps, within-keeps}
+use Rattle.ice_entries.proofs.Growing.{entry_in-keeps, entries-keep, all_within-keeps}
 
 pub in_rows : (s : Shared) (rows : Rows) (n : EntryNumber) → IsKept (kept_of s rows) n → IsIn rows n
 in_rows s rows (First n) kept = omega (arith, kept, length-map rows.records (entry_in s))

@@ -3,12 +3,10 @@ use Rattle.std.specs.Prelude.{ℕ, ℤ, List, Option}
 
 pub record Own : Type 0 where
   pub position : ℕ
-  pub snapshot_id : ℤ
-  pub sequence_number : ℕ
-  pub file_sequence_number : Option ℕ
   pub record_count : ℤ
   pub file_size : ℤ
   pub common : ℕ
+  pub origin : ℕ
   pub referenced : Option ℕ
 
 -- a record with its path

@@ -37,16 +37,7 @@ pub record IsTable (paths : List (List ℕ)) (records : List Own) (clashes : Lis
 abbrev pub no_row : Row
 no_row = (
   [],
-  record {
-    position = 0;
-    snapshot_id = pos 0;
-    sequence_number = 0;
-    file_sequence_number = None;
-    record_count = pos 0;
-    file_size = pos 0;
-    common = 0;
-    referenced = None;
-  },
+  record { position = 0; record_count = pos 0; file_size = pos 0; common = 0; origin = 0; referenced = None },
 )
 
 abbrev pub IsIn : Rows → EntryNumber → Type 0

@@ -4,28 +4,18 @@ ghost use Rattle.std.specs.Prelude.{◌≡◌, ◌<◌, [], length, IfOk, IfSome
 ghost use Rattle.ice_entries.specs.InCommon.{common_of, common_at, IsCommonAt, KeepsCommons};
 
 use crate::common::{Common, LentCommon};
-use crate::spelling::spell;
+use crate::spellings::Spellings;
 use contract_words::Duplicate;
-use path_arena::Arena;
 use std::alloc::{AllocError, Global};
 use std::marker::Model;
 
-/// The most bytes of a string in an arena. Longer spellings are cut.
-const MOST_BYTES: usize = 65_535;
-
-/// What entries have in common, by number. The number of one that is there is found in the time that it takes to spell
-/// it, however many there are.
+/// What entries have in common, by number.
 #[derive(Drop)]
 pub(crate) struct Commons {
     list: Vec<Common>,
     /// The number that was found last.
     last: u32,
-    /// Spellings of those in the list.
-    spellings: Arena,
-    /// The number of the one with each spelling.
-    spelled: Vec<u32>,
-    /// Room for a spelling.
-    spelling: Vec<u8>,
+    spellings: Spellings,
 }
 
 impl Model for Commons {
@@ -45,9 +35,7 @@ impl Commons {
         Commons {
             list: Vec::new(alloc),
             last: 0,
-            spellings: Arena::new(alloc),
-            spelled: Vec::new(alloc),
-            spelling: Vec::new(alloc),
+            spellings: Spellings::new(alloc),
         }
     }
 
@@ -69,16 +57,19 @@ impl Commons {
         }
     }
 
-    /// The number of the one that was spelled last, if it is there under its spelling.
-    fn find_spelled(&self, wanted: &LentCommon<'_>) -> Option<u32>
-        ensures { IfSome result (λ number. IsCommonAt self.now number (common_of wanted.now)) }
+    /// The number of one that is there under its spelling.
+    fn find_spelled(&mut self, wanted: &LentCommon<'_>) -> Result<Option<u32>, AllocError>
+        ensures same { self.new ≡ self.old }
+        ensures found { IfOk result (λ found. IfSome found (λ number.
+            IsCommonAt self.new number (common_of wanted.now))) }
     {
-        let id = self.spellings.find(self.spelling.as_slice())?;
-        let number = *self.spelled.get(id.place() as usize)?;
+        let Some(number) = self.spellings.find(wanted)? else {
+            return Ok(None);
+        };
         if self.is_at(number, wanted) {
-            Some(number)
+            Ok(Some(number))
         } else {
-            None
+            Ok(None)
         }
     }
 
@@ -95,9 +86,7 @@ impl Commons {
         if self.is_at(self.last, wanted) {
             return Ok(self.last);
         }
-        spell(&mut self.spelling, wanted)?;
-        self.spelling.truncate(MOST_BYTES);
-        let number = match self.find_spelled(wanted) {
+        let number = match self.find_spelled(wanted)? {
             Some(number) => number,
             None => self.push(alloc, wanted)?,
         };
@@ -105,7 +94,7 @@ impl Commons {
         Ok(number)
     }
 
-    /// Puts one last that was spelled last. Where another has its spelling, that one keeps it.
+    /// Puts one last that was looked for last.
     fn push(&mut self, alloc: Global, wanted: &LentCommon<'_>) -> Result<u32, AllocError>
         ensures keeps { KeepsCommons self.old self.new }
         ensures ok { IfOk result (λ number. IsCommonAt self.new number (common_of wanted.now)) }
@@ -115,14 +104,8 @@ impl Commons {
             return Err(AllocError);
         };
         self.list.reserve(1)?;
-        self.spelled.reserve(1)?;
-        let Ok(id) = self.spellings.intern(self.spelling.as_slice()) else {
-            return Err(AllocError);
-        };
+        self.spellings.put(number)?;
         self.list.push_reserved(common);
-        if id.place() as usize == self.spelled.len() {
-            self.spelled.push_reserved(number);
-        }
         Ok(number)
     }
 
@@ -134,8 +117,6 @@ impl Commons {
             list: Common::copy_slice(self.list.as_slice(), alloc)?,
             last: self.last,
             spellings: self.spellings.copy(alloc)?,
-            spelled: self.spelled.as_slice().to_vec(alloc)?,
-            spelling: Vec::new(alloc),
         })
     }
 }

@@ -5,9 +5,12 @@
 mod common;
 mod commons;
 mod entries;
+mod origin;
+mod origins;
 mod paths;
 mod record;
 mod spelling;
+mod spellings;
 mod table;
 
 pub use entries::{Entries, EntryNumber, Room};

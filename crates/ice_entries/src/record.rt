@@ -8,9 +8,10 @@ ghost use Rattle.ice_entries.specs.Sharing.{entry_in, IsWithin, KeepsShared};
 
 use crate::common::LentCommon;
 use crate::commons::Commons;
+use crate::origin::Origin;
+use crate::origins::Origins;
 use crate::paths::Paths;
 use ice_manifest_reading::LentEntry;
-use ice_value::SequenceNumber;
 use path_arena::PathId;
 use std::alloc::{AllocError, Global};
 use std::marker::Model;
@@ -19,12 +20,10 @@ use std::marker::Model;
 #[derive(Clone, Copy)]
 pub(crate) struct Record {
     position: u64,
-    snapshot_id: i64,
-    sequence_number: SequenceNumber,
-    file_sequence_number: Option<SequenceNumber>,
     record_count: i64,
     file_size: i64,
     common: u32,
+    origin: u32,
     referenced: Option<PathId>,
 }
 
@@ -35,31 +34,29 @@ impl Model for Record {
 
     ghost view = { λ r. record {
       position = r.position;
-      snapshot_id = r.snapshot_id;
-      sequence_number = r.sequence_number;
-      file_sequence_number = r.file_sequence_number;
       record_count = r.record_count;
       file_size = r.file_size;
       common = r.common;
+      origin = r.origin;
       referenced = r.referenced;
     } };
 
     ghost inverse = { λ r. record {
       position = r.position;
-      snapshot_id = r.snapshot_id;
-      sequence_number = r.sequence_number;
-      file_sequence_number = r.file_sequence_number;
       record_count = r.record_count;
       file_size = r.file_size;
       common = r.common;
+      origin = r.origin;
       referenced = r.referenced;
     } };
 }
 
-/// What entries share: what they have in common, and the paths that position deletes name.
+/// What entries share: what they have in common, the commits that they came from, and the paths that position deletes
+/// name.
 #[derive(Drop)]
 pub(crate) struct Shared {
     pub(crate) commons: Commons,
+    pub(crate) origins: Origins,
     pub(crate) names: Paths,
 }
 
@@ -68,6 +65,7 @@ impl Shared {
     pub(crate) fn new(alloc: Global) -> Shared {
         Shared {
             commons: Commons::new(alloc),
+            origins: Origins::new(alloc),
             names: Paths::new(alloc),
         }
     }
@@ -84,15 +82,14 @@ impl Shared {
             (entry_in self.new (entry.now.path.now, own) ≡ lent entry.now)) }
     {
         let common = self.commons.number(alloc, &LentCommon::new(entry))?;
+        let origin = self.origins.number(&Origin::new(entry))?;
         let referenced = named(&mut self.names, entry.referenced)?;
         Ok(Record {
             position: entry.position,
-            snapshot_id: entry.snapshot_id,
-            sequence_number: entry.sequence_number,
-            file_sequence_number: entry.file_sequence_number,
             record_count: entry.record_count,
             file_size: entry.file_size,
             common,
+            origin,
             referenced,
         })
     }
@@ -105,13 +102,14 @@ impl Shared {
         ensures short { HasShortPaths result }
     {
         let common = self.commons.get(own.common);
+        let origin = self.origins.get(own.origin);
         LentEntry {
             position: own.position,
             spec_id: common.spec_id,
             unpartitioned: common.unpartitioned,
-            snapshot_id: own.snapshot_id,
-            sequence_number: own.sequence_number,
-            file_sequence_number: own.file_sequence_number,
+            snapshot_id: origin.snapshot_id,
+            sequence_number: origin.sequence_number,
+            file_sequence_number: origin.file_sequence_number,
             content: common.content,
             path,
             tuple: common.tuple.as_slice(),
@@ -128,6 +126,7 @@ impl Shared {
     {
         Ok(Shared {
             commons: self.commons.copy(alloc)?,
+            origins: self.origins.copy(alloc)?,
             names: self.names.copy(alloc)?,
         })
     }

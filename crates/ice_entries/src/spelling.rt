@@ -1,9 +1,38 @@
-//! What entries have in common, spelled as bytes.
+//! What entries share, spelled as bytes.
 
 use crate::common::LentCommon;
+use crate::origin::Origin;
 use contract_words::Text;
 use ice_value::{Cell, FileContent};
 use std::alloc::AllocError;
+
+/// What can be spelled. Whoever finds one by its spelling has to compare it: that two have two spellings is true of
+/// short ones only, and is promised of none.
+pub(crate) trait Spell {
+    /// Puts its spelling last.
+    fn spell(&self, spelling: &mut Vec<u8>) -> Result<(), AllocError>;
+}
+
+impl<'a> Spell for LentCommon<'a> {
+    fn spell(&self, spelling: &mut Vec<u8>) -> Result<(), AllocError> {
+        spelling.extend_from_slice(&[code_of(self.content), self.unpartitioned as u8])?;
+        spelling.extend_from_slice(&self.spec_id.to_le_bytes())?;
+        spelling.extend_from_slice(&self.equality_ids.len().to_le_bytes())?;
+        spell_ids(spelling, self.equality_ids)?;
+        spell_tuple(spelling, self.tuple)
+    }
+}
+
+impl Spell for Origin {
+    fn spell(&self, spelling: &mut Vec<u8>) -> Result<(), AllocError> {
+        spelling.extend_from_slice(&self.snapshot_id.to_le_bytes())?;
+        spelling.extend_from_slice(&self.sequence_number.get().to_le_bytes())?;
+        match self.file_sequence_number {
+            Some(number) => spelling.extend_from_slice(&number.get().to_le_bytes()),
+            None => Ok(()),
+        }
+    }
+}
 
 /// Puts a list of bytes last, behind its length.
 fn spell_bytes(spelling: &mut Vec<u8>, bytes: &[u8]) -> Result<(), AllocError> {
@@ -36,17 +65,6 @@ fn code_of(content: FileContent) -> u8 {
         FileContent::PositionDeletes => 1,
         FileContent::EqualityDeletes => 2,
     }
-}
-
-/// Spells it, where something else was spelled before. Whoever finds one by its spelling has to compare it: that two
-/// have two spellings is true of short ones only, and is promised of none.
-pub(crate) fn spell(spelling: &mut Vec<u8>, common: &LentCommon<'_>) -> Result<(), AllocError> {
-    spelling.clear();
-    spelling.extend_from_slice(&[code_of(common.content), common.unpartitioned as u8])?;
-    spelling.extend_from_slice(&common.spec_id.to_le_bytes())?;
-    spelling.extend_from_slice(&common.equality_ids.len().to_le_bytes())?;
-    spell_ids(spelling, common.equality_ids)?;
-    spell_tuple(spelling, common.tuple)
 }
 
 fn spell_ids(spelling: &mut Vec<u8>, ids: &[i32]) -> Result<(), AllocError> {

@@ -1,4 +1,4 @@
-use Rattle.std.proofs.Common.{sym, ◌∙◌}
+use Rattle.std.proofs.Common.{◌∙◌}
 use Rattle.ice_entries.proofs.Keeping.{one_read}
 use Rattle.ice_entries.proofs.entries.Entries.add_read.Goals as goal
 

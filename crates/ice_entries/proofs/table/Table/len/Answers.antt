@@ -1,4 +1,4 @@
-use Rattle.std.proofs.Common.{ℕ, List, length, ap, arith}
+use Rattle.std.proofs.Common.{length, ap, arith}
 use Rattle.std.proofs.lemmas.List.{length-map}
 use Rattle.ice_entries.specs.declared.table.Clash.{Clash}
 use Rattle.path_arena.specs.Arena.{string}

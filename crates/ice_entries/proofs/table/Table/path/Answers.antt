@@ -1,4 +1,4 @@
-use Rattle.std.proofs.Common.{List, ℕ, ◌<◌, length, sym, ap, subst, ◌∙◌, arith}
+use Rattle.std.proofs.Common.{◌<◌, length, sym, ap, subst, ◌∙◌, arith}
 use Rattle.path_arena.specs.Arena.{string}
 use Rattle.ice_entries.specs.declared.entries.EntryNumber.TheVariants.{Record as First}
 use Rattle.ice_entries.specs.Own.{Row}

@@ -1,7 +1,7 @@
-use Rattle.std.proofs.Common.{List, ℕ, ◌<◌, length, sym, ap, subst, ◌∙◌, arith}
+use Rattle.std.proofs.Common.{◌<◌, length, sym, ap, subst, ◌∙◌, arith}
 use Rattle.ice_entries.specs.declared.entries.EntryNumber.TheVariants.{Record as First}
 use Rattle.ice_entries.specs.Own.{Row}
-use Rattle.ice_entries.specs.Tables.{IsIn, row_at, no_row, Rows}
+use Rattle.ice_entries.specs.Tables.{IsIn, row_at, Rows}
 use Rattle.ice_entries.proofs.Rows.{length-with_paths, with_paths-at}
 use Rattle.ice_entries.proofs.table.Table.record.Goals as goal
 
