@@ -43,8 +43,8 @@ within-at n [] k d within l = absurd (omega arith)
 within-at n (j ∷ js) zero d within l = within.0
 within-at n (j ∷ js) (suc k) d within l = within-at n js k d within.1 (omega arith)
 
-pub line_within-at : (n : ℕ) (places : List LinePlaces) (k : ℕ) (d : LinePlaces) → AllByRecursion (IsLineWithin n) places
-    → slice_get places k ≡ Some d → IsLineWithin n d
+pub line_within-at : (n : ℕ) (places : List LinePlaces) (k : ℕ) (d : LinePlaces)
+    → AllByRecursion (IsLineWithin n) places → slice_get places k ≡ Some d → IsLineWithin n d
 line_within-at n [] k d within at = cc
 line_within-at n (q ∷ qs) zero d within at = let same : q ≡ d = cc in subst (IsLineWithin n) same within.0
 line_within-at n (q ∷ qs) (suc k) d within at = line_within-at n qs k d within.1 at

@@ -5,7 +5,8 @@ use Rattle.std.proofs.lemmas.List.{length-take, length-take-le, take-take, take_
 use Rattle.std.proofs.lemmas.Slice.{between_is, between_to_end}
 use Rattle.std.specs.List.{slice_get, slice_range}
 use Rattle.ice_state.specs.declared.places.Ends.{Ends}
-use Rattle.ice_state.specs.PlaceLists.{LinePlaces, line_from, lines_from, RiseWithin, end_of, IsInOrder, GainsInOrder, GainsLine}
+use Rattle.ice_state.specs.PlaceLists.{LinePlaces, line_from, lines_from, RiseWithin, end_of}
+use Rattle.ice_state.specs.PlaceLists.{IsInOrder, GainsInOrder, GainsLine}
 
 -- ---- one line among them
 
@@ -125,7 +126,13 @@ keeps_lines es ps front qs h is begins =
     let m = end_of 0 es in
     let l : length front ≡ m = length-front m ps front (end_of-within (length ps) 0 es h) is in
     let same : take m qs ≡ take m ps = ap (λ k. take k qs) (sym l) ∙ begins ∙ is in
-    let long : m ≤ length qs = omega (arith, length-take m qs, ap length same, length-take m ps, end_of-within (length ps) 0 es h) in
+    let long : m ≤ length qs = omega (
+      arith,
+      length-take m qs,
+      ap length same,
+      length-take m ps,
+      end_of-within (length ps) 0 es h,
+    ) in
     record {
       rise = rise_to (length ps) (length qs) 0 es h long;
       same = lines_kept (length qs) 0 es qs ps (rise_to (length ps) (length qs) 0 es h long) same;

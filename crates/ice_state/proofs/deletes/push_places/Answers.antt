@@ -1,13 +1,14 @@
-use Rattle.std.proofs.Common.{◌≡◌, ◌++◌, ◌∷◌, [], ◌∙◌, ap, List, ℕ}
+use Rattle.std.proofs.Common.{◌≡◌, ◌++◌, List, ℕ}
 use Rattle.std.specs.List.Sorted.{IsPermutation}
 use Rattle.std.proofs.lemmas.List.Sorted.{IsPermutation-trans}
 use Rattle.std.proofs.lemmas.Result.{on_ok_weaker}
 use Rattle.ice_value.specs.declared.file_content.FileContent.TheVariants.{PositionDeletes, EqualityDeletes}
 use Rattle.ice_manifest_reading.specs.Lending.{lent as lent_entry}
 use Rattle.ice_state.specs.Applying.{data_key_of}
-use Rattle.ice_state.specs.Parts.{ascending, numbers_of, places_of}
-use Rattle.ice_state.specs.PlaceLists.{LinePlaces, IsInOrder, GainsLine}
+use Rattle.ice_state.specs.Parts.{ascending, numbers_of}
+use Rattle.ice_state.specs.PlaceLists.{IsInOrder}
 use Rattle.ice_state.proofs.Ascending.{one_ascends}
+use Rattle.ice_state.proofs.PlaceTables.{gained_line}
 use Rattle.ice_state.proofs.deletes.push_places.Goals as goal
 
 -- numbers in order are those of any list that has the same
@@ -20,14 +21,9 @@ returns-clause-ok c =
     let index = c.args.index.now in
     let hits = c.deletes_for-hits.result in
     let found = c.deletes_for-hits.ensures in
-    on_ok_weaker c.push.result (λ (gains : GainsLine c.args.places.now c.push.new.self
-    (hits.positions.now ++ hits.referenced.now) (hits.equalities.now ++ hits.everywhere.now)).
-    let positions = ascend_from (numbers_of PositionDeletes index x) _ gains.line.positions found.positions
-    gains.positions in
-    let equalities = ascend_from (numbers_of EqualityDeletes index x) _ gains.line.equalities found.equalities
-    gains.equalities in
-    let line : gains.line ≡ places_of index x =
-    ap (λ (ps : List ℕ). record { positions = ps; equalities = gains.line.equalities }) positions
-    ∙ ap (λ (ps : List ℕ). record { positions = ascending (numbers_of PositionDeletes index x); equalities = ps }) equalities in
-    gains.added ∙ ap (λ (l : LinePlaces). c.args.places.now ++ l ∷ []) line)
-    c.push.ensures.ok
+    let of_positions = hits.positions.now ++ hits.referenced.now in
+    let of_equalities = hits.equalities.now ++ hits.everywhere.now in
+    on_ok_weaker c.push.result (gained_line c.args.places.now c.push.new.self of_positions of_equalities
+    (ascending (numbers_of PositionDeletes index x)) (ascending (numbers_of EqualityDeletes index x))
+    (λ ps. ascend_from (numbers_of PositionDeletes index x) of_positions ps found.positions)
+    (λ ps. ascend_from (numbers_of EqualityDeletes index x) of_equalities ps found.equalities)) c.push.ensures.ok

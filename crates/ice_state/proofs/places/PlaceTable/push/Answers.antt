@@ -1,4 +1,5 @@
-use Rattle.std.proofs.Common.{◌≡◌, ◌∙◌, ◌++◌, refl, ap, sym, subst, length, take, arith, List, ℕ, Result, Ok, Err, OnErr}
+use Rattle.std.proofs.Common.{◌≡◌, ◌∙◌, ◌++◌, refl, ap, sym, subst, length, take, arith, List, ℕ}
+use Rattle.std.proofs.Common.{Result, Ok, Err, OnErr}
 use Rattle.std.proofs.lemmas.List.{take_at}
 use Rattle.ice_state.specs.declared.places.Ends.{Ends}
 use Rattle.ice_state.specs.PlaceLists.{LinePlaces, lines_from, end_of, RiseWithin, GainsInOrder, GainsLine}
