@@ -1,4 +1,4 @@
-use Rattle.std.proofs.Common.{◌≡◌, ◌∙◌, ap, List, ℕ, map, Result, Ok, Err, IfOk, subst, sym}
+use Rattle.std.proofs.Common.{◌≡◌, ◌∙◌, ap, map, Result, Ok, Err, IfOk, subst, sym}
 use Rattle.ice_entries.specs.Kept.{entries_at}
 use Rattle.ice_state.specs.Outcomes.{by_path}
 use Rattle.ice_state.specs.Placed.{place_of}
