@@ -1,6 +1,6 @@
 -- Lemmas on outcomes.
 use Rattle.std.proofs.Common.{◌≡◌, ◌<◌, ◌≤◌, ℕ, zero, suc, List, [], ◌∷◌, refl, sym, ap, ◌∙◌, false, length, get_or}
-use Rattle.std.proofs.Common.{◌++◌, append_assoc, ◌≢◌, Result, Ok, Err, true, arith, drop, Option, Some, None, is_none}
+use Rattle.std.proofs.Common.{◌++◌, append_assoc, ◌≢◌, Ok, Err, true, arith, drop, Option, Some, None, is_none}
 use Rattle.ice_manifest_reading.specs.declared.entry.Entry.{Entry}
 use Rattle.ice_manifest_reading.specs.declared.row.Row.{Row}
 use Rattle.ice_state.specs.Readings.{Reading}

@@ -1,5 +1,5 @@
 -- Plans by numbers.
-use Rattle.std.proofs.Common.{◌≡◌, List, refl, sym}
+use Rattle.std.proofs.Common.{◌≡◌, refl}
 use Rattle.ice_entries.specs.Kept.{Kept}
 use Rattle.ice_state.specs.declared.plan.NumberedPlan.{NumberedPlan}
 use Rattle.ice_state.specs.Lines.{lines_of, IsPlanned}

@@ -1,9 +1,8 @@
 -- Slots and their content.
 use Rattle.std.proofs.Common.{◌≡◌, ℕ, zero, suc, List, [], ◌∷◌, ◌++◌, refl, ap, ◌∙◌, Option, Some, None, option_map}
-use Rattle.std.proofs.Common.{IfSome, is_some, is_none, replicate, get_or, slice_set, length, map, ◌<◌, sym, arith, subst}
-use Rattle.std.specs.List.{AllByRecursion}
+use Rattle.std.proofs.Common.{IfSome, is_some, is_none, replicate, get_or, slice_set, length, ◌<◌, sym, arith, subst}
 use Rattle.ice_manifest_reading.specs.declared.entry.Entry.{Entry}
-use Rattle.ice_entries.specs.Kept.{Kept, AreKept, Keeps, entry_at, entries_at, IsKept}
+use Rattle.ice_entries.specs.Kept.{Kept, AreKept, Keeps, entry_at, entries_at}
 use Rattle.ice_entries.specs.declared.entries.EntryNumber.{EntryNumber}
 use Rattle.ice_state.specs.declared.taken.Taken.{Taken}
 use Rattle.ice_state.specs.declared.taken.Taken.TheVariants as taken

@@ -1,6 +1,6 @@
-use Rattle.std.proofs.Common.{arith, sym, ◌∙◌, ◌-◌, map, drop, length-drop}
+use Rattle.std.proofs.Common.{arith, sym, ◌∙◌, ◌-◌, drop, length-drop}
 use Rattle.std.proofs.lemmas.List.{length-map}
-use Rattle.ice_state.specs.Named.{entry_named, entries_named}
+use Rattle.ice_state.specs.Named.{entries_named}
 use Rattle.ice_state.proofs.Outcomes.{twice_short}
 use Rattle.ice_state.proofs.finish.check_once.Goals as goal
 

@@ -1,5 +1,4 @@
 use Rattle.std.proofs.Common.{◌≡◌, ◌<◌, refl, get_or, length}
-use Rattle.ice_entries.specs.declared.entries.EntryNumber.{EntryNumber}
 use Rattle.ice_entries.specs.declared.entries.EntryNumber.TheVariants.{Record}
 use Rattle.ice_state.specs.Named.{entries_named}
 use Rattle.ice_state.specs.declared.finish.Named.{Named}

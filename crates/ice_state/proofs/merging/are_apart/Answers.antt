@@ -1,4 +1,4 @@
-use Rattle.std.proofs.Common.{◌∙◌, ◌<◌, ◌≡◌, ◌&&◌, false, is_some, ap, sym, arith, add-one, drop, length, option_map}
+use Rattle.std.proofs.Common.{◌∙◌, ◌<◌, ◌≡◌, ◌&&◌, false, is_some, sym, arith, add-one, drop, length, option_map}
 use Rattle.ice_state.specs.Slots.{contents, given}
 use Rattle.ice_state.proofs.Gains.{apart-step, apart-end}
 use Rattle.ice_state.proofs.SlotContents.{at-contents, is-some-given, length-contents}

@@ -25,11 +25,11 @@ sort : (c : In_ok-sort_by) → c.sort_by.new.self.items ≡ sorted before c.args
 sort c =
     sorted_from_sort before order c.args.placed.now.items c.sort_by.new.self.items
     (c.in_ok-sort_by.ensures.sorted before order
-    (answers_always _ (λ (a : Bor Placed × (Bor Placed × Unit {0})) (r : Ordering). is_lt r ≡ before a.0.now a.1.0.now) _
-    (λ f a r g h. search rules)))
+    (answers_always _ (λ (a : Bor Placed × (Bor Placed × Unit {0})) (r : Ordering).
+    is_lt r ≡ before a.0.now a.1.0.now) _ (λ f a r g h. search rules)))
     (c.in_ok-sort_by.ensures.stable before order
-    (answers_always _ (λ (a : Bor Placed × (Bor Placed × Unit {0})) (r : Ordering). is_lt r ≡ before a.0.now a.1.0.now) _
-    (λ f a r g h. search rules)))
+    (answers_always _ (λ (a : Bor Placed × (Bor Placed × Unit {0})) (r : Ordering).
+    is_lt r ≡ before a.0.now a.1.0.now) _ (λ f a r g h. search rules)))
 
 -- by the paths of the entries
 same : (xs : List Entry) (a b : Placed) → IsPlaced xs a → IsPlaced xs b

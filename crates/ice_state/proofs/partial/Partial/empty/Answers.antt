@@ -1,6 +1,5 @@
-use Rattle.std.proofs.Common.{◌≡◌, ◌∙◌, ap, subst, sym, arith, length, replicate, None, Option, List}
-use Rattle.ice_state.specs.declared.taken.Taken.{Taken}
-use Rattle.ice_state.specs.Slots.{contents, HaveNumbers}
+use Rattle.std.proofs.Common.{◌≡◌, ◌∙◌, ap, arith, length, replicate, None}
+use Rattle.ice_state.specs.Slots.{contents}
 use Rattle.ice_state.proofs.Contents.{none-content}
 use Rattle.ice_state.proofs.SlotContents.{none-contents}
 use Rattle.ice_state.proofs.partial.Partial.empty.Goals as goal

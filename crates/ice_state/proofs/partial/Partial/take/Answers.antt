@@ -1,4 +1,4 @@
-use Rattle.std.proofs.Common.{◌∙◌, ◌≡◌, ap, subst, sym, rules, length, get_or, List, Option, true, false, is_some}
+use Rattle.std.proofs.Common.{◌∙◌, ◌≡◌, ap, subst, sym, rules, length, get_or, List, Option, true, false}
 use Rattle.std.proofs.lemmas.Result.{err_from_is_err_and}
 use Rattle.ice_manifest_reading.specs.declared.row.Row.{Row}
 use Rattle.ice_state.specs.declared.taken.Taken.{Taken}
