@@ -1,7 +1,7 @@
 -- Numbers of entries that are kept.
 use Rattle.std.proofs.Common.{List, [], ◌∷◌, ◌++◌, ◌≡◌, sym, subst}
 use Rattle.ice_entries.specs.declared.entries.EntryNumber.{EntryNumber}
-use Rattle.ice_entries.specs.Kept.{Kept, IsKept, AreKept, Keeps}
+use Rattle.ice_entries.specs.Kept.{Kept, AreKept, Keeps}
 use Rattle.ice_entries.proofs.Keeping.{all_kept}
 
 both_kept : (kept : Kept) (ms ns : List EntryNumber) → AreKept kept ms → AreKept kept ns → AreKept kept (ms ++ ns)
