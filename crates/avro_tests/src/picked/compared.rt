@@ -95,10 +95,10 @@ fn picked<'t, 'd>(schema: &'t Schema, datum: &'t Datum<'d>, way: &[i32]) -> Opti
 }
 
 /// What stands on each way, as it looks.
-fn picked_look(
+fn picked_look<'t>(
     alloc: Global,
-    schema: &Schema,
-    datum: &Datum<'_>,
+    schema: &'t Schema,
+    datum: &'t Datum<'_>,
     ways: &[Vec<i32>],
 ) -> Result<String, AllocError> {
     let mut all = Vec::with_capacity(alloc, ways.len())?;

@@ -1,5 +1,7 @@
 //! Files of random types and random bytes: what is found in them is what whole objects have.
 
+ghost use Rattle.std.specs.Prelude.{◌<◌};
+
 use super::compared::count_alike;
 use super::{block, file};
 use avro_file::AvroFault;
