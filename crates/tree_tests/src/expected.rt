@@ -3,8 +3,8 @@
 /// A delete file: the number of its manifest, and its path.
 pub type Delete = (usize, &'static str);
 
-/// The line of a data file in the plan of all manifests: the number of its manifest, its path, how many rows it has, and
-/// the position and the equality delete files that apply to it.
+/// The line of a data file in the plan of all manifests: the number of its manifest, its path, how many rows it has,
+/// and the position and the equality delete files that apply to it.
 pub type FileLine = (
     usize,
     &'static str,

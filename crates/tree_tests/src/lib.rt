@@ -1,5 +1,5 @@
-//! Tests of ice_state: states that took manifests in several orders and were merged in several ways end in the plan that
-//! was written by hand, and a refused growth leaves the answer that there was.
+//! Tests of ice_state: states that took manifests in several orders and were merged in several ways end in the plan
+//! that was written by hand, and a refused growth leaves the answer that there was.
 #![tactic(auto)]
 
 #[cfg(test)]

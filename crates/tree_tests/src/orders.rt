@@ -1,4 +1,5 @@
-//! Two states that took the same manifests in several orders, and so number the paths in several ways, merged in each way.
+//! Two states that took the same manifests in several orders, and so number the paths in several ways, are merged in
+//! each way.
 
 use crate::answers::{Answer, Ending, answer_of, ending_of, is_same_answer, is_twice};
 use crate::cases::{Case, case_of, files, state_after};
@@ -17,8 +18,8 @@ fn answer(alloc: Global, case: &Case, takings: &Takings, way: Way) -> Answer {
     answer_of(alloc, &state, &case.scan)
 }
 
-/// The manifests at places 3 and 4 both have position deletes that name `mem://t/c`, and each names files that the other
-/// does not. Those at places 0 and 1 have data files, and a path of the first is deleted in the second.
+/// The manifests at places 3 and 4 both have position deletes that name `mem://t/c`, and each names files that the
+/// other does not. Those at places 0 and 1 have data files, and a path of the first is deleted in the second.
 const NUMBERS: [usize; 6] = [0, 1, 5, 6, 7, 8];
 
 static TAKINGS: [Takings; 14] = [

@@ -1,8 +1,10 @@
 //! The manifests of the tests, by the entries that they have.
 
+use Codec::{Deflate, Null};
 use File::{Data, Equalities, Positions};
 use Standing::{Added, Deleted, Existing};
 use ice_manifest_reading::ManifestContent;
+use ice_manifest_reading::ManifestContent::{Data as DataFiles, Deletes};
 
 /// What a file holds.
 #[derive(Clone, Copy)]
@@ -104,73 +106,17 @@ const M11: &[Entry] = &[(Added, Positions(Some(A)), "mem://t/p1", 1, 7)];
 
 /// In the order of their paths.
 pub static MANIFESTS: [Manifest; 13] = [
-    ("mem://t/m00", ManifestContent::Data, 1, 2, Codec::Null, M00),
-    ("mem://t/m01", ManifestContent::Data, 1, 3, Codec::Null, M01),
-    ("mem://t/m02", ManifestContent::Data, 1, 5, Codec::Null, M02),
-    ("mem://t/m03", ManifestContent::Data, 1, 3, Codec::Null, M03),
-    ("mem://t/m04", ManifestContent::Data, 1, 4, Codec::Null, M04),
-    (
-        "mem://t/m05",
-        ManifestContent::Deletes,
-        1,
-        3,
-        Codec::Null,
-        M05,
-    ),
-    (
-        "mem://t/m06",
-        ManifestContent::Deletes,
-        1,
-        4,
-        Codec::Null,
-        M06,
-    ),
-    (
-        "mem://t/m07",
-        ManifestContent::Deletes,
-        1,
-        4,
-        Codec::Null,
-        M07,
-    ),
-    (
-        "mem://t/m08",
-        ManifestContent::Deletes,
-        1,
-        5,
-        Codec::Null,
-        M08,
-    ),
-    (
-        "mem://t/m09",
-        ManifestContent::Deletes,
-        0,
-        6,
-        Codec::Null,
-        M09,
-    ),
-    (
-        "mem://t/m10",
-        ManifestContent::Deletes,
-        1,
-        2,
-        Codec::Null,
-        M10,
-    ),
-    (
-        "mem://t/m11",
-        ManifestContent::Deletes,
-        1,
-        4,
-        Codec::Null,
-        M11,
-    ),
-    (
-        "mem://t/m12",
-        ManifestContent::Deletes,
-        1,
-        3,
-        Codec::Deflate,
-        M05,
-    ),
+    ("mem://t/m00", DataFiles, 1, 2, Null, M00),
+    ("mem://t/m01", DataFiles, 1, 3, Null, M01),
+    ("mem://t/m02", DataFiles, 1, 5, Null, M02),
+    ("mem://t/m03", DataFiles, 1, 3, Null, M03),
+    ("mem://t/m04", DataFiles, 1, 4, Null, M04),
+    ("mem://t/m05", Deletes, 1, 3, Null, M05),
+    ("mem://t/m06", Deletes, 1, 4, Null, M06),
+    ("mem://t/m07", Deletes, 1, 4, Null, M07),
+    ("mem://t/m08", Deletes, 1, 5, Null, M08),
+    ("mem://t/m09", Deletes, 0, 6, Null, M09),
+    ("mem://t/m10", Deletes, 1, 2, Null, M10),
+    ("mem://t/m11", Deletes, 1, 4, Null, M11),
+    ("mem://t/m12", Deletes, 1, 3, Deflate, M05),
 ];

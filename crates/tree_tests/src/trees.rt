@@ -58,6 +58,15 @@ fn take_some(
     Ok(())
 }
 
+/// A state that took some of the manifests.
+fn leaf(alloc: Global, case: &Case, random: &mut Xoshiro256PlusPlus) -> Result<Partial, AllocError>
+    ensures { IfOk result (λ state. IsOf case.now.scan state) }
+{
+    let mut state = Partial::empty(alloc, &case.scan)?;
+    take_some(&mut state, case, random)?;
+    Ok(state)
+}
+
 /// The state of a random tree that has at most so many levels of merges.
 fn grown(
     alloc: Global,
@@ -67,13 +76,12 @@ fn grown(
 ) -> Result<Partial, AllocError>
     ensures { IfOk result (λ state. IsOf case.now.scan state) }
 {
-    let mut state = if levels == 0 || random.next_u64() % 4 == 0 {
-        Partial::empty(alloc, &case.scan)?
-    } else {
-        let first = grown(alloc, case, random, levels - 1)?;
-        let second = grown(alloc, case, random, levels - 1)?;
-        joined(first, second, way(random))?
-    };
+    if levels == 0 || random.next_u64() % 4 == 0 {
+        return leaf(alloc, case, random);
+    }
+    let first = grown(alloc, case, random, levels - 1)?;
+    let second = grown(alloc, case, random, levels - 1)?;
+    let mut state = joined(first, second, way(random))?;
     take_some(&mut state, case, random)?;
     Ok(state)
 }
