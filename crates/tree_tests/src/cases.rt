@@ -116,7 +116,7 @@ pub fn case_of(alloc: Global, files: &[Vec<u8>], numbers: &[usize]) -> Result<Ca
     })
 }
 
-/// Takes the manifest at a place of the scan.
+/// Takes the manifest at a place of the scan; at none past the last.
 pub fn take(state: &mut Partial, case: &Case, place: usize) -> Result<(), AllocError>
     requires { IsOf case.now.scan state.old }
     ensures { IsOf case.now.scan state.new }

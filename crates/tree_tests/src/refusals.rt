@@ -120,21 +120,24 @@ fn is_absorbed_at_last(
     Ok(was_kept)
 }
 
+/// The place of a manifest that is taken, and the first manifest that the state lacks before.
+static TAKES: [(usize, &str); 6] = [
+    (4, "mem://t/m00"),
+    (3, "mem://t/m00"),
+    (0, "mem://t/m00"),
+    (5, "mem://t/m01"),
+    (1, "mem://t/m01"),
+    (2, "mem://t/m05"),
+];
+
 #[test]
 fn of_takes(rt: HostRuntime) -> Result<(), Fail> {
     let alloc = rt.alloc();
     let case = case_at_last(alloc, &NUMBERS)?;
     let mut state = state_at_last(alloc, &case, &[])?;
-    for (place, path) in [
-        (4, "mem://t/m00"),
-        (3, "mem://t/m00"),
-        (0, "mem://t/m00"),
-        (5, "mem://t/m01"),
-        (1, "mem://t/m01"),
-        (2, "mem://t/m05"),
-    ] {
+    'takes: for (place, path) in &TAKES {
         assert!(rt;
-            is_taken_at_last(alloc, &mut state, &case, place, path)?,
+            is_taken_at_last(alloc, &mut state, &case, *place, path)?,
             "{place}"
         );
     }
@@ -166,7 +169,7 @@ fn of_merges(rt: HostRuntime) -> Result<(), Fail> {
     let alloc = rt.alloc();
     let case = case_at_last(alloc, &NUMBERS)?;
     let mut state = state_at_last(alloc, &case, &[3])?;
-    for (places, path) in &MERGES {
+    'merges: for (places, path) in &MERGES {
         let other = state_at_last(alloc, &case, places)?;
         assert!(rt;
             is_merged_at_last(alloc, &mut state, &case, &other, path)?,
@@ -182,7 +185,7 @@ fn of_absorptions(rt: HostRuntime) -> Result<(), Fail> {
     let alloc = rt.alloc();
     let case = case_at_last(alloc, &NUMBERS)?;
     let mut state = state_at_last(alloc, &case, &[3])?;
-    for (places, path) in &ABSORPTIONS {
+    'absorptions: for (places, path) in &ABSORPTIONS {
         assert!(rt;
             is_absorbed_at_last(alloc, &mut state, &case, places, path)?,
             "{places:?}"

@@ -41,7 +41,7 @@ fn numbers(alloc: Global, random: &mut Xoshiro256PlusPlus) -> Result<Vec<usize>,
     Ok(numbers)
 }
 
-/// Takes up to three of the manifests, some of them again.
+/// Takes at most three of the manifests, some of them again.
 fn take_some(
     state: &mut Partial,
     case: &Case,
