@@ -1,9 +1,9 @@
 //! The ways in which two states become one.
 
-ghost use Rattle.std.specs.Prelude.{◌≡◌, length, IfOk};
-ghost use Rattle.ice_state.specs.Scans.{Scanned};
+ghost use Rattle.std.specs.Prelude.{IfOk};
 ghost use Rattle.ice_state.specs.Contents.{IsOf};
 
+use crate::cases::Case;
 use ice_state::Partial;
 use std::alloc::AllocError;
 
@@ -26,10 +26,16 @@ pub static WAYS: [Way; 5] = [
     Way::ThereAndBack,
 ];
 
-/// What became of both states.
-pub fn joined(mut first: Partial, mut second: Partial, way: Way) -> Result<Partial, AllocError>
-    requires { length first ≡ length second }
-    ensures { (scan : Scanned) → IsOf scan first → IsOf scan second → IfOk result (IsOf scan) }
+/// What became of two states of the case's scan.
+pub fn joined(
+    case: &Case,
+    mut first: Partial,
+    mut second: Partial,
+    way: Way,
+) -> Result<Partial, AllocError>
+    requires first { IsOf case.now.scan first }
+    requires second { IsOf case.now.scan second }
+    ensures { IfOk result (λ state. IsOf case.now.scan state) }
 {
     match way {
         Way::MergeSecond => {

@@ -14,7 +14,7 @@ type Takings = (&'static [usize], &'static [usize]);
 fn answer(alloc: Global, case: &Case, takings: &Takings, way: Way) -> Answer {
     let first = state_after(alloc, case, takings.0)?;
     let second = state_after(alloc, case, takings.1)?;
-    let state = joined(first, second, way)?;
+    let state = joined(case, first, second, way)?;
     answer_of(alloc, &state, &case.scan)
 }
 

@@ -81,7 +81,7 @@ fn grown(
     }
     let first = grown(alloc, case, random, levels - 1)?;
     let second = grown(alloc, case, random, levels - 1)?;
-    let mut state = joined(first, second, way(random))?;
+    let mut state = joined(case, first, second, way(random))?;
     take_some(&mut state, case, random)?;
     Ok(state)
 }
