@@ -1,4 +1,4 @@
-use Rattle.std.proofs.Common.{ℕ, ◌+◌, ◌*◌}
+use Rattle.std.proofs.Common.{◌+◌, ◌*◌}
 use Rattle.avro_tests.proofs.picked.random.Maker.+types.Given as goal
 
 -- a type goes down in depth; the others lead to one of the same depth, by fewer calls each
