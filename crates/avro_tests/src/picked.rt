@@ -78,13 +78,10 @@ fn is_next(alloc: Global, next: &Next<'_>, look: &str) -> bool {
 }
 
 /// Whether the objects look like these lines, each of one call.
-fn are_next(
-    alloc: Global,
-    objects: &mut Objects<'_, '_>,
-    layout: &Layout<'_>,
-    lines: &str,
-) -> bool {
-    for look in lines.lines() {
+fn are_next(alloc: Global, objects: &mut Objects<'_, '_>, layout: &Layout<'_>, lines: &str) -> bool
+    requires schema { layout_tree layout.now ≡ type_of objects.old }
+{
+    'lines: for look in lines.lines() {
         if !is_next(alloc, &layout.next_with(alloc, objects), look) {
             return false;
         }

@@ -94,6 +94,11 @@ fn picked<'t, 'd>(schema: &'t Schema, datum: &'t Datum<'d>, way: &[i32]) -> Opti
     Some(here.1)
 }
 
+/// A value that was found, as it looks.
+fn found_look(alloc: Global, datum: &Datum<'_>) -> Result<String, AllocError> {
+    format!(in alloc; "Some({datum:?})")
+}
+
 /// What stands on each way, as it looks.
 fn picked_look<'t>(
     alloc: Global,
@@ -101,11 +106,18 @@ fn picked_look<'t>(
     datum: &'t Datum<'_>,
     ways: &[Vec<i32>],
 ) -> Result<String, AllocError> {
-    let mut all = Vec::with_capacity(alloc, ways.len())?;
-    for way in ways {
-        all.push(picked(schema, datum, way))?;
+    let mut all = String::from_str(alloc, "[")?;
+    for (i, way) in ways.iter().enumerate() {
+        if i > 0 {
+            all.push_str(", ")?;
+        }
+        match picked(schema, datum, way) {
+            Some(found) => all.push_str(&found_look(alloc, found)?)?,
+            None => all.push_str("None")?,
+        }
     }
-    format!(in alloc; "{all:?}\n")
+    all.push_str("]\n")?;
+    Ok(all)
 }
 
 /// The looks of what whole objects have on the ways: a line for each call, of which the last is told once more.
