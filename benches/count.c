@@ -4,6 +4,8 @@
 #include <stddef.h>
 #include <stdio.h>
 #include <stdlib.h>
+#include <sys/syscall.h>
+#include <unistd.h>
 
 static long asked;
 
@@ -35,10 +37,14 @@ int posix_memalign(void **at, size_t align, size_t size) {
   return next(at, align, size);
 }
 
-__attribute__((destructor)) static void tell(void) {
+/* The program ends by _exit, which runs no destructor. */
+void _exit(int status) {
   const char *path = getenv("COUNTED");
   FILE *file = path ? fopen(path, "w") : NULL;
-  if (!file) return;
-  fprintf(file, "%ld\n", asked);
-  fclose(file);
+  if (file) {
+    fprintf(file, "%ld\n", asked);
+    fclose(file);
+  }
+  syscall(SYS_exit_group, status);
+  __builtin_unreachable();
 }
