@@ -2,47 +2,49 @@
 use Rattle.std.proofs.Common.{◌≡◌, ℕ, zero, suc, List, [], ◌∷◌, ◌++◌, refl, ap, ◌∙◌, Option, Some, None, option_map}
 use Rattle.std.proofs.Common.{IfSome, is_some, is_none, replicate, get_or, slice_set, length, ◌<◌, sym, arith, subst}
 use Rattle.ice_manifest_reading.specs.declared.entry.Entry.{Entry}
-use Rattle.ice_entries.specs.Kept.{Kept, AreKept, Keeps, entry_at, entries_at}
+use Rattle.ice_entries.specs.Kept.{Kept, AreKept, Keeps as KeepsIn, entry_at, entries_at}
 use Rattle.ice_entries.specs.declared.entries.EntryNumber.{EntryNumber}
+use Rattle.ice_state.specs.declared.ordered.Ordered.{Ordered}
 use Rattle.ice_state.specs.declared.taken.Taken.{Taken}
 use Rattle.ice_state.specs.declared.taken.Taken.TheVariants as taken
 use Rattle.ice_state.specs.Contents.{is_row_taken}
-use Rattle.ice_state.specs.Orders.{IsOrder}
+use Rattle.ice_state.specs.Orders.{AreOrdered, IsOrder}
 use Rattle.ice_state.specs.Readings.{Good}
+use Rattle.ice_state.specs.Segments.{Keeps, Segmented, segment_at}
 use Rattle.ice_state.specs.Slots.{given, HasNumbers, contents, HaveNumbers}
 
 -- ---- entries that stay
 
-pub keeps-refl : (kept : Kept) → Keeps kept kept
-keeps-refl kept = λ n here. (here, refl)
+module _ (old new : Kept) (keeps : KeepsIn old new) where
+  are_kept : (ns : List EntryNumber) → AreKept old ns → AreKept new ns
+  are_kept [] all = tt
+  are_kept (n ∷ ns) all = ((keeps n all.0).0, are_kept ns all.1)
 
-pub keeps-trans : (a b c : Kept) → Keeps a b → Keeps b c → Keeps a c
-keeps-trans a b c first next = λ n here.
-    let one = first n here in
-    let two = next n one.0 in
-    (two.0, two.1 ∙ one.1)
-
-module _ (old new : Kept) (keeps : Keeps old new) where
-  pub are-kept : (ns : List EntryNumber) → AreKept old ns → AreKept new ns
-  are-kept [] all = tt
-  are-kept (n ∷ ns) all = ((keeps n all.0).0, are-kept ns all.1)
-
-  pub entries-kept : (ns : List EntryNumber) → AreKept old ns → entries_at new ns ≡ entries_at old ns
-  entries-kept [] all = refl
-  entries-kept (n ∷ ns) all =
+  entries_kept : (ns : List EntryNumber) → AreKept old ns → entries_at new ns ≡ entries_at old ns
+  entries_kept [] all = refl
+  entries_kept (n ∷ ns) all =
       ap (λ (x : Entry). x ∷ entries_at new ns) ((keeps n all.0).1)
-      ∙ ap (λ (xs : List Entry). entry_at old n ∷ xs) (entries-kept ns all.1)
+      ∙ ap (λ (xs : List Entry). entry_at old n ∷ xs) (entries_kept ns all.1)
 
+  ordered_kept : (ordered : Ordered) → AreOrdered old ordered → AreOrdered new ordered
+  ordered_kept ordered all = record {
+    numbers = are_kept ordered.numbers all.numbers;
+    order = subst (λ (xs : List Entry). IsOrder xs ordered.order) (sym (entries_kept ordered.numbers all.numbers))
+        all.order;
+  }
+
+module _ (old new : Segmented) (keeps : Keeps old new) where
   pub given-kept : (t : Taken) → HasNumbers old t → given new t ≡ given old t
-  given-kept (taken.Good ordered) all = ap Good (entries-kept ordered.numbers all.numbers)
+  given-kept (taken.Good ordered) all = ap Good (entries_kept (segment_at old ordered.segment)
+      (segment_at new ordered.segment) (keeps ordered.segment all.0).1 ordered.numbers all.1.numbers)
   given-kept (taken.Bad fault) all = refl
 
   pub has-kept : (t : Taken) → HasNumbers old t → HasNumbers new t
-  has-kept (taken.Good ordered) all = record {
-    numbers = are-kept ordered.numbers all.numbers;
-    order = subst (λ (xs : List Entry). IsOrder xs ordered.order) (sym (entries-kept ordered.numbers all.numbers))
-        all.order;
-  }
+  has-kept (taken.Good ordered) all = (
+    (keeps ordered.segment all.0).0,
+    ordered_kept (segment_at old ordered.segment)
+        (segment_at new ordered.segment) (keeps ordered.segment all.0).1 ordered all.1,
+  )
   has-kept (taken.Bad fault) all = tt
 
   pub contents-kept : (ss : List (Option Taken)) → HaveNumbers old ss → contents new ss ≡ contents old ss
@@ -59,7 +61,7 @@ module _ (old new : Kept) (keeps : Keeps old new) where
 
 -- ---- a slot
 
-module _ (kept : Kept) where
+module _ (kept : Segmented) where
   pub at-contents : (ss : List (Option Taken)) (i : ℕ) (s : Option Taken) → s ≡ get_or ss i s
       → option_map (given kept) s ≡ get_or (contents kept ss) i (option_map (given kept) s)
   at-contents [] i s h = refl

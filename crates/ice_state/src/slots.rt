@@ -1,20 +1,21 @@
 //! A slot for each wanted row: what its manifest gave, where it was taken.
 
-ghost use Rattle.std.specs.Prelude.{◌≡◌, ◌<◌, ◌≤◌, length, IsTrue, List, ℕ, vec_len};
-ghost use Rattle.ice_entries.specs.Kept.{Kept};
+ghost use Rattle.std.specs.Prelude.{◌≡◌, ◌<◌, ◌≤◌, ◌++◌, ◌^◌, length, IsTrue, List, ℕ, vec_len};
 ghost use Rattle.ice_state.specs.Contents.{is_row_taken, took};
 ghost use Rattle.ice_state.specs.Joins.{join};
 ghost use Rattle.ice_state.specs.Parts.{with_row};
 ghost use Rattle.ice_state.specs.Scans.{Scanned};
+ghost use Rattle.ice_state.specs.Segments.{Segmented};
 ghost use Rattle.ice_state.specs.Slots.{contents, given, HasNumbers, HaveNumbers};
 
+use crate::ordered::Ordered;
 use crate::taken::Taken;
 
 /// Whether the row was taken.
 pub fn is_slot_taken(slots: &[Option<Taken>], i: usize) -> bool
     requires { i < length slots.now }
-    ensures test { (kept : Kept) → result ≡ is_row_taken (contents kept slots.now) i }
-    ensures still { IsTrue result → (kept : Kept) (scan : Scanned) (bytes : List ℕ) →
+    ensures test { (kept : Segmented) → result ≡ is_row_taken (contents kept slots.now) i }
+    ensures still { IsTrue result → (kept : Segmented) (scan : Scanned) (bytes : List ℕ) →
         contents kept slots.now ≡ took scan (contents kept slots.now) i bytes }
 {
     slots[i].is_some()
@@ -24,9 +25,9 @@ pub fn is_slot_taken(slots: &[Option<Taken>], i: usize) -> bool
 pub fn put_row(slots: &mut Vec<Option<Taken>>, i: usize, taken: Taken)
     requires { i < vec_len slots.old }
     ensures len { vec_len slots.new ≡ vec_len slots.old }
-    ensures row { (kept : Kept) →
+    ensures row { (kept : Segmented) →
         contents kept slots.new.items ≡ with_row (contents kept slots.old.items) i (given kept taken) }
-    ensures numbers { (kept : Kept) → HaveNumbers kept slots.old.items → HasNumbers kept taken →
+    ensures numbers { (kept : Segmented) → HaveNumbers kept slots.old.items → HasNumbers kept taken →
         HaveNumbers kept slots.new.items }
 {
     if slots[i].is_none() {
@@ -34,17 +35,35 @@ pub fn put_row(slots: &mut Vec<Option<Taken>>, i: usize, taken: Taken)
     }
 }
 
-/// Adds all that was gained.
-pub fn put_all(slots: &mut Vec<Option<Taken>>, mut gained: Vec<Option<Taken>>)
+/// What a manifest gave, where its segment stands behind so many others. No segment is put where no number is left.
+fn behind(taken: Taken, before: u32) -> Taken
+    ensures { (firsts kept : Segmented) → before ≡ length firsts → length (firsts ++ kept) < 2 ^ 32 →
+        HasNumbers kept taken → HasNumbers (firsts ++ kept) result × (given (firsts ++ kept) result ≡ given kept taken) }
+{
+    match taken {
+        Taken::Good(ordered) => Taken::Good(Ordered {
+            segment: ordered.segment.saturating_add(before),
+            numbers: ordered.numbers,
+            order: ordered.order,
+        }),
+        Taken::Bad(fault) => Taken::Bad(fault),
+    }
+}
+
+/// Adds all that was gained, whose segments stand behind so many others.
+pub fn put_all(slots: &mut Vec<Option<Taken>>, mut gained: Vec<Option<Taken>>, before: u32)
     requires { vec_len gained ≤ vec_len slots.old }
-    ensures rows { (kept : Kept) →
-        contents kept slots.new.items ≡ join (contents kept slots.old.items) (contents kept gained.items) }
-    ensures numbers { (kept : Kept) → HaveNumbers kept slots.old.items → HaveNumbers kept gained.items →
-        HaveNumbers kept slots.new.items }
+    ensures rows { (firsts kept : Segmented) → before ≡ length firsts → length (firsts ++ kept) < 2 ^ 32 →
+        HaveNumbers kept gained.items →
+        contents (firsts ++ kept) slots.new.items
+        ≡ join (contents (firsts ++ kept) slots.old.items) (contents kept gained.items) }
+    ensures numbers { (firsts kept : Segmented) → before ≡ length firsts → length (firsts ++ kept) < 2 ^ 32 →
+        HaveNumbers (firsts ++ kept) slots.old.items → HaveNumbers kept gained.items →
+        HaveNumbers (firsts ++ kept) slots.new.items }
 {
     while let Some(slot) = gained.pop() {
         if let Some(taken) = slot {
-            put_row(slots, gained.len(), taken);
+            put_row(slots, gained.len(), behind(taken, before));
         }
     }
 }

@@ -5,7 +5,8 @@ use Rattle.ice_state.specs.Parts.{gain_of, gains}
 use Rattle.ice_state.specs.Readings.{Reading}
 use Rattle.ice_state.specs.Slots.{contents, given, HaveNumbers}
 use Rattle.ice_state.proofs.Gains.{behind-nothing, gains-step, gains-end}
-use Rattle.ice_state.proofs.SlotContents.{at-contents, contents-kept, have-kept, keeps-trans, last-contents, last-numbers}
+use Rattle.ice_state.proofs.SegmentLists.{keeps-trans}
+use Rattle.ice_state.proofs.SlotContents.{at-contents, contents-kept, have-kept, last-contents, last-numbers}
 use Rattle.ice_state.proofs.SlotContents.{length-contents}
 use Rattle.ice_state.proofs.merging.gained.Goals as goal
 
