@@ -1,5 +1,6 @@
 -- Segments of entries, and what stands in them.
 use Rattle.std.proofs.Common.{◌≡◌, ◌<◌, ◌+◌, ◌++◌, ℕ, zero, suc, List, [], ◌∷◌, refl, ap, ◌∙◌, length, slice_set, arith}
+use Rattle.std.proofs.lemmas.List.{length-append}
 use Rattle.ice_entries.specs.Kept.{Kept, nothing_kept, Keeps as KeepsIn}
 use Rattle.ice_state.specs.Segments.{Segmented, segment_at, Keeps}
 
@@ -28,8 +29,7 @@ segment_first (x ∷ xs) kept zero l = refl
 segment_first (x ∷ xs) kept (suc n) l = segment_first xs kept n (omega arith)
 
 pub length-both : (firsts kept : Segmented) → length (firsts ++ kept) ≡ length firsts + length kept
-length-both [] kept = refl
-length-both (x ∷ xs) kept = ap suc (length-both xs kept)
+length-both firsts kept = length-append firsts kept
 
 pub keeps_firsts : (firsts kept : Segmented) → Keeps firsts (firsts ++ kept)
 keeps_firsts firsts kept = λ n here.
@@ -38,8 +38,12 @@ keeps_firsts firsts kept = λ n here.
 -- those that are put behind so many stand so much further on
 pub segment_behind : (firsts kept : Segmented) (n : ℕ)
     → segment_at (firsts ++ kept) (length firsts + n) ≡ segment_at kept n
-segment_behind [] kept n = refl
-segment_behind (x ∷ xs) kept n = segment_behind xs kept n
+segment_behind [] kept n =
+    let same : 0 + n ≡ n = omega arith in
+    ap (segment_at kept) same
+segment_behind (x ∷ xs) kept n =
+    let one : suc (length xs) + n ≡ suc (length xs + n) = omega arith in
+    ap (segment_at (x ∷ xs ++ kept)) one ∙ segment_behind xs kept n
 
 -- only the first segment changes
 pub keeps_rest : (kept : Segmented) (one : Kept) → KeepsIn (segment_at kept 0) one → Keeps kept (slice_set kept 0 one)

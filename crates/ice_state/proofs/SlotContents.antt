@@ -1,6 +1,6 @@
 -- Slots and their content.
 use Rattle.std.proofs.Common.{◌≡◌, ℕ, zero, suc, List, [], ◌∷◌, ◌++◌, refl, ap, ◌∙◌, Option, Some, None, option_map}
-use Rattle.std.proofs.Common.{IfSome, is_some, is_none, replicate, get_or, slice_set, length, ◌<◌, sym, arith, subst}
+use Rattle.std.proofs.Common.{IfSome, is_some, is_none, replicate, get_or, slice_set, length, ◌<◌, sym, arith, subst, ◌+◌, ◌^◌}
 use Rattle.ice_manifest_reading.specs.declared.entry.Entry.{Entry}
 use Rattle.ice_entries.specs.Kept.{Kept, AreKept, Keeps as KeepsIn, entry_at, entries_at}
 use Rattle.ice_entries.specs.declared.entries.EntryNumber.{EntryNumber}
@@ -10,8 +10,9 @@ use Rattle.ice_state.specs.declared.taken.Taken.TheVariants as taken
 use Rattle.ice_state.specs.Contents.{is_row_taken}
 use Rattle.ice_state.specs.Orders.{AreOrdered, IsOrder}
 use Rattle.ice_state.specs.Readings.{Good}
-use Rattle.ice_state.specs.Segments.{Keeps, Segmented, segment_at}
-use Rattle.ice_state.specs.Slots.{given, HasNumbers, contents, HaveNumbers}
+use Rattle.ice_state.specs.Segments.{AreBefore, Keeps, Segmented, segment_at}
+use Rattle.ice_state.specs.Slots.{given, HasNumbers, contents, HaveNumbers, IsIn}
+use Rattle.ice_state.proofs.SegmentLists.{length-both, segment_behind}
 
 -- ---- entries that stay
 
@@ -130,3 +131,27 @@ module _ (kept : Segmented) where
   but-last-numbers (t ∷ ts) s all =
       let rest = but-last-numbers ts s all.1 in
       ((all.0, rest.0), rest.1)
+
+-- ---- segments that are put behind others
+
+module _ (before : ℕ) (firsts kept : Segmented) (are : AreBefore before firsts kept) where
+  pub behind_at : (n m : ℕ) → m ≡ n + before → segment_at (firsts ++ kept) m ≡ segment_at kept n
+  behind_at n m is =
+      let further : m ≡ length firsts + n = omega (arith, is, are.counted) in
+      ap (segment_at (firsts ++ kept)) further ∙ segment_behind firsts kept n
+
+  pub is_in_behind : (ordered moved : Ordered) → IsIn kept ordered → moved.segment ≡ ordered.segment + before
+      → moved.numbers ≡ ordered.numbers → moved.order ≡ ordered.order → IsIn (firsts ++ kept) moved
+  is_in_behind ordered moved all at numbers order =
+      let within : moved.segment < length (firsts ++ kept) =
+      omega (arith, all.0, at, are.counted, length-both firsts kept) in
+      let one = behind_at ordered.segment moved.segment at in
+      (within, record { numbers = rw (one, numbers) all.1.numbers; order = rw (one, numbers, order) all.1.order })
+
+  pub given_behind : (ordered moved : Ordered) → moved.segment ≡ ordered.segment + before
+      → moved.numbers ≡ ordered.numbers
+      → given (firsts ++ kept) (taken.Good moved) ≡ given kept (taken.Good ordered)
+  given_behind ordered moved at numbers = rw (behind_at ordered.segment moved.segment at, numbers) refl
+
+  pub few_behind : (n : ℕ) → n < length kept → n + before < 2 ^ 32
+  few_behind n l = omega (arith, l, are.counted, are.few, length-both firsts kept)

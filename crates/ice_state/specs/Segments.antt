@@ -1,5 +1,5 @@
 -- Entries that are kept in segments. No public contract cites these words.
-use Rattle.std.specs.Prelude.{ℕ, ◌<◌, List, length, map, slice_index_or}
+use Rattle.std.specs.Prelude.{◌≡◌, ℕ, ◌<◌, ◌++◌, ◌^◌, List, length, map, slice_index_or}
 use Rattle.std.specs.List.{AllByRecursion}
 use Rattle.ice_manifest_reading.specs.declared.entry.Entry.{Entry}
 use Rattle.ice_entries.specs.Kept.{Kept, nothing_kept, IsKept as IsKeptIn, entry_at as entry_in, Keeps as KeepsIn}
@@ -30,3 +30,8 @@ entries_at segments numbers = map (entry_at segments) numbers
 -- each of the old segments stands where it stood, and keeps what it kept by the same numbers
 abbrev pub Keeps : Segmented → Segmented → Type 0
 Keeps old new = (n : ℕ) → n < length old → (n < length new) × KeepsIn (segment_at old n) (segment_at new n)
+
+-- the first segments are so many, and all can be numbered
+pub record AreBefore (before : ℕ) (firsts kept : Segmented) : Type 0 where
+  pub counted : before ≡ length firsts
+  pub few : length (firsts ++ kept) < 2 ^ 32

@@ -21,7 +21,7 @@ use crate::merging::{gained, has_taken_all_of};
 use crate::plan::{OwnedPlan, Plan};
 use crate::scan::Scan;
 use crate::segments::Segments;
-use crate::slots::{is_slot_taken, put_all, put_row};
+use crate::slots::{is_slot_taken, put_all, put_behind, put_row};
 use crate::taken::{Taken, take_manifest};
 use std::alloc::{AllocError, Global};
 use std::marker::Model;
@@ -131,7 +131,7 @@ impl Partial {
             &other.entries,
             &other.slots,
         )?;
-        put_all(&mut self.slots, gained, 0);
+        put_all(&mut self.slots, gained);
         Ok(())
     }
 
@@ -153,7 +153,7 @@ impl Partial {
             return Ok(());
         }
         let before = self.entries.append(other.entries)?;
-        put_all(&mut self.slots, other.slots, before);
+        put_behind(&mut self.slots, other.slots, before);
         Ok(())
     }
 

@@ -1,11 +1,11 @@
 //! A slot for each wanted row: what its manifest gave, where it was taken.
 
-ghost use Rattle.std.specs.Prelude.{◌≡◌, ◌<◌, ◌≤◌, ◌++◌, ◌^◌, length, IsTrue, List, ℕ, vec_len};
+ghost use Rattle.std.specs.Prelude.{◌≡◌, ◌<◌, ◌≤◌, ◌++◌, length, IsTrue, List, ℕ, vec_len};
 ghost use Rattle.ice_state.specs.Contents.{is_row_taken, took};
 ghost use Rattle.ice_state.specs.Joins.{join};
 ghost use Rattle.ice_state.specs.Parts.{with_row};
 ghost use Rattle.ice_state.specs.Scans.{Scanned};
-ghost use Rattle.ice_state.specs.Segments.{Segmented};
+ghost use Rattle.ice_state.specs.Segments.{AreBefore, Segmented};
 ghost use Rattle.ice_state.specs.Slots.{contents, given, HasNumbers, HaveNumbers};
 
 use crate::ordered::Ordered;
@@ -35,10 +35,27 @@ pub fn put_row(slots: &mut Vec<Option<Taken>>, i: usize, taken: Taken)
     }
 }
 
-/// What a manifest gave, where its segment stands behind so many others. No segment is put where no number is left.
+/// Adds all that was gained.
+pub fn put_all(slots: &mut Vec<Option<Taken>>, mut gained: Vec<Option<Taken>>)
+    requires { vec_len gained ≤ vec_len slots.old }
+    ensures rows { (kept : Segmented) →
+        contents kept slots.new.items ≡ join (contents kept slots.old.items) (contents kept gained.items) }
+    ensures numbers { (kept : Segmented) → HaveNumbers kept slots.old.items → HaveNumbers kept gained.items →
+        HaveNumbers kept slots.new.items }
+{
+    while let Some(slot) = gained.pop() {
+        if let Some(taken) = slot {
+            put_row(slots, gained.len(), taken);
+        }
+    }
+}
+
+/// What a manifest gave, where so many segments stand before its own.
 fn behind(taken: Taken, before: u32) -> Taken
-    ensures { (firsts kept : Segmented) → before ≡ length firsts → length (firsts ++ kept) < 2 ^ 32 →
-        HasNumbers kept taken → HasNumbers (firsts ++ kept) result × (given (firsts ++ kept) result ≡ given kept taken) }
+    ensures numbers { (firsts kept : Segmented) → AreBefore before firsts kept → HasNumbers kept taken →
+        HasNumbers (firsts ++ kept) result }
+    ensures given { (firsts kept : Segmented) → AreBefore before firsts kept → HasNumbers kept taken →
+        given (firsts ++ kept) result ≡ given kept taken }
 {
     match taken {
         Taken::Good(ordered) => Taken::Good(Ordered {
@@ -50,16 +67,14 @@ fn behind(taken: Taken, before: u32) -> Taken
     }
 }
 
-/// Adds all that was gained, whose segments stand behind so many others.
-pub fn put_all(slots: &mut Vec<Option<Taken>>, mut gained: Vec<Option<Taken>>, before: u32)
+/// Adds all that was gained in another state, where so many segments stand before its own.
+pub fn put_behind(slots: &mut Vec<Option<Taken>>, mut gained: Vec<Option<Taken>>, before: u32)
     requires { vec_len gained ≤ vec_len slots.old }
-    ensures rows { (firsts kept : Segmented) → before ≡ length firsts → length (firsts ++ kept) < 2 ^ 32 →
-        HaveNumbers kept gained.items →
+    ensures rows { (firsts kept : Segmented) → AreBefore before firsts kept → HaveNumbers kept gained.items →
         contents (firsts ++ kept) slots.new.items
         ≡ join (contents (firsts ++ kept) slots.old.items) (contents kept gained.items) }
-    ensures numbers { (firsts kept : Segmented) → before ≡ length firsts → length (firsts ++ kept) < 2 ^ 32 →
-        HaveNumbers (firsts ++ kept) slots.old.items → HaveNumbers kept gained.items →
-        HaveNumbers (firsts ++ kept) slots.new.items }
+    ensures numbers { (firsts kept : Segmented) → AreBefore before firsts kept → HaveNumbers kept gained.items →
+        HaveNumbers (firsts ++ kept) slots.old.items → HaveNumbers (firsts ++ kept) slots.new.items }
 {
     while let Some(slot) = gained.pop() {
         if let Some(taken) = slot {
