@@ -34,6 +34,15 @@ module _ (old new : Kept) (keeps : KeepsIn old new) where
         all.order;
   }
 
+-- the same entries by other numbers
+pub ordered_alike : (old new : Kept) (ordered moved : Ordered) (numbers : List EntryNumber) → AreOrdered old ordered
+    → AreKept new numbers → entries_at new numbers ≡ entries_at old ordered.numbers → moved.numbers ≡ numbers
+    → moved.order ≡ ordered.order → AreOrdered new moved
+ordered_alike old new ordered moved numbers all kept same is order = record {
+  numbers = subst (AreKept new) (sym is) kept;
+  order = rw (is, same, order) all.order;
+}
+
 module _ (old new : Segmented) (keeps : Keeps old new) where
   pub given-kept : (t : Taken) → HasNumbers old t → given new t ≡ given old t
   given-kept (taken.Good ordered) all = ap Good (entries_kept (segment_at old ordered.segment)

@@ -93,6 +93,7 @@ impl Segments {
     ) -> Result<Vec<EntryNumber>, AllocError>
         requires { AreKeptIn others.now numbers.now }
 
+        ensures some { 0 < length self.new }
         ensures keeps { Keeps self.old self.new }
         ensures kept { IfOk result (λ added. AreKeptIn (segment_at self.new 0) added.items) }
         ensures ok { IfOk result (λ added. entries_in (segment_at self.new 0) added.items
@@ -122,10 +123,18 @@ impl Segments {
     pub(crate) fn copy(&self, alloc: Global) -> Result<Segments, AllocError>
         ensures { IfOk result (λ copied. copied ≡ self.now) }
     {
-        let mut list = Vec::with_capacity(alloc, self.list.len())?;
-        'segments: for segment in &self.list {
-            list.push(segment.copy(alloc)?)?;
-        }
-        Ok(Segments { list })
+        Ok(Segments {
+            list: copied_segments(alloc, &self.list)?,
+        })
     }
+}
+
+fn copied_segments(alloc: Global, segments: &[Entries]) -> Result<Vec<Entries>, AllocError>
+    ensures { IfOk result (λ copied. copied.items ≡ segments.now) }
+{
+    let mut copied = Vec::with_capacity(alloc, segments.len())?;
+    'segments: for segment in segments {
+        copied.push(segment.copy(alloc)?)?;
+    }
+    Ok(copied)
 }

@@ -27,7 +27,7 @@ order-preserved c =
       named = λ all.
           named_more kept segment numbers places i (Record 0) c.order.found.items c.push.new.self.items x more
           c.requires.0 c.requires.1.numbers c.requires.1.order.within refl at
-          (c.path.ensures ∙ ap (λ one. (entry_in one x.number.number).file.path) c.segment.ensures)
+          (c.path.ensures ∙ ap (λ one. (entry_in one x.number.number).file.path) c.segment-segment.ensures)
           c.in_ok-push.ensures.items
           (c.order.invariant.named all);
       pushed =

@@ -48,6 +48,14 @@ loop-i-preserved c =
           ∙ ap (λ (x : Content). contents was before ++ x) (sym step) ∙ c.loop-i.invariant.gained kept);
     }
 
+pub returns-in_err-gain-clause-keeps : goal.returns-in_err-gain-clause-keeps
+returns-in_err-gain-clause-keeps c =
+    keeps-trans c.args.entries.now c.loop-i.entries c.gain.new.entries c.loop-i.invariant.keeps c.gain.ensures.keeps
+
+pub returns-in_err-push-clause-keeps : goal.returns-in_err-push-clause-keeps
+returns-in_err-push-clause-keeps c =
+    keeps-trans c.args.entries.now c.loop-i.entries c.gain.new.entries c.loop-i.invariant.keeps c.gain.ensures.keeps
+
 pub returns-clause-gained : goal.returns-clause-gained
 returns-clause-gained c = λ kept.
     let slots = c.args.slots.now in
