@@ -136,6 +136,7 @@ impl Partial {
     }
 
     /// The same as `merge`, of a state that nobody needs any more: its entries stay where they are, and none is copied.
+    /// Those of rows that were taken here too stay with them.
     pub fn absorb(&mut self, other: Partial) -> Result<(), AllocError>
         requires { length self.old ≡ length other }
 
