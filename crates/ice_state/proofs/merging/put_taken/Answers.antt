@@ -1,4 +1,4 @@
-use Rattle.std.proofs.Common.{rules, ◌≡◌, ◌∙◌, ap, subst, sym}
+use Rattle.std.proofs.Common.{rules, ◌≡◌, ◌∙◌, ap, subst}
 use Rattle.ice_entries.specs.Kept.{Kept, entries_at}
 use Rattle.ice_state.specs.Slots.{HasNumbers, IsIn}
 use Rattle.ice_state.proofs.SlotContents.{ordered_alike}

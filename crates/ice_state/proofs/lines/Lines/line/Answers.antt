@@ -1,4 +1,4 @@
-use Rattle.std.proofs.Common.{◌<◌, ◌∙◌, arith, sym, ap, length, List}
+use Rattle.std.proofs.Common.{◌∙◌, arith, sym, ap, length, List}
 use Rattle.std.specs.List.{slice_get}
 use Rattle.ice_state.specs.Segments.{entry_at}
 use Rattle.ice_state.specs.Lines.{OwnedLine, entries_of}
