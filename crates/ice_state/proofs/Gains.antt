@@ -1,12 +1,12 @@
 -- What a merge adds.
 use Rattle.std.proofs.Common.{◌≡◌, ◌<◌, ◌≤◌, ℕ, zero, suc, List, [], ◌∷◌, ◌++◌, refl, sym, ap, ◌∙◌, Bool, true, false}
-use Rattle.std.proofs.Common.{length, get_or, drop, arith, Option, Some, None, is_some, ◌&&◌}
+use Rattle.std.proofs.Common.{length, get_or, drop, arith, Option, Some, None}
 use Rattle.ice_state.specs.Readings.{Reading}
 use Rattle.ice_state.specs.Contents.{Content, World, content, or_else}
-use Rattle.ice_state.specs.Joins.{join, either, Agree, IsNoGain, TookAllOf}
-use Rattle.ice_state.specs.Parts.{with_row, gain_of, gains, is_gain, IsApart, AreApart}
+use Rattle.ice_state.specs.Joins.{join, either, IsNoGain, TookAllOf}
+use Rattle.ice_state.specs.Parts.{with_row, gain_of, gains, is_gain}
 use Rattle.ice_state.specs.Scans.{Scanned}
-use Rattle.ice_state.proofs.Joins.{join-comm, join-content}
+use Rattle.ice_state.proofs.Joins.{join-content}
 
 pub join-nil : (cs : Content) → join cs [] ≡ cs
 join-nil [] = refl
@@ -134,35 +134,3 @@ all-end [] ds zero l = tt
 all-end [] ds (suc i) l = tt
 all-end (c ∷ cs) ds zero l = absurd (omega arith)
 all-end (c ∷ cs) ds (suc i) l = all-end cs ds i (omega arith)
-
--- ---- states that took different rows
-
-apart_here : (c d : Option Reading) → (is_some c && is_some d) ≡ false → IsApart c d
-apart_here None d h = tt
-apart_here (Some r) None h = tt
-apart_here (Some r) (Some q) h = cc
-
-pub apart-step : (cs ds : Content) (i : ℕ) (c d : Option Reading) → i < length cs → i < length ds → c ≡ get_or cs i c
-    → d ≡ get_or ds i d → (is_some c && is_some d) ≡ false → AreApart (drop (suc i) cs) (drop (suc i) ds)
-    → AreApart (drop i cs) (drop i ds)
-apart-step [] ds i c d l m h k apart rest = absurd (omega arith)
-apart-step (x ∷ xs) [] i c d l m h k apart rest = absurd (omega arith)
-apart-step (x ∷ xs) (y ∷ ys) zero c d l m h k apart rest = (apart_here x y (rw (← h, ← k) apart), rest)
-apart-step (x ∷ xs) (y ∷ ys) (suc i) c d l m h k apart rest = apart-step xs ys i c d (omega arith) (omega arith) h k apart rest
-
-pub apart-end : (cs ds : Content) (i : ℕ) → length cs ≤ i → AreApart (drop i cs) ds
-apart-end [] ds zero l = tt
-apart-end [] ds (suc i) l = tt
-apart-end (c ∷ cs) ds zero l = absurd (omega arith)
-apart-end (c ∷ cs) ds (suc i) l = apart-end cs ds i (omega arith)
-
-agree_apart : (cs ds : Content) → AreApart cs ds → Agree cs ds
-agree_apart [] ds h = tt
-agree_apart (c ∷ cs) [] h = tt
-agree_apart (None ∷ cs) (d ∷ ds) h = (tt, agree_apart cs ds h.1)
-agree_apart (Some r ∷ cs) (None ∷ ds) h = (tt, agree_apart cs ds h.1)
-agree_apart (Some r ∷ cs) (Some q ∷ ds) h = absurd h.0
-
--- so it doesn't matter which is merged into which
-pub join-apart : (cs ds : Content) → AreApart cs ds → join ds cs ≡ join cs ds
-join-apart cs ds h = sym (join-comm cs ds (agree_apart cs ds h))

@@ -20,6 +20,7 @@ pub mod Pruned
 pub mod Runs
 pub mod Scanning
 pub mod Scans
+pub mod SegmentLists
 pub mod Sharing
 pub mod SlotContents
 pub mod Snapshots

@@ -1,11 +1,11 @@
 -- Plans by numbers.
 use Rattle.std.proofs.Common.{◌≡◌, refl}
-use Rattle.ice_entries.specs.Kept.{Kept}
+use Rattle.ice_state.specs.Segments.{Segmented}
 use Rattle.ice_state.specs.declared.plan.NumberedPlan.{NumberedPlan}
 use Rattle.ice_state.specs.Lines.{lines_of, IsPlanned}
 
 -- the same numbers are planned alike
-module _ (kept : Kept) (p q : NumberedPlan) (files : q.files.items ≡ p.files.items)
+module _ (kept : Segmented) (p q : NumberedPlan) (files : q.files.items ≡ p.files.items)
     (deletes : q.deletes.items ≡ p.deletes.items) (places : q.places ≡ p.places) where
   pub planned_alike : IsPlanned kept p → IsPlanned kept q
   planned_alike is = record {

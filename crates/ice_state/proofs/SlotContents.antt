@@ -1,48 +1,60 @@
 -- Slots and their content.
 use Rattle.std.proofs.Common.{◌≡◌, ℕ, zero, suc, List, [], ◌∷◌, ◌++◌, refl, ap, ◌∙◌, Option, Some, None, option_map}
-use Rattle.std.proofs.Common.{IfSome, is_some, is_none, replicate, get_or, slice_set, length, ◌<◌, sym, arith, subst}
+use Rattle.std.proofs.Common.{IfSome, is_some, is_none, replicate, get_or, slice_set, length, ◌<◌, sym, arith, subst, ◌+◌, ◌^◌}
 use Rattle.ice_manifest_reading.specs.declared.entry.Entry.{Entry}
-use Rattle.ice_entries.specs.Kept.{Kept, AreKept, Keeps, entry_at, entries_at}
+use Rattle.ice_entries.specs.Kept.{Kept, AreKept, Keeps as KeepsIn, entry_at, entries_at}
 use Rattle.ice_entries.specs.declared.entries.EntryNumber.{EntryNumber}
+use Rattle.ice_state.specs.declared.ordered.Ordered.{Ordered}
 use Rattle.ice_state.specs.declared.taken.Taken.{Taken}
 use Rattle.ice_state.specs.declared.taken.Taken.TheVariants as taken
 use Rattle.ice_state.specs.Contents.{is_row_taken}
-use Rattle.ice_state.specs.Orders.{IsOrder}
+use Rattle.ice_state.specs.Orders.{AreOrdered, IsOrder}
 use Rattle.ice_state.specs.Readings.{Good}
-use Rattle.ice_state.specs.Slots.{given, HasNumbers, contents, HaveNumbers}
+use Rattle.ice_state.specs.Segments.{AreBefore, Keeps, Segmented, segment_at}
+use Rattle.ice_state.specs.Slots.{given, HasNumbers, contents, HaveNumbers, IsIn}
+use Rattle.ice_state.proofs.SegmentLists.{length-both, segment_behind}
 
 -- ---- entries that stay
 
-pub keeps-refl : (kept : Kept) → Keeps kept kept
-keeps-refl kept = λ n here. (here, refl)
+module _ (old new : Kept) (keeps : KeepsIn old new) where
+  are_kept : (ns : List EntryNumber) → AreKept old ns → AreKept new ns
+  are_kept [] all = tt
+  are_kept (n ∷ ns) all = ((keeps n all.0).0, are_kept ns all.1)
 
-pub keeps-trans : (a b c : Kept) → Keeps a b → Keeps b c → Keeps a c
-keeps-trans a b c first next = λ n here.
-    let one = first n here in
-    let two = next n one.0 in
-    (two.0, two.1 ∙ one.1)
-
-module _ (old new : Kept) (keeps : Keeps old new) where
-  pub are-kept : (ns : List EntryNumber) → AreKept old ns → AreKept new ns
-  are-kept [] all = tt
-  are-kept (n ∷ ns) all = ((keeps n all.0).0, are-kept ns all.1)
-
-  pub entries-kept : (ns : List EntryNumber) → AreKept old ns → entries_at new ns ≡ entries_at old ns
-  entries-kept [] all = refl
-  entries-kept (n ∷ ns) all =
+  entries_kept : (ns : List EntryNumber) → AreKept old ns → entries_at new ns ≡ entries_at old ns
+  entries_kept [] all = refl
+  entries_kept (n ∷ ns) all =
       ap (λ (x : Entry). x ∷ entries_at new ns) ((keeps n all.0).1)
-      ∙ ap (λ (xs : List Entry). entry_at old n ∷ xs) (entries-kept ns all.1)
+      ∙ ap (λ (xs : List Entry). entry_at old n ∷ xs) (entries_kept ns all.1)
 
+  ordered_kept : (ordered : Ordered) → AreOrdered old ordered → AreOrdered new ordered
+  ordered_kept ordered all = record {
+    numbers = are_kept ordered.numbers all.numbers;
+    order = subst (λ (xs : List Entry). IsOrder xs ordered.order) (sym (entries_kept ordered.numbers all.numbers))
+        all.order;
+  }
+
+-- the same entries by other numbers
+pub ordered_alike : (old new : Kept) (ordered moved : Ordered) (numbers : List EntryNumber) → AreOrdered old ordered
+    → AreKept new numbers → entries_at new numbers ≡ entries_at old ordered.numbers → moved.numbers ≡ numbers
+    → moved.order ≡ ordered.order → AreOrdered new moved
+ordered_alike old new ordered moved numbers all kept same is order = record {
+  numbers = subst (AreKept new) (sym is) kept;
+  order = rw (is, same, order) all.order;
+}
+
+module _ (old new : Segmented) (keeps : Keeps old new) where
   pub given-kept : (t : Taken) → HasNumbers old t → given new t ≡ given old t
-  given-kept (taken.Good ordered) all = ap Good (entries-kept ordered.numbers all.numbers)
+  given-kept (taken.Good ordered) all = ap Good (entries_kept (segment_at old ordered.segment)
+      (segment_at new ordered.segment) (keeps ordered.segment all.0).1 ordered.numbers all.1.numbers)
   given-kept (taken.Bad fault) all = refl
 
   pub has-kept : (t : Taken) → HasNumbers old t → HasNumbers new t
-  has-kept (taken.Good ordered) all = record {
-    numbers = are-kept ordered.numbers all.numbers;
-    order = subst (λ (xs : List Entry). IsOrder xs ordered.order) (sym (entries-kept ordered.numbers all.numbers))
-        all.order;
-  }
+  has-kept (taken.Good ordered) all = (
+    (keeps ordered.segment all.0).0,
+    ordered_kept (segment_at old ordered.segment)
+        (segment_at new ordered.segment) (keeps ordered.segment all.0).1 ordered all.1,
+  )
   has-kept (taken.Bad fault) all = tt
 
   pub contents-kept : (ss : List (Option Taken)) → HaveNumbers old ss → contents new ss ≡ contents old ss
@@ -59,7 +71,7 @@ module _ (old new : Kept) (keeps : Keeps old new) where
 
 -- ---- a slot
 
-module _ (kept : Kept) where
+module _ (kept : Segmented) where
   pub at-contents : (ss : List (Option Taken)) (i : ℕ) (s : Option Taken) → s ≡ get_or ss i s
       → option_map (given kept) s ≡ get_or (contents kept ss) i (option_map (given kept) s)
   at-contents [] i s h = refl
@@ -128,3 +140,27 @@ module _ (kept : Kept) where
   but-last-numbers (t ∷ ts) s all =
       let rest = but-last-numbers ts s all.1 in
       ((all.0, rest.0), rest.1)
+
+-- ---- segments that are put behind others
+
+module _ (before : ℕ) (firsts kept : Segmented) (are : AreBefore before firsts kept) where
+  pub behind_at : (n m : ℕ) → m ≡ n + before → segment_at (firsts ++ kept) m ≡ segment_at kept n
+  behind_at n m is =
+      let further : m ≡ length firsts + n = omega (arith, is, are.counted) in
+      ap (segment_at (firsts ++ kept)) further ∙ segment_behind firsts kept n
+
+  pub is_in_behind : (ordered moved : Ordered) → IsIn kept ordered → moved.segment ≡ ordered.segment + before
+      → moved.numbers ≡ ordered.numbers → moved.order ≡ ordered.order → IsIn (firsts ++ kept) moved
+  is_in_behind ordered moved all at numbers order =
+      let within : moved.segment < length (firsts ++ kept) =
+      omega (arith, all.0, at, are.counted, length-both firsts kept) in
+      let one = behind_at ordered.segment moved.segment at in
+      (within, record { numbers = rw (one, numbers) all.1.numbers; order = rw (one, numbers, order) all.1.order })
+
+  pub given_behind : (ordered moved : Ordered) → moved.segment ≡ ordered.segment + before
+      → moved.numbers ≡ ordered.numbers
+      → given (firsts ++ kept) (taken.Good moved) ≡ given kept (taken.Good ordered)
+  given_behind ordered moved at numbers = rw (behind_at ordered.segment moved.segment at, numbers) refl
+
+  pub few_behind : (n : ℕ) → n < length kept → n + before < 2 ^ 32
+  few_behind n l = omega (arith, l, are.counted, are.few, length-both firsts kept)

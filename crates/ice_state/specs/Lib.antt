@@ -13,6 +13,7 @@ pub mod Pruning
 pub mod Readings
 pub mod Runs
 pub mod Scans
+pub mod Segments
 pub mod Shares
 pub mod Slots
 pub mod Snapshots

@@ -2,10 +2,10 @@
 use Rattle.std.specs.Prelude.{◌≡◌, ℕ, ◌<◌, zero, suc, List, [], ◌∷◌, length}
 use Rattle.std.specs.List.{flat_map, AllByRecursion}
 use Rattle.ice_manifest_reading.specs.declared.entry.Entry.{Entry}
-use Rattle.ice_entries.specs.Kept.{Kept, AreKept, entries_at as kept_at}
 use Rattle.ice_state.specs.declared.lines.Files.{Files}
 use Rattle.ice_state.specs.PlaceLists.{LinePlaces}
 use Rattle.ice_state.specs.declared.plan.NumberedPlan.{NumberedPlan}
+use Rattle.ice_state.specs.Segments.{Segmented, AreKept, entries_at as kept_at}
 
 -- a data file, and by path the position delete files and the equality delete files that apply to it
 pub record OwnedLine : Type 0 where
@@ -56,10 +56,10 @@ pub record AreLinesOf (files deletes : List Entry) (places : List LinePlaces) : 
   pub within : AllByRecursion (IsLineWithin (length deletes)) places
 
 -- the lines of a plan by numbers
-abbrev pub lines_of : Kept → NumberedPlan → List OwnedLine
+abbrev pub lines_of : Segmented → NumberedPlan → List OwnedLine
 lines_of kept plan = lines_at (kept_at kept plan.deletes.items) (kept_at kept plan.files.items) plan.places
 
-pub record IsPlanned (kept : Kept) (plan : NumberedPlan) : Type 0 where
+pub record IsPlanned (kept : Segmented) (plan : NumberedPlan) : Type 0 where
   pub files : AreKept kept plan.files.items
   pub deletes : AreKept kept plan.deletes.items
   pub lines : AreLinesOf (kept_at kept plan.files.items) (kept_at kept plan.deletes.items) plan.places

@@ -5,14 +5,14 @@ ghost use Rattle.std.specs.List.Sorted.{IsPermutation};
 ghost use Rattle.ice_value.specs.declared.file_content.FileContent.TheVariants.{PositionDeletes, EqualityDeletes};
 ghost use Rattle.ice_deletes.specs.Found.{lent, AppliesAt};
 ghost use Rattle.ice_deletes.specs.Keys.{key_of as record_key};
-ghost use Rattle.ice_entries.specs.Kept.{AreKept, entries_at};
 ghost use Rattle.ice_manifest_reading.specs.Lending.{lent as lent_entry};
 ghost use Rattle.ice_state.specs.Applying.{data_key_of, delete_key_of};
 ghost use Rattle.ice_state.specs.Parts.{places_of, numbers_of};
+ghost use Rattle.ice_state.specs.Segments.{AreKept, entries_at};
 
 use crate::places::PlaceTable;
+use crate::segments::{FileNumber, Segments};
 use ice_deletes::{DeleteIndex, Hits, Record};
-use ice_entries::{Entries, EntryNumber};
 use ice_manifest_reading::LentEntry;
 use std::alloc::{AllocError, Global};
 
@@ -33,8 +33,8 @@ fn record<'a>(d: &LentEntry<'a>) -> Record<'a>
 /// What the index is told of the delete files, each at its place.
 pub fn records<'a>(
     alloc: Global,
-    entries: &'a Entries,
-    deletes: &[EntryNumber],
+    entries: &'a Segments,
+    deletes: &[FileNumber],
 ) -> Result<Vec<Record<'a>>, AllocError>
     requires { AreKept entries.now deletes.now }
     ensures { IfOk result (λ records. map record_key records.items

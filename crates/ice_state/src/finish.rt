@@ -5,26 +5,27 @@ ghost use Rattle.std.specs.Prelude.{option_map};
 ghost use Rattle.std.specs.List.{enumerate_from};
 ghost use Rattle.std.specs.Option.{option_copied};
 ghost use Rattle.contract_words.specs.Outcome.{Gives};
-ghost use Rattle.ice_entries.specs.Kept.{Kept, AreKept, entries_at};
+ghost use Rattle.ice_entries.specs.Kept.{entries_at as entries_in};
 ghost use Rattle.ice_value.specs.declared.file_content.FileContent.TheVariants.{Data};
 ghost use Rattle.ice_state.specs.Applying.{data_key_of, delete_key_of};
 ghost use Rattle.ice_state.specs.Lines.{lines_of, IsPlanned};
 ghost use Rattle.ice_state.specs.Named.{entry_named, IsNamed, AreNamed, entries_named};
-ghost use Rattle.ice_state.specs.Orders.{AreOrdered, runs_in};
+ghost use Rattle.ice_state.specs.Orders.{runs_in};
 ghost use Rattle.ice_state.specs.Outcomes.{missing, bad, twice, by_path, plan_over, outcome_of};
 ghost use Rattle.ice_state.specs.Parts.{fault_of, Stops, holds_deletes, places_of};
 ghost use Rattle.ice_state.specs.Pruning.{holds};
-ghost use Rattle.ice_state.specs.Slots.{contents, given, HaveNumbers};
+ghost use Rattle.ice_state.specs.Segments.{AreKept, entries_at, segment_at, Segmented};
+ghost use Rattle.ice_state.specs.Slots.{contents, given, HaveNumbers, IsIn};
 
 use crate::deletes::{push_places, records};
 use crate::fault::FinishFault;
 use crate::ordered::Ordered;
 use crate::places::PlaceTable;
 use crate::plan::NumberedPlan;
+use crate::segments::{FileNumber, Segments};
 use crate::taken::Taken;
 use contract_words::Items;
 use ice_deletes::DeleteIndex;
-use ice_entries::{Entries, EntryNumber};
 use ice_manifest_reading::{ManifestFault, Row};
 use ice_value::FileContent;
 use std::alloc::{AllocError, Global};
@@ -32,7 +33,7 @@ use std::alloc::{AllocError, Global};
 /// Stops at the first row that wasn't taken.
 fn check_taken(alloc: Global, rows: &[Row], slots: &[Option<Taken>]) -> Result<(), FinishFault>
     requires { length rows.now ≡ length slots.now }
-    ensures { (kept : Kept) → MatchResult result (λ _. missing rows.now (contents kept slots.now) ≡ [])
+    ensures { (kept : Segmented) → MatchResult result (λ _. missing rows.now (contents kept slots.now) ≡ [])
         (λ f. Stops f (missing rows.now (contents kept slots.now))) }
 {
     for i in 0..rows.len() {
@@ -45,7 +46,7 @@ fn check_taken(alloc: Global, rows: &[Row], slots: &[Option<Taken>]) -> Result<(
 
 /// The fault of a bad manifest.
 fn fault_in(slot: &Option<Taken>) -> Option<&ManifestFault>
-    ensures { (kept : Kept) → option_copied result ≡ fault_of (option_map (given kept) slot.now) }
+    ensures { (kept : Segmented) → option_copied result ≡ fault_of (option_map (given kept) slot.now) }
 {
     match slot {
         Some(Taken::Bad(fault)) => Some(fault),
@@ -56,7 +57,7 @@ fn fault_in(slot: &Option<Taken>) -> Option<&ManifestFault>
 /// Stops at the first bad row.
 fn check_good(alloc: Global, rows: &[Row], slots: &[Option<Taken>]) -> Result<(), FinishFault>
     requires { length rows.now ≡ length slots.now }
-    ensures { (kept : Kept) → MatchResult result (λ _. bad rows.now (contents kept slots.now) ≡ [])
+    ensures { (kept : Segmented) → MatchResult result (λ _. bad rows.now (contents kept slots.now) ≡ [])
         (λ f. Stops f (bad rows.now (contents kept slots.now))) }
 {
     for i in 0..rows.len() {
@@ -71,11 +72,11 @@ fn check_good(alloc: Global, rows: &[Row], slots: &[Option<Taken>]) -> Result<()
 #[derive(Clone, Copy, Debug, Drop)]
 struct Named<'a> {
     path: &'a [u8],
-    number: EntryNumber,
+    number: FileNumber,
 }
 
 /// Stops at the first path that two neighbours share.
-fn check_once(alloc: Global, entries: &Entries, named: &[Named<'_>]) -> Result<(), FinishFault>
+fn check_once(alloc: Global, entries: &Segments, named: &[Named<'_>]) -> Result<(), FinishFault>
     requires { AreNamed entries.now named.now }
     ensures { MatchResult result (λ _. twice (entries_named entries.now named.now) ≡ [])
         (λ f. Stops f (twice (entries_named entries.now named.now))) }
@@ -92,20 +93,25 @@ fn check_once(alloc: Global, entries: &Entries, named: &[Named<'_>]) -> Result<(
 /// Puts kept entries last, by path.
 fn push_named<'a>(
     found: &mut Vec<Named<'a>>,
-    entries: &'a Entries,
+    entries: &'a Segments,
     ordered: &Ordered,
 ) -> Result<(), AllocError>
-    requires { AreOrdered entries.now ordered.now }
+    requires { IsIn entries.now ordered.now }
     ensures named { AreNamed entries.now found.old.items → AreNamed entries.now found.new.items }
     ensures pushed { OnOk result (entries_named entries.now found.new.items
-        ≡ entries_named entries.now found.old.items ++ by_path (entries_at entries.now ordered.now.numbers)) }
+        ≡ entries_named entries.now found.old.items
+        ++ by_path (entries_in (segment_at entries.now ordered.now.segment) ordered.now.numbers)) }
 {
+    let segment = entries.segment(ordered.segment);
     let numbers = ordered.numbers.as_slice();
     'order: for place in ordered.order.as_slice() {
         let number = numbers[*place as usize];
         found.push(Named {
-            path: entries.path(number),
-            number,
+            path: segment.path(number),
+            number: FileNumber {
+                segment: ordered.segment,
+                number,
+            },
         })?;
     }
     Ok(())
@@ -125,7 +131,7 @@ fn count(slots: &[Option<Taken>]) -> usize {
 /// The kept entries, row by row, those of each row by path: what is left is to merge them.
 fn gathered<'a>(
     alloc: Global,
-    entries: &'a Entries,
+    entries: &'a Segments,
     slots: &[Option<Taken>],
 ) -> Result<Vec<Named<'a>>, AllocError>
     requires { HaveNumbers entries.now slots.now }
@@ -144,8 +150,8 @@ fn gathered<'a>(
 
 /// Puts entries in the order of their paths.
 fn sort_by_path(named: &mut Vec<Named<'_>>) -> Result<(), AllocError>
-    ensures named { (kept : Kept) → AreNamed kept named.old.items → AreNamed kept named.new.items }
-    ensures sorted { (kept : Kept) → AreNamed kept named.old.items →
+    ensures named { (kept : Segmented) → AreNamed kept named.old.items → AreNamed kept named.new.items }
+    ensures sorted { (kept : Segmented) → AreNamed kept named.old.items →
         OnOk result (entries_named kept named.new.items ≡ by_path (entries_named kept named.old.items)) }
 {
     named.sort_by(|a, b| a.path.cmp(b.path))?;
@@ -155,10 +161,10 @@ fn sort_by_path(named: &mut Vec<Named<'_>>) -> Result<(), AllocError>
 /// Those of the entries whose files hold data: all but so many.
 fn data_files(
     alloc: Global,
-    entries: &Entries,
+    entries: &Segments,
     named: &[Named<'_>],
     others: usize,
-) -> Result<Vec<EntryNumber>, AllocError>
+) -> Result<Vec<FileNumber>, AllocError>
     requires { AreNamed entries.now named.now }
     ensures kept { IfOk result (λ found. AreKept entries.now found.items) }
     ensures all { IfOk result (λ found. entries_at entries.now found.items
@@ -176,9 +182,9 @@ fn data_files(
 /// Those of the entries whose files hold deletes.
 fn delete_files(
     alloc: Global,
-    entries: &Entries,
+    entries: &Segments,
     named: &[Named<'_>],
-) -> Result<Vec<EntryNumber>, AllocError>
+) -> Result<Vec<FileNumber>, AllocError>
     requires { AreNamed entries.now named.now }
     ensures kept { IfOk result (λ found. AreKept entries.now found.items) }
     ensures all { IfOk result (λ found. entries_at entries.now found.items
@@ -196,9 +202,9 @@ fn delete_files(
 /// The places of the delete files that apply, for each of the data files.
 fn lines(
     alloc: Global,
-    entries: &Entries,
-    files: &[EntryNumber],
-    deletes: &[EntryNumber],
+    entries: &Segments,
+    files: &[FileNumber],
+    deletes: &[FileNumber],
 ) -> Result<PlaceTable, AllocError>
     requires files { AreKept entries.now files.now }
     requires deletes { AreKept entries.now deletes.now }
@@ -214,8 +220,8 @@ fn lines(
 /// The places of the delete files of the index that apply, for each of the data files.
 fn looked_up(
     alloc: Global,
-    entries: &Entries,
-    files: &[EntryNumber],
+    entries: &Segments,
+    files: &[FileNumber],
     index: &DeleteIndex,
 ) -> Result<PlaceTable, AllocError>
     requires { AreKept entries.now files.now }
@@ -232,7 +238,7 @@ fn looked_up(
 /// A line for each data file.
 fn planned(
     alloc: Global,
-    entries: &Entries,
+    entries: &Segments,
     named: Vec<Named<'_>>,
 ) -> Result<NumberedPlan, AllocError>
     requires { AreNamed entries.now named.items }
@@ -256,7 +262,7 @@ fn planned(
 pub fn plan_or_fault(
     alloc: Global,
     rows: &[Row],
-    entries: &Entries,
+    entries: &Segments,
     slots: &[Option<Taken>],
 ) -> Result<NumberedPlan, FinishFault>
     requires each { length rows.now ≡ length slots.now }

@@ -3,7 +3,7 @@
 ghost use Rattle.std.specs.Prelude.{◌≡◌, IfOk};
 
 use crate::plan::{NumberedPlan, OwnedPlan, Plan};
-use ice_entries::EntryNumber;
+use crate::segments::FileNumber;
 use std::alloc::{AllocError, Global};
 
 impl<'a> Plan<'a> {
@@ -33,7 +33,7 @@ impl NumberedPlan {
     }
 }
 
-fn copied_entries(alloc: Global, numbers: &[EntryNumber]) -> Result<Vec<EntryNumber>, AllocError>
+fn copied_entries(alloc: Global, numbers: &[FileNumber]) -> Result<Vec<FileNumber>, AllocError>
     ensures { IfOk result (λ copied. copied.items ≡ numbers.now) }
 {
     numbers.to_vec(alloc)

@@ -14,6 +14,7 @@ mod places;
 mod plan;
 mod pruning;
 mod scan;
+mod segments;
 mod slots;
 mod taken;
 

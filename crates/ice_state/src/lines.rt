@@ -1,11 +1,11 @@
 //! The lines of a plan as they are lent: whoever owns the entries, callers see the same.
 
 ghost use Rattle.std.specs.Prelude.{◌≡◌, ◌<◌, ◌^◌, length, Some, slice_get};
-ghost use Rattle.ice_entries.specs.Kept.{IsKept, entry_at};
+ghost use Rattle.ice_state.specs.Segments.{IsKept, entry_at};
 ghost use Rattle.ice_manifest_reading.specs.Lending.{lent};
 
 use crate::places::PlaceTable;
-use ice_entries::{Entries, EntryNumber};
+use crate::segments::{FileNumber, Segments};
 use ice_manifest_reading::LentEntry;
 use ice_value::SequenceNumber;
 use std::marker::Model;
@@ -13,15 +13,15 @@ use std::marker::Model;
 /// Files of a plan, by the numbers of their entries.
 #[derive(Clone, Copy, Debug)]
 pub(crate) struct Files<'a> {
-    pub(crate) entries: &'a Entries,
-    pub(crate) numbers: &'a [EntryNumber],
+    pub(crate) entries: &'a Segments,
+    pub(crate) numbers: &'a [FileNumber],
 }
 
 impl<'a> Files<'a> {
     ghost use Rattle.ice_state.specs.Lines.{entries_of, AreFiles};
 
     /// The number of the entry at a place.
-    fn number(&self, i: usize) -> EntryNumber
+    fn number(&self, i: usize) -> FileNumber
         requires kept { AreFiles self.now }
         requires within { i < length (entries_of self.now) }
         ensures kept { IsKept self.now.entries.now result }
@@ -145,8 +145,8 @@ impl<'a> PlanFiles<'a> {
 /// A line of a plan: a data file, with the delete files that apply to it.
 #[derive(Debug, Drop)]
 pub struct Line<'a> {
-    entries: &'a Entries,
-    file: EntryNumber,
+    entries: &'a Segments,
+    file: FileNumber,
     deletes: Files<'a>,
     positions: &'a [u32],
     equalities: &'a [u32],
@@ -154,7 +154,7 @@ pub struct Line<'a> {
 
 impl<'a> Model for Line<'a> {
     ghost use Rattle.std.specs.Prelude.{length};
-    ghost use Rattle.ice_entries.specs.Kept.{IsKept, entry_at};
+    ghost use Rattle.ice_state.specs.Segments.{IsKept, entry_at};
     ghost use Rattle.ice_state.specs.Lines.{OwnedLine, entries_of, line_at, AreFiles, IsLineWithin};
 
     ghost Value = { OwnedLine };

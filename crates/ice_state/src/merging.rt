@@ -1,21 +1,22 @@
 //! What a merge adds to slots.
 
-ghost use Rattle.std.specs.Prelude.{◌≡◌, ◌↔◌, ◌&&◌, is_some, length, IfOk, IfSome, IsTrue, option_map};
-ghost use Rattle.ice_entries.specs.Kept.{Kept, Keeps};
+ghost use Rattle.std.specs.Prelude.{◌≡◌, ◌↔◌, length, IfOk, IfSome, IsTrue, option_map};
 ghost use Rattle.ice_state.specs.Joins.{TookAllOf};
-ghost use Rattle.ice_state.specs.Parts.{AreApart, gain_of, gains, is_gain};
+ghost use Rattle.ice_state.specs.Parts.{gain_of, gains, is_gain};
+ghost use Rattle.ice_state.specs.Segments.{Keeps, Segmented};
 ghost use Rattle.ice_state.specs.Slots.{contents, given, HasNumbers, HaveNumbers};
 
 use crate::ordered::Ordered;
+use crate::segments::Segments;
 use crate::taken::Taken;
 use contract_words::Items;
-use ice_entries::{Entries, Room};
+use ice_entries::Room;
 use std::alloc::{AllocError, Global};
 
 /// Whether each row that the second slots took is taken in the first.
 pub fn has_taken_all_of(slots: &[Option<Taken>], other: &[Option<Taken>]) -> bool
     requires { length slots.now ≡ length other.now }
-    ensures { (kept others : Kept) →
+    ensures { (kept others : Segmented) →
         (IsTrue result ↔ TookAllOf (contents kept slots.now) (contents others other.now)) }
 {
     for i in 0..slots.len() {
@@ -26,54 +27,36 @@ pub fn has_taken_all_of(slots: &[Option<Taken>], other: &[Option<Taken>]) -> boo
     true
 }
 
-/// Whether no row is taken in both.
-pub fn are_apart(slots: &[Option<Taken>], other: &[Option<Taken>]) -> bool
-    requires { length slots.now ≡ length other.now }
-    ensures { (kept others : Kept) → IsTrue result → AreApart (contents kept slots.now) (contents others other.now) }
-{
-    for i in 0..slots.len() {
-        if are_taken(&slots[i], &other[i]) {
-            return false;
-        }
-    }
-    true
-}
-
-/// Whether a row was taken in both slots.
-fn are_taken(slot: &Option<Taken>, other: &Option<Taken>) -> bool
-    ensures { result ≡ (is_some slot.now && is_some other.now) }
-{
-    slot.is_some() && other.is_some()
-}
-
 /// Whether a row that isn't taken in the first slot was taken in the other.
 fn is_gain(slot: &Option<Taken>, other: &Option<Taken>) -> bool
-    ensures { (kept others : Kept) →
+    ensures { (kept others : Segmented) →
         result ≡ is_gain (option_map (given kept) slot.now) (option_map (given others) other.now) }
 {
     matches!((slot, other), (None, Some(_)))
 }
 
 /// The room that the entries take that the first slots lack of the second.
-fn room_of_gains(slots: &[Option<Taken>], others: &Entries, other: &[Option<Taken>]) -> Room
+fn room_of_gains(slots: &[Option<Taken>], others: &Segments, other: &[Option<Taken>]) -> Room
     requires same { length slots.now ≡ length other.now }
     requires numbers { HaveNumbers others.now other.now }
 {
     let mut room = Room::none();
     for i in 0..slots.len() {
         if let (None, Some(Taken::Good(ordered))) = (&slots[i], &other[i]) {
-            room = others.room_with(ordered.numbers.as_slice(), room);
+            room = others
+                .segment(ordered.segment)
+                .room_with(ordered.numbers.as_slice(), room);
         }
     }
     room
 }
 
-/// What the first slots lack of the second, by the numbers of entries that are put to those of the first.
+/// What the first slots lack of the second, by the numbers of entries that are put to the first segment of the first.
 pub fn gained(
     alloc: Global,
-    entries: &mut Entries,
+    entries: &mut Segments,
     slots: &[Option<Taken>],
-    others: &Entries,
+    others: &Segments,
     other: &[Option<Taken>],
 ) -> Result<Vec<Option<Taken>>, AllocError>
     requires same { length slots.now ≡ length other.now }
@@ -81,7 +64,7 @@ pub fn gained(
 
     ensures keeps { Keeps entries.old entries.new }
     ensures numbers { IfOk result (λ gained. HaveNumbers entries.new gained.items) }
-    ensures gained { (kept : Kept) → IfOk result (λ gained. contents entries.new gained.items
+    ensures gained { (kept : Segmented) → IfOk result (λ gained. contents entries.new gained.items
         ≡ gains (contents kept slots.now) (contents others.now other.now)) }
 {
     entries.reserve(room_of_gains(slots, others, other))?;
@@ -94,16 +77,16 @@ pub fn gained(
 
 fn gain(
     alloc: Global,
-    entries: &mut Entries,
+    entries: &mut Segments,
     slot: &Option<Taken>,
-    others: &Entries,
+    others: &Segments,
     other: &Option<Taken>,
 ) -> Result<Option<Taken>, AllocError>
     requires { IfSome other.now (HasNumbers others.now) }
 
     ensures keeps { Keeps entries.old entries.new }
     ensures numbers { IfOk result (λ gained. IfSome gained (HasNumbers entries.new)) }
-    ensures gained { (kept : Kept) → IfOk result (λ gained. option_map (given entries.new) gained
+    ensures gained { (kept : Segmented) → IfOk result (λ gained. option_map (given entries.new) gained
         ≡ gain_of (option_map (given kept) slot.now) (option_map (given others.now) other.now)) }
 {
     match (slot, other) {
@@ -115,8 +98,8 @@ fn gain(
 /// What a manifest gave, by the numbers of entries that are put to those that are kept.
 fn put_taken(
     alloc: Global,
-    entries: &mut Entries,
-    others: &Entries,
+    entries: &mut Segments,
+    others: &Segments,
     taken: &Taken,
 ) -> Result<Taken, AllocError>
     requires { HasNumbers others.now taken.now }
@@ -127,8 +110,10 @@ fn put_taken(
 {
     match taken {
         Taken::Good(ordered) => {
-            let added = entries.add_kept(others, ordered.numbers.as_slice())?;
+            let segment = others.segment(ordered.segment);
+            let added = entries.add_kept(segment, ordered.numbers.as_slice())?;
             Ok(Taken::Good(Ordered {
+                segment: 0,
                 numbers: Items::from_vec(added),
                 order: Items::from_vec(ordered.order.as_slice().to_vec(alloc)?),
             }))

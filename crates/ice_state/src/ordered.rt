@@ -11,27 +11,31 @@ use contract_words::Items;
 use ice_entries::{Entries, EntryNumber};
 use std::alloc::{AllocError, Global};
 
-/// Kept entries: their numbers in the order of their positions, and the places of these numbers in the order of the
-/// entries' paths.
+/// Kept entries: the segment that keeps them, their numbers there in the order of their positions, and the places of
+/// these numbers in the order of the entries' paths.
 #[derive(Debug, Drop)]
 pub struct Ordered {
+    pub segment: u32,
     pub numbers: Items<EntryNumber>,
     pub order: Items<u32>,
 }
 
 impl Ordered {
-    /// Puts entries in order that are kept by these numbers.
+    /// Puts entries in order that the segment keeps by these numbers.
     pub fn new(
         alloc: Global,
         entries: &Entries,
+        segment: u32,
         numbers: Vec<EntryNumber>,
     ) -> Result<Ordered, AllocError>
         requires { AreKept entries.now numbers.items }
+        ensures segment { IfOk result (λ ordered. ordered.segment ≡ segment) }
         ensures same { IfOk result (λ ordered. ordered.numbers ≡ numbers.items) }
         ensures ordered { IfOk result (AreOrdered entries.now) }
     {
         let order = order_of(alloc, entries, &numbers)?;
         Ok(Ordered {
+            segment,
             numbers: Items::from_vec(numbers),
             order,
         })

@@ -10,7 +10,6 @@ ghost use Rattle.ice_state.specs.Contents.{HasEach};
 ghost use Rattle.ice_state.specs.Outcomes.{outcome};
 ghost use Rattle.ice_state.specs.Covering.{AreCovered};
 ghost use Rattle.ice_state.specs.Joins.{join, either, TookAllOf};
-ghost use Rattle.ice_state.specs.Parts.{AreApart};
 ghost use Rattle.ice_state.specs.Pruning.{pruner_of};
 ghost use Rattle.ice_state.specs.Scans.{Scanned, IsScanOf};
 ghost use Rattle.ice_state.specs.Snapshots.{plan_of_snapshot};
@@ -18,19 +17,19 @@ ghost use Rattle.ice_state.specs.Snapshots.{plan_of_snapshot};
 use crate::fault::FinishFault;
 use crate::finish::plan_or_fault;
 use crate::laws::filtering;
-use crate::merging::{are_apart, gained, has_taken_all_of};
+use crate::merging::{gained, has_taken_all_of};
 use crate::plan::{OwnedPlan, Plan};
 use crate::scan::Scan;
-use crate::slots::{is_slot_taken, put_all, put_row};
+use crate::segments::Segments;
+use crate::slots::{is_slot_taken, put_all, put_behind, put_row};
 use crate::taken::{Taken, take_manifest};
-use ice_entries::Entries;
 use std::alloc::{AllocError, Global};
 use std::marker::Model;
 
-/// What the wanted rows gave that were taken: of each the numbers of its kept entries, which are kept together.
+/// What the wanted rows gave that were taken: of each the numbers of its kept entries, which are kept in segments.
 #[derive(Debug, Drop)]
 pub struct Partial {
-    entries: Entries,
+    entries: Segments,
     slots: Vec<Option<Taken>>,
     alloc: Global,
 }
@@ -59,7 +58,7 @@ impl Partial {
             slots.push(None)?;
         }
         Ok(Partial {
-            entries: Entries::new(alloc),
+            entries: Segments::new(alloc)?,
             slots,
             alloc,
         })
@@ -136,9 +135,9 @@ impl Partial {
         Ok(())
     }
 
-    /// The same as `merge`, of a state that nobody needs any more. Where the states took different rows, the one with
-    /// more entries keeps them where they are.
-    pub fn absorb(&mut self, mut other: Partial) -> Result<(), AllocError>
+    /// The same as `merge`, of a state that nobody needs any more: its entries stay where they are, and none is copied.
+    /// Those of rows that were taken here too stay with them.
+    pub fn absorb(&mut self, other: Partial) -> Result<(), AllocError>
         requires { length self.old ≡ length other }
 
         ensures of_scan { (scan : Scanned) → IsOf scan self.old → IsOf scan self.new }
@@ -151,43 +150,12 @@ impl Partial {
             other ≡ content world scan us →
             OnOk result (self.new ≡ content world scan (either ts us)) }
     {
-        if self.is_outgrown_by(&other) {
-            return self.grow_into(other);
-        }
-        self.merge(&other)
-    }
-
-    /// Merges this into the other, which then stands in its place.
-    fn grow_into(&mut self, mut other: Partial) -> Result<(), AllocError>
-        requires same { length self.old ≡ length other }
-        requires apart { AreApart self.old other }
-
-        ensures of_scan { (scan : Scanned) → IsOf scan self.old → IsOf scan self.new }
-        ensures ok { OnOk result (self.new ≡ join self.old other) }
-        ensures err { OnErr result (self.new ≡ self.old) }
-        ensures world { (world : World) (scan : Scanned) (ts us : List Bool) →
-            self.old ≡ content world scan ts →
-            other ≡ content world scan us →
-            OnOk result (self.new ≡ content world scan (either ts us)) }
-    {
-        other.merge(self)?;
-        *self = other;
-        Ok(())
-    }
-
-    /// Whether the other has more entries, and took none of the rows that were taken here.
-    fn is_outgrown_by(&self, other: &Partial) -> bool
-        requires { length self.now ≡ length other.now }
-
-        ensures { IsTrue result → AreApart self.now other.now × (TookAllOf self.now other.now → ⊥) }
-    {
-        if self.entries.len() >= other.entries.len() {
-            return false;
-        }
         if has_taken_all_of(&self.slots, &other.slots) {
-            return false;
+            return Ok(());
         }
-        are_apart(&self.slots, &other.slots)
+        let before = self.entries.append(other.entries)?;
+        put_behind(&mut self.slots, other.slots, before);
+        Ok(())
     }
 
     /// The plan, or what keeps the content from being one.

@@ -5,20 +5,20 @@ ghost use Rattle.ice_state.specs.Lines.{lines_of, IsPlanned};
 
 use crate::lines::{Files, Lines};
 use crate::places::PlaceTable;
-use ice_entries::{Entries, EntryNumber};
+use crate::segments::{FileNumber, Segments};
 use std::marker::Model;
 
 /// A plan by the numbers of its entries: the data files, the delete files, and which of these apply to each of those.
 #[derive(Debug, Drop)]
 pub(crate) struct NumberedPlan {
-    pub(crate) files: Vec<EntryNumber>,
-    pub(crate) deletes: Vec<EntryNumber>,
+    pub(crate) files: Vec<FileNumber>,
+    pub(crate) deletes: Vec<FileNumber>,
     pub(crate) places: PlaceTable,
 }
 
 impl NumberedPlan {
     /// Its lines, where these are the entries.
-    fn lines<'a>(&'a self, entries: &'a Entries) -> Lines<'a>
+    fn lines<'a>(&'a self, entries: &'a Segments) -> Lines<'a>
         requires { IsPlanned entries.now self.now }
         ensures { result ≡ lines_of entries.now self.now }
     {
@@ -40,7 +40,7 @@ impl NumberedPlan {
 /// state that it was finished from.
 #[derive(Debug, Drop)]
 pub struct Plan<'a> {
-    pub(crate) entries: &'a Entries,
+    pub(crate) entries: &'a Segments,
     pub(crate) numbered: NumberedPlan,
 }
 
@@ -67,7 +67,7 @@ impl<'a> Plan<'a> {
 /// A plan that owns its files, each once, in however many lines a delete file stands.
 #[derive(Debug, Drop)]
 pub struct OwnedPlan {
-    pub(crate) entries: Entries,
+    pub(crate) entries: Segments,
     pub(crate) numbered: NumberedPlan,
 }
 

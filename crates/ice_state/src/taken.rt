@@ -1,13 +1,13 @@
 //! What a manifest gave.
 
 ghost use Rattle.std.specs.Prelude.{◌≡◌, IfOk};
-ghost use Rattle.ice_entries.specs.Kept.{Keeps};
 ghost use Rattle.ice_state.specs.Parts.{reading_by};
+ghost use Rattle.ice_state.specs.Segments.{Keeps};
 ghost use Rattle.ice_state.specs.Slots.{given, HasNumbers};
 
 use crate::ordered::Ordered;
 use crate::pruning::SpecFilter;
-use ice_entries::Entries;
+use crate::segments::Segments;
 use ice_manifest_reading::{ManifestFault, Row, read_kept};
 use std::alloc::{AllocError, Global};
 
@@ -19,10 +19,10 @@ pub enum Taken {
 }
 
 /// What a row's manifest with these bytes gives, read by the filter through its spec. Its kept entries are put to the
-/// others.
+/// first segment.
 pub fn take_manifest(
     alloc: Global,
-    entries: &mut Entries,
+    entries: &mut Segments,
     row: &Row,
     filter: &SpecFilter<'_>,
     bytes: &[u8],
@@ -34,7 +34,7 @@ pub fn take_manifest(
     match read_kept(alloc, row, filter.spec(), filter, bytes) {
         Ok(views) => {
             let numbers = entries.add_read(&views)?;
-            Ok(Taken::Good(Ordered::new(alloc, entries, numbers)?))
+            Ok(Taken::Good(Ordered::new(alloc, entries.first(), 0, numbers)?))
         }
         Err(ManifestFault::Memory) => Err(AllocError),
         Err(fault) => Ok(Taken::Bad(fault)),

@@ -1,6 +1,6 @@
 use Rattle.std.proofs.Common.{◌≡◌, take, map}
 use Rattle.ice_deletes.specs.Keys.{key_of as record_key}
-use Rattle.ice_entries.specs.Kept.{entries_at}
+use Rattle.ice_state.specs.Segments.{entries_at}
 use Rattle.ice_state.specs.Applying.{delete_key_of}
 use Rattle.ice_state.proofs.deletes.records.Given as goal
 

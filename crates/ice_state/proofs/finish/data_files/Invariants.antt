@@ -1,5 +1,5 @@
 use Rattle.std.proofs.Common.{◌≡◌, take, filter}
-use Rattle.ice_entries.specs.Kept.{AreKept, entries_at}
+use Rattle.ice_state.specs.Segments.{AreKept, entries_at}
 use Rattle.ice_value.specs.declared.file_content.FileContent.TheVariants.{Data}
 use Rattle.ice_state.specs.Named.{entries_named}
 use Rattle.ice_state.specs.Pruning.{holds}

@@ -3,7 +3,7 @@ use Rattle.std.specs.List.Sorted.{IsPermutation}
 use Rattle.ice_value.specs.Applying.{DeleteKey}
 use Rattle.ice_deletes.specs.Found.{numbered_deletes}
 use Rattle.ice_deletes.specs.Keys.{key_of as record_key}
-use Rattle.ice_entries.specs.Kept.{entries_at}
+use Rattle.ice_state.specs.Segments.{entries_at}
 use Rattle.ice_state.specs.Applying.{delete_key_of}
 use Rattle.ice_state.specs.PlaceLists.{LinePlaces}
 use Rattle.ice_state.proofs.Lent.{all_by_place}

@@ -1,5 +1,5 @@
 use Rattle.std.proofs.Common.{◌≡◌, take, map}
-use Rattle.ice_entries.specs.Kept.{entries_at}
+use Rattle.ice_state.specs.Segments.{entries_at}
 use Rattle.ice_state.specs.Applying.{data_key_of}
 use Rattle.ice_state.specs.Parts.{places_of}
 use Rattle.ice_state.proofs.finish.looked_up.Given as goal

@@ -1,6 +1,6 @@
 use Rattle.std.proofs.Common.{◌≡◌, subst, filter, List}
 use Rattle.ice_value.specs.declared.file_content.FileContent.TheVariants.{Data}
-use Rattle.ice_entries.specs.Kept.{entries_at}
+use Rattle.ice_state.specs.Segments.{entries_at}
 use Rattle.ice_state.specs.declared.finish.Named.{Named}
 use Rattle.ice_state.specs.Named.{entries_named}
 use Rattle.ice_state.specs.Parts.{holds_deletes}

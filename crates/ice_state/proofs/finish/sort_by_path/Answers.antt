@@ -7,7 +7,7 @@ use Rattle.std.proofs.lemmas.List.Sorted.{answers_always, ranks_by}
 use Rattle.std.proofs.Common.{Bool}
 use Rattle.contract_words.specs.Sorting.{sorted}
 use Rattle.contract_words.proofs.Sorted.{sorted_from_sort}
-use Rattle.ice_entries.specs.Kept.{Kept}
+use Rattle.ice_state.specs.Segments.{Segmented}
 use Rattle.ice_state.specs.declared.finish.Named.{Named}
 use Rattle.ice_state.specs.Named.{entry_named, IsNamed, AreNamed, entries_named}
 use Rattle.ice_state.specs.Outcomes.{path_before}
@@ -32,7 +32,7 @@ sort c =
     (λ f a r g h. search rules)))
 
 -- by the paths of the entries
-same : (kept : Kept) (a b : Named) → IsNamed kept a → IsNamed kept b
+same : (kept : Segmented) (a b : Named) → IsNamed kept a → IsNamed kept b
     → before a b ≡ path_before (entry_named kept a) (entry_named kept b)
 same kept a b p q = rw (p.1, q.1) refl
 

@@ -5,7 +5,8 @@ use Rattle.ice_state.specs.Parts.{gain_of, gains}
 use Rattle.ice_state.specs.Readings.{Reading}
 use Rattle.ice_state.specs.Slots.{contents, given, HaveNumbers}
 use Rattle.ice_state.proofs.Gains.{behind-nothing, gains-step, gains-end}
-use Rattle.ice_state.proofs.SlotContents.{at-contents, contents-kept, have-kept, keeps-trans, last-contents, last-numbers}
+use Rattle.ice_state.proofs.SegmentLists.{keeps-trans}
+use Rattle.ice_state.proofs.SlotContents.{at-contents, contents-kept, have-kept, last-contents, last-numbers}
 use Rattle.ice_state.proofs.SlotContents.{length-contents}
 use Rattle.ice_state.proofs.merging.gained.Goals as goal
 
@@ -46,6 +47,14 @@ loop-i-preserved c =
           rw add-one (ap (λ (x : Content). x ++ rest) all ∙ append_assoc (contents was before) (gain ∷ []) rest
           ∙ ap (λ (x : Content). contents was before ++ x) (sym step) ∙ c.loop-i.invariant.gained kept);
     }
+
+pub returns-in_err-gain-clause-keeps : goal.returns-in_err-gain-clause-keeps
+returns-in_err-gain-clause-keeps c =
+    keeps-trans c.args.entries.now c.loop-i.entries c.gain.new.entries c.loop-i.invariant.keeps c.gain.ensures.keeps
+
+pub returns-in_err-push-clause-keeps : goal.returns-in_err-push-clause-keeps
+returns-in_err-push-clause-keeps c =
+    keeps-trans c.args.entries.now c.loop-i.entries c.gain.new.entries c.loop-i.invariant.keeps c.gain.ensures.keeps
 
 pub returns-clause-gained : goal.returns-clause-gained
 returns-clause-gained c = λ kept.

@@ -1,5 +1,5 @@
 use Rattle.std.proofs.Common.{◌≡◌, ◌≤◌, vec_len}
-use Rattle.ice_entries.specs.Kept.{Kept}
+use Rattle.ice_state.specs.Segments.{Segmented}
 use Rattle.ice_state.specs.Joins.{join}
 use Rattle.ice_state.specs.Slots.{contents, HaveNumbers}
 use Rattle.ice_state.proofs.slots.put_all.Given as goal
@@ -8,9 +8,9 @@ use Rattle.ice_state.proofs.slots.put_all.Given as goal
 abbrev pub invariant-loop-slot : goal.invariant-loop-slot
 invariant-loop-slot l = record {
   fits : vec_len l.gained ≤ vec_len l.slots;
-  rest : (kept : Kept) → join (contents kept l.slots.items) (contents kept l.gained.items)
+  rest : (kept : Segmented) → join (contents kept l.slots.items) (contents kept l.gained.items)
       ≡ join (contents kept l.fn.slots.items) (contents kept l.fn.gained.items);
-  numbers : (kept : Kept) → HaveNumbers kept l.fn.slots.items → HaveNumbers kept l.fn.gained.items
+  numbers : (kept : Segmented) → HaveNumbers kept l.fn.slots.items → HaveNumbers kept l.fn.gained.items
       → HaveNumbers kept l.slots.items × HaveNumbers kept l.gained.items;
 }
 

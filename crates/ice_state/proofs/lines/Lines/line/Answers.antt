@@ -1,6 +1,6 @@
-use Rattle.std.proofs.Common.{◌<◌, ◌∙◌, arith, sym, ap, length, List}
+use Rattle.std.proofs.Common.{◌∙◌, arith, sym, ap, length, List}
 use Rattle.std.specs.List.{slice_get}
-use Rattle.ice_entries.specs.Kept.{entry_at}
+use Rattle.ice_state.specs.Segments.{entry_at}
 use Rattle.ice_state.specs.Lines.{OwnedLine, entries_of}
 use Rattle.ice_state.specs.PlaceLists.{LinePlaces}
 use Rattle.ice_state.proofs.LinesAt.{length-lines_at, lines_at-get, line_within-at}

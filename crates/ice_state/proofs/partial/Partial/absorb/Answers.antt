@@ -1,0 +1,87 @@
+use Rattle.std.proofs.Common.{◌∙◌, ◌≡◌, ◌++◌, ap, sym, subst, arith, length, true, false}
+use Rattle.ice_state.specs.Contents.{Content}
+use Rattle.ice_state.specs.Joins.{join, TookAllOf}
+use Rattle.ice_state.specs.Segments.{AreBefore, Segmented}
+use Rattle.ice_state.specs.Slots.{contents, HaveNumbers}
+use Rattle.ice_state.proofs.SegmentLists.{keeps_firsts}
+use Rattle.ice_state.proofs.Gains.{join-in_world, length-join, join-known}
+use Rattle.ice_state.proofs.SlotContents.{contents-kept, have-kept, length-contents}
+use Rattle.ice_state.proofs.partial.Partial.absorb.Goals as goal
+
+pub returns-then-has_taken_all_of-clause-ok : goal.returns-then-has_taken_all_of-clause-ok
+returns-then-has_taken_all_of-clause-ok c =
+    let kept = c.self.inside.entries in
+    let others = c.other.inside.entries in
+    let all : TookAllOf (contents kept c.deref.result.now) (contents others c.deref-2.result.now) =
+    (c.has_taken_all_of.ensures kept others).0 c.if-has_taken_all_of.true in
+    let mine = subst (λ (s : Content). TookAllOf s (contents others c.deref-2.result.now))
+    (ap (contents kept) c.deref.ensures.value ∙ c.self.view_is) all in
+    let both = subst (λ (s : Content). TookAllOf c.args.self.now s)
+    (ap (contents others) c.deref-2.ensures.value ∙ c.other.view_is) mine in
+    sym (join-known c.args.self.now c.args.other c.requires both)
+
+pub returns-then-has_taken_all_of-clause-world : goal.returns-then-has_taken_all_of-clause-world
+returns-then-has_taken_all_of-clause-world c = λ world scan ts us is is'. join-in_world world scan ts us _ _ _
+    (returns-then-has_taken_all_of-clause-ok c) is is'
+
+pub returns-in_err-before-clause-known : goal.returns-in_err-before-clause-known
+returns-in_err-before-clause-known c = λ all.
+    let kept = c.self.inside.entries in
+    let others = c.other.inside.entries in
+    let mine = subst (λ (s : Content). TookAllOf s c.args.other)
+    (sym (ap (contents kept) c.deref.ensures.value ∙ c.self.view_is)) all in
+    let both = subst (λ (s : Content). TookAllOf (contents kept c.deref.result.now) s)
+    (sym (ap (contents others) c.deref-2.ensures.value ∙ c.other.view_is)) mine in
+    let no_more : true ≡ false = sym ((c.has_taken_all_of.ensures kept others).1 both) ∙ c.if-has_taken_all_of.false in
+    absurd cc
+
+pub put_behind-requires : goal.put_behind-requires
+put_behind-requires c =
+    omega (
+      arith,
+      c.requires,
+      ap length c.self.view_is,
+      ap length c.other.view_is,
+      length-contents c.self.inside.entries c.self.inside.slots.items,
+      length-contents c.other.inside.entries c.other.inside.slots.items,
+    )
+
+pub invariant_of-self-2 : goal.invariant_of-self-2
+invariant_of-self-2 c =
+    let kept = c.self.inside.entries in
+    let others = c.other.inside.entries in
+    let are : AreBefore c.in_ok-before.before kept others =
+    record { counted = c.in_ok-before.ensures.before; few = c.in_ok-before.ensures.few } in
+    subst (λ (all : Segmented). HaveNumbers all c.put_behind.new.slots.items) (sym c.in_ok-before.ensures.ok)
+    (c.put_behind.ensures.numbers kept others are c.other.invariant
+    (have-kept kept (kept ++ others) (keeps_firsts kept others) c.self.inside.slots.items c.self.invariant))
+
+pub returns-clause-still : goal.returns-clause-still
+returns-clause-still c = λ all.
+    let kept = c.self.inside.entries in
+    let others = c.other.inside.entries in
+    let mine = subst (λ (s : Content). TookAllOf s c.args.other)
+    (sym (ap (contents kept) c.deref.ensures.value ∙ c.self.view_is)) all in
+    let both = subst (λ (s : Content). TookAllOf (contents kept c.deref.result.now) s)
+    (sym (ap (contents others) c.deref-2.ensures.value ∙ c.other.view_is)) mine in
+    let no_more : true ≡ false = sym ((c.has_taken_all_of.ensures kept others).1 both) ∙ c.if-has_taken_all_of.false in
+    absurd cc
+
+pub returns-clause-ok : goal.returns-clause-ok
+returns-clause-ok c =
+    let kept = c.self.inside.entries in
+    let others = c.other.inside.entries in
+    let all = kept ++ others in
+    let are : AreBefore c.in_ok-before.before kept others =
+    record { counted = c.in_ok-before.ensures.before; few = c.in_ok-before.ensures.few } in
+    ap (λ (k : Segmented). contents k c.put_behind.new.slots.items) c.in_ok-before.ensures.ok
+    ∙ c.put_behind.ensures.rows kept others are c.other.invariant
+    ∙ ap (λ (s : Content). join s (contents others c.other.inside.slots.items))
+    (contents-kept kept all (keeps_firsts kept others) c.self.inside.slots.items c.self.invariant ∙ c.self.view_is)
+    ∙ ap (join c.args.self.now) c.other.view_is
+
+pub returns-clause-of_scan : goal.returns-clause-of_scan
+returns-clause-of_scan c = λ scan of. ap length (returns-clause-ok c) ∙ length-join _ _ c.requires ∙ of
+
+pub returns-clause-world : goal.returns-clause-world
+returns-clause-world c = λ world scan ts us is is'. join-in_world world scan ts us _ _ _ (returns-clause-ok c) is is'

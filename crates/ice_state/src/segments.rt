@@ -1,0 +1,140 @@
+//! Entries that are kept in segments: a state's own, and behind them those of each state that it absorbed.
+
+ghost use Rattle.std.specs.Prelude.{◌≡◌, ◌<◌, ◌++◌, ◌^◌, length, IfOk, OnErr, OnOk};
+ghost use Rattle.ice_entries.specs.Kept.{AreKept as AreKeptIn, entries_at as entries_in};
+ghost use Rattle.ice_manifest_reading.specs.Lending.{lent};
+ghost use Rattle.ice_state.specs.Segments.{entry_at, IsKept, Keeps, segment_at};
+
+use ice_entries::{Entries, EntryNumber, Room};
+use ice_manifest_reading::{EntryView, LentEntry};
+use std::alloc::{AllocError, Global};
+use std::marker::Model;
+
+/// The number of an entry that is kept: that of its segment, and its own there.
+#[derive(Clone, Copy, Debug)]
+pub(crate) struct FileNumber {
+    pub(crate) segment: u32,
+    pub(crate) number: EntryNumber,
+}
+
+/// Entries that are kept in segments. There is always a first one, to which entries are put.
+#[derive(Debug, Drop)]
+pub(crate) struct Segments {
+    list: Vec<Entries>,
+}
+
+impl Model for Segments {
+    ghost use Rattle.std.specs.Prelude.{◌<◌, length};
+    ghost use Rattle.ice_state.specs.Segments.{Segmented};
+
+    ghost Value = { Segmented };
+
+    ghost view = { λ s. s.list.items };
+
+    ghost invariant = { λ s. 0 < length s.list.items };
+}
+
+impl Segments {
+    /// One, which keeps nothing yet.
+    pub(crate) fn new(alloc: Global) -> Result<Segments, AllocError> {
+        let mut list = Vec::with_capacity(alloc, 1)?;
+        list.push(Entries::new(alloc))?;
+        Ok(Segments { list })
+    }
+
+    /// The segment of a number.
+    pub(crate) fn segment(&self, number: u32) -> &Entries
+        requires { number < length self.now }
+        ensures { result.now ≡ segment_at self.now number }
+    {
+        &self.list[number as usize]
+    }
+
+    /// The first segment.
+    pub(crate) fn first(&self) -> &Entries
+        ensures some { 0 < length self.now }
+        ensures first { result.now ≡ segment_at self.now 0 }
+    {
+        &self.list[0]
+    }
+
+    /// The entry of a number.
+    pub(crate) fn entry(&self, number: FileNumber) -> LentEntry<'_>
+        requires { IsKept self.now number }
+        ensures { lent result ≡ entry_at self.now number }
+    {
+        self.segment(number.segment).entry(number.number)
+    }
+
+    /// Puts entries of a manifest to the first segment. A refusal, for want of memory, forgets none that was kept.
+    pub(crate) fn add_read(
+        &mut self,
+        views: &[EntryView<'_>],
+    ) -> Result<Vec<EntryNumber>, AllocError>
+        ensures keeps { Keeps self.old self.new }
+        ensures kept { IfOk result (λ numbers. AreKeptIn (segment_at self.new 0) numbers.items) }
+        ensures ok { IfOk result (λ numbers. entries_in (segment_at self.new 0) numbers.items ≡ views.now) }
+    {
+        self.list[0].add_read(views)
+    }
+
+    /// Makes room in the first segment. A refusal, for want of memory, forgets nothing.
+    pub(crate) fn reserve(&mut self, room: Room) -> Result<(), AllocError>
+        ensures { self.new ≡ self.old }
+    {
+        self.list[0].reserve(room)
+    }
+
+    /// Puts entries that others keep to the first segment. A refusal, for want of memory, forgets none that was kept.
+    pub(crate) fn add_kept(
+        &mut self,
+        others: &Entries,
+        numbers: &[EntryNumber],
+    ) -> Result<Vec<EntryNumber>, AllocError>
+        requires { AreKeptIn others.now numbers.now }
+
+        ensures some { 0 < length self.new }
+        ensures keeps { Keeps self.old self.new }
+        ensures kept { IfOk result (λ added. AreKeptIn (segment_at self.new 0) added.items) }
+        ensures ok { IfOk result (λ added. entries_in (segment_at self.new 0) added.items
+            ≡ entries_in others.now numbers.now) }
+    {
+        self.list[0].add_kept(others, numbers)
+    }
+
+    /// Puts other segments behind, and says how many stand before them. More than can be numbered count as want of
+    /// memory. A refusal leaves all as it was.
+    pub(crate) fn append(&mut self, others: Segments) -> Result<u32, AllocError>
+        ensures before { IfOk result (λ before. before ≡ length self.old) }
+        ensures ok { OnOk result (self.new ≡ self.old ++ others) }
+        ensures few { OnOk result (length (self.old ++ others) < 2 ^ 32) }
+        ensures err { OnErr result (self.new ≡ self.old) }
+    {
+        let mut list = others.list;
+        let before = self.list.len();
+        let Ok(_) = u32::try_from(before.saturating_add(list.len())) else {
+            return Err(AllocError);
+        };
+        self.list.append(&mut list)?;
+        Ok(before as u32)
+    }
+
+    /// The same segments.
+    pub(crate) fn copy(&self, alloc: Global) -> Result<Segments, AllocError>
+        ensures { IfOk result (λ copied. copied ≡ self.now) }
+    {
+        Ok(Segments {
+            list: copied_segments(alloc, &self.list)?,
+        })
+    }
+}
+
+fn copied_segments(alloc: Global, segments: &[Entries]) -> Result<Vec<Entries>, AllocError>
+    ensures { IfOk result (λ copied. copied.items ≡ segments.now) }
+{
+    let mut copied = Vec::with_capacity(alloc, segments.len())?;
+    'segments: for segment in segments {
+        copied.push(segment.copy(alloc)?)?;
+    }
+    Ok(copied)
+}
