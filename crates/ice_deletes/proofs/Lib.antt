@@ -4,5 +4,6 @@ pub mod Lists
 pub mod Numbered
 pub mod Orders
 pub mod Parts
+pub mod Rising
 pub mod Slices
 pub mod Within

@@ -3,3 +3,4 @@ pub mod Groups
 pub mod Indexes
 pub mod Keys
 pub mod Shelves
+pub mod Unions

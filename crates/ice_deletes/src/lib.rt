@@ -3,7 +3,9 @@
 
 mod delete;
 mod group;
+mod growth;
 mod index;
+mod merging;
 mod record;
 mod search_key;
 mod shelf;
