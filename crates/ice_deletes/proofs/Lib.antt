@@ -1,9 +1,12 @@
 pub mod Applying
+pub mod Held
 pub mod Lent
 pub mod Lists
 pub mod Numbered
 pub mod Orders
 pub mod Parts
+pub mod Popped
 pub mod Rising
 pub mod Slices
+pub mod United
 pub mod Within
