@@ -7,6 +7,7 @@ pub mod Orders
 pub mod Parts
 pub mod Popped
 pub mod Rising
+pub mod Shelved
 pub mod Slices
 pub mod United
 pub mod Within

@@ -44,6 +44,20 @@ pub unheld-append : (held to : List ℕ) (es fs : List (ℕ × DeleteKey))
 unheld-append held to es fs = ap (unheld held) (map-append (here to) es fs)
     ∙ filter-append (λ e. not (list_any (λ n. n == e.0) held)) (renumbered to es) (renumbered to fs)
 
+-- the files of four shelves
+pub all_grown : (held to : List ℕ) (a b c d e f g h k l m n : List (ℕ × DeleteKey))
+    → IsPermutation (a ++ unheld held (renumbered to e)) k → IsPermutation (b ++ unheld held (renumbered to f)) l
+    → IsPermutation (c ++ unheld held (renumbered to g)) m → IsPermutation (d ++ unheld held (renumbered to h)) n
+    → IsPermutation ((a ++ b ++ c ++ d) ++ unheld held (renumbered to (e ++ f ++ g ++ h))) (k ++ l ++ m ++ n)
+all_grown held to a b c d e f g h k l m n p q r s =
+    let new : List (ℕ × DeleteKey) → List (ℕ × DeleteKey) = λ es. unheld held (renumbered to es) in
+    let parts : new (e ++ f ++ g ++ h) ≡ new e ++ new f ++ new g ++ new h =
+    unheld-append held to (e ++ f ++ g) h
+    ∙ ap (λ es. es ++ new h) (unheld-append held to (e ++ f) g ∙ ap (λ es. es ++ new g) (unheld-append held to e f)) in
+    let P : List (ℕ × DeleteKey) → Type 0 = λ es. IsPermutation ((a ++ b ++ c ++ d) ++ es) (k ++ l ++ m ++ n) in
+    subst P (sym parts) (both_grown (a ++ b ++ c) d (new e ++ new f ++ new g) (new h) (k ++ l ++ m) n
+    (both_grown (a ++ b) c (new e ++ new f) (new g) (k ++ l) m (both_grown a b (new e) (new f) k l p q) r) s)
+
 further : {X : Type 0} (x : X) (xs : List X) (y : X) → Contains xs y → Contains (x ∷ xs) y
 further x xs y h = (suc h.0, omega arith, h.2)
 
@@ -111,6 +125,9 @@ fewer_times p (e ∷ es) n =
       | false ↦ omega arith
     ]
 
+abbrev one_if : Bool → ℕ
+one_if b = cond b 1 0
+
 -- a number that is held is not given
 held_never : (held : List ℕ) (n : ℕ) → list_any (λ m. m == n) held ≡ true → (es : List (ℕ × DeleteKey))
     → times n (unheld held es) ≡ 0
@@ -118,7 +135,7 @@ held_never held n h [] = refl
 held_never held n h (e ∷ es) =
     go (list_any (λ m. m == e.0) held) refl (held_never held n h es)
   where
-    other : (b : Bool) → (e.0 == n) ≡ b → list_any (λ m. m == e.0) held ≡ false → cond b 1 0 ≡ 0
+    other : (b : Bool) → (e.0 == n) ≡ b → list_any (λ m. m == e.0) held ≡ false → one_if b ≡ 0
     other true at free =
         let P : ℕ → Type 0 = λ m. list_any (λ k. k == m) held ≡ false in
         let none : list_any (λ k. k == n) held ≡ false = subst P (eqb-true e.0 n at) free in
@@ -128,8 +145,74 @@ held_never held n h (e ∷ es) =
     go : (b : Bool) → list_any (λ m. m == e.0) held ≡ b → times n (unheld held es) ≡ 0
         → times n (cond (not b) (e ∷ unheld held es) (unheld held es)) ≡ 0
     go true at rest = rest
-    go false at rest = sum_by-cons (λ (e : ℕ × DeleteKey). cond (e.0 == n) 1 0) e (unheld held es)
-        ∙ ap (λ v. v + times n (unheld held es)) (other (e.0 == n) refl at) ∙ rest
+    go false at rest =
+        let one = sum_by-cons (λ (e : ℕ × DeleteKey). cond (e.0 == n) 1 0) e (unheld held es) in
+        let none = other (e.0 == n) refl at in
+        omega (arith, one, none, rest)
+
+-- a number is given once under new numbers that are all different
+injective : (to : List ℕ) → AllPairs (λ n m. n ≢ m) to → (i j : ℕ) → i < length to → j < length to
+    → get_or to i 0 ≡ get_or to j 0 → i ≡ j
+injective to once i j low lower same = elim (order i j) [
+  | inl less ↦ absurd (once i j 0 less lower same)
+  | inr rest ↦ elim rest [ inl more ↦ absurd (once j i 0 more low (sym same)) | inr e ↦ e ]
+] where
+  order : (i j : ℕ) → (i < j) ⊎ ((j < i) ⊎ (i ≡ j))
+  order i j = grind arith
+
+module _ (to : List ℕ) (once : AllPairs (λ n m. n ≢ m) to) (n : ℕ) where
+  abbrev given : List (ℕ × DeleteKey) → ℕ
+  given es = times n (renumbered to es)
+
+  -- among files that are all of one number where they get this one
+  at_most_of : (k : ℕ) → k < length to → get_or to k 0 ≡ n → (es : List (ℕ × DeleteKey))
+      → AllByRecursion (λ e. e.0 < length to) es → given es ≤ times k es
+  at_most_of k low at [] below = omega arith
+  at_most_of k low at (e ∷ es) below =
+      let rest = at_most_of k low at es below.1 in
+      let one : given (e ∷ es) ≡ one_if (get_or to e.0 0 == n) + given es = sum_by-cons
+      (λ (e : ℕ × DeleteKey). cond (e.0 == n) 1 0) (here to e) (renumbered to es) in
+      let other : times k (e ∷ es) ≡ one_if (e.0 == k) + times k es = sum_by-cons
+      (λ (e : ℕ × DeleteKey). cond (e.0 == k) 1 0) e es in
+      let first = go (get_or to e.0 0 == n) refl in
+      omega arith
+    where
+      go : (b : Bool) → (get_or to e.0 0 == n) ≡ b → one_if b ≤ one_if (e.0 == k)
+      go true h =
+          let same : e.0 ≡ k = injective to once e.0 k below.0 low (eqb-true (get_or to e.0 0) n h ∙ sym at) in
+          let hit : (e.0 == k) ≡ true = eq-eqb e.0 k same in
+          let P : Bool → Type 0 = λ v. 1 ≤ one_if v in
+          subst P (sym hit) (omega arith)
+      go false h = omega arith
+
+  pub given_once : (es : List (ℕ × DeleteKey)) → AllByRecursion (λ e. e.0 < length to) es
+      → ((k : ℕ) → times k es ≤ 1) → given es ≤ 1
+  given_once [] below distinct = omega arith
+  given_once (e ∷ es) below distinct =
+      go (get_or to e.0 0 == n) refl (given_once es below.1 (λ k. fewer_behind k))
+    where
+      fewer_behind : (k : ℕ) → times k es ≤ 1
+      fewer_behind k =
+          let all : times k (e ∷ es) ≡ one_if (e.0 == k) + times k es = sum_by-cons
+          (λ (e : ℕ × DeleteKey). cond (e.0 == k) 1 0) e es in
+          let most = distinct k in
+          omega arith
+
+      go : (b : Bool) → (get_or to e.0 0 == n) ≡ b → given es ≤ 1 → given (e ∷ es) ≤ 1
+      go true h rest =
+          let some = at_most_of e.0 below.0 (eqb-true (get_or to e.0 0) n h) (e ∷ es) below in
+          let most = distinct e.0 in
+          omega arith
+      go false h rest =
+          let one : given (e ∷ es) ≡ one_if (get_or to e.0 0 == n) + given es = sum_by-cons
+          (λ (e : ℕ × DeleteKey). cond (e.0 == n) 1 0) (here to e) (renumbered to es) in
+          let none : one_if (get_or to e.0 0 == n) ≡ 0 = ap one_if h in
+          omega arith
+
+pub renumbered_once : (to : List ℕ) (es : List (ℕ × DeleteKey)) → AllPairs (λ n m. n ≢ m) to
+    → AreBelow (length to) es → AreDistinct es → AreDistinct (renumbered to es)
+renumbered_once to es once below distinct n =
+    given_once to once n es (recursion_from_All (λ e. e.0 < length to) es below) distinct
 
 -- this index's files and those of the other one that it lacks are the union
 module _ (files more all : List (ℕ × DeleteKey)) (held : List ℕ) (numbers : IsPermutation (map (λ e. e.0) files) held)
