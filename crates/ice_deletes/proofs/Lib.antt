@@ -1,4 +1,5 @@
 pub mod Applying
+pub mod Endings
 pub mod Held
 pub mod Lent
 pub mod Lists
