@@ -1,7 +1,7 @@
 -- What merges of indexes end in.
-use Rattle.std.proofs.Common.{◌≡◌, ℕ, zero, suc, ◌+◌, ◌<◌, ◌≤◌, ◌==◌, Bool, true, false, List, [], ◌∷◌, ◌++◌, ◌↔◌, map}
-use Rattle.std.proofs.Common.{length, get_or, cond, refl, sym, ap, subst, ◌∙◌, arith, eq-eqb, slice_index, ◌⊎◌, inl, inr}
-use Rattle.std.specs.List.{Contains, count_by, remove}
+use Rattle.std.proofs.Common.{◌≡◌, ℕ, zero, suc, ◌+◌, ◌≤◌, ◌==◌, Bool, List, [], ◌∷◌, ◌++◌, ◌↔◌}
+use Rattle.std.proofs.Common.{cond, refl, sym, ap, subst, ◌∙◌, arith, eq-eqb, slice_index, ◌⊎◌, inl, inr}
+use Rattle.std.specs.List.{Contains, remove}
 use Rattle.std.specs.List.Sorted.{IsPermutation}
 use Rattle.std.proofs.lemmas.List.Elements.{Contains-append_left, Contains-append_right, Contains-append_cases}
 use Rattle.std.proofs.lemmas.List.Sorted.{Contains-permutation, IsPermutation-cons, IsPermutation-refl}
@@ -172,7 +172,7 @@ into_renumbered to (f ∷ es) e c = elim (head_or_tail f es e c) [
   | inr tail ↦ further (here to f) (renumbered to es) (here to e) (into_renumbered to es e tail)
 ]
 
-of_renumbered : (to : List ℕ) (es : List (ℕ × DeleteKey)) (x : ℕ × DeleteKey) → Contains (renumbered to es) x
+pub of_renumbered : (to : List ℕ) (es : List (ℕ × DeleteKey)) (x : ℕ × DeleteKey) → Contains (renumbered to es) x
     → (e : ℕ × DeleteKey) × Contains es e × (here to e ≡ x)
 of_renumbered to [] x (k, low, at) = absurd (omega arith)
 of_renumbered to (f ∷ es) x c = elim (head_or_tail (here to f) (renumbered to es) x c) [
@@ -209,12 +209,11 @@ ends_same (one files) last h n d = (
 )
 ends_same (both tree to other) last (a, b, first, second, h) n d =
     let f = ends_same tree a first in
-    let g = ends_same other b second in
-    (
+    let g = ends_same other b second in (
       λ c. joined (files_of tree) (renumbered to (files_of other)) (n, d) (either (f n d).0
-      (renumbered_from to b (files_of other) (λ k e. (g k e).0) (n, d)) ((h.same n d).0 c)),
+          (renumbered_from to b (files_of other) (λ k e. (g k e).0) (n, d)) ((h.same n d).0 c)),
       λ c. (h.same n d).1 (either (f n d).1 (renumbered_from to (files_of other) b (λ k e. (g k e).1) (n, d))
-      (Contains-append_cases (files_of tree) (renumbered to (files_of other)) (n, d) c)),
+          (Contains-append_cases (files_of tree) (renumbered to (files_of other)) (n, d) c)),
     )
 
 -- that of files is the index that is built of them

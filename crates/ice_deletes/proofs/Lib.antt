@@ -3,6 +3,7 @@ pub mod Endings
 pub mod Held
 pub mod Lent
 pub mod Lists
+pub mod Naming
 pub mod Numbered
 pub mod Orders
 pub mod Parts

@@ -1,11 +1,11 @@
 -- The files of two indexes as those of one.
-use Rattle.std.proofs.Common.{◌≡◌, ℕ, zero, suc, ◌+◌, ◌-◌, ◌<◌, ◌≤◌, ◌≢◌, ◌==◌, Bool, true, false, not, List, [], ◌∷◌}
+use Rattle.std.proofs.Common.{◌≡◌, ℕ, zero, suc, ◌+◌, ◌<◌, ◌≤◌, ◌≢◌, ◌==◌, Bool, true, false, not, List, [], ◌∷◌}
 use Rattle.std.proofs.Common.{◌++◌, length, map, filter, get_or, cond, refl, sym, ap, subst, ◌∙◌, arith, append_assoc}
 use Rattle.std.proofs.Common.{eq-eqb, eqb-true, slice_index, ◌⊎◌, inl, inr, ◌||◌}
-use Rattle.std.specs.List.{All, AllByRecursion, AllPairs, Contains, count_by, list_any}
-use Rattle.std.specs.List.Sorted.{IsPermutation, IsSortedBy}
+use Rattle.std.specs.List.{AllByRecursion, AllPairs, Contains, count_by, list_any}
+use Rattle.std.specs.List.Sorted.{IsPermutation}
 use Rattle.std.proofs.lemmas.List.{map-append}
-use Rattle.std.proofs.lemmas.List.Elements.{All-contains, All-from_recursion, recursion_from_All, filter-append}
+use Rattle.std.proofs.lemmas.List.Elements.{recursion_from_All, filter-append}
 use Rattle.std.proofs.lemmas.List.Elements.{Contains-append_left, Contains-append_right, Contains-append_cases}
 use Rattle.std.proofs.lemmas.List.Sorted.{Contains-permutation, IsPermutation-append, IsPermutation-append_comm}
 use Rattle.std.proofs.lemmas.List.Sorted.{IsPermutation-refl, IsPermutation-sym, IsPermutation-trans}
@@ -14,7 +14,6 @@ use Rattle.std.proofs.lemmas.List.Sums.{sum_by-append, sum_by-cons}
 use Rattle.ice_value.specs.Applying.{DeleteKey}
 use Rattle.ice_deletes.specs.Indexes.{AreDistinct}
 use Rattle.ice_deletes.specs.Unions.{renumbered, unheld, AreBelow, Agree, IsUnion}
-
 
 -- two lists, each with what was put behind it
 interleaved : {X : Type 0} (x y u v : List X) → IsPermutation ((x ++ y) ++ (u ++ v)) ((x ++ u) ++ (y ++ v))
@@ -34,7 +33,6 @@ pub both_grown : {X : Type 0} (x y u v all more : List X) → IsPermutation (x +
     → IsPermutation ((x ++ y) ++ (u ++ v)) (all ++ more)
 both_grown x y u v all more p q = IsPermutation-trans ((x ++ y) ++ (u ++ v)) ((x ++ u) ++ (y ++ v)) (all ++ more)
     (interleaved x y u v) (IsPermutation-append (x ++ u) all (y ++ v) more p q)
-
 
 abbrev here : List ℕ → ℕ × DeleteKey → ℕ × DeleteKey
 here to e = (slice_index to e.0, e.1)

@@ -1,12 +1,10 @@
-use Rattle.std.proofs.Common.{◌≡◌, ℕ, ◌<◌, List, ◌++◌, length, map, sym, subst}
-use Rattle.std.specs.List.{All}
+use Rattle.std.proofs.Common.{ℕ, ◌<◌, List, ◌++◌, length, map, sym, subst}
 use Rattle.std.specs.List.Sorted.{IsPermutation}
 use Rattle.ice_value.specs.Applying.{DeleteKey}
-use Rattle.ice_deletes.specs.declared.delete.Delete.{Delete}
 use Rattle.ice_deletes.specs.declared.group.Group.TheVariants.{Positions, Referenced, Equalities, Everywhere}
 use Rattle.ice_deletes.specs.Indexes.{AreDistinct, entries_in}
 use Rattle.ice_deletes.specs.Keys.{entry_of}
-use Rattle.ice_deletes.specs.Unions.{renumbered, unheld, AreBelow, IsUnion}
+use Rattle.ice_deletes.specs.Unions.{renumbered, unheld, AreBelow}
 use Rattle.ice_deletes.proofs.Shelved.{are_fresh, entries_grown, fresh_for, shelf_grown}
 use Rattle.ice_deletes.proofs.Shelved.{first_shelf, second_shelf, third_shelf, fourth_shelf}
 use Rattle.ice_deletes.proofs.United.{all_grown, renumbered_once, united}

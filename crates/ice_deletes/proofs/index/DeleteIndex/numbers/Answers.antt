@@ -2,7 +2,6 @@ use Rattle.std.proofs.Common.{◌≡◌, ℕ, List, ◌++◌, map, sym, ap, subs
 use Rattle.std.specs.List.Sorted.{IsPermutation}
 use Rattle.ice_value.specs.Applying.{DeleteKey}
 use Rattle.ice_deletes.proofs.Shelved.{numbers_shelved}
-use Rattle.ice_deletes.proofs.United.{united}
 use Rattle.ice_deletes.proofs.index.DeleteIndex.numbers.Goals as goal
 
 pub returns-clause-same : goal.returns-clause-same

@@ -1,4 +1,4 @@
-use Rattle.std.proofs.Common.{◌≡◌, ◌++◌, length, arith, ap, ◌∙◌}
+use Rattle.std.proofs.Common.{◌≡◌, ◌++◌, length, arith, ap}
 use Rattle.std.proofs.lemmas.List.{length-append}
 use Rattle.std.proofs.lemmas.List.Sorted.{length_permutation}
 use Rattle.ice_deletes.proofs.shelf.Shelf.grow.Goals as goal
@@ -9,5 +9,12 @@ put_numbers-requires c =
     let fresh = c.args.growth.fresh.items in
     let none : length c.args.growth.numbers.items ≡ 0 = ap length c.requires.room.no_numbers in
     let all = length_permutation (old ++ fresh) c.merge.new.merged.items c.merge.ensures.all in
-    omega (arith, none, all, length-append old fresh, c.args.growth.numbers.ok.0, ap length c.deref.ensures.value,
-    c.requires.room.numbers)
+    omega (
+      arith,
+      none,
+      all,
+      length-append old fresh,
+      c.args.growth.numbers.ok.0,
+      ap length c.deref.ensures.value,
+      c.requires.room.numbers,
+    )
