@@ -3,3 +3,5 @@ pub mod Groups
 pub mod Indexes
 pub mod Keys
 pub mod Shelves
+pub mod Trees
+pub mod Unions

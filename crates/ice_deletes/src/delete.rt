@@ -46,6 +46,25 @@ impl Delete {
         })
     }
 
+    /// The same file under another number.
+    pub fn renumbered(&self, alloc: Global, number: usize) -> Result<Delete, AllocError>
+        ensures { IfOk result (λ delete. entry_of delete ≡ (number, key_in self.now)) }
+    {
+        let referenced = match &self.referenced {
+            Some(path) => Some(path.copy(alloc)?),
+            None => None,
+        };
+        Ok(Delete {
+            content: self.content,
+            spec_id: self.spec_id,
+            unpartitioned: self.unpartitioned,
+            tuple: self.tuple.copy(alloc)?,
+            sequence_number: self.sequence_number,
+            referenced,
+            number,
+        })
+    }
+
     /// What it is sorted by.
     fn key(&self) -> SearchKey<'_>
         ensures { sought result ≡ sort_key (key_in self.now) }

@@ -1,14 +1,18 @@
 //! The index of delete files.
 
-ghost use Rattle.std.specs.Prelude.{◌↔◌, ◌&&◌, ◌==◌, ◌≤◌, ℕ, map, IfOk, Contains, count_by};
-ghost use Rattle.std.specs.List.Sorted.{IsPermutation};
+ghost use Rattle.std.specs.Prelude.{◌≡◌, ◌≢◌, ◌↔◌, ◌&&◌, ◌==◌, ◌≤◌, ℕ, map, length, IfOk, OnOk};
+ghost use Rattle.std.specs.Prelude.{OnErr, AllPairs, Contains, count_by};
+ghost use Rattle.std.specs.List.Sorted.{IsPermutation, IsSorted};
+ghost use Rattle.std.specs.Ordering.{nat_cmp};
 ghost use Rattle.ice_value.specs.Applying.{applies};
 ghost use Rattle.ice_deletes.specs.Keys.{key_of};
 ghost use Rattle.ice_deletes.specs.Groups.{is_in};
 ghost use Rattle.ice_deletes.specs.Found.{data_key, numbered_deletes, numbers_where, lent, AppliesAt};
+ghost use Rattle.ice_deletes.specs.Unions.{renumbered, AreBelow, Agree, IsUnion};
 ghost use Rattle.ice_deletes.specs.declared.group.Group.TheVariants.{Positions, Referenced, Equalities, Everywhere};
 
 use crate::group::Group;
+use crate::growth::Growth;
 use crate::record::Record;
 use crate::search_key::SearchKey;
 use crate::shelf::Shelf;
@@ -63,6 +67,42 @@ impl DeleteIndex {
             equalities: Shelf::build(alloc, records, Group::Equalities)?,
             everywhere: Shelf::build(alloc, records, Group::Everywhere)?,
         })
+    }
+
+    /// The numbers of its delete files, in order.
+    fn numbers(&self) -> Result<Vec<usize>, AllocError>
+        ensures sorted { IfOk result (λ numbers. IsSorted nat_cmp numbers.items) }
+        ensures same { IfOk result (λ numbers. IsPermutation (map (λ e. e.0) self.now) numbers.items) }
+    {
+        let mut numbers = Vec::new(*self.positions.numbers.allocator());
+        numbers.extend_from_slice(&self.positions.numbers)?;
+        numbers.extend_from_slice(&self.referenced.numbers)?;
+        numbers.extend_from_slice(&self.equalities.numbers)?;
+        numbers.extend_from_slice(&self.everywhere.numbers)?;
+        numbers.sort_unstable();
+        Ok(numbers)
+    }
+
+    /// Takes in the delete files of another index: `to[k]` is the number here of the one that is k there. Those that
+    /// both have stay as they are. A refusal, for want of memory alone, leaves the index as it was.
+    pub fn merge(&mut self, other: &DeleteIndex, to: &[u32]) -> Result<(), AllocError>
+        requires below { AreBelow (length to.now) other.now }
+        requires once { AllPairs (λ n m. n ≢ m) to.now }
+        requires agree { Agree self.old (renumbered to.now other.now) }
+        ensures ok { OnOk result (IsUnion self.old (renumbered to.now other.now) self.new) }
+        ensures err { OnErr result (self.new ≡ self.old) }
+    {
+        let alloc = *self.positions.numbers.allocator();
+        let held = self.numbers()?;
+        let positions = Growth::new(alloc, &self.positions, &other.positions, &held, to)?;
+        let referenced = Growth::new(alloc, &self.referenced, &other.referenced, &held, to)?;
+        let equalities = Growth::new(alloc, &self.equalities, &other.equalities, &held, to)?;
+        let everywhere = Growth::new(alloc, &self.everywhere, &other.everywhere, &held, to)?;
+        self.positions.grow(positions);
+        self.referenced.grow(referenced);
+        self.equalities.grow(equalities);
+        self.everywhere.grow(everywhere);
+        Ok(())
     }
 
     /// The delete files that apply to the data file of this spec and tuple, with this sequence number, at this path.

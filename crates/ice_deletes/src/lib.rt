@@ -3,10 +3,14 @@
 
 mod delete;
 mod group;
+mod growth;
 mod index;
+mod laws;
+mod merging;
 mod record;
 mod search_key;
 mod shelf;
 
 pub use index::{DeleteIndex, Hits};
+pub use laws::merging_of_indexes;
 pub use record::Record;

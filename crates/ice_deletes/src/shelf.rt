@@ -1,15 +1,17 @@
 //! The delete files of a group, sorted.
 
-ghost use Rattle.std.specs.Prelude.{◌≡◌, ◌≤◌, map, filter, IfOk, OnOk, length, take, drop, not};
+ghost use Rattle.std.specs.Prelude.{◌≡◌, ◌≤◌, ◌++◌, map, filter, IfOk, OnOk, length, take, drop, not};
 ghost use Rattle.std.specs.List.{enumerate_from};
 ghost use Rattle.std.specs.List.Sorted.{IsSortedBy, IsPermutation};
 ghost use Rattle.ice_deletes.specs.Keys.{key_of, key_in, entry_of, sought};
 ghost use Rattle.ice_deletes.specs.Groups.{is_in, is_older, is_up_to, is_within};
-ghost use Rattle.ice_deletes.specs.Shelves.{earlier, IsShelf};
+ghost use Rattle.ice_deletes.specs.Shelves.{earlier, IsShelf, HasRoom};
 ghost use Rattle.ice_deletes.specs.declared.delete.Delete.{Delete};
 
 use crate::delete::Delete;
 use crate::group::Group;
+use crate::growth::Growth;
+use crate::merging::{merge, put_numbers};
 use crate::record::Record;
 use crate::search_key::SearchKey;
 use std::alloc::{AllocError, Global};
@@ -73,6 +75,27 @@ impl Shelf {
             deletes,
             numbers,
         })
+    }
+
+    /// Takes delete files in, without taking memory.
+    pub fn grow(&mut self, growth: Growth)
+        requires sorted { IsSortedBy (earlier self.old.group) self.old.deletes.items }
+        requires fresh { IsSortedBy (earlier self.old.group) growth.fresh.items }
+        requires room { HasRoom self.old growth }
+        ensures group { self.new.group ≡ self.old.group }
+        ensures rising { IsSortedBy (earlier self.old.group) self.new.deletes.items }
+        ensures all { IsPermutation (self.old.deletes.items ++ growth.fresh.items) self.new.deletes.items }
+        ensures numbered { self.new.numbers.items ≡ map (λ (d : Delete). d.number) self.new.deletes.items }
+    {
+        let Growth {
+            mut fresh,
+            mut deletes,
+            mut numbers,
+        } = growth;
+        merge(&mut self.deletes, &mut fresh, &mut deletes, self.group);
+        put_numbers(&mut numbers, &deletes);
+        self.deletes = deletes;
+        self.numbers = numbers;
     }
 
     /// How many of the delete files stand at the place that is sought or before.

@@ -214,3 +214,27 @@ fn no_records(rt: HostRuntime) -> Result<(), Fail> {
     assert!(rt; are_found);
     Ok(())
 }
+
+/// An index with files of sequence numbers 3 and 5, which took in one with 4 and 5, the last being one file.
+fn merged(alloc: Global, tuple: &[Cell]) -> Result<DeleteIndex, AllocError> {
+    let [three, four, five] = [
+        file(EQUALITIES, 1, false, tuple, 3),
+        file(EQUALITIES, 1, false, tuple, 4),
+        file(EQUALITIES, 1, false, tuple, 5),
+    ];
+    let mut index = DeleteIndex::build(alloc, &[three, five])?;
+    let other = DeleteIndex::build(alloc, &[four, five])?;
+    index.merge(&other, &[2, 1])?;
+    Ok(index)
+}
+
+#[test]
+fn shared_deletes_stand_once(rt: HostRuntime) -> Result<(), Fail> {
+    let tuple = [Cell::Whole(7)];
+    let index = merged(rt.alloc(), &tuple)?;
+    let all = index.for_data(1, &tuple, number(2), A);
+    assert!(rt; all.equalities == [0, 2, 1].as_slice());
+    let newest = index.for_data(1, &tuple, number(4), A);
+    assert!(rt; newest.equalities == [1].as_slice());
+    Ok(())
+}
