@@ -2,7 +2,7 @@
 use Rattle.std.specs.Prelude.{◌≡◌, Ok, ℕ, ℤ, ◌+◌, Bool, false, ◌&&◌, nat_eq, Option, Some, None, if◌then◌else◌}
 use Rattle.std.specs.Ordering.{int_eq}
 use Rattle.std.specs.Option.{option_eq}
-use Rattle.avro_schema.specs.Tree.{Tree, structure, array, Fields, no_fields, field}
+use Rattle.avro_schema.specs.Tree.{Tree, structure, Fields, no_fields, field}
 use Rattle.ice_manifest_fields.specs.Fields.{within_32}
 use Rattle.ice_manifest_fields.specs.declared.columns.ColumnMap.{ColumnMap}
 
@@ -19,11 +19,6 @@ abbrev pub lies_as_pairs : ColumnMap → Tree → Bool
 lies_as_pairs m (structure fs) =
     option_eq nat_eq (place_of m.key fs) (Some 0) && option_eq nat_eq (place_of m.said fs) (Some 1)
 lies_as_pairs m t = false
-
--- the items of an array of this type are such pairs
-abbrev pub items_lie_as_pairs : ColumnMap → Tree → Bool
-items_lie_as_pairs m (array t id kind) = lies_as_pairs m t
-items_lie_as_pairs m t = false
 
 -- the pair's key is a number of 32 bits, whatever field it is asked for as
 abbrev pub IsKey : {T : Type 0} → ℤ × T → Type 0

@@ -9,7 +9,7 @@ ghost use Rattle.ice_manifest_fields.specs.Each.{each};
 ghost use Rattle.ice_manifest_fields.specs.Fields.{items_of as items_value};
 ghost use Rattle.ice_manifest_fields.specs.Naming.{in_manifest, told};
 ghost use Rattle.ice_manifest_fields.specs.Seen.{result_map, fields_seen, object, listed};
-ghost use Rattle.ice_manifest_fields.specs.Places.{lies_as_pairs, items_lie_as_pairs, IsKey};
+ghost use Rattle.ice_manifest_fields.specs.Places.{lies_as_pairs, IsKey};
 ghost use Rattle.ice_manifest_fields.specs.Schemas.{each_branch, pair_fields, is_pair, lists_pairs, map_fits};
 ghost use Rattle.ice_manifest_fields.specs.Schemas.{column_fields as fields_of_columns};
 ghost use Rattle.ice_manifest_fields.specs.Maps.{count_in as count_within, count_of as count_of_item};
@@ -206,8 +206,8 @@ fn counts_of(
     Ok(counts)
 }
 
-/// The counts that a map says, lent where they lie as pairs.
-fn counts_of_map<'a, 'd>(
+/// The counts that a map says, lent where they lie as pairs. Any other value says none.
+pub fn counts_of_map<'a, 'd>(
     alloc: Global,
     schema: &Schema,
     datum: &'a Datum<'d>,
@@ -224,39 +224,6 @@ fn counts_of_map<'a, 'd>(
         _ => {
             let built = pairs_built(alloc, datum)?;
             let (schema, items) = items_of(schema, datum, &built);
-            Ok(ColumnCounts::made(counts_of(alloc, schema, items, map)?))
-        }
-    }
-}
-
-/// Whether the items of an array of this type lie as the map's pairs.
-fn lie_as_pairs(schema: &Schema, map: ColumnMap) -> bool
-    ensures { result ≡ items_lie_as_pairs map (tree schema.now) }
-{
-    match schema {
-        Schema::Array(items, _, _) => is_lent(items, map),
-        _ => false,
-    }
-}
-
-/// The counts that a map says, which outlive its datum. Any other value says none.
-pub fn counts_made<'a>(
-    alloc: Global,
-    schema: &Schema,
-    datum: Datum,
-    map: ColumnMap,
-) -> Result<ColumnCounts<'a>, ManifestFault>
-    ensures { Gives ManifestFault.Memory (λ x. x) result
-        (told in_manifest (each (count_of_item map) (items_value (Some (tree schema.now, view datum.entry))))) }
-{
-    match datum {
-        Datum::LongPairs(pairs) if lie_as_pairs(schema, map) => {
-            see_keys(&pairs);
-            Ok(ColumnCounts::made(pairs))
-        }
-        datum => {
-            let built = pairs_built(alloc, &datum)?;
-            let (schema, items) = items_of(schema, &datum, &built);
             Ok(ColumnCounts::made(counts_of(alloc, schema, items, map)?))
         }
     }
@@ -326,8 +293,8 @@ fn bounds_of<'d>(
     Ok(bounds)
 }
 
-/// The bounds that a map says, lent where they lie as pairs.
-fn bounds_of_map<'a, 'd>(
+/// The bounds that a map says, lent where they lie as pairs. Any other value says none.
+pub fn bounds_of_map<'a, 'd>(
     alloc: Global,
     schema: &Schema,
     datum: &'a Datum<'d>,
@@ -344,29 +311,6 @@ fn bounds_of_map<'a, 'd>(
         _ => {
             let built = pairs_built(alloc, datum)?;
             let (schema, items) = items_of(schema, datum, &built);
-            Ok(ColumnBounds::made(bounds_of(alloc, schema, items, map)?))
-        }
-    }
-}
-
-/// The bounds that a map says, which outlive its datum and lend the file's bytes. Any other value says none.
-pub fn bounds_made<'a, 'd>(
-    alloc: Global,
-    schema: &Schema,
-    datum: Datum<'d>,
-    map: ColumnMap,
-) -> Result<ColumnBounds<'a, 'd>, ManifestFault>
-    ensures { Gives ManifestFault.Memory (λ x. x) result
-        (told in_manifest (each (bound_of_item map) (items_value (Some (tree schema.now, view datum.entry))))) }
-{
-    match datum {
-        Datum::BytesPairs(pairs) if lie_as_pairs(schema, map) => {
-            see_keys(&pairs);
-            Ok(ColumnBounds::made(pairs))
-        }
-        datum => {
-            let built = pairs_built(alloc, &datum)?;
-            let (schema, items) = items_of(schema, &datum, &built);
             Ok(ColumnBounds::made(bounds_of(alloc, schema, items, map)?))
         }
     }

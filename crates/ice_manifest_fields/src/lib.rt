@@ -12,8 +12,8 @@ mod picking;
 mod shape;
 
 pub use columns::{
-    ColumnMap, LOWER_BOUNDS, NULL_COUNTS, UPPER_BOUNDS, VALUE_COUNTS, bounds_made,
-    check_column_fields, columns_of, counts_made,
+    ColumnMap, LOWER_BOUNDS, NULL_COUNTS, UPPER_BOUNDS, VALUE_COUNTS, bounds_of_map,
+    check_column_fields, columns_of, counts_of_map,
 };
 pub use decimal::shortest;
 pub use fault::{FieldFault, ListFault, ManifestFault};

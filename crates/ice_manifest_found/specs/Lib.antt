@@ -1,2 +1,2 @@
 pub mod Met
-pub mod MapsFound
+pub mod MapsRead

@@ -2,7 +2,7 @@
 -- Apache Iceberg table spec v2, 'Manifests' and 'Column Projection'.
 use Rattle.std.specs.Prelude.{ℕ, ℤ, List, Bool, Option, Result, Ok, is_some}
 use Rattle.contract_words.specs.Outcome.{◌>>=◌}
-use Rattle.avro_file.specs.Picking.{Picked}
+use Rattle.avro_file.specs.Picking.{Typed, Picked}
 use Rattle.ice_value.specs.Columns.{ColumnCount, ColumnBound}
 use Rattle.ice_value.specs.declared.file_bounds.FileBounds.{FileBounds}
 use Rattle.ice_manifest_fields.specs.declared.fault.FieldFault.{FieldFault}
@@ -56,11 +56,11 @@ ints_met item met = each (int_item item) (items_of (there met))
 -- ---- columns
 
 -- the counts of a map; none where there is no map
-abbrev pub counts_met : ColumnMap → Picked → Result (List ColumnCount) FieldFault
-counts_met m met = each (count_of m) (items_of (there met))
+abbrev pub counts_in : ColumnMap → Option Typed → Result (List ColumnCount) FieldFault
+counts_in m x = each (count_of m) (items_of x)
 
-abbrev pub bounds_met : ColumnMap → Picked → Result (List ColumnBound) FieldFault
-bounds_met m met = each (bound_of m) (items_of (there met))
+abbrev pub bounds_in : ColumnMap → Option Typed → Result (List ColumnBound) FieldFault
+bounds_in m x = each (bound_of m) (items_of x)
 
 -- what stands at the four maps of a data file's columns
 pub record MapsMet : Type 0 where
@@ -71,8 +71,8 @@ pub record MapsMet : Type 0 where
 
 unfoldable pub columns_met : MapsMet → Result FileBounds FieldFault
 columns_met met = do
-  values ← counts_met value_counts met.values
-  nulls ← counts_met null_value_counts met.nulls
-  lower ← bounds_met lower_bounds met.lower
-  upper ← bounds_met upper_bounds met.upper
+  values ← counts_in value_counts (there met.values)
+  nulls ← counts_in null_value_counts (there met.nulls)
+  lower ← bounds_in lower_bounds (there met.lower)
+  upper ← bounds_in upper_bounds (there met.upper)
   Ok (record { value_counts = values; null_counts = nulls; lower_bounds = lower; upper_bounds = upper })

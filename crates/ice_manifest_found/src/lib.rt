@@ -13,4 +13,4 @@ pub use field::{
 };
 pub use leaf::{binary, is_record, text, truth, whole};
 pub use list::ints;
-pub use maps::{FoundMaps, bounds, columns, counts};
+pub use maps::{FoundMaps, ReadMaps};

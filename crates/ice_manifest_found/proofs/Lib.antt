@@ -1,0 +1,4 @@
+pub mod Leaves
+pub mod Others
+pub mod Inside
+pub mod Said
