@@ -25,6 +25,7 @@ ghost use Rattle.ice_manifest_reading.specs.Manifests.{file_of as file_said};
 ghost use Rattle.ice_manifest_reading.specs.Manifests.{live_at as live_said, entry_of as entry_said, entries_ahead};
 ghost use Rattle.ice_manifest_reading.specs.Manifests.{kept_of};
 ghost use Rattle.ice_manifest_reading.specs.Manifests.{kept_behind, entries_kept, entries_of};
+ghost use Rattle.ice_manifest_reading.specs.Behind.{AreMapsOf, live_behind};
 ghost use Rattle.ice_meta.specs.Partitioning.{is_unpartitioned};
 
 use crate::data_file::FileView;
@@ -40,7 +41,7 @@ use contract_words::Items;
 use ice_entry_found::{EntryField, FileField, FoundEntry, FoundFile, entry_layout};
 use ice_manifest_fields::{FieldFault, ManifestFault, fields_of, type_at};
 use ice_manifest_found::{
-    FoundMaps, columns, int_asked, ints, long_asked, optional_number, optional_path, path_asked,
+    FoundMaps, ReadMaps, int_asked, ints, long_asked, optional_number, optional_path, path_asked,
     whole,
 };
 use ice_meta::Spec;
@@ -137,14 +138,13 @@ fn referenced_at<'d>(
     }
 }
 
-/// The counts and bounds of the file's columns.
-#[tactic(auto, unfolding(ice_manifest_fields::specs::Maps::columns_of, ice_manifest_fields::specs::Maps::counts_at, ice_manifest_fields::specs::Maps::bounds_at, ice_manifest_found::specs::Met::columns_met))]
-fn columns_at<'a, 'd>(
+/// The maps of the file's columns.
+fn maps_of<'s, 'd>(
     alloc: Global,
-    file: &FoundFile<'_, '_, '_, 'd>,
-) -> Result<FileBounds<'a, 'd>, ManifestFault>
+    file: &FoundFile<'_, '_, 's, 'd>,
+) -> Result<ReadMaps<'s, 'd>, AllocError>
     requires { IsFile file.now }
-    ensures { Gives ManifestFault.Memory (λ x. x) result (told in_manifest (columns_said (file_seen file.now))) }
+    ensures { IfOk result (λ maps. AreMapsOf file.now maps) }
 {
     let maps = FoundMaps {
         value_counts: file.found(FileField::ValueCounts),
@@ -152,7 +152,19 @@ fn columns_at<'a, 'd>(
         lower_bounds: file.found(FileField::LowerBounds),
         upper_bounds: file.found(FileField::UpperBounds),
     };
-    columns(alloc, &maps)
+    maps.read(alloc)
+}
+
+/// The counts and bounds of the file's columns, lent by its maps.
+fn columns_of<'a, 'd>(
+    alloc: Global,
+    file: &FoundFile,
+    maps: &'a ReadMaps<'_, 'd>,
+) -> Result<FileBounds<'a, 'd>, ManifestFault>
+    requires { AreMapsOf file.now maps.now }
+    ensures { Gives ManifestFault.Memory (λ x. x) result (told in_manifest (columns_said (file_seen file.now))) }
+{
+    maps.columns(alloc)
 }
 
 /// The ids of the columns by which equality deletes compare rows.
@@ -165,14 +177,16 @@ fn equality_ids_at(alloc: Global, file: &FoundFile) -> Result<Items<i32>, Manife
     ints(alloc, file.found(FileField::EqualityIds), EQUALITY_ID)
 }
 
-/// The file of an entry in a manifest of this content, and what is said of the file's columns.
+/// The file of an entry in a manifest of this content, and what is said of the file's columns, lent by its maps.
 #[tactic(auto, unfolding(crate::specs::Manifests::file_of))]
 fn file_of<'a, 'd>(
     alloc: Global,
     of_row: ManifestContent,
     file: &FoundFile<'_, '_, '_, 'd>,
+    maps: &'a ReadMaps<'_, 'd>,
 ) -> Result<(FileView<'d>, FileBounds<'a, 'd>), ManifestFault>
-    requires { IsFile file.now }
+    requires file { IsFile file.now }
+    requires maps { AreMapsOf file.now maps.now }
     ensures { Gives ManifestFault.Memory (λ x. x) result
         (told in_manifest (file_said of_row file.now.entry.now.partition.now (file_seen file.now))) }
 {
@@ -181,7 +195,7 @@ fn file_of<'a, 'd>(
     let tuple = tuple_at(alloc, file)?;
     let record_count = long_at(file, FileField::RecordCount)?;
     let file_size = long_at(file, FileField::FileSize)?;
-    let columns = columns_at(alloc, file)?;
+    let columns = columns_of(alloc, file, maps)?;
     let equality_ids = equality_ids_at(alloc, file)?;
     let referenced = referenced_at(content, file)?;
     let view = FileView {
@@ -273,60 +287,6 @@ struct Source<'a> {
     ghost known: { unpartitioned ≡ is_unpartitioned spec.now },
 }
 
-/// An entry that exists or was added.
-#[tactic(auto, unfolding(crate::specs::Manifests::live_at))]
-fn live_at<'a, 'd>(
-    alloc: Global,
-    source: &Source<'_>,
-    position: u64,
-    status: Status,
-    entry: &FoundEntry<'_, '_, 'd>,
-) -> Result<Live<'a, 'd>, ManifestFault>
-    requires placed { IsPlaced entry.now }
-    requires partition { entry.now.partition.now ≡ source.now.spec.now.fields }
-    ensures { Gives ManifestFault.Memory (λ x. x) result
-        (live_said source.now.row.now source.now.spec.now position status (entry_seen entry.now)) }
-{
-    let row = source.row;
-    let snapshot_id = snapshot_at(row, entry);
-    let sequence_number = sequence_at(row, status, entry)?;
-    let file_sequence_number = file_sequence_at(row, status, entry)?;
-    let Some(file) = FoundFile::of(entry) else {
-        return Err(ManifestFault::MissingField(EntryField::DataFile.id()));
-    };
-    let (view, bounds) = file_of(alloc, row.content, &file)?;
-    let entry = EntryView {
-        position,
-        spec_id: row.spec_id,
-        unpartitioned: source.unpartitioned,
-        snapshot_id,
-        sequence_number,
-        file_sequence_number,
-        file: view,
-    };
-    Ok(Live { entry, bounds })
-}
-
-/// The entry that an object says. Of a deleted one nothing but the status is looked at.
-#[tactic(auto, unfolding(crate::specs::Manifests::entry_of))]
-fn entry_at<'a, 'd>(
-    alloc: Global,
-    source: &Source<'_>,
-    position: u64,
-    entry: &FoundEntry<'_, '_, 'd>,
-) -> Result<Option<Live<'a, 'd>>, ManifestFault>
-    requires placed { IsPlaced entry.now }
-    requires partition { entry.now.partition.now ≡ source.now.spec.now.fields }
-    ensures { Gives ManifestFault.Memory (λ x. x) result
-        (entry_said source.now.row.now source.now.spec.now position (entry_seen entry.now)) }
-{
-    let status = status_at(entry)?;
-    if status == Status::Deleted {
-        return Ok(None);
-    }
-    Ok(Some(live_at(alloc, source, position, status, entry)?))
-}
-
 /// Puts a live entry last, if it is kept.
 fn push_kept<'d, K: Keep>(
     keep: &K,
@@ -341,7 +301,48 @@ fn push_kept<'d, K: Keep>(
     Ok(())
 }
 
-/// Puts the entry that an object says last, if it is live and kept.
+/// Puts an entry that exists or was added last, if it is kept.
+#[tactic(auto, unfolding(crate::specs::Manifests::live_at))]
+fn read_live<'d, K: Keep>(
+    alloc: Global,
+    source: &Source<'_>,
+    keep: &K,
+    found: &mut Vec<EntryView<'d>>,
+    position: u64,
+    status: Status,
+    entry: &FoundEntry<'_, '_, 'd>,
+) -> Result<(), ManifestFault>
+    requires placed { IsPlaced entry.now }
+    requires partition { entry.now.partition.now ≡ source.now.spec.now.fields }
+    ensures { Gives ManifestFault.Memory (λ _. found.new.items) result
+        (live_behind (K.kept keep.now) found.old.items
+        (live_said source.now.row.now source.now.spec.now position status (entry_seen entry.now))) }
+{
+    let row = source.row;
+    let snapshot_id = snapshot_at(row, entry);
+    let sequence_number = sequence_at(row, status, entry)?;
+    let file_sequence_number = file_sequence_at(row, status, entry)?;
+    let Some(file) = FoundFile::of(entry) else {
+        return Err(ManifestFault::MissingField(EntryField::DataFile.id()));
+    };
+    let maps = maps_of(alloc, &file)?;
+    let (view, bounds) = file_of(alloc, row.content, &file, &maps)?;
+    let entry = EntryView {
+        position,
+        spec_id: row.spec_id,
+        unpartitioned: source.unpartitioned,
+        snapshot_id,
+        sequence_number,
+        file_sequence_number,
+        file: view,
+    };
+    push_kept(keep, found, Live { entry, bounds })?;
+    Ok(())
+}
+
+/// Puts the entry that an object says last, if it is live and kept. Of a deleted one nothing but the status is looked
+/// at.
+#[tactic(auto, unfolding(crate::specs::Manifests::entry_of))]
 fn read_object<'d, K: Keep>(
     alloc: Global,
     source: &Source<'_>,
@@ -356,10 +357,11 @@ fn read_object<'d, K: Keep>(
         (kept_behind (K.kept keep.now) found.old.items
         (entry_said source.now.row.now source.now.spec.now position (entry_seen entry.now))) }
 {
-    if let Some(live) = entry_at(alloc, source, position, entry)? {
-        push_kept(keep, found, live)?;
+    let status = status_at(entry)?;
+    if status == Status::Deleted {
+        return Ok(());
     }
-    Ok(())
+    read_live(alloc, source, keep, found, position, status, entry)
 }
 
 /// The kept entries of all objects that are to come, which are records and few enough to be numbered.
