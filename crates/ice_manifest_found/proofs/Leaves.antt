@@ -61,7 +61,8 @@ read_seen : {B : Type 0} (see : Value → B) (b : B) (t : Tree) (p : Position) (
     → Makes see b t → datum_at t p ≡ Ok (v, q) → see v ≡ b
 unfolding datum_at
 read_seen see b null p v q makes e =
-    made_seen see b (Ok {E = Refusal} p) (λ (x : Position). nothing) (λ (x : Position). x) v q (λ x. makes) e
+    let here : Result Position Refusal = Ok p in
+    made_seen see b here (λ (x : Position). nothing) (λ (x : Position). x) v q (λ x. makes) e
 read_seen see b boolean p v q makes e = leaf_seen see b truth p.left (boolean_at p.bytes) v q makes e
 read_seen see b int p v q makes e = leaf_seen see b small p.left (int_at p.bytes) v q makes e
 read_seen see b long p v q makes e = leaf_seen see b whole p.left (long_at p.bytes) v q makes e

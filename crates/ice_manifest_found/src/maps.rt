@@ -65,6 +65,7 @@ fn read_map<'s, 'd>(
 }
 
 /// The counts that a map says, lent from it; none where there is no map.
+#[tactic(auto, unfolding(ice_manifest_fields::specs::Each::each))]
 fn counts<'a>(
     alloc: Global,
     read: &'a Option<ReadMap<'_, '_>>,
@@ -79,6 +80,7 @@ fn counts<'a>(
 }
 
 /// The bounds that a map says, lent from it; none where there is no map.
+#[tactic(auto, unfolding(ice_manifest_fields::specs::Each::each))]
 fn bounds<'a, 'd>(
     alloc: Global,
     read: &'a Option<ReadMap<'_, 'd>>,
