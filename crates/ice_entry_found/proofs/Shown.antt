@@ -105,8 +105,8 @@ fields_met f met fs is type_is =
     let taken = fields_there fs f.bytes.now is.0 stands in (
       taken.0,
       ap (λ (m : Picked). record_of (there m)) is.2
-      ∙ ap (λ (t : Tree). record_of (Some (t, is.0))) type_is
-      ∙ ap (λ (v : Value). record_of (Some (structure fs, v))) taken.1,
+          ∙ ap (λ (t : Tree). record_of (Some (t, is.0))) type_is
+          ∙ ap (λ (v : Value). record_of (Some (structure fs, v))) taken.1,
     )
 
 -- ---- from the file
@@ -114,13 +114,16 @@ fields_met f met fs is type_is =
 pub file_shown : (f : FoundFile) (found : Option Found) (k : ℕ) (next : ℤ) (way : List ℤ) → IsFile f
     → IsNumberOf (pos 2 ∷ next ∷ way) k f.entry.now.partition.now
     → ((v : Value) → Shows f.entry.now.object v
-        → IsMet found (pick (way_of f.entry.now.layout.now k) (layout_tree f.entry.now.layout.now, v)))
+    → IsMet found (pick (way_of f.entry.now.layout.now k) (layout_tree f.entry.now.layout.now, v)))
     → IsMet found (pick (next ∷ way) (file_seen f))
 unfolding file_seen
 file_shown f found k next way is number finds =
     let here = ap record_met is.1.1 in
-    let onward = picked_onward (pos 2) next way (entry_seen f.entry.now) (structure (fields_seen f.fields.now), fields
-    is.1.0) is.1.1 in
+    let onward = picked_onward (pos 2) next way (entry_seen f.entry.now) (
+      structure (fields_seen f.fields.now),
+      fields
+          is.1.0,
+    ) is.1.1 in
     subst (λ (met : Picked). IsMet found met) (onward ∙ ap (pick (next ∷ way)) (sym here))
     (shown f.entry.now found k (pos 2 ∷ next ∷ way) is.0 number finds)
 
@@ -131,7 +134,7 @@ nth_behind [] ways k = rw (zero_add_is k) refl
   where
     zero_add_is : (k : ℕ) → 0 + k ≡ k
     zero_add_is k = omega arith
-nth_behind (way ∷ front) ways k = 
+nth_behind (way ∷ front) ways k =
     let e : suc (length front) + k ≡ suc (length front + k) = omega arith in
     rw e (nth_behind front ways k)
 
@@ -144,7 +147,7 @@ nth_cell (q ∷ ps) (suc k) p lt is = nth_cell ps k p (omega arith) is
 pub cell_shown : (f : FoundFile) (found : Option Found) (k : ℕ) (p : PartitionField) → IsFile f → HasTuple f
     → k < length f.entry.now.partition.now → p ≡ get_or f.entry.now.partition.now k p
     → ((v : Value) → Shows f.entry.now.object v
-        → IsMet found (pick (way_of f.entry.now.layout.now (16 + k)) (layout_tree f.entry.now.layout.now, v)))
+    → IsMet found (pick (way_of f.entry.now.layout.now (16 + k)) (layout_tree f.entry.now.layout.now, v)))
     → IsMet found (at p.field_id (tuple_seen f))
 unfolding tuple_seen
 cell_shown f found k p is tuple lt here finds =

@@ -31,7 +31,11 @@ fn push_entry_way(
     push_way(alloc, &[field.id()], ways)
 }
 
-fn push_file_way(alloc: Global, field: FileField, ways: &mut Vec<Vec<i32>>) -> Result<(), AllocError>
+fn push_file_way(
+    alloc: Global,
+    field: FileField,
+    ways: &mut Vec<Vec<i32>>,
+) -> Result<(), AllocError>
     ensures { IfOk result (λ _. ids_in ways.new.items ≡ ids_in ways.old.items ++ to_files (field ∷ [])) }
 {
     push_way(alloc, &[EntryField::DataFile.id(), field.id()], ways)
