@@ -1,5 +1,5 @@
 -- Entries as they are found in the objects of a manifest.
-use Rattle.std.proofs.Common.{◌≡◌, ℕ, ◌+◌, Bool, true, List, Some, Ok, Err, ap, subst, ◌∙◌}
+use Rattle.std.proofs.Common.{◌≡◌, ℕ, ◌+◌, Bool, true, List, Option, Some, Ok, Err, ap, subst, ◌∙◌}
 use Rattle.avro_schema.specs.Tree.{Tree, structure}
 use Rattle.avro_schema.specs.View.{tree}
 use Rattle.avro_file.specs.declared.object.Object.{Object}
@@ -13,7 +13,9 @@ use Rattle.ice_manifest_fields.specs.declared.fault.ManifestFault.{ManifestFault
 use Rattle.ice_manifest_fields.specs.Schemas.{fields_in}
 use Rattle.ice_manifest_fields.proofs.Joining.{joined}
 use Rattle.ice_entry_found.specs.declared.entry.FoundEntry.{FoundEntry}
-use Rattle.ice_entry_found.specs.Seen.{entry_seen}
+use Rattle.ice_entry_found.specs.declared.file.FoundFile.{FoundFile}
+use Rattle.ice_entry_found.specs.Seen.{entry_seen, record_met, file_seen, IsFile}
+use Rattle.ice_manifest_fields.specs.Seen.{fields_seen}
 use Rattle.ice_entry_found.proofs.Shown.{entry_is, structure_is}
 use Rattle.ice_manifest_reading.specs.declared.row.Row.{Row}
 use Rattle.ice_manifest_reading.specs.declared.entry.Entry.{Entry}
@@ -52,3 +54,8 @@ pub entry_at_fault : (keeps : Live → Bool) (row : Row) (spec : Spec) (s : Tree
 entry_at_fault keeps row spec s k front now new e f next same record_is is =
     kept_fails keeps row spec (fields_in s) k front now new e.object (entry_seen e).1 f next (value_is e)
     (subst (λ (x : Typed). kept_behind keeps front (entry_of row spec k x) ≡ Err f) (seen_is e s same record_is) is)
+
+-- the fields of a file's type
+pub file_fields_are : (f : FoundFile) → IsFile f → fields_in (file_seen f).0 ≡ fields_seen f.fields.now
+unfolding file_seen
+file_fields_are f is = ap (λ (o : Option Typed). fields_in (record_met o).0) is.1.1
