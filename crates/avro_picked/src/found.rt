@@ -63,6 +63,13 @@ impl<'s, 'a> Found<'s, 'a> {
         self.schema
     }
 
+    /// The bytes at whose front it stands.
+    pub fn bytes(self) -> &'a [u8]
+        ensures { result.now ≡ self.entry.bytes.now }
+    {
+        self.bytes
+    }
+
     /// The value as a tree, which is built now. Its texts and bytes are those of the file.
     pub fn datum(self, alloc: Global) -> Result<Datum<'a>, AllocError>
         ensures { (v : Value) → Shows self.entry v → IfOk result (λ datum. view datum ≡ v) }

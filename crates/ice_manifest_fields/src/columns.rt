@@ -37,28 +37,32 @@ pub struct ColumnMap {
     pub kind: Kind,
 }
 
-const VALUE_COUNTS: ColumnMap = ColumnMap {
+/// How many values each column has, null ones among them.
+pub const VALUE_COUNTS: ColumnMap = ColumnMap {
     id: 109,
     key: 119,
     said: 120,
     kind: Kind::Whole,
 };
 
-const NULL_COUNTS: ColumnMap = ColumnMap {
+/// How many values of each column are null.
+pub const NULL_COUNTS: ColumnMap = ColumnMap {
     id: 110,
     key: 121,
     said: 122,
     kind: Kind::Whole,
 };
 
-const LOWER_BOUNDS: ColumnMap = ColumnMap {
+/// No value of the column is below its lower bound.
+pub const LOWER_BOUNDS: ColumnMap = ColumnMap {
     id: 125,
     key: 126,
     said: 127,
     kind: Kind::Binary,
 };
 
-const UPPER_BOUNDS: ColumnMap = ColumnMap {
+/// No value of the column is above its upper bound.
+pub const UPPER_BOUNDS: ColumnMap = ColumnMap {
     id: 128,
     key: 129,
     said: 130,
@@ -202,8 +206,8 @@ fn counts_of(
     Ok(counts)
 }
 
-/// The counts that a map says, lent where they lie as pairs.
-fn counts_of_map<'a, 'd>(
+/// The counts that a map says, lent where they lie as pairs. Any other value says none.
+pub fn counts_of_map<'a, 'd>(
     alloc: Global,
     schema: &Schema,
     datum: &'a Datum<'d>,
@@ -289,8 +293,8 @@ fn bounds_of<'d>(
     Ok(bounds)
 }
 
-/// The bounds that a map says, lent where they lie as pairs.
-fn bounds_of_map<'a, 'd>(
+/// The bounds that a map says, lent where they lie as pairs. Any other value says none.
+pub fn bounds_of_map<'a, 'd>(
     alloc: Global,
     schema: &Schema,
     datum: &'a Datum<'d>,

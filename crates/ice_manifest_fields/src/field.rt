@@ -52,8 +52,8 @@ pub fn long_at(fields: &[Field], values: &[Datum], id: i32) -> Result<i64, Field
     }
 }
 
-/// The number, where it fits 32 bits.
-fn within_32(number: i64, id: i32) -> Result<i32, FieldFault>
+/// The number, where it fits 32 bits; else the field of this id is out of its range.
+pub fn within_32(number: i64, id: i32) -> Result<i32, FieldFault>
     ensures { result ≡ within id number }
 {
     if number < -2147483648 || number > 2147483647 {
@@ -63,8 +63,8 @@ fn within_32(number: i64, id: i32) -> Result<i32, FieldFault>
     }
 }
 
-/// The number, where it is not negative.
-fn not_negative(number: i64, id: i32) -> Result<SequenceNumber, FieldFault>
+/// The number, where it is not negative; else the field of this id is out of its range.
+pub fn not_negative(number: i64, id: i32) -> Result<SequenceNumber, FieldFault>
     ensures { result ≡ natural id number }
 {
     if number < 0 {
@@ -189,8 +189,8 @@ pub fn optional_binary(
     }
 }
 
-/// The text, where a path may be so long.
-fn short_path<'d>(text: &'d str, id: i32) -> Result<&'d str, FieldFault>
+/// The text, where a path may be so long; else the field of this id is out of its range.
+pub fn short_path<'d>(text: &'d str, id: i32) -> Result<&'d str, FieldFault>
     ensures said { result_map (λ path. path.now) result ≡ short_path_of id text.now }
     ensures short { IfOk result (λ path. length path.now ≤ 65535) }
 {
@@ -333,6 +333,21 @@ fn int_items(
     Ok(ids)
 }
 
+/// The whole numbers of a list, whose items have this id. Any other value has none.
+pub fn ints_of(
+    alloc: Global,
+    schema: &Schema,
+    datum: &Datum,
+    item: i32,
+) -> Result<Items<i32>, ManifestFault>
+    ensures { Gives ManifestFault.Memory (λ ids. ids) result
+        (told in_manifest (each (int_of_item item) (items_value (Some (tree schema.now, view datum.now))))) }
+{
+    let built = pairs_built(alloc, datum)?;
+    let (schema, items) = items_of(schema, datum, &built);
+    int_items(alloc, schema, items, item)
+}
+
 /// The whole numbers of a list, whose items have an id; none where there is no list.
 #[tactic(auto, unfolding(crate::specs::Fields::ints_at, crate::specs::Each::each))]
 pub fn ints_at(
@@ -346,11 +361,7 @@ pub fn ints_at(
         (told in_manifest (ints_said id item (object fields.now values.now))) }
 {
     match pick(fields, values, id) {
-        Some((schema, datum)) => {
-            let built = pairs_built(alloc, datum)?;
-            let (schema, items) = items_of(schema, datum, &built);
-            int_items(alloc, schema, items, item)
-        }
+        Some((schema, datum)) => ints_of(alloc, schema, datum, item),
         None => Ok(Items::new(alloc)),
     }
 }

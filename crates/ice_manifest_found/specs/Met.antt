@@ -1,0 +1,78 @@
+-- What was met where a way of field ids leads, as the field that it is: what a manifest's entry must have there, or may.
+-- Apache Iceberg table spec v2, 'Manifests' and 'Column Projection'.
+use Rattle.std.specs.Prelude.{ℕ, ℤ, List, Bool, Option, Result, Ok, is_some}
+use Rattle.contract_words.specs.Outcome.{◌>>=◌}
+use Rattle.avro_file.specs.Picking.{Typed, Picked}
+use Rattle.ice_value.specs.Columns.{ColumnCount, ColumnBound}
+use Rattle.ice_value.specs.declared.file_bounds.FileBounds.{FileBounds}
+use Rattle.ice_manifest_fields.specs.declared.fault.FieldFault.{FieldFault}
+use Rattle.ice_manifest_fields.specs.declared.columns.ColumnMap.{ColumnMap}
+use Rattle.ice_manifest_fields.specs.ColumnMaps.{value_counts, null_value_counts, lower_bounds, upper_bounds}
+use Rattle.ice_manifest_fields.specs.Each.{each}
+use Rattle.ice_manifest_fields.specs.Fields.{there, whole_of, truth_of, text_of, record_of, items_of, asked, within_32}
+use Rattle.ice_manifest_fields.specs.Fields.{not_negative, short_path, if_there, int_item}
+use Rattle.ice_manifest_fields.specs.Maps.{count_of, bound_of}
+
+-- a record was met
+abbrev pub is_record_met : Picked → Bool
+is_record_met met = is_some (record_of (there met))
+
+-- ---- what must be there
+
+-- a whole number of 64 bits
+abbrev pub long_met : ℤ → Picked → Result ℤ FieldFault
+long_met id met = asked id (whole_of (there met))
+
+-- a whole number of 32 bits
+abbrev pub int_met : ℤ → Picked → Result ℤ FieldFault
+int_met id met = long_met id met >>= within_32 id
+
+-- a sequence number
+abbrev pub number_met : ℤ → Picked → Result ℕ FieldFault
+number_met id met = long_met id met >>= not_negative id
+
+abbrev pub truth_met : ℤ → Picked → Result Bool FieldFault
+truth_met id met = asked id (truth_of (there met))
+
+-- a path, of at most 65,535 bytes
+abbrev pub path_met : ℤ → Picked → Result (List ℕ) FieldFault
+path_met id met = asked id (text_of (there met)) >>= short_path id
+
+-- ---- what may be there
+
+abbrev pub optional_int_met : ℤ → Picked → Result (Option ℤ) FieldFault
+optional_int_met id met = if_there (within_32 id) (whole_of (there met))
+
+abbrev pub optional_number_met : ℤ → Picked → Result (Option ℕ) FieldFault
+optional_number_met id met = if_there (not_negative id) (whole_of (there met))
+
+abbrev pub optional_path_met : ℤ → Picked → Result (Option (List ℕ)) FieldFault
+optional_path_met id met = if_there (short_path id) (text_of (there met))
+
+-- whole numbers of 32 bits, the items of a list; none where there is no list
+abbrev pub ints_met : ℤ → Picked → Result (List ℤ) FieldFault
+ints_met item met = each (int_item item) (items_of (there met))
+
+-- ---- columns
+
+-- the counts of a map; none where there is no map
+abbrev pub counts_in : ColumnMap → Option Typed → Result (List ColumnCount) FieldFault
+counts_in m x = each (count_of m) (items_of x)
+
+abbrev pub bounds_in : ColumnMap → Option Typed → Result (List ColumnBound) FieldFault
+bounds_in m x = each (bound_of m) (items_of x)
+
+-- what stands at the four maps of a data file's columns
+pub record MapsMet : Type 0 where
+  pub values : Picked
+  pub nulls : Picked
+  pub lower : Picked
+  pub upper : Picked
+
+unfoldable pub columns_met : MapsMet → Result FileBounds FieldFault
+columns_met met = do
+  values ← counts_in value_counts (there met.values)
+  nulls ← counts_in null_value_counts (there met.nulls)
+  lower ← bounds_in lower_bounds (there met.lower)
+  upper ← bounds_in upper_bounds (there met.upper)
+  Ok (record { value_counts = values; null_counts = nulls; lower_bounds = lower; upper_bounds = upper })
