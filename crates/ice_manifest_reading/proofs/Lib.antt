@@ -15,4 +15,3 @@ pub mod Few
 pub mod Held
 pub mod Keeping
 pub mod NoMemory
-pub mod Found

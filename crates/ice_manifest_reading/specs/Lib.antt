@@ -7,4 +7,3 @@ pub mod Lending
 pub mod Absent
 pub mod Faults
 pub mod Same
-pub mod Behind
