@@ -13,3 +13,4 @@ pub mod Shelved
 pub mod Slices
 pub mod United
 pub mod Within
+mod Neighbours

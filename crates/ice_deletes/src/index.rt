@@ -33,6 +33,18 @@ pub struct Hits<'i> {
     pub everywhere: &'i [usize],
 }
 
+impl<'i> Hits<'i> {
+    /// The same, with other delete files that name the data file.
+    pub(crate) fn with_referenced(self, referenced: &'i [usize]) -> Hits<'i>
+        ensures positions { result.positions.now ≡ self.positions.now }
+        ensures referenced { result.referenced.now ≡ referenced.now }
+        ensures equalities { result.equalities.now ≡ self.equalities.now }
+        ensures everywhere { result.everywhere.now ≡ self.everywhere.now }
+    {
+        Hits { referenced, ..self }
+    }
+}
+
 /// The delete files among some records, sorted so that those that apply to a data file are found by binary search.
 /// Contracts see it as the list of its delete files with their numbers, of which no two are the same.
 #[derive(Debug, Drop)]
@@ -103,6 +115,25 @@ impl DeleteIndex {
         self.equalities.grow(equalities);
         self.everywhere.grow(everywhere);
         Ok(())
+    }
+
+    /// Those of them that name the data file.
+    pub(crate) fn naming(
+        &self,
+        spec_id: i32,
+        tuple: &[Cell],
+        sequence_number: SequenceNumber,
+        path: &[u8],
+    ) -> &[usize]
+        ensures { let x = data_key spec_id tuple.now sequence_number path.now in
+            IsPermutation (numbers_where (λ d. is_in Referenced d && applies x d) self.now) result.now }
+    {
+        self.referenced.suffix(&SearchKey {
+            path: Some(path),
+            spec_id,
+            tuple,
+            sequence_number: sequence_number.get(),
+        })
     }
 
     /// The delete files that apply to the data file of this spec and tuple, with this sequence number, at this path.

@@ -2,6 +2,7 @@
 #![tactic(auto)]
 
 mod delete;
+mod finder;
 mod group;
 mod growth;
 mod index;
@@ -11,6 +12,7 @@ mod record;
 mod search_key;
 mod shelf;
 
+pub use finder::Finder;
 pub use index::{DeleteIndex, Hits};
 pub use laws::merging_of_indexes;
 pub use record::Record;

@@ -1,0 +1,114 @@
+//! Data files that are looked up one after the other.
+
+ghost use Rattle.std.specs.Prelude.{◌≡◌, ◌&&◌, ◌↔◌, IsTrue, IfSome, map};
+ghost use Rattle.std.specs.List.Sorted.{IsPermutation};
+ghost use Rattle.ice_value.specs.Applying.{applies};
+ghost use Rattle.ice_deletes.specs.Found.{data_key, numbers_where};
+ghost use Rattle.ice_deletes.specs.Groups.{is_in};
+ghost use Rattle.ice_deletes.specs.Neighbours.{AreHits};
+ghost use Rattle.ice_deletes.specs.declared.group.Group.TheVariants.{Positions, Referenced, Equalities, Everywhere};
+
+use crate::index::{DeleteIndex, Hits};
+use ice_value::{Cell, SequenceNumber};
+use std::marker::Model;
+
+/// The data file that was looked up last, and what was found for it.
+#[derive(Clone, Copy, Debug)]
+struct Last<'i, 'x> {
+    spec_id: i32,
+    tuple: &'x [Cell],
+    sequence_number: SequenceNumber,
+    hits: Hits<'i>,
+}
+
+/// Looks data files up in an index, one after the other. For one of the spec, the tuple and the sequence number of the
+/// one before it, only the delete files that name it are looked for.
+#[derive(Debug, Drop)]
+pub struct Finder<'i, 'x> {
+    index: &'i DeleteIndex,
+    last: Option<Last<'i, 'x>>,
+}
+
+impl<'i, 'x> Model for Finder<'i, 'x> {
+    ghost use Rattle.std.specs.Prelude.{List, ℕ, IfSome};
+    ghost use Rattle.ice_value.specs.Applying.{DeleteKey};
+    ghost use Rattle.ice_deletes.specs.Neighbours.{WereFound};
+
+    ghost Value = { List (ℕ × DeleteKey) };
+
+    ghost view = { λ f. f.index.now };
+
+    ghost invariant = { λ f. IfSome f.last (WereFound f.index.now) };
+}
+
+impl<'i, 'x> Last<'i, 'x> {
+    /// Whether a data file of this spec and tuple, with this sequence number, is a neighbour.
+    fn is_beside(&self, spec_id: i32, tuple: &[Cell], sequence_number: SequenceNumber) -> bool
+        ensures spec { IsTrue result → self.now.spec_id ≡ spec_id }
+        ensures tuple { IsTrue result → self.now.tuple.now ≡ tuple.now }
+        ensures number { IsTrue result → self.now.sequence_number ≡ sequence_number }
+    {
+        self.spec_id == spec_id
+            && self.sequence_number == sequence_number
+            && self.tuple == tuple
+    }
+}
+
+impl<'i, 'x> Finder<'i, 'x> {
+    /// A finder in this index.
+    pub fn new(index: &'i DeleteIndex) -> Finder<'i, 'x>
+        ensures { result ≡ index.now }
+    {
+        Finder { index, last: None }
+    }
+
+    /// What is found where the data file is a neighbour of the one before.
+    fn found_beside(
+        &self,
+        spec_id: i32,
+        tuple: &[Cell],
+        sequence_number: SequenceNumber,
+        path: &[u8],
+    ) -> Option<Hits<'i>>
+        ensures { IfSome result (AreHits (data_key spec_id tuple.now sequence_number path.now) self.now) }
+    {
+        match &self.last {
+            Some(last) if last.is_beside(spec_id, tuple, sequence_number) => {
+                let referenced = self.index.naming(spec_id, tuple, sequence_number, path);
+                Some(last.hits.with_referenced(referenced))
+            }
+            _ => None,
+        }
+    }
+
+    /// The delete files that apply to the data file of this spec and tuple, with this sequence number, at this path.
+    pub fn for_data(
+        &mut self,
+        spec_id: i32,
+        tuple: &'x [Cell],
+        sequence_number: SequenceNumber,
+        path: &[u8],
+    ) -> Hits<'i>
+        ensures positions { let x = data_key spec_id tuple.now sequence_number path.now in
+            IsPermutation (numbers_where (λ d. is_in Positions d && applies x d) self.old) result.positions.now }
+        ensures referenced { let x = data_key spec_id tuple.now sequence_number path.now in
+            IsPermutation (numbers_where (λ d. is_in Referenced d && applies x d) self.old) result.referenced.now }
+        ensures equalities { let x = data_key spec_id tuple.now sequence_number path.now in
+            IsPermutation (numbers_where (λ d. is_in Equalities d && applies x d) self.old) result.equalities.now }
+        ensures everywhere { let x = data_key spec_id tuple.now sequence_number path.now in
+            IsPermutation (numbers_where (λ d. is_in Everywhere d && applies x d) self.old) result.everywhere.now }
+        ensures same { self.new ≡ self.old }
+    {
+        let hits = match self.found_beside(spec_id, tuple, sequence_number, path) {
+            Some(hits) => hits,
+            None => self.index.for_data(spec_id, tuple, sequence_number, path),
+        };
+        self.last = Some(Last {
+            spec_id,
+            tuple,
+            sequence_number,
+            hits,
+        });
+        hits
+    }
+}
