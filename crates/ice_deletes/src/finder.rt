@@ -1,6 +1,6 @@
 //! Data files that are looked up one after the other.
 
-ghost use Rattle.std.specs.Prelude.{◌≡◌, ◌&&◌, ◌↔◌, IsTrue, IfSome, map};
+ghost use Rattle.std.specs.Prelude.{◌≡◌, ◌&&◌, List, ℕ, IsTrue, IfSome, map};
 ghost use Rattle.std.specs.List.Sorted.{IsPermutation};
 ghost use Rattle.ice_value.specs.Applying.{applies};
 ghost use Rattle.ice_deletes.specs.Found.{data_key, numbers_where};
@@ -62,22 +62,41 @@ impl<'i, 'x> Finder<'i, 'x> {
         Finder { index, last: None }
     }
 
-    /// What is found where the data file is a neighbour of the one before.
+    /// What was found for the data file before, where that one is a neighbour.
     fn found_beside(
         &self,
         spec_id: i32,
         tuple: &[Cell],
         sequence_number: SequenceNumber,
-        path: &[u8],
     ) -> Option<Hits<'i>>
-        ensures { IfSome result (AreHits (data_key spec_id tuple.now sequence_number path.now) self.now) }
+        ensures { IfSome result (λ hits.
+            (path : List ℕ) × AreHits (data_key spec_id tuple.now sequence_number path) self.now hits) }
     {
-        match &self.last {
-            Some(last) if last.is_beside(spec_id, tuple, sequence_number) => {
-                let referenced = self.index.naming(spec_id, tuple, sequence_number, path);
-                Some(last.hits.with_referenced(referenced))
-            }
-            _ => None,
+        let Some(last) = &self.last else {
+            return None;
+        };
+        if !last.is_beside(spec_id, tuple, sequence_number) {
+            return None;
+        }
+        Some(last.hits)
+    }
+
+    /// What is found for a data file.
+    fn found(
+        &self,
+        spec_id: i32,
+        tuple: &[Cell],
+        sequence_number: SequenceNumber,
+        path: &[u8],
+    ) -> Hits<'i>
+        ensures { AreHits (data_key spec_id tuple.now sequence_number path.now) self.now result }
+    {
+        match self.found_beside(spec_id, tuple, sequence_number) {
+            Some(hits) => Hits {
+                referenced: self.index.naming(spec_id, tuple, sequence_number, path),
+                ..hits
+            },
+            None => self.index.for_data(spec_id, tuple, sequence_number, path),
         }
     }
 
@@ -99,10 +118,7 @@ impl<'i, 'x> Finder<'i, 'x> {
             IsPermutation (numbers_where (λ d. is_in Everywhere d && applies x d) self.old) result.everywhere.now }
         ensures same { self.new ≡ self.old }
     {
-        let hits = match self.found_beside(spec_id, tuple, sequence_number, path) {
-            Some(hits) => hits,
-            None => self.index.for_data(spec_id, tuple, sequence_number, path),
-        };
+        let hits = self.found(spec_id, tuple, sequence_number, path);
         self.last = Some(Last {
             spec_id,
             tuple,

@@ -33,18 +33,6 @@ pub struct Hits<'i> {
     pub everywhere: &'i [usize],
 }
 
-impl<'i> Hits<'i> {
-    /// The same, with other delete files that name the data file.
-    pub(crate) fn with_referenced(self, referenced: &'i [usize]) -> Hits<'i>
-        ensures positions { result.positions.now ≡ self.positions.now }
-        ensures referenced { result.referenced.now ≡ referenced.now }
-        ensures equalities { result.equalities.now ≡ self.equalities.now }
-        ensures everywhere { result.everywhere.now ≡ self.everywhere.now }
-    {
-        Hits { referenced, ..self }
-    }
-}
-
 /// The delete files among some records, sorted so that those that apply to a data file are found by binary search.
 /// Contracts see it as the list of its delete files with their numbers, of which no two are the same.
 #[derive(Debug, Drop)]
