@@ -1,9 +1,9 @@
 //! Data files that are looked up one after the other.
 
-ghost use Rattle.std.specs.Prelude.{◌≡◌, ◌&&◌, List, ℕ, IsTrue, IfSome, map};
+ghost use Rattle.std.specs.Prelude.{◌≡◌, ◌==◌, ◌≤◌, ◌&&◌, ◌↔◌, List, ℕ, IsTrue, IfSome, Contains, count_by};
 ghost use Rattle.std.specs.List.Sorted.{IsPermutation};
 ghost use Rattle.ice_value.specs.Applying.{applies};
-ghost use Rattle.ice_deletes.specs.Found.{data_key, numbers_where};
+ghost use Rattle.ice_deletes.specs.Found.{data_key, numbers_where, lent, AppliesAt};
 ghost use Rattle.ice_deletes.specs.Groups.{is_in};
 ghost use Rattle.ice_deletes.specs.Neighbours.{AreHits};
 ghost use Rattle.ice_deletes.specs.declared.group.Group.TheVariants.{Positions, Referenced, Equalities, Everywhere};
@@ -89,7 +89,8 @@ impl<'i, 'x> Finder<'i, 'x> {
         sequence_number: SequenceNumber,
         path: &[u8],
     ) -> Hits<'i>
-        ensures { AreHits (data_key spec_id tuple.now sequence_number path.now) self.now result }
+        ensures hits { AreHits (data_key spec_id tuple.now sequence_number path.now) self.now result }
+        ensures once { (n : ℕ) → count_by (λ m. m == n) (lent result) ≤ 1 }
     {
         match self.found_beside(spec_id, tuple, sequence_number) {
             Some(hits) => Hits {
@@ -116,6 +117,11 @@ impl<'i, 'x> Finder<'i, 'x> {
             IsPermutation (numbers_where (λ d. is_in Equalities d && applies x d) self.old) result.equalities.now }
         ensures everywhere { let x = data_key spec_id tuple.now sequence_number path.now in
             IsPermutation (numbers_where (λ d. is_in Everywhere d && applies x d) self.old) result.everywhere.now }
+
+        // Exactly the numbers of the files that apply, each in one slice, once.
+        ensures exact { let x = data_key spec_id tuple.now sequence_number path.now in
+            (n : ℕ) → Contains (lent result) n ↔ AppliesAt self.old x n }
+        ensures once { (n : ℕ) → count_by (λ m. m == n) (lent result) ≤ 1 }
         ensures same { self.new ≡ self.old }
     {
         let hits = self.found(spec_id, tuple, sequence_number, path);

@@ -8,6 +8,7 @@ ghost use Rattle.ice_value.specs.Applying.{applies};
 ghost use Rattle.ice_deletes.specs.Keys.{key_of};
 ghost use Rattle.ice_deletes.specs.Groups.{is_in};
 ghost use Rattle.ice_deletes.specs.Found.{data_key, numbered_deletes, numbers_where, lent, AppliesAt};
+ghost use Rattle.ice_deletes.specs.Indexes.{AreDistinct};
 ghost use Rattle.ice_deletes.specs.Unions.{renumbered, AreBelow, Agree, IsUnion};
 ghost use Rattle.ice_deletes.specs.declared.group.Group.TheVariants.{Positions, Referenced, Equalities, Everywhere};
 
@@ -113,8 +114,9 @@ impl DeleteIndex {
         sequence_number: SequenceNumber,
         path: &[u8],
     ) -> &[usize]
-        ensures { let x = data_key spec_id tuple.now sequence_number path.now in
+        ensures named { let x = data_key spec_id tuple.now sequence_number path.now in
             IsPermutation (numbers_where (λ d. is_in Referenced d && applies x d) self.now) result.now }
+        ensures distinct { AreDistinct self.now }
     {
         self.referenced.suffix(&SearchKey {
             path: Some(path),

@@ -7,6 +7,8 @@ mod deletes;
 #[cfg(test)]
 mod literals;
 #[cfg(test)]
+mod neighbours;
+#[cfg(test)]
 mod transforms;
 #[cfg(test)]
 mod values;

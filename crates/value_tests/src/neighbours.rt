@@ -1,0 +1,154 @@
+//! Data files that are looked up one after the other.
+
+use ice_deletes::{DeleteIndex, Finder, Hits, Record};
+use ice_value::{Cell, FileContent, SequenceNumber};
+use std::alloc::{AllocError, Global};
+use std::test::Fail;
+
+const A: &[u8] = b"mem://t/a.parquet";
+
+const B: &[u8] = b"mem://t/b.parquet";
+
+const ONE: &[Cell] = &[Cell::Whole(1)];
+
+const TWO: &[Cell] = &[Cell::Whole(2)];
+
+/// A delete file of spec 1.
+fn delete<'a>(
+    content: FileContent,
+    tuple: &'a [Cell],
+    sequence_number: u64,
+    referenced: Option<&'a [u8]>,
+) -> Record<'a> {
+    Record {
+        content,
+        spec_id: 1,
+        unpartitioned: false,
+        tuple,
+        sequence_number,
+        referenced,
+    }
+}
+
+/// A data file to look up.
+#[derive(Clone, Copy)]
+struct Sought<'a> {
+    spec_id: i32,
+    tuple: &'a [Cell],
+    sequence_number: u64,
+    path: &'a [u8],
+}
+
+fn sought<'a>(spec_id: i32, tuple: &'a [Cell], sequence_number: u64, path: &'a [u8]) -> Sought<'a> {
+    Sought {
+        spec_id,
+        tuple,
+        sequence_number,
+        path,
+    }
+}
+
+/// Neighbours, and data files that differ from the one before in the spec, the tuple or the sequence number alone.
+const TURNS: [Sought<'static>; 14] = [
+    sought(1, ONE, 4, A),
+    sought(1, ONE, 4, B),
+    sought(1, ONE, 4, A),
+    sought(1, ONE, 6, A),
+    sought(1, ONE, 6, B),
+    sought(1, ONE, 4, B),
+    sought(1, TWO, 4, B),
+    sought(1, TWO, 4, A),
+    sought(1, ONE, 4, A),
+    sought(2, ONE, 4, A),
+    sought(2, ONE, 4, B),
+    sought(1, ONE, 4, B),
+    sought(0, &[], 4, A),
+    sought(1, ONE, 9, A),
+];
+
+fn are_same(found: &Hits<'_>, wanted: &Hits<'_>) -> bool {
+    found.positions == wanted.positions
+        && found.referenced == wanted.referenced
+        && found.equalities == wanted.equalities
+        && found.everywhere == wanted.everywhere
+}
+
+/// Whether each one is found as by itself.
+fn are_found(index: &DeleteIndex, data_files: &[Sought<'_>]) -> bool {
+    let mut finder = Finder::new(index);
+    for file in data_files {
+        let number = SequenceNumber::new(file.sequence_number).unwrap_or(SequenceNumber::zero());
+        let found = finder.for_data(file.spec_id, file.tuple, number, file.path);
+        let wanted = index.for_data(file.spec_id, file.tuple, number, file.path);
+        if !are_same(&found, &wanted) {
+            return false;
+        }
+    }
+    true
+}
+
+/// Whether each of the turns is found in the index of these delete files as by itself.
+fn are_found_among(alloc: Global, records: &[Record<'_>]) -> Result<bool, AllocError> {
+    let index = DeleteIndex::build(alloc, records)?;
+    Ok(are_found(&index, &TURNS))
+}
+
+#[test]
+fn among_deletes_that_name_data_files(rt: HostRuntime) -> Result<(), Fail> {
+    let records = [
+        delete(FileContent::PositionDeletes, ONE, 5, None),
+        delete(FileContent::PositionDeletes, ONE, 5, Some(A)),
+        delete(FileContent::PositionDeletes, ONE, 7, Some(B)),
+        delete(FileContent::PositionDeletes, TWO, 7, Some(B)),
+        delete(FileContent::PositionDeletes, TWO, 8, None),
+        delete(FileContent::EqualityDeletes, ONE, 6, None),
+        delete(FileContent::EqualityDeletes, TWO, 5, None),
+        Record {
+            spec_id: 0,
+            unpartitioned: true,
+            ..delete(FileContent::EqualityDeletes, &[], 5, None)
+        },
+        Record {
+            spec_id: 2,
+            ..delete(FileContent::PositionDeletes, ONE, 5, Some(A))
+        },
+    ];
+    let are_found = are_found_among(rt.alloc(), &records)?;
+    assert!(rt; are_found);
+    Ok(())
+}
+
+#[test]
+fn among_deletes_that_name_none(rt: HostRuntime) -> Result<(), Fail> {
+    let records = [
+        delete(FileContent::PositionDeletes, ONE, 5, None),
+        delete(FileContent::PositionDeletes, TWO, 4, None),
+        delete(FileContent::EqualityDeletes, ONE, 6, None),
+        delete(FileContent::EqualityDeletes, TWO, 5, None),
+    ];
+    let are_found = are_found_among(rt.alloc(), &records)?;
+    assert!(rt; are_found);
+    Ok(())
+}
+
+#[test]
+fn what_neighbours_have(rt: HostRuntime) -> Result<(), Fail> {
+    let index = DeleteIndex::build(
+        rt.alloc(),
+        &[
+            delete(FileContent::PositionDeletes, ONE, 5, None),
+            delete(FileContent::PositionDeletes, ONE, 5, Some(A)),
+            delete(FileContent::EqualityDeletes, ONE, 6, None),
+        ],
+    )?;
+    let number = SequenceNumber::new(5).unwrap_or(SequenceNumber::zero());
+    let mut finder = Finder::new(&index);
+    let first = finder.for_data(1, ONE, number, A);
+    let second = finder.for_data(1, ONE, number, B);
+    let third = finder.for_data(1, TWO, number, A);
+    assert!(rt; first.positions == [0].as_slice() && first.referenced == [1].as_slice());
+    assert!(rt; second.positions == [0].as_slice() && second.referenced.is_empty());
+    assert!(rt; first.equalities == [2].as_slice() && second.equalities == [2].as_slice());
+    assert!(rt; third.positions.is_empty() && third.referenced.is_empty() && third.equalities.is_empty());
+    Ok(())
+}
