@@ -9,10 +9,6 @@ const A: &[u8] = b"mem://t/a.parquet";
 
 const B: &[u8] = b"mem://t/b.parquet";
 
-const ONE: &[Cell] = &[Cell::Whole(1)];
-
-const TWO: &[Cell] = &[Cell::Whole(2)];
-
 /// A delete file of spec 1.
 fn delete<'a>(
     content: FileContent,
@@ -39,7 +35,7 @@ struct Sought<'a> {
     path: &'a [u8],
 }
 
-fn sought<'a>(spec_id: i32, tuple: &'a [Cell], sequence_number: u64, path: &'a [u8]) -> Sought<'a> {
+fn at<'a>(spec_id: i32, tuple: &'a [Cell], sequence_number: u64, path: &'a [u8]) -> Sought<'a> {
     Sought {
         spec_id,
         tuple,
@@ -47,24 +43,6 @@ fn sought<'a>(spec_id: i32, tuple: &'a [Cell], sequence_number: u64, path: &'a [
         path,
     }
 }
-
-/// Neighbours, and data files that differ from the one before in the spec, the tuple or the sequence number alone.
-const TURNS: [Sought<'static>; 14] = [
-    sought(1, ONE, 4, A),
-    sought(1, ONE, 4, B),
-    sought(1, ONE, 4, A),
-    sought(1, ONE, 6, A),
-    sought(1, ONE, 6, B),
-    sought(1, ONE, 4, B),
-    sought(1, TWO, 4, B),
-    sought(1, TWO, 4, A),
-    sought(1, ONE, 4, A),
-    sought(2, ONE, 4, A),
-    sought(2, ONE, 4, B),
-    sought(1, ONE, 4, B),
-    sought(0, &[], 4, A),
-    sought(1, ONE, 9, A),
-];
 
 fn are_same(found: &Hits<'_>, wanted: &Hits<'_>) -> bool {
     found.positions == wanted.positions
@@ -87,22 +65,45 @@ fn are_found(index: &DeleteIndex, data_files: &[Sought<'_>]) -> bool {
     true
 }
 
-/// Whether each of the turns is found in the index of these delete files as by itself.
-fn are_found_among(alloc: Global, records: &[Record<'_>]) -> Result<bool, AllocError> {
+/// Whether data files of two tuples, by turns, are found among these delete files as each one by itself.
+fn are_found_among(
+    alloc: Global,
+    records: &[Record<'_>],
+    one: &[Cell],
+    two: &[Cell],
+) -> Result<bool, AllocError> {
     let index = DeleteIndex::build(alloc, records)?;
-    Ok(are_found(&index, &TURNS))
+    // Neighbours, and data files that differ from the one before in the spec, the tuple or the sequence number alone.
+    let turns = [
+        at(1, one, 4, A),
+        at(1, one, 4, B),
+        at(1, one, 4, A),
+        at(1, one, 6, A),
+        at(1, one, 6, B),
+        at(1, one, 4, B),
+        at(1, two, 4, B),
+        at(1, two, 4, A),
+        at(1, one, 4, A),
+        at(2, one, 4, A),
+        at(2, one, 4, B),
+        at(1, one, 4, B),
+        at(0, &[], 4, A),
+        at(1, one, 9, A),
+    ];
+    Ok(are_found(&index, &turns))
 }
 
 #[test]
 fn among_deletes_that_name_data_files(rt: HostRuntime) -> Result<(), Fail> {
+    let [one, two] = [[Cell::Whole(1)], [Cell::Whole(2)]];
     let records = [
-        delete(FileContent::PositionDeletes, ONE, 5, None),
-        delete(FileContent::PositionDeletes, ONE, 5, Some(A)),
-        delete(FileContent::PositionDeletes, ONE, 7, Some(B)),
-        delete(FileContent::PositionDeletes, TWO, 7, Some(B)),
-        delete(FileContent::PositionDeletes, TWO, 8, None),
-        delete(FileContent::EqualityDeletes, ONE, 6, None),
-        delete(FileContent::EqualityDeletes, TWO, 5, None),
+        delete(FileContent::PositionDeletes, &one, 5, None),
+        delete(FileContent::PositionDeletes, &one, 5, Some(A)),
+        delete(FileContent::PositionDeletes, &one, 7, Some(B)),
+        delete(FileContent::PositionDeletes, &two, 7, Some(B)),
+        delete(FileContent::PositionDeletes, &two, 8, None),
+        delete(FileContent::EqualityDeletes, &one, 6, None),
+        delete(FileContent::EqualityDeletes, &two, 5, None),
         Record {
             spec_id: 0,
             unpartitioned: true,
@@ -110,42 +111,44 @@ fn among_deletes_that_name_data_files(rt: HostRuntime) -> Result<(), Fail> {
         },
         Record {
             spec_id: 2,
-            ..delete(FileContent::PositionDeletes, ONE, 5, Some(A))
+            ..delete(FileContent::PositionDeletes, &one, 5, Some(A))
         },
     ];
-    let are_found = are_found_among(rt.alloc(), &records)?;
+    let are_found = are_found_among(rt.alloc(), &records, &one, &two)?;
     assert!(rt; are_found);
     Ok(())
 }
 
 #[test]
 fn among_deletes_that_name_none(rt: HostRuntime) -> Result<(), Fail> {
+    let [one, two] = [[Cell::Whole(1)], [Cell::Whole(2)]];
     let records = [
-        delete(FileContent::PositionDeletes, ONE, 5, None),
-        delete(FileContent::PositionDeletes, TWO, 4, None),
-        delete(FileContent::EqualityDeletes, ONE, 6, None),
-        delete(FileContent::EqualityDeletes, TWO, 5, None),
+        delete(FileContent::PositionDeletes, &one, 5, None),
+        delete(FileContent::PositionDeletes, &two, 4, None),
+        delete(FileContent::EqualityDeletes, &one, 6, None),
+        delete(FileContent::EqualityDeletes, &two, 5, None),
     ];
-    let are_found = are_found_among(rt.alloc(), &records)?;
+    let are_found = are_found_among(rt.alloc(), &records, &one, &two)?;
     assert!(rt; are_found);
     Ok(())
 }
 
 #[test]
 fn what_neighbours_have(rt: HostRuntime) -> Result<(), Fail> {
+    let [one, two] = [[Cell::Whole(1)], [Cell::Whole(2)]];
     let index = DeleteIndex::build(
         rt.alloc(),
         &[
-            delete(FileContent::PositionDeletes, ONE, 5, None),
-            delete(FileContent::PositionDeletes, ONE, 5, Some(A)),
-            delete(FileContent::EqualityDeletes, ONE, 6, None),
+            delete(FileContent::PositionDeletes, &one, 5, None),
+            delete(FileContent::PositionDeletes, &one, 5, Some(A)),
+            delete(FileContent::EqualityDeletes, &one, 6, None),
         ],
     )?;
     let number = SequenceNumber::new(5).unwrap_or(SequenceNumber::zero());
     let mut finder = Finder::new(&index);
-    let first = finder.for_data(1, ONE, number, A);
-    let second = finder.for_data(1, ONE, number, B);
-    let third = finder.for_data(1, TWO, number, A);
+    let first = finder.for_data(1, &one, number, A);
+    let second = finder.for_data(1, &one, number, B);
+    let third = finder.for_data(1, &two, number, A);
     assert!(rt; first.positions == [0].as_slice() && first.referenced == [1].as_slice());
     assert!(rt; second.positions == [0].as_slice() && second.referenced.is_empty());
     assert!(rt; first.equalities == [2].as_slice() && second.equalities == [2].as_slice());
