@@ -13,4 +13,5 @@ pub mod Shelved
 pub mod Slices
 pub mod United
 pub mod Within
-mod Neighbours
+pub mod Least
+pub mod Neighbours

@@ -1,7 +1,7 @@
 //! The index of delete files.
 
 ghost use Rattle.std.specs.Prelude.{◌≡◌, ◌≢◌, ◌↔◌, ◌&&◌, ◌==◌, ◌≤◌, ℕ, map, length, IfOk, OnOk};
-ghost use Rattle.std.specs.Prelude.{OnErr, AllPairs, Contains, count_by};
+ghost use Rattle.std.specs.Prelude.{OnErr, AllPairs, Contains, count_by, filter, nat_le};
 ghost use Rattle.std.specs.List.Sorted.{IsPermutation, IsSorted};
 ghost use Rattle.std.specs.Ordering.{nat_cmp};
 ghost use Rattle.ice_value.specs.Applying.{applies};
@@ -14,6 +14,7 @@ ghost use Rattle.ice_deletes.specs.declared.group.Group.TheVariants.{Positions, 
 
 use crate::group::Group;
 use crate::growth::Growth;
+use crate::numbers::{least_of, push_from};
 use crate::record::Record;
 use crate::search_key::SearchKey;
 use crate::shelf::Shelf;
@@ -70,16 +71,17 @@ impl DeleteIndex {
         })
     }
 
-    /// The numbers of its delete files, in order.
-    fn numbers(&self) -> Result<Vec<usize>, AllocError>
+    /// The numbers of its delete files that are not below the least one, in order.
+    fn numbers_from(&self, least: usize) -> Result<Vec<usize>, AllocError>
         ensures sorted { IfOk result (λ numbers. IsSorted nat_cmp numbers.items) }
-        ensures same { IfOk result (λ numbers. IsPermutation (map (λ e. e.0) self.now) numbers.items) }
+        ensures same { IfOk result (λ numbers.
+            IsPermutation (filter (nat_le least) (map (λ e. e.0) self.now)) numbers.items) }
     {
         let mut numbers = Vec::new(*self.positions.numbers.allocator());
-        numbers.extend_from_slice(&self.positions.numbers)?;
-        numbers.extend_from_slice(&self.referenced.numbers)?;
-        numbers.extend_from_slice(&self.equalities.numbers)?;
-        numbers.extend_from_slice(&self.everywhere.numbers)?;
+        push_from(&mut numbers, &self.positions.numbers, least)?;
+        push_from(&mut numbers, &self.referenced.numbers, least)?;
+        push_from(&mut numbers, &self.equalities.numbers, least)?;
+        push_from(&mut numbers, &self.everywhere.numbers, least)?;
         numbers.sort_unstable();
         Ok(numbers)
     }
@@ -94,7 +96,8 @@ impl DeleteIndex {
         ensures err { OnErr result (self.new ≡ self.old) }
     {
         let alloc = *self.positions.numbers.allocator();
-        let held = self.numbers()?;
+        // Numbers below all those of the other's files meet none of them.
+        let held = self.numbers_from(least_of(to) as usize)?;
         let positions = Growth::new(alloc, &self.positions, &other.positions, &held, to)?;
         let referenced = Growth::new(alloc, &self.referenced, &other.referenced, &held, to)?;
         let equalities = Growth::new(alloc, &self.equalities, &other.equalities, &held, to)?;

@@ -8,6 +8,7 @@ mod growth;
 mod index;
 mod laws;
 mod merging;
+mod numbers;
 mod record;
 mod search_key;
 mod shelf;

@@ -1,10 +1,12 @@
 use Rattle.std.proofs.Common.{ℕ, ◌<◌, List, ◌++◌, length, map, sym, subst}
 use Rattle.std.specs.List.Sorted.{IsPermutation}
+use Rattle.std.proofs.lemmas.List.Sorted.{IsPermutation-refl}
 use Rattle.ice_value.specs.Applying.{DeleteKey}
 use Rattle.ice_deletes.specs.declared.group.Group.TheVariants.{Positions, Referenced, Equalities, Everywhere}
 use Rattle.ice_deletes.specs.Indexes.{AreDistinct, entries_in}
 use Rattle.ice_deletes.specs.Keys.{entry_of}
 use Rattle.ice_deletes.specs.Unions.{renumbered, unheld, AreBelow}
+use Rattle.ice_deletes.proofs.Least.{unheld_from}
 use Rattle.ice_deletes.proofs.Shelved.{are_fresh, entries_grown, fresh_for, shelf_grown}
 use Rattle.ice_deletes.proofs.Shelved.{first_shelf, second_shelf, third_shelf, fourth_shelf}
 use Rattle.ice_deletes.proofs.United.{all_grown, renumbered_once, united}
@@ -101,8 +103,12 @@ returns-clause-ok c =
     let Q : List (ℕ × DeleteKey) → Type 0 = λ es.
     IsPermutation (c.args.self.now ++ unheld held (renumbered to es)) all in
     let D : List (ℕ × DeleteKey) → Type 0 = λ es. AreDistinct es in
-    united c.args.self.now (renumbered to c.args.other.now) all held c.in_ok-held.ensures.same
-    (subst Q c.other.view_is (subst P c.self.view_is grown)) c.requires.agree
+    let numbers : List ℕ = map (λ (e : ℕ × DeleteKey). e.0) c.args.self.now in
+    let same = unheld_from _ numbers held c.in_ok-held.ensures.same to c.least_of.ensures c.args.other.now
+    c.requires.below in
+    let R : List (ℕ × DeleteKey) → Type 0 = λ es. IsPermutation (c.args.self.now ++ es) all in
+    united c.args.self.now (renumbered to c.args.other.now) all numbers (IsPermutation-refl numbers)
+    (subst R same (subst Q c.other.view_is (subst P c.self.view_is grown))) c.requires.agree
     (subst D c.self.view_is c.self.invariant.distinct)
     (renumbered_once to c.args.other.now c.requires.once c.requires.below
     (subst D c.other.view_is c.other.invariant.distinct))
