@@ -1,5 +1,5 @@
 -- What names no data file applies to all neighbours or to none.
-use Rattle.std.proofs.Common.{◌≡◌, ◌==◌, ◌≤◌, ℕ, ℤ, Bool, true, false, not, ◌&&◌, ◌||◌, List, ◌++◌, map, filter, cond}
+use Rattle.std.proofs.Common.{◌≡◌, ◌==◌, ◌≤◌, ℕ, ℤ, Bool, true, false, not, ◌&&◌, List, ◌++◌, map, filter, cond}
 use Rattle.std.proofs.Common.{refl, ap, sym, subst, ◌∙◌, arith, Option, Some, None, is_none}
 use Rattle.std.specs.List.{Contains, count_by}
 use Rattle.std.specs.List.Sorted.{IsPermutation}
@@ -154,10 +154,11 @@ module _ (x : DataKey) (files : List (ℕ × DeleteKey)) (hits : Hits) (found : 
   pub hits_apply : (n : ℕ) → (Contains (lent hits) n → AppliesAt files x n)
       × (AppliesAt files x n → Contains (lent hits) n)
   hits_apply n =
-      let numbers = numbers_where (applies x) files in
-      (λ c. (lent_applies files x n).0 (Contains-permutation (lent hits) numbers n
-      (IsPermutation-sym numbers (lent hits) all_lent) c),
-      λ a. Contains-permutation numbers (lent hits) n all_lent ((lent_applies files x n).1 a))
+      let numbers = numbers_where (applies x) files in (
+        λ c. (lent_applies files x n).0 (Contains-permutation (lent hits) numbers n
+            (IsPermutation-sym numbers (lent hits) all_lent) c),
+        λ a. Contains-permutation numbers (lent hits) n all_lent ((lent_applies files x n).1 a),
+      )
 
   pub hits_once : AreDistinct files → (n : ℕ) → count_by (λ m. m == n) (lent hits) ≤ 1
   hits_once distinct n =

@@ -48,9 +48,7 @@ impl<'i, 'x> Last<'i, 'x> {
         ensures tuple { IsTrue result → self.now.tuple.now ≡ tuple.now }
         ensures number { IsTrue result → self.now.sequence_number ≡ sequence_number }
     {
-        self.spec_id == spec_id
-            && self.sequence_number == sequence_number
-            && self.tuple == tuple
+        self.spec_id == spec_id && self.sequence_number == sequence_number && self.tuple == tuple
     }
 }
 

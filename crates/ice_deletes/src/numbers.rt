@@ -18,11 +18,7 @@ pub fn least_of(numbers: &[u32]) -> u32
 }
 
 /// Puts those of the numbers last that are not below the least one.
-pub fn push_from(
-    held: &mut Vec<usize>,
-    numbers: &[usize],
-    least: usize,
-) -> Result<(), AllocError>
+pub fn push_from(held: &mut Vec<usize>, numbers: &[usize], least: usize) -> Result<(), AllocError>
     ensures { OnOk result (held.new.items ≡ held.old.items ++ filter (nat_le least) numbers.now) }
 {
     'numbers: for number in numbers {

@@ -2,7 +2,7 @@ use Rattle.std.proofs.Common.{ℕ, ℤ, List, refl, subst, w32}
 use Rattle.std.specs.List.Sorted.{IsPermutation}
 use Rattle.std.proofs.lemmas.Int.{to_z-of_z}
 use mir.Val.{to_z, of_z}
-use Rattle.ice_value.specs.Applying.{DataKey, DeleteKey}
+use Rattle.ice_value.specs.Applying.{DeleteKey}
 use Rattle.ice_deletes.specs.declared.group.Group.TheVariants.{Referenced}
 use Rattle.ice_deletes.specs.declared.index.Hits.{Hits}
 use Rattle.ice_deletes.specs.Found.{data_key}
