@@ -152,6 +152,8 @@ fn what_neighbours_have(rt: HostRuntime) -> Result<(), Fail> {
     assert!(rt; first.positions == [0].as_slice() && first.referenced == [1].as_slice());
     assert!(rt; second.positions == [0].as_slice() && second.referenced.is_empty());
     assert!(rt; first.equalities == [2].as_slice() && second.equalities == [2].as_slice());
-    assert!(rt; third.positions.is_empty() && third.referenced.is_empty() && third.equalities.is_empty());
+    assert!(rt;
+        third.positions.is_empty() && third.referenced.is_empty() && third.equalities.is_empty()
+    );
     Ok(())
 }
