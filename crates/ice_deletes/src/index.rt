@@ -1,7 +1,7 @@
 //! The index of delete files.
 
 ghost use Rattle.std.specs.Prelude.{◌≡◌, ◌≢◌, ◌↔◌, ◌&&◌, ◌==◌, ◌≤◌, ℕ, map, length, IfOk, OnOk};
-ghost use Rattle.std.specs.Prelude.{OnErr, AllPairs, Contains, count_by, filter, nat_le};
+ghost use Rattle.std.specs.Prelude.{OnErr, AllPairs, Contains, IsTrue, [], count_by, filter, nat_le};
 ghost use Rattle.std.specs.List.Sorted.{IsPermutation, IsSorted};
 ghost use Rattle.std.specs.Ordering.{nat_cmp};
 ghost use Rattle.ice_value.specs.Applying.{applies};
@@ -71,6 +71,16 @@ impl DeleteIndex {
         })
     }
 
+    /// Whether it has no delete files.
+    fn is_empty(&self) -> bool
+        ensures { IsTrue result → self.now ≡ [] }
+    {
+        self.positions.deletes.is_empty()
+            && self.referenced.deletes.is_empty()
+            && self.equalities.deletes.is_empty()
+            && self.everywhere.deletes.is_empty()
+    }
+
     /// The numbers of its delete files that are not below the least one, in order.
     fn numbers_from(&self, least: usize) -> Result<Vec<usize>, AllocError>
         ensures sorted { IfOk result (λ numbers. IsSorted nat_cmp numbers.items) }
@@ -96,6 +106,9 @@ impl DeleteIndex {
         ensures err { OnErr result (self.new ≡ self.old) }
     {
         let alloc = *self.positions.numbers.allocator();
+        if other.is_empty() {
+            return Ok(());
+        }
         // Numbers below all those of the other's files meet none of them.
         let held = self.numbers_from(least_of(to) as usize)?;
         let positions = Growth::new(alloc, &self.positions, &other.positions, &held, to)?;

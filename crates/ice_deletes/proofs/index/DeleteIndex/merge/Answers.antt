@@ -1,4 +1,4 @@
-use Rattle.std.proofs.Common.{ℕ, ◌<◌, List, ◌++◌, length, map, sym, subst}
+use Rattle.std.proofs.Common.{◌≡◌, [], ap, refl, ℕ, ◌<◌, List, ◌++◌, length, map, sym, subst}
 use Rattle.std.specs.List.Sorted.{IsPermutation}
 use Rattle.std.proofs.lemmas.List.Sorted.{IsPermutation-refl}
 use Rattle.ice_value.specs.Applying.{DeleteKey}
@@ -10,7 +10,7 @@ use Rattle.ice_deletes.specs.Unions.{renumbered, unheld, AreBelow}
 use Rattle.ice_deletes.proofs.Least.{unheld_from}
 use Rattle.ice_deletes.proofs.Shelved.{are_fresh, entries_grown, fresh_for, shelf_grown}
 use Rattle.ice_deletes.proofs.Shelved.{first_shelf, second_shelf, third_shelf, fourth_shelf}
-use Rattle.ice_deletes.proofs.United.{all_grown, renumbered_once, united}
+use Rattle.ice_deletes.proofs.United.{all_grown, renumbered_once, united, united_with_none}
 use Rattle.ice_deletes.proofs.index.DeleteIndex.merge.Goals as goal
 
 pub new-requires-clause-below : goal.new-requires-clause-below
@@ -64,6 +64,14 @@ pub grow-requires-4-clause-fresh : goal.grow-requires-4-clause-fresh
 grow-requires-4-clause-fresh c = fresh_for Everywhere c.other.inside.everywhere c.other.invariant.everywhere
     c.deref-4.result.now c.args.to.now (fresh_in c.in_ok-everywhere.everywhere) c.in_ok-everywhere.ensures.fresh
     c.self.inside.everywhere c.self.invariant.everywhere
+
+pub returns-then-is_empty-clause-ok : goal.returns-then-is_empty-clause-ok
+returns-then-is_empty-clause-ok c =
+    let to = c.args.to.now in
+    let none : renumbered to c.args.other.now ≡ [] = ap (renumbered to) (c.if-is_empty.ensures refl) in
+    let D : List (ℕ × DeleteKey) → Type 0 = λ es. AreDistinct es in
+    united_with_none c.args.self.now (renumbered to c.args.other.now) none
+    (subst D c.self.view_is c.self.invariant.distinct)
 
 pub returns-clause-ok : goal.returns-clause-ok
 returns-clause-ok c =
