@@ -1,5 +1,5 @@
 #!/usr/bin/env python3
-"""generate.py ENTRIES [PER_MANIFEST [data|deletes|both|days]]: a bundle for `icescan list-plan --bundle` on standard output.
+"""generate.py ENTRIES [PER_MANIFEST [data|deletes|both|days|partitions|partitions-deletes]]: a bundle for `icescan list-plan --bundle` on standard output.
 
 The bundle holds a manifest list and manifests of an unpartitioned table: so many entries in all (default
 1,000,000), PER_MANIFEST of them in a manifest (default 10,000), of data files or of equality deletes, each with the
@@ -7,7 +7,10 @@ column statistics of eight columns, in Avro containers with codec null. With `bo
 partition spec of its own, and beside it stands a manifest of a tenth as many position deletes of that spec, of which
 one is young enough to apply. With `days` the table is partitioned by `day`, a number from 0 to 99 that is one in each
 manifest, with summaries in the list, and the bundle also holds the metadata, at METADATA; column `c1` of the entry I is
-8 times I in all rows. The same arguments give the same bytes.
+8 times I in all rows. With `partitions` it is that table over 1,000 days, ten in a manifest where there are 100 of these;
+with `partitions-deletes` a tenth as many delete files stand beside the data files, in manifests of as many entries, by
+turns position deletes and equality deletes of each day, of which one position delete is young enough to apply. The same
+arguments give the same bytes.
 """
 import json
 import sys
@@ -18,7 +21,7 @@ COLUMNS = 8
 MARKER = bytes(range(16))
 METADATA = "s3://warehouse/events/metadata/v1.metadata.json"
 LIST = "s3://warehouse/events/metadata/list.avro"
-DAYS = 100
+DAYS = {"days": 100, "partitions": 1000, "partitions-deletes": 1000}
 OBJECTS_PER_BLOCK = 500
 
 
@@ -112,12 +115,9 @@ def manifests(entries, each, kind):
         path = f"s3://warehouse/events/metadata/m{at:06}.avro"
         spec = at if kind == "both" else 0
         content = 2 if kind == "deletes" else 0
-        if kind == "days":
-            day = start * DAYS // entries
-            bound = number(1) + run(day.to_bytes(4, "little"))
-            summary = number(1) + number(1) + b"\0" + bound + bound + number(0)
-            partition = number(1) + number(day)
-            yield path, row(path, 0, 0) + summary, lambda: [entry(index, 0, None, partition, 0) for index in indexes]
+        if kind in DAYS:
+            yield path, row_of_days(path, 0, kind, indexes, entries), lambda: [
+                entry(index, 0, None, day_of(kind, index, entries), 0) for index in indexes]
             continue
         yield path, row(path, spec, content // 2), lambda: [entry(index, content) for index in indexes]
         if kind == "both":
@@ -125,6 +125,30 @@ def manifests(entries, each, kind):
             deletes = range(0, len(indexes), 10)
             yield path, row(path, spec, 1), lambda: [
                 entry(entries + start + at, 1, 3 if at == 0 else 2) for at in deletes]
+
+
+    if kind == "partitions-deletes":
+        yield from deletes_of_days(entries, each, kind)
+
+
+def deletes_of_days(entries, each, kind):
+    """Path, row and objects of each manifest of delete files: one is said of each tenth data file, and is of its day."""
+    of_a_day = entries // DAYS[kind]
+    for at, start in enumerate(range(0, entries, 10 * each)):
+        indexes = range(start, min(start + 10 * each, entries), 10)
+        path = f"s3://warehouse/events/metadata/d{at:06}.avro"
+        yield path, row_of_days(path, 1, kind, indexes, entries), lambda: [
+            entry(entries + index, 1 + index // 10 % 2, 3 if index % of_a_day == 0 else 2, day_of(kind, index, entries), 0)
+            for index in indexes]
+
+
+def day_of(kind, index, entries):
+    return number(1) + number(index * DAYS[kind] // entries)
+
+
+def row_of_days(path, content, kind, indexes, entries):
+    bounds = [number(1) + run((at * DAYS[kind] // entries).to_bytes(4, "little")) for at in (indexes[0], indexes[-1])]
+    return row(path, 0, content) + number(1) + number(1) + b"\0" + b"".join(bounds) + number(0)
 
 
 def metadata():
@@ -145,11 +169,11 @@ def main():
     kind = sys.argv[3] if len(sys.argv) > 3 else "data"
     out = sys.stdout
     rows = [row for _, row, _ in manifests(entries, each, kind)]
-    row_type, entries_type = (ROW_OF_DAY, ENTRY_OF_DAY) if kind == "days" else (ROW, ENTRY)
+    row_type, entries_type = (ROW_OF_DAY, ENTRY_OF_DAY) if kind in DAYS else (ROW, ENTRY)
     out.write(f"{LIST} " + container(row_type, rows).hex() + "\n")
     for path, _, objects in manifests(entries, each, kind):
         out.write(f"{path} " + container(entries_type, objects()).hex() + "\n")
-    if kind == "days":
+    if kind in DAYS:
         out.write(f"{METADATA} " + metadata().hex() + "\n")
 
 
