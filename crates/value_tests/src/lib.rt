@@ -7,6 +7,10 @@ mod deletes;
 #[cfg(test)]
 mod literals;
 #[cfg(test)]
+mod merge_trees;
+#[cfg(test)]
+mod merges;
+#[cfg(test)]
 mod transforms;
 #[cfg(test)]
 mod values;
