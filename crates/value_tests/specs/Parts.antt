@@ -1,5 +1,5 @@
 -- An index of some of a table's files, which stand at places of the table.
-use Rattle.std.specs.Prelude.{ℕ, false, List, [], None, map, get_or, slice_index, All, AllPairs, Contains, ◌≡◌, ◌≢◌, ◌×◌}
+use Rattle.std.specs.Prelude.{ℕ, pos, false, List, [], None, map, get_or, All, Contains}
 use Rattle.std.specs.List.{enumerate_from}
 use Rattle.ice_value.specs.Applying.{DeleteKey}
 use Rattle.ice_value.specs.declared.file_content.FileContent.TheVariants.{Data}
@@ -8,7 +8,7 @@ use Rattle.ice_value.specs.declared.file_content.FileContent.TheVariants.{Data}
 abbrev pub past_last : DeleteKey
 past_last = record {
   content = Data;
-  spec_id = 0;
+  spec_id = pos 0;
   unpartitioned = false;
   tuple = [];
   sequence_number = 0;

@@ -15,6 +15,7 @@ use std::test::Fail;
 /// A number below the limit.
 fn below(random: &mut Xoshiro256PlusPlus, limit: u64) -> usize
     requires { 0 < limit }
+    ensures { result < limit }
 {
     (random.next_u64() % limit) as usize
 }
@@ -92,8 +93,7 @@ fn grown(
     ensures { IfOk result (λ part. IsPart (map key_of table.now.files.items) part.places.items part.index) }
 {
     if levels == 0 || random.next_u64() % 4 == 0 {
-        let places = places(alloc, table, random)?;
-        return table.part(alloc, &places);
+        return table.part(alloc, places(alloc, table, random)?);
     }
     let mut first = grown(alloc, table, random, levels - 1)?;
     let second = grown(alloc, table, random, levels - 1)?;
@@ -105,7 +105,7 @@ fn grown(
 fn built_at_once(alloc: Global, table: &Table<'_>, part: &Part) -> Result<Part, PartFault> {
     let mut places = part.places.as_slice().to_vec(alloc)?;
     places.sort_unstable();
-    table.part(alloc, &places)
+    table.part(alloc, places)
 }
 
 /// Data files of each partition, with these sequence numbers, at each path.

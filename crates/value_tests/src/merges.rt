@@ -1,6 +1,6 @@
 //! Indexes of some of a table's files, under numbers of their own, which are merged.
 
-ghost use Rattle.std.specs.Prelude.{◌≡◌, ◌≢◌, ◌<◌, ◌→◌, true, map, take, length, slice_index, All, AllPairs, IfOk, OnErr};
+ghost use Rattle.std.specs.Prelude.{◌≡◌, ◌≢◌, ◌<◌, true, map, take, length, slice_index, All, AllPairs, IfOk, OnErr};
 ghost use Rattle.ice_deletes.specs.Keys.{key_of};
 ghost use Rattle.value_tests.specs.Parts.{files_at, IsPart};
 
@@ -111,14 +111,12 @@ impl<'f> Table<'f> {
     }
 
     /// The index that is built at once of the files at these places.
-    pub fn part(&self, alloc: Global, places: &[usize]) -> Result<Part, PartFault>
+    pub fn part(&self, alloc: Global, places: Vec<usize>) -> Result<Part, PartFault>
         ensures { IfOk result (λ part. IsPart (map key_of self.now.files.items) part.places.items part.index) }
     {
-        let chosen = self.chosen(alloc, places)?;
-        Ok(Part {
-            index: DeleteIndex::build(alloc, &chosen)?,
-            places: places.to_vec(alloc)?,
-        })
+        let chosen = self.chosen(alloc, &places)?;
+        let index = DeleteIndex::build(alloc, &chosen)?;
+        Ok(Part { index, places })
     }
 
     /// Merges the second part into the first. A refusal leaves that as it was.
