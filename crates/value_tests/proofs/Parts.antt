@@ -57,9 +57,12 @@ naming table places e low is =
     length-enumerate_from 0 (files_at table places) ∙ long_as table places in
     let within : e.0 < length (files_at table places) = omega (arith, long_as table places, low) in
     let file : get_or (files_at table places) e.0 e.1 ≡ e.1 = named_at table places e.0 e.1 low ∙ sym is in
-    let number : 0 + e.0 ≡ e.0 = omega arith in
-    (e.0, omega (arith, many, low), get_or-enumerate_from 0 (files_at table places) e.0 e within
-    ∙ ap (λ (n : ℕ). (n, get_or (files_at table places) e.0 e.1)) number ∙ ap (λ (d : DeleteKey). (e.0, d)) file)
+    let number : 0 + e.0 ≡ e.0 = omega arith in (
+      e.0,
+      omega (arith, many, low),
+      get_or-enumerate_from 0 (files_at table places) e.0 e within
+          ∙ ap (λ (n : ℕ). (n, get_or (files_at table places) e.0 e.1)) number ∙ ap (λ (d : DeleteKey). (e.0, d)) file,
+    )
 
 -- the numbers of places name the same files behind further places
 abbrev pub Numbers : List ℕ → List ℕ → List ℕ → Type 0

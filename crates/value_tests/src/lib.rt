@@ -7,6 +7,8 @@ mod deletes;
 #[cfg(test)]
 mod literals;
 #[cfg(test)]
+mod merge_refusals;
+#[cfg(test)]
 mod merge_trees;
 #[cfg(test)]
 mod merges;
