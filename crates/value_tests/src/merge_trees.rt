@@ -157,6 +157,6 @@ fn end_in_what_is_built_at_once(rt: HostRuntime) -> Result<(), Fail> {
         }
     }
     // Large ones are not rare.
-    assert!(rt; many > 2_000, "{many}");
+    assert!(rt; many > 1_000, "{many}");
     Ok(())
 }
