@@ -31,6 +31,10 @@ const P6: Delete = (10, "mem://t/p6");
 
 const P7: Delete = (10, "mem://t/p7");
 
+const P8: Delete = (14, "mem://t/p8");
+
+const P9: Delete = (14, "mem://t/p9");
+
 const Q0: Delete = (5, "mem://t/q0");
 
 const Q1: Delete = (8, "mem://t/q1");
@@ -39,18 +43,27 @@ const Q2: Delete = (8, "mem://t/q2");
 
 const Q3: Delete = (9, "mem://t/q3");
 
+const Q4: Delete = (14, "mem://t/q4");
+
 /// In the order of their paths. Where a path has two lines, no plan has both.
-pub static LINES: [FileLine; 10] = [
-    (0, "mem://t/a", 10, &[P0, P1, OTHER_P1, P6], &[Q0, Q2, Q3]),
+pub static LINES: [FileLine; 11] = [
+    (
+        0,
+        "mem://t/a",
+        10,
+        &[P0, P1, OTHER_P1, P6],
+        &[Q0, Q2, Q3, Q4],
+    ),
     (4, "mem://t/a", 51, &[P1, OTHER_P1], &[Q2, Q3]),
-    (0, "mem://t/b", 11, &[P3, P7], &[Q1, Q3]),
+    (0, "mem://t/b", 11, &[P3, P7], &[Q1, Q3, Q4]),
     (3, "mem://t/b", 41, &[P3], &[Q1, Q3]),
     (1, "mem://t/c", 20, &[P0, P2, P4], &[Q2, Q3]),
     (4, "mem://t/c", 50, &[P2, P4], &[Q2, Q3]),
     (1, "mem://t/d", 21, &[P5], &[Q1, Q3]),
     (2, "mem://t/e", 30, &[], &[Q3]),
-    (2, "mem://t/f", 31, &[P0], &[Q0, Q2, Q3]),
+    (2, "mem://t/f", 31, &[P0], &[Q0, Q2, Q3, Q4]),
     (3, "mem://t/g", 40, &[], &[Q1, Q3]),
+    (13, "mem://t/h", 60, &[P8, P9], &[Q3]),
 ];
 
 /// The paths that are live in two manifests, and the numbers of these, in the order of the paths.

@@ -10,7 +10,8 @@ use ice_state::{FinishFault, OwnedPlan, Partial, Plan, ScanFault};
 use std::alloc::{AllocError, Global};
 use std::test::Fail;
 
-const NUMBERS: [usize; 6] = [0, 1, 5, 6, 7, 8];
+/// Data files, and delete files of each group.
+const NUMBERS: [usize; 8] = [0, 1, 5, 6, 7, 8, 9, 14];
 
 fn case(alloc: Global, numbers: &[usize]) -> Result<Case, ScanFault> {
     case_of(alloc, &files(alloc)?, numbers)
@@ -121,13 +122,15 @@ fn is_absorbed_at_last(
 }
 
 /// The place of a manifest that is taken, and the first manifest that the state lacks before.
-static TAKES: [(usize, &str); 6] = [
+static TAKES: [(usize, &str); 8] = [
     (4, "mem://t/m00"),
     (3, "mem://t/m00"),
     (0, "mem://t/m00"),
     (5, "mem://t/m01"),
     (1, "mem://t/m01"),
     (2, "mem://t/m05"),
+    (7, "mem://t/m09"),
+    (6, "mem://t/m09"),
 ];
 
 #[test]
@@ -153,7 +156,7 @@ static MERGES: [Joining; 4] = [
     (&[4, 3, 0], "mem://t/m00"),
     (&[5], "mem://t/m01"),
     (&[0, 3, 4, 5], "mem://t/m01"),
-    (&[5, 2, 1], "mem://t/m01"),
+    (&[6, 5, 2, 7, 1], "mem://t/m01"),
 ];
 
 /// The first outgrows it, and took none of what it took; the others have less, nothing new, and some of the same.
@@ -161,7 +164,7 @@ static ABSORPTIONS: [Joining; 4] = [
     (&[4, 0], "mem://t/m00"),
     (&[5], "mem://t/m01"),
     (&[3, 4], "mem://t/m01"),
-    (&[2, 5, 1], "mem://t/m01"),
+    (&[2, 7, 5, 1, 6], "mem://t/m01"),
 ];
 
 #[test]
@@ -195,6 +198,9 @@ fn of_absorptions(rt: HostRuntime) -> Result<(), Fail> {
     Ok(())
 }
 
+/// The places of all of them.
+const ALL: [usize; 8] = [0, 1, 2, 3, 4, 5, 6, 7];
+
 /// The plan, also where a growth was refused at first.
 fn finished_at_last<'a>(state: &'a Partial, case: &Case) -> Result<Plan<'a>, FinishFault>
     requires { IsOf case.now.scan state.now }
@@ -220,7 +226,7 @@ fn is_kept_at_last(alloc: Global, plan: &Plan<'_>, numbers: &[usize]) -> Result<
 fn of_finishes(rt: HostRuntime) -> Result<(), Fail> {
     let alloc = rt.alloc();
     let case = case_at_last(alloc, &NUMBERS)?;
-    let state = state_at_last(alloc, &case, &[0, 1, 2, 3, 4, 5])?;
+    let state = state_at_last(alloc, &case, &ALL)?;
     let plan = finished_at_last(&state, &case)?;
     assert!(rt; is_kept_at_last(alloc, &plan, &NUMBERS)?);
     assert!(rt; has_lines(&plan.lines(), &NUMBERS));
@@ -230,11 +236,9 @@ fn of_finishes(rt: HostRuntime) -> Result<(), Fail> {
 
 /// The plan that takes a state over, which is made anew where a growth was refused.
 fn owned_at_last(alloc: Global, case: &Case) -> Result<OwnedPlan, FinishFault> {
-    let state = state_at_last(alloc, case, &[0, 1, 2, 3, 4, 5])?;
+    let state = state_at_last(alloc, case, &ALL)?;
     match state.into_plan(&case.scan) {
-        Err(FinishFault::Memory) => state_after(alloc, case, &[0, 1, 2, 3, 4, 5])?.into_plan(
-            &case.scan,
-        ),
+        Err(FinishFault::Memory) => state_after(alloc, case, &ALL)?.into_plan(&case.scan),
         planned => planned,
     }
 }
@@ -254,5 +258,19 @@ fn of_finishes_with_a_fault(rt: HostRuntime) -> Result<(), Fail> {
     let case = case_at_last(alloc, &[1, 4])?;
     let state = state_at_last(alloc, &case, &[1, 0])?;
     assert!(rt; is_twice(&answer_at_last(alloc, &state, &case), "mem://t/c"));
+    Ok(())
+}
+
+/// The manifests at both places have a delete file of one path.
+#[test]
+fn of_joins_with_a_fault(rt: HostRuntime) -> Result<(), Fail> {
+    let alloc = rt.alloc();
+    let case = case_at_last(alloc, &[6, 11])?;
+    let mut state = state_at_last(alloc, &case, &[1])?;
+    assert!(rt; is_absorbed_at_last(alloc, &mut state, &case, &[0], "mem://t/m06")?);
+    assert!(rt; is_twice(&answer_at_last(alloc, &state, &case), "mem://t/p1"));
+    let mut merged = state_at_last(alloc, &case, &[0])?;
+    assert!(rt; is_merged_at_last(alloc, &mut merged, &case, &state, "mem://t/m11")?);
+    assert!(rt; is_twice(&answer_at_last(alloc, &merged, &case), "mem://t/p1"));
     Ok(())
 }

@@ -55,6 +55,8 @@ const C: &str = "mem://t/c";
 
 const D: &str = "mem://t/d";
 
+const H: &str = "mem://t/h";
+
 const M00: &[Entry] = &[(Added, Data, A, 1, 10), (Added, Data, B, 2, 11)];
 
 const M01: &[Entry] = &[
@@ -104,8 +106,18 @@ const M10: &[Entry] = &[
 
 const M11: &[Entry] = &[(Added, Positions(Some(A)), "mem://t/p1", 1, 7)];
 
+const M13: &[Entry] = &[(Added, Data, H, 0, 60)];
+
+/// The last one names a file of another spec.
+const M14: &[Entry] = &[
+    (Added, Positions(None), "mem://t/p8", 0, 7),
+    (Existing(3), Positions(Some(H)), "mem://t/p9", 0, 7),
+    (Existing(3), Equalities(2), "mem://t/q4", 0, 7),
+    (Added, Positions(Some(A)), "mem://t/pa", 0, 7),
+];
+
 /// In the order of their paths.
-pub static MANIFESTS: [Manifest; 13] = [
+pub static MANIFESTS: [Manifest; 15] = [
     ("mem://t/m00", DataFiles, 1, 2, Null, M00),
     ("mem://t/m01", DataFiles, 1, 3, Null, M01),
     ("mem://t/m02", DataFiles, 1, 5, Null, M02),
@@ -119,4 +131,6 @@ pub static MANIFESTS: [Manifest; 13] = [
     ("mem://t/m10", Deletes, 1, 2, Null, M10),
     ("mem://t/m11", Deletes, 1, 4, Null, M11),
     ("mem://t/m12", Deletes, 1, 3, Deflate, M05),
+    ("mem://t/m13", DataFiles, 0, 3, Null, M13),
+    ("mem://t/m14", Deletes, 0, 4, Null, M14),
 ];

@@ -52,7 +52,7 @@ fn take_some(
 {
     let count = below(random, 4);
     'takes: for _ in 0..count {
-        let place = below(random, 13);
+        let place = below(random, 15);
         take(state, case, place)?;
     }
     Ok(())
@@ -101,7 +101,7 @@ fn take_rest(state: &mut Partial, case: &Case, start: usize) -> Result<(), Alloc
 fn answer(alloc: Global, case: &Case, random: &mut Xoshiro256PlusPlus) -> Answer {
     let levels = below(random, 4);
     let mut state = grown(alloc, case, random, levels)?;
-    take_rest(&mut state, case, below(random, 13))?;
+    take_rest(&mut state, case, below(random, 15))?;
     take_rest(&mut state, case, 0)?;
     answer_of(alloc, &state, &case.scan)
 }

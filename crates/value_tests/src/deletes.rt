@@ -5,7 +5,7 @@ use ice_value::{Cell, FileContent, SequenceNumber};
 use std::alloc::{AllocError, Global};
 use std::test::Fail;
 
-fn file<'a>(
+pub fn file<'a>(
     content: FileContent,
     spec_id: i32,
     unpartitioned: bool,
@@ -23,7 +23,7 @@ fn file<'a>(
 }
 
 /// The same file, which names a data file.
-fn naming<'a>(path: &'a [u8], file: Record<'a>) -> Record<'a> {
+pub fn naming<'a>(path: &'a [u8], file: Record<'a>) -> Record<'a> {
     Record {
         referenced: Some(path),
         ..file
@@ -32,7 +32,7 @@ fn naming<'a>(path: &'a [u8], file: Record<'a>) -> Record<'a> {
 
 /// A data file, and the numbers of the delete files that apply to it, in any order.
 #[derive(Clone, Copy)]
-struct Case<'a> {
+pub struct Case<'a> {
     spec_id: i32,
     tuple: &'a [Cell],
     sequence_number: u64,
@@ -41,7 +41,7 @@ struct Case<'a> {
     numbers: [&'static [usize]; 4],
 }
 
-fn data_file<'a>(
+pub fn data_file<'a>(
     spec_id: i32,
     tuple: &'a [Cell],
     sequence_number: u64,
@@ -57,7 +57,7 @@ fn data_file<'a>(
 }
 
 /// The same data file at this path.
-fn at<'a>(path: &'a [u8], case: Case<'a>) -> Case<'a> {
+pub fn at<'a>(path: &'a [u8], case: Case<'a>) -> Case<'a> {
     Case { path, ..case }
 }
 
@@ -87,7 +87,7 @@ fn is_found(index: &DeleteIndex, case: &Case<'_>) -> bool {
 }
 
 /// Whether it finds what the cases say.
-fn are_found(index: &DeleteIndex, cases: &[Case<'_>]) -> bool {
+pub fn are_found(index: &DeleteIndex, cases: &[Case<'_>]) -> bool {
     for case in cases {
         if !is_found(index, case) {
             return false;
@@ -102,13 +102,13 @@ fn finds(alloc: Global, records: &[Record<'_>], cases: &[Case<'_>]) -> Result<bo
     Ok(are_found(&index, cases))
 }
 
-const POSITIONS: FileContent = FileContent::PositionDeletes;
+pub const POSITIONS: FileContent = FileContent::PositionDeletes;
 
-const EQUALITIES: FileContent = FileContent::EqualityDeletes;
+pub const EQUALITIES: FileContent = FileContent::EqualityDeletes;
 
-const A: &[u8] = b"mem://t/a.parquet";
+pub const A: &[u8] = b"mem://t/a.parquet";
 
-const B: &[u8] = b"mem://t/b.parquet";
+pub const B: &[u8] = b"mem://t/b.parquet";
 
 #[test]
 fn equality_deletes_of_later_changes(rt: HostRuntime) -> Result<(), Fail> {

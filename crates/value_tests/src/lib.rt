@@ -7,6 +7,12 @@ mod deletes;
 #[cfg(test)]
 mod literals;
 #[cfg(test)]
+mod merge_refusals;
+#[cfg(test)]
+mod merge_trees;
+#[cfg(test)]
+mod merges;
+#[cfg(test)]
 mod neighbours;
 #[cfg(test)]
 mod transforms;
