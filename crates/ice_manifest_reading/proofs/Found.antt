@@ -1,0 +1,61 @@
+-- Entries as they are found in the objects of a manifest.
+use Rattle.std.proofs.Common.{◌≡◌, ℕ, ◌+◌, Bool, true, List, Option, Some, Ok, Err, ap, subst, ◌∙◌}
+use Rattle.avro_schema.specs.Tree.{Tree, structure}
+use Rattle.avro_schema.specs.View.{tree}
+use Rattle.avro_file.specs.declared.object.Object.{Object}
+use Rattle.avro_file.specs.Value.{Value}
+use Rattle.avro_file.specs.Ahead.{Ahead, running, refusing}
+use Rattle.avro_file.specs.Files.{Next, Shows}
+use Rattle.avro_file.specs.Picking.{Typed}
+use Rattle.avro_picked.specs.Finding.{is_structure}
+use Rattle.ice_meta.specs.declared.spec.Spec.{Spec}
+use Rattle.ice_manifest_fields.specs.declared.fault.ManifestFault.{ManifestFault}
+use Rattle.ice_manifest_fields.specs.Schemas.{fields_in}
+use Rattle.ice_manifest_fields.proofs.Joining.{joined}
+use Rattle.ice_entry_found.specs.declared.entry.FoundEntry.{FoundEntry}
+use Rattle.ice_entry_found.specs.declared.file.FoundFile.{FoundFile}
+use Rattle.ice_entry_found.specs.Seen.{entry_seen, record_met, file_seen, IsFile}
+use Rattle.ice_manifest_fields.specs.Seen.{fields_seen}
+use Rattle.ice_entry_found.proofs.Shown.{entry_is, structure_is}
+use Rattle.ice_manifest_reading.specs.declared.row.Row.{Row}
+use Rattle.ice_manifest_reading.specs.declared.entry.Entry.{Entry}
+use Rattle.ice_manifest_reading.specs.declared.entry.Live.{Live}
+use Rattle.ice_manifest_reading.specs.Manifests.{entry_of, entries_ahead, kept_of, kept_behind}
+use Rattle.ice_manifest_reading.proofs.Keeping.{next_kept, kept_fails}
+use Rattle.ice_manifest_reading.proofs.Reading.{Is}
+
+-- the value that the next object shows
+pub shown_next : (now new : Ahead) (o : Object) → Next Shows now (Ok (Some o)) new → (v : Value) × Shows o v
+shown_next (running vs ending) new o h = (h.0, h.2)
+shown_next (refusing f) new o h = absurd (cc (h.0))
+
+seen_is : (e : FoundEntry) (s : Tree) → tree e.object.schema.now ≡ s → is_structure s ≡ true
+    → entry_seen e ≡ (structure (fields_in s), (entry_seen e).1)
+unfolding entry_seen
+seen_is e s same record_is = ap (λ (t : Tree). (t, (entry_seen e).1)) (same ∙ structure_is s record_is)
+
+value_is : (e : FoundEntry) → Is e.object (entry_seen e).1
+value_is e = λ v is. ap (λ (x : Typed). x.1) (entry_is e v is)
+
+pub entry_kept : (keeps : Live → Bool) (row : Row) (spec : Spec) (s : Tree) (k : ℕ) (front found : List Entry)
+    (now new : Ahead) (e : FoundEntry) → Next Shows now (Ok (Some e.object)) new → tree e.object.schema.now ≡ s
+    → is_structure s ≡ true → kept_behind keeps front (entry_of row spec k (entry_seen e)) ≡ Ok found
+    → joined front (kept_of keeps (entries_ahead row spec (fields_in s) k now)) ≡ joined found
+    (kept_of keeps (entries_ahead row spec (fields_in s) (k + 1) new))
+entry_kept keeps row spec s k front found now new e next same record_is is =
+    next_kept keeps row spec (fields_in s) k front found now new e.object (entry_seen e).1 next (value_is e)
+    (subst (λ (x : Typed). kept_behind keeps front (entry_of row spec k x) ≡ Ok found) (seen_is e s same record_is) is)
+
+pub entry_at_fault : (keeps : Live → Bool) (row : Row) (spec : Spec) (s : Tree) (k : ℕ) (front : List Entry)
+    (now new : Ahead) (e : FoundEntry) (f : ManifestFault) → Next Shows now (Ok (Some e.object)) new
+    → tree e.object.schema.now ≡ s → is_structure s ≡ true
+    → kept_behind keeps front (entry_of row spec k (entry_seen e)) ≡ Err f
+    → joined front (kept_of keeps (entries_ahead row spec (fields_in s) k now)) ≡ Err f
+entry_at_fault keeps row spec s k front now new e f next same record_is is =
+    kept_fails keeps row spec (fields_in s) k front now new e.object (entry_seen e).1 f next (value_is e)
+    (subst (λ (x : Typed). kept_behind keeps front (entry_of row spec k x) ≡ Err f) (seen_is e s same record_is) is)
+
+-- the fields of a file's type
+pub file_fields_are : (f : FoundFile) → IsFile f → fields_in (file_seen f).0 ≡ fields_seen f.fields.now
+unfolding file_seen
+file_fields_are f is = ap (λ (o : Option Typed). fields_in (record_met o).0) is.1.1
