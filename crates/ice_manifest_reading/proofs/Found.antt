@@ -1,5 +1,16 @@
 -- Entries as they are found in the objects of a manifest.
-use Rattle.std.proofs.Common.{◌≡◌, ℕ, ◌+◌, Bool, true, List, Option, Some, Ok, Err, ap, subst, ◌∙◌}
+use Rattle.std.proofs.Common.{◌≡◌, ℕ, ◌+◌, ℤ, pos, Bool, true, List, Option, Some, Result, Ok, Err, refl, sym, ap, subst}
+use Rattle.std.proofs.Common.{◌∙◌}
+use Rattle.contract_words.specs.Outcome.{◌>>=◌}
+use Rattle.ice_value.specs.declared.file_bounds.FileBounds.{FileBounds}
+use Rattle.ice_meta.specs.declared.spec.PartitionField.{PartitionField}
+use Rattle.ice_meta.specs.Partitioning.{is_unpartitioned}
+use Rattle.ice_manifest_fields.specs.declared.fault.FieldFault.{FieldFault}
+use Rattle.ice_manifest_fields.specs.Fields.{asked, record_at}
+use Rattle.ice_manifest_fields.specs.Naming.{in_manifest, told}
+use Rattle.ice_manifest_reading.specs.declared.data_file.DataFile.{DataFile}
+use Rattle.ice_manifest_reading.specs.declared.status.Status.{Status}
+use Rattle.ice_manifest_reading.specs.Manifests.{sequence_at, file_sequence_at, snapshot_at, live_at, file_of as said_file}
 use Rattle.avro_schema.specs.Tree.{Tree, structure}
 use Rattle.avro_schema.specs.View.{tree}
 use Rattle.avro_file.specs.declared.object.Object.{Object}
@@ -14,7 +25,7 @@ use Rattle.ice_manifest_fields.specs.Schemas.{fields_in}
 use Rattle.ice_manifest_fields.proofs.Joining.{joined}
 use Rattle.ice_entry_found.specs.declared.entry.FoundEntry.{FoundEntry}
 use Rattle.ice_entry_found.specs.declared.file.FoundFile.{FoundFile}
-use Rattle.ice_entry_found.specs.Seen.{entry_seen, record_met, file_seen, IsFile}
+use Rattle.ice_entry_found.specs.Seen.{entry_seen, record_met, file_of, file_seen, IsFile}
 use Rattle.ice_manifest_fields.specs.Seen.{fields_seen}
 use Rattle.ice_entry_found.proofs.Shown.{entry_is, structure_is}
 use Rattle.ice_manifest_reading.specs.declared.row.Row.{Row}
@@ -59,3 +70,50 @@ entry_at_fault keeps row spec s k front now new e f next same record_is is =
 pub file_fields_are : (f : FoundFile) → IsFile f → fields_in (file_seen f).0 ≡ fields_seen f.fields.now
 unfolding file_seen
 file_fields_are f is = ap (λ (o : Option Typed). fields_in (record_met o).0) is.1.1
+
+-- ---- a live entry
+
+-- the record of an entry's file
+record_here : (e : FoundEntry) (f : FoundFile) → IsFile f → f.entry.now ≡ e
+    → record_at (pos 2) (entry_seen e) ≡ Ok (file_seen f)
+unfolding file_seen
+record_here e f is same =
+    let here = ap file_of (sym same) ∙ is.1.1 in
+    ap (asked (pos 2)) here ∙ ap (λ (o : Option Typed). Ok (record_met o)) (sym is.1.1)
+
+-- what is read of an entry but for its file
+abbrev pub entry_with : Row → Spec → ℕ → ℤ → ℕ → Option ℕ → DataFile → Entry
+entry_with row spec position snapshot sequence file_sequence file = record {
+  position = position;
+  spec_id = row.spec_id;
+  unpartitioned = is_unpartitioned spec;
+  snapshot_id = snapshot;
+  sequence_number = sequence;
+  file_sequence_number = file_sequence;
+  file = file;
+}
+
+-- the numbers of an entry, and its file, were read
+pub record Numbered (row : Row) (spec : Spec) (status : Status) (e : FoundEntry) (f : FoundFile) (sequence : ℕ)
+    (file_sequence : Option ℕ) : Type 0 where
+  pub sequence_is : Ok sequence ≡ sequence_at row status (entry_seen e)
+  pub file_sequence_is : Ok file_sequence ≡ file_sequence_at row status (entry_seen e)
+  pub is_file : IsFile f
+  pub same : f.entry.now ≡ e
+  pub partition_is : e.partition.now ≡ spec.fields
+
+-- what its file says is what the entry does
+pub live_goes : (row : Row) (spec : Spec) (position : ℕ) (status : Status) (e : FoundEntry) (f : FoundFile) (sequence : ℕ)
+    (file_sequence : Option ℕ) (read : Result (DataFile × FileBounds) FieldFault)
+    → Numbered row spec status e f sequence file_sequence
+    → said_file row.content f.entry.now.partition.now (file_seen f) ≡ read
+    → live_at row spec position status (entry_seen e) ≡ (told in_manifest read >>= λ said. Ok (record {
+      entry = entry_with row spec position (snapshot_at row (entry_seen e)) sequence file_sequence said.0;
+      bounds = said.1;
+    }))
+unfolding live_at
+live_goes row spec position status e f sequence file_sequence read n is =
+    let here = record_here e f n.is_file n.same in
+    let file = ap (λ (ps : List PartitionField). said_file row.content ps (file_seen f))
+    (sym (ap (λ (x : FoundEntry). x.partition.now) n.same ∙ n.partition_is)) ∙ is in
+    rw (sym n.sequence_is, sym n.file_sequence_is, here, file) refl

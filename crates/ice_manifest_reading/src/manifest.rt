@@ -9,12 +9,13 @@ ghost use Rattle.avro_picked.specs.Finding.{layout_tree, ways_of, is_structure};
 ghost use Rattle.avro_picked.specs.Placing.{IsLayout};
 ghost use Rattle.ice_manifest_fields.specs.Fields.{int_or_zero as int_or_zero_said, path_at as path_said};
 ghost use Rattle.ice_manifest_fields.specs.Fields.{long_at as long_said, ints_at as ints_said};
+ghost use Rattle.ice_manifest_fields.specs.Fields.{int_at as int_said, optional_number as number_said};
 ghost use Rattle.ice_manifest_fields.specs.Maps.{columns_of as columns_said};
 ghost use Rattle.ice_manifest_fields.specs.Naming.{in_manifest, told};
 ghost use Rattle.ice_manifest_fields.specs.Schemas.{fields_in};
 ghost use Rattle.ice_manifest_fields.specs.Seen.{result_map};
 ghost use Rattle.ice_entry_found.specs.Seen.{entry_seen, IsPlaced, file_seen, IsFile};
-ghost use Rattle.ice_entry_found.specs.Ways.{file_id, wanted_ways};
+ghost use Rattle.ice_entry_found.specs.Ways.{entry_id, file_id, wanted_ways};
 ghost use Rattle.ice_manifest_reading.specs.Manifests.{live_of, status_of as status_in, status_at as status_said};
 ghost use Rattle.ice_manifest_reading.specs.Manifests.{content_of as content_in, content_at as content_said};
 ghost use Rattle.ice_manifest_reading.specs.Manifests.{inherited as inherited_in, file_inherited as file_inherited_in};
@@ -62,13 +63,21 @@ fn status_of(code: i32) -> Result<Status, ManifestFault>
     }
 }
 
-#[tactic(auto, unfolding(crate::specs::Manifests::status_at, ice_manifest_fields::specs::Fields::int_at))]
+/// The code of an entry's status.
+fn status_code(entry: &FoundEntry) -> Result<i32, FieldFault>
+    requires { IsPlaced entry.now }
+    ensures { result ≡ int_said (pos 0) (entry_seen entry.now) }
+{
+    let field = EntryField::Status;
+    int_asked(entry.found(field), field.id())
+}
+
+#[tactic(auto, unfolding(crate::specs::Manifests::status_at))]
 fn status_at(entry: &FoundEntry) -> Result<Status, ManifestFault>
     requires { IsPlaced entry.now }
     ensures { result ≡ status_said (entry_seen entry.now) }
 {
-    let field = EntryField::Status;
-    status_of(int_asked(entry.found(field), field.id())?)
+    status_of(status_code(entry)?)
 }
 
 /// What a file of a manifest of this content holds.
@@ -84,7 +93,6 @@ fn content_of(of_row: ManifestContent, code: i32) -> Result<FileContent, FieldFa
 }
 
 /// A whole number of 32 bits; 0 where the file's type has no such field.
-#[tactic(auto, unfolding(ice_manifest_fields::specs::Fields::int_or_zero, ice_manifest_fields::specs::Fields::int_at))]
 fn int_or_zero(file: &FoundFile, field: FileField) -> Result<i32, FieldFault>
     requires { IsFile file.now }
     ensures { result ≡ int_or_zero_said (file_id field) (file_seen file.now) }
@@ -226,7 +234,18 @@ fn inherited(
     }
 }
 
-#[tactic(auto, unfolding(crate::specs::Manifests::sequence_at, ice_manifest_fields::specs::Fields::optional_number))]
+/// A sequence number that an entry may have.
+fn number_at(
+    entry: &FoundEntry,
+    field: EntryField,
+) -> Result<Option<SequenceNumber>, FieldFault>
+    requires { IsPlaced entry.now }
+    ensures { result ≡ number_said (entry_id field) (entry_seen entry.now) }
+{
+    optional_number(entry.found(field), field.id())
+}
+
+#[tactic(auto, unfolding(crate::specs::Manifests::sequence_at))]
 fn sequence_at(
     row: &Row,
     status: Status,
@@ -235,8 +254,7 @@ fn sequence_at(
     requires { IsPlaced entry.now }
     ensures { result ≡ sequence_said row.now status (entry_seen entry.now) }
 {
-    let field = EntryField::SequenceNumber;
-    let own = optional_number(entry.found(field), field.id())?;
+    let own = number_at(entry, EntryField::SequenceNumber)?;
     inherited(row.sequence_number, status, own)
 }
 
@@ -256,7 +274,7 @@ fn file_inherited(
     }
 }
 
-#[tactic(auto, unfolding(crate::specs::Manifests::file_sequence_at, ice_manifest_fields::specs::Fields::optional_number))]
+#[tactic(auto, unfolding(crate::specs::Manifests::file_sequence_at))]
 fn file_sequence_at(
     row: &Row,
     status: Status,
@@ -265,8 +283,7 @@ fn file_sequence_at(
     requires { IsPlaced entry.now }
     ensures { result ≡ file_sequence_said row.now status (entry_seen entry.now) }
 {
-    let field = EntryField::FileSequenceNumber;
-    let own = optional_number(entry.found(field), field.id())?;
+    let own = number_at(entry, EntryField::FileSequenceNumber)?;
     Ok(file_inherited(row.sequence_number, status, own))
 }
 

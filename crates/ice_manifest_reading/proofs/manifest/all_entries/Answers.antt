@@ -1,7 +1,8 @@
-use Rattle.std.proofs.Common.{sym, ◌∙◌, refl, arith, rules}
+use Rattle.std.proofs.Common.{sym, ap, ◌∙◌, refl, arith, rules}
 use Rattle.std.proofs.lemmas.Result.{err_from_is_err_and}
 use Rattle.avro_file.specs.Files.{ahead}
 use Rattle.avro_picked.specs.Finding.{layout_tree}
+use Rattle.ice_entry_found.specs.Ways.{wanted_ways}
 use Rattle.ice_manifest_fields.specs.Schemas.{fields_in}
 use Rattle.ice_manifest_fields.proofs.Joining.{joined}
 use Rattle.ice_manifest_reading.proofs.Reading.{fewer}
@@ -19,7 +20,7 @@ read_object-requires g c =
     let placed = rw c.in-Some.is at c.in_ok-object.ensures.placed in
     record {
       placed = (
-        c.requires.ways,
+        c.requires.ways ∙ ap wanted_ways (sym c.as_slice-partition.ensures),
         placed,
         shown_next (ahead c.objects.reader) (ahead c.next_placed.new.objects)
             c.in-Some.object next,

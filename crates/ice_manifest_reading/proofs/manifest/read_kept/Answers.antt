@@ -4,6 +4,7 @@ use Rattle.avro_schema.specs.View.{tree}
 use Rattle.avro_file.specs.Ahead.{still_ahead}
 use Rattle.avro_file.specs.Files.{ahead, tree_of, opened}
 use Rattle.avro_picked.specs.Finding.{is_structure}
+use Rattle.ice_entry_found.specs.Ways.{wanted_ways}
 use Rattle.ice_manifest_fields.specs.Schemas.{fields_in}
 use Rattle.ice_manifest_reading.specs.ManifestSchemas.{entry_fields}
 use Rattle.ice_manifest_reading.proofs.Few.{entries_take_bytes, entries_are_records}
@@ -22,7 +23,7 @@ all_entries-requires g c =
     record {
       few = omega (arith, here, c.well_formed);
       layout = c.in_ok-layout.ensures.leads;
-      ways = c.in_ok-layout.ensures.ways;
+      ways = c.in_ok-layout.ensures.ways ∙ ap wanted_ways c.as_slice.ensures;
       schema = same ∙ sym c.objects.ensures.schema;
       records = subst (λ (t : Tree). is_structure t ≡ true) (sym same)
           (entries_are_records c.args.spec.now (tree_of c.in_ok-container.container) fits);
