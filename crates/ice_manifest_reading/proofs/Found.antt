@@ -32,6 +32,9 @@ use Rattle.ice_manifest_reading.specs.declared.row.Row.{Row}
 use Rattle.ice_manifest_reading.specs.declared.entry.Entry.{Entry}
 use Rattle.ice_manifest_reading.specs.declared.entry.Live.{Live}
 use Rattle.ice_manifest_reading.specs.Manifests.{entry_of, entries_ahead, kept_of, kept_behind}
+use Rattle.ice_manifest_reading.specs.Manifests.{unless_deleted}
+use Rattle.ice_manifest_reading.specs.Behind.{live_behind}
+use Rattle.ice_manifest_reading.specs.declared.status.Status.TheVariants.{Existing, Added, Deleted}
 use Rattle.ice_manifest_reading.proofs.Keeping.{next_kept, kept_fails}
 use Rattle.ice_manifest_reading.proofs.Reading.{Is}
 
@@ -81,21 +84,23 @@ record_here e f is same =
     let here = ap file_of (sym same) ∙ is.1.1 in
     ap (asked (pos 2)) here ∙ ap (λ (o : Option Typed). Ok (record_met o)) (sym is.1.1)
 
--- what is read of an entry but for its file
-abbrev pub entry_with : Row → Spec → ℕ → ℤ → ℕ → Option ℕ → DataFile → Entry
-entry_with row spec position snapshot sequence file_sequence file = record {
+-- an entry of a row
+abbrev pub entry_with : Row → ℕ → Bool → ℤ → ℕ → Option ℕ → DataFile → Entry
+entry_with row position unpartitioned snapshot sequence file_sequence file = record {
   position = position;
   spec_id = row.spec_id;
-  unpartitioned = is_unpartitioned spec;
+  unpartitioned = unpartitioned;
   snapshot_id = snapshot;
   sequence_number = sequence;
   file_sequence_number = file_sequence;
   file = file;
 }
 
--- the numbers of an entry, and its file, were read
-pub record Numbered (row : Row) (spec : Spec) (status : Status) (e : FoundEntry) (f : FoundFile) (sequence : ℕ)
-    (file_sequence : Option ℕ) : Type 0 where
+-- the numbers of an entry were read, and its file was found
+pub record Numbered (row : Row) (spec : Spec) (status : Status) (e : FoundEntry) (f : FoundFile) (unpartitioned : Bool)
+    (snapshot : ℤ) (sequence : ℕ) (file_sequence : Option ℕ) : Type 0 where
+  pub open_is : unpartitioned ≡ is_unpartitioned spec
+  pub snapshot_is : snapshot ≡ snapshot_at row (entry_seen e)
   pub sequence_is : Ok sequence ≡ sequence_at row status (entry_seen e)
   pub file_sequence_is : Ok file_sequence ≡ file_sequence_at row status (entry_seen e)
   pub is_file : IsFile f
@@ -103,17 +108,26 @@ pub record Numbered (row : Row) (spec : Spec) (status : Status) (e : FoundEntry)
   pub partition_is : e.partition.now ≡ spec.fields
 
 -- what its file says is what the entry does
-pub live_goes : (row : Row) (spec : Spec) (position : ℕ) (status : Status) (e : FoundEntry) (f : FoundFile) (sequence : ℕ)
-    (file_sequence : Option ℕ) (read : Result (DataFile × FileBounds) FieldFault)
-    → Numbered row spec status e f sequence file_sequence
-    → said_file row.content f.entry.now.partition.now (file_seen f) ≡ read
-    → live_at row spec position status (entry_seen e) ≡ (told in_manifest read >>= λ said. Ok (record {
-      entry = entry_with row spec position (snapshot_at row (entry_seen e)) sequence file_sequence said.0;
+pub live_goes : (row : Row) (spec : Spec) (position : ℕ) (status : Status) (e : FoundEntry) (f : FoundFile)
+    (unpartitioned : Bool) (snapshot : ℤ) (sequence : ℕ) (file_sequence : Option ℕ)
+    → Numbered row spec status e f unpartitioned snapshot sequence file_sequence
+    → live_at row spec position status (entry_seen e) ≡
+    (told in_manifest (said_file row.content f.entry.now.partition.now (file_seen f)) >>= λ said. Ok (record {
+      entry = entry_with row position unpartitioned snapshot sequence file_sequence said.0;
       bounds = said.1;
     }))
 unfolding live_at
-live_goes row spec position status e f sequence file_sequence read n is =
+live_goes row spec position status e f unpartitioned snapshot sequence file_sequence n =
     let here = record_here e f n.is_file n.same in
-    let file = ap (λ (ps : List PartitionField). said_file row.content ps (file_seen f))
-    (sym (ap (λ (x : FoundEntry). x.partition.now) n.same ∙ n.partition_is)) ∙ is in
-    rw (sym n.sequence_is, sym n.file_sequence_is, here, file) refl
+    let partition = sym (ap (λ (x : FoundEntry). x.partition.now) n.same ∙ n.partition_is) in
+    rw (sym n.sequence_is, sym n.file_sequence_is, here, sym n.snapshot_is, sym n.open_is, partition) refl
+
+-- an entry that is not deleted is kept as a live one
+pub alive : (keeps : Live → Bool) (front : List Entry) (status : Status) (read : Result Live ManifestFault)
+    → (status ≡ Deleted → ⊥)
+    → kept_behind keeps front (unless_deleted status read) ≡ live_behind keeps front read
+alive keeps front Existing (Ok l) not = refl
+alive keeps front Existing (Err f) not = refl
+alive keeps front Added (Ok l) not = refl
+alive keeps front Added (Err f) not = refl
+alive keeps front Deleted read not = absurd (not refl)

@@ -375,10 +375,10 @@ fn read_object<'d, K: Keep>(
         (entry_said source.now.row.now source.now.spec.now position (entry_seen entry.now))) }
 {
     let status = status_at(entry)?;
-    if status == Status::Deleted {
-        return Ok(());
+    match status {
+        Status::Deleted => Ok(()),
+        _ => read_live(alloc, source, keep, found, position, status, entry),
     }
-    read_live(alloc, source, keep, found, position, status, entry)
 }
 
 /// The kept entries of all objects that are to come, which are records and few enough to be numbered.
