@@ -1,4 +1,5 @@
-use Rattle.std.proofs.Common.{Ok, refl, sym, ap}
+use Rattle.std.proofs.Common.{◌≡◌, to_z, of_z, w32, w64, Ok, refl, sym, ap, rules}
+use Rattle.std.proofs.lemmas.Int.{to_z-of_z}
 use Rattle.std.proofs.lemmas.Result.{err_from_is_err_and}
 use Rattle.ice_manifest_reading.proofs.Found.{Numbered, live_goes}
 use Rattle.ice_manifest_reading.proofs.manifest.read_live.Goals as goal
@@ -42,4 +43,7 @@ returns g c =
     let goes = live_goes row spec c.args.position c.args.status c.args.entry.now c.in-Some.file
     c.args.source.now.unpartitioned c.snapshot_at-snapshot_id.result c.in_ok-sequence_number.sequence_number
     c.in_ok-file_sequence_number.file_sequence_number numbered in
-    rw (goes, c.in_ok-view.ensures) (ap Ok (sym c.in_ok-push_kept.ensures))
+    let spec_id : to_z w32 (of_z w32 row.spec_id) ≡ row.spec_id = to_z-of_z w32 row.spec_id (search rules) in
+    let snapshot : to_z w64 (of_z w64 c.snapshot_at-snapshot_id.result) ≡ c.snapshot_at-snapshot_id.result =
+    to_z-of_z w64 c.snapshot_at-snapshot_id.result (search rules) in
+    rw (goes, c.in_ok-view.ensures) (ap Ok (sym (simp (spec_id, snapshot) at c.in_ok-push_kept.ensures)))
