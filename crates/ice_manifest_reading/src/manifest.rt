@@ -235,10 +235,7 @@ fn inherited(
 }
 
 /// A sequence number that an entry may have.
-fn number_at(
-    entry: &FoundEntry,
-    field: EntryField,
-) -> Result<Option<SequenceNumber>, FieldFault>
+fn number_at(entry: &FoundEntry, field: EntryField) -> Result<Option<SequenceNumber>, FieldFault>
     requires { IsPlaced entry.now }
     ensures { result ≡ number_said (entry_id field) (entry_seen entry.now) }
 {
