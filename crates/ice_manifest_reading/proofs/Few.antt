@@ -5,6 +5,7 @@ use Rattle.std.specs.Option.{option_eq}
 use Rattle.avro_schema.specs.Tree.{Tree, null, boolean, int, long, float, double, symbols, octets, string, fixed}
 use Rattle.avro_schema.specs.Tree.{structure, array, map, union, Fields, no_fields, field}
 use Rattle.avro_file.specs.Spelling.{takes_bytes, some_takes_bytes}
+use Rattle.avro_picked.specs.Finding.{is_structure}
 use Rattle.ice_meta.specs.declared.spec.Spec.{Spec}
 use Rattle.ice_manifest_fields.specs.declared.fault.FieldFault.TheVariants.{WrongType}
 use Rattle.ice_manifest_fields.specs.Types.{is_whole, fits}
@@ -78,3 +79,27 @@ entries_take_bytes spec s e =
     let status = went_on (required is_whole (pos 0) (fields_in s)) _ tt e in
     let there = must_have (type_at (pos 0) (fields_in s)) status.0 status.1 in
     tree_takes_bytes s status.0 there.0 there.1
+
+typed_record : (s u : Tree) → type_at (pos 0) (fields_in s) ≡ Some u → is_structure s ≡ true
+unfolding type_at
+typed_record null u here = absurd cc
+typed_record boolean u here = absurd cc
+typed_record int u here = absurd cc
+typed_record long u here = absurd cc
+typed_record float u here = absurd cc
+typed_record double u here = absurd cc
+typed_record (octets k) u here = absurd cc
+typed_record string u here = absurd cc
+typed_record (fixed n k) u here = absurd cc
+typed_record (symbols n) u here = absurd cc
+typed_record (structure fs) u here = refl
+typed_record (array t id k) u here = absurd cc
+typed_record (map t) u here = absurd cc
+typed_record (union bs) u here = absurd cc
+
+-- it is a record's
+pub entries_are_records : (spec : Spec) (s : Tree) → entry_fields spec (fields_in s) ≡ Ok tt → is_structure s ≡ true
+unfolding entry_fields required
+entries_are_records spec s e =
+    let status = went_on (required is_whole (pos 0) (fields_in s)) _ tt e in
+    let there = must_have (type_at (pos 0) (fields_in s)) status.0 status.1 in typed_record s status.0 there.0

@@ -15,3 +15,4 @@ pub mod Few
 pub mod Held
 pub mod Keeping
 pub mod NoMemory
+pub mod Found

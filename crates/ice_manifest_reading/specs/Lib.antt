@@ -7,3 +7,4 @@ pub mod Lending
 pub mod Absent
 pub mod Faults
 pub mod Same
+pub mod Behind

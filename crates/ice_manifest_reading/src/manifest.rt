@@ -1,14 +1,21 @@
 //! Reading a manifest.
 
-ghost use Rattle.std.specs.Prelude.{◌≡◌, ◌≤◌, ◌<◌, ◌^◌, [], ◌∷◌, ◌++◌, OnOk, IfOk, IfSome, length};
+ghost use Rattle.std.specs.Prelude.{◌≡◌, ◌≤◌, ◌<◌, ◌^◌, [], ◌∷◌, ◌++◌, pos, true, OnOk, IfOk, IfSome, length};
 ghost use Rattle.std.specs.Option.{option_copied};
 ghost use Rattle.contract_words.specs.Outcome.{Gives};
-ghost use Rattle.avro_schema.specs.Tree.{structure};
-ghost use Rattle.avro_file.specs.View.{view};
 ghost use Rattle.avro_file.specs.Ahead.{still_ahead};
-ghost use Rattle.avro_file.specs.Files.{ahead};
+ghost use Rattle.avro_file.specs.Files.{ahead, type_of};
+ghost use Rattle.avro_picked.specs.Finding.{layout_tree, ways_of, is_structure};
+ghost use Rattle.avro_picked.specs.Placing.{IsLayout};
+ghost use Rattle.ice_manifest_fields.specs.Fields.{int_or_zero as int_or_zero_said, path_at as path_said};
+ghost use Rattle.ice_manifest_fields.specs.Fields.{long_at as long_said, ints_at as ints_said};
+ghost use Rattle.ice_manifest_fields.specs.Fields.{int_at as int_said, optional_number as number_said};
+ghost use Rattle.ice_manifest_fields.specs.Maps.{columns_of as columns_said};
 ghost use Rattle.ice_manifest_fields.specs.Naming.{in_manifest, told};
-ghost use Rattle.ice_manifest_fields.specs.Seen.{result_map, fields_seen, object};
+ghost use Rattle.ice_manifest_fields.specs.Schemas.{fields_in};
+ghost use Rattle.ice_manifest_fields.specs.Seen.{result_map};
+ghost use Rattle.ice_entry_found.specs.Seen.{entry_seen, IsPlaced, file_seen, IsFile};
+ghost use Rattle.ice_entry_found.specs.Ways.{entry_id, file_id, wanted_ways};
 ghost use Rattle.ice_manifest_reading.specs.Manifests.{live_of, status_of as status_in, status_at as status_said};
 ghost use Rattle.ice_manifest_reading.specs.Manifests.{content_of as content_in, content_at as content_said};
 ghost use Rattle.ice_manifest_reading.specs.Manifests.{inherited as inherited_in, file_inherited as file_inherited_in};
@@ -19,6 +26,7 @@ ghost use Rattle.ice_manifest_reading.specs.Manifests.{file_of as file_said};
 ghost use Rattle.ice_manifest_reading.specs.Manifests.{live_at as live_said, entry_of as entry_said, entries_ahead};
 ghost use Rattle.ice_manifest_reading.specs.Manifests.{kept_of};
 ghost use Rattle.ice_manifest_reading.specs.Manifests.{kept_behind, entries_kept, entries_of};
+ghost use Rattle.ice_manifest_reading.specs.Behind.{AreMapsOf, live_behind};
 ghost use Rattle.ice_meta.specs.Partitioning.{is_unpartitioned};
 
 use crate::data_file::FileView;
@@ -28,15 +36,21 @@ use crate::row::{ManifestContent, Row};
 use crate::shape::check_entry_fields;
 use crate::status::Status;
 use crate::tuple::tuple_at;
-use avro_file::{Container, Datum, Objects, objects_take_bytes};
-use avro_schema::Field;
-use ice_manifest_fields::{
-    FieldFault, ManifestFault, columns_of, fields_of, int_at, int_or_zero, ints_at, long_at,
-    optional_long, optional_number, optional_path, path_at, pick_record, record_values,
+use avro_file::{Container, Objects, objects_take_bytes};
+use avro_picked::Layout;
+use contract_words::Items;
+use ice_entry_found::{EntryField, FileField, FoundEntry, FoundFile, entry_layout};
+use ice_manifest_fields::{FieldFault, ManifestFault, fields_of, type_at};
+use ice_manifest_found::{
+    FoundMaps, ReadMaps, int_asked, ints, long_asked, optional_number, optional_path, path_asked,
+    whole,
 };
-use ice_meta::{PartitionField, Spec};
+use ice_meta::Spec;
 use ice_value::{FileBounds, FileContent, SequenceNumber};
 use std::alloc::{AllocError, Global};
+
+/// The field id of the items of a file's equality ids.
+const EQUALITY_ID: i32 = 136;
 
 fn status_of(code: i32) -> Result<Status, ManifestFault>
     ensures { result ≡ status_in code }
@@ -49,11 +63,21 @@ fn status_of(code: i32) -> Result<Status, ManifestFault>
     }
 }
 
-#[tactic(auto, unfolding(crate::specs::Manifests::status_at))]
-fn status_at(fields: &[Field], values: &[Datum]) -> Result<Status, ManifestFault>
-    ensures { result ≡ status_said (object fields.now values.now) }
+/// The code of an entry's status.
+fn status_code(entry: &FoundEntry) -> Result<i32, FieldFault>
+    requires { IsPlaced entry.now }
+    ensures { result ≡ int_said (pos 0) (entry_seen entry.now) }
 {
-    status_of(int_at(fields, values, 0)?)
+    let field = EntryField::Status;
+    int_asked(entry.found(field), field.id())
+}
+
+#[tactic(auto, unfolding(crate::specs::Manifests::status_at))]
+fn status_at(entry: &FoundEntry) -> Result<Status, ManifestFault>
+    requires { IsPlaced entry.now }
+    ensures { result ≡ status_said (entry_seen entry.now) }
+{
+    status_of(status_code(entry)?)
 }
 
 /// What a file of a manifest of this content holds.
@@ -68,55 +92,121 @@ fn content_of(of_row: ManifestContent, code: i32) -> Result<FileContent, FieldFa
     }
 }
 
-#[tactic(auto, unfolding(crate::specs::Manifests::content_at))]
-fn content_at(
-    of_row: ManifestContent,
-    fields: &[Field],
-    values: &[Datum],
-) -> Result<FileContent, FieldFault>
-    ensures { result ≡ content_said of_row (object fields.now values.now) }
+/// A whole number of 32 bits; 0 where the file's type has no such field.
+fn int_or_zero(file: &FoundFile, field: FileField) -> Result<i32, FieldFault>
+    requires { IsFile file.now }
+    ensures { result ≡ int_or_zero_said (file_id field) (file_seen file.now) }
 {
-    content_of(of_row, int_or_zero(fields, values, 134)?)
+    if type_at(file.fields, field.id()).is_none() {
+        return Ok(0);
+    }
+    int_asked(file.found(field), field.id())
+}
+
+#[tactic(auto, unfolding(crate::specs::Manifests::content_at))]
+fn content_at(of_row: ManifestContent, file: &FoundFile) -> Result<FileContent, FieldFault>
+    requires { IsFile file.now }
+    ensures { result ≡ content_said of_row (file_seen file.now) }
+{
+    content_of(of_row, int_or_zero(file, FileField::Content)?)
+}
+
+/// A path of at most 65,535 bytes.
+#[tactic(auto, unfolding(ice_manifest_fields::specs::Fields::path_at))]
+fn path_at<'d>(file: &FoundFile<'_, '_, '_, 'd>, field: FileField) -> Result<&'d str, FieldFault>
+    requires { IsFile file.now }
+    ensures said { result_map (λ path. path.now) result ≡ path_said (file_id field) (file_seen file.now) }
+    ensures short { IfOk result (λ path. length path.now ≤ 65535) }
+{
+    path_asked(file.found(field), field.id())
+}
+
+/// A whole number of 64 bits.
+fn long_at(file: &FoundFile, field: FileField) -> Result<i64, FieldFault>
+    requires { IsFile file.now }
+    ensures { result ≡ long_said (file_id field) (file_seen file.now) }
+{
+    long_asked(file.found(field), field.id())
 }
 
 /// The one data file that position deletes are about, where they name one.
-#[tactic(auto, unfolding(crate::specs::Manifests::referenced_at))]
-fn referenced_at<'a, 'd>(
+#[tactic(auto, unfolding(crate::specs::Manifests::referenced_at, ice_manifest_fields::specs::Fields::optional_path))]
+fn referenced_at<'d>(
     content: FileContent,
-    fields: &'a [Field],
-    values: &'a [Datum<'d>],
+    file: &FoundFile<'_, '_, '_, 'd>,
 ) -> Result<Option<&'d str>, FieldFault>
-    ensures said { result_map option_copied result ≡ referenced_said content (object fields.now values.now) }
+    requires { IsFile file.now }
+    ensures said { result_map option_copied result ≡ referenced_said content (file_seen file.now) }
     ensures short { IfOk result (λ found. IfSome found (λ path. length path.now ≤ 65535)) }
 {
+    let field = FileField::ReferencedFile;
     match content {
-        FileContent::PositionDeletes => optional_path(fields, values, 143),
+        FileContent::PositionDeletes => optional_path(file.found(field), field.id()),
         FileContent::Data | FileContent::EqualityDeletes => Ok(None),
     }
 }
 
-/// The file that a record's fields say, in a manifest of this content whose spec has these partition fields, and what
-/// is said of the file's columns.
+/// The maps of the file's columns.
+fn maps_of<'s, 'd>(
+    alloc: Global,
+    file: &FoundFile<'_, '_, 's, 'd>,
+) -> Result<ReadMaps<'s, 'd>, AllocError>
+    requires { IsFile file.now }
+    ensures { IfOk result (λ maps. AreMapsOf file.now maps) }
+{
+    let maps = FoundMaps {
+        value_counts: file.found(FileField::ValueCounts),
+        null_counts: file.found(FileField::NullCounts),
+        lower_bounds: file.found(FileField::LowerBounds),
+        upper_bounds: file.found(FileField::UpperBounds),
+    };
+    maps.read(alloc)
+}
+
+/// The counts and bounds of the file's columns, lent by its maps.
+fn columns_of<'a, 'd>(
+    alloc: Global,
+    file: &FoundFile,
+    maps: &'a ReadMaps<'_, 'd>,
+) -> Result<FileBounds<'a, 'd>, ManifestFault>
+    requires { AreMapsOf file.now maps.now }
+    ensures { Gives ManifestFault.Memory (λ x. x) result (told in_manifest (columns_said (file_seen file.now))) }
+{
+    maps.columns(alloc)
+}
+
+/// The ids of the columns by which equality deletes compare rows.
+#[tactic(auto, unfolding(ice_manifest_fields::specs::Fields::ints_at))]
+fn equality_ids_at(alloc: Global, file: &FoundFile) -> Result<Items<i32>, ManifestFault>
+    requires { IsFile file.now }
+    ensures { Gives ManifestFault.Memory (λ ids. ids) result
+        (told in_manifest (ints_said (pos 135) (pos 136) (file_seen file.now))) }
+{
+    ints(alloc, file.found(FileField::EqualityIds), EQUALITY_ID)
+}
+
+/// The file of an entry in a manifest of this content, and what is said of the file's columns, lent by its maps.
 #[tactic(auto, unfolding(crate::specs::Manifests::file_of))]
 fn file_of<'a, 'd>(
     alloc: Global,
     of_row: ManifestContent,
-    partition: &[PartitionField],
-    fields: &'a [Field],
-    values: &'a [Datum<'d>],
+    file: &FoundFile<'_, '_, '_, 'd>,
+    maps: &'a ReadMaps<'_, 'd>,
 ) -> Result<(FileView<'d>, FileBounds<'a, 'd>), ManifestFault>
+    requires file { IsFile file.now }
+    requires maps { AreMapsOf file.now maps.now }
     ensures { Gives ManifestFault.Memory (λ x. x) result
-        (told in_manifest (file_said of_row partition.now (object fields.now values.now))) }
+        (told in_manifest (file_said of_row file.now.entry.now.partition.now (file_seen file.now))) }
 {
-    let content = content_at(of_row, fields, values)?;
-    let path = path_at(fields, values, 100)?;
-    let tuple = tuple_at(alloc, partition, fields, values)?;
-    let record_count = long_at(fields, values, 103)?;
-    let file_size = long_at(fields, values, 104)?;
-    let columns = columns_of(alloc, fields, values)?;
-    let equality_ids = ints_at(alloc, fields, values, 135, 136)?;
-    let referenced = referenced_at(content, fields, values)?;
-    let file = FileView {
+    let content = content_at(of_row, file)?;
+    let path = path_at(file, FileField::Path)?;
+    let tuple = tuple_at(alloc, file)?;
+    let record_count = long_at(file, FileField::RecordCount)?;
+    let file_size = long_at(file, FileField::FileSize)?;
+    let columns = columns_of(alloc, file, maps)?;
+    let equality_ids = equality_ids_at(alloc, file)?;
+    let referenced = referenced_at(content, file)?;
+    let view = FileView {
         content,
         path,
         tuple,
@@ -125,7 +215,7 @@ fn file_of<'a, 'd>(
         equality_ids,
         referenced,
     };
-    Ok((file, columns))
+    Ok((view, columns))
 }
 
 /// An entry's sequence number: its own, or that of its manifest's row.
@@ -144,20 +234,25 @@ fn inherited(
     }
 }
 
+/// A sequence number that an entry may have.
+fn number_at(entry: &FoundEntry, field: EntryField) -> Result<Option<SequenceNumber>, FieldFault>
+    requires { IsPlaced entry.now }
+    ensures { result ≡ number_said (entry_id field) (entry_seen entry.now) }
+{
+    optional_number(entry.found(field), field.id())
+}
+
 #[tactic(auto, unfolding(crate::specs::Manifests::sequence_at))]
 fn sequence_at(
     row: &Row,
     status: Status,
-    fields: &[Field],
-    values: &[Datum],
+    entry: &FoundEntry,
 ) -> Result<SequenceNumber, ManifestFault>
-    ensures { result ≡ sequence_said row.now status (object fields.now values.now) }
+    requires { IsPlaced entry.now }
+    ensures { result ≡ sequence_said row.now status (entry_seen entry.now) }
 {
-    inherited(
-        row.sequence_number,
-        status,
-        optional_number(fields, values, 3)?,
-    )
+    let own = number_at(entry, EntryField::SequenceNumber)?;
+    inherited(row.sequence_number, status, own)
 }
 
 /// The sequence number of an entry's file: its own, or that of its manifest's row. An existing entry may have none.
@@ -180,20 +275,21 @@ fn file_inherited(
 fn file_sequence_at(
     row: &Row,
     status: Status,
-    fields: &[Field],
-    values: &[Datum],
+    entry: &FoundEntry,
 ) -> Result<Option<SequenceNumber>, FieldFault>
-    ensures { result ≡ file_sequence_said row.now status (object fields.now values.now) }
+    requires { IsPlaced entry.now }
+    ensures { result ≡ file_sequence_said row.now status (entry_seen entry.now) }
 {
-    let own = optional_number(fields, values, 4)?;
+    let own = number_at(entry, EntryField::FileSequenceNumber)?;
     Ok(file_inherited(row.sequence_number, status, own))
 }
 
 /// The snapshot of an entry: its own, or that which added its manifest.
-fn snapshot_at(row: &Row, fields: &[Field], values: &[Datum]) -> i64
-    ensures { result ≡ snapshot_said row.now (object fields.now values.now) }
+fn snapshot_at(row: &Row, entry: &FoundEntry) -> i64
+    requires { IsPlaced entry.now }
+    ensures { result ≡ snapshot_said row.now (entry_seen entry.now) }
 {
-    optional_long(fields, values, 1).unwrap_or(row.added_snapshot_id)
+    whole(entry.found(EntryField::SnapshotId)).unwrap_or(row.added_snapshot_id)
 }
 
 /// The row of a manifest and its spec, and whether that partitions nothing.
@@ -203,77 +299,6 @@ struct Source<'a> {
     spec: &'a Spec,
     unpartitioned: bool,
     ghost known: { unpartitioned ≡ is_unpartitioned spec.now },
-}
-
-/// An entry that exists or was added.
-#[tactic(auto, unfolding(crate::specs::Manifests::live_at))]
-fn live_at<'a, 'd>(
-    alloc: Global,
-    source: &Source<'_>,
-    position: u64,
-    status: Status,
-    fields: &'a [Field],
-    values: &'a [Datum<'d>],
-) -> Result<Live<'a, 'd>, ManifestFault>
-    ensures { Gives ManifestFault.Memory (λ x. x) result
-        (live_said source.now.row.now source.now.spec.now position status (object fields.now values.now)) }
-{
-    let row = source.row;
-    let snapshot_id = snapshot_at(row, fields, values);
-    let sequence_number = sequence_at(row, status, fields, values)?;
-    let file_sequence_number = file_sequence_at(row, status, fields, values)?;
-    let Some((file_fields, file_values)) = pick_record(fields, values, 2) else {
-        return Err(ManifestFault::MissingField(2));
-    };
-    let partition = source.spec.fields.as_slice();
-    let (file, bounds) = file_of(alloc, row.content, partition, file_fields, file_values)?;
-    let entry = EntryView {
-        position,
-        spec_id: row.spec_id,
-        unpartitioned: source.unpartitioned,
-        snapshot_id,
-        sequence_number,
-        file_sequence_number,
-        file,
-    };
-    Ok(Live { entry, bounds })
-}
-
-/// The entry that a record's fields say. Of a deleted one nothing but the status is looked at.
-#[tactic(auto, unfolding(crate::specs::Manifests::entry_of))]
-fn entry_at<'a, 'd>(
-    alloc: Global,
-    source: &Source<'_>,
-    position: u64,
-    fields: &'a [Field],
-    values: &'a [Datum<'d>],
-) -> Result<Option<Live<'a, 'd>>, ManifestFault>
-    ensures { Gives ManifestFault.Memory (λ x. x) result
-        (entry_said source.now.row.now source.now.spec.now position (object fields.now values.now)) }
-{
-    let status = status_at(fields, values)?;
-    if status == Status::Deleted {
-        return Ok(None);
-    }
-    Ok(Some(live_at(alloc, source, position, status, fields, values)?))
-}
-
-/// The entry that an object of these fields says.
-fn entry_of<'a, 'd>(
-    alloc: Global,
-    source: &Source<'_>,
-    position: u64,
-    fields: &'a [Field],
-    datum: &'a Datum<'d>,
-) -> Result<Option<Live<'a, 'd>>, ManifestFault>
-    ensures { Gives ManifestFault.Memory (λ x. x) result
-        (entry_said source.now.row.now source.now.spec.now position
-        (structure (fields_seen fields.now), view datum.now)) }
-{
-    match record_values(datum) {
-        Some(values) => entry_at(alloc, source, position, fields, values),
-        None => Err(ManifestFault::MissingField(0)),
-    }
 }
 
 /// Puts a live entry last, if it is kept.
@@ -290,46 +315,98 @@ fn push_kept<'d, K: Keep>(
     Ok(())
 }
 
-/// Puts the entry that an object of these fields says last, if it is live and kept.
+/// Puts an entry that exists or was added last, if it is kept.
+#[tactic(auto, unfolding(crate::specs::Manifests::live_at))]
+fn read_live<'d, K: Keep>(
+    alloc: Global,
+    source: &Source<'_>,
+    keep: &K,
+    found: &mut Vec<EntryView<'d>>,
+    position: u64,
+    status: Status,
+    entry: &FoundEntry<'_, '_, 'd>,
+) -> Result<(), ManifestFault>
+    requires placed { IsPlaced entry.now }
+    requires partition { entry.now.partition.now ≡ source.now.spec.now.fields }
+    ensures { Gives ManifestFault.Memory (λ _. found.new.items) result
+        (live_behind (K.kept keep.now) found.old.items
+        (live_said source.now.row.now source.now.spec.now position status (entry_seen entry.now))) }
+{
+    let row = source.row;
+    let snapshot_id = snapshot_at(row, entry);
+    let sequence_number = sequence_at(row, status, entry)?;
+    let file_sequence_number = file_sequence_at(row, status, entry)?;
+    let Some(file) = FoundFile::of(entry) else {
+        return Err(ManifestFault::MissingField(EntryField::DataFile.id()));
+    };
+    let maps = maps_of(alloc, &file)?;
+    let (view, bounds) = file_of(alloc, row.content, &file, &maps)?;
+    let entry = EntryView {
+        position,
+        spec_id: row.spec_id,
+        unpartitioned: source.unpartitioned,
+        snapshot_id,
+        sequence_number,
+        file_sequence_number,
+        file: view,
+    };
+    push_kept(keep, found, Live { entry, bounds })?;
+    Ok(())
+}
+
+/// Puts the entry that an object says last, if it is live and kept. Of a deleted one nothing but the status is looked
+/// at.
+#[tactic(auto, unfolding(crate::specs::Manifests::entry_of))]
 fn read_object<'d, K: Keep>(
     alloc: Global,
     source: &Source<'_>,
     keep: &K,
     found: &mut Vec<EntryView<'d>>,
     position: u64,
-    fields: &[Field],
-    datum: &Datum<'d>,
+    entry: &FoundEntry<'_, '_, 'd>,
 ) -> Result<(), ManifestFault>
+    requires placed { IsPlaced entry.now }
+    requires partition { entry.now.partition.now ≡ source.now.spec.now.fields }
     ensures { Gives ManifestFault.Memory (λ _. found.new.items) result
         (kept_behind (K.kept keep.now) found.old.items
-        (entry_said source.now.row.now source.now.spec.now position
-        (structure (fields_seen fields.now), view datum.now))) }
+        (entry_said source.now.row.now source.now.spec.now position (entry_seen entry.now))) }
 {
-    if let Some(live) = entry_of(alloc, source, position, fields, datum)? {
-        push_kept(keep, found, live)?;
+    let status = status_at(entry)?;
+    match status {
+        Status::Deleted => Ok(()),
+        _ => read_live(alloc, source, keep, found, position, status, entry),
     }
-    Ok(())
 }
 
-/// The kept entries of all objects that are to come, which are few enough to be numbered.
-fn all_entries<'d, K: Keep>(
+/// The kept entries of all objects that are to come, which are records and few enough to be numbered.
+fn all_entries<'s, 'd, K: Keep>(
     alloc: Global,
     source: &Source<'_>,
     keep: &K,
-    fields: &[Field],
-    mut reader: Objects<'_, 'd>,
+    layout: &Layout<'s>,
+    mut reader: Objects<'s, 'd>,
 ) -> Result<Vec<EntryView<'d>>, ManifestFault>
-    requires { still_ahead (ahead reader) < 2 ^ 64 }
+    requires few { still_ahead (ahead reader) < 2 ^ 64 }
+    requires layout { IsLayout layout.now }
+    requires ways { ways_of layout.now ≡ wanted_ways source.now.spec.now.fields }
+    requires schema { layout_tree layout.now ≡ type_of reader }
+    requires records { is_structure (layout_tree layout.now) ≡ true }
     ensures { Gives ManifestFault.Memory (λ found. found.items) result
-        (kept_of (K.kept keep.now) (entries_ahead source.now.row.now source.now.spec.now (fields_seen fields.now) 0
-        (ahead reader.entry))) }
+        (kept_of (K.kept keep.now) (entries_ahead source.now.row.now source.now.spec.now
+        (fields_in (layout_tree layout.now)) 0 (ahead reader.entry))) }
 {
+    let partition = source.spec.fields.as_slice();
+    let mut places = layout.places(alloc)?;
     let mut found = Vec::new(alloc);
     let mut position: u64 = 0;
-    'objects: while let Some(object) = reader.next()? {
-        let datum = object.datum(alloc)?;
-        read_object(alloc, source, keep, &mut found, position, fields, &datum)?;
-        drop(datum);
+    'objects: while let Some(object) = layout.next_placed(&mut reader, &mut places)? {
+        let entry = FoundEntry {
+            partition,
+            layout,
+            places: &places,
+            object,
+        };
+        read_object(alloc, source, keep, &mut found, position, &entry)?;
         position += 1;
     }
     Ok(found)
@@ -353,8 +430,9 @@ pub fn read_kept<'d, K: Keep>(
         (kept_of (K.kept keep.now) (live_of row.now spec.now bytes.now)) }
 {
     let container = Container::open(alloc, bytes)?;
-    let fields = fields_of(container.schema());
-    check_entry_fields(spec, fields)?;
+    let schema = container.schema();
+    check_entry_fields(spec, fields_of(schema))?;
+    let layout = entry_layout(alloc, schema, spec.fields.as_slice())?;
     let source = Source {
         row,
         spec,
@@ -362,7 +440,7 @@ pub fn read_kept<'d, K: Keep>(
     };
     // An entry takes a byte at least, so there are no more of them than bytes.
     objects_take_bytes();
-    all_entries(alloc, &source, keep, fields, container.objects())
+    all_entries(alloc, &source, keep, &layout, container.objects())
 }
 
 /// The entries, with copies of their paths.

@@ -1,23 +1,30 @@
 //! The partition values of a file.
 
-ghost use Rattle.std.specs.Prelude.{◌≡◌, [], ◌∷◌, map, IfOk, option_map};
+ghost use Rattle.std.specs.Prelude.{◌≡◌, [], ◌∷◌, map, Some, IfOk, option_map};
 ghost use Rattle.contract_words.specs.Outcome.{Gives};
 ghost use Rattle.avro_schema.specs.View.{tree, trees, branches_of as branches_of_trees};
+ghost use Rattle.avro_file.specs.Picking.{Picked};
+ghost use Rattle.avro_file.specs.View.{view};
+ghost use Rattle.avro_picked.specs.Finding.{IsMet};
+ghost use Rattle.ice_entry_found.specs.Seen.{file_seen, IsFile, tuple_seen, HasTuple};
 ghost use Rattle.ice_manifest_fields.specs.Naming.{in_manifest, told};
-ghost use Rattle.ice_manifest_fields.specs.Seen.{result_map, fields_seen, object};
+ghost use Rattle.ice_manifest_fields.specs.Fields.{there};
+ghost use Rattle.ice_manifest_fields.specs.Seen.{result_map, fields_seen};
 ghost use Rattle.ice_manifest_fields.specs.Schemas.{each_branch, is_cell, each_is_cell};
 ghost use Rattle.ice_manifest_reading.specs.ManifestSchemas.{cells_fit, is_tuple};
 ghost use Rattle.ice_manifest_fields.specs.Schemas.{type_at as type_said};
 ghost use Rattle.ice_manifest_reading.specs.ManifestSchemas.{tuple_in as tuple_within};
 ghost use Rattle.ice_manifest_reading.specs.Partitions.{bytes_kind as kind_of_bytes, kept_bytes as bytes_to_keep};
-ghost use Rattle.ice_manifest_reading.specs.Partitions.{cell_at as cell_said, cells_of as cells_said};
+ghost use Rattle.ice_manifest_reading.specs.Partitions.{cell_of as cell_said, cells_of as cells_said};
 ghost use Rattle.ice_manifest_reading.specs.Partitions.{tuple_at as tuple_said};
 
 use avro_file::Datum;
+use avro_picked::Found;
 use avro_schema::{BytesKind, Field, Schema};
 use contract_words::{Items, Text};
+use ice_entry_found::{FileField, FoundFile};
 use ice_manifest_fields::{
-    FieldFault, Kind, ManifestFault, branches_of, pick, pick_record, required, shortest, type_at,
+    FieldFault, Kind, ManifestFault, branches_of, required, shortest, type_at,
 };
 use ice_meta::PartitionField;
 use ice_value::Cell;
@@ -123,68 +130,65 @@ fn kept_bytes(alloc: Global, kind: BytesKind, bytes: &[u8]) -> Result<Items<u8>,
     Ok(Items::from_vec(kept.to_vec(alloc)?))
 }
 
-/// The cell of a partition field.
-fn cell_at(
-    alloc: Global,
-    wanted: &PartitionField,
-    fields: &[Field],
-    values: &[Datum],
-) -> Result<Cell, AllocError>
-    ensures { IfOk result (λ cell. cell ≡ cell_said wanted.now.field_id (object fields.now values.now)) }
+/// The cell of a value.
+fn cell_of(alloc: Global, schema: &Schema, datum: &Datum) -> Result<Cell, AllocError>
+    ensures { IfOk result (λ cell. cell ≡ cell_said (Some (tree schema.now, view datum.now))) }
 {
-    match pick(fields, values, wanted.field_id) {
-        Some((_, Datum::Boolean(truth))) => Ok(Cell::Bool(*truth)),
-        Some((_, Datum::Int(number))) => Ok(Cell::Whole(i64::from(*number))),
-        Some((_, Datum::Long(number))) => Ok(Cell::Whole(*number)),
-        Some((_, Datum::String(text))) => Ok(Cell::Text(Text::from_string(String::from_str(
-            alloc, text,
-        )?))),
-        Some((schema, Datum::Bytes(bytes))) => Ok(Cell::Bytes(kept_bytes(
-            alloc,
-            bytes_kind(schema),
-            bytes,
-        )?)),
-        Some((schema, Datum::Fixed(bytes))) => Ok(Cell::Bytes(kept_bytes(
-            alloc,
-            bytes_kind(schema),
-            bytes,
-        )?)),
+    match datum {
+        Datum::Boolean(truth) => Ok(Cell::Bool(*truth)),
+        Datum::Int(number) => Ok(Cell::Whole(i64::from(*number))),
+        Datum::Long(number) => Ok(Cell::Whole(*number)),
+        Datum::String(text) => Ok(Cell::Text(Text::from_string(String::from_str(alloc, text)?))),
+        Datum::Bytes(bytes) => {
+            let kept = kept_bytes(alloc, bytes_kind(schema), bytes)?;
+            Ok(Cell::Bytes(kept))
+        }
+        Datum::Fixed(bytes) => {
+            let kept = kept_bytes(alloc, bytes_kind(schema), bytes)?;
+            Ok(Cell::Bytes(kept))
+        }
         _ => Ok(Cell::Null),
     }
 }
 
-/// The cells of a record of partition values, in the order of the partition fields.
-fn cells_of(
-    alloc: Global,
-    partition: &[PartitionField],
-    fields: &[Field],
-    values: &[Datum],
-) -> Result<Items<Cell>, AllocError>
-    ensures { IfOk result (λ cells. cells ≡ cells_said partition.now (object fields.now values.now)) }
+/// The cell of what was found of a partition field. A value of one of its types is no tree, and takes no memory.
+fn cell_found(alloc: Global, found: Option<Found>) -> Result<Cell, AllocError>
+    ensures { (met : Picked) → IsMet found.entry met → IfOk result (λ cell. cell ≡ cell_said (there met)) }
 {
+    match found {
+        Some(found) => cell_of(alloc, found.schema(), &found.datum(alloc)?),
+        None => Ok(Cell::Null),
+    }
+}
+
+/// The cells of a file, in the order of the partition fields.
+fn cells_of(alloc: Global, file: &FoundFile) -> Result<Items<Cell>, AllocError>
+    requires file { IsFile file.now }
+    requires tuple { HasTuple file.now }
+    ensures { IfOk result (λ cells. cells ≡ cells_said file.now.entry.now.partition.now (tuple_seen file.now)) }
+{
+    let partition = file.entry.partition;
     let mut cells = Items::with_capacity(alloc, partition.len())?;
-    'partition: for wanted in partition {
-        cells.push(cell_at(alloc, wanted, fields, values)?)?;
+    'partition: for (index, _wanted) in partition.iter().enumerate() {
+        let found = file.found_cell(index);
+        cells.push(cell_found(alloc, found)?)?;
     }
     Ok(cells)
 }
 
 /// The partition values of a data file, in the order of the spec's fields.
 #[tactic(auto, unfolding(crate::specs::Partitions::tuple_at))]
-pub fn tuple_at(
-    alloc: Global,
-    partition: &[PartitionField],
-    fields: &[Field],
-    values: &[Datum],
-) -> Result<Items<Cell>, ManifestFault>
+pub fn tuple_at(alloc: Global, file: &FoundFile) -> Result<Items<Cell>, ManifestFault>
+    requires { IsFile file.now }
     ensures { Gives ManifestFault.Memory (λ x. x) result
-        (told in_manifest (tuple_said partition.now (object fields.now values.now))) }
+        (told in_manifest (tuple_said file.now.entry.now.partition.now (file_seen file.now))) }
 {
-    if partition.is_empty() {
+    if file.entry.partition.is_empty() {
         return Ok(Items::new(alloc));
     }
-    match pick_record(fields, values, 102) {
-        Some((fields, values)) => Ok(cells_of(alloc, partition, fields, values)?),
-        None => Err(ManifestFault::MissingField(102)),
+    if file.has_tuple() {
+        Ok(cells_of(alloc, file)?)
+    } else {
+        Err(ManifestFault::MissingField(FileField::Partition.id()))
     }
 }

@@ -1,0 +1,49 @@
+use Rattle.std.proofs.Common.{◌≡◌, to_z, of_z, w32, w64, Ok, refl, sym, ap, rules}
+use Rattle.std.proofs.lemmas.Int.{to_z-of_z}
+use Rattle.std.proofs.lemmas.Result.{err_from_is_err_and}
+use Rattle.ice_manifest_reading.proofs.Found.{Numbered, live_goes}
+use Rattle.ice_manifest_reading.proofs.manifest.read_live.Goals as goal
+
+pub returns-in_err-view : goal.returns-in_err-view
+returns-in_err-view g c =
+    let row = c.args.source.now.row.now in
+    let spec = c.args.source.now.spec.now in
+    let numbered : Numbered row spec c.args.status c.args.entry.now c.in-Some.file c.args.source.now.unpartitioned
+    c.snapshot_at-snapshot_id.result c.in_ok-sequence_number.sequence_number
+    c.in_ok-file_sequence_number.file_sequence_number = record {
+      open_is = c.args.source.now.known;
+      snapshot_is = c.snapshot_at-snapshot_id.ensures;
+      sequence_is = c.in_ok-sequence_number.ensures;
+      file_sequence_is = c.in_ok-file_sequence_number.ensures;
+      is_file = c.in-Some.ensures.0;
+      same = c.in-Some.ensures.1;
+      partition_is = c.requires.partition;
+    } in
+    let goes = live_goes row spec c.args.position c.args.status c.args.entry.now c.in-Some.file
+    c.args.source.now.unpartitioned c.snapshot_at-snapshot_id.result c.in_ok-sequence_number.sequence_number
+    c.in_ok-file_sequence_number.file_sequence_number numbered in
+    let p = err_from_is_err_and c.from_residual-in_err-view.result c.from_residual-in_err-view.ensures.1 in
+    rw (p.1, p.2) (λ other. rw (goes, c.in_err-view.ensures other) refl)
+
+pub returns : goal.returns
+returns g c =
+    let row = c.args.source.now.row.now in
+    let spec = c.args.source.now.spec.now in
+    let numbered : Numbered row spec c.args.status c.args.entry.now c.in-Some.file c.args.source.now.unpartitioned
+    c.snapshot_at-snapshot_id.result c.in_ok-sequence_number.sequence_number
+    c.in_ok-file_sequence_number.file_sequence_number = record {
+      open_is = c.args.source.now.known;
+      snapshot_is = c.snapshot_at-snapshot_id.ensures;
+      sequence_is = c.in_ok-sequence_number.ensures;
+      file_sequence_is = c.in_ok-file_sequence_number.ensures;
+      is_file = c.in-Some.ensures.0;
+      same = c.in-Some.ensures.1;
+      partition_is = c.requires.partition;
+    } in
+    let goes = live_goes row spec c.args.position c.args.status c.args.entry.now c.in-Some.file
+    c.args.source.now.unpartitioned c.snapshot_at-snapshot_id.result c.in_ok-sequence_number.sequence_number
+    c.in_ok-file_sequence_number.file_sequence_number numbered in
+    let spec_id : to_z w32 (of_z w32 row.spec_id) ≡ row.spec_id = to_z-of_z w32 row.spec_id (search rules) in
+    let snapshot : to_z w64 (of_z w64 c.snapshot_at-snapshot_id.result) ≡ c.snapshot_at-snapshot_id.result =
+    to_z-of_z w64 c.snapshot_at-snapshot_id.result (search rules) in
+    rw (goes, c.in_ok-view.ensures) (ap Ok (sym (simp (spec_id, snapshot) at c.in_ok-push_kept.ensures)))
