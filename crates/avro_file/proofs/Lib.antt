@@ -1,5 +1,6 @@
 pub mod Views
 pub mod Paired
+pub mod Windows
 pub mod Leaves
 pub mod Steps
 pub mod Taken
