@@ -1,8 +1,8 @@
 -- Numbers whose ends are seen together.
 use Rattle.std.proofs.Common.{◌≡◌, ◌≢◌, ◌↔◌, ◌⊎◌, inl, inr, ℕ, zero, suc, ◌+◌, ◌-◌, ◌*◌, ◌/◌, ◌%◌, ◌^◌, ◌<◌, ◌≤◌, min}
-use Rattle.std.proofs.Common.{Bool, true, false, cond, ltb, List, ◌∷◌, length, get_or, take, drop, map, replicate, Result}
+use Rattle.std.proofs.Common.{Bool, true, false, cond, ltb, List, ◌∷◌, length, get_or, take, drop, map, replicate}
 use Rattle.std.proofs.Common.{Ok, Err, refl, sym, ap, ◌∙◌, arith, w8, w64, bit_and}
-use Rattle.std.specs.Int.{bit_at, bit_not, trailing_zeros}
+use Rattle.std.specs.Int.{bit_at, trailing_zeros}
 use Rattle.std.specs.Simd.Lanes.{zip2, mask_l, top}
 use Rattle.std.proofs.lemmas.Simd.{bitmask_splat, bit_mask_l}
 use Rattle.std.proofs.lemmas.Bool.{cases_order, cases_lt, ltb-true, lt-ltb}
@@ -15,11 +15,9 @@ use Rattle.std.proofs.Math.Nat.{mod-lt, pow-le-pow_right}
 use Rattle.std.proofs.Math.Pow.{pow-lt}
 use Rattle.avro_schema.specs.Tree.{long}
 use Rattle.contract_words.specs.Outcome.{◌>>=◌}
-use Rattle.avro_parts.specs.declared.refusal.Refusal.{Refusal}
 use Rattle.avro_parts.specs.Number.{long_at, int_at}
 use Rattle.avro_parts.specs.Parts.{Position, Read, behind}
 use Rattle.avro_parts.proofs.NumberPlaces.{GroupsUpTo, no_groups, one_more}
-use Rattle.avro_file.specs.Value.{Value}
 use Rattle.avro_file.specs.Reading.{values_at, datum_at}
 use Rattle.avro_file.specs.Pairs.{pair}
 use Rattle.avro_file.specs.Ending.{standing, Ends, EndsCounted}

@@ -1,5 +1,5 @@
-use Rattle.std.proofs.Common.{◌≡◌, ◌≤◌, ◌+◌, ◌-◌, arith}
-use Rattle.avro_file.proofs.Windows.{ArePairs, no_pairs, pairs_joined}
+use Rattle.std.proofs.Common.{◌≡◌, ◌+◌, ◌-◌, arith}
+use Rattle.avro_file.proofs.Windows.{no_pairs, pairs_joined}
 use Rattle.avro_file.proofs.quick.long_pairs_end.Goals as goal
 
 pub pairs-init : goal.pairs-init
