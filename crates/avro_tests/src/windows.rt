@@ -1,0 +1,160 @@
+//! Where arrays of ints and longs end. Numbers of at most four bytes are passed many at once, where 64 bytes are there.
+
+use avro_file::value_end;
+use avro_schema::Schema;
+use std::alloc::{AllocError, Global};
+use std::test::*;
+
+const PAIRS: &[u8] = b"{\"type\":\"array\",\"items\":{\"type\":\"record\",\"name\":\"p\",\"fields\":[\
+{\"name\":\"key\",\"type\":\"int\"},{\"name\":\"value\",\"type\":\"long\"}]}}";
+
+/// So many pairs of an int and a long of these lengths.
+#[derive(Clone, Copy)]
+struct Run {
+    count: usize,
+    int: usize,
+    long: usize,
+}
+
+const fn run_of(count: usize, int: usize, long: usize) -> Run {
+    Run { count, int, long }
+}
+
+fn push_number(bytes: &mut Vec<u8>, len: usize) -> Result<(), AllocError> {
+    for _ in 1..len {
+        bytes.push(0x81)?;
+    }
+    bytes.push(1)?;
+    Ok(())
+}
+
+fn push_run(bytes: &mut Vec<u8>, run: Run) -> Result<(), AllocError> {
+    for _ in 0..run.count {
+        push_number(bytes, run.int)?;
+        push_number(bytes, run.long)?;
+    }
+    Ok(())
+}
+
+/// A byte, an array of one block, and the numbers of these runs in it.
+fn array(alloc: Global, runs: &[Run]) -> Result<Vec<u8>, AllocError> {
+    let mut count: usize = 0;
+    for run in runs {
+        count = count.saturating_add(run.count);
+    }
+    let twice = count.min(8191) * 2;
+    let mut bytes = vec![in alloc; 9, (twice % 128) as u8 + 128, (twice / 128) as u8]?;
+    for run in runs {
+        push_run(&mut bytes, *run)?;
+    }
+    if count > 0 {
+        bytes.push(0)?;
+    }
+    Ok(bytes)
+}
+
+/// Where the array behind one byte ends.
+fn end_in(schema: &Schema, bytes: &[u8]) -> Option<usize> {
+    if bytes.is_empty() {
+        return None;
+    }
+    value_end(schema, bytes, 1, &mut 1000)
+}
+
+/// Whether the array is passed where so many bytes follow.
+fn is_passed(alloc: Global, schema: &Schema, runs: &[Run], more: usize) -> Result<bool, AllocError> {
+    let mut bytes = array(alloc, runs)?;
+    let end = bytes.len();
+    for _ in 0..more {
+        bytes.push(b'a')?;
+    }
+    Ok(end_in(schema, &bytes) == Some(end))
+}
+
+/// The same for up to so many bytes that follow.
+fn is_passed_before(alloc: Global, schema: &Schema, runs: &[Run], most: usize) -> Result<bool, AllocError> {
+    for more in 0..most {
+        if !is_passed(alloc, schema, runs, more)? {
+            return Ok(false);
+        }
+    }
+    Ok(true)
+}
+
+/// Whether a pair of these lengths is passed at each offset round the 64th byte, among short ones.
+fn is_passed_round(alloc: Global, schema: &Schema, int: usize, long: usize) -> Result<bool, AllocError> {
+    for before in 40..72usize {
+        let runs = [
+            run_of(before % 2, 1, 2),
+            run_of(before / 2, 1, 1),
+            run_of(1, int, long),
+            run_of(3, 1, 1),
+        ];
+        if !is_passed(alloc, schema, &runs, 0)? || !is_passed(alloc, schema, &runs, 90)? {
+            return Ok(false);
+        }
+    }
+    Ok(true)
+}
+
+#[test]
+fn lengths_round_the_64th_byte(rt: HostRuntime) -> Result<(), Fail> {
+    let schema = Schema::from_json(rt.alloc(), PAIRS)?;
+    for int in 1..5usize {
+        for long in 1..11usize {
+            let passed = is_passed_round(rt.alloc(), &schema, int, long)?;
+            assert!(rt; passed, "{int} {long}");
+        }
+    }
+    Ok(())
+}
+
+/// Runs that end within a window, in its last bytes, or in a later one.
+#[test]
+fn counts_and_bytes_behind(rt: HostRuntime) -> Result<(), Fail> {
+    let schema = Schema::from_json(rt.alloc(), PAIRS)?;
+    for count in 0..71usize {
+        let short = is_passed_before(rt.alloc(), &schema, &[run_of(count, 1, 1)], 70)?;
+        let longer = is_passed_before(rt.alloc(), &schema, &[run_of(count, 2, 3)], 70)?;
+        let longest = is_passed_before(rt.alloc(), &schema, &[run_of(count, 4, 4)], 70)?;
+        let long = is_passed_before(rt.alloc(), &schema, &[run_of(count, 1, 5)], 70)?;
+        assert!(rt; short && longer && longest && long, "{count}");
+    }
+    Ok(())
+}
+
+/// Numbers of more bytes among others, in which the windows begin anew.
+#[test]
+fn long_numbers_among_short_ones(rt: HostRuntime) -> Result<(), Fail> {
+    let schema = Schema::from_json(rt.alloc(), PAIRS)?;
+    for count in 0..40usize {
+        let runs = [run_of(count, 1, 2), run_of(2, 1, 6), run_of(20, 1, 3), run_of(1, 4, 10), run_of(9, 2, 4), run_of(12, 1, 5)];
+        let passed = is_passed_before(rt.alloc(), &schema, &runs, 70)?;
+        assert!(rt; passed, "{count}");
+    }
+    Ok(())
+}
+
+/// An array that is cut ends nowhere.
+#[test]
+fn cut_arrays(rt: HostRuntime) -> Result<(), Fail> {
+    let schema = Schema::from_json(rt.alloc(), PAIRS)?;
+    let bytes = array(rt.alloc(), &[run_of(20, 1, 1), run_of(9, 1, 4), run_of(1, 1, 7), run_of(30, 1, 2)])?;
+    assert_eq!(rt; end_in(&schema, &bytes), Some(bytes.len()));
+    for len in 0..bytes.len() {
+        assert_eq!(rt; end_in(&schema, &bytes[..len]), None, "{len}");
+    }
+    Ok(())
+}
+
+/// Neither an int of more than five bytes nor a long of more than ten is passed.
+#[test]
+fn numbers_that_do_not_fit(rt: HostRuntime) -> Result<(), Fail> {
+    let schema = Schema::from_json(rt.alloc(), PAIRS)?;
+    for count in 0..40usize {
+        let long = is_passed(rt.alloc(), &schema, &[run_of(count, 1, 2), run_of(1, 1, 11), run_of(4, 1, 1)], 90)?;
+        let int = is_passed(rt.alloc(), &schema, &[run_of(count, 1, 2), run_of(1, 6, 1), run_of(4, 1, 1)], 90)?;
+        assert!(rt; !long && !int, "{count}");
+    }
+    Ok(())
+}
