@@ -71,16 +71,6 @@ fn is_passed(alloc: Global, schema: &Schema, runs: &[Run], more: usize) -> Resul
     Ok(end_in(schema, &bytes) == Some(end))
 }
 
-/// The same for up to so many bytes that follow.
-fn is_passed_before(alloc: Global, schema: &Schema, runs: &[Run], most: usize) -> Result<bool, AllocError> {
-    for more in 0..most {
-        if !is_passed(alloc, schema, runs, more)? {
-            return Ok(false);
-        }
-    }
-    Ok(true)
-}
-
 /// Whether a pair of these lengths is passed at each offset round the 64th byte, among short ones.
 fn is_passed_round(alloc: Global, schema: &Schema, int: usize, long: usize) -> Result<bool, AllocError> {
     for before in 40..72usize {
@@ -109,28 +99,57 @@ fn lengths_round_the_64th_byte(rt: HostRuntime) -> Result<(), Fail> {
     Ok(())
 }
 
-/// Runs that end within a window, in its last bytes, or in a later one.
-#[test]
-fn counts_and_bytes_behind(rt: HostRuntime) -> Result<(), Fail> {
-    let schema = Schema::from_json(rt.alloc(), PAIRS)?;
+/// Whether pairs of these lengths are passed in each count.
+fn counts_are_passed(alloc: Global, schema: &Schema, int: usize, long: usize) -> Result<bool, AllocError> {
     for count in 0..71usize {
-        let short = is_passed_before(rt.alloc(), &schema, &[run_of(count, 1, 1)], 70)?;
-        let longer = is_passed_before(rt.alloc(), &schema, &[run_of(count, 2, 3)], 70)?;
-        let longest = is_passed_before(rt.alloc(), &schema, &[run_of(count, 4, 4)], 70)?;
-        let long = is_passed_before(rt.alloc(), &schema, &[run_of(count, 1, 5)], 70)?;
-        assert!(rt; short && longer && longest && long, "{count}");
+        let runs = [run_of(count, int, long)];
+        if !is_passed(alloc, schema, &runs, 0)? || !is_passed(alloc, schema, &runs, 70)? {
+            return Ok(false);
+        }
+    }
+    Ok(true)
+}
+
+#[test]
+fn counts(rt: HostRuntime) -> Result<(), Fail> {
+    let schema = Schema::from_json(rt.alloc(), PAIRS)?;
+    for (int, long) in [(1, 1), (2, 3), (4, 4), (1, 5)] {
+        let passed = counts_are_passed(rt.alloc(), &schema, int, long)?;
+        assert!(rt; passed, "{int} {long}");
     }
     Ok(())
 }
 
-/// Numbers of more bytes among others, in which the windows begin anew.
+/// Fewer than 64 bytes are left behind the array, or some more.
+#[test]
+fn bytes_behind(rt: HostRuntime) -> Result<(), Fail> {
+    let schema = Schema::from_json(rt.alloc(), PAIRS)?;
+    for more in 0..130usize {
+        let short = is_passed(rt.alloc(), &schema, &[run_of(20, 1, 1)], more)?;
+        let longer = is_passed(rt.alloc(), &schema, &[run_of(40, 2, 3)], more)?;
+        let longest = is_passed(rt.alloc(), &schema, &[run_of(16, 4, 4)], more)?;
+        assert!(rt; short && longer && longest, "{more}");
+    }
+    Ok(())
+}
+
+/// Behind numbers of more bytes the windows begin anew.
 #[test]
 fn long_numbers_among_short_ones(rt: HostRuntime) -> Result<(), Fail> {
     let schema = Schema::from_json(rt.alloc(), PAIRS)?;
     for count in 0..40usize {
-        let runs = [run_of(count, 1, 2), run_of(2, 1, 6), run_of(20, 1, 3), run_of(1, 4, 10), run_of(9, 2, 4), run_of(12, 1, 5)];
-        let passed = is_passed_before(rt.alloc(), &schema, &runs, 70)?;
-        assert!(rt; passed, "{count}");
+        let runs = [
+            run_of(count, 1, 2),
+            run_of(2, 1, 6),
+            run_of(20, 1, 3),
+            run_of(1, 4, 10),
+            run_of(9, 2, 4),
+            run_of(12, 1, 5),
+        ];
+        for more in [0usize, 63, 64] {
+            let passed = is_passed(rt.alloc(), &schema, &runs, more)?;
+            assert!(rt; passed, "{count} {more}");
+        }
     }
     Ok(())
 }
