@@ -13,7 +13,7 @@ ghost use Rattle.avro_file.specs.Ending.{standing, EndsWith, Ends, EndsCounted};
 
 use crate::ends::takes_bytes;
 use crate::pairs::{Second, second_of_pair};
-use crate::window::{WINDOW, window_pairs_end};
+use crate::window::{WINDOW, is_ascii_run, window_pairs_end};
 use avro_parts::unsigned_of;
 use avro_schema::{Field, Schema};
 
@@ -146,6 +146,9 @@ fn text_end(bytes: &[u8], at: usize) -> Option<usize>
     let (start, end) = run_within(bytes, at);
     if end == 0 {
         return None;
+    }
+    if is_ascii_run(bytes, start, end) {
+        return Some(end);
     }
     match str::from_utf8(&bytes[start..end]) {
         Ok(_) => Some(end),

@@ -1,6 +1,7 @@
 //! Many numbers at once: where they end is seen in the top bits of 64 bytes.
 
-ghost use Rattle.std.specs.Prelude.{◌≡◌, ◌≢◌, ◌↔◌, ◌≤◌, ◌+◌, ℕ, length};
+ghost use Rattle.std.specs.Prelude.{◌≡◌, ◌≢◌, ◌↔◌, ◌≤◌, ◌+◌, ℕ, true, length, slice_range};
+ghost use Rattle.std.specs.Str.{IsAscii};
 ghost use Rattle.std.specs.Int.{bit_at, trailing_zeros, w64};
 ghost use Rattle.avro_schema.specs.Tree.{long};
 ghost use Rattle.avro_file.specs.Reading.{values_at, datum_at};
@@ -66,4 +67,24 @@ pub(crate) fn window_pairs_end(most: u64, bytes: &[u8], at: usize) -> (u64, usiz
         ends = without_first(longs);
     }
     (most, here)
+}
+
+/// Whether the bytes between two places are ASCII, which is seen where a window over the last of them is within the
+/// bytes.
+#[inline(always)]
+pub(crate) fn is_ascii_run(bytes: &[u8], start: usize, end: usize) -> bool
+    requires { (start ≤ end) × (end ≤ length bytes.now) }
+    ensures { result ≡ true → IsAscii (slice_range bytes.now start end) }
+{
+    let mut here = start;
+    'windows: while end - here >= WINDOW {
+        if last_bytes(bytes, here) != u64::MAX {
+            return false;
+        }
+        here += WINDOW;
+    }
+    if bytes.len() - here < WINDOW {
+        return false;
+    }
+    !last_bytes(bytes, here) % (1 << (end - here)) == 0
 }
