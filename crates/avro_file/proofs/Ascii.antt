@@ -44,7 +44,8 @@ rest_on bytes start here end last is small le room none so_far =
     rw place at (small_on bytes start here last n (omega (arith, room)) is (λ i lt.
     let zero : bit_at (2 ^ 64 - 1 - last) i ≡ 0 = sym (low_bits (2 ^ 64 - 1 - last) n i lt)
     ∙ ap (λ (m : ℕ). bit_at m i) low ∙ bit_at-zero i in
-    let not : bit_at (2 ^ 64 - 1 - last) i ≡ 1 - bit_at last i = bit_at_not w64 last i small (omega (arith, lt, room)) in
+    let not : bit_at (2 ^ 64 - 1 - last) i ≡ 1 - bit_at last i = bit_at_not w64 last i small
+    (omega (arith, lt, room)) in
     omega (arith, zero, not, bit_at-lt last i)) so_far)
 
 pub small_is_ascii : (bytes : List ℕ) (start end : ℕ) → AreSmall bytes start end
@@ -53,5 +54,8 @@ small_is_ascii bytes start end are i = go (cases_lt i (end - start)) where
   go : (i < end - start) ⊎ (end - start ≤ i) → get_or (take (end - start) (drop start bytes)) i 0 < 128
   go (inl lt) = rw (get_or-take (end - start) (drop start bytes) i 0 lt, get_or-drop start bytes i 0)
       (are (start + i) (omega arith) (omega (arith, lt)))
-  go (inr ge) = rw (get_or_past (take (end - start) (drop start bytes)) i 0 (omega (arith, ge,
-      length-take (end - start) (drop start bytes)))) (omega arith)
+  go (inr ge) = rw (get_or_past (take (end - start) (drop start bytes)) i 0 (omega (
+    arith,
+    ge,
+    length-take (end - start) (drop start bytes),
+  ))) (omega arith)

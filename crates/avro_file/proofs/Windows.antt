@@ -6,11 +6,12 @@ use Rattle.std.specs.Int.{bit_at, trailing_zeros}
 use Rattle.std.specs.Simd.Lanes.{zip2, mask_l, top}
 use Rattle.std.proofs.lemmas.Simd.{bitmask_splat, bit_mask_l}
 use Rattle.std.proofs.lemmas.Bool.{cases_order, cases_lt, ltb-true, lt-ltb}
-use Rattle.std.proofs.lemmas.List.{get_or-take, get_or-drop, get_or-map, get_or_past, length-take-le, length-drop, length-map}
+use Rattle.std.proofs.lemmas.List.{get_or-take, get_or-drop, get_or-map, get_or_past, length-take-le, length-drop}
+use Rattle.std.proofs.lemmas.List.{length-map}
 use Rattle.std.proofs.lemmas.Nat.{and_le_l, div-add-mod'}
-use Rattle.std.proofs.lemmas.Nat.Bits.{bit_at-zero, bit_at-suc, bit_at-lt, bit_at_and, bit_at-pow_same, bit_at-pow_other}
-use Rattle.std.proofs.lemmas.Nat.Bits.{bit_at_not, bit_at-trailing_zeros, bit_at_above, bit_at_ones_above, bit_at_cat_low}
-use Rattle.std.proofs.lemmas.Nat.Bits.{bit_at_cat_high, same_from_bits_below}
+use Rattle.std.proofs.lemmas.Nat.Bits.{bit_at-zero, bit_at-suc, bit_at-lt, bit_at_and, bit_at-pow_same}
+use Rattle.std.proofs.lemmas.Nat.Bits.{bit_at_not, bit_at-trailing_zeros, bit_at_above, bit_at_ones_above}
+use Rattle.std.proofs.lemmas.Nat.Bits.{bit_at-pow_other, bit_at_cat_low, bit_at_cat_high, same_from_bits_below}
 use Rattle.std.proofs.Math.Nat.{mod-lt, pow-le-pow_right}
 use Rattle.std.proofs.Math.Pow.{pow-lt}
 use Rattle.avro_schema.specs.Tree.{long}
@@ -40,14 +41,20 @@ some_power k = let two : 0 < 2 = omega arith in
 rest_fits : (n k : ℕ) → n % 2 ^ k < 2 ^ k
 rest_fits n k = mod-lt n (some_power k)
 
+low_place : (n k i : ℕ) → bit_at (n % 2 ^ k) i ≡ 1 → i < k
+low_place n k i h = go (cases_lt i k) where
+  go : (i < k) ⊎ (k ≤ i) → i < k
+  go (inl lt) = lt
+  go (inr ge) = absurd (omega (arith, h, bit_at_above (n % 2 ^ k) k i (rest_fits n k) ge))
+
 -- a number whose lowest bit is this
 lowest_is : (n t : ℕ) → bit_at n t ≡ 1 → ((i : ℕ) → i < t → bit_at n i ≡ 0) → n % 2 ^ (t + 1) ≡ 2 ^ t
 lowest_is n t is none = same_from_bits_below (t + 1) (n % 2 ^ (t + 1)) (2 ^ t) (rest_fits n (t + 1))
     (pow-lt (omega arith)) (λ i lt. low_bits n (t + 1) i lt ∙ go i lt (cases_order i t)) where
-  go : (i : ℕ) → i < t + 1 → (i ≡ t) ⊎ ((i < t) ⊎ (t < i)) → bit_at n i ≡ bit_at (2 ^ t) i
-  go i lt (inl e) = rw e (is ∙ sym (bit_at-pow_same t))
-  go i lt (inr (inl l)) = none i l ∙ sym (bit_at-pow_other t i (λ e. omega arith))
-  go i lt (inr (inr g)) = absurd (omega arith)
+      go : (i : ℕ) → i < t + 1 → (i ≡ t) ⊎ ((i < t) ⊎ (t < i)) → bit_at n i ≡ bit_at (2 ^ t) i
+      go i lt (inl e) = rw e (is ∙ sym (bit_at-pow_same t))
+      go i lt (inr (inl l)) = none i l ∙ sym (bit_at-pow_other t i (λ e. omega arith))
+      go i lt (inr (inr g)) = absurd (omega arith)
 
 -- one less clears it, and sets those below
 one_less : (a t i : ℕ) → (bit_at (a * 2 ^ (t + 1) + 2 ^ t) i ≡ 1) × (i ≢ t) → t < i
@@ -71,8 +78,10 @@ set_both n m i h g = omega (arith, bit_at_and n m i, h, g)
 pub all_but_lowest : (n i : ℕ) → n < 2 ^ 64
     → (bit_at (cleared n) i ≡ 1) ↔ ((bit_at n i ≡ 1) × (i ≢ trailing_zeros w64 n))
 all_but_lowest zero i small =
-    let none = bit_at-zero i in
-    (λ h. absurd (omega (arith, none, (both_set 0 ((0 + (2 ^ 64 - 1)) % 2 ^ 64) i h).0)), λ h. absurd (omega (arith, none, h.0)))
+    let none = bit_at-zero i in (
+      λ h. absurd (omega (arith, none, (both_set 0 ((0 + (2 ^ 64 - 1)) % 2 ^ 64) i h).0)),
+      λ h. absurd (omega (arith, none, h.0)),
+    )
 all_but_lowest (suc k) i small =
     let n = suc k in
     let t = trailing_zeros w64 n in
@@ -83,19 +92,21 @@ all_but_lowest (suc k) i small =
     let m = (n + (2 ^ 64 - 1)) % 2 ^ 64 in
     let less : m ≡ a * 2 ^ (t + 1) + (2 ^ t - 1) = omega (arith, small, is, some_power t) in
     let there : bit_at m t ≡ 0 = ap (λ (x : ℕ). bit_at x t) less
-    ∙ bit_at_cat_low a (t + 1) (2 ^ t - 1) t (omega arith) ∙ bit_at_ones_above t t (omega arith) in
-    (
-      λ h. ((both_set n m i h).0, λ e. let b : bit_at m t ≡ 1 = rw (← e) (both_set n m i h).1 in
-          absurd (omega (arith, b, there))),
+    ∙ bit_at_cat_low a (t + 1) (2 ^ t - 1) t (omega arith) ∙ bit_at_ones_above t t (omega arith) in (
+      λ h. (
+        (both_set n m i h).0,
+        λ e. let b : bit_at m t ≡ 1 = rw (← e) (both_set n m i h).1 in
+            absurd (omega (arith, b, there)),
+      ),
       λ h. set_both n m i h.0 (ap (λ (x : ℕ). bit_at x i) less ∙ one_less a t i
           (sym (ap (λ (x : ℕ). bit_at x i) is) ∙ h.0, h.1) (above n t i z.2 h)),
     ) where
-  above : (n t i : ℕ) → ((j : ℕ) → j < t → bit_at n j ≡ 0) → (bit_at n i ≡ 1) × (i ≢ t) → t < i
-  above n t i below h = go (cases_order i t) where
-    go : (i ≡ t) ⊎ ((i < t) ⊎ (t < i)) → t < i
-    go (inl e) = absurd (h.1 e)
-    go (inr (inl l)) = absurd (omega (arith, below i l, h.0))
-    go (inr (inr g)) = g
+      above : (n t i : ℕ) → ((j : ℕ) → j < t → bit_at n j ≡ 0) → (bit_at n i ≡ 1) × (i ≢ t) → t < i
+      above n t i below h = go (cases_order i t) where
+        go : (i ≡ t) ⊎ ((i < t) ⊎ (t < i)) → t < i
+        go (inl e) = absurd (h.1 e)
+        go (inr (inl l)) = absurd (omega (arith, below i l, h.0))
+        go (inr (inr g)) = g
 
 -- ---- the bytes of a window
 
@@ -116,19 +127,23 @@ pub last_found : (bytes : List ℕ) (at : ℕ) → at + 64 ≤ length bytes → 
 last_found bytes at le i = go (cases_order i 64) where
   seen : List ℕ
   seen = take 64 (drop at bytes)
+
   bit : bit_at (mask_l (map (top 7) (zip2 (λ a b. cond (ltb a b) 255 0) seen (replicate 64 128))) % 2 ^ 64) i
       ≡ cond (get_or (map (λ b. ltb b 128) seen) i false) 1 0
   bit = ap (λ (n : ℕ). bit_at n i) (bitmask_splat w8 ltb seen 64 128 (window_len bytes at le) (omega arith))
       ∙ bit_mask_l (map (λ b. ltb b 128) seen) i
+
   Told : Type 0
   Told = (bit_at (mask_l (map (top 7) (zip2 (λ a b. cond (ltb a b) 255 0) seen (replicate 64 128))) % 2 ^ 64) i ≡ 1)
       ↔ ((i < 64) × (get_or bytes (at + i) 0 < 128))
+
   past : 64 ≤ i → Told
   past ge =
       let none : get_or (map (λ b. ltb b 128) seen) i false ≡ false = get_or_past _ i false
       (omega (arith, ge, length-map seen (λ b. ltb b 128), window_len bytes at le)) in
       let zero : cond {A = ℕ} (get_or (map (λ b. ltb b 128) seen) i false) 1 0 ≡ 0 = rw none refl in
       (λ h. absurd (omega (arith, h, bit, zero)), λ h. absurd (omega (arith, ge, h.0)))
+
   go : (i ≡ 64) ⊎ ((i < 64) ⊎ (64 < i)) → Told
   go (inl e) = past (omega (arith, e))
   go (inr (inr g)) = past (omega (arith, g))
@@ -179,8 +194,11 @@ four_bits last i small lt =
     let quarter : t / 4 ≡ t / 2 / 2 = omega arith in
     let later : bit_at (t / 4) i ≡ bit_at t (suc (suc i)) = ap (λ (n : ℕ). bit_at n i) quarter
     ∙ sym (bit_at-suc (t / 2) i) ∙ sym (bit_at-suc t (suc i)) in
-    bit_at_and t (t / 4) i ∙ rw (later, two_bits last i small (omega (arith, lt)),
-    two_bits last (suc (suc i)) small (omega (arith, lt))) refl
+    bit_at_and t (t / 4) i ∙ rw (
+      later,
+      two_bits last i small (omega (arith, lt)),
+      two_bits last (suc (suc i)) small (omega (arith, lt)),
+    ) refl
 
 -- where four do not go on, one of them ends a number
 one_ends : (bytes : List ℕ) (at last i : ℕ) → AreLast bytes at last → last < 2 ^ 64 → i + 3 < 64
@@ -205,28 +223,23 @@ pub some_ends : (bytes : List ℕ) (at last : ℕ) → AreLast bytes at last →
 some_ends bytes at last is small some =
     let four = four_on last in
     let t = trailing_zeros w64 four in
-    let fits : four < 2 ^ 64 = omega (arith, and_le_l (two_on last) (two_on last / 4),
-    and_le_l (2 ^ 64 - 1 - last) ((2 ^ 64 - 1 - last) / 2)) in
+    let fits : four < 2 ^ 64 = omega (
+      arith,
+      and_le_l (two_on last) (two_on last / 4),
+      and_le_l (2 ^ 64 - 1 - last) ((2 ^ 64 - 1 - last) / 2),
+    ) in
     let z = bit_at-trailing_zeros w64 four (omega (arith, some)) fits in
     let power : 2 ^ t < 2 ^ 64 = pow-lt z.0 in
     let same : 1 * 2 ^ t % 2 ^ 64 ≡ 2 ^ t = omega (arith, power) in
     rw same (
       t,
       λ i. (
-        λ h. let lt = below i h (cases_order i t) in let s = (is i).0 (sym (low_bits last t i lt) ∙ h) in
+        λ h. let lt = low_place last t i h in let s = (is i).0 (sym (low_bits last t i lt) ∙ h) in
             (omega arith, lt, s.0, s.1),
         λ h. low_bits last t i h.1 ∙ (is i).1 (h.2, h.3),
       ),
       λ i lt room. one_ends bytes at last i is small room (z.2 i lt),
-    ) where
-  below : (i : ℕ) → bit_at (last % 2 ^ trailing_zeros w64 (four_on last)) i ≡ 1
-      → (i ≡ trailing_zeros w64 (four_on last)) ⊎ ((i < trailing_zeros w64 (four_on last))
-      ⊎ (trailing_zeros w64 (four_on last) < i)) → i < trailing_zeros w64 (four_on last)
-  below i h (inl e) = absurd (omega (arith, h, bit_at_above (last % 2 ^ trailing_zeros w64 (four_on last))
-      (trailing_zeros w64 (four_on last)) i (rest_fits last (trailing_zeros w64 (four_on last))) (omega (arith, e))))
-  below i h (inr (inl l)) = l
-  below i h (inr (inr g)) = absurd (omega (arith, h, bit_at_above (last % 2 ^ trailing_zeros w64 (four_on last))
-      (trailing_zeros w64 (four_on last)) i (rest_fits last (trailing_zeros w64 (four_on last))) (omega (arith, g))))
+    )
 
 -- ---- the next number
 
@@ -267,15 +280,19 @@ four_at_most : (bytes : List ℕ) (at start ends : ℕ) → AreEnds bytes at sta
     → trailing_zeros w64 ends - start < 4
 four_at_most bytes at start ends (reach, is, short) some small =
     go (cases_lt (trailing_zeros w64 ends - start) 4) where
-  go : (trailing_zeros w64 ends - start < 4) ⊎ (4 ≤ trailing_zeros w64 ends - start)
-      → trailing_zeros w64 ends - start < 4
-  go (inl lt) = lt
-  go (inr ge) =
-      let z = bit_at-trailing_zeros w64 ends some small in
-      let there = (is (trailing_zeros w64 ends)).0 z.1 in
-      let one = short start (omega (arith, there.1, ge)) (omega (arith, z.0, ge)) in
-      absurd (omega (arith, one.2, going_on bytes at start ends (start + one.0) (reach, is, short) (omega arith)
-          (omega (arith, one.1, ge)) some small))
+      go : (trailing_zeros w64 ends - start < 4) ⊎ (4 ≤ trailing_zeros w64 ends - start)
+          → trailing_zeros w64 ends - start < 4
+      go (inl lt) = lt
+      go (inr ge) =
+          let z = bit_at-trailing_zeros w64 ends some small in
+          let there = (is (trailing_zeros w64 ends)).0 z.1 in
+          let one = short start (omega (arith, there.1, ge)) (omega (arith, z.0, ge)) in
+          absurd (omega (
+            arith,
+            one.2,
+            going_on bytes at start ends (start + one.0) (reach, is, short) (omega arith)
+                (omega (arith, one.1, ge)) some small,
+          ))
 
 pub next_end : (bytes : List ℕ) (at start ends : ℕ) → ((j : ℕ) → get_or bytes j 0 < 256) → at + 64 ≤ length bytes
     → AreEnds bytes at start ends → 0 < ends → ends < 2 ^ 64 → NextEnd bytes at start ends
@@ -314,11 +331,11 @@ later_ends bytes at start ends others (reach, is, short) some small but =
       ),
       short,
     ) where
-  above : (i : ℕ) → (i ≡ trailing_zeros w64 ends) ⊎ ((i < trailing_zeros w64 ends) ⊎ (trailing_zeros w64 ends < i))
-      → (bit_at ends i ≡ 1) × (i ≢ trailing_zeros w64 ends) → trailing_zeros w64 ends + 1 ≤ i
-  above i (inl e) b = absurd (b.1 e)
-  above i (inr (inl l)) b = absurd (omega (arith, (bit_at-trailing_zeros w64 ends some small).2 i l, b.0))
-  above i (inr (inr g)) b = omega (arith, g)
+      above : (i : ℕ) → (i ≡ trailing_zeros w64 ends) ⊎ ((i < trailing_zeros w64 ends) ⊎ (trailing_zeros w64 ends < i))
+          → (bit_at ends i ≡ 1) × (i ≢ trailing_zeros w64 ends) → trailing_zeros w64 ends + 1 ≤ i
+      above i (inl e) b = absurd (b.1 e)
+      above i (inr (inl l)) b = absurd (omega (arith, (bit_at-trailing_zeros w64 ends some small).2 i l, b.0))
+      above i (inr (inr g)) b = omega (arith, g)
 
 -- where some bit is left, some was there
 pub some_before : (ends others : ℕ) → 0 < others → others < 2 ^ 64
@@ -349,7 +366,9 @@ values_joined read zero m p q e =
     let same : p ≡ q = ok_is p q e in
     let none : 0 + m ≡ m = omega arith in
     rw (same, none) refl
-values_joined read (suc n) m p q e = let more : suc n + m ≡ suc (n + m) = omega arith in rw more (first_joined read n m (read p) q (λ r f. values_joined read n m r q f) e)
+values_joined read (suc n) m p q e =
+    let more : suc n + m ≡ suc (n + m) = omega arith in
+    rw more (first_joined read n m (read p) q (λ r f. values_joined read n m r q f) e)
 
 -- so many ints and longs lie between two places
 abbrev pub ArePairs : ℕ → List ℕ → ℕ → ℕ → Type 0

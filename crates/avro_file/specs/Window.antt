@@ -11,7 +11,7 @@ AreLast bytes at last = (i : ℕ) → (bit_at last i ≡ 1) ↔ ((i < 64) × (ge
 abbrev pub EndsInFour : List ℕ → ℕ → ℕ → Type 0
 EndsInFour bytes at i = (more : ℕ) × (more < 4) × (get_or bytes (at + (i + more)) 0 < 128)
 
--- The same from the start up to the reach alone, and no number within the reach has more than four bytes.
+-- the same of the bytes from the start up to some reach alone, within which no number has more than four bytes
 abbrev pub AreEnds : List ℕ → ℕ → ℕ → ℕ → Type 0
 AreEnds bytes at start ends = (reach : ℕ)
     × ((i : ℕ) → (bit_at ends i ≡ 1) ↔ ((start ≤ i) × (i < reach) × (i < 64) × (get_or bytes (at + i) 0 < 128)))

@@ -5,7 +5,8 @@ use avro_schema::Schema;
 use std::alloc::{AllocError, Global};
 use std::test::*;
 
-const PAIRS: &[u8] = b"{\"type\":\"array\",\"items\":{\"type\":\"record\",\"name\":\"p\",\"fields\":[\
+const PAIRS: &[u8] =
+    b"{\"type\":\"array\",\"items\":{\"type\":\"record\",\"name\":\"p\",\"fields\":[\
 {\"name\":\"key\",\"type\":\"int\"},{\"name\":\"value\",\"type\":\"long\"}]}}";
 
 /// So many pairs of an int and a long of these lengths.
@@ -62,7 +63,12 @@ fn end_in(schema: &Schema, bytes: &[u8]) -> Option<usize> {
 }
 
 /// Whether the array is passed where so many bytes follow.
-fn is_passed(alloc: Global, schema: &Schema, runs: &[Run], more: usize) -> Result<bool, AllocError> {
+fn is_passed(
+    alloc: Global,
+    schema: &Schema,
+    runs: &[Run],
+    more: usize,
+) -> Result<bool, AllocError> {
     let mut bytes = array(alloc, runs)?;
     let end = bytes.len();
     for _ in 0..more {
@@ -72,7 +78,12 @@ fn is_passed(alloc: Global, schema: &Schema, runs: &[Run], more: usize) -> Resul
 }
 
 /// Whether a pair of these lengths is passed at each offset round the 64th byte, among short ones.
-fn is_passed_round(alloc: Global, schema: &Schema, int: usize, long: usize) -> Result<bool, AllocError> {
+fn is_passed_round(
+    alloc: Global,
+    schema: &Schema,
+    int: usize,
+    long: usize,
+) -> Result<bool, AllocError> {
     for before in 40..72usize {
         let runs = [
             run_of(before % 2, 1, 2),
@@ -100,7 +111,12 @@ fn lengths_round_the_64th_byte(rt: HostRuntime) -> Result<(), Fail> {
 }
 
 /// Whether pairs of these lengths are passed in each count.
-fn counts_are_passed(alloc: Global, schema: &Schema, int: usize, long: usize) -> Result<bool, AllocError> {
+fn counts_are_passed(
+    alloc: Global,
+    schema: &Schema,
+    int: usize,
+    long: usize,
+) -> Result<bool, AllocError> {
     for count in 0..71usize {
         let runs = [run_of(count, int, long)];
         if !is_passed(alloc, schema, &runs, 0)? || !is_passed(alloc, schema, &runs, 70)? {
@@ -158,7 +174,15 @@ fn long_numbers_among_short_ones(rt: HostRuntime) -> Result<(), Fail> {
 #[test]
 fn cut_arrays(rt: HostRuntime) -> Result<(), Fail> {
     let schema = Schema::from_json(rt.alloc(), PAIRS)?;
-    let bytes = array(rt.alloc(), &[run_of(20, 1, 1), run_of(9, 1, 4), run_of(1, 1, 7), run_of(30, 1, 2)])?;
+    let bytes = array(
+        rt.alloc(),
+        &[
+            run_of(20, 1, 1),
+            run_of(9, 1, 4),
+            run_of(1, 1, 7),
+            run_of(30, 1, 2),
+        ],
+    )?;
     assert_eq!(rt; end_in(&schema, &bytes), Some(bytes.len()));
     for len in 0..bytes.len() {
         assert_eq!(rt; end_in(&schema, &bytes[..len]), None, "{len}");
@@ -171,9 +195,58 @@ fn cut_arrays(rt: HostRuntime) -> Result<(), Fail> {
 fn numbers_that_do_not_fit(rt: HostRuntime) -> Result<(), Fail> {
     let schema = Schema::from_json(rt.alloc(), PAIRS)?;
     for count in 0..40usize {
-        let long = is_passed(rt.alloc(), &schema, &[run_of(count, 1, 2), run_of(1, 1, 11), run_of(4, 1, 1)], 90)?;
-        let int = is_passed(rt.alloc(), &schema, &[run_of(count, 1, 2), run_of(1, 6, 1), run_of(4, 1, 1)], 90)?;
+        let long = is_passed(
+            rt.alloc(),
+            &schema,
+            &[run_of(count, 1, 2), run_of(1, 1, 11), run_of(4, 1, 1)],
+            90,
+        )?;
+        let int = is_passed(
+            rt.alloc(),
+            &schema,
+            &[run_of(count, 1, 2), run_of(1, 6, 1), run_of(4, 1, 1)],
+            90,
+        )?;
         assert!(rt; !long && !int, "{count}");
+    }
+    Ok(())
+}
+
+/// A text of so many letters, in which these bytes stand at a place, with more bytes behind it.
+fn text(
+    alloc: Global,
+    len: usize,
+    place: usize,
+    bytes: &[u8],
+    more: usize,
+) -> Result<Vec<u8>, AllocError> {
+    let all = len.min(8000).saturating_add(bytes.len().min(8));
+    let mut text = vec![in alloc; 9, (all * 2 % 128) as u8 + 128, (all * 2 / 128) as u8]?;
+    for i in 0..len.min(8000) {
+        if i == place {
+            text.extend_from_slice(bytes)?;
+        }
+        text.push(b'a')?;
+    }
+    for _ in 0..more {
+        text.push(0x80)?;
+    }
+    Ok(text)
+}
+
+/// Texts are passed where they are UTF-8, at each place in a window and behind it.
+#[test]
+fn texts(rt: HostRuntime) -> Result<(), Fail> {
+    for place in 0..150usize {
+        for more in [0usize, 63, 64] {
+            let end = Some(155);
+            let plain = text(rt.alloc(), 150, place, b"bc", more)?;
+            let wider = text(rt.alloc(), 150, place, "é".as_bytes(), more)?;
+            let broken = text(rt.alloc(), 150, place, b"\xc3b", more)?;
+            assert_eq!(rt; end_in(&Schema::String, &plain), end, "{place} {more}");
+            assert_eq!(rt; end_in(&Schema::String, &wider), end, "{place} {more}");
+            assert_eq!(rt; end_in(&Schema::String, &broken), None, "{place} {more}");
+        }
     }
     Ok(())
 }
