@@ -1,5 +1,7 @@
 pub mod Views
 pub mod Paired
+pub mod Windows
+pub mod Ascii
 pub mod Leaves
 pub mod Steps
 pub mod Taken

@@ -15,6 +15,7 @@ mod named;
 mod object;
 mod pairs;
 mod quick;
+mod window;
 mod writer;
 
 pub use container::{Container, Objects};

@@ -13,6 +13,7 @@ ghost use Rattle.avro_file.specs.Ending.{standing, EndsWith, Ends, EndsCounted};
 
 use crate::ends::takes_bytes;
 use crate::pairs::{Second, second_of_pair};
+use crate::window::{WINDOW, is_ascii_run, window_pairs_end};
 use avro_parts::unsigned_of;
 use avro_schema::{Field, Schema};
 
@@ -146,6 +147,9 @@ fn text_end(bytes: &[u8], at: usize) -> Option<usize>
     if end == 0 {
         return None;
     }
+    if is_ascii_run(bytes, start, end) {
+        return Some(end);
+    }
     match str::from_utf8(&bytes[start..end]) {
         Ok(_) => Some(end),
         Err(_) => None,
@@ -216,9 +220,9 @@ fn count_at(bytes: &[u8], at: usize) -> (u64, usize)
     }
 }
 
-/// Where so many ints and longs end.
+/// Where so many ints and longs end, one after the other.
 #[inline(never)]
-fn long_pairs_end(count: u64, bytes: &[u8], at: usize) -> Option<usize>
+fn each_long_pair_end(count: u64, bytes: &[u8], at: usize) -> Option<usize>
     requires { at ≤ length bytes.now }
     ensures { IfSome result (λ end. (left : ℕ) →
         EndsCounted (values_at (datum_at (pair long)) count) bytes.now at left end left) }
@@ -227,6 +231,32 @@ fn long_pairs_end(count: u64, bytes: &[u8], at: usize) -> Option<usize>
     'items: for _ in 0..count {
         let value = int_end(bytes, here)?;
         here = long_end(bytes, value)?;
+    }
+    Some(here)
+}
+
+/// Where so many ints and longs end.
+#[inline(never)]
+fn long_pairs_end(count: u64, bytes: &[u8], at: usize) -> Option<usize>
+    requires { at ≤ length bytes.now }
+    ensures { IfSome result (λ end. (left : ℕ) →
+        EndsCounted (values_at (datum_at (pair long)) count) bytes.now at left end left) }
+{
+    let mut here = at;
+    let mut rest = count;
+    'pairs: while rest > 0 {
+        if bytes.len() - here >= WINDOW {
+            let (pairs, end) = window_pairs_end(rest, bytes, here);
+            if pairs > 0 {
+                rest -= pairs;
+                here = end;
+                continue 'pairs;
+            }
+        }
+        // a long number, or the last bytes
+        let few = rest.min(8);
+        here = each_long_pair_end(few, bytes, here)?;
+        rest -= few;
     }
     Some(here)
 }

@@ -10,3 +10,5 @@ mod look;
 mod picked;
 #[cfg(test)]
 mod schemas;
+#[cfg(test)]
+mod windows;

@@ -1,32 +1,41 @@
-use Rattle.std.proofs.Common.{◌++◌, ◌∷◌, []}
-use Rattle.avro_schema.specs.Tree.{long}
-use Rattle.avro_file.specs.Reading.{datum_at}
-use Rattle.avro_file.specs.Pairs.{pair}
-use Rattle.avro_file.proofs.Loop.{values_on, values_done}
-use Rattle.avro_file.proofs.Behind.{behind_all}
-use Rattle.avro_file.proofs.Paired.{long_pair_ends}
+use Rattle.std.proofs.Common.{◌≡◌, ◌+◌, ◌-◌, arith}
+use Rattle.avro_file.proofs.Windows.{no_pairs, pairs_joined}
 use Rattle.avro_file.proofs.quick.long_pairs_end.Goals as goal
 
-pub items-preserved : goal.items-preserved
-items-preserved c =
-    let i = c.items.invariant in
-    let k = c.in_ok-value.ensures in
-    let z = c.in_ok-here.ensures in (
-      z.1,
-      λ left.
-          let front = i.1 left in
-          let v = long_pair_ends c.args.bytes.now c.items.here c.in_ok-value.value c.in_ok-here.here left k z in (
-            front.0 ++ v.0 ∷ [],
-            values_on (datum_at (pair long)) front.0 c.args.count c.items.counter _ v.0 _ _
-                c.items-test.true v.1 front.1,
-          ),
+pub pairs-init : goal.pairs-init
+pairs-init c =
+    let none : c.args.count - c.args.count ≡ 0 = omega arith in
+    (omega arith, rw none (no_pairs c.args.bytes.now c.args.at c.requires))
+
+pub overflow_sub-bytes : goal.overflow_sub-bytes
+overflow_sub-bytes c = (c.pairs.invariant.1 0).0
+
+pub pairs-preserved-then-pairs-gt0 : goal.pairs-preserved-then-pairs-gt0
+pairs-preserved-then-pairs-gt0 c =
+    let i = c.pairs.invariant in
+    let n = c.window_pairs_end-pairs.result.0 in
+    let fits = c.window_pairs_end-pairs.ensures.most in
+    let so_many : c.args.count - (c.pairs.rest - n) ≡ c.args.count - c.pairs.rest + n = omega (arith, i.0, fits) in (
+      omega (arith, i.0),
+      rw so_many (pairs_joined (c.args.count - c.pairs.rest) n c.args.bytes.now c.args.at c.pairs.here
+          c.window_pairs_end-pairs.result.1 i.1 c.window_pairs_end-pairs.ensures.ends),
+    )
+
+pub each_long_pair_end-requires : goal.each_long_pair_end-requires
+each_long_pair_end-requires c = (c.pairs.invariant.1 0).0
+
+pub pairs-preserved : goal.pairs-preserved
+pairs-preserved c =
+    let i = c.pairs.invariant in
+    let n = c.min-few.result in
+    let so_many : c.args.count - (c.pairs.rest - n) ≡ c.args.count - c.pairs.rest + n = omega (arith, i.0) in (
+      omega (arith, i.0),
+      rw so_many (pairs_joined (c.args.count - c.pairs.rest) n c.args.bytes.now c.args.at c.pairs.here
+          c.in_ok-here.here i.1 c.in_ok-here.ensures),
     )
 
 pub returns : goal.returns
 returns c =
-    let i = c.items.invariant in
-    λ left. let front = i.1 left in (
-      i.0,
-      behind_all front.0 _ _ (values_done (datum_at (pair long)) front.0
-          c.args.count c.items.counter _ _ c.items-test.false front.1),
-    )
+    let all : c.args.count - c.pairs.rest ≡ c.args.count = omega (arith, c.pairs-test.false) in
+    let i = c.pairs.invariant in
+    rw all at i.1
