@@ -66,6 +66,14 @@ impl Segments {
         self.segment(number.segment).entry(number.number)
     }
 
+    /// The path of an entry.
+    pub(crate) fn path(&self, number: FileNumber) -> &[u8]
+        requires { IsKept self.now number }
+        ensures { result.now ≡ (entry_at self.now number).file.path }
+    {
+        self.segment(number.segment).path(number.number)
+    }
+
     /// Puts entries of a manifest to the first segment. A refusal, for want of memory, forgets none that was kept.
     pub(crate) fn add_read(
         &mut self,
