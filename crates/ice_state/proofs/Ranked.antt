@@ -14,7 +14,6 @@ use Rattle.ice_deletes.specs.Unions.{renumbered, AreBelow}
 use Rattle.ice_deletes.proofs.Naming.{built_all}
 use Rattle.ice_state.specs.Parts.{numbers_of}
 use Rattle.ice_state.specs.PlaceLists.{places_at, AreRanked}
-use Rattle.ice_state.proofs.KeptIndexes.{enumerated_below}
 
 where_renumbered : (ranks : List ℕ) (p : DeleteKey → Bool) (es : List (ℕ × DeleteKey))
     → numbers_where p (renumbered ranks es) ≡ places_at ranks (numbers_where p es)
@@ -65,28 +64,3 @@ module _ (content : FileContent) (ranks : List ℕ) (index : List (ℕ × Delete
   others_ranked below =
       let P : ℕ → Type 0 = λ n. n < length ranks in
       All-from_recursion P others (back P some others (recursion_from_All P (some ++ others) (all_ranked below)))
-
--- ---- ranks that are the numbers themselves
-
-own_places : (ranks : List ℕ) (n : ℕ) → ranks ≡ range_with_len 0 n → (es : List (ℕ × DeleteKey))
-    → AllByRecursion (λ (e : ℕ × DeleteKey). e.0 < n) es → renumbered ranks es ≡ es
-own_places ranks n are [] all = refl
-own_places ranks n are (e ∷ es) all =
-    let at : slice_index ranks e.0 ≡ e.0 = ap (λ (rs : List ℕ). slice_index rs e.0) are
-    ∙ get_or-range_with_len 0 n e.0 0 all.0 ∙ (let z : 0 + e.0 ≡ e.0 = omega arith in z) in
-    λ i. (at i, e.1) ∷ own_places ranks n are es all.1 i
-
-module _ (keys : List DeleteKey) (index : List (ℕ × DeleteKey)) (same : IsPermutation (numbered_deletes keys) index)
-    (ranks : List ℕ) (are : ranks ≡ range_with_len 0 (length keys)) where
-  built_below : All (λ (e : ℕ × DeleteKey). e.0 < length keys) index
-  built_below = built_all (λ e. e.0 < length keys) keys index same (enumerated_below keys (length keys) (omega arith))
-
-  pub built_ranked : AreBelow (length ranks) index
-  built_ranked =
-      let many : length ranks ≡ length keys = ap length are ∙ length-range_with_len 0 (length keys) in
-      subst (λ (n : ℕ). AreBelow n index) (sym many) built_below
-
-  pub built_same : IsPermutation (numbered_deletes keys) (renumbered ranks index)
-  built_same = subst (λ (es : List (ℕ × DeleteKey)). IsPermutation (numbered_deletes keys) es)
-      (sym (own_places ranks (length keys) are index (recursion_from_All (λ e. e.0 < length keys) index built_below)))
-      same

@@ -1,11 +1,11 @@
 //! The delete files of a state's taken rows, indexed as they come.
 
-ghost use Rattle.std.specs.Prelude.{◌≡◌, ◌++◌, filter, length, IfOk, IfSome, List, OnOk, Some};
+ghost use Rattle.std.specs.Prelude.{◌≡◌, ◌++◌, filter, length, IfOk, IfSome, List, OnOk, option_map, Some};
 ghost use Rattle.ice_entries.specs.Kept.{entries_at as entries_in};
 ghost use Rattle.ice_manifest_reading.specs.declared.entry.Entry.{Entry};
 ghost use Rattle.ice_state.specs.KeptDeletes.{HasPlaces, IsIndexOf};
 ghost use Rattle.ice_state.specs.Outcomes.{entries_in as entries_given, kept_in};
-ghost use Rattle.ice_state.specs.Parts.{gains, holds_deletes};
+ghost use Rattle.ice_state.specs.Parts.{gain_of, gains, holds_deletes};
 ghost use Rattle.ice_state.specs.Segments.{AreBefore, AreKept, entries_at, segment_at, Segmented};
 ghost use Rattle.ice_state.specs.Slots.{contents, given, HasNumbers, HaveNumbers, IsIn};
 
@@ -85,7 +85,7 @@ fn put_files_behind(files: &mut Vec<FileNumber>, before: u32)
         entries_at (firsts ++ kept) files.new.items ≡ entries_at kept files.old.items }
 {
     'files: for i in 0..files.len() {
-        files[i].segment = files[i].segment.saturating_add(before);
+        files[i] = files[i].behind(before);
     }
 }
 
@@ -129,6 +129,25 @@ fn push_taken(
     }
 }
 
+/// Puts the delete files of a row last that the second slot took and the first did not.
+fn push_gain(
+    found: &mut Vec<FileNumber>,
+    slot: &Option<Taken>,
+    entries: &Segments,
+    other: &Option<Taken>,
+) -> Result<(), AllocError>
+    requires { IfSome other.now (HasNumbers entries.now) }
+    ensures kept { AreKept entries.now found.old.items → AreKept entries.now found.new.items }
+    ensures pushed { (kept : Segmented) → OnOk result (entries_at entries.now found.new.items
+        ≡ entries_at entries.now found.old.items ++ filter holds_deletes (entries_given
+        (gain_of (option_map (given kept) slot.now) (option_map (given entries.now) other.now)))) }
+{
+    match (slot, other) {
+        (None, Some(taken)) => push_taken(found, entries, taken),
+        _ => Ok(()),
+    }
+}
+
 /// The delete files of the rows that the second slots took and the first did not.
 fn gained_files(
     alloc: Global,
@@ -144,9 +163,7 @@ fn gained_files(
 {
     let mut found = Vec::new(alloc);
     for i in 0..slots.len() {
-        if let (None, Some(taken)) = (&slots[i], &other[i]) {
-            push_taken(&mut found, entries, taken)?;
-        }
+        push_gain(&mut found, &slots[i], entries, &other[i])?;
     }
     Ok(found)
 }
