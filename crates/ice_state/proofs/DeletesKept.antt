@@ -1,6 +1,8 @@
 -- The index that a state keeps of its delete files, as rows come.
 use Rattle.std.proofs.Common.{◌≡◌, ◌<◌, ℕ, zero, suc, Bool, true, false, List, [], ◌∷◌, ◌++◌, length, map, filter, refl, sym}
-use Rattle.std.proofs.Common.{ap, subst, ◌∙◌, arith, append_assoc, replicate, get_or, Option, Some, None, IfSome}
+use Rattle.std.proofs.Common.{ap, subst, ◌∙◌, arith, append_assoc, replicate, get_or, slice_set, Option, Some, None, IfSome}
+use Rattle.std.proofs.Common.{◌≤◌, ◌+◌, Result, Ok, Err, IfOk}
+use Rattle.std.specs.Result.{result_ok}
 use Rattle.std.specs.List.{range_with_len}
 use Rattle.std.specs.List.Sorted.{IsPermutation}
 use Rattle.std.proofs.lemmas.List.{map-append, append-nil}
@@ -21,7 +23,7 @@ use Rattle.ice_state.specs.KeptDeletes.{HasPlaces, IsIndexOf, IsState}
 use Rattle.ice_state.specs.Outcomes.{entries_in, kept_in}
 use Rattle.ice_state.specs.Parts.{with_row, gains, AreApart, holds_deletes}
 use Rattle.ice_state.specs.Readings.{Reading}
-use Rattle.ice_state.specs.Segments.{Segmented, entry_at, AreKept, entries_at, Keeps, StandsBehind}
+use Rattle.ice_state.specs.Segments.{Segmented, entry_at, AreKept, IsKept, entries_at, Keeps, StandsBehind}
 use Rattle.ice_state.specs.Slots.{contents}
 use Rattle.ice_state.proofs.JoinedIndexes.{indexed_below, index_of_both}
 use Rattle.ice_state.proofs.Permuted.{fronts, filter_moved}
@@ -223,9 +225,9 @@ pub state_kept : (old new : Segmented) (slots : List (Option Taken)) (d : Option
     → IsState old slots d → IsState new slots d
 state_kept old new slots d keeps is = record {
   numbers = have-kept old new keeps slots is.numbers;
-  deletes =
+  index =
       subst (λ (c : Content). IfSome d (IsIndexOf new (kept_in c))) (sym (contents-kept old new keeps slots is.numbers))
-      (if_kept old new (kept_in (contents old slots)) d keeps is.deletes);
+      (if_kept old new (kept_in (contents old slots)) d keeps is.index);
 }
 
 -- files whose numbers were made those of so many segments further on
@@ -239,3 +241,46 @@ moved_files firsts kept (n ∷ ns) (m ∷ ms) same all =
     let one = all 0 n (omega arith) in
     let rest = moved_files firsts kept ns ms (omega arith) (λ k d low. all (suc k) d (omega arith)) in
     ((one.0, rest.0), λ i. one.1 i ∷ rest.1 i)
+
+-- ---- one number more that was moved
+
+pub same_at : (ns : List FileNumber) (i : ℕ) (d e : FileNumber) → i < length ns → get_or ns i d ≡ get_or ns i e
+same_at [] i d e low = absurd (omega arith)
+same_at (n ∷ ns) zero d e low = refl
+same_at (n ∷ ns) (suc i) d e low = same_at ns i d e (omega arith)
+
+pub set_more : (P : FileNumber → FileNumber → Type 0) (old ns : List FileNumber) (i : ℕ) (x : FileNumber)
+    → length ns ≡ length old → i < length ns
+    → ((k : ℕ) (d : FileNumber) → k < i → P (get_or old k d) (get_or ns k d))
+    → ((d : FileNumber) → P (get_or old i d) x)
+    → (k : ℕ) (d : FileNumber) → k < i + 1 → P (get_or old k d) (get_or (slice_set ns i x) k d)
+set_more P old [] i x same low before here k d lt = absurd (omega arith)
+set_more P [] (n ∷ ns) i x same low before here k d lt = absurd (omega arith)
+set_more P (o ∷ os) (n ∷ ns) zero x same low before here zero d lt = here d
+set_more P (o ∷ os) (n ∷ ns) zero x same low before here (suc k) d lt = absurd (omega arith)
+set_more P (o ∷ os) (n ∷ ns) (suc i) x same low before here zero d lt = before 0 d (omega arith)
+set_more P (o ∷ os) (n ∷ ns) (suc i) x same low before here (suc k) d lt =
+    set_more P os ns i x (omega arith) (omega arith) (λ k d lt. before (suc k) d (omega arith)) here k d (omega arith)
+
+pub set_rest : (ns : List FileNumber) (i : ℕ) (x : FileNumber) (k : ℕ) (d : FileNumber) → i + 1 ≤ k
+    → get_or (slice_set ns i x) k d ≡ get_or ns k d
+set_rest [] i x k d far = refl
+set_rest (n ∷ ns) zero x zero d far = absurd (omega arith)
+set_rest (n ∷ ns) zero x (suc k) d far = refl
+set_rest (n ∷ ns) (suc i) x zero d far = absurd (omega arith)
+set_rest (n ∷ ns) (suc i) x (suc k) d far = set_rest ns i x k d (omega arith)
+
+pub length_set : (ns : List FileNumber) (i : ℕ) (x : FileNumber) → length (slice_set ns i x) ≡ length ns
+length_set [] i x = refl
+length_set (n ∷ ns) zero x = refl
+length_set (n ∷ ns) (suc i) x = ap suc (length_set ns i x)
+
+pub kept_at_place : (kept : Segmented) (ns : List FileNumber) (i : ℕ) (d : FileNumber) → AreKept kept ns → i < length ns
+    → IsKept kept (get_or ns i d)
+kept_at_place kept [] i d all low = absurd (omega arith)
+kept_at_place kept (n ∷ ns) zero d all low = all.0
+kept_at_place kept (n ∷ ns) (suc i) d all low = kept_at_place kept ns i d all.1 (omega arith)
+
+pub some_if_ok : {T E : Type 0} (r : Result T E) (P : T → Type 0) → IfOk r P → IfSome (result_ok r) P
+some_if_ok (Ok x) P h = h
+some_if_ok (Err e) P h = tt

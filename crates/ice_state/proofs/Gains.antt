@@ -51,6 +51,11 @@ length-gains [] ds = omega arith
 length-gains (c ∷ cs) [] = omega arith
 length-gains (c ∷ cs) (d ∷ ds) = omega (arith, length-gains cs ds)
 
+pub length-gains_same : (cs ds : Content) → length cs ≡ length ds → length (gains cs ds) ≡ length cs
+length-gains_same [] ds same = refl
+length-gains_same (c ∷ cs) [] same = absurd (omega arith)
+length-gains_same (c ∷ cs) (d ∷ ds) same = ap suc (length-gains_same cs ds (omega arith))
+
 pub length-with_row : (c : Content) (i : ℕ) (r : Reading) → length (with_row c i r) ≡ length c
 length-with_row [] i r = refl
 length-with_row (s ∷ ss) zero r = refl

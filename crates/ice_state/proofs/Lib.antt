@@ -23,6 +23,7 @@ pub mod Planning
 pub mod Pruned
 pub mod Ranked
 pub mod RankedIndex
+pub mod RankedLines
 pub mod Runs
 pub mod Scanning
 pub mod Scans

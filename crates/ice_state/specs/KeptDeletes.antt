@@ -22,7 +22,11 @@ pub record IsIndexOf (kept : Segmented) (entries : List Entry) (deletes : Indexe
   pub all : IsPermutation (filter holds_deletes entries) (entries_at kept deletes.files.items)
   pub index : IsPermutation (numbered_deletes (map delete_key_of (entries_at kept deletes.files.items))) deletes.index
 
+-- the same among some entries
+abbrev pub IsIndexed : Segmented → IndexedDeletes → Type 0
+IsIndexed kept deletes = (entries : List Entry) × IsIndexOf kept entries deletes
+
 -- what a state keeps: its numbers stand for entries, and where the index wasn't dropped it is that of its delete files
 pub record IsState (kept : Segmented) (slots : List (Option Taken)) (deletes : Option IndexedDeletes) : Type 0 where
   pub numbers : HaveNumbers kept slots
-  pub deletes : IfSome deletes (IsIndexOf kept (kept_in (contents kept slots)))
+  pub index : IfSome deletes (IsIndexOf kept (kept_in (contents kept slots)))

@@ -9,8 +9,8 @@ ghost use Rattle.ice_deletes.specs.Unions.{renumbered, AreBelow};
 ghost use Rattle.ice_entries.specs.Kept.{entries_at as entries_in};
 ghost use Rattle.ice_value.specs.declared.file_content.FileContent.TheVariants.{Data};
 ghost use Rattle.ice_state.specs.Applying.{data_key_of, delete_key_of};
-ghost use Rattle.ice_state.specs.KeptDeletes.{IsIndexOf, IsState};
-ghost use Rattle.ice_state.specs.Lines.{entries_at as entries_at_places, lines_of, IsPlanned};
+ghost use Rattle.ice_state.specs.KeptDeletes.{IsIndexed, IsIndexOf, IsState};
+ghost use Rattle.ice_state.specs.Lines.{AreWithin, entries_at as entries_at_places, lines_of, IsPlanned};
 ghost use Rattle.ice_state.specs.Named.{entry_named, IsNamed, AreNamed, entries_named};
 ghost use Rattle.ice_state.specs.Orders.{runs_in, IsOrder};
 ghost use Rattle.ice_state.specs.Outcomes.{missing, bad, twice, by_path, plan_over, outcome_of};
@@ -233,7 +233,7 @@ fn lines(
     order: &[u32],
 ) -> Result<PlaceTable, AllocError>
     requires files { AreKept entries.now files.now }
-    requires index { (xs : List Entry) × IsIndexOf entries.now xs deletes.now }
+    requires index { IsIndexed entries.now deletes.now }
     requires order { IsOrder (entries_at entries.now deletes.now.files.items) order.now }
     ensures { IfOk result (λ places. places ≡ map (λ x. places_of (enumerate_from 0
         (map delete_key_of (by_path (entries_at entries.now deletes.now.files.items)))) (data_key_of x))

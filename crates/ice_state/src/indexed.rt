@@ -34,7 +34,8 @@ impl IndexedDeletes {
         files: Vec<FileNumber>,
     ) -> Result<IndexedDeletes, AllocError>
         requires { AreKept entries.now files.items }
-        ensures { (xs : List Entry) → entries_at entries.now files.items ≡ filter holds_deletes xs →
+        ensures places { IfOk result HasPlaces }
+        ensures index { (xs : List Entry) → entries_at entries.now files.items ≡ filter holds_deletes xs →
             IfOk result (IsIndexOf entries.now xs) }
     {
         let records = records(alloc, entries, &files)?;
@@ -65,7 +66,8 @@ impl IndexedDeletes {
 
     /// The same where so many segments stand before their own.
     pub fn behind(self, before: u32) -> IndexedDeletes
-        ensures { (firsts kept : Segmented) (xs : List Entry) → AreBefore before firsts kept → IsIndexOf kept xs self →
+        ensures places { HasPlaces self → HasPlaces result }
+        ensures index { (firsts kept : Segmented) (xs : List Entry) → AreBefore before firsts kept → IsIndexOf kept xs self →
             IsIndexOf (firsts ++ kept) xs result }
     {
         let mut files = self.files;
@@ -79,6 +81,7 @@ impl IndexedDeletes {
 
 /// Makes the files' numbers those of so many segments further on.
 fn put_files_behind(files: &mut Vec<FileNumber>, before: u32)
+    ensures many { length files.new.items ≡ length files.old.items }
     ensures kept { (firsts kept : Segmented) → AreBefore before firsts kept → AreKept kept files.old.items →
         AreKept (firsts ++ kept) files.new.items }
     ensures same { (firsts kept : Segmented) → AreBefore before firsts kept → AreKept kept files.old.items →
@@ -177,7 +180,8 @@ fn indexed_gains(
 ) -> Result<IndexedDeletes, AllocError>
     requires same { length slots.now ≡ length other.now }
     requires numbers { HaveNumbers entries.now other.now }
-    ensures { (kept : Segmented) → IfOk result (IsIndexOf entries.now
+    ensures places { IfOk result HasPlaces }
+    ensures index { (kept : Segmented) → IfOk result (IsIndexOf entries.now
         (kept_in (gains (contents kept slots.now) (contents entries.now other.now)))) }
 {
     let files = gained_files(alloc, slots, entries, other)?;

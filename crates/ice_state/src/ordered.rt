@@ -131,7 +131,7 @@ fn paths_of_files<'a>(
 
 /// The places of all entries, in the order of the paths.
 fn sorted_places(alloc: Global, placed: Vec<Placed<'_>>) -> Result<Items<u32>, AllocError>
-    ensures { (entries : List Entry) → AreEachPlaced entries placed.items → IfOk result (IsOrder entries) }
+    ensures { (entries : List Entry) → AreEachPlaced entries placed.entry.items → IfOk result (IsOrder entries) }
 {
     let mut placed = placed;
     sort_by_path(&mut placed)?;

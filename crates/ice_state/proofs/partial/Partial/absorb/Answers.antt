@@ -1,3 +1,4 @@
+use Rattle.std.proofs.Common.{List, Option, Some, IfSome}
 use Rattle.std.proofs.Common.{◌∙◌, ◌≡◌, ◌++◌, ap, sym, subst, arith, length, true, false}
 use Rattle.ice_state.specs.Contents.{Content}
 use Rattle.ice_state.specs.Joins.{join, TookAllOf}
@@ -6,6 +7,12 @@ use Rattle.ice_state.specs.Slots.{contents, HaveNumbers}
 use Rattle.ice_state.proofs.SegmentLists.{keeps_firsts}
 use Rattle.ice_state.proofs.Gains.{join-in_world, length-join, join-known}
 use Rattle.ice_state.proofs.SlotContents.{contents-kept, have-kept, length-contents}
+use Rattle.std.specs.List.Sorted.{IsPermutation}
+use Rattle.ice_state.specs.declared.indexed.IndexedDeletes.{IndexedDeletes}
+use Rattle.ice_state.specs.KeptDeletes.{IsIndexOf, IsState}
+use Rattle.ice_state.specs.Outcomes.{kept_in}
+use Rattle.ice_state.specs.Parts.{gains}
+use Rattle.ice_state.proofs.DeletesKept.{entries_joined, if_moved, if_places, state_kept}
 use Rattle.ice_state.proofs.partial.Partial.absorb.Goals as goal
 
 pub returns-then-has_taken_all_of-clause-ok : goal.returns-then-has_taken_all_of-clause-ok
@@ -50,11 +57,26 @@ pub invariant_of-self-2 : goal.invariant_of-self-2
 invariant_of-self-2 c =
     let kept = c.self.inside.entries in
     let others = c.other.inside.entries in
+    let all = kept ++ others in
+    let slots = c.self.inside.slots.items in
+    let other = c.other.inside.slots.items in
     let are : AreBefore c.in_ok-before.before kept others =
     record { counted = c.in_ok-before.ensures.before; few = c.in_ok-before.ensures.few } in
-    subst (λ (all : Segmented). HaveNumbers all c.put_behind.new.slots.items) (sym c.in_ok-before.ensures.ok)
-    (c.put_behind.ensures.numbers kept others are c.other.invariant
-    (have-kept kept (kept ++ others) (keeps_firsts kept others) c.self.inside.slots.items c.self.invariant))
+    let before = contents all slots in
+    let gained = contents others other in
+    let state = state_kept kept all slots c.self.inside.deletes (keeps_firsts kept others) c.self.invariant in
+    let was : IfSome c.take.result (IsIndexOf all (kept_in before)) =
+    subst (λ (d : Option IndexedDeletes). IfSome d (IsIndexOf all (kept_in before))) (sym c.take.ensures.value)
+    state.index in
+    let same = entries_joined before gained ? in
+    let moved = subst (λ (cs : Content). IsPermutation (kept_in before ++ kept_in (gains before gained)) (kept_in cs))
+    (sym (c.put_behind.ensures.rows kept others are c.other.invariant.numbers)) same in
+    subst (λ (es : Segmented). IsState es c.put_behind.new.slots.items c.with_absorbed.result)
+    (sym c.in_ok-before.ensures.ok) (record {
+      numbers = c.put_behind.ensures.numbers kept others are c.other.invariant.numbers state.numbers;
+      index = if_moved all (kept_in before ++ kept_in (gains before gained))
+          (kept_in (contents all c.put_behind.new.slots.items)) c.with_absorbed.result moved ?;
+    })
 
 pub returns-clause-still : goal.returns-clause-still
 returns-clause-still c = λ all.
@@ -75,9 +97,9 @@ returns-clause-ok c =
     let are : AreBefore c.in_ok-before.before kept others =
     record { counted = c.in_ok-before.ensures.before; few = c.in_ok-before.ensures.few } in
     ap (λ (k : Segmented). contents k c.put_behind.new.slots.items) c.in_ok-before.ensures.ok
-    ∙ c.put_behind.ensures.rows kept others are c.other.invariant
+    ∙ c.put_behind.ensures.rows kept others are c.other.invariant.numbers
     ∙ ap (λ (s : Content). join s (contents others c.other.inside.slots.items))
-    (contents-kept kept all (keeps_firsts kept others) c.self.inside.slots.items c.self.invariant ∙ c.self.view_is)
+    (contents-kept kept all (keeps_firsts kept others) c.self.inside.slots.items c.self.invariant.numbers ∙ c.self.view_is)
     ∙ ap (join c.args.self.now) c.other.view_is
 
 pub returns-clause-of_scan : goal.returns-clause-of_scan

@@ -1,3 +1,4 @@
+use Rattle.std.proofs.Common.{◌++◌, List, Option, Some, IfSome}
 use Rattle.std.proofs.Common.{◌∙◌, ◌≡◌, ◌≤◌, ap, sym, subst, arith, length, true, false}
 use Rattle.std.proofs.lemmas.Result.{err_from_is_err_and}
 use Rattle.ice_state.specs.Contents.{Content}
@@ -6,6 +7,11 @@ use Rattle.ice_state.specs.Parts.{gains}
 use Rattle.ice_state.specs.Slots.{contents}
 use Rattle.ice_state.proofs.Gains.{join-gains, join-in_world, length-gains, length-join, join-known}
 use Rattle.ice_state.proofs.SlotContents.{contents-kept, have-kept, length-contents}
+use Rattle.ice_state.proofs.DeletesKept.{entries_joined, if_moved, if_places, state_kept}
+use Rattle.std.specs.List.Sorted.{IsPermutation}
+use Rattle.ice_state.specs.declared.indexed.IndexedDeletes.{IndexedDeletes}
+use Rattle.ice_state.specs.KeptDeletes.{IsIndexOf}
+use Rattle.ice_state.specs.Outcomes.{kept_in}
 use Rattle.ice_state.proofs.partial.Partial.merge.Goals as goal
 
 pub returns-then-has_taken_all_of-clause-ok : goal.returns-then-has_taken_all_of-clause-ok
@@ -25,8 +31,8 @@ returns-then-has_taken_all_of-clause-world c = λ world scan ts us is is'. join-
     (returns-then-has_taken_all_of-clause-ok c) is is'
 
 pub invariant_of-self : goal.invariant_of-self
-invariant_of-self c = have-kept c.self.inside.entries c.gained.new.entries c.gained.ensures.keeps
-    c.self.inside.slots.items c.self.invariant
+invariant_of-self c = state_kept c.self.inside.entries c.gained.new.entries c.self.inside.slots.items
+    c.self.inside.deletes c.gained.ensures.keeps c.self.invariant
 
 pub returns-in_err-gained-clause-known : goal.returns-in_err-gained-clause-known
 returns-in_err-gained-clause-known c = λ all.
@@ -42,13 +48,13 @@ returns-in_err-gained-clause-known c = λ all.
 pub returns-in_err-gained-clause-still : goal.returns-in_err-gained-clause-still
 returns-in_err-gained-clause-still c = λ h.
     contents-kept c.self.inside.entries c.gained.new.entries c.gained.ensures.keeps
-    c.self.inside.slots.items c.self.invariant ∙ c.self.view_is
+    c.self.inside.slots.items c.self.invariant.numbers ∙ c.self.view_is
 
 pub returns-in_err-gained-clause-err : goal.returns-in_err-gained-clause-err
 returns-in_err-gained-clause-err c =
     let p = err_from_is_err_and c.from_residual.result c.from_residual.ensures.1 in
     rw p.1 (contents-kept c.self.inside.entries c.gained.new.entries c.gained.ensures.keeps
-    c.self.inside.slots.items c.self.invariant ∙ c.self.view_is)
+    c.self.inside.slots.items c.self.invariant.numbers ∙ c.self.view_is)
 
 pub put_all-requires : goal.put_all-requires
 put_all-requires c =
@@ -68,9 +74,23 @@ put_all-requires c =
 
 pub invariant_of-self-2 : goal.invariant_of-self-2
 invariant_of-self-2 c =
-    c.put_all.ensures.numbers c.gained.new.entries
-    (have-kept c.self.inside.entries c.gained.new.entries c.gained.ensures.keeps c.self.inside.slots.items
-    c.self.invariant) c.in_ok-gained.ensures.numbers
+    let new = c.gained.new.entries in
+    let slots = c.self.inside.slots.items in
+    let gained = c.in_ok-gained.gained.items in
+    let before = contents new slots in
+    let state = state_kept c.self.inside.entries new slots c.self.inside.deletes c.gained.ensures.keeps
+    c.self.invariant in
+    let was : IfSome c.take.result (IsIndexOf new (kept_in before)) =
+    subst (λ (d : Option IndexedDeletes). IfSome d (IsIndexOf new (kept_in before))) (sym c.take.ensures.value)
+    state.index in
+    let same = entries_joined before (contents new gained) ? in
+    let moved = subst (λ (cs : Content). IsPermutation (kept_in before ++ kept_in (gains before (contents new gained)))
+    (kept_in cs)) (sym (c.put_all.ensures.rows new)) same in
+    record {
+      numbers = c.put_all.ensures.numbers new state.numbers c.in_ok-gained.ensures.numbers;
+      index = if_moved new (kept_in before ++ kept_in (gains before (contents new gained)))
+          (kept_in (contents new c.put_all.new.slots.items)) c.with_gained.result moved ?;
+    }
 
 pub returns-clause-still : goal.returns-clause-still
 returns-clause-still c = λ all.
@@ -92,7 +112,7 @@ returns-clause-ok c =
     let mine = c.args.self.now in
     c.put_all.ensures.rows new
     ∙ ap (λ (s : Content). join s (contents new gained))
-    (contents-kept kept new c.gained.ensures.keeps c.self.inside.slots.items c.self.invariant ∙ c.self.view_is)
+    (contents-kept kept new c.gained.ensures.keeps c.self.inside.slots.items c.self.invariant.numbers ∙ c.self.view_is)
     ∙ ap (join mine)
     (c.in_ok-gained.ensures.gained kept
     ∙ ap (λ (s : Content). gains s (contents others c.deref-4.result.now))

@@ -11,8 +11,7 @@ returns c = λ firsts kept are here.
     omega (arith, c.saturating_add.ensures, few_behind c.args.before firsts kept are file.segment here.0) in
     let within : c.saturating_add.result < length (firsts ++ kept) =
     omega (arith, here.0, at, are.counted, length-both firsts kept) in
-    let same = behind_at c.args.before firsts kept are file.segment c.saturating_add.result at in
-    (
+    let same = behind_at c.args.before firsts kept are file.segment c.saturating_add.result at in (
       (within, subst (λ (one : Kept). IsKeptIn one file.number) (sym same) here.1),
       ap (λ (one : Kept). entry_in one file.number) same,
     )
