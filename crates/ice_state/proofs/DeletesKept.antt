@@ -136,7 +136,7 @@ index_moved kept xs ys d same is = record {
   index = is.index;
 }
 
-many_keys : (kept : Segmented) (ns : List FileNumber)
+pub many_keys : (kept : Segmented) (ns : List FileNumber)
     → length (map delete_key_of (entries_at kept ns)) ≡ length ns
 many_keys kept [] = refl
 many_keys kept (n ∷ ns) = ap suc (many_keys kept ns)

@@ -1,12 +1,29 @@
-use Rattle.std.proofs.Common.{◌≡◌, List, IfOk, map, subst, sym}
+use Rattle.std.proofs.Common.{◌≡◌, ◌∙◌, [], List, IfOk, ap, arith, length, map, replicate, subst, sym}
+use Rattle.std.specs.List.{enumerate_from}
+use Rattle.std.proofs.lemmas.Grind.{common_steps}
+use Rattle.std.proofs.lemmas.List.{length-map}
 use Rattle.ice_deletes.specs.Unions.{renumbered}
-use Rattle.ice_state.specs.Applying.{delete_key_of}
+use Rattle.ice_state.specs.Applying.{data_key_of, delete_key_of}
+use Rattle.ice_state.specs.declared.segments.FileNumber.{FileNumber}
 use Rattle.ice_state.specs.Outcomes.{by_path}
-use Rattle.ice_state.specs.PlaceLists.{AreRanks, LinePlaces}
-use Rattle.ice_state.specs.Segments.{entries_at}
+use Rattle.ice_state.specs.Parts.{places_of}
+use Rattle.ice_state.specs.PlaceLists.{AreRanks, LinePlaces, no_places}
+use Rattle.ice_state.specs.Segments.{entry_at, entries_at}
 use Rattle.ice_state.proofs.Lent.{all_by_place}
 use Rattle.ice_state.proofs.RankedLines.{below_ranks, index_in_order, none_apply, places_below, places_once}
 use Rattle.ice_state.proofs.finish.lines.Goals as goal
+
+pub returns-then-is_empty : goal.returns-then-is_empty
+returns-then-is_empty c =
+    let kept = c.args.entries.now in
+    let files = entries_at kept c.args.files.now in
+    let none : c.args.deletes.now.files.items ≡ [] = grind (arith, common_steps) in
+    let places : List FileNumber → List LinePlaces = λ ns. map (λ x. places_of (enumerate_from 0
+    (map delete_key_of (by_path (entries_at kept ns)))) (data_key_of x)) files in
+    let many : c.len.result ≡ length files = c.len.ensures ∙ sym (length-map c.args.files.now (entry_at kept)) in
+    let are : replicate c.len.result no_places ≡ places c.args.deletes.now.files.items =
+    ap (λ n. replicate n no_places) many ∙ sym (none_apply files) ∙ ap places (sym none) in
+    subst (λ (ps : List LinePlaces). IfOk c.without_places.result (λ table. table ≡ ps)) are c.without_places.ensures
 
 pub ranks-requires : goal.ranks-requires
 ranks-requires c =

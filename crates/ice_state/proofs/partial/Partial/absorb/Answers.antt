@@ -53,6 +53,12 @@ put_behind-requires c =
       length-contents c.other.inside.entries c.other.inside.slots.items,
     )
 
+pub absorbed_deletes-requires : goal.absorbed_deletes-requires
+absorbed_deletes-requires c = ?
+
+pub with_absorbed-requires : goal.with_absorbed-requires
+with_absorbed-requires c = ?
+
 pub invariant_of-self-2 : goal.invariant_of-self-2
 invariant_of-self-2 c =
     let kept = c.self.inside.entries in

@@ -72,6 +72,9 @@ put_all-requires c =
     ) in
     grind (arith, more, c.deref-3.ensures.value)
 
+pub with_gained-requires : goal.with_gained-requires
+with_gained-requires c = ?
+
 pub invariant_of-self-2 : goal.invariant_of-self-2
 invariant_of-self-2 c =
     let new = c.gained.new.entries in
