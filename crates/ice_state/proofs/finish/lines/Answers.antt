@@ -20,8 +20,8 @@ returns-then-is_empty c =
     let none : c.args.deletes.now.files.items ≡ [] = grind (arith, common_steps) in
     let places : List FileNumber → List LinePlaces = λ ns. map (λ x. places_of (enumerate_from 0
     (map delete_key_of (by_path (entries_at kept ns)))) (data_key_of x)) files in
-    let many : c.len.result ≡ length files = c.len.ensures ∙ sym (length-map c.args.files.now (entry_at kept)) in
-    let are : replicate c.len.result no_places ≡ places c.args.deletes.now.files.items =
+    let many : length c.args.files.now ≡ length files = sym (length-map c.args.files.now (entry_at kept)) in
+    let are : replicate (length c.args.files.now) no_places ≡ places c.args.deletes.now.files.items =
     ap (λ n. replicate n no_places) many ∙ sym (none_apply files) ∙ ap places (sym none) in
     subst (λ (ps : List LinePlaces). IfOk c.without_places.result (λ table. table ≡ ps)) are c.without_places.ensures
 
