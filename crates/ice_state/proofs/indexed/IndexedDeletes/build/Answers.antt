@@ -11,7 +11,6 @@ use Rattle.ice_state.specs.Segments.{entries_at}
 use Rattle.ice_state.proofs.DeletesKept.{many_keys}
 use Rattle.ice_state.proofs.JoinedIndexes.{indexed_below}
 use Rattle.ice_state.proofs.indexed.IndexedDeletes.build.Goals as goal
-
 use Rattle.ice_state.proofs.indexed.IndexedDeletes.build.Goals.{In_ok-index}
 
 indexed : (c : In_ok-index) → IsPermutation (numbered_deletes (map delete_key_of
