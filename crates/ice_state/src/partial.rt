@@ -168,12 +168,13 @@ impl Partial {
         if has_taken_all_of(&self.slots, &other.slots) {
             return Ok(());
         }
+        let deletes = other.deletes;
         let absorbed = absorbed_deletes(
             self.alloc,
             &self.slots,
             &other.entries,
             &other.slots,
-            other.deletes,
+            deletes,
         );
         let before = self.entries.append(other.entries)?;
         self.deletes = with_absorbed(self.alloc, self.deletes.take(), absorbed, before);
