@@ -1,16 +1,16 @@
-use Rattle.std.proofs.Common.{◌++◌, List, Option, Some, IfSome}
-use Rattle.std.proofs.Common.{◌∙◌, ◌≡◌, ◌≤◌, ap, sym, subst, arith, length, true, false}
+use Rattle.std.proofs.Common.{◌∙◌, ◌≡◌, ◌≤◌, ◌++◌, ap, sym, subst, arith, length, true, false, List, Option, IfSome}
 use Rattle.std.proofs.lemmas.Result.{err_from_is_err_and}
 use Rattle.ice_state.specs.Contents.{Content}
 use Rattle.ice_state.specs.Joins.{join, TookAllOf}
 use Rattle.ice_state.specs.Parts.{gains}
-use Rattle.ice_state.specs.Slots.{contents}
-use Rattle.ice_state.proofs.Gains.{join-gains, join-in_world, length-gains, length-join, join-known}
-use Rattle.ice_state.proofs.SlotContents.{contents-kept, have-kept, length-contents}
+use Rattle.ice_state.specs.Slots.{contents, HaveNumbers}
+use Rattle.ice_state.proofs.Gains.{join-gains, join-in_world, length-gains, length-gains_same, length-join, join-known}
+use Rattle.ice_state.proofs.SlotContents.{contents-kept, length-contents}
 use Rattle.ice_state.proofs.DeletesKept.{entries_joined, if_moved, if_places, state_kept}
 use Rattle.std.specs.List.Sorted.{IsPermutation}
 use Rattle.ice_state.specs.declared.indexed.IndexedDeletes.{IndexedDeletes}
-use Rattle.ice_state.specs.KeptDeletes.{IsIndexOf}
+use Rattle.ice_state.specs.declared.taken.Taken.{Taken}
+use Rattle.ice_state.specs.KeptDeletes.{HasPlaces, IsIndexOf}
 use Rattle.ice_state.specs.Outcomes.{kept_in}
 use Rattle.ice_state.proofs.partial.Partial.merge.Goals as goal
 
@@ -73,7 +73,39 @@ put_all-requires c =
     grind (arith, more, c.deref-3.ensures.value)
 
 pub with_gained-requires : goal.with_gained-requires
-with_gained-requires c = ?
+with_gained-requires c =
+    let slots = c.self.inside.slots.items in
+    let gained = c.in_ok-gained.gained.items in
+    let many : length gained ≡ length slots =
+    (let kept = c.self.inside.entries in
+    let others = c.other.inside.entries in
+    let mine = contents kept c.deref-3.result.now in
+    let theirs = contents others c.deref-4.result.now in
+    let alike : length mine ≡ length theirs =
+    ap (λ (ss : List (Option Taken)). length (contents kept ss)) c.deref-3.ensures.value ∙ ap length c.self.view_is
+    ∙ c.requires
+    ∙ sym (ap (λ (ss : List (Option Taken)). length (contents others ss)) c.deref-4.ensures.value
+    ∙ ap length c.other.view_is) in
+    omega (
+      arith,
+      length-contents c.gained.new.entries gained,
+      ap length (c.in_ok-gained.ensures.gained kept),
+      length-gains_same mine theirs alike,
+      length-contents kept c.deref-3.result.now,
+      ap (λ (ss : List (Option Taken)). length ss) c.deref-3.ensures.value,
+    )) in
+    let Have = λ (ss : List (Option Taken)). HaveNumbers c.gained.new.entries ss in
+    let Places = λ (d : Option IndexedDeletes). IfSome d HasPlaces in
+    record {
+      same =
+          ap (λ (ss : List (Option Taken)). length ss) c.deref-5.ensures.value ∙ sym many
+          ∙ sym (ap (λ (ss : List (Option Taken)). length ss) c.deref-6.ensures.value);
+      numbers = subst Have (sym c.deref-6.ensures.value) c.in_ok-gained.ensures.numbers;
+      places =
+          subst Places (sym c.take.ensures.value)
+          (if_places c.self.inside.entries (kept_in (contents c.self.inside.entries slots)) c.self.inside.deletes
+          c.self.invariant.index);
+    }
 
 pub invariant_of-self-2 : goal.invariant_of-self-2
 invariant_of-self-2 c =
@@ -86,13 +118,38 @@ invariant_of-self-2 c =
     let was : IfSome c.take.result (IsIndexOf new (kept_in before)) =
     subst (λ (d : Option IndexedDeletes). IfSome d (IsIndexOf new (kept_in before))) (sym c.take.ensures.value)
     state.index in
-    let same = entries_joined before (contents new gained) ? in
+    let many : length gained ≡ length slots =
+    (let kept = c.self.inside.entries in
+    let others = c.other.inside.entries in
+    let mine = contents kept c.deref-3.result.now in
+    let theirs = contents others c.deref-4.result.now in
+    let alike : length mine ≡ length theirs =
+    ap (λ (ss : List (Option Taken)). length (contents kept ss)) c.deref-3.ensures.value ∙ ap length c.self.view_is
+    ∙ c.requires
+    ∙ sym (ap (λ (ss : List (Option Taken)). length (contents others ss)) c.deref-4.ensures.value
+    ∙ ap length c.other.view_is) in
+    omega (
+      arith,
+      length-contents c.gained.new.entries gained,
+      ap length (c.in_ok-gained.ensures.gained kept),
+      length-gains_same mine theirs alike,
+      length-contents kept c.deref-3.result.now,
+      ap (λ (ss : List (Option Taken)). length ss) c.deref-3.ensures.value,
+    )) in
+    let alike : length before ≡ length (contents new gained) =
+    length-contents new slots ∙ sym many ∙ sym (length-contents new gained) in
+    let same = entries_joined before (contents new gained) alike in
+    let With = λ (cs ds : Content). IfSome c.with_gained.result (IsIndexOf new (kept_in before ++ kept_in (gains cs ds))) in
+    let more : With before (contents new gained) =
+    subst (λ (ss : List (Option Taken)). With (contents new ss) (contents new gained)) c.deref-5.ensures.value
+    (subst (λ (ss : List (Option Taken)). With (contents new c.deref-5.result.now) (contents new ss)) c.deref-6.ensures.value
+    (c.with_gained.ensures new (kept_in before) was)) in
     let moved = subst (λ (cs : Content). IsPermutation (kept_in before ++ kept_in (gains before (contents new gained)))
     (kept_in cs)) (sym (c.put_all.ensures.rows new)) same in
     record {
       numbers = c.put_all.ensures.numbers new state.numbers c.in_ok-gained.ensures.numbers;
       index = if_moved new (kept_in before ++ kept_in (gains before (contents new gained)))
-          (kept_in (contents new c.put_all.new.slots.items)) c.with_gained.result moved ?;
+          (kept_in (contents new c.put_all.new.slots.items)) c.with_gained.result moved more;
     }
 
 pub returns-clause-still : goal.returns-clause-still

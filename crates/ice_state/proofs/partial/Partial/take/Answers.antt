@@ -7,7 +7,7 @@ use Rattle.ice_state.specs.Parts.{with_row}
 use Rattle.ice_state.specs.Readings.{Reading}
 use Rattle.ice_state.specs.Slots.{contents, given}
 use Rattle.ice_state.proofs.Contents.{with_row-took, took-in_world, length-took}
-use Rattle.ice_state.proofs.SlotContents.{contents-kept, have-kept}
+use Rattle.ice_state.proofs.SlotContents.{contents-kept, length-contents}
 use Rattle.ice_state.proofs.DeletesKept.{entries_with_row, if_moved, if_places, state_kept}
 use Rattle.std.specs.List.Sorted.{IsPermutation}
 use Rattle.ice_state.specs.declared.indexed.IndexedDeletes.{IndexedDeletes}
@@ -74,7 +74,16 @@ invariant_of-self-2 c =
     let was : IfSome c.take.result (IsIndexOf new (kept_in before)) =
     subst (λ (d : Option IndexedDeletes). IfSome d (IsIndexOf new (kept_in before))) (sym c.take.ensures.value)
     state.index in
-    let low : c.args.i < length before = ? in
+    let of : length c.args.self.now ≡ length c.args.scan.now.wanted = c.requires.of_scan in
+    let low : c.args.i < length before =
+    omega (
+      arith,
+      c.requires.row,
+      of,
+      ap length c.self.view_is,
+      length-contents c.self.inside.entries slots,
+      length-contents new slots,
+    ) in
     let same = subst (λ (cs : Content). IsPermutation (kept_in before ++ entries_in (Some taken)) (kept_in cs))
     (sym (c.put_row.ensures.row new)) (entries_with_row before c.args.i taken low free) in
     record {
