@@ -53,8 +53,8 @@ put_behind-requires c =
       length-contents c.other.inside.entries c.other.inside.slots.items,
     )
 
-pub absorbed_deletes-requires : goal.absorbed_deletes-requires
-absorbed_deletes-requires c =
+pub absorbed_deletes-absorbed-requires : goal.absorbed_deletes-absorbed-requires
+absorbed_deletes-absorbed-requires c =
     let mine = c.self.inside.entries in
     let others = c.other.inside.entries in
     let slots = c.self.inside.slots.items in
@@ -83,7 +83,7 @@ with_absorbed-requires c =
           subst Places (sym c.take.ensures.value)
           (if_places mine (kept_in (contents mine c.self.inside.slots.items)) c.self.inside.deletes
           c.self.invariant.index);
-      others = if_places others gained c.absorbed_deletes.result (c.absorbed_deletes.ensures mine);
+      others = if_places others gained c.absorbed_deletes-absorbed.result (c.absorbed_deletes-absorbed.ensures mine);
     }
 
 pub invariant_of-self-2 : goal.invariant_of-self-2
@@ -105,11 +105,11 @@ invariant_of-self-2 c =
     length-contents all slots ∙ sym (length-contents kept slots) ∙ ap length c.self.view_is ∙ c.requires
     ∙ sym (ap length c.other.view_is) in
     let same = entries_joined before gained alike in
-    let More = λ (cs ds : Content). IfSome c.absorbed_deletes.result (IsIndexOf others (kept_in (gains cs ds))) in
+    let More = λ (cs ds : Content). IfSome c.absorbed_deletes-absorbed.result (IsIndexOf others (kept_in (gains cs ds))) in
     let more : More before gained =
     subst (λ (ss : List (Option Taken)). More (contents all ss) gained) c.deref-3.ensures.value
     (subst (λ (ss : List (Option Taken)). More (contents all c.deref-3.result.now) (contents others ss))
-    c.deref-4.ensures.value (c.absorbed_deletes.ensures all)) in
+    c.deref-4.ensures.value (c.absorbed_deletes-absorbed.ensures all)) in
     let joined = c.with_absorbed.ensures kept others (kept_in before) (kept_in (gains before gained)) are was more in
     let moved = subst (λ (cs : Content). IsPermutation (kept_in before ++ kept_in (gains before gained)) (kept_in cs))
     (sym (c.put_behind.ensures.rows kept others are c.other.invariant.numbers)) same in
