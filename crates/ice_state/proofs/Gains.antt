@@ -1,10 +1,10 @@
 -- What a merge adds.
 use Rattle.std.proofs.Common.{◌≡◌, ◌<◌, ◌≤◌, ℕ, zero, suc, List, [], ◌∷◌, ◌++◌, refl, sym, ap, ◌∙◌, Bool, true, false}
-use Rattle.std.proofs.Common.{length, get_or, drop, arith, Option, Some, None}
+use Rattle.std.proofs.Common.{length, get_or, drop, arith, Option, Some, None, is_some, ◌&&◌}
 use Rattle.ice_state.specs.Readings.{Reading}
 use Rattle.ice_state.specs.Contents.{Content, World, content, or_else}
 use Rattle.ice_state.specs.Joins.{join, either, IsNoGain, TookAllOf}
-use Rattle.ice_state.specs.Parts.{with_row, gain_of, gains, is_gain}
+use Rattle.ice_state.specs.Parts.{with_row, gain_of, gains, is_gain, IsApart, AreApart}
 use Rattle.ice_state.specs.Scans.{Scanned}
 use Rattle.ice_state.proofs.Joins.{join-content}
 
@@ -50,6 +50,11 @@ pub length-gains : (cs ds : Content) → length (gains cs ds) ≤ length cs
 length-gains [] ds = omega arith
 length-gains (c ∷ cs) [] = omega arith
 length-gains (c ∷ cs) (d ∷ ds) = omega (arith, length-gains cs ds)
+
+pub length-gains_same : (cs ds : Content) → length cs ≡ length ds → length (gains cs ds) ≡ length cs
+length-gains_same [] ds same = refl
+length-gains_same (c ∷ cs) [] same = absurd (omega arith)
+length-gains_same (c ∷ cs) (d ∷ ds) same = ap suc (length-gains_same cs ds (omega arith))
 
 pub length-with_row : (c : Content) (i : ℕ) (r : Reading) → length (with_row c i r) ≡ length c
 length-with_row [] i r = refl
@@ -134,3 +139,24 @@ all-end [] ds zero l = tt
 all-end [] ds (suc i) l = tt
 all-end (c ∷ cs) ds zero l = absurd (omega arith)
 all-end (c ∷ cs) ds (suc i) l = all-end cs ds i (omega arith)
+
+-- ---- no row in both
+
+apart_here : (c d : Option Reading) → (is_some c && is_some d) ≡ false → IsApart c d
+apart_here None d h = tt
+apart_here (Some r) None h = tt
+apart_here (Some r) (Some q) h = cc
+
+pub apart-step : (cs ds : Content) (i : ℕ) (c d : Option Reading) → i < length cs → i < length ds → c ≡ get_or cs i c
+    → d ≡ get_or ds i d → (is_some c && is_some d) ≡ false → AreApart (drop (suc i) cs) (drop (suc i) ds)
+    → AreApart (drop i cs) (drop i ds)
+apart-step [] ds i c d l m h k apart rest = absurd (omega arith)
+apart-step (x ∷ xs) [] i c d l m h k apart rest = absurd (omega arith)
+apart-step (x ∷ xs) (y ∷ ys) zero c d l m h k apart rest = (apart_here x y (rw (← h, ← k) apart), rest)
+apart-step (x ∷ xs) (y ∷ ys) (suc i) c d l m h k apart rest = apart-step xs ys i c d (omega arith) (omega arith) h k apart rest
+
+pub apart-end : (cs ds : Content) (i : ℕ) → length cs ≤ i → AreApart (drop i cs) ds
+apart-end [] ds zero l = tt
+apart-end [] ds (suc i) l = tt
+apart-end (c ∷ cs) ds zero l = absurd (omega arith)
+apart-end (c ∷ cs) ds (suc i) l = apart-end cs ds i (omega arith)

@@ -1,11 +1,13 @@
 pub mod Ascending
 pub mod Contents
 pub mod Covered
+pub mod DeletesKept
 pub mod Hits
 pub mod Elements
 pub mod Filtered
 pub mod Filters
 pub mod Gains
+pub mod JoinedIndexes
 pub mod Joins
 pub mod Lent
 pub mod Planned
@@ -14,9 +16,14 @@ pub mod OfSpecs
 pub mod Orders
 pub mod Outcomes
 pub mod LinesAt
+pub mod PathsOnce
+pub mod Permuted
 pub mod PlaceTables
 pub mod Planning
 pub mod Pruned
+pub mod Ranked
+pub mod RankedIndex
+pub mod RankedLines
 pub mod Runs
 pub mod Scanning
 pub mod Scans
@@ -24,5 +31,6 @@ pub mod SegmentLists
 pub mod Sharing
 pub mod SlotContents
 pub mod Snapshots
+pub mod SortedAlike
 pub mod Specs
 pub mod Unfiltered

@@ -1,8 +1,8 @@
 -- The entries of manifests in the order of their paths.
 use Rattle.std.proofs.Common.{◌≡◌, ◌<◌, ℕ, zero, suc, List, [], ◌∷◌, ◌++◌, refl, sym, ap, ◌∙◌, Bool, map, filter}
 use Rattle.std.proofs.Common.{length, get_or, arith, take, append_assoc, add-one, subst, ◌+◌}
-use Rattle.std.specs.List.{flat_map}
-use Rattle.std.specs.List.Sorted.{ties}
+use Rattle.std.specs.List.{flat_map, range_with_len}
+use Rattle.std.specs.List.Sorted.{ties, IsPermutation}
 use Rattle.std.specs.Cmp.{IsStrictWeakOrder}
 use Rattle.std.proofs.lemmas.List.{map-append}
 use Rattle.std.proofs.lemmas.List.Elements.{filter-append}
@@ -40,9 +40,18 @@ within_all xs [] all = tt
 within_all xs (p ∷ ps) all = (all.0.0, within_all xs ps all.1)
 
 -- the places of sorted paths are the order of their entries
-pub is_order : (xs : List Entry) (ps : List Placed) → ArePlaced xs ps → entries_placed xs ps ≡ by_path xs
+pub is_order : (xs : List Entry) (ps : List Placed) → ArePlaced xs ps
+    → IsPermutation (range_with_len 0 (length xs)) (map place_of ps) → entries_placed xs ps ≡ by_path xs
     → IsOrder xs (map place_of ps)
-is_order xs ps all is = record { within = within_all xs ps all; sorted = at_places xs ps all ∙ is }
+is_order xs ps placed all is =
+    record { within = within_all xs ps placed; all = all; sorted = at_places xs ps placed ∙ is }
+
+-- the keys of the entries at places
+pub keys_at : {Y : Type 0} (f : Entry → Y) (xs : List Entry) (ps : List ℕ) → AreWithin (length xs) ps
+    → map f (entries_at xs ps) ≡ map (λ i. f (get_or xs i no_entry)) ps
+keys_at f xs [] within = refl
+keys_at f xs (p ∷ ps) within =
+    rw (one_at xs p within.0) (ap (λ ys. f (get_or xs p no_entry) ∷ ys) (keys_at f xs ps within.1))
 
 -- ---- numbers at places
 

@@ -1,11 +1,11 @@
 -- Lines whose places stand in one list.
 use Rattle.std.proofs.Common.{◌≡◌, ℕ, zero, suc, ◌≤◌, ◌<◌, List, [], ◌∷◌, ◌++◌, length, get_or, take, drop, Some, refl}
-use Rattle.std.proofs.Common.{sym, ap, subst, ◌∙◌, ◌+◌, arith, length-append, option_map}
+use Rattle.std.proofs.Common.{sym, ap, subst, ◌∙◌, ◌+◌, arith, length-append, option_map, replicate}
 use Rattle.std.proofs.lemmas.List.{length-take, length-take-le, take-take, take_all, take_at, drop_at}
 use Rattle.std.proofs.lemmas.Slice.{between_is, between_to_end}
 use Rattle.std.specs.List.{slice_get, slice_range}
 use Rattle.ice_state.specs.declared.places.Ends.{Ends}
-use Rattle.ice_state.specs.PlaceLists.{LinePlaces, line_from, lines_from, RiseWithin, end_of}
+use Rattle.ice_state.specs.PlaceLists.{LinePlaces, line_from, lines_from, no_places, RiseWithin, end_of}
 use Rattle.ice_state.specs.PlaceLists.{IsInOrder, GainsInOrder, GainsLine}
 
 -- ---- one line among them
@@ -238,3 +238,16 @@ gained_line old new of_positions of_equalities positions equalities one other ga
     (one gains.line.positions gains.positions)
     ∙ ap (λ (ps : List ℕ). old ++ record { positions = positions; equalities = ps } ∷ [])
     (other gains.line.equalities gains.equalities)
+
+-- ---- lines without places
+
+abbrev pub no_ends : ℕ → List Ends
+no_ends n = replicate n (record { positions = 0; equalities = 0 })
+
+pub no_rise : (m n : ℕ) → RiseWithin m 0 (no_ends n)
+no_rise m zero = omega arith
+no_rise m (suc n) = (omega arith, omega arith, no_rise m n)
+
+pub no_lines : (n : ℕ) → lines_from 0 (no_ends n) [] ≡ replicate n no_places
+no_lines zero = refl
+no_lines (suc n) = ap (λ ls. no_places ∷ ls) (no_lines n)

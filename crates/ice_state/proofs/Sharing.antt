@@ -28,7 +28,7 @@ by_ranks o Equal h k e = rw e refl
 by_ranks o Greater h k e = let f : true ≡ false = sym (ap is_lt e) ∙ h in cc
 
 -- paths of which neither is before the other are one
-one_path : (a b : List ℕ) → is_lt (slice_cmp nat_cmp a b) ≡ false → is_lt (slice_cmp nat_cmp b a) ≡ false
+pub one_path : (a b : List ℕ) → is_lt (slice_cmp nat_cmp a b) ≡ false → is_lt (slice_cmp nat_cmp b a) ≡ false
     → bytes_eq a b ≡ true
 one_path a b h k = sym (is_eq-slice_cmp a b) ∙ by_ranks _ _ h k (nat_list_cmp_total.antisymm a b)
 

@@ -2,6 +2,7 @@ pub mod Applying
 pub mod Contents
 pub mod Covering
 pub mod Joins
+pub mod KeptDeletes
 pub mod Lines
 pub mod Named
 pub mod Orders

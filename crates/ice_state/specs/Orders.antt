@@ -1,6 +1,7 @@
 -- The entries of a manifest, kept by position, in the order of their paths. No public contract cites these words.
 use Rattle.std.specs.Prelude.{◌≡◌, ℕ, List, length}
-use Rattle.std.specs.List.{flat_map}
+use Rattle.std.specs.List.{flat_map, range_with_len}
+use Rattle.std.specs.List.Sorted.{IsPermutation}
 use Rattle.ice_manifest_reading.specs.declared.entry.Entry.{Entry}
 use Rattle.ice_entries.specs.Kept.{Kept, AreKept, entries_at as kept_at}
 use Rattle.ice_state.specs.declared.ordered.Ordered.{Ordered}
@@ -8,9 +9,10 @@ use Rattle.ice_state.specs.Contents.{Content}
 use Rattle.ice_state.specs.Lines.{entries_at, AreWithin}
 use Rattle.ice_state.specs.Outcomes.{by_path, entries_in}
 
--- at these places stand the entries by path
+-- at these places, each once, stand the entries by path
 pub record IsOrder (entries : List Entry) (places : List ℕ) : Type 0 where
   pub within : AreWithin (length entries) places
+  pub all : IsPermutation (range_with_len 0 (length entries)) places
   pub sorted : entries_at entries places ≡ by_path entries
 
 -- each number stands for an entry, and the order is that of these entries

@@ -115,6 +115,17 @@ gains [] ds = []
 gains (c ∷ cs) [] = []
 gains (c ∷ cs) (d ∷ ds) = gain_of c d ∷ gains cs ds
 
+-- no row is taken in both
+abbrev pub IsApart : Option Reading → Option Reading → Type 0
+IsApart (Some r) (Some q) = ⊥
+IsApart None d = Unit {0}
+IsApart (Some r) None = Unit {0}
+
+abbrev pub AreApart : Content → Content → Type 0
+AreApart [] ds = Unit {0}
+AreApart (c ∷ cs) [] = Unit {0}
+AreApart (c ∷ cs) (d ∷ ds) = IsApart c d × AreApart cs ds
+
 -- the fault of a bad manifest
 abbrev pub fault_of : Option Reading → Option ManifestFault
 fault_of None = None

@@ -1,5 +1,5 @@
 -- The places of the delete files that apply, line by line, and how one list has them all.
-use Rattle.std.specs.Prelude.{◌≡◌, ℕ, ◌≤◌, List, [], ◌∷◌, ◌++◌}
+use Rattle.std.specs.Prelude.{◌≡◌, ℕ, ◌<◌, ◌≤◌, List, [], ◌∷◌, ◌++◌, All, length, map, slice_index}
 use Rattle.std.specs.List.{slice_range}
 use Rattle.std.specs.List.Sorted.{IsPermutation, IsSorted}
 use Rattle.std.specs.Ordering.{nat_cmp}
@@ -9,6 +9,10 @@ use Rattle.ice_state.specs.declared.places.Ends.{Ends}
 pub record LinePlaces : Type 0 where
   pub positions : List ℕ
   pub equalities : List ℕ
+
+-- those of a data file to which none applies
+abbrev pub no_places : LinePlaces
+no_places = record { positions = []; equalities = [] }
 
 -- the line that starts at this place of the list, and whose parts end there
 abbrev pub line_from : ℕ → Ends → List ℕ → LinePlaces
@@ -32,6 +36,13 @@ abbrev pub end_of : ℕ → List Ends → ℕ
 end_of start [] = start
 end_of start (e ∷ es) = end_of e.equalities es
 
+-- the places of numbers: the ranks have each number's place
+abbrev pub places_at : List ℕ → List ℕ → List ℕ
+places_at ranks numbers = map (slice_index ranks) numbers
+
+abbrev pub AreRanked : List ℕ → List ℕ → Type 0
+AreRanked ranks numbers = All (λ n. n < length ranks) numbers
+
 -- the same numbers, the lower ones first
 pub record IsInOrder (numbers ordered : List ℕ) : Type 0 where
   pub same : IsPermutation numbers ordered
@@ -49,3 +60,8 @@ pub record GainsLine (old new : List LinePlaces) (of_positions of_equalities : L
   pub added : new ≡ old ++ line ∷ []
   pub positions : IsInOrder of_positions line.positions
   pub equalities : IsInOrder of_equalities line.equalities
+
+-- the ranks of places: where each stands in the order
+pub record AreRanks (order ranks : List ℕ) : Type 0 where
+  pub many : length ranks ≡ length order
+  pub places : (k : ℕ) → k < length order → slice_index ranks (slice_index order k) ≡ k

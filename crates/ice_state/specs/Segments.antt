@@ -35,3 +35,8 @@ Keeps old new = (n : ℕ) → n < length old → (n < length new) × KeepsIn (se
 pub record AreBefore (before : ℕ) (firsts kept : Segmented) : Type 0 where
   pub counted : before ≡ length firsts
   pub few : length (firsts ++ kept) < 2 ^ 32
+
+-- the entry of a number is kept by another one where other segments stand before its own
+abbrev pub StandsBehind : Segmented → Segmented → FileNumber → FileNumber → Type 0
+StandsBehind firsts kept number moved = IsKept (firsts ++ kept) moved
+    × (entry_at (firsts ++ kept) moved ≡ entry_at kept number)

@@ -1,10 +1,12 @@
 //! Which delete files apply to a data file, looked up in the index.
 
 ghost use Rattle.std.specs.Prelude.{◌≡◌, ◌≤◌, ◌↔◌, ◌++◌, ◌∷◌, [], ◌==◌, ℕ, map, IfOk, OnOk, OnErr, Contains, count_by};
+ghost use Rattle.std.specs.Prelude.{length};
 ghost use Rattle.std.specs.List.Sorted.{IsPermutation};
 ghost use Rattle.ice_value.specs.declared.file_content.FileContent.TheVariants.{PositionDeletes, EqualityDeletes};
 ghost use Rattle.ice_deletes.specs.Found.{lent, AppliesAt};
 ghost use Rattle.ice_deletes.specs.Keys.{key_of as record_key};
+ghost use Rattle.ice_deletes.specs.Unions.{renumbered, AreBelow};
 ghost use Rattle.ice_manifest_reading.specs.Lending.{lent as lent_entry};
 ghost use Rattle.ice_state.specs.Applying.{data_key_of, delete_key_of};
 ghost use Rattle.ice_state.specs.Parts.{places_of, numbers_of};
@@ -61,18 +63,22 @@ fn deletes_for<'i>(index: &'i DeleteIndex, x: &LentEntry<'_>) -> Hits<'i>
     index.for_data(x.spec_id, x.tuple, x.sequence_number, x.path)
 }
 
-/// Puts a line last: the places of the delete files that apply to the data file. A refusal, for want of memory, leaves
-/// the lines as they were.
+/// Puts a line last: the places of the delete files that apply to the data file, which the ranks have at the numbers of
+/// the index. A refusal, for want of memory, leaves the lines as they were.
 pub fn push_places(
     places: &mut PlaceTable,
     index: &DeleteIndex,
+    ranks: &[u32],
     x: &LentEntry<'_>,
 ) -> Result<(), AllocError>
-    ensures ok { OnOk result (places.new ≡ places.old ++ places_of index.now (data_key_of (lent_entry x.now)) ∷ []) }
+    requires { AreBelow (length ranks.now) index.now }
+    ensures ok { OnOk result (places.new ≡ places.old
+        ++ places_of (renumbered ranks.now index.now) (data_key_of (lent_entry x.now)) ∷ []) }
     ensures err { OnErr result (places.new ≡ places.old) }
 {
     let hits = deletes_for(index, x);
     places.push(
+        ranks,
         hits.positions,
         hits.referenced,
         hits.equalities,

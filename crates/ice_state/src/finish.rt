@@ -1,27 +1,31 @@
 //! The plan of a content, or its first fault.
 
 ghost use Rattle.std.specs.Prelude.{◌≡◌, [], ◌++◌, length, map, IfOk, OnOk, MatchResult, filter};
-ghost use Rattle.std.specs.Prelude.{option_map};
+ghost use Rattle.std.specs.Prelude.{option_map, IfSome};
 ghost use Rattle.std.specs.List.{enumerate_from};
 ghost use Rattle.std.specs.Option.{option_copied};
 ghost use Rattle.contract_words.specs.Outcome.{Gives};
+ghost use Rattle.ice_deletes.specs.Unions.{renumbered, AreBelow};
 ghost use Rattle.ice_entries.specs.Kept.{entries_at as entries_in};
 ghost use Rattle.ice_value.specs.declared.file_content.FileContent.TheVariants.{Data};
 ghost use Rattle.ice_state.specs.Applying.{data_key_of, delete_key_of};
-ghost use Rattle.ice_state.specs.Lines.{lines_of, IsPlanned};
+ghost use Rattle.ice_state.specs.KeptDeletes.{IsIndexed, IsIndexOf, IsState};
+ghost use Rattle.ice_state.specs.Lines.{AreWithin, entries_at as entries_at_places, lines_of, IsPlanned};
 ghost use Rattle.ice_state.specs.Named.{entry_named, IsNamed, AreNamed, entries_named};
-ghost use Rattle.ice_state.specs.Orders.{runs_in};
+ghost use Rattle.ice_state.specs.Orders.{runs_in, IsOrder};
 ghost use Rattle.ice_state.specs.Outcomes.{missing, bad, twice, by_path, plan_over, outcome_of};
 ghost use Rattle.ice_state.specs.Parts.{fault_of, Stops, holds_deletes, places_of};
 ghost use Rattle.ice_state.specs.Pruning.{holds};
 ghost use Rattle.ice_state.specs.Segments.{AreKept, entries_at, segment_at, Segmented};
 ghost use Rattle.ice_state.specs.Slots.{contents, given, HaveNumbers, IsIn};
 
-use crate::deletes::{push_places, records};
+use crate::deletes::push_places;
 use crate::fault::FinishFault;
-use crate::ordered::Ordered;
+use crate::indexed::IndexedDeletes;
+use crate::ordered::{Ordered, order_of_files};
 use crate::places::PlaceTable;
 use crate::plan::NumberedPlan;
+use crate::ranks::ranks;
 use crate::segments::{FileNumber, Segments};
 use crate::taken::Taken;
 use contract_words::Items;
@@ -199,63 +203,131 @@ fn delete_files(
     Ok(found)
 }
 
-/// The places of the delete files that apply, for each of the data files.
+/// The files at these places.
+fn files_at(
+    alloc: Global,
+    entries: &Segments,
+    files: &[FileNumber],
+    order: &[u32],
+) -> Result<Vec<FileNumber>, AllocError>
+    requires files { AreKept entries.now files.now }
+    requires places { AreWithin (length files.now) order.now }
+    ensures kept { IfOk result (λ found. AreKept entries.now found.items) }
+    ensures all { IfOk result (λ found. entries_at entries.now found.items
+        ≡ entries_at_places (entries_at entries.now files.now) order.now) }
+{
+    let mut found = Vec::with_capacity(alloc, order.len())?;
+    'order: for place in order {
+        found.push(files[*place as usize])?;
+    }
+    Ok(found)
+}
+
+/// The places of the delete files that apply, for each of the data files: where they stand in the order. Without delete
+/// files none is looked up.
 fn lines(
     alloc: Global,
     entries: &Segments,
     files: &[FileNumber],
-    deletes: &[FileNumber],
+    deletes: &IndexedDeletes,
+    order: &[u32],
 ) -> Result<PlaceTable, AllocError>
     requires files { AreKept entries.now files.now }
-    requires deletes { AreKept entries.now deletes.now }
-    ensures { IfOk result (λ places. places
-        ≡ map (λ x. places_of (enumerate_from 0 (map delete_key_of (entries_at entries.now deletes.now)))
-        (data_key_of x)) (entries_at entries.now files.now)) }
+    requires index { IsIndexed entries.now deletes.now }
+    requires order { IsOrder (entries_at entries.now deletes.now.files.items) order.now }
+    ensures { IfOk result (λ places. places ≡ map (λ x. places_of (enumerate_from 0
+        (map delete_key_of (by_path (entries_at entries.now deletes.now.files.items)))) (data_key_of x))
+        (entries_at entries.now files.now)) }
 {
-    let records = records(alloc, entries, deletes)?;
-    let index = DeleteIndex::build(alloc, &records)?;
-    looked_up(alloc, entries, files, &index)
+    if deletes.files.is_empty() {
+        return PlaceTable::without_places(alloc, files.len());
+    }
+    let ranks = ranks(alloc, order)?;
+    looked_up(alloc, entries, files, &deletes.index, &ranks)
 }
 
-/// The places of the delete files of the index that apply, for each of the data files.
+/// The places that the ranks have at the numbers of the delete files that apply, for each of the data files.
 fn looked_up(
     alloc: Global,
     entries: &Segments,
     files: &[FileNumber],
     index: &DeleteIndex,
+    ranks: &[u32],
 ) -> Result<PlaceTable, AllocError>
-    requires { AreKept entries.now files.now }
+    requires files { AreKept entries.now files.now }
+    requires ranks { AreBelow (length ranks.now) index.now }
     ensures { IfOk result (λ places. places
-        ≡ map (λ x. places_of index.now (data_key_of x)) (entries_at entries.now files.now)) }
+        ≡ map (λ x. places_of (renumbered ranks.now index.now) (data_key_of x)) (entries_at entries.now files.now)) }
 {
     let mut places = PlaceTable::with_capacity(alloc, files.len())?;
     'files: for file in files {
-        push_places(&mut places, index, &entries.entry(*file))?;
+        push_places(&mut places, index, ranks, &entries.entry(*file))?;
     }
     Ok(places)
 }
 
-/// A line for each data file.
-fn planned(
+/// A line for each data file, with the delete files that apply by their index.
+fn planned_by(
     alloc: Global,
     entries: &Segments,
+    deletes: &IndexedDeletes,
     named: Vec<Named<'_>>,
 ) -> Result<NumberedPlan, AllocError>
-    requires { AreNamed entries.now named.items }
+    requires named { AreNamed entries.now named.items }
+    requires sorted { by_path (entries_named entries.now named.items) ≡ entries_named entries.now named.items }
+    requires once { twice (entries_named entries.now named.items) ≡ [] }
+    requires deletes { IsIndexOf entries.now (entries_named entries.now named.items) deletes.now }
     ensures planned { IfOk result (IsPlanned entries.now) }
     ensures lines { IfOk result (λ plan. lines_of entries.now plan
         ≡ plan_over (entries_named entries.now named.entry.items) (entries_named entries.now named.entry.items)) }
 {
-    let deletes = delete_files(alloc, entries, &named)?;
-    let files = data_files(alloc, entries, &named, deletes.len())?;
+    let files = data_files(alloc, entries, &named, deletes.files.len())?;
     // The lines need its room.
     drop(named);
-    let places = lines(alloc, entries, &files, &deletes)?;
+    let order = order_of_files(alloc, entries, &deletes.files)?;
+    let places = lines(alloc, entries, &files, deletes, order.as_slice())?;
     Ok(NumberedPlan {
         files,
-        deletes,
+        deletes: files_at(alloc, entries, &deletes.files, order.as_slice())?,
         places,
     })
+}
+
+/// The delete files among the entries, indexed.
+fn indexed_anew(
+    alloc: Global,
+    entries: &Segments,
+    named: &[Named<'_>],
+) -> Result<IndexedDeletes, AllocError>
+    requires { AreNamed entries.now named.now }
+    ensures { IfOk result (IsIndexOf entries.now (entries_named entries.now named.now)) }
+{
+    let files = delete_files(alloc, entries, named)?;
+    IndexedDeletes::build(alloc, entries, files)
+}
+
+/// A line for each data file. Where the index of the delete files was dropped, it is built anew.
+fn planned(
+    alloc: Global,
+    entries: &Segments,
+    deletes: &Option<IndexedDeletes>,
+    named: Vec<Named<'_>>,
+) -> Result<NumberedPlan, AllocError>
+    requires named { AreNamed entries.now named.items }
+    requires sorted { by_path (entries_named entries.now named.items) ≡ entries_named entries.now named.items }
+    requires once { twice (entries_named entries.now named.items) ≡ [] }
+    requires deletes { IfSome deletes.now (IsIndexOf entries.now (entries_named entries.now named.items)) }
+    ensures planned { IfOk result (IsPlanned entries.now) }
+    ensures lines { IfOk result (λ plan. lines_of entries.now plan
+        ≡ plan_over (entries_named entries.now named.entry.items) (entries_named entries.now named.entry.items)) }
+{
+    match deletes {
+        Some(deletes) => planned_by(alloc, entries, deletes, named),
+        None => {
+            let deletes = indexed_anew(alloc, entries, &named)?;
+            planned_by(alloc, entries, &deletes, named)
+        }
+    }
 }
 
 /// The plan of slots, or their first fault.
@@ -264,9 +336,10 @@ pub fn plan_or_fault(
     rows: &[Row],
     entries: &Segments,
     slots: &[Option<Taken>],
+    deletes: &Option<IndexedDeletes>,
 ) -> Result<NumberedPlan, FinishFault>
     requires each { length rows.now ≡ length slots.now }
-    requires numbers { HaveNumbers entries.now slots.now }
+    requires kept { IsState entries.now slots.now deletes.now }
     ensures planned { IfOk result (IsPlanned entries.now) }
     ensures outcome { Gives FinishFault.Memory (lines_of entries.now) result
         (outcome_of rows.now (contents entries.now slots.now)) }
@@ -276,5 +349,5 @@ pub fn plan_or_fault(
     let mut named = gathered(alloc, entries, slots)?;
     sort_by_path(&mut named)?;
     check_once(alloc, entries, &named)?;
-    Ok(planned(alloc, entries, named)?)
+    Ok(planned(alloc, entries, deletes, named)?)
 }

@@ -4,6 +4,7 @@
 mod deletes;
 mod fault;
 mod finish;
+mod indexed;
 mod keep;
 pub mod laws;
 mod lines;
@@ -13,6 +14,7 @@ mod partial;
 mod places;
 mod plan;
 mod pruning;
+mod ranks;
 mod scan;
 mod segments;
 mod slots;

@@ -1,8 +1,8 @@
 //! What a merge adds to slots.
 
-ghost use Rattle.std.specs.Prelude.{◌≡◌, ◌↔◌, length, IfOk, IfSome, IsTrue, option_map};
+ghost use Rattle.std.specs.Prelude.{◌≡◌, ◌↔◌, ◌&&◌, is_some, length, IfOk, IfSome, IsTrue, option_map};
 ghost use Rattle.ice_state.specs.Joins.{TookAllOf};
-ghost use Rattle.ice_state.specs.Parts.{gain_of, gains, is_gain};
+ghost use Rattle.ice_state.specs.Parts.{AreApart, gain_of, gains, is_gain};
 ghost use Rattle.ice_state.specs.Segments.{Keeps, Segmented};
 ghost use Rattle.ice_state.specs.Slots.{contents, given, HasNumbers, HaveNumbers};
 
@@ -25,6 +25,27 @@ pub fn has_taken_all_of(slots: &[Option<Taken>], other: &[Option<Taken>]) -> boo
         }
     }
     true
+}
+
+/// Whether no row is taken in both.
+pub fn are_apart(slots: &[Option<Taken>], other: &[Option<Taken>]) -> bool
+    requires { length slots.now ≡ length other.now }
+    ensures { (kept others : Segmented) → IsTrue result →
+        AreApart (contents kept slots.now) (contents others other.now) }
+{
+    for i in 0..slots.len() {
+        if are_taken(&slots[i], &other[i]) {
+            return false;
+        }
+    }
+    true
+}
+
+/// Whether a row was taken in both slots.
+fn are_taken(slot: &Option<Taken>, other: &Option<Taken>) -> bool
+    ensures { result ≡ (is_some slot.now && is_some other.now) }
+{
+    slot.is_some() && other.is_some()
 }
 
 /// Whether a row that isn't taken in the first slot was taken in the other.

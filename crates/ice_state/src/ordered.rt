@@ -1,12 +1,16 @@
 //! The kept entries of a manifest, by position and by path.
 
-ghost use Rattle.std.specs.Prelude.{◌≡◌, IfOk, List, OnOk, map};
+ghost use Rattle.std.specs.Prelude.{◌≡◌, IfOk, List, OnOk, length, map};
+ghost use Rattle.std.specs.List.{range_with_len};
+ghost use Rattle.std.specs.List.Sorted.{IsPermutation};
 ghost use Rattle.ice_entries.specs.Kept.{AreKept, entries_at};
 ghost use Rattle.ice_manifest_reading.specs.declared.entry.Entry.{Entry};
 ghost use Rattle.ice_state.specs.Orders.{AreOrdered, IsOrder};
 ghost use Rattle.ice_state.specs.Outcomes.{by_path};
-ghost use Rattle.ice_state.specs.Placed.{ArePlaced, entries_placed, place_of};
+ghost use Rattle.ice_state.specs.Placed.{AreEachPlaced, ArePlaced, entries_placed, place_of};
+ghost use Rattle.ice_state.specs.Segments.{AreKept as AreKeptFiles, entries_at as entries_of};
 
+use crate::segments::{FileNumber, Segments};
 use contract_words::Items;
 use ice_entries::{Entries, EntryNumber};
 use std::alloc::{AllocError, Global};
@@ -58,9 +62,21 @@ fn order_of(
     requires { AreKept entries.now numbers.now }
     ensures { IfOk result (IsOrder (entries_at entries.now numbers.now)) }
 {
-    let mut placed = paths_of(alloc, entries, numbers)?;
-    sort_by_path(&mut placed)?;
-    places_of(alloc, &placed)
+    let placed = paths_of(alloc, entries, numbers)?;
+    sorted_places(alloc, placed)
+}
+
+/// The same of entries in many segments.
+pub fn order_of_files(
+    alloc: Global,
+    entries: &Segments,
+    files: &[FileNumber],
+) -> Result<Items<u32>, AllocError>
+    requires { AreKeptFiles entries.now files.now }
+    ensures { IfOk result (IsOrder (entries_of entries.now files.now)) }
+{
+    let placed = paths_of_files(alloc, entries, files)?;
+    sorted_places(alloc, placed)
 }
 
 /// The paths of entries, each beside its place.
@@ -71,6 +87,7 @@ fn paths_of<'a>(
 ) -> Result<Vec<Placed<'a>>, AllocError>
     requires { AreKept entries.now numbers.now }
     ensures placed { IfOk result (λ placed. ArePlaced (entries_at entries.now numbers.now) placed.items) }
+    ensures places { IfOk result (λ placed. map place_of placed.items ≡ range_with_len 0 (length numbers.now)) }
     ensures all { IfOk result (λ placed. entries_placed (entries_at entries.now numbers.now) placed.items
         ≡ entries_at entries.now numbers.now) }
 {
@@ -87,8 +104,43 @@ fn paths_of<'a>(
     Ok(placed)
 }
 
+/// The paths of entries in many segments, each beside its place.
+fn paths_of_files<'a>(
+    alloc: Global,
+    entries: &'a Segments,
+    files: &[FileNumber],
+) -> Result<Vec<Placed<'a>>, AllocError>
+    requires { AreKeptFiles entries.now files.now }
+    ensures placed { IfOk result (λ placed. ArePlaced (entries_of entries.now files.now) placed.items) }
+    ensures places { IfOk result (λ placed. map place_of placed.items ≡ range_with_len 0 (length files.now)) }
+    ensures all { IfOk result (λ placed. entries_placed (entries_of entries.now files.now) placed.items
+        ≡ entries_of entries.now files.now) }
+{
+    let mut placed = Vec::with_capacity(alloc, files.len())?;
+    'files: for i in 0..files.len() {
+        let Ok(place) = u32::try_from(i) else {
+            return Err(AllocError);
+        };
+        placed.push(Placed {
+            path: entries.path(files[i]),
+            place,
+        })?;
+    }
+    Ok(placed)
+}
+
+/// The places of all entries, in the order of the paths.
+fn sorted_places(alloc: Global, placed: Vec<Placed<'_>>) -> Result<Items<u32>, AllocError>
+    ensures { (entries : List Entry) → AreEachPlaced entries placed.entry.items → IfOk result (IsOrder entries) }
+{
+    let mut placed = placed;
+    sort_by_path(&mut placed)?;
+    places_of(alloc, &placed)
+}
+
 /// Puts paths in their order.
 fn sort_by_path(placed: &mut Vec<Placed<'_>>) -> Result<(), AllocError>
+    ensures same { IsPermutation placed.old.items placed.new.items }
     ensures placed { (entries : List Entry) →
         ArePlaced entries placed.old.items → ArePlaced entries placed.new.items }
     ensures sorted { (entries : List Entry) → ArePlaced entries placed.old.items →

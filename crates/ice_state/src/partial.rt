@@ -16,6 +16,7 @@ ghost use Rattle.ice_state.specs.Snapshots.{plan_of_snapshot};
 
 use crate::fault::FinishFault;
 use crate::finish::plan_or_fault;
+use crate::indexed::{IndexedDeletes, absorbed_deletes, with_absorbed, with_gained, with_taken};
 use crate::laws::filtering;
 use crate::merging::{gained, has_taken_all_of};
 use crate::plan::{OwnedPlan, Plan};
@@ -31,6 +32,8 @@ use std::marker::Model;
 pub struct Partial {
     entries: Segments,
     slots: Vec<Option<Taken>>,
+    /// The delete files of the taken rows, indexed; none where they were dropped for want of memory.
+    deletes: Option<IndexedDeletes>,
     alloc: Global,
 }
 
@@ -39,11 +42,12 @@ impl Model for Partial {
 
     ghost Value = { Content };
 
-    ghost use Rattle.ice_state.specs.Slots.{contents, HaveNumbers};
+    ghost use Rattle.ice_state.specs.KeptDeletes.{IsState};
+    ghost use Rattle.ice_state.specs.Slots.{contents};
 
     ghost view = { λ p. contents p.entries p.slots.items };
 
-    ghost invariant = { λ p. HaveNumbers p.entries p.slots.items };
+    ghost invariant = { λ p. IsState p.entries p.slots.items p.deletes };
 }
 
 impl Partial {
@@ -57,9 +61,12 @@ impl Partial {
         for _ in 0..scan.wanted().len() {
             slots.push(None)?;
         }
+        let entries = Segments::new(alloc)?;
+        let deletes = IndexedDeletes::build(alloc, &entries, Vec::new(alloc)).ok();
         Ok(Partial {
-            entries: Segments::new(alloc)?,
+            entries,
             slots,
+            deletes,
             alloc,
         })
     }
@@ -102,6 +109,7 @@ impl Partial {
             &scan.filter_of(i),
             bytes,
         )?;
+        self.deletes = with_taken(self.alloc, self.deletes.take(), &self.entries, &taken);
         put_row(&mut self.slots, i, taken);
         Ok(())
     }
@@ -131,6 +139,13 @@ impl Partial {
             &other.entries,
             &other.slots,
         )?;
+        self.deletes = with_gained(
+            self.alloc,
+            self.deletes.take(),
+            &self.slots,
+            &self.entries,
+            &gained,
+        );
         put_all(&mut self.slots, gained);
         Ok(())
     }
@@ -153,7 +168,16 @@ impl Partial {
         if has_taken_all_of(&self.slots, &other.slots) {
             return Ok(());
         }
+        let deletes = other.deletes;
+        let absorbed = absorbed_deletes(
+            self.alloc,
+            &self.slots,
+            &other.entries,
+            &other.slots,
+            deletes,
+        );
         let before = self.entries.append(other.entries)?;
+        self.deletes = with_absorbed(self.alloc, self.deletes.take(), absorbed, before);
         put_behind(&mut self.slots, other.slots, before);
         Ok(())
     }
@@ -174,7 +198,13 @@ impl Partial {
             (plan_of_snapshot (pruner_of scan.now.filter specs) world specs rows) }
     {
         filtering();
-        let numbered = plan_or_fault(self.alloc, scan.wanted(), &self.entries, &self.slots)?;
+        let numbered = plan_or_fault(
+            self.alloc,
+            scan.wanted(),
+            &self.entries,
+            &self.slots,
+            &self.deletes,
+        )?;
         Ok(Plan {
             entries: &self.entries,
             numbered,
@@ -195,7 +225,13 @@ impl Partial {
             (plan_of_snapshot (pruner_of scan.now.filter specs) world specs rows) }
     {
         filtering();
-        let numbered = plan_or_fault(self.alloc, scan.wanted(), &self.entries, &self.slots)?;
+        let numbered = plan_or_fault(
+            self.alloc,
+            scan.wanted(),
+            &self.entries,
+            &self.slots,
+            &self.deletes,
+        )?;
         Ok(OwnedPlan {
             entries: self.entries,
             numbered,

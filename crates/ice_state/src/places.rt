@@ -1,8 +1,8 @@
 //! The places of the delete files of a plan's lines, in one list.
 
 ghost use Rattle.std.specs.Prelude.{◌≡◌, ◌<◌, ◌≤◌, ◌^◌, ◌++◌, [], length, take, IfOk, OnOk, OnErr, Some, slice_get};
-ghost use Rattle.std.specs.Prelude.{option_map, IsOk};
-ghost use Rattle.ice_state.specs.PlaceLists.{end_of, GainsInOrder, GainsLine};
+ghost use Rattle.std.specs.Prelude.{option_map, replicate, IsOk};
+ghost use Rattle.ice_state.specs.PlaceLists.{end_of, no_places, places_at, AreRanked, GainsInOrder, GainsLine};
 
 use std::alloc::{AllocError, Global};
 use std::marker::Model;
@@ -44,6 +44,20 @@ impl PlaceTable {
         })
     }
 
+    /// So many lines, none of which has places.
+    pub(crate) fn without_places(alloc: Global, lines: usize) -> Result<Self, AllocError>
+        ensures { IfOk result (λ table. table ≡ replicate lines no_places) }
+    {
+        let none = Ends {
+            positions: 0,
+            equalities: 0,
+        };
+        Ok(PlaceTable {
+            ends: vec![in alloc; none; lines]?,
+            places: Vec::new(alloc),
+        })
+    }
+
     /// How many lines there are.
     pub(crate) fn len(&self) -> usize
         ensures counted { result ≡ length self.now }
@@ -69,24 +83,30 @@ impl PlaceTable {
         &self.places[ends.positions as usize..ends.equalities as usize]
     }
 
-    /// Puts a line last: each of its parts has the places of two lists, in whatever order they come, the lower ones
-    /// first. A line without places takes room for its ends alone. A refusal, for want of memory, leaves the lines as
-    /// they were; so does one of more places than 4 bytes can number.
+    /// Puts a line last: each of its parts has the places, by the ranks, of the numbers of two lists, in whatever order
+    /// they come, the lower ones first. A line without places takes room for its ends alone. A refusal, for want of
+    /// memory, leaves the lines as they were; so does one of more places than 4 bytes can number.
     pub(crate) fn push(
         &mut self,
+        ranks: &[u32],
         positions: &[usize],
         other_positions: &[usize],
         equalities: &[usize],
         other_equalities: &[usize],
     ) -> Result<(), AllocError>
-        ensures ok { OnOk result (GainsLine self.old self.new (positions.now ++ other_positions.now)
-            (equalities.now ++ other_equalities.now)) }
+        requires positions { AreRanked ranks.now positions.now }
+        requires other_positions { AreRanked ranks.now other_positions.now }
+        requires equalities { AreRanked ranks.now equalities.now }
+        requires other_equalities { AreRanked ranks.now other_equalities.now }
+        ensures ok { OnOk result (GainsLine self.old self.new
+            (places_at ranks.now positions.now ++ places_at ranks.now other_positions.now)
+            (places_at ranks.now equalities.now ++ places_at ranks.now other_equalities.now)) }
         ensures err { OnErr result (self.new ≡ self.old) }
     {
         let start = start_of(&self.ends, self.ends.len());
         self.places.truncate(start as usize);
-        let positions = append_in_order(&mut self.places, positions, other_positions)?;
-        let equalities = append_in_order(&mut self.places, equalities, other_equalities)?;
+        let positions = append_in_order(&mut self.places, ranks, positions, other_positions)?;
+        let equalities = append_in_order(&mut self.places, ranks, equalities, other_equalities)?;
         self.ends.push(Ends {
             positions,
             equalities,
@@ -113,31 +133,36 @@ fn start_of(ends: &[Ends], i: usize) -> u32
     if i == 0 { 0 } else { ends[i - 1].equalities }
 }
 
-/// Appends the numbers of both lists, the lower ones first, and gives where they end. A refusal leaves what stood there
-/// before, and maybe more behind it.
+/// Appends the places of the numbers of both lists, the lower ones first, and gives where they end. A refusal leaves what
+/// stood there before, and maybe more behind it.
 fn append_in_order(
     places: &mut Vec<u32>,
+    ranks: &[u32],
     numbers: &[usize],
     others: &[usize],
 ) -> Result<u32, AllocError>
-    ensures ok { OnOk result (GainsInOrder places.old.items places.new.items (numbers.now ++ others.now)) }
+    requires numbers { AreRanked ranks.now numbers.now }
+    requires others { AreRanked ranks.now others.now }
+    ensures ok { OnOk result (GainsInOrder places.old.items places.new.items
+        (places_at ranks.now numbers.now ++ places_at ranks.now others.now)) }
     ensures end { IfOk result (λ end. end ≡ length places.new.items) }
     ensures err { OnErr result (take (length places.old.items) places.new.items ≡ places.old.items) }
 {
     let start = places.len();
-    append(places, numbers)?;
-    append(places, others)?;
+    append(places, ranks, numbers)?;
+    append(places, ranks, others)?;
     places[start..].sort_unstable();
     narrow(places.len())
 }
 
-/// Appends the numbers. A refusal leaves what stood there before, and maybe more behind it.
-fn append(places: &mut Vec<u32>, numbers: &[usize]) -> Result<(), AllocError>
-    ensures ok { OnOk result (places.new.items ≡ places.old.items ++ numbers.now) }
+/// Appends the places of the numbers. A refusal leaves what stood there before, and maybe more behind it.
+fn append(places: &mut Vec<u32>, ranks: &[u32], numbers: &[usize]) -> Result<(), AllocError>
+    requires { AreRanked ranks.now numbers.now }
+    ensures ok { OnOk result (places.new.items ≡ places.old.items ++ places_at ranks.now numbers.now) }
     ensures err { OnErr result (take (length places.old.items) places.new.items ≡ places.old.items) }
 {
     'numbers: for n in numbers {
-        places.push(narrow(*n)?)?;
+        places.push(ranks[*n])?;
     }
     Ok(())
 }

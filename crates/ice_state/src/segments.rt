@@ -3,7 +3,8 @@
 ghost use Rattle.std.specs.Prelude.{◌≡◌, ◌<◌, ◌++◌, ◌^◌, length, IfOk, OnErr, OnOk};
 ghost use Rattle.ice_entries.specs.Kept.{AreKept as AreKeptIn, entries_at as entries_in};
 ghost use Rattle.ice_manifest_reading.specs.Lending.{lent};
-ghost use Rattle.ice_state.specs.Segments.{entry_at, IsKept, Keeps, segment_at};
+ghost use Rattle.ice_state.specs.Segments.{AreBefore, entry_at, IsKept, Keeps, segment_at, Segmented};
+ghost use Rattle.ice_state.specs.Segments.{StandsBehind};
 
 use ice_entries::{Entries, EntryNumber, Room};
 use ice_manifest_reading::{EntryView, LentEntry};
@@ -15,6 +16,19 @@ use std::marker::Model;
 pub(crate) struct FileNumber {
     pub(crate) segment: u32,
     pub(crate) number: EntryNumber,
+}
+
+impl FileNumber {
+    /// The number of the same entry where so many segments stand before its own.
+    pub(crate) fn behind(self, before: u32) -> FileNumber
+        ensures { (firsts kept : Segmented) → AreBefore before firsts kept → IsKept kept self →
+            StandsBehind firsts kept self result }
+    {
+        FileNumber {
+            segment: self.segment.saturating_add(before),
+            number: self.number,
+        }
+    }
 }
 
 /// Entries that are kept in segments. There is always a first one, to which entries are put.
@@ -64,6 +78,14 @@ impl Segments {
         ensures { lent result ≡ entry_at self.now number }
     {
         self.segment(number.segment).entry(number.number)
+    }
+
+    /// The path of an entry.
+    pub(crate) fn path(&self, number: FileNumber) -> &[u8]
+        requires { IsKept self.now number }
+        ensures { result.now ≡ (entry_at self.now number).file.path }
+    {
+        self.segment(number.segment).path(number.number)
     }
 
     /// Puts entries of a manifest to the first segment. A refusal, for want of memory, forgets none that was kept.

@@ -1,9 +1,10 @@
 use Rattle.std.proofs.Common.{◌≡◌, take, map}
+use Rattle.ice_deletes.specs.Unions.{renumbered}
 use Rattle.ice_state.specs.Segments.{entries_at}
 use Rattle.ice_state.specs.Applying.{data_key_of}
 use Rattle.ice_state.specs.Parts.{places_of}
 use Rattle.ice_state.proofs.finish.looked_up.Given as goal
 
 abbrev pub invariant-files : goal.invariant-files
-invariant-files l = l.places
-    ≡ map (λ x. places_of l.index (data_key_of x)) (entries_at l.entries (take l.file-index l.files))
+invariant-files l = l.places ≡ map (λ x. places_of (renumbered l.ranks l.index) (data_key_of x))
+    (entries_at l.entries (take l.file-index l.files))

@@ -1,13 +1,17 @@
-use Rattle.std.proofs.Common.{◌≡◌, ◌∙◌, [], ap, subst, List}
+use Rattle.std.proofs.Common.{◌≡◌, ◌∙◌, [], ap, subst, sym, List}
+use Rattle.std.specs.List.Sorted.{IsPermutation}
 use Rattle.std.proofs.lemmas.Result.{err_from_is_err_and}
 use Rattle.ice_state.specs.declared.finish.Named.{Named}
 use Rattle.ice_state.specs.Lines.{lines_of}
 use Rattle.ice_state.specs.Named.{entries_named}
-use Rattle.ice_state.specs.Outcomes.{by_path, twice}
+use Rattle.ice_state.specs.Outcomes.{by_path, kept_in, twice}
 use Rattle.ice_state.specs.Parts.{Stops}
 use Rattle.ice_state.specs.Slots.{contents}
+use Rattle.ice_manifest_reading.specs.declared.entry.Entry.{Entry}
+use Rattle.ice_state.proofs.DeletesKept.{if_moved}
 use Rattle.ice_state.proofs.Orders.{by_path_runs}
 use Rattle.ice_state.proofs.Outcomes.{stopped_missing, stopped_bad, stopped_twice, finished}
+use Rattle.ice_state.proofs.PathsOnce.{by_path_moves, by_path_twice}
 use Rattle.ice_state.proofs.finish.plan_or_fault.Goals as goal
 
 pub returns-in_err-check_taken-clause-outcome : goal.returns-in_err-check_taken-clause-outcome
@@ -43,7 +47,20 @@ returns-in_err-check_once-clause-outcome c =
     (c.in_ok-check_good.ensures kept) sorted stops)
 
 pub planned-requires : goal.planned-requires
-planned-requires c = c.in_ok-sort_by_path.ensures.named c.args.entries.now c.in_ok-named.ensures.named
+planned-requires c =
+    let kept = c.args.entries.now in
+    let all = kept_in (contents kept c.args.slots.now) in
+    let xs = entries_named kept c.sort_by_path.new.named.items in
+    let sorted = c.in_ok-sort_by_path.ensures.sorted kept c.in_ok-named.ensures.named
+    ∙ ap by_path c.in_ok-named.ensures.all ∙ by_path_runs (contents kept c.args.slots.now) in
+    record {
+      named = c.in_ok-sort_by_path.ensures.named kept c.in_ok-named.ensures.named;
+      sorted = ap by_path sorted ∙ by_path_twice all ∙ sym sorted;
+      once = subst (λ (ys : List Named). twice (entries_named kept ys) ≡ []) c.deref.ensures.value
+          c.in_ok-check_once.ensures;
+      deletes = if_moved kept all xs c.args.deletes.now
+          (subst (λ (ys : List Entry). IsPermutation all ys) (sym sorted) (by_path_moves all)) c.requires.kept.index;
+    }
 
 pub returns-clause-outcome : goal.returns-clause-outcome
 returns-clause-outcome c =

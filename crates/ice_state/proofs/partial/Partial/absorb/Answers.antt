@@ -1,11 +1,18 @@
-use Rattle.std.proofs.Common.{◌∙◌, ◌≡◌, ◌++◌, ap, sym, subst, arith, length, true, false}
+use Rattle.std.proofs.Common.{◌∙◌, ◌≡◌, ◌++◌, ap, sym, subst, arith, length, true, false, List, Option, IfSome}
 use Rattle.ice_state.specs.Contents.{Content}
 use Rattle.ice_state.specs.Joins.{join, TookAllOf}
 use Rattle.ice_state.specs.Segments.{AreBefore, Segmented}
 use Rattle.ice_state.specs.Slots.{contents, HaveNumbers}
 use Rattle.ice_state.proofs.SegmentLists.{keeps_firsts}
 use Rattle.ice_state.proofs.Gains.{join-in_world, length-join, join-known}
-use Rattle.ice_state.proofs.SlotContents.{contents-kept, have-kept, length-contents}
+use Rattle.ice_state.proofs.SlotContents.{contents-kept, length-contents}
+use Rattle.std.specs.List.Sorted.{IsPermutation}
+use Rattle.ice_state.specs.declared.indexed.IndexedDeletes.{IndexedDeletes}
+use Rattle.ice_state.specs.declared.taken.Taken.{Taken}
+use Rattle.ice_state.specs.KeptDeletes.{HasPlaces, IsIndexOf, IsState}
+use Rattle.ice_state.specs.Outcomes.{kept_in}
+use Rattle.ice_state.specs.Parts.{gains}
+use Rattle.ice_state.proofs.DeletesKept.{entries_joined, if_moved, if_places, state_kept}
 use Rattle.ice_state.proofs.partial.Partial.absorb.Goals as goal
 
 pub returns-then-has_taken_all_of-clause-ok : goal.returns-then-has_taken_all_of-clause-ok
@@ -46,15 +53,72 @@ put_behind-requires c =
       length-contents c.other.inside.entries c.other.inside.slots.items,
     )
 
+pub absorbed_deletes-absorbed-requires : goal.absorbed_deletes-absorbed-requires
+absorbed_deletes-absorbed-requires c =
+    let mine = c.self.inside.entries in
+    let others = c.other.inside.entries in
+    let slots = c.self.inside.slots.items in
+    let other = c.other.inside.slots.items in
+    let alike : length slots ≡ length other =
+    sym (length-contents mine slots) ∙ ap length c.self.view_is ∙ c.requires ∙ sym (ap length c.other.view_is)
+    ∙ length-contents others other in
+    let Indexed = λ (ss : List (Option Taken)). IfSome c.other.inside.deletes (IsIndexOf others
+        (kept_in (contents others ss))) in
+    record {
+      same =
+          ap (λ (ss : List (Option Taken)). length ss) c.deref-3.ensures.value ∙ alike
+          ∙ sym (ap (λ (ss : List (Option Taken)). length ss) c.deref-4.ensures.value);
+      numbers = subst (HaveNumbers others) (sym c.deref-4.ensures.value) c.other.invariant.numbers;
+      deletes = subst Indexed (sym c.deref-4.ensures.value) c.other.invariant.index;
+    }
+
+pub with_absorbed-requires : goal.with_absorbed-requires
+with_absorbed-requires c =
+    let mine = c.self.inside.entries in
+    let others = c.other.inside.entries in
+    let gained = kept_in (gains (contents mine c.deref-3.result.now) (contents others c.deref-4.result.now)) in
+    let Places = λ (d : Option IndexedDeletes). IfSome d HasPlaces in
+    record {
+      places =
+          subst Places (sym c.take.ensures.value)
+          (if_places mine (kept_in (contents mine c.self.inside.slots.items)) c.self.inside.deletes
+          c.self.invariant.index);
+      others = if_places others gained c.absorbed_deletes-absorbed.result (c.absorbed_deletes-absorbed.ensures mine);
+    }
+
 pub invariant_of-self-2 : goal.invariant_of-self-2
 invariant_of-self-2 c =
     let kept = c.self.inside.entries in
     let others = c.other.inside.entries in
+    let all = kept ++ others in
+    let slots = c.self.inside.slots.items in
+    let other = c.other.inside.slots.items in
     let are : AreBefore c.in_ok-before.before kept others =
     record { counted = c.in_ok-before.ensures.before; few = c.in_ok-before.ensures.few } in
-    subst (λ (all : Segmented). HaveNumbers all c.put_behind.new.slots.items) (sym c.in_ok-before.ensures.ok)
-    (c.put_behind.ensures.numbers kept others are c.other.invariant
-    (have-kept kept (kept ++ others) (keeps_firsts kept others) c.self.inside.slots.items c.self.invariant))
+    let before = contents all slots in
+    let gained = contents others other in
+    let state = state_kept kept all slots c.self.inside.deletes (keeps_firsts kept others) c.self.invariant in
+    let was : IfSome c.take.result (IsIndexOf all (kept_in before)) =
+    subst (λ (d : Option IndexedDeletes). IfSome d (IsIndexOf all (kept_in before))) (sym c.take.ensures.value)
+    state.index in
+    let alike : length before ≡ length gained =
+    length-contents all slots ∙ sym (length-contents kept slots) ∙ ap length c.self.view_is ∙ c.requires
+    ∙ sym (ap length c.other.view_is) in
+    let same = entries_joined before gained alike in
+    let More = λ (cs ds : Content). IfSome c.absorbed_deletes-absorbed.result (IsIndexOf others (kept_in (gains cs ds))) in
+    let more : More before gained =
+    subst (λ (ss : List (Option Taken)). More (contents all ss) gained) c.deref-3.ensures.value
+    (subst (λ (ss : List (Option Taken)). More (contents all c.deref-3.result.now) (contents others ss))
+    c.deref-4.ensures.value (c.absorbed_deletes-absorbed.ensures all)) in
+    let joined = c.with_absorbed.ensures kept others (kept_in before) (kept_in (gains before gained)) are was more in
+    let moved = subst (λ (cs : Content). IsPermutation (kept_in before ++ kept_in (gains before gained)) (kept_in cs))
+    (sym (c.put_behind.ensures.rows kept others are c.other.invariant.numbers)) same in
+    subst (λ (es : Segmented). IsState es c.put_behind.new.slots.items c.with_absorbed.result)
+    (sym c.in_ok-before.ensures.ok) (record {
+      numbers = c.put_behind.ensures.numbers kept others are c.other.invariant.numbers state.numbers;
+      index = if_moved all (kept_in before ++ kept_in (gains before gained))
+          (kept_in (contents all c.put_behind.new.slots.items)) c.with_absorbed.result moved joined;
+    })
 
 pub returns-clause-still : goal.returns-clause-still
 returns-clause-still c = λ all.
@@ -75,9 +139,9 @@ returns-clause-ok c =
     let are : AreBefore c.in_ok-before.before kept others =
     record { counted = c.in_ok-before.ensures.before; few = c.in_ok-before.ensures.few } in
     ap (λ (k : Segmented). contents k c.put_behind.new.slots.items) c.in_ok-before.ensures.ok
-    ∙ c.put_behind.ensures.rows kept others are c.other.invariant
+    ∙ c.put_behind.ensures.rows kept others are c.other.invariant.numbers
     ∙ ap (λ (s : Content). join s (contents others c.other.inside.slots.items))
-    (contents-kept kept all (keeps_firsts kept others) c.self.inside.slots.items c.self.invariant ∙ c.self.view_is)
+    (contents-kept kept all (keeps_firsts kept others) c.self.inside.slots.items c.self.invariant.numbers ∙ c.self.view_is)
     ∙ ap (join c.args.self.now) c.other.view_is
 
 pub returns-clause-of_scan : goal.returns-clause-of_scan

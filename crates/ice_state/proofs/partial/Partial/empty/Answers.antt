@@ -1,8 +1,31 @@
-use Rattle.std.proofs.Common.{◌≡◌, ◌∙◌, ap, arith, length, replicate, None}
-use Rattle.ice_state.specs.Slots.{contents}
+use Rattle.std.proofs.Common.{◌≡◌, ◌∙◌, [], ap, arith, filter, length, replicate, subst, sym, IfSome, List, None, Option}
+use Rattle.ice_state.specs.declared.indexed.IndexedDeletes.{IndexedDeletes}
+use Rattle.ice_state.specs.declared.taken.Taken.{Taken}
+use Rattle.ice_state.specs.KeptDeletes.{IsIndexOf}
+use Rattle.ice_state.specs.Outcomes.{kept_in}
+use Rattle.ice_state.specs.Parts.{holds_deletes}
+use Rattle.ice_state.specs.Segments.{entries_at}
+use Rattle.ice_state.specs.Slots.{contents, HaveNumbers}
 use Rattle.ice_state.proofs.Contents.{none-content}
-use Rattle.ice_state.proofs.SlotContents.{none-contents}
+use Rattle.ice_state.proofs.DeletesKept.{none_kept, some_if_ok}
+use Rattle.ice_state.proofs.SlotContents.{none-contents, none-numbers}
 use Rattle.ice_state.proofs.partial.Partial.empty.Goals as goal
+
+pub invariant_of-result : goal.invariant_of-result
+invariant_of-result c =
+    let entries = c.in_ok-entries.entries in
+    let xs = kept_in (contents entries c.loop.slots.items) in
+    let nothing : xs ≡ [] =
+    ap (λ (ss : List (Option Taken)). kept_in (contents entries ss)) c.loop.invariant
+    ∙ ap kept_in (none-contents entries c.loop.counter) ∙ none_kept c.loop.counter in
+    let files : entries_at entries c.new-2.result.items ≡ filter holds_deletes xs =
+    ap (entries_at entries) c.new-2.ensures.items ∙ ap (filter holds_deletes) (sym nothing) in
+    record {
+      numbers = subst (HaveNumbers entries) (sym c.loop.invariant) (none-numbers entries c.loop.counter);
+      index =
+          subst (λ (d : Option IndexedDeletes). IfSome d (IsIndexOf entries xs)) (sym c.ok-deletes.ensures.value)
+          (some_if_ok c.build.result (IsIndexOf entries xs) (c.build.ensures.index xs files));
+    }
 
 pub returns-clause-none : goal.returns-clause-none
 returns-clause-none c =

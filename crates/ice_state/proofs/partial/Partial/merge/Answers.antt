@@ -1,11 +1,17 @@
-use Rattle.std.proofs.Common.{◌∙◌, ◌≡◌, ◌≤◌, ap, sym, subst, arith, length, true, false}
+use Rattle.std.proofs.Common.{◌∙◌, ◌≡◌, ◌≤◌, ◌++◌, ap, sym, subst, arith, length, true, false, List, Option, IfSome}
 use Rattle.std.proofs.lemmas.Result.{err_from_is_err_and}
 use Rattle.ice_state.specs.Contents.{Content}
 use Rattle.ice_state.specs.Joins.{join, TookAllOf}
 use Rattle.ice_state.specs.Parts.{gains}
-use Rattle.ice_state.specs.Slots.{contents}
-use Rattle.ice_state.proofs.Gains.{join-gains, join-in_world, length-gains, length-join, join-known}
-use Rattle.ice_state.proofs.SlotContents.{contents-kept, have-kept, length-contents}
+use Rattle.ice_state.specs.Slots.{contents, HaveNumbers}
+use Rattle.ice_state.proofs.Gains.{join-gains, join-in_world, length-gains, length-gains_same, length-join, join-known}
+use Rattle.ice_state.proofs.SlotContents.{contents-kept, length-contents}
+use Rattle.ice_state.proofs.DeletesKept.{entries_joined, if_moved, if_places, state_kept}
+use Rattle.std.specs.List.Sorted.{IsPermutation}
+use Rattle.ice_state.specs.declared.indexed.IndexedDeletes.{IndexedDeletes}
+use Rattle.ice_state.specs.declared.taken.Taken.{Taken}
+use Rattle.ice_state.specs.KeptDeletes.{HasPlaces, IsIndexOf}
+use Rattle.ice_state.specs.Outcomes.{kept_in}
 use Rattle.ice_state.proofs.partial.Partial.merge.Goals as goal
 
 pub returns-then-has_taken_all_of-clause-ok : goal.returns-then-has_taken_all_of-clause-ok
@@ -25,8 +31,8 @@ returns-then-has_taken_all_of-clause-world c = λ world scan ts us is is'. join-
     (returns-then-has_taken_all_of-clause-ok c) is is'
 
 pub invariant_of-self : goal.invariant_of-self
-invariant_of-self c = have-kept c.self.inside.entries c.gained.new.entries c.gained.ensures.keeps
-    c.self.inside.slots.items c.self.invariant
+invariant_of-self c = state_kept c.self.inside.entries c.gained.new.entries c.self.inside.slots.items
+    c.self.inside.deletes c.gained.ensures.keeps c.self.invariant
 
 pub returns-in_err-gained-clause-known : goal.returns-in_err-gained-clause-known
 returns-in_err-gained-clause-known c = λ all.
@@ -42,13 +48,13 @@ returns-in_err-gained-clause-known c = λ all.
 pub returns-in_err-gained-clause-still : goal.returns-in_err-gained-clause-still
 returns-in_err-gained-clause-still c = λ h.
     contents-kept c.self.inside.entries c.gained.new.entries c.gained.ensures.keeps
-    c.self.inside.slots.items c.self.invariant ∙ c.self.view_is
+    c.self.inside.slots.items c.self.invariant.numbers ∙ c.self.view_is
 
 pub returns-in_err-gained-clause-err : goal.returns-in_err-gained-clause-err
 returns-in_err-gained-clause-err c =
     let p = err_from_is_err_and c.from_residual.result c.from_residual.ensures.1 in
     rw p.1 (contents-kept c.self.inside.entries c.gained.new.entries c.gained.ensures.keeps
-    c.self.inside.slots.items c.self.invariant ∙ c.self.view_is)
+    c.self.inside.slots.items c.self.invariant.numbers ∙ c.self.view_is)
 
 pub put_all-requires : goal.put_all-requires
 put_all-requires c =
@@ -66,11 +72,85 @@ put_all-requires c =
     ) in
     grind (arith, more, c.deref-3.ensures.value)
 
+pub with_gained-requires : goal.with_gained-requires
+with_gained-requires c =
+    let slots = c.self.inside.slots.items in
+    let gained = c.in_ok-gained.gained.items in
+    let many : length gained ≡ length slots =
+    (let kept = c.self.inside.entries in
+    let others = c.other.inside.entries in
+    let mine = contents kept c.deref-3.result.now in
+    let theirs = contents others c.deref-4.result.now in
+    let alike : length mine ≡ length theirs =
+    ap (λ (ss : List (Option Taken)). length (contents kept ss)) c.deref-3.ensures.value ∙ ap length c.self.view_is
+    ∙ c.requires
+    ∙ sym (ap (λ (ss : List (Option Taken)). length (contents others ss)) c.deref-4.ensures.value
+    ∙ ap length c.other.view_is) in
+    omega (
+      arith,
+      length-contents c.gained.new.entries gained,
+      ap length (c.in_ok-gained.ensures.gained kept),
+      length-gains_same mine theirs alike,
+      length-contents kept c.deref-3.result.now,
+      ap (λ (ss : List (Option Taken)). length ss) c.deref-3.ensures.value,
+    )) in
+    let Have = λ (ss : List (Option Taken)). HaveNumbers c.gained.new.entries ss in
+    let Places = λ (d : Option IndexedDeletes). IfSome d HasPlaces in
+    record {
+      same =
+          ap (λ (ss : List (Option Taken)). length ss) c.deref-5.ensures.value ∙ sym many
+          ∙ sym (ap (λ (ss : List (Option Taken)). length ss) c.deref-6.ensures.value);
+      numbers = subst Have (sym c.deref-6.ensures.value) c.in_ok-gained.ensures.numbers;
+      places =
+          subst Places (sym c.take.ensures.value)
+          (if_places c.self.inside.entries (kept_in (contents c.self.inside.entries slots)) c.self.inside.deletes
+          c.self.invariant.index);
+    }
+
 pub invariant_of-self-2 : goal.invariant_of-self-2
 invariant_of-self-2 c =
-    c.put_all.ensures.numbers c.gained.new.entries
-    (have-kept c.self.inside.entries c.gained.new.entries c.gained.ensures.keeps c.self.inside.slots.items
-    c.self.invariant) c.in_ok-gained.ensures.numbers
+    let new = c.gained.new.entries in
+    let slots = c.self.inside.slots.items in
+    let gained = c.in_ok-gained.gained.items in
+    let before = contents new slots in
+    let state = state_kept c.self.inside.entries new slots c.self.inside.deletes c.gained.ensures.keeps
+    c.self.invariant in
+    let was : IfSome c.take.result (IsIndexOf new (kept_in before)) =
+    subst (λ (d : Option IndexedDeletes). IfSome d (IsIndexOf new (kept_in before))) (sym c.take.ensures.value)
+    state.index in
+    let many : length gained ≡ length slots =
+    (let kept = c.self.inside.entries in
+    let others = c.other.inside.entries in
+    let mine = contents kept c.deref-3.result.now in
+    let theirs = contents others c.deref-4.result.now in
+    let alike : length mine ≡ length theirs =
+    ap (λ (ss : List (Option Taken)). length (contents kept ss)) c.deref-3.ensures.value ∙ ap length c.self.view_is
+    ∙ c.requires
+    ∙ sym (ap (λ (ss : List (Option Taken)). length (contents others ss)) c.deref-4.ensures.value
+    ∙ ap length c.other.view_is) in
+    omega (
+      arith,
+      length-contents c.gained.new.entries gained,
+      ap length (c.in_ok-gained.ensures.gained kept),
+      length-gains_same mine theirs alike,
+      length-contents kept c.deref-3.result.now,
+      ap (λ (ss : List (Option Taken)). length ss) c.deref-3.ensures.value,
+    )) in
+    let alike : length before ≡ length (contents new gained) =
+    length-contents new slots ∙ sym many ∙ sym (length-contents new gained) in
+    let same = entries_joined before (contents new gained) alike in
+    let With = λ (cs ds : Content). IfSome c.with_gained.result (IsIndexOf new (kept_in before ++ kept_in (gains cs ds))) in
+    let more : With before (contents new gained) =
+    subst (λ (ss : List (Option Taken)). With (contents new ss) (contents new gained)) c.deref-5.ensures.value
+    (subst (λ (ss : List (Option Taken)). With (contents new c.deref-5.result.now) (contents new ss)) c.deref-6.ensures.value
+    (c.with_gained.ensures new (kept_in before) was)) in
+    let moved = subst (λ (cs : Content). IsPermutation (kept_in before ++ kept_in (gains before (contents new gained)))
+    (kept_in cs)) (sym (c.put_all.ensures.rows new)) same in
+    record {
+      numbers = c.put_all.ensures.numbers new state.numbers c.in_ok-gained.ensures.numbers;
+      index = if_moved new (kept_in before ++ kept_in (gains before (contents new gained)))
+          (kept_in (contents new c.put_all.new.slots.items)) c.with_gained.result moved more;
+    }
 
 pub returns-clause-still : goal.returns-clause-still
 returns-clause-still c = λ all.
@@ -92,7 +172,7 @@ returns-clause-ok c =
     let mine = c.args.self.now in
     c.put_all.ensures.rows new
     ∙ ap (λ (s : Content). join s (contents new gained))
-    (contents-kept kept new c.gained.ensures.keeps c.self.inside.slots.items c.self.invariant ∙ c.self.view_is)
+    (contents-kept kept new c.gained.ensures.keeps c.self.inside.slots.items c.self.invariant.numbers ∙ c.self.view_is)
     ∙ ap (join mine)
     (c.in_ok-gained.ensures.gained kept
     ∙ ap (λ (s : Content). gains s (contents others c.deref-4.result.now))

@@ -1,4 +1,4 @@
-use Rattle.std.proofs.Common.{◌∙◌, ◌≡◌, ap, subst, sym, rules, length, get_or, List, Option, true, false}
+use Rattle.std.proofs.Common.{◌∙◌, ◌≡◌, ◌<◌, ◌++◌, ap, subst, sym, rules, length, get_or, List, Option, Some, IfSome, arith, true, false}
 use Rattle.std.proofs.lemmas.Result.{err_from_is_err_and}
 use Rattle.ice_manifest_reading.specs.declared.row.Row.{Row}
 use Rattle.ice_state.specs.declared.taken.Taken.{Taken}
@@ -7,7 +7,12 @@ use Rattle.ice_state.specs.Parts.{with_row}
 use Rattle.ice_state.specs.Readings.{Reading}
 use Rattle.ice_state.specs.Slots.{contents, given}
 use Rattle.ice_state.proofs.Contents.{with_row-took, took-in_world, length-took}
-use Rattle.ice_state.proofs.SlotContents.{contents-kept, have-kept}
+use Rattle.ice_state.proofs.SlotContents.{contents-kept, length-contents}
+use Rattle.ice_state.proofs.DeletesKept.{entries_with_row, if_moved, if_places, state_kept}
+use Rattle.std.specs.List.Sorted.{IsPermutation}
+use Rattle.ice_state.specs.declared.indexed.IndexedDeletes.{IndexedDeletes}
+use Rattle.ice_state.specs.KeptDeletes.{IsIndexOf}
+use Rattle.ice_state.specs.Outcomes.{entries_in, kept_in}
 use Rattle.ice_state.proofs.partial.Partial.take.Goals as goal
 
 pub returns-then-is_slot_taken-clause-ok : goal.returns-then-is_slot_taken-clause-ok
@@ -22,19 +27,19 @@ returns-then-is_slot_taken-clause-world c = λ world ts is has. took-in_world wo
     (returns-then-is_slot_taken-clause-ok c) is has
 
 pub invariant_of-self : goal.invariant_of-self
-invariant_of-self c = have-kept c.self.inside.entries c.take_manifest.new.entries c.take_manifest.ensures.keeps
-    c.self.inside.slots.items c.self.invariant
+invariant_of-self c = state_kept c.self.inside.entries c.take_manifest.new.entries c.self.inside.slots.items
+    c.self.inside.deletes c.take_manifest.ensures.keeps c.self.invariant
 
 pub returns-in_err-taken-clause-still : goal.returns-in_err-taken-clause-still
 returns-in_err-taken-clause-still c = λ h.
     contents-kept c.self.inside.entries c.take_manifest.new.entries c.take_manifest.ensures.keeps
-    c.self.inside.slots.items c.self.invariant ∙ c.self.view_is
+    c.self.inside.slots.items c.self.invariant.numbers ∙ c.self.view_is
 
 pub returns-in_err-taken-clause-err : goal.returns-in_err-taken-clause-err
 returns-in_err-taken-clause-err c =
     let p = err_from_is_err_and c.from_residual.result c.from_residual.ensures.1 in
     rw p.1 (contents-kept c.self.inside.entries c.take_manifest.new.entries c.take_manifest.ensures.keeps
-    c.self.inside.slots.items c.self.invariant ∙ c.self.view_is)
+    c.self.inside.slots.items c.self.invariant.numbers ∙ c.self.view_is)
 
 pub returns-in_err-taken-clause-again : goal.returns-in_err-taken-clause-again
 returns-in_err-taken-clause-again c = λ h.
@@ -45,11 +50,47 @@ returns-in_err-taken-clause-again c = λ h.
     let no_more : true ≡ false = sym h ∙ sym test ∙ c.if-is_slot_taken.false in
     absurd cc
 
+pub with_taken-requires : goal.with_taken-requires
+with_taken-requires c =
+    let old = c.self.inside.entries in
+    let slots = c.self.inside.slots.items in
+    record {
+      numbers = c.in_ok-taken.ensures.numbers;
+      places = rw c.take.ensures.value (if_places old (kept_in (contents old slots)) c.self.inside.deletes
+          c.self.invariant.index);
+    }
+
 pub invariant_of-self-2 : goal.invariant_of-self-2
 invariant_of-self-2 c =
-    c.put_row.ensures.numbers c.take_manifest.new.entries
-    (have-kept c.self.inside.entries c.take_manifest.new.entries c.take_manifest.ensures.keeps
-    c.self.inside.slots.items c.self.invariant) c.in_ok-taken.ensures.numbers
+    let new = c.take_manifest.new.entries in
+    let slots = c.self.inside.slots.items in
+    let taken = given new c.in_ok-taken.taken in
+    let before = contents new slots in
+    let state = state_kept c.self.inside.entries new slots c.self.inside.deletes c.take_manifest.ensures.keeps
+    c.self.invariant in
+    let free : is_row_taken before c.args.i ≡ false =
+    sym (c.is_slot_taken.ensures.test new ∙ ap (λ (ss : List (Option Taken)). is_row_taken (contents new ss) c.args.i)
+    c.deref.ensures.value) ∙ c.if-is_slot_taken.false in
+    let was : IfSome c.take.result (IsIndexOf new (kept_in before)) =
+    subst (λ (d : Option IndexedDeletes). IfSome d (IsIndexOf new (kept_in before))) (sym c.take.ensures.value)
+    state.index in
+    let of : length c.args.self.now ≡ length c.args.scan.now.wanted = c.requires.of_scan in
+    let low : c.args.i < length before =
+    omega (
+      arith,
+      c.requires.row,
+      of,
+      ap length c.self.view_is,
+      length-contents c.self.inside.entries slots,
+      length-contents new slots,
+    ) in
+    let same = subst (λ (cs : Content). IsPermutation (kept_in before ++ entries_in (Some taken)) (kept_in cs))
+    (sym (c.put_row.ensures.row new)) (entries_with_row before c.args.i taken low free) in
+    record {
+      numbers = c.put_row.ensures.numbers new state.numbers c.in_ok-taken.ensures.numbers;
+      index = if_moved new (kept_in before ++ entries_in (Some taken)) (kept_in (contents new c.put_row.new.slots.items))
+          c.with_taken.result same (c.with_taken.ensures (kept_in before) was);
+    }
 
 pub returns-clause-still : goal.returns-clause-still
 returns-clause-still c = λ h.
@@ -70,7 +111,7 @@ returns-clause-ok c =
     c.filter_of.ensures.spec in
     c.put_row.ensures.row new
     ∙ ap (λ (s : Content). with_row s c.args.i (given new c.in_ok-taken.taken))
-    (contents-kept c.self.inside.entries new c.take_manifest.ensures.keeps c.self.inside.slots.items c.self.invariant
+    (contents-kept c.self.inside.entries new c.take_manifest.ensures.keeps c.self.inside.slots.items c.self.invariant.numbers
     ∙ c.self.view_is)
     ∙ ap (λ (r : Reading). with_row c.args.self.now c.args.i r) c.in_ok-taken.ensures.given ∙ step
 

@@ -2,7 +2,7 @@ use Rattle.std.proofs.Common.{◌≡◌, ◌∙◌, ◌++◌, refl, ap, sym, sub
 use Rattle.std.proofs.Common.{Result, Ok, Err, OnErr}
 use Rattle.std.proofs.lemmas.List.{take_at}
 use Rattle.ice_state.specs.declared.places.Ends.{Ends}
-use Rattle.ice_state.specs.PlaceLists.{LinePlaces, lines_from, end_of, RiseWithin, GainsInOrder, GainsLine}
+use Rattle.ice_state.specs.PlaceLists.{LinePlaces, lines_from, end_of, RiseWithin, places_at, GainsInOrder, GainsLine}
 use Rattle.ice_state.proofs.PlaceTables.{front_is, KeepsLines, keeps_lines, begins_shorter, HasLineMore, has_line_more}
 use Rattle.ice_state.proofs.places.PlaceTable.push.Goals as goal
 use Rattle.ice_state.proofs.places.PlaceTable.push.Goals.{After-truncate, In_ok-push}
@@ -75,8 +75,9 @@ returns-in_err-push-clause-err c =
     ∙ same.same ∙ c.self.view_is)
 
 more : (c : In_ok-push) → HasLineMore c.self.inside.ends.items c.push.new.self.items c.self.inside.places.items
-    c.append_in_order-2.new.places.items (c.args.positions.now ++ c.args.other_positions.now)
-    (c.args.equalities.now ++ c.args.other_equalities.now)
+    c.append_in_order-2.new.places.items
+    (places_at c.args.ranks.now c.args.positions.now ++ places_at c.args.ranks.now c.args.other_positions.now)
+    (places_at c.args.ranks.now c.args.equalities.now ++ places_at c.args.ranks.now c.args.other_equalities.now)
 more c = has_line_more c.self.inside.ends.items c.push.new.self.items c.self.inside.places.items
     c.truncate.new.self.items c.append_in_order.new.places.items c.append_in_order-2.new.places.items _ _
     c.in_ok-positions.positions c.in_ok-equalities.equalities c.self.invariant
@@ -92,5 +93,6 @@ pub returns-clause-ok : goal.returns-clause-ok
 returns-clause-ok c =
     subst (λ (lines : List LinePlaces). GainsLine lines
     (lines_from 0 c.push.new.self.items c.append_in_order-2.new.places.items)
-    (c.args.positions.now ++ c.args.other_positions.now) (c.args.equalities.now ++ c.args.other_equalities.now))
+    (places_at c.args.ranks.now c.args.positions.now ++ places_at c.args.ranks.now c.args.other_positions.now)
+    (places_at c.args.ranks.now c.args.equalities.now ++ places_at c.args.ranks.now c.args.other_equalities.now))
     c.self.view_is (more (goal.at.returns-clause-ok c).In_ok-push).gains
