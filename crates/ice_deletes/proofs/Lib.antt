@@ -13,3 +13,5 @@ pub mod Shelved
 pub mod Slices
 pub mod United
 pub mod Within
+pub mod Least
+pub mod Neighbours

@@ -28,7 +28,7 @@ parted {X} p u q r both one xs =
     rw named at (IsPermutation-filter_both u other (λ x. refl) (filter p xs))
 
 -- a test of files with their numbers
-abbrev of_file : (DeleteKey → Bool) → ℕ × DeleteKey → Bool
+abbrev pub of_file : (DeleteKey → Bool) → ℕ × DeleteKey → Bool
 of_file p e = p e.1
 
 positions_of : (d : DeleteKey) → (not (holds Data d) && holds PositionDeletes d) ≡ holds PositionDeletes d
@@ -51,7 +51,7 @@ twice_not a true = refl
 twice_not a false = refl
 
 -- the delete files by group
-by_group : (es : List (ℕ × DeleteKey)) → IsPermutation (filter (of_file (λ d. not (holds Data d))) es)
+pub by_group : (es : List (ℕ × DeleteKey)) → IsPermutation (filter (of_file (λ d. not (holds Data d))) es)
     (filter (of_file (is_in Positions)) es ++ filter (of_file (is_in Referenced)) es
     ++ filter (of_file (is_in Equalities)) es ++ filter (of_file (is_in Everywhere)) es)
 by_group es =

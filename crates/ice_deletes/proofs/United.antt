@@ -269,3 +269,12 @@ module _ (files more all : List (ℕ × DeleteKey)) (held : List ℕ) (numbers :
     same = λ n d. (into n d, out_of n d);
     once = λ n. each_once first second n (list_any (λ m. m == n) held) refl;
   }
+
+-- nothing is taken in where there is nothing
+pub united_with_none : (files more : List (ℕ × DeleteKey)) → more ≡ [] → AreDistinct files → IsUnion files more files
+united_with_none files more none distinct = record {
+  same = λ n d. (λ c. inl c, λ both. elim both [ inl c ↦ c | inr c ↦ absurd (nowhere n d c) ]);
+  once = distinct;
+} where
+  nowhere : (n : ℕ) (d : DeleteKey) → Contains more (n, d) → ⊥
+  nowhere n d (k, low, at) = let e : length more ≡ 0 = ap length none in omega arith

@@ -5,3 +5,4 @@ pub mod Keys
 pub mod Shelves
 pub mod Trees
 pub mod Unions
+pub mod Neighbours

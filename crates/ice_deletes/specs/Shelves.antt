@@ -1,5 +1,6 @@
 -- What a shelf keeps.
 use Rattle.std.specs.Prelude.{◌≡◌, ◌<◌, ◌≤◌, ◌+◌, ◌-◌, Bool, true, false, List, [], length, All, map, slice_index_or}
+use Rattle.std.specs.Prelude.{Option, Some, None}
 use Rattle.std.specs.Vec.{vec_capacity}
 use Rattle.std.specs.List.Sorted.{IsSortedBy}
 use Rattle.std.specs.Ordering.{is_lt}
@@ -19,6 +20,11 @@ abbrev pub ComesLast : Group → List Delete → List Delete → Type 0
 ComesLast g files others = (e : Delete) → 0 < length others →
     (0 < length files) × (earlier g (slice_index_or files (length files - 1) e)
     (slice_index_or others (length others - 1) e) ≡ false)
+
+-- the delete files that are taken in, if there are any
+abbrev pub fresh_in : Option Growth → List Delete
+fresh_in None = []
+fresh_in (Some g) = g.fresh.items
 
 -- what is taken in comes with room for all the delete files of the shelf then
 pub record HasRoom (s : Shelf) (g : Growth) : Type 0 where

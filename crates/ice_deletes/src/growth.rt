@@ -1,12 +1,12 @@
 //! What a shelf takes in of another one.
 
-ghost use Rattle.std.specs.Prelude.{◌≡◌, ◌==◌, ◌<◌, ◌≤◌, ◌+◌, [], length, map, All, IfOk, vec_len, vec_capacity};
+ghost use Rattle.std.specs.Prelude.{◌≡◌, ◌==◌, ◌<◌, ◌≤◌, ◌+◌, [], length, map, All, IfOk, IfSome, vec_len, vec_capacity};
 ghost use Rattle.std.specs.List.{list_any};
 ghost use Rattle.std.specs.List.Sorted.{IsSorted};
 ghost use Rattle.std.specs.Ordering.{nat_cmp};
 ghost use Rattle.ice_deletes.specs.Keys.{entry_of};
 ghost use Rattle.ice_deletes.specs.Unions.{renumbered, unheld};
-ghost use Rattle.ice_deletes.specs.Shelves.{HasRoom};
+ghost use Rattle.ice_deletes.specs.Shelves.{fresh_in, HasRoom};
 ghost use Rattle.ice_deletes.specs.declared.delete.Delete.{Delete};
 
 use crate::delete::Delete;
@@ -55,26 +55,30 @@ fn fresh(
 }
 
 impl Growth {
-    /// What the shelf takes in of the other one, whose files get these numbers, if the numbers that it holds stay out.
+    /// What the shelf takes in of the other one, whose files get these numbers, if the numbers that are held stay out;
+    /// none, where no file is left.
     pub fn new(
         alloc: Global,
         shelf: &Shelf,
         other: &Shelf,
         held: &[usize],
         to: &[u32],
-    ) -> Result<Growth, AllocError>
+    ) -> Result<Option<Growth>, AllocError>
         requires sorted { IsSorted nat_cmp held.now }
         requires below { All (λ (d : Delete). d.number < length to.now) other.now.deletes.items }
-        ensures fresh { IfOk result (λ growth. map entry_of growth.fresh.items
+        ensures fresh { IfOk result (λ growth. map entry_of (fresh_in growth)
             ≡ unheld held.now (renumbered to.now (map entry_of other.now.deletes.items))) }
-        ensures room { IfOk result (HasRoom shelf.now) }
+        ensures room { IfOk result (λ growth. IfSome growth (HasRoom shelf.now)) }
     {
         let fresh = fresh(alloc, &other.deletes, held, to)?;
+        if fresh.is_empty() {
+            return Ok(None);
+        }
         let count = shelf.deletes.len() + fresh.len();
-        Ok(Growth {
+        Ok(Some(Growth {
             fresh,
             deletes: Vec::with_capacity(alloc, count)?,
             numbers: Vec::with_capacity(alloc, count)?,
-        })
+        }))
     }
 }

@@ -1,18 +1,20 @@
 //! The index of delete files.
 
 ghost use Rattle.std.specs.Prelude.{◌≡◌, ◌≢◌, ◌↔◌, ◌&&◌, ◌==◌, ◌≤◌, ℕ, map, length, IfOk, OnOk};
-ghost use Rattle.std.specs.Prelude.{OnErr, AllPairs, Contains, count_by};
+ghost use Rattle.std.specs.Prelude.{OnErr, AllPairs, Contains, IsTrue, [], count_by, filter, nat_le};
 ghost use Rattle.std.specs.List.Sorted.{IsPermutation, IsSorted};
 ghost use Rattle.std.specs.Ordering.{nat_cmp};
 ghost use Rattle.ice_value.specs.Applying.{applies};
 ghost use Rattle.ice_deletes.specs.Keys.{key_of};
 ghost use Rattle.ice_deletes.specs.Groups.{is_in};
 ghost use Rattle.ice_deletes.specs.Found.{data_key, numbered_deletes, numbers_where, lent, AppliesAt};
+ghost use Rattle.ice_deletes.specs.Indexes.{AreDistinct};
 ghost use Rattle.ice_deletes.specs.Unions.{renumbered, AreBelow, Agree, IsUnion};
 ghost use Rattle.ice_deletes.specs.declared.group.Group.TheVariants.{Positions, Referenced, Equalities, Everywhere};
 
 use crate::group::Group;
 use crate::growth::Growth;
+use crate::numbers::{least_of, push_from};
 use crate::record::Record;
 use crate::search_key::SearchKey;
 use crate::shelf::Shelf;
@@ -69,16 +71,27 @@ impl DeleteIndex {
         })
     }
 
-    /// The numbers of its delete files, in order.
-    fn numbers(&self) -> Result<Vec<usize>, AllocError>
+    /// Whether it has no delete files.
+    fn is_empty(&self) -> bool
+        ensures { IsTrue result → self.now ≡ [] }
+    {
+        self.positions.deletes.is_empty()
+            && self.referenced.deletes.is_empty()
+            && self.equalities.deletes.is_empty()
+            && self.everywhere.deletes.is_empty()
+    }
+
+    /// The numbers of its delete files that are not below the least one, in order.
+    fn numbers_from(&self, least: usize) -> Result<Vec<usize>, AllocError>
         ensures sorted { IfOk result (λ numbers. IsSorted nat_cmp numbers.items) }
-        ensures same { IfOk result (λ numbers. IsPermutation (map (λ e. e.0) self.now) numbers.items) }
+        ensures same { IfOk result (λ numbers.
+            IsPermutation (filter (nat_le least) (map (λ e. e.0) self.now)) numbers.items) }
     {
         let mut numbers = Vec::new(*self.positions.numbers.allocator());
-        numbers.extend_from_slice(&self.positions.numbers)?;
-        numbers.extend_from_slice(&self.referenced.numbers)?;
-        numbers.extend_from_slice(&self.equalities.numbers)?;
-        numbers.extend_from_slice(&self.everywhere.numbers)?;
+        push_from(&mut numbers, &self.positions.numbers, least)?;
+        push_from(&mut numbers, &self.referenced.numbers, least)?;
+        push_from(&mut numbers, &self.equalities.numbers, least)?;
+        push_from(&mut numbers, &self.everywhere.numbers, least)?;
         numbers.sort_unstable();
         Ok(numbers)
     }
@@ -93,7 +106,11 @@ impl DeleteIndex {
         ensures err { OnErr result (self.new ≡ self.old) }
     {
         let alloc = *self.positions.numbers.allocator();
-        let held = self.numbers()?;
+        if other.is_empty() {
+            return Ok(());
+        }
+        // Numbers below all those of the other's files meet none of them.
+        let held = self.numbers_from(least_of(to) as usize)?;
         let positions = Growth::new(alloc, &self.positions, &other.positions, &held, to)?;
         let referenced = Growth::new(alloc, &self.referenced, &other.referenced, &held, to)?;
         let equalities = Growth::new(alloc, &self.equalities, &other.equalities, &held, to)?;
@@ -103,6 +120,26 @@ impl DeleteIndex {
         self.equalities.grow(equalities);
         self.everywhere.grow(everywhere);
         Ok(())
+    }
+
+    /// Those of them that name the data file.
+    pub(crate) fn naming(
+        &self,
+        spec_id: i32,
+        tuple: &[Cell],
+        sequence_number: SequenceNumber,
+        path: &[u8],
+    ) -> &[usize]
+        ensures named { let x = data_key spec_id tuple.now sequence_number path.now in
+            IsPermutation (numbers_where (λ d. is_in Referenced d && applies x d) self.now) result.now }
+        ensures distinct { AreDistinct self.now }
+    {
+        self.referenced.suffix(&SearchKey {
+            path: Some(path),
+            spec_id,
+            tuple,
+            sequence_number: sequence_number.get(),
+        })
     }
 
     /// The delete files that apply to the data file of this spec and tuple, with this sequence number, at this path.

@@ -2,15 +2,18 @@
 #![tactic(auto)]
 
 mod delete;
+mod finder;
 mod group;
 mod growth;
 mod index;
 mod laws;
 mod merging;
+mod numbers;
 mod record;
 mod search_key;
 mod shelf;
 
+pub use finder::Finder;
 pub use index::{DeleteIndex, Hits};
 pub use laws::merging_of_indexes;
 pub use record::Record;

@@ -1,11 +1,11 @@
 //! The delete files of a group, sorted.
 
-ghost use Rattle.std.specs.Prelude.{◌≡◌, ◌≤◌, ◌++◌, map, filter, IfOk, OnOk, length, take, drop, not};
+ghost use Rattle.std.specs.Prelude.{◌≡◌, ◌≤◌, ◌++◌, map, filter, IfOk, IfSome, OnOk, length, take, drop, not};
 ghost use Rattle.std.specs.List.{enumerate_from};
 ghost use Rattle.std.specs.List.Sorted.{IsSortedBy, IsPermutation};
 ghost use Rattle.ice_deletes.specs.Keys.{key_of, key_in, entry_of, sought};
 ghost use Rattle.ice_deletes.specs.Groups.{is_in, is_older, is_up_to, is_within};
-ghost use Rattle.ice_deletes.specs.Shelves.{earlier, IsShelf, HasRoom};
+ghost use Rattle.ice_deletes.specs.Shelves.{earlier, fresh_in, IsShelf, HasRoom};
 ghost use Rattle.ice_deletes.specs.declared.delete.Delete.{Delete};
 
 use crate::delete::Delete;
@@ -78,7 +78,7 @@ impl Shelf {
     }
 
     /// Takes delete files in, without taking memory.
-    pub fn grow(&mut self, growth: Growth)
+    fn take_in(&mut self, growth: Growth)
         requires sorted { IsSortedBy (earlier self.old.group) self.old.deletes.items }
         requires fresh { IsSortedBy (earlier self.old.group) growth.fresh.items }
         requires room { HasRoom self.old growth }
@@ -96,6 +96,22 @@ impl Shelf {
         put_numbers(&mut numbers, &deletes);
         self.deletes = deletes;
         self.numbers = numbers;
+    }
+
+    /// Takes delete files in, if there are any, without taking memory.
+    pub fn grow(&mut self, growth: Option<Growth>)
+        requires sorted { IsSortedBy (earlier self.old.group) self.old.deletes.items }
+        requires numbered { self.old.numbers.items ≡ map (λ (d : Delete). d.number) self.old.deletes.items }
+        requires fresh { IsSortedBy (earlier self.old.group) (fresh_in growth) }
+        requires room { IfSome growth (HasRoom self.old) }
+        ensures group { self.new.group ≡ self.old.group }
+        ensures rising { IsSortedBy (earlier self.old.group) self.new.deletes.items }
+        ensures all { IsPermutation (self.old.deletes.items ++ fresh_in growth) self.new.deletes.items }
+        ensures numbered { self.new.numbers.items ≡ map (λ (d : Delete). d.number) self.new.deletes.items }
+    {
+        if let Some(growth) = growth {
+            self.take_in(growth);
+        }
     }
 
     /// How many of the delete files stand at the place that is sought or before.

@@ -1,13 +1,16 @@
-use Rattle.std.proofs.Common.{ℕ, ◌<◌, List, ◌++◌, length, map, sym, subst}
+use Rattle.std.proofs.Common.{◌≡◌, [], ap, refl, ℕ, ◌<◌, List, ◌++◌, length, map, sym, subst}
 use Rattle.std.specs.List.Sorted.{IsPermutation}
+use Rattle.std.proofs.lemmas.List.Sorted.{IsPermutation-refl}
 use Rattle.ice_value.specs.Applying.{DeleteKey}
 use Rattle.ice_deletes.specs.declared.group.Group.TheVariants.{Positions, Referenced, Equalities, Everywhere}
 use Rattle.ice_deletes.specs.Indexes.{AreDistinct, entries_in}
 use Rattle.ice_deletes.specs.Keys.{entry_of}
+use Rattle.ice_deletes.specs.Shelves.{fresh_in}
 use Rattle.ice_deletes.specs.Unions.{renumbered, unheld, AreBelow}
+use Rattle.ice_deletes.proofs.Least.{unheld_from}
 use Rattle.ice_deletes.proofs.Shelved.{are_fresh, entries_grown, fresh_for, shelf_grown}
 use Rattle.ice_deletes.proofs.Shelved.{first_shelf, second_shelf, third_shelf, fourth_shelf}
-use Rattle.ice_deletes.proofs.United.{all_grown, renumbered_once, united}
+use Rattle.ice_deletes.proofs.United.{all_grown, renumbered_once, united, united_with_none}
 use Rattle.ice_deletes.proofs.index.DeleteIndex.merge.Goals as goal
 
 pub new-requires-clause-below : goal.new-requires-clause-below
@@ -44,23 +47,31 @@ new-requires-4-clause-below c =
 
 pub grow-requires-clause-fresh : goal.grow-requires-clause-fresh
 grow-requires-clause-fresh c = fresh_for Positions c.other.inside.positions c.other.invariant.positions
-    c.deref.result.now c.args.to.now c.in_ok-positions.positions.fresh.items c.in_ok-positions.ensures.fresh
+    c.deref.result.now c.args.to.now (fresh_in c.in_ok-positions.positions) c.in_ok-positions.ensures.fresh
     c.self.inside.positions c.self.invariant.positions
 
 pub grow-requires-2-clause-fresh : goal.grow-requires-2-clause-fresh
 grow-requires-2-clause-fresh c = fresh_for Referenced c.other.inside.referenced c.other.invariant.referenced
-    c.deref-2.result.now c.args.to.now c.in_ok-referenced.referenced.fresh.items c.in_ok-referenced.ensures.fresh
+    c.deref-2.result.now c.args.to.now (fresh_in c.in_ok-referenced.referenced) c.in_ok-referenced.ensures.fresh
     c.self.inside.referenced c.self.invariant.referenced
 
 pub grow-requires-3-clause-fresh : goal.grow-requires-3-clause-fresh
 grow-requires-3-clause-fresh c = fresh_for Equalities c.other.inside.equalities c.other.invariant.equalities
-    c.deref-3.result.now c.args.to.now c.in_ok-equalities.equalities.fresh.items c.in_ok-equalities.ensures.fresh
+    c.deref-3.result.now c.args.to.now (fresh_in c.in_ok-equalities.equalities) c.in_ok-equalities.ensures.fresh
     c.self.inside.equalities c.self.invariant.equalities
 
 pub grow-requires-4-clause-fresh : goal.grow-requires-4-clause-fresh
 grow-requires-4-clause-fresh c = fresh_for Everywhere c.other.inside.everywhere c.other.invariant.everywhere
-    c.deref-4.result.now c.args.to.now c.in_ok-everywhere.everywhere.fresh.items c.in_ok-everywhere.ensures.fresh
+    c.deref-4.result.now c.args.to.now (fresh_in c.in_ok-everywhere.everywhere) c.in_ok-everywhere.ensures.fresh
     c.self.inside.everywhere c.self.invariant.everywhere
+
+pub returns-then-is_empty-clause-ok : goal.returns-then-is_empty-clause-ok
+returns-then-is_empty-clause-ok c =
+    let to = c.args.to.now in
+    let none : renumbered to c.args.other.now ≡ [] = ap (renumbered to) (c.if-is_empty.ensures refl) in
+    let D : List (ℕ × DeleteKey) → Type 0 = λ es. AreDistinct es in
+    united_with_none c.args.self.now (renumbered to c.args.other.now) none
+    (subst D c.self.view_is c.self.invariant.distinct)
 
 pub returns-clause-ok : goal.returns-clause-ok
 returns-clause-ok c =
@@ -77,23 +88,23 @@ returns-clause-ok c =
     (map entry_of o.equalities.deletes.items) (map entry_of o.everywhere.deletes.items)
     (map entry_of c.grow.new.self.deletes.items) (map entry_of c.grow-2.new.self.deletes.items)
     (map entry_of c.grow-3.new.self.deletes.items) (map entry_of c.grow-4.new.self.deletes.items)
-    (entries_grown Positions o.positions c.other.invariant.positions held to c.in_ok-positions.positions.fresh.items
-    (are_fresh held c.deref.result.now to c.in_ok-positions.positions.fresh.items
+    (entries_grown Positions o.positions c.other.invariant.positions held to (fresh_in c.in_ok-positions.positions)
+    (are_fresh held c.deref.result.now to (fresh_in c.in_ok-positions.positions)
     (map entry_of o.positions.deletes.items) c.deref.ensures.value c.in_ok-positions.ensures.fresh) i.positions
     c.grow.new.self c.grow.ensures.all)
     (entries_grown Referenced o.referenced c.other.invariant.referenced held to
-    c.in_ok-referenced.referenced.fresh.items
-    (are_fresh held c.deref-2.result.now to c.in_ok-referenced.referenced.fresh.items
+    (fresh_in c.in_ok-referenced.referenced)
+    (are_fresh held c.deref-2.result.now to (fresh_in c.in_ok-referenced.referenced)
     (map entry_of o.referenced.deletes.items) c.deref-2.ensures.value c.in_ok-referenced.ensures.fresh) i.referenced
     c.grow-2.new.self c.grow-2.ensures.all)
     (entries_grown Equalities o.equalities c.other.invariant.equalities held to
-    c.in_ok-equalities.equalities.fresh.items
-    (are_fresh held c.deref-3.result.now to c.in_ok-equalities.equalities.fresh.items
+    (fresh_in c.in_ok-equalities.equalities)
+    (are_fresh held c.deref-3.result.now to (fresh_in c.in_ok-equalities.equalities)
     (map entry_of o.equalities.deletes.items) c.deref-3.ensures.value c.in_ok-equalities.ensures.fresh) i.equalities
     c.grow-3.new.self c.grow-3.ensures.all)
     (entries_grown Everywhere o.everywhere c.other.invariant.everywhere held to
-    c.in_ok-everywhere.everywhere.fresh.items
-    (are_fresh held c.deref-4.result.now to c.in_ok-everywhere.everywhere.fresh.items
+    (fresh_in c.in_ok-everywhere.everywhere)
+    (are_fresh held c.deref-4.result.now to (fresh_in c.in_ok-everywhere.everywhere)
     (map entry_of o.everywhere.deletes.items) c.deref-4.ensures.value c.in_ok-everywhere.ensures.fresh) i.everywhere
     c.grow-4.new.self c.grow-4.ensures.all) in
     let P : List (ℕ × DeleteKey) → Type 0 = λ es. IsPermutation (es ++ unheld held (renumbered to (entries_in o))) all
@@ -101,8 +112,12 @@ returns-clause-ok c =
     let Q : List (ℕ × DeleteKey) → Type 0 = λ es.
     IsPermutation (c.args.self.now ++ unheld held (renumbered to es)) all in
     let D : List (ℕ × DeleteKey) → Type 0 = λ es. AreDistinct es in
-    united c.args.self.now (renumbered to c.args.other.now) all held c.in_ok-held.ensures.same
-    (subst Q c.other.view_is (subst P c.self.view_is grown)) c.requires.agree
+    let numbers : List ℕ = map (λ (e : ℕ × DeleteKey). e.0) c.args.self.now in
+    let same = unheld_from _ numbers held c.in_ok-held.ensures.same to c.least_of.ensures c.args.other.now
+    c.requires.below in
+    let R : List (ℕ × DeleteKey) → Type 0 = λ es. IsPermutation (c.args.self.now ++ es) all in
+    united c.args.self.now (renumbered to c.args.other.now) all numbers (IsPermutation-refl numbers)
+    (subst R same (subst Q c.other.view_is (subst P c.self.view_is grown))) c.requires.agree
     (subst D c.self.view_is c.self.invariant.distinct)
     (renumbered_once to c.args.other.now c.requires.once c.requires.below
     (subst D c.other.view_is c.other.invariant.distinct))
@@ -114,19 +129,19 @@ invariant_of-self c =
     let to = c.args.to.now in
     record {
       positions = shelf_grown Positions o.positions c.other.invariant.positions c.deref.result.now to
-          c.in_ok-positions.positions.fresh.items c.in_ok-positions.ensures.fresh i.positions c.grow.new.self
+          (fresh_in c.in_ok-positions.positions) c.in_ok-positions.ensures.fresh i.positions c.grow.new.self
           c.self.invariant.positions c.grow.ensures.group c.grow.ensures.rising c.grow.ensures.all
           c.grow.ensures.numbered;
       referenced = shelf_grown Referenced o.referenced c.other.invariant.referenced c.deref-2.result.now to
-          c.in_ok-referenced.referenced.fresh.items c.in_ok-referenced.ensures.fresh i.referenced c.grow-2.new.self
+          (fresh_in c.in_ok-referenced.referenced) c.in_ok-referenced.ensures.fresh i.referenced c.grow-2.new.self
           c.self.invariant.referenced c.grow-2.ensures.group c.grow-2.ensures.rising c.grow-2.ensures.all
           c.grow-2.ensures.numbered;
       equalities = shelf_grown Equalities o.equalities c.other.invariant.equalities c.deref-3.result.now to
-          c.in_ok-equalities.equalities.fresh.items c.in_ok-equalities.ensures.fresh i.equalities c.grow-3.new.self
+          (fresh_in c.in_ok-equalities.equalities) c.in_ok-equalities.ensures.fresh i.equalities c.grow-3.new.self
           c.self.invariant.equalities c.grow-3.ensures.group c.grow-3.ensures.rising c.grow-3.ensures.all
           c.grow-3.ensures.numbered;
       everywhere = shelf_grown Everywhere o.everywhere c.other.invariant.everywhere c.deref-4.result.now to
-          c.in_ok-everywhere.everywhere.fresh.items c.in_ok-everywhere.ensures.fresh i.everywhere c.grow-4.new.self
+          (fresh_in c.in_ok-everywhere.everywhere) c.in_ok-everywhere.ensures.fresh i.everywhere c.grow-4.new.self
           c.self.invariant.everywhere c.grow-4.ensures.group c.grow-4.ensures.rising c.grow-4.ensures.all
           c.grow-4.ensures.numbered;
       distinct = (returns-clause-ok c).once;

@@ -1,20 +1,10 @@
-use Rattle.std.proofs.Common.{◌≡◌, ◌++◌, length, arith, ap}
-use Rattle.std.proofs.lemmas.List.{length-append}
-use Rattle.std.proofs.lemmas.List.Sorted.{length_permutation}
+use Rattle.std.proofs.Common.{Option, subst}
+use Rattle.std.specs.List.Sorted.{IsSortedBy}
+use Rattle.ice_deletes.specs.Shelves.{earlier, fresh_in}
+use Rattle.ice_deletes.specs.declared.growth.Growth.{Growth}
 use Rattle.ice_deletes.proofs.shelf.Shelf.grow.Goals as goal
 
-pub put_numbers-requires : goal.put_numbers-requires
-put_numbers-requires c =
-    let old = c.args.self.now.deletes.items in
-    let fresh = c.args.growth.fresh.items in
-    let none : length c.args.growth.numbers.items ≡ 0 = ap length c.requires.room.no_numbers in
-    let all = length_permutation (old ++ fresh) c.merge.new.merged.items c.merge.ensures.all in
-    omega (
-      arith,
-      none,
-      all,
-      length-append old fresh,
-      c.args.growth.numbers.ok.0,
-      ap length c.deref.ensures.value,
-      c.requires.room.numbers,
-    )
+pub take_in-requires-clause-fresh : goal.take_in-requires-clause-fresh
+take_in-requires-clause-fresh c =
+    let P : Option Growth → Type 0 = λ o. IsSortedBy (earlier c.args.self.now.group) (fresh_in o) in
+    subst P c.in-Some.is c.requires.fresh
