@@ -29,7 +29,7 @@ use crate::ranks::ranks;
 use crate::segments::{FileNumber, Segments};
 use crate::taken::Taken;
 use contract_words::Items;
-use ice_deletes::DeleteIndex;
+use ice_deletes::{DeleteIndex, Finder};
 use ice_manifest_reading::{ManifestFault, Row};
 use ice_value::FileContent;
 use std::alloc::{AllocError, Global};
@@ -260,8 +260,9 @@ fn looked_up(
         ≡ map (λ x. places_of (renumbered ranks.now index.now) (data_key_of x)) (entries_at entries.now files.now)) }
 {
     let mut places = PlaceTable::with_capacity(alloc, files.len())?;
+    let mut finder = Finder::new(index);
     'files: for file in files {
-        push_places(&mut places, index, ranks, &entries.entry(*file))?;
+        push_places(&mut places, &mut finder, ranks, &entries.entry(*file))?;
     }
     Ok(places)
 }
