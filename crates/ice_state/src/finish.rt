@@ -176,7 +176,7 @@ fn data_files(
 {
     let mut found = Vec::with_capacity(alloc, named.len().saturating_sub(others))?;
     'named: for x in named {
-        if entries.entry(x.number).content == FileContent::Data {
+        if entries.content(x.number) == FileContent::Data {
             found.push(x.number)?;
         }
     }
@@ -196,7 +196,7 @@ fn delete_files(
 {
     let mut found = Vec::new(alloc);
     'named: for d in named {
-        if entries.entry(d.number).content != FileContent::Data {
+        if entries.content(d.number) != FileContent::Data {
             found.push(d.number)?;
         }
     }
