@@ -8,6 +8,7 @@ ghost use Rattle.ice_entries.specs.Kept.{HasEachPathOnce, HasKnownPaths};
 use crate::record::Shared;
 use crate::table::Table;
 use ice_manifest_reading::{EntryView, LentEntry};
+use ice_value::FileContent;
 use std::alloc::{AllocError, Global};
 use std::fmt;
 use std::fmt::{Debug, Formatter};
@@ -204,6 +205,14 @@ impl Entries {
     {
         self.shared
             .lent(self.table.path(number), self.table.record(number))
+    }
+
+    /// What the file of an entry holds.
+    pub fn content(&self, number: EntryNumber) -> FileContent
+        requires { IsKept self.now number }
+        ensures { result ≡ (entry_at self.now number).file.content }
+    {
+        self.shared.content(self.table.record(number))
     }
 
     /// The path of an entry.

@@ -4,6 +4,7 @@ ghost use Rattle.std.specs.Prelude.{◌≡◌, ◌<◌, ◌≤◌, length, IfOk,
 ghost use Rattle.std.specs.Option.{option_copied, option_map};
 ghost use Rattle.path_arena.specs.Arena.{string, KeepsNumbers};
 ghost use Rattle.ice_manifest_reading.specs.Lending.{lent, HasShortPaths};
+ghost use Rattle.ice_entries.specs.InCommon.{common_at};
 ghost use Rattle.ice_entries.specs.Sharing.{entry_in, IsWithin, KeepsShared};
 
 use crate::common::LentCommon;
@@ -12,6 +13,7 @@ use crate::origin::Origin;
 use crate::origins::Origins;
 use crate::paths::Paths;
 use ice_manifest_reading::LentEntry;
+use ice_value::FileContent;
 use path_arena::PathId;
 use std::alloc::{AllocError, Global};
 use std::marker::Model;
@@ -118,6 +120,14 @@ impl Shared {
             equality_ids: common.equality_ids.as_slice(),
             referenced: path_of(&self.names, own.referenced),
         }
+    }
+
+    /// What the file of a record holds.
+    pub(crate) fn content(&self, own: &Record) -> FileContent
+        requires { IsWithin self.now own.now }
+        ensures { result ≡ (common_at self.now.commons own.now.common).content }
+    {
+        self.commons.get(own.common).content
     }
 
     /// The same by the same numbers.

@@ -14,7 +14,7 @@ ghost use Rattle.ice_state.specs.Segments.{AreKept, entries_at};
 
 use crate::places::PlaceTable;
 use crate::segments::{FileNumber, Segments};
-use ice_deletes::{DeleteIndex, Hits, Record};
+use ice_deletes::{Finder, Hits, Record};
 use ice_manifest_reading::LentEntry;
 use std::alloc::{AllocError, Global};
 
@@ -50,33 +50,35 @@ pub fn records<'a>(
 }
 
 /// The numbers of the delete files that apply to the data file.
-fn deletes_for<'i>(index: &'i DeleteIndex, x: &LentEntry<'_>) -> Hits<'i>
-    ensures positions { IsPermutation (numbers_of PositionDeletes index.now (data_key_of (lent_entry x.now)))
+fn deletes_for<'i, 'x>(finder: &mut Finder<'i, 'x>, x: &LentEntry<'x>) -> Hits<'i>
+    ensures positions { IsPermutation (numbers_of PositionDeletes finder.old (data_key_of (lent_entry x.now)))
         (result.positions.now ++ result.referenced.now) }
-    ensures equalities { IsPermutation (numbers_of EqualityDeletes index.now (data_key_of (lent_entry x.now)))
+    ensures equalities { IsPermutation (numbers_of EqualityDeletes finder.old (data_key_of (lent_entry x.now)))
         (result.equalities.now ++ result.everywhere.now) }
 
     // Exactly those, each once.
-    ensures exact { (n : ℕ) → Contains (lent result) n ↔ AppliesAt index.now (data_key_of (lent_entry x.now)) n }
+    ensures exact { (n : ℕ) → Contains (lent result) n ↔ AppliesAt finder.old (data_key_of (lent_entry x.now)) n }
     ensures once { (n : ℕ) → count_by (λ m. m == n) (lent result) ≤ 1 }
+    ensures same { finder.new ≡ finder.old }
 {
-    index.for_data(x.spec_id, x.tuple, x.sequence_number, x.path)
+    finder.for_data(x.spec_id, x.tuple, x.sequence_number, x.path)
 }
 
 /// Puts a line last: the places of the delete files that apply to the data file, which the ranks have at the numbers of
 /// the index. A refusal, for want of memory, leaves the lines as they were.
-pub fn push_places(
+pub fn push_places<'x>(
     places: &mut PlaceTable,
-    index: &DeleteIndex,
+    finder: &mut Finder<'_, 'x>,
     ranks: &[u32],
-    x: &LentEntry<'_>,
+    x: &LentEntry<'x>,
 ) -> Result<(), AllocError>
-    requires { AreBelow (length ranks.now) index.now }
+    requires { AreBelow (length ranks.now) finder.old }
     ensures ok { OnOk result (places.new ≡ places.old
-        ++ places_of (renumbered ranks.now index.now) (data_key_of (lent_entry x.now)) ∷ []) }
+        ++ places_of (renumbered ranks.now finder.old) (data_key_of (lent_entry x.now)) ∷ []) }
     ensures err { OnErr result (places.new ≡ places.old) }
+    ensures same { finder.new ≡ finder.old }
 {
-    let hits = deletes_for(index, x);
+    let hits = deletes_for(finder, x);
     places.push(
         ranks,
         hits.positions,

@@ -29,7 +29,7 @@ use crate::ranks::ranks;
 use crate::segments::{FileNumber, Segments};
 use crate::taken::Taken;
 use contract_words::Items;
-use ice_deletes::DeleteIndex;
+use ice_deletes::{DeleteIndex, Finder};
 use ice_manifest_reading::{ManifestFault, Row};
 use ice_value::FileContent;
 use std::alloc::{AllocError, Global};
@@ -176,7 +176,7 @@ fn data_files(
 {
     let mut found = Vec::with_capacity(alloc, named.len().saturating_sub(others))?;
     'named: for x in named {
-        if entries.entry(x.number).content == FileContent::Data {
+        if entries.content(x.number) == FileContent::Data {
             found.push(x.number)?;
         }
     }
@@ -196,7 +196,7 @@ fn delete_files(
 {
     let mut found = Vec::new(alloc);
     'named: for d in named {
-        if entries.entry(d.number).content != FileContent::Data {
+        if entries.content(d.number) != FileContent::Data {
             found.push(d.number)?;
         }
     }
@@ -260,8 +260,9 @@ fn looked_up(
         ≡ map (λ x. places_of (renumbered ranks.now index.now) (data_key_of x)) (entries_at entries.now files.now)) }
 {
     let mut places = PlaceTable::with_capacity(alloc, files.len())?;
+    let mut finder = Finder::new(index);
     'files: for file in files {
-        push_places(&mut places, index, ranks, &entries.entry(*file))?;
+        push_places(&mut places, &mut finder, ranks, &entries.entry(*file))?;
     }
     Ok(places)
 }

@@ -8,6 +8,7 @@ ghost use Rattle.ice_state.specs.Segments.{StandsBehind};
 
 use ice_entries::{Entries, EntryNumber, Room};
 use ice_manifest_reading::{EntryView, LentEntry};
+use ice_value::FileContent;
 use std::alloc::{AllocError, Global};
 use std::marker::Model;
 
@@ -78,6 +79,14 @@ impl Segments {
         ensures { lent result ≡ entry_at self.now number }
     {
         self.segment(number.segment).entry(number.number)
+    }
+
+    /// What the file of an entry holds.
+    pub(crate) fn content(&self, number: FileNumber) -> FileContent
+        requires { IsKept self.now number }
+        ensures { result ≡ (entry_at self.now number).file.content }
+    {
+        self.segment(number.segment).content(number.number)
     }
 
     /// The path of an entry.

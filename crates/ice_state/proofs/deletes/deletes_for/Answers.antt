@@ -22,23 +22,23 @@ same c =
     rw id refl
 
 abbrev of_group : After-for_data → Group → List ℕ → DataKey → Type 0
-of_group c g numbers x = IsPermutation (numbers_where (λ d. is_in g d && applies x d) c.args.index.now) numbers
+of_group c g numbers x = IsPermutation (numbers_where (λ d. is_in g d && applies x d) c.args.finder.now) numbers
 
 pub returns-clause-positions : goal.returns-clause-positions
 returns-clause-positions c =
     let hits = c.for_data.result in
-    both_positions c.args.index.now (data_key_of (lent_entry c.args.x.now)) hits.positions.now hits.referenced.now
+    both_positions c.args.finder.now (data_key_of (lent_entry c.args.x.now)) hits.positions.now hits.referenced.now
     (subst (of_group c Positions hits.positions.now) (same c) c.for_data.ensures.positions)
     (subst (of_group c Referenced hits.referenced.now) (same c) c.for_data.ensures.referenced)
 
 pub returns-clause-equalities : goal.returns-clause-equalities
 returns-clause-equalities c =
     let hits = c.for_data.result in
-    both_equalities c.args.index.now (data_key_of (lent_entry c.args.x.now)) hits.equalities.now hits.everywhere.now
+    both_equalities c.args.finder.now (data_key_of (lent_entry c.args.x.now)) hits.equalities.now hits.everywhere.now
     (subst (of_group c Equalities hits.equalities.now) (same c) c.for_data.ensures.equalities)
     (subst (of_group c Everywhere hits.everywhere.now) (same c) c.for_data.ensures.everywhere)
 
 pub returns-clause-exact : goal.returns-clause-exact
 returns-clause-exact c =
-    let P : DataKey → Type 0 = λ x. (n : ℕ) → Contains (lent c.for_data.result) n ↔ AppliesAt c.args.index.now x n in
+    let P : DataKey → Type 0 = λ x. (n : ℕ) → Contains (lent c.for_data.result) n ↔ AppliesAt c.args.finder.now x n in
     subst P (same c) c.for_data.ensures.exact

@@ -20,7 +20,7 @@ ascend_from ks ls ms same ordered = one_ascends ks ms (IsPermutation-trans ks ls
 pub push-requires : goal.push-requires
 push-requires c =
     let x = data_key_of (lent_entry c.args.x.now) in
-    let index = c.args.index.now in
+    let index = c.args.finder.now in
     let ranks = c.args.ranks.now in
     let hits = c.deletes_for-hits.result in
     let found = c.deletes_for-hits.ensures in
@@ -39,7 +39,7 @@ pub returns-clause-ok : goal.returns-clause-ok
 returns-clause-ok c =
     let x = data_key_of (lent_entry c.args.x.now) in
     let ranks = c.args.ranks.now in
-    let index = renumbered ranks c.args.index.now in
+    let index = renumbered ranks c.args.finder.now in
     let hits = c.deletes_for-hits.result in
     let found = c.deletes_for-hits.ensures in
     let of_positions = places_at ranks hits.positions.now ++ places_at ranks hits.referenced.now in
@@ -47,7 +47,7 @@ returns-clause-ok c =
     on_ok_weaker c.push.result (gained_line c.args.places.now c.push.new.self of_positions of_equalities
     (ascending (numbers_of PositionDeletes index x)) (ascending (numbers_of EqualityDeletes index x))
     (λ ps. ascend_from (numbers_of PositionDeletes index x) of_positions ps
-    (ranked_found PositionDeletes ranks c.args.index.now x hits.positions.now hits.referenced.now found.positions))
+    (ranked_found PositionDeletes ranks c.args.finder.now x hits.positions.now hits.referenced.now found.positions))
     (λ ps. ascend_from (numbers_of EqualityDeletes index x) of_equalities ps
-    (ranked_found EqualityDeletes ranks c.args.index.now x hits.equalities.now hits.everywhere.now found.equalities)))
+    (ranked_found EqualityDeletes ranks c.args.finder.now x hits.equalities.now hits.everywhere.now found.equalities)))
     c.push.ensures.ok

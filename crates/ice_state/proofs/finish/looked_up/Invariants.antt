@@ -6,5 +6,8 @@ use Rattle.ice_state.specs.Parts.{places_of}
 use Rattle.ice_state.proofs.finish.looked_up.Given as goal
 
 abbrev pub invariant-files : goal.invariant-files
-invariant-files l = l.places ≡ map (λ x. places_of (renumbered l.ranks l.index) (data_key_of x))
-    (entries_at l.entries (take l.file-index l.files))
+invariant-files l = record {
+  same : l.finder ≡ l.index;
+  all : l.places ≡ map (λ x. places_of (renumbered l.ranks l.index) (data_key_of x))
+      (entries_at l.entries (take l.file-index l.files));
+}
