@@ -105,7 +105,7 @@ fn push_deletes(
 {
     let segment = entries.segment(ordered.segment);
     'numbers: for number in ordered.numbers.as_slice() {
-        if segment.entry(*number).content != FileContent::Data {
+        if segment.content(*number) != FileContent::Data {
             found.push(FileNumber {
                 segment: ordered.segment,
                 number: *number,
