@@ -17,7 +17,7 @@ returns-then-are_apart c = λ kept.
     let same : length cs ≡ length ds =
     length-contents kept c.args.slots.now ∙ c.requires.same ∙ sym (length-contents entries c.args.other.now) in
     subst (λ (es : List Entry). IfSome c.args.deletes (IsIndexOf entries es))
-    (sym (gains_apart cs ds same (c.are_apart.ensures kept entries c.if-are_apart.true))) c.requires.deletes
+    (sym (gains_apart cs ds same ((c.are_apart.ensures kept entries).0 c.if-are_apart.true))) c.requires.deletes
 
 pub returns : goal.returns
 returns c = λ kept.
