@@ -1,5 +1,5 @@
 -- The index that a state keeps of its delete files, as rows come.
-use Rattle.std.proofs.Common.{◌≡◌, ◌<◌, ℕ, zero, suc, Bool, true, false, List, [], ◌∷◌, ◌++◌, length, map, filter, refl, sym}
+use Rattle.std.proofs.Common.{◌≡◌, ◌<◌, ℕ, zero, suc, false, List, [], ◌∷◌, ◌++◌, length, map, filter, refl, sym}
 use Rattle.std.proofs.Common.{ap, subst, ◌∙◌, arith, append_assoc, replicate, get_or, slice_set, Option, Some, None, IfSome}
 use Rattle.std.proofs.Common.{◌≤◌, ◌+◌, Result, Ok, Err, IfOk}
 use Rattle.std.specs.Result.{result_ok}

@@ -147,6 +147,11 @@ apart_here None d h = tt
 apart_here (Some r) None h = tt
 apart_here (Some r) (Some q) h = cc
 
+both_here : (c d : Option Reading) → (is_some c && is_some d) ≡ true → IsApart c d → ⊥
+both_here None d both apart = cc
+both_here (Some r) None both apart = cc
+both_here (Some r) (Some q) both apart = apart
+
 pub apart-step : (cs ds : Content) (i : ℕ) (c d : Option Reading) → i < length cs → i < length ds → c ≡ get_or cs i c
     → d ≡ get_or ds i d → (is_some c && is_some d) ≡ false → AreApart (drop (suc i) cs) (drop (suc i) ds)
     → AreApart (drop i cs) (drop i ds)
@@ -154,6 +159,15 @@ apart-step [] ds i c d l m h k apart rest = absurd (omega arith)
 apart-step (x ∷ xs) [] i c d l m h k apart rest = absurd (omega arith)
 apart-step (x ∷ xs) (y ∷ ys) zero c d l m h k apart rest = (apart_here x y (rw (← h, ← k) apart), rest)
 apart-step (x ∷ xs) (y ∷ ys) (suc i) c d l m h k apart rest = apart-step xs ys i c d (omega arith) (omega arith) h k apart rest
+
+-- a row that is taken in both
+pub both_at : (cs ds : Content) (i : ℕ) (c d : Option Reading) → i < length cs → i < length ds → c ≡ get_or cs i c
+    → d ≡ get_or ds i d → (is_some c && is_some d) ≡ true → AreApart cs ds → ⊥
+both_at [] ds i c d l m h k both apart = absurd (omega arith)
+both_at (x ∷ cs) [] i c d l m h k both apart = absurd (omega arith)
+both_at (x ∷ cs) (y ∷ ds) zero c d l m h k both apart = both_here x y (rw (← h, ← k) both) apart.0
+both_at (x ∷ cs) (y ∷ ds) (suc i) c d l m h k both apart =
+    both_at cs ds i c d (omega arith) (omega arith) h k both apart.1
 
 pub apart-end : (cs ds : Content) (i : ℕ) → length cs ≤ i → AreApart (drop i cs) ds
 apart-end [] ds zero l = tt

@@ -1,7 +1,7 @@
 -- An index that takes in another one, whose numbers go on behind its own.
-use Rattle.std.proofs.Common.{◌≡◌, ◌≢◌, ◌<◌, ◌≤◌, ◌+◌, ℕ, zero, suc, Bool, true, false, not, List, [], ◌∷◌, ◌++◌, length}
+use Rattle.std.proofs.Common.{◌≡◌, ◌≢◌, ◌<◌, ◌≤◌, ◌+◌, ℕ, suc, Bool, true, false, not, List, [], ◌∷◌, ◌++◌, length}
 use Rattle.std.proofs.Common.{map, filter, cond, get_or, slice_index, refl, sym, ap, subst, ◌∙◌, arith, add-zero, inl, inr}
-use Rattle.std.specs.List.{All, AllPairs, AllByRecursion, enumerate_from, range_with_len}
+use Rattle.std.specs.List.{AllPairs, AllByRecursion, enumerate_from, range_with_len}
 use Rattle.std.specs.List.Sorted.{IsPermutation}
 use Rattle.std.proofs.lemmas.List.Elements.{All-contains, All-from_recursion, filter-append, Contains-append_left}
 use Rattle.std.proofs.lemmas.List.Elements.{Contains-append_right, Contains-append_cases}

@@ -1,17 +1,15 @@
 -- What an index gives, by the ranks of its numbers.
-use Rattle.std.proofs.Common.{◌≡◌, ◌<◌, ◌+◌, ℕ, Bool, true, false, ◌&&◌, List, [], ◌∷◌, ◌++◌, length, map, filter, cond, refl, sym}
-use Rattle.std.proofs.Common.{ap, subst, ◌∙◌, arith, slice_index}
-use Rattle.std.specs.List.{All, AllByRecursion, range_with_len}
+use Rattle.std.proofs.Common.{◌≡◌, ◌<◌, ℕ, Bool, true, false, ◌&&◌, List, [], ◌∷◌, ◌++◌, length, map, filter, cond, refl, sym}
+use Rattle.std.proofs.Common.{ap, subst, slice_index}
+use Rattle.std.specs.List.{AllByRecursion}
 use Rattle.std.specs.List.Sorted.{IsPermutation}
 use Rattle.std.proofs.lemmas.List.{map-append}
 use Rattle.std.proofs.lemmas.List.Elements.{All-map, All-filter, All-from_recursion, recursion_from_All}
-use Rattle.std.proofs.lemmas.List.FromFn.{get_or-range_with_len, length-range_with_len}
 use Rattle.std.proofs.lemmas.List.Sorted.{All-permutation, IsPermutation-map}
 use Rattle.ice_value.specs.Applying.{DataKey, DeleteKey, applies}
 use Rattle.ice_value.specs.declared.file_content.FileContent.{FileContent}
-use Rattle.ice_deletes.specs.Found.{holds, numbers_where, numbered_deletes}
+use Rattle.ice_deletes.specs.Found.{holds, numbers_where}
 use Rattle.ice_deletes.specs.Unions.{renumbered, AreBelow}
-use Rattle.ice_deletes.proofs.Naming.{built_all}
 use Rattle.ice_state.specs.Parts.{numbers_of}
 use Rattle.ice_state.specs.PlaceLists.{places_at, AreRanked}
 

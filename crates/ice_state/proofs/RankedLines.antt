@@ -17,7 +17,7 @@ use Rattle.ice_state.specs.Lines.{AreWithin, entry_at as entry_at_place, entries
 use Rattle.ice_state.specs.Orders.{IsOrder}
 use Rattle.ice_state.specs.Outcomes.{by_path}
 use Rattle.ice_state.specs.Parts.{places_of}
-use Rattle.ice_state.specs.PlaceLists.{AreRanks, LinePlaces, no_places}
+use Rattle.ice_state.specs.PlaceLists.{AreRanks, no_places}
 use Rattle.ice_state.specs.Segments.{Segmented, entry_at, entries_at}
 use Rattle.ice_state.proofs.Orders.{keys_at}
 use Rattle.ice_state.proofs.RankedIndex.{order_many, order_below, order_once, index_ranked, index_by_ranks}

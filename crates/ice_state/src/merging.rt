@@ -30,8 +30,8 @@ pub fn has_taken_all_of(slots: &[Option<Taken>], other: &[Option<Taken>]) -> boo
 /// Whether no row is taken in both.
 pub fn are_apart(slots: &[Option<Taken>], other: &[Option<Taken>]) -> bool
     requires { length slots.now ≡ length other.now }
-    ensures { (kept others : Segmented) → IsTrue result →
-        AreApart (contents kept slots.now) (contents others other.now) }
+    ensures { (kept others : Segmented) →
+        (IsTrue result ↔ AreApart (contents kept slots.now) (contents others other.now)) }
 {
     for i in 0..slots.len() {
         if are_taken(&slots[i], &other[i]) {

@@ -1,4 +1,4 @@
-use Rattle.std.proofs.Common.{◌≡◌, ◌∙◌, IfSome, List, Option, arith, length, subst, sym}
+use Rattle.std.proofs.Common.{◌≡◌, ◌∙◌, IfSome, List, Option, length, subst, sym}
 use Rattle.ice_manifest_reading.specs.declared.entry.Entry.{Entry}
 use Rattle.ice_state.specs.declared.indexed.IndexedDeletes.{IndexedDeletes}
 use Rattle.ice_state.specs.KeptDeletes.{IsIndexOf}
@@ -17,7 +17,7 @@ returns-then-are_apart c = λ kept.
     let same : length cs ≡ length ds =
     length-contents kept c.args.slots.now ∙ c.requires.same ∙ sym (length-contents entries c.args.other.now) in
     subst (λ (es : List Entry). IfSome c.args.deletes (IsIndexOf entries es))
-    (sym (gains_apart cs ds same (c.are_apart.ensures kept entries c.if-are_apart.true))) c.requires.deletes
+    (sym (gains_apart cs ds same ((c.are_apart.ensures kept entries).0 c.if-are_apart.true))) c.requires.deletes
 
 pub returns : goal.returns
 returns c = λ kept.

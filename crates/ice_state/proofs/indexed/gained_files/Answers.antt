@@ -1,4 +1,4 @@
-use Rattle.std.proofs.Common.{◌∙◌, ◌<◌, ◌≡◌, ◌++◌, [], suc, List, ap, sym, arith, add-one, append_assoc, drop, filter}
+use Rattle.std.proofs.Common.{◌∙◌, ◌<◌, ◌≡◌, ◌++◌, suc, List, ap, sym, arith, add-one, append_assoc, drop, filter}
 use Rattle.std.proofs.Common.{length, option_map}
 use Rattle.std.proofs.lemmas.List.{append-nil}
 use Rattle.std.proofs.lemmas.List.Elements.{filter-append}

@@ -63,7 +63,7 @@ absorbed_deletes-absorbed-requires c =
     sym (length-contents mine slots) ∙ ap length c.self.view_is ∙ c.requires ∙ sym (ap length c.other.view_is)
     ∙ length-contents others other in
     let Indexed = λ (ss : List (Option Taken)). IfSome c.other.inside.deletes (IsIndexOf others
-        (kept_in (contents others ss))) in
+    (kept_in (contents others ss))) in
     record {
       same =
           ap (λ (ss : List (Option Taken)). length ss) c.deref-3.ensures.value ∙ alike

@@ -1,4 +1,4 @@
-use Rattle.std.proofs.Common.{◌≡◌, ◌∙◌, List, ℕ, ap, length, subst, sym}
+use Rattle.std.proofs.Common.{◌∙◌, List, ap, length, subst, sym}
 use Rattle.ice_state.specs.declared.places.Ends.{Ends}
 use Rattle.ice_state.specs.PlaceLists.{lines_from, RiseWithin}
 use Rattle.ice_state.proofs.PlaceTables.{no_ends, no_lines, no_rise}
