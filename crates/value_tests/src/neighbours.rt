@@ -1,30 +1,10 @@
 //! Data files that are looked up one after the other.
 
+use crate::deletes::{A, B, EQUALITIES, POSITIONS, file, naming};
 use ice_deletes::{DeleteIndex, Finder, Hits, Record};
-use ice_value::{Cell, FileContent, SequenceNumber};
+use ice_value::{Cell, SequenceNumber};
 use std::alloc::{AllocError, Global};
 use std::test::Fail;
-
-const A: &[u8] = b"mem://t/a.parquet";
-
-const B: &[u8] = b"mem://t/b.parquet";
-
-/// A delete file of spec 1.
-fn delete<'a>(
-    content: FileContent,
-    tuple: &'a [Cell],
-    sequence_number: u64,
-    referenced: Option<&'a [u8]>,
-) -> Record<'a> {
-    Record {
-        content,
-        spec_id: 1,
-        unpartitioned: false,
-        tuple,
-        sequence_number,
-        referenced,
-    }
-}
 
 /// A data file to look up.
 #[derive(Clone, Copy)]
@@ -97,22 +77,15 @@ fn are_found_among(
 fn among_deletes_that_name_data_files(rt: HostRuntime) -> Result<(), Fail> {
     let [one, two] = [[Cell::Whole(1)], [Cell::Whole(2)]];
     let records = [
-        delete(FileContent::PositionDeletes, &one, 5, None),
-        delete(FileContent::PositionDeletes, &one, 5, Some(A)),
-        delete(FileContent::PositionDeletes, &one, 7, Some(B)),
-        delete(FileContent::PositionDeletes, &two, 7, Some(B)),
-        delete(FileContent::PositionDeletes, &two, 8, None),
-        delete(FileContent::EqualityDeletes, &one, 6, None),
-        delete(FileContent::EqualityDeletes, &two, 5, None),
-        Record {
-            spec_id: 0,
-            unpartitioned: true,
-            ..delete(FileContent::EqualityDeletes, &[], 5, None)
-        },
-        Record {
-            spec_id: 2,
-            ..delete(FileContent::PositionDeletes, &one, 5, Some(A))
-        },
+        file(POSITIONS, 1, false, &one, 5),
+        naming(A, file(POSITIONS, 1, false, &one, 5)),
+        naming(B, file(POSITIONS, 1, false, &one, 7)),
+        naming(B, file(POSITIONS, 1, false, &two, 7)),
+        file(POSITIONS, 1, false, &two, 8),
+        file(EQUALITIES, 1, false, &one, 6),
+        file(EQUALITIES, 1, false, &two, 5),
+        file(EQUALITIES, 0, true, &[], 5),
+        naming(A, file(POSITIONS, 2, false, &one, 5)),
     ];
     let are_found = are_found_among(rt.alloc(), &records, &one, &two)?;
     assert!(rt; are_found);
@@ -123,37 +96,51 @@ fn among_deletes_that_name_data_files(rt: HostRuntime) -> Result<(), Fail> {
 fn among_deletes_that_name_none(rt: HostRuntime) -> Result<(), Fail> {
     let [one, two] = [[Cell::Whole(1)], [Cell::Whole(2)]];
     let records = [
-        delete(FileContent::PositionDeletes, &one, 5, None),
-        delete(FileContent::PositionDeletes, &two, 4, None),
-        delete(FileContent::EqualityDeletes, &one, 6, None),
-        delete(FileContent::EqualityDeletes, &two, 5, None),
+        file(POSITIONS, 1, false, &one, 5),
+        file(POSITIONS, 1, false, &two, 4),
+        file(EQUALITIES, 1, false, &one, 6),
+        file(EQUALITIES, 1, false, &two, 5),
     ];
     let are_found = are_found_among(rt.alloc(), &records, &one, &two)?;
     assert!(rt; are_found);
     Ok(())
 }
 
+/// Whether two data files of one partition, and then one of another, have what was written down.
+fn have_theirs(
+    alloc: Global,
+    records: &[Record<'_>],
+    one: &[Cell],
+    two: &[Cell],
+) -> Result<bool, AllocError> {
+    let index = DeleteIndex::build(alloc, records)?;
+    let number = SequenceNumber::new(5).unwrap_or(SequenceNumber::zero());
+    let mut finder = Finder::new(&index);
+    let first = finder.for_data(1, one, number, A);
+    let second = finder.for_data(1, one, number, B);
+    let third = finder.for_data(1, two, number, A);
+    Ok(
+        first.positions == [0].as_slice()
+            && first.referenced == [1].as_slice()
+            && first.equalities == [2].as_slice()
+            && second.positions == [0].as_slice()
+            && second.referenced.is_empty()
+            && second.equalities == [2].as_slice()
+            && third.positions.is_empty()
+            && third.referenced.is_empty()
+            && third.equalities.is_empty(),
+    )
+}
+
 #[test]
 fn what_neighbours_have(rt: HostRuntime) -> Result<(), Fail> {
     let [one, two] = [[Cell::Whole(1)], [Cell::Whole(2)]];
-    let index = DeleteIndex::build(
-        rt.alloc(),
-        &[
-            delete(FileContent::PositionDeletes, &one, 5, None),
-            delete(FileContent::PositionDeletes, &one, 5, Some(A)),
-            delete(FileContent::EqualityDeletes, &one, 6, None),
-        ],
-    )?;
-    let number = SequenceNumber::new(5).unwrap_or(SequenceNumber::zero());
-    let mut finder = Finder::new(&index);
-    let first = finder.for_data(1, &one, number, A);
-    let second = finder.for_data(1, &one, number, B);
-    let third = finder.for_data(1, &two, number, A);
-    assert!(rt; first.positions == [0].as_slice() && first.referenced == [1].as_slice());
-    assert!(rt; second.positions == [0].as_slice() && second.referenced.is_empty());
-    assert!(rt; first.equalities == [2].as_slice() && second.equalities == [2].as_slice());
-    assert!(rt;
-        third.positions.is_empty() && third.referenced.is_empty() && third.equalities.is_empty()
-    );
+    let records = [
+        file(POSITIONS, 1, false, &one, 5),
+        naming(A, file(POSITIONS, 1, false, &one, 5)),
+        file(EQUALITIES, 1, false, &one, 6),
+    ];
+    let have_theirs = have_theirs(rt.alloc(), &records, &one, &two)?;
+    assert!(rt; have_theirs);
     Ok(())
 }
