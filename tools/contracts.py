@@ -41,9 +41,9 @@ def contracts(text):
             owner = ""
         function = FUNCTION.match(line)
         if function:
-            text = head(lines, at, function.group(1))
-            clauses = re.search(r"\b(requires|ensures)\b", text)
-            found[owner + function.group(2)] = text[clauses.start():] if clauses else ""
+            front = head(lines, at, function.group(1))
+            clauses = re.search(r"\b(requires|ensures)\b", front)
+            found[owner + function.group(2)] = front[clauses.start():] if clauses else ""
     return found
 
 
