@@ -1,12 +1,13 @@
 //! Transforms and their values.
 
-ghost use Rattle.std.specs.Prelude.{◌≡◌, pos, if◌then◌else◌, IfOk};
+ghost use Rattle.std.specs.Prelude.{◌≡◌, false, pos, if◌then◌else◌, IfErr, IfOk};
 ghost use Rattle.std.specs.Option.{option_map, option_and_then};
+ghost use Rattle.ice_value.specs.Cells.{KeepsBytes};
 ghost use Rattle.ice_value.specs.declared.cell.Cell.{Cell};
 ghost use Rattle.ice_value.specs.declared.column_type.ColumnType.{ColumnType};
 ghost use Rattle.ice_transform.specs.Floors.{floor_to, int_if};
 ghost use Rattle.ice_transform.specs.Murmur.{bucket_of};
-ghost use Rattle.ice_transform.specs.Names.{IsNamed, name_of};
+ghost use Rattle.ice_transform.specs.Names.{IsNamed, is_name, name_of};
 ghost use Rattle.ice_transform.specs.Years.{year_of, month_of};
 ghost use Rattle.ice_transform.specs.Values.{value_of, type_of, bucketed, truncated, day_of, hour_of, has_buckets};
 ghost use Rattle.ice_transform.specs.Values.{has_days, has_hours, has_truncation};
@@ -50,9 +51,11 @@ const MICROSECONDS_PER_HOUR: i64 = 3_600_000_000;
 
 impl Transform {
     /// The transform that a partition spec names so: `identity`, `bucket[N]`, `truncate[W]`, `year`, `month`, `day`,
-    /// `hour` or `void`, with N and W in decimal digits from 1 to 2147483647. Any other text is kept as `Unknown`.
+    /// `hour` or `void`, with N and W in decimal digits from 1 to 2147483647. Any other text is kept as `Unknown`, which
+    /// takes memory.
     pub fn parse(alloc: Global, text: &str) -> Result<Transform, AllocError>
-        ensures { IfOk result (λ transform. IsNamed transform text.now) }
+        ensures named { IfOk result (λ transform. IsNamed transform text.now) }
+        ensures memory { IfErr result (λ _. is_name text.now ≡ false) }
     {
         match known(text) {
             Some(transform) => Ok(transform),
@@ -81,17 +84,19 @@ impl Transform {
     /// the source type is. Of the others none where the cell isn't of the source type, where the transform is unknown,
     /// where it doesn't take the source type, and where the value would leave the type of its values: a truncated
     /// number below the least one, an hour outside 32 bits, the year or month of a day outside the years -9999 to 9999.
+    /// Only a value that is a text or a byte string takes memory.
     pub fn apply(
         &self,
         alloc: Global,
         source: &ColumnType,
         cell: &Cell,
     ) -> Result<Option<Cell>, AllocError>
-        ensures { IfOk result (λ value. value ≡ value_of self.now source.now cell.now) }
+        ensures value { IfOk result (λ value. value ≡ value_of self.now source.now cell.now) }
+        ensures memory { IfErr result (λ _. KeepsBytes (value_of self.now source.now cell.now)) }
     {
         match (self, cell) {
             (_, Cell::Null) | (Transform::Void, _) => Ok(Some(Cell::Null)),
-            (Transform::Identity, _) => Ok(Some(cell.copy(alloc)?)),
+            (Transform::Identity, _) => Ok(Some(cell.copied(alloc)?)),
             _ if !cell.is_of(source) => Ok(None),
             (Transform::Bucket(buckets), _) => Ok(bucketed(*buckets, source, cell)),
             (Transform::Truncate(width), _) => truncated(alloc, *width, source, cell),
@@ -207,7 +212,8 @@ fn truncated(
     source: &ColumnType,
     cell: &Cell,
 ) -> Result<Option<Cell>, AllocError>
-    ensures { IfOk result (λ value. value ≡ truncated width.number source.now cell.now) }
+    ensures value { IfOk result (λ value. value ≡ truncated width.number source.now cell.now) }
+    ensures memory { IfErr result (λ _. KeepsBytes (truncated width.number source.now cell.now)) }
 {
     match (source, cell) {
         (ColumnType::Int, Cell::Whole(number)) => Ok(whole(truncated_int(*number, width))),

@@ -25,6 +25,12 @@ order (Text a) (Text b) = Some (slice_cmp nat_cmp a b)
 order (Bytes a) (Bytes b) = Some (slice_cmp nat_cmp a b)
 order _ _ = None
 
+-- the cell is there, and keeps bytes of its own: a text or a byte string
+abbrev pub KeepsBytes : Option Cell → Type 0
+KeepsBytes (Some (Text text)) = Unit {0}
+KeepsBytes (Some (Bytes bytes)) = Unit {0}
+KeepsBytes _ = ⊥
+
 -- neither cell is null, and both are truths, whole numbers, texts or byte strings
 abbrev pub AreOfOneKind : Cell → Cell → Type 0
 AreOfOneKind (Flag a) (Flag b) = Unit {0}

@@ -1,5 +1,5 @@
 -- The tests of cells and of tuples say whether they are one, and their order is total.
-use Rattle.std.proofs.Common.{◌≡◌, ℕ, ◌<◌, ◌<ℤ◌, ap, rules, Bool, true, false, List, [], ◌∷◌, ℤ, pos, refl, sym, subst}
+use Rattle.std.proofs.Common.{◌≡◌, ℕ, ◌<◌, ◌<ℤ◌, ap, rules, true, false, List, [], ◌∷◌, ℤ, pos, refl, sym, subst}
 use Rattle.std.proofs.Common.{◌∙◌}
 use Rattle.std.specs.Bool.{Decides}
 use Rattle.std.specs.declared.cmp.Ordering.{Ordering}

@@ -1,12 +1,13 @@
 //! Single values in bytes, as lower and upper bounds hold them.
 
-ghost use Rattle.std.specs.Prelude.{◌≡◌, List, ℕ, ◌↔◌, Bool, Some, IfOk, IsSome, IsTrue, true};
+ghost use Rattle.std.specs.Prelude.{◌≡◌, List, ℕ, ◌↔◌, Bool, Some, IfErr, IfOk, IsSome, IsTrue, true};
 ghost use Rattle.std.specs.Str.{is_utf8};
 ghost use Rattle.std.specs.Option.{option_map};
 ghost use Rattle.std.specs.Ordering.{nat_cmp};
 ghost use Rattle.std.specs.Cmp.Lexicographic.{slice_cmp};
 ghost use Rattle.ice_value.specs.Bounds.{cell_in, order_in, int_in, long_in, widened_in, flag_in, sized_in, is_value};
 ghost use Rattle.ice_value.specs.Bounds.{written, Holds};
+ghost use Rattle.ice_value.specs.Cells.{KeepsBytes};
 ghost use Rattle.ice_value.specs.declared.cell.Cell.{Cell};
 ghost use Rattle.ice_value.specs.declared.column_type.ColumnType.{ColumnType};
 
@@ -60,7 +61,8 @@ fn read_widened(bytes: &[u8]) -> Option<i64>
 
 /// The text of the bytes, where they are UTF-8.
 fn read_text(alloc: Global, bytes: &[u8]) -> Result<Option<Cell>, AllocError>
-    ensures { IfOk result (λ cell. cell ≡ cell_in ColumnType.String bytes.now) }
+    ensures held { IfOk result (λ cell. cell ≡ cell_in ColumnType.String bytes.now) }
+    ensures memory { IfErr result (λ _. KeepsBytes (cell_in ColumnType.String bytes.now)) }
 {
     match std::str::from_utf8(bytes) {
         Ok(text) => Ok(Some(Cell::Text(Text::from_string(String::from_str(alloc, text)?)))),
@@ -70,7 +72,8 @@ fn read_text(alloc: Global, bytes: &[u8]) -> Result<Option<Cell>, AllocError>
 
 /// The bytes, where there are so many.
 fn read_sized(alloc: Global, size: usize, bytes: &[u8]) -> Result<Option<Cell>, AllocError>
-    ensures { IfOk result (λ cell. cell ≡ option_map Cell.Bytes (sized_in size bytes.now)) }
+    ensures held { IfOk result (λ cell. cell ≡ option_map Cell.Bytes (sized_in size bytes.now)) }
+    ensures memory { IfErr result (λ _. KeepsBytes (option_map Cell.Bytes (sized_in size bytes.now))) }
 {
     if bytes.len() == size {
         Ok(Some(Cell::Bytes(Items::from_vec(bytes.to_vec(alloc)?))))
@@ -79,13 +82,14 @@ fn read_sized(alloc: Global, size: usize, bytes: &[u8]) -> Result<Option<Cell>, 
     }
 }
 
-/// The value of this type that the bytes hold; none where they hold none.
+/// The value of this type that the bytes hold; none where they hold none. Only a text or a byte string takes memory.
 pub fn read_bound(
     alloc: Global,
     column_type: &ColumnType,
     bytes: &[u8],
 ) -> Result<Option<Cell>, AllocError>
-    ensures { IfOk result (λ cell. cell ≡ cell_in column_type.now bytes.now) }
+    ensures held { IfOk result (λ cell. cell ≡ cell_in column_type.now bytes.now) }
+    ensures memory { IfErr result (λ _. KeepsBytes (cell_in column_type.now bytes.now)) }
 {
     match column_type {
         ColumnType::Boolean => Ok(read_flag(bytes).map(|truth| Cell::Bool(truth))),
@@ -167,13 +171,14 @@ fn listed(alloc: Global, bytes: &[u8]) -> Result<Option<Items<u8>>, AllocError>
 }
 
 /// The bytes that hold the cell, as `read_bound` reads them; none where the cell isn't a value of this type, or the
-/// type has no bounds.
+/// type has no bounds. That there are none takes no memory.
 pub fn write_bound(
     alloc: Global,
     column_type: &ColumnType,
     cell: &Cell,
 ) -> Result<Option<Items<u8>>, AllocError>
-    ensures { IfOk result (λ bytes. bytes ≡ written column_type.now cell.now) }
+    ensures bytes { IfOk result (λ bytes. bytes ≡ written column_type.now cell.now) }
+    ensures memory { IfErr result (λ _. IsSome (written column_type.now cell.now)) }
 {
     match (column_type, cell) {
         _ if !cell.is_of(column_type) => Ok(None),

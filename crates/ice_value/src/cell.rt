@@ -1,6 +1,6 @@
 //! The value of a column in a row, and the order of values of one kind.
 
-ghost use Rattle.std.specs.Prelude.{◌≡◌, ◌<◌, ◌↔◌, true, Some, IfOk, IsSome, IsTrue, List};
+ghost use Rattle.std.specs.Prelude.{◌≡◌, ◌<◌, ◌↔◌, true, Some, IfErr, IfOk, IsSome, IsTrue, List};
 ghost use Rattle.std.specs.Cmp.{IsTotalOrder, IsStrictWeakOrder};
 ghost use Rattle.std.specs.declared.cmp.Ordering.{Ordering};
 ghost use Rattle.std.specs.declared.cmp.Ordering.TheVariants.{Less, Equal};
@@ -8,7 +8,7 @@ ghost use Rattle.std.specs.Option.{option_map};
 ghost use Rattle.std.specs.Ordering.{ordering_reverse, is_lt};
 ghost use Rattle.ice_value.specs.Bounds.{fits_int, is_cell};
 ghost use Rattle.ice_value.specs.Cells.{order, AreOfOneKind, same_cell, same_tuple, kind_of, is_at_most, cell_cmp};
-ghost use Rattle.ice_value.specs.Cells.{tuple_cmp};
+ghost use Rattle.ice_value.specs.Cells.{tuple_cmp, KeepsBytes};
 ghost use Rattle.ice_value.specs.declared.cell.Cell.{Cell};
 ghost use Rattle.ice_value.specs.declared.column_type.ColumnType.{ColumnType};
 
@@ -95,6 +95,16 @@ impl Ord for Cell {
 
 impl Duplicate for Cell {
     fn copy(&self, alloc: Global) -> Result<Cell, AllocError> {
+        self.copied(alloc)
+    }
+}
+
+impl Cell {
+    /// The same cell. Only the copy of a text or of a byte string takes memory.
+    pub fn copied(&self, alloc: Global) -> Result<Cell, AllocError>
+        ensures same { IfOk result (λ copied. copied ≡ self.now) }
+        ensures memory { IfErr result (λ _. KeepsBytes (Some self.now)) }
+    {
         match self {
             Cell::Null => Ok(Cell::Null),
             Cell::Bool(truth) => Ok(Cell::Bool(*truth)),
@@ -103,9 +113,7 @@ impl Duplicate for Cell {
             Cell::Bytes(bytes) => Ok(Cell::Bytes(bytes.copy(alloc)?)),
         }
     }
-}
 
-impl Cell {
     /// Whether the cell is a value of the type. Null is of no type, no cell is of type float or double, and any bytes
     /// are of type decimal.
     pub fn is_of(&self, column_type: &ColumnType) -> bool

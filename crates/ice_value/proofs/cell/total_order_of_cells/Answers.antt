@@ -1,4 +1,4 @@
-use Rattle.std.proofs.Common.{List, ap, ◌≡◌, subst}
+use Rattle.std.proofs.Common.{List, ◌≡◌, subst}
 use Rattle.std.specs.declared.cmp.Ordering.TheVariants.{Equal}
 use Rattle.std.proofs.lemmas.Cmp.{tied_itself}
 use Rattle.std.proofs.lemmas.List.Sorted.{ranks_by}
