@@ -4,11 +4,11 @@
 TABLES has a folder for each table: its files below data/metadata, and the words of commands in expected/*.args. A run
 twists one file by its structure, a count, a length, a branch, a type of the schema, an entry of the header, a block, a
 member of the metadata, or its bytes alone, and runs one of the commands. It has to end by itself, within 2 seconds of
-processor time a megabyte, in at most 30 MB and 20 times the table's bytes of memory, with a plan or with one refusal that
-docs/REFUSALS.md lists, and never for want of memory.
+processor time a megabyte, in at most 30 MB and 20 times the table's bytes of memory, with a plan or with one refusal
+that docs/REFUSALS.md lists, and never for want of memory.
 
-Prints the runs that did anything else, and a last line. The same seed gives the same runs; --only N does the run of that
-number alone, and leaves its folder.
+Prints the runs that did anything else, and a last line. The same seed gives the same runs; --only N does the run of
+that number alone, and leaves its folder.
 """
 import argparse
 import copy
@@ -17,10 +17,12 @@ import json
 import os
 import random
 import re
+import resource
 import shutil
 import signal
 import sys
 import time
+import traceback
 
 TOP = os.path.join(os.path.dirname(os.path.abspath(__file__)), "..")
 MEGABYTE = 1 << 20
@@ -53,6 +55,14 @@ def spelled(value, groups=0):
     return bytes(out)
 
 
+def run_of(data, at):
+    """A length and so many bytes, and where they end."""
+    size, at = number(data, at)
+    if size < 0 or at + size > len(data):
+        raise ValueError("a run of bytes passes the end")
+    return data[at : at + size], at + size
+
+
 class Walk:
     """Goes over an object, and keeps where its numbers stand, and what they are."""
 
@@ -76,6 +86,8 @@ class Walk:
 
     def text(self, data, at):
         size, at = self.number(data, at, "length")
+        if size < 0:
+            raise ValueError("a run of bytes has a negative length")
         return at + size
 
     def value(self, schema, data, at):
@@ -120,21 +132,17 @@ class Container:
             if count < 0:
                 count, (_, at) = -count, number(data, at)
             for _ in range(min(count, len(data))):
-                size, at = number(data, at)
-                key, at = data[at : at + size], at + size
-                size, at = number(data, at)
-                self.entries.append((key, data[at : at + size]))
-                at += size
+                key, at = run_of(data, at)
+                value, at = run_of(data, at)
+                self.entries.append((key, value))
             count, at = number(data, at)
         self.marker = data[at : at + 16]
         at += 16
         while at < len(data):
             count, at = number(data, at)
-            size, at = number(data, at)
-            if size < 0:
-                raise ValueError("a block has a negative size")
-            self.blocks.append((count, data[at : at + size]))
-            at += size + 16
+            content, at = run_of(data, at)
+            self.blocks.append((count, content))
+            at += 16
 
     def schema(self):
         return json.loads(dict(self.entries)[b"avro.schema"])
@@ -166,7 +174,8 @@ class Container:
 
 # ---- twists
 
-EDGES = [0, 1, 2, 3, 63, 64, 127, 128, 8191, 65535, 65536, 2**24, 2**24 + 1, 2**31 - 1, 2**31, 2**32, 2**40, 2**62, 2**63 - 1]
+EDGES = [0, 1, 2, 3, 63, 64, 127, 128, 8191, 65535, 65536, 2**24, 2**24 + 1]
+EDGES += [2**31 - 1, 2**31, 2**32, 2**40, 2**62, 2**63 - 1]
 
 
 def odd_number(chance, value):
@@ -181,13 +190,17 @@ def odd_number(chance, value):
     return bytes([255] * chance.randrange(1, 12)) + bytes(chance.randrange(2))
 
 
+def field(name, kind, number):
+    return {"name": name, "type": kind, "field-id": number}
+
+
 def name_of(chance):
     return "n%d" % chance.randrange(4)
 
 
 def odd_type(chance, depth=0):
     """A type, which need not be one."""
-    atoms = ["null", "boolean", "int", "long", "float", "double", "bytes", "string", "int32", "", "r2", "a.b", "manifest_file"]
+    atoms = ["null", "boolean", "int", "long", "float", "double", "bytes", "string", "int32", "", "r2", "a.b"]
     if depth > 3 or chance.random() < 0.4:
         return chance.choice(atoms)
     inner = lambda: odd_type(chance, depth + 1)
@@ -203,7 +216,7 @@ def odd_type(chance, depth=0):
             lambda: {
                 "type": "record",
                 "name": name_of(chance),
-                "fields": [{"name": "f", "type": inner(), "field-id": chance.randrange(600)} for _ in range(chance.randrange(3))],
+                "fields": [field("f", inner(), chance.randrange(600)) for _ in range(chance.randrange(3))],
             },
             lambda: {"type": inner()},
             lambda: {"type": "bytes", "logicalType": "decimal", "precision": 9, "scale": 2},
@@ -245,11 +258,30 @@ def more_data(chance):
     return deep, b"\0"
 
 
+# The maps of columns by their field ids: the ids of their keys and values, and the type of these.
+MAPS = {109: (119, 120, "long"), 110: (121, 122, "long"), 125: (126, 127, "bytes"), 128: (129, 130, "bytes")}
+SUMMARIES = 507
+
+
+def wide(chance, number):
+    """The type of columns' map or of summaries, whose items have many fields that take no bytes, and a value's bytes."""
+    count, nulls = chance.choice([1, 100, 30000]), chance.choice([0, 1, 10, 300])
+    if number == SUMMARIES:
+        fields, item = [field("contains_null", "boolean", 509)], b"\0"
+    else:
+        key, value, kind = MAPS[number]
+        fields, item = [field("key", "int", key), field("value", kind, value)], b"\2\0"
+    fields += [field("x%d" % i, "null", 700 + i) for i in range(nulls)]
+    items = {"type": "record", "name": "wide", "fields": fields}
+    return {"type": "array", "logicalType": "map", "items": items}, spelled(count) + item * count + b"\0"
+
+
 def odd_value(chance):
     """A JSON value of any kind."""
     return chance.choice(
-        [None, True, False, 0, -1, 1, 2, 7, 2**31, -(2**31), 2**53, 2**63, -(2**63), 2**64, 10**30, 0.5, "", "x", "-1", "null"]
-        + ["é\x00\U0001f600", [], {}, [[]], [{}], {"type": "struct", "fields": []}, 1e300, "long", "s3://warehouse/db/x"]
+        [None, True, False, 0, -1, 1, 2, 7, 2**31, -(2**31), 2**53, 2**63, -(2**63), 2**64, 10**30, 0.5, 1e300]
+        + ["", "x", "-1", "null", "é\x00\U0001f600", "long", "s3://warehouse/db/x"]
+        + [[], {}, [[]], [{}], {"type": "struct", "fields": []}]
     )
 
 
@@ -303,7 +335,8 @@ def twist_bytes(chance, data):
     if way == 3:
         return data[:end] + data[at:]
     if way == 4:
-        return data[:at] + chance.choice([b"\0", b"\x80", b"\xff" * 9 + b"\1", b"{", b"[" * 200, b'"', b"\\u0000"]) + data[at:]
+        odd = [b"\0", b"\x80", b"\xff" * 9 + b"\1", b"{", b"[" * 200, b'"', b"\\u0000"]
+        return data[:at] + chance.choice(odd) + data[at:]
     return data[:at] + bytes(byte ^ 1 << chance.randrange(8) for byte in data[at:end]) + data[end:]
 
 
@@ -332,10 +365,21 @@ def twist_schema_text(chance, file):
 
 
 def twist_field(chance, file):
-    """A field more, at the end of each object."""
+    """A field more at the end of each object, which no reader wants, or in the place of one that is read."""
     schema, walked = file.schema(), file.walked()
-    kind, data = more_data(chance)
-    schema["fields"].append({"name": "more", "type": kind, "field-id": chance.choice([9000, 500, 517, 2])})
+    fields, last = schema["fields"], schema["fields"][-1]["type"]
+    is_entry = isinstance(last, dict) and last.get("type") == "record"
+    if chance.random() < 0.5:
+        number = chance.choice(sorted(MAPS)) if is_entry else SUMMARIES
+        kind, data = wide(chance, number)
+        fields = last["fields"] if is_entry else fields
+        for other in fields:
+            if other.get("field-id") == number:
+                other["field-id"] = 9000
+        fields.append(field("more", kind, number))
+    else:
+        kind, data = more_data(chance)
+        fields.append(field("more", kind, chance.choice([9000, 500, 517, 2])))
     for i, (count, content) in enumerate(file.blocks):
         starts = [0] + walked[i][0][:-1]
         objects = [content[at:end] for at, end in zip(starts, walked[i][0])]
@@ -345,7 +389,7 @@ def twist_field(chance, file):
 
 
 def twist_header(chance, file):
-    key = chance.choice([b"avro.codec", b"avro.schema", b"x", b"\xff", b"partition-spec-id", b"schema", b"format-version"])
+    key = chance.choice([b"avro.codec", b"avro.schema", b"x", b"\xff", b"partition-spec-id", b"schema"])
     value = chance.choice([b"null", b"deflate", b"", b"\xff", b"1", b"-1", b'"long"', b"x" * 5000])
     way = chance.randrange(3)
     if way == 0:
@@ -451,7 +495,7 @@ def ran(program, words, folder):
     actions += [(os.POSIX_SPAWN_OPEN, 1, out, flags, 0o600), (os.POSIX_SPAWN_OPEN, 2, err, flags, 0o600)]
     child = os.posix_spawn(program, [program, *words], {}, file_actions=actions)
     signal.signal(signal.SIGALRM, lambda *_: os.kill(child, signal.SIGKILL))
-    signal.alarm(60)
+    signal.alarm(20)
     _, status, used = os.wait4(child, 0)
     signal.alarm(0)
     with open(out, "rb") as file:
@@ -503,18 +547,21 @@ def run(given, tables, number, folder, listed):
 def work(given, tables, numbers, folder, pipe):
     """The runs of these numbers. What is wrong goes down the pipe, and at the end how the runs ended."""
     os.makedirs(folder, exist_ok=True)
+    resource.setrlimit(resource.RLIMIT_AS, (1024 * MEGABYTE, 1024 * MEGABYTE))
     listed, endings, most, slowest = listed_refusals(), {}, 0, 0
     for number in numbers:
         line, wrong, got = run(given, tables, number, folder, listed)
         endings[got[0]] = endings.get(got[0], 0) + 1
         most, slowest = max(most, got[3]), max(slowest, got[4])
-        if wrong or given.only is not None:
+        if wrong:
             os.write(pipe, (line + "\n").encode())
+        elif given.only is not None:
+            print(line, got[2])
     os.write(pipe, ("= %s\n" % json.dumps([endings, most, slowest])).encode())
 
 
 def gathered(pipe):
-    """What the workers wrote, where nothing is wrong but what was printed."""
+    """How many runs are wrong, which are printed, how the runs ended, and the most that one took."""
     wrong, endings, most, slowest = 0, {}, 0, 0
     with os.fdopen(pipe) as lines:
         for line in lines:
@@ -546,8 +593,13 @@ def main():
     jobs = given.jobs if given.only is None else 1
     for job in range(jobs):
         if os.fork() == 0:
-            work(given, tables, numbers[job::jobs], os.path.join(folder, str(job)), pipe)
-            os._exit(0)
+            try:
+                work(given, tables, numbers[job::jobs], os.path.join(folder, str(job)), pipe)
+            except BaseException:
+                traceback.print_exc()
+            finally:
+                sys.stdout.flush()
+                os._exit(0)
     os.close(pipe)
     wrong, endings, most, slowest = gathered(read)
     for _ in range(jobs):
@@ -559,7 +611,7 @@ def main():
     ended = ", ".join("%d with status %d" % (count, status) for status, count in sorted(endings.items()))
     print("%d runs in %.0f s: %s" % (len(numbers), time.time() - started, ended))
     print("at most %.0f MB and %.2f s; %d runs are wrong" % (most / MEGABYTE, slowest, wrong))
-    sys.exit(1 if wrong else 0)
+    sys.exit(1 if wrong or sum(endings.values()) < len(numbers) else 0)
 
 
 main()
