@@ -2,8 +2,8 @@
 """cuts.py PROGRAM BUNDLE [STEP] [--text] [--words FILE]: cuts a bundle at every STEP-th byte (default 1), one cut at a
 time, and plans.
 
-With --words the program is given the lines of FILE as its words, as `plan`, `--bundle` and the path of a table's metadata;
-else `list-plan --bundle`.
+With --words the program is given the lines of FILE as its words, as `plan`, `--bundle` and the path of a table's
+metadata; else `list-plan --bundle`.
 
 Without --text the files of the bundle are cut: one file at a time, and its line holds what is left. Each run has to end in
 one named refusal, status 1; a plan may come only where the cut lies between two blocks of the file, or behind its header.

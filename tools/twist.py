@@ -264,7 +264,7 @@ SUMMARIES = 507
 
 
 def wide(chance, number):
-    """The type of columns' map or of summaries, whose items have many fields that take no bytes, and a value's bytes."""
+    """A map of columns or a list of summaries, whose items have many fields that take no bytes: type and bytes."""
     count, nulls = chance.choice([1, 100, 30000]), chance.choice([0, 1, 10, 300])
     if number == SUMMARIES:
         fields, item = [field("contains_null", "boolean", 509)], b"\0"
@@ -495,7 +495,7 @@ def ran(program, words, folder):
     actions += [(os.POSIX_SPAWN_OPEN, 1, out, flags, 0o600), (os.POSIX_SPAWN_OPEN, 2, err, flags, 0o600)]
     child = os.posix_spawn(program, [program, *words], {}, file_actions=actions)
     signal.signal(signal.SIGALRM, lambda *_: os.kill(child, signal.SIGKILL))
-    signal.alarm(20)
+    signal.alarm(60)
     _, status, used = os.wait4(child, 0)
     signal.alarm(0)
     with open(out, "rb") as file:
@@ -519,8 +519,8 @@ def wrong_with(got, size, listed):
     first = re.match(rb"icescan: ([A-Z]\d+ \w+)[^\n]*\n\Z", why)
     if status not in (1, 2, 3) or said or not first or first[1].decode() not in listed:
         return "status %d, %d bytes of output, %r" % (status, len(said), why[:200])
-    inner = re.search(rb" (N\d+ \w+)(?: (V\d+ \w+))?(?: (S\d+ \w+))?", why) if first[1] in (b"Z2 Bad", b"N1 Avro") else None
-    unlisted = [name for name in (inner.groups() if inner else []) if name and name.decode() not in listed]
+    inner = re.findall(rb" ([NVS]\d+ \w+)", why[why.rfind(b" N") :]) if first[1] == b"Z2 Bad" else []
+    unlisted = [name for name in inner if name.decode() not in listed]
     return "refused by %r" % why[:200] if unlisted else None
 
 
@@ -541,7 +541,8 @@ def run(given, tables, number, folder, listed):
     wrong = wrong_with(got, table.size - len(data) + len(twisted), listed)
     if given.only is None:
         write(path, data)
-    return "run %d, %s of %s, %s: %s" % (number, name, os.path.basename(table.folder), " ".join(words), wrong), wrong, got
+    line = "run %d, %s of %s, %s: %s" % (number, name, os.path.basename(table.folder), " ".join(words), wrong)
+    return line, wrong, got
 
 
 def work(given, tables, numbers, folder, pipe):
