@@ -1,5 +1,9 @@
 #!/usr/bin/env python3
-"""cuts.py PROGRAM BUNDLE [STEP] [--text]: cuts a bundle at every STEP-th byte (default 1), one cut at a time, and plans.
+"""cuts.py PROGRAM BUNDLE [STEP] [--text] [--words FILE]: cuts a bundle at every STEP-th byte (default 1), one cut at a
+time, and plans.
+
+With --words the program is given the lines of FILE as its words, as `plan`, `--bundle` and the path of a table's
+metadata; else `list-plan --bundle`.
 
 Without --text the files of the bundle are cut: one file at a time, and its line holds what is left. Each run has to end in
 one named refusal, status 1; a plan may come only where the cut lies between two blocks of the file, or behind its header.
@@ -20,7 +24,7 @@ import re
 import subprocess
 import sys
 
-REFUSED = re.compile(rb"icescan: (V|N|Z2 Bad )[^\n]*\n")
+REFUSED = re.compile(rb"icescan: (V|N|M1 NotJson|Z2 Bad )[^\n]*\n")
 ABSENT = re.compile(rb"icescan: P2 Absent [^\n]*\n")
 
 
@@ -65,11 +69,12 @@ class File:
         self.line = line
         self.path, self.digits = line.split(b" ")
         self.data = bytes.fromhex(self.digits.decode())
-        self.whole = between_blocks(self.data)
+        self.whole = between_blocks(self.data) if self.data.startswith(b"Obj\1") else set()
 
 
 def plan(program, text):
-    return subprocess.run([program, "list-plan", "--bundle"], input=text, capture_output=True, timeout=60)
+    """What the program, given with its words, makes of a bundle."""
+    return subprocess.run(program, input=text, capture_output=True, timeout=60)
 
 
 def text_of(lines):
@@ -164,13 +169,16 @@ def main():
     arguments.add_argument("bundle")
     arguments.add_argument("step", nargs="?", type=int, default=1)
     arguments.add_argument("--text", action="store_true")
+    arguments.add_argument("--words", type=argparse.FileType("r"))
     given = arguments.parse_args()
+    words = given.words.read().splitlines() if given.words else ["list-plan", "--bundle"]
+    program = [given.program, *words]
     files = [File(line) for line in open(given.bundle, "rb").read().splitlines()]
     cuts = cuts_of_text if given.text else cuts_of_files
-    if not is_plan(plan(given.program, text_of(file.line for file in files))):
+    if not is_plan(plan(program, text_of(file.line for file in files))):
         sys.exit("the whole bundle has no plan")
     tried = failed = 0
-    for why in answers(given.program, cuts(given.program, files, given.step)):
+    for why in answers(program, cuts(program, files, given.step)):
         tried += 1
         if why:
             failed += 1

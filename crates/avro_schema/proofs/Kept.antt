@@ -2,9 +2,8 @@
 use Rattle.std.proofs.Common.{◌≡◌, ℕ, zero, suc, List, [], ◌∷◌, ◌++◌, Option, Some, None, Ordering, Less, Equal}
 use Rattle.std.proofs.Common.{Greater, nat_cmp, refl, sym, ap, ◌∙◌}
 use Rattle.std.specs.Prelude.{IfOk, ⊤, codes, Bool, true, false, nat_lt}
-use Rattle.std.specs.Ordering.{match_ordering, ordering_reverse}
+use Rattle.std.specs.Ordering.{match_ordering}
 use Rattle.std.specs.Cmp.Lexicographic.{slice_cmp}
-use Rattle.std.proofs.lemmas.Cmp.{nat_list_cmp_total}
 use Rattle.std.proofs.lemmas.Map.Lookups.{exact_bytes}
 use Rattle.std.proofs.lemmas.Result.{IfOk-weaker}
 use Rattle.serde_json.specs.Data as json
@@ -17,7 +16,7 @@ use Rattle.avro_schema.specs.declared.attributes.Kind.TheVariants as kind
 use Rattle.avro_schema.specs.Tree.{Tree, symbols, fixed}
 use Rattle.avro_schema.specs.Size.{left_after, below, height}
 use Rattle.avro_schema.specs.View.{Part}
-use Rattle.avro_schema.specs.Names.{Entry, lookup, put, full, space_of}
+use Rattle.avro_schema.specs.Names.{Entry, lookup, put, full, space_of, name_order}
 use Rattle.avro_schema.specs.Attributes.{name_in, id_in, items_in, is_object, symbols_in, size_in, bytes_kind, plain}
 use Rattle.avro_schema.specs.Attributes.{text_in, kind_of}
 use Rattle.avro_schema.specs.Reading.{Seen, Read, Reader, asked, fresh, if_left, used, plain_or_used, named, if_new}
@@ -26,17 +25,10 @@ use Rattle.avro_schema.specs.Reading.{record_at, array_at, map_at, enum_at, fixe
 use Rattle.avro_schema.specs.Reading.{text_at, union_at, node_at, counted, tree_at}
 use Rattle.avro_schema.specs.Inside.{Defines, a_record, an_enum, a_fixed, Uses, a_text, a_type}
 use Rattle.avro_schema.proofs.Shapes.{object_is, kind_is}
+use Rattle.avro_schema.proofs.Parts.{same_order, same_text, exact_names}
 use Rattle.avro_schema.proofs.Binds.{bind_if, bind_any}
 
 -- ---- one name among the others
-
-turned : (o : Ordering) → o ≡ ordering_reverse o → o ≡ Equal
-turned Less h = absurd cc
-turned Equal h = refl
-turned Greater h = absurd cc
-
-same_name : (name : List ℕ) → slice_cmp nat_cmp name name ≡ Equal
-same_name name = turned _ (nat_list_cmp_total.antisymm name name)
 
 put_here : (q name key : List ℕ) (x : Option Tree) (y : Option Tree) (rest : Option (Option Tree)) (o : Ordering)
     → slice_cmp nat_cmp q name ≡ o → name ≡ key
@@ -61,33 +53,32 @@ put_further x y rest Greater Less h = refl
 put_further x y rest Greater Equal h = refl
 put_further x y rest Greater Greater h = refl
 
-apart : (q name key : List ℕ) → slice_cmp nat_cmp name key ≡ Greater → slice_cmp nat_cmp q name ≡ Equal
+apart : (q name key : List ℕ) → name_order name key ≡ Greater → slice_cmp nat_cmp q name ≡ Equal
     → slice_cmp nat_cmp q key ≡ Equal → ⊥
 apart q name key g h k =
     let a : q ≡ name = exact_bytes q name h in
     let b : q ≡ key = exact_bytes q key k in
-    let c : slice_cmp nat_cmp name key ≡ Equal = ap (λ (z : List ℕ). slice_cmp nat_cmp z key) (sym a ∙ b) ∙ same_name
-    key in
+    let c : name_order name key ≡ Equal = ap (λ (z : List ℕ). name_order z key) (sym a ∙ b) ∙ same_order key in
     absurd cc
 
 lookup-put-in : (q name : List ℕ) (x : Option Tree) (e : Entry) (es : List Entry) (o : Ordering)
-    → slice_cmp nat_cmp name e.0 ≡ o → lookup q (put name x es) ≡ match_ordering (slice_cmp nat_cmp q name)
+    → name_order name e.0 ≡ o → lookup q (put name x es) ≡ match_ordering (slice_cmp nat_cmp q name)
     (lookup q es) (Some x) (lookup q es)
     → lookup q (match_ordering o ((name, x) ∷ e ∷ es) ((e.0, x) ∷ es) (e ∷ put name x es)) ≡ match_ordering
     (slice_cmp nat_cmp q name) (lookup q (e ∷ es)) (Some x) (lookup q (e ∷ es))
 lookup-put-in q name x e es Less h so_far = refl
 lookup-put-in q name x e es Equal h so_far = put_here q name e.0 x e.1 (lookup q es) (slice_cmp nat_cmp q name) refl
-    (exact_bytes name e.0 h)
+    (exact_names name e.0 h)
 lookup-put-in q name x e es Greater h so_far = rw so_far (put_further x e.1 (lookup q es) (slice_cmp nat_cmp q name)
     (slice_cmp nat_cmp q e.0) (apart q name e.0 h))
 
 pub lookup-put : (q name : List ℕ) (x : Option Tree) (es : List Entry)
     → lookup q (put name x es) ≡ match_ordering (slice_cmp nat_cmp q name) (lookup q es) (Some x) (lookup q es)
 lookup-put q name x [] = refl
-lookup-put q name x (e ∷ es) = lookup-put-in q name x e es (slice_cmp nat_cmp name e.0) refl (lookup-put q name x es)
+lookup-put q name x (e ∷ es) = lookup-put-in q name x e es (name_order name e.0) refl (lookup-put q name x es)
 
 pub lookup-put_same : (name : List ℕ) (x : Option Tree) (es : List Entry) → lookup name (put name x es) ≡ Some x
-lookup-put_same name x es = lookup-put name name x es ∙ rw (same_name name) refl
+lookup-put_same name x es = lookup-put name name x es ∙ rw (same_text name) refl
 
 -- ---- names that stay
 

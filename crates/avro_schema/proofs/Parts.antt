@@ -1,12 +1,16 @@
 -- Full names in two parts, compared as the texts that they stand for.
 use Rattle.std.proofs.Common.{◌≡◌, ℕ, zero, suc, ◌+◌, ◌≤◌, ◌<◌, Bool, true, false, ◌||◌, ◌==◌, List, [], ◌∷◌, ◌++◌}
 use Rattle.std.proofs.Common.{length, get_or, drop, take, Ordering, Less, Equal, Greater, nat_cmp, refl, sym, ap, ◌∙◌}
-use Rattle.std.proofs.Common.{add-one, drop-cons, arith}
+use Rattle.std.proofs.Common.{◌-◌, add-one, drop-cons, length-drop, arith}
+use Rattle.std.proofs.lemmas.List.{take_all}
+use Rattle.std.proofs.lemmas.Slice.Eq.{bytes_eq-Decides}
+use Rattle.std.specs.Str.{bytes_eq}
 use Rattle.std.specs.Prelude.{min}
-use Rattle.std.specs.Ordering.{MatchOrdering, ordering_then, is_ne}
+use Rattle.std.specs.Ordering.{MatchOrdering, ordering_then, ordering_reverse, is_eq, is_ne}
 use Rattle.std.specs.Cmp.Lexicographic.{slice_cmp}
-use Rattle.std.proofs.lemmas.Cmp.{ranked}
-use Rattle.avro_schema.specs.Names.{dotted, space_of, within}
+use Rattle.std.proofs.lemmas.Cmp.{ranked, nat_list_cmp_total}
+use Rattle.std.proofs.lemmas.Map.Lookups.{exact_bytes}
+use Rattle.avro_schema.specs.Names.{dotted, space_of, last_of, within, name_order}
 use Rattle.avro_schema.proofs.Walks.{end_of, no_space}
 
 -- ---- the order of two texts, part by part
@@ -26,6 +30,14 @@ defers Less p h = absurd cc
 defers Equal p h = refl
 defers Greater p h = absurd cc
 
+turned : (o : Ordering) → o ≡ ordering_reverse o → o ≡ Equal
+turned Less h = absurd cc
+turned Equal h = refl
+turned Greater h = absurd cc
+
+pub same_text : (s : List ℕ) → slice_cmp nat_cmp s s ≡ Equal
+same_text s = turned _ (nat_list_cmp_total.antisymm s s)
+
 -- the first bytes, and then the others
 parted : (k : ℕ) (xs ys : List ℕ) → k ≤ length xs → k ≤ length ys
     → slice_cmp nat_cmp xs ys ≡ ordering_then (slice_cmp nat_cmp (take k xs) (take k ys)) (slice_cmp nat_cmp (drop k xs)
@@ -35,6 +47,22 @@ parted (suc k) [] ys a b = absurd (omega arith)
 parted (suc k) (x ∷ xs) [] a b = absurd (omega arith)
 parted (suc k) (x ∷ xs) (y ∷ ys) a b = ap (ordering_then (nat_cmp x y)) (parted k xs ys (omega arith) (omega arith)) ∙
     sym (then_then (nat_cmp x y) _ _)
+
+-- what both begin with does not matter
+pub past_same : (k : ℕ) (xs ys : List ℕ) → k ≤ length xs → k ≤ length ys → bytes_eq (take k xs) (take k ys) ≡ true
+    → slice_cmp nat_cmp (take (length xs - k) (drop k xs)) (take (length ys - k) (drop k ys)) ≡ slice_cmp nat_cmp xs ys
+past_same k xs ys a b h =
+    let rest = slice_cmp nat_cmp (drop k xs) (drop k ys) in
+    let e : take k xs ≡ take k ys = (bytes_eq-Decides (take k xs) (take k ys)).0 h in
+    let same : slice_cmp nat_cmp (take k xs) (take k ys) ≡ Equal =
+    ap (λ (s : List ℕ). slice_cmp nat_cmp s (take k ys)) e ∙ same_text (take k ys) in
+    let whole : rest ≡ slice_cmp nat_cmp xs ys =
+    sym (parted k xs ys a b ∙ ap (λ (o : Ordering). ordering_then o rest) same) in
+    let p : take (length xs - k) (drop k xs) ≡ drop k xs =
+    take_all (length xs - k) (drop k xs) (omega (arith, length-drop k xs)) in
+    let q : take (length ys - k) (drop k ys) ≡ drop k ys =
+    take_all (length ys - k) (drop k ys) (omega (arith, length-drop k ys)) in
+    (λ i. slice_cmp nat_cmp (p i) (q i)) ∙ whole
 
 take_front : (k : ℕ) (space name : List ℕ) → k ≤ length space → take k (within space name) ≡ take k space
 take_front zero [] name h = refl
@@ -129,3 +157,64 @@ space_around (x ∷ space) name h = around (x ∷ space)
     around : (xs : List ℕ) → xs ≡ space_of (xs ++ 46 ∷ name)
     around [] = rw h refl
     around (y ∷ xs) = rw (dot_inside xs name) (ap (λ (s : List ℕ). y ∷ s) (around xs))
+
+-- ---- the order by last parts
+
+-- a full name ends as its name does
+last_within : (space name : List ℕ) → last_of (within space name) ≡ last_of name
+unfolding last_of
+last_within [] name = refl
+last_within (x ∷ space) name = behind (x ∷ space)
+  where
+    behind : (xs : List ℕ) → last_of (xs ++ 46 ∷ name) ≡ last_of name
+    behind [] = rw (dot_inside [] name) refl
+    behind (y ∷ xs) = rw (dot_inside (y ∷ xs) name) (behind xs)
+
+-- the order of two full names' last parts, of which the names tell
+pub lasts : (left name right other s t : List ℕ) (o : Ordering) → o ≡ slice_cmp nat_cmp s t → s ≡ last_of name
+    → t ≡ last_of other
+    → o ≡ slice_cmp nat_cmp (last_of (within left name)) (last_of (within right other))
+lasts left name right other s t o is a b =
+    is ∙ (λ i. slice_cmp nat_cmp ((a ∙ sym (last_within left name)) i) ((b ∙ sym (last_within right other)) i))
+
+pub last_decides : (a b : List ℕ) (o : Ordering) → o ≡ slice_cmp nat_cmp (last_of a) (last_of b) → is_ne o ≡ true
+    → o ≡ name_order a b
+last_decides a b o is ne = sym (decides o (slice_cmp nat_cmp a b) ne) ∙ ap (λ (p : Ordering). ordering_then p
+    (slice_cmp nat_cmp a b)) is
+
+pub last_defers : (a b : List ℕ) (o : Ordering) → o ≡ slice_cmp nat_cmp (last_of a) (last_of b) → is_ne o ≡ false
+    → slice_cmp nat_cmp a b ≡ name_order a b
+last_defers a b o is ne = sym (defers o (slice_cmp nat_cmp a b) ne) ∙ ap (λ (p : Ordering). ordering_then p
+    (slice_cmp nat_cmp a b)) is
+
+pub same_order : (s : List ℕ) → name_order s s ≡ Equal
+same_order s = ap (λ (o : Ordering). ordering_then o (slice_cmp nat_cmp s s)) (same_text (last_of s)) ∙ same_text s
+
+-- names are the same in this order where they are the same texts
+pub exact_names : (a b : List ℕ) → name_order a b ≡ Equal → a ≡ b
+exact_names a b h = exact_bytes a b (whole (slice_cmp nat_cmp (last_of a) (last_of b)) (slice_cmp nat_cmp a b) h)
+  where
+    whole : (p q : Ordering) → ordering_then p q ≡ Equal → q ≡ Equal
+    whole Less q h = absurd cc
+    whole Equal q h = h
+    whole Greater q h = absurd cc
+
+pub same_test : (a b : List ℕ) → is_eq (name_order a b) ≡ is_eq (slice_cmp nat_cmp a b)
+same_test a b = tests (name_order a b) (slice_cmp nat_cmp a b) refl refl
+  where
+    both : name_order a b ≡ Equal → slice_cmp nat_cmp a b ≡ Equal
+    both h = ap (λ (s : List ℕ). slice_cmp nat_cmp s b) (exact_names a b h) ∙ same_text b
+
+    back : slice_cmp nat_cmp a b ≡ Equal → name_order a b ≡ Equal
+    back h = ap (λ (s : List ℕ). name_order s b) (exact_bytes a b h) ∙ same_order b
+
+    tests : (o p : Ordering) → name_order a b ≡ o → slice_cmp nat_cmp a b ≡ p → is_eq o ≡ is_eq p
+    tests Equal Equal h k = refl
+    tests Equal Less h k = let e : slice_cmp nat_cmp a b ≡ Equal = both h in absurd cc
+    tests Equal Greater h k = let e : slice_cmp nat_cmp a b ≡ Equal = both h in absurd cc
+    tests Less Equal h k = let e : name_order a b ≡ Equal = back k in absurd cc
+    tests Greater Equal h k = let e : name_order a b ≡ Equal = back k in absurd cc
+    tests Less Less h k = refl
+    tests Less Greater h k = refl
+    tests Greater Less h k = refl
+    tests Greater Greater h k = refl

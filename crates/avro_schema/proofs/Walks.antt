@@ -18,7 +18,7 @@ use Rattle.serde_json.specs.Events.{items_len}
 use Rattle.avro_schema.specs.declared.schema.Schema.{Schema}
 use Rattle.avro_schema.specs.declared.schema.Field.{Field}
 use Rattle.avro_schema.specs.Attributes.{all_items}
-use Rattle.avro_schema.specs.Names.{dotted, space_of}
+use Rattle.avro_schema.specs.Names.{dotted, space_of, last_of}
 use Rattle.avro_schema.specs.Size.{left_after, below, in_fields, in_branches, height, deepest_field, deepest_branch}
 use Rattle.avro_schema.specs.View.{tree, trees, parts, fields_of, branches_of}
 
@@ -164,6 +164,19 @@ pub no_space : (s : List ℕ) → dotted s ≡ false → [] ≡ space_of s
 unfolding space_of dotted
 no_space [] h = refl
 no_space (x ∷ s) h = rw (or_left (x == 46) (dotted s) h) refl
+
+pub no_last : (s : List ℕ) → dotted s ≡ false → s ≡ last_of s
+unfolding last_of
+no_last [] h = refl
+no_last (x ∷ s) h = rw h refl
+
+-- no dot is after the one at i
+pub last_there : (s : List ℕ) (i : ℕ) → i < length s → get_or s i 0 ≡ 46 → dotted (drop (suc i) s) ≡ false
+    → drop (suc i) s ≡ last_of s
+unfolding last_of
+last_there [] i lt h none = absurd (omega arith)
+last_there (x ∷ s) zero lt h none = rw (dot_there (x ∷ s) 0 lt h) (no_last s none)
+last_there (x ∷ s) (suc i) lt h none = rw (dot_there (x ∷ s) (suc i) lt h) (last_there s i (omega arith) h none)
 
 pub items_count : (vs : List Value) → items_len (items_view vs) ≡ length vs
 items_count [] = refl

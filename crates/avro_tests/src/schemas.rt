@@ -186,3 +186,32 @@ fn doubling(rt: HostRuntime) -> Result<(), Fail> {
     }
     Ok(())
 }
+
+/// A record in a namespace of so many bytes, with so many records in it, and a union that names each of them again.
+fn in_long_namespace(alloc: Global, length: usize, count: u32) -> Result<String, AllocError> {
+    let space = "n".repeat(alloc, length)?;
+    let mut text = format!(in alloc;
+        r#"{{"type":"record","name":"top","namespace":"{space}","fields":["#
+    )?;
+    for k in 0..count {
+        let field = format!(in alloc;
+            r#"{{"name":"f","type":{{"type":"record","name":"r{k}","fields":[]}}}},"#
+        )?;
+        text.push_str(&field)?;
+    }
+    text.push_str(r#"{"name":"u","type":["int""#)?;
+    for k in 0..count {
+        let name = format!(in alloc; r#","r{k}""#)?;
+        text.push_str(&name)?;
+    }
+    text.push_str("]}]}")?;
+    Ok(text)
+}
+
+// Names are told apart by their last parts: the namespace of each is not gone over at every name that was met.
+#[test]
+fn long_namespace(rt: HostRuntime) -> Result<(), Fail> {
+    let text = in_long_namespace(rt.alloc(), 200_000, 2000)?;
+    assert!(rt; is_soon(&rt, &text, None)?);
+    Ok(())
+}
