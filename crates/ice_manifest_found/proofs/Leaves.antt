@@ -117,20 +117,8 @@ unfolding datum_at
 long_stands bytes v stands =
     let read = stood long bytes v stands in leaf_taken whole max_items (long_at bytes) v read.0 read.1
 
-pub boolean_stands : (bytes : List ℕ) (v : Value) → StandsAt boolean bytes v
-    → (x : Bool × List ℕ) × (boolean_at bytes ≡ Ok x) × (v ≡ truth x.0)
-unfolding datum_at
-boolean_stands bytes v stands =
-    let read = stood boolean bytes v stands in leaf_taken truth max_items (boolean_at bytes) v read.0 read.1
-
 pub string_stands : (bytes : List ℕ) (v : Value) → StandsAt string bytes v
     → (x : List ℕ × List ℕ) × (string_at bytes ≡ Ok x) × (v ≡ text x.0)
 unfolding datum_at
 string_stands bytes v stands =
     let read = stood string bytes v stands in leaf_taken text max_items (string_at bytes) v read.0 read.1
-
-pub octets_stand : (kind : _) (bytes : List ℕ) (v : Value) → StandsAt (octets kind) bytes v
-    → (x : List ℕ × List ℕ) × (bytes_at bytes ≡ Ok x) × (v ≡ run x.0)
-unfolding datum_at
-octets_stand kind bytes v stands =
-    let read = stood (octets kind) bytes v stands in leaf_taken run max_items (bytes_at bytes) v read.0 read.1
