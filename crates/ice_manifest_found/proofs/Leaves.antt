@@ -1,6 +1,6 @@
 -- What a value is that stands at the front of bytes, by its type.
-use Rattle.std.proofs.Common.{◌≡◌, ℕ, suc, ℤ, pos, negsuc, Bool, true, false, List, [], length, Option, Some, None}
-use Rattle.std.proofs.Common.{Result, Ok, Err, refl, sym, ap, subst, ◌∙◌}
+use Rattle.std.proofs.Common.{◌≡◌, ℕ, suc, ℤ, pos, negsuc, Bool, List, length}
+use Rattle.std.proofs.Common.{Result, Ok, Err, sym, ap, subst}
 use Rattle.contract_words.specs.Outcome.{◌>>=◌}
 use Rattle.avro_schema.specs.Tree.{Tree, null, boolean, int, long, float, double, symbols, octets, string, fixed}
 use Rattle.avro_schema.specs.Tree.{structure, array, map, union}
@@ -12,7 +12,7 @@ use Rattle.avro_file.specs.Value.{Values, items, entries, Entries, chosen, value
 use Rattle.avro_file.specs.Reading.{leaf, blocks_at, entry_at, datum_at, fields_at, branch_at, chosen_by}
 use Rattle.avro_file.specs.Blocks.{max_items, StandsAt}
 use Rattle.avro_file.proofs.Steps.{bind_ok, ok_is}
-use Rattle.avro_picked.proofs.Values.{stood, structure_taken}
+use Rattle.avro_picked.proofs.Values.{stood}
 
 -- ---- the values of a type
 
