@@ -1,6 +1,6 @@
 //! Reading a manifest list.
 
-ghost use Rattle.std.specs.Prelude.{◌≡◌, ◌≤◌, true, pos, length, option_map, OnOk, IfOk};
+ghost use Rattle.std.specs.Prelude.{◌≡◌, ◌≤◌, true, Some, pos, length, option_map, OnOk, IfOk};
 ghost use Rattle.std.specs.List.Sorted.{IsStrictlySortedBy};
 ghost use Rattle.contract_words.specs.Outcome.{Gives};
 ghost use Rattle.avro_schema.specs.View.{tree};
@@ -9,7 +9,7 @@ ghost use Rattle.avro_file.specs.Files.{ahead, type_of};
 ghost use Rattle.avro_picked.specs.Finding.{layout_tree, ways_of, is_structure};
 ghost use Rattle.avro_picked.specs.Placing.{IsLayout};
 ghost use Rattle.ice_manifest_fields.specs.Each.{each};
-ghost use Rattle.ice_manifest_fields.specs.Fields.{at, there};
+ghost use Rattle.ice_manifest_fields.specs.Fields.{at, there, items_of as items_said};
 ghost use Rattle.ice_manifest_fields.specs.Naming.{in_list, told};
 ghost use Rattle.ice_manifest_fields.specs.Schemas.{fields_in};
 ghost use Rattle.ice_manifest_fields.specs.Seen.{object, listed};
@@ -108,7 +108,21 @@ fn summaries_of(
     Ok(summaries)
 }
 
-/// The summaries of a list that was found, which is built from its bytes alone.
+/// The summaries that a list says. Any other value says none.
+fn summaries_in_list(
+    alloc: Global,
+    schema: &Schema,
+    datum: &Datum,
+) -> Result<Items<Summary>, ListFault>
+    ensures { Gives ListFault.Memory (λ x. x) result
+        (told in_list (each summary_of_item (items_said (Some (tree schema.now, view datum.now))))) }
+{
+    let built = pairs_built(alloc, datum)?;
+    let (schema, items) = items_of(schema, datum, &built);
+    summaries_of(alloc, schema, items)
+}
+
+/// The summaries of the row's partition fields, of which a tree is built; none where the row does not say them.
 fn partitions_at(alloc: Global, row: &FoundRow) -> Result<Option<Items<Summary>>, ListFault>
     requires { IsRow row.now }
     ensures { Gives ListFault.Memory (λ x. x) result
@@ -117,10 +131,8 @@ fn partitions_at(alloc: Global, row: &FoundRow) -> Result<Option<Items<Summary>>
     let Some(found) = row.found(RowField::Partitions) else {
         return Ok(None);
     };
-    let datum = found.datum(alloc)?;
-    let built = pairs_built(alloc, &datum)?;
-    let (schema, items) = items_of(found.schema(), &datum, &built);
-    Ok(Some(summaries_of(alloc, schema, items)?))
+    let list = found.datum(alloc)?;
+    Ok(Some(summaries_in_list(alloc, found.schema(), &list)?))
 }
 
 /// The row that an object says.
