@@ -1,5 +1,5 @@
 -- What the code's values are.
-use Rattle.std.specs.Prelude.{List, [], map, Option, Some, None, Result, Ok, Err}
+use Rattle.std.specs.Prelude.{List, [], map, Result, Ok, Err}
 use denote.Ref.{Bor}
 use Rattle.avro_schema.specs.declared.schema.Schema.{Schema}
 use Rattle.avro_schema.specs.declared.schema.Field.{Field}
@@ -29,15 +29,6 @@ object fs ds = (structure (fields_seen fs), fields (values ds))
 -- a type and a value
 abbrev pub typed : Bor Schema × Bor Datum → Typed
 typed p = (tree p.0.now, view p.1.now)
-
--- a record
-abbrev pub record_lent : Bor (List Field) × Bor (List Datum) → Typed
-record_lent p = object p.0.now p.1.now
-
--- a value, where it is a record
-abbrev pub as_record : Value → Option Value
-as_record (fields vs) = Some (fields vs)
-as_record v = None
 
 -- the items of an array of pairs, which has no datum for each
 abbrev pub pairs_in : Datum → List Value

@@ -13,18 +13,16 @@ ghost use Rattle.ice_manifest_fields.specs.Places.{lies_as_pairs, IsKey};
 ghost use Rattle.ice_manifest_fields.specs.Schemas.{each_branch, pair_fields, is_pair, lists_pairs, map_fits};
 ghost use Rattle.ice_manifest_fields.specs.Schemas.{column_fields as fields_of_columns};
 ghost use Rattle.ice_manifest_fields.specs.Maps.{count_in as count_within, count_of as count_of_item};
-ghost use Rattle.ice_manifest_fields.specs.Maps.{counts_at as counts_said_at, bound_in as bound_within};
-ghost use Rattle.ice_manifest_fields.specs.Maps.{bound_of as bound_of_item, bounds_at as bounds_said_at};
-ghost use Rattle.ice_manifest_fields.specs.Maps.{columns_of as columns_said};
+ghost use Rattle.ice_manifest_fields.specs.Maps.{bound_in as bound_within, bound_of as bound_of_item};
 
 use crate::fault::{FieldFault, ManifestFault};
 use crate::field::{int_at, items_of, lent_binary, long_at, pairs_built};
 use crate::kind::Kind;
-use crate::picking::{itself, pick, position_of};
+use crate::picking::{itself, position_of};
 use crate::shape::{branches_of, has_items, items_of as types_of_items, optional, required};
 use avro_file::Datum;
 use avro_schema::{Field, Schema};
-use ice_value::{ColumnBounds, ColumnCounts, FileBounds};
+use ice_value::{ColumnBounds, ColumnCounts};
 use std::alloc::Global;
 
 /// A map from column ids, which is written as an array of pairs: its field id, those of a pair's key and of what the
@@ -229,23 +227,6 @@ pub fn counts_of_map<'a, 'd>(
     }
 }
 
-/// The counts of the map at a field; none where there is no map.
-#[tactic(auto, unfolding(crate::specs::Maps::counts_at, crate::specs::Each::each))]
-fn counts_at<'a, 'd>(
-    alloc: Global,
-    fields: &'a [Field],
-    values: &'a [Datum<'d>],
-    map: ColumnMap,
-) -> Result<ColumnCounts<'a>, ManifestFault>
-    ensures { Gives ManifestFault.Memory (λ x. x) result
-        (told in_manifest (counts_said_at map (object fields.now values.now))) }
-{
-    match pick(fields, values, map.id) {
-        Some((schema, datum)) => counts_of_map(alloc, schema, datum, map),
-        None => Ok(ColumnCounts::none(alloc)),
-    }
-}
-
 /// The bound that a pair says.
 #[tactic(auto, unfolding(crate::specs::Maps::bound_in))]
 fn bound_in<'d>(
@@ -314,39 +295,4 @@ pub fn bounds_of_map<'a, 'd>(
             Ok(ColumnBounds::made(bounds_of(alloc, schema, items, map)?))
         }
     }
-}
-
-/// The bounds of the map at a field; none where there is no map.
-#[tactic(auto, unfolding(crate::specs::Maps::bounds_at, crate::specs::Each::each))]
-fn bounds_at<'a, 'd>(
-    alloc: Global,
-    fields: &'a [Field],
-    values: &'a [Datum<'d>],
-    map: ColumnMap,
-) -> Result<ColumnBounds<'a, 'd>, ManifestFault>
-    ensures { Gives ManifestFault.Memory (λ x. x) result
-        (told in_manifest (bounds_said_at map (object fields.now values.now))) }
-{
-    match pick(fields, values, map.id) {
-        Some((schema, datum)) => bounds_of_map(alloc, schema, datum, map),
-        None => Ok(ColumnBounds::none(alloc)),
-    }
-}
-
-/// The counts and bounds of a data file's columns.
-#[tactic(auto, unfolding(crate::specs::Maps::columns_of))]
-pub fn columns_of<'a, 'd>(
-    alloc: Global,
-    fields: &'a [Field],
-    values: &'a [Datum<'d>],
-) -> Result<FileBounds<'a, 'd>, ManifestFault>
-    ensures { Gives ManifestFault.Memory (λ x. x) result
-        (told in_manifest (columns_said (object fields.now values.now))) }
-{
-    Ok(FileBounds {
-        value_counts: counts_at(alloc, fields, values, VALUE_COUNTS)?,
-        null_counts: counts_at(alloc, fields, values, NULL_COUNTS)?,
-        lower_bounds: bounds_at(alloc, fields, values, LOWER_BOUNDS)?,
-        upper_bounds: bounds_at(alloc, fields, values, UPPER_BOUNDS)?,
-    })
 }

@@ -1,6 +1,6 @@
 //! What the fields of an object hold.
 
-ghost use Rattle.std.specs.Prelude.{◌≡◌, ◌≤◌, [], ◌∷◌, option_map, Some, IfOk, IfSome, length};
+ghost use Rattle.std.specs.Prelude.{◌≡◌, ◌≤◌, Some, IfOk, length};
 ghost use Rattle.std.specs.Option.{option_copied};
 ghost use Rattle.contract_words.specs.Outcome.{Gives};
 ghost use Rattle.avro_schema.specs.View.{tree};
@@ -8,23 +8,17 @@ ghost use Rattle.avro_file.specs.Value.{whole, run};
 ghost use Rattle.avro_file.specs.View.{view, views, pair_with, long_pairs, bytes_pairs};
 ghost use Rattle.ice_manifest_fields.specs.Each.{each};
 ghost use Rattle.ice_manifest_fields.specs.Naming.{in_manifest, told};
-ghost use Rattle.ice_manifest_fields.specs.Fields.{asked, whole_of as whole_value, truth_of as truth_value};
-ghost use Rattle.ice_manifest_fields.specs.Fields.{binary_of as binary_value, items_of as items_value, there, at};
-ghost use Rattle.ice_manifest_fields.specs.Fields.{long_at as long_said, int_at as int_said, number_at as number_said};
-ghost use Rattle.ice_manifest_fields.specs.Fields.{path_at as path_said, truth_at as truth_said};
-ghost use Rattle.ice_manifest_fields.specs.Fields.{int_or_zero as int_or_zero_said};
-ghost use Rattle.ice_manifest_fields.specs.Fields.{number_or_zero as number_or_zero_said};
-ghost use Rattle.ice_manifest_fields.specs.Fields.{optional_long as long_if_there, optional_int as int_if_there};
-ghost use Rattle.ice_manifest_fields.specs.Fields.{optional_number as number_if_there};
+ghost use Rattle.ice_manifest_fields.specs.Fields.{items_of as items_value};
+ghost use Rattle.ice_manifest_fields.specs.Fields.{long_at as long_said, int_at as int_said, truth_at as truth_said};
+ghost use Rattle.ice_manifest_fields.specs.Fields.{optional_long as long_if_there};
 ghost use Rattle.ice_manifest_fields.specs.Fields.{optional_truth as truth_if_there};
-ghost use Rattle.ice_manifest_fields.specs.Fields.{optional_binary as binary_if_there, optional_path as path_if_there};
+ghost use Rattle.ice_manifest_fields.specs.Fields.{optional_binary as binary_if_there};
 ghost use Rattle.ice_manifest_fields.specs.Fields.{int_item as int_of_item, short_path as short_path_of};
-ghost use Rattle.ice_manifest_fields.specs.Fields.{ints_at as ints_said, within_32 as within, not_negative as natural};
+ghost use Rattle.ice_manifest_fields.specs.Fields.{within_32 as within, not_negative as natural};
 ghost use Rattle.ice_manifest_fields.specs.Seen.{result_map, object, pairs_in, listed};
 
 use crate::fault::{FieldFault, ManifestFault};
 use crate::picking::{itself, pick};
-use crate::shape::type_at;
 use avro_file::Datum;
 use avro_schema::{Field, Schema};
 use contract_words::Items;
@@ -84,66 +78,6 @@ pub fn int_at(fields: &[Field], values: &[Datum], id: i32) -> Result<i32, FieldF
     within_32(long_at(fields, values, id)?, id)
 }
 
-/// A whole number of 32 bits; none where it is absent or null.
-#[tactic(auto, unfolding(crate::specs::Fields::optional_int))]
-pub fn optional_int(fields: &[Field], values: &[Datum], id: i32) -> Result<Option<i32>, FieldFault>
-    ensures { result ≡ int_if_there id (object fields.now values.now) }
-{
-    match optional_long(fields, values, id) {
-        Some(number) => Ok(Some(within_32(number, id)?)),
-        None => Ok(None),
-    }
-}
-
-/// A sequence number.
-#[tactic(auto, unfolding(crate::specs::Fields::number_at))]
-fn number_at(fields: &[Field], values: &[Datum], id: i32) -> Result<SequenceNumber, FieldFault>
-    ensures { result ≡ number_said id (object fields.now values.now) }
-{
-    not_negative(long_at(fields, values, id)?, id)
-}
-
-/// A whole number of 32 bits; 0 where there is no such field.
-#[tactic(auto, unfolding(crate::specs::Fields::int_or_zero))]
-pub fn int_or_zero(fields: &[Field], values: &[Datum], id: i32) -> Result<i32, FieldFault>
-    ensures { result ≡ int_or_zero_said id (object fields.now values.now) }
-{
-    if type_at(fields, id).is_none() {
-        return Ok(0);
-    }
-    int_at(fields, values, id)
-}
-
-/// A sequence number; 0 where there is no such field.
-#[tactic(auto, unfolding(crate::specs::Fields::number_or_zero))]
-pub fn number_or_zero(
-    fields: &[Field],
-    values: &[Datum],
-    id: i32,
-) -> Result<SequenceNumber, FieldFault>
-    ensures { result ≡ number_or_zero_said id (object fields.now values.now) }
-{
-    if type_at(fields, id).is_none() {
-        return Ok(SequenceNumber::zero());
-    }
-    number_at(fields, values, id)
-}
-
-/// A sequence number; none where it is absent or null.
-#[tactic(auto, unfolding(crate::specs::Fields::optional_number))]
-pub fn optional_number(
-    fields: &[Field],
-    values: &[Datum],
-    id: i32,
-) -> Result<Option<SequenceNumber>, FieldFault>
-    ensures { result ≡ number_if_there id (object fields.now values.now) }
-{
-    match optional_long(fields, values, id) {
-        Some(number) => Ok(Some(not_negative(number, id)?)),
-        None => Ok(None),
-    }
-}
-
 /// A boolean; none where it is absent or null.
 pub fn optional_truth(fields: &[Field], values: &[Datum], id: i32) -> Option<bool>
     ensures { result ≡ truth_if_there id (object fields.now values.now) }
@@ -199,38 +133,6 @@ pub fn short_path<'d>(text: &'d str, id: i32) -> Result<&'d str, FieldFault>
     } else {
         Err(FieldFault::OutOfRange(id))
     }
-}
-
-/// A path of at most 65,535 bytes.
-#[tactic(auto, unfolding(crate::specs::Fields::path_at))]
-pub fn path_at<'a, 'd>(
-    fields: &'a [Field],
-    values: &'a [Datum<'d>],
-    id: i32,
-) -> Result<&'d str, FieldFault>
-    ensures said { result_map (λ path. path.now) result ≡ path_said id (object fields.now values.now) }
-    ensures short { IfOk result (λ path. length path.now ≤ 65535) }
-{
-    let Some((_, Datum::String(text))) = pick(fields, values, id) else {
-        return Err(FieldFault::Missing(id));
-    };
-    short_path(text, id)
-}
-
-/// A path of at most 65,535 bytes; none where it is absent or null.
-#[tactic(auto, unfolding(crate::specs::Fields::optional_path))]
-pub fn optional_path<'a, 'd>(
-    fields: &'a [Field],
-    values: &'a [Datum<'d>],
-    id: i32,
-) -> Result<Option<&'d str>, FieldFault>
-    ensures said { result_map option_copied result ≡ path_if_there id (object fields.now values.now) }
-    ensures short { IfOk result (λ found. IfSome found (λ path. length path.now ≤ 65535)) }
-{
-    let Some((_, Datum::String(text))) = pick(fields, values, id) else {
-        return Ok(None);
-    };
-    Ok(Some(short_path(text, id)?))
 }
 
 /// A record of an int and a long.
@@ -346,22 +248,4 @@ pub fn ints_of(
     let built = pairs_built(alloc, datum)?;
     let (schema, items) = items_of(schema, datum, &built);
     int_items(alloc, schema, items, item)
-}
-
-/// The whole numbers of a list, whose items have an id; none where there is no list.
-#[tactic(auto, unfolding(crate::specs::Fields::ints_at, crate::specs::Each::each))]
-pub fn ints_at(
-    alloc: Global,
-    fields: &[Field],
-    values: &[Datum],
-    id: i32,
-    item: i32,
-) -> Result<Items<i32>, ManifestFault>
-    ensures { Gives ManifestFault.Memory (λ ids. ids) result
-        (told in_manifest (ints_said id item (object fields.now values.now))) }
-{
-    match pick(fields, values, id) {
-        Some((schema, datum)) => ints_of(alloc, schema, datum, item),
-        None => Ok(Items::new(alloc)),
-    }
 }

@@ -13,16 +13,15 @@ mod shape;
 
 pub use columns::{
     ColumnMap, LOWER_BOUNDS, NULL_COUNTS, UPPER_BOUNDS, VALUE_COUNTS, bounds_of_map,
-    check_column_fields, columns_of, counts_of_map,
+    check_column_fields, counts_of_map,
 };
 pub use decimal::shortest;
 pub use fault::{FieldFault, ListFault, ManifestFault};
 pub use field::{
-    int_at, int_or_zero, ints_at, ints_of, items_of, long_at, not_negative, number_or_zero,
-    optional_binary, optional_int, optional_long, optional_number, optional_path, optional_truth,
-    pairs_built, path_at, short_path, truth_at, within_32,
+    ints_of, items_of, not_negative, optional_binary, optional_truth, pairs_built, short_path,
+    truth_at, within_32,
 };
 pub use kind::Kind;
 pub use laws::decimals_are_kept_shortest;
-pub use picking::{itself, pick, pick_record, record_values};
+pub use picking::itself;
 pub use shape::{branches_of, check_ids, check_row_fields, fields_of, optional, required, type_at};

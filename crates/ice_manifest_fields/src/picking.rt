@@ -2,13 +2,12 @@
 
 ghost use Rattle.std.specs.Prelude.{◌≡◌, ◌<◌, [], ◌∷◌, length, option_map, IfSome};
 ghost use Rattle.avro_schema.specs.View.{tree, trees, branches_of};
-ghost use Rattle.avro_file.specs.Value.{Value, fields};
+ghost use Rattle.avro_file.specs.Value.{Value};
 ghost use Rattle.avro_file.specs.View.{view};
 ghost use Rattle.avro_file.specs.Picking.{present, of_branch, field_value, unless_null as unless_null_value};
 ghost use Rattle.avro_file.specs.Picking.{pick as pick_value};
-ghost use Rattle.ice_manifest_fields.specs.Fields.{at, there, record_of};
-ghost use Rattle.ice_manifest_fields.specs.Seen.{fields_seen, values as values_seen, object, typed, record_lent};
-ghost use Rattle.ice_manifest_fields.specs.Seen.{as_record};
+ghost use Rattle.ice_manifest_fields.specs.Fields.{at, there};
+ghost use Rattle.ice_manifest_fields.specs.Seen.{fields_seen, values as values_seen, object, typed};
 ghost use Rattle.ice_manifest_fields.specs.Places.{place_of};
 
 use avro_file::Datum;
@@ -96,28 +95,4 @@ pub fn pick<'a, 'd>(
 {
     let (schema, datum) = find(fields, values, id)?;
     itself(schema, datum)
-}
-
-/// The record at the field with this id.
-pub fn pick_record<'a, 'd>(
-    fields: &'a [Field],
-    values: &'a [Datum<'d>],
-    id: i32,
-) -> Option<(&'a [Field], &'a [Datum<'d>])>
-    ensures { option_map record_lent result ≡ record_of (there (at id (object fields.now values.now))) }
-{
-    match pick(fields, values, id)? {
-        (Schema::Record(fields), Datum::Record(values)) => Some((fields, values)),
-        _ => None,
-    }
-}
-
-/// The values of a record.
-pub fn record_values<'a, 'd>(datum: &'a Datum<'d>) -> Option<&'a [Datum<'d>]>
-    ensures { option_map (λ v. fields (values_seen v.now)) result ≡ as_record (view datum.now) }
-{
-    match datum {
-        Datum::Record(values) => Some(values),
-        _ => None,
-    }
 }

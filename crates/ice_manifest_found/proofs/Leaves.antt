@@ -1,6 +1,6 @@
 -- What a value is that stands at the front of bytes, by its type.
-use Rattle.std.proofs.Common.{◌≡◌, ℕ, suc, ℤ, pos, negsuc, Bool, true, false, List, [], length, Option, Some, None}
-use Rattle.std.proofs.Common.{Result, Ok, Err, refl, sym, ap, subst, ◌∙◌}
+use Rattle.std.proofs.Common.{◌≡◌, ℕ, suc, ℤ, pos, negsuc, Bool, List, length}
+use Rattle.std.proofs.Common.{Result, Ok, Err, sym, ap, subst}
 use Rattle.contract_words.specs.Outcome.{◌>>=◌}
 use Rattle.avro_schema.specs.Tree.{Tree, null, boolean, int, long, float, double, symbols, octets, string, fixed}
 use Rattle.avro_schema.specs.Tree.{structure, array, map, union}
@@ -12,7 +12,7 @@ use Rattle.avro_file.specs.Value.{Values, items, entries, Entries, chosen, value
 use Rattle.avro_file.specs.Reading.{leaf, blocks_at, entry_at, datum_at, fields_at, branch_at, chosen_by}
 use Rattle.avro_file.specs.Blocks.{max_items, StandsAt}
 use Rattle.avro_file.proofs.Steps.{bind_ok, ok_is}
-use Rattle.avro_picked.proofs.Values.{stood, structure_taken}
+use Rattle.avro_picked.proofs.Values.{stood}
 
 -- ---- the values of a type
 
@@ -117,20 +117,8 @@ unfolding datum_at
 long_stands bytes v stands =
     let read = stood long bytes v stands in leaf_taken whole max_items (long_at bytes) v read.0 read.1
 
-pub boolean_stands : (bytes : List ℕ) (v : Value) → StandsAt boolean bytes v
-    → (x : Bool × List ℕ) × (boolean_at bytes ≡ Ok x) × (v ≡ truth x.0)
-unfolding datum_at
-boolean_stands bytes v stands =
-    let read = stood boolean bytes v stands in leaf_taken truth max_items (boolean_at bytes) v read.0 read.1
-
 pub string_stands : (bytes : List ℕ) (v : Value) → StandsAt string bytes v
     → (x : List ℕ × List ℕ) × (string_at bytes ≡ Ok x) × (v ≡ text x.0)
 unfolding datum_at
 string_stands bytes v stands =
     let read = stood string bytes v stands in leaf_taken text max_items (string_at bytes) v read.0 read.1
-
-pub octets_stand : (kind : _) (bytes : List ℕ) (v : Value) → StandsAt (octets kind) bytes v
-    → (x : List ℕ × List ℕ) × (bytes_at bytes ≡ Ok x) × (v ≡ run x.0)
-unfolding datum_at
-octets_stand kind bytes v stands =
-    let read = stood (octets kind) bytes v stands in leaf_taken run max_items (bytes_at bytes) v read.0 read.1

@@ -1,19 +1,19 @@
 -- What was met where a value was found.
-use Rattle.std.proofs.Common.{◌≡◌, ℤ, ℕ, Bool, false, List, Option, Some, None, Result, Ok, Err, refl, sym, ap, subst, ◌∙◌}
-use Rattle.avro_schema.specs.Tree.{Tree, boolean, int, long, octets, string}
+use Rattle.std.proofs.Common.{◌≡◌, ℤ, ℕ, List, Option, Some, None, Result, Ok, Err, refl, sym, ap, subst, ◌∙◌}
+use Rattle.avro_schema.specs.Tree.{Tree, int, long, string}
 use Rattle.avro_schema.specs.View.{tree}
 use Rattle.avro_parts.specs.declared.refusal.Refusal.{Refusal}
-use Rattle.avro_parts.specs.Parts.{boolean_at, bytes_at, string_at}
+use Rattle.avro_parts.specs.Parts.{string_at}
 use Rattle.avro_parts.specs.Number.{long_at, int_at}
-use Rattle.avro_file.specs.Value.{Value, truth, small, whole, text, run}
+use Rattle.avro_file.specs.Value.{Value, small, whole, text}
 use Rattle.avro_file.specs.Blocks.{StandsAt}
-use Rattle.avro_file.specs.Picking.{Typed, Picked}
+use Rattle.avro_file.specs.Picking.{Typed, Picked, absent, null_met, present}
 use Rattle.avro_file.proofs.Steps.{ok_is}
 use Rattle.avro_picked.specs.declared.found.Found.{Found}
 use Rattle.avro_picked.specs.Finding.{IsMet}
-use Rattle.ice_manifest_fields.specs.Fields.{there, whole_of, truth_of, text_of, binary_of, record_of}
-use Rattle.ice_manifest_found.proofs.Leaves.{Makes, stands_seen, int_stands, long_stands, boolean_stands, string_stands}
-use Rattle.ice_manifest_found.proofs.Leaves.{octets_stand}
+use Rattle.avro_picked.specs.Picked.{value_met}
+use Rattle.ice_manifest_fields.specs.Fields.{there, whole_of, text_of}
+use Rattle.ice_manifest_found.proofs.Leaves.{Makes, stands_seen, int_stands, long_stands, string_stands}
 
 -- how a leaf of the type is read
 abbrev Reads : {A : Type 0} → Tree → (List ℕ → Result (A × List ℕ) Refusal) → (A → Value) → Type 0
@@ -58,14 +58,6 @@ pub long_never : (f : Found) (met : Picked) (bytes : List ℕ) (e : Refusal) →
     → bytes ≡ f.bytes.now → long_at bytes ≡ Err e → IsMet (Some f) met → ⊥
 long_never = leaf_never whole long long_at long_stands
 
-pub truth_there : (f : Found) (met : Picked) (bytes : List ℕ) (x : Bool × List ℕ) → tree f.schema.now ≡ boolean
-    → bytes ≡ f.bytes.now → boolean_at bytes ≡ Ok x → IsMet (Some f) met → Some x.0 ≡ truth_of (there met)
-truth_there = leaf_there truth_of truth boolean boolean_at boolean_stands (λ u a. refl)
-
-pub truth_never : (f : Found) (met : Picked) (bytes : List ℕ) (e : Refusal) → tree f.schema.now ≡ boolean
-    → bytes ≡ f.bytes.now → boolean_at bytes ≡ Err e → IsMet (Some f) met → ⊥
-truth_never = leaf_never truth boolean boolean_at boolean_stands
-
 pub text_there : (f : Found) (met : Picked) (bytes : List ℕ) (x : List ℕ × List ℕ) → tree f.schema.now ≡ string
     → bytes ≡ f.bytes.now → string_at bytes ≡ Ok x → IsMet (Some f) met → Some x.0 ≡ text_of (there met)
 text_there = leaf_there text_of text string string_at string_stands (λ u a. refl)
@@ -73,15 +65,6 @@ text_there = leaf_there text_of text string string_at string_stands (λ u a. ref
 pub text_never : (f : Found) (met : Picked) (bytes : List ℕ) (e : Refusal) → tree f.schema.now ≡ string
     → bytes ≡ f.bytes.now → string_at bytes ≡ Err e → IsMet (Some f) met → ⊥
 text_never = leaf_never text string string_at string_stands
-
-pub binary_there : (kind : _) (f : Found) (met : Picked) (bytes : List ℕ) (x : List ℕ × List ℕ)
-    → tree f.schema.now ≡ octets kind → bytes ≡ f.bytes.now → bytes_at bytes ≡ Ok x → IsMet (Some f) met
-    → Some x.0 ≡ binary_of (there met)
-binary_there kind = leaf_there binary_of run (octets kind) bytes_at (octets_stand kind) (λ u a. refl)
-
-pub binary_never : (kind : _) (f : Found) (met : Picked) (bytes : List ℕ) (e : Refusal)
-    → tree f.schema.now ≡ octets kind → bytes ≡ f.bytes.now → bytes_at bytes ≡ Err e → IsMet (Some f) met → ⊥
-binary_never kind = leaf_never run (octets kind) bytes_at (octets_stand kind)
 
 -- whatever the type's values are, this is what is seen of what was met
 pub seen_there : {B : Type 0} (see : Option Typed → B) (b : B) (t : Tree) (f : Found) (met : Picked)
@@ -96,3 +79,9 @@ pub tree_there : (f : Found) (met : Picked) (s : Tree) (v : Value) (is : IsMet (
     → v ≡ is.0 → Some (s, v) ≡ there met
 tree_there f met s v is same here =
     ap (λ (t : Tree). Some (t, v)) same ∙ ap (λ (w : Value). Some (tree f.schema.now, w)) here ∙ sym (ap there is.2)
+
+-- where no value was met, nothing is there
+pub none_there : (met : Picked) → value_met met ≡ None → there met ≡ None
+none_there absent is = refl
+none_there null_met is = refl
+none_there (present x) is = absurd cc

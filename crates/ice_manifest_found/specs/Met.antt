@@ -1,6 +1,7 @@
--- What was met where a way of field ids leads, as the field that it is: what a manifest's entry must have there, or may.
+-- What was met where a way of field ids leads, as the field that it is: what a manifest list's row or a manifest's entry
+-- must have there, or may.
 -- Apache Iceberg table spec v2, 'Manifests' and 'Column Projection'.
-use Rattle.std.specs.Prelude.{ℕ, ℤ, List, Bool, Option, Result, Ok, is_some}
+use Rattle.std.specs.Prelude.{ℕ, ℤ, List, Option, Result, Ok}
 use Rattle.contract_words.specs.Outcome.{◌>>=◌}
 use Rattle.avro_file.specs.Picking.{Typed, Picked}
 use Rattle.ice_value.specs.Columns.{ColumnCount, ColumnBound}
@@ -9,13 +10,9 @@ use Rattle.ice_manifest_fields.specs.declared.fault.FieldFault.{FieldFault}
 use Rattle.ice_manifest_fields.specs.declared.columns.ColumnMap.{ColumnMap}
 use Rattle.ice_manifest_fields.specs.ColumnMaps.{value_counts, null_value_counts, lower_bounds, upper_bounds}
 use Rattle.ice_manifest_fields.specs.Each.{each}
-use Rattle.ice_manifest_fields.specs.Fields.{there, whole_of, truth_of, text_of, record_of, items_of, asked, within_32}
+use Rattle.ice_manifest_fields.specs.Fields.{there, whole_of, text_of, items_of, asked, within_32}
 use Rattle.ice_manifest_fields.specs.Fields.{not_negative, short_path, if_there, int_item}
 use Rattle.ice_manifest_fields.specs.Maps.{count_of, bound_of}
-
--- a record was met
-abbrev pub is_record_met : Picked → Bool
-is_record_met met = is_some (record_of (there met))
 
 -- ---- what must be there
 
@@ -30,9 +27,6 @@ int_met id met = long_met id met >>= within_32 id
 -- a sequence number
 abbrev pub number_met : ℤ → Picked → Result ℕ FieldFault
 number_met id met = long_met id met >>= not_negative id
-
-abbrev pub truth_met : ℤ → Picked → Result Bool FieldFault
-truth_met id met = asked id (truth_of (there met))
 
 -- a path, of at most 65,535 bytes
 abbrev pub path_met : ℤ → Picked → Result (List ℕ) FieldFault

@@ -6,10 +6,10 @@ ghost use Rattle.avro_file.specs.Picking.{Picked};
 ghost use Rattle.avro_picked.specs.Finding.{IsMet};
 ghost use Rattle.ice_manifest_fields.specs.Fields.{there, asked};
 ghost use Rattle.ice_manifest_fields.specs.Seen.{result_map};
-ghost use Rattle.ice_manifest_found.specs.Met.{long_met, int_met, number_met, truth_met, path_met};
+ghost use Rattle.ice_manifest_found.specs.Met.{long_met, int_met, number_met, path_met};
 ghost use Rattle.ice_manifest_found.specs.Met.{optional_int_met, optional_number_met, optional_path_met};
 
-use crate::leaf::{text, truth, whole};
+use crate::leaf::{text, whole};
 use avro_picked::Found;
 use ice_manifest_fields::{FieldFault, not_negative, short_path, within_32};
 use ice_value::SequenceNumber;
@@ -36,16 +36,6 @@ pub fn number_asked(found: Option<Found<'_, '_>>, id: i32) -> Result<SequenceNum
     ensures { (met : Picked) → IsMet found.entry met → result ≡ number_met id met }
 {
     not_negative(long_asked(found, id)?, id)
-}
-
-/// A boolean. `Missing` where none was found.
-pub fn truth_asked(found: Option<Found<'_, '_>>, id: i32) -> Result<bool, FieldFault>
-    ensures { (met : Picked) → IsMet found.entry met → result ≡ truth_met id met }
-{
-    match truth(found) {
-        Some(truth) => Ok(truth),
-        None => Err(FieldFault::Missing(id)),
-    }
 }
 
 /// A path of at most 65,535 bytes, lent from the file. `Missing` where none was found, `OutOfRange` where it is longer.

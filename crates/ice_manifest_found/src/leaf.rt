@@ -1,15 +1,12 @@
 //! What a found value is, read from its bytes.
 
-ghost use Rattle.std.specs.Prelude.{◌≡◌, IfSome};
+ghost use Rattle.std.specs.Prelude.{◌≡◌};
 ghost use Rattle.std.specs.Option.{option_copied};
-ghost use Rattle.avro_schema.specs.View.{tree};
-ghost use Rattle.avro_file.specs.Value.{Value};
 ghost use Rattle.avro_file.specs.Picking.{Picked};
 ghost use Rattle.avro_picked.specs.Finding.{IsMet};
-ghost use Rattle.ice_manifest_fields.specs.Fields.{there, whole_of, truth_of, text_of, binary_of};
-ghost use Rattle.ice_manifest_found.specs.Met.{is_record_met};
+ghost use Rattle.ice_manifest_fields.specs.Fields.{there, whole_of, text_of};
 
-use avro_parts::{boolean_of, bytes_of, int_of, long_of, text_of as text_at};
+use avro_parts::{int_of, long_of, text_of as text_at};
 use avro_picked::Found;
 use avro_schema::Schema;
 
@@ -31,20 +28,6 @@ pub fn whole(found: Option<Found<'_, '_>>) -> Option<i64>
     }
 }
 
-/// The boolean that was found; none where nothing or anything else was.
-pub fn truth(found: Option<Found<'_, '_>>) -> Option<bool>
-    ensures { (met : Picked) → IsMet found.entry met → result ≡ truth_of (there met) }
-{
-    let found = found?;
-    match found.schema() {
-        Schema::Boolean => match boolean_of(found.bytes()) {
-            Ok((truth, _)) => Some(truth),
-            Err(_) => None,
-        },
-        _ => None,
-    }
-}
-
 /// The text that was found, lent from the file; none where nothing or anything else was.
 pub fn text<'a>(found: Option<Found<'_, 'a>>) -> Option<&'a str>
     ensures { (met : Picked) → IsMet found.entry met → option_copied result ≡ text_of (there met) }
@@ -56,32 +39,5 @@ pub fn text<'a>(found: Option<Found<'_, 'a>>) -> Option<&'a str>
             Err(_) => None,
         },
         _ => None,
-    }
-}
-
-/// The bytes that were found, lent from the file; none where nothing or anything else was.
-pub fn binary<'a>(found: Option<Found<'_, 'a>>) -> Option<&'a [u8]>
-    ensures { (met : Picked) → IsMet found.entry met → option_copied result ≡ binary_of (there met) }
-{
-    let found = found?;
-    match found.schema() {
-        Schema::Bytes(_) => match bytes_of(found.bytes()) {
-            Ok((bytes, _)) => Some(bytes),
-            Err(_) => None,
-        },
-        _ => None,
-    }
-}
-
-/// Whether a record was found.
-pub fn is_record(found: Option<Found<'_, '_>>) -> bool
-    ensures { (met : Picked) → IsMet found.entry met → result ≡ is_record_met met }
-{
-    let Some(found) = found else {
-        return false;
-    };
-    match found.schema() {
-        Schema::Record(_) => true,
-        _ => false,
     }
 }

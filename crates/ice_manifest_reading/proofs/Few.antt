@@ -5,13 +5,12 @@ use Rattle.std.specs.Option.{option_eq}
 use Rattle.avro_schema.specs.Tree.{Tree, null, boolean, int, long, float, double, symbols, octets, string, fixed}
 use Rattle.avro_schema.specs.Tree.{structure, array, map, union, Fields, no_fields, field}
 use Rattle.avro_file.specs.Spelling.{takes_bytes, some_takes_bytes}
-use Rattle.avro_picked.specs.Finding.{is_structure}
 use Rattle.ice_meta.specs.declared.spec.Spec.{Spec}
-use Rattle.ice_manifest_fields.specs.declared.fault.FieldFault.TheVariants.{WrongType}
 use Rattle.ice_manifest_fields.specs.Types.{is_whole, fits}
-use Rattle.ice_manifest_fields.specs.Schemas.{fields_in, type_at, must_fit, required}
+use Rattle.ice_manifest_fields.specs.Schemas.{fields_in, type_at, required}
 use Rattle.ice_manifest_reading.specs.ManifestSchemas.{entry_fields}
-use Rattle.ice_manifest_reading.proofs.Guards.{passed, ok_is, went_on}
+use Rattle.ice_manifest_reading.proofs.Guards.{went_on}
+use Rattle.ice_manifest_reading.proofs.Records.{must_have}
 
 whole_takes_bytes : (t : Tree) → fits is_whole t ≡ true → takes_bytes t ≡ true
 unfolding fits takes_bytes
@@ -65,41 +64,10 @@ tree_takes_bytes (array t id k) u here fit = refl
 tree_takes_bytes (map t) u here fit = refl
 tree_takes_bytes (union bs) u here fit = refl
 
-must_have : (o : Option Tree) (t : Tree) → must_fit is_whole (pos 0) o ≡ Ok t → (o ≡ Some t) × (fits is_whole t ≡ true)
-must_have None t e = absurd cc
-must_have (Some u) t e =
-    let g = passed (fits is_whole u) (WrongType (pos 0)) (Ok u) t e in
-    let same : u ≡ t = ok_is u t g.1 in
-    (ap Some same, subst (λ (v : Tree). fits is_whole v ≡ true) same g.0)
-
 -- a schema that has the fields of entries
 pub entries_take_bytes : (spec : Spec) (s : Tree) → entry_fields spec (fields_in s) ≡ Ok tt → takes_bytes s ≡ true
 unfolding entry_fields required
 entries_take_bytes spec s e =
     let status = went_on (required is_whole (pos 0) (fields_in s)) _ tt e in
-    let there = must_have (type_at (pos 0) (fields_in s)) status.0 status.1 in
+    let there = must_have is_whole (pos 0) (type_at (pos 0) (fields_in s)) status.0 status.1 in
     tree_takes_bytes s status.0 there.0 there.1
-
-typed_record : (s u : Tree) → type_at (pos 0) (fields_in s) ≡ Some u → is_structure s ≡ true
-unfolding type_at
-typed_record null u here = absurd cc
-typed_record boolean u here = absurd cc
-typed_record int u here = absurd cc
-typed_record long u here = absurd cc
-typed_record float u here = absurd cc
-typed_record double u here = absurd cc
-typed_record (octets k) u here = absurd cc
-typed_record string u here = absurd cc
-typed_record (fixed n k) u here = absurd cc
-typed_record (symbols n) u here = absurd cc
-typed_record (structure fs) u here = refl
-typed_record (array t id k) u here = absurd cc
-typed_record (map t) u here = absurd cc
-typed_record (union bs) u here = absurd cc
-
--- it is a record's
-pub entries_are_records : (spec : Spec) (s : Tree) → entry_fields spec (fields_in s) ≡ Ok tt → is_structure s ≡ true
-unfolding entry_fields required
-entries_are_records spec s e =
-    let status = went_on (required is_whole (pos 0) (fields_in s)) _ tt e in
-    let there = must_have (type_at (pos 0) (fields_in s)) status.0 status.1 in typed_record s status.0 there.0

@@ -16,3 +16,4 @@ pub mod Held
 pub mod Keeping
 pub mod NoMemory
 pub mod Found
+pub mod FoundRows

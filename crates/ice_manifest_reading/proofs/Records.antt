@@ -1,65 +1,54 @@
--- Objects that are no records.
-use Rattle.std.proofs.Common.{◌≡◌, ℕ, pos, Some, None, Err, refl}
-use Rattle.avro_schema.specs.Tree.{structure, Fields}
-use Rattle.avro_file.specs.Value.{Value, nothing, truth, small, whole, single, twice, text, run, raw, symbol, fields}
-use Rattle.avro_file.specs.Value.{items, entries, chosen}
+-- Objects that are records, since their fields were found to fit.
+use Rattle.std.proofs.Common.{◌≡◌, ℤ, pos, Bool, true, false, Option, Some, None, Ok, refl, ap, subst}
+use Rattle.avro_schema.specs.Tree.{Tree, null, boolean, int, long, float, double, symbols, octets, string, fixed}
+use Rattle.avro_schema.specs.Tree.{structure, array, map, union}
+use Rattle.avro_picked.specs.Finding.{is_structure}
 use Rattle.ice_meta.specs.declared.spec.Spec.{Spec}
-use Rattle.ice_manifest_fields.specs.declared.fault.FieldFault.TheVariants.{Missing}
-use Rattle.ice_manifest_fields.specs.declared.fault.ManifestFault.TheVariants.{MissingField}
-use Rattle.ice_manifest_reading.specs.declared.row.Row.{Row}
-use Rattle.ice_manifest_fields.specs.Fields.{path_at, int_at}
-use Rattle.ice_manifest_reading.specs.Lists.{row_of}
-use Rattle.ice_manifest_reading.specs.Manifests.{status_at, entry_of}
-use Rattle.ice_manifest_fields.specs.Seen.{as_record}
+use Rattle.ice_manifest_fields.specs.declared.fault.FieldFault.TheVariants.{WrongType}
+use Rattle.ice_manifest_fields.specs.Types.{is_whole, is_text, fits}
+use Rattle.ice_manifest_fields.specs.Schemas.{fields_in, type_at, must_fit, required, row_fields}
+use Rattle.ice_manifest_reading.specs.ManifestSchemas.{entry_fields}
+use Rattle.ice_manifest_reading.proofs.Guards.{passed, ok_is, went_on}
 
--- a value that is a record is this record
-pub record_is : (v w : Value) → Some w ≡ as_record v → v ≡ w
-record_is nothing w h = absurd cc
-record_is (truth b) w h = absurd cc
-record_is (small z) w h = absurd cc
-record_is (whole z) w h = absurd cc
-record_is (single s) w h = absurd cc
-record_is (twice s) w h = absurd cc
-record_is (text s) w h = absurd cc
-record_is (run s) w h = absurd cc
-record_is (raw s) w h = absurd cc
-record_is (symbol n) w h = absurd cc
-record_is (fields vs) w h = cc
-record_is (items vs) w h = absurd cc
-record_is (entries es) w h = absurd cc
-record_is (chosen n v) w h = absurd cc
+-- a type that must fit is there and fits
+pub must_have : (wanted : Tree → Bool) (id : ℤ) (o : Option Tree) (t : Tree) → must_fit wanted id o ≡ Ok t
+    → (o ≡ Some t) × (fits wanted t ≡ true)
+must_have wanted id None t e = absurd cc
+must_have wanted id (Some u) t e =
+    let g = passed (fits wanted u) (WrongType id) (Ok u) t e in
+    let same : u ≡ t = ok_is u t g.1 in
+    (ap Some same, subst (λ (v : Tree). fits wanted v ≡ true) same g.0)
 
-pub no_record_row : (fs : Fields) (v : Value) → None ≡ as_record v → row_of (structure fs, v) ≡ Err (Missing (pos 500))
-unfolding row_of path_at
-no_record_row fs nothing h = refl
-no_record_row fs (truth b) h = refl
-no_record_row fs (small z) h = refl
-no_record_row fs (whole z) h = refl
-no_record_row fs (single s) h = refl
-no_record_row fs (twice s) h = refl
-no_record_row fs (text s) h = refl
-no_record_row fs (run s) h = refl
-no_record_row fs (raw s) h = refl
-no_record_row fs (symbol n) h = refl
-no_record_row fs (fields vs) h = absurd cc
-no_record_row fs (items vs) h = refl
-no_record_row fs (entries es) h = refl
-no_record_row fs (chosen n v) h = refl
+-- a type that has a field
+typed_record : (id : ℤ) (s u : Tree) → type_at id (fields_in s) ≡ Some u → is_structure s ≡ true
+unfolding type_at
+typed_record id null u here = absurd cc
+typed_record id boolean u here = absurd cc
+typed_record id int u here = absurd cc
+typed_record id long u here = absurd cc
+typed_record id float u here = absurd cc
+typed_record id double u here = absurd cc
+typed_record id (octets k) u here = absurd cc
+typed_record id string u here = absurd cc
+typed_record id (fixed n k) u here = absurd cc
+typed_record id (symbols n) u here = absurd cc
+typed_record id (structure fs) u here = refl
+typed_record id (array t own k) u here = absurd cc
+typed_record id (map t) u here = absurd cc
+typed_record id (union bs) u here = absurd cc
 
-pub no_record_entry : (row : Row) (spec : Spec) (k : ℕ) (fs : Fields) (v : Value) → None ≡ as_record v
-    → entry_of row spec k (structure fs, v) ≡ Err (MissingField (pos 0))
-unfolding entry_of status_at int_at
-no_record_entry row spec k fs nothing h = refl
-no_record_entry row spec k fs (truth b) h = refl
-no_record_entry row spec k fs (small z) h = refl
-no_record_entry row spec k fs (whole z) h = refl
-no_record_entry row spec k fs (single s) h = refl
-no_record_entry row spec k fs (twice s) h = refl
-no_record_entry row spec k fs (text s) h = refl
-no_record_entry row spec k fs (run s) h = refl
-no_record_entry row spec k fs (raw s) h = refl
-no_record_entry row spec k fs (symbol n) h = refl
-no_record_entry row spec k fs (fields vs) h = absurd cc
-no_record_entry row spec k fs (items vs) h = refl
-no_record_entry row spec k fs (entries es) h = refl
-no_record_entry row spec k fs (chosen n v) h = refl
+-- a schema that has the fields of entries is a record's
+pub entries_are_records : (spec : Spec) (s : Tree) → entry_fields spec (fields_in s) ≡ Ok tt → is_structure s ≡ true
+unfolding entry_fields required
+entries_are_records spec s e =
+    let status = went_on (required is_whole (pos 0) (fields_in s)) _ tt e in
+    let there = must_have is_whole (pos 0) (type_at (pos 0) (fields_in s)) status.0 status.1 in
+    typed_record (pos 0) s status.0 there.0
+
+-- so is one that has the fields of rows
+pub rows_are_records : (s : Tree) → row_fields (fields_in s) ≡ Ok tt → is_structure s ≡ true
+unfolding row_fields required
+rows_are_records s e =
+    let path = went_on (required is_text (pos 500) (fields_in s)) _ tt e in
+    let there = must_have is_text (pos 500) (type_at (pos 500) (fields_in s)) path.0 path.1 in
+    typed_record (pos 500) s path.0 there.0

@@ -1,16 +1,19 @@
 //! Reading a manifest list.
 
-ghost use Rattle.std.specs.Prelude.{◌≡◌, ◌≤◌, [], Some, pos, length, option_map, OnOk, IfOk};
+ghost use Rattle.std.specs.Prelude.{◌≡◌, ◌≤◌, true, Some, pos, length, option_map, OnOk, IfOk};
 ghost use Rattle.std.specs.List.Sorted.{IsStrictlySortedBy};
 ghost use Rattle.contract_words.specs.Outcome.{Gives};
-ghost use Rattle.avro_schema.specs.Tree.{structure};
 ghost use Rattle.avro_schema.specs.View.{tree};
 ghost use Rattle.avro_file.specs.View.{view};
-ghost use Rattle.avro_file.specs.Files.{ahead};
+ghost use Rattle.avro_file.specs.Files.{ahead, type_of};
+ghost use Rattle.avro_picked.specs.Finding.{layout_tree, ways_of, is_structure};
+ghost use Rattle.avro_picked.specs.Placing.{IsLayout};
 ghost use Rattle.ice_manifest_fields.specs.Each.{each};
-ghost use Rattle.ice_manifest_fields.specs.Fields.{at, there};
+ghost use Rattle.ice_manifest_fields.specs.Fields.{at, there, items_of as items_said};
 ghost use Rattle.ice_manifest_fields.specs.Naming.{in_list, told};
-ghost use Rattle.ice_manifest_fields.specs.Seen.{fields_seen, object, listed};
+ghost use Rattle.ice_manifest_fields.specs.Schemas.{fields_in};
+ghost use Rattle.ice_manifest_fields.specs.Seen.{object, listed};
+ghost use Rattle.ice_manifest_found.specs.RowsFound.{row_seen, row_ways, IsRow};
 ghost use Rattle.ice_manifest_reading.specs.Lists.{rows_of, row_of as row_said, row_content as content_in};
 ghost use Rattle.ice_manifest_reading.specs.Lists.{content_at as content_said, counts_at as counts_said};
 ghost use Rattle.ice_manifest_reading.specs.Lists.{summary_in as summary_said, summary_of as summary_of_item};
@@ -21,13 +24,14 @@ ghost use Rattle.ice_manifest_reading.specs.Lists.{checked as checked_in, path_o
 use crate::counts::Counts;
 use crate::row::{ManifestContent, Row};
 use avro_file::{Container, Datum, Objects};
+use avro_picked::Layout;
 use avro_schema::{Field, Schema};
 use contract_words::{Items, Text};
 use ice_manifest_fields::{
-    FieldFault, ListFault, check_row_fields, fields_of, int_at, int_or_zero, items_of, itself,
-    long_at, number_or_zero, optional_binary, optional_int, optional_long, optional_truth,
-    pairs_built, path_at, pick, record_values, truth_at,
+    FieldFault, ListFault, check_row_fields, fields_of, items_of, itself, optional_binary,
+    optional_truth, pairs_built, truth_at,
 };
+use ice_manifest_found::{FoundRow, RowField, row_layout};
 use ice_value::Summary;
 use std::alloc::{AllocError, Global};
 
@@ -42,23 +46,25 @@ fn row_content(code: i32) -> Result<ManifestContent, FieldFault>
 }
 
 #[tactic(auto, unfolding(crate::specs::Lists::content_at))]
-fn content_at(fields: &[Field], values: &[Datum]) -> Result<ManifestContent, FieldFault>
-    ensures { result ≡ content_said (object fields.now values.now) }
+fn content_at(row: &FoundRow) -> Result<ManifestContent, FieldFault>
+    requires { IsRow row.now }
+    ensures { result ≡ content_said (row_seen row.now) }
 {
-    row_content(int_or_zero(fields, values, 517)?)
+    row_content(row.int_or_zero(RowField::Content)?)
 }
 
 #[tactic(auto, unfolding(crate::specs::Lists::counts_at))]
-fn counts_at(fields: &[Field], values: &[Datum]) -> Result<Counts, FieldFault>
-    ensures { result ≡ counts_said (object fields.now values.now) }
+fn counts_at(row: &FoundRow) -> Result<Counts, FieldFault>
+    requires { IsRow row.now }
+    ensures { result ≡ counts_said (row_seen row.now) }
 {
     Ok(Counts {
-        added_files: optional_int(fields, values, 504)?,
-        existing_files: optional_int(fields, values, 505)?,
-        deleted_files: optional_int(fields, values, 506)?,
-        added_rows: optional_long(fields, values, 512),
-        existing_rows: optional_long(fields, values, 513),
-        deleted_rows: optional_long(fields, values, 514),
+        added_files: row.optional_int(RowField::AddedFiles)?,
+        existing_files: row.optional_int(RowField::ExistingFiles)?,
+        deleted_files: row.optional_int(RowField::DeletedFiles)?,
+        added_rows: row.optional_long(RowField::AddedRows),
+        existing_rows: row.optional_long(RowField::ExistingRows),
+        deleted_rows: row.optional_long(RowField::DeletedRows),
     })
 }
 
@@ -102,67 +108,75 @@ fn summaries_of(
     Ok(summaries)
 }
 
-fn partitions_at(
+/// The summaries that a list says. Any other value says none.
+fn summaries_in_list(
     alloc: Global,
-    fields: &[Field],
-    values: &[Datum],
-) -> Result<Option<Items<Summary>>, ListFault>
+    schema: &Schema,
+    datum: &Datum,
+) -> Result<Items<Summary>, ListFault>
     ensures { Gives ListFault.Memory (λ x. x) result
-        (told in_list (summaries_in (there (at (pos 507) (object fields.now values.now))))) }
+        (told in_list (each summary_of_item (items_said (Some (tree schema.now, view datum.now))))) }
 {
-    let Some((schema, datum)) = pick(fields, values, 507) else {
-        return Ok(None);
-    };
     let built = pairs_built(alloc, datum)?;
     let (schema, items) = items_of(schema, datum, &built);
-    Ok(Some(summaries_of(alloc, schema, items)?))
+    summaries_of(alloc, schema, items)
 }
 
-/// The row that a record's fields say.
-#[tactic(auto, unfolding(crate::specs::Lists::row_of))]
-fn row_at(alloc: Global, fields: &[Field], values: &[Datum]) -> Result<Row, ListFault>
-    ensures { Gives ListFault.Memory (λ x. x) result (told in_list (row_said (object fields.now values.now))) }
+/// The summaries of the row's partition fields, of which a tree is built; none where the row does not say them.
+fn partitions_at(alloc: Global, row: &FoundRow) -> Result<Option<Items<Summary>>, ListFault>
+    requires { IsRow row.now }
+    ensures { Gives ListFault.Memory (λ x. x) result
+        (told in_list (summaries_in (there (at (pos 507) (row_seen row.now))))) }
 {
-    let path = path_at(fields, values, 500)?;
+    let Some(found) = row.found(RowField::Partitions) else {
+        return Ok(None);
+    };
+    let list = found.datum(alloc)?;
+    Ok(Some(summaries_in_list(alloc, found.schema(), &list)?))
+}
+
+/// The row that an object says.
+#[tactic(auto, unfolding(crate::specs::Lists::row_of))]
+fn row_of(alloc: Global, row: &FoundRow) -> Result<Row, ListFault>
+    requires { IsRow row.now }
+    ensures { Gives ListFault.Memory (λ x. x) result (told in_list (row_said (row_seen row.now))) }
+{
+    let path = row.path(RowField::Path)?;
     Ok(Row {
         path: Text::from_string(String::from_str(alloc, path)?),
-        length: long_at(fields, values, 501)?,
-        spec_id: int_at(fields, values, 502)?,
-        content: content_at(fields, values)?,
-        sequence_number: number_or_zero(fields, values, 515)?,
-        min_sequence_number: number_or_zero(fields, values, 516)?,
-        added_snapshot_id: long_at(fields, values, 503)?,
-        counts: counts_at(fields, values)?,
-        partitions: partitions_at(alloc, fields, values)?,
+        length: row.long(RowField::Length)?,
+        spec_id: row.int(RowField::SpecId)?,
+        content: content_at(row)?,
+        sequence_number: row.number_or_zero(RowField::SequenceNumber)?,
+        min_sequence_number: row.number_or_zero(RowField::MinSequenceNumber)?,
+        added_snapshot_id: row.long(RowField::AddedSnapshotId)?,
+        counts: counts_at(row)?,
+        partitions: partitions_at(alloc, row)?,
     })
 }
 
-/// The row that an object of these fields says.
-fn row_of(alloc: Global, fields: &[Field], datum: &Datum) -> Result<Row, ListFault>
-    ensures { Gives ListFault.Memory (λ x. x) result
-        (told in_list (row_said (structure (fields_seen fields.now), view datum.now))) }
-{
-    match record_values(datum) {
-        Some(values) => row_at(alloc, fields, values),
-        None => Err(ListFault::MissingField(500)),
-    }
-}
-
-/// The rows of all objects that are to come, in the file's order.
-fn all_rows(
+/// The rows of all objects that are to come, which are records, in the file's order.
+fn all_rows<'s>(
     alloc: Global,
-    fields: &[Field],
-    mut reader: Objects<'_, '_>,
+    layout: &Layout<'s>,
+    mut reader: Objects<'s, '_>,
 ) -> Result<Vec<Row>, ListFault>
+    requires layout { IsLayout layout.now }
+    requires ways { ways_of layout.now ≡ row_ways }
+    requires schema { layout_tree layout.now ≡ type_of reader }
+    requires records { is_structure (layout_tree layout.now) ≡ true }
     ensures { Gives ListFault.Memory (λ rows. rows.items) result
-        (rows_ahead (fields_seen fields.now) (ahead reader.entry)) }
+        (rows_ahead (fields_in (layout_tree layout.now)) (ahead reader.entry)) }
 {
+    let mut places = layout.places(alloc)?;
     let mut rows = Vec::new(alloc);
-    'objects: while let Some(object) = reader.next()? {
-        let datum = object.datum(alloc)?;
-        let row = row_of(alloc, fields, &datum)?;
-        drop(datum);
-        rows.push(row)?;
+    'objects: while let Some(object) = layout.next_placed(&mut reader, &mut places)? {
+        let row = FoundRow {
+            layout,
+            places: &places,
+            object,
+        };
+        rows.push(row_of(alloc, &row)?)?;
     }
     Ok(rows)
 }
@@ -219,9 +233,10 @@ pub fn read_list(alloc: Global, bytes: &[u8]) -> Result<Vec<Row>, ListFault>
     ensures few { IfOk result (λ rows. length rows.items ≤ 65536) }
 {
     let container = Container::open(alloc, bytes)?;
-    let fields = fields_of(container.schema());
-    check_row_fields(fields)?;
-    let mut rows = all_rows(alloc, fields, container.objects())?;
+    let schema = container.schema();
+    check_row_fields(fields_of(schema))?;
+    let layout = row_layout(alloc, schema)?;
+    let mut rows = all_rows(alloc, &layout, container.objects())?;
     put_in_order(&mut rows)?;
     checked(alloc, rows)
 }

@@ -1,6 +1,5 @@
-use Rattle.std.proofs.Common.{◌≡◌, ◌∙◌, Bool, true, false, Option, Some, None, sym, ap, subst, rules, w32, w64}
+use Rattle.std.proofs.Common.{◌≡◌, ◌∙◌, false, Option, Some, None, sym, ap, subst, rules, w32, w64}
 use Rattle.avro_schema.specs.View.{tree}
-use Rattle.avro_file.specs.Picking.{Picked}
 use Rattle.avro_picked.specs.declared.found.Found.{Found}
 use Rattle.avro_picked.specs.Finding.{IsMet}
 use mir.Val.{to_z, of_z}

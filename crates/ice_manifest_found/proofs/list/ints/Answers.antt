@@ -12,8 +12,7 @@ use Rattle.ice_manifest_fields.specs.declared.fault.ManifestFault.TheVariants.{M
 use Rattle.ice_manifest_fields.specs.Each.{each}
 use Rattle.ice_manifest_fields.specs.Fields.{there, items_of, int_item}
 use Rattle.ice_manifest_fields.specs.Naming.{in_manifest, told}
-use Rattle.ice_manifest_found.proofs.Inside.{none_there}
-use Rattle.ice_manifest_found.proofs.Shown.{tree_there}
+use Rattle.ice_manifest_found.proofs.Shown.{tree_there, none_there}
 use Rattle.ice_manifest_found.proofs.list.ints.Goals as goal
 
 pub returns-in_ok-datum-in-Some : goal.returns-in_ok-datum-in-Some

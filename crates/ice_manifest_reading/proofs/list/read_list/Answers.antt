@@ -1,6 +1,26 @@
-use Rattle.std.proofs.Common.{sym}
+use Rattle.std.proofs.Common.{◌≡◌, true, Ok, sym, ap, subst, ◌∙◌}
+use Rattle.avro_schema.specs.Tree.{Tree}
+use Rattle.avro_schema.specs.View.{tree}
+use Rattle.avro_file.specs.Files.{tree_of}
+use Rattle.avro_picked.specs.Finding.{is_structure}
+use Rattle.ice_manifest_fields.specs.Schemas.{fields_in, row_fields}
+use Rattle.ice_manifest_reading.proofs.Records.{rows_are_records}
 use Rattle.ice_manifest_reading.proofs.Rising.{strictly_given, few_given}
 use Rattle.ice_manifest_reading.proofs.list.read_list.Goals as goal
+
+pub all_rows-requires : goal.all_rows-requires
+all_rows-requires c =
+    let fits : row_fields (fields_in (tree_of c.in_ok-container.container)) ≡ Ok tt =
+    ap row_fields (sym (c.fields_of.ensures ∙ ap fields_in c.schema-schema.ensures)) ∙ sym
+    c.in_ok-check_row_fields.ensures in
+    let same = c.in_ok-layout.ensures.schema ∙ c.schema-schema.ensures in
+    record {
+      layout = c.in_ok-layout.ensures.leads;
+      ways = c.in_ok-layout.ensures.ways;
+      schema = same ∙ sym c.objects.ensures.schema;
+      records = subst (λ (t : Tree). is_structure t ≡ true) (sym same)
+          (rows_are_records (tree_of c.in_ok-container.container) fits);
+    }
 
 pub returns-clause-distinct : goal.returns-clause-distinct
 returns-clause-distinct c = strictly_given c.in_ok-rows.rows.items c.checked.result

@@ -7,7 +7,8 @@ use Rattle.avro_picked.specs.Finding.{is_structure}
 use Rattle.ice_entry_found.specs.Ways.{wanted_ways}
 use Rattle.ice_manifest_fields.specs.Schemas.{fields_in}
 use Rattle.ice_manifest_reading.specs.ManifestSchemas.{entry_fields}
-use Rattle.ice_manifest_reading.proofs.Few.{entries_take_bytes, entries_are_records}
+use Rattle.ice_manifest_reading.proofs.Few.{entries_take_bytes}
+use Rattle.ice_manifest_reading.proofs.Records.{entries_are_records}
 use Rattle.ice_manifest_reading.proofs.manifest.read_kept.Goals as goal
 
 pub all_entries-requires : goal.all_entries-requires
