@@ -1,2 +1,3 @@
 pub mod Met
 pub mod MapsRead
+pub mod SoundMaps

@@ -6,6 +6,7 @@ mod field;
 mod leaf;
 mod list;
 mod maps;
+mod sound;
 
 pub use field::{
     int_asked, long_asked, number_asked, optional_int, optional_number, optional_path, path_asked,
