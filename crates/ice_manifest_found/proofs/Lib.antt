@@ -4,3 +4,4 @@ pub mod Said
 pub mod Shown
 pub mod Schemas
 pub mod RowsShown
+pub mod SoundMaps

@@ -1,3 +1,4 @@
 pub mod Met
 pub mod MapsRead
 pub mod RowsFound
+pub mod SoundMaps

@@ -1,12 +1,15 @@
 -- What was met where a way of field ids leads, as the field that it is: what a manifest list's row or a manifest's entry
 -- must have there, or may.
 -- Apache Iceberg table spec v2, 'Manifests' and 'Column Projection'.
-use Rattle.std.specs.Prelude.{ℕ, ℤ, List, Option, Result, Ok}
+use Rattle.std.specs.Prelude.{◌≡◌, ◌≢◌, ℕ, ℤ, List, Bool, Option, Result, Ok, Err, is_some}
 use Rattle.contract_words.specs.Outcome.{◌>>=◌}
 use Rattle.avro_file.specs.Picking.{Typed, Picked}
 use Rattle.ice_value.specs.Columns.{ColumnCount, ColumnBound}
 use Rattle.ice_value.specs.declared.file_bounds.FileBounds.{FileBounds}
 use Rattle.ice_manifest_fields.specs.declared.fault.FieldFault.{FieldFault}
+use Rattle.ice_manifest_fields.specs.declared.fault.ManifestFault.{ManifestFault}
+use Rattle.ice_manifest_fields.specs.declared.fault.ManifestFault.TheVariants.{Memory}
+use Rattle.ice_manifest_fields.specs.Naming.{in_manifest, told}
 use Rattle.ice_manifest_fields.specs.declared.columns.ColumnMap.{ColumnMap}
 use Rattle.ice_manifest_fields.specs.ColumnMaps.{value_counts, null_value_counts, lower_bounds, upper_bounds}
 use Rattle.ice_manifest_fields.specs.Each.{each}
@@ -70,3 +73,8 @@ columns_met met = do
   lower ← bounds_in lower_bounds (there met.lower)
   upper ← bounds_in upper_bounds (there met.upper)
   Ok (record { value_counts = values; null_counts = nulls; lower_bounds = lower; upper_bounds = upper })
+
+-- reading was seen to have no fault; or its fault is told, unless memory ran out
+abbrev pub Checks : {A : Type 0} → Result (Unit {0}) ManifestFault → Result A FieldFault → Type 0
+Checks {A} (Ok done) read = (x : A) × (read ≡ Ok x)
+Checks (Err e) read = e ≢ Memory → told in_manifest read ≡ Err e

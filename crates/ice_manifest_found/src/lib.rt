@@ -8,6 +8,7 @@ mod list;
 mod maps;
 mod row;
 mod row_field;
+mod sound;
 
 pub use field::{int_asked, long_asked, optional_number, optional_path, path_asked};
 pub use leaf::whole;

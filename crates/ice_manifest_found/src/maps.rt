@@ -6,15 +6,16 @@ ghost use Rattle.avro_file.specs.Picking.{Picked};
 ghost use Rattle.avro_picked.specs.Finding.{IsMet};
 ghost use Rattle.ice_manifest_fields.specs.Fields.{there};
 ghost use Rattle.ice_manifest_fields.specs.Naming.{in_manifest, told};
-ghost use Rattle.ice_manifest_found.specs.Met.{MapsMet, counts_in, bounds_in, columns_met};
+ghost use Rattle.ice_manifest_found.specs.Met.{MapsMet, counts_in, bounds_in, columns_met, Checks};
 ghost use Rattle.ice_manifest_found.specs.MapsRead.{typed_map, AreMet, AreRead};
 
+use crate::sound::is_sound;
 use avro_file::Datum;
 use avro_picked::Found;
 use avro_schema::Schema;
 use ice_manifest_fields::{
-    ColumnMap, LOWER_BOUNDS, ManifestFault, NULL_COUNTS, UPPER_BOUNDS, VALUE_COUNTS, bounds_of_map,
-    counts_of_map,
+    ColumnMap, Kind, LOWER_BOUNDS, ManifestFault, NULL_COUNTS, UPPER_BOUNDS, VALUE_COUNTS,
+    bounds_of_map, counts_of_map,
 };
 use ice_value::{ColumnBounds, ColumnCounts, FileBounds};
 use std::alloc::{AllocError, Global};
@@ -94,7 +95,48 @@ fn bounds<'a, 'd>(
     }
 }
 
+/// The first fault of the pairs of a map of counts. Where its type allows none, it is not read.
+fn check_counts(alloc: Global, found: Option<Found>, map: ColumnMap) -> Result<(), ManifestFault>
+    requires { map.kind ≡ Kind.Whole }
+    ensures { (met : Picked) → IsMet found.entry met → Checks result (counts_in map (there met)) }
+{
+    match found {
+        Some(found) if is_sound(found.schema(), map) => Ok(()),
+        found => {
+            let read = read_map(alloc, found)?;
+            let _counts = counts(alloc, &read, map)?;
+            Ok(())
+        }
+    }
+}
+
+/// The first fault of the pairs of a map of bounds. Where its type allows none, it is not read.
+fn check_bounds(alloc: Global, found: Option<Found>, map: ColumnMap) -> Result<(), ManifestFault>
+    requires { map.kind ≡ Kind.Binary }
+    ensures { (met : Picked) → IsMet found.entry met → Checks result (bounds_in map (there met)) }
+{
+    match found {
+        Some(found) if is_sound(found.schema(), map) => Ok(()),
+        found => {
+            let read = read_map(alloc, found)?;
+            let _bounds = bounds(alloc, &read, map)?;
+            Ok(())
+        }
+    }
+}
+
 impl<'s, 'd> FoundMaps<'s, 'd> {
+    /// The first fault that reading the maps would find. Of a map whose type allows none nothing is read.
+    #[tactic(auto, unfolding(crate::specs::Met::columns_met))]
+    pub fn check(&self, alloc: Global) -> Result<(), ManifestFault>
+        ensures { (met : MapsMet) → AreMet self.now met → Checks result (columns_met met) }
+    {
+        check_counts(alloc, self.value_counts, VALUE_COUNTS)?;
+        check_counts(alloc, self.null_counts, NULL_COUNTS)?;
+        check_bounds(alloc, self.lower_bounds, LOWER_BOUNDS)?;
+        check_bounds(alloc, self.upper_bounds, UPPER_BOUNDS)
+    }
+
     /// The maps, each read into one list of pairs, or into a tree where it is none of int keys.
     pub fn read(&self, alloc: Global) -> Result<ReadMaps<'s, 'd>, AllocError>
         ensures { (met : MapsMet) → AreMet self.now met → IfOk result (λ maps. AreRead maps met) }

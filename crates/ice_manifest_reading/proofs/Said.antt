@@ -198,6 +198,11 @@ file_by of_row ps x d b m = rw (
   m.referenced,
 ) refl
 
+-- what is said of the columns of a file that was read
+pub columns_read : (of_row : ManifestContent) (ps : List PartitionField) (x : Typed) (d : DataFile) (b : FileBounds)
+    → file_of of_row ps x ≡ Ok (d, b) → columns_of x ≡ Ok b
+columns_read of_row ps x d b h = columns_by of_row ps x d b (file_said of_row ps x (d, b) h)
+
 -- ---- an entry
 
 abbrev pub live_made : Row → Spec → ℕ → Typed → ℕ → Option ℕ → DataFile × FileBounds → Live

@@ -1,13 +1,19 @@
 -- What is read of an entry before it is kept.
-use Rattle.std.specs.Prelude.{pos, List, [], ◌∷◌, ◌++◌, Bool, Result, Ok}
+use Rattle.std.specs.Prelude.{◌≡◌, ◌≢◌, pos, List, [], ◌∷◌, ◌++◌, Bool, Result, Ok, Err}
 use Rattle.contract_words.specs.Outcome.{◌>>=◌}
+use Rattle.ice_value.specs.declared.file_bounds.FileBounds.{FileBounds}
+use Rattle.ice_manifest_fields.specs.declared.fault.FieldFault.{FieldFault}
 use Rattle.ice_manifest_fields.specs.declared.fault.ManifestFault.{ManifestFault}
+use Rattle.ice_manifest_fields.specs.declared.fault.ManifestFault.TheVariants.{Memory}
+use Rattle.ice_manifest_fields.specs.Naming.{in_manifest, told}
 use Rattle.ice_manifest_fields.specs.Fields.{at}
 use Rattle.ice_manifest_found.specs.declared.maps.ReadMaps.{ReadMaps}
 use Rattle.ice_manifest_found.specs.Met.{MapsMet}
-use Rattle.ice_manifest_found.specs.MapsRead.{AreRead}
+use Rattle.ice_manifest_found.specs.declared.maps.FoundMaps.{FoundMaps}
+use Rattle.ice_manifest_found.specs.MapsRead.{AreMet, AreRead}
 use Rattle.ice_entry_found.specs.declared.file.FoundFile.{FoundFile}
 use Rattle.ice_entry_found.specs.Seen.{file_seen}
+use Rattle.ice_manifest_reading.specs.declared.data_file.DataFile.{DataFile}
 use Rattle.ice_manifest_reading.specs.declared.entry.Entry.{Entry}
 use Rattle.ice_manifest_reading.specs.declared.entry.Live.{Live}
 use Rattle.ice_manifest_reading.specs.Manifests.{entries_kept}
@@ -21,9 +27,18 @@ maps_at f = record {
   upper = at (pos 128) (file_seen f);
 }
 
+-- these maps were found in the file
+abbrev pub AreMapsIn : FoundFile → FoundMaps → Type 0
+AreMapsIn f maps = AreMet maps (maps_at f)
+
 -- these maps were read of the file
 abbrev pub AreMapsOf : FoundFile → ReadMaps → Type 0
 AreMapsOf f maps = AreRead maps (maps_at f)
+
+-- the file was read, of whose columns something is said; or the first fault is told, unless memory ran out
+abbrev pub ReadsFile : Result DataFile ManifestFault → Result (DataFile × FileBounds) FieldFault → Type 0
+ReadsFile (Ok file) read = (columns : FileBounds) × (read ≡ Ok (file, columns))
+ReadsFile (Err e) read = e ≢ Memory → told in_manifest read ≡ Err e
 
 -- what is kept once a live entry was read, behind what was kept before it
 abbrev pub live_behind : (Live → Bool) → List Entry → Result Live ManifestFault → Result (List Entry) ManifestFault

@@ -8,3 +8,4 @@ pub mod Absent
 pub mod Faults
 pub mod Same
 pub mod Behind
+pub mod Keeping

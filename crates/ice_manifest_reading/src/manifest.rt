@@ -14,6 +14,7 @@ ghost use Rattle.ice_manifest_fields.specs.Maps.{columns_of as columns_said};
 ghost use Rattle.ice_manifest_fields.specs.Naming.{in_manifest, told};
 ghost use Rattle.ice_manifest_fields.specs.Schemas.{fields_in};
 ghost use Rattle.ice_manifest_fields.specs.Seen.{result_map};
+ghost use Rattle.ice_manifest_found.specs.Met.{Checks};
 ghost use Rattle.ice_entry_found.specs.Seen.{entry_seen, IsPlaced, file_seen, IsFile};
 ghost use Rattle.ice_entry_found.specs.Ways.{entry_id, file_id, wanted_ways};
 ghost use Rattle.ice_manifest_reading.specs.Manifests.{live_of, status_of as status_in, status_at as status_said};
@@ -26,8 +27,10 @@ ghost use Rattle.ice_manifest_reading.specs.Manifests.{file_of as file_said};
 ghost use Rattle.ice_manifest_reading.specs.Manifests.{live_at as live_said, entry_of as entry_said, entries_ahead};
 ghost use Rattle.ice_manifest_reading.specs.Manifests.{kept_of};
 ghost use Rattle.ice_manifest_reading.specs.Manifests.{kept_behind, entries_kept, entries_of};
-ghost use Rattle.ice_manifest_reading.specs.Behind.{AreMapsOf, live_behind};
+ghost use Rattle.ice_manifest_reading.specs.Behind.{AreMapsIn, AreMapsOf, ReadsFile, live_behind};
+ghost use Rattle.ice_manifest_reading.specs.Keeping.{live_with};
 ghost use Rattle.ice_meta.specs.Partitioning.{is_unpartitioned};
+ghost use Rattle.ice_value.specs.declared.file_bounds.FileBounds.{FileBounds};
 
 use crate::data_file::FileView;
 use crate::entry::{Entry, EntryView, Live};
@@ -146,21 +149,25 @@ fn referenced_at<'d>(
     }
 }
 
-/// The maps of the file's columns.
-fn maps_of<'s, 'd>(
-    alloc: Global,
-    file: &FoundFile<'_, '_, 's, 'd>,
-) -> Result<ReadMaps<'s, 'd>, AllocError>
+/// The maps of the file's columns, which are not read yet.
+fn maps_of<'s, 'd>(file: &FoundFile<'_, '_, 's, 'd>) -> FoundMaps<'s, 'd>
     requires { IsFile file.now }
-    ensures { IfOk result (λ maps. AreMapsOf file.now maps) }
+    ensures { AreMapsIn file.now result }
 {
-    let maps = FoundMaps {
+    FoundMaps {
         value_counts: file.found(FileField::ValueCounts),
         null_counts: file.found(FileField::NullCounts),
         lower_bounds: file.found(FileField::LowerBounds),
         upper_bounds: file.found(FileField::UpperBounds),
-    };
-    maps.read(alloc)
+    }
+}
+
+/// The first fault of what is said of the file's columns.
+fn check_columns(alloc: Global, file: &FoundFile) -> Result<(), ManifestFault>
+    requires { IsFile file.now }
+    ensures { Checks result (columns_said (file_seen file.now)) }
+{
+    maps_of(file).check(alloc)
 }
 
 /// The counts and bounds of the file's columns, lent by its maps.
@@ -185,28 +192,25 @@ fn equality_ids_at(alloc: Global, file: &FoundFile) -> Result<Items<i32>, Manife
     ints(alloc, file.found(FileField::EqualityIds), EQUALITY_ID)
 }
 
-/// The file of an entry in a manifest of this content, and what is said of the file's columns, lent by its maps.
+/// The file of an entry in a manifest of this content. What is said of its columns has no fault, and is not given.
 #[tactic(auto, unfolding(crate::specs::Manifests::file_of))]
-fn file_of<'a, 'd>(
+fn file_of<'d>(
     alloc: Global,
     of_row: ManifestContent,
     file: &FoundFile<'_, '_, '_, 'd>,
-    maps: &'a ReadMaps<'_, 'd>,
-) -> Result<(FileView<'d>, FileBounds<'a, 'd>), ManifestFault>
-    requires file { IsFile file.now }
-    requires maps { AreMapsOf file.now maps.now }
-    ensures { Gives ManifestFault.Memory (λ x. x) result
-        (told in_manifest (file_said of_row file.now.entry.now.partition.now (file_seen file.now))) }
+) -> Result<FileView<'d>, ManifestFault>
+    requires { IsFile file.now }
+    ensures { ReadsFile result (file_said of_row file.now.entry.now.partition.now (file_seen file.now)) }
 {
     let content = content_at(of_row, file)?;
     let path = path_at(file, FileField::Path)?;
     let tuple = tuple_at(alloc, file)?;
     let record_count = long_at(file, FileField::RecordCount)?;
     let file_size = long_at(file, FileField::FileSize)?;
-    let columns = columns_of(alloc, file, maps)?;
+    check_columns(alloc, file)?;
     let equality_ids = equality_ids_at(alloc, file)?;
     let referenced = referenced_at(content, file)?;
-    let view = FileView {
+    Ok(FileView {
         content,
         path,
         tuple,
@@ -214,8 +218,7 @@ fn file_of<'a, 'd>(
         file_size,
         equality_ids,
         referenced,
-    };
-    Ok((view, columns))
+    })
 }
 
 /// An entry's sequence number: its own, or that of its manifest's row.
@@ -301,7 +304,7 @@ struct Source<'a> {
     ghost known: { unpartitioned ≡ is_unpartitioned spec.now },
 }
 
-/// Puts a live entry last, if it is kept.
+/// Puts a live entry last, if it is kept by what is said of its file's columns.
 fn push_kept<'d, K: Keep>(
     keep: &K,
     found: &mut Vec<EntryView<'d>>,
@@ -313,6 +316,45 @@ fn push_kept<'d, K: Keep>(
         found.push(live.entry)?;
     }
     Ok(())
+}
+
+/// Puts a live entry last, if it is kept by what is said of its file's columns, which has no fault.
+fn push_by_columns<'d, K: Keep>(
+    alloc: Global,
+    keep: &K,
+    found: &mut Vec<EntryView<'d>>,
+    entry: EntryView<'d>,
+    file: &FoundFile<'_, '_, '_, 'd>,
+) -> Result<(), ManifestFault>
+    requires { IsFile file.now }
+    ensures { (columns : FileBounds) → columns_said (file_seen file.now) ≡ Ok columns →
+        Gives ManifestFault.Memory (λ _. found.new.items) result
+        (Ok (found.old.items ++ entries_kept (K.kept keep.now) (live_with entry.entry columns ∷ []))) }
+{
+    let maps = maps_of(file).read(alloc)?;
+    let bounds = columns_of(alloc, file, &maps)?;
+    Ok(push_kept(keep, found, Live { entry, bounds })?)
+}
+
+/// Puts a live entry last, if it is kept. What is said of its file's columns, which has no fault, is read only where it
+/// tells.
+fn push_live<'d, K: Keep>(
+    alloc: Global,
+    keep: &K,
+    found: &mut Vec<EntryView<'d>>,
+    entry: EntryView<'d>,
+    file: &FoundFile<'_, '_, '_, 'd>,
+) -> Result<(), ManifestFault>
+    requires { IsFile file.now }
+    ensures { (columns : FileBounds) → columns_said (file_seen file.now) ≡ Ok columns →
+        Gives ManifestFault.Memory (λ _. found.new.items) result
+        (Ok (found.old.items ++ entries_kept (K.kept keep.now) (live_with entry.entry columns ∷ []))) }
+{
+    match keep.without_columns(&entry) {
+        Some(true) => Ok(found.push(entry)?),
+        Some(false) => Ok(()),
+        None => push_by_columns(alloc, keep, found, entry, file),
+    }
 }
 
 /// Puts an entry that exists or was added last, if it is kept.
@@ -339,8 +381,7 @@ fn read_live<'d, K: Keep>(
     let Some(file) = FoundFile::of(entry) else {
         return Err(ManifestFault::MissingField(EntryField::DataFile.id()));
     };
-    let maps = maps_of(alloc, &file)?;
-    let (view, bounds) = file_of(alloc, row.content, &file, &maps)?;
+    let view = file_of(alloc, row.content, &file)?;
     let entry = EntryView {
         position,
         spec_id: row.spec_id,
@@ -350,8 +391,7 @@ fn read_live<'d, K: Keep>(
         file_sequence_number,
         file: view,
     };
-    push_kept(keep, found, Live { entry, bounds })?;
-    Ok(())
+    push_live(alloc, keep, found, entry, &file)
 }
 
 /// Puts the entry that an object says last, if it is live and kept. Of a deleted one nothing but the status is looked

@@ -9,7 +9,7 @@ ghost use Rattle.ice_state.specs.Pruning.{pruner_of, keeps, summaries_allow};
 ghost use Rattle.ice_state.specs.Specs.{spec_of, by_id};
 
 use ice_filter::Bound;
-use ice_manifest_reading::{Keep, Live, Row};
+use ice_manifest_reading::{EntryView, Keep, Live, Row};
 use ice_meta::Spec;
 use ice_project::{PartFilter, bounds_may, project, summary_may};
 use ice_value::FileContent;
@@ -61,6 +61,16 @@ impl<'a> Keep for SpecFilter<'a> {
     fn keeps(&self, live: &Live<'_, '_>) -> bool {
         self.part.meets(live.entry.tuple())
             && (live.entry.content() != FileContent::Data || bounds_may(self.filter, &live.bounds))
+    }
+
+    fn without_columns(&self, entry: &EntryView<'_>) -> Option<bool> {
+        if !self.part.meets(entry.tuple()) {
+            Some(false)
+        } else if entry.content() != FileContent::Data || self.filter.parts.as_slice().is_empty() {
+            Some(true)
+        } else {
+            None
+        }
     }
 }
 

@@ -1,7 +1,9 @@
 use Rattle.std.proofs.Common.{◌≡◌, to_z, of_z, w32, w64, Ok, refl, sym, ap, rules}
 use Rattle.std.proofs.lemmas.Int.{to_z-of_z}
 use Rattle.std.proofs.lemmas.Result.{err_from_is_err_and}
+use Rattle.ice_entry_found.specs.Seen.{file_seen}
 use Rattle.ice_manifest_reading.proofs.Found.{Numbered, live_goes}
+use Rattle.ice_manifest_reading.proofs.Said.{columns_read}
 use Rattle.ice_manifest_reading.proofs.manifest.read_live.Goals as goal
 
 pub returns-in_err-view : goal.returns-in_err-view
@@ -46,4 +48,7 @@ returns g c =
     let spec_id : to_z w32 (of_z w32 row.spec_id) ≡ row.spec_id = to_z-of_z w32 row.spec_id (search rules) in
     let snapshot : to_z w64 (of_z w64 c.snapshot_at-snapshot_id.result) ≡ c.snapshot_at-snapshot_id.result =
     to_z-of_z w64 c.snapshot_at-snapshot_id.result (search rules) in
-    rw (goes, c.in_ok-view.ensures) (ap Ok (sym (simp (spec_id, snapshot) at c.in_ok-push_kept.ensures)))
+    let columns = columns_read row.content c.in-Some.file.entry.now.partition.now (file_seen c.in-Some.file)
+    c.in_ok-view.view c.in_ok-view.ensures.0 c.in_ok-view.ensures.1 in
+    rw (goes, c.in_ok-view.ensures.1) (simp (spec_id, snapshot) at
+    c.push_live.ensures c.in_ok-view.ensures.0 columns)

@@ -1,0 +1,15 @@
+use Rattle.std.proofs.Common.{Option, Some, sym, ap, subst, ◌∙◌}
+use Rattle.avro_schema.specs.declared.schema.Schema.{Schema}
+use Rattle.avro_schema.specs.View.{tree}
+use Rattle.avro_picked.specs.declared.found.Found.{Found}
+use Rattle.avro_picked.specs.Finding.{IsMet}
+use Rattle.ice_manifest_found.specs.SoundMaps.{is_sound}
+use Rattle.ice_manifest_found.proofs.SoundMaps.{counts_sound}
+use Rattle.ice_manifest_found.proofs.maps.check_counts.Goals as goal
+
+pub returns-in-Some : goal.returns-in-Some
+returns-in-Some c = λ met is.
+    let sound = ap (λ (s : Schema). is_sound c.args.map (tree s)) (sym c.schema.ensures) ∙ sym c.is_sound.ensures
+    ∙ c.if-is_sound.true in
+    counts_sound c.args.map c.in-Some.found met c.requires sound
+    (subst (λ (o : Option Found). IsMet o met) c.in-Some.is is)
