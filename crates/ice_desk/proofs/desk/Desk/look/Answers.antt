@@ -1,5 +1,5 @@
-use Rattle.std.proofs.Common.{refl, ap, arith, ⊎_elim}
-use Rattle.std.proofs.lemmas.Bool.{cases_eq, eqb-false}
+use Rattle.std.proofs.Common.{refl, ap, arith, ⊎_elim, eq-eqb, ne_eqb}
+use Rattle.std.proofs.lemmas.Bool.{cases_eq}
 use Rattle.ice_desk.specs.declared.hand.Hand.{Hand}
 use Rattle.ice_desk.proofs.Desks.{looks_at, wide_mark, still_seat}
 use Rattle.ice_desk.proofs.desk.Desk.look.Goals as goal
@@ -26,5 +26,8 @@ returns-clause-seat c =
     (v : Hand). v.seats) hand) (ap (λ (v : Hand). v.drawn) hand) refl)
     (cases_eq c.load.result 1)
 
-pub returns-clause-no : goal.returns-clause-no
-returns-clause-no c = λ no. (c.load.ensures.2.0 c.args.i (omega arith)).1 (eqb-false c.load.result 1 no)
+pub returns-clause-saw : goal.returns-clause-saw
+returns-clause-saw c =
+    let told = c.load.ensures.2.0 c.args.i (omega arith) in
+    ⊎_elim (λ is. rw (eq-eqb c.load.result 1 is) (told.0 is)) (λ ne. rw (ne_eqb c.load.result 1 ne) (told.1 ne))
+    (cases_eq c.load.result 1)
