@@ -197,7 +197,7 @@ served_both world may_fail desk scan seats state left (Ok x) ls rs lc rc ll rl f
       missed = subst (λ c. missed desk (met c (seats x)) (first.tickets ++ second.tickets) ≤ failed (left x)) (sym
           joined) (subst (λ ss. missed desk (met (join lc rc) ss) (first.tickets ++ second.tickets) ≤ failed (left x))
           (sym all) (missed_both desk ls rs lc rc first.tickets second.tickets (failed ll) (failed rl) (failed (left x))
-          first.missed second.missed (ap failed sum)));
+          first.missed second.missed (omega (arith, ap failed sum))));
       marked = λ i some. subst (λ c. IsTrue (is_row_taken c i)) (sym joined) (either_some
           (ap (λ ss. marked_in ss i) all ∙ sum_by-append (λ (s : Seat). times i (hand_of s).marked) ls rs) some
           (λ l. taken_left lc rc i (first.marked i l)) (λ r. taken_right lc rc i (second.marked i r)));
@@ -232,8 +232,14 @@ all_taken : (world : Option World) (may_fail : List ℕ → Type 0) (desk : Desk
 all_taken world may_fail desk scan seats state left served size rounds drawn marks none i below =
     by (is_row_taken state i) (nat_lt 0 (seen_in seats i)) refl refl
   where
+    same_size : desk.manifests ≤ desk.manifests
+    same_size = omega arith
+
+    one_round : 1 ≤ desk.rounds
+    one_round = omega (arith, rounds)
+
     each_round : desk.manifests * 1 ≤ limit_of desk
-    each_round = mul-le-mul {desk.manifests} {desk.manifests} {1} {desk.rounds} (omega arith) rounds
+    each_round = mul-le-mul same_size one_round
 
     ticket : i < limit_of desk
     ticket = omega (arith, below, size, each_round)

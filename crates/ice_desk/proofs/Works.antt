@@ -180,11 +180,11 @@ module _ (world : Option World) (may_fail : List ℕ → Type 0) (desk : Desk) (
         (λ now. inr (t, omega (arith, times_more t t w.tickets, here t), now.0, now.1))
         (gain i is);
     content = λ v ts told h. let us = w.content v ts told h in keeps v us.0 told us.1;
-    missed = omega (
+    untaken = omega (
       arith,
       sum_by_push (miss_at desk (taken_in after)) w.tickets t,
       missed_less desk (taken_in taken) (taken_in after) more w.tickets,
-      w.missed,
+      w.untaken,
       misses,
     );
     unseen = omega (
@@ -213,7 +213,7 @@ module _ (world : Option World) (may_fail : List ℕ → Type 0) (desk : Desk) (
     kept = λ i is. is;
     gained = λ i is. inl is;
     content = λ v ts told h. (ts, h);
-    missed = omega arith;
+    untaken = omega arith;
     unseen = omega arith;
     few = omega arith;
     absent = refl;
@@ -232,7 +232,7 @@ module _ (world : Option World) (may_fail : List ℕ → Type 0) (desk : Desk) (
     kept = w.kept;
     gained = w.gained;
     content = w.content;
-    missed = w.missed;
+    untaken = w.untaken;
     unseen = subst (λ (v : Hand). missed desk (λ i. is_row_taken taken i || nat_lt 0 (times i v.seen)) w.tickets ≤
         failed left) (sym is) w.unseen;
     few = w.few;

@@ -78,7 +78,7 @@ pub record Worked (world : Option World) (may_fail : List ℕ → Type 0) (desk 
   pub content : (w : World) (ts : List Bool) → world ≡ Some w → IsContentOf w scan before ts
       → (us : List Bool) × IsContentOf w scan after us
   -- each ticket whose manifest is not taken was left for one of the causes
-  pub missed : missed desk (λ i. is_row_taken after i) tickets ≤ all_left left
+  pub untaken : missed desk (λ i. is_row_taken after i) tickets ≤ all_left left
   -- and where it was not seen marked either, a read or a take failed
   pub unseen : missed desk (λ i. is_row_taken after i || had_seen new i) tickets ≤ failed left
   pub few : all_left left ≤ length tickets
