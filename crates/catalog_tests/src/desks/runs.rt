@@ -10,9 +10,9 @@ use ice_desk::{Desk, Left, work};
 use ice_state::{FinishFault, Partial, Scan};
 use std::alloc::Global;
 
-/// How many rounds there are, which of the files are there, and how many first reads of the second fail; what one worker
-/// leaves, absent, for failed reads, for want of memory and marked; the number that would be drawn next; and what
-/// finishing gives.
+/// How many rounds there are, which of the files are there, and how many first reads of the second fail; how many
+/// tickets one worker leaves that are absent, whose read fails, for want of memory, and that are marked; the number that
+/// would be drawn next; and what finishing gives.
 type Run = (usize, [bool; 3], u64, [u64; 4], u64, &'static str);
 
 const ALL: [bool; 3] = [true, true, true];
