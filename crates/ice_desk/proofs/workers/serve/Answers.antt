@@ -1,4 +1,4 @@
-use Rattle.std.proofs.Common.{◌≡◌, ◌∙◌, ◌<◌, None, ap, arith, length, refl}
+use Rattle.std.proofs.Common.{◌∙◌, ◌<◌, None, ap, arith, length, refl}
 use Rattle.ice_desk.specs.Tickets.{marking}
 use Rattle.ice_desk.specs.Worlds.{HasAt}
 use Rattle.ice_desk.proofs.Taking.{has_bytes}
