@@ -1,5 +1,9 @@
-//! Plans by workers.
+//! The desk and its seats, and plans by workers.
 
+mod draws;
 mod plans;
+mod runs;
+mod seats;
 mod table;
 mod threads;
+mod writes;

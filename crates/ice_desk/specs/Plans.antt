@@ -1,7 +1,8 @@
 -- The plan of a scan by workers.
-use Rattle.std.specs.Prelude.{◌≡◌, ℕ, ◌<◌, ◌≤◌, Bool, IsTrue, List, Option, Some, Result, Ok, Err, length, ◌^◌, ◌*◌}
+use Rattle.std.specs.Prelude.{◌≡◌, ℕ, ◌<◌, ◌≤◌, Bool, ◌||◌, nat_lt, IsTrue, List, Option}
+use Rattle.std.specs.Prelude.{Some, Result, Ok, Err, length, ◌^◌, ◌*◌}
 use Rattle.std.specs.List.{All}
-use Rattle.ice_state.specs.Contents.{Content, World, IsOf}
+use Rattle.ice_state.specs.Contents.{Content, World, IsOf, is_row_taken}
 use Rattle.ice_state.specs.Lines.{OwnedLine}
 use Rattle.ice_state.specs.Scans.{Scanned}
 use Rattle.ice_state.specs.declared.fault.FinishFault.{FinishFault}
@@ -10,8 +11,8 @@ use Rattle.ice_desk.specs.declared.desk.Seat.{Seat}
 use Rattle.ice_desk.specs.declared.fault.PlanFault.{PlanFault}
 use Rattle.ice_desk.specs.declared.fault.PlanFault.TheVariants as plan
 use Rattle.ice_desk.specs.declared.left.Left.{Left}
-use Rattle.ice_desk.specs.Left.{all_left}
-use Rattle.ice_desk.specs.Seats.{IsFresh, IsSeatOf, had_done, drawn_in}
+use Rattle.ice_desk.specs.Left.{all_left, failed}
+use Rattle.ice_desk.specs.Seats.{IsFresh, IsSeatOf, had_done, drawn_in, marked_in, seen_in}
 use Rattle.ice_desk.specs.Tickets.{times}
 use Rattle.ice_desk.specs.Wanted.{IsContentOf}
 use Rattle.ice_desk.specs.Works.{Lacks, MayFailAt, missed}
@@ -32,8 +33,10 @@ pub record AreServed (world : Option World) (may_fail : List ℕ → Type 0) (de
   pub of_scan : IsOf scan state
   -- what they took is there
   pub content : (w : World) → world ≡ Some w → (ts : List Bool) × IsContentOf w scan state ts
-  -- each ticket whose manifest is not taken was left
-  pub missed : missed desk state tickets ≤ all_left left
+  -- each ticket whose manifest is not taken, and was not seen marked, was left because a read or a take failed
+  pub missed : missed desk (λ i. is_row_taken state i || nat_lt 0 (seen_in seats i)) tickets ≤ failed left
+  -- what they marked is taken
+  pub marked : (i : ℕ) → 0 < marked_in seats i → IsTrue (is_row_taken state i)
   pub small : all_left left ≤ 2 ^ 32 * length seats
   -- only a manifest whose file is not there was left as absent, and only one whose read may fail for a failed read
   pub absent : 0 < left.absent → (i : ℕ) × Lacks world scan i

@@ -1,7 +1,8 @@
 -- What contracts say of a desk and its seats.
-use Rattle.std.specs.Prelude.{◌≡◌, ◌⊎◌, ℕ, ◌+◌, ◌*◌, ◌%◌, ◌^◌, ◌<◌, ◌≤◌, List, [], length, nat_lt, Bool, false, IsTrue}
+use Rattle.std.specs.Prelude.{◌≡◌, ◌⊎◌, ℕ, ◌+◌, ◌*◌, ◌%◌, ◌^◌, ◌<◌, ◌≤◌, List, [], length, nat_lt, Bool, true, false}
+use Rattle.std.specs.Prelude.{IsTrue}
 use Rattle.std.specs.List.{sum_by}
-use Rattle.ice_desk.specs.Tickets.{late, times, drawing, one_seat}
+use Rattle.ice_desk.specs.Tickets.{late, times, drawing, seeing, one_seat}
 use Rattle.ice_desk.specs.declared.hand.Hand.{Hand}
 use Rattle.ice_desk.specs.declared.desk.Desk.{Desk}
 use Rattle.ice_desk.specs.declared.desk.Seat.{Seat}
@@ -12,7 +13,7 @@ use Rattle.ice_desk.specs.declared.desk.Claim.TheVariants.{Index, Done}
 abbrev pub limit_of : Desk → ℕ
 limit_of desk = desk.manifests * desk.rounds
 
--- what the seat did
+-- what the seat drew, marked and saw
 abbrev pub hand_of : Seat → Hand
 hand_of seat = seat.place.me.0
 
@@ -43,6 +44,20 @@ Claims desk old new Done = IsTrue (had_done desk new)
     × ((IsTrue (had_done desk old) × (hand_of new ≡ hand_of old))
     ⊎ ((had_done desk old ≡ false) × ((t : ℕ) × Drew old new t × (limit_of desk ≤ t))))
 
+-- what a look at a manifest's mark does: it sees the mark; or there is none, and the seat neither made nor saw one
+abbrev pub Saw : Seat → Seat → ℕ → Bool → Type 0
+Saw old new i true = hand_of new ≡ seeing (hand_of old) i
+Saw old new i false = (hand_of new ≡ hand_of old) × (times i (hand_of old).marked ≡ 0)
+    × (times i (hand_of old).seen ≡ 0)
+
 -- how often the number was drawn from these seats
 abbrev pub drawn_in : List Seat → ℕ → ℕ
 drawn_in seats t = sum_by (λ (s : Seat). times t (hand_of s).drawn) seats
+
+-- how often these seats marked the manifest
+abbrev pub marked_in : List Seat → ℕ → ℕ
+marked_in seats i = sum_by (λ (s : Seat). times i (hand_of s).marked) seats
+
+-- how often these seats saw it marked
+abbrev pub seen_in : List Seat → ℕ → ℕ
+seen_in seats i = sum_by (λ (s : Seat). times i (hand_of s).seen) seats

@@ -1,6 +1,6 @@
 -- What one worker does: it draws tickets, and reads and takes their manifests.
-use Rattle.std.specs.Prelude.{◌≡◌, ◌⊎◌, ℕ, zero, suc, ◌%◌, ◌<◌, ◌≤◌, Bool, ◌&&◌, not, cond, nat_lt, IsTrue, List, []}
-use Rattle.std.specs.Prelude.{◌∷◌, ◌++◌, Option, Some, None, length}
+use Rattle.std.specs.Prelude.{◌≡◌, ◌⊎◌, ℕ, zero, suc, ◌%◌, ◌<◌, ◌≤◌, Bool, ◌&&◌, ◌||◌, not, cond, nat_lt, IsTrue}
+use Rattle.std.specs.Prelude.{List, [], ◌∷◌, ◌++◌, Option, Some, None, length}
 use Rattle.std.specs.List.{sum_by}
 use Rattle.ice_manifest_reading.specs.declared.row.Row.{Row}
 use Rattle.ice_state.specs.Contents.{Content, World, IsOf, add, is_row_taken, took}
@@ -10,10 +10,10 @@ use Rattle.ice_desk.specs.declared.desk.Seat.{Seat}
 use Rattle.ice_desk.specs.declared.left.Left.{Left}
 use Rattle.ice_desk.specs.declared.left.Served.{Served}
 use Rattle.ice_desk.specs.declared.left.Served.TheVariants as served
-use Rattle.ice_desk.specs.Left.{all_left}
+use Rattle.ice_desk.specs.Left.{all_left, failed}
 use Rattle.ice_desk.specs.Worlds.{HasAt}
 use Rattle.ice_desk.specs.Wanted.{IsContentOf}
-use Rattle.ice_desk.specs.Tickets.{times}
+use Rattle.ice_desk.specs.Tickets.{times, marking, seeing}
 use Rattle.ice_desk.specs.Seats.{hand_of, limit_of}
 
 -- P holds of at least k of the numbers
@@ -35,22 +35,33 @@ Lacks world scan i = IsPathAt (λ path. HasAt world path None) scan.wanted i
 abbrev pub MayFailAt : (List ℕ → Type 0) → Scanned → ℕ → Type 0
 MayFailAt may_fail scan i = IsPathAt may_fail scan.wanted i
 
--- how many of the tickets have a manifest that was not taken
-abbrev pub missed : Desk → Content → List ℕ → ℕ
-missed desk c ts = sum_by (λ t. cond (nat_lt t (limit_of desk) && not (is_row_taken c (t % desk.manifests))) 1 0) ts
+-- how many of the tickets have a manifest that is not so
+abbrev pub missed : Desk → (ℕ → Bool) → List ℕ → ℕ
+missed desk so ts = sum_by (λ t. cond (nat_lt t (limit_of desk) && not (so (t % desk.manifests))) 1 0) ts
+
+-- the seat saw the manifest marked
+abbrev pub had_seen : Seat → ℕ → Bool
+had_seen seat i = nat_lt 0 (times i (hand_of seat).seen)
 
 -- where the world is told and the content was that of a set, it is now that of the set and the row i
 abbrev pub Takes : Option World → Scanned → ℕ → Content → Content → Type 0
 Takes world scan i before after = (w : World) (ts : List Bool) → world ≡ Some w → IsContentOf w scan before ts
     → IsContentOf w scan after (add ts i)
 
--- what becomes of the state where the manifest i is served so
-abbrev pub Serves : Option World → (List ℕ → Type 0) → Scanned → ℕ → Content → Content → Served → Type 0
-Serves world may_fail scan i before after served.Taken = ((bytes : List ℕ) × (after ≡ took scan before i bytes))
-    × Takes world scan i before after
-Serves world may_fail scan i before after served.Absent = (after ≡ before) × Lacks world scan i
-Serves world may_fail scan i before after served.Device = (after ≡ before) × MayFailAt may_fail scan i
-Serves world may_fail scan i before after served.Memory = after ≡ before
+-- the manifest i is left: the seat did nothing more, and the state is as it was
+abbrev pub Leaves : Seat → Seat → Content → Content → Type 0
+Leaves old new before after = (hand_of new ≡ hand_of old) × (after ≡ before)
+
+-- what becomes of the seat and of the state where the manifest i is served so
+abbrev pub Serves : Option World → (List ℕ → Type 0) → Scanned → ℕ → Seat → Seat → Content → Content → Served → Type 0
+Serves world may_fail scan i old new before after served.Taken = (hand_of new ≡ marking (hand_of old) i)
+    × ((bytes : List ℕ) × (after ≡ took scan before i bytes)) × Takes world scan i before after
+Serves world may_fail scan i old new before after served.Absent = Leaves old new before after × Lacks world scan i
+Serves world may_fail scan i old new before after served.Device = Leaves old new before after
+    × MayFailAt may_fail scan i
+Serves world may_fail scan i old new before after served.Memory = Leaves old new before after
+Serves world may_fail scan i old new before after served.Marked = (hand_of new ≡ seeing (hand_of old) i)
+    × (after ≡ before)
 
 -- what a worker did between two moments
 pub record Worked (world : Option World) (may_fail : List ℕ → Type 0) (desk : Desk) (scan : Scanned) (old new : Seat)
@@ -67,7 +78,13 @@ pub record Worked (world : Option World) (may_fail : List ℕ → Type 0) (desk 
   pub content : (w : World) (ts : List Bool) → world ≡ Some w → IsContentOf w scan before ts
       → (us : List Bool) × IsContentOf w scan after us
   -- each ticket whose manifest is not taken was left for one of the causes
-  pub missed : missed desk after tickets ≤ all_left left
+  pub untaken : missed desk (λ i. is_row_taken after i) tickets ≤ all_left left
+  -- and where it was not seen marked either, a read or a take failed
+  pub unseen : missed desk (λ i. is_row_taken after i || had_seen new i) tickets ≤ failed left
   pub few : all_left left ≤ length tickets
   pub absent : AtLeast (λ t. Lacks world scan (t % desk.manifests)) tickets left.absent
   pub device : AtLeast (λ t. MayFailAt may_fail scan (t % desk.manifests)) tickets left.device
+  pub seen : AtLeast (λ t. IsTrue (had_seen new (t % desk.manifests))) tickets left.marked
+  -- what it marked is taken
+  pub marked : (i : ℕ) → 0 < times i (hand_of new).marked
+      → (0 < times i (hand_of old).marked) ⊎ IsTrue (is_row_taken after i)

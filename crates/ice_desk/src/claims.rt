@@ -3,12 +3,13 @@
 ghost use Rattle.std.specs.Prelude.{◌≡◌, ◌*◌, ◌+◌, ◌<◌, ◌≤◌, ◌^◌, ℕ, IfOk, IsTrue, vec_len, length, false, [], Some};
 ghost use Rattle.std.specs.Prelude.{slice_get};
 ghost use Rattle.std.specs.List.{All};
-ghost use Rattle.ice_desk.specs.Tickets.{once_below, times, one_seat};
-ghost use Rattle.ice_desk.specs.Seats.{IsSeatOf, IsFresh, hand_of, had_done, Claims, limit_of, drawn_in};
+ghost use Rattle.ice_desk.specs.Tickets.{once_below, times, one_seat, marking};
+ghost use Rattle.ice_desk.specs.Seats.{IsSeatOf, IsFresh, hand_of, had_done, Claims, Saw, limit_of};
+ghost use Rattle.ice_desk.specs.Seats.{drawn_in, marked_in, seen_in};
 
 use crate::desk::{Claim, Desk, Seat};
 use crate::hand::{Hand, Size};
-use crate::tickets::{Cut, Draw, Gather, Tickets};
+use crate::tickets::{Cut, Draw, Gather, Look, Mark, Tickets};
 use atomic_table::{Seat as Place, Table};
 use std::alloc::{AllocError, Global};
 
@@ -28,8 +29,9 @@ impl Desk {
         ensures seats { IfOk result (λ r. All (IsSeatOf r.0) r.1.items) }
         ensures fresh { IfOk result (λ r. All IsFresh r.1.items) }
     {
-        let words = vec![in alloc; 0; 1]?;
+        let words = vec![in alloc; 0; manifests + 1]?;
         let size = Size {
+            manifests: manifests as u64,
             limit: (manifests * rounds) as u64,
             seats: seats as u64,
         };
@@ -93,6 +95,26 @@ impl Desk {
         Claim::Index(ticket % self.manifests)
     }
 
+    /// Marks a manifest. It stays marked.
+    pub fn mark(&self, seat: &mut Seat, i: usize)
+        requires seat { IsSeatOf self.now seat.old }
+        requires manifest { i < self.now.manifests }
+        ensures seat { IsSeatOf self.now seat.new }
+        ensures marked { hand_of seat.new ≡ marking (hand_of seat.old) i }
+    {
+        self.table.shared.store::<Mark>(&mut seat.place, i + 1, 1);
+    }
+
+    /// Whether a manifest is marked, by whichever seat.
+    pub fn look(&self, seat: &mut Seat, i: usize) -> bool
+        requires seat { IsSeatOf self.now seat.old }
+        requires manifest { i < self.now.manifests }
+        ensures seat { IsSeatOf self.now seat.new }
+        ensures saw { Saw seat.old seat.new i result }
+    {
+        self.table.shared.load::<Look>(&mut seat.place, i + 1) == 1
+    }
+
     /// The number that would be drawn next, once all seats are back.
     pub fn close(self, seats: Vec<Seat>) -> u64
         requires count { vec_len seats ≡ self.seats }
@@ -100,6 +122,8 @@ impl Desk {
         ensures once { (t : ℕ) → drawn_in seats.items t ≡ once_below t result }
         ensures whole { (k : ℕ) (s : Seat) → slice_get seats.items k ≡ Some s → IsTrue (had_done self s) → (t : ℕ) →
             t < limit_of self → drawn_in seats.items t ≡ 1 }
+        // What a seat saw marked, some seat marked.
+        ensures seen { (i : ℕ) → 0 < seen_in seats.items i → 0 < marked_in seats.items i }
         ensures small { result ≤ limit_of self + self.seats }
     {
         let place = self.gather(seats);
@@ -122,6 +146,8 @@ impl Desk {
         ensures table { result.table_id ≡ self.now.table.shared.table_id }
         ensures all { result.me.0.seats ≡ self.now.seats }
         ensures drawn { (t : ℕ) → times t result.me.0.drawn ≡ drawn_in seats.items t }
+        ensures marked { (i : ℕ) → times i result.me.0.marked ≡ marked_in seats.items i }
+        ensures seen { (i : ℕ) → times i result.me.0.seen ≡ seen_in seats.items i }
     {
         let Some(Seat { mut place, done: _ }) = seats.pop() else {
             unreachable!()

@@ -14,6 +14,8 @@ pub enum Served {
     Device,
     /// A growth was refused.
     Memory,
+    /// It was marked: a worker took it before.
+    Marked,
 }
 
 /// How many of the tickets that a worker drew it left, by cause.
@@ -25,17 +27,20 @@ pub struct Left {
     pub device: u64,
     /// A growth was refused.
     pub memory: u64,
+    /// The manifest was marked: a worker took it before.
+    pub marked: u64,
 }
 
 impl Left {
     /// No ticket was left.
     pub fn none() -> Left
-        ensures { result ≡ record { absent = 0; device = 0; memory = 0 } }
+        ensures { result ≡ record { absent = 0; device = 0; memory = 0; marked = 0 } }
     {
         Left {
             absent: 0,
             device: 0,
             memory: 0,
+            marked: 0,
         }
     }
 
@@ -49,6 +54,7 @@ impl Left {
             Served::Absent => self.absent += 1,
             Served::Device => self.device += 1,
             Served::Memory => self.memory += 1,
+            Served::Marked => self.marked += 1,
         }
     }
 
@@ -61,6 +67,7 @@ impl Left {
             absent: self.absent + other.absent,
             device: self.device + other.device,
             memory: self.memory + other.memory,
+            marked: self.marked + other.marked,
         }
     }
 }

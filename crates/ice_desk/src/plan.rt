@@ -13,7 +13,7 @@ ghost use Rattle.ice_state.specs.Pruning.{pruner_of};
 ghost use Rattle.ice_state.specs.Scans.{IsScanOf, Scanned};
 ghost use Rattle.ice_state.specs.Snapshots.{plan_of_snapshot};
 ghost use Rattle.ice_state.specs.declared.fault.FinishFault.TheVariants as finish;
-ghost use Rattle.ice_desk.specs.Left.{all_left, left_by_both};
+ghost use Rattle.ice_desk.specs.Left.{all_left, failed, left_by_both};
 ghost use Rattle.ice_desk.specs.Plans.{AreReady, AreServed, GivesPlan, IfFinished, MayStopPlan};
 ghost use Rattle.ice_desk.specs.Wanted.{IsContentOf, paths_of, untaken};
 ghost use Rattle.ice_desk.specs.Works.{Lacks, MayFailAt};
@@ -30,7 +30,7 @@ use std::alloc::{AllocError, Global};
 use std::thread::{Threads, join};
 
 /// How often each manifest is drawn.
-const ROUNDS: usize = 1;
+const ROUNDS: usize = 3;
 
 /// How many workers there may be.
 pub const MOST_WORKERS: usize = 64;
@@ -148,9 +148,10 @@ fn work_all<R: Threads + Sync, F: Files + Sync, G: Gate + Sync>(
     both(left?, right?)
 }
 
-/// What so many workers take of a scan's manifests, and how many they leave: from 1 to 64 workers, which draw from
-/// one desk, in threads of their own where these can be started. A manifest that a worker can't read or take is left,
-/// and no other. At most 65,536 manifests may be wanted. `gate` is told of each read.
+/// What so many workers take of a scan's manifests, and how many tickets they leave: from 1 to 64 workers, which draw
+/// from one desk, in threads of their own where these can be started. Each manifest is drawn three times: one that a
+/// worker can't read or take is tried again, and one that was taken is passed over. At most 65,536 manifests may be
+/// wanted. `gate` is told of each read.
 pub fn take_by_workers<R: Threads + Sync, F: Files + Sync, G: Gate + Sync>(
     rt: &R,
     alloc: Global,
@@ -165,8 +166,8 @@ pub fn take_by_workers<R: Threads + Sync, F: Files + Sync, G: Gate + Sync>(
     // Over files that tell their world: what they took is there.
     ensures content { (world : World) → F.world files.now ≡ Some world →
         IfOk result (λ r. (ts : List Bool) × IsContentOf world scan.now r.0 ts) }
-    // Where they left no ticket, nothing is left to take.
-    ensures whole { IfOk result (λ r. all_left r.1 ≡ 0 → untaken r.0 scan.now.wanted ≡ []) }
+    // Where no read or take failed, nothing is left to take.
+    ensures whole { IfOk result (λ r. failed r.1 ≡ 0 → untaken r.0 scan.now.wanted ≡ []) }
     // A ticket counts as absent, or as a failed read, only where a manifest's file is not there, or its read may fail.
     ensures absent { IfOk result (λ r. 0 < r.1.absent → (i : ℕ) × Lacks (F.world files.now) scan.now i) }
     ensures device { IfOk result (λ r. 0 < r.1.device → (i : ℕ) × MayFailAt (F.may_fail files.now) scan.now i) }
@@ -177,8 +178,9 @@ pub fn take_by_workers<R: Threads + Sync, F: Files + Sync, G: Gate + Sync>(
     Ok((state, left))
 }
 
-/// The plan of a scan by so many workers, from 1 to 64. They read and take its manifests at once; those that they
-/// leave are taken after them, in the order of their paths. At most 65,536 manifests may be wanted.
+/// The plan of a scan by so many workers, from 1 to 64. They read and take its manifests at once, and try each that
+/// fails up to three times; those that they leave are taken after them, in the order of their paths. At most 65,536
+/// manifests may be wanted.
 ///
 /// Whatever the number of workers, and whichever takes what: the plan is that of the state in which every wanted
 /// manifest was taken, and so is the fault, `Finish`, that keeps this from being one. The other refusals are `Absent`

@@ -18,26 +18,38 @@ pub trait Gate {
     fn before_take(&self, worker: usize, i: usize);
 }
 
-/// Reads and takes a manifest.
+/// Reads and takes a manifest, and marks it then; unless it was marked before.
 fn serve<F: Files, G: Gate>(
     alloc: Global,
     files: &F,
     scan: &Scan,
+    desk: &Desk,
+    seat: &mut Seat,
     state: &mut Partial,
     worker: usize,
     gate: &G,
     i: usize,
 ) -> Served
+    requires seat { IsSeatOf desk.now seat.old }
     requires state { IsOf scan.now state.old }
-    requires manifest { i < length scan.now.wanted }
+    requires desk { desk.now.manifests ≡ length scan.now.wanted }
+    requires manifest { i < desk.now.manifests }
+    ensures seat { IsSeatOf desk.now seat.new }
     ensures state { IsOf scan.now state.new }
-    ensures served { Serves (F.world files.now) (F.may_fail files.now) scan.now i state.old state.new result }
+    ensures served { Serves (F.world files.now) (F.may_fail files.now) scan.now i seat.old seat.new state.old state.new
+        result }
 {
+    if desk.look(seat, i) {
+        return Served::Marked;
+    }
     gate.before_take(worker, i);
     let row = &scan.wanted()[i];
     match files.read(alloc, row.path.as_str()) {
         Ok(bytes) => match state.take(scan, i, &bytes) {
-            Ok(()) => Served::Taken,
+            Ok(()) => {
+                desk.mark(seat, i);
+                Served::Taken
+            }
             Err(_) => Served::Memory,
         },
         Err(ReadFault::Absent) => Served::Absent,
@@ -46,8 +58,9 @@ fn serve<F: Files, G: Gate>(
     }
 }
 
-/// Draws, reads and takes until there are no tickets any more. A manifest whose read or take fails is left: it counts
-/// under its cause, and the worker goes on with the next ticket.
+/// Draws, reads and takes until there are no tickets any more. A manifest that is taken is marked; one that is marked
+/// is neither read nor taken again. A ticket whose manifest is marked, or whose read or take fails, is left: it counts
+/// under its cause, and the worker goes on with the next.
 pub fn work<F: Files, G: Gate>(
     alloc: Global,
     files: &F,
@@ -69,7 +82,7 @@ pub fn work<F: Files, G: Gate>(
 {
     let mut left = Left::none();
     while let Claim::Index(i) = desk.claim(seat) {
-        let served = serve(alloc, files, scan, state, worker, gate, i);
+        let served = serve(alloc, files, scan, desk, seat, state, worker, gate, i);
         left.count(served);
     }
     left

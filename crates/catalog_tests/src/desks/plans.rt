@@ -2,25 +2,12 @@
 
 ghost use Rattle.std.specs.Prelude.{◌≤◌, length};
 
-use crate::desks::table::{Stored, scan_of_three};
+use crate::desks::table::{Stored, Tally, scan_of_three};
 use crate::words::{PLAN, is_path, is_plan};
-use ice_desk::{Gate, PlanFault, plan_scan};
+use ice_desk::{PlanFault, plan_scan};
 use ice_state::{OwnedPlan, Scan};
 use std::alloc::Global;
-use std::sync::atomic::{AtomicU64, Ordering};
 use std::thread::Threads;
-
-/// Lets each read pass, and counts it.
-#[derive(Drop)]
-struct Tally {
-    calls: AtomicU64,
-}
-
-impl Gate for Tally {
-    fn before_take(&self, _worker: usize, _i: usize) {
-        self.calls.fetch_add(1, Ordering::SeqCst);
-    }
-}
 
 /// How many workers are tried.
 const CREWS: [usize; 3] = [1, 2, 64];
@@ -28,26 +15,30 @@ const CREWS: [usize; 3] = [1, 2, 64];
 /// Numbers of workers that are refused.
 const NO_CREWS: [usize; 3] = [0, 65, usize::MAX];
 
-/// Which files are there, whose first reads fail, and how many; how many reads workers make, and how many are made in
-/// all; and what comes of it, a plan by its files.
+/// Which files are there, whose first reads fail, and how many; how many reads one worker alone makes, and how many the
+/// caller makes behind however many workers; and what comes of it, a plan by its files.
 type Case = ([bool; 3], usize, u64, u64, u64, &'static str);
 
 const ALL: [bool; 3] = [true, true, true];
 
-/// Workers read each file once, and leave what they could not read, and no other. The caller reads that again, in the
-/// order of the paths. Two reads that fail are the fault, and so is the least path that is not there.
-const CASES: [Case; 11] = [
-    (ALL, 0, 0, 3, 3, PLAN),
-    (ALL, 0, 1, 3, 4, PLAN),
-    (ALL, 1, 0, 3, 3, PLAN),
-    (ALL, 1, 1, 3, 4, PLAN),
-    (ALL, 2, 0, 3, 3, PLAN),
-    (ALL, 2, 1, 3, 4, PLAN),
-    (ALL, 1, 9, 3, 4, "device mem://t/m2"),
-    ([false, true, true], 0, 0, 3, 4, "absent mem://t/m1"),
-    ([false, true, false], 0, 0, 3, 4, "absent mem://t/m1"),
-    ([true, false, false], 0, 0, 3, 4, "absent mem://t/m2"),
-    ([true, true, false], 0, 0, 3, 4, "absent mem://t/m3"),
+/// Workers read a file until they have it, three times at most, and leave what they could not read, and no other. The
+/// caller reads that once more, in the order of the paths. Four reads that fail are the fault, and so is the least path
+/// that is not there.
+const CASES: [Case; 14] = [
+    (ALL, 0, 0, 3, 0, PLAN),
+    (ALL, 0, 1, 4, 0, PLAN),
+    (ALL, 0, 3, 5, 1, PLAN),
+    (ALL, 1, 1, 4, 0, PLAN),
+    (ALL, 1, 2, 5, 0, PLAN),
+    (ALL, 1, 3, 5, 1, PLAN),
+    (ALL, 2, 2, 5, 0, PLAN),
+    (ALL, 2, 3, 5, 1, PLAN),
+    (ALL, 0, 4, 5, 1, "device mem://t/m1"),
+    (ALL, 1, 4, 5, 1, "device mem://t/m2"),
+    ([false, true, true], 0, 0, 5, 1, "absent mem://t/m1"),
+    ([false, true, false], 0, 0, 7, 1, "absent mem://t/m1"),
+    ([true, false, false], 0, 0, 7, 1, "absent mem://t/m2"),
+    ([true, true, false], 0, 0, 5, 1, "absent mem://t/m3"),
 ];
 
 /// Nothing is read for a crew that is none.
@@ -64,7 +55,7 @@ fn is_so(planned: &Result<OwnedPlan, PlanFault>, words: &str) -> bool {
     }
 }
 
-/// Whether so many workers plan as the case says.
+/// Whether so many workers plan as the case says. Of two that draw one manifest at a time, both may read it.
 fn is_planned<R: Threads + Sync>(
     rt: &R,
     alloc: Global,
@@ -74,15 +65,14 @@ fn is_planned<R: Threads + Sync>(
 ) -> bool
     requires { length scan.now.wanted ≤ 65536 }
 {
-    let (there, failing, fails, by_workers, in_all, words) = case;
+    let (there, failing, fails, by_one, by_caller, words) = case;
     let files = Stored::new(there, failing, fails);
-    let gate = Tally {
-        calls: AtomicU64::new(0),
-    };
+    let gate = Tally::new();
     let planned = plan_scan(rt, alloc, &files, scan, workers, &gate);
+    let calls = gate.calls();
     is_so(&planned, words)
-        && gate.calls.load(Ordering::SeqCst) == by_workers
-        && files.reads() == in_all
+        && (calls == by_one || workers > 1 && calls <= 9)
+        && files.reads().checked_sub(calls) == Some(by_caller)
 }
 
 /// Whether each of these numbers of workers plans as the case says.

@@ -4,7 +4,7 @@ ghost use Rattle.std.specs.Prelude.{None};
 
 use crate::files::{PATHS, manifest};
 use contract_words::Text;
-use ice_desk::{Files, ReadFault};
+use ice_desk::{Files, Gate, ReadFault};
 use ice_filter::Bound;
 use ice_manifest::{Counts, ManifestContent, Row};
 use ice_meta::Spec;
@@ -62,10 +62,12 @@ pub fn scan_of_three(alloc: Global) -> Option<Scan> {
 pub struct Stored {
     /// Which of the files are there.
     there: [bool; 3],
-    /// Whose reads fail.
+    /// Whose first reads fail.
     failing: usize,
-    /// How many reads are to fail.
-    fails: AtomicU64,
+    /// How many reads of it fail.
+    fails: u64,
+    /// How often it was tried.
+    tries: AtomicU64,
     /// How many reads were made.
     reads: AtomicU64,
 }
@@ -76,7 +78,8 @@ impl Stored {
         Stored {
             there,
             failing,
-            fails: AtomicU64::new(fails),
+            fails,
+            tries: AtomicU64::new(0),
             reads: AtomicU64::new(0),
         }
     }
@@ -118,10 +121,35 @@ impl Files for Stored {
         if which >= self.there.len() || !self.there[which] {
             return Err(ReadFault::Absent);
         }
-        if which == self.failing && self.fails.load(Ordering::SeqCst) > 0 {
-            self.fails.fetch_sub(1, Ordering::SeqCst);
+        if which == self.failing && self.tries.fetch_add(1, Ordering::SeqCst) < self.fails {
             return Err(ReadFault::Device);
         }
         file_of(alloc, which)
+    }
+}
+
+/// Lets each read pass, and counts it.
+#[derive(Drop)]
+pub struct Tally {
+    calls: AtomicU64,
+}
+
+impl Tally {
+    /// No read has passed yet.
+    pub fn new() -> Tally {
+        Tally {
+            calls: AtomicU64::new(0),
+        }
+    }
+
+    /// How many reads have passed.
+    pub fn calls(&self) -> u64 {
+        self.calls.load(Ordering::SeqCst)
+    }
+}
+
+impl Gate for Tally {
+    fn before_take(&self, _worker: usize, _i: usize) {
+        self.calls.fetch_add(1, Ordering::SeqCst);
     }
 }

@@ -1,4 +1,5 @@
-use Rattle.std.proofs.Common.{◌∙◌, None, refl}
+use Rattle.std.proofs.Common.{◌∙◌, ◌<◌, None, ap, arith, length, refl}
+use Rattle.ice_desk.specs.Tickets.{marking}
 use Rattle.ice_desk.specs.Worlds.{HasAt}
 use Rattle.ice_desk.proofs.Taking.{has_bytes}
 use Rattle.ice_desk.proofs.Works.{add_length, path_at}
@@ -6,31 +7,38 @@ use Rattle.ice_desk.proofs.workers.serve.Goals as goal
 
 pub returns-in-Ok-take-clause-served : goal.returns-in-Ok-take-clause-served
 returns-in-Ok-take-clause-served g c =
+    let looked = rw c.if-look.false at c.look.ensures.saw in
+    let inside : c.args.i < length c.args.scan.now.wanted = omega (arith, c.requires.manifest, c.requires.desk) in
     let here = rw c.wanted.ensures at c.index-wanted-i.is in (
+      c.mark.ensures.marked ∙ ap (λ v. marking v c.args.i) looked.0,
       (c.deref.result.now, c.in-Ok-take.ensures.ok),
       λ world ts told h.
           let found = rw (told, c.as_str.ensures, ← c.deref.ensures.value) at c.in-Ok.ensures.found in
           record {
             flags = add_length ts c.args.i ∙ h.flags;
             is = c.in-Ok-take.ensures.world world ts h.is (has_bytes world c.args.scan.now.wanted c.args.i
-                c.index-wanted-i.result c.deref.result.now c.requires.manifest here found);
+                c.index-wanted-i.result c.deref.result.now inside here found);
           },
     )
 
 pub returns-in-Err-Absent-clause-served : goal.returns-in-Err-Absent-clause-served
 returns-in-Err-Absent-clause-served g c =
+    let looked = rw c.if-look.false at c.look.ensures.saw in
+    let inside : c.args.i < length c.args.scan.now.wanted = omega (arith, c.requires.manifest, c.requires.desk) in
     let here = rw c.wanted.ensures at c.index-wanted-i.is in
     let found = rw c.as_str.ensures at (c.in-Err-Absent.ensures.absent cc) in (
-      refl,
+      (looked.0, refl),
       path_at (λ path. HasAt (g.F.Files.world c.args.files.now) path None) c.args.scan.now.wanted c.args.i
-          c.index-wanted-i.result c.requires.manifest here found,
+          c.index-wanted-i.result inside here found,
     )
 
 pub returns-in-Err-Device-clause-served : goal.returns-in-Err-Device-clause-served
 returns-in-Err-Device-clause-served g c =
+    let looked = rw c.if-look.false at c.look.ensures.saw in
+    let inside : c.args.i < length c.args.scan.now.wanted = omega (arith, c.requires.manifest, c.requires.desk) in
     let here = rw c.wanted.ensures at c.index-wanted-i.is in
     let found = rw c.as_str.ensures at (c.in-Err-Device.ensures.device cc) in (
-      refl,
-      path_at (g.F.Files.may_fail c.args.files.now) c.args.scan.now.wanted c.args.i c.index-wanted-i.result
-          c.requires.manifest here found,
+      (looked.0, refl),
+      path_at (g.F.Files.may_fail c.args.files.now) c.args.scan.now.wanted c.args.i c.index-wanted-i.result inside here
+          found,
     )

@@ -24,16 +24,17 @@ loop-i-preserved g c =
       c.requires.desk,
     ) in
     let one = served_one (g.F.Files.world c.args.files.now) (g.F.Files.may_fail c.args.files.now) c.args.desk.now
-    c.args.scan.now c.args.seat.now c.args.state.now c.loop-i.seat c.claim.new.seat c.loop-i.state
-    c.serve-served.new.state c.loop-i.left drew.0 c.in-Index.i c.serve-served.result drew.1.0 drew.2 drew.3 inside
+    c.args.scan.now c.args.seat.now c.args.state.now c.loop-i.seat c.claim.new.seat
+    c.serve-served.new.seat c.loop-i.state c.serve-served.new.state c.loop-i.left drew.0 c.in-Index.i
+    c.serve-served.result drew.1.0 drew.2 drew.3 inside
     c.serve-served.ensures.served c.loop-i.invariant.worked in
     record {
-      seat = c.in-Index.ensures.seat;
+      seat = c.serve-served.ensures.seat;
       of_scan = c.serve-served.ensures.state;
       small = rw c.count.ensures (few_counted c.loop-i.left c.serve-served.result drew.0
           (omega (arith, left_few _ _ _ _ _ _ _ _ _ c.loop-i.invariant.worked, drew.1.1)) drew.1.2);
       worked = subst (Worked (g.F.Files.world c.args.files.now) (g.F.Files.may_fail c.args.files.now) c.args.desk.now
-          c.args.scan.now c.args.seat.now c.claim.new.seat c.args.state.now c.serve-served.new.state)
+          c.args.scan.now c.args.seat.now c.serve-served.new.seat c.args.state.now c.serve-served.new.state)
           (sym c.count.ensures) one;
     }
 

@@ -13,8 +13,7 @@ join_seat-requires c =
       last.table,
       last.free,
       wide desk,
-      joins desk.table.shared.key _ _ _ _
-          c.loop-other.invariant.some_seat (omega (arith, last.one)),
+      joins desk.table.shared.key _ _ _ _ c.loop-other.invariant.some_seat (omega (arith, last.one)),
     )
 
 pub loop-other-preserved : goal.loop-other-preserved
@@ -30,4 +29,8 @@ loop-other-preserved c =
       seats = parts.0;
       drawn = λ t. taken_in (λ s. (hand_of s).drawn) t _ _ _ _ _ _ _ cut (ap (λ (v : Hand). v.drawn) hand) refl
           (c.loop-other.invariant.drawn t);
+      marked = λ t. taken_in (λ s. (hand_of s).marked) t _ _ _ _ _ _ _ cut (ap (λ (v : Hand). v.marked) hand) refl
+          (c.loop-other.invariant.marked t);
+      seen = λ t. taken_in (λ s. (hand_of s).seen) t _ _ _ _ _ _ _ cut (ap (λ (v : Hand). v.seen) hand) refl
+          (c.loop-other.invariant.seen t);
     }
