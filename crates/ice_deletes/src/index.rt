@@ -2,6 +2,7 @@
 
 ghost use Rattle.std.specs.Prelude.{◌≡◌, ◌≢◌, ◌↔◌, ◌&&◌, ◌==◌, ◌≤◌, ℕ, map, length, IfOk, OnOk};
 ghost use Rattle.std.specs.Prelude.{OnErr, AllPairs, Contains, IsTrue, [], count_by, filter, nat_le};
+ghost use Rattle.std.specs.List.{list_any};
 ghost use Rattle.std.specs.List.Sorted.{IsPermutation, IsSorted};
 ghost use Rattle.std.specs.Ordering.{nat_cmp};
 ghost use Rattle.ice_value.specs.Applying.{applies};
@@ -71,9 +72,16 @@ impl DeleteIndex {
         })
     }
 
+    /// Whether one of its delete files names a data file.
+    pub fn names_files(&self) -> bool
+        ensures { result ≡ list_any (λ e. is_in Referenced e.1) self.now }
+    {
+        !self.referenced.deletes.is_empty()
+    }
+
     /// Whether it has no delete files.
     fn is_empty(&self) -> bool
-        ensures { IsTrue result → self.now ≡ [] }
+        ensures { IsTrue result ↔ (self.now ≡ []) }
     {
         self.positions.deletes.is_empty()
             && self.referenced.deletes.is_empty()
