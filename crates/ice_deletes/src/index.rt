@@ -81,7 +81,7 @@ impl DeleteIndex {
 
     /// Whether it has no delete files.
     fn is_empty(&self) -> bool
-        ensures { IsTrue result ↔ (self.now ≡ []) }
+        ensures { IsTrue result → self.now ≡ [] }
     {
         self.positions.deletes.is_empty()
             && self.referenced.deletes.is_empty()

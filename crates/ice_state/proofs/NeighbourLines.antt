@@ -1,5 +1,5 @@
 -- The same delete files apply to neighbours, where none names a data file.
-use Rattle.std.proofs.Common.{◌≡◌, ◌<◌, ◌&&◌, ◌||◌, ◌∙◌, ℕ, ℤ, zero, suc, Bool, true, false, List, [], ◌∷◌, filter, map, cond}
+use Rattle.std.proofs.Common.{◌≡◌, ◌<◌, ◌&&◌, ◌||◌, ◌∙◌, ◌++◌, ◌-◌, ℕ, ℤ, zero, suc, Bool, true, false, List, [], ◌∷◌, filter, map, cond}
 use Rattle.std.proofs.Common.{refl, sym, ap, subst, absurd, arith, Option, Some, None, is_some, length, get_or, take}
 use Rattle.std.specs.List.{list_any}
 use Rattle.ice_value.specs.declared.cell.Cell.{Cell}
@@ -79,3 +79,27 @@ line_at_place f kept [] many i l m = absurd (omega arith)
 line_at_place f kept (n ∷ ns) zero i l m = absurd (omega arith)
 line_at_place f kept (n ∷ ns) (suc many) zero l m = refl
 line_at_place f kept (n ∷ ns) (suc many) (suc i) l m = line_at_place f kept ns many i (omega arith) (omega arith)
+
+-- the line of the file at a place, put last
+one_more : (f : Entry → LinePlaces) (kept : Segmented) (ns : List FileNumber) (i : ℕ) → i < length ns
+    → map f (entries_at kept (take (suc i) ns))
+    ≡ map f (entries_at kept (take i ns)) ++ f (get_or (entries_at kept ns) i no_entry) ∷ []
+one_more f kept [] i l = absurd (omega arith)
+one_more f kept (n ∷ ns) zero l = refl
+one_more f kept (n ∷ ns) (suc i) l = ap (λ ls. f (entry_at kept n) ∷ ls) (one_more f kept ns i (omega arith))
+
+-- the lines of the first files, and one more that is the last one again, where its file is a neighbour of that one's
+pub again : (ranks : List ℕ) (index : List (ℕ × DeleteKey)) (kept : Segmented) (ns : List FileNumber) (i : ℕ)
+    (lines : List LinePlaces) → list_any names_one index ≡ false → i < length ns → IsBeside (entries_at kept ns) i
+    → lines ≡ map (λ x. places_of (renumbered ranks index) (data_key_of x)) (entries_at kept (take i ns))
+    → lines ++ line_in lines (i - 1) ∷ []
+    ≡ map (λ x. places_of (renumbered ranks index) (data_key_of x)) (entries_at kept (take (suc i) ns))
+again ranks index kept ns i lines none l beside are =
+    let f : Entry → LinePlaces = λ x. places_of (renumbered ranks index) (data_key_of x) in
+    let files = entries_at kept ns in
+    let before : ℕ = i - 1 in
+    let line : line_in lines before ≡ f (get_or files i no_entry) =
+    ap (λ ls. line_in ls before) are
+    ∙ line_at_place f kept ns i before (omega (arith, beside.0)) (omega (arith, l))
+    ∙ neighbour_places ranks index (get_or files before no_entry) (get_or files i no_entry) none beside.1 in
+    (λ j. are j ++ line j ∷ []) ∙ sym (one_more f kept ns i l)
