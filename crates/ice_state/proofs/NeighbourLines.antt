@@ -1,6 +1,6 @@
 -- The same delete files apply to neighbours, where none names a data file.
 use Rattle.std.proofs.Common.{◌≡◌, ◌<◌, ◌&&◌, ◌||◌, ◌∙◌, ◌++◌, ◌-◌, ℕ, ℤ, zero, suc, Bool, true, false, List, [], ◌∷◌, filter, map, cond}
-use Rattle.std.proofs.Common.{refl, sym, ap, subst, absurd, arith, Option, Some, None, is_some, length, get_or, take}
+use Rattle.std.proofs.Common.{refl, sym, ap, subst, arith, Option, Some, None, is_some, length, get_or, take}
 use Rattle.std.specs.List.{list_any}
 use Rattle.ice_value.specs.declared.cell.Cell.{Cell}
 use Rattle.ice_value.specs.declared.file_content.FileContent.{FileContent}
@@ -81,25 +81,46 @@ line_at_place f kept (n ∷ ns) (suc many) zero l m = refl
 line_at_place f kept (n ∷ ns) (suc many) (suc i) l m = line_at_place f kept ns many i (omega arith) (omega arith)
 
 -- the line of the file at a place, put last
-one_more : (f : Entry → LinePlaces) (kept : Segmented) (ns : List FileNumber) (i : ℕ) → i < length ns
+one_more : (f : Entry → LinePlaces) (kept : Segmented) (ns : List FileNumber) (i : ℕ) (d : FileNumber) → i < length ns
     → map f (entries_at kept (take (suc i) ns))
-    ≡ map f (entries_at kept (take i ns)) ++ f (get_or (entries_at kept ns) i no_entry) ∷ []
-one_more f kept [] i l = absurd (omega arith)
-one_more f kept (n ∷ ns) zero l = refl
-one_more f kept (n ∷ ns) (suc i) l = ap (λ ls. f (entry_at kept n) ∷ ls) (one_more f kept ns i (omega arith))
+    ≡ map f (entries_at kept (take i ns)) ++ f (entry_at kept (get_or ns i d)) ∷ []
+one_more f kept [] i d l = absurd (omega arith)
+one_more f kept (n ∷ ns) zero d l = refl
+one_more f kept (n ∷ ns) (suc i) d l = ap (λ ls. f (entry_at kept n) ∷ ls) (one_more f kept ns i d (omega arith))
 
--- the lines of the first files, and one more that is the last one again, where its file is a neighbour of that one's
-pub again : (ranks : List ℕ) (index : List (ℕ × DeleteKey)) (kept : Segmented) (ns : List FileNumber) (i : ℕ)
-    (lines : List LinePlaces) → list_any names_one index ≡ false → i < length ns → IsBeside (entries_at kept ns) i
-    → lines ≡ map (λ x. places_of (renumbered ranks index) (data_key_of x)) (entries_at kept (take i ns))
-    → lines ++ line_in lines (i - 1) ∷ []
-    ≡ map (λ x. places_of (renumbered ranks index) (data_key_of x)) (entries_at kept (take (suc i) ns))
-again ranks index kept ns i lines none l beside are =
-    let f : Entry → LinePlaces = λ x. places_of (renumbered ranks index) (data_key_of x) in
-    let files = entries_at kept ns in
-    let before : ℕ = i - 1 in
-    let line : line_in lines before ≡ f (get_or files i no_entry) =
-    ap (λ ls. line_in ls before) are
-    ∙ line_at_place f kept ns i before (omega (arith, beside.0)) (omega (arith, l))
-    ∙ neighbour_places ranks index (get_or files before no_entry) (get_or files i no_entry) none beside.1 in
-    (λ j. are j ++ line j ∷ []) ∙ sym (one_more f kept ns i l)
+one_file : (kept : Segmented) (ns : List FileNumber) (i : ℕ) (d : FileNumber) → i < length ns
+    → entry_at kept (get_or ns i d) ≡ get_or (entries_at kept ns) i no_entry
+one_file kept [] i d l = absurd (omega arith)
+one_file kept (n ∷ ns) zero d l = refl
+one_file kept (n ∷ ns) (suc i) d l = one_file kept ns i d (omega arith)
+
+some_file : (ns : List FileNumber) → 0 < length ns → FileNumber
+some_file [] l = absurd (omega arith)
+some_file (n ∷ ns) l = n
+
+module _ (ranks : List ℕ) (index : List (ℕ × DeleteKey)) (kept : Segmented) (ns : List FileNumber) (i j : ℕ)
+    (next : j ≡ suc i) (l : i < length ns) (lines : List LinePlaces)
+    (are : lines ≡ map (λ x. places_of (renumbered ranks index) (data_key_of x)) (entries_at kept (take i ns))) where
+  abbrev f : Entry → LinePlaces
+  f x = places_of (renumbered ranks index) (data_key_of x)
+
+  -- the lines of the first files, and that of one more
+  pub looked_up_more : (d : FileNumber) (x : Entry) → x ≡ entry_at kept (get_or ns i d)
+      → lines ++ f x ∷ [] ≡ map f (entries_at kept (take j ns))
+  looked_up_more d x is =
+      (λ k. are k ++ f (is k) ∷ []) ∙ sym (one_more f kept ns i d l)
+      ∙ ap (λ (n : ℕ). map f (entries_at kept (take n ns))) (sym next)
+
+  -- the same where its file is a neighbour of the last one's
+  pub again : list_any names_one index ≡ false → IsBeside (entries_at kept ns) i
+      → lines ++ line_in lines (i - 1) ∷ [] ≡ map f (entries_at kept (take j ns))
+  again none beside =
+      let files = entries_at kept ns in
+      let before : ℕ = i - 1 in
+      let d = some_file ns (omega (arith, l)) in
+      let line : line_in lines before ≡ f (get_or files i no_entry) =
+      ap (λ ls. line_in ls before) are
+      ∙ line_at_place f kept ns i before (omega (arith, beside.0)) (omega (arith, l))
+      ∙ neighbour_places ranks index (get_or files before no_entry) (get_or files i no_entry) none beside.1 in
+      ap (λ x. lines ++ x ∷ []) (line ∙ ap f (sym (one_file kept ns i d l)))
+      ∙ looked_up_more d (entry_at kept (get_or ns i d)) refl

@@ -1,6 +1,6 @@
 -- Lines that share what stands in lists.
 use Rattle.std.proofs.Common.{◌≡◌, ◌<◌, ◌∙◌, ℕ, zero, suc, List, [], ◌∷◌, ◌++◌, length, map, replicate, get_or, refl, sym, ap}
-use Rattle.std.proofs.Common.{subst, absurd, arith, length-append, Some, option_map}
+use Rattle.std.proofs.Common.{subst, arith, length-append, Some, option_map}
 use Rattle.std.specs.List.{slice_get}
 use Rattle.std.proofs.lemmas.List.{map-append, length-map}
 use Rattle.ice_state.specs.PlaceLists.{LinePlaces, no_places, GainsLine}
@@ -81,25 +81,25 @@ pub in_more : (lists : List LinePlaces) (lines : List ℕ) (n : ℕ) → AreIn l
 in_more lists [] n all l = (l, tt)
 in_more lists (m ∷ ms) n all l = (all.0, in_more lists ms n all.1 l)
 
--- the tables with one list more, and maybe one line more that has it
-pub record HasMore (lists news all : List LinePlaces) (lines : List ℕ) (of_positions of_equalities : List ℕ) : Type 0 where
+-- the table with one list more, and maybe one line more that has it
+pub record HasMore (lists news known : List LinePlaces) (lines of_positions of_equalities : List ℕ) : Type 0 where
   pub still : AreIn news lines
-  pub same : lines_in news lines ≡ all
-  pub all : AreIn news (lines ++ length lists ∷ [])
-  pub gains : GainsLine all (lines_in news (lines ++ length lists ∷ [])) of_positions of_equalities
+  pub same : lines_in news lines ≡ known
+  pub whole : AreIn news (lines ++ length lists ∷ [])
+  pub gains : GainsLine known (lines_in news (lines ++ length lists ∷ [])) of_positions of_equalities
 
-pub has_more : (lists news all : List LinePlaces) (lines of_positions of_equalities : List ℕ) → lines_in lists lines ≡ all
-    → AreIn lists lines → GainsLine lists news of_positions of_equalities
-    → HasMore lists news all lines of_positions of_equalities
-has_more lists news all lines of_positions of_equalities is within gained =
+pub has_more : (lists news known : List LinePlaces) (lines of_positions of_equalities : List ℕ)
+    → lines_in lists lines ≡ known → AreIn lists lines → GainsLine lists news of_positions of_equalities
+    → HasMore lists news known lines of_positions of_equalities
+has_more lists news known lines of_positions of_equalities is within gained =
     let l = gained.line in
-    let P : List LinePlaces → Type 0 = λ ns. HasMore lists ns all lines of_positions of_equalities in
+    let P : List LinePlaces → Type 0 = λ ns. HasMore lists ns known lines of_positions of_equalities in
     let long = one_longer lists l in
-    let same : lines_in (lists ++ l ∷ []) lines ≡ all = still_are lists l lines within ∙ is in
+    let same : lines_in (lists ++ l ∷ []) lines ≡ known = still_are lists l lines within ∙ is in
     subst P (sym gained.added) record {
       still = still_in lists l lines within;
       same = same;
-      all = in_more (lists ++ l ∷ []) lines (length lists) (still_in lists l lines within) (omega (arith, long));
+      whole = in_more (lists ++ l ∷ []) lines (length lists) (still_in lists l lines within) (omega (arith, long));
       gains = record {
         line = l;
         added = map-append (line_in (lists ++ l ∷ [])) lines (length lists ∷ [])
