@@ -12,6 +12,7 @@ pub mod Rising
 pub mod Shelved
 pub mod Slices
 pub mod United
+pub mod Unnamed
 pub mod Within
 pub mod Least
 pub mod Neighbours

@@ -2,6 +2,7 @@
 
 ghost use Rattle.std.specs.Prelude.{◌≡◌, ◌≢◌, ◌↔◌, ◌&&◌, ◌==◌, ◌≤◌, ℕ, map, length, IfOk, OnOk};
 ghost use Rattle.std.specs.Prelude.{OnErr, AllPairs, Contains, IsTrue, [], count_by, filter, nat_le};
+ghost use Rattle.std.specs.List.{list_any};
 ghost use Rattle.std.specs.List.Sorted.{IsPermutation, IsSorted};
 ghost use Rattle.std.specs.Ordering.{nat_cmp};
 ghost use Rattle.ice_value.specs.Applying.{applies};
@@ -69,6 +70,13 @@ impl DeleteIndex {
             equalities: Shelf::build(alloc, records, Group::Equalities)?,
             everywhere: Shelf::build(alloc, records, Group::Everywhere)?,
         })
+    }
+
+    /// Whether one of its delete files names a data file.
+    pub fn names_files(&self) -> bool
+        ensures { result ≡ list_any (λ e. is_in Referenced e.1) self.now }
+    {
+        !self.referenced.deletes.is_empty()
     }
 
     /// Whether it has no delete files.

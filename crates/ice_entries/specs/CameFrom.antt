@@ -16,6 +16,10 @@ origin_in e =
       file_sequence_number = e.file_sequence_number;
     }
 
+-- the sequence number is the same
+abbrev pub AreOfOneNumber : CameFrom → CameFrom → Type 0
+AreOfOneNumber a b = a.sequence_number ≡ b.sequence_number
+
 -- what no number stands for
 abbrev pub no_origin : CameFrom
 no_origin = record { snapshot_id = pos 0; sequence_number = 0; file_sequence_number = None }

@@ -35,6 +35,10 @@ IsOfSpec a b = (a.spec_id ≡ b.spec_id) × (a.unpartitioned ≡ b.unpartitioned
 abbrev pub HasListsOf : Common → Common → Type 0
 HasListsOf a b = (a.tuple ≡ b.tuple) × (a.equality_ids ≡ b.equality_ids)
 
+-- the files are of one spec and have the same partition values
+abbrev pub AreOfPartition : Common → Common → Type 0
+AreOfPartition a b = (a.spec_id ≡ b.spec_id) × (a.tuple ≡ b.tuple)
+
 -- what no number stands for
 abbrev pub no_common : Common
 no_common = record { content = Data; spec_id = pos 0; unpartitioned = false; tuple = []; equality_ids = [] }

@@ -56,6 +56,12 @@ AreKept kept numbers = AllByRecursion (IsKept kept) numbers
 abbrev pub entries_at : Kept → List EntryNumber → List Entry
 entries_at kept numbers = map (entry_at kept) numbers
 
+-- the files of two entries are of one spec, with the same partition values and the same sequence number
+pub record AreNeighbours (a b : Entry) : Type 0 where
+  pub spec : a.spec_id ≡ b.spec_id
+  pub tuple : a.file.tuple ≡ b.file.tuple
+  pub number : a.sequence_number ≡ b.sequence_number
+
 -- each number of the old ones stands for the same entry in the new ones
 abbrev pub Keeps : Kept → Kept → Type 0
 Keeps old new = (n : EntryNumber) → IsKept old n → IsKept new n × (entry_at new n ≡ entry_at old n)

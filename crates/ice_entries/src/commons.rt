@@ -1,7 +1,7 @@
 //! What entries have in common, each once, by its number.
 
-ghost use Rattle.std.specs.Prelude.{◌≡◌, ◌<◌, [], length, IfOk, IfSome, IsTrue, List, ℕ};
-ghost use Rattle.ice_entries.specs.InCommon.{common_of, common_at, IsCommonAt, KeepsCommons};
+ghost use Rattle.std.specs.Prelude.{◌≡◌, ◌<◌, ◌↔◌, [], length, IfOk, IfSome, IsTrue, List, ℕ};
+ghost use Rattle.ice_entries.specs.InCommon.{common_of, common_at, AreOfPartition, IsCommonAt, KeepsCommons};
 
 use crate::common::{Common, LentCommon};
 use crate::spellings::Spellings;
@@ -45,6 +45,15 @@ impl Commons {
         ensures { result.now ≡ common_at self.now number }
     {
         &self.list[number as usize]
+    }
+
+    /// Whether the files of two are of one partition.
+    pub(crate) fn are_of_partition(&self, a: u32, b: u32) -> bool
+        requires first { a < length self.now }
+        requires second { b < length self.now }
+        ensures { IsTrue result ↔ AreOfPartition (common_at self.now a) (common_at self.now b) }
+    {
+        a == b || self.get(a).is_of_partition_of(self.get(b))
     }
 
     /// Whether one has this number.

@@ -1,7 +1,7 @@
 //! The commits that entries came from, each once, by its number.
 
-ghost use Rattle.std.specs.Prelude.{◌≡◌, ◌<◌, [], length, IfOk, IfSome, IsTrue};
-ghost use Rattle.ice_entries.specs.CameFrom.{origin_at, IsOriginAt, KeepsOrigins};
+ghost use Rattle.std.specs.Prelude.{◌≡◌, ◌<◌, ◌↔◌, [], length, IfOk, IfSome, IsTrue};
+ghost use Rattle.ice_entries.specs.CameFrom.{origin_at, AreOfOneNumber, IsOriginAt, KeepsOrigins};
 
 use crate::origin::Origin;
 use crate::spellings::Spellings;
@@ -44,6 +44,15 @@ impl Origins {
         ensures { result ≡ origin_at self.now number }
     {
         self.list[number as usize]
+    }
+
+    /// Whether two have the same sequence number.
+    pub(crate) fn are_of_one_number(&self, a: u32, b: u32) -> bool
+        requires first { a < length self.now }
+        requires second { b < length self.now }
+        ensures { IsTrue result ↔ AreOfOneNumber (origin_at self.now a) (origin_at self.now b) }
+    {
+        a == b || self.get(a).sequence_number == self.get(b).sequence_number
     }
 
     /// Whether one has this number.

@@ -1,10 +1,11 @@
 //! What each entry has of its own, and what it shares.
 
-ghost use Rattle.std.specs.Prelude.{◌≡◌, ◌<◌, ◌≤◌, length, IfOk, IfSome};
+ghost use Rattle.std.specs.Prelude.{◌≡◌, ◌<◌, ◌≤◌, ◌↔◌, length, IfOk, IfSome, IsTrue, List, ℕ};
 ghost use Rattle.std.specs.Option.{option_copied, option_map};
 ghost use Rattle.path_arena.specs.Arena.{string, KeepsNumbers};
 ghost use Rattle.ice_manifest_reading.specs.Lending.{lent, HasShortPaths};
 ghost use Rattle.ice_entries.specs.InCommon.{common_at};
+ghost use Rattle.ice_entries.specs.Kept.{AreNeighbours};
 ghost use Rattle.ice_entries.specs.Sharing.{entry_in, IsWithin, KeepsShared};
 
 use crate::common::LentCommon;
@@ -128,6 +129,17 @@ impl Shared {
         ensures { result ≡ (common_at self.now.commons own.now.common).content }
     {
         self.commons.get(own.common).content
+    }
+
+    /// Whether the files of two records are neighbours: of one partition, with the same sequence number.
+    pub(crate) fn are_neighbours(&self, a: &Record, b: &Record) -> bool
+        requires first { IsWithin self.now a.now }
+        requires second { IsWithin self.now b.now }
+        ensures { (path other : List ℕ) → IsTrue result
+            ↔ AreNeighbours (entry_in self.now (path, a.now)) (entry_in self.now (other, b.now)) }
+    {
+        self.commons.are_of_partition(a.common, b.common)
+            && self.origins.are_of_one_number(a.origin, b.origin)
     }
 
     /// The same by the same numbers.

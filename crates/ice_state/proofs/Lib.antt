@@ -13,6 +13,7 @@ pub mod Lent
 pub mod Planned
 pub mod Named
 pub mod OfSpecs
+pub mod NeighbourLines
 pub mod Orders
 pub mod Outcomes
 pub mod LinesAt
@@ -28,6 +29,7 @@ pub mod Runs
 pub mod Scanning
 pub mod Scans
 pub mod SegmentLists
+pub mod SharedLines
 pub mod Sharing
 pub mod SlotContents
 pub mod Snapshots

@@ -15,6 +15,7 @@ pub mod Readings
 pub mod Runs
 pub mod Scans
 pub mod Segments
+pub mod SharedPlaces
 pub mod Shares
 pub mod Slots
 pub mod Snapshots

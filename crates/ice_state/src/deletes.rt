@@ -12,8 +12,8 @@ ghost use Rattle.ice_state.specs.Applying.{data_key_of, delete_key_of};
 ghost use Rattle.ice_state.specs.Parts.{places_of, numbers_of};
 ghost use Rattle.ice_state.specs.Segments.{AreKept, entries_at};
 
-use crate::places::PlaceTable;
 use crate::segments::{FileNumber, Segments};
+use crate::shared_places::SharedPlaces;
 use ice_deletes::{Finder, Hits, Record};
 use ice_manifest_reading::LentEntry;
 use std::alloc::{AllocError, Global};
@@ -67,7 +67,7 @@ fn deletes_for<'i, 'x>(finder: &mut Finder<'i, 'x>, x: &LentEntry<'x>) -> Hits<'
 /// Puts a line last: the places of the delete files that apply to the data file, which the ranks have at the numbers of
 /// the index. A refusal, for want of memory, leaves the lines as they were.
 pub fn push_places<'x>(
-    places: &mut PlaceTable,
+    places: &mut SharedPlaces,
     finder: &mut Finder<'_, 'x>,
     ranks: &[u32],
     x: &LentEntry<'x>,

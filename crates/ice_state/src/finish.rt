@@ -1,6 +1,6 @@
 //! The plan of a content, or its first fault.
 
-ghost use Rattle.std.specs.Prelude.{◌≡◌, [], ◌++◌, length, map, IfOk, OnOk, MatchResult, filter};
+ghost use Rattle.std.specs.Prelude.{◌≡◌, ◌<◌, ◌↔◌, [], ◌++◌, length, map, IfOk, IsTrue, OnOk, MatchResult, filter};
 ghost use Rattle.std.specs.Prelude.{option_map, IfSome};
 ghost use Rattle.std.specs.List.{enumerate_from};
 ghost use Rattle.std.specs.Option.{option_copied};
@@ -17,16 +17,17 @@ ghost use Rattle.ice_state.specs.Outcomes.{missing, bad, twice, by_path, plan_ov
 ghost use Rattle.ice_state.specs.Parts.{fault_of, Stops, holds_deletes, places_of};
 ghost use Rattle.ice_state.specs.Pruning.{holds};
 ghost use Rattle.ice_state.specs.Segments.{AreKept, entries_at, segment_at, Segmented};
+ghost use Rattle.ice_state.specs.SharedPlaces.{IsBeside};
 ghost use Rattle.ice_state.specs.Slots.{contents, given, HaveNumbers, IsIn};
 
 use crate::deletes::push_places;
 use crate::fault::FinishFault;
 use crate::indexed::IndexedDeletes;
 use crate::ordered::{Ordered, order_of_files};
-use crate::places::PlaceTable;
 use crate::plan::NumberedPlan;
 use crate::ranks::ranks;
 use crate::segments::{FileNumber, Segments};
+use crate::shared_places::SharedPlaces;
 use crate::taken::Taken;
 use contract_words::Items;
 use ice_deletes::{DeleteIndex, Finder};
@@ -231,7 +232,7 @@ fn lines(
     files: &[FileNumber],
     deletes: &IndexedDeletes,
     order: &[u32],
-) -> Result<PlaceTable, AllocError>
+) -> Result<SharedPlaces, AllocError>
     requires files { AreKept entries.now files.now }
     requires index { IsIndexed entries.now deletes.now }
     requires order { IsOrder (entries_at entries.now deletes.now.files.items) order.now }
@@ -240,7 +241,7 @@ fn lines(
         (entries_at entries.now files.now)) }
 {
     if deletes.files.is_empty() {
-        return PlaceTable::without_places(alloc, files.len());
+        return SharedPlaces::without_places(alloc, files.len());
     }
     let ranks = ranks(alloc, order)?;
     looked_up(alloc, entries, files, &deletes.index, &ranks)
@@ -253,18 +254,33 @@ fn looked_up(
     files: &[FileNumber],
     index: &DeleteIndex,
     ranks: &[u32],
-) -> Result<PlaceTable, AllocError>
+) -> Result<SharedPlaces, AllocError>
     requires files { AreKept entries.now files.now }
     requires ranks { AreBelow (length ranks.now) index.now }
     ensures { IfOk result (λ places. places
         ≡ map (λ x. places_of (renumbered ranks.now index.now) (data_key_of x)) (entries_at entries.now files.now)) }
 {
-    let mut places = PlaceTable::with_capacity(alloc, files.len())?;
+    let mut places = SharedPlaces::with_capacity(alloc, files.len())?;
     let mut finder = Finder::new(index);
-    'files: for file in files {
-        push_places(&mut places, &mut finder, ranks, &entries.entry(*file))?;
+    // Where none names a data file, the same apply to neighbours.
+    let is_shared = !index.names_files();
+    'files: for i in 0..files.len() {
+        if is_shared && is_beside(entries, files, i) {
+            places.push_again(i - 1)?;
+        } else {
+            push_places(&mut places, &mut finder, ranks, &entries.entry(files[i]))?;
+        }
     }
     Ok(places)
+}
+
+/// Whether a file is a neighbour of the one before it.
+fn is_beside(entries: &Segments, files: &[FileNumber], i: usize) -> bool
+    requires files { AreKept entries.now files.now }
+    requires place { i < length files.now }
+    ensures { IsTrue result ↔ IsBeside (entries_at entries.now files.now) i }
+{
+    i > 0 && entries.are_neighbours(files[i - 1], files[i])
 }
 
 /// A line for each data file, with the delete files that apply by their index.

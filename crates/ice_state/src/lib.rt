@@ -17,6 +17,7 @@ mod pruning;
 mod ranks;
 mod scan;
 mod segments;
+mod shared_places;
 mod slots;
 mod taken;
 

@@ -4,8 +4,8 @@ ghost use Rattle.std.specs.Prelude.{◌≡◌, ◌<◌, ◌^◌, length, Some, s
 ghost use Rattle.ice_state.specs.Segments.{IsKept, entry_at};
 ghost use Rattle.ice_manifest_reading.specs.Lending.{lent};
 
-use crate::places::PlaceTable;
 use crate::segments::{FileNumber, Segments};
+use crate::shared_places::SharedPlaces;
 use ice_manifest_reading::LentEntry;
 use ice_value::SequenceNumber;
 use std::marker::Model;
@@ -206,7 +206,7 @@ impl<'a> Line<'a> {
 pub struct Lines<'a> {
     pub(crate) files: Files<'a>,
     pub(crate) deletes: Files<'a>,
-    pub(crate) places: &'a PlaceTable,
+    pub(crate) places: &'a SharedPlaces,
 }
 
 impl<'a> Model for Lines<'a> {

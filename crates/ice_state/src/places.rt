@@ -34,14 +34,14 @@ impl Model for PlaceTable {
 }
 
 impl PlaceTable {
-    /// No lines, with room for so many: one of them that has no places takes no more memory.
-    pub(crate) fn with_capacity(alloc: Global, lines: usize) -> Result<Self, AllocError>
-        ensures { IfOk result (λ table. table ≡ []) }
+    /// No lines.
+    pub(crate) fn new(alloc: Global) -> Self
+        ensures { result ≡ [] }
     {
-        Ok(PlaceTable {
-            ends: Vec::with_capacity(alloc, lines)?,
+        PlaceTable {
+            ends: Vec::new(alloc),
             places: Vec::new(alloc),
-        })
+        }
     }
 
     /// So many lines, none of which has places.

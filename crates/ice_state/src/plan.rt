@@ -4,8 +4,8 @@ ghost use Rattle.std.specs.Prelude.{◌≡◌};
 ghost use Rattle.ice_state.specs.Lines.{lines_of, IsPlanned};
 
 use crate::lines::{Files, Lines};
-use crate::places::PlaceTable;
 use crate::segments::{FileNumber, Segments};
+use crate::shared_places::SharedPlaces;
 use std::marker::Model;
 
 /// A plan by the numbers of its entries: the data files, the delete files, and which of these apply to each of those.
@@ -13,7 +13,7 @@ use std::marker::Model;
 pub(crate) struct NumberedPlan {
     pub(crate) files: Vec<FileNumber>,
     pub(crate) deletes: Vec<FileNumber>,
-    pub(crate) places: PlaceTable,
+    pub(crate) places: SharedPlaces,
 }
 
 impl NumberedPlan {

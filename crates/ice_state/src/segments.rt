@@ -1,14 +1,14 @@
 //! Entries that are kept in segments: a state's own, and behind them those of each state that it absorbed.
 
-ghost use Rattle.std.specs.Prelude.{◌≡◌, ◌<◌, ◌++◌, ◌^◌, length, IfOk, OnErr, OnOk};
-ghost use Rattle.ice_entries.specs.Kept.{AreKept as AreKeptIn, entries_at as entries_in};
+ghost use Rattle.std.specs.Prelude.{◌≡◌, ◌<◌, ◌++◌, ◌^◌, ◌↔◌, length, IfOk, IsTrue, OnErr, OnOk};
+ghost use Rattle.ice_entries.specs.Kept.{AreKept as AreKeptIn, AreNeighbours, entries_at as entries_in};
 ghost use Rattle.ice_manifest_reading.specs.Lending.{lent};
 ghost use Rattle.ice_state.specs.Segments.{AreBefore, entry_at, IsKept, Keeps, segment_at, Segmented};
 ghost use Rattle.ice_state.specs.Segments.{StandsBehind};
 
 use ice_entries::{Entries, EntryNumber, Room};
 use ice_manifest_reading::{EntryView, LentEntry};
-use ice_value::FileContent;
+use ice_value::{FileContent, is_same_tuple};
 use std::alloc::{AllocError, Global};
 use std::marker::Model;
 
@@ -89,6 +89,21 @@ impl Segments {
         self.segment(number.segment).content(number.number)
     }
 
+    /// Whether the files of two entries are neighbours: of one spec, with the same partition values and the same sequence
+    /// number.
+    pub(crate) fn are_neighbours(&self, a: FileNumber, b: FileNumber) -> bool
+        requires first { IsKept self.now a }
+        requires second { IsKept self.now b }
+        ensures { IsTrue result ↔ AreNeighbours (entry_at self.now a) (entry_at self.now b) }
+    {
+        if a.segment == b.segment {
+            return self
+                .segment(a.segment)
+                .are_neighbours(a.number, b.number);
+        }
+        are_neighbours(&self.entry(a), &self.entry(b))
+    }
+
     /// The path of an entry.
     pub(crate) fn path(&self, number: FileNumber) -> &[u8]
         requires { IsKept self.now number }
@@ -158,6 +173,13 @@ impl Segments {
             list: copied_segments(alloc, &self.list)?,
         })
     }
+}
+
+/// The same of entries that are lent.
+fn are_neighbours(a: &LentEntry<'_>, b: &LentEntry<'_>) -> bool
+    ensures { IsTrue result ↔ AreNeighbours (lent a.now) (lent b.now) }
+{
+    a.spec_id == b.spec_id && a.sequence_number == b.sequence_number && is_same_tuple(a.tuple, b.tuple)
 }
 
 fn copied_segments(alloc: Global, segments: &[Entries]) -> Result<Vec<Entries>, AllocError>

@@ -9,5 +9,5 @@ abbrev pub invariant-files : goal.invariant-files
 invariant-files l = record {
   same : l.finder ≡ l.index;
   all : l.places ≡ map (λ x. places_of (renumbered l.ranks l.index) (data_key_of x))
-      (entries_at l.entries (take l.file-index l.files));
+      (entries_at l.entries (take l.i l.files));
 }

@@ -1,0 +1,126 @@
+-- The same delete files apply to neighbours, where none names a data file.
+use Rattle.std.proofs.Common.{◌≡◌, ◌<◌, ◌&&◌, ◌||◌, ◌∙◌, ◌++◌, ◌-◌, ℕ, ℤ, zero, suc, Bool, true, false, List, [], ◌∷◌, filter, map, cond}
+use Rattle.std.proofs.Common.{refl, sym, ap, subst, arith, Option, Some, None, is_some, length, get_or, take}
+use Rattle.std.specs.List.{list_any}
+use Rattle.ice_value.specs.declared.cell.Cell.{Cell}
+use Rattle.ice_value.specs.declared.file_content.FileContent.{FileContent}
+use Rattle.ice_value.specs.declared.file_content.FileContent.TheVariants.{Data, PositionDeletes, EqualityDeletes}
+use Rattle.ice_value.specs.Applying.{DataKey, DeleteKey, applies, applies_as}
+use Rattle.ice_deletes.specs.declared.group.Group.TheVariants.{Referenced}
+use Rattle.ice_deletes.specs.Found.{data_key, holds, is_content}
+use Rattle.ice_deletes.specs.Groups.{is_in}
+use Rattle.ice_deletes.specs.Unions.{renumbered}
+use Rattle.ice_manifest_reading.specs.declared.entry.Entry.{Entry}
+use Rattle.ice_entries.specs.Kept.{AreNeighbours, no_entry}
+use Rattle.ice_state.specs.declared.segments.FileNumber.{FileNumber}
+use Rattle.ice_state.specs.Applying.{data_key_of}
+use Rattle.ice_state.specs.Parts.{ascending, places_of}
+use Rattle.ice_state.specs.PlaceLists.{LinePlaces}
+use Rattle.ice_state.specs.Segments.{Segmented, entry_at, entries_at}
+use Rattle.ice_state.specs.SharedPlaces.{IsBeside, line_in}
+
+abbrev names_one : ℕ × DeleteKey → Bool
+names_one e = is_in Referenced e.1
+
+neither : (a b : Bool) → (a || b) ≡ false → (a ≡ false) × (b ≡ false)
+neither true b h = (cc, cc)
+neither false b h = (refl, h)
+
+none_renumbered : (ranks : List ℕ) (es : List (ℕ × DeleteKey)) → list_any names_one (renumbered ranks es)
+    ≡ list_any names_one es
+none_renumbered ranks [] = refl
+none_renumbered ranks (e ∷ es) = ap (λ b. names_one e || b) (none_renumbered ranks es)
+
+module _ (spec_id : ℤ) (tuple : List Cell) (number : ℕ) (p q : List ℕ) where
+  abbrev at : List ℕ → DataKey
+  at path = data_key spec_id tuple number path
+
+  alike : (d : DeleteKey) → is_in Referenced d ≡ false → applies (at p) d ≡ applies (at q) d
+  alike d h = go d.content d.referenced h where
+    go : (K : FileContent) (r : Option (List ℕ)) → (is_content PositionDeletes K && is_some r) ≡ false
+        → applies_as K (at p) (record d { referenced = r }) ≡ applies_as K (at q) (record d { referenced = r })
+    go Data r h = refl
+    go PositionDeletes None h = refl
+    go PositionDeletes (Some path) h = cc
+    go EqualityDeletes r h = refl
+
+  same_apply : (K : FileContent) (es : List (ℕ × DeleteKey)) → list_any names_one es ≡ false
+      → filter (λ (e : ℕ × DeleteKey). holds K e.1 && applies (at p) e.1) es
+      ≡ filter (λ (e : ℕ × DeleteKey). holds K e.1 && applies (at q) e.1) es
+  same_apply K [] h = refl
+  same_apply K (e ∷ es) h =
+      let none = neither (names_one e) (list_any names_one es) h in
+      let one = alike e.1 none.0 in
+      let rest = same_apply K es none.1 in
+      λ i. cond (holds K e.1 && one i) (e ∷ rest i) (rest i)
+
+  same_places : (es : List (ℕ × DeleteKey)) → list_any names_one es ≡ false
+      → places_of es (at p) ≡ places_of es (at q)
+  same_places es h =
+      let numbers : List (ℕ × DeleteKey) → List ℕ = λ fs. map (λ (e : ℕ × DeleteKey). e.0) fs in
+      let positions = same_apply PositionDeletes es h in
+      let equalities = same_apply EqualityDeletes es h in
+      λ i. record { positions = ascending (numbers (positions i)); equalities = ascending (numbers (equalities i)) }
+
+neighbour_places : (ranks : List ℕ) (index : List (ℕ × DeleteKey)) (a b : Entry) → list_any names_one index ≡ false
+    → AreNeighbours a b
+    → places_of (renumbered ranks index) (data_key_of a) ≡ places_of (renumbered ranks index) (data_key_of b)
+neighbour_places ranks index a b none near =
+    let key : data_key a.spec_id a.file.tuple a.sequence_number b.file.path ≡ data_key_of b =
+    λ i. data_key (near.spec i) (near.tuple i) (near.number i) b.file.path in
+    same_places a.spec_id a.file.tuple a.sequence_number a.file.path b.file.path (renumbered ranks index)
+    (none_renumbered ranks index ∙ none)
+    ∙ ap (places_of (renumbered ranks index)) key
+
+-- the line of the file at a place
+pub line_at_place : (f : Entry → LinePlaces) (kept : Segmented) (ns : List FileNumber) (many i : ℕ) → i < many
+    → i < length ns → line_in (map f (entries_at kept (take many ns))) i ≡ f (get_or (entries_at kept ns) i no_entry)
+line_at_place f kept [] many i l m = absurd (omega arith)
+line_at_place f kept (n ∷ ns) zero i l m = absurd (omega arith)
+line_at_place f kept (n ∷ ns) (suc many) zero l m = refl
+line_at_place f kept (n ∷ ns) (suc many) (suc i) l m = line_at_place f kept ns many i (omega arith) (omega arith)
+
+-- the line of the file at a place, put last
+one_more : (f : Entry → LinePlaces) (kept : Segmented) (ns : List FileNumber) (i : ℕ) (d : FileNumber) → i < length ns
+    → map f (entries_at kept (take (suc i) ns))
+    ≡ map f (entries_at kept (take i ns)) ++ f (entry_at kept (get_or ns i d)) ∷ []
+one_more f kept [] i d l = absurd (omega arith)
+one_more f kept (n ∷ ns) zero d l = refl
+one_more f kept (n ∷ ns) (suc i) d l = ap (λ ls. f (entry_at kept n) ∷ ls) (one_more f kept ns i d (omega arith))
+
+one_file : (kept : Segmented) (ns : List FileNumber) (i : ℕ) (d : FileNumber) → i < length ns
+    → entry_at kept (get_or ns i d) ≡ get_or (entries_at kept ns) i no_entry
+one_file kept [] i d l = absurd (omega arith)
+one_file kept (n ∷ ns) zero d l = refl
+one_file kept (n ∷ ns) (suc i) d l = one_file kept ns i d (omega arith)
+
+some_file : (ns : List FileNumber) → 0 < length ns → FileNumber
+some_file [] l = absurd (omega arith)
+some_file (n ∷ ns) l = n
+
+module _ (ranks : List ℕ) (index : List (ℕ × DeleteKey)) (kept : Segmented) (ns : List FileNumber) (i j : ℕ)
+    (next : j ≡ suc i) (l : i < length ns) (lines : List LinePlaces)
+    (are : lines ≡ map (λ x. places_of (renumbered ranks index) (data_key_of x)) (entries_at kept (take i ns))) where
+  abbrev f : Entry → LinePlaces
+  f x = places_of (renumbered ranks index) (data_key_of x)
+
+  -- the lines of the first files, and that of one more
+  pub looked_up_more : (d : FileNumber) (x : Entry) → x ≡ entry_at kept (get_or ns i d)
+      → lines ++ f x ∷ [] ≡ map f (entries_at kept (take j ns))
+  looked_up_more d x is =
+      (λ k. are k ++ f (is k) ∷ []) ∙ sym (one_more f kept ns i d l)
+      ∙ ap (λ (n : ℕ). map f (entries_at kept (take n ns))) (sym next)
+
+  -- the same where its file is a neighbour of the last one's
+  pub again : list_any names_one index ≡ false → IsBeside (entries_at kept ns) i
+      → lines ++ line_in lines (i - 1) ∷ [] ≡ map f (entries_at kept (take j ns))
+  again none beside =
+      let files = entries_at kept ns in
+      let before : ℕ = i - 1 in
+      let d = some_file ns (omega (arith, l)) in
+      let line : line_in lines before ≡ f (get_or files i no_entry) =
+      ap (λ ls. line_in ls before) are
+      ∙ line_at_place f kept ns i before (omega (arith, beside.0)) (omega (arith, l))
+      ∙ neighbour_places ranks index (get_or files before no_entry) (get_or files i no_entry) none beside.1 in
+      ap (λ x. lines ++ x ∷ []) (line ∙ ap f (sym (one_file kept ns i d l)))
+      ∙ looked_up_more d (entry_at kept (get_or ns i d)) refl
