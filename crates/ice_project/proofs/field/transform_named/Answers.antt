@@ -6,4 +6,4 @@ use Rattle.ice_project.proofs.field.transform_named.Goals as goal
 pub returns : goal.returns
 returns c =
     IfOk-weaker c.parse.result _ _ (λ f h. c.texts_of_transforms.ensures.one f (transform_named c.args.text.now)
-    c.args.text.now h (named_is c.args.text.now)) c.parse.ensures
+    c.args.text.now h (named_is c.args.text.now)) c.parse.ensures.named
