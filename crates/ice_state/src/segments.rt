@@ -97,9 +97,7 @@ impl Segments {
         ensures { IsTrue result ↔ AreNeighbours (entry_at self.now a) (entry_at self.now b) }
     {
         if a.segment == b.segment {
-            return self
-                .segment(a.segment)
-                .are_neighbours(a.number, b.number);
+            return self.segment(a.segment).are_neighbours(a.number, b.number);
         }
         are_neighbours(&self.entry(a), &self.entry(b))
     }
@@ -179,7 +177,9 @@ impl Segments {
 fn are_neighbours(a: &LentEntry<'_>, b: &LentEntry<'_>) -> bool
     ensures { IsTrue result ↔ AreNeighbours (lent a.now) (lent b.now) }
 {
-    a.spec_id == b.spec_id && a.sequence_number == b.sequence_number && is_same_tuple(a.tuple, b.tuple)
+    a.spec_id == b.spec_id
+        && a.sequence_number == b.sequence_number
+        && is_same_tuple(a.tuple, b.tuple)
 }
 
 fn copied_segments(alloc: Global, segments: &[Entries]) -> Result<Vec<Entries>, AllocError>

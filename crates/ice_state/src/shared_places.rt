@@ -97,8 +97,13 @@ impl SharedPlaces {
         let Ok(list) = u32::try_from(self.lists.len()) else {
             return Err(AllocError);
         };
-        self.lists
-            .push(ranks, positions, other_positions, equalities, other_equalities)?;
+        self.lists.push(
+            ranks,
+            positions,
+            other_positions,
+            equalities,
+            other_equalities,
+        )?;
         self.lines.push(list)?;
         Ok(())
     }
