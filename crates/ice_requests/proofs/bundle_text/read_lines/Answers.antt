@@ -1,7 +1,7 @@
-use Rattle.std.proofs.Common.{◌≡◌, ◌++◌, List, ℕ, [], ◌∙◌, Ok, ap, append_assoc, arith, inl, refl, sym, take}
-use Rattle.std.proofs.KnownBytes.{Consumes-nil, Consumes-trans}
+use Rattle.std.proofs.Common.{◌≡◌, ◌≤◌, ◌++◌, ℕ, [], ◌∙◌, Ok, ap, append_assoc, arith, inl, length, sym, take}
+use Rattle.std.proofs.Common.{length-take}
+use Rattle.std.proofs.KnownBytes.{Consumes-trans}
 use Rattle.std.proofs.lemmas.List.{append-nil}
-use Rattle.std.proofs.lemmas.List.Elements.{All-nil}
 use Rattle.std.proofs.lemmas.Result.{err_from_is_err_and}
 use Rattle.std.specs.Io.KnownBytes.{Consumes}
 use Rattle.std.specs.Prelude.{IfSome}
@@ -50,7 +50,7 @@ returns-in-Err-clause-refused g c =
     (
       (taken.0 ++ bytes) ++ input.0,
       input.1,
-      refused_text _ c.in-Err.fault (λ m. ap bundle_of (append_assoc taken.0 bytes input.0)
+      refused_text ((taken.0 ++ bytes) ++ input.0) c.in-Err.fault (λ m. ap bundle_of (append_assoc taken.0 bytes input.0)
       ∙ taken.2 (bytes ++ input.0) ∙ c.in-Err.ensures.err m input.0),
     )
 
@@ -62,6 +62,9 @@ loop-turn-preserved g c =
         (g.R.Read.remaining c.read_piece.new.reader) (take count c.read_piece.new.room)) =
         c.in_ok-count.ensures.bytes in
     let more = rw c.in-Some.is at read in
+    let piece : IfSome c.in_ok-count.field-0 (λ count. count ≤ length c.read_piece.new.room) =
+        c.in_ok-count.ensures.piece in
+    let count = rw c.in-Some.is at piece in
     record {
       taken = (
         taken.0 ++ bytes,
@@ -70,5 +73,6 @@ loop-turn-preserved g c =
         ∙ sym (c.in_default-take.ensures.ok rest),
       );
       open_line = c.in_default-take.ensures.unbroken;
-      few = ?;
+      few = omega (arith, length-take {A = ℕ}, c.in_default-take.ensures.few, count, c.read_piece.auto.room,
+          c.loop-turn.auto.room, c.requires.1, c.loop-turn.invariant.few);
     }
