@@ -118,7 +118,12 @@ impl Bundle {
     }
 
     /// Puts the file of this line, which is line `number`, behind the others, where the line has one.
-    pub(crate) fn add_line(&mut self, alloc: Global, number: u64, line: &[u8]) -> Result<(), RunFault>
+    pub(crate) fn add_line(
+        &mut self,
+        alloc: Global,
+        number: u64,
+        line: &[u8],
+    ) -> Result<(), RunFault>
         ensures ok { OnOk result (added number self.old (file_of line.now) ≡ Ok self.new) }
         ensures err { IfErr result (λ e. e ≢ RunFault.Memory → added number self.old (file_of line.now) ≡ Err e) }
     {

@@ -80,7 +80,12 @@ enum Ending {
 /// Bundles: the text, which read fails, and how, and how reading ends.
 static BUNDLES: [(&[u8], u64, ErrorKind, Ending); 8] = [
     (b"a 00\nb 01\n", 0, ErrorKind::Other, Ending::File(b"\x00")),
-    (b"b 01\na 00ff", 0, ErrorKind::Other, Ending::File(b"\x00\xff")),
+    (
+        b"b 01\na 00ff",
+        0,
+        ErrorKind::Other,
+        Ending::File(b"\x00\xff"),
+    ),
     (b"a 00", 3, ErrorKind::Interrupted, Ending::File(b"\x00")),
     (b"a 00\n\nb 01\n", 0, ErrorKind::Other, Ending::Line(2)),
     (b"a 00\na 01", 0, ErrorKind::Other, Ending::Line(2)),
@@ -113,7 +118,8 @@ fn bundles(rt: HostRuntime) {
         };
         assert!(rt;
             ends(rt.alloc(), reader, *expected),
-            "{failing} {}", bytes.len()
+            "{failing} {}",
+            bytes.len()
         );
     }
 }

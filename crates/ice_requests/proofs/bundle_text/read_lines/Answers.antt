@@ -1,4 +1,4 @@
-use Rattle.std.proofs.Common.{◌≡◌, ◌≤◌, ◌++◌, ℕ, [], ◌∙◌, Ok, ap, append_assoc, arith, inl, length, sym, take}
+use Rattle.std.proofs.Common.{◌≤◌, ◌++◌, ℕ, [], ◌∙◌, Ok, ap, append_assoc, arith, inl, length, sym, take}
 use Rattle.std.proofs.Common.{length-take}
 use Rattle.std.proofs.KnownBytes.{Consumes-trans}
 use Rattle.std.proofs.lemmas.List.{append-nil}
@@ -19,7 +19,7 @@ pub returns-in_default-clause-found : goal.returns-in_default-clause-found
 returns-in_default-clause-found g c =
     let taken = c.loop-turn.invariant.taken in
     let ends = input_ends (g.R.Read.remaining c.args.reader.now) (g.R.Read.remaining c.loop-turn.reader) taken.0
-        taken.1 (c.in_ok-count.ensures.end (ap Ok c.in_default.is)) in
+    taken.1 (c.in_ok-count.ensures.end (ap Ok c.in_default.is)) in
     let read = rw (append-nil taken.0, append-nil c.loop-turn.front.begun.items) at (taken.2 []) in
     bundle_found _ taken.0 _ c.finish.result ends read c.finish.ensures
 
@@ -27,7 +27,7 @@ pub returns-in_default-clause-refused : goal.returns-in_default-clause-refused
 returns-in_default-clause-refused g c =
     let taken = c.loop-turn.invariant.taken in
     let ends = input_ends (g.R.Read.remaining c.args.reader.now) (g.R.Read.remaining c.loop-turn.reader) taken.0
-        taken.1 (c.in_ok-count.ensures.end (ap Ok c.in_default.is)) in
+    taken.1 (c.in_ok-count.ensures.end (ap Ok c.in_default.is)) in
     let read = rw (append-nil taken.0, append-nil c.loop-turn.front.begun.items) at (taken.2 []) in
     bundle_refused _ taken.0 _ c.finish.result ends read c.finish.ensures
 
@@ -42,16 +42,15 @@ returns-in-Err-clause-refused g c =
     let taken = c.loop-turn.invariant.taken in
     let bytes = take c.in-Some.count c.read_piece.new.room in
     let read : IfSome c.in_ok-count.field-0 (λ count. Consumes (g.R.Read.remaining c.loop-turn.reader)
-        (g.R.Read.remaining c.read_piece.new.reader) (take count c.read_piece.new.room)) =
-        c.in_ok-count.ensures.bytes in
+    (g.R.Read.remaining c.read_piece.new.reader) (take count c.read_piece.new.room)) =
+    c.in_ok-count.ensures.bytes in
     let more = rw c.in-Some.is at read in
     let both = Consumes-trans _ _ _ taken.0 bytes taken.1 more in
-    let input = input_goes_on _ _ (taken.0 ++ bytes) both in
-    (
+    let input = input_goes_on _ _ (taken.0 ++ bytes) both in (
       (taken.0 ++ bytes) ++ input.0,
       input.1,
       refused_text ((taken.0 ++ bytes) ++ input.0) c.in-Err.fault (λ m. ap bundle_of (append_assoc taken.0 bytes input.0)
-      ∙ taken.2 (bytes ++ input.0) ∙ c.in-Err.ensures.err m input.0),
+          ∙ taken.2 (bytes ++ input.0) ∙ c.in-Err.ensures.err m input.0),
     )
 
 pub loop-turn-preserved : goal.loop-turn-preserved
@@ -59,20 +58,28 @@ loop-turn-preserved g c =
     let taken = c.loop-turn.invariant.taken in
     let bytes = take c.in-Some.count c.read_piece.new.room in
     let read : IfSome c.in_ok-count.field-0 (λ count. Consumes (g.R.Read.remaining c.loop-turn.reader)
-        (g.R.Read.remaining c.read_piece.new.reader) (take count c.read_piece.new.room)) =
-        c.in_ok-count.ensures.bytes in
+    (g.R.Read.remaining c.read_piece.new.reader) (take count c.read_piece.new.room)) =
+    c.in_ok-count.ensures.bytes in
     let more = rw c.in-Some.is at read in
     let piece : IfSome c.in_ok-count.field-0 (λ count. count ≤ length c.read_piece.new.room) =
-        c.in_ok-count.ensures.piece in
+    c.in_ok-count.ensures.piece in
     let count = rw c.in-Some.is at piece in
     record {
       taken = (
         taken.0 ++ bytes,
         Consumes-trans _ _ _ taken.0 bytes taken.1 more,
         λ rest. ap bundle_of (append_assoc taken.0 bytes rest) ∙ taken.2 (bytes ++ rest)
-        ∙ sym (c.in_default-take.ensures.ok rest),
+            ∙ sym (c.in_default-take.ensures.ok rest),
       );
       open_line = c.in_default-take.ensures.unbroken;
-      few = omega (arith, length-take {A = ℕ}, c.in_default-take.ensures.few, count, c.read_piece.auto.room,
-          c.loop-turn.auto.room, c.requires.1, c.loop-turn.invariant.few);
+      few = omega (
+        arith,
+        length-take {A = ℕ},
+        c.in_default-take.ensures.few,
+        count,
+        c.read_piece.auto.room,
+        c.loop-turn.auto.room,
+        c.requires.1,
+        c.loop-turn.invariant.few,
+      );
     }

@@ -29,10 +29,20 @@ left-preserved c =
           ∙ ap (λ l. files_from c.left.self.lines c.left.self.bundle (c.left.self.begun.items ++ l))
           (sym (cut_before left i rest c.in-Some.ensures.0.high c.in-Some.ensures.1)) ∙ c.left.invariant.same rest;
       open_line = All-nil (λ b. b ≢ 10);
-      few = omega (arith, length-drop {A = ℕ}, c.in_ok-end_line_with.ensures.lines, c.in-Some.ensures.0.high,
-          c.left.invariant.few);
-      fits = omega (arith, length-drop {A = ℕ}, c.in_ok-end_line_with.ensures.lines, c.in-Some.ensures.0.high,
-          c.left.invariant.fits);
+      few = omega (
+        arith,
+        length-drop {A = ℕ},
+        c.in_ok-end_line_with.ensures.lines,
+        c.in-Some.ensures.0.high,
+        c.left.invariant.few,
+      );
+      fits = omega (
+        arith,
+        length-drop {A = ℕ},
+        c.in_ok-end_line_with.ensures.lines,
+        c.in-Some.ensures.0.high,
+        c.left.invariant.fits,
+      );
     })
 
 pub returns-clause-unbroken : goal.returns-clause-unbroken
