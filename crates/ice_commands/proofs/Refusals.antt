@@ -5,10 +5,10 @@ use Rattle.std.specs.Prelude.{Result, Ok, Err, IfErr, IfSome, if◌then◌else�
 use Rattle.contract_words.specs.Outcome.{◌>>=◌}
 use Rattle.ice_text.specs.declared.fault.RunFault.{RunFault}
 use Rattle.ice_text.specs.declared.fault.RunFault.TheVariants as run
-use Rattle.ice_requests.specs.Bundles.{File, added, bundle_of, bytes_at, file_of, first_path, with_lines}
+use Rattle.ice_requests.specs.Bundles.{File, IsInput, NoBundle, added, bundle_of, bytes_at, file_of, first_path, with_lines}
 use Rattle.ice_text.specs.Reads.{MayEnd}
 use Rattle.ice_requests.specs.ListPlans.{list_answer}
-use Rattle.ice_commands.specs.Runs.{IsInput, MayRefuse, NoBundle, Ran, as_text, bundle_text, list_in, or_first_line}
+use Rattle.ice_commands.specs.Runs.{MayRefuse, Ran, as_text, bundle_text, list_in, or_first_line}
 use Rattle.ice_commands.specs.Runs.{planned_text, shown_text}
 use Rattle.ice_command_line.specs.CommandLines.{IsWordsFault}
 use Rattle.ice_requests.specs.Plans.{answer_at, over_wanted_rows}
@@ -51,11 +51,6 @@ list_fault files None e h = first_fault (first_path files) e h
 list_fault files (Some path) e h = absurd cc
 
 -- ---- no bundle
-
--- standard input can't be read
-pub unread_bundle : (text : List ℕ) (e : RunFault) → (e ≡ run.Input) ⊎ (e ≡ run.Memory) → NoBundle text e
-unread_bundle text e (inl h) = inl h
-unread_bundle text e (inr h) = inr (inl h)
 
 any_known : {A : Type 0} (known : Option A) → IfSome known (λ x. Unit {0})
 any_known None = tt

@@ -116,11 +116,3 @@ pub record Refused (known : Option (Result (List ℕ) RunFault)) (write_may_fail
   pub nothing : fault ≢ run.Write → output' ≡ output
   pub front : fault ≡ run.Write → IfSome known (λ read. WroteFront read output output')
   pub told : Told tell_may_fail errors errors' fault
-
--- the text that was read: where a reader tells what it has left, that
-abbrev pub IsInput : Option (List ℕ) → List ℕ → Type 0
-IsInput left text = IfSome left (λ bytes. text ≡ bytes)
-
--- why standard input gives no bundle: it can't be read, memory ran out, or the text is none
-abbrev pub NoBundle : List ℕ → RunFault → Type 0
-NoBundle text fault = (fault ≡ run.Input) ⊎ ((fault ≡ run.Memory) ⊎ (bundle_of text ≡ Err fault))

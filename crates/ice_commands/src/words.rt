@@ -1,11 +1,11 @@
 //! The program over its words, standard input, the files of the system, output and errors.
 
 ghost use Rattle.std.specs.Prelude.{◌≡◌, ◌⊎◌, ℕ, List, Option, Some, None, Result, Ok, Err, map, string_bytes};
-ghost use Rattle.std.specs.Prelude.{◌≤◌, ◌*◌, length, IfOk, IfErr, OnOk};
-ghost use Rattle.ice_requests.specs.Bundles.{bundle_of};
+ghost use Rattle.std.specs.Prelude.{IfOk, IfErr, OnOk};
+ghost use Rattle.ice_requests.specs.Bundles.{IsInput, bundle_of};
 ghost use Rattle.ice_requests.specs.Commits.{committed_text};
 ghost use Rattle.ice_drill.specs.Drills.{WroteDrill};
-ghost use Rattle.ice_commands.specs.Runs.{Answered, IsInput, IsOfDrill, NoBundle, Ran, Refused, answer_to, list_in};
+ghost use Rattle.ice_commands.specs.Runs.{Answered, IsOfDrill, Ran, Refused, answer_to, list_in};
 ghost use Rattle.ice_commands.specs.Runs.{run_of};
 ghost use Rattle.ice_command_line.specs.CommandLines.{ReadAs};
 ghost use Rattle.ice_command_line.specs.declared.command_line.Words.{Words};
@@ -14,11 +14,10 @@ ghost use Rattle.ice_text.specs.declared.fault.RunFault.{RunFault};
 use crate::commit_lines::commit_lines;
 use contract_words::Text;
 use ice_command_line::{Lists, Place, Source, Words, parse_words};
-use ice_desk::ReadFault;
 use ice_drill::{Watch, run_drill};
 use ice_requests::{
-    Bundle, CommitFolder, Folder, MOST_READS, commit_to, plan_file, prepare_commit, read_all,
-    run_list_plan, show_file,
+    Bundle, CommitFolder, Folder, commit_to, plan_file, prepare_commit, read_bundle, run_list_plan,
+    show_file,
 };
 use ice_text::{CommitRequest, Drill, Request, RunFault, Sink, report, write_all};
 use std::alloc::Global;
@@ -36,31 +35,6 @@ fn list_in<'a>(bundle: &'a Bundle, list: &'a Option<Text>) -> Result<&'a str, Ru
         return Ok(list.as_str());
     }
     bundle.first_path().ok_or(RunFault::Bundle(1))
-}
-
-/// All that standard input has left.
-fn read_input<R: Read>(alloc: Global, input: &mut R) -> Result<Vec<u8>, RunFault>
-    ensures all { IfOk result (λ text. IsInput (R.remaining input.old) text.items) }
-    // At most 16,777,216 reads are made, each of at most 65,536 bytes.
-    ensures most { IfOk result (λ text. length text.items ≤ 16777216 * 65536) }
-    ensures causes { IfErr result (λ e. (e ≡ RunFault.Input) ⊎ (e ≡ RunFault.Memory)) }
-{
-    match read_all(alloc, input, MOST_READS) {
-        Ok(text) => Ok(text),
-        Err(ReadFault::Memory) => Err(RunFault::Memory),
-        Err(_) => Err(RunFault::Input),
-    }
-}
-
-/// The bundle on standard input.
-fn read_bundle<R: Read>(alloc: Global, input: &mut R) -> Result<Bundle, RunFault>
-    ensures found { IfOk result (λ bundle. (text : List ℕ) × IsInput (R.remaining input.old) text ×
-        (bundle_of text ≡ Ok bundle)) }
-    ensures refused { IfErr result (λ e. (text : List ℕ) × IsInput (R.remaining input.old) text ×
-        NoBundle text e) }
-{
-    let text = read_input(alloc, input)?;
-    Bundle::read(alloc, &text)
 }
 
 /// The files below the folder of a place.

@@ -1,6 +1,7 @@
 pub mod Bases
 pub mod Commits
 pub mod Crews
+pub mod Inputs
 pub mod Lines
 pub mod Listed
 pub mod Lookups

@@ -1,65 +1,78 @@
--- The first line of a text is what stands before its first line feed.
-use Rattle.std.proofs.Common.{◌≡◌, ℕ, ◌+◌, ◌<◌, ◌≤◌, ◌==◌, Bool, true, false, List, [], ◌∷◌, length, take, drop, refl}
-use Rattle.std.proofs.Common.{ap, Some, None, arith, position, not, cond, nat_lt, add-one, one-add}
-use Rattle.std.specs.List.{position_or_len}
-use borrow.Author.Tests.{ltb-true, ltb-false}
-use Rattle.ice_requests.specs.Bundles.{lines_of, before_line}
+-- Lines that come in pieces.
+use Rattle.std.proofs.Common.{◌≡◌, ◌≢◌, ℕ, ◌+◌, ◌<◌, ◌≤◌, ◌==◌, Bool, true, false, List, [], ◌∷◌, ◌++◌, length, take, drop}
+use Rattle.std.proofs.Common.{refl, sym, ap, ◌∙◌, arith, cond, get_or, add-one, append_assoc}
+use Rattle.std.specs.Prelude.{Ok}
+use Rattle.std.specs.List.{All}
+use Rattle.std.proofs.lemmas.List.{take-append-drop}
+use Rattle.std.proofs.lemmas.List.Elements.{All-from_get_or, All-head, All-tail}
+use Rattle.std.proofs.Math.Seq.{drop-cons, get_or-take, length-take-le}
+use borrow.Author.Tests.{eqb-true}
+use Rattle.memchr.specs.Find.{Nowhere, Passes, is_byte}
+use Rattle.ice_requests.specs.Bundles.{File, lines_of, before_line, with_lines}
 
-abbrev is_feed : ℕ → Bool
-is_feed b = b == 10
+-- no line feed stands in it
+abbrev pub Open : List ℕ → Type 0
+Open xs = All (λ b. b ≢ 10) xs
 
 abbrev lines_when : Bool → ℕ → List (List ℕ) → List (List ℕ)
 lines_when b x lines = cond b ([] ∷ lines) (before_line x lines)
 
-later : (x : ℕ) (xs : List ℕ) (p : ℕ) → lines_of xs ≡ take p xs ∷ lines_of (drop (p + 1) xs)
-    → before_line x (lines_of xs) ≡ take (1 + p) (x ∷ xs) ∷ lines_of (drop (1 + p + 1) (x ∷ xs))
-later x xs p h = let h' = rw add-one at h in rw (one-add, add-one, h') refl
+no_feed : (b : ℕ) (t : Bool) → (b == 10) ≡ t → b ≢ 10 → t ≡ false
+no_feed b true e n = absurd (n (eqb-true b 10 e))
+no_feed b false e n = refl
 
-step : (x : ℕ) (xs : List ℕ) (b : Bool)
-    → (position_or_len is_feed xs < length xs → lines_of xs ≡ take (position_or_len is_feed xs) xs ∷ lines_of
-    (drop (position_or_len is_feed xs + 1) xs))
-    → cond (not b) (1 + position_or_len is_feed xs) 0 < length (x ∷ xs)
-    → lines_when b x (lines_of xs) ≡ take (cond (not b) (1 + position_or_len is_feed xs) 0) (x ∷ xs) ∷ lines_of
-    (drop (cond (not b) (1 + position_or_len is_feed xs) 0 + 1) (x ∷ xs))
-step x xs true rest h = refl
-step x xs false rest h = later x xs (position_or_len is_feed xs) (rest (omega arith))
+past : (b : ℕ) (t : Bool) (whole lines : List (List ℕ)) (x : List ℕ) → t ≡ false → whole ≡ x ∷ lines
+    → lines_when t b whole ≡ (b ∷ x) ∷ lines
+past b true whole lines x t e = absurd cc
+past b false whole lines x t e = ap (before_line b) e
 
-lines_at : (xs : List ℕ) → position_or_len is_feed xs < length xs
-    → lines_of xs ≡ take (position_or_len is_feed xs) xs ∷ lines_of (drop (position_or_len is_feed xs + 1) xs)
-lines_at [] h = absurd (omega arith)
-lines_at (x ∷ xs) h = step x xs (is_feed x) (lines_at xs) h
+alone : (b : ℕ) (t : Bool) → t ≡ false → lines_when t b [] ≡ (b ∷ []) ∷ []
+alone b true t = absurd cc
+alone b false t = refl
 
-last_step : (x y : ℕ) (ys : List ℕ) (b : Bool)
-    → (length (y ∷ ys) ≤ position_or_len is_feed (y ∷ ys) → lines_of (y ∷ ys) ≡ (y ∷ ys) ∷ [])
-    → length (x ∷ y ∷ ys) ≤ cond (not b) (1 + position_or_len is_feed (y ∷ ys)) 0
-    → lines_when b x (lines_of (y ∷ ys)) ≡ (x ∷ y ∷ ys) ∷ []
-last_step x y ys true rest h = absurd (omega arith)
-last_step x y ys false rest h = ap (before_line x) (rest (omega arith))
+-- a line feed ends a line
+pub ended : (x rest : List ℕ) → Open x → lines_of (x ++ 10 ∷ rest) ≡ x ∷ lines_of rest
+ended [] rest h = refl
+ended (b ∷ x) rest h = past b (b == 10) (lines_of (x ++ 10 ∷ rest)) (lines_of rest) x
+    (no_feed b (b == 10) refl (All-head (λ b. b ≢ 10) b x h)) (ended x rest (All-tail (λ b. b ≢ 10) b x h))
 
-only_step : (x : ℕ) (b : Bool) → 1 ≤ cond (not b) 1 0 → lines_when b x [] ≡ (x ∷ []) ∷ []
-only_step x true h = absurd (omega arith)
-only_step x false h = refl
+-- the last line may lack its line feed
+pub last : (x : List ℕ) → Open x → 0 < length x → lines_of x ≡ x ∷ []
+last [] h k = absurd (omega arith)
+last (b ∷ []) h k = alone b (b == 10) (no_feed b (b == 10) refl (All-head (λ b. b ≢ 10) b [] h))
+last (b ∷ c ∷ x) h k = past b (b == 10) (lines_of (c ∷ x)) [] (c ∷ x)
+    (no_feed b (b == 10) refl (All-head (λ b. b ≢ 10) b (c ∷ x) h))
+    (last (c ∷ x) (All-tail (λ b. b ≢ 10) b (c ∷ x) h) (omega arith))
 
-one_line : (xs : List ℕ) → length xs ≤ position_or_len is_feed xs → 0 < length xs → lines_of xs ≡ xs ∷ []
-one_line [] h k = absurd (omega arith)
-one_line (x ∷ []) h k = only_step x (is_feed x) h
-one_line (x ∷ y ∷ ys) h k = last_step x y ys (is_feed x) (λ h'. one_line (y ∷ ys) h' (omega arith)) h
+unlike : (b : ℕ) → ¬ ((b == 10) ≡ true) → b ≢ 10
+unlike b n e = n (rw e refl)
 
-found : (p n at : ℕ) (b : Bool) → nat_lt p n ≡ b → Some at ≡ cond b (Some p) None → (at ≡ p) × (p < n)
-found p n at true e h = (cc, ltb-true p n e)
-found p n at false e h = absurd cc
+-- before the first line feed there is none
+pub open_before : (xs : List ℕ) (at : ℕ) → at < length xs → Nowhere (Passes (is_byte 10) xs) 0 at → Open (take at xs)
+open_before xs i w h = All-from_get_or (λ b. b ≢ 10) (take i xs) 0 (λ k l.
+    let m : k < i = rw (length-take-le i xs (omega arith)) at l in
+    rw (get_or-take i xs k 0 m) (unlike (get_or xs k 0) (h k (omega arith) m)))
 
-pub lines_found : (xs : List ℕ) (at : ℕ) → Some at ≡ position (λ b. b == 10) xs
-    → lines_of xs ≡ take at xs ∷ lines_of (drop (at + 1) xs)
-lines_found xs at h =
-    let w = found (position_or_len is_feed xs) (length xs) at (nat_lt (position_or_len is_feed xs) (length xs)) refl
-    h in
-    rw w.0 (lines_at xs w.1)
+-- a text without one
+pub open_whole : (xs : List ℕ) → Nowhere (Passes (is_byte 10) xs) 0 (length xs) → Open xs
+open_whole xs h =
+    All-from_get_or (λ b. b ≢ 10) xs 0 (λ k l. unlike (get_or xs k 0) (h k (omega arith) l))
 
-missing : (p n : ℕ) (b : Bool) → nat_lt p n ≡ b → None ≡ cond b (Some p) None → n ≤ p
-missing p n true e h = absurd cc
-missing p n false e h = ltb-false p n e
+-- a text at a line feed
+pub cut_at : (xs : List ℕ) (at : ℕ) → at < length xs → Passes (is_byte 10) xs at
+    → xs ≡ take at xs ++ 10 ∷ drop (at + 1) xs
+cut_at xs i w h =
+    let feed : get_or xs i 0 ≡ 10 = eqb-true (get_or xs i 0) 10 h in
+    sym (take-append-drop i xs) ∙ ap (λ l. take i xs ++ l) (drop-cons xs i 0 w ∙ rw (add-one, feed) refl)
 
-pub lines_missing : (xs : List ℕ) → None ≡ position (λ b. b == 10) xs → 0 < length xs → lines_of xs ≡ xs ∷ []
-lines_missing xs h k = one_line xs (missing (position_or_len is_feed xs) (length xs)
-    (nat_lt (position_or_len is_feed xs) (length xs)) refl h) k
+-- and with what follows it
+pub cut_before : (xs : List ℕ) (at : ℕ) (rest : List ℕ) → at < length xs → Passes (is_byte 10) xs at
+    → xs ++ rest ≡ take at xs ++ 10 ∷ (drop (at + 1) xs ++ rest)
+cut_before xs i rest w h = ap (λ l. l ++ rest) (cut_at xs i w h)
+    ∙ append_assoc (take i xs) (10 ∷ drop (i + 1) xs) rest
+
+-- a text without bytes has no line
+pub no_line : (n : ℕ) (files : List File) (text : List ℕ) → length text ≡ 0 → with_lines n files (lines_of text) ≡ Ok files
+unfolding with_lines
+no_line n files [] h = refl
+no_line n files (b ∷ bs) h = absurd (omega arith)

@@ -1,5 +1,6 @@
 -- A bundle: files that are handed over in one text, a line each: the path, escaped, one space, and the bytes as
 -- hexadecimal digits.
+use Rattle.std.specs.Prelude.{◌≡◌, ◌⊎◌, IfSome}
 use Rattle.std.specs.Prelude.{ℕ, ◌+◌, ◌==◌, List, [], ◌∷◌, ◌++◌, take, drop, position, Option, Some, None, is_some}
 use Rattle.std.specs.Prelude.{option_and_then, Result, Ok, Err, if◌then◌else◌}
 use Rattle.std.specs.Result.{result_ok}
@@ -9,6 +10,7 @@ use Rattle.contract_words.specs.Outcome.{◌>>=◌}
 use Rattle.ice_print.specs.Escaping.{unescaped}
 use Rattle.ice_text.specs.declared.fault.RunFault.{RunFault}
 use Rattle.ice_text.specs.declared.fault.RunFault.TheVariants.{Bundle}
+use Rattle.ice_text.specs.declared.fault.RunFault.TheVariants as run
 
 pub record File : Type 0 where
   pub path : List ℕ
@@ -66,6 +68,18 @@ unfoldable pub with_lines : ℕ → List File → List (List ℕ) → Result (Li
 with_lines n files [] = Ok files
 with_lines n files (line ∷ lines) = added n files (file_of line) >>= λ more. with_lines (n + 1) more lines
 
+-- the files, with those of a text behind them that goes on after so many lines
+abbrev pub files_from : ℕ → List File → List ℕ → Result (List File) RunFault
+files_from lines files text = with_lines (lines + 1) files (lines_of text)
+
 -- the files of a bundle, or the first line that is none
 abbrev pub bundle_of : List ℕ → Result (List File) RunFault
 bundle_of text = with_lines 1 [] (lines_of text)
+
+-- the text that was read: where a reader tells what it has left, that
+abbrev pub IsInput : Option (List ℕ) → List ℕ → Type 0
+IsInput left text = IfSome left (λ bytes. text ≡ bytes)
+
+-- why standard input gives no bundle: it can't be read, memory ran out, or the text is none
+abbrev pub NoBundle : List ℕ → RunFault → Type 0
+NoBundle text fault = (fault ≡ run.Input) ⊎ ((fault ≡ run.Memory) ⊎ (bundle_of text ≡ Err fault))

@@ -1,10 +1,11 @@
 //! Files that are handed over in one text, a line each.
 
-ghost use Rattle.std.specs.Prelude.{◌≡◌, ◌≢◌, ◌+◌, ◌<◌, ◌==◌, ◌∷◌, length, position, [], option_map, string_bytes};
+ghost use Rattle.std.specs.Prelude.{◌≡◌, ◌≢◌, ◌==◌, position, [], option_map, string_bytes};
 ghost use Rattle.std.specs.Prelude.{IfOk, OnOk, IfErr, Some, Ok, Err};
 ghost use Rattle.contract_words.specs.Outcome.{Gives};
-ghost use Rattle.ice_requests.specs.Bundles.{added, bundle_of, bytes_of, file_of, first_path, lines_of, path_of};
+ghost use Rattle.ice_requests.specs.Bundles.{added, bundle_of, bytes_of, file_of, first_path, path_of};
 
+use crate::bundle_text::Front;
 use hex::FromHexError;
 use ice_desk::{Files, ReadFault};
 use ice_text::{RunFault, unescape};
@@ -93,21 +94,9 @@ fn file_from(alloc: Global, line: &[u8]) -> Result<Option<NamedFile>, RunFault>
     Ok(Some(NamedFile { path, bytes }))
 }
 
-/// The first line of a text that is not empty, and what follows its line feed.
-fn cut_line(text: &[u8]) -> (&[u8], &[u8])
-    requires { 0 < length text.now }
-    ensures lines { lines_of text.now ≡ result.0.now ∷ lines_of result.1.now }
-    ensures shorter { length result.1.now < length text.now }
-{
-    match find_byte(text, b'\n') {
-        Some(at) => (&text[..at], &text[at + 1..]),
-        None => (text, &[]),
-    }
-}
-
 impl Bundle {
     /// No files.
-    fn empty(alloc: Global) -> Bundle
+    pub(crate) fn empty(alloc: Global) -> Bundle
         ensures { result ≡ [] }
     {
         Bundle {
@@ -129,7 +118,12 @@ impl Bundle {
     }
 
     /// Puts the file of this line, which is line `number`, behind the others, where the line has one.
-    fn add_line(&mut self, alloc: Global, number: u64, line: &[u8]) -> Result<(), RunFault>
+    pub(crate) fn add_line(
+        &mut self,
+        alloc: Global,
+        number: u64,
+        line: &[u8],
+    ) -> Result<(), RunFault>
         ensures ok { OnOk result (added number self.old (file_of line.now) ≡ Ok self.new) }
         ensures err { IfErr result (λ e. e ≢ RunFault.Memory → added number self.old (file_of line.now) ≡ Err e) }
     {
@@ -143,16 +137,9 @@ impl Bundle {
     pub fn read(alloc: Global, text: &[u8]) -> Result<Bundle, RunFault>
         ensures { Gives RunFault.Memory (λ bundle. bundle) result (bundle_of text.now) }
     {
-        let mut bundle = Bundle::empty(alloc);
-        let mut rest = text;
-        let mut number = 0;
-        while !rest.is_empty() {
-            let (line, after) = cut_line(rest);
-            number += 1;
-            bundle.add_line(alloc, number, line)?;
-            rest = after;
-        }
-        Ok(bundle)
+        let mut front = Front::empty(alloc);
+        front.take(alloc, text)?;
+        front.finish(alloc)
     }
 
     /// The path of the first line.

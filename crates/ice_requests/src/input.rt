@@ -10,7 +10,7 @@ use std::io::{ErrorKind, Read};
 pub const MOST_READS: u64 = 16_777_216;
 
 /// Room for the bytes of one read.
-fn room(alloc: Global) -> Result<Vec<u8>, AllocError>
+pub(crate) fn room(alloc: Global) -> Result<Vec<u8>, AllocError>
     ensures { IfOk result (λ room. vec_len room ≡ 65536) }
 {
     vec![in alloc; 0; 65_536]

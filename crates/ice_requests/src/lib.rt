@@ -4,6 +4,7 @@
 
 mod base;
 mod bundle;
+mod bundle_text;
 mod committing;
 mod folder;
 mod input;
@@ -15,6 +16,7 @@ mod store;
 mod table_plans;
 
 pub use bundle::Bundle;
+pub use bundle_text::read_bundle;
 pub use committing::{commit_to, commits_are_put, prepare_commit, put_commit};
 pub use folder::{CommitFolder, Folder, file_name, fill_file};
 pub use ice_text::{CommitRequest, Request, read_rows};
