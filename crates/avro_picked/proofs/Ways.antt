@@ -1,7 +1,8 @@
 -- Where ways of ids lead.
 use Rattle.std.proofs.Common.{◌≡◌, ℕ, zero, suc, ◌+◌, ◌<◌, ◌≤◌, ℤ, pos, negsuc, ◌<ℤ◌, true, false, cond, List, [], ◌∷◌, length, get_or}
 use Rattle.std.proofs.Common.{drop, Option, Some, None, Result, Ok, Err, refl, sym, ap, subst, ◌∙◌, add-one, drop-cons}
-use Rattle.std.proofs.Common.{arith, ◌⊎◌, inl, inr}
+use Rattle.std.proofs.Common.{arith, ◌⊎◌, inl, inr, ◌%◌, ◌/◌}
+use Rattle.std.proofs.lemmas.Bool.{eq-eqb}
 use Rattle.std.proofs.lemmas.Int.{ints}
 use Rattle.std.proofs.Math.ListN.{drop_of_length-le}
 use Rattle.std.specs.Ordering.{int_eq}
@@ -16,7 +17,9 @@ use Rattle.avro_parts.specs.declared.place.Place.{Place}
 use Rattle.avro_parts.specs.declared.refusal.Refusal.{Refusal}
 use Rattle.avro_parts.specs.Place.{position_of}
 use Rattle.avro_parts.specs.Parts.{Position, Read}
-use Rattle.avro_parts.specs.Number.{long_at}
+use Rattle.avro_parts.specs.Number.{long_at, signed_of}
+use Rattle.avro_parts.proofs.NumberPlaces.{one_group}
+use Rattle.avro_picked.specs.declared.found.Found.{Found}
 use Rattle.avro_parts.specs.declared.refusal.Refusal.TheVariants.{BadUnion}
 use Rattle.avro_file.specs.Value.{Value, nothing, truth, small, whole, single, twice, symbol, text, run, raw, fields}
 use Rattle.avro_file.specs.Value.{items, entries, chosen, no_values, values_of}
@@ -27,7 +30,7 @@ use Rattle.avro_file.specs.Picking.{unless_null, unless_absent, pick}
 use Rattle.avro_file.proofs.Steps.{ok_is}
 use Rattle.avro_file.proofs.Views.{field_trees, branch_trees, branch_there, no_branch}
 use Rattle.avro_picked.specs.Picked.{value_met}
-use Rattle.avro_picked.specs.Finding.{within, fields_in, branches_in, has_null_only, LeadsTo}
+use Rattle.avro_picked.specs.Finding.{within, fields_in, branches_in, has_null_only, LeadsTo, IsMet}
 use Rattle.avro_picked.proofs.Values.{is_something, datum_something, First, first_read, structure_taken}
 use Rattle.avro_picked.proofs.Values.{union_taken, union_fails, chosen_taken, stands, stood}
 
@@ -327,6 +330,38 @@ pub as_found : (met : Picked) (schema : Bor Schema) (place : Place)
     × (met ≡ present (tree schema.now, v))
 as_found met schema place h =
     (h.0, stands (tree schema.now) (position_of place) h.0 h.1.1 (omega (arith, h.1.0)) h.1.2, h.2)
+
+-- ---- at once
+
+even : (n : ℕ) → n % 2 ≡ 0 → signed_of n ≡ pos (n / 2)
+even n e = rw (eq-eqb (n % 2) 0 e) refl
+
+pub short_number : (bytes : List ℕ) → 0 < length bytes → get_or bytes 0 0 < 128 → get_or bytes 0 0 % 2 ≡ 0
+    → long_at bytes ≡ Ok (pos (get_or bytes 0 0 / 2), drop 1 bytes)
+unfolding long_at
+short_number bytes some low is = rw (one_group bytes 0 some low, even (get_or bytes 0 0) is) refl
+
+-- what is met in the branch that was chosen is met from the union
+pub met_in_branch : (t : Tree) (ss : List Schema) (n : ℕ) (d : Schema) (bytes rest : List ℕ) (v : Value)
+    (r : Option Found) → branches_in t ≡ Some (branch_trees ss) → n < length ss → d ≡ get_or ss n d
+    → long_at bytes ≡ Ok (pos n, rest)
+    → ((w : Value) → StandsAt (tree d) rest w → IsMet r (within [] (tree d, w)))
+    → StandsAt t bytes v → IsMet r (pick [] (t, v))
+met_in_branch t ss n d bytes rest v r is lt same e on stand =
+    let before : Position = record { bytes = bytes; left = max_items } in
+    let behind_it : Position = record { bytes = rest; left = max_items } in
+    let read = stood t bytes v stand in
+    let made = chosen_read t (branch_trees ss) before read.0 v (pos n) rest is e read.1 in
+    let taken = chosen_taken (branch_at (branch_trees ss)) n behind_it v read.0 made in
+    let inner : datum_at (tree (get_or ss n d)) behind_it ≡ Ok (taken.0, read.0) =
+    sym (branch_there ss n d behind_it lt) ∙ taken.1 in
+    let there = pick_chosen [] (branch_trees ss) n v (tree (get_or ss n d)) taken.0 taken.2
+    (branch_chosen ss n d taken.0 lt) in
+    let on_there : (w : Value) → StandsAt (tree (get_or ss n d)) rest w
+    → IsMet r (within [] (tree (get_or ss n d), w)) =
+    subst (λ (s : Schema). (w : Value) → StandsAt (tree s) rest w → IsMet r (within [] (tree s, w))) same on in
+    rw (union_of_branches t (branch_trees ss) is, there) (on_there taken.0 (stands (tree (get_or ss n d)) behind_it
+    taken.0 read.0 (omega arith) inner))
 
 pub found_in : (way : List ℤ) (s t : Schema) (bytes there : List ℕ) (v : Value)
     (r : Result (Option (Bor Schema × Place)) Refusal) → t ≡ s → there ≡ bytes → StandsAt (tree s) bytes v

@@ -1,6 +1,7 @@
 //! Where a value stands to which a way of field ids leads.
 
-ghost use Rattle.std.specs.Prelude.{◌≡◌, List, Ok, IfOk, option_map};
+ghost use Rattle.std.specs.Prelude.{◌≡◌, ◌<◌, List, [], length, drop, pos, Ok, IfOk, IfSome, option_map};
+ghost use Rattle.avro_parts.specs.Number.{long_at};
 ghost use Rattle.avro_schema.specs.View.{tree, trees, parts, fields_of as field_trees, branches_of as branch_trees};
 ghost use Rattle.avro_parts.specs.Place.{position_of};
 ghost use Rattle.avro_parts.specs.Parts.{Position};
@@ -87,6 +88,7 @@ impl<'s, 'a> Found<'s, 'a> {
 }
 
 /// What stands where the way leads from the value of the schema at the front of the bytes, which was checked.
+#[inline(never)]
 pub fn found_on_way<'s, 'a>(
     schema: &'s Schema,
     way: &[i32],
@@ -146,6 +148,45 @@ pub fn fields_of(schema: &Schema) -> &[Field]
     match schema {
         Schema::Record(fields) => fields,
         _ => &[],
+    }
+}
+
+/// The position of the branch that a union chose, where it has one byte, as nearly all have.
+#[inline(always)]
+fn short_position(bytes: &[u8]) -> Option<usize>
+    ensures { IfSome result (λ n. (0 < length bytes.now) × (long_at bytes.now ≡ Ok (pos n, drop 1 bytes.now))) }
+{
+    match bytes {
+        [first, ..] if *first < 128 && *first % 2 == 0 => Some(usize::from(*first / 2)),
+        _ => None,
+    }
+}
+
+/// The value of a type at the front of the bytes, unless it is null.
+#[inline(always)]
+fn found_unless_null<'s, 'a>(schema: &'s Schema, bytes: &'a [u8]) -> Option<Found<'s, 'a>>
+    ensures { (v : Value) → StandsAt (tree schema.now) bytes.now v →
+        IsMet result (within [] (tree schema.now, v)) }
+{
+    if is_null(schema) {
+        None
+    } else {
+        Some(Found { schema, bytes })
+    }
+}
+
+/// The value of the schema at the front of the bytes, which was checked; none where it is null. Of a union it is that of
+/// the branch that was chosen.
+#[inline(always)]
+pub fn found_here<'s, 'a>(schema: &'s Schema, bytes: &'a [u8]) -> Option<Found<'s, 'a>>
+    ensures { (v : Value) → StandsAt (tree schema.now) bytes.now v → IsMet result (pick [] (tree schema.now, v)) }
+{
+    let Some(branches) = branches_of(schema) else {
+        return found_unless_null(schema, bytes);
+    };
+    match short_position(bytes) {
+        Some(position) if position < branches.len() => found_unless_null(&branches[position], &bytes[1..]),
+        _ => found_on_way(schema, &[], bytes),
     }
 }
 

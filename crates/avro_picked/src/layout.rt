@@ -7,7 +7,7 @@ ghost use Rattle.avro_file.specs.Picking.{pick};
 ghost use Rattle.avro_picked.specs.Finding.{IsMet};
 ghost use Rattle.avro_schema.specs.View.{tree};
 
-use crate::found::{Found, found_on_way};
+use crate::found::{Found, found_here, found_on_way};
 use crate::places::Places;
 use crate::row::{Lead, Step, lead_of, push_row, row_end};
 use avro_file::{AvroFault, Datum, Object, Objects};
@@ -161,7 +161,8 @@ impl<'s> Layout<'s> {
     }
 }
 
-/// What stands where the way leads on from a lead, whose value begins at the start.
+/// What stands where the way leads on from a lead, whose value begins at the start. Most ways end at their leads.
+#[inline(always)]
 fn found_at<'s, 'a>(
     lead: Lead<'s>,
     way: &[i32],
@@ -173,5 +174,8 @@ fn found_at<'s, 'a>(
     ensures { (v : Value) → StandsAt (tree lead.entry.schema.now) (drop start bytes.now) v →
         IsMet result (pick (drop lead.entry.passed way.now) (tree lead.entry.schema.now, v)) }
 {
+    if lead.passed == way.len() {
+        return found_here(lead.schema, &bytes[start..]);
+    }
     found_on_way(lead.schema, &way[lead.passed..], &bytes[start..])
 }
