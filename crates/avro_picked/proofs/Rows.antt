@@ -1,7 +1,7 @@
 -- Values that stand one after the other in a row are the value of the type that was opened.
 use Rattle.std.proofs.Common.{◌≡◌, ◌≤◌, ◌<◌, ◌+◌, ℕ, zero, suc, ℤ, List, [], ◌∷◌, ◌++◌, length, take, drop}
 use Rattle.std.proofs.Common.{append_assoc, get_or, set, map, Option, Some, None, Ok, refl, sym, ap, subst, ◌∙◌}
-use Rattle.std.proofs.Common.{add-one, arith, length-append, true, false, cond}
+use Rattle.std.proofs.Common.{add-one, arith, length-append, true, false, cond, IfSome, ◌/◌, ◌%◌, ◌^◌}
 use denote.Ref.{Bor}
 use Rattle.std.proofs.Math.Seq.{take-suc, take_all}
 use Rattle.std.proofs.lemmas.List.{map-append, append-nil}
@@ -15,19 +15,22 @@ use Rattle.avro_schema.specs.Tree.{Tree, null, boolean, int, long, float, double
 use Rattle.avro_schema.specs.Tree.{structure, array, union, Fields, no_fields, field}
 use Rattle.avro_schema.specs.View.{tree}
 use Rattle.avro_parts.specs.Parts.{Position, behind}
+use Rattle.avro_parts.specs.Number.{number_at}
+use Rattle.avro_parts.proofs.NumberPlaces.{one_group}
 use Rattle.avro_file.specs.Value.{Value, values_of}
 use Rattle.avro_file.specs.Reading.{datum_at, fields_at}
-use Rattle.avro_file.specs.Ending.{standing, EndsCounted}
+use Rattle.avro_file.specs.Ending.{standing, EndsWith, EndsCounted}
 use Rattle.avro_file.specs.Blocks.{max_items}
 use Rattle.avro_file.specs.Picking.{Typed, pick, unless_absent, field_value}
-use Rattle.avro_file.proofs.Views.{field_trees}
+use Rattle.avro_file.proofs.Views.{field_trees, branch_trees}
+use Rattle.avro_file.proofs.Places.{union_ends_there}
 use Rattle.avro_file.proofs.Behind.{behind_ok, structure_ends}
 use Rattle.avro_picked.specs.declared.row.Lead.{Lead}
 use Rattle.avro_picked.specs.Picked.{value_met}
-use Rattle.avro_picked.specs.Finding.{is_structure, fields_in}
+use Rattle.avro_picked.specs.Finding.{is_structure, fields_in, branches_in}
 use Rattle.avro_picked.specs.Rows.{row, row_of, Stand, place_at, IsLedTo, IsLead, IsLeadBelow}
 use Rattle.avro_picked.proofs.Values.{first_read, structure_taken, fewer_left, stands}
-use Rattle.avro_picked.proofs.Ways.{one_end, next_field}
+use Rattle.avro_picked.proofs.Ways.{one_end, next_field, union_of_branches}
 
 -- one more value behind those that stand
 pub stand_on : (ts : List Tree) (places : List ℕ) (t : Tree) (bytes : List ℕ) (at left mid next end after : ℕ)
@@ -421,3 +424,20 @@ pub reached_at : (id : ℤ) (all : Fields) (vs : List Value) (fs : List Field) (
     → Reached id all vs (field f.id (tree f.schema) (field_trees (drop (i + 1) fs))) places bytes end after count
 reached_at id all vs fs i f places bytes end after count lt is r =
     subst (λ (rest : Fields). Reached id all vs rest places bytes end after count) (next_field fs i f lt is) r
+
+-- ---- the value of a step
+
+-- a union's value ends where that of its branch does, where its position has one group
+pub union_step : (t : Tree) (ss : List Schema) (d : Schema) (bytes : List ℕ) (at n left after : ℕ) (o : Option ℕ)
+    → branches_in t ≡ Some (branch_trees ss) → at < length bytes → get_or bytes at 0 < 128
+    → get_or bytes at 0 % 2 ≡ 0 → n ≡ get_or bytes at 0 / 2 → n < length ss → d ≡ get_or ss n d
+    → IfSome o (λ end. EndsCounted (datum_at (tree d)) bytes (at + 1) left end after)
+    → IfSome o (λ end. EndsCounted (datum_at t) bytes at left end after)
+union_step t ss d bytes at n left after o is lt low even same fits here h =
+    let number : EndsWith (number_at (2 ^ 64)) bytes at (get_or bytes at 0) (at + 1) =
+    (omega arith, omega (arith, lt), one_group bytes at lt low) in
+    let there : d ≡ get_or ss (get_or bytes at 0 / 2) d = here ∙ ap (λ (k : ℕ). get_or ss k d) same in
+    let on = subst (λ (s : Schema). IfSome o (λ end. EndsCounted (datum_at (tree s)) bytes (at + 1) left end after))
+    there h in
+    rw (union_of_branches t (branch_trees ss) is) (union_ends_there ss bytes at (get_or bytes at 0) (at + 1) left after d
+    o number even (omega (arith, same, fits)) on)

@@ -132,7 +132,7 @@ pub fn is_record(schema: &Schema) -> bool
 }
 
 /// The branches of a union.
-fn branches_of(schema: &Schema) -> Option<&[Schema]>
+pub fn branches_of(schema: &Schema) -> Option<&[Schema]>
     ensures { option_map (λ bs. branch_trees (trees bs.now)) result ≡ branches_in (tree schema.now) }
 {
     match schema {

@@ -3,9 +3,11 @@
 ghost use Rattle.std.specs.Prelude.{◌≡◌, ◌≤◌, ◌<◌, ◌+◌, ◌++◌, ◌^◌, ℕ, List, [], length, map, IfSome, IfOk};
 ghost use Rattle.avro_schema.specs.View.{tree, parts, fields_of as field_trees};
 ghost use Rattle.avro_file.specs.Blocks.{max_items};
+ghost use Rattle.avro_file.specs.Ending.{EndsCounted};
+ghost use Rattle.avro_file.specs.Reading.{datum_at};
 ghost use Rattle.avro_picked.specs.Rows.{row, row_of, trees_of, Stand, IsLead, IsLeadBelow};
 
-use crate::found::{MAX_ITEMS, fields_of, is_record};
+use crate::found::{MAX_ITEMS, branches_of, fields_of, is_record};
 use avro_file::value_end;
 use avro_schema::{Field, Schema};
 use std::alloc::AllocError;
@@ -100,6 +102,38 @@ fn fields_len(fields: &[Field]) -> usize
     count
 }
 
+/// Where a value ends, at once where it is null or a number of one group.
+#[inline(always)]
+fn plain_end(schema: &Schema, bytes: &[u8], at: usize, left: &mut u64) -> Option<usize>
+    requires { at ≤ length bytes.now }
+    ensures { IfSome result (λ end. EndsCounted (datum_at (tree schema.now)) bytes.now at left.old end left.new) }
+{
+    match schema {
+        Schema::Null => Some(at),
+        Schema::Int if at < bytes.len() && bytes[at] < 128 => Some(at + 1),
+        Schema::Long if at < bytes.len() && bytes[at] < 128 => Some(at + 1),
+        _ => value_end(schema, bytes, at, left),
+    }
+}
+
+/// Where a value ends, and how many items are left then. A union's position has one group but where it is odd.
+#[inline(always)]
+fn step_end(schema: &Schema, bytes: &[u8], at: usize, left: &mut u64) -> Option<usize>
+    requires { at ≤ length bytes.now }
+    ensures { IfSome result (λ end. EndsCounted (datum_at (tree schema.now)) bytes.now at left.old end left.new) }
+{
+    let Some(branches) = branches_of(schema) else {
+        return plain_end(schema, bytes, at, left);
+    };
+    if at < bytes.len() && bytes[at] < 128 && bytes[at] % 2 == 0 {
+        let position = usize::from(bytes[at] / 2);
+        if position < branches.len() {
+            return plain_end(&branches[position], bytes, at + 1, left);
+        }
+    }
+    value_end(schema, bytes, at, left)
+}
+
 /// Where the values of a row begin, one after the other from the front of the bytes, and where the last one ends. It
 /// gives no end where anything is odd; then the exact reader says what is there.
 #[inline(never)]
@@ -112,7 +146,7 @@ pub fn row_end(steps: &[Step<'_>], bytes: &[u8], starts: &mut [usize]) -> Option
     let mut here = 0;
     'steps: for (i, step) in steps.iter().enumerate() {
         starts[i] = here;
-        here = value_end(step.schema, bytes, here, &mut left)?;
+        here = step_end(step.schema, bytes, here, &mut left)?;
     }
     Some(here)
 }

@@ -11,7 +11,7 @@ steps-preserved c =
     let e = c.in_ok-here.ensures in (
       e.0,
       row_on (λ s. tree s.schema.now) c.args.steps.now c.steps.i c.index-steps-i.result c.steps.starts c.args.bytes.now
-          max_items c.steps.here c.steps.left c.in_ok-here.here c.value_end.new.left c.steps-test.true
+          max_items c.steps.here c.steps.left c.in_ok-here.here c.step_end.new.left c.steps-test.true
           c.index-steps-i.is (omega (arith, c.steps-test.true, c.steps.auto.starts, c.requires)) i.1 e,
     )
 
