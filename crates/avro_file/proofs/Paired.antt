@@ -1,6 +1,6 @@
 -- Records of an int and another value, as they are read.
 use Rattle.std.proofs.Common.{◌≡◌, ℕ, suc, ℤ, Option, List, ◌∷◌, [], ◌≤◌, ◌<◌, length, drop, get_or, Ok, Err, refl, ap}
-use Rattle.std.proofs.Common.{arith, rules, Vec, Global}
+use Rattle.std.proofs.Common.{arith, rules, Vec, Global, IfSome, take, ◌+◌, ◌-◌, ◌/◌, ◌%◌, ◌^◌}
 use denote.Ref.{Bor}
 use Rattle.avro_schema.specs.declared.schema.BytesKind.TheVariants.{Plain}
 use Rattle.avro_schema.specs.declared.schema.Field.{Field}
@@ -9,14 +9,16 @@ use Rattle.avro_schema.specs.Tree.{Tree, long, octets, array, no_fields, field}
 use Rattle.avro_parts.specs.declared.refusal.Refusal.{Refusal}
 use Rattle.avro_file.specs.declared.datum.Datum as datum
 use Rattle.avro_file.specs.declared.pairs.Second.TheVariants as Second
-use Rattle.avro_parts.specs.Number.{long_at, int_at}
+use Rattle.avro_parts.specs.Number.{number_at, long_at, int_at}
 use Rattle.avro_file.specs.Value.{Value, nothing, whole, run, items, chosen, values_of}
 use Rattle.avro_file.specs.View.{view, pair_with, long_pairs, bytes_pairs}
 use Rattle.avro_parts.specs.Parts.{Position, bytes_at}
 use Rattle.avro_file.specs.Reading.{blocks_at, datum_at}
 use Rattle.avro_file.specs.Pairs.{pair, IsPair}
-use Rattle.avro_file.specs.Ending.{standing, Ends}
-use Rattle.avro_file.proofs.Behind.{behind_ok}
+use Rattle.avro_file.specs.Ending.{standing, Ends, EndsWith, EndsCounted}
+use Rattle.avro_file.proofs.Behind.{behind_ok, behind_is}
+use Rattle.avro_file.proofs.Places.{short_int, bytes_found, bytes_end_there, some_weaker}
+use Rattle.avro_parts.proofs.NumberPlaces.{one_group}
 use Rattle.avro_file.proofs.Views.{field_trees}
 
 -- ---- one pair
@@ -132,3 +134,29 @@ bytes_pair_ends bytes at mid end left k z =
       bytes_read (standing bytes at left) key.0 (drop mid bytes) content.0
           (drop end bytes) key.1 content.1,
     )
+
+-- the same, not by its value
+pub bytes_pair_somewhere : (bytes : List ℕ) (at mid : ℕ) (o : Option ℕ) → Ends int_at bytes at mid
+    → IfSome o (λ end. Ends bytes_at bytes mid end)
+    → IfSome o (λ end. (left : ℕ) → EndsCounted (datum_at (pair (octets Plain))) bytes at left end left)
+bytes_pair_somewhere bytes at mid o k h = some_weaker o _ _
+    (λ end z left. let v = bytes_pair_ends bytes at mid end left k z in
+    (z.1, behind_is (datum_at (pair (octets Plain)) (standing bytes at left)) v.0 (standing bytes end left) v.1)) h
+
+-- a key and a length of one group each
+pub short_bytes_pair : (bytes : List ℕ) (at end left : ℕ) → at + 1 < length bytes → get_or bytes at 0 < 128
+    → get_or bytes (at + 1) 0 < 128 → get_or bytes (at + 1) 0 % 2 ≡ 0
+    → get_or bytes (at + 1) 0 / 2 ≤ length bytes - at - 2 → end ≡ at + 2 + get_or bytes (at + 1) 0 / 2
+    → EndsCounted (datum_at (pair (octets Plain))) bytes at left end left
+short_bytes_pair bytes at end left lt key short is fits e =
+    let number : EndsWith (number_at (2 ^ 64)) bytes (at + 1) (get_or bytes (at + 1) 0) (at + 1 + 1) =
+    (omega arith, omega (arith, lt), one_group bytes (at + 1) lt short) in
+    let len = get_or bytes (at + 1) 0 in
+    let run = bytes_end_there bytes (at + 1) (take (at + 1 + 1 + len / 2 - (at + 1 + 1)) (drop (at + 1 + 1) bytes))
+    (at + 1 + 1 + len / 2) (bytes_found bytes (at + 1) (get_or bytes (at + 1) 0) (at + 1 + 1)
+    number is (omega (arith, fits))) in
+    let first = short_int bytes at (omega (arith, lt)) key in
+    let here : at + 1 + 1 + get_or bytes (at + 1) 0 / 2 ≡ end = omega (arith, e) in
+    let v = bytes_pair_ends bytes at (at + 1) end left first (rw here at run) in
+    (omega (arith, (rw here at run).1), behind_is (datum_at (pair (octets Plain)) (standing bytes at left)) v.0
+    (standing bytes end left) v.1)

@@ -261,6 +261,23 @@ fn long_pairs_end(count: u64, bytes: &[u8], at: usize) -> Option<usize>
     Some(here)
 }
 
+/// Where an int and bytes end, at once where the int and the length have one group each.
+#[inline(always)]
+fn bytes_pair_end(bytes: &[u8], at: usize) -> Option<usize>
+    requires { at ≤ length bytes.now }
+    ensures { IfSome result (λ end. (left : ℕ) →
+        EndsCounted (datum_at (pair (octets Plain))) bytes.now at left end left) }
+{
+    if bytes.len() - at >= 2 {
+        let len = bytes[at + 1];
+        if bytes[at] < 128 && len < 128 && len % 2 == 0 && bytes.len() - at - 2 >= usize::from(len / 2) {
+            return Some(at + 2 + usize::from(len / 2));
+        }
+    }
+    let value = int_end(bytes, at)?;
+    bytes_end(bytes, value)
+}
+
 /// Where so many ints and byte strings end.
 #[inline(never)]
 fn bytes_pairs_end(count: u64, bytes: &[u8], at: usize) -> Option<usize>
@@ -270,8 +287,7 @@ fn bytes_pairs_end(count: u64, bytes: &[u8], at: usize) -> Option<usize>
 {
     let mut here = at;
     'items: for _ in 0..count {
-        let value = int_end(bytes, here)?;
-        here = bytes_end(bytes, value)?;
+        here = bytes_pair_end(bytes, here)?;
     }
     Some(here)
 }

@@ -439,5 +439,5 @@ union_step t ss d bytes at n left after o is lt low even same fits here h =
     let there : d ≡ get_or ss (get_or bytes at 0 / 2) d = here ∙ ap (λ (k : ℕ). get_or ss k d) same in
     let on = subst (λ (s : Schema). IfSome o (λ end. EndsCounted (datum_at (tree s)) bytes (at + 1) left end after))
     there h in
-    rw (union_of_branches t (branch_trees ss) is) (union_ends_there ss bytes at (get_or bytes at 0) (at + 1) left after d
-    o number even (omega (arith, same, fits)) on)
+    rw (union_of_branches t (branch_trees ss) is) (union_ends_there ss bytes at (get_or bytes at 0) (at + 1) left after
+    d o number even (omega (arith, same, fits)) on)

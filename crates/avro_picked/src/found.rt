@@ -175,8 +175,8 @@ fn found_unless_null<'s, 'a>(schema: &'s Schema, bytes: &'a [u8]) -> Option<Foun
     }
 }
 
-/// The value of the schema at the front of the bytes, which was checked; none where it is null. Of a union it is that of
-/// the branch that was chosen.
+/// The value of the schema at the front of the bytes, which was checked; none where it is null. Of a union it is that
+/// of the branch that was chosen.
 #[inline(always)]
 pub fn found_here<'s, 'a>(schema: &'s Schema, bytes: &'a [u8]) -> Option<Found<'s, 'a>>
     ensures { (v : Value) → StandsAt (tree schema.now) bytes.now v → IsMet result (pick [] (tree schema.now, v)) }
