@@ -157,6 +157,8 @@ short_bytes_pair bytes at end left lt key short is fits e =
     number is (omega (arith, fits))) in
     let first = short_int bytes at (omega (arith, lt)) key in
     let here : at + 1 + 1 + get_or bytes (at + 1) 0 / 2 ≡ end = omega (arith, e) in
-    let v = bytes_pair_ends bytes at (at + 1) end left first (rw here at run) in
-    (omega (arith, (rw here at run).1), behind_is (datum_at (pair (octets Plain)) (standing bytes at left)) v.0
-    (standing bytes end left) v.1)
+    let v = bytes_pair_ends bytes at (at + 1) end left first (rw here at run) in (
+      omega (arith, (rw here at run).1),
+      behind_is (datum_at (pair (octets Plain)) (standing bytes at left)) v.0
+          (standing bytes end left) v.1,
+    )

@@ -270,7 +270,11 @@ fn bytes_pair_end(bytes: &[u8], at: usize) -> Option<usize>
 {
     if bytes.len() - at >= 2 {
         let len = bytes[at + 1];
-        if bytes[at] < 128 && len < 128 && len % 2 == 0 && bytes.len() - at - 2 >= usize::from(len / 2) {
+        if bytes[at] < 128
+            && len < 128
+            && len % 2 == 0
+            && bytes.len() - at - 2 >= usize::from(len / 2)
+        {
             return Some(at + 2 + usize::from(len / 2));
         }
     }

@@ -185,7 +185,10 @@ pub fn found_here<'s, 'a>(schema: &'s Schema, bytes: &'a [u8]) -> Option<Found<'
         return found_unless_null(schema, bytes);
     };
     match short_position(bytes) {
-        Some(position) if position < branches.len() => found_unless_null(&branches[position], &bytes[1..]),
+        Some(position) if position < branches.len() => found_unless_null(
+            &branches[position],
+            &bytes[1..],
+        ),
         _ => found_on_way(schema, &[], bytes),
     }
 }

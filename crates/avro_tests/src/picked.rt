@@ -220,6 +220,14 @@ Some(Map([(\"k\", Boolean(true))]))]\nend\nend",
         &[&[2, 4], &[6]],
         "[Some(Long(7)), Some(Int(3))]\n[Some(Array([Int(1), Int(2)])), Some(Int(3))]\nend",
     ),
+    // positions of two groups
+    (
+        b"\x02\x82\x00\x02x\x84\x00\x0e\x00\x06\x02\x80\x00\x00\x06",
+        2,
+        &[&[2], &[2, 3], &[2, 4], &[6]],
+        "[Some(Record([String(\"x\"), Union(2, Long(7))])), Some(String(\"x\")), Some(Long(7)), Some(Int(3))]\n\
+[None, None, None, Some(Int(3))]\nend",
+    ),
     // a map in two blocks is passed
     (
         b"\x02\x00\x02\x02k\x01\x01\x06\x02l\x00\x00\x06",

@@ -212,6 +212,36 @@ fn numbers_that_do_not_fit(rt: HostRuntime) -> Result<(), Fail> {
     Ok(())
 }
 
+const BYTES_PAIRS: &[u8] =
+    b"{\"type\":\"array\",\"items\":{\"type\":\"record\",\"name\":\"p\",\"fields\":[\
+{\"name\":\"key\",\"type\":\"int\"},{\"name\":\"value\",\"type\":\"bytes\"}]}}";
+
+/// Arrays of ints and bytes behind one byte, and where they end.
+const BYTES_ARRAYS: &[(&[u8], Option<usize>)] = &[
+    (b"\x09\x04\x02\x02a\x04\x04bc\x00", Some(10)),
+    // no bytes, and a length of two groups
+    (b"\x09\x04\x02\x00\x04\x82\x00a\x00", Some(9)),
+    // a key of two groups
+    (b"\x09\x02\x82\x01\x02a\x00", Some(7)),
+    // a negative length, and one that is past the end
+    (b"\x09\x02\x02\x01\x00\x00", None),
+    (b"\x09\x02\x02\x08ab\x00", None),
+    // nothing behind a value, a length, a key
+    (b"\x09\x02\x02\x02a", None),
+    (b"\x09\x02\x02\x00", None),
+    (b"\x09\x02\x02", None),
+    (b"\x09\x02", None),
+];
+
+#[test]
+fn ints_and_bytes(rt: HostRuntime) -> Result<(), Fail> {
+    let schema = Schema::from_json(rt.alloc(), BYTES_PAIRS)?;
+    for (bytes, end) in BYTES_ARRAYS {
+        assert_eq!(rt; end_in(&schema, bytes), *end, "{bytes:?}");
+    }
+    Ok(())
+}
+
 /// A text of so many letters, in which these bytes stand at a place, with more bytes behind it.
 fn text(
     alloc: Global,
