@@ -1,4 +1,4 @@
-use Rattle.std.proofs.Common.{◌∷◌, drop, sym}
+use Rattle.std.proofs.Common.{drop, sym}
 use Rattle.avro_schema.specs.View.{tree}
 use Rattle.avro_picked.proofs.Placed.{to_the_end}
 use Rattle.avro_picked.proofs.Ways.{met_in_branch}

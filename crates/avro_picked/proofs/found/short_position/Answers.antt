@@ -1,4 +1,3 @@
-use Rattle.std.proofs.Common.{arith}
 use Rattle.avro_picked.proofs.Ways.{short_number}
 use Rattle.avro_picked.proofs.found.short_position.Goals as goal
 
