@@ -1,13 +1,13 @@
 //! The text of a plan's lines, made by many threads at once and handed on in order.
 
-ghost use Rattle.std.specs.Prelude.{◌≡◌, ◌<◌, ◌≤◌, ◌*◌, ◌+◌, ◌^◌, Some, IfOk, IfSome, length, vec_len};
+ghost use Rattle.std.specs.Prelude.{◌≡◌, ◌<◌, ◌≤◌, ◌*◌, ◌+◌, ◌^◌, Some, IfOk, IfSome, length, sum_by, vec_len};
 ghost use Rattle.std.specs.List.{flat_map};
-ghost use Rattle.ice_print.specs.PlanTexts.{line_text};
+ghost use Rattle.ice_print.specs.PlanTexts.{deletes_of, line_text, plan_text};
 ghost use Rattle.ice_print.specs.Ranges.{AreTexts, range_text};
 ghost use Rattle.ice_print.specs.Written.{Sent};
 
 use crate::page::Page;
-use crate::plan_text::put_some_lines;
+use crate::plan_text::{put_some_lines, put_totals};
 use crate::sink::{Sink, SinkFault};
 use ice_state::Lines;
 use std::alloc::{AllocError, Global};
@@ -118,10 +118,8 @@ fn put_ranges<R: Threads + Sync, S: Sink>(
     put_some_lines(page, sink, lines, first, ranges * each)
 }
 
-/// Sends the text of a plan's lines, made by so many threads at once, from 1 to 64, each of so many lines at a time, from
-/// 1 to 65,536. At most 4 MB a thread are made before they are sent; a longer text, and one for which memory lacks, is
-/// sent as it is made.
-pub fn put_lines_by_workers<R: Threads + Sync, S: Sink>(
+/// Sends the text of a plan's lines, made by so many threads at once, each of so many lines at a time.
+fn put_lines_by_workers<R: Threads + Sync, S: Sink>(
     rt: &R,
     alloc: Global,
     page: &mut Page,
@@ -139,4 +137,27 @@ pub fn put_lines_by_workers<R: Threads + Sync, S: Sink>(
         put_ranges(rt, alloc, page, sink, lines, i * window, workers, each)?;
     }
     Ok(())
+}
+
+/// The same as `put_plan`, the text of the lines made by so many threads at once, from 1 to 64, each of so many lines at
+/// a time, from 1 to 65,536. At most 4 MB a thread are made before they are sent; a longer text, and one for which
+/// memory lacks, is sent as it is made.
+#[tactic(auto, unfolding(crate::specs::PlanTexts::plan_text))]
+pub fn put_plan_by_workers<R: Threads + Sync, S: Sink>(
+    rt: &R,
+    alloc: Global,
+    page: &mut Page,
+    sink: &mut S,
+    lines: &Lines<'_>,
+    deletes: u128,
+    workers: usize,
+    each: usize,
+) -> Result<(), SinkFault>
+    requires deletes { deletes ≡ sum_by deletes_of lines.now }
+    requires workers { (0 < workers) × (workers ≤ 64) }
+    requires each { (0 < each) × (each ≤ 65536) }
+    ensures { Sent S.taken S.may_fail sink.old page.old result sink.new page.new (plan_text lines.now) }
+{
+    put_lines_by_workers(rt, alloc, page, sink, lines, workers, each)?;
+    put_totals(page, sink, lines, deletes)
 }

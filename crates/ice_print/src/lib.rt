@@ -13,7 +13,7 @@ mod table_lines;
 mod table_text;
 mod unescaping;
 
-pub use by_workers::put_lines_by_workers;
+pub use by_workers::put_plan_by_workers;
 pub use escape::put_escaped;
 pub use page::Page;
 pub use pieces::{put_named_int, put_named_long, put_named_number, put_named_path};

@@ -5,7 +5,7 @@ ghost use Rattle.ice_print.specs.PlanTexts.{plan_text};
 ghost use Rattle.ice_print.specs.Written.{Appends, AppendsFront};
 
 use crate::fault::RunFault;
-use ice_print::{Page, Sink, count_deletes, put_lines_by_workers, put_plan, put_totals};
+use ice_print::{Page, Sink, count_deletes, put_plan, put_plan_by_workers};
 use ice_state::Lines;
 use std::alloc::Global;
 use std::thread::Threads;
@@ -49,8 +49,16 @@ pub fn write_plan_by_workers<R: Threads + Sync, S: Sink>(
 {
     let mut page = Page::new(alloc)?;
     let deletes = count_deletes(lines);
-    put_lines_by_workers(rt, alloc, &mut page, sink, lines, workers, LINES_AT_A_TIME)?;
-    put_totals(&mut page, sink, lines, deletes)?;
+    put_plan_by_workers(
+        rt,
+        alloc,
+        &mut page,
+        sink,
+        lines,
+        deletes,
+        workers,
+        LINES_AT_A_TIME,
+    )?;
     page.flush(sink)?;
     Ok(())
 }
