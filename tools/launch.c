@@ -1,7 +1,7 @@
 /* Runs programs one after another, and says how each ended. A line of standard input has the files for the program's
  * output and errors, the program, and its words, with a byte 1 between them. For each a line is written: the status, or
- * the negated signal, the most memory in bytes, and the microseconds of the processor. A run that lasts a minute is
- * killed.
+ * the negated signal, the most memory in bytes, and the microseconds of the processor. A run is killed
+ * behind 20 seconds of the processor, or five minutes.
  *
  * A child is counted the memory of whoever starts it, so this is a small process of its own. */
 #define _GNU_SOURCE
@@ -31,6 +31,8 @@ static void start(char **words) {
   put(1, words[0], O_WRONLY | O_CREAT | O_TRUNC | O_CLOEXEC);
   put(2, words[1], O_WRONLY | O_CREAT | O_TRUNC | O_CLOEXEC);
   char *none[] = {NULL};
+  struct rlimit seconds = {20, 20};
+  setrlimit(RLIMIT_CPU, &seconds);
   execve(words[2], words + 2, none);
   _exit(127);
 }
@@ -48,7 +50,7 @@ int main(void) {
     if (count < 3) return 1;
     if ((child = fork()) == 0) start(words);
     if (child < 0) return 1;
-    alarm(60);
+    alarm(300);
     while (wait4(child, &status, 0, &used) < 0) {
     }
     alarm(0);

@@ -243,9 +243,14 @@ def nothings(chance):
 def more_data(chance):
     """A type, and bytes that spell a value of it."""
     count = chance.choice([1, 100, 2**20, 2**24 - 1, 2**24, 2**24 + 1, 2**40])
-    way = chance.randrange(6)
+    way = chance.randrange(7)
     if way == 0:
         return {"type": "array", "items": nothings(chance)}, spelled(count) + b"\0"
+    if way == 6:
+        count, nulls = chance.choice([1, 100, 30000]), chance.choice([1, 300, 3000])
+        fields = [field("x", "int", 700)] + [field("x%d" % i, "null", 701 + i) for i in range(nulls)]
+        items = {"type": "record", "name": "sparse", "fields": fields}
+        return {"type": "array", "items": items}, spelled(count) + b"\0" * count + b"\0"
     if way == 1:
         return {"type": "array", "items": nothings(chance)}, spelled(-count) + spelled(chance.choice([0, 7])) + b"\0"
     if way == 2:
