@@ -133,7 +133,7 @@ const OBJECTS: &[u8] =
 
 /// What comes next in turn.
 const NEXT: [&str; 3] = [
-    "Ok(Some(Record([Long(1), Union(1, Record([String(\"x\"), Array([Int(1), Int(2)])])), Map([(\"k\", Boolean(true))]), Int(3)])))",
+    "Ok(Some(Record([Long(1), Union(1, Record([String(\"x\"), Union(1, Array([Int(1), Int(2)]))])), Map([(\"k\", Boolean(true))]), Int(3)])))",
     "Err(BlockSize)",
     "Err(BlockSize)",
 ];
