@@ -1,6 +1,6 @@
-/* Loaded before the C library. The first FAIL_TIMES reads of the file whose path ends in FAIL_FILE fail. Standard output
-   takes FAIL_ROOM bytes, then it refuses, or takes nothing more where FAIL_HOW is `nothing`. With FAIL_THREADS no thread
-   is started. */
+/* Loaded before the C library. The first FAIL_TIMES reads of the file whose path ends in FAIL_FILE fail. Standard
+   output takes FAIL_ROOM bytes, then it refuses, or takes nothing more where FAIL_HOW is `nothing`. With FAIL_THREADS
+   no thread is started. */
 #define _GNU_SOURCE
 #include <dlfcn.h>
 #include <errno.h>
