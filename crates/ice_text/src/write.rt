@@ -1,6 +1,6 @@
 //! Writing a plan.
 
-ghost use Rattle.std.specs.Prelude.{◌≡◌, ◌⊎◌, OnOk, IfErr, IsErrOf};
+ghost use Rattle.std.specs.Prelude.{◌≡◌, ◌⊎◌, ◌<◌, ◌≤◌, OnOk, IfErr, IsErrOf};
 ghost use Rattle.ice_print.specs.PlanTexts.{plan_text};
 ghost use Rattle.ice_print.specs.Written.{Appends, AppendsFront};
 
