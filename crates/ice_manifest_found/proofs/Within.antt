@@ -1,22 +1,22 @@
 -- What stands at the front of bytes, and within it.
-use Rattle.std.proofs.Common.{◌≡◌, ◌<◌, ◌≤◌, ◌+◌, ◌<ℤ◌, ℕ, ℤ, pos, true, false, List, [], length, get_or, drop, Option, Some, None, Ok}
+use Rattle.std.proofs.Common.{◌≡◌, ◌<◌, ◌≤◌, ◌<ℤ◌, ℕ, ℤ, pos, true, false, List, [], length, get_or, drop, Option, Some, None, Ok}
 use Rattle.std.proofs.Common.{Err, rules, refl, sym, ap, subst, ◌∙◌, arith}
 use Rattle.std.specs.Ordering.{int_eq}
 use Rattle.std.specs.Option.{option_eq}
-use Rattle.avro_schema.specs.declared.schema.Schema.{Schema, Null, Record, the_lemmas}
+use Rattle.avro_schema.specs.declared.schema.Schema.{Schema, Null, the_lemmas}
 use Rattle.avro_schema.specs.declared.schema.Field.{Field}
-use Rattle.avro_schema.specs.Tree.{Tree, null, structure, Fields}
+use Rattle.avro_schema.specs.Tree.{Tree, structure, Fields}
 use Rattle.avro_schema.specs.View.{tree}
 use Rattle.avro_parts.specs.Number.{long_at}
 use Rattle.avro_parts.specs.Parts.{Position}
 use Rattle.avro_file.specs.Value.{Value, fields, values_of}
-use Rattle.avro_file.specs.Reading.{datum_at, branch_at}
+use Rattle.avro_file.specs.Reading.{branch_at}
 use Rattle.avro_file.specs.Blocks.{max_items, StandsAt}
-use Rattle.avro_file.specs.Picking.{Typed, Picked, present, pick, field_value, unless_absent}
+use Rattle.avro_file.specs.Picking.{Typed, Picked, pick, unless_absent}
 use Rattle.avro_file.proofs.Views.{field_trees, branch_trees, branch_there}
 use Rattle.avro_picked.specs.Finding.{branches_in, has_null_only, is_structure, within}
-use Rattle.avro_picked.proofs.Values.{First, structure_taken, chosen_taken, stands, stood}
-use Rattle.avro_picked.proofs.Ways.{Onward, null_at_end, present_at_end, pick_itself, pick_chosen, branch_chosen}
+use Rattle.avro_picked.proofs.Values.{structure_taken, chosen_taken, stands, stood}
+use Rattle.avro_picked.proofs.Ways.{Onward, null_at_end, present_at_end, pick_chosen, branch_chosen}
 use Rattle.avro_picked.proofs.Ways.{onward_first, found_field, no_field, chosen_read, union_of_branches}
 use Rattle.avro_picked.proofs.Ways.{number_fails, negative_fails, past_fails}
 use Rattle.avro_parts.specs.declared.refusal.Refusal.{Refusal}
@@ -24,7 +24,6 @@ use Rattle.ice_manifest_fields.specs.Fields.{at, there, record_of}
 use Rattle.ice_manifest_found.specs.declared.standing.Standing.{Standing}
 use Rattle.ice_manifest_found.specs.InPlace.{IsThere}
 use Rattle.ice_manifest_found.proofs.Shown.{none_there}
-
 
 pub other_null : (s : Schema) → (s ≡ Null → ⊥) → has_null_only (tree s) ≡ false
 other_null Null n = absurd (n refl)

@@ -1,6 +1,6 @@
 -- Values that stand at the front of bytes, and the items of a list that are still to come, where they lie in a file.
 -- Avro 1.11.1 specification, 'Binary Encoding': arrays are blocks of items, each behind its count.
-use Rattle.std.specs.Prelude.{◌≡◌, ◌≤◌, ◌<◌, ◌+◌, ℕ, List, [], ◌∷◌, ◌++◌, Option, Some, None, Result, Ok}
+use Rattle.std.specs.Prelude.{◌≡◌, ◌≤◌, ◌<◌, ◌+◌, ℕ, List, [], ◌∷◌, ◌++◌, Option, Some, None, Ok}
 use denote.Ref.{Bor}
 use Rattle.contract_words.specs.Outcome.{◌>>=◌}
 use Rattle.avro_schema.specs.declared.schema.Field.{Field}

@@ -1,6 +1,4 @@
-use Rattle.std.proofs.Common.{◌≡◌, Option, Some, sym, ap, subst, ◌∙◌}
-use Rattle.avro_schema.specs.View.{tree}
-use Rattle.avro_file.specs.Blocks.{StandsAt}
+use Rattle.std.proofs.Common.{Option, Some, sym, ap, subst, ◌∙◌}
 use Rattle.avro_file.specs.Picking.{Picked}
 use Rattle.avro_picked.specs.declared.found.Found.{Found}
 use Rattle.avro_picked.specs.Finding.{IsMet}

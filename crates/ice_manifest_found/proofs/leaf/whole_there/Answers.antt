@@ -1,5 +1,4 @@
 use Rattle.std.proofs.Common.{Option, Some, sym, ap, subst, ◌∙◌}
-use Rattle.avro_file.specs.Picking.{Typed}
 use Rattle.ice_manifest_fields.specs.Fields.{whole_of}
 use Rattle.ice_manifest_found.specs.declared.standing.Standing.{Standing}
 use Rattle.ice_manifest_found.specs.InPlace.{IsThere}

@@ -43,11 +43,15 @@ fields-preserved c =
           let o = i.1 v at in
           let first = onward_first (to_z w32 (of_z w32 c.args.id)) (field_trees c.args.fields.now) o.0 c.args.fields.now
           c.fields.field-index c.field-item.result (position_of c.fields.here) o.1 c.fields-test.true c.field-item.is
-          o.3 in
-          (o.0, o.1, o.2, passed_field (to_z w32 (of_z w32 c.args.id)) (field_trees c.args.fields.now) o.0 c.args.fields.now
-          c.fields.field-index c.field-item.result (position_of c.fields.here) o.1 c.fields-test.true c.field-item.is
-          o.3 (position_of c.in-Ok.after) first (one_end _ _ _ _ _ first.read read.1)
-          (sym c.if-eq.ensures)),
+          o.3 in (
+            o.0,
+            o.1,
+            o.2,
+            passed_field (to_z w32 (of_z w32 c.args.id)) (field_trees c.args.fields.now) o.0 c.args.fields.now
+                c.fields.field-index c.field-item.result (position_of c.fields.here) o.1 c.fields-test.true c.field-item.is
+                o.3 (position_of c.in-Ok.after) first (one_end _ _ _ _ _ first.read read.1)
+                (sym c.if-eq.ensures),
+          ),
     )
 
 pub returns : goal.returns

@@ -1,5 +1,5 @@
-use Rattle.std.proofs.Common.{◌≡◌, pos, [], to_z, of_z, w64, rules, sym, ap, subst, ◌∙◌, refl, arith}
-use Rattle.std.proofs.lemmas.Int.{ints, to_z-of_z}
+use Rattle.std.proofs.Common.{◌≡◌, pos, [], to_z, of_z, w64, rules, sym, subst, ◌∙◌}
+use Rattle.std.proofs.lemmas.Int.{to_z-of_z}
 use Rattle.avro_schema.specs.declared.schema.Schema.{Schema}
 use Rattle.avro_schema.specs.View.{tree}
 use Rattle.avro_file.specs.Blocks.{StandsAt}

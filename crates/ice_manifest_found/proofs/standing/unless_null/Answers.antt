@@ -1,4 +1,4 @@
-use Rattle.std.proofs.Common.{◌≡◌, true, ap, ◌∙◌, refl}
+use Rattle.std.proofs.Common.{◌≡◌, true, ap, ◌∙◌}
 use Rattle.avro_schema.specs.View.{tree}
 use Rattle.avro_picked.specs.Finding.{has_null_only}
 use Rattle.avro_file.proofs.Leaves.{tree-Null}
@@ -11,6 +11,9 @@ returns-in-Null c = λ v is.
     nothing_there (tree c.args.schema.now) c.args.bytes.now v null is
 
 pub returns-in_default : goal.returns-in_default
-returns-in_default c = λ v is.
-    (v, is, something_there (tree c.args.schema.now) c.args.bytes.now v
-    (other_null c.args.schema.now c.in_default.not-Null) is)
+returns-in_default c = λ v is. (
+  v,
+  is,
+  something_there (tree c.args.schema.now) c.args.bytes.now v
+      (other_null c.args.schema.now c.in_default.not-Null) is,
+)

@@ -1,5 +1,4 @@
-use Rattle.std.proofs.Common.{◌≡◌, ◌≤◌, ◌<◌, ◌+◌, ◌-◌, Ok, List, sym, ap, subst, refl, ◌∙◌, arith}
-use Rattle.avro_schema.specs.Tree.{Tree}
+use Rattle.std.proofs.Common.{◌≡◌, ◌≤◌, ◌<◌, ◌+◌, ◌-◌, Ok, sym, ap, subst, refl, ◌∙◌, arith}
 use Rattle.avro_schema.specs.View.{tree}
 use Rattle.avro_schema.specs.declared.schema.Schema.{Schema}
 use Rattle.avro_parts.specs.Parts.{Position}

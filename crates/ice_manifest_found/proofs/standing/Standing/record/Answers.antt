@@ -1,9 +1,8 @@
-use Rattle.std.proofs.Common.{◌≡◌, List, Some, Option, Vec, Global, sym, ap, subst, ◌∙◌}
+use Rattle.std.proofs.Common.{◌≡◌, List, Some, Vec, Global, sym, ap, subst, ◌∙◌}
 use Rattle.avro_schema.specs.declared.schema.Field.{Field}
 use Rattle.avro_schema.specs.Tree.{Tree, structure}
 use Rattle.avro_schema.specs.View.{tree}
 use Rattle.avro_file.specs.Blocks.{StandsAt}
-use Rattle.avro_file.specs.Picking.{Typed}
 use Rattle.avro_file.proofs.Views.{tree-Record}
 use Rattle.ice_manifest_fields.specs.Fields.{record_of}
 use Rattle.ice_manifest_fields.specs.Seen.{fields_seen}
