@@ -40,7 +40,7 @@ class Plans:
 
     def read_faults(self, file, workers):
         """A file that fails once and more often."""
-        is_tried = workers > 1 and os.path.basename(file)[:5] not in ("snap-", "v1.js")
+        is_tried = os.path.basename(file)[:5] not in ("snap-", "v1.js")
         device = (3, b"", ("icescan: P3 Device %s/%s\n" % (small.PREFIX, file)).encode())
         for times in range(1, 5):
             wanted = (0, self.text, b"") if is_tried and times < 4 else device

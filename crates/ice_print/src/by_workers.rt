@@ -94,8 +94,8 @@ fn put_texts<S: Sink>(
     Ok(())
 }
 
-/// Sends the text of so many ranges of a plan's lines from a place on: made by threads, where there is more than one
-/// range's, and memory for it.
+/// Sends the text of so many ranges of a plan's lines from a place on: made by threads, where there are lines for more
+/// than one, and memory for it.
 fn put_ranges<R: Threads + Sync, S: Sink>(
     rt: &R,
     alloc: Global,
@@ -110,7 +110,7 @@ fn put_ranges<R: Threads + Sync, S: Sink>(
     ensures { Sent S.taken S.may_fail sink.old page.old result sink.new page.new
         (range_text lines.now first (ranges * each)) }
 {
-    if first.saturating_add(each) < lines.len() {
+    if 1 < ranges && first.saturating_add(each) < lines.len() {
         if let Ok(texts) = texts_of(rt, alloc, lines, first, ranges, each) {
             return put_texts(page, sink, lines, first, each, &texts);
         }

@@ -35,9 +35,6 @@ pub enough : {A : Type 0} (workers : ℕ) (read : Result A RunFault) → 0 < wor
     → by_workers workers read ≡ read
 enough workers read some few = rw (le-leb 1 workers (omega arith), le-leb workers 64 few) refl
 
-pub one : {A : Type 0} (workers : ℕ) (read : Result A RunFault) → workers ≡ 1 → by_workers workers read ≡ read
-one workers read h = enough workers read (omega (arith, h)) (omega (arith, h))
-
 pub none : {A : Type 0} (workers : ℕ) (read : Result A RunFault) → workers ≡ 0 → by_workers workers read
     ≡ Err run.Workers
 none workers read h = rw (lt-leb 1 workers (omega (arith, h))) refl

@@ -12,7 +12,7 @@ ghost use Rattle.ice_requests.specs.Selections.{selected};
 ghost use Rattle.ice_requests.specs.declared.selection.Selection.{Selection};
 
 use crate::selection::{Selection, select};
-use crate::table_plans::{Listed, plans_of_true_summaries, run_plan};
+use crate::table_plans::{Listed, plans_of_true_summaries};
 use ice_desk::{Files, Gate, MOST_WORKERS, plan_scan};
 use ice_state::Scan;
 use ice_text::{Request, RunFault, Sink, read_file, read_rows, write_plan_by_workers};
@@ -107,37 +107,6 @@ pub fn run_plan_with<R: Threads + Sync, F: Files + Sync, G: Gate + Sync, W: Sink
     plan_rows_with(rt, alloc, files, listed, workers, gate, output)
 }
 
-/// Writes the plan that a request asks for, of the table whose metadata these are the bytes of, by so many workers. One
-/// alone needs no thread, and writes the plan from where it made it.
-fn plan_bytes<R: Threads + Sync, F: Files + Sync, W: Sink>(
-    rt: &R,
-    alloc: Global,
-    files: &F,
-    metadata: &[u8],
-    request: &Request,
-    workers: usize,
-    output: &mut W,
-) -> Result<(), RunFault>
-    ensures plan { (world : World) → F.world files.now ≡ Some world → TellsTheTruth world metadata.now request.now →
-        Answers (by_workers workers (answer world metadata.now request.now))
-        (EndsAt world (F.may_fail files.now) (reads world metadata.now request.now))
-        (W.may_fail output.old) result (W.taken output.old) (W.taken output.new) }
-    ensures wanted { (world : World) → F.world files.now ≡ Some world →
-        Answers (by_workers workers (wanted_answer world metadata.now request.now))
-        (EndsAt world (F.may_fail files.now) (reads world metadata.now request.now))
-        (W.may_fail output.old) result (W.taken output.old) (W.taken output.new) }
-    ensures text { WritesAPlan result (W.taken output.old) (W.taken output.new) }
-    ensures refusal { OnRefusal (F.world files.now) (F.may_fail files.now) (W.may_fail output.old) result
-        (W.taken output.old) (W.taken output.new) }
-{
-    if workers == 1 {
-        return run_plan(alloc, files, metadata, request, output);
-    }
-    run_plan_with(
-        rt, alloc, files, metadata, request, workers, &OpenGate, output,
-    )
-}
-
 /// Writes the plan that a request asks for, of the table whose metadata is in the file at a path, by so many workers.
 ///
 /// The refusal is `Absent` where there is no such file, `Device` where reading it failed, else as `run_plan_with`'s.
@@ -167,5 +136,7 @@ pub fn plan_file<R: Threads + Sync, F: Files + Sync, W: Sink>(
         (W.taken output.old) (W.taken output.new) }
 {
     let metadata = read_file(alloc, files, path)?;
-    plan_bytes(rt, alloc, files, &metadata, request, workers, output)
+    run_plan_with(
+        rt, alloc, files, &metadata, request, workers, &OpenGate, output,
+    )
 }

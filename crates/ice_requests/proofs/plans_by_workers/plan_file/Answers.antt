@@ -32,10 +32,10 @@ returns-clause-plan g c =
     let metadata = c.deref.result.now in
     λ world told truth.
     let has = c.in_ok-metadata.ensures.found world told ∙ ap Ok (sym c.deref.ensures.value) in
-    answers_as _ _ _ _ w c.plan_bytes.result _ _
+    answers_as _ _ _ _ w c.run_plan_with.result _ _
     (answer_behind f world c.args.path.now c.args.request.now c.args.workers metadata has over_all_rows)
     (reads_of_plan f world c.args.path.now c.args.request.now c.args.workers metadata has)
-    (c.plan_bytes.ensures.plan world told (truth metadata has))
+    (c.run_plan_with.ensures.plan world told (truth metadata has))
 
 pub returns-clause-wanted : goal.returns-clause-wanted
 returns-clause-wanted g c =
@@ -44,7 +44,7 @@ returns-clause-wanted g c =
     let metadata = c.deref.result.now in
     λ world told.
     let has = c.in_ok-metadata.ensures.found world told ∙ ap Ok (sym c.deref.ensures.value) in
-    answers_as _ _ _ _ w c.plan_bytes.result _ _
+    answers_as _ _ _ _ w c.run_plan_with.result _ _
     (answer_behind f world c.args.path.now c.args.request.now c.args.workers metadata has over_wanted_rows)
     (reads_of_plan f world c.args.path.now c.args.request.now c.args.workers metadata has)
-    (c.plan_bytes.ensures.wanted world told)
+    (c.run_plan_with.ensures.wanted world told)

@@ -49,7 +49,8 @@ returns-clause-answers g c =
     record {
       written = on_ok_weaker c.write_plan_by_workers.result (λ all. (lines, is, all))
           (rw c.lines.ensures at c.write_plan_by_workers.ensures.all);
-      refused = write_ends c.write_plan_by_workers.result _ _ w c.write_plan_by_workers.ensures.causes c.write_plan_by_workers.ensures.cause;
+      refused = write_ends c.write_plan_by_workers.result _ _ w c.write_plan_by_workers.ensures.causes
+        c.write_plan_by_workers.ensures.cause;
       front = λ failed. (lines, is, rw c.lines.ensures at (c.write_plan_by_workers.ensures.front failed));
     }
 
@@ -57,6 +58,7 @@ pub returns-clause-text : goal.returns-clause-text
 returns-clause-text g c =
     let plan = c.in_ok-plan.plan in
     record {
-      all = on_ok_weaker c.write_plan_by_workers.result (λ all. (plan, all)) (rw c.lines.ensures at c.write_plan_by_workers.ensures.all);
+      all = on_ok_weaker c.write_plan_by_workers.result (λ all. (plan, all))
+        (rw c.lines.ensures at c.write_plan_by_workers.ensures.all);
       front = λ failed. (plan, rw c.lines.ensures at (c.write_plan_by_workers.ensures.front failed));
     }
