@@ -1,9 +1,9 @@
 #!/usr/bin/env python3
-"""generate.py ENTRIES [PER_MANIFEST [data|deletes|both|days|partitions|partitions-deletes]]: a bundle for `icescan list-plan --bundle` on standard output.
+"""generate.py ENTRIES [PER_MANIFEST [data|deletes|both|days|partitions|partitions-deletes [COLUMNS]]]: a bundle for `icescan list-plan --bundle` on standard output.
 
 The bundle holds a manifest list and manifests of an unpartitioned table: so many entries in all (default
 1,000,000), PER_MANIFEST of them in a manifest (default 10,000), of data files or of equality deletes, each with the
-column statistics of eight columns, in Avro containers with codec null. With `both` each manifest of data files has a
+column statistics of COLUMNS columns (default 8), in Avro containers with codec null. With `both` each manifest of data files has a
 partition spec of its own, and beside it stands a manifest of a tenth as many position deletes of that spec, of which
 one is young enough to apply. With `days` the table is partitioned by `day`, a number from 0 to 99 that is one in each
 manifest, with summaries in the list, and the bundle also holds the metadata, at METADATA; column `c1` of the entry I is
@@ -12,12 +12,13 @@ with `partitions-deletes` a tenth as many delete files stand beside the data fil
 turns position deletes and equality deletes of each day, of which one position delete is young enough to apply. The same
 arguments give the same bytes.
 """
+import functools
 import json
 import sys
 
 STATISTICS = [(109, 119, 120, "long", "value_counts"), (110, 121, 122, "long", "null_value_counts"),
               (125, 126, 127, "bytes", "lower_bounds"), (128, 129, 130, "bytes", "upper_bounds")]
-COLUMNS = 8
+COLUMNS = int(sys.argv[4]) if len(sys.argv) > 4 else 8
 MARKER = bytes(range(16))
 METADATA = "s3://warehouse/events/metadata/v1.metadata.json"
 LIST = "s3://warehouse/events/metadata/list.avro"
@@ -84,16 +85,25 @@ def container(schema, objects):
     return b"".join(out)
 
 
+@functools.cache
+def counts(least):
+    """A map of counts, one more in each column."""
+    pairs = [number(column + 1) + number(least + column) for column in range(COLUMNS)]
+    return b"".join([number(1), number(COLUMNS), *pairs, number(0)])
+
+
+KEYS = [number(column + 1) + number(8) for column in range(COLUMNS)]
+
+
+def bounds(index):
+    """A map of bounds, one more in each column."""
+    pairs = [key + (index * 8 + column).to_bytes(8, "little") for column, key in enumerate(KEYS)]
+    return b"".join([number(1), number(COLUMNS), *pairs, number(0)])
+
+
 def statistics(index, nulls):
-    out = []
-    for kind_id, _, _, kind, _ in STATISTICS:
-        out += [number(1), number(COLUMNS)]
-        for column in range(COLUMNS):
-            count = nulls if kind_id == 110 else 1000
-            value = number(count + column) if kind == "long" else run((index * 8 + column).to_bytes(8, "little"))
-            out += [number(column + 1), value]
-        out.append(number(0))
-    return b"".join(out)
+    both = bounds(index)
+    return counts(1000) + counts(nulls) + both + both
 
 
 def entry(index, content, sequence=None, partition=b"", nulls=1000):
