@@ -3,6 +3,7 @@ pub mod View
 pub mod Reading
 pub mod Pairs
 pub mod Ending
+pub mod Alike
 pub mod Window
 pub mod Spelling
 pub mod Blocks

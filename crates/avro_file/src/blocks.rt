@@ -4,7 +4,9 @@ ghost use Rattle.std.specs.Prelude.{◌≡◌, ◌≢◌, List, length, Ok};
 ghost use Rattle.contract_words.specs.Outcome.{Gives};
 ghost use Rattle.avro_parts.specs.Exact.{IsRead};
 ghost use Rattle.avro_parts.specs.Parts.{behind};
+ghost use Rattle.avro_schema.specs.Tree.{Tree};
 ghost use Rattle.avro_schema.specs.View.{tree};
+ghost use Rattle.avro_file.specs.Alike.{EndAlike};
 ghost use Rattle.avro_file.specs.View.{view};
 ghost use Rattle.avro_file.specs.Blocks.{inside, object_at, Enters, Steps};
 ghost use Rattle.avro_file.specs.Where.{file_position_of};
@@ -105,19 +107,19 @@ pub fn entered<'a>(sync: &[u8], start: Spot<'a>) -> Result<Option<Spot<'a>>, Ref
 }
 
 /// The bytes at whose front the next object is, which is checked whole, and where the reader stands behind it;
-/// none at the end of the file.
+/// none at the end of the file. Any schema serves whose values end where the objects do.
 pub fn step<'a>(
-    schema: &Schema,
+    passing: &Schema,
     sync: &[u8],
     start: Spot<'a>,
 ) -> Result<Option<(&'a [u8], Spot<'a>)>, Refusal>
-    ensures { Steps (λ x. (x.0.now, file_position_of x.1)) (tree schema.now) sync.now
+    ensures { (s : Tree) → EndAlike (tree passing.now) s → Steps (λ x. (x.0.now, file_position_of x.1)) s sync.now
         (file_position_of start.entry) result }
 {
     let Some(here) = entered(sync, start)? else {
         return Ok(None);
     };
-    let rest = behind_object(schema, here.block)?;
+    let rest = behind_object(passing, here.block)?;
     let after = Spot {
         count: here.count - 1,
         block: rest,

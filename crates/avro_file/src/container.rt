@@ -216,6 +216,7 @@ pub struct Objects<'s, 'a> {
 impl<'s, 'a> Objects<'s, 'a> {
     ghost use Rattle.std.specs.Prelude.{[], IfSome};
     ghost use Rattle.avro_file.specs.Ahead.{running};
+    ghost use Rattle.avro_file.specs.Alike.{EndAlike};
     ghost use Rattle.avro_file.specs.Files.{ahead, type_of, Next, Shows};
     ghost use Rattle.avro_file.specs.Front.{Front, StandsBefore, EndsAtFront};
 
@@ -231,10 +232,23 @@ impl<'s, 'a> Objects<'s, 'a> {
         ensures schema { type_of self.new ≡ type_of self.old }
         ensures object { IfOk result (λ next. IfSome next (λ o. tree o.schema.now ≡ type_of self.old)) }
     {
+        let schema = self.schema;
+        self.next_alike(schema)
+    }
+
+    /// The same, where a caller has a schema whose values end where those of the file's do, as `lean_schema` makes it:
+    /// objects are checked by that one.
+    pub fn next_alike(&mut self, passing: &Schema) -> Result<Option<Object<'s, 'a>>, AvroFault>
+        requires { EndAlike (tree passing.now) (type_of self.old) }
+        ensures next { Next Shows (ahead self.old) result (ahead self.new) }
+        ensures end { ahead self.old ≡ running [] None → (result ≡ Ok None) × (ahead self.new ≡ running [] None) }
+        ensures schema { type_of self.new ≡ type_of self.old }
+        ensures object { IfOk result (λ next. IfSome next (λ o. tree o.schema.now ≡ type_of self.old)) }
+    {
         if let Some(refusal) = self.refused {
             return Err(fault_of(refusal, self.total));
         }
-        match step(self.schema, self.sync, self.spot) {
+        match step(passing, self.sync, self.spot) {
             Ok(None) => Ok(None),
             Ok(Some((bytes, spot))) => {
                 self.spot = spot;

@@ -11,6 +11,7 @@ mod fault;
 mod header;
 mod known;
 mod laws;
+mod lean;
 mod named;
 mod object;
 mod pairs;
@@ -21,12 +22,13 @@ mod writer;
 pub use container::{Container, Objects};
 pub use datum::Datum;
 pub use decode::{datum_of, natural};
-pub use ends::end_of;
+pub use ends::{end_of, takes_bytes};
 pub use fault::{AvroFault, CodecName};
 pub use laws::{
     a_skip_leaves_what_follows, before_a_fault, cut_files, held_is_read, no_fault_is_memory,
     no_item_limit, objects_take_bytes, one_list,
 };
+pub use lean::lean_schema;
 pub use named::KnownSchema;
 pub use object::Object;
 pub use quick::value_end;

@@ -2,7 +2,8 @@
 use Rattle.std.proofs.Common.{◌≡◌, ◌≤◌, ◌<◌, ◌-◌, ℕ, zero, suc, ℤ, List, [], ◌∷◌, ◌++◌, length, take, drop, get_or}
 use Rattle.std.proofs.Common.{map, Option, Some, None, IfSome, Ok, refl, sym, ap, subst, ◌∙◌, arith, Vec, Global}
 use Rattle.std.proofs.Math.Seq.{take_all}
-use Rattle.std.proofs.lemmas.List.{length-drop}
+use Rattle.std.proofs.Math.ListN.{drop_of_length-le}
+use Rattle.std.proofs.lemmas.List.{append-nil, length-drop}
 use Rattle.avro_schema.specs.Tree.{Tree}
 use Rattle.avro_schema.specs.View.{tree}
 use Rattle.avro_parts.specs.Parts.{Position}
@@ -15,11 +16,11 @@ use Rattle.avro_picked.specs.declared.found.Found.{Found}
 use Rattle.avro_picked.specs.declared.row.Lead.{Lead}
 use Rattle.avro_picked.specs.declared.row.Step.{Step}
 use Rattle.avro_picked.specs.Finding.{IsMet}
-use Rattle.avro_picked.specs.Rows.{row, trees_of, Stand, place_at, IsLedTo, IsLead, AreLeads}
+use Rattle.avro_picked.specs.Rows.{row, trees_of, AreAlike, Stand, place_at, IsLedTo, IsLead, AreLeads}
 use Rattle.avro_picked.specs.Placing.{nth_way}
 use Rattle.avro_picked.proofs.Values.{stood}
 use Rattle.avro_picked.proofs.Ways.{one_end}
-use Rattle.avro_picked.proofs.Rows.{joined}
+use Rattle.avro_picked.proofs.Rows.{joined, stand_alike, alike_many}
 use Rattle.avro_file.proofs.Behind.{behind_ok}
 
 -- no place is behind the bytes
@@ -84,8 +85,21 @@ many : (steps : List Step) → length (trees_of steps) ≡ length steps
 many [] = refl
 many (s ∷ steps) = ap suc (many steps)
 
-pub steps_many : (steps : List Step) (ts : List Tree) → trees_of steps ≡ ts → length steps ≡ length ts
-steps_many steps ts is = sym (many steps) ∙ ap length is
+pub steps_many : (steps : List Step) (ts : List Tree) → AreAlike (trees_of steps) ts → length steps ≡ length ts
+steps_many steps ts alike = sym (many steps) ∙ alike_many (trees_of steps) ts alike
+
+-- places that were all written anew
+pub written : (news olds : List ℕ) (n : ℕ) → n ≡ length olds → length news ≡ length olds
+    → take n (news ++ drop (length news) olds) ≡ news
+written news olds n is same =
+    let none : drop (length news) olds ≡ [] = drop_of_length-le olds (omega (arith, same)) in
+    rw none (ap (λ (xs : List ℕ). take n xs) (append-nil news) ∙ take_all n news (omega (arith, is, same)))
+
+-- a row that began without steps
+pub row_begun : (steps news : List Step) (ts : List Tree) → steps ≡ []
+    → ((us : List Tree) → AreAlike (trees_of steps) us → AreAlike (trees_of news) (us ++ ts))
+    → AreAlike (trees_of news) ts
+row_begun steps news ts is h = h [] (subst (λ (ss : List Step). AreAlike (trees_of ss) []) (sym is) tt)
 
 -- ---- from the object to a value in it
 
@@ -104,13 +118,13 @@ led_to t way lead places bytes end left v is stand there =
     is bytes 0 max_items end left places v (omega arith) (omega arith) stand
     (read.1 ∙ ap (λ (p : Position). Ok (v, p)) here)
 
-pub ends_there : (t : Tree) (ts : List Tree) (places bytes : List ℕ) (end : ℕ) → ts ≡ row t
+pub ends_there : (t : Tree) (ts : List Tree) (places bytes : List ℕ) (end : ℕ) → AreAlike ts (row t)
     → (left : ℕ) × Stand ts places bytes 0 max_items end left
     → (left : ℕ) × EndsCounted (datum_at t) bytes 0 max_items end left
-ends_there t ts places bytes end is h = (
+ends_there t ts places bytes end alike h = (
   h.0,
-  joined t places bytes 0 max_items end h.0 (omega arith) (subst (λ (us : List Tree). Stand us places bytes 0
-      max_items end h.0) is h.1),
+  joined t places bytes 0 max_items end h.0 (omega arith)
+      (stand_alike ts (row t) places bytes 0 max_items end h.0 alike h.1),
 )
 
 pub found_there : (t : Tree) (way there : List ℤ) (lead : Lead) (places bytes block : List ℕ) (end left start : ℕ)

@@ -1,10 +1,17 @@
 -- Values that stand one after the other in a row are the value of the type that was opened.
-use Rattle.std.proofs.Common.{◌≡◌, ◌≤◌, ◌<◌, ◌+◌, ℕ, zero, suc, ℤ, List, [], ◌∷◌, ◌++◌, length, take, drop}
+use Rattle.std.proofs.Common.{◌≡◌, ◌≤◌, ◌<◌, ◌+◌, ◌-◌, ℕ, zero, suc, ℤ, Bool, List, [], ◌∷◌, ◌++◌, length, take}
+use Rattle.std.proofs.Common.{drop}
 use Rattle.std.proofs.Common.{append_assoc, get_or, set, map, Option, Some, None, Ok, refl, sym, ap, subst, ◌∙◌}
 use Rattle.std.proofs.Common.{add-one, arith, length-append, true, false, cond, IfSome, ◌/◌, ◌%◌, ◌^◌}
 use denote.Ref.{Bor}
 use Rattle.std.proofs.Math.Seq.{take-suc, take_all}
-use Rattle.std.proofs.lemmas.List.{map-append, append-nil}
+use Rattle.std.proofs.lemmas.List.{map-append, append-nil, length-drop}
+use Rattle.std.proofs.Math.Seq.{drop-append_seam}
+use Rattle.std.specs.Prelude.{nat_lt, if◌then◌else◌}
+use Rattle.avro_parts.proofs.NumberPlaces.{drop_drop, to_end}
+use Rattle.avro_file.specs.Alike.{EndAlike}
+use Rattle.avro_file.specs.Spelling.{takes_bytes}
+use Rattle.avro_file.proofs.Taken.{datum_takes}
 use Rattle.std.proofs.Math.ListN.{drop_of_length-le}
 use Rattle.std.specs.Ordering.{int_eq}
 use Rattle.std.specs.Option.{option_eq}
@@ -24,11 +31,12 @@ use Rattle.avro_file.specs.Blocks.{max_items}
 use Rattle.avro_file.specs.Picking.{Typed, pick, unless_absent, field_value}
 use Rattle.avro_file.proofs.Views.{field_trees, branch_trees}
 use Rattle.avro_file.proofs.Places.{union_ends_there}
-use Rattle.avro_file.proofs.Behind.{behind_ok, structure_ends}
+use Rattle.avro_file.proofs.Behind.{behind_ok, behind_is, empty_value, structure_ends}
 use Rattle.avro_picked.specs.declared.row.Lead.{Lead}
+use Rattle.avro_picked.specs.declared.row.Step.{Step}
 use Rattle.avro_picked.specs.Picked.{value_met}
 use Rattle.avro_picked.specs.Finding.{is_structure, fields_in, branches_in}
-use Rattle.avro_picked.specs.Rows.{row, row_of, Stand, place_at, IsLedTo, IsLead, IsLeadBelow}
+use Rattle.avro_picked.specs.Rows.{row, row_of, trees_of, AreAlike, Stand, place_at, IsLedTo, IsLead, IsLeadBelow}
 use Rattle.avro_picked.proofs.Values.{first_read, structure_taken, fewer_left, stands}
 use Rattle.avro_picked.proofs.Ways.{one_end, next_field, union_of_branches}
 
@@ -75,6 +83,29 @@ one t [] bytes at left end after h = absurd h
 one t (a ∷ []) bytes at left end after h = rw (← h.4.0, ← h.4.1) h.3
 one t (a ∷ b ∷ places) bytes at left end after h = absurd h.4
 
+-- a value without bytes ends where it begins
+nothing_there : (t : Tree) (places bytes : List ℕ) (at left end after : ℕ) → at ≤ length bytes → takes_bytes t ≡ false
+    → Stand [] places bytes at left end after → EndsCounted (datum_at t) bytes at left end after
+nothing_there t [] bytes at left end after le none h =
+    let e = empty_value t (standing bytes at left) none in
+    rw (← h.0, ← h.1) (le, behind_is (datum_at t (standing bytes at left)) e.0 (standing bytes at left) e.1)
+nothing_there t (a ∷ places) bytes at left end after le none h = absurd h
+
+null_empty : takes_bytes null ≡ false
+unfolding takes_bytes
+null_empty = refl
+
+fixed_empty : (n : ℕ) (kind : _) → nat_lt 0 n ≡ false → takes_bytes (fixed n kind) ≡ false
+unfolding takes_bytes
+fixed_empty n kind e = e
+
+fixed_there : (n : ℕ) (kind : _) (places bytes : List ℕ) (at left end after : ℕ) → at ≤ length bytes → (some : Bool)
+    → nat_lt 0 n ≡ some → Stand (if some then fixed n kind ∷ [] else []) places bytes at left end after
+    → EndsCounted (datum_at (fixed n kind)) bytes at left end after
+fixed_there n kind places bytes at left end after le true is h = one (fixed n kind) places bytes at left end after h
+fixed_there n kind places bytes at left end after le false is h =
+    nothing_there (fixed n kind) places bytes at left end after le (fixed_empty n kind is) h
+
 field_read : (id : Option ℤ) (t : Tree) (fs : Fields) (p q r : Position) → behind (datum_at t p) ≡ Ok q
     → behind (fields_at fs q) ≡ Ok r → behind (fields_at (field id t fs) p) ≡ Ok r
 unfolding fields_at
@@ -94,6 +125,9 @@ mutual
   joined (structure fs) places bytes at left end after le h =
       let e = joined_fields fs places bytes at left end after le h in
       (e.0, structure_ends fs (standing bytes at left) ∙ e.1)
+  joined null places bytes at left end after le h = nothing_there null places bytes at left end after le null_empty h
+  joined (fixed n kind) places bytes at left end after le h =
+      fixed_there n kind places bytes at left end after le (nat_lt 0 n) refl h
   joined t places bytes at left end after le h = one t places bytes at left end after h
 
   pub joined_fields : (fs : Fields) (places : List ℕ) (bytes : List ℕ) (at left end after : ℕ) → at ≤ length bytes
@@ -108,6 +142,64 @@ mutual
         g.0,
         field_read id t fs (standing bytes at left) (standing bytes c.mid c.next) (standing bytes end after) e.1 g.1,
       )
+
+-- ---- types that end alike
+
+-- what stands as one row stands as the other
+pub stand_alike : (ss ts : List Tree) (places bytes : List ℕ) (at left end after : ℕ) → AreAlike ss ts
+    → Stand ss places bytes at left end after → Stand ts places bytes at left end after
+stand_alike [] [] places bytes at left end after alike h = h
+stand_alike [] (t ∷ ts) places bytes at left end after alike h = absurd alike
+stand_alike (s ∷ ss) [] places bytes at left end after alike h = absurd alike
+stand_alike (s ∷ ss) (t ∷ ts) [] bytes at left end after alike h = absurd h
+stand_alike (s ∷ ss) (t ∷ ts) (a ∷ places) bytes at left end after alike h = (
+  h.0,
+  h.1,
+  h.2,
+  (h.3.0, sym (alike.0 (standing bytes at left)) ∙ h.3.1),
+  stand_alike ss ts places bytes h.0 h.1 end after alike.1 h.4,
+)
+
+pub alike_many : (ss ts : List Tree) → AreAlike ss ts → length ss ≡ length ts
+alike_many [] [] alike = refl
+alike_many [] (t ∷ ts) alike = absurd alike
+alike_many (s ∷ ss) [] alike = absurd alike
+alike_many (s ∷ ss) (t ∷ ts) alike = ap suc (alike_many ss ts alike.1)
+
+pub steps_on : (steps : List Step) (step : Step) (ts : List Tree) (t : Tree) → AreAlike (trees_of steps) ts
+    → EndAlike (tree step.schema) t → AreAlike (trees_of (steps ++ step ∷ [])) (ts ++ t ∷ [])
+steps_on [] step [] t alike same = (same, tt)
+steps_on [] step (u ∷ ts) t alike same = absurd alike
+steps_on (s ∷ steps) step [] t alike same = absurd alike
+steps_on (s ∷ steps) step (u ∷ ts) t alike same = (alike.0, steps_on steps step ts t alike.1 same)
+
+-- where the exact reader ends, by what is left behind the value
+pub value_ends : (t : Tree) (bytes : List ℕ) (at left : ℕ) (q : Position) → at ≤ length bytes
+    → behind (datum_at t (record { bytes = take (length bytes - at) (drop at bytes); left = left })) ≡ Ok q
+    → EndsCounted (datum_at t) bytes at left (length bytes - length q.bytes) q.left
+value_ends t bytes at left q le h =
+    let e : behind (datum_at t (standing bytes at left)) ≡ Ok q = rw (to_end bytes at) at h in
+    let v = behind_ok (datum_at t (standing bytes at left)) q e in
+    let k = datum_takes t (standing bytes at left) (v.0, q) v.1 in
+    let rest : q.bytes ≡ drop (at + length k.front) bytes = sym (drop-append_seam k.front q.bytes)
+    ∙ ap (drop (length k.front)) (sym k.parts) ∙ drop_drop (length k.front) at bytes in
+    let all : length bytes - at ≡ length k.front + length q.bytes = sym (length-drop at bytes) ∙ ap length k.parts
+    ∙ length-append k.front q.bytes in
+    let end : length bytes - length q.bytes ≡ at + length k.front = omega (arith, all, le) in (
+      omega arith,
+      rw end (e ∙ ap (λ (r : List ℕ). Ok (record { bytes = r; left = q.left })) rest),
+    )
+
+pub value_fits : (t : Tree) (bytes : List ℕ) (at left : ℕ) (q : Position)
+    → behind (datum_at t (record { bytes = take (length bytes - at) (drop at bytes); left = left })) ≡ Ok q
+    → length q.bytes ≤ length bytes
+value_fits t bytes at left q h =
+    let e : behind (datum_at t (standing bytes at left)) ≡ Ok q = rw (to_end bytes at) at h in
+    let v = behind_ok (datum_at t (standing bytes at left)) q e in
+    let k = datum_takes t (standing bytes at left) (v.0, q) v.1 in
+    let all : length bytes - at ≡ length k.front + length q.bytes = sym (length-drop at bytes) ∙ ap length k.parts
+    ∙ length-append k.front q.bytes in
+    omega (arith, all)
 
 -- ---- the loop over the row
 

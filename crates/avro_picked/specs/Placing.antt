@@ -3,10 +3,11 @@ use Rattle.std.specs.Prelude.{◌≡◌, ◌≤◌, ℕ, zero, suc, ℤ, List, [
 use Rattle.avro_schema.specs.Tree.{Tree}
 use Rattle.avro_schema.specs.View.{tree}
 use Rattle.avro_file.specs.declared.object.Object.{Object}
+use Rattle.avro_file.specs.Alike.{EndAlike}
 use Rattle.avro_file.specs.Blocks.{max_items}
 use Rattle.avro_picked.specs.declared.layout.Layout.{Layout}
 use Rattle.avro_picked.specs.declared.places.Places.{Places}
-use Rattle.avro_picked.specs.Rows.{row, trees_of, Stand, AreLeads}
+use Rattle.avro_picked.specs.Rows.{row, trees_of, AreAlike, Stand, AreLeads}
 use Rattle.avro_picked.specs.Finding.{layout_tree, ways_of}
 
 -- the k-th way
@@ -18,9 +19,11 @@ nth_way (way ∷ ways) (suc k) = nth_way ways k
 abbrev pub way_of : Layout → ℕ → List ℤ
 way_of l k = nth_way (ways_of l) k
 
--- its steps are the row of its type, in which its leads go where its ways do
+-- Its steps end as the row of its type does, in which its leads go where its ways do. The type that it passes objects
+-- by ends as its own.
 abbrev pub IsLayout : Layout → Type 0
-IsLayout l = (trees_of l.steps.items ≡ row (layout_tree l)) × AreLeads (layout_tree l) l.ways.items l.leads.items
+IsLayout l = AreAlike (trees_of l.steps.items) (row (layout_tree l))
+    × AreLeads (layout_tree l) l.ways.items l.leads.items × EndAlike (tree l.passing) (layout_tree l)
 
 -- a list with a place for each value
 abbrev pub FitsLayout : Layout → Places → Type 0

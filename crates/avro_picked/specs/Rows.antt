@@ -2,10 +2,12 @@
 -- Avro 1.11.1 specification, 'Records': the values of the fields, one after the other, with nothing between them.
 use Rattle.std.specs.Prelude.{◌≡◌, ◌≤◌, ℕ, zero, suc, ℤ, List, [], ◌∷◌, ◌++◌, length, drop, map, Option, Some, None, Ok, IfSome, Vec}
 use Rattle.std.specs.Global.{Global}
-use Rattle.avro_schema.specs.Tree.{Tree, structure, Fields, no_fields, field}
+use Rattle.std.specs.Prelude.{nat_lt, if◌then◌else◌}
+use Rattle.avro_schema.specs.Tree.{Tree, null, fixed, structure, Fields, no_fields, field}
 use Rattle.avro_schema.specs.View.{tree}
 use Rattle.avro_file.specs.Value.{Value, values_of}
 use Rattle.avro_file.specs.Reading.{datum_at, fields_at}
+use Rattle.avro_file.specs.Alike.{EndAlike}
 use Rattle.avro_file.specs.Ending.{standing, EndsCounted}
 use Rattle.avro_file.specs.Blocks.{max_items, StandsAt}
 use Rattle.avro_file.specs.Picking.{Picked, unless_absent, field_value, pick}
@@ -13,9 +15,11 @@ use Rattle.avro_picked.specs.declared.row.Step.{Step}
 use Rattle.avro_picked.specs.declared.row.Lead.{Lead}
 use Rattle.avro_picked.specs.Picked.{value_met}
 
--- records in records are opened; every other type stays whole
+-- records in records are opened, and types whose values take no bytes are left out; every other type stays whole
 abbrev mutual
   pub row : Tree → List Tree
+  row null = []
+  row (fixed n kind) = if nat_lt 0 n then fixed n kind ∷ [] else []
   row (structure fs) = row_of fs
   row t = t ∷ []
 
@@ -24,7 +28,13 @@ abbrev mutual
   row_of (field id t fs) = row t ++ row_of fs
 
 abbrev pub trees_of : List Step → List Tree
-trees_of steps = map (λ step. tree step.schema.now) steps
+trees_of steps = map (λ step. tree step.schema) steps
+
+-- as many types, and values of each end where those of the other do
+abbrev pub AreAlike : List Tree → List Tree → Type 0
+AreAlike [] [] = Unit {0}
+AreAlike (s ∷ ss) (t ∷ ts) = EndAlike s t × AreAlike ss ts
+AreAlike ss ts = ⊥
 
 -- A value of each type stands in the bytes, one after the other, and begins at its place; so many items are left at
 -- the end.

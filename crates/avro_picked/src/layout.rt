@@ -9,8 +9,8 @@ ghost use Rattle.avro_schema.specs.View.{tree};
 
 use crate::found::{Found, found_here, found_on_way};
 use crate::places::Places;
-use crate::row::{Lead, Step, lead_of, push_row, row_end};
-use avro_file::{AvroFault, Datum, Object, Objects};
+use crate::row::{Lead, Step, lead_of, row_end, steps_of};
+use avro_file::{AvroFault, Datum, Object, Objects, lean_schema};
 use avro_schema::Schema;
 use std::alloc::{AllocError, Global};
 
@@ -18,9 +18,11 @@ use std::alloc::{AllocError, Global};
 #[derive(Debug, Drop)]
 pub struct Layout<'s> {
     schema: &'s Schema,
+    /// Its values end where those of the type do.
+    passing: Schema,
     ways: Vec<Vec<i32>>,
     /// The row of the type.
-    steps: Vec<Step<'s>>,
+    steps: Vec<Step>,
     /// Where each way leads in it.
     leads: Vec<Option<Lead<'s>>>,
 }
@@ -45,16 +47,17 @@ impl<'s> Layout<'s> {
         ensures leads { IfOk result IsLayout }
         ensures memory { IfErr result (λ e. e ≡ AvroFault.Memory) }
     {
-        let mut steps = Vec::new(alloc);
-        push_row(schema, &mut steps)?;
+        let steps = steps_of(alloc, schema)?;
         let mut kept = Vec::with_capacity(alloc, ways.len())?;
         let mut leads = Vec::with_capacity(alloc, ways.len())?;
         'ways: for way in ways {
             leads.push(lead_of(schema, way))?;
             kept.push(Vec::from_slice(alloc, way)?)?;
         }
+        let passing = lean_schema(alloc, schema)?;
         Ok(Layout {
             schema,
+            passing,
             ways: kept,
             steps,
             leads,
@@ -133,7 +136,7 @@ impl<'s> Layout<'s> {
         places.end = end;
         match end {
             Some(end) => Ok(Some(objects.pass(end))),
-            None => objects.next(),
+            None => objects.next_alike(&self.passing),
         }
     }
 

@@ -1,21 +1,23 @@
 //! A type as a row of types, and where the values of an object begin.
 
-ghost use Rattle.std.specs.Prelude.{◌≡◌, ◌≤◌, ◌<◌, ◌+◌, ◌++◌, ◌^◌, ℕ, List, [], length, map, IfSome, IfOk};
+ghost use Rattle.std.specs.Prelude.{◌≡◌, ◌≤◌, ◌<◌, ◌+◌, ◌++◌, ◌∷◌, ◌^◌, ℕ, List, [], length, map, IfSome, IfOk};
+ghost use Rattle.avro_schema.specs.Tree.{Tree};
 ghost use Rattle.avro_schema.specs.View.{tree, parts, fields_of as field_trees};
 ghost use Rattle.avro_file.specs.Blocks.{max_items};
 ghost use Rattle.avro_file.specs.Ending.{EndsCounted};
 ghost use Rattle.avro_file.specs.Reading.{datum_at};
-ghost use Rattle.avro_picked.specs.Rows.{row, row_of, trees_of, Stand, IsLead, IsLeadBelow};
+ghost use Rattle.avro_picked.specs.Rows.{row, row_of, trees_of, AreAlike, Stand, IsLead, IsLeadBelow};
 
 use crate::found::{MAX_ITEMS, branches_of, fields_of, is_record};
-use avro_file::value_end;
+use avro_file::{end_of, lean_schema, value_end};
+use avro_parts::Place;
 use avro_schema::{Field, Schema};
-use std::alloc::AllocError;
+use std::alloc::{AllocError, Global};
 
-/// One type of a row.
-#[derive(Clone, Copy, Debug)]
-pub struct Step<'s> {
-    pub schema: &'s Schema,
+/// One type of a row, as a schema whose values end where those of the type do.
+#[derive(Debug, Drop)]
+pub struct Step {
+    pub schema: Schema,
 }
 
 /// Where a way leads in a row: to the value of this type that begins at a step's place. So many of its ids are passed
@@ -27,15 +29,33 @@ pub struct Lead<'s> {
     pub passed: usize,
 }
 
+/// Adds a step for a type.
+fn push_step(alloc: Global, schema: &Schema, steps: &mut Vec<Step>) -> Result<(), AllocError>
+    ensures { IfOk result (λ _. (ts : List Tree) → AreAlike (trees_of steps.old.items) ts →
+        AreAlike (trees_of steps.new.items) (ts ++ tree schema.now ∷ [])) }
+{
+    steps.push(Step {
+        schema: lean_schema(alloc, schema)?,
+    })?;
+    Ok(())
+}
+
 /// Adds the row of a type.
 #[cycle(steps)]
-pub fn push_row<'s>(schema: &'s Schema, steps: &mut Vec<Step<'s>>) -> Result<(), AllocError>
-    ensures { IfOk result (λ _. trees_of steps.new.items ≡ trees_of steps.old.items ++ row (tree schema.now)) }
+fn push_row(alloc: Global, schema: &Schema, steps: &mut Vec<Step>) -> Result<(), AllocError>
+    ensures { IfOk result (λ _. (ts : List Tree) → AreAlike (trees_of steps.old.items) ts →
+        AreAlike (trees_of steps.new.items) (ts ++ row (tree schema.now))) }
 {
     match schema {
-        Schema::Record(fields) => push_fields(fields, steps),
-        Schema::Null
-        | Schema::Boolean
+        Schema::Record(fields) => push_fields(alloc, fields, steps),
+        Schema::Null => Ok(()),
+        Schema::Fixed(len, _) => {
+            if *len == 0 {
+                return Ok(());
+            }
+            push_step(alloc, schema, steps)
+        }
+        Schema::Boolean
         | Schema::Int
         | Schema::Long
         | Schema::Enum(_)
@@ -43,26 +63,32 @@ pub fn push_row<'s>(schema: &'s Schema, steps: &mut Vec<Step<'s>>) -> Result<(),
         | Schema::Double
         | Schema::Bytes(_)
         | Schema::String
-        | Schema::Fixed(_, _)
         | Schema::Array(_, _, _)
         | Schema::Map(_)
-        | Schema::Union(_) => {
-            steps.push(Step { schema })?;
-            Ok(())
-        }
+        | Schema::Union(_) => push_step(alloc, schema, steps),
     }
 }
 
 /// Adds the rows of a record's fields.
 #[cycle(steps)]
-fn push_fields<'s>(fields: &'s [Field], steps: &mut Vec<Step<'s>>) -> Result<(), AllocError>
-    ensures { IfOk result (λ _. trees_of steps.new.items ≡
-        trees_of steps.old.items ++ row_of (field_trees (parts fields.now))) }
+fn push_fields(alloc: Global, fields: &[Field], steps: &mut Vec<Step>) -> Result<(), AllocError>
+    ensures { IfOk result (λ _. (ts : List Tree) → AreAlike (trees_of steps.old.items) ts →
+        AreAlike (trees_of steps.new.items) (ts ++ row_of (field_trees (parts fields.now)))) }
 {
     'fields: for field in fields {
-        push_row(&field.schema, steps)?;
+        push_row(alloc, &field.schema, steps)?;
     }
     Ok(())
+}
+
+/// The row of a type.
+pub fn steps_of(alloc: Global, schema: &Schema) -> Result<Vec<Step>, AllocError>
+    ensures alike { IfOk result (λ steps. AreAlike (trees_of steps.items) (row (tree schema.now))) }
+    ensures many { IfOk result (λ steps. length steps.items ≡ length (row (tree schema.now))) }
+{
+    let mut steps = Vec::new(alloc);
+    push_row(alloc, schema, &mut steps)?;
+    Ok(steps)
 }
 
 /// How many steps the row of a type has.
@@ -73,8 +99,9 @@ fn row_len(schema: &Schema) -> usize
 {
     match schema {
         Schema::Record(fields) => fields_len(fields),
-        Schema::Null
-        | Schema::Boolean
+        Schema::Null => 0,
+        Schema::Fixed(len, _) => if *len == 0 { 0 } else { 1 },
+        Schema::Boolean
         | Schema::Int
         | Schema::Long
         | Schema::Enum(_)
@@ -82,7 +109,6 @@ fn row_len(schema: &Schema) -> usize
         | Schema::Double
         | Schema::Bytes(_)
         | Schema::String
-        | Schema::Fixed(_, _)
         | Schema::Array(_, _, _)
         | Schema::Map(_)
         | Schema::Union(_) => 1,
@@ -134,10 +160,45 @@ fn step_end(schema: &Schema, bytes: &[u8], at: usize, left: &mut u64) -> Option<
     value_end(schema, bytes, at, left)
 }
 
-/// Where the values of a row begin, one after the other from the front of the bytes, and where the last one ends. It
-/// gives no end where anything is odd; then the exact reader says what is there.
+/// Where a value ends, by the exact reader; none where it meets a fault.
 #[inline(never)]
-pub fn row_end(steps: &[Step<'_>], bytes: &[u8], starts: &mut [usize]) -> Option<usize>
+fn exact_end(schema: &Schema, bytes: &[u8], at: usize, left: &mut u64) -> Option<usize>
+    requires { at ≤ length bytes.now }
+    ensures { IfSome result (λ end. EndsCounted (datum_at (tree schema.now)) bytes.now at left.old end left.new) }
+{
+    let place = Place {
+        bytes: &bytes[at..],
+        left: *left,
+    };
+    match end_of(schema, place) {
+        Ok(after) => {
+            *left = after.left;
+            Some(bytes.len() - after.bytes.len())
+        }
+        Err(_) => None,
+    }
+}
+
+/// The same, mostly at once; the exact reader has what is odd.
+#[inline(always)]
+fn passed_end(schema: &Schema, bytes: &[u8], at: usize, left: &mut u64) -> Option<usize>
+    requires { at ≤ length bytes.now }
+    ensures { IfSome result (λ end. EndsCounted (datum_at (tree schema.now)) bytes.now at left.old end left.new) }
+{
+    let before = *left;
+    match step_end(schema, bytes, at, left) {
+        Some(end) => Some(end),
+        None => {
+            *left = before;
+            exact_end(schema, bytes, at, left)
+        }
+    }
+}
+
+/// Where the values of a row begin, one after the other from the front of the bytes, and where the last one ends. It
+/// gives no end where a fault is met.
+#[inline(never)]
+pub fn row_end(steps: &[Step], bytes: &[u8], starts: &mut [usize]) -> Option<usize>
     requires { length starts.old ≡ length steps.now }
     ensures { IfSome result (λ end. (end ≤ length bytes.now)
         × (left : ℕ) × Stand (trees_of steps.now) starts.new bytes.now 0 max_items end left) }
@@ -146,7 +207,7 @@ pub fn row_end(steps: &[Step<'_>], bytes: &[u8], starts: &mut [usize]) -> Option
     let mut here = 0;
     'steps: for (i, step) in steps.iter().enumerate() {
         starts[i] = here;
-        here = step_end(step.schema, bytes, here, &mut left)?;
+        here = passed_end(&step.schema, bytes, here, &mut left)?;
     }
     Some(here)
 }

@@ -10,8 +10,8 @@ steps-preserved c =
     let i = c.steps.invariant in
     let e = c.in_ok-here.ensures in (
       e.0,
-      row_on (λ s. tree s.schema.now) c.args.steps.now c.steps.i c.index-steps-i.result c.steps.starts c.args.bytes.now
-          max_items c.steps.here c.steps.left c.in_ok-here.here c.step_end.new.left c.steps-test.true
+      row_on (λ s. tree s.schema) c.args.steps.now c.steps.i c.index-steps-i.result c.steps.starts c.args.bytes.now
+          max_items c.steps.here c.steps.left c.in_ok-here.here c.passed_end.new.left c.steps-test.true
           c.index-steps-i.is (omega (arith, c.steps-test.true, c.steps.auto.starts, c.requires)) i.1 e,
     )
 
@@ -19,6 +19,6 @@ pub returns : goal.returns
 returns c = let i = c.steps.invariant in (
   i.0,
   c.steps.left,
-  row_done (λ s. tree s.schema.now) c.args.steps.now c.steps.i c.steps.starts c.args.bytes.now max_items c.steps.here
+  row_done (λ s. tree s.schema) c.args.steps.now c.steps.i c.steps.starts c.args.bytes.now max_items c.steps.here
       c.steps.left c.steps-test.false (c.steps.auto.starts ∙ c.requires) i.1,
 )

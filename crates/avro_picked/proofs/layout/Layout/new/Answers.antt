@@ -20,3 +20,6 @@ ways-preserved c =
       rw (c.in_ok-push-2.ensures.items, c.in_ok-push.ensures.items) (leads_on (tree c.args.schema.now) c.ways.kept.items
           c.ways.leads.items c.in_ok-from_slice.field-0 c.lead_of.result i.1 lead fits),
     )
+
+pub returns-clause-leads : goal.returns-clause-leads
+returns-clause-leads c = (c.in_ok-steps.ensures.alike, c.ways.invariant.1, c.in_ok-passing.ensures)
