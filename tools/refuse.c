@@ -1,4 +1,5 @@
-/* Loaded before the C library: the allocation numbered REFUSE (from 1) is refused, and said on the file REFUSED. */
+/* Loaded before the C library: the allocation numbered REFUSE (from 1) is refused, and said on the file REFUSED.
+   Threads count together. */
 #define _GNU_SOURCE
 #include <dlfcn.h>
 #include <errno.h>
@@ -14,7 +15,7 @@ static int is_refused(void) {
     const char *text = getenv("REFUSE");
     wanted = text ? atol(text) : 0;
   }
-  if (++turn != wanted) return 0;
+  if (__atomic_add_fetch(&turn, 1, __ATOMIC_RELAXED) != wanted) return 0;
   const char *path = getenv("REFUSED");
   int file = path ? open(path, O_WRONLY | O_CREAT | O_TRUNC, 0600) : -1;
   if (file >= 0) close(file);

@@ -8,10 +8,11 @@ processor time a megabyte, in at most 30 MB and 20 times the table's bytes of me
 that docs/REFUSALS.md lists, and never for want of memory.
 
 Prints the runs that did anything else, and a last line. The same seed gives the same runs; --only N does the run of
-that number alone, and leaves its folder.
+that number alone, and leaves its folder. Wants a C compiler.
 """
 import argparse
 import copy
+import functools
 import glob
 import json
 import os
@@ -19,12 +20,13 @@ import random
 import re
 import resource
 import shutil
-import signal
+import subprocess
 import sys
 import time
 import traceback
 
-TOP = os.path.join(os.path.dirname(os.path.abspath(__file__)), "..")
+HERE = os.path.dirname(os.path.abspath(__file__))
+TOP = os.path.join(HERE, "..")
 MEGABYTE = 1 << 20
 MOST_VALUES = 100000
 SHARED = "/dev/shm" if os.path.isdir("/dev/shm") else None
@@ -127,7 +129,7 @@ class Container:
 
     def __init__(self, data):
         count, at = number(data, 4)
-        self.entries, self.blocks = [], []
+        self.data, self.entries, self.blocks = data, [], []
         while count:
             if count < 0:
                 count, (_, at) = -count, number(data, at)
@@ -160,16 +162,18 @@ class Container:
             out += [spelled(count), spelled(len(content)), content, self.marker]
         return b"".join(out)
 
-    def walked(self):
-        """For each block the ends of its objects and the places of its numbers."""
-        found = []
-        for count, content in self.blocks:
-            walk, at, ends = Walk(self.schema()), 0, []
-            for _ in range(min(count, MOST_VALUES)):
-                at = walk.value(walk.schema, content, at)
-                ends.append(at)
-            found.append((ends, walk.numbers))
-        return found
+
+@functools.lru_cache(256)
+def walked(data):
+    """For each block of a file the ends of its objects and the places of its numbers."""
+    file, found = Container(data), []
+    for count, content in file.blocks:
+        walk, at, ends = Walk(file.schema()), 0, []
+        for _ in range(min(count, MOST_VALUES)):
+            at = walk.value(walk.schema, content, at)
+            ends.append(at)
+        found.append((ends, walk.numbers))
+    return found
 
 
 # ---- twists
@@ -239,9 +243,14 @@ def nothings(chance):
 def more_data(chance):
     """A type, and bytes that spell a value of it."""
     count = chance.choice([1, 100, 2**20, 2**24 - 1, 2**24, 2**24 + 1, 2**40])
-    way = chance.randrange(6)
+    way = chance.randrange(7)
     if way == 0:
         return {"type": "array", "items": nothings(chance)}, spelled(count) + b"\0"
+    if way == 6:
+        count, nulls = chance.choice([1, 100, 30000]), chance.choice([1, 300, 3000])
+        fields = [field("x", "int", 700)] + [field("x%d" % i, "null", 701 + i) for i in range(nulls)]
+        items = {"type": "record", "name": "sparse", "fields": fields}
+        return {"type": "array", "items": items}, spelled(count) + b"\0" * count + b"\0"
     if way == 1:
         return {"type": "array", "items": nothings(chance)}, spelled(-count) + spelled(chance.choice([0, 7])) + b"\0"
     if way == 2:
@@ -342,13 +351,13 @@ def twist_bytes(chance, data):
 
 def twist_numbers(chance, file):
     """A count, a length, a branch or a number of an object."""
-    walked = file.walked()
-    full = [i for i, (_, numbers) in enumerate(walked) if numbers]
+    walk = walked(file.data)
+    full = [i for i, (_, numbers) in enumerate(walk) if numbers]
     if not full:
         return file.bytes()
     which = chance.choice(full)
-    kind = chance.choice(sorted({found[0] for found in walked[which][1]}))
-    _, at, end, value = chance.choice([found for found in walked[which][1] if found[0] == kind])
+    kind = chance.choice(sorted({found[0] for found in walk[which][1]}))
+    _, at, end, value = chance.choice([found for found in walk[which][1] if found[0] == kind])
     count, content = file.blocks[which]
     file.blocks[which] = (count, content[:at] + odd_number(chance, value) + content[end:])
     return file.bytes()
@@ -366,7 +375,7 @@ def twist_schema_text(chance, file):
 
 def twist_field(chance, file):
     """A field more at the end of each object, which no reader wants, or in the place of one that is read."""
-    schema, walked = file.schema(), file.walked()
+    schema, walk = file.schema(), walked(file.data)
     fields, last = schema["fields"], schema["fields"][-1]["type"]
     is_entry = isinstance(last, dict) and last.get("type") == "record"
     if chance.random() < 0.5:
@@ -381,8 +390,8 @@ def twist_field(chance, file):
         kind, data = more_data(chance)
         fields.append(field("more", kind, chance.choice([9000, 500, 517, 2])))
     for i, (count, content) in enumerate(file.blocks):
-        starts = [0] + walked[i][0][:-1]
-        objects = [content[at:end] for at, end in zip(starts, walked[i][0])]
+        starts = [0] + walk[i][0][:-1]
+        objects = [content[at:end] for at, end in zip(starts, walk[i][0])]
         file.blocks[i] = (count, b"".join(one + data for one in objects))
     file.set_schema(schema)
     return file.bytes()
@@ -487,22 +496,24 @@ def listed_refusals():
         return set(re.findall(r"^\| `([A-Z]\d+ \w+)`", file.read(), re.M))
 
 
-def ran(program, words, folder):
-    """The status, or the negated signal; what was written; memory in bytes; seconds of the processor."""
-    out, err = os.path.join(folder, "out"), os.path.join(folder, "err")
-    flags = os.O_WRONLY | os.O_CREAT | os.O_TRUNC
-    actions = [(os.POSIX_SPAWN_OPEN, 0, "/dev/null", os.O_RDONLY, 0)]
-    actions += [(os.POSIX_SPAWN_OPEN, 1, out, flags, 0o600), (os.POSIX_SPAWN_OPEN, 2, err, flags, 0o600)]
-    child = os.posix_spawn(program, [program, *words], {}, file_actions=actions)
-    signal.signal(signal.SIGALRM, lambda *_: os.kill(child, signal.SIGKILL))
-    signal.alarm(60)
-    _, status, used = os.wait4(child, 0)
-    signal.alarm(0)
-    with open(out, "rb") as file:
-        said = file.read(1 << 16)
-    with open(err, "rb") as file:
-        why = file.read(1 << 16)
-    return os.waitstatus_to_exitcode(status), said, why, used.ru_maxrss * 1024, used.ru_utime + used.ru_stime
+class Launcher:
+    """Runs a program, in a small process of its own."""
+
+    def __init__(self, helper, program, folder):
+        self.program, self.out, self.err = program, os.path.join(folder, "out"), os.path.join(folder, "err")
+        self.process = subprocess.Popen([helper], stdin=subprocess.PIPE, stdout=subprocess.PIPE)
+
+    def ran(self, words):
+        """The status, or the negated signal; what was written; memory in bytes; seconds of the processor."""
+        line = "\1".join([self.out, self.err, self.program, *words]) + "\n"
+        self.process.stdin.write(line.encode())
+        self.process.stdin.flush()
+        status, memory, micros = map(int, self.process.stdout.readline().split())
+        with open(self.out, "rb") as file:
+            said = file.read(1 << 16)
+        with open(self.err, "rb") as file:
+            why = file.read(1 << 16)
+        return status, said, why, memory, micros / 1e6
 
 
 def wrong_with(got, size, listed):
@@ -524,7 +535,7 @@ def wrong_with(got, size, listed):
     return "refused by %r" % why[:200] if unlisted else None
 
 
-def run(given, tables, number, folder, listed):
+def run(given, tables, number, folder, launcher, listed):
     """One run: its table and file, its words, and what is wrong with it."""
     chance = random.Random("%d.%d" % (given.seed, number))
     table = chance.choice(tables)
@@ -537,7 +548,7 @@ def run(given, tables, number, folder, listed):
         table.copy_to(below)
     path = os.path.join(below, "metadata", name)
     write(path, twisted)
-    got = ran(given.program, [word.replace("{DIR}", below) for word in words], folder)
+    got = launcher.ran([word.replace("{DIR}", below) for word in words])
     wrong = wrong_with(got, table.size - len(data) + len(twisted), listed)
     if given.only is None:
         write(path, data)
@@ -545,13 +556,14 @@ def run(given, tables, number, folder, listed):
     return line, wrong, got
 
 
-def work(given, tables, numbers, folder, pipe):
+def work(given, tables, numbers, folder, helper, pipe):
     """The runs of these numbers. What is wrong goes down the pipe, and at the end how the runs ended."""
     os.makedirs(folder, exist_ok=True)
     resource.setrlimit(resource.RLIMIT_AS, (1024 * MEGABYTE, 1024 * MEGABYTE))
+    launcher = Launcher(helper, given.program, folder)
     listed, endings, most, slowest = listed_refusals(), {}, 0, 0
     for number in numbers:
-        line, wrong, got = run(given, tables, number, folder, listed)
+        line, wrong, got = run(given, tables, number, folder, launcher, listed)
         endings[got[0]] = endings.get(got[0], 0) + 1
         most, slowest = max(most, got[3]), max(slowest, got[4])
         if wrong:
@@ -589,13 +601,16 @@ def main():
     tables = [Table(folder) for folder in sorted(glob.glob(os.path.join(given.tables, "*")))]
     tables = [table for table in tables if table.files and table.commands]
     folder = os.path.join(SHARED or "/tmp", "twist.%d" % os.getpid())
+    os.makedirs(folder)
+    helper = os.path.join(folder, "launch")
+    subprocess.run(["cc", "-O1", "-o", helper, os.path.join(HERE, "launch.c")], check=True)
     started, (read, pipe) = time.time(), os.pipe()
     numbers = range(given.runs) if given.only is None else [given.only]
     jobs = given.jobs if given.only is None else 1
     for job in range(jobs):
         if os.fork() == 0:
             try:
-                work(given, tables, numbers[job::jobs], os.path.join(folder, str(job)), pipe)
+                work(given, tables, numbers[job::jobs], os.path.join(folder, str(job)), helper, pipe)
             except BaseException:
                 traceback.print_exc()
             finally:

@@ -13,6 +13,7 @@ use std::test::*;
 
 mod compared;
 mod random;
+mod refusals;
 
 const MARKER: [u8; 16] = [0, 1, 2, 3, 4, 5, 6, 7, 8, 9, 10, 11, 12, 13, 14, 15];
 

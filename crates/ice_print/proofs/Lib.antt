@@ -1,3 +1,4 @@
 pub mod Escapes
+pub mod RangeTexts
 pub mod Sends
 pub mod Writes

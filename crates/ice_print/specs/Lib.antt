@@ -1,6 +1,7 @@
 pub mod Escaping
 pub mod Pieces
 pub mod PlanTexts
+pub mod Ranges
 pub mod Shown
 pub mod TableTexts
 pub mod Written

@@ -3,6 +3,7 @@
 //! for.
 #![tactic(auto)]
 
+mod by_workers;
 mod escape;
 mod page;
 mod pieces;
@@ -12,6 +13,7 @@ mod table_lines;
 mod table_text;
 mod unescaping;
 
+pub use by_workers::put_plan_by_workers;
 pub use escape::put_escaped;
 pub use page::Page;
 pub use pieces::{put_named_int, put_named_long, put_named_number, put_named_path};

@@ -6,6 +6,7 @@ ghost use Rattle.std.specs.Fmt.{signed_decimal};
 ghost use Rattle.ice_print.specs.PlanTexts.{totals_text, ids_text, numbered_path, size_text, file_text, position_text};
 ghost use Rattle.ice_print.specs.PlanTexts.{equality_text};
 ghost use Rattle.ice_print.specs.PlanTexts.{totals_text, line_text, deletes_of, plan_text};
+ghost use Rattle.ice_print.specs.Ranges.{range_text};
 ghost use Rattle.ice_print.specs.Written.{Sent};
 
 use crate::page::Page;
@@ -61,7 +62,21 @@ pub fn put_totals<S: Sink>(
 fn put_lines<S: Sink>(page: &mut Page, sink: &mut S, lines: &Lines<'_>) -> Result<(), SinkFault>
     ensures { Sent S.taken S.may_fail sink.old page.old result sink.new page.new (flat_map line_text lines.now) }
 {
-    for i in 0..lines.len() {
+    put_some_lines(page, sink, lines, 0, lines.len())
+}
+
+/// Sends the text of so many of a plan's lines from a place on, or of those that there are.
+pub(crate) fn put_some_lines<S: Sink>(
+    page: &mut Page,
+    sink: &mut S,
+    lines: &Lines<'_>,
+    first: usize,
+    count: usize,
+) -> Result<(), SinkFault>
+    ensures { Sent S.taken S.may_fail sink.old page.old result sink.new page.new (range_text lines.now first count) }
+{
+    let end = lines.len().min(first.saturating_add(count));
+    for i in first..end {
         put_line(page, sink, &lines.line(i))?;
     }
     Ok(())

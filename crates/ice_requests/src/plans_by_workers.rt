@@ -15,7 +15,7 @@ use crate::selection::{Selection, select};
 use crate::table_plans::{Listed, plans_of_true_summaries, run_plan};
 use ice_desk::{Files, Gate, MOST_WORKERS, plan_scan};
 use ice_state::Scan;
-use ice_text::{Request, RunFault, Sink, read_file, read_rows, write_plan};
+use ice_text::{Request, RunFault, Sink, read_file, read_rows, write_plan_by_workers};
 use std::alloc::Global;
 use std::thread::Threads;
 
@@ -50,7 +50,7 @@ fn plan_rows_with<R: Threads + Sync, F: Files + Sync, G: Gate + Sync, W: Sink>(
 {
     let scan = Scan::new(alloc, listed.rows, listed.specs, listed.filter)?;
     let plan = plan_scan(rt, alloc, files, &scan, workers, gate)?;
-    write_plan(alloc, &plan.lines(), output)
+    write_plan_by_workers(rt, alloc, &plan.lines(), workers, output)
 }
 
 /// Writes the plan that a request asks for, of the table whose metadata these are the bytes of: by so many workers,

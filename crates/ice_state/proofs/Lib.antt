@@ -6,6 +6,7 @@ pub mod Hits
 pub mod Elements
 pub mod Filtered
 pub mod Filters
+pub mod FoundPlaces
 pub mod Gains
 pub mod JoinedIndexes
 pub mod Joins
@@ -17,6 +18,7 @@ pub mod NeighbourLines
 pub mod Orders
 pub mod Outcomes
 pub mod LinesAt
+pub mod PathsAlike
 pub mod PathsOnce
 pub mod Permuted
 pub mod PlaceTables
@@ -25,6 +27,7 @@ pub mod Pruned
 pub mod Ranked
 pub mod RankedIndex
 pub mod RankedLines
+pub mod RowsMoved
 pub mod Runs
 pub mod Scanning
 pub mod Scans

@@ -1,6 +1,8 @@
 -- The same delete files apply to neighbours, where none names a data file.
 use Rattle.std.proofs.Common.{◌≡◌, ◌<◌, ◌&&◌, ◌||◌, ◌∙◌, ◌++◌, ◌-◌, ℕ, ℤ, zero, suc, Bool, true, false, List, [], ◌∷◌, filter, map, cond}
-use Rattle.std.proofs.Common.{refl, sym, ap, subst, arith, Option, Some, None, is_some, length, get_or, take}
+use Rattle.std.proofs.Common.{refl, sym, ap, subst, arith, Option, Some, None, is_some, length, get_or, take, replicate}
+use Rattle.std.proofs.Common.{◌+◌, ◌≤◌, ◌⊎◌, inl, inr, add-one, add-zero, append_assoc}
+use Rattle.std.proofs.lemmas.List.{append-nil}
 use Rattle.std.specs.List.{list_any}
 use Rattle.ice_value.specs.declared.cell.Cell.{Cell}
 use Rattle.ice_value.specs.declared.file_content.FileContent.{FileContent}
@@ -17,7 +19,7 @@ use Rattle.ice_state.specs.Applying.{data_key_of}
 use Rattle.ice_state.specs.Parts.{ascending, places_of}
 use Rattle.ice_state.specs.PlaceLists.{LinePlaces}
 use Rattle.ice_state.specs.Segments.{Segmented, entry_at, entries_at}
-use Rattle.ice_state.specs.SharedPlaces.{IsBeside, line_in}
+use Rattle.ice_state.specs.SharedPlaces.{AreBeside, line_in}
 
 abbrev names_one : ℕ × DeleteKey → Bool
 names_one e = is_in Referenced e.1
@@ -98,29 +100,78 @@ some_file : (ns : List FileNumber) → 0 < length ns → FileNumber
 some_file [] l = absurd (omega arith)
 some_file (n ∷ ns) l = n
 
-module _ (ranks : List ℕ) (index : List (ℕ × DeleteKey)) (kept : Segmented) (ns : List FileNumber) (i j : ℕ)
-    (next : j ≡ suc i) (l : i < length ns) (lines : List LinePlaces)
-    (are : lines ≡ map (λ x. places_of (renumbered ranks index) (data_key_of x)) (entries_at kept (take i ns))) where
+-- one neighbour more
+pub one_beside : (kept : Segmented) (ns : List FileNumber) (first next : ℕ) (d e : FileNumber) → first < length ns
+    → next < length ns → AreNeighbours (entry_at kept (get_or ns first d)) (entry_at kept (get_or ns next e))
+    → AreBeside (entries_at kept ns) first next → AreBeside (entries_at kept ns) first (next + 1)
+one_beside kept ns first next d e l m near all = λ i after before.
+    let files = entries_at kept ns in
+    let here : AreNeighbours (get_or files first no_entry) (get_or files next no_entry) =
+    subst (λ (x : Entry). AreNeighbours x (get_or files next no_entry)) (one_file kept ns first d l)
+    (subst (λ (y : Entry). AreNeighbours (entry_at kept (get_or ns first d)) y) (one_file kept ns next e m) near) in
+    elim (split i next (omega (arith, before))) [
+      | inl less ↦ all i after less
+      | inr same ↦ subst (λ n. AreNeighbours (get_or files first no_entry) (get_or files n no_entry)) (sym same) here
+    ]
+  where
+    split : (i n : ℕ) → i < suc n → (i < n) ⊎ (i ≡ n)
+    split zero zero l = inr refl
+    split zero (suc n) l = inl (omega arith)
+    split (suc i) zero l = absurd (omega arith)
+    split (suc i) (suc n) l = elim (split i n (omega arith)) [ inl less ↦ inl (omega arith) | inr same ↦ inr (ap suc same) ]
+
+module _ (ranks : List ℕ) (index : List (ℕ × DeleteKey)) (kept : Segmented) (ns : List FileNumber) where
   abbrev f : Entry → LinePlaces
   f x = places_of (renumbered ranks index) (data_key_of x)
 
-  -- the lines of the first files, and that of one more
-  pub looked_up_more : (d : FileNumber) (x : Entry) → x ≡ entry_at kept (get_or ns i d)
-      → lines ++ f x ∷ [] ≡ map f (entries_at kept (take j ns))
-  looked_up_more d x is =
-      (λ k. are k ++ f (is k) ∷ []) ∙ sym (one_more f kept ns i d l)
-      ∙ ap (λ (n : ℕ). map f (entries_at kept (take n ns))) (sym next)
-
-  -- the same where its file is a neighbour of the last one's
-  pub again : list_any names_one index ≡ false → IsBeside (entries_at kept ns) i
-      → lines ++ line_in lines (i - 1) ∷ [] ≡ map f (entries_at kept (take j ns))
-  again none beside =
-      let files = entries_at kept ns in
-      let before : ℕ = i - 1 in
+  -- so many more files have one line
+  many_more : (line : LinePlaces) (many i : ℕ) → i + many ≤ length ns
+      → ((k : ℕ) → i ≤ k → k < i + many → f (get_or (entries_at kept ns) k no_entry) ≡ line)
+      → map f (entries_at kept (take i ns)) ++ replicate many line ≡ map f (entries_at kept (take (i + many) ns))
+  many_more line zero i l all = append-nil (map f (entries_at kept (take i ns)))
+      ∙ ap (λ (n : ℕ). map f (entries_at kept (take n ns))) (sym (add-zero i))
+  many_more line (suc many) i l all =
       let d = some_file ns (omega (arith, l)) in
-      let line : line_in lines before ≡ f (get_or files i no_entry) =
-      ap (λ ls. line_in ls before) are
-      ∙ line_at_place f kept ns i before (omega (arith, beside.0)) (omega (arith, l))
-      ∙ neighbour_places ranks index (get_or files before no_entry) (get_or files i no_entry) none beside.1 in
-      ap (λ x. lines ++ x ∷ []) (line ∙ ap f (sym (one_file kept ns i d l)))
-      ∙ looked_up_more d (entry_at kept (get_or ns i d)) refl
+      let here : f (entry_at kept (get_or ns i d)) ≡ line =
+      ap f (one_file kept ns i d (omega (arith, l))) ∙ all i (omega arith) (omega arith) in
+      let one : map f (entries_at kept (take (suc i) ns)) ≡ map f (entries_at kept (take i ns)) ++ line ∷ [] =
+      one_more f kept ns i d (omega (arith, l)) ∙ ap (λ x. map f (entries_at kept (take i ns)) ++ x ∷ []) here in
+      let step : suc i + many ≡ i + suc many = omega arith in
+      sym (append_assoc (map f (entries_at kept (take i ns))) (line ∷ []) (replicate many line))
+      ∙ ap (λ ls. ls ++ replicate many line) (sym one)
+      ∙ many_more line many (suc i) (omega (arith, l)) (λ k a b. all k (omega arith) (omega (arith, b)))
+      ∙ ap (λ (n : ℕ). map f (entries_at kept (take n ns))) step
+
+  module _ (i : ℕ) (l : i < length ns) (lines more : List LinePlaces)
+      (are : lines ≡ map f (entries_at kept (take i ns))) where
+    -- the line of one more file
+    looked_up_more : (d : FileNumber) (x : Entry) → x ≡ entry_at kept (get_or ns i d) → more ≡ lines ++ f x ∷ []
+        → more ≡ map f (entries_at kept (take (suc i) ns))
+    looked_up_more d x is pushed = pushed ∙ (λ k. are k ++ f (is k) ∷ []) ∙ sym (one_more f kept ns i d l)
+
+    -- and that of its neighbours
+    pub stretch : (d : FileNumber) (x : Entry) → x ≡ entry_at kept (get_or ns i d) → more ≡ lines ++ f x ∷ []
+        → list_any names_one index ≡ false → (next : ℕ) → i < next → next ≤ length ns
+        → AreBeside (entries_at kept ns) i next
+        → more ++ replicate (next - i - 1) (line_in more i) ≡ map f (entries_at kept (take next ns))
+    stretch d x is pushed none next after within beside =
+        let files = entries_at kept ns in
+        let m = looked_up_more d x is pushed in
+        let many : ℕ = next - i - 1 in
+        let line : line_in more i ≡ f (get_or files i no_entry) =
+        ap (λ ls. line_in ls i) m ∙ line_at_place f kept ns (suc i) i (omega arith) l in
+        let e : suc i + many ≡ next = omega (arith, after) in
+        (λ k. m k ++ replicate many (line k))
+        ∙ many_more (f (get_or files i no_entry)) many (suc i) (omega (arith, e, within)) (λ k a b.
+        sym (neighbour_places ranks index (get_or files i no_entry) (get_or files k no_entry) none
+        (beside k (omega (arith, a)) (omega (arith, b, e)))))
+        ∙ ap (λ (n : ℕ). map f (entries_at kept (take n ns))) e
+
+    -- a line of its own
+    pub alone : (d : FileNumber) (x : Entry) → x ≡ entry_at kept (get_or ns i d) → more ≡ lines ++ f x ∷ []
+        → (next : ℕ) → next ≡ i + 1
+        → more ++ replicate (next - i - 1) (line_in more i) ≡ map f (entries_at kept (take next ns))
+    alone d x is pushed next one =
+        let many : next - i - 1 ≡ 0 = omega (arith, one) in
+        ap (λ n. more ++ replicate n (line_in more i)) many ∙ append-nil more ∙ looked_up_more d x is pushed
+        ∙ ap (λ (n : ℕ). map f (entries_at kept (take n ns))) (sym (add-one i) ∙ sym one)

@@ -17,11 +17,11 @@ by_path_moves xs = sorted_moves path_before order xs
 pub by_path_twice : (xs : List Entry) → by_path (by_path xs) ≡ by_path xs
 by_path_twice xs = sorted_twice path_before order xs
 
-not_true : (b : Bool) → not b ≡ true → b ≡ false
+pub not_true : (b : Bool) → not b ≡ true → b ≡ false
 not_true true h = cc
 not_true false h = refl
 
-tied_path : (w x : Entry) → ties path_before w x ≡ true → bytes_eq x.file.path w.file.path ≡ true
+pub tied_path : (w x : Entry) → ties path_before w x ≡ true → bytes_eq x.file.path w.file.path ≡ true
 tied_path w x h =
     let both = and_true (not (path_before w x)) (not (path_before x w)) h in
     one_path x.file.path w.file.path (not_true (path_before x w) both.1) (not_true (path_before w x) both.0)

@@ -29,7 +29,7 @@ none_apply (x ∷ xs) = ap (λ ls. no_places ∷ ls) (none_apply xs)
 
 -- ---- files at places
 
-of_file : (kept : Segmented) (ns : List FileNumber) (i : ℕ) (d : FileNumber) → i < length ns
+pub of_file : (kept : Segmented) (ns : List FileNumber) (i : ℕ) (d : FileNumber) → i < length ns
     → entry_at_place (entries_at kept ns) i ≡ entry_at kept (get_or ns i d) ∷ []
 of_file kept [] i d l = absurd (omega arith)
 of_file kept (n ∷ ns) zero d l = refl

@@ -1,6 +1,6 @@
 -- Lines that share what stands in lists.
-use Rattle.std.proofs.Common.{◌≡◌, ◌<◌, ◌∙◌, ℕ, zero, suc, List, [], ◌∷◌, ◌++◌, length, map, replicate, get_or, refl, sym, ap}
-use Rattle.std.proofs.Common.{subst, arith, length-append, Some, option_map}
+use Rattle.std.proofs.Common.{◌≡◌, ◌<◌, ◌∙◌, ℕ, zero, suc, List, [], ◌∷◌, ◌++◌, length, replicate, get_or, refl, sym, ap}
+use Rattle.std.proofs.Common.{subst, arith, Some}
 use Rattle.std.specs.List.{slice_get}
 use Rattle.std.proofs.lemmas.List.{map-append, length-map}
 use Rattle.ice_state.specs.PlaceLists.{LinePlaces, no_places, GainsLine}
@@ -80,6 +80,22 @@ pub in_more : (lists : List LinePlaces) (lines : List ℕ) (n : ℕ) → AreIn l
     → AreIn lists (lines ++ n ∷ [])
 in_more lists [] n all l = (l, tt)
 in_more lists (m ∷ ms) n all l = (all.0, in_more lists ms n all.1 l)
+
+-- so many lines more that have one list
+pub in_many_more : (lists : List LinePlaces) (lines : List ℕ) (n many : ℕ) → AreIn lists lines → n < length lists
+    → AreIn lists (lines ++ replicate many n)
+in_many_more lists [] n zero all l = tt
+in_many_more lists [] n (suc many) all l = (l, in_many_more lists [] n many all l)
+in_many_more lists (m ∷ ms) n many all l = (all.0, in_many_more lists ms n many all.1 l)
+
+one_list : (lists : List LinePlaces) (n many : ℕ) → lines_in lists (replicate many n) ≡ replicate many (line_in lists n)
+one_list lists n zero = refl
+one_list lists n (suc many) = ap (λ ls. line_in lists n ∷ ls) (one_list lists n many)
+
+pub are_many_more : (lists : List LinePlaces) (lines : List ℕ) (n many : ℕ)
+    → lines_in lists (lines ++ replicate many n) ≡ lines_in lists lines ++ replicate many (line_in lists n)
+are_many_more lists lines n many = map-append (line_in lists) lines (replicate many n)
+    ∙ ap (λ ls. lines_in lists lines ++ ls) (one_list lists n many)
 
 -- the table with one list more, and maybe one line more that has it
 pub record HasMore (lists news known : List LinePlaces) (lines of_positions of_equalities : List ℕ) : Type 0 where

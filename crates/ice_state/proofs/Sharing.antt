@@ -66,7 +66,7 @@ not_before p q (z ∷ zs) all h =
     ] in
     P (bytes_eq z.file.path q) refl h
 
-count_more : (x : Entry) (ys : List Entry) (q : List ℕ) → count_at ys q ≤ count_at (x ∷ ys) q
+pub count_more : (x : Entry) (ys : List Entry) (q : List ℕ) → count_at ys q ≤ count_at (x ∷ ys) q
 count_more x ys q = elim (bytes_eq x.file.path q) as (λ v. count_at ys q ≤ length
     (cond v (x ∷ filter (λ (w : Entry). bytes_eq w.file.path q) ys) (filter (λ (w : Entry). bytes_eq w.file.path q)
     ys))) [ true ↦ omega arith | false ↦ omega arith ]

@@ -1,6 +1,6 @@
 -- Lines of which many have the same places: a list has these once, and each line says where. No public contract cites
 -- these words.
-use Rattle.std.specs.Prelude.{ℕ, ◌<◌, ◌-◌, List, length, map, slice_index_or}
+use Rattle.std.specs.Prelude.{ℕ, ◌<◌, List, length, map, slice_index_or}
 use Rattle.std.specs.List.{AllByRecursion}
 use Rattle.ice_manifest_reading.specs.declared.entry.Entry.{Entry}
 use Rattle.ice_entries.specs.Kept.{AreNeighbours, no_entry}
@@ -18,6 +18,8 @@ lines_in lists lines = map (line_in lists) lines
 abbrev pub AreIn : List LinePlaces → List ℕ → Type 0
 AreIn lists lines = AllByRecursion (λ n. n < length lists) lines
 
--- the file at a place is a neighbour of the one before it
-abbrev pub IsBeside : List Entry → ℕ → Type 0
-IsBeside files i = (0 < i) × AreNeighbours (slice_index_or files (i - 1) no_entry) (slice_index_or files i no_entry)
+-- the files from one place to another, the first of them aside, are neighbours of that one
+abbrev pub AreBeside : List Entry → ℕ → ℕ → Type 0
+AreBeside files first next =
+    (i : ℕ) → first < i → i < next →
+    AreNeighbours (slice_index_or files first no_entry) (slice_index_or files i no_entry)

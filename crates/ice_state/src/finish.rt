@@ -1,8 +1,9 @@
 //! The plan of a content, or its first fault.
 
-ghost use Rattle.std.specs.Prelude.{◌≡◌, ◌<◌, ◌↔◌, [], ◌++◌, length, map, IfOk, IsTrue, OnOk, MatchResult, filter};
-ghost use Rattle.std.specs.Prelude.{option_map, IfSome};
+ghost use Rattle.std.specs.Prelude.{◌≡◌, ◌<◌, ◌≤◌, [], ◌++◌, length, map, IfOk, OnOk, MatchResult, filter};
+ghost use Rattle.std.specs.Prelude.{option_map, IfSome, List, ℕ};
 ghost use Rattle.std.specs.List.{enumerate_from};
+ghost use Rattle.std.specs.List.Sorted.{IsPermutation};
 ghost use Rattle.std.specs.Option.{option_copied};
 ghost use Rattle.contract_words.specs.Outcome.{Gives};
 ghost use Rattle.ice_deletes.specs.Unions.{renumbered, AreBelow};
@@ -10,20 +11,23 @@ ghost use Rattle.ice_entries.specs.Kept.{entries_at as entries_in};
 ghost use Rattle.ice_value.specs.declared.file_content.FileContent.TheVariants.{Data};
 ghost use Rattle.ice_state.specs.Applying.{data_key_of, delete_key_of};
 ghost use Rattle.ice_state.specs.KeptDeletes.{IsIndexed, IsIndexOf, IsState};
-ghost use Rattle.ice_state.specs.Lines.{AreWithin, entries_at as entries_at_places, lines_of, IsPlanned};
+ghost use Rattle.ice_state.specs.Lines.{lines_of, IsPlanned};
 ghost use Rattle.ice_state.specs.Named.{entry_named, IsNamed, AreNamed, entries_named};
-ghost use Rattle.ice_state.specs.Orders.{runs_in, IsOrder};
-ghost use Rattle.ice_state.specs.Outcomes.{missing, bad, twice, by_path, plan_over, outcome_of};
+ghost use Rattle.ice_state.specs.Orders.{IsOrder};
+ghost use Rattle.ice_state.specs.Outcomes.{missing, bad, twice, by_path, kept_in, plan_over, outcome_of};
+ghost use Rattle.ice_state.specs.Outcomes.{entries_in as entries_given};
 ghost use Rattle.ice_state.specs.Parts.{fault_of, Stops, holds_deletes, places_of};
 ghost use Rattle.ice_state.specs.Pruning.{holds};
 ghost use Rattle.ice_state.specs.Segments.{AreKept, entries_at, segment_at, Segmented};
-ghost use Rattle.ice_state.specs.SharedPlaces.{IsBeside};
-ghost use Rattle.ice_state.specs.Slots.{contents, given, HaveNumbers, IsIn};
+ghost use Rattle.ice_state.specs.SharedPlaces.{AreBeside};
+ghost use Rattle.ice_state.specs.Shares.{count_at};
+ghost use Rattle.ice_state.specs.Slots.{contents, given, HasNumbers, HaveNumbers, IsIn};
 
 use crate::deletes::push_places;
 use crate::fault::FinishFault;
+use crate::file_places::places_among;
 use crate::indexed::IndexedDeletes;
-use crate::ordered::{Ordered, order_of_files};
+use crate::ordered::{Ordered, order_of_files, rows_by_first_path};
 use crate::plan::NumberedPlan;
 use crate::ranks::ranks;
 use crate::segments::{FileNumber, Segments};
@@ -133,7 +137,26 @@ fn count(slots: &[Option<Taken>]) -> usize {
     count
 }
 
-/// The kept entries, row by row, those of each row by path: what is left is to merge them.
+/// Puts what a row gave last.
+fn push_row<'a>(
+    found: &mut Vec<Named<'a>>,
+    entries: &'a Segments,
+    slot: &Option<Taken>,
+) -> Result<(), AllocError>
+    requires { IfSome slot.now (HasNumbers entries.now) }
+    ensures named { AreNamed entries.now found.old.items → AreNamed entries.now found.new.items }
+    ensures pushed { OnOk result (entries_named entries.now found.new.items
+        ≡ entries_named entries.now found.old.items
+        ++ by_path (entries_given (option_map (given entries.now) slot.now))) }
+{
+    match slot {
+        Some(Taken::Good(ordered)) => push_named(found, entries, ordered),
+        _ => Ok(()),
+    }
+}
+
+/// The kept entries, row by row, those of each row by path, and the rows by the first path of each: what is left is to
+/// merge them.
 fn gathered<'a>(
     alloc: Global,
     entries: &'a Segments,
@@ -141,14 +164,13 @@ fn gathered<'a>(
 ) -> Result<Vec<Named<'a>>, AllocError>
     requires { HaveNumbers entries.now slots.now }
     ensures named { IfOk result (λ found. AreNamed entries.now found.items) }
-    ensures all { IfOk result (λ found. entries_named entries.now found.items
-        ≡ runs_in (contents entries.now slots.now)) }
+    ensures all { IfOk result (λ found.
+        IsPermutation (kept_in (contents entries.now slots.now)) (entries_named entries.now found.items)) }
 {
+    let rows = rows_by_first_path(alloc, entries, slots)?;
     let mut found = Vec::with_capacity(alloc, count(slots))?;
-    'slots: for slot in slots {
-        if let Some(Taken::Good(ordered)) = slot {
-            push_named(&mut found, entries, ordered)?;
-        }
+    'rows: for row in rows.as_slice() {
+        push_row(&mut found, entries, &slots[*row as usize])?;
     }
     Ok(found)
 }
@@ -163,25 +185,41 @@ fn sort_by_path(named: &mut Vec<Named<'_>>) -> Result<(), AllocError>
     Ok(())
 }
 
-/// Those of the entries whose files hold data: all but so many.
-fn data_files(
+/// The files of entries, by what they hold.
+#[derive(Debug, Drop)]
+struct FilesByKind {
+    data_files: Vec<FileNumber>,
+    delete_files: Vec<FileNumber>,
+}
+
+/// The files of entries, of which so many hold deletes.
+fn files_by_kind(
     alloc: Global,
     entries: &Segments,
     named: &[Named<'_>],
-    others: usize,
-) -> Result<Vec<FileNumber>, AllocError>
+    deletes: usize,
+) -> Result<FilesByKind, AllocError>
     requires { AreNamed entries.now named.now }
-    ensures kept { IfOk result (λ found. AreKept entries.now found.items) }
-    ensures all { IfOk result (λ found. entries_at entries.now found.items
+    ensures kept { IfOk result (λ files. AreKept entries.now files.data_files.items) }
+    ensures kept_deletes { IfOk result (λ files. AreKept entries.now files.delete_files.items) }
+    ensures all { IfOk result (λ files. entries_at entries.now files.data_files.items
         ≡ filter (holds Data) (entries_named entries.now named.now)) }
+    ensures all_deletes { IfOk result (λ files. entries_at entries.now files.delete_files.items
+        ≡ filter holds_deletes (entries_named entries.now named.now)) }
 {
-    let mut found = Vec::with_capacity(alloc, named.len().saturating_sub(others))?;
+    let mut data_files = Vec::with_capacity(alloc, named.len().saturating_sub(deletes))?;
+    let mut delete_files = Vec::with_capacity(alloc, deletes)?;
     'named: for x in named {
         if entries.content(x.number) == FileContent::Data {
-            found.push(x.number)?;
+            data_files.push(x.number)?;
+        } else {
+            delete_files.push(x.number)?;
         }
     }
-    Ok(found)
+    Ok(FilesByKind {
+        data_files,
+        delete_files,
+    })
 }
 
 /// Those of the entries whose files hold deletes.
@@ -204,24 +242,22 @@ fn delete_files(
     Ok(found)
 }
 
-/// The files at these places.
-fn files_at(
+/// The order of files: read off the same ones by path where they are found among them, else they are sorted.
+fn order_among(
     alloc: Global,
     entries: &Segments,
     files: &[FileNumber],
-    order: &[u32],
-) -> Result<Vec<FileNumber>, AllocError>
+    sorted: &[FileNumber],
+) -> Result<Items<u32>, AllocError>
     requires files { AreKept entries.now files.now }
-    requires places { AreWithin (length files.now) order.now }
-    ensures kept { IfOk result (λ found. AreKept entries.now found.items) }
-    ensures all { IfOk result (λ found. entries_at entries.now found.items
-        ≡ entries_at_places (entries_at entries.now files.now) order.now) }
+    requires sorted { entries_at entries.now sorted.now ≡ by_path (entries_at entries.now files.now) }
+    requires once { (path : List ℕ) → count_at (entries_at entries.now files.now) path ≤ 1 }
+    ensures { IfOk result (IsOrder (entries_at entries.now files.now)) }
 {
-    let mut found = Vec::with_capacity(alloc, order.len())?;
-    'order: for place in order {
-        found.push(files[*place as usize])?;
+    match places_among(alloc, files, sorted)? {
+        Some(order) => Ok(order),
+        None => order_of_files(alloc, entries, files),
     }
-    Ok(found)
 }
 
 /// The places of the delete files that apply, for each of the data files: where they stand in the order. Without delete
@@ -264,23 +300,37 @@ fn looked_up(
     let mut finder = Finder::new(index);
     // Where none names a data file, the same apply to neighbours.
     let is_shared = !index.names_files();
-    'files: for i in 0..files.len() {
-        if is_shared && is_beside(entries, files, i) {
-            places.push_again(i - 1)?;
+    let mut first = 0;
+    'files: while first < files.len() {
+        push_places(
+            &mut places,
+            &mut finder,
+            ranks,
+            &entries.entry(files[first]),
+        )?;
+        let next = if is_shared {
+            end_of_neighbours(entries, files, first)
         } else {
-            push_places(&mut places, &mut finder, ranks, &entries.entry(files[i]))?;
-        }
+            first + 1
+        };
+        places.push_again(first, next - first - 1)?;
+        first = next;
     }
     Ok(places)
 }
 
-/// Whether a file is a neighbour of the one before it.
-fn is_beside(entries: &Segments, files: &[FileNumber], i: usize) -> bool
+/// Where the files end that follow a file and are neighbours of it.
+fn end_of_neighbours(entries: &Segments, files: &[FileNumber], first: usize) -> usize
     requires files { AreKept entries.now files.now }
-    requires place { i < length files.now }
-    ensures { IsTrue result ↔ IsBeside (entries_at entries.now files.now) i }
+    requires place { first < length files.now }
+    ensures bounds { (first < result) × (result ≤ length files.now) }
+    ensures neighbours { AreBeside (entries_at entries.now files.now) first result }
 {
-    i > 0 && entries.are_neighbours(files[i - 1], files[i])
+    let mut end = first + 1;
+    'files: while end < files.len() && entries.are_neighbours(files[first], files[end]) {
+        end += 1;
+    }
+    end
 }
 
 /// A line for each data file, with the delete files that apply by their index.
@@ -298,14 +348,14 @@ fn planned_by(
     ensures lines { IfOk result (λ plan. lines_of entries.now plan
         ≡ plan_over (entries_named entries.now named.entry.items) (entries_named entries.now named.entry.items)) }
 {
-    let files = data_files(alloc, entries, &named, deletes.files.len())?;
+    let files = files_by_kind(alloc, entries, &named, deletes.files.len())?;
     // The lines need its room.
     drop(named);
-    let order = order_of_files(alloc, entries, &deletes.files)?;
-    let places = lines(alloc, entries, &files, deletes, order.as_slice())?;
+    let order = order_among(alloc, entries, &deletes.files, &files.delete_files)?;
+    let places = lines(alloc, entries, &files.data_files, deletes, order.as_slice())?;
     Ok(NumberedPlan {
-        files,
-        deletes: files_at(alloc, entries, &deletes.files, order.as_slice())?,
+        files: files.data_files,
+        deletes: files.delete_files,
         places,
     })
 }

@@ -3,6 +3,7 @@
 
 mod deletes;
 mod fault;
+mod file_places;
 mod finish;
 mod indexed;
 mod keep;

@@ -1,6 +1,6 @@
 //! The kept entries of a manifest, by position and by path.
 
-ghost use Rattle.std.specs.Prelude.{◌≡◌, IfOk, List, OnOk, length, map};
+ghost use Rattle.std.specs.Prelude.{◌≡◌, IfOk, IfSome, List, OnOk, length, map};
 ghost use Rattle.std.specs.List.{range_with_len};
 ghost use Rattle.std.specs.List.Sorted.{IsPermutation};
 ghost use Rattle.ice_entries.specs.Kept.{AreKept, entries_at};
@@ -9,8 +9,10 @@ ghost use Rattle.ice_state.specs.Orders.{AreOrdered, IsOrder};
 ghost use Rattle.ice_state.specs.Outcomes.{by_path};
 ghost use Rattle.ice_state.specs.Placed.{AreEachPlaced, ArePlaced, entries_placed, place_of};
 ghost use Rattle.ice_state.specs.Segments.{AreKept as AreKeptFiles, entries_at as entries_of};
+ghost use Rattle.ice_state.specs.Slots.{HasNumbers, HaveNumbers};
 
 use crate::segments::{FileNumber, Segments};
+use crate::taken::Taken;
 use contract_words::Items;
 use ice_entries::{Entries, EntryNumber};
 use std::alloc::{AllocError, Global};
@@ -127,6 +129,56 @@ fn paths_of_files<'a>(
         })?;
     }
     Ok(placed)
+}
+
+/// The places of slots, in the order of the first paths that their rows gave. A row without entries has the least.
+pub fn rows_by_first_path(
+    alloc: Global,
+    entries: &Segments,
+    slots: &[Option<Taken>],
+) -> Result<Items<u32>, AllocError>
+    requires { HaveNumbers entries.now slots.now }
+    ensures { IfOk result (λ rows. IsPermutation (range_with_len 0 (length slots.now)) rows) }
+{
+    let mut placed = first_paths(alloc, entries, slots)?;
+    sort_by_path(&mut placed)?;
+    places_of(alloc, &placed)
+}
+
+/// The first path of each row, beside the row's place.
+fn first_paths<'a>(
+    alloc: Global,
+    entries: &'a Segments,
+    slots: &[Option<Taken>],
+) -> Result<Vec<Placed<'a>>, AllocError>
+    requires { HaveNumbers entries.now slots.now }
+    ensures { IfOk result (λ placed. map place_of placed.items ≡ range_with_len 0 (length slots.now)) }
+{
+    let mut placed = Vec::with_capacity(alloc, slots.len())?;
+    'slots: for i in 0..slots.len() {
+        let Ok(place) = u32::try_from(i) else {
+            return Err(AllocError);
+        };
+        placed.push(Placed {
+            path: first_path(entries, &slots[i]),
+            place,
+        })?;
+    }
+    Ok(placed)
+}
+
+/// The least path of what a row gave; an empty one where it gave none.
+fn first_path<'a>(entries: &'a Segments, slot: &Option<Taken>) -> &'a [u8]
+    requires { IfSome slot.now (HasNumbers entries.now) }
+{
+    let Some(Taken::Good(ordered)) = slot else {
+        return &[];
+    };
+    let Some(place) = ordered.order.as_slice().first() else {
+        return &[];
+    };
+    let number = ordered.numbers.as_slice()[*place as usize];
+    entries.segment(ordered.segment).path(number)
 }
 
 /// The places of all entries, in the order of the paths.

@@ -10,16 +10,30 @@ use ice_entries::{Entries, EntryNumber, Room};
 use ice_manifest_reading::{EntryView, LentEntry};
 use ice_value::{FileContent, is_same_tuple};
 use std::alloc::{AllocError, Global};
+use std::cmp::Ordering;
 use std::marker::Model;
 
 /// The number of an entry that is kept: that of its segment, and its own there.
-#[derive(Clone, Copy, Debug)]
+#[derive(Clone, Copy, Debug, PartialEq)]
 pub(crate) struct FileNumber {
     pub(crate) segment: u32,
     pub(crate) number: EntryNumber,
 }
 
 impl FileNumber {
+    /// Its segment, whether it is a clash there, and which of these it is.
+    fn key(&self) -> (u32, bool, u32) {
+        match self.number {
+            EntryNumber::Record(number) => (self.segment, false, number),
+            EntryNumber::Clash(number) => (self.segment, true, number),
+        }
+    }
+
+    /// How it stands to another where numbers rise.
+    pub(crate) fn order(&self, other: &FileNumber) -> Ordering {
+        self.key().cmp(&other.key())
+    }
+
     /// The number of the same entry where so many segments stand before its own.
     pub(crate) fn behind(self, before: u32) -> FileNumber
         ensures { (firsts kept : Segmented) → AreBefore before firsts kept → IsKept kept self →

@@ -1,6 +1,6 @@
 //! The places of the delete files of a plan's lines, where those that lines share stand once.
 
-ghost use Rattle.std.specs.Prelude.{◌≡◌, ◌<◌, ◌^◌, ◌++◌, ◌∷◌, [], length, IfOk, OnOk, OnErr, Some, slice_get};
+ghost use Rattle.std.specs.Prelude.{◌≡◌, ◌<◌, ◌^◌, ◌++◌, [], length, IfOk, OnOk, OnErr, Some, slice_get};
 ghost use Rattle.std.specs.Prelude.{option_map, replicate};
 ghost use Rattle.ice_state.specs.PlaceLists.{no_places, places_at, AreRanked, GainsLine};
 ghost use Rattle.ice_state.specs.SharedPlaces.{line_in};
@@ -108,14 +108,18 @@ impl SharedPlaces {
         Ok(())
     }
 
-    /// Puts a line last that has the places of the line `i`. A refusal, for want of memory, leaves the lines as they were.
-    pub(crate) fn push_again(&mut self, i: usize) -> Result<(), AllocError>
+    /// Puts so many lines last that have the places of the line `i`. A refusal, for want of memory, leaves the lines as
+    /// they were.
+    pub(crate) fn push_again(&mut self, i: usize, many: usize) -> Result<(), AllocError>
         requires { i < length self.old }
-        ensures ok { OnOk result (self.new ≡ self.old ++ line_in self.old i ∷ []) }
+        ensures ok { OnOk result (self.new ≡ self.old ++ replicate many (line_in self.old i)) }
         ensures err { OnErr result (self.new ≡ self.old) }
     {
         let list = self.lines[i];
-        self.lines.push(list)?;
+        let Some(lines) = self.lines.len().checked_add(many) else {
+            return Err(AllocError);
+        };
+        self.lines.resize(lines, list)?;
         Ok(())
     }
 

@@ -24,4 +24,4 @@ pub use ice_print::{
 pub use reading::{read_file, read_rows};
 pub use reporting::report;
 pub use request::{CommitRequest, Request};
-pub use write::write_plan;
+pub use write::{write_plan, write_plan_by_workers};

@@ -1,7 +1,7 @@
-use Rattle.std.proofs.Common.{◌≡◌, ◌∙◌, List, ℕ, ap, replicate, subst, sym}
-use Rattle.ice_state.specs.PlaceLists.{LinePlaces, no_places}
+use Rattle.std.proofs.Common.{◌∙◌, List, ℕ, ap, replicate, subst, sym}
+use Rattle.ice_state.specs.PlaceLists.{LinePlaces}
 use Rattle.ice_state.specs.SharedPlaces.{AreIn, lines_in}
-use Rattle.ice_state.proofs.SharedLines.{none, none_are, none_in}
+use Rattle.ice_state.proofs.SharedLines.{none_are, none_in}
 use Rattle.ice_state.proofs.shared_places.SharedPlaces.without_places.Goals as goal
 
 pub invariant_of-result : goal.invariant_of-result
