@@ -1,5 +1,5 @@
 -- The maps of columns that were found, and what was read of them.
-use Rattle.std.specs.Prelude.{◌≡◌, Option, Some, None}
+use Rattle.std.specs.Prelude.{◌≡◌, Some}
 use Rattle.avro_schema.specs.View.{tree}
 use Rattle.avro_file.specs.View.{view}
 use Rattle.avro_file.specs.Picking.{Picked}
@@ -12,10 +12,9 @@ use Rattle.ice_manifest_found.specs.declared.maps.ReadMaps.{ReadMaps}
 use Rattle.ice_manifest_found.specs.Met.{MapsMet}
 
 -- what was read of a map, or is left where it lies, is what was met
-abbrev pub IsReadAs : Option ReadMap → Picked → Type 0
-IsReadAs (Some (Pairs schema datum)) met = Some (tree schema.now, view datum) ≡ there met
-IsReadAs (Some (InPlace found)) met = IsMet (Some found) met
-IsReadAs None met = there met ≡ None
+abbrev pub IsReadAs : ReadMap → Picked → Type 0
+IsReadAs (Pairs schema datum) met = Some (tree schema.now, view datum) ≡ there met
+IsReadAs (InPlace found) met = IsMet found met
 
 -- each map that was found is what was met
 pub record AreMet (found : FoundMaps) (met : MapsMet) : Type 0 where

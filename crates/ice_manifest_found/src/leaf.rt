@@ -55,7 +55,7 @@ fn bytes_at<'a>(schema: &Schema, bytes: &'a [u8]) -> Option<&'a [u8]>
 {
     match schema {
         Schema::Bytes(_) => match bytes_of(bytes) {
-            Ok((run, _)) => Some(run),
+            Ok((lent, _)) => Some(lent),
             Err(_) => None,
         },
         _ => None,

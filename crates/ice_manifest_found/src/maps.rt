@@ -34,22 +34,22 @@ pub struct FoundMaps<'s, 'd> {
     pub upper_bounds: Option<Found<'s, 'd>>,
 }
 
-/// A map of a data file's columns.
+/// A map of a data file's columns, in the way in which it is read.
 #[derive(Debug, Drop)]
 enum ReadMap<'s, 'd> {
     /// Its type, and one list of its pairs.
     Pairs(&'s Schema, Datum<'d>),
-    /// Its pairs are read one by one where it lies.
-    InPlace(Found<'s, 'd>),
+    /// Its pairs are read one by one where it lies, if it was found.
+    InPlace(Option<Found<'s, 'd>>),
 }
 
 /// The maps of a data file's columns, which were read from the file. It lends the file's bytes.
 #[derive(Debug, Drop)]
 pub struct ReadMaps<'s, 'd> {
-    value_counts: Option<ReadMap<'s, 'd>>,
-    null_counts: Option<ReadMap<'s, 'd>>,
-    lower_bounds: Option<ReadMap<'s, 'd>>,
-    upper_bounds: Option<ReadMap<'s, 'd>>,
+    value_counts: ReadMap<'s, 'd>,
+    null_counts: ReadMap<'s, 'd>,
+    lower_bounds: ReadMap<'s, 'd>,
+    upper_bounds: ReadMap<'s, 'd>,
 }
 
 /// Whether the map is an array of pairs of an int, which is their key, and of a long or bytes, which is what they say.
@@ -74,56 +74,51 @@ fn read_map<'s, 'd>(
     alloc: Global,
     found: Option<Found<'s, 'd>>,
     map: ColumnMap,
-) -> Result<Option<ReadMap<'s, 'd>>, AllocError>
+) -> Result<ReadMap<'s, 'd>, AllocError>
     ensures { (met : Picked) → IsMet found.entry met → IfOk result (λ read. IsReadAs read met) }
 {
-    let Some(found) = found else {
-        return Ok(None);
-    };
-    if lies_as_pairs(found.schema(), map) {
-        let pairs = found.datum(alloc)?;
-        return Ok(Some(ReadMap::Pairs(found.schema(), pairs)));
+    match found {
+        Some(found) if lies_as_pairs(found.schema(), map) => {
+            let pairs = found.datum(alloc)?;
+            Ok(ReadMap::Pairs(found.schema(), pairs))
+        }
+        found => Ok(ReadMap::InPlace(found)),
     }
-    Ok(Some(ReadMap::InPlace(found)))
 }
 
 /// The counts that a map says, lent from it; none where there is no map.
-#[tactic(auto, unfolding(ice_manifest_fields::specs::Each::each))]
 fn counts<'a>(
     alloc: Global,
-    read: &'a Option<ReadMap<'_, '_>>,
+    read: &'a ReadMap<'_, '_>,
     map: ColumnMap,
 ) -> Result<ColumnCounts<'a>, ManifestFault>
     ensures { (met : Picked) → IsReadAs read.now met →
         Gives ManifestFault.Memory (λ x. x) result (told in_manifest (counts_in map (there met))) }
 {
     match read {
-        Some(ReadMap::Pairs(schema, datum)) => counts_of_map(alloc, schema, datum, map),
-        Some(ReadMap::InPlace(found)) => {
-            let counts = counts_in_place(alloc, Some(*found), map)?;
+        ReadMap::Pairs(schema, datum) => counts_of_map(alloc, schema, datum, map),
+        ReadMap::InPlace(found) => {
+            let counts = counts_in_place(alloc, *found, map)?;
             Ok(ColumnCounts::made(counts))
         }
-        None => Ok(ColumnCounts::none(alloc)),
     }
 }
 
 /// The bounds that a map says, lent from it; none where there is no map.
-#[tactic(auto, unfolding(ice_manifest_fields::specs::Each::each))]
 fn bounds<'a, 'd>(
     alloc: Global,
-    read: &'a Option<ReadMap<'_, 'd>>,
+    read: &'a ReadMap<'_, 'd>,
     map: ColumnMap,
 ) -> Result<ColumnBounds<'a, 'd>, ManifestFault>
     ensures { (met : Picked) → IsReadAs read.now met →
         Gives ManifestFault.Memory (λ x. x) result (told in_manifest (bounds_in map (there met))) }
 {
     match read {
-        Some(ReadMap::Pairs(schema, datum)) => bounds_of_map(alloc, schema, datum, map),
-        Some(ReadMap::InPlace(found)) => {
-            let bounds = bounds_in_place(alloc, Some(*found), map)?;
+        ReadMap::Pairs(schema, datum) => bounds_of_map(alloc, schema, datum, map),
+        ReadMap::InPlace(found) => {
+            let bounds = bounds_in_place(alloc, *found, map)?;
             Ok(ColumnBounds::made(bounds))
         }
-        None => Ok(ColumnBounds::none(alloc)),
     }
 }
 

@@ -17,7 +17,7 @@ returns-in-Ok c = λ v is.
     let f : Found = record { schema = c.args.schema; bytes = c.args.bytes } in
     let met : Picked = present (tree c.args.schema.now, v) in
     let m : IsMet (Some f) met = (v, is, refl) in
-    bytes_met f met c.args.bytes.now (c.in-Ok.run.now, c.in-Ok.field-0-1.now) c.in-Bytes.field-0
+    bytes_met f met c.args.bytes.now (c.in-Ok.lent.now, c.in-Ok.field-0-1.now) c.in-Bytes.field-0
     (ap tree c.in-Bytes.is ∙ tree-Bytes c.in-Bytes.field-0) refl c.in-Ok.ensures m
 
 pub returns-in-Err : goal.returns-in-Err
