@@ -37,7 +37,6 @@ fn long_in(fields: &[Field], bytes: &[u8], id: i32) -> Result<i64, FieldFault>
 }
 
 /// A whole number of 32 bits at a field of a record.
-#[tactic(auto, unfolding(ice_manifest_fields::specs::Fields::int_at))]
 fn int_in(fields: &[Field], bytes: &[u8], id: i32) -> Result<i32, FieldFault>
     ensures { (v : Value) → RecordStands fields.entry bytes.entry v →
         result ≡ int_at id (structure (fields_seen fields.now), v) }
@@ -46,7 +45,6 @@ fn int_in(fields: &[Field], bytes: &[u8], id: i32) -> Result<i32, FieldFault>
 }
 
 /// The count that a pair says.
-#[tactic(auto, unfolding(ice_manifest_fields::specs::Maps::count_in))]
 fn count_in(fields: &[Field], bytes: &[u8], map: ColumnMap) -> Result<(i32, i64), FieldFault>
     ensures { (v : Value) → RecordStands fields.entry bytes.entry v →
         result_map count_said result ≡ count_within map (structure (fields_seen fields.now), v) }
@@ -58,7 +56,6 @@ fn count_in(fields: &[Field], bytes: &[u8], map: ColumnMap) -> Result<(i32, i64)
 }
 
 /// The count that an item of a map says.
-#[tactic(auto, unfolding(ice_manifest_fields::specs::Maps::count_of))]
 fn count_of(item: &Standing, map: ColumnMap) -> Result<(i32, i64), FieldFault>
     ensures { (v : Value) → Stands item.now v →
         result_map count_said result ≡ count_of_item map (tree item.now.schema.now, v) }
@@ -102,7 +99,6 @@ pub(crate) fn counts_in_place(
 }
 
 /// The bound that a pair says.
-#[tactic(auto, unfolding(ice_manifest_fields::specs::Maps::bound_in))]
 fn bound_in<'d>(
     fields: &[Field],
     bytes: &'d [u8],
@@ -119,7 +115,6 @@ fn bound_in<'d>(
 }
 
 /// The bound that an item of a map says.
-#[tactic(auto, unfolding(ice_manifest_fields::specs::Maps::bound_of))]
 fn bound_of<'d>(item: &Standing<'_, 'd>, map: ColumnMap) -> Result<(i32, &'d [u8]), FieldFault>
     ensures { (v : Value) → Stands item.now v →
         result_map bound_said result ≡ bound_of_item map (tree item.now.schema.now, v) }

@@ -1,8 +1,8 @@
-use Rattle.std.proofs.Common.{◌≡◌, Option, None, sym, ap, ◌∙◌}
+use Rattle.std.proofs.Common.{◌≡◌, ℤ, Option, None, to_z, of_z, w32, rules, sym, ap, ◌∙◌}
+use Rattle.std.proofs.lemmas.Int.{to_z-of_z}
 use Rattle.contract_words.specs.Outcome.{◌>>=◌}
-use Rattle.avro_schema.specs.View.{tree}
-use Rattle.avro_file.specs.Picking.{Typed, pick}
-use Rattle.ice_manifest_fields.specs.Fields.{asked, there, record_of}
+use Rattle.avro_file.specs.Picking.{Typed}
+use Rattle.ice_manifest_fields.specs.Fields.{asked}
 use Rattle.ice_manifest_fields.specs.Maps.{bound_in, bound_of}
 use Rattle.ice_manifest_found.proofs.pairs.bound_of.Goals as goal
 
@@ -15,4 +15,5 @@ returns-in-Some c = λ v is.
 pub returns-in-None : goal.returns-in-None
 unfolding bound_of
 returns-in-None c = λ v is.
-    sym (ap (λ (x : Option Typed). asked c.args.map.key x >>= bound_in c.args.map) (c.in-None.ensures v is))
+    let key : to_z w32 (of_z w32 c.args.map.key) ≡ c.args.map.key = to_z-of_z w32 c.args.map.key (search rules) in
+    rw key (sym (ap (λ (x : Option Typed). asked c.args.map.key x >>= bound_in c.args.map) (c.in-None.ensures v is)))
