@@ -106,6 +106,12 @@ leaf_taken {A} make left r v q e =
     let same = ok_is (make a.0.0, record { bytes = a.0.1; left = left }) (v, q) a.2 in
     (a.0, a.1, sym (ap (λ (y : Value × Position). y.0) same))
 
+pub boolean_stands : (bytes : List ℕ) (v : Value) → StandsAt boolean bytes v
+    → (x : Bool × List ℕ) × (boolean_at bytes ≡ Ok x) × (v ≡ truth x.0)
+unfolding datum_at
+boolean_stands bytes v stands =
+    let read = stood boolean bytes v stands in leaf_taken truth max_items (boolean_at bytes) v read.0 read.1
+
 pub int_stands : (bytes : List ℕ) (v : Value) → StandsAt int bytes v
     → (x : ℤ × List ℕ) × (int_at bytes ≡ Ok x) × (v ≡ small x.0)
 unfolding datum_at

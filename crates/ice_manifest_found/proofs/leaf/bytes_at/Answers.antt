@@ -1,5 +1,4 @@
 use Rattle.std.proofs.Common.{◌≡◌, ◌∙◌, false, Some, None, refl, ap}
-use Rattle.avro_schema.specs.Tree.{octets}
 use Rattle.avro_schema.specs.View.{tree}
 use Rattle.avro_file.specs.Picking.{Picked, present}
 use Rattle.avro_file.proofs.Leaves.{tree-Bytes}

@@ -5,7 +5,7 @@ use Rattle.avro_file.specs.Picking.{Typed}
 use Rattle.ice_manifest_fields.specs.declared.fault.ManifestFault.TheVariants.{Memory}
 use Rattle.ice_manifest_fields.specs.Naming.{in_manifest, told}
 use Rattle.ice_manifest_found.specs.declared.maps.ReadMap.{ReadMap}
-use Rattle.ice_manifest_found.specs.declared.maps.ReadMap.TheVariants.{Pairs, InPlace}
+use Rattle.ice_manifest_found.specs.declared.maps.ReadMap.TheVariants.{Pairs}
 use Rattle.ice_manifest_found.specs.Met.{counts_in}
 use Rattle.ice_manifest_found.specs.MapsRead.{IsReadAs}
 use Rattle.ice_manifest_found.proofs.maps.counts.Goals as goal

@@ -1,4 +1,4 @@
-use Rattle.std.proofs.Common.{◌≡◌, ℤ, Option, None, to_z, of_z, w32, rules, sym, ap, ◌∙◌}
+use Rattle.std.proofs.Common.{◌≡◌, Option, to_z, of_z, w32, rules, sym, ap, ◌∙◌}
 use Rattle.std.proofs.lemmas.Int.{to_z-of_z}
 use Rattle.contract_words.specs.Outcome.{◌>>=◌}
 use Rattle.avro_file.specs.Picking.{Typed}

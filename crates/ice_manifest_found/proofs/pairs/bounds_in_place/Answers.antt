@@ -1,4 +1,4 @@
-use Rattle.std.proofs.Common.{◌≡◌, [], ℤ, List, Vec, Global, Bor, ℕ, sym, subst, refl}
+use Rattle.std.proofs.Common.{◌≡◌, [], List, sym, subst, refl}
 use Rattle.avro_file.specs.Picking.{Typed}
 use Rattle.contract_words.specs.Outcome.{Gives}
 use Rattle.ice_value.specs.Pairs.{bounds_said}
