@@ -8,3 +8,4 @@ pub mod SoundMaps
 pub mod Within
 pub mod Coming
 pub mod PairsSaid
+pub mod ColumnsSaid

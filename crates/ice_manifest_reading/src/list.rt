@@ -13,7 +13,8 @@ ghost use Rattle.avro_picked.specs.Finding.{layout_tree, ways_of, is_structure, 
 ghost use Rattle.avro_picked.specs.Placing.{IsLayout};
 ghost use Rattle.ice_manifest_fields.specs.Each.{each};
 ghost use Rattle.ice_manifest_fields.specs.Fields.{at, there, items_as, items_of as items_said};
-ghost use Rattle.ice_manifest_fields.specs.Fields.{optional_truth as truth_if_there, optional_binary as binary_if_there};
+ghost use Rattle.ice_manifest_fields.specs.Fields.{truth_at as truth_must_be, optional_truth as truth_if_there};
+ghost use Rattle.ice_manifest_fields.specs.Fields.{optional_binary as binary_if_there};
 ghost use Rattle.ice_manifest_fields.specs.Naming.{in_list, told};
 ghost use Rattle.ice_manifest_fields.specs.Schemas.{fields_in};
 ghost use Rattle.ice_manifest_fields.specs.Seen.{fields_seen};
@@ -81,6 +82,17 @@ fn truth_in(fields: &[Field], bytes: &[u8], id: i32) -> Option<bool>
     truth_there(field_of(fields, bytes, id))
 }
 
+/// A truth value at a field of a record.
+fn truth_asked(fields: &[Field], bytes: &[u8], id: i32) -> Result<bool, FieldFault>
+    ensures { (v : Value) → RecordStands fields.entry bytes.entry v →
+        result ≡ truth_must_be id (structure (fields_seen fields.now), v) }
+{
+    match truth_in(fields, bytes, id) {
+        Some(holds) => Ok(holds),
+        None => Err(FieldFault::Missing(id)),
+    }
+}
+
 /// A copy of bytes, where there are any.
 fn copied(alloc: Global, lent: Option<&[u8]>) -> Result<Option<Items<u8>>, AllocError>
     ensures { IfOk result (λ copy. copy ≡ option_copied lent.entry) }
@@ -109,11 +121,8 @@ fn summary_in(alloc: Global, fields: &[Field], bytes: &[u8]) -> Result<Summary, 
     ensures { (v : Value) → RecordStands fields.entry bytes.entry v → Gives ListFault.Memory (λ x. x) result
         (told in_list (summary_said (structure (fields_seen fields.now), v))) }
 {
-    let Some(contains_null) = truth_in(fields, bytes, 509) else {
-        return Err(ListFault::MissingField(509));
-    };
     Ok(Summary {
-        contains_null,
+        contains_null: truth_asked(fields, bytes, 509)?,
         contains_nan: truth_in(fields, bytes, 518),
         lower: binary_in(alloc, fields, bytes, 510)?,
         upper: binary_in(alloc, fields, bytes, 511)?,
