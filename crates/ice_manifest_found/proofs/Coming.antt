@@ -19,7 +19,8 @@ use Rattle.avro_file.specs.Picking.{Typed}
 use Rattle.ice_manifest_fields.specs.declared.fault.FieldFault.{FieldFault}
 use Rattle.ice_manifest_fields.specs.Each.{each}
 use Rattle.ice_manifest_fields.specs.Fields.{items_as}
-use Rattle.ice_manifest_fields.proofs.Joining.{joined, item_here, item_stops, no_item}
+use Rattle.ice_manifest_fields.specs.Naming.{Naming, told}
+use Rattle.ice_manifest_fields.proofs.Joining.{joined, item_here, item_stops, item_fails, no_item}
 use Rattle.ice_manifest_found.specs.declared.items.ItemsAhead.{ItemsAhead}
 use Rattle.ice_manifest_found.specs.declared.standing.Standing.{Standing}
 use Rattle.ice_manifest_found.specs.InPlace.{Stands, AreAhead, NextItem, rest_at}
@@ -91,6 +92,26 @@ stops_so_far {X} says start here new item front f next said so_far = λ vs ahead
     let of : item.schema.now ≡ start.schema.now = n.5 ∙ s.2 in
     let one = ap (λ (u : Schema). says (tree u, n.0)) (sym of) ∙ sym (said n.0 n.3) in
     sym s.3 ∙ stops_here says (tree start.schema.now) front s.0 n.1 n.0 f n.2 one
+
+fails_here : {X E : Type 0} (named : Naming E) (says : Typed → Result X FieldFault) (t : Tree) (front : List X)
+    (ws others : List Value) (v : Value) (e : E) → ws ≡ v ∷ others → told named (says (t, v)) ≡ Err e
+    → told named (joined front (each says (items_as t (values_of ws)))) ≡ Err e
+fails_here {X} {E} named says t front ws others v e is said =
+    rw is (item_fails named says front (t, v) (items_as t (values_of others)) e said)
+
+-- the same, where the fault has the file's name
+pub fails_so_far : {X E : Type 0} (named : Naming E) (says : Typed → Result X FieldFault)
+    (start here new : ItemsAhead) (item : Standing) (front : List X) (e : E)
+    → ((vs : List Value) → AreAhead here vs → NextItem here vs (Some item) new)
+    → ((v : Value) → Stands item v → told named (says (tree item.schema.now, v)) ≡ Err e) → SoFar says start here front
+    → (vs : List Value) → AreAhead start vs
+    → told named (each says (items_as (tree start.schema.now) (values_of vs))) ≡ Err e
+fails_so_far {X} {E} named says start here new item front e next said so_far = λ vs ahead.
+    let s = so_far vs ahead in
+    let n = next s.0 s.1 in
+    let of : item.schema.now ≡ start.schema.now = n.5 ∙ s.2 in
+    let one = subst (λ (u : Schema). told named (says (tree u, n.0)) ≡ Err e) of (said n.0 n.3) in
+    ap (told named) (sym s.3) ∙ fails_here named says (tree start.schema.now) front s.0 n.1 n.0 e n.2 one
 
 all_here : {X : Type 0} (says : Typed → Result X FieldFault) (t : Tree) (front : List X) (ws : List Value) → ws ≡ []
     → joined front (each says (items_as t (values_of ws))) ≡ Ok front

@@ -4,6 +4,7 @@ use Rattle.std.proofs.Common.{Result, Ok, Err, sym, ap, subst}
 use Rattle.contract_words.specs.Outcome.{◌>>=◌}
 use Rattle.avro_schema.specs.Tree.{Tree, null, boolean, int, long, float, double, symbols, octets, string, fixed}
 use Rattle.avro_schema.specs.Tree.{structure, array, map, union}
+use Rattle.avro_schema.specs.declared.schema.BytesKind.{BytesKind}
 use Rattle.avro_parts.specs.declared.refusal.Refusal.{Refusal}
 use Rattle.avro_parts.specs.Parts.{Position, Read, boolean_at, run_at, bytes_at, string_at, symbol_at}
 use Rattle.avro_parts.specs.Number.{long_at, int_at}
@@ -105,6 +106,12 @@ leaf_taken {A} make left r v q e =
     let same = ok_is (make a.0.0, record { bytes = a.0.1; left = left }) (v, q) a.2 in
     (a.0, a.1, sym (ap (λ (y : Value × Position). y.0) same))
 
+pub boolean_stands : (bytes : List ℕ) (v : Value) → StandsAt boolean bytes v
+    → (x : Bool × List ℕ) × (boolean_at bytes ≡ Ok x) × (v ≡ truth x.0)
+unfolding datum_at
+boolean_stands bytes v stands =
+    let read = stood boolean bytes v stands in leaf_taken truth max_items (boolean_at bytes) v read.0 read.1
+
 pub int_stands : (bytes : List ℕ) (v : Value) → StandsAt int bytes v
     → (x : ℤ × List ℕ) × (int_at bytes ≡ Ok x) × (v ≡ small x.0)
 unfolding datum_at
@@ -122,3 +129,9 @@ pub string_stands : (bytes : List ℕ) (v : Value) → StandsAt string bytes v
 unfolding datum_at
 string_stands bytes v stands =
     let read = stood string bytes v stands in leaf_taken text max_items (string_at bytes) v read.0 read.1
+
+pub octets_stand : (kind : BytesKind) (bytes : List ℕ) (v : Value) → StandsAt (octets kind) bytes v
+    → (x : List ℕ × List ℕ) × (bytes_at bytes ≡ Ok x) × (v ≡ run x.0)
+unfolding datum_at
+octets_stand kind bytes v stands =
+    let read = stood (octets kind) bytes v stands in leaf_taken run max_items (bytes_at bytes) v read.0 read.1

@@ -7,3 +7,5 @@ pub mod RowsShown
 pub mod SoundMaps
 pub mod Within
 pub mod Coming
+pub mod PairsSaid
+pub mod ColumnsSaid

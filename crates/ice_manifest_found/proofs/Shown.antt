@@ -1,19 +1,21 @@
 -- What was met where a value was found.
-use Rattle.std.proofs.Common.{◌≡◌, ℤ, ℕ, List, Option, Some, None, Result, Ok, Err, refl, sym, ap, subst, ◌∙◌}
-use Rattle.avro_schema.specs.Tree.{Tree, int, long, string}
+use Rattle.std.proofs.Common.{◌≡◌, ℤ, ℕ, Bool, List, Option, Some, None, Result, Ok, Err, refl, sym, ap, subst, ◌∙◌}
+use Rattle.avro_schema.specs.Tree.{Tree, boolean, int, long, string, octets}
+use Rattle.avro_schema.specs.declared.schema.BytesKind.{BytesKind}
 use Rattle.avro_schema.specs.View.{tree}
 use Rattle.avro_parts.specs.declared.refusal.Refusal.{Refusal}
-use Rattle.avro_parts.specs.Parts.{string_at}
+use Rattle.avro_parts.specs.Parts.{boolean_at, string_at, bytes_at}
 use Rattle.avro_parts.specs.Number.{long_at, int_at}
-use Rattle.avro_file.specs.Value.{Value, small, whole, text}
+use Rattle.avro_file.specs.Value.{Value, truth, small, whole, text, run}
 use Rattle.avro_file.specs.Blocks.{StandsAt}
 use Rattle.avro_file.specs.Picking.{Typed, Picked, absent, null_met, present}
 use Rattle.avro_file.proofs.Steps.{ok_is}
 use Rattle.avro_picked.specs.declared.found.Found.{Found}
 use Rattle.avro_picked.specs.Finding.{IsMet}
 use Rattle.avro_picked.specs.Picked.{value_met}
-use Rattle.ice_manifest_fields.specs.Fields.{there, whole_of, text_of}
-use Rattle.ice_manifest_found.proofs.Leaves.{Makes, stands_seen, int_stands, long_stands, string_stands}
+use Rattle.ice_manifest_fields.specs.Fields.{there, whole_of, truth_of, text_of, binary_of}
+use Rattle.ice_manifest_found.proofs.Leaves.{Makes, stands_seen, boolean_stands, int_stands, long_stands, string_stands}
+use Rattle.ice_manifest_found.proofs.Leaves.{octets_stand}
 
 -- how a leaf of the type is read
 abbrev Reads : {A : Type 0} → Tree → (List ℕ → Result (A × List ℕ) Refusal) → (A → Value) → Type 0
@@ -58,6 +60,14 @@ pub long_never : (f : Found) (met : Picked) (bytes : List ℕ) (e : Refusal) →
     → bytes ≡ f.bytes.now → long_at bytes ≡ Err e → IsMet (Some f) met → ⊥
 long_never = leaf_never whole long long_at long_stands
 
+pub truth_met : (f : Found) (met : Picked) (bytes : List ℕ) (x : Bool × List ℕ) → tree f.schema.now ≡ boolean
+    → bytes ≡ f.bytes.now → boolean_at bytes ≡ Ok x → IsMet (Some f) met → Some x.0 ≡ truth_of (there met)
+truth_met = leaf_there truth_of truth boolean boolean_at boolean_stands (λ u a. refl)
+
+pub truth_never : (f : Found) (met : Picked) (bytes : List ℕ) (e : Refusal) → tree f.schema.now ≡ boolean
+    → bytes ≡ f.bytes.now → boolean_at bytes ≡ Err e → IsMet (Some f) met → ⊥
+truth_never = leaf_never truth boolean boolean_at boolean_stands
+
 pub text_there : (f : Found) (met : Picked) (bytes : List ℕ) (x : List ℕ × List ℕ) → tree f.schema.now ≡ string
     → bytes ≡ f.bytes.now → string_at bytes ≡ Ok x → IsMet (Some f) met → Some x.0 ≡ text_of (there met)
 text_there = leaf_there text_of text string string_at string_stands (λ u a. refl)
@@ -65,6 +75,16 @@ text_there = leaf_there text_of text string string_at string_stands (λ u a. ref
 pub text_never : (f : Found) (met : Picked) (bytes : List ℕ) (e : Refusal) → tree f.schema.now ≡ string
     → bytes ≡ f.bytes.now → string_at bytes ≡ Err e → IsMet (Some f) met → ⊥
 text_never = leaf_never text string string_at string_stands
+
+pub bytes_met : (f : Found) (met : Picked) (bytes : List ℕ) (x : List ℕ × List ℕ) (kind : BytesKind)
+    → tree f.schema.now ≡ octets kind → bytes ≡ f.bytes.now → bytes_at bytes ≡ Ok x → IsMet (Some f) met
+    → Some x.0 ≡ binary_of (there met)
+bytes_met f met bytes x kind =
+    leaf_there binary_of run (octets kind) bytes_at (octets_stand kind) (λ u a. refl) f met bytes x
+
+pub bytes_never : (f : Found) (met : Picked) (bytes : List ℕ) (e : Refusal) (kind : BytesKind)
+    → tree f.schema.now ≡ octets kind → bytes ≡ f.bytes.now → bytes_at bytes ≡ Err e → IsMet (Some f) met → ⊥
+bytes_never f met bytes e kind = leaf_never run (octets kind) bytes_at (octets_stand kind) f met bytes e
 
 -- whatever the type's values are, this is what is seen of what was met
 pub seen_there : {B : Type 0} (see : Option Typed → B) (b : B) (t : Tree) (f : Found) (met : Picked)

@@ -7,11 +7,11 @@ ghost use Rattle.avro_file.specs.Value.{Value};
 ghost use Rattle.avro_file.specs.Blocks.{StandsAt};
 ghost use Rattle.avro_file.specs.Picking.{Typed, Picked};
 ghost use Rattle.avro_picked.specs.Finding.{IsMet};
-ghost use Rattle.ice_manifest_fields.specs.Fields.{there, whole_of, text_of};
+ghost use Rattle.ice_manifest_fields.specs.Fields.{there, whole_of, truth_of, text_of, binary_of};
 ghost use Rattle.ice_manifest_found.specs.InPlace.{IsThere};
 
 use crate::standing::Standing;
-use avro_parts::{int_of, long_of, text_of as text_at};
+use avro_parts::{boolean_of, bytes_of, int_of, long_of, text_of as text_at};
 use avro_picked::Found;
 use avro_schema::Schema;
 
@@ -46,6 +46,49 @@ pub fn whole_there(found: Option<Standing<'_, '_>>) -> Option<i64>
 {
     let found = found?;
     whole_at(found.schema, found.bytes)
+}
+
+/// The truth value that stands there; none where anything else does.
+fn truth_at(schema: &Schema, bytes: &[u8]) -> Option<bool>
+    ensures { (v : Value) → StandsAt (tree schema.now) bytes.now v → result ≡ truth_of (Some (tree schema.now, v)) }
+{
+    match schema {
+        Schema::Boolean => match boolean_of(bytes) {
+            Ok((holds, _)) => Some(holds),
+            Err(_) => None,
+        },
+        _ => None,
+    }
+}
+
+/// The truth value that stands there; none where nothing or anything else does.
+pub fn truth_there(found: Option<Standing<'_, '_>>) -> Option<bool>
+    ensures { (x : Option Typed) → IsThere found.entry x → result ≡ truth_of x }
+{
+    let found = found?;
+    truth_at(found.schema, found.bytes)
+}
+
+/// The bytes that stand there, lent from the file; none where anything else does.
+fn bytes_at<'a>(schema: &Schema, bytes: &'a [u8]) -> Option<&'a [u8]>
+    ensures { (v : Value) → StandsAt (tree schema.now) bytes.now v →
+        option_copied result ≡ binary_of (Some (tree schema.now, v)) }
+{
+    match schema {
+        Schema::Bytes(_) => match bytes_of(bytes) {
+            Ok((lent, _)) => Some(lent),
+            Err(_) => None,
+        },
+        _ => None,
+    }
+}
+
+/// The bytes that stand there, lent from the file; none where nothing or anything else does.
+pub fn bytes_there<'a>(found: Option<Standing<'_, 'a>>) -> Option<&'a [u8]>
+    ensures { (x : Option Typed) → IsThere found.entry x → option_copied result ≡ binary_of x }
+{
+    let found = found?;
+    bytes_at(found.schema, found.bytes)
 }
 
 /// The text that was found, lent from the file; none where nothing or anything else was.

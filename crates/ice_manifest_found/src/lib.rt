@@ -7,6 +7,7 @@ mod items;
 mod leaf;
 mod list;
 mod maps;
+mod pairs;
 mod row;
 mod row_field;
 mod sound;
@@ -14,7 +15,7 @@ mod standing;
 
 pub use field::{int_asked, long_asked, optional_number, optional_path, path_asked};
 pub use items::{ItemsAhead, items_of};
-pub use leaf::{whole, whole_there};
+pub use leaf::{bytes_there, truth_there, whole, whole_there};
 pub use list::ints;
 pub use maps::{FoundMaps, ReadMaps};
 pub use row::FoundRow;

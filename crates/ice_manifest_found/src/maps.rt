@@ -7,15 +7,16 @@ ghost use Rattle.avro_picked.specs.Finding.{IsMet};
 ghost use Rattle.ice_manifest_fields.specs.Fields.{there};
 ghost use Rattle.ice_manifest_fields.specs.Naming.{in_manifest, told};
 ghost use Rattle.ice_manifest_found.specs.Met.{MapsMet, counts_in, bounds_in, columns_met, Checks};
-ghost use Rattle.ice_manifest_found.specs.MapsRead.{typed_map, AreMet, AreRead};
+ghost use Rattle.ice_manifest_found.specs.MapsRead.{IsReadAs, AreMet, AreRead};
 
+use crate::pairs::{bounds_in_place, counts_in_place};
 use crate::sound::is_sound;
 use avro_file::Datum;
 use avro_picked::Found;
 use avro_schema::Schema;
 use ice_manifest_fields::{
     ColumnMap, Kind, LOWER_BOUNDS, ManifestFault, NULL_COUNTS, UPPER_BOUNDS, VALUE_COUNTS,
-    bounds_of_map, counts_of_map,
+    bounds_of_map, counts_of_map, fields_of,
 };
 use ice_value::{ColumnBounds, ColumnCounts, FileBounds};
 use std::alloc::{AllocError, Global};
@@ -33,65 +34,91 @@ pub struct FoundMaps<'s, 'd> {
     pub upper_bounds: Option<Found<'s, 'd>>,
 }
 
-/// A map that was read from the file, with its type.
+/// A map of a data file's columns, in the way in which it is read.
 #[derive(Debug, Drop)]
-struct ReadMap<'s, 'd> {
-    schema: &'s Schema,
-    datum: Datum<'d>,
+enum ReadMap<'s, 'd> {
+    /// Its type, and one list of its pairs.
+    Pairs(&'s Schema, Datum<'d>),
+    /// Its pairs are read one by one where it lies, if it was found.
+    InPlace(Option<Found<'s, 'd>>),
 }
 
 /// The maps of a data file's columns, which were read from the file. It lends the file's bytes.
 #[derive(Debug, Drop)]
 pub struct ReadMaps<'s, 'd> {
-    value_counts: Option<ReadMap<'s, 'd>>,
-    null_counts: Option<ReadMap<'s, 'd>>,
-    lower_bounds: Option<ReadMap<'s, 'd>>,
-    upper_bounds: Option<ReadMap<'s, 'd>>,
+    value_counts: ReadMap<'s, 'd>,
+    null_counts: ReadMap<'s, 'd>,
+    lower_bounds: ReadMap<'s, 'd>,
+    upper_bounds: ReadMap<'s, 'd>,
+}
+
+/// Whether the map is an array of pairs of an int, which is their key, and of a long or bytes, which is what they say.
+/// It is read into one list then, quicker than pair by pair: it tells nothing but how a map is read.
+fn lies_as_pairs(schema: &Schema, map: ColumnMap) -> bool {
+    let Schema::Array(items, _, _) = schema else {
+        return false;
+    };
+    let [first, second] = fields_of(items) else {
+        return false;
+    };
+    first.id == Some(map.key)
+        && second.id == Some(map.said)
+        && matches!(
+            (&first.schema, &second.schema),
+            (Schema::Int, Schema::Long) | (Schema::Int, Schema::Bytes(_))
+        )
 }
 
 /// The map that was found.
 fn read_map<'s, 'd>(
     alloc: Global,
     found: Option<Found<'s, 'd>>,
-) -> Result<Option<ReadMap<'s, 'd>>, AllocError>
-    ensures { (met : Picked) → IsMet found.entry met → IfOk result (λ map. typed_map map ≡ there met) }
+    map: ColumnMap,
+) -> Result<ReadMap<'s, 'd>, AllocError>
+    ensures { (met : Picked) → IsMet found.entry met → IfOk result (λ read. IsReadAs read met) }
 {
     match found {
-        Some(found) => Ok(Some(ReadMap {
-            schema: found.schema(),
-            datum: found.datum(alloc)?,
-        })),
-        None => Ok(None),
+        Some(found) if lies_as_pairs(found.schema(), map) => {
+            let pairs = found.datum(alloc)?;
+            Ok(ReadMap::Pairs(found.schema(), pairs))
+        }
+        found => Ok(ReadMap::InPlace(found)),
     }
 }
 
 /// The counts that a map says, lent from it; none where there is no map.
-#[tactic(auto, unfolding(ice_manifest_fields::specs::Each::each))]
 fn counts<'a>(
     alloc: Global,
-    read: &'a Option<ReadMap<'_, '_>>,
+    read: &'a ReadMap<'_, '_>,
     map: ColumnMap,
 ) -> Result<ColumnCounts<'a>, ManifestFault>
-    ensures { Gives ManifestFault.Memory (λ x. x) result (told in_manifest (counts_in map (typed_map read.now))) }
+    ensures { (met : Picked) → IsReadAs read.now met →
+        Gives ManifestFault.Memory (λ x. x) result (told in_manifest (counts_in map (there met))) }
 {
     match read {
-        Some(read) => counts_of_map(alloc, read.schema, &read.datum, map),
-        None => Ok(ColumnCounts::none(alloc)),
+        ReadMap::Pairs(schema, datum) => counts_of_map(alloc, schema, datum, map),
+        ReadMap::InPlace(found) => {
+            let counts = counts_in_place(alloc, *found, map)?;
+            Ok(ColumnCounts::made(counts))
+        }
     }
 }
 
 /// The bounds that a map says, lent from it; none where there is no map.
-#[tactic(auto, unfolding(ice_manifest_fields::specs::Each::each))]
 fn bounds<'a, 'd>(
     alloc: Global,
-    read: &'a Option<ReadMap<'_, 'd>>,
+    read: &'a ReadMap<'_, 'd>,
     map: ColumnMap,
 ) -> Result<ColumnBounds<'a, 'd>, ManifestFault>
-    ensures { Gives ManifestFault.Memory (λ x. x) result (told in_manifest (bounds_in map (typed_map read.now))) }
+    ensures { (met : Picked) → IsReadAs read.now met →
+        Gives ManifestFault.Memory (λ x. x) result (told in_manifest (bounds_in map (there met))) }
 {
     match read {
-        Some(read) => bounds_of_map(alloc, read.schema, &read.datum, map),
-        None => Ok(ColumnBounds::none(alloc)),
+        ReadMap::Pairs(schema, datum) => bounds_of_map(alloc, schema, datum, map),
+        ReadMap::InPlace(found) => {
+            let bounds = bounds_in_place(alloc, *found, map)?;
+            Ok(ColumnBounds::made(bounds))
+        }
     }
 }
 
@@ -103,8 +130,7 @@ fn check_counts(alloc: Global, found: Option<Found>, map: ColumnMap) -> Result<(
     match found {
         Some(found) if is_sound(found.schema(), map) => Ok(()),
         found => {
-            let read = read_map(alloc, found)?;
-            let _counts = counts(alloc, &read, map)?;
+            let _counts = counts_in_place(alloc, found, map)?;
             Ok(())
         }
     }
@@ -118,8 +144,7 @@ fn check_bounds(alloc: Global, found: Option<Found>, map: ColumnMap) -> Result<(
     match found {
         Some(found) if is_sound(found.schema(), map) => Ok(()),
         found => {
-            let read = read_map(alloc, found)?;
-            let _bounds = bounds(alloc, &read, map)?;
+            let _bounds = bounds_in_place(alloc, found, map)?;
             Ok(())
         }
     }
@@ -137,15 +162,15 @@ impl<'s, 'd> FoundMaps<'s, 'd> {
         check_bounds(alloc, self.upper_bounds, UPPER_BOUNDS)
     }
 
-    /// The maps, each read into one list of pairs, or into a tree where it is none of int keys.
+    /// The maps, of which those that lie as pairs are read into one list each, and the others are left where they lie.
     pub fn read(&self, alloc: Global) -> Result<ReadMaps<'s, 'd>, AllocError>
         ensures { (met : MapsMet) → AreMet self.now met → IfOk result (λ maps. AreRead maps met) }
     {
         Ok(ReadMaps {
-            value_counts: read_map(alloc, self.value_counts)?,
-            null_counts: read_map(alloc, self.null_counts)?,
-            lower_bounds: read_map(alloc, self.lower_bounds)?,
-            upper_bounds: read_map(alloc, self.upper_bounds)?,
+            value_counts: read_map(alloc, self.value_counts, VALUE_COUNTS)?,
+            null_counts: read_map(alloc, self.null_counts, NULL_COUNTS)?,
+            lower_bounds: read_map(alloc, self.lower_bounds, LOWER_BOUNDS)?,
+            upper_bounds: read_map(alloc, self.upper_bounds, UPPER_BOUNDS)?,
         })
     }
 }

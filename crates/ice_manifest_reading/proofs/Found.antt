@@ -2,10 +2,7 @@
 use Rattle.std.proofs.Common.{◌≡◌, ℕ, ◌+◌, ℤ, pos, Bool, true, List, Option, Some, Result, Ok, Err, refl, sym, ap, subst}
 use Rattle.std.proofs.Common.{◌∙◌}
 use Rattle.contract_words.specs.Outcome.{◌>>=◌}
-use Rattle.ice_value.specs.declared.file_bounds.FileBounds.{FileBounds}
-use Rattle.ice_meta.specs.declared.spec.PartitionField.{PartitionField}
 use Rattle.ice_meta.specs.Partitioning.{is_unpartitioned}
-use Rattle.ice_manifest_fields.specs.declared.fault.FieldFault.{FieldFault}
 use Rattle.ice_manifest_fields.specs.Fields.{asked, record_at}
 use Rattle.ice_manifest_fields.specs.Naming.{in_manifest, told}
 use Rattle.ice_manifest_reading.specs.declared.data_file.DataFile.{DataFile}

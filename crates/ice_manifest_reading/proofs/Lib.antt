@@ -17,3 +17,4 @@ pub mod Keeping
 pub mod NoMemory
 pub mod Found
 pub mod FoundRows
+pub mod SummariesSaid

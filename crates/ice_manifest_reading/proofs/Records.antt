@@ -1,5 +1,5 @@
 -- Objects that are records, since their fields were found to fit.
-use Rattle.std.proofs.Common.{◌≡◌, ℤ, pos, Bool, true, false, Option, Some, None, Ok, refl, ap, subst}
+use Rattle.std.proofs.Common.{◌≡◌, ℤ, pos, Bool, true, Option, Some, None, Ok, refl, ap, subst}
 use Rattle.avro_schema.specs.Tree.{Tree, null, boolean, int, long, float, double, symbols, octets, string, fixed}
 use Rattle.avro_schema.specs.Tree.{structure, array, map, union}
 use Rattle.avro_picked.specs.Finding.{is_structure}

@@ -1,6 +1,6 @@
 -- What objects say, and that reading them gives this and nothing else.
-use Rattle.std.proofs.Common.{◌≡◌, ◌≢◌, ◌⊎◌, inl, inr, ℕ, ℤ, pos, ◌+◌, Bool, List, [], ◌∷◌, Option, Some, None, Result}
-use Rattle.std.proofs.Common.{Ok, Err, refl, sym, ap, subst, ◌∙◌, ◌==◌}
+use Rattle.std.proofs.Common.{◌≡◌, ◌⊎◌, inl, inr, ℕ, ℤ, pos, ◌+◌, Bool, List, [], ◌∷◌, Option, Some, None, Result}
+use Rattle.std.proofs.Common.{Ok, Err, refl, sym, ap, subst, ◌∙◌}
 use Rattle.std.proofs.lemmas.Bool.{ne_eqb}
 use Rattle.std.specs.Prelude.{unwrap_or}
 use Rattle.std.specs.List.{enumerate_from}
@@ -40,7 +40,7 @@ use Rattle.ice_manifest_reading.specs.Laws.{SaysRow, SaysFile, SaysLive, SaysEnt
 use Rattle.ice_manifest_reading.specs.Laws.{InheritsTheRows, NeedsItsOwn, HasZeroUnderZero, KeepsItsFileNumber}
 use Rattle.ice_manifest_reading.specs.Laws.{InheritsTheRowsForItsFile, HasNoFileNumber, HasZeroForItsFile}
 use Rattle.ice_manifest_reading.specs.Laws.{KeepsItsSnapshot, InheritsItsSnapshot}
-use Rattle.ice_manifest_reading.proofs.Guards.{passed, either, ok_is, went_on}
+use Rattle.ice_manifest_reading.proofs.Guards.{ok_is, went_on}
 use Rattle.ice_manifest_fields.proofs.Joining.{told_ok}
 
 -- ---- a row

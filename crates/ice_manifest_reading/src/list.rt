@@ -1,18 +1,24 @@
 //! Reading a manifest list.
 
-ghost use Rattle.std.specs.Prelude.{◌≡◌, ◌≤◌, true, Some, pos, length, option_map, OnOk, IfOk};
+ghost use Rattle.std.specs.Prelude.{◌≡◌, ◌≤◌, true, List, Some, pos, length, option_map, OnOk, IfOk};
 ghost use Rattle.std.specs.List.Sorted.{IsStrictlySortedBy};
+ghost use Rattle.std.specs.Option.{option_copied};
 ghost use Rattle.contract_words.specs.Outcome.{Gives};
+ghost use Rattle.avro_schema.specs.Tree.{structure};
 ghost use Rattle.avro_schema.specs.View.{tree};
-ghost use Rattle.avro_file.specs.View.{view};
+ghost use Rattle.avro_file.specs.Value.{Value, values_of};
+ghost use Rattle.avro_file.specs.Picking.{Picked};
 ghost use Rattle.avro_file.specs.Files.{ahead, type_of};
-ghost use Rattle.avro_picked.specs.Finding.{layout_tree, ways_of, is_structure};
+ghost use Rattle.avro_picked.specs.Finding.{layout_tree, ways_of, is_structure, IsMet};
 ghost use Rattle.avro_picked.specs.Placing.{IsLayout};
 ghost use Rattle.ice_manifest_fields.specs.Each.{each};
-ghost use Rattle.ice_manifest_fields.specs.Fields.{at, there, items_of as items_said};
+ghost use Rattle.ice_manifest_fields.specs.Fields.{at, there, items_as, items_of as items_said};
+ghost use Rattle.ice_manifest_fields.specs.Fields.{truth_at as truth_must_be, optional_truth as truth_if_there};
+ghost use Rattle.ice_manifest_fields.specs.Fields.{optional_binary as binary_if_there};
 ghost use Rattle.ice_manifest_fields.specs.Naming.{in_list, told};
 ghost use Rattle.ice_manifest_fields.specs.Schemas.{fields_in};
-ghost use Rattle.ice_manifest_fields.specs.Seen.{object, listed};
+ghost use Rattle.ice_manifest_fields.specs.Seen.{fields_seen};
+ghost use Rattle.ice_manifest_found.specs.InPlace.{Stands, RecordStands, AreAhead};
 ghost use Rattle.ice_manifest_found.specs.RowsFound.{row_seen, row_ways, IsRow};
 ghost use Rattle.ice_manifest_reading.specs.Lists.{rows_of, row_of as row_said, row_content as content_in};
 ghost use Rattle.ice_manifest_reading.specs.Lists.{content_at as content_said, counts_at as counts_said};
@@ -23,15 +29,15 @@ ghost use Rattle.ice_manifest_reading.specs.Lists.{checked as checked_in, path_o
 
 use crate::counts::Counts;
 use crate::row::{ManifestContent, Row};
-use avro_file::{Container, Datum, Objects};
-use avro_picked::Layout;
-use avro_schema::{Field, Schema};
+use avro_file::{Container, Objects};
+use avro_picked::{Found, Layout};
+use avro_schema::Field;
 use contract_words::{Items, Text};
-use ice_manifest_fields::{
-    FieldFault, ListFault, check_row_fields, fields_of, items_of, itself, optional_binary,
-    optional_truth, pairs_built, truth_at,
+use ice_manifest_fields::{FieldFault, ListFault, check_row_fields, fields_of};
+use ice_manifest_found::{
+    FoundRow, ItemsAhead, RowField, Standing, bytes_there, field_of, items_of, row_layout,
+    truth_there,
 };
-use ice_manifest_found::{FoundRow, RowField, row_layout};
 use ice_value::Summary;
 use std::alloc::{AllocError, Global};
 
@@ -68,61 +74,95 @@ fn counts_at(row: &FoundRow) -> Result<Counts, FieldFault>
     })
 }
 
+/// A truth value at a field of a record; none where it is absent or null.
+fn truth_in(fields: &[Field], bytes: &[u8], id: i32) -> Option<bool>
+    ensures { (v : Value) → RecordStands fields.entry bytes.entry v →
+        result ≡ truth_if_there id (structure (fields_seen fields.now), v) }
+{
+    truth_there(field_of(fields, bytes, id))
+}
+
+/// A truth value at a field of a record.
+fn truth_asked(fields: &[Field], bytes: &[u8], id: i32) -> Result<bool, FieldFault>
+    ensures { (v : Value) → RecordStands fields.entry bytes.entry v →
+        result ≡ truth_must_be id (structure (fields_seen fields.now), v) }
+{
+    match truth_in(fields, bytes, id) {
+        Some(holds) => Ok(holds),
+        None => Err(FieldFault::Missing(id)),
+    }
+}
+
+/// A copy of bytes, where there are any.
+fn copied(alloc: Global, lent: Option<&[u8]>) -> Result<Option<Items<u8>>, AllocError>
+    ensures { IfOk result (λ copy. copy ≡ option_copied lent.entry) }
+{
+    match lent {
+        Some(bytes) => Ok(Some(Items::from_vec(bytes.to_vec(alloc)?))),
+        None => Ok(None),
+    }
+}
+
+/// A copy of the bytes at a field of a record; none where they are absent or null.
+fn binary_in(
+    alloc: Global,
+    fields: &[Field],
+    bytes: &[u8],
+    id: i32,
+) -> Result<Option<Items<u8>>, AllocError>
+    ensures { (v : Value) → RecordStands fields.entry bytes.entry v →
+        IfOk result (λ copy. copy ≡ binary_if_there id (structure (fields_seen fields.now), v)) }
+{
+    copied(alloc, bytes_there(field_of(fields, bytes, id)))
+}
+
 /// The summary that a record's fields say.
-#[tactic(auto, unfolding(crate::specs::Lists::summary_in))]
-fn summary_in(alloc: Global, fields: &[Field], values: &[Datum]) -> Result<Summary, ListFault>
-    ensures { Gives ListFault.Memory (λ x. x) result (told in_list (summary_said (object fields.now values.now))) }
+fn summary_in(alloc: Global, fields: &[Field], bytes: &[u8]) -> Result<Summary, ListFault>
+    ensures { (v : Value) → RecordStands fields.entry bytes.entry v → Gives ListFault.Memory (λ x. x) result
+        (told in_list (summary_said (structure (fields_seen fields.now), v))) }
 {
     Ok(Summary {
-        contains_null: truth_at(fields, values, 509)?,
-        contains_nan: optional_truth(fields, values, 518),
-        lower: optional_binary(alloc, fields, values, 510)?,
-        upper: optional_binary(alloc, fields, values, 511)?,
+        contains_null: truth_asked(fields, bytes, 509)?,
+        contains_nan: truth_in(fields, bytes, 518),
+        lower: binary_in(alloc, fields, bytes, 510)?,
+        upper: binary_in(alloc, fields, bytes, 511)?,
     })
 }
 
 /// The summary that an item of a list says.
-#[tactic(auto, unfolding(crate::specs::Lists::summary_of))]
-fn summary_of(alloc: Global, schema: &Schema, datum: &Datum) -> Result<Summary, ListFault>
-    ensures { Gives ListFault.Memory (λ x. x) result
-        (told in_list (summary_of_item (tree schema.now, view datum.now))) }
+fn summary_of(alloc: Global, item: &Standing) -> Result<Summary, ListFault>
+    ensures { (v : Value) → Stands item.now v → Gives ListFault.Memory (λ x. x) result
+        (told in_list (summary_of_item (tree item.now.schema.now, v))) }
 {
-    match itself(schema, datum) {
-        Some((Schema::Record(fields), Datum::Record(values))) => summary_in(alloc, fields, values),
-        _ => Err(ListFault::MissingField(508)),
+    match item.record() {
+        Some((fields, bytes)) => summary_in(alloc, fields, bytes),
+        None => Err(ListFault::MissingField(508)),
     }
 }
 
-fn summaries_of(
-    alloc: Global,
-    schema: &Schema,
-    items: &[Datum],
-) -> Result<Items<Summary>, ListFault>
-    ensures { Gives ListFault.Memory (λ x. x) result
-        (told in_list (each summary_of_item (listed (schema.entry, items.entry)))) }
+fn summaries_of(alloc: Global, mut items: ItemsAhead) -> Result<Items<Summary>, ListFault>
+    ensures { (vs : List Value) → AreAhead items.entry vs → Gives ListFault.Memory (λ x. x) result
+        (told in_list (each summary_of_item (items_as (tree items.entry.schema.now) (values_of vs)))) }
 {
     let mut summaries = Items::new(alloc);
-    'items: for item in items {
-        summaries.push(summary_of(alloc, schema, item)?)?;
+    'items: while let Some(item) = items.next() {
+        summaries.push(summary_of(alloc, &item)?)?;
     }
     Ok(summaries)
 }
 
 /// The summaries that a list says. Any other value says none.
-fn summaries_in_list(
-    alloc: Global,
-    schema: &Schema,
-    datum: &Datum,
-) -> Result<Items<Summary>, ListFault>
-    ensures { Gives ListFault.Memory (λ x. x) result
-        (told in_list (each summary_of_item (items_said (Some (tree schema.now, view datum.now))))) }
+fn summaries_in_list(alloc: Global, found: Found) -> Result<Items<Summary>, ListFault>
+    ensures { (met : Picked) → IsMet (Some found.entry) met → Gives ListFault.Memory (λ x. x) result
+        (told in_list (each summary_of_item (items_said (there met)))) }
 {
-    let built = pairs_built(alloc, datum)?;
-    let (schema, items) = items_of(schema, datum, &built);
-    summaries_of(alloc, schema, items)
+    match items_of(Some(found)) {
+        Some(items) => summaries_of(alloc, items),
+        None => Ok(Items::new(alloc)),
+    }
 }
 
-/// The summaries of the row's partition fields, of which a tree is built; none where the row does not say them.
+/// The summaries of the row's partition fields, read one by one where they lie; none where the row does not say them.
 fn partitions_at(alloc: Global, row: &FoundRow) -> Result<Option<Items<Summary>>, ListFault>
     requires { IsRow row.now }
     ensures { Gives ListFault.Memory (λ x. x) result
@@ -131,8 +171,7 @@ fn partitions_at(alloc: Global, row: &FoundRow) -> Result<Option<Items<Summary>>
     let Some(found) = row.found(RowField::Partitions) else {
         return Ok(None);
     };
-    let list = found.datum(alloc)?;
-    Ok(Some(summaries_in_list(alloc, found.schema(), &list)?))
+    Ok(Some(summaries_in_list(alloc, found)?))
 }
 
 /// The row that an object says.

@@ -73,6 +73,12 @@ data 7 = 0 a Data 1 7 Some(7) 0 0 [] 7 true [];
 with {"name":"equality_ids","type":["null",{"type":"array","items":"int","element-id":136}],"field-id":135} -> {"name":"p","type":{"type":"array","items":"long"},"field-id":135}
 block 1 02 00 00 02 61 00 00 03 04 36 00 00
 data 7 = 0 a Data 1 7 Some(7) 0 0 [27, 0] 7 true [];
+with {"name":"equality_ids","type":["null",{"type":"array","items":"int","element-id":136}],"field-id":135} -> {"name":"p","type":{"type":"array","items":"long"},"field-id":135}
+block 1 02 00 00 02 61 00 00 02 36 03 04 04 06 02 01 00
+data 7 = 0 a Data 1 7 Some(7) 0 0 [27, 2, 3, -1] 7 true [];
+with {"name":"equality_ids","type":["null",{"type":"array","items":"int","element-id":136}],"field-id":135} -> {"name":"p","type":{"type":"array","items":["null","long"]},"field-id":135}
+block 1 02 00 00 02 61 00 00 04 02 36 02 04 01 02 00 00
+data 7 = MissingField(136)
 with {"name":"content","type":"int","field-id":134} -> {"name":"p","type":["null","int"],"field-id":134}
 block 1 00 00 00 02 61 00 00 00
 data 7 = NoSequence

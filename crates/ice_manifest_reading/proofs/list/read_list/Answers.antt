@@ -1,6 +1,5 @@
 use Rattle.std.proofs.Common.{◌≡◌, true, Ok, sym, ap, subst, ◌∙◌}
 use Rattle.avro_schema.specs.Tree.{Tree}
-use Rattle.avro_schema.specs.View.{tree}
 use Rattle.avro_file.specs.Files.{tree_of}
 use Rattle.avro_picked.specs.Finding.{is_structure}
 use Rattle.ice_manifest_fields.specs.Schemas.{fields_in, row_fields}

@@ -1,6 +1,5 @@
 use Rattle.std.proofs.Common.{◌≡◌, ◌≤◌, true, Ok, length, sym, ap, subst, ◌∙◌, arith}
 use Rattle.avro_schema.specs.Tree.{Tree}
-use Rattle.avro_schema.specs.View.{tree}
 use Rattle.avro_file.specs.Ahead.{still_ahead}
 use Rattle.avro_file.specs.Files.{ahead, tree_of, opened}
 use Rattle.avro_picked.specs.Finding.{is_structure}

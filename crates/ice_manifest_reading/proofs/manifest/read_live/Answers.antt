@@ -1,4 +1,4 @@
-use Rattle.std.proofs.Common.{◌≡◌, to_z, of_z, w32, w64, Ok, refl, sym, ap, rules}
+use Rattle.std.proofs.Common.{◌≡◌, to_z, of_z, w32, w64, refl, rules}
 use Rattle.std.proofs.lemmas.Int.{to_z-of_z}
 use Rattle.std.proofs.lemmas.Result.{err_from_is_err_and}
 use Rattle.ice_entry_found.specs.Seen.{file_seen}

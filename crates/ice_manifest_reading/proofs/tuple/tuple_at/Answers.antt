@@ -1,10 +1,9 @@
-use Rattle.std.proofs.Common.{◌≡◌, ◌==◌, ℤ, pos, to_z, of_z, w32, Bool, true, false, List, [], ◌∷◌, length, Option, Some}
+use Rattle.std.proofs.Common.{◌≡◌, ◌==◌, ℤ, pos, to_z, of_z, w32, true, false, List, [], ◌∷◌, length, Option, Some}
 use Rattle.std.proofs.Common.{None, is_some, Ok, Err, refl, sym, ap, ◌∙◌, rules}
 use Rattle.std.proofs.lemmas.Int.{to_z-of_z}
 use Rattle.avro_file.specs.Picking.{Typed}
 use Rattle.ice_meta.specs.declared.spec.PartitionField.{PartitionField}
 use Rattle.ice_manifest_fields.specs.declared.fault.FieldFault.TheVariants.{Missing}
-use Rattle.ice_manifest_fields.specs.declared.fault.ManifestFault.{ManifestFault}
 use Rattle.ice_manifest_fields.specs.declared.fault.ManifestFault.TheVariants.{MissingField}
 use Rattle.ice_manifest_fields.specs.Fields.{at, there, record_of}
 use Rattle.ice_manifest_fields.specs.Naming.{in_manifest, told}

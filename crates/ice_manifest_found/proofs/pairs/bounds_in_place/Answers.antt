@@ -1,0 +1,22 @@
+use Rattle.std.proofs.Common.{◌≡◌, [], List, sym, subst, refl}
+use Rattle.avro_file.specs.Picking.{Typed}
+use Rattle.contract_words.specs.Outcome.{Gives}
+use Rattle.ice_value.specs.Pairs.{bounds_said}
+use Rattle.ice_manifest_fields.specs.declared.fault.ManifestFault.TheVariants.{Memory}
+use Rattle.ice_manifest_fields.specs.Each.{each}
+use Rattle.ice_manifest_fields.specs.Fields.{there, items_of}
+use Rattle.ice_manifest_fields.specs.Maps.{bound_of}
+use Rattle.ice_manifest_fields.specs.Naming.{in_manifest, told}
+use Rattle.ice_manifest_found.proofs.pairs.bounds_in_place.Goals as goal
+
+pub returns-in-Some : goal.returns-in-Some
+returns-in-Some c = λ met is.
+    let list = c.in-Some.ensures met is in
+    subst (λ (ys : List Typed). Gives Memory (λ pairs. bounds_said pairs.items) c.each_bound.result
+    (told in_manifest (each (bound_of c.args.map) ys))) (sym list.2) (c.each_bound.ensures list.0 list.1)
+
+pub returns-in-None : goal.returns-in-None
+unfolding each
+returns-in-None c = λ met is.
+    let none : items_of (there met) ≡ [] = c.in-None.ensures met is in
+    rw (c.new.ensures.items, none) refl

@@ -1,0 +1,11 @@
+use Rattle.ice_value.specs.Pairs.{counts_said}
+use Rattle.ice_manifest_fields.specs.Maps.{count_of}
+use Rattle.ice_manifest_found.specs.InPlace.{still}
+use Rattle.ice_manifest_found.proofs.Coming.{SoFar}
+use Rattle.ice_manifest_found.proofs.pairs.each_count.Given as goal
+
+abbrev pub invariant-items : goal.invariant-items
+invariant-items l = SoFar (count_of l.map) l.initial.items l.items (counts_said l.counts.items)
+
+abbrev pub decreases-items : goal.decreases-items
+decreases-items l = still l.items

@@ -1,0 +1,21 @@
+use Rattle.std.proofs.Common.{◌≡◌, [], List, sym, subst, refl}
+use Rattle.contract_words.specs.Outcome.{Gives}
+use Rattle.avro_file.specs.Picking.{Typed}
+use Rattle.ice_manifest_fields.specs.declared.fault.ListFault.TheVariants.{Memory}
+use Rattle.ice_manifest_fields.specs.Each.{each}
+use Rattle.ice_manifest_fields.specs.Fields.{there, items_of}
+use Rattle.ice_manifest_fields.specs.Naming.{in_list, told}
+use Rattle.ice_manifest_reading.specs.Lists.{summary_of}
+use Rattle.ice_manifest_reading.proofs.list.summaries_in_list.Goals as goal
+
+pub returns-in-Some : goal.returns-in-Some
+returns-in-Some c = λ met is.
+    let list = c.in-Some.ensures met is in
+    subst (λ (ys : List Typed). Gives Memory (λ x. x) c.summaries_of.result (told in_list (each summary_of ys)))
+    (sym list.2) (c.summaries_of.ensures list.0 list.1)
+
+pub returns-in-None : goal.returns-in-None
+unfolding each
+returns-in-None c = λ met is.
+    let none : items_of (there met) ≡ [] = c.in-None.ensures met is in
+    rw (c.new.ensures, none) refl

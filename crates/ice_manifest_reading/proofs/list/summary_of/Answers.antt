@@ -1,0 +1,20 @@
+use Rattle.std.proofs.Common.{pos, Option, sym, ap, subst}
+use Rattle.contract_words.specs.Outcome.{Gives, ◌>>=◌}
+use Rattle.avro_file.specs.Picking.{Typed}
+use Rattle.ice_manifest_fields.specs.declared.fault.ListFault.TheVariants.{Memory}
+use Rattle.ice_manifest_fields.specs.Fields.{asked}
+use Rattle.ice_manifest_fields.specs.Naming.{in_list, told}
+use Rattle.ice_manifest_reading.specs.Lists.{summary_in, summary_of}
+use Rattle.ice_manifest_reading.proofs.list.summary_of.Goals as goal
+
+pub returns-in-Some : goal.returns-in-Some
+unfolding summary_of
+returns-in-Some c = λ v is.
+    let r = c.in-Some.ensures v is in
+    subst (λ (o : Option Typed). Gives Memory (λ x. x) c.summary_in.result
+    (told in_list (asked (pos 508) o >>= summary_in))) (sym r.2) (c.summary_in.ensures r.0 r.1)
+
+pub returns-in-None : goal.returns-in-None
+unfolding summary_of
+returns-in-None c = λ v is other.
+    ap (λ (o : Option Typed). told in_list (asked (pos 508) o >>= summary_in)) (c.in-None.ensures v is)
