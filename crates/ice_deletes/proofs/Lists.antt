@@ -1,10 +1,10 @@
 -- Lists, their parts, and what passes tests.
 use Rattle.std.proofs.Common.{◌≡◌, ℕ, zero, suc, ◌+◌, ◌-◌, ◌≤◌, Bool, true, false, not, ◌&&◌, List, [], ◌∷◌, length}
-use Rattle.std.proofs.Common.{take, drop, map, filter, get_or, cond, refl, sym, ap, ◌∙◌, arith}
+use Rattle.std.proofs.Common.{take, drop, map, filter, get_or, cond, refl, sym, ap, ◌∙◌, arith, ◌<◌, ◌⊎◌, inl, inr}
 use Rattle.std.specs.Cmp.{IsStrictWeakOrder}
-use Rattle.std.specs.List.{AllWithin, take-map, drop-map}
+use Rattle.std.specs.List.{AllWithin, slice_range, take-map, drop-map}
 use Rattle.std.specs.List.Sorted.{IsSortedBy, IsPartitionedBy, IsPartitionPoint}
-use Rattle.std.proofs.lemmas.List.{drop-take, get_or-take, length-take-le}
+use Rattle.std.proofs.lemmas.List.{drop-take, get_or-drop, get_or-take, length-drop, length-take-le}
 use Rattle.std.proofs.lemmas.List.Elements.{filter_agree}
 use Rattle.std.proofs.lemmas.List.Sorted.{sorted_far}
 
@@ -62,6 +62,57 @@ parted_front p n xs within h i j d le low k =
     let sooner : get_or (take n xs) i d ≡ get_or xs i d = get_or-take n xs i d (omega arith) in
     let total : length (take n xs) ≤ length xs = omega arith in
     ap p sooner ∙ h i j d le (omega arith) (sym (ap p later) ∙ k)
+
+pub parted_range : {X : Type 0} (p : X → Bool) (first end : ℕ) (xs : List X) → first ≤ end → end ≤ length xs
+    → IsPartitionedBy p xs → IsPartitionedBy p (slice_range xs first end)
+parted_range {X} p first end xs low high h i j d le l k =
+    let near : List X = slice_range xs first end in
+    let size : length near ≡ end - first =
+    length-take-le (end - first) (drop first xs) (omega (arith, length-drop first xs)) in
+    let at : (n : ℕ) → n < end - first → get_or near n d ≡ get_or xs (first + n) d = λ n m.
+    get_or-take (end - first) (drop first xs) n d m ∙ get_or-drop first xs n d in
+    ap p (at i (omega (arith, le, l, size)))
+    ∙ h (first + i) (first + j) d (omega (arith, le)) (omega (arith, l, size, low, high))
+    (sym (ap p (at j (omega (arith, l, size)))) ∙ k)
+
+-- a place is before another one, or so far behind it
+before_or_behind : (first k : ℕ) → (k < first) ⊎ ((j : ℕ) × (k ≡ first + j))
+before_or_behind zero k = inr (k, omega arith)
+before_or_behind (suc first) zero = inl (omega arith)
+before_or_behind (suc first) (suc k) = elim (before_or_behind first k) [
+  | inl before ↦ inl (omega arith)
+  | inr behind ↦ inr (behind.0, omega (arith, behind.1))
+]
+
+-- what fails in a list is the back of it, where the last of a front passes, and the place is found behind that
+pub later_back : {X : Type 0} (p : X → Bool) (first end m : ℕ) (xs : List X) → first ≤ end → end ≤ length xs
+    → m ≤ length (slice_range xs first end) → IsPartitionedBy p xs → ((d : X) → 0 < first → p (get_or xs (first - 1) d) ≡ true)
+    → IsPartitionPoint (λ y. p y ≡ true) (λ y. p y ≡ false) (slice_range xs first end) m
+    → drop (first + m) (take end xs) ≡ filter (λ y. not (p y)) (take end xs)
+later_back {X} p first end m xs low high most parted older point =
+    let ys = take end xs in
+    let many : length ys ≡ end = length-take-le end xs high in
+    let near : List X = slice_range xs first end in
+    let size : length near ≡ end - first =
+    length-take-le (end - first) (drop first xs) (omega (arith, length-drop first xs)) in
+    let at : (k : ℕ) (d : X) → k < end → get_or ys k d ≡ get_or xs k d = λ k d l. get_or-take end xs k d l in
+    let behind : (j : ℕ) (d : X) → first + j < end → get_or near j d ≡ get_or ys (first + j) d = λ j d l.
+    get_or-take (end - first) (drop first xs) j d (omega (arith, l)) ∙ get_or-drop first xs j d
+    ∙ sym (at (first + j) d l) in
+    back_fails p ys (first + m) (
+      λ k d _ l. elim (before_or_behind first k) [
+        | inl before ↦
+            ap p (at k d (omega (arith, before)))
+            ∙ parted k (first - 1) d (omega (arith, before)) (omega (arith, before)) (older d (omega (arith, before)))
+        | inr far ↦
+            ap p (ap (λ n. get_or ys n d) far.1 ∙ sym (behind far.0 d (omega (arith, l, far.1, most, size))))
+            ∙ point.0 far.0 d (omega arith) (omega (arith, l, far.1))
+      ],
+      λ k d le l.
+          let e : first + (k - first) ≡ k = omega (arith, le) in
+          ap p (ap (λ n. get_or ys n d) (sym e) ∙ sym (behind (k - first) d (omega (arith, le, l, many))))
+          ∙ point.1 (k - first) d (omega (arith, le)) (omega (arith, le, l, many, size)),
+    )
 
 pub filter-filter : {X : Type 0} (p q : X → Bool) (xs : List X) → filter q (filter p xs) ≡ filter (λ x. p x && q x) xs
 filter-filter p q [] = refl

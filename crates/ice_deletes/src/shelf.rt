@@ -1,6 +1,7 @@
 //! The delete files of a group, sorted.
 
-ghost use Rattle.std.specs.Prelude.{◌≡◌, ◌≤◌, ◌++◌, map, filter, IfOk, IfSome, OnOk, length, take, drop, not};
+ghost use Rattle.std.specs.Prelude.{◌≡◌, ◌<◌, ◌≤◌, ◌-◌, ◌++◌, map, filter, IfOk, IfSome, OnOk, length, take, drop, not};
+ghost use Rattle.std.specs.Prelude.{true, slice_index_or};
 ghost use Rattle.std.specs.List.{enumerate_from};
 ghost use Rattle.std.specs.List.Sorted.{IsSortedBy, IsPermutation};
 ghost use Rattle.ice_deletes.specs.Keys.{key_of, key_in, entry_of, sought};
@@ -127,6 +128,23 @@ impl Shelf {
             .partition_point(|delete| delete.is_up_to(group, key))
     }
 
+    /// A number of first ones of which the last, and so each, stands before that place, or at it with a smaller sequence
+    /// number. It is looked for from the end in steps that double, since of many at a place mostly few apply.
+    fn near_start(&self, end: usize, key: &SearchKey) -> usize
+        requires { end ≤ length self.now.deletes.items }
+        ensures within { result ≤ end }
+        ensures older { (d : Delete) → 0 < result → is_older self.now.group (sought key.now)
+            (key_in (slice_index_or self.now.deletes.items (result - 1) d)) ≡ true }
+    {
+        let mut first = end;
+        let mut step: usize = 1;
+        'first: while first > 0 && !self.deletes[first - 1].is_older(self.group, key) {
+            first = first.saturating_sub(step);
+            step = step.saturating_mul(2);
+        }
+        first
+    }
+
     /// How many of the first ones stand before that place, or at it with a smaller sequence number.
     fn start(&self, end: usize, key: &SearchKey) -> usize
         requires sorted { IsSortedBy (earlier self.now.group) self.now.deletes.items }
@@ -137,8 +155,9 @@ impl Shelf {
             (take end self.now.deletes.items) }
     {
         let group = self.group;
-        let front = &self.deletes[..end];
-        front.partition_point(|delete| delete.is_older(group, key))
+        let first = self.near_start(end, key);
+        let near = &self.deletes[first..end];
+        first + near.partition_point(|delete| delete.is_older(group, key))
     }
 
     /// The numbers of the delete files at the place that is sought, from the sequence number that is sought on.

@@ -1,3 +1,4 @@
+pub mod Alike
 pub mod CameFrom
 pub mod InCommon
 pub mod Keeping

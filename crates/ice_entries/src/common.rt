@@ -2,7 +2,8 @@
 
 ghost use Rattle.std.specs.Prelude.{◌≡◌, ◌↔◌, IfOk, IsTrue};
 ghost use Rattle.ice_manifest_reading.specs.Lending.{lent};
-ghost use Rattle.ice_entries.specs.InCommon.{common_of, common_in, AreOfPartition, IsOfSpec, HasListsOf};
+ghost use Rattle.ice_entries.specs.InCommon.{common_of, common_in, IsOfSpec, HasListsOf};
+ghost use Rattle.ice_entries.specs.Alike.{AreOfKind};
 
 use contract_words::{Duplicate, Items};
 use ice_manifest_reading::LentEntry;
@@ -60,11 +61,12 @@ impl Common {
             && self.equality_ids.as_slice() == wanted.equality_ids
     }
 
-    /// Whether the files are of one partition.
-    pub(crate) fn is_of_partition_of(&self, other: &Common) -> bool
-        ensures { IsTrue result ↔ AreOfPartition self.now other.now }
+    /// Whether the files hold the same and are of one partition.
+    pub(crate) fn is_of_kind_of(&self, other: &Common) -> bool
+        ensures { IsTrue result ↔ AreOfKind self.now other.now }
     {
-        self.spec_id == other.spec_id
+        self.content == other.content
+            && self.spec_id == other.spec_id
             && is_same_tuple(self.tuple.as_slice(), other.tuple.as_slice())
     }
 

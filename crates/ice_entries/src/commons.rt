@@ -1,7 +1,8 @@
 //! What entries have in common, each once, by its number.
 
 ghost use Rattle.std.specs.Prelude.{◌≡◌, ◌<◌, ◌↔◌, [], length, IfOk, IfSome, IsTrue, List, ℕ};
-ghost use Rattle.ice_entries.specs.InCommon.{common_of, common_at, AreOfPartition, IsCommonAt, KeepsCommons};
+ghost use Rattle.ice_entries.specs.InCommon.{common_of, common_at, IsCommonAt, KeepsCommons};
+ghost use Rattle.ice_entries.specs.Alike.{AreOfKind};
 
 use crate::common::{Common, LentCommon};
 use crate::spellings::Spellings;
@@ -47,13 +48,13 @@ impl Commons {
         &self.list[number as usize]
     }
 
-    /// Whether the files of two are of one partition.
-    pub(crate) fn are_of_partition(&self, a: u32, b: u32) -> bool
+    /// Whether the files of two hold the same and are of one partition.
+    pub(crate) fn are_of_kind(&self, a: u32, b: u32) -> bool
         requires first { a < length self.now }
         requires second { b < length self.now }
-        ensures { IsTrue result ↔ AreOfPartition (common_at self.now a) (common_at self.now b) }
+        ensures { IsTrue result ↔ AreOfKind (common_at self.now a) (common_at self.now b) }
     {
-        a == b || self.get(a).is_of_partition_of(self.get(b))
+        a == b || self.get(a).is_of_kind_of(self.get(b))
     }
 
     /// Whether one has this number.

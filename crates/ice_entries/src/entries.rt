@@ -3,7 +3,8 @@
 ghost use Rattle.std.specs.Prelude.{◌≡◌, ◌↔◌, length, IfOk, IsTrue};
 ghost use Rattle.ice_manifest_reading.specs.Lending.{lent, HasShortPaths};
 ghost use Rattle.ice_entries.specs.Kept.{nothing_kept, IsKept, AreKept, entry_at, entries_at, count, Keeps};
-ghost use Rattle.ice_entries.specs.Kept.{AreNeighbours, HasEachPathOnce, HasKnownPaths};
+ghost use Rattle.ice_entries.specs.Kept.{HasEachPathOnce, HasKnownPaths};
+ghost use Rattle.ice_entries.specs.Alike.{AreAlike};
 
 use crate::record::Shared;
 use crate::table::Table;
@@ -215,15 +216,15 @@ impl Entries {
         self.shared.content(self.table.record(number))
     }
 
-    /// Whether the files of two entries are neighbours: of one spec, with the same partition values and the same sequence
-    /// number.
-    pub fn are_neighbours(&self, a: EntryNumber, b: EntryNumber) -> bool
+    /// Whether the files of two entries are alike: they hold the same and are of one spec, with the same partition values
+    /// and the same sequence number.
+    pub fn are_alike(&self, a: EntryNumber, b: EntryNumber) -> bool
         requires first { IsKept self.now a }
         requires second { IsKept self.now b }
-        ensures { IsTrue result ↔ AreNeighbours (entry_at self.now a) (entry_at self.now b) }
+        ensures { IsTrue result ↔ AreAlike (entry_at self.now a) (entry_at self.now b) }
     {
         self.shared
-            .are_neighbours(self.table.record(a), self.table.record(b))
+            .are_alike(self.table.record(a), self.table.record(b))
     }
 
     /// The path of an entry.

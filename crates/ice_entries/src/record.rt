@@ -5,7 +5,7 @@ ghost use Rattle.std.specs.Option.{option_copied, option_map};
 ghost use Rattle.path_arena.specs.Arena.{string, KeepsNumbers};
 ghost use Rattle.ice_manifest_reading.specs.Lending.{lent, HasShortPaths};
 ghost use Rattle.ice_entries.specs.InCommon.{common_at};
-ghost use Rattle.ice_entries.specs.Kept.{AreNeighbours};
+ghost use Rattle.ice_entries.specs.Alike.{AreAlike};
 ghost use Rattle.ice_entries.specs.Sharing.{entry_in, IsWithin, KeepsShared};
 
 use crate::common::LentCommon;
@@ -131,14 +131,15 @@ impl Shared {
         self.commons.get(own.common).content
     }
 
-    /// Whether the files of two records are neighbours: of one partition, with the same sequence number.
-    pub(crate) fn are_neighbours(&self, a: &Record, b: &Record) -> bool
+    /// Whether the files of two records are alike: they hold the same and are of one partition, with the same sequence
+    /// number.
+    pub(crate) fn are_alike(&self, a: &Record, b: &Record) -> bool
         requires first { IsWithin self.now a.now }
         requires second { IsWithin self.now b.now }
         ensures { (path other : List ℕ) → IsTrue result
-            ↔ AreNeighbours (entry_in self.now (path, a.now)) (entry_in self.now (other, b.now)) }
+            ↔ AreAlike (entry_in self.now (path, a.now)) (entry_in self.now (other, b.now)) }
     {
-        self.commons.are_of_partition(a.common, b.common)
+        self.commons.are_of_kind(a.common, b.common)
             && self.origins.are_of_one_number(a.origin, b.origin)
     }
 

@@ -38,4 +38,5 @@ pub mod SlotContents
 pub mod Snapshots
 pub mod SortedAlike
 pub mod Specs
+pub mod Stretches
 pub mod Unfiltered

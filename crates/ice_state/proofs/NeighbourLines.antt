@@ -1,7 +1,7 @@
 -- The same delete files apply to neighbours, where none names a data file.
 use Rattle.std.proofs.Common.{◌≡◌, ◌<◌, ◌&&◌, ◌||◌, ◌∙◌, ◌++◌, ◌-◌, ℕ, ℤ, zero, suc, Bool, true, false, List, [], ◌∷◌, filter, map, cond}
 use Rattle.std.proofs.Common.{refl, sym, ap, subst, arith, Option, Some, None, is_some, length, get_or, take, replicate}
-use Rattle.std.proofs.Common.{◌+◌, ◌≤◌, ◌⊎◌, inl, inr, add-one, add-zero, append_assoc}
+use Rattle.std.proofs.Common.{◌+◌, ◌≤◌, add-one, add-zero, append_assoc}
 use Rattle.std.proofs.lemmas.List.{append-nil}
 use Rattle.std.specs.List.{list_any}
 use Rattle.ice_value.specs.declared.cell.Cell.{Cell}
@@ -100,26 +100,6 @@ some_file : (ns : List FileNumber) → 0 < length ns → FileNumber
 some_file [] l = absurd (omega arith)
 some_file (n ∷ ns) l = n
 
--- one neighbour more
-pub one_beside : (kept : Segmented) (ns : List FileNumber) (first next : ℕ) (d e : FileNumber) → first < length ns
-    → next < length ns → AreNeighbours (entry_at kept (get_or ns first d)) (entry_at kept (get_or ns next e))
-    → AreBeside (entries_at kept ns) first next → AreBeside (entries_at kept ns) first (next + 1)
-one_beside kept ns first next d e l m near all = λ i after before.
-    let files = entries_at kept ns in
-    let here : AreNeighbours (get_or files first no_entry) (get_or files next no_entry) =
-    subst (λ (x : Entry). AreNeighbours x (get_or files next no_entry)) (one_file kept ns first d l)
-    (subst (λ (y : Entry). AreNeighbours (entry_at kept (get_or ns first d)) y) (one_file kept ns next e m) near) in
-    elim (split i next (omega (arith, before))) [
-      | inl less ↦ all i after less
-      | inr same ↦ subst (λ n. AreNeighbours (get_or files first no_entry) (get_or files n no_entry)) (sym same) here
-    ]
-  where
-    split : (i n : ℕ) → i < suc n → (i < n) ⊎ (i ≡ n)
-    split zero zero l = inr refl
-    split zero (suc n) l = inl (omega arith)
-    split (suc i) zero l = absurd (omega arith)
-    split (suc i) (suc n) l = elim (split i n (omega arith)) [ inl less ↦ inl (omega arith) | inr same ↦ inr (ap suc same) ]
-
 module _ (ranks : List ℕ) (index : List (ℕ × DeleteKey)) (kept : Segmented) (ns : List FileNumber) where
   abbrev f : Entry → LinePlaces
   f x = places_of (renumbered ranks index) (data_key_of x)
@@ -145,7 +125,7 @@ module _ (ranks : List ℕ) (index : List (ℕ × DeleteKey)) (kept : Segmented)
   module _ (i : ℕ) (l : i < length ns) (lines more : List LinePlaces)
       (are : lines ≡ map f (entries_at kept (take i ns))) where
     -- the line of one more file
-    looked_up_more : (d : FileNumber) (x : Entry) → x ≡ entry_at kept (get_or ns i d) → more ≡ lines ++ f x ∷ []
+    pub looked_up_more : (d : FileNumber) (x : Entry) → x ≡ entry_at kept (get_or ns i d) → more ≡ lines ++ f x ∷ []
         → more ≡ map f (entries_at kept (take (suc i) ns))
     looked_up_more d x is pushed = pushed ∙ (λ k. are k ++ f (is k) ∷ []) ∙ sym (one_more f kept ns i d l)
 
@@ -166,12 +146,3 @@ module _ (ranks : List ℕ) (index : List (ℕ × DeleteKey)) (kept : Segmented)
         sym (neighbour_places ranks index (get_or files i no_entry) (get_or files k no_entry) none
         (beside k (omega (arith, a)) (omega (arith, b, e)))))
         ∙ ap (λ (n : ℕ). map f (entries_at kept (take n ns))) e
-
-    -- a line of its own
-    pub alone : (d : FileNumber) (x : Entry) → x ≡ entry_at kept (get_or ns i d) → more ≡ lines ++ f x ∷ []
-        → (next : ℕ) → next ≡ i + 1
-        → more ++ replicate (next - i - 1) (line_in more i) ≡ map f (entries_at kept (take next ns))
-    alone d x is pushed next one =
-        let many : next - i - 1 ≡ 0 = omega (arith, one) in
-        ap (λ n. more ++ replicate n (line_in more i)) many ∙ append-nil more ∙ looked_up_more d x is pushed
-        ∙ ap (λ (n : ℕ). map f (entries_at kept (take n ns))) (sym (add-one i) ∙ sym one)

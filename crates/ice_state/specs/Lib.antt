@@ -20,3 +20,4 @@ pub mod Shares
 pub mod Slots
 pub mod Snapshots
 pub mod Specs
+pub mod Stretches

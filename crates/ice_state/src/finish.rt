@@ -1,14 +1,15 @@
 //! The plan of a content, or its first fault.
 
 ghost use Rattle.std.specs.Prelude.{◌≡◌, ◌<◌, ◌≤◌, [], ◌++◌, length, map, IfOk, OnOk, MatchResult, filter};
-ghost use Rattle.std.specs.Prelude.{option_map, IfSome, List, ℕ};
-ghost use Rattle.std.specs.List.{enumerate_from};
+ghost use Rattle.std.specs.Prelude.{option_map, IfSome, List, ℕ, take, false};
+ghost use Rattle.std.specs.List.{enumerate_from, list_any};
 ghost use Rattle.std.specs.List.Sorted.{IsPermutation};
 ghost use Rattle.std.specs.Option.{option_copied};
 ghost use Rattle.contract_words.specs.Outcome.{Gives};
 ghost use Rattle.ice_deletes.specs.Unions.{renumbered, AreBelow};
 ghost use Rattle.ice_entries.specs.Kept.{entries_at as entries_in};
-ghost use Rattle.ice_value.specs.declared.file_content.FileContent.TheVariants.{Data};
+ghost use Rattle.ice_deletes.specs.Groups.{is_in};
+ghost use Rattle.ice_deletes.specs.declared.group.Group.TheVariants.{Referenced};
 ghost use Rattle.ice_state.specs.Applying.{data_key_of, delete_key_of};
 ghost use Rattle.ice_state.specs.KeptDeletes.{IsIndexed, IsIndexOf, IsState};
 ghost use Rattle.ice_state.specs.Lines.{lines_of, IsPlanned};
@@ -17,9 +18,8 @@ ghost use Rattle.ice_state.specs.Orders.{IsOrder};
 ghost use Rattle.ice_state.specs.Outcomes.{missing, bad, twice, by_path, kept_in, plan_over, outcome_of};
 ghost use Rattle.ice_state.specs.Outcomes.{entries_in as entries_given};
 ghost use Rattle.ice_state.specs.Parts.{fault_of, Stops, holds_deletes, places_of};
-ghost use Rattle.ice_state.specs.Pruning.{holds};
 ghost use Rattle.ice_state.specs.Segments.{AreKept, entries_at, segment_at, Segmented};
-ghost use Rattle.ice_state.specs.SharedPlaces.{AreBeside};
+ghost use Rattle.ice_state.specs.Stretches.{AreStretches, HasFilesOf, HasPut};
 ghost use Rattle.ice_state.specs.Shares.{count_at};
 ghost use Rattle.ice_state.specs.Slots.{contents, given, HasNumbers, HaveNumbers, IsIn};
 
@@ -189,7 +189,68 @@ fn sort_by_path(named: &mut Vec<Named<'_>>) -> Result<(), AllocError>
 #[derive(Debug, Drop)]
 struct FilesByKind {
     data_files: Vec<FileNumber>,
+    /// Where each stretch of data files that are alike ends.
+    ends: Vec<usize>,
     delete_files: Vec<FileNumber>,
+}
+
+impl FilesByKind {
+    /// No files, with room for so many of each kind.
+    fn with_capacity(
+        alloc: Global,
+        data_files: usize,
+        delete_files: usize,
+    ) -> Result<FilesByKind, AllocError>
+        ensures { (kept : Segmented) → IfOk result (HasFilesOf kept []) }
+    {
+        Ok(FilesByKind {
+            data_files: Vec::with_capacity(alloc, data_files)?,
+            ends: Vec::new(alloc),
+            delete_files: Vec::with_capacity(alloc, delete_files)?,
+        })
+    }
+
+    /// Puts the file of an entry last, and those that follow and are like it. Says where these end.
+    fn push(
+        &mut self,
+        entries: &Segments,
+        named: &[Named<'_>],
+        first: usize,
+    ) -> Result<usize, AllocError>
+        requires named { AreNamed entries.now named.now }
+        requires place { first < length named.now }
+        ensures bounds { IfOk result (λ end. (first < end) × (end ≤ length named.now)) }
+        ensures pushed { HasFilesOf entries.now (take first (entries_named entries.now named.now)) self.old →
+            IfOk result (λ end. HasFilesOf entries.now (take end (entries_named entries.now named.now)) self.new) }
+    {
+        if entries.content(named[first].number) != FileContent::Data {
+            return push_alike(&mut self.delete_files, entries, named, first);
+        }
+        let end = push_alike(&mut self.data_files, entries, named, first)?;
+        self.ends.push(self.data_files.len())?;
+        Ok(end)
+    }
+}
+
+/// Puts the file of an entry last, and those that follow and are like it. Says where these end.
+fn push_alike(
+    files: &mut Vec<FileNumber>,
+    entries: &Segments,
+    named: &[Named<'_>],
+    first: usize,
+) -> Result<usize, AllocError>
+    requires named { AreNamed entries.now named.now }
+    requires place { first < length named.now }
+    ensures { IfOk result (HasPut entries.now named.now files.old.items files.new.items first) }
+{
+    let one = named[first].number;
+    files.push(one)?;
+    let mut end = first + 1;
+    'named: while end < named.len() && entries.are_alike(one, named[end].number) {
+        files.push(named[end].number)?;
+        end += 1;
+    }
+    Ok(end)
 }
 
 /// The files of entries, of which so many hold deletes.
@@ -200,26 +261,15 @@ fn files_by_kind(
     deletes: usize,
 ) -> Result<FilesByKind, AllocError>
     requires { AreNamed entries.now named.now }
-    ensures kept { IfOk result (λ files. AreKept entries.now files.data_files.items) }
-    ensures kept_deletes { IfOk result (λ files. AreKept entries.now files.delete_files.items) }
-    ensures all { IfOk result (λ files. entries_at entries.now files.data_files.items
-        ≡ filter (holds Data) (entries_named entries.now named.now)) }
-    ensures all_deletes { IfOk result (λ files. entries_at entries.now files.delete_files.items
-        ≡ filter holds_deletes (entries_named entries.now named.now)) }
+    ensures { IfOk result (HasFilesOf entries.now (entries_named entries.now named.now)) }
 {
-    let mut data_files = Vec::with_capacity(alloc, named.len().saturating_sub(deletes))?;
-    let mut delete_files = Vec::with_capacity(alloc, deletes)?;
-    'named: for x in named {
-        if entries.content(x.number) == FileContent::Data {
-            data_files.push(x.number)?;
-        } else {
-            delete_files.push(x.number)?;
-        }
+    let many = named.len();
+    let mut files = FilesByKind::with_capacity(alloc, many.saturating_sub(deletes), deletes)?;
+    let mut first = 0;
+    'named: while first < many {
+        first = files.push(entries, named, first)?;
     }
-    Ok(FilesByKind {
-        data_files,
-        delete_files,
-    })
+    Ok(files)
 }
 
 /// Those of the entries whose files hold deletes.
@@ -265,26 +315,48 @@ fn order_among(
 fn lines(
     alloc: Global,
     entries: &Segments,
-    files: &[FileNumber],
+    files: &FilesByKind,
     deletes: &IndexedDeletes,
     order: &[u32],
 ) -> Result<SharedPlaces, AllocError>
-    requires files { AreKept entries.now files.now }
+    requires files { AreKept entries.now files.now.data_files.items }
+    requires stretches { AreStretches (entries_at entries.now files.now.data_files.items) 0 files.now.ends.items }
     requires index { IsIndexed entries.now deletes.now }
     requires order { IsOrder (entries_at entries.now deletes.now.files.items) order.now }
     ensures { IfOk result (λ places. places ≡ map (λ x. places_of (enumerate_from 0
         (map delete_key_of (by_path (entries_at entries.now deletes.now.files.items)))) (data_key_of x))
-        (entries_at entries.now files.now)) }
+        (entries_at entries.now files.now.data_files.items)) }
 {
     if deletes.files.is_empty() {
-        return SharedPlaces::without_places(alloc, files.len());
+        return SharedPlaces::without_places(alloc, files.data_files.len());
     }
     let ranks = ranks(alloc, order)?;
     looked_up(alloc, entries, files, &deletes.index, &ranks)
 }
 
-/// The places that the ranks have at the numbers of the delete files that apply, for each of the data files.
+/// The places that the ranks have at the numbers of the delete files that apply, for each of the data files. Where none
+/// names a data file, the same apply to those that are alike.
 fn looked_up(
+    alloc: Global,
+    entries: &Segments,
+    files: &FilesByKind,
+    index: &DeleteIndex,
+    ranks: &[u32],
+) -> Result<SharedPlaces, AllocError>
+    requires files { AreKept entries.now files.now.data_files.items }
+    requires stretches { AreStretches (entries_at entries.now files.now.data_files.items) 0 files.now.ends.items }
+    requires ranks { AreBelow (length ranks.now) index.now }
+    ensures { IfOk result (λ places. places ≡ map (λ x. places_of (renumbered ranks.now index.now) (data_key_of x))
+        (entries_at entries.now files.now.data_files.items)) }
+{
+    if index.names_files() {
+        return each_looked_up(alloc, entries, &files.data_files, index, ranks);
+    }
+    stretches_looked_up(alloc, entries, &files.data_files, &files.ends, index, ranks)
+}
+
+/// The same, file by file.
+fn each_looked_up(
     alloc: Global,
     entries: &Segments,
     files: &[FileNumber],
@@ -298,39 +370,38 @@ fn looked_up(
 {
     let mut places = SharedPlaces::with_capacity(alloc, files.len())?;
     let mut finder = Finder::new(index);
-    // Where none names a data file, the same apply to neighbours.
-    let is_shared = !index.names_files();
-    let mut first = 0;
-    'files: while first < files.len() {
-        push_places(
-            &mut places,
-            &mut finder,
-            ranks,
-            &entries.entry(files[first]),
-        )?;
-        let next = if is_shared {
-            end_of_neighbours(entries, files, first)
-        } else {
-            first + 1
-        };
-        places.push_again(first, next - first - 1)?;
-        first = next;
+    'files: for file in files {
+        push_places(&mut places, &mut finder, ranks, &entries.entry(*file))?;
     }
     Ok(places)
 }
 
-/// Where the files end that follow a file and are neighbours of it.
-fn end_of_neighbours(entries: &Segments, files: &[FileNumber], first: usize) -> usize
+/// The same, a stretch of files that are alike after the other, where these end.
+fn stretches_looked_up(
+    alloc: Global,
+    entries: &Segments,
+    files: &[FileNumber],
+    ends: &[usize],
+    index: &DeleteIndex,
+    ranks: &[u32],
+) -> Result<SharedPlaces, AllocError>
     requires files { AreKept entries.now files.now }
-    requires place { first < length files.now }
-    ensures bounds { (first < result) × (result ≤ length files.now) }
-    ensures neighbours { AreBeside (entries_at entries.now files.now) first result }
+    requires stretches { AreStretches (entries_at entries.now files.now) 0 ends.now }
+    requires ranks { AreBelow (length ranks.now) index.now }
+    requires unnamed { list_any (λ e. is_in Referenced e.1) index.now ≡ false }
+    ensures { IfOk result (λ places. places
+        ≡ map (λ x. places_of (renumbered ranks.now index.now) (data_key_of x)) (entries_at entries.now files.now)) }
 {
-    let mut end = first + 1;
-    'files: while end < files.len() && entries.are_neighbours(files[first], files[end]) {
-        end += 1;
+    let mut places = SharedPlaces::with_capacity(alloc, files.len())?;
+    let mut finder = Finder::new(index);
+    let mut first = 0;
+    'ends: for end in ends {
+        let entry = entries.entry(files[first]);
+        push_places(&mut places, &mut finder, ranks, &entry)?;
+        places.push_again(first, *end - first - 1)?;
+        first = *end;
     }
-    end
+    Ok(places)
 }
 
 /// A line for each data file, with the delete files that apply by their index.
@@ -352,7 +423,7 @@ fn planned_by(
     // The lines need its room.
     drop(named);
     let order = order_among(alloc, entries, &deletes.files, &files.delete_files)?;
-    let places = lines(alloc, entries, &files.data_files, deletes, order.as_slice())?;
+    let places = lines(alloc, entries, &files, deletes, order.as_slice())?;
     Ok(NumberedPlan {
         files: files.data_files,
         deletes: files.delete_files,

@@ -1,7 +1,8 @@
 //! Entries that are kept in segments: a state's own, and behind them those of each state that it absorbed.
 
 ghost use Rattle.std.specs.Prelude.{◌≡◌, ◌<◌, ◌++◌, ◌^◌, ◌↔◌, length, IfOk, IsTrue, OnErr, OnOk};
-ghost use Rattle.ice_entries.specs.Kept.{AreKept as AreKeptIn, AreNeighbours, entries_at as entries_in};
+ghost use Rattle.ice_entries.specs.Kept.{AreKept as AreKeptIn, entries_at as entries_in};
+ghost use Rattle.ice_entries.specs.Alike.{AreAlike};
 ghost use Rattle.ice_manifest_reading.specs.Lending.{lent};
 ghost use Rattle.ice_state.specs.Segments.{AreBefore, entry_at, IsKept, Keeps, segment_at, Segmented};
 ghost use Rattle.ice_state.specs.Segments.{StandsBehind};
@@ -103,17 +104,17 @@ impl Segments {
         self.segment(number.segment).content(number.number)
     }
 
-    /// Whether the files of two entries are neighbours: of one spec, with the same partition values and the same sequence
-    /// number.
-    pub(crate) fn are_neighbours(&self, a: FileNumber, b: FileNumber) -> bool
+    /// Whether the files of two entries are alike: they hold the same and are of one spec, with the same partition values
+    /// and the same sequence number.
+    pub(crate) fn are_alike(&self, a: FileNumber, b: FileNumber) -> bool
         requires first { IsKept self.now a }
         requires second { IsKept self.now b }
-        ensures { IsTrue result ↔ AreNeighbours (entry_at self.now a) (entry_at self.now b) }
+        ensures { IsTrue result ↔ AreAlike (entry_at self.now a) (entry_at self.now b) }
     {
         if a.segment == b.segment {
-            return self.segment(a.segment).are_neighbours(a.number, b.number);
+            return self.segment(a.segment).are_alike(a.number, b.number);
         }
-        are_neighbours(&self.entry(a), &self.entry(b))
+        are_alike(&self.entry(a), &self.entry(b))
     }
 
     /// The path of an entry.
@@ -188,10 +189,11 @@ impl Segments {
 }
 
 /// The same of entries that are lent.
-fn are_neighbours(a: &LentEntry<'_>, b: &LentEntry<'_>) -> bool
-    ensures { IsTrue result ↔ AreNeighbours (lent a.now) (lent b.now) }
+fn are_alike(a: &LentEntry<'_>, b: &LentEntry<'_>) -> bool
+    ensures { IsTrue result ↔ AreAlike (lent a.now) (lent b.now) }
 {
-    a.spec_id == b.spec_id
+    a.content == b.content
+        && a.spec_id == b.spec_id
         && a.sequence_number == b.sequence_number
         && is_same_tuple(a.tuple, b.tuple)
 }

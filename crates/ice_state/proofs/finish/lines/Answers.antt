@@ -16,13 +16,17 @@ use Rattle.ice_state.proofs.finish.lines.Goals as goal
 pub returns-then-is_empty : goal.returns-then-is_empty
 returns-then-is_empty c =
     let kept = c.args.entries.now in
-    let files = entries_at kept c.args.files.now in
+    let files = entries_at kept c.args.files.now.data_files.items in
     let none : c.args.deletes.now.files.items ≡ [] = grind (arith, common_steps) in
     let places : List FileNumber → List LinePlaces = λ ns. map (λ x. places_of (enumerate_from 0
     (map delete_key_of (by_path (entries_at kept ns)))) (data_key_of x)) files in
-    let many : length c.args.files.now ≡ length files = sym (length-map c.args.files.now (entry_at kept)) in
-    let are : replicate (length c.args.files.now) no_places ≡ places c.args.deletes.now.files.items =
-    ap (λ n. replicate n no_places) many ∙ sym (none_apply files) ∙ ap places (sym none) in
+    let many : length c.args.files.now.data_files.items ≡ length files = sym (length-map c.args.files.now.data_files.items (entry_at kept)) in
+    let counted : c.len.result ≡ length c.args.files.now.data_files.items = first_of (
+      omega (arith, c.len.ensures),
+      grind (arith, common_steps),
+    ) in
+    let are : replicate c.len.result no_places ≡ places c.args.deletes.now.files.items =
+    ap (λ n. replicate n no_places) (counted ∙ many) ∙ sym (none_apply files) ∙ ap places (sym none) in
     subst (λ (ps : List LinePlaces). IfOk c.without_places.result (λ table. table ≡ ps)) are c.without_places.ensures
 
 pub ranks-requires : goal.ranks-requires
@@ -39,6 +43,7 @@ looked_up-requires c =
     let ranked = subst (AreRanks c.args.order.now) (sym c.deref.ensures.value) c.in_ok-ranks.ensures in
     record {
       files = c.requires.files;
+      stretches = c.requires.stretches;
       ranks = below_ranks c.args.entries.now c.args.deletes.now index.0 index.1 c.args.order.now c.requires.order
           c.deref.result.now ranked;
     }
@@ -52,5 +57,5 @@ returns c =
     let files = map delete_key_of (by_path (entries_at kept deletes.files.items)) in
     let same = index_in_order kept deletes index.0 index.1 c.args.order.now c.requires.order c.deref.result.now ranked in
     let Q : List LinePlaces → Type 0 = λ ps. IfOk c.looked_up.result (λ places. places ≡ ps) in
-    subst Q (all_by_place files (renumbered c.deref.result.now deletes.index) same (entries_at kept c.args.files.now))
+    subst Q (all_by_place files (renumbered c.deref.result.now deletes.index) same (entries_at kept c.args.files.now.data_files.items))
     c.looked_up.ensures

@@ -60,7 +60,8 @@ pub lines-requires : goal.lines-requires
 lines-requires c =
     let kept = c.args.entries.now in
     record {
-      files = subst (AreKept kept) (sym c.deref-4.ensures.value) c.in_ok-files.ensures.kept;
+      files = c.in_ok-files.ensures.kept;
+      stretches = c.in_ok-files.ensures.stretches;
       index = (entries_named kept c.args.named.items, c.requires.deletes);
       order = subst (IsOrder (entries_at kept c.args.deletes.now.files.items)) (sym c.as_slice.ensures)
           (ordered (goal.at.lines-requires c).In_ok-order);
@@ -76,7 +77,6 @@ places_are c =
     let kept = c.args.entries.now in
     let deletes = by_path (entries_at kept c.args.deletes.now.files.items) in
     c.in_ok-places.ensures
-    ∙ ap (λ (ns : List FileNumber). places_by deletes (entries_at kept ns)) c.deref-4.ensures.value
     ∙ ap (λ (es : List Entry). places_by es (entries_at kept c.in_ok-files.files.data_files.items))
     (sym (by_path_are (goal.at-In_ok-places c).In_ok-files))
 

@@ -1,11 +1,12 @@
 use Rattle.std.proofs.Common.{rules, take}
+use Rattle.std.specs.List.{slice_range}
 use Rattle.std.specs.List.Sorted.{IsPartitionedBy}
 use Rattle.std.proofs.lemmas.List.Sorted.{IsPartitionPoint-from_clause}
 use Rattle.ice_deletes.specs.declared.delete.Delete.{Delete}
 use Rattle.ice_deletes.specs.Keys.{key_in, sought}
 use Rattle.ice_deletes.specs.Groups.{is_older, sort_key}
 use Rattle.ice_deletes.specs.Shelves.{earlier}
-use Rattle.ice_deletes.proofs.Lists.{sorted_parted, parted_front, back_fails}
+use Rattle.ice_deletes.proofs.Lists.{sorted_parted, parted_range, later_back}
 use Rattle.ice_deletes.proofs.Orders.{earlier_orders}
 use Rattle.ice_deletes.proofs.Within.{older_before}
 use Rattle.ice_deletes.proofs.shelf.Shelf.start.Goals as goal
@@ -18,7 +19,10 @@ returns-clause-back c =
     let xs = c.args.self.now.deletes.items in
     let parted : IsPartitionedBy p xs = sorted_parted (earlier g) (earlier_orders g) p (λ x y before h. older_before g k
     (sort_key (key_in x)) (sort_key (key_in y)) before h) xs c.requires.sorted in
-    let front : IsPartitionedBy p (take c.args.end xs) = parted_front p c.args.end xs c.requires.within parted in
-    back_fails p (take c.args.end xs) c.partition_point.result
-    (IsPartitionPoint-from_clause p (take c.args.end xs) c.partition_point.result (rw c.deref.ensures.value at
-    c.partition_point.ensures.partitioned) front (λ a r f k. (search rules, search rules)))
+    later_back p c.near_start-first.result c.args.end c.partition_point.result xs c.near_start-first.ensures.within
+    c.requires.within (rw c.deref.ensures.value at c.partition_point.ensures.bound) parted
+    c.near_start-first.ensures.older
+    (IsPartitionPoint-from_clause p (slice_range xs c.near_start-first.result c.args.end) c.partition_point.result
+    (rw c.deref.ensures.value at c.partition_point.ensures.partitioned)
+    (parted_range p c.near_start-first.result c.args.end xs c.near_start-first.ensures.within c.requires.within parted)
+    (λ a r f k. (search rules, search rules)))

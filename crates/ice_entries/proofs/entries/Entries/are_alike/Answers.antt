@@ -1,12 +1,13 @@
 use Rattle.std.proofs.Common.{◌≡◌, ◌∙◌, ◌↔◌, IsTrue, List, ℕ, ap, subst, sym}
 use Rattle.ice_manifest_reading.specs.declared.entry.Entry.{Entry}
 use Rattle.ice_entries.specs.declared.entries.EntryNumber.{EntryNumber}
-use Rattle.ice_entries.specs.Kept.{AreNeighbours, IsKept, Kept, entry_at}
+use Rattle.ice_entries.specs.Alike.{AreAlike}
+use Rattle.ice_entries.specs.Kept.{IsKept, Kept, entry_at}
 use Rattle.ice_entries.specs.Own.{Own}
 use Rattle.ice_entries.specs.Sharing.{entry_in}
 use Rattle.ice_entries.specs.Tables.{row_at}
 use Rattle.ice_entries.proofs.Keeping.{entry_at-row, in_rows}
-use Rattle.ice_entries.proofs.entries.Entries.are_neighbours.Goals as goal
+use Rattle.ice_entries.proofs.entries.Entries.are_alike.Goals as goal
 
 pub returns : goal.returns
 returns c =
@@ -20,7 +21,7 @@ returns c =
     ∙ ap (λ (k : Kept). entry_at k n) c.self.view_is in
     let first = is_entry c.args.a c.record.result.now c.requires.first c.record.ensures in
     let second = is_entry c.args.b c.record-2.result.now c.requires.second c.record-2.ensures in
-    let P : Entry → Entry → Type 0 = λ x y. IsTrue c.are_neighbours.result ↔ AreNeighbours x y in
+    let P : Entry → Entry → Type 0 = λ x y. IsTrue c.are_alike.result ↔ AreAlike x y in
     subst (λ x. P x (entry_at c.args.self.now c.args.b)) first
     (subst (P (entry_in s (path c.args.a, c.record.result.now))) second
-    (c.are_neighbours.ensures (path c.args.a) (path c.args.b)))
+    (c.are_alike.ensures (path c.args.a) (path c.args.b)))
