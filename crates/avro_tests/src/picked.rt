@@ -319,3 +319,44 @@ fn values_without_bytes(rt: HostRuntime) {
         )
     );
 }
+
+/// Fields that take no bytes before, between and behind others, also in a record, in items, values and a branch.
+const EMPTIES: &[u8] = b"{\"type\":\"record\",\"name\":\"e\",\"fields\":[\
+{\"name\":\"a\",\"type\":\"null\",\"field-id\":1},\
+{\"name\":\"b\",\"type\":{\"type\":\"record\",\"name\":\"r\",\"fields\":[\
+{\"name\":\"c\",\"type\":{\"type\":\"fixed\",\"name\":\"f\",\"size\":0},\"field-id\":3},\
+{\"name\":\"d\",\"type\":\"int\",\"field-id\":4},{\"name\":\"g\",\"type\":\"null\",\"field-id\":5}]},\"field-id\":2},\
+{\"name\":\"h\",\"type\":{\"type\":\"array\",\"items\":\"r\"},\"field-id\":6},\
+{\"name\":\"i\",\"type\":{\"type\":\"map\",\"values\":\"r\"},\"field-id\":7},\
+{\"name\":\"j\",\"type\":[\"null\",\"r\"],\"field-id\":8},{\"name\":\"k\",\"type\":\"null\",\"field-id\":9},\
+{\"name\":\"l\",\"type\":\"int\",\"field-id\":10}]}";
+
+#[test]
+fn fields_without_bytes(rt: HostRuntime) {
+    let content =
+        b"\x02\x04\x04\x06\x00\x02\x02k\x08\x00\x02\x0a\x0c\x8e\x80\x80\x80\x00\x00\x00\x00\x0e";
+    let lines = "[None, Some(Fixed([])), Some(Int(1)), None, \
+Some(Array([Record([Fixed([]), Int(2), Null]), Record([Fixed([]), Int(3), Null])])), \
+Some(Map([(\"k\", Record([Fixed([]), Int(4), Null]))])), Some(Int(5)), None, Some(Int(6))]\n\
+[None, Some(Fixed([])), Some(Int(7)), None, Some(Array([])), Some(Map([])), None, None, Some(Int(7))]\nend";
+    assert!(rt;
+        gives(
+            rt.alloc(),
+            EMPTIES,
+            2,
+            content,
+            &[
+                &[1],
+                &[2, 3],
+                &[2, 4],
+                &[2, 5],
+                &[6],
+                &[7],
+                &[8, 4],
+                &[9],
+                &[10]
+            ],
+            lines
+        )
+    );
+}
