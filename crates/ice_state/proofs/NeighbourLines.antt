@@ -1,7 +1,7 @@
 -- The same delete files apply to neighbours, where none names a data file.
 use Rattle.std.proofs.Common.{◌≡◌, ◌<◌, ◌&&◌, ◌||◌, ◌∙◌, ◌++◌, ◌-◌, ℕ, ℤ, zero, suc, Bool, true, false, List, [], ◌∷◌, filter, map, cond}
-use Rattle.std.proofs.Common.{refl, sym, ap, subst, arith, Option, Some, None, is_some, length, get_or, take, replicate}
-use Rattle.std.proofs.Common.{◌+◌, ◌≤◌, add-one, add-zero, append_assoc}
+use Rattle.std.proofs.Common.{refl, sym, ap, arith, Option, Some, None, is_some, length, get_or, take, replicate}
+use Rattle.std.proofs.Common.{◌+◌, ◌≤◌, add-zero, append_assoc}
 use Rattle.std.proofs.lemmas.List.{append-nil}
 use Rattle.std.specs.List.{list_any}
 use Rattle.ice_value.specs.declared.cell.Cell.{Cell}

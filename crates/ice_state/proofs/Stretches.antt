@@ -1,23 +1,22 @@
 -- Files of entries that are put stretch by stretch, and those of a stretch that are looked up together.
 use Rattle.std.proofs.Common.{◌≡◌, ◌<◌, ◌≤◌, ◌+◌, ◌-◌, ◌∙◌, ◌++◌, ℕ, zero, suc, Bool, true, false, not, cond, List, [], ◌∷◌}
-use Rattle.std.proofs.Common.{refl, sym, ap, subst, arith, filter, length, map, get_or, take, drop, append-nil, add-one}
+use Rattle.std.proofs.Common.{refl, sym, ap, subst, arith, filter, length, get_or, take, drop, append-nil}
 use Rattle.std.proofs.Common.{append_assoc, ◌⊎◌, inl, inr, Result, Ok, Err, IfOk}
 use Rattle.std.specs.List.{slice_range}
 use Rattle.std.proofs.Math.ListN.{get_or-append}
-use Rattle.std.proofs.lemmas.List.{drop_all, take_all}
 use Rattle.std.proofs.lemmas.List.{drop_more, get_or-drop, get_or-map, get_or-take, length-append, length-drop}
 use Rattle.std.proofs.lemmas.List.{length-map, length-take-le, take-append-drop, take-take, take_more, map-append}
 use Rattle.std.proofs.lemmas.List.Elements.{filter-append}
 use Rattle.ice_manifest_reading.specs.declared.entry.Entry.{Entry}
 use Rattle.ice_value.specs.declared.file_content.FileContent.{FileContent}
-use Rattle.ice_value.specs.declared.file_content.FileContent.TheVariants.{Data, PositionDeletes, EqualityDeletes}
+use Rattle.ice_value.specs.declared.file_content.FileContent.TheVariants.{Data}
 use Rattle.ice_deletes.proofs.Lists.{range_is}
 use Rattle.ice_entries.specs.Alike.{AreAlike}
 use Rattle.ice_entries.specs.Kept.{no_entry}
 use Rattle.ice_state.specs.declared.finish.FilesByKind.{FilesByKind}
 use Rattle.ice_state.specs.declared.finish.Named.{Named}
 use Rattle.ice_state.specs.declared.segments.FileNumber.{FileNumber}
-use Rattle.ice_state.specs.Named.{AreNamed, IsNamed, entry_named, entries_named}
+use Rattle.ice_state.specs.Named.{AreNamed, entry_named, entries_named}
 use Rattle.ice_state.specs.Parts.{holds_deletes}
 use Rattle.ice_state.specs.Pruning.{holds, same_content}
 use Rattle.ice_state.specs.Segments.{AreKept, IsKept, Segmented, entry_at, entries_at}
@@ -248,16 +247,16 @@ module _ (kept : Segmented) (named : List Named) (old new : List FileNumber) (fi
       let parts : entries_at kept new ≡ entries_at kept old ++ slice_range entries first end = put.pushed in
       let here : is_data (get_or entries first no_entry).file.content ≡ true = ap is_data is_of_data in
       let stretch : AreStretches (entries_at kept new) 0 ends = (
-        let more_stretches = stretches_more (entries_at kept old) (slice_range entries first end) 0 files.ends.items
-        (omega (arith, range_length entries first end put.after in_all put.alike, put.after))
-        (range_alike entries first end put.after in_all put.alike)
-        (subst (λ (xs : List Entry). AreStretches xs 0 files.ends.items) same_data has.stretches) in
-        let count : length (entries_at kept old ++ slice_range entries first end) ≡ length new =
-        ap length (sym parts) ∙ length-map new (entry_at kept) in
-        subst (λ (es : List ℕ). AreStretches (entries_at kept new) 0 es) (sym more)
-        (subst (λ (n : ℕ). AreStretches (entries_at kept new) 0 (files.ends.items ++ n ∷ [])) count
-        (subst (λ (xs : List Entry). AreStretches xs 0 (files.ends.items
-        ++ length (entries_at kept old ++ slice_range entries first end) ∷ [])) (sym parts) more_stretches))
+      let more_stretches = stretches_more (entries_at kept old) (slice_range entries first end) 0 files.ends.items
+      (omega (arith, range_length entries first end put.after in_all put.alike, put.after))
+      (range_alike entries first end put.after in_all put.alike)
+      (subst (λ (xs : List Entry). AreStretches xs 0 files.ends.items) same_data has.stretches) in
+      let count : length (entries_at kept old ++ slice_range entries first end) ≡ length new =
+      ap length (sym parts) ∙ length-map new (entry_at kept) in
+      subst (λ (es : List ℕ). AreStretches (entries_at kept new) 0 es) (sym more)
+      (subst (λ (n : ℕ). AreStretches (entries_at kept new) 0 (files.ends.items ++ n ∷ [])) count
+      (subst (λ (xs : List Entry). AreStretches xs 0 (files.ends.items
+      ++ length (entries_at kept old ++ slice_range entries first end) ∷ [])) (sym parts) more_stretches))
       ) in
       record {
         kept = subst (AreKept kept) (sym is_new) (put.kept (subst (AreKept kept) was has.kept));
@@ -339,14 +338,6 @@ stretch_at kept files first ends i d l are =
       alike = all.2;
       rest = all.3;
     }
-
--- behind the last of them no file is left
-pub stretches_end : (kept : Segmented) (files : List FileNumber) (first : ℕ) (ends : List ℕ) (i : ℕ) → length ends ≤ i
-    → AreStretches (entries_at kept files) first (drop i ends) → take first files ≡ files
-stretches_end kept files first ends i l are =
-    let all : first ≡ length (entries_at kept files) =
-    subst (AreStretches (entries_at kept files) first) (drop_all i ends l) are in
-    take_all first files (omega (arith, all, length-map files (entry_at kept)))
 
 -- those that are alike are neighbours
 pub alike_beside : (files : List Entry) (first end : ℕ) → AreLikeFirst files first end → AreBeside files first end

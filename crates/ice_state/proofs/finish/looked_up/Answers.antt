@@ -1,8 +1,5 @@
-use Rattle.std.proofs.Common.{◌≡◌, ◌∙◌, IfOk, List, ℕ, map, subst, sym}
-use Rattle.ice_deletes.specs.Unions.{renumbered}
+use Rattle.std.proofs.Common.{◌∙◌, List, ℕ, subst, sym}
 use Rattle.ice_state.specs.declared.segments.FileNumber.{FileNumber}
-use Rattle.ice_state.specs.Applying.{data_key_of}
-use Rattle.ice_state.specs.Parts.{places_of}
 use Rattle.ice_state.specs.Segments.{AreKept, entries_at}
 use Rattle.ice_state.specs.Stretches.{AreStretches}
 use Rattle.ice_state.proofs.finish.looked_up.Goals as goal

@@ -1,4 +1,4 @@
-use Rattle.std.proofs.Common.{◌≡◌, ◌∙◌, ◌++◌, ◌∷◌, [], List, ℕ, ap, arith, get_or, length, not, refl, rules, true, take}
+use Rattle.std.proofs.Common.{◌≡◌, ◌∙◌, ◌++◌, ◌∷◌, [], ap, arith, get_or, length, not, refl, rules, true, take}
 use Rattle.std.proofs.lemmas.Grind.{common_steps}
 use Rattle.ice_value.specs.declared.file_content.FileContent.{FileContent}
 use Rattle.ice_value.specs.declared.file_content.FileContent.TheVariants.{Data}
