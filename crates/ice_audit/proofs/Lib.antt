@@ -1,0 +1,2 @@
+pub mod CoverageLaws
+pub mod Walks

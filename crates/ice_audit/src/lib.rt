@@ -1,0 +1,19 @@
+//! Audits of tables: what of a snapshot's manifests is not as the manifest list and the table's metadata say, so that a
+//! plan of it might lack files.
+#![tactic(auto)]
+
+mod basis;
+mod entries;
+mod finding;
+mod flaws;
+mod limits;
+
+pub use basis::Basis;
+pub use entries::push_findings;
+pub use finding::{Finding, Flaw};
+
+#[cfg(test)]
+mod tests {
+    #[test]
+    fn nothing() {}
+}

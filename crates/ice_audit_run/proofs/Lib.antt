@@ -1,0 +1,4 @@
+pub mod Told
+pub mod Premise
+pub mod Selecting
+pub mod Steps

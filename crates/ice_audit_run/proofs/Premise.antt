@@ -1,0 +1,240 @@
+-- No finding says that a summary does not cover an entry just where the premise of the plan holds.
+use Rattle.std.proofs.Common.{◌≡◌, ℕ, zero, suc, arith, List, [], ◌∷◌, ◌++◌, length, refl, sym, ap, ◌∙◌}
+use Rattle.std.proofs.Common.{Option, Some, None, option_map, subst}
+use Rattle.std.specs.Prelude.{Result, Ok, Err}
+use Rattle.std.specs.List.{AllByRecursion, Contains}
+use Rattle.contract_words.specs.Outcome.{◌>>=◌}
+use Rattle.ice_audit.specs.declared.basis.Basis.{Basis}
+use Rattle.ice_audit.specs.declared.finding.Finding.{Finding}
+use Rattle.ice_audit.specs.Coverage.{outside, row_limits}
+use Rattle.ice_audit.specs.Findings.{entry_findings, manifest_findings}
+use Rattle.ice_audit.proofs.CoverageLaws.{covered_by, none_by}
+use Rattle.ice_value.specs.declared.cell.Cell.{Cell}
+use Rattle.ice_value.specs.declared.file_bounds.Summary.{Summary}
+use Rattle.ice_manifest_fields.specs.declared.fault.ManifestFault.{ManifestFault}
+use Rattle.ice_manifest_reading.specs.Laws.{HasACellForEach}
+use Rattle.ice_manifest_reading.specs.Manifests.{entries, entries_of, live_of}
+use Rattle.ice_manifest_reading.specs.declared.entry.Entry.{Entry}
+use Rattle.ice_manifest_reading.specs.declared.entry.Live.{Live}
+use Rattle.ice_manifest_reading.specs.declared.row.Row.{Row}
+use Rattle.ice_meta.specs.declared.metadata.Target.{Target}
+use Rattle.ice_meta.specs.declared.spec.Spec.{Spec}
+use Rattle.ice_state.specs.Contents.{World, live_by, manifest_of}
+use Rattle.ice_state.specs.Covering.{AreCovered, Covers, RowCovers}
+use Rattle.ice_state.specs.Snapshots.{live, live_or_none}
+use Rattle.ice_state.specs.Specs.{spec_of}
+use Rattle.ice_text.specs.Reads.{as_run, file_in, rows_at}
+use Rattle.ice_text.specs.declared.fault.RunFault.{RunFault}
+use Rattle.ice_text.proofs.Steps.{bytes_in}
+use Rattle.ice_requests.specs.declared.selection.Selection.{Selection}
+use Rattle.ice_requests.specs.Selections.{selected}
+use Rattle.ice_audit_run.specs.Audits.{all_known, audit_of, joined, nothing, of_manifest, or_unknown, row_audit, rows_audit}
+use Rattle.ice_audit_run.specs.Audits.{spec_for}
+use Rattle.ice_audit_run.specs.Premises.{TellsTheTruthToAll, uncovered}
+use Rattle.ice_audit_run.specs.Subjects.{subject_of}
+use Rattle.ice_audit_run.specs.declared.audit.Audit.{Audit}
+use Rattle.ice_audit_run.specs.declared.subject.Subject.{Subject}
+use Rattle.ice_audit_run.proofs.Selecting.{same_selection, unfiltered_selection}
+use Rattle.ice_audit_run.proofs.Steps.{steps}
+use Rattle.ice_audit_run.proofs.Told.{none_of_all, none_of_both, told, told_back}
+
+-- ---- reading step by step
+
+spec_there : (row : Row) (o : Option Spec) (spec : Spec) → or_unknown row o ≡ Ok spec → o ≡ Some spec
+spec_there row None spec h = absurd cc
+spec_there row (Some s) spec h = cc
+
+ok_in : {A E : Type 0} (of : E → RunFault) (r : Result A E) (x : A) → as_run of r ≡ Ok x → r ≡ Ok x
+ok_in of (Ok y) x h = cc
+ok_in of (Err e) x h = absurd cc
+
+lives_in : (r : Result (List Live) ManifestFault) (found : List Entry) → (r >>= λ ls. Ok (entries ls)) ≡ Ok found
+    → (ls : List Live) × (r ≡ Ok ls) × (found ≡ entries ls)
+lives_in (Ok ls) found h = (ls, refl, let same : entries ls ≡ found = cc in sym same)
+lives_in (Err e) found h = absurd cc
+
+-- ---- the entries of one manifest
+
+covered_where_none : (spec : Spec) (summaries : Option (List Summary)) (tuple : List Cell)
+    → length tuple ≡ length spec.fields → outside (row_limits spec summaries) tuple ≡ [] → Covers spec summaries tuple
+covered_where_none spec None tuple full h = tt
+covered_where_none spec (Some ss) tuple full h = covered_by spec ss tuple full h
+
+none_where_covered : (spec : Spec) (summaries : Option (List Summary)) (tuple : List Cell)
+    → Covers spec summaries tuple → outside (row_limits spec summaries) tuple ≡ []
+none_where_covered spec None tuple h = refl
+none_where_covered spec (Some ss) tuple h = none_by spec ss tuple h
+
+-- what each element of a list has, at its place
+each_at : (P : Live → Type 0) (ls : List Live) → ((l : Live) → Contains ls l → P l) → AllByRecursion P ls
+each_at P [] h = tt
+each_at P (l ∷ ls) h = (h l (0, omega arith, refl), each_at P ls (λ x c. h x (suc c.0, omega arith, c.2)))
+
+module _ (basis : Basis) (row : Row) (spec : Spec) (is : spec_of basis.specs row.spec_id ≡ Some spec) where
+  abbrev IsFull : Live → Type 0
+  IsFull l = length l.entry.file.tuple ≡ length spec.fields
+
+  only : (other : Spec) → spec_of basis.specs row.spec_id ≡ Some other → spec ≡ other
+  only other h = let same : Some spec ≡ Some other = sym is ∙ h in cc
+
+  abbrev findings_in : List Live → List Finding
+  findings_in ls = manifest_findings basis row spec (entries ls)
+
+  covered_in : (ls : List Live) → AllByRecursion IsFull ls → uncovered (findings_in ls) ≡ []
+      → AllByRecursion (λ (l : Live). RowCovers basis.specs row l.entry.file.tuple) ls
+  covered_in [] full h = tt
+  covered_in (l ∷ ls) full h =
+      let limits = row_limits spec row.partitions in
+      let parts = none_of_both (entry_findings basis row limits l.entry) (findings_in ls) h in
+      let covers = covered_where_none spec row.partitions l.entry.file.tuple full.0
+      (told row l.entry basis limits parts.0) in
+      (
+        λ other found. subst (λ (s : Spec). Covers s row.partitions l.entry.file.tuple) (only other found) covers,
+        covered_in ls full.1 parts.1,
+      )
+
+  none_in : (ls : List Live) → AllByRecursion (λ (l : Live). RowCovers basis.specs row l.entry.file.tuple) ls
+      → uncovered (findings_in ls) ≡ []
+  none_in [] h = refl
+  none_in (l ∷ ls) h =
+      let limits = row_limits spec row.partitions in
+      none_of_all (entry_findings basis row limits l.entry) (findings_in ls)
+      (told_back row l.entry basis limits (none_where_covered spec row.partitions l.entry.file.tuple (h.0 spec is)))
+      (none_in ls h.1)
+
+-- ---- the manifest of a row
+
+pub record IsRowOf (world : World) (basis : Basis) (row : Row) (audit : Audit) : Type 0 where
+  pub spec : Spec
+  pub bytes : List ℕ
+  pub lives : List Live
+  pub spec_is : spec_of basis.specs row.spec_id ≡ Some spec
+  pub bytes_are : world row.path ≡ Some bytes
+  pub lives_are : live_of row spec bytes ≡ Ok lives
+  pub findings_are : audit.findings ≡ manifest_findings basis row spec (entries lives)
+
+row_of : (world : World) (basis : Basis) (row : Row) (audit : Audit) → row_audit world basis row ≡ Ok audit
+    → IsRowOf world basis row audit
+unfolding row_audit entries_of
+row_of world basis row audit h =
+    let one = steps (spec_for basis.specs row) _ audit h in
+    let two = steps (file_in world row.path) _ audit one.2 in
+    let three = steps (as_run (of_manifest row.path) (entries_of row one.0 two.0)) _ audit two.2 in
+    let found = lives_in (live_of row one.0 two.0) three.0
+    (ok_in (of_manifest row.path) (entries_of row one.0 two.0) three.0 three.1) in
+    let here : record {
+      manifests = 1;
+      entries = length three.0;
+      findings = manifest_findings basis row one.0 three.0;
+    } ≡ audit = cc in
+    record {
+      spec = one.0;
+      bytes = two.0;
+      lives = found.0;
+      spec_is = spec_there row (spec_of basis.specs row.spec_id) one.0 one.1;
+      bytes_are = bytes_in world row.path two.0 two.1;
+      lives_are = found.1;
+      findings_are = sym (ap (λ (a : Audit). a.findings) here)
+          ∙ ap (λ (es : List Entry). manifest_findings basis row one.0 es) found.2;
+    }
+
+live_are : (world : World) (basis : Basis) (row : Row) (audit : Audit) (r : IsRowOf world basis row audit)
+    → live world basis.specs row ≡ r.lives
+live_are world basis row audit r =
+    ap (λ o. live_or_none (option_map (manifest_of basis.specs row) o)) r.bytes_are
+    ∙ ap (λ o. live_or_none (Some (live_by o row r.bytes))) r.spec_is
+    ∙ ap (λ m. live_or_none (Some m)) r.lives_are
+
+abbrev IsRowCovered : World → Basis → Row → Type 0
+IsRowCovered world basis row = AllByRecursion (λ (l : Live). RowCovers basis.specs row l.entry.file.tuple)
+    (live world basis.specs row)
+
+row_covered : (full : HasACellForEach) (world : World) (basis : Basis) (row : Row) (audit : Audit)
+    → row_audit world basis row ≡ Ok audit → uncovered audit.findings ≡ [] → IsRowCovered world basis row
+row_covered full world basis row audit h none =
+    let r = row_of world basis row audit h in
+    subst (AllByRecursion (λ (l : Live). RowCovers basis.specs row l.entry.file.tuple))
+    (sym (live_are world basis row audit r))
+    (covered_in basis row r.spec r.spec_is r.lives
+    (each_at (IsFull basis row r.spec r.spec_is) r.lives (λ l c. full row r.spec r.bytes r.lives l r.lives_are c))
+    (ap uncovered (sym r.findings_are) ∙ none))
+
+row_none : (world : World) (basis : Basis) (row : Row) (audit : Audit) → row_audit world basis row ≡ Ok audit
+    → IsRowCovered world basis row → uncovered audit.findings ≡ []
+row_none world basis row audit h covered =
+    let r = row_of world basis row audit h in
+    ap uncovered r.findings_are
+    ∙ none_in basis row r.spec r.spec_is r.lives
+    (subst (AllByRecursion (λ (l : Live). RowCovers basis.specs row l.entry.file.tuple))
+    (live_are world basis row audit r) covered)
+
+-- ---- the manifests of all rows
+
+rows_parts : (world : World) (basis : Basis) (row : Row) (rows : List Row) (audit : Audit)
+    → rows_audit world basis (row ∷ rows) ≡ Ok audit
+    → (a : Audit) × (b : Audit) × (row_audit world basis row ≡ Ok a) × (rows_audit world basis rows ≡ Ok b)
+    × (audit.findings ≡ a.findings ++ b.findings)
+unfolding rows_audit
+rows_parts world basis row rows audit h =
+    let one = steps (row_audit world basis row) _ audit h in
+    let two = steps (rows_audit world basis rows) _ audit one.2 in
+    let here : joined one.0 two.0 ≡ audit = cc in
+    (one.0, two.0, one.1, two.1, sym (ap (λ (a : Audit). a.findings) here))
+
+rows_covered : (full : HasACellForEach) (world : World) (basis : Basis) (rows : List Row) (audit : Audit)
+    → rows_audit world basis rows ≡ Ok audit → uncovered audit.findings ≡ [] → AreCovered world basis.specs rows
+rows_covered full world basis [] audit h none = tt
+rows_covered full world basis (row ∷ rows) audit h none =
+    let p = rows_parts world basis row rows audit h in
+    let parts = none_of_both p.0.findings p.1.findings (ap uncovered (sym p.4) ∙ none) in
+    (row_covered full world basis row p.0 p.2 parts.0, rows_covered full world basis rows p.1 p.3 parts.1)
+
+rows_none : (world : World) (basis : Basis) (rows : List Row) (audit : Audit) → rows_audit world basis rows ≡ Ok audit
+    → AreCovered world basis.specs rows → uncovered audit.findings ≡ []
+unfolding rows_audit
+rows_none world basis [] audit h covered =
+    let here : nothing ≡ audit = cc in ap (λ (a : Audit). uncovered a.findings) (sym here)
+rows_none world basis (row ∷ rows) audit h covered =
+    let p = rows_parts world basis row rows audit h in
+    ap uncovered p.4
+    ∙ none_of_all p.0.findings p.1.findings (row_none world basis row p.0 p.2 covered.0)
+    (rows_none world basis rows p.1 p.3 covered.1)
+
+-- ---- a snapshot
+
+pub record IsAuditOf (world : World) (metadata : List ℕ) (target : Target) (audit : Audit) : Type 0 where
+  pub subject : Subject
+  pub rows : List Row
+  pub subject_is : subject_of metadata target ≡ Ok subject
+  pub rows_are : rows_at world subject.list ≡ Ok rows
+  pub audit_is : rows_audit world subject.basis rows ≡ Ok audit
+
+parts_of : (world : World) (metadata : List ℕ) (target : Target) (audit : Audit)
+    → audit_of world metadata target ≡ Ok audit → IsAuditOf world metadata target audit
+unfolding audit_of
+parts_of world metadata target audit h =
+    let one = steps (subject_of metadata target) _ audit h in
+    let two = steps (rows_at world one.0.list) _ audit one.2 in
+    let three = steps (all_known one.0.basis.specs two.0) _ audit two.2 in
+    record { subject = one.0; rows = two.0; subject_is = one.1; rows_are = two.1; audit_is = three.2 }
+
+pub truth : (full : HasACellForEach) (world : World) (metadata : List ℕ) (target : Target) (audit : Audit)
+    → audit_of world metadata target ≡ Ok audit → uncovered audit.findings ≡ []
+    → TellsTheTruthToAll world metadata target
+truth full world metadata target audit h none =
+    let p = parts_of world metadata target audit h in
+    let covered = rows_covered full world p.subject.basis p.rows audit p.audit_is none in
+    λ text selection rows is has.
+    let same = same_selection metadata (record { target = target; filter = text }) selection p.subject is p.subject_is in
+    let found : Ok p.rows ≡ Ok rows = sym p.rows_are ∙ ap (rows_at world) (sym same.0) ∙ has in
+    let rows_same : p.rows ≡ rows = cc in
+    subst (λ (rs : List Row). AreCovered world selection.specs rs) rows_same
+    (subst (λ (ss : List Spec). AreCovered world ss p.rows) (sym same.1) covered)
+
+pub no_lie : (world : World) (metadata : List ℕ) (target : Target) (audit : Audit)
+    → audit_of world metadata target ≡ Ok audit → TellsTheTruthToAll world metadata target
+    → uncovered audit.findings ≡ []
+no_lie world metadata target audit h tells =
+    let p = parts_of world metadata target audit h in
+    rows_none world p.subject.basis p.rows audit p.audit_is
+    (tells None _ p.rows (unfiltered_selection metadata target p.subject p.subject_is) p.rows_are)

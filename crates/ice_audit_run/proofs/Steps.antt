@@ -1,0 +1,225 @@
+-- The steps of an audit, and why each of them may end the run.
+use Rattle.std.proofs.Common.{◌≡◌, ◌≢◌, ◌⊎◌, inl, inr, ℕ, ◌+◌, List, [], ◌∷◌, ◌++◌, length, refl, sym, ap, subst, ◌∙◌}
+use Rattle.std.proofs.Common.{Option, Some, None, is_some, arith, add_assoc, append_assoc, zero-add}
+use Rattle.std.specs.Prelude.{Result, Ok, Err}
+use Rattle.contract_words.specs.Outcome.{◌>>=◌}
+use Rattle.ice_audit.specs.declared.basis.Basis.{Basis}
+use Rattle.ice_audit.specs.declared.finding.Finding.{Finding}
+use Rattle.ice_audit.specs.Findings.{manifest_findings}
+use Rattle.ice_desk.specs.Wanted.{paths_of}
+use Rattle.ice_desk.specs.Worlds.{EndsAt}
+use Rattle.ice_manifest_fields.specs.declared.fault.ManifestFault.{ManifestFault}
+use Rattle.ice_manifest_fields.specs.declared.fault.ManifestFault.TheVariants as manifest
+use Rattle.ice_manifest_reading.specs.Manifests.{entries_of}
+use Rattle.ice_manifest_reading.specs.declared.entry.Entry.{Entry}
+use Rattle.ice_manifest_reading.specs.declared.row.Row.{Row}
+use Rattle.ice_meta.specs.declared.metadata.Target.{Target}
+use Rattle.ice_meta.specs.declared.spec.Spec.{Spec}
+use Rattle.ice_state.specs.Contents.{World}
+use Rattle.ice_state.specs.declared.fault.ScanFault.TheVariants as scan
+use Rattle.ice_state.specs.Specs.{spec_of}
+use Rattle.ice_text.proofs.Steps.{bytes_in, fails_later, first_ends, only_first, then_ends}
+use Rattle.ice_text.specs.Reads.{MayEnd, as_run, file_in, rows_at}
+use Rattle.ice_text.specs.declared.fault.RunFault.{RunFault}
+use Rattle.ice_text.specs.declared.fault.RunFault.TheVariants as run
+use Rattle.ice_requests.specs.Selections.{IsOfRequest}
+use Rattle.ice_requests.proofs.Plans.{list_there, request_ends}
+use Rattle.ice_audit_run.specs.Audits.{all_known, audit_of, audit_reads, joined, manifests_of, nothing, of_manifest}
+use Rattle.ice_audit_run.specs.Audits.{or_unknown, reads_of, row_audit, rows_audit, spec_for}
+use Rattle.ice_audit_run.specs.Subjects.{subject_of}
+use Rattle.ice_audit_run.specs.declared.audit.Audit.{Audit}
+use Rattle.ice_audit_run.specs.declared.subject.Subject.{Subject}
+
+-- ---- the manifest of a row
+
+-- a manifest's own fault is the run's
+pub manifest_ends : {A : Type 0} (read : Result A ManifestFault) (r : List ℕ → Type 0) (w : Type 0) (path : List ℕ)
+    (f : ManifestFault) → (f ≢ manifest.Memory → read ≡ Err f)
+    → MayEnd (as_run (of_manifest path) read) r w (of_manifest path f)
+manifest_ends read r w path manifest.Memory h = tt
+manifest_ends read r w path (manifest.Avro e) h = ap (as_run (of_manifest path)) (h (λ m. cc))
+manifest_ends read r w path (manifest.MissingField id) h = ap (as_run (of_manifest path)) (h (λ m. cc))
+manifest_ends read r w path (manifest.WrongFieldType id) h = ap (as_run (of_manifest path)) (h (λ m. cc))
+manifest_ends read r w path (manifest.OutOfRange id) h = ap (as_run (of_manifest path)) (h (λ m. cc))
+manifest_ends read r w path manifest.BadContent h = ap (as_run (of_manifest path)) (h (λ m. cc))
+manifest_ends read r w path manifest.BadStatus h = ap (as_run (of_manifest path)) (h (λ m. cc))
+manifest_ends read r w path manifest.NoSequence h = ap (as_run (of_manifest path)) (h (λ m. cc))
+manifest_ends read r w path (manifest.FloatPartition id) h = ap (as_run (of_manifest path)) (h (λ m. cc))
+
+-- what was read first, and then
+pub steps : {A B : Type 0} (r : Result A RunFault) (f : A → Result B RunFault) (y : B) → (r >>= f) ≡ Ok y
+    → (x : A) × (r ≡ Ok x) × (f x ≡ Ok y)
+steps (Ok x) f y h = (x, refl, h)
+steps (Err e) f y h = absurd cc
+
+pub same : {A : Type 0} (r : Result A RunFault) → (r >>= λ a. Ok a) ≡ r
+same (Ok x) = refl
+same (Err e) = refl
+
+unknown_ends : (r : List ℕ → Type 0) (w : Type 0) (row : Row) (o : Option Spec) (e : RunFault)
+    → or_unknown row o ≡ Err e → MayEnd (or_unknown row o) r w e
+unknown_ends r w row None e h =
+    let unknown = run.Scan (scan.NoSuchSpec row.spec_id) in
+    let this : unknown ≡ e = cc in
+    subst (λ x. MayEnd {A = Spec} (Err unknown) r w x) this refl
+unknown_ends r w row (Some spec) e h = absurd cc
+
+module _ (f : List ℕ → Type 0) (world : World) (basis : Basis) (row : Row) where
+  abbrev at_row : List ℕ → Type 0
+  at_row = EndsAt world f (row.path ∷ [])
+
+  pub no_spec : (e : RunFault) → spec_for basis.specs row ≡ Err e → MayEnd (row_audit world basis row) at_row ⊥ e
+  unfolding row_audit
+  no_spec e h = first_ends at_row ⊥ at_row (spec_for basis.specs row) _ e (λ p m. m)
+      (unknown_ends at_row ⊥ row (spec_of basis.specs row.spec_id) e h)
+
+  module _ (spec : Spec) (known : spec_for basis.specs row ≡ Ok spec) where
+    pub no_bytes : (e : RunFault) → MayEnd (file_in world row.path) at_row ⊥ e
+        → MayEnd (row_audit world basis row) at_row ⊥ e
+    unfolding row_audit
+    no_bytes e h = then_ends at_row ⊥ (spec_for basis.specs row) _ spec e known
+        (first_ends at_row ⊥ at_row (file_in world row.path) _ e (λ p m. m) h)
+
+    module _ (bytes : List ℕ) (has : file_in world row.path ≡ Ok bytes) where
+      pub no_entries : (e : RunFault)
+          → MayEnd (as_run (of_manifest row.path) (entries_of row spec bytes)) (λ _. ⊥) ⊥ e
+          → MayEnd (row_audit world basis row) at_row ⊥ e
+      unfolding row_audit
+      no_entries e h = then_ends at_row ⊥ (spec_for basis.specs row) _ spec e known
+          (then_ends at_row ⊥ (file_in world row.path) _ bytes e has
+          (first_ends at_row ⊥ (λ _. ⊥) (as_run (of_manifest row.path) (entries_of row spec bytes)) _ e
+          (λ p m. absurd m) h))
+
+      pub row_there : (found : List Entry) → entries_of row spec bytes ≡ Ok found → row_audit world basis row
+          ≡ Ok (record {
+            manifests = 1;
+            entries = length found;
+            findings = manifest_findings basis row spec found;
+          })
+      unfolding row_audit
+      row_there found is = rw (known, has, is) refl
+
+-- ---- the manifests of all rows
+
+row_bytes : (world : World) (basis : Basis) (row : Row) (audit : Audit) → row_audit world basis row ≡ Ok audit
+    → (bytes : List ℕ) × (file_in world row.path ≡ Ok bytes)
+unfolding row_audit
+row_bytes world basis row audit h =
+    let one = steps (spec_for basis.specs row) _ audit h in
+    let two = steps (file_in world row.path) _ audit one.2 in
+    (two.0, two.1)
+
+module _ (f : List ℕ → Type 0) (world : World) (basis : Basis) (row : Row) (rows : List Row) where
+  abbrev at_rows : List ℕ → Type 0
+  at_rows = EndsAt world f (paths_of (row ∷ rows))
+
+  pub first_row_ends : (e : RunFault) → MayEnd (row_audit world basis row) (EndsAt world f (row.path ∷ [])) ⊥ e
+      → MayEnd (rows_audit world basis (row ∷ rows)) at_rows ⊥ e
+  unfolding rows_audit
+  first_row_ends e h = first_ends at_rows ⊥ (EndsAt world f (row.path ∷ [])) (row_audit world basis row) _ e
+      (λ p m. only_first world f row.path (paths_of rows) p m) h
+
+  pub later_row_ends : (audit : Audit) (e : RunFault) → row_audit world basis row ≡ Ok audit
+      → MayEnd (rows_audit world basis rows) (EndsAt world f (paths_of rows)) ⊥ e
+      → MayEnd (rows_audit world basis (row ∷ rows)) at_rows ⊥ e
+  unfolding rows_audit
+  later_row_ends audit e is h =
+      let bytes = row_bytes world basis row audit is in
+      then_ends at_rows ⊥ (row_audit world basis row) _ audit e is
+      (first_ends at_rows ⊥ (EndsAt world f (paths_of rows)) (rows_audit world basis rows) _ e
+      (λ p m. fails_later world f row.path bytes.0 (paths_of rows) p bytes.1 m) h)
+
+pub rows_more : (world : World) (basis : Basis) (row : Row) (rows : List Row) (a b : Audit)
+    → row_audit world basis row ≡ Ok a → rows_audit world basis rows ≡ Ok b
+    → rows_audit world basis (row ∷ rows) ≡ Ok (joined a b)
+unfolding rows_audit
+rows_more world basis row rows a b is has = rw (is, has) refl
+
+pub no_rows : (world : World) (basis : Basis) → rows_audit world basis [] ≡ Ok nothing
+unfolding rows_audit
+no_rows world basis = refl
+
+pub join_nothing : (a : Audit) → joined nothing a ≡ a
+join_nothing a = rw zero-add refl
+
+-- what is joined to one more
+pub joins : (i m n : ℕ) (fs gs : List Finding) (x a : Audit) → x.manifests ≡ 1 → x.entries ≡ n → gs ≡ fs ++ x.findings
+    → joined (record { manifests = i; entries = m; findings = fs }) (joined x a)
+    ≡ joined (record { manifests = i + 1; entries = m + n; findings = gs }) a
+joins i m n fs gs x a one es found = rw (one, es, found) (simp (add_assoc, append_assoc))
+
+-- ---- a snapshot
+
+known_ends : (r : List ℕ → Type 0) (w : Type 0) (specs : List Spec) (rows : List Row) (e : RunFault)
+    → all_known specs rows ≡ Err e → MayEnd (all_known specs rows) r w e
+known_ends r w specs [] e h = absurd cc
+known_ends r w specs (row ∷ rows) e h = go (spec_of specs row.spec_id) h where
+  go : (o : Option Spec) → (or_unknown row o >>= λ _. all_known specs rows) ≡ Err e
+      → MayEnd (or_unknown row o >>= λ _. all_known specs rows) r w e
+  go None k =
+      let unknown = run.Scan (scan.NoSuchSpec row.spec_id) in
+      let this : unknown ≡ e = cc in
+      subst (λ x. MayEnd {A = Unit {0}} (Err unknown) r w x) this refl
+  go (Some spec) k = known_ends r w specs rows e k
+
+pub not_selected : (f : List ℕ → Type 0) (world : World) (metadata : List ℕ) (target : Target) (e : RunFault)
+    → IsOfRequest e → (e ≢ run.Memory → subject_of metadata target ≡ Err e)
+    → MayEnd (audit_of world metadata target) (EndsAt world f (audit_reads world metadata target)) ⊥ e
+unfolding audit_of
+not_selected f world metadata target e own h =
+    first_ends (EndsAt world f (audit_reads world metadata target)) ⊥ (λ _. ⊥) (subject_of metadata target) _ e
+    (λ p m. absurd m) (request_ends (subject_of metadata target) (λ _. ⊥) ⊥ e own h)
+
+module _ (f : List ℕ → Type 0) (world : World) (metadata : List ℕ) (target : Target) (subject : Subject)
+    (is : subject_of metadata target ≡ Ok subject) where
+  abbrev stops : List ℕ → Type 0
+  stops = EndsAt world f (audit_reads world metadata target)
+
+  reads_are : audit_reads world metadata target ≡ subject.list ∷ manifests_of (rows_at world subject.list)
+  unfolding audit_reads
+  reads_are = ap (reads_of world) is
+
+  reads_list : (p : List ℕ) → EndsAt world f (subject.list ∷ []) p → stops p
+  reads_list p h = subst (λ paths. EndsAt world f paths p) (sym reads_are)
+      (only_first world f subject.list (manifests_of (rows_at world subject.list)) p h)
+
+  pub no_list : (e : RunFault) → MayEnd (rows_at world subject.list) (EndsAt world f (subject.list ∷ [])) ⊥ e
+      → MayEnd (audit_of world metadata target) stops ⊥ e
+  unfolding audit_of
+  no_list e h =
+      then_ends stops ⊥ (subject_of metadata target) _ subject e is
+      (first_ends stops ⊥ (EndsAt world f (subject.list ∷ [])) (rows_at world subject.list) _ e reads_list h)
+
+  module _ (rows : List Row) (has : rows_at world subject.list ≡ Ok rows) where
+    reads_manifests : (p : List ℕ) → EndsAt world f (paths_of rows) p → stops p
+    reads_manifests p h =
+        let bytes = list_there world subject.list rows has in
+        subst (λ paths. EndsAt world f paths p) (sym reads_are)
+        (subst (λ found. EndsAt world f (subject.list ∷ manifests_of found) p) (sym has)
+        (fails_later world f subject.list bytes.0 (paths_of rows) p bytes.1 h))
+
+    pub no_specs : (e : RunFault) → all_known subject.basis.specs rows ≡ Err e
+        → MayEnd (audit_of world metadata target) stops ⊥ e
+    unfolding audit_of
+    no_specs e h =
+        then_ends stops ⊥ (subject_of metadata target) _ subject e is
+        (then_ends stops ⊥ (rows_at world subject.list) _ rows e has
+        (first_ends stops ⊥ (λ _. ⊥) (all_known subject.basis.specs rows) _ e (λ p m. absurd m)
+        (known_ends (λ _. ⊥) ⊥ subject.basis.specs rows e h)))
+
+    module _ (known : all_known subject.basis.specs rows ≡ Ok tt) where
+      audit_is : audit_of world metadata target ≡ rows_audit world subject.basis rows
+      unfolding audit_of
+      audit_is = rw (is, has, known) refl
+
+      pub no_audit : (e : RunFault) → MayEnd (rows_audit world subject.basis rows) (EndsAt world f (paths_of rows)) ⊥ e
+          → MayEnd (audit_of world metadata target) stops ⊥ e
+      unfolding audit_of
+      no_audit e h =
+          let later = first_ends stops ⊥ (EndsAt world f (paths_of rows)) (rows_audit world subject.basis rows)
+          (λ a. Ok a) e reads_manifests h in
+          subst (λ read. MayEnd read stops ⊥ e) (same (rows_audit world subject.basis rows) ∙ sym audit_is) later
+
+      pub audit_there : (audit : Audit) → rows_audit world subject.basis rows ≡ Ok audit
+          → audit_of world metadata target ≡ Ok audit
+      audit_there audit h = audit_is ∙ h

@@ -1,0 +1,111 @@
+-- Of the findings on one entry those on coverage are the names of the fields outside of the limits.
+use Rattle.std.proofs.Common.{◌≡◌, ◌↔◌, ℕ, ℤ, Bool, true, false, not, nat_lt, List, [], ◌∷◌, ◌++◌, map, filter, refl, sym}
+use Rattle.std.proofs.Common.{◌∙◌, ap, cond}
+use Rattle.std.specs.List.{flat_map}
+use Rattle.ice_value.specs.declared.file_content.FileContent.{FileContent}
+use Rattle.ice_value.specs.declared.file_content.FileContent.TheVariants.{Data, PositionDeletes, EqualityDeletes}
+use Rattle.ice_manifest_reading.specs.declared.entry.Entry.{Entry}
+use Rattle.ice_manifest_reading.specs.declared.row.Row.{Row}
+use Rattle.ice_audit.specs.declared.basis.Basis.{Basis}
+use Rattle.ice_audit.specs.declared.finding.Finding.{Finding}
+use Rattle.ice_audit.specs.declared.finding.Flaw.{Flaw}
+use Rattle.ice_audit.specs.declared.finding.Flaw.TheVariants.{Uncovered, BelowLeast, AboveLast, NoColumn}
+use Rattle.ice_audit.specs.declared.limits.FieldLimits.{FieldLimits}
+use Rattle.ice_audit.specs.Coverage.{outside}
+use Rattle.ice_audit.specs.Findings.{entry_findings, finding_of, flaw_where, flaws_by, missing_columns, missing_in}
+use Rattle.ice_audit_run.specs.Premises.{is_uncovered, uncovered}
+
+-- ---- two lists
+
+none_left : {X : Type 0} (xs ys : List X) → xs ++ ys ≡ [] → xs ≡ []
+none_left [] ys h = refl
+none_left (x ∷ xs) ys h = absurd cc
+
+none_right : {X : Type 0} (xs ys : List X) → xs ++ ys ≡ [] → ys ≡ []
+none_right [] ys h = h
+none_right (x ∷ xs) ys h = absurd cc
+
+none_both : {X : Type 0} (xs ys : List X) → xs ≡ [] → ys ≡ [] → xs ++ ys ≡ []
+none_both [] ys h k = k
+none_both (x ∷ xs) ys h k = absurd cc
+
+pub uncovered-append : (xs ys : List Finding) → uncovered (xs ++ ys) ≡ uncovered xs ++ uncovered ys
+uncovered-append [] ys = refl
+uncovered-append (x ∷ xs) ys = by (is_uncovered x.flaw) where
+  by : (b : Bool) → cond b (x ∷ uncovered (xs ++ ys)) (uncovered (xs ++ ys))
+      ≡ cond b (x ∷ uncovered xs) (uncovered xs) ++ uncovered ys
+  by true = ap (λ (l : List Finding). x ∷ l) (uncovered-append xs ys)
+  by false = uncovered-append xs ys
+
+pub none_of_both : (xs ys : List Finding) → uncovered (xs ++ ys) ≡ [] → (uncovered xs ≡ []) × (uncovered ys ≡ [])
+none_of_both xs ys h =
+    let k = sym (uncovered-append xs ys) ∙ h in
+    (none_left (uncovered xs) (uncovered ys) k, none_right (uncovered xs) (uncovered ys) k)
+
+pub none_of_all : (xs ys : List Finding) → uncovered xs ≡ [] → uncovered ys ≡ [] → uncovered (xs ++ ys) ≡ []
+none_of_all xs ys h k = uncovered-append xs ys ∙ none_both (uncovered xs) (uncovered ys) h k
+
+-- ---- the findings on one entry
+
+module _ (row : Row) (x : Entry) where
+  abbrev found : List Flaw → List Finding
+  found flaws = map (finding_of row x) flaws
+
+  found-append : (as bs : List Flaw) → found (as ++ bs) ≡ found as ++ found bs
+  found-append [] bs = refl
+  found-append (a ∷ as) bs = ap (λ (l : List Finding). finding_of row x a ∷ l) (found-append as bs)
+
+  of_names : (names : List (List ℕ)) → uncovered (found (map Uncovered names)) ≡ [] → names ≡ []
+  of_names [] h = refl
+  of_names (n ∷ ns) h = absurd cc
+
+  of_names_back : (names : List (List ℕ)) → names ≡ [] → uncovered (found (map Uncovered names)) ≡ []
+  of_names_back [] h = refl
+  of_names_back (n ∷ ns) h = absurd cc
+
+  no_least : (b : Bool) → uncovered (found (flaw_where b BelowLeast)) ≡ []
+  no_least true = refl
+  no_least false = refl
+
+  no_last : (b : Bool) → uncovered (found (flaw_where b AboveLast)) ≡ []
+  no_last true = refl
+  no_last false = refl
+
+  no_columns : (ids : List ℤ) → uncovered (found (map NoColumn ids)) ≡ []
+  no_columns [] = refl
+  no_columns (id ∷ ids) = no_columns ids
+
+  no_missing : (content : FileContent) (columns ids : List ℤ) → uncovered (found (missing_in content columns ids)) ≡ []
+  no_missing Data columns ids = refl
+  no_missing PositionDeletes columns ids = refl
+  no_missing EqualityDeletes columns ids = no_columns _
+
+  none_in : (as bs : List Flaw) → uncovered (found as) ≡ [] → uncovered (found bs) ≡ [] → uncovered (found (as ++ bs)) ≡ []
+  none_in as bs h k = ap uncovered (found-append as bs) ∙ none_of_all (found as) (found bs) h k
+
+  others : (basis : Basis) → uncovered (found (flaw_where (nat_lt x.sequence_number row.min_sequence_number) BelowLeast
+      ++ (flaw_where (nat_lt basis.last x.sequence_number) AboveLast ++ missing_columns basis x))) ≡ []
+  others basis =
+      none_in (flaw_where (nat_lt x.sequence_number row.min_sequence_number) BelowLeast)
+      (flaw_where (nat_lt basis.last x.sequence_number) AboveLast ++ missing_columns basis x)
+      (no_least (nat_lt x.sequence_number row.min_sequence_number))
+      (none_in (flaw_where (nat_lt basis.last x.sequence_number) AboveLast) (missing_columns basis x)
+      (no_last (nat_lt basis.last x.sequence_number))
+      (no_missing x.file.content basis.columns x.file.equality_ids))
+
+  abbrev rest : Basis → List Flaw
+  rest basis = flaw_where (nat_lt x.sequence_number row.min_sequence_number) BelowLeast
+      ++ (flaw_where (nat_lt basis.last x.sequence_number) AboveLast ++ missing_columns basis x)
+
+  pub told : (basis : Basis) (limits : List FieldLimits) → uncovered (entry_findings basis row limits x) ≡ []
+      → outside limits x.file.tuple ≡ []
+  told basis limits h =
+      let names = outside limits x.file.tuple in
+      of_names names (none_of_both (found (map Uncovered names)) (found (rest basis))
+      (ap uncovered (sym (found-append (map Uncovered names) (rest basis))) ∙ h)).0
+
+  pub told_back : (basis : Basis) (limits : List FieldLimits) → outside limits x.file.tuple ≡ []
+      → uncovered (entry_findings basis row limits x) ≡ []
+  told_back basis limits h =
+      let names = outside limits x.file.tuple in
+      none_in (map Uncovered names) (rest basis) (of_names_back names h) (others basis)

@@ -1,0 +1,20 @@
+//! What an audit tells of the premise of a plan.
+
+ghost use Rattle.std.specs.Prelude.{◌≡◌, ◌↔◌, ℕ, List, [], Ok};
+ghost use Rattle.ice_audit_run.specs.Audits.{audit_of};
+ghost use Rattle.ice_audit_run.specs.Premises.{TellsTheTruthToAll, uncovered};
+ghost use Rattle.ice_audit_run.specs.declared.audit.Audit.{Audit};
+ghost use Rattle.ice_meta.specs.declared.metadata.Target.{Target};
+ghost use Rattle.ice_state.specs.Contents.{World};
+
+use ice_manifest_reading::contents_fit;
+
+/// The audit of a snapshot has no finding that a summary does not cover an entry just where the summaries of all its
+/// rows tell the truth: then the plan under any filter is that of all rows.
+pub fn audits_tell_the_truth()
+    ensures { (world : World) (metadata : List ℕ) (target : Target) (audit : Audit) →
+        audit_of world metadata target ≡ Ok audit →
+        (uncovered audit.findings ≡ []) ↔ TellsTheTruthToAll world metadata target }
+{
+    contents_fit();
+}
