@@ -78,7 +78,7 @@ allowed_back : (n null inside : Bool) → (n ≡ true → null ≡ true) → (n 
 allowed_back true null inside h k = h refl
 allowed_back false null inside h k = k refl
 
-covers : (f : PartitionField) (s : Summary) (p : Cell) → allows (limits_of f s) p ≡ true → IsSummaryOf (field_of f) s p
+pub covers : (f : PartitionField) (s : Summary) (p : Cell) → allows (limits_of f s) p ≡ true → IsSummaryOf (field_of f) s p
 covers f s p h =
     let parts = allowed_by (is_null p) s.contains_null
     (is_above (read (type_of_values (field_of f)) s.lower) p && is_below (read (type_of_values (field_of f)) s.upper) p)
@@ -88,7 +88,7 @@ covers f s p h =
       present = λ n. within (type_of_values (field_of f)) s.lower s.upper p (parts.1 n);
     }
 
-covers_back : (f : PartitionField) (s : Summary) (p : Cell) → IsSummaryOf (field_of f) s p
+pub covers_back : (f : PartitionField) (s : Summary) (p : Cell) → IsSummaryOf (field_of f) s p
     → allows (limits_of f s) p ≡ true
 covers_back f s p h =
     allowed_back (is_null p) s.contains_null
@@ -127,7 +127,7 @@ all_covered_back (f ∷ fs) (s ∷ ss) (p ∷ ps) h = empty_back (allows (limits
 -- ---- the row of a manifest
 
 as_many : (spec : Spec) → length (fields_of spec) ≡ length spec.fields
-as_many spec = length-map field_of spec.fields
+as_many spec = simp length-map
 
 -- as many values as fields, and none of them outside of the limits: the row's summaries cover them
 pub covered_by : (spec : Spec) (ss : List Summary) (ps : List Cell) → length ps ≡ length spec.fields

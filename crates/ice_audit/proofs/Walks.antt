@@ -1,16 +1,20 @@
 -- Steps of the loops.
-use Rattle.std.proofs.Common.{◌≡◌, ℕ, ◌+◌, ◌<◌, ◌≤◌, ◌⊎◌, inl, inr, List, [], ◌∷◌, ◌++◌, length, drop, get_or, refl}
+use Rattle.std.proofs.Common.{◌≡◌, ℕ, ◌<◌, ◌≤◌, ◌⊎◌, inl, inr, List, [], ◌∷◌, length, drop, refl, min, Bool}
+use Rattle.std.proofs.Common.{true, false, nat_lt, arith}
+use Rattle.std.proofs.lemmas.Bool.{ltb-true, ltb-false}
 use Rattle.ice_value.specs.declared.cell.Cell.{Cell}
 use Rattle.ice_value.specs.declared.file_bounds.Summary.{Summary}
 use Rattle.ice_meta.specs.declared.spec.PartitionField.{PartitionField}
-use Rattle.ice_manifest_fields.proofs.Steps.{step_of, end_of}
+use Rattle.ice_manifest_fields.proofs.Steps.{end_of}
 use Rattle.ice_audit.specs.declared.limits.FieldLimits.{FieldLimits}
-use Rattle.ice_audit.specs.Coverage.{allows, limits_in, limits_of, outside, unless_allowed}
+use Rattle.ice_audit.specs.Coverage.{limits_in, outside}
 
-pub limits_next : (fs : List PartitionField) (ss : List Summary) (i : ℕ) (f : PartitionField) (s : Summary)
-    → i < length fs → i < length ss → f ≡ get_or fs i f → s ≡ get_or ss i s
-    → limits_in (drop i fs) (drop i ss) ≡ limits_of f s ∷ limits_in (drop (i + 1) fs) (drop (i + 1) ss)
-limits_next fs ss i f s a b is as = rw (step_of fs i f a is, step_of ss i s b as) refl
+-- one of two lists ends where both are counted to the end of the shorter
+pub some_end : (a b i : ℕ) → min a b ≤ i → (a ≤ i) ⊎ (b ≤ i)
+some_end a b i h = go (nat_lt i a) refl where
+  go : (t : Bool) → nat_lt i a ≡ t → (a ≤ i) ⊎ (b ≤ i)
+  go true e = inr (let above : i < a = ltb-true i a e in omega arith)
+  go false e = inl (ltb-false i a e)
 
 no_more : (fs : List PartitionField) (ss : List Summary) → (fs ≡ []) ⊎ (ss ≡ []) → limits_in fs ss ≡ []
 no_more [] ss h = refl
@@ -22,11 +26,6 @@ pub limits_end : (fs : List PartitionField) (ss : List Summary) (i : ℕ) → (l
     → limits_in (drop i fs) (drop i ss) ≡ []
 limits_end fs ss i (inl h) = no_more (drop i fs) (drop i ss) (inl (end_of fs i h))
 limits_end fs ss i (inr h) = no_more (drop i fs) (drop i ss) (inr (end_of ss i h))
-
-pub outside_next : (ls : List FieldLimits) (ps : List Cell) (i : ℕ) (l : FieldLimits) (p : Cell) → i < length ls
-    → i < length ps → l ≡ get_or ls i l → p ≡ get_or ps i p → outside (drop i ls) (drop i ps)
-    ≡ unless_allowed (allows l p) l.name (outside (drop (i + 1) ls) (drop (i + 1) ps))
-outside_next ls ps i l p a b is as = rw (step_of ls i l a is, step_of ps i p b as) refl
 
 none_outside : (ls : List FieldLimits) (ps : List Cell) → (ls ≡ []) ⊎ (ps ≡ []) → outside ls ps ≡ []
 none_outside [] ps h = refl

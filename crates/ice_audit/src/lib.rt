@@ -6,14 +6,10 @@ mod basis;
 mod entries;
 mod finding;
 mod flaws;
+mod laws;
 mod limits;
 
 pub use basis::Basis;
 pub use entries::push_findings;
 pub use finding::{Finding, Flaw};
-
-#[cfg(test)]
-mod tests {
-    #[test]
-    fn nothing() {}
-}
+pub use laws::limits_tell_coverage;
