@@ -14,7 +14,6 @@ use Rattle.ice_meta.specs.declared.spec.Spec.{Spec}
 use Rattle.ice_project.specs.Fields.{field_of, fields_of}
 use Rattle.ice_project.specs.Limits.{limit, LiesIn}
 use Rattle.ice_project.specs.Summaries.{AreSummariesOf, IsCovered, IsSummaryOf, type_of_values}
-use Rattle.ice_audit.specs.declared.limits.FieldLimits.{FieldLimits}
 use Rattle.ice_audit.specs.Coverage.{allows, is_above, is_below, limits_in, limits_of, outside, row_limits, unless_allowed}
 
 -- ---- one bound

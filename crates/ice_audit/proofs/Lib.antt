@@ -1,2 +1,4 @@
 pub mod CoverageLaws
+pub mod Told
+pub mod Telltale
 pub mod Walks

@@ -1,5 +1,5 @@
 -- What is found of the live entries of a manifest.
-use Rattle.std.specs.Prelude.{ℕ, ℤ, Bool, true, not, nat_lt, List, [], ◌∷◌, ◌++◌, map, filter, if◌then◌else◌}
+use Rattle.std.specs.Prelude.{ℤ, Bool, not, nat_lt, List, [], ◌∷◌, ◌++◌, map, filter, if◌then◌else◌}
 use Rattle.std.specs.List.{flat_map, list_any}
 use Rattle.std.specs.Ordering.{int_eq}
 use Rattle.ice_value.specs.declared.file_content.FileContent.{FileContent}

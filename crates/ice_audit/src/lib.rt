@@ -12,4 +12,4 @@ mod limits;
 pub use basis::Basis;
 pub use entries::push_findings;
 pub use finding::{Finding, Flaw};
-pub use laws::limits_tell_coverage;
+pub use laws::{findings_tell_coverage, limits_tell_coverage};

@@ -1,4 +1,3 @@
-pub mod Told
 pub mod Premise
 pub mod Selecting
 pub mod Steps

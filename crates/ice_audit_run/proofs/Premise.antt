@@ -1,16 +1,12 @@
 -- No finding says that a summary does not cover an entry just where the premise of the plan holds.
-use Rattle.std.proofs.Common.{◌≡◌, ℕ, zero, suc, arith, List, [], ◌∷◌, ◌++◌, length, refl, sym, ap, ◌∙◌}
+use Rattle.std.proofs.Common.{◌≡◌, ℕ, List, [], ◌∷◌, ◌++◌, length, refl, sym, ap, ◌∙◌}
 use Rattle.std.proofs.Common.{Option, Some, None, option_map, subst}
 use Rattle.std.specs.Prelude.{Result, Ok, Err}
-use Rattle.std.specs.List.{AllByRecursion, Contains}
+use Rattle.std.specs.List.{AllByRecursion}
 use Rattle.contract_words.specs.Outcome.{◌>>=◌}
 use Rattle.ice_audit.specs.declared.basis.Basis.{Basis}
 use Rattle.ice_audit.specs.declared.finding.Finding.{Finding}
-use Rattle.ice_audit.specs.Coverage.{outside, row_limits}
-use Rattle.ice_audit.specs.Findings.{entry_findings, manifest_findings}
-use Rattle.ice_audit.proofs.CoverageLaws.{covered_by, none_by}
-use Rattle.ice_value.specs.declared.cell.Cell.{Cell}
-use Rattle.ice_value.specs.declared.file_bounds.Summary.{Summary}
+use Rattle.ice_audit.specs.Findings.{manifest_findings}
 use Rattle.ice_manifest_fields.specs.declared.fault.ManifestFault.{ManifestFault}
 use Rattle.ice_manifest_reading.specs.Laws.{HasACellForEach}
 use Rattle.ice_manifest_reading.specs.Manifests.{entries, entries_of, live_of}
@@ -20,7 +16,7 @@ use Rattle.ice_manifest_reading.specs.declared.row.Row.{Row}
 use Rattle.ice_meta.specs.declared.metadata.Target.{Target}
 use Rattle.ice_meta.specs.declared.spec.Spec.{Spec}
 use Rattle.ice_state.specs.Contents.{World, live_by, manifest_of}
-use Rattle.ice_state.specs.Covering.{AreCovered, Covers, RowCovers}
+use Rattle.ice_state.specs.Covering.{AreCovered, RowCovers}
 use Rattle.ice_state.specs.Snapshots.{live, live_or_none}
 use Rattle.ice_state.specs.Specs.{spec_of}
 use Rattle.ice_text.specs.Reads.{as_run, file_in, rows_at}
@@ -30,13 +26,15 @@ use Rattle.ice_requests.specs.declared.selection.Selection.{Selection}
 use Rattle.ice_requests.specs.Selections.{selected}
 use Rattle.ice_audit_run.specs.Audits.{all_known, audit_of, joined, nothing, of_manifest, or_unknown, row_audit, rows_audit}
 use Rattle.ice_audit_run.specs.Audits.{spec_for}
-use Rattle.ice_audit_run.specs.Premises.{TellsTheTruthToAll, uncovered}
+use Rattle.ice_audit_run.specs.Premises.{TellsTheTruthToAll}
 use Rattle.ice_audit_run.specs.Subjects.{subject_of}
 use Rattle.ice_audit_run.specs.declared.audit.Audit.{Audit}
 use Rattle.ice_audit_run.specs.declared.subject.Subject.{Subject}
 use Rattle.ice_audit_run.proofs.Selecting.{same_selection, unfiltered_selection}
 use Rattle.ice_audit_run.proofs.Steps.{steps}
-use Rattle.ice_audit_run.proofs.Told.{none_of_all, none_of_both, told, told_back}
+use Rattle.ice_audit.proofs.Telltale.{told_of_covered, told_of_manifest}
+use Rattle.ice_audit.proofs.Told.{none_of_all, none_of_both}
+use Rattle.ice_audit.specs.Telling.{uncovered}
 
 -- ---- reading step by step
 
@@ -52,55 +50,6 @@ lives_in : (r : Result (List Live) ManifestFault) (found : List Entry) → (r >>
     → (ls : List Live) × (r ≡ Ok ls) × (found ≡ entries ls)
 lives_in (Ok ls) found h = (ls, refl, let same : entries ls ≡ found = cc in sym same)
 lives_in (Err e) found h = absurd cc
-
--- ---- the entries of one manifest
-
-covered_where_none : (spec : Spec) (summaries : Option (List Summary)) (tuple : List Cell)
-    → length tuple ≡ length spec.fields → outside (row_limits spec summaries) tuple ≡ [] → Covers spec summaries tuple
-covered_where_none spec None tuple full h = tt
-covered_where_none spec (Some ss) tuple full h = covered_by spec ss tuple full h
-
-none_where_covered : (spec : Spec) (summaries : Option (List Summary)) (tuple : List Cell)
-    → Covers spec summaries tuple → outside (row_limits spec summaries) tuple ≡ []
-none_where_covered spec None tuple h = refl
-none_where_covered spec (Some ss) tuple h = none_by spec ss tuple h
-
--- what each element of a list has, at its place
-each_at : (P : Live → Type 0) (ls : List Live) → ((l : Live) → Contains ls l → P l) → AllByRecursion P ls
-each_at P [] h = tt
-each_at P (l ∷ ls) h = (h l (0, omega arith, refl), each_at P ls (λ x c. h x (suc c.0, omega arith, c.2)))
-
-module _ (basis : Basis) (row : Row) (spec : Spec) (is : spec_of basis.specs row.spec_id ≡ Some spec) where
-  abbrev IsFull : Live → Type 0
-  IsFull l = length l.entry.file.tuple ≡ length spec.fields
-
-  only : (other : Spec) → spec_of basis.specs row.spec_id ≡ Some other → spec ≡ other
-  only other h = let same : Some spec ≡ Some other = sym is ∙ h in cc
-
-  abbrev findings_in : List Live → List Finding
-  findings_in ls = manifest_findings basis row spec (entries ls)
-
-  covered_in : (ls : List Live) → AllByRecursion IsFull ls → uncovered (findings_in ls) ≡ []
-      → AllByRecursion (λ (l : Live). RowCovers basis.specs row l.entry.file.tuple) ls
-  covered_in [] full h = tt
-  covered_in (l ∷ ls) full h =
-      let limits = row_limits spec row.partitions in
-      let parts = none_of_both (entry_findings basis row limits l.entry) (findings_in ls) h in
-      let covers = covered_where_none spec row.partitions l.entry.file.tuple full.0
-      (told row l.entry basis limits parts.0) in
-      (
-        λ other found. subst (λ (s : Spec). Covers s row.partitions l.entry.file.tuple) (only other found) covers,
-        covered_in ls full.1 parts.1,
-      )
-
-  none_in : (ls : List Live) → AllByRecursion (λ (l : Live). RowCovers basis.specs row l.entry.file.tuple) ls
-      → uncovered (findings_in ls) ≡ []
-  none_in [] h = refl
-  none_in (l ∷ ls) h =
-      let limits = row_limits spec row.partitions in
-      none_of_all (entry_findings basis row limits l.entry) (findings_in ls)
-      (told_back row l.entry basis limits (none_where_covered spec row.partitions l.entry.file.tuple (h.0 spec is)))
-      (none_in ls h.1)
 
 -- ---- the manifest of a row
 
@@ -155,8 +104,7 @@ row_covered full world basis row audit h none =
     let r = row_of world basis row audit h in
     subst (AllByRecursion (λ (l : Live). RowCovers basis.specs row l.entry.file.tuple))
     (sym (live_are world basis row audit r))
-    (covered_in basis row r.spec r.spec_is r.lives
-    (each_at (IsFull basis row r.spec r.spec_is) r.lives (λ l c. full row r.spec r.bytes r.lives l r.lives_are c))
+    (told_of_manifest full basis row r.spec r.spec_is r.bytes r.lives r.lives_are
     (ap uncovered (sym r.findings_are) ∙ none))
 
 row_none : (world : World) (basis : Basis) (row : Row) (audit : Audit) → row_audit world basis row ≡ Ok audit
@@ -164,7 +112,7 @@ row_none : (world : World) (basis : Basis) (row : Row) (audit : Audit) → row_a
 row_none world basis row audit h covered =
     let r = row_of world basis row audit h in
     ap uncovered r.findings_are
-    ∙ none_in basis row r.spec r.spec_is r.lives
+    ∙ told_of_covered basis row r.spec r.spec_is r.lives
     (subst (AllByRecursion (λ (l : Live). RowCovers basis.specs row l.entry.file.tuple))
     (live_are world basis row audit r) covered)
 

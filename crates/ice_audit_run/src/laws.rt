@@ -2,7 +2,8 @@
 
 ghost use Rattle.std.specs.Prelude.{◌≡◌, ◌↔◌, ℕ, List, [], Ok};
 ghost use Rattle.ice_audit_run.specs.Audits.{audit_of};
-ghost use Rattle.ice_audit_run.specs.Premises.{TellsTheTruthToAll, uncovered};
+ghost use Rattle.ice_audit.specs.Telling.{uncovered};
+ghost use Rattle.ice_audit_run.specs.Premises.{TellsTheTruthToAll};
 ghost use Rattle.ice_audit_run.specs.declared.audit.Audit.{Audit};
 ghost use Rattle.ice_meta.specs.declared.metadata.Target.{Target};
 ghost use Rattle.ice_state.specs.Contents.{World};

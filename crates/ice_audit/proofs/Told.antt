@@ -1,7 +1,6 @@
 -- Of the findings on one entry those on coverage are the names of the fields outside of the limits.
-use Rattle.std.proofs.Common.{◌≡◌, ◌↔◌, ℕ, ℤ, Bool, true, false, not, nat_lt, List, [], ◌∷◌, ◌++◌, map, filter, refl, sym}
+use Rattle.std.proofs.Common.{◌≡◌, ℕ, ℤ, Bool, true, false, nat_lt, List, [], ◌∷◌, ◌++◌, map, refl, sym}
 use Rattle.std.proofs.Common.{◌∙◌, ap, cond}
-use Rattle.std.specs.List.{flat_map}
 use Rattle.ice_value.specs.declared.file_content.FileContent.{FileContent}
 use Rattle.ice_value.specs.declared.file_content.FileContent.TheVariants.{Data, PositionDeletes, EqualityDeletes}
 use Rattle.ice_manifest_reading.specs.declared.entry.Entry.{Entry}
@@ -12,8 +11,8 @@ use Rattle.ice_audit.specs.declared.finding.Flaw.{Flaw}
 use Rattle.ice_audit.specs.declared.finding.Flaw.TheVariants.{Uncovered, BelowLeast, AboveLast, NoColumn}
 use Rattle.ice_audit.specs.declared.limits.FieldLimits.{FieldLimits}
 use Rattle.ice_audit.specs.Coverage.{outside}
-use Rattle.ice_audit.specs.Findings.{entry_findings, finding_of, flaw_where, flaws_by, missing_columns, missing_in}
-use Rattle.ice_audit_run.specs.Premises.{is_uncovered, uncovered}
+use Rattle.ice_audit.specs.Findings.{entry_findings, finding_of, flaw_where, missing, missing_columns, missing_in}
+use Rattle.ice_audit.specs.Telling.{is_uncovered, uncovered}
 
 -- ---- two lists
 
@@ -29,13 +28,15 @@ none_both : {X : Type 0} (xs ys : List X) → xs ≡ [] → ys ≡ [] → xs ++ 
 none_both [] ys h k = k
 none_both (x ∷ xs) ys h k = absurd cc
 
-pub uncovered-append : (xs ys : List Finding) → uncovered (xs ++ ys) ≡ uncovered xs ++ uncovered ys
+uncovered_first : (b : Bool) (x : Finding) (xs ys zs : List Finding) → zs ≡ xs ++ ys
+    → cond b (x ∷ zs) zs ≡ cond b (x ∷ xs) xs ++ ys
+uncovered_first true x xs ys zs h = ap (λ (l : List Finding). x ∷ l) h
+uncovered_first false x xs ys zs h = h
+
+uncovered-append : (xs ys : List Finding) → uncovered (xs ++ ys) ≡ uncovered xs ++ uncovered ys
 uncovered-append [] ys = refl
-uncovered-append (x ∷ xs) ys = by (is_uncovered x.flaw) where
-  by : (b : Bool) → cond b (x ∷ uncovered (xs ++ ys)) (uncovered (xs ++ ys))
-      ≡ cond b (x ∷ uncovered xs) (uncovered xs) ++ uncovered ys
-  by true = ap (λ (l : List Finding). x ∷ l) (uncovered-append xs ys)
-  by false = uncovered-append xs ys
+uncovered-append (x ∷ xs) ys = uncovered_first (is_uncovered x.flaw) x (uncovered xs) (uncovered ys)
+    (uncovered (xs ++ ys)) (uncovered-append xs ys)
 
 pub none_of_both : (xs ys : List Finding) → uncovered (xs ++ ys) ≡ [] → (uncovered xs ≡ []) × (uncovered ys ≡ [])
 none_of_both xs ys h =
@@ -51,9 +52,9 @@ module _ (row : Row) (x : Entry) where
   abbrev found : List Flaw → List Finding
   found flaws = map (finding_of row x) flaws
 
-  found-append : (as bs : List Flaw) → found (as ++ bs) ≡ found as ++ found bs
-  found-append [] bs = refl
-  found-append (a ∷ as) bs = ap (λ (l : List Finding). finding_of row x a ∷ l) (found-append as bs)
+  found-append : (ls ms : List Flaw) → found (ls ++ ms) ≡ found ls ++ found ms
+  found-append [] ms = refl
+  found-append (l ∷ ls) ms = ap (λ (more : List Finding). finding_of row x l ∷ more) (found-append ls ms)
 
   of_names : (names : List (List ℕ)) → uncovered (found (map Uncovered names)) ≡ [] → names ≡ []
   of_names [] h = refl
@@ -78,10 +79,10 @@ module _ (row : Row) (x : Entry) where
   no_missing : (content : FileContent) (columns ids : List ℤ) → uncovered (found (missing_in content columns ids)) ≡ []
   no_missing Data columns ids = refl
   no_missing PositionDeletes columns ids = refl
-  no_missing EqualityDeletes columns ids = no_columns _
+  no_missing EqualityDeletes columns ids = no_columns (missing columns ids)
 
-  none_in : (as bs : List Flaw) → uncovered (found as) ≡ [] → uncovered (found bs) ≡ [] → uncovered (found (as ++ bs)) ≡ []
-  none_in as bs h k = ap uncovered (found-append as bs) ∙ none_of_all (found as) (found bs) h k
+  none_in : (ls ms : List Flaw) → uncovered (found ls) ≡ [] → uncovered (found ms) ≡ [] → uncovered (found (ls ++ ms)) ≡ []
+  none_in ls ms h k = ap uncovered (found-append ls ms) ∙ none_of_all (found ls) (found ms) h k
 
   others : (basis : Basis) → uncovered (found (flaw_where (nat_lt x.sequence_number row.min_sequence_number) BelowLeast
       ++ (flaw_where (nat_lt basis.last x.sequence_number) AboveLast ++ missing_columns basis x))) ≡ []
