@@ -22,15 +22,12 @@ use Rattle.ice_state.specs.Specs.{spec_of}
 use Rattle.ice_text.specs.Reads.{as_run, file_in, rows_at}
 use Rattle.ice_text.specs.declared.fault.RunFault.{RunFault}
 use Rattle.ice_text.proofs.Steps.{bytes_in}
-use Rattle.ice_requests.specs.declared.selection.Selection.{Selection}
-use Rattle.ice_requests.specs.Selections.{selected}
 use Rattle.ice_audit_run.specs.Audits.{all_known, audit_of, joined, nothing, of_manifest, or_unknown, row_audit, rows_audit}
 use Rattle.ice_audit_run.specs.Audits.{spec_for}
-use Rattle.ice_audit_run.specs.Premises.{TellsTheTruthToAll}
+use Rattle.ice_audit_run.specs.Premises.{HasTrueSummaries}
 use Rattle.ice_audit_run.specs.Subjects.{subject_of}
 use Rattle.ice_audit_run.specs.declared.audit.Audit.{Audit}
 use Rattle.ice_audit_run.specs.declared.subject.Subject.{Subject}
-use Rattle.ice_audit_run.proofs.Selecting.{same_selection, unfiltered_selection}
 use Rattle.ice_audit_run.proofs.Steps.{steps}
 use Rattle.ice_audit.proofs.Telltale.{told_of_covered, told_of_manifest}
 use Rattle.ice_audit.proofs.Told.{none_of_all, none_of_both}
@@ -157,7 +154,7 @@ pub record IsAuditOf (world : World) (metadata : List ℕ) (target : Target) (au
   pub rows_are : rows_at world subject.list ≡ Ok rows
   pub audit_is : rows_audit world subject.basis rows ≡ Ok audit
 
-parts_of : (world : World) (metadata : List ℕ) (target : Target) (audit : Audit)
+pub parts_of : (world : World) (metadata : List ℕ) (target : Target) (audit : Audit)
     → audit_of world metadata target ≡ Ok audit → IsAuditOf world metadata target audit
 unfolding audit_of
 parts_of world metadata target audit h =
@@ -168,21 +165,21 @@ parts_of world metadata target audit h =
 
 pub truth : (full : HasACellForEach) (world : World) (metadata : List ℕ) (target : Target) (audit : Audit)
     → audit_of world metadata target ≡ Ok audit → uncovered audit.findings ≡ []
-    → TellsTheTruthToAll world metadata target
+    → HasTrueSummaries world metadata target
 truth full world metadata target audit h none =
     let p = parts_of world metadata target audit h in
     let covered = rows_covered full world p.subject.basis p.rows audit p.audit_is none in
-    λ text selection rows is has.
-    let same = same_selection metadata (record { target = target; filter = text }) selection p.subject is p.subject_is in
-    let found : Ok p.rows ≡ Ok rows = sym p.rows_are ∙ ap (rows_at world) (sym same.0) ∙ has in
-    let rows_same : p.rows ≡ rows = cc in
-    subst (λ (rs : List Row). AreCovered world selection.specs rs) rows_same
-    (subst (λ (ss : List Spec). AreCovered world ss p.rows) (sym same.1) covered)
+    λ subject rows is has.
+    let found : Ok {E = RunFault} p.subject ≡ Ok subject = sym p.subject_is ∙ is in
+    let same : p.subject ≡ subject = cc in
+    let here : Ok {E = RunFault} p.rows ≡ Ok rows = sym p.rows_are ∙ ap (λ (s : Subject). rows_at world s.list) same ∙ has in
+    let alike : p.rows ≡ rows = cc in
+    subst (λ (s : Subject). AreCovered world s.basis.specs rows) same
+    (subst (λ (rs : List Row). AreCovered world p.subject.basis.specs rs) alike covered)
 
 pub no_lie : (world : World) (metadata : List ℕ) (target : Target) (audit : Audit)
-    → audit_of world metadata target ≡ Ok audit → TellsTheTruthToAll world metadata target
+    → audit_of world metadata target ≡ Ok audit → HasTrueSummaries world metadata target
     → uncovered audit.findings ≡ []
 no_lie world metadata target audit h tells =
     let p = parts_of world metadata target audit h in
-    rows_none world p.subject.basis p.rows audit p.audit_is
-    (tells None _ p.rows (unfiltered_selection metadata target p.subject p.subject_is) p.rows_are)
+    rows_none world p.subject.basis p.rows audit p.audit_is (tells p.subject p.rows p.subject_is p.rows_are)

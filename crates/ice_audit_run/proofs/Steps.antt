@@ -19,14 +19,12 @@ use Rattle.ice_state.specs.Contents.{World}
 use Rattle.ice_state.specs.declared.fault.ScanFault.TheVariants as scan
 use Rattle.ice_state.specs.Specs.{spec_of}
 use Rattle.ice_text.proofs.Steps.{bytes_in, fails_later, first_ends, only_first, then_ends}
-use Rattle.ice_text.specs.Reads.{MayEnd, as_run, file_in, rows_at}
+use Rattle.ice_text.specs.Reads.{MayEnd, as_run, file_in, rows_at, rows_in}
 use Rattle.ice_text.specs.declared.fault.RunFault.{RunFault}
 use Rattle.ice_text.specs.declared.fault.RunFault.TheVariants as run
-use Rattle.ice_requests.specs.Selections.{IsOfRequest}
-use Rattle.ice_requests.proofs.Plans.{list_there, request_ends}
 use Rattle.ice_audit_run.specs.Audits.{all_known, audit_of, audit_reads, joined, manifests_of, nothing, of_manifest}
 use Rattle.ice_audit_run.specs.Audits.{or_unknown, reads_of, row_audit, rows_audit, spec_for}
-use Rattle.ice_audit_run.specs.Subjects.{subject_of}
+use Rattle.ice_audit_run.specs.Subjects.{IsOfMetadata, subject_of}
 use Rattle.ice_audit_run.specs.declared.audit.Audit.{Audit}
 use Rattle.ice_audit_run.specs.declared.subject.Subject.{Subject}
 
@@ -150,6 +148,32 @@ joins i m n fs gs x a one es found = rw (one, es, found) (simp (add_assoc, appen
 
 -- ---- a snapshot
 
+-- a refusal of the metadata comes before any read
+metadata_ends : {A : Type 0} (read : Result A RunFault) (r : List ℕ → Type 0) (w : Type 0) (e : RunFault)
+    → IsOfMetadata e → (e ≢ run.Memory → read ≡ Err e) → MayEnd read r w e
+metadata_ends read r w run.Memory is h = tt
+metadata_ends read r w (run.Metadata f) is h = h (λ m. cc)
+metadata_ends read r w (run.Filter f) is h = absurd is
+metadata_ends read r w (run.Device path) is h = absurd is
+metadata_ends read r w run.Write is h = absurd is
+metadata_ends read r w run.Input is h = absurd is
+metadata_ends read r w (run.Words t) is h = absurd is
+metadata_ends read r w (run.Bundle n) is h = absurd is
+metadata_ends read r w (run.Absent path) is h = absurd is
+metadata_ends read r w (run.List f) is h = absurd is
+metadata_ends read r w (run.Scan f) is h = absurd is
+metadata_ends read r w (run.Finish f) is h = absurd is
+metadata_ends read r w (run.Drill f) is h = absurd is
+metadata_ends read r w (run.Change f) is h = absurd is
+metadata_ends read r w (run.Prepare f) is h = absurd is
+metadata_ends read r w (run.Conflict path) is h = absurd is
+metadata_ends read r w run.Workers is h = absurd is
+
+list_there : (world : World) (path : List ℕ) (rows : List Row) → rows_at world path ≡ Ok rows → (bytes : List ℕ)
+    × (file_in world path ≡ Ok bytes)
+unfolding rows_at
+list_there world path rows h = let one = steps (file_in world path) rows_in rows h in (one.0, one.1)
+
 known_ends : (r : List ℕ → Type 0) (w : Type 0) (specs : List Spec) (rows : List Row) (e : RunFault)
     → all_known specs rows ≡ Err e → MayEnd (all_known specs rows) r w e
 known_ends r w specs [] e h = absurd cc
@@ -163,12 +187,12 @@ known_ends r w specs (row ∷ rows) e h = go (spec_of specs row.spec_id) h where
   go (Some spec) k = known_ends r w specs rows e k
 
 pub not_selected : (f : List ℕ → Type 0) (world : World) (metadata : List ℕ) (target : Target) (e : RunFault)
-    → IsOfRequest e → (e ≢ run.Memory → subject_of metadata target ≡ Err e)
+    → IsOfMetadata e → (e ≢ run.Memory → subject_of metadata target ≡ Err e)
     → MayEnd (audit_of world metadata target) (EndsAt world f (audit_reads world metadata target)) ⊥ e
 unfolding audit_of
 not_selected f world metadata target e own h =
     first_ends (EndsAt world f (audit_reads world metadata target)) ⊥ (λ _. ⊥) (subject_of metadata target) _ e
-    (λ p m. absurd m) (request_ends (subject_of metadata target) (λ _. ⊥) ⊥ e own h)
+    (λ p m. absurd m) (metadata_ends (subject_of metadata target) (λ _. ⊥) ⊥ e own h)
 
 module _ (f : List ℕ → Type 0) (world : World) (metadata : List ℕ) (target : Target) (subject : Subject)
     (is : subject_of metadata target ≡ Ok subject) where

@@ -10,6 +10,7 @@ use Rattle.ice_meta.specs.Targets.{bound_specs, list_of, metadata_of}
 use Rattle.ice_text.specs.Faults.{of_meta}
 use Rattle.ice_text.specs.Reads.{as_run, schema_of}
 use Rattle.ice_text.specs.declared.fault.RunFault.{RunFault}
+use Rattle.ice_text.specs.declared.fault.RunFault.TheVariants as run
 use Rattle.ice_audit_run.specs.declared.subject.Subject.{Subject}
 
 abbrev pub column_ids : Schema → List ℤ
@@ -32,3 +33,9 @@ unfoldable pub subject_of : List ℕ → Target → Result Subject RunFault
 subject_of metadata target = do
   described ← as_run of_meta (metadata_of metadata)
   subject_in described.table target
+
+-- the faults of metadata
+abbrev pub IsOfMetadata : RunFault → Type 0
+IsOfMetadata (run.Metadata fault) = Unit {0}
+IsOfMetadata run.Memory = Unit {0}
+IsOfMetadata _ = ⊥

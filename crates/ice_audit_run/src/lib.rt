@@ -10,6 +10,6 @@ mod subject;
 
 pub use audit::Audit;
 pub use ice_audit::{Basis, Finding, Flaw};
-pub use laws::audits_tell_the_truth;
-pub use running::{audit_file, run_audit};
+pub use laws::audits_tell_of_summaries;
+pub use running::run_audit;
 pub use subject::{Subject, select_subject};

@@ -79,8 +79,9 @@ fn push_totals(text: &mut Vec<u8>, audit: &Audit) -> Result<(), AllocError>
 pub fn audit_lines(alloc: Global, audit: &Audit) -> Result<Vec<u8>, AllocError>
     ensures { IfOk result (λ text. text.items ≡ audit_text audit.now) }
 {
+    let findings = audit.findings.as_slice();
     let mut text = Vec::new(alloc);
-    'findings: for finding in audit.findings.as_slice() {
+    'findings: for finding in findings {
         push_finding(&mut text, finding)?;
     }
     push_totals(&mut text, audit)?;

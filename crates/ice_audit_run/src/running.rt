@@ -1,22 +1,21 @@
 //! Audits that are asked for, over any files.
 
-ghost use Rattle.std.specs.Prelude.{◌≡◌, ◌≢◌, ◌∷◌, Some, Ok, IfOk, IfErr, IsErrOf};
+ghost use Rattle.std.specs.Prelude.{◌≡◌, ◌≢◌, Some, Ok, IfOk, IfErr, IsErrOf};
 ghost use Rattle.ice_audit_run.specs.Audits.{audit_of, audit_reads};
-ghost use Rattle.ice_audit_run.specs.Premises.{TellsTheTruthToAll};
-ghost use Rattle.ice_audit_run.specs.Texts.{WroteAudit, WroteAuditFront, audit_text};
+ghost use Rattle.ice_audit_run.specs.Premises.{HasTrueSummaries};
+ghost use Rattle.ice_audit_run.specs.Texts.{WroteAudit, WroteAuditFront};
 ghost use Rattle.ice_desk.specs.Worlds.{EndsAt};
-ghost use Rattle.ice_print.specs.Written.{Appends, AppendsFront};
 ghost use Rattle.ice_state.specs.Contents.{World};
 ghost use Rattle.ice_text.specs.Reads.{MayEnd};
 
 use crate::audit::{Audit, audit_rows};
-use crate::laws::audits_tell_the_truth;
+use crate::laws::audits_tell_of_summaries;
 use crate::lines::audit_lines;
 use crate::manifests::check_specs;
 use crate::subject::select_subject;
 use ice_desk::Files;
 use ice_meta::Target;
-use ice_text::{RunFault, Sink, read_file, read_rows, write_all};
+use ice_text::{RunFault, Sink, read_rows, write_all};
 use std::alloc::Global;
 
 /// What a snapshot's audit finds.
@@ -42,8 +41,8 @@ fn audit_table<F: Files>(
 /// Audits a snapshot of the table whose metadata these are the bytes of: reads each of its manifests, also those that
 /// no filter wants, writes a line for each finding and then their numbers, and gives the number of findings.
 ///
-/// Where there is none, the summaries of all manifests tell the truth, so the plan of the snapshot under any filter is
-/// that of all its manifests (`run_plan`).
+/// Where there is none, the summaries of all manifests tell the truth: the premise under which `run_plan` writes, for
+/// any filter, the plan over all manifests of the snapshot.
 ///
 /// The refusal is `Metadata` with the first fault of the bytes, or where there is no such snapshot; then, of reading
 /// the manifest list and after it the manifests in the order of their paths, `Absent` for the first that is not there
@@ -62,7 +61,7 @@ pub fn run_audit<F: Files, W: Sink>(
         IfOk result (λ count. WroteAudit (audit_of world metadata.now target.now) count (W.taken output.old)
         (W.taken output.new)) }
     ensures truth { (world : World) → F.world files.now ≡ Some world →
-        IfOk result (λ count. count ≡ 0 → TellsTheTruthToAll world metadata.now target.now) }
+        IfOk result (λ count. count ≡ 0 → HasTrueSummaries world metadata.now target.now) }
     ensures refused { (world : World) → F.world files.now ≡ Some world →
         IfErr result (MayEnd (audit_of world metadata.now target.now)
         (EndsAt world (F.may_fail files.now) (audit_reads world metadata.now target.now)) (W.may_fail output.old)) }
@@ -72,7 +71,7 @@ pub fn run_audit<F: Files, W: Sink>(
     // Over all files.
     ensures nothing { IfErr result (λ fault. fault ≢ RunFault.Write → W.taken output.new ≡ W.taken output.old) }
 {
-    audits_tell_the_truth();
+    audits_tell_of_summaries();
     let audit = audit_table(alloc, files, metadata, target)?;
     let text = audit_lines(alloc, &audit)?;
     write_all(output, &text)?;

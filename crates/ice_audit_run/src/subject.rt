@@ -2,8 +2,7 @@
 
 ghost use Rattle.std.specs.Prelude.{◌≡◌, IfErr, IfOk};
 ghost use Rattle.contract_words.specs.Outcome.{Gives};
-ghost use Rattle.ice_audit_run.specs.Subjects.{column_ids, subject_in, subject_of};
-ghost use Rattle.ice_requests.specs.Selections.{IsOfRequest};
+ghost use Rattle.ice_audit_run.specs.Subjects.{IsOfMetadata, column_ids, subject_in, subject_of};
 
 use contract_words::{Items, Text};
 use ice_audit::Basis;
@@ -24,8 +23,9 @@ pub struct Subject {
 fn column_ids(alloc: Global, schema: &Schema) -> Result<Items<i32>, AllocError>
     ensures { IfOk result (λ ids. ids ≡ column_ids schema.now) }
 {
+    let columns = schema.columns.as_slice();
     let mut ids = Items::new(alloc);
-    'columns: for column in schema.columns.as_slice() {
+    'columns: for column in columns {
         ids.push(column.id)?;
     }
     Ok(ids)
@@ -36,7 +36,7 @@ fn column_ids(alloc: Global, schema: &Schema) -> Result<Items<i32>, AllocError>
 #[tactic(auto, unfolding(crate::specs::Subjects::subject_in))]
 fn subject_in(alloc: Global, metadata: &Metadata, target: &Target) -> Result<Subject, RunFault>
     ensures gives { Gives RunFault.Memory (λ subject. subject) result (subject_in metadata.now.table target.now) }
-    ensures causes { IfErr result IsOfRequest }
+    ensures causes { IfErr result IsOfMetadata }
 {
     let list = metadata.manifest_list(target)?;
     let schema = metadata.schema_for(target);
@@ -56,7 +56,7 @@ fn subject_in(alloc: Global, metadata: &Metadata, target: &Target) -> Result<Sub
 #[tactic(auto, unfolding(crate::specs::Subjects::subject_of))]
 pub fn select_subject(alloc: Global, metadata: &[u8], target: &Target) -> Result<Subject, RunFault>
     ensures gives { Gives RunFault.Memory (λ subject. subject) result (subject_of metadata.now target.now) }
-    ensures causes { IfErr result IsOfRequest }
+    ensures causes { IfErr result IsOfMetadata }
 {
     let metadata = Metadata::read(alloc, metadata)?;
     subject_in(alloc, &metadata, target)

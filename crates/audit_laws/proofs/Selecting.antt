@@ -1,5 +1,5 @@
 -- What is audited of a table is what a plan of it reads, whatever its filter.
-use Rattle.std.proofs.Common.{◌≡◌, ℕ, List, [], refl, sym, ap, ◌∙◌, Option, None}
+use Rattle.std.proofs.Common.{◌≡◌, ℕ, List, [], refl, sym, ap, subst, ◌∙◌, Option, None}
 use Rattle.std.specs.Prelude.{Result, Ok, Err}
 use Rattle.contract_words.specs.Outcome.{◌>>=◌}
 use Rattle.ice_filter.specs.declared.bound.BoundLeaf.{BoundLeaf}
@@ -13,11 +13,16 @@ use Rattle.ice_meta.specs.declared.spec.Spec.{Spec}
 use Rattle.ice_meta.specs.declared.table.Table.{Table}
 use Rattle.ice_meta.specs.Targets.{Described, bound_specs, list_of, metadata_of}
 use Rattle.ice_text.specs.Faults.{of_filter, of_meta}
-use Rattle.ice_text.specs.Reads.{as_run, schema_of}
+use Rattle.ice_text.specs.Reads.{as_run, rows_at, schema_of}
 use Rattle.ice_text.specs.declared.fault.RunFault.{RunFault}
 use Rattle.ice_text.specs.declared.request.Request.{Request}
 use Rattle.ice_requests.specs.Selections.{bound_in, parts_in, selected, selected_by}
 use Rattle.ice_requests.specs.declared.selection.Selection.{Selection}
+use Rattle.ice_manifest_reading.specs.declared.row.Row.{Row}
+use Rattle.ice_requests.specs.Plans.{TellsTheTruth}
+use Rattle.ice_state.specs.Contents.{World}
+use Rattle.ice_state.specs.Covering.{AreCovered}
+use Rattle.ice_audit_run.specs.Premises.{HasTrueSummaries}
 use Rattle.ice_audit_run.specs.Subjects.{basis_of, subject_in, subject_of}
 use Rattle.ice_audit_run.specs.declared.subject.Subject.{Subject}
 
@@ -119,3 +124,18 @@ pub unfiltered_selection : (metadata : List ℕ) (target : Target) (subject : Su
 unfolding selected subject_of
 unfiltered_selection metadata target subject h =
     unfiltered_in (as_run of_meta (metadata_of metadata)) target subject h
+
+-- ---- the premise of a plan
+
+pub truth_for : (world : World) (metadata : List ℕ) (target : Target) (text : Option (List ℕ)) (subject : Subject)
+    → subject_of metadata target ≡ Ok subject → HasTrueSummaries world metadata target
+    → TellsTheTruth world metadata (record { target = target; filter = text })
+truth_for world metadata target text subject is h = λ selection rows asked has.
+    let same = same_selection metadata (record { target = target; filter = text }) selection subject asked is in
+    let there : rows_at world subject.list ≡ Ok rows = ap (rows_at world) (sym same.0) ∙ has in
+    subst (λ (ss : List Spec). AreCovered world ss rows) (sym same.1) (h subject rows is there)
+
+pub true_from : (world : World) (metadata : List ℕ) (target : Target)
+    → TellsTheTruth world metadata (record { target = target; filter = None }) → HasTrueSummaries world metadata target
+true_from world metadata target tells = λ subject rows is has.
+    tells (unfiltered subject) rows (unfiltered_selection metadata target subject is) has
