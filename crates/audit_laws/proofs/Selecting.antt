@@ -32,6 +32,9 @@ IsSame subject selection = (selection.list ≡ subject.list) × (selection.specs
 
 -- ---- by the parts of the metadata
 
+abbrev given : {A : Type 0} → A → Result A RunFault
+given x = Ok x
+
 abbrev subject_from : Table → Result (List ℕ) RunFault → Result Schema RunFault → Result Subject RunFault
 subject_from table list schema =
     list >>= λ l. schema >>= λ s. Ok (record { list = l; basis = basis_of s table })
@@ -44,7 +47,7 @@ selection_from table list schema bound = list >>= λ l. schema >>= λ s. bound s
 bound_same : (table : Table) (l : List ℕ) (s : Schema) (f : Result (List (Part BoundLeaf)) RunFault)
     (selection : Selection) (subject : Subject)
     → (f >>= λ parts. Ok (record { list = l; specs = bound_specs s table; filter = record { parts = parts } })) ≡ Ok selection
-    → Ok {E = RunFault} (record { list = l; basis = basis_of s table }) ≡ Ok subject → IsSame subject selection
+    → given (record { list = l; basis = basis_of s table }) ≡ Ok subject → IsSame subject selection
 bound_same table l s (Err e) selection subject h k = absurd cc
 bound_same table l s (Ok parts) selection subject h k =
     let here : record { list = l; specs = bound_specs s table; filter = record { parts = parts } } ≡ selection = cc in
@@ -103,7 +106,7 @@ unfiltered_from table (Err e) schema subject h = absurd cc
 unfiltered_from table (Ok l) (Err e) subject h = absurd cc
 unfiltered_from table (Ok l) (Ok s) subject h =
     let there : record { list = l; basis = basis_of s table } ≡ subject = cc in
-    ap (λ (x : Subject). Ok {E = RunFault} (unfiltered x)) there
+    ap (λ (x : Subject). given (unfiltered x)) there
 
 unfiltered_by : (table : Table) (target : Target) (subject : Subject) → subject_in table target ≡ Ok subject
     → selected_by table target None ≡ Ok (unfiltered subject)

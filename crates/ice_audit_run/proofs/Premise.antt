@@ -72,7 +72,7 @@ row_of world basis row audit h =
       manifests = 1;
       entries = length three.0;
       findings = manifest_findings basis row one.0 three.0;
-    } ≡ audit = cc in
+    } ≡ audit = cc three.2 in
     record {
       spec = one.0;
       bytes = two.0;
@@ -123,7 +123,7 @@ unfolding rows_audit
 rows_parts world basis row rows audit h =
     let one = steps (row_audit world basis row) _ audit h in
     let two = steps (rows_audit world basis rows) _ audit one.2 in
-    let here : joined one.0 two.0 ≡ audit = cc in
+    let here : joined one.0 two.0 ≡ audit = cc two.2 in
     (one.0, two.0, one.1, two.1, sym (ap (λ (a : Audit). a.findings) here))
 
 rows_covered : (full : HasACellForEach) (world : World) (basis : Basis) (rows : List Row) (audit : Audit)
@@ -163,6 +163,10 @@ parts_of world metadata target audit h =
     let three = steps (all_known one.0.basis.specs two.0) _ audit two.2 in
     record { subject = one.0; rows = two.0; subject_is = one.1; rows_are = two.1; audit_is = three.2 }
 
+one_value : {A : Type 0} (r : Result A RunFault) (x y : A) → r ≡ Ok x → r ≡ Ok y → x ≡ y
+one_value (Ok z) x y h k = cc
+one_value (Err e) x y h k = absurd cc
+
 pub truth : (full : HasACellForEach) (world : World) (metadata : List ℕ) (target : Target) (audit : Audit)
     → audit_of world metadata target ≡ Ok audit → uncovered audit.findings ≡ []
     → HasTrueSummaries world metadata target
@@ -170,10 +174,9 @@ truth full world metadata target audit h none =
     let p = parts_of world metadata target audit h in
     let covered = rows_covered full world p.subject.basis p.rows audit p.audit_is none in
     λ subject rows is has.
-    let found : Ok {E = RunFault} p.subject ≡ Ok subject = sym p.subject_is ∙ is in
-    let same : p.subject ≡ subject = cc in
-    let here : Ok {E = RunFault} p.rows ≡ Ok rows = sym p.rows_are ∙ ap (λ (s : Subject). rows_at world s.list) same ∙ has in
-    let alike : p.rows ≡ rows = cc in
+    let same : p.subject ≡ subject = one_value (subject_of metadata target) p.subject subject p.subject_is is in
+    let alike : p.rows ≡ rows = one_value (rows_at world subject.list) p.rows rows
+    (ap (λ (s : Subject). rows_at world s.list) (sym same) ∙ p.rows_are) has in
     subst (λ (s : Subject). AreCovered world s.basis.specs rows) same
     (subst (λ (rs : List Row). AreCovered world p.subject.basis.specs rs) alike covered)
 

@@ -138,7 +138,7 @@ unfolding rows_audit
 no_rows world basis = refl
 
 pub join_nothing : (a : Audit) → joined nothing a ≡ a
-join_nothing a = rw zero-add refl
+join_nothing a = simp zero-add
 
 -- what is joined to one more
 pub joins : (i m n : ℕ) (fs gs : List Finding) (x a : Audit) → x.manifests ≡ 1 → x.entries ≡ n → gs ≡ fs ++ x.findings
@@ -174,17 +174,20 @@ list_there : (world : World) (path : List ℕ) (rows : List Row) → rows_at wor
 unfolding rows_at
 list_there world path rows h = let one = steps (file_in world path) rows_in rows h in (one.0, one.1)
 
+known_step : (r : List ℕ → Type 0) (w : Type 0) (row : Row) (o : Option Spec) (rest : Result Unit RunFault) (e : RunFault)
+    → (rest ≡ Err e → MayEnd rest r w e) → (or_unknown row o >>= λ _. rest) ≡ Err e
+    → MayEnd (or_unknown row o >>= λ _. rest) r w e
+known_step r w row None rest e next h =
+    let unknown = run.Scan (scan.NoSuchSpec row.spec_id) in
+    let this : unknown ≡ e = cc in
+    subst (λ x. MayEnd {A = Unit {0}} (Err unknown) r w x) this refl
+known_step r w row (Some spec) rest e next h = next h
+
 known_ends : (r : List ℕ → Type 0) (w : Type 0) (specs : List Spec) (rows : List Row) (e : RunFault)
     → all_known specs rows ≡ Err e → MayEnd (all_known specs rows) r w e
 known_ends r w specs [] e h = absurd cc
-known_ends r w specs (row ∷ rows) e h = go (spec_of specs row.spec_id) h where
-  go : (o : Option Spec) → (or_unknown row o >>= λ _. all_known specs rows) ≡ Err e
-      → MayEnd (or_unknown row o >>= λ _. all_known specs rows) r w e
-  go None k =
-      let unknown = run.Scan (scan.NoSuchSpec row.spec_id) in
-      let this : unknown ≡ e = cc in
-      subst (λ x. MayEnd {A = Unit {0}} (Err unknown) r w x) this refl
-  go (Some spec) k = known_ends r w specs rows e k
+known_ends r w specs (row ∷ rows) e h = known_step r w row (spec_of specs row.spec_id) (all_known specs rows) e
+    (known_ends r w specs rows e) h
 
 pub not_selected : (f : List ℕ → Type 0) (world : World) (metadata : List ℕ) (target : Target) (e : RunFault)
     → IsOfMetadata e → (e ≢ run.Memory → subject_of metadata target ≡ Err e)
