@@ -51,8 +51,7 @@ bound_same : (table : Table) (l : List ℕ) (s : Schema) (f : Result (List (Part
 bound_same table l s (Err e) selection subject h k = absurd cc
 bound_same table l s (Ok parts) selection subject h k =
     let here : record { list = l; specs = bound_specs s table; filter = record { parts = parts } } ≡ selection = cc in
-    let there : record { list = l; basis = basis_of s table } ≡ subject = cc in
-    (
+    let there : record { list = l; basis = basis_of s table } ≡ subject = cc in (
       sym (ap (λ (x : Selection). x.list) here) ∙ ap (λ (x : Subject). x.list) there,
       sym (ap (λ (x : Selection). x.specs) here) ∙ ap (λ (x : Subject). x.basis.specs) there,
     )
