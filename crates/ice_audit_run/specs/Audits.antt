@@ -1,6 +1,6 @@
 -- Audits of a snapshot: every manifest is read, also those that no filter wants.
-use Rattle.std.specs.Prelude.{◌≡◌, ℕ, ◌+◌, List, [], ◌∷◌, ◌++◌, length, Option, Some, None, Result, Ok, Err, OnOk}
-use Rattle.std.specs.Prelude.{IfOk}
+use Rattle.std.specs.Prelude.{◌≡◌, ℕ, ◌+◌, List, [], ◌∷◌, ◌++◌, length, Option, Some, None, Result, Ok, Err}
+use Rattle.std.specs.Prelude.{◌&&◌, nat_le, if◌then◌else◌}
 use Rattle.contract_words.specs.Outcome.{◌>>=◌}
 use Rattle.ice_audit.specs.declared.basis.Basis.{Basis}
 use Rattle.ice_audit.specs.Findings.{manifest_findings}
@@ -87,3 +87,22 @@ reads_of world (Err fault) = []
 
 unfoldable pub audit_reads : World → List ℕ → Target → List (List ℕ)
 audit_reads world metadata target = reads_of world (subject_of metadata target)
+
+-- ---- the metadata in a file
+
+-- what is audited by so many workers: there have to be from 1 to 64, and before that is settled nothing else is
+abbrev pub by_workers : ℕ → Result Audit RunFault → Result Audit RunFault
+by_workers workers read = if nat_le 1 workers && nat_le workers 64 then read else Err run.Workers
+
+-- the audit of a snapshot of the table whose metadata is in the file at a path
+unfoldable pub audit_at : World → List ℕ → Target → ℕ → Result Audit RunFault
+audit_at world path target workers = do
+  metadata ← file_in world path
+  by_workers workers (audit_of world metadata target)
+
+abbrev pub reads_behind : World → Target → Result (List ℕ) RunFault → List (List ℕ)
+reads_behind world target (Ok metadata) = audit_reads world metadata target
+reads_behind world target (Err fault) = []
+
+unfoldable pub audit_reads_at : World → List ℕ → Target → List (List ℕ)
+audit_reads_at world path target = path ∷ reads_behind world target (file_in world path)

@@ -11,5 +11,5 @@ mod subject;
 pub use audit::Audit;
 pub use ice_audit::{Basis, Finding, Flaw};
 pub use laws::audits_tell_of_summaries;
-pub use running::run_audit;
+pub use running::{audit_file, run_audit};
 pub use subject::{Subject, select_subject};

@@ -1,8 +1,8 @@
 //! Audits that are asked for, over any files.
 
 ghost use Rattle.std.specs.Prelude.{◌≡◌, ◌≢◌, Some, Ok, IfOk, IfErr, IsErrOf};
-ghost use Rattle.ice_audit_run.specs.Audits.{audit_of, audit_reads};
-ghost use Rattle.ice_audit_run.specs.Premises.{HasTrueSummaries};
+ghost use Rattle.ice_audit_run.specs.Audits.{audit_at, audit_of, audit_reads, audit_reads_at};
+ghost use Rattle.ice_audit_run.specs.Premises.{HasTrueSummaries, HasTrueSummariesAt};
 ghost use Rattle.ice_audit_run.specs.Texts.{WroteAudit, WroteAuditFront};
 ghost use Rattle.ice_desk.specs.Worlds.{EndsAt};
 ghost use Rattle.ice_state.specs.Contents.{World};
@@ -13,9 +13,9 @@ use crate::laws::audits_tell_of_summaries;
 use crate::lines::audit_lines;
 use crate::manifests::check_specs;
 use crate::subject::select_subject;
-use ice_desk::Files;
+use ice_desk::{Files, MOST_WORKERS};
 use ice_meta::Target;
-use ice_text::{RunFault, Sink, read_rows, write_all};
+use ice_text::{RunFault, Sink, read_file, read_rows, write_all};
 use std::alloc::Global;
 
 /// What a snapshot's audit finds.
@@ -76,4 +76,39 @@ pub fn run_audit<F: Files, W: Sink>(
     let text = audit_lines(alloc, &audit)?;
     write_all(output, &text)?;
     Ok(audit.findings.as_slice().len())
+}
+
+/// Audits a snapshot of the table whose metadata is in the file at a path, and gives the number of findings. All is
+/// read by one worker, whatever the number of workers.
+///
+/// The refusal is `Absent` where there is no such file, `Device` where reading it failed; then `Workers` where there
+/// are to be none, or more than 64; else as `run_audit`'s.
+pub fn audit_file<F: Files, W: Sink>(
+    alloc: Global,
+    files: &F,
+    path: &str,
+    target: &Target,
+    workers: usize,
+    output: &mut W,
+) -> Result<usize, RunFault>
+    // Over files that tell their world.
+    ensures written { (world : World) → F.world files.now ≡ Some world →
+        IfOk result (λ count. WroteAudit (audit_at world path.now target.now workers) count (W.taken output.old)
+        (W.taken output.new)) }
+    ensures truth { (world : World) → F.world files.now ≡ Some world →
+        IfOk result (λ count. count ≡ 0 → HasTrueSummariesAt world path.now target.now) }
+    ensures refused { (world : World) → F.world files.now ≡ Some world →
+        IfErr result (MayEnd (audit_at world path.now target.now workers)
+        (EndsAt world (F.may_fail files.now) (audit_reads_at world path.now target.now)) (W.may_fail output.old)) }
+    ensures front { (world : World) → F.world files.now ≡ Some world → IsErrOf result RunFault.Write →
+        WroteAuditFront (audit_at world path.now target.now workers) (W.taken output.old) (W.taken output.new) }
+
+    // Over all files.
+    ensures nothing { IfErr result (λ fault. fault ≢ RunFault.Write → W.taken output.new ≡ W.taken output.old) }
+{
+    let metadata = read_file(alloc, files, path)?;
+    if workers == 0 || workers > MOST_WORKERS {
+        return Err(RunFault::Workers);
+    }
+    run_audit(alloc, files, &metadata, target, output)
 }
