@@ -1,6 +1,7 @@
 -- Of the findings on one entry those on coverage are the names of the fields outside of the limits.
-use Rattle.std.proofs.Common.{◌≡◌, ℕ, ℤ, Bool, true, false, nat_lt, List, [], ◌∷◌, ◌++◌, map, refl, sym}
+use Rattle.std.proofs.Common.{◌≡◌, ℕ, ℤ, Bool, true, false, nat_lt, List, [], ◌∷◌, ◌++◌, length, map, not, refl, sym}
 use Rattle.std.proofs.Common.{◌∙◌, ap, cond}
+use Rattle.std.specs.Prelude.{pos}
 use Rattle.ice_value.specs.declared.file_content.FileContent.{FileContent}
 use Rattle.ice_value.specs.declared.file_content.FileContent.TheVariants.{Data, PositionDeletes, EqualityDeletes}
 use Rattle.ice_manifest_reading.specs.declared.entry.Entry.{Entry}
@@ -9,9 +10,12 @@ use Rattle.ice_audit.specs.declared.basis.Basis.{Basis}
 use Rattle.ice_audit.specs.declared.finding.Finding.{Finding}
 use Rattle.ice_audit.specs.declared.finding.Flaw.{Flaw}
 use Rattle.ice_audit.specs.declared.finding.Flaw.TheVariants.{Uncovered, BelowLeast, AboveLast, NoColumn}
+use Rattle.ice_audit.specs.declared.finding.Flaw.TheVariants.{LiveFiles, LiveRows}
 use Rattle.ice_audit.specs.declared.limits.FieldLimits.{FieldLimits}
 use Rattle.ice_audit.specs.Coverage.{outside}
-use Rattle.ice_audit.specs.Findings.{entry_findings, finding_of, flaw_where, missing, missing_columns, missing_in}
+use Rattle.ice_audit.specs.Counting.{count_flaws, is_borne_out, live_by_counts, rows_of}
+use Rattle.ice_audit.specs.Findings.{entry_findings, finding_of, manifest_finding, missing, missing_columns, missing_in}
+use Rattle.ice_audit.specs.Flaws.{flaw_where}
 use Rattle.ice_audit.specs.Telling.{is_uncovered, uncovered}
 
 -- ---- two lists
@@ -110,3 +114,17 @@ module _ (row : Row) (x : Entry) where
   told_back basis limits h =
       let names = outside limits x.file.tuple in
       none_in (map Uncovered names) (rest basis) (of_names_back names h) (others basis)
+
+-- ---- the findings on what a row counts
+
+counted : (row : Row) (files rows : Bool) → uncovered (map (manifest_finding row) (flaw_where files LiveFiles ++ flaw_where rows
+    LiveRows)) ≡ []
+counted row true true = refl
+counted row true false = refl
+counted row false true = refl
+counted row false false = refl
+
+pub no_counts : (row : Row) (entries : List Entry) → uncovered (map (manifest_finding row) (count_flaws row entries)) ≡ []
+no_counts row entries = counted row
+    (not (is_borne_out (live_by_counts row.counts.added_files row.counts.existing_files) (pos (length entries))))
+    (not (is_borne_out (live_by_counts row.counts.added_rows row.counts.existing_rows) (rows_of entries)))

@@ -1,5 +1,5 @@
--- What is found of the live entries of a manifest.
-use Rattle.std.specs.Prelude.{ℤ, Bool, not, nat_lt, List, [], ◌∷◌, ◌++◌, map, filter, if◌then◌else◌}
+-- What is found of a manifest and of its live entries.
+use Rattle.std.specs.Prelude.{ℤ, Bool, not, nat_lt, List, [], ◌++◌, map, filter, Some, None}
 use Rattle.std.specs.List.{flat_map, list_any}
 use Rattle.std.specs.Ordering.{int_eq}
 use Rattle.ice_value.specs.declared.file_content.FileContent.{FileContent}
@@ -12,10 +12,9 @@ use Rattle.ice_audit.specs.declared.finding.Finding.{Finding}
 use Rattle.ice_audit.specs.declared.finding.Flaw.{Flaw}
 use Rattle.ice_audit.specs.declared.finding.Flaw.TheVariants.{Uncovered, BelowLeast, AboveLast, NoColumn}
 use Rattle.ice_audit.specs.declared.limits.FieldLimits.{FieldLimits}
+use Rattle.ice_audit.specs.Counting.{count_flaws}
 use Rattle.ice_audit.specs.Coverage.{outside, row_limits}
-
-abbrev pub flaw_where : Bool → Flaw → List Flaw
-flaw_where found flaw = if found then flaw ∷ [] else []
+use Rattle.ice_audit.specs.Flaws.{flaw_where}
 
 abbrev pub has_column : List ℤ → ℤ → Bool
 has_column columns id = list_any (λ column. int_eq column id) columns
@@ -39,12 +38,22 @@ flaws_by basis row limits x = map Uncovered (outside limits x.file.tuple)
     ++ (flaw_where (nat_lt basis.last x.sequence_number) AboveLast
     ++ missing_columns basis x))
 
+-- a finding on a live entry of a row's manifest, and one on the manifest
 abbrev pub finding_of : Row → Entry → Flaw → Finding
-finding_of row x flaw = record { manifest = row.path; file = x.file.path; flaw = flaw }
+finding_of row x flaw = record { manifest = row.path; file = Some x.file.path; flaw = flaw }
 
--- the findings on the live entries of a row's manifest, entry by entry
+abbrev pub manifest_finding : Row → Flaw → Finding
+manifest_finding row flaw = record { manifest = row.path; file = None; flaw = flaw }
+
+-- the findings on a live entry of a row's manifest
 abbrev pub entry_findings : Basis → Row → List FieldLimits → Entry → List Finding
 entry_findings basis row limits x = map (finding_of row x) (flaws_by basis row limits x)
 
+-- those on all of them, entry by entry
+abbrev pub live_findings : Basis → Row → Spec → List Entry → List Finding
+live_findings basis row spec entries = flat_map (entry_findings basis row (row_limits spec row.partitions)) entries
+
+-- what is found of a row's manifest: first of what the row counts, then of the live entries
 abbrev pub manifest_findings : Basis → Row → Spec → List Entry → List Finding
-manifest_findings basis row spec entries = flat_map (entry_findings basis row (row_limits spec row.partitions)) entries
+manifest_findings basis row spec entries =
+    map (manifest_finding row) (count_flaws row entries) ++ live_findings basis row spec entries

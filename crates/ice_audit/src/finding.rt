@@ -2,9 +2,13 @@
 
 use contract_words::{Items, Text};
 
-/// What is wrong with a live entry of a manifest.
+/// What is wrong with a manifest, or with a live entry of it.
 #[derive(Debug, Drop)]
 pub enum Flaw {
+    /// By the manifest list the manifest has another number of live files, added and existing ones together.
+    LiveFiles,
+    /// By the manifest list its live files have another number of rows.
+    LiveRows,
     /// The summary that the manifest's row has of the partition field of this name does not cover the file's value.
     Uncovered(Text),
     /// The entry's sequence number is below the least one that the manifest's row names.
@@ -20,8 +24,8 @@ pub enum Flaw {
 pub struct Finding {
     /// The path of the manifest.
     pub manifest: Text,
-    /// The path of the entry's file.
-    pub file: Items<u8>,
-    /// What is wrong with the entry.
+    /// The path of the entry's file, where it is about one entry.
+    pub file: Option<Items<u8>>,
+    /// What is wrong.
     pub flaw: Flaw,
 }

@@ -2,7 +2,8 @@
 
 ghost use Rattle.std.specs.Prelude.{◌≡◌, ◌++◌, IfOk, OnOk, map};
 ghost use Rattle.ice_audit.specs.Coverage.{outside};
-ghost use Rattle.ice_audit.specs.Findings.{flaw_where, flaws_by, has_column, missing, missing_columns};
+ghost use Rattle.ice_audit.specs.Findings.{flaws_by, has_column, missing, missing_columns};
+ghost use Rattle.ice_audit.specs.Flaws.{flaw_where};
 ghost use Rattle.ice_manifest_reading.specs.Lending.{lent};
 
 use crate::basis::Basis;
@@ -30,7 +31,7 @@ fn push_uncovered(
 }
 
 /// Puts a flaw last, where it was found.
-fn push_where(flaws: &mut Vec<Flaw>, found: bool, flaw: Flaw) -> Result<(), AllocFailed<Flaw>>
+pub fn push_where(flaws: &mut Vec<Flaw>, found: bool, flaw: Flaw) -> Result<(), AllocFailed<Flaw>>
     ensures { OnOk result (flaws.new.items ≡ flaws.old.items ++ flaw_where found flaw) }
 {
     if found {

@@ -3,6 +3,7 @@
 #![tactic(auto)]
 
 mod basis;
+mod counts;
 mod entries;
 mod finding;
 mod flaws;

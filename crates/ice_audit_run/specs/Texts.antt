@@ -1,9 +1,10 @@
 -- The program's own text of an audit. (10 is the line feed.)
-use Rattle.std.specs.Prelude.{◌≡◌, ℕ, List, [], ◌∷◌, ◌++◌, length, codes, Option, Result, Ok}
+use Rattle.std.specs.Prelude.{◌≡◌, ℕ, List, [], ◌∷◌, ◌++◌, length, codes, Option, Some, None, Result, Ok}
 use Rattle.std.specs.List.{flat_map}
 use Rattle.ice_audit.specs.declared.finding.Finding.{Finding}
 use Rattle.ice_audit.specs.declared.finding.Flaw.{Flaw}
-use Rattle.ice_audit.specs.declared.finding.Flaw.TheVariants.{Uncovered, BelowLeast, AboveLast, NoColumn}
+use Rattle.ice_audit.specs.declared.finding.Flaw.TheVariants.{LiveFiles, LiveRows, Uncovered, BelowLeast, AboveLast}
+use Rattle.ice_audit.specs.declared.finding.Flaw.TheVariants.{NoColumn}
 use Rattle.ice_print.specs.Pieces.{named_number, named_path, named_signed}
 use Rattle.ice_print.specs.Written.{Appends, AppendsFront}
 use Rattle.ice_text.specs.declared.fault.RunFault.{RunFault}
@@ -11,6 +12,8 @@ use Rattle.ice_audit_run.specs.declared.audit.Audit.{Audit}
 
 -- what is wrong, in a word
 abbrev pub flaw_name : Flaw → List ℕ
+flaw_name LiveFiles = codes "live-files"
+flaw_name LiveRows = codes "live-rows"
 flaw_name (Uncovered field) = codes "uncovered"
 flaw_name BelowLeast = codes "below-least"
 flaw_name AboveLast = codes "above-last"
@@ -19,14 +22,21 @@ flaw_name (NoColumn id) = codes "no-column"
 -- the field or the column that it is about
 abbrev pub flaw_end : Flaw → List ℕ
 flaw_end (Uncovered field) = named_path (codes " field ") field
+flaw_end (NoColumn id) = named_signed (codes " column ") id
+flaw_end LiveFiles = []
+flaw_end LiveRows = []
 flaw_end BelowLeast = []
 flaw_end AboveLast = []
-flaw_end (NoColumn id) = named_signed (codes " column ") id
+
+-- the file that it is about
+abbrev pub file_text : Option (List ℕ) → List ℕ
+file_text None = []
+file_text (Some path) = named_path (codes " file ") path
 
 -- the line of a finding
 unfoldable pub finding_text : Finding → List ℕ
 finding_text x = codes "finding " ++ (flaw_name x.flaw ++ (named_path (codes " manifest ") x.manifest
-    ++ (named_path (codes " file ") x.file ++ (flaw_end x.flaw ++ 10 ∷ []))))
+    ++ (file_text x.file ++ (flaw_end x.flaw ++ 10 ∷ []))))
 
 -- the last line: how many manifests and live entries were read, and how many findings there are
 unfoldable pub totals_text : Audit → List ℕ

@@ -2,10 +2,11 @@
 
 ghost use Rattle.std.specs.Prelude.{◌≡◌, ◌++◌, OnOk, IfOk};
 ghost use Rattle.std.specs.List.{flat_map};
-ghost use Rattle.ice_audit_run.specs.Texts.{audit_text, finding_text, flaw_end, flaw_name, totals_text};
+ghost use Rattle.ice_audit_run.specs.Texts.{audit_text, file_text, finding_text, flaw_end, flaw_name, totals_text};
 ghost use Rattle.ice_print.specs.Pieces.{named_number, named_path, named_signed};
 
 use crate::audit::Audit;
+use contract_words::Items;
 use ice_audit::{Finding, Flaw};
 use ice_print::{put_named_int, put_named_number, put_named_path};
 use itoa::Integer;
@@ -33,6 +34,8 @@ fn flaw_name(flaw: &Flaw) -> &'static [u8]
     ensures { result.now ≡ flaw_name flaw.now }
 {
     match flaw {
+        Flaw::LiveFiles => b"live-files",
+        Flaw::LiveRows => b"live-rows",
         Flaw::Uncovered(_) => b"uncovered",
         Flaw::BelowLeast => b"below-least",
         Flaw::AboveLast => b"above-last",
@@ -46,7 +49,16 @@ fn push_flaw_end(text: &mut Vec<u8>, flaw: &Flaw) -> Result<(), AllocError>
     match flaw {
         Flaw::Uncovered(field) => push_path(text, b" field ", field.as_bytes()),
         Flaw::NoColumn(id) => push_int(text, b" column ", *id),
-        Flaw::BelowLeast | Flaw::AboveLast => Ok(()),
+        Flaw::LiveFiles | Flaw::LiveRows | Flaw::BelowLeast | Flaw::AboveLast => Ok(()),
+    }
+}
+
+fn push_file(text: &mut Vec<u8>, file: &Option<Items<u8>>) -> Result<(), AllocError>
+    ensures { OnOk result (text.new.items ≡ text.old.items ++ file_text file.now) }
+{
+    match file {
+        Some(path) => push_path(text, b" file ", path.as_slice()),
+        None => Ok(()),
     }
 }
 
@@ -58,7 +70,7 @@ fn push_finding(text: &mut Vec<u8>, finding: &Finding) -> Result<(), AllocError>
     text.extend_from_slice(b"finding ")?;
     text.extend_from_slice(flaw_name(&finding.flaw))?;
     push_path(text, b" manifest ", finding.manifest.as_bytes())?;
-    push_path(text, b" file ", finding.file.as_slice())?;
+    push_file(text, &finding.file)?;
     push_flaw_end(text, &finding.flaw)?;
     text.extend_from_slice(b"\n")
 }

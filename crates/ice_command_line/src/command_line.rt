@@ -104,13 +104,16 @@ Exit status: 0 done, 1 the metadata is refused, 2 the command line or the bundle
 
 const AUDIT_EXAMPLE: &str =
     "Every manifest of the snapshot is read, also those that no filter wants. A line for each finding names what is
-wrong, the manifest and the entry's file; the last line has the numbers of manifests, live entries and findings:
+wrong, the manifest and, where it is about one entry, its file; the last line has the numbers of manifests, live entries
+and findings:
+  live-files   the manifest has another number of live files than the manifest list counts, added and existing ones
+  live-rows    its live files have another number of rows than the manifest list counts
   uncovered    the manifest list's summary of this partition field does not cover the file's value: a plan under a
                filter may lose the file
   below-least  the file's sequence number is below the least one that the manifest list names
   above-last   the file's sequence number is above the table's last
   no-column    the file deletes by a column of this id, which the schema lacks
-Without findings the plan under any filter has each file of the snapshot that may have a row that meets it.
+Where no finding is `uncovered`, the plan under any filter is that of all manifests of the snapshot.
 
 Example, at the top of icescan's repository:
   icescan audit --dir examples/events-java/table --prefix s3://warehouse/db/events \\
@@ -270,14 +273,18 @@ fn with_request<'a>(alloc: Global, command: Command<'a>) -> Result<Command<'a>, 
     command.arg(filter)
 }
 
-/// The option that says how many workers plan.
-fn with_workers<'a>(alloc: Global, command: Command<'a>) -> Result<Command<'a>, AllocError> {
+/// The option that says how many workers there are, with what they do.
+fn with_workers<'a>(
+    alloc: Global,
+    command: Command<'a>,
+    help: &'a str,
+) -> Result<Command<'a>, AllocError> {
     let workers = Arg::new(alloc, "workers")
         .long("workers")
         .value_name("N")
         .value_parser(value_parser!(usize))
         .default_value("1")
-        .help("How many workers read manifests at once, each in a thread of its own: from 1 to 64");
+        .help(help);
     command.arg(workers)
 }
 
@@ -293,7 +300,12 @@ fn plan_command<'a>(alloc: Global) -> Result<Command<'a>, AllocError> {
         )
         .after_long_help(PLAN_EXAMPLE)
         .arg(metadata)?;
-    with_source(alloc, with_workers(alloc, with_request(alloc, command)?)?)
+    let command = with_workers(
+        alloc,
+        with_request(alloc, command)?,
+        "How many workers read manifests at once, each in a thread of its own: from 1 to 64",
+    )?;
+    with_source(alloc, command)
 }
 
 /// The command `show`.
@@ -327,7 +339,12 @@ fn audit_command<'a>(alloc: Global) -> Result<Command<'a>, AllocError> {
         "Audit the snapshot of this branch or tag, and not the current one",
         "Audit the snapshot of this id",
     )?;
-    with_source(alloc, with_workers(alloc, command)?)
+    let command = with_workers(
+        alloc,
+        command,
+        "From 1 to 64, as for `plan`; today one worker reads all manifests, whatever the number",
+    )?;
+    with_source(alloc, command)
 }
 
 /// The command `drill`.
