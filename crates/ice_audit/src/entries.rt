@@ -1,7 +1,7 @@
 //! The findings on one manifest.
 
 ghost use Rattle.std.specs.Prelude.{◌≡◌, ◌++◌, OnOk, map};
-ghost use Rattle.ice_audit.specs.Findings.{finding_of, manifest_finding, manifest_findings};
+ghost use Rattle.ice_audit.specs.Findings.{finding_of, live_findings, manifest_finding, manifest_findings};
 ghost use Rattle.ice_manifest_reading.specs.Lending.{lent};
 
 use crate::basis::Basis;
@@ -54,6 +54,27 @@ fn push_manifest_flaws(
     Ok(())
 }
 
+/// Puts the findings on the live entries of a row's manifest last, entry by entry.
+fn push_live_findings(
+    alloc: Global,
+    findings: &mut Items<Finding>,
+    basis: &Basis,
+    row: &Row,
+    spec: &Spec,
+    entries: &[EntryView<'_>],
+) -> Result<(), AllocError>
+    ensures { OnOk result (findings.new
+        ≡ findings.old ++ live_findings basis.now row.now spec.now entries.now) }
+{
+    let limits = row_limits(alloc, spec, row)?;
+    'entries: for entry in entries {
+        let entry = entry.lent();
+        let flaws = flaws_of(alloc, basis, row, &limits, &entry)?;
+        push_flaws(alloc, findings, row, &entry, flaws)?;
+    }
+    Ok(())
+}
+
 /// Puts the findings on a row's manifest last: that on its live files and that on their rows, then those on its live
 /// entries in the order of their positions. Of an entry come first the fields whose summary does not cover it, in the
 /// order of the spec, then that its number is below the manifest's least, that it is above the table's last, and the
@@ -71,11 +92,5 @@ pub fn push_findings(
 {
     let counted = count_flaws(alloc, row, entries)?;
     push_manifest_flaws(alloc, findings, row, counted)?;
-    let limits = row_limits(alloc, spec, row)?;
-    'entries: for entry in entries {
-        let entry = entry.lent();
-        let flaws = flaws_of(alloc, basis, row, &limits, &entry)?;
-        push_flaws(alloc, findings, row, &entry, flaws)?;
-    }
-    Ok(())
+    push_live_findings(alloc, findings, basis, row, spec, entries)
 }

@@ -16,11 +16,11 @@ use contract_words::Text;
 use ice_audit_run::audit_file;
 use ice_command_line::{Lists, Place, Source, Words, parse_words};
 use ice_drill::{Watch, run_drill};
+use ice_meta::Target;
 use ice_requests::{
     Bundle, CommitFolder, Folder, commit_to, plan_file, prepare_commit, read_bundle, run_list_plan,
     show_file,
 };
-use ice_meta::Target;
 use ice_text::{CommitRequest, Drill, Request, RunFault, Sink, report, write_all};
 use std::alloc::Global;
 use std::io::Read;
