@@ -46,7 +46,8 @@ selection_from table list schema bound = list >>= λ l. schema >>= λ s. bound s
 
 bound_same : (table : Table) (l : List ℕ) (s : Schema) (f : Result (List (Part BoundLeaf)) RunFault)
     (selection : Selection) (subject : Subject)
-    → (f >>= λ parts. Ok (record { list = l; specs = bound_specs s table; filter = record { parts = parts } })) ≡ Ok selection
+    → (f >>= λ parts. Ok (record { list = l; specs = bound_specs s table; filter = record { parts = parts } }))
+    ≡ Ok selection
     → given (record { list = l; basis = basis_of s table }) ≡ Ok subject → IsSame subject selection
 bound_same table l s (Err e) selection subject h k = absurd cc
 bound_same table l s (Ok parts) selection subject h k =
@@ -72,8 +73,8 @@ same_parts table target parts selection subject h k =
     same_from table (as_run of_meta (list_of target table)) (as_run of_meta (schema_of target table))
     (λ s. as_run of_filter (bound_in s parts)) selection subject h k
 
-by_parts : (table : Table) (target : Target) (parts : Result (Option (List (Part Leaf))) RunFault) (selection : Selection)
-    (subject : Subject) → (parts >>= λ p. selected_by table target p) ≡ Ok selection
+by_parts : (table : Table) (target : Target) (parts : Result (Option (List (Part Leaf))) RunFault)
+    (selection : Selection) (subject : Subject) → (parts >>= λ p. selected_by table target p) ≡ Ok selection
     → subject_in table target ≡ Ok subject → IsSame subject selection
 by_parts table target (Err e) selection subject h k = absurd cc
 by_parts table target (Ok parts) selection subject h k = same_parts table target parts selection subject h k
@@ -98,7 +99,8 @@ same_selection metadata request selection subject h k =
 abbrev unfiltered : Subject → Selection
 unfiltered subject = record { list = subject.list; specs = subject.basis.specs; filter = record { parts = [] } }
 
-unfiltered_from : (table : Table) (list : Result (List ℕ) RunFault) (schema : Result Schema RunFault) (subject : Subject)
+unfiltered_from : (table : Table) (list : Result (List ℕ) RunFault) (schema : Result Schema RunFault)
+    (subject : Subject)
     → subject_from table list schema ≡ Ok subject
     → selection_from table list schema (λ s. Ok []) ≡ Ok (unfiltered subject)
 unfiltered_from table (Err e) schema subject h = absurd cc

@@ -14,7 +14,8 @@ use Rattle.ice_meta.specs.declared.spec.Spec.{Spec}
 use Rattle.ice_project.specs.Fields.{field_of, fields_of}
 use Rattle.ice_project.specs.Limits.{limit, LiesIn}
 use Rattle.ice_project.specs.Summaries.{AreSummariesOf, IsCovered, IsSummaryOf, type_of_values}
-use Rattle.ice_audit.specs.Coverage.{allows, is_above, is_below, limits_in, limits_of, outside, row_limits, unless_allowed}
+use Rattle.ice_audit.specs.Coverage.{allows, is_above, is_below, limits_in, limits_of, outside, row_limits}
+use Rattle.ice_audit.specs.Coverage.{unless_allowed}
 
 -- ---- one bound
 
@@ -77,7 +78,8 @@ allowed_back : (n null inside : Bool) → (n ≡ true → null ≡ true) → (n 
 allowed_back true null inside h k = h refl
 allowed_back false null inside h k = k refl
 
-pub covers : (f : PartitionField) (s : Summary) (p : Cell) → allows (limits_of f s) p ≡ true → IsSummaryOf (field_of f) s p
+pub covers : (f : PartitionField) (s : Summary) (p : Cell) → allows (limits_of f s) p ≡ true
+    → IsSummaryOf (field_of f) s p
 covers f s p h =
     let parts = allowed_by (is_null p) s.contains_null
     (is_above (read (type_of_values (field_of f)) s.lower) p && is_below (read (type_of_values (field_of f)) s.upper) p)

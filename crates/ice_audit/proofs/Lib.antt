@@ -2,3 +2,4 @@ pub mod CoverageLaws
 pub mod Told
 pub mod Telltale
 pub mod Walks
+pub mod Counted

@@ -49,7 +49,8 @@ module _ (basis : Basis) (row : Row) (spec : Spec) (is : spec_of basis.specs row
 
   -- of one entry
   pub covered_one : (x : Entry) → length x.file.tuple ≡ length spec.fields
-      → uncovered (entry_findings basis row (row_limits spec row.partitions) x) ≡ [] → RowCovers basis.specs row x.file.tuple
+      → uncovered (entry_findings basis row (row_limits spec row.partitions) x) ≡ []
+      → RowCovers basis.specs row x.file.tuple
   covered_one x full h =
       let covers = covered_where_none spec row.partitions x.file.tuple full
       (told row x basis (row_limits spec row.partitions) h) in
@@ -89,4 +90,5 @@ pub told_of_covered : (basis : Basis) (row : Row) (spec : Spec) → spec_of basi
     → uncovered (manifest_findings basis row spec (entries lives)) ≡ []
 told_of_covered basis row spec is lives covered =
     none_of_all (map (manifest_finding row) (count_flaws row (entries lives)))
-    (live_findings basis row spec (entries lives)) (no_counts row (entries lives)) (none_in basis row spec is lives covered)
+    (live_findings basis row spec (entries lives)) (no_counts row (entries lives))
+    (none_in basis row spec is lives covered)

@@ -85,7 +85,8 @@ module _ (row : Row) (x : Entry) where
   no_missing PositionDeletes columns ids = refl
   no_missing EqualityDeletes columns ids = no_columns (missing columns ids)
 
-  none_in : (ls ms : List Flaw) → uncovered (found ls) ≡ [] → uncovered (found ms) ≡ [] → uncovered (found (ls ++ ms)) ≡ []
+  none_in : (ls ms : List Flaw) → uncovered (found ls) ≡ [] → uncovered (found ms) ≡ []
+      → uncovered (found (ls ++ ms)) ≡ []
   none_in ls ms h k = ap uncovered (found-append ls ms) ∙ none_of_all (found ls) (found ms) h k
 
   others : (basis : Basis) → uncovered (found (flaw_where (nat_lt x.sequence_number row.min_sequence_number) BelowLeast
@@ -117,14 +118,15 @@ module _ (row : Row) (x : Entry) where
 
 -- ---- the findings on what a row counts
 
-counted : (row : Row) (files rows : Bool) → uncovered (map (manifest_finding row) (flaw_where files LiveFiles ++ flaw_where rows
-    LiveRows)) ≡ []
+counted : (row : Row) (files rows : Bool)
+    → uncovered (map (manifest_finding row) (flaw_where files LiveFiles ++ flaw_where rows LiveRows)) ≡ []
 counted row true true = refl
 counted row true false = refl
 counted row false true = refl
 counted row false false = refl
 
-pub no_counts : (row : Row) (entries : List Entry) → uncovered (map (manifest_finding row) (count_flaws row entries)) ≡ []
+pub no_counts : (row : Row) (entries : List Entry)
+    → uncovered (map (manifest_finding row) (count_flaws row entries)) ≡ []
 no_counts row entries = counted row
     (not (is_borne_out (live_by_counts row.counts.added_files row.counts.existing_files) (pos (length entries))))
     (not (is_borne_out (live_by_counts row.counts.added_rows row.counts.existing_rows) (rows_of entries)))

@@ -1,5 +1,5 @@
--- What a manifest list counts in a manifest, held against the manifest's live entries: Apache Iceberg table spec, version
--- 2, "Manifest Lists".
+-- What a manifest list counts in a manifest, held against the manifest's live entries: Apache Iceberg table spec,
+-- version 2, "Manifest Lists".
 use Rattle.std.specs.Prelude.{ℤ, pos, ◌+ℤ◌, Bool, true, not, List, [], ◌∷◌, ◌++◌, length, Option, Some, None}
 use Rattle.std.specs.Ordering.{int_eq}
 use Rattle.ice_manifest_reading.specs.declared.entry.Entry.{Entry}

@@ -1,6 +1,7 @@
 -- What the summaries of a manifest list's row let partition values be: Apache Iceberg table spec, version 2, "Manifest
 -- Lists" (`field_summary`).
-use Rattle.std.specs.Prelude.{ℕ, Bool, true, false, ◌&&◌, ◌==◌, List, [], ◌∷◌, length, Option, None, Some, if◌then◌else◌}
+use Rattle.std.specs.Prelude.{ℕ, Bool, true, false, ◌&&◌, ◌==◌, List, [], ◌∷◌, length, Option, None, Some}
+use Rattle.std.specs.Prelude.{if◌then◌else◌}
 use Rattle.std.specs.Option.{option_and_then}
 use Rattle.ice_value.specs.Cells.{is_at_most}
 use Rattle.ice_value.specs.declared.cell.Cell.{Cell}

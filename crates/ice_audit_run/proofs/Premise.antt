@@ -22,8 +22,8 @@ use Rattle.ice_state.specs.Specs.{spec_of}
 use Rattle.ice_text.specs.Reads.{as_run, file_in, rows_at}
 use Rattle.ice_text.specs.declared.fault.RunFault.{RunFault}
 use Rattle.ice_text.proofs.Steps.{bytes_in}
-use Rattle.ice_audit_run.specs.Audits.{all_known, audit_of, joined, nothing, of_manifest, or_unknown, row_audit, rows_audit}
-use Rattle.ice_audit_run.specs.Audits.{spec_for}
+use Rattle.ice_audit_run.specs.Audits.{all_known, audit_of, joined, nothing, of_manifest, or_unknown, row_audit}
+use Rattle.ice_audit_run.specs.Audits.{rows_audit, spec_for}
 use Rattle.ice_audit_run.specs.Premises.{HasTrueSummaries}
 use Rattle.ice_audit_run.specs.Subjects.{subject_of}
 use Rattle.ice_audit_run.specs.declared.audit.Audit.{Audit}

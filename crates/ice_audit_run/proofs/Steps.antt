@@ -174,7 +174,8 @@ list_there : (world : World) (path : List ℕ) (rows : List Row) → rows_at wor
 unfolding rows_at
 list_there world path rows h = let one = steps (file_in world path) rows_in rows h in (one.0, one.1)
 
-known_step : (r : List ℕ → Type 0) (w : Type 0) (row : Row) (o : Option Spec) (rest : Result Unit RunFault) (e : RunFault)
+known_step : (r : List ℕ → Type 0) (w : Type 0) (row : Row) (o : Option Spec) (rest : Result Unit RunFault)
+    (e : RunFault)
     → (rest ≡ Err e → MayEnd rest r w e) → (or_unknown row o >>= λ _. rest) ≡ Err e
     → MayEnd (or_unknown row o >>= λ _. rest) r w e
 known_step r w row None rest e next h =

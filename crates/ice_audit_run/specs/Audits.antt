@@ -67,8 +67,8 @@ rows_audit world basis (row ∷ rows) = do
   others ← rows_audit world basis rows
   Ok (joined first others)
 
--- the audit of a snapshot of the table whose metadata these are the bytes of, or the first refusal: the metadata's, that
--- of the manifest list, that a row's spec is missing, or that of a manifest
+-- the audit of a snapshot of the table whose metadata these are the bytes of, or the first refusal: the metadata's,
+-- that of the manifest list, that a row's spec is missing, or that of a manifest
 unfoldable pub audit_of : World → List ℕ → Target → Result Audit RunFault
 audit_of world metadata target = do
   subject ← subject_of metadata target

@@ -53,4 +53,5 @@ WroteAudit read count output output' = (audit : Audit) × (read ≡ Ok audit) ×
     × Appends output output' (audit_text audit)
 
 abbrev pub WroteAuditFront : Result Audit RunFault → Option (List ℕ) → Option (List ℕ) → Type 0
-WroteAuditFront read output output' = (audit : Audit) × (read ≡ Ok audit) × AppendsFront output output' (audit_text audit)
+WroteAuditFront read output output' = (audit : Audit) × (read ≡ Ok audit)
+    × AppendsFront output output' (audit_text audit)

@@ -21,7 +21,8 @@ returns-in_err-rows-clause-refused g c =
 
 pub returns-in_err-check_specs-clause-refused : goal.returns-in_err-check_specs-clause-refused
 returns-in_err-check_specs-clause-refused g c =
-    let p = err_from_is_err_and c.from_residual-in_err-check_specs.result c.from_residual-in_err-check_specs.ensures.1 in
+    let p = err_from_is_err_and c.from_residual-in_err-check_specs.result
+    c.from_residual-in_err-check_specs.ensures.1 in
     λ world told.
     let has = rw c.as_str.ensures at (c.in_ok-rows.ensures.found world told) in
     rw (p.1, p.2)

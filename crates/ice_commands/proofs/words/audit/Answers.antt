@@ -9,8 +9,8 @@ use Rattle.ice_requests.specs.Bundles.{bytes_at}
 use Rattle.ice_text.proofs.Steps.{never_fails}
 use Rattle.ice_commands.specs.Runs.{as_audit, audited, audited_text}
 use Rattle.ice_command_line.specs.declared.command_line.Source.TheVariants as source
-use Rattle.ice_commands.proofs.Refusals.{audit_from, counted_ran, ends_refused, is_left, left_of, no_audit, no_bundle_ran}
-use Rattle.ice_commands.proofs.Refusals.{untold_counted}
+use Rattle.ice_commands.proofs.Refusals.{audit_from, counted_ran, ends_refused, is_left, left_of, no_audit}
+use Rattle.ice_commands.proofs.Refusals.{no_bundle_ran, untold_counted}
 use Rattle.ice_commands.proofs.words.audit.Goals as goal
 
 pub returns-in_err-bundle-in-Bundle : goal.returns-in_err-bundle-in-Bundle

@@ -10,18 +10,21 @@ returns-in-ListPlan-clause-ran g c =
     rw asked (
       told.0,
       told.1,
-      ran_as _ (g.W.Sink.may_fail c.args.output.now) c.list_plan.result c.no_findings.result _ _ c.no_findings.ensures.same told.2,
+      ran_as _ (g.W.Sink.may_fail c.args.output.now) c.list_plan.result c.no_findings.result _ _
+          c.no_findings.ensures.same told.2,
       c.no_findings.ensures.none,
     )
 
 pub returns-in-Plan-clause-ran : goal.returns-in-Plan-clause-ran
 returns-in-Plan-clause-ran g c =
-    let asked : c.args.asked.now ≡ words.Plan c.in-Plan.source c.in-Plan.request c.in-Plan.workers c.in-Plan.path = search rules in
+    let asked : c.args.asked.now ≡ words.Plan c.in-Plan.source c.in-Plan.request c.in-Plan.workers c.in-Plan.path
+    = search rules in
     let told = c.plan.ensures in
     rw asked (
       told.0,
       told.1,
-      ran_as _ (g.W.Sink.may_fail c.args.output.now) c.plan.result c.no_findings-in-Plan.result _ _ c.no_findings-in-Plan.ensures.same told.2,
+      ran_as _ (g.W.Sink.may_fail c.args.output.now) c.plan.result c.no_findings-in-Plan.result _ _
+          c.no_findings-in-Plan.ensures.same told.2,
       c.no_findings-in-Plan.ensures.none,
     )
 
@@ -32,7 +35,8 @@ returns-in-Commit-clause-ran g c =
     rw asked (
       told.0,
       told.1,
-      ran_as _ (g.W.Sink.may_fail c.args.output.now) c.commit.result c.no_findings-in-Commit.result _ _ c.no_findings-in-Commit.ensures.same told.2,
+      ran_as _ (g.W.Sink.may_fail c.args.output.now) c.commit.result c.no_findings-in-Commit.result _ _
+          c.no_findings-in-Commit.ensures.same told.2,
       c.no_findings-in-Commit.ensures.none,
     )
 
@@ -43,7 +47,8 @@ returns-in-Show-clause-ran g c =
     rw asked (
       told.0,
       told.1,
-      ran_as _ (g.W.Sink.may_fail c.args.output.now) c.show.result c.no_findings-in-Show.result _ _ c.no_findings-in-Show.ensures.same told.2,
+      ran_as _ (g.W.Sink.may_fail c.args.output.now) c.show.result c.no_findings-in-Show.result _ _
+          c.no_findings-in-Show.ensures.same told.2,
       c.no_findings-in-Show.ensures.none,
     )
 
@@ -55,7 +60,8 @@ returns-in-Drill-clause-ran g c =
     rw asked (
       left_of left,
       is_left left,
-      ran_as _ (g.W.Sink.may_fail c.args.output.now) c.drill.result none.result _ _ none.ensures.same c.drill.ensures.ran,
+      ran_as _ (g.W.Sink.may_fail c.args.output.now) c.drill.result none.result _ _ none.ensures.same
+          c.drill.ensures.ran,
       none.ensures.none,
     )
 
