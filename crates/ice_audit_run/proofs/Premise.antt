@@ -1,6 +1,6 @@
 -- No finding says that a summary does not cover an entry just where the premise of the plan holds.
 use Rattle.std.proofs.Common.{◌≡◌, ℕ, List, [], ◌∷◌, ◌++◌, length, refl, sym, ap, ◌∙◌}
-use Rattle.std.proofs.Common.{Option, Some, None, option_map, subst}
+use Rattle.std.proofs.Common.{Option, Some, None, option_map, subst, arith}
 use Rattle.std.specs.Prelude.{Result, Ok, Err}
 use Rattle.std.specs.List.{AllByRecursion}
 use Rattle.contract_words.specs.Outcome.{◌>>=◌}
@@ -24,7 +24,7 @@ use Rattle.ice_text.specs.declared.fault.RunFault.{RunFault}
 use Rattle.ice_text.proofs.Steps.{bytes_in}
 use Rattle.ice_audit_run.specs.Audits.{all_known, audit_of, joined, nothing, of_manifest, or_unknown, row_audit}
 use Rattle.ice_audit_run.specs.Audits.{rows_audit, spec_for}
-use Rattle.ice_audit_run.specs.Premises.{HasTrueSummaries}
+use Rattle.ice_audit_run.specs.Premises.{HasTrueSummaries, HasTrueSummariesAt}
 use Rattle.ice_audit_run.specs.Subjects.{subject_of}
 use Rattle.ice_audit_run.specs.declared.audit.Audit.{Audit}
 use Rattle.ice_audit_run.specs.declared.subject.Subject.{Subject}
@@ -186,3 +186,14 @@ pub no_lie : (world : World) (metadata : List ℕ) (target : Target) (audit : Au
 no_lie world metadata target audit h tells =
     let p = parts_of world metadata target audit h in
     rows_none world p.subject.basis p.rows audit p.audit_is (tells p.subject p.rows p.subject_is p.rows_are)
+
+-- where nothing was found
+pub none_at_zero : (findings : List Finding) → length findings ≡ 0 → uncovered findings ≡ []
+none_at_zero [] h = refl
+none_at_zero (x ∷ xs) h = absurd (omega (arith, h))
+
+pub true_at : (world : World) (path metadata : List ℕ) (target : Target) → file_in world path ≡ Ok metadata
+    → HasTrueSummaries world metadata target → HasTrueSummariesAt world path target
+true_at world path metadata target has h other is =
+    let same : metadata ≡ other = one_value (file_in world path) metadata other has is in
+    subst (λ bytes. HasTrueSummaries world bytes target) same h

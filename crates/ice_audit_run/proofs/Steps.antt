@@ -1,6 +1,7 @@
 -- The steps of an audit, and why each of them may end the run.
 use Rattle.std.proofs.Common.{◌≡◌, ◌≢◌, ◌⊎◌, inl, inr, ℕ, ◌+◌, List, [], ◌∷◌, ◌++◌, length, refl, sym, ap, subst, ◌∙◌}
-use Rattle.std.proofs.Common.{Option, Some, None, is_some, arith, add_assoc, append_assoc, zero-add}
+use Rattle.std.proofs.Common.{Option, Some, None, is_some, arith, add_assoc, append_assoc, zero-add, ◌<◌, ◌≤◌}
+use Rattle.std.proofs.lemmas.Bool.{le-leb, lt-leb}
 use Rattle.std.specs.Prelude.{Result, Ok, Err}
 use Rattle.contract_words.specs.Outcome.{◌>>=◌}
 use Rattle.ice_audit.specs.declared.basis.Basis.{Basis}
@@ -22,7 +23,8 @@ use Rattle.ice_text.proofs.Steps.{bytes_in, fails_later, first_ends, only_first,
 use Rattle.ice_text.specs.Reads.{MayEnd, as_run, file_in, rows_at, rows_in}
 use Rattle.ice_text.specs.declared.fault.RunFault.{RunFault}
 use Rattle.ice_text.specs.declared.fault.RunFault.TheVariants as run
-use Rattle.ice_audit_run.specs.Audits.{all_known, audit_of, audit_reads, joined, manifests_of, nothing, of_manifest}
+use Rattle.ice_audit_run.specs.Audits.{all_known, audit_at, audit_of, audit_reads, audit_reads_at, by_workers, joined}
+use Rattle.ice_audit_run.specs.Audits.{manifests_of, nothing, of_manifest, reads_behind}
 use Rattle.ice_audit_run.specs.Audits.{or_unknown, reads_of, row_audit, rows_audit, spec_for}
 use Rattle.ice_audit_run.specs.Subjects.{IsOfMetadata, subject_of}
 use Rattle.ice_audit_run.specs.declared.audit.Audit.{Audit}
@@ -251,3 +253,75 @@ module _ (f : List ℕ → Type 0) (world : World) (metadata : List ℕ) (target
       pub audit_there : (audit : Audit) → rows_audit world subject.basis rows ≡ Ok audit
           → audit_of world metadata target ≡ Ok audit
       audit_there audit h = audit_is ∙ h
+
+-- ---- what is written
+
+-- a write may fail
+pub may_write : {A : Type 0} (r : List ℕ → Type 0) (w : Type 0) (read : Result A RunFault) (e : RunFault)
+    → MayEnd read r ⊥ e → MayEnd read r w e
+may_write r w read e h = subst (λ x. MayEnd x r w e) (same read) (first_ends r w r read (λ a. Ok a) e (λ p m. m) h)
+
+-- ---- the metadata in a file
+
+-- more reads may fail
+more_reads : {A : Type 0} (read : Result A RunFault) (r s : List ℕ → Type 0) (w : Type 0) (e : RunFault)
+    → ((path : List ℕ) → r path → s path) → MayEnd read r w e → MayEnd read s w e
+more_reads read r s w run.Memory more h = tt
+more_reads read r s w (run.Device path) more h = more path h
+more_reads read r s w run.Write more h = h
+more_reads read r s w run.Input more h = h
+more_reads read r s w (run.Words t) more h = h
+more_reads read r s w (run.Bundle n) more h = h
+more_reads read r s w (run.Absent path) more h = h
+more_reads read r s w (run.List f) more h = h
+more_reads read r s w (run.Scan f) more h = h
+more_reads read r s w (run.Finish f) more h = h
+more_reads read r s w (run.Metadata f) more h = h
+more_reads read r s w (run.Filter f) more h = h
+more_reads read r s w (run.Drill f) more h = h
+more_reads read r s w (run.Change f) more h = h
+more_reads read r s w (run.Prepare f) more h = h
+more_reads read r s w (run.Conflict path) more h = h
+more_reads read r s w run.Workers more h = h
+
+enough : (workers : ℕ) (read : Result Audit RunFault) → 0 < workers → workers ≤ 64 → by_workers workers read ≡ read
+enough workers read some few = rw (le-leb 1 workers (omega arith), le-leb workers 64 few) refl
+
+no_crew : (workers : ℕ) (read : Result Audit RunFault) → (workers ≡ 0) ⊎ (64 < workers)
+    → by_workers workers read ≡ Err run.Workers
+no_crew workers read (inl h) = rw (lt-leb 1 workers (omega (arith, h))) refl
+no_crew workers read (inr h) = rw (le-leb 1 workers (omega arith), lt-leb workers 64 h) refl
+
+module _ (f : List ℕ → Type 0) (world : World) (path : List ℕ) (target : Target) (workers : ℕ) where
+  abbrev at_reads : List ℕ → Type 0
+  at_reads = EndsAt world f (audit_reads_at world path target)
+
+  pub no_metadata : (w : Type 0) (e : RunFault) → MayEnd (file_in world path) (EndsAt world f (path ∷ [])) ⊥ e
+      → MayEnd (audit_at world path target workers) at_reads w e
+  unfolding audit_at audit_reads_at
+  no_metadata w e h = first_ends at_reads w (EndsAt world f (path ∷ [])) (file_in world path) _ e
+      (λ p m. only_first world f path (reads_behind world target (file_in world path)) p m) h
+
+  module _ (metadata : List ℕ) (has : file_in world path ≡ Ok metadata) where
+    behind : audit_at world path target workers ≡ by_workers workers (audit_of world metadata target)
+    unfolding audit_at
+    behind = rw has refl
+
+    pub no_workers : (workers ≡ 0) ⊎ (64 < workers) → audit_at world path target workers ≡ Err run.Workers
+    no_workers out = behind ∙ no_crew workers (audit_of world metadata target) out
+
+    pub audit_behind : 0 < workers → workers ≤ 64 → audit_at world path target workers ≡ audit_of world metadata target
+    audit_behind some few = behind ∙ enough workers (audit_of world metadata target) some few
+
+    reads_of_audit : (p : List ℕ) → EndsAt world f (audit_reads world metadata target) p → at_reads p
+    unfolding audit_reads_at
+    reads_of_audit p h =
+        subst (λ found. EndsAt world f (path ∷ reads_behind world target found) p) (sym has)
+        (fails_later world f path metadata (audit_reads world metadata target) p has h)
+
+    pub ends_behind : (some : 0 < workers) (few : workers ≤ 64) (w : Type 0) (e : RunFault)
+        → MayEnd (audit_of world metadata target) (EndsAt world f (audit_reads world metadata target)) w e
+        → MayEnd (audit_at world path target workers) at_reads w e
+    ends_behind some few w e h = subst (λ x. MayEnd x at_reads w e) (sym (audit_behind some few))
+        (more_reads (audit_of world metadata target) (EndsAt world f (audit_reads world metadata target)) at_reads w e
+        reads_of_audit h)
