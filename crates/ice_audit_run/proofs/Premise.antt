@@ -194,6 +194,6 @@ none_at_zero (x ∷ xs) h = absurd (omega (arith, h))
 
 pub true_at : (world : World) (path metadata : List ℕ) (target : Target) → file_in world path ≡ Ok metadata
     → HasTrueSummaries world metadata target → HasTrueSummariesAt world path target
-true_at world path metadata target has h other is =
+true_at world path metadata target has h = λ other is.
     let same : metadata ≡ other = one_value (file_in world path) metadata other has is in
-    subst (λ bytes. HasTrueSummaries world bytes target) same h
+    subst (λ (bytes : List ℕ). HasTrueSummaries world bytes target) same h
