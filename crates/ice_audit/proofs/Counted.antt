@@ -1,5 +1,5 @@
 -- The rows of the files of a manifest, entry by entry.
-use Rattle.std.proofs.Common.{◌≡◌, ℕ, ◌+◌, ◌<◌, List, length, drop, get_or, subst, sym, ◌∙◌}
+use Rattle.std.proofs.Common.{◌≡◌, ℕ, ◌+◌, ◌<◌, List, length, drop, get_or, ◌∙◌}
 use Rattle.std.specs.Prelude.{ℤ, ◌+ℤ◌}
 use Rattle.std.proofs.Math.IntN.{+ℤ_assoc}
 use Rattle.ice_manifest_fields.proofs.Steps.{step_of}
