@@ -1,6 +1,9 @@
 -- The steps of an audit, and why each of them may end the run.
 use Rattle.std.proofs.Common.{◌≡◌, ◌≢◌, ◌⊎◌, inl, inr, ℕ, ◌+◌, List, [], ◌∷◌, ◌++◌, length, refl, sym, ap, subst, ◌∙◌}
 use Rattle.std.proofs.Common.{Option, Some, None, is_some, arith, add_assoc, append_assoc, zero-add, ◌<◌, ◌≤◌}
+use Rattle.std.proofs.Common.{add-one, add-zero, drop, drop-cons, get_or}
+use Rattle.std.proofs.Math.ListN.{drop_of_length-le}
+use Rattle.std.proofs.lemmas.List.{append-nil}
 use Rattle.std.proofs.lemmas.Bool.{le-leb, lt-leb}
 use Rattle.std.specs.Prelude.{Result, Ok, Err}
 use Rattle.contract_words.specs.Outcome.{◌>>=◌}
@@ -138,6 +141,26 @@ rows_more world basis row rows a b is has = rw (is, has) refl
 pub no_rows : (world : World) (basis : Basis) → rows_audit world basis [] ≡ Ok nothing
 unfolding rows_audit
 no_rows world basis = refl
+
+-- the rows from one on: it, and those behind it
+pub row_step : (rows : List Row) (i : ℕ) (row : Row) → i < length rows → row ≡ get_or rows i row
+    → drop i rows ≡ row ∷ drop (i + 1) rows
+row_step rows i row lt is = drop-cons rows i row lt ∙ rw (← is, add-one) refl
+
+nothing_joined : (n m : ℕ) (fs : List Finding)
+    → joined (record { manifests = n; entries = m; findings = fs }) nothing
+    ≡ record { manifests = n; entries = m; findings = fs }
+nothing_joined n m fs = simp (add-zero, append-nil)
+
+-- behind the last row nothing is left to audit
+pub rows_end : (world : World) (basis : Basis) (rows : List Row) (i n m : ℕ) (fs : List Finding)
+    → length rows ≤ i → i ≡ n
+    → ((left : Audit) → rows_audit world basis (drop i rows) ≡ Ok left
+    → rows_audit world basis rows ≡ Ok (joined (record { manifests = i; entries = m; findings = fs }) left))
+    → rows_audit world basis rows ≡ Ok (record { manifests = n; entries = m; findings = fs })
+rows_end world basis rows i n m fs past is h =
+    let none : drop i rows ≡ [] = drop_of_length-le rows past in
+    h nothing (ap (rows_audit world basis) none ∙ no_rows world basis) ∙ rw is (ap Ok (nothing_joined n m fs))
 
 pub join_nothing : (a : Audit) → joined nothing a ≡ a
 join_nothing a = simp zero-add

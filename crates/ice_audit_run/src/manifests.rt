@@ -1,6 +1,6 @@
 //! The live entries of a row's manifest.
 
-ghost use Rattle.std.specs.Prelude.{◌≡◌, ◌⊎◌, Ok, Err, IfOk, IfErr};
+ghost use Rattle.std.specs.Prelude.{◌≡◌, ◌≢◌, ◌⊎◌, Ok, Err, IfOk, IfErr, IsErrOf};
 ghost use Rattle.std.specs.Option.{option_copied};
 ghost use Rattle.ice_audit_run.specs.Audits.{all_known, of_manifest, spec_for as spec_wanted};
 ghost use Rattle.ice_manifest_reading.specs.Manifests.{entries_of};
@@ -23,6 +23,7 @@ fn spec_of(specs: &[Spec], id: i32) -> Option<&Spec>
 pub fn spec_for<'a>(specs: &'a [Spec], row: &Row) -> Result<&'a Spec, RunFault>
     ensures ok { IfOk result (λ spec. spec_wanted specs.now row.now ≡ Ok spec.now) }
     ensures err { IfErr result (λ e. spec_wanted specs.now row.now ≡ Err e) }
+    ensures write { IsErrOf result RunFault.Write → ⊥ }
 {
     match spec_of(specs, row.spec_id) {
         Some(spec) => Ok(spec),
@@ -32,7 +33,8 @@ pub fn spec_for<'a>(specs: &'a [Spec], row: &Row) -> Result<&'a Spec, RunFault>
 
 /// Stops at the first row whose spec is missing.
 pub fn check_specs(specs: &[Spec], rows: &[Row]) -> Result<(), RunFault>
-    ensures { result ≡ all_known specs.now rows.now }
+    ensures known { result ≡ all_known specs.now rows.now }
+    ensures write { IsErrOf result RunFault.Write → ⊥ }
 {
     'rows: for row in rows {
         spec_for(specs, row)?;
@@ -42,7 +44,8 @@ pub fn check_specs(specs: &[Spec], rows: &[Row]) -> Result<(), RunFault>
 
 /// Why the manifest of a row can't be read; or that memory ran out.
 fn refusal(alloc: Global, row: &Row, fault: ManifestFault) -> RunFault
-    ensures { (result ≡ RunFault.Memory) ⊎ (result ≡ of_manifest row.now.path fault) }
+    ensures cause { (result ≡ RunFault.Memory) ⊎ (result ≡ of_manifest row.now.path fault) }
+    ensures write { result ≢ RunFault.Write }
 {
     if let ManifestFault::Memory = fault {
         return RunFault::Memory;
@@ -63,6 +66,7 @@ pub fn entries_in<'d>(
     ensures found { IfOk result (λ found. entries_of row.now spec.now bytes.now ≡ Ok found.items) }
     ensures refused { IfErr result (MayEnd (as_run (of_manifest row.now.path) (entries_of row.now spec.now bytes.now))
         (λ _. ⊥) ⊥) }
+    ensures write { IsErrOf result RunFault.Write → ⊥ }
 {
     match read_kept(alloc, row, spec, &Everything, bytes) {
         Ok(found) => Ok(found),

@@ -1,4 +1,4 @@
-use Rattle.std.proofs.Common.{◌≡◌, ◌∙◌, ap, refl, sym, rules}
+use Rattle.std.proofs.Common.{◌≡◌, ◌∙◌, ap, arith, length, refl, sym}
 use Rattle.std.specs.Prelude.{Ok}
 use Rattle.std.proofs.lemmas.Result.{err_from_is_err_and}
 use Rattle.ice_audit_run.proofs.Steps.{no_bytes, no_entries, no_spec, row_there}
@@ -34,8 +34,11 @@ returns-in_err-entries-clause-refused g c =
 pub returns-clause-found : goal.returns-clause-found
 returns-clause-found g c =
     let known = rw c.as_slice.ensures at c.in_ok-spec.ensures.ok in
+    let found = c.in_ok-entries.entries in
+    let count : length found.items ≡ c.len.result = omega (arith, c.len.ensures, found.ok) in
+    let put = rw c.deref-2.ensures.value at c.in_ok-push_findings.ensures in
     λ world told.
     let has = (rw c.as_str.ensures at (c.in_ok-bytes.ensures.found world told)) ∙ ap Ok (sym c.deref.ensures.value) in
     let is = row_there (g.F.Files.may_fail c.args.files.now) world c.args.basis.now c.args.row.now
-    c.in_ok-spec.spec.now known c.deref.result.now has c.in_ok-entries.entries.items c.in_ok-entries.ensures.found in
-    (?, is, refl, ?, ?)
+    c.in_ok-spec.spec.now known c.deref.result.now has found.items c.in_ok-entries.ensures.found in
+    (_, is, refl, count, put)
