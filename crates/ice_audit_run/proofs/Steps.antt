@@ -194,6 +194,12 @@ metadata_ends read r w (run.Prepare f) is h = absurd is
 metadata_ends read r w (run.Conflict path) is h = absurd is
 metadata_ends read r w run.Workers is h = absurd is
 
+pub metadata_is_no_write : (e : RunFault) → IsOfMetadata e → (read : Result Audit RunFault) → read ≡ Err e
+    → read ≡ Err run.Write → ⊥
+metadata_is_no_write e own read is failed =
+    let same : e ≡ run.Write = cc in
+    subst IsOfMetadata same own
+
 list_there : (world : World) (path : List ℕ) (rows : List Row) → rows_at world path ≡ Ok rows → (bytes : List ℕ)
     × (file_in world path ≡ Ok bytes)
 unfolding rows_at

@@ -221,3 +221,7 @@ pub untold_counted : (w : Type 0) (r : Result ℕ RunFault) (o o' : Option (List
     → IfErr r (λ fault. fault ≢ run.Write → o' ≡ o) → Ran None w (ended r) o o'
 untold_counted w (Ok n) o o' h = record { written = tt; refused = tt; nothing = tt; front = λ is. tt }
 untold_counted w (Err e) o o' h = record { written = tt; refused = tt; nothing = h; front = λ is. tt }
+
+pub untold_count : (r : Result ℕ RunFault) → IfOk r (λ _. Unit {0})
+untold_count (Ok n) = tt
+untold_count (Err e) = tt

@@ -10,7 +10,7 @@ use Rattle.ice_text.proofs.Steps.{never_fails}
 use Rattle.ice_commands.specs.Runs.{as_audit, audited, audited_text}
 use Rattle.ice_command_line.specs.declared.command_line.Source.TheVariants as source
 use Rattle.ice_commands.proofs.Refusals.{audit_from, counted_ran, ends_refused, is_left, left_of, no_audit}
-use Rattle.ice_commands.proofs.Refusals.{no_bundle_ran, untold_counted}
+use Rattle.ice_commands.proofs.Refusals.{no_bundle_ran, untold_count, untold_counted}
 use Rattle.ice_commands.proofs.words.audit.Goals as goal
 
 pub returns-in_err-bundle-in-Bundle : goal.returns-in_err-bundle-in-Bundle
@@ -69,5 +69,5 @@ returns-in-Folder g c =
       is_left left,
       untold_counted (g.W.Sink.may_fail c.args.output.now)
           c.audit_file-in-Folder.result _ _ c.audit_file-in-Folder.ensures.nothing,
-      IfOk-weaker c.audit_file-in-Folder.result _ _ (λ _ _. tt) c.audit_file-in-Folder.ensures.nothing,
+      untold_count c.audit_file-in-Folder.result,
     )
