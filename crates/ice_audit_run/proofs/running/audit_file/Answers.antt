@@ -1,8 +1,10 @@
-use Rattle.std.proofs.Common.{◌≡◌, ◌<◌, ◌≤◌, ◌∙◌, ap, sym, arith}
+use Rattle.std.proofs.Common.{◌≡◌, ◌⊎◌, ◌<◌, ◌≤◌, ◌∙◌, ap, inl, inr, sym, arith}
 use Rattle.std.specs.Prelude.{Ok}
 use Rattle.std.proofs.lemmas.Result.{err_from_is_err_and, IfErr-weaker, IfOk-weaker}
 use Rattle.ice_audit_run.proofs.Premise.{true_at}
-use Rattle.ice_audit_run.proofs.Steps.{audit_behind, ends_behind, no_metadata}
+use Rattle.ice_audit_run.proofs.Steps.{audit_behind, ends_behind, no_metadata, no_workers}
+use Rattle.ice_audit_run.proofs.running.audit_file.Goals.{then-workers-eq0-via-then-workers-eq0}
+use Rattle.ice_audit_run.proofs.running.audit_file.Goals.{then-workers-eq0-via-else-workers-eq0+then-workers-gt-MOST_WORKERS}
 use Rattle.ice_audit_run.proofs.running.audit_file.Goals as goal
 
 pub returns-in_err-metadata-clause-refused : goal.returns-in_err-metadata-clause-refused
@@ -11,6 +13,17 @@ returns-in_err-metadata-clause-refused g c =
     λ world told. rw (p.1, p.2)
     (no_metadata (g.F.Files.may_fail c.args.files.now) world c.args.path.now c.args.target.now c.args.workers
     (g.W.Sink.may_fail c.args.output.now) c.in_err-metadata.field-0.0 (c.in_err-metadata.ensures.refused world told))
+
+pub returns-then-workers-eq0-clause-refused : goal.returns-then-workers-eq0-clause-refused
+returns-then-workers-eq0-clause-refused g c =
+    let out : (c.args.workers ≡ 0) ⊎ (64 < c.args.workers) = elim c.then-workers-eq0.branch [
+      | then-workers-eq0-via-then-workers-eq0 w ↦ inl (omega (arith, w.if-workers-eq0.true))
+      | then-workers-eq0-via-else-workers-eq0+then-workers-gt-MOST_WORKERS w ↦
+          inr (omega (arith, w.if-workers-gt-MOST_WORKERS.true))
+    ] in
+    λ world told.
+    no_workers (g.F.Files.may_fail c.args.files.now) world c.args.path.now c.args.target.now c.args.workers
+    c.in_ok-metadata.metadata.items (c.in_ok-metadata.ensures.found world told) out
 
 pub returns-clause-written : goal.returns-clause-written
 returns-clause-written g c =
