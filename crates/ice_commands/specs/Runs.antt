@@ -1,7 +1,11 @@
 -- The whole program: what it makes of its words and of standard input.
-use Rattle.std.specs.Prelude.{◌≡◌, ◌≢◌, ◌⊎◌, ℕ, List, Option, Some, None, IfSome, Result, Ok, Err, OnOk, IfErr}
-use Rattle.std.specs.Prelude.{IsErrOf}
+use Rattle.std.specs.Prelude.{◌≡◌, ◌≢◌, ◌⊎◌, ◌==◌, ℕ, List, length, Option, Some, None, IfSome, Result, Ok, Err, OnOk}
+use Rattle.std.specs.Prelude.{IfOk, IfErr, IsErrOf, if◌then◌else◌}
 use Rattle.contract_words.specs.Outcome.{◌>>=◌}
+use Rattle.ice_audit_run.specs.Audits.{audit_at}
+use Rattle.ice_audit_run.specs.Texts.{audit_text}
+use Rattle.ice_audit_run.specs.declared.audit.Audit.{Audit}
+use Rattle.ice_meta.specs.declared.metadata.Target.{Target}
 use Rattle.ice_state.specs.Lines.{OwnedLine}
 use Rattle.ice_requests.specs.Bundles.{File, bundle_of, bytes_at, first_path}
 use Rattle.ice_drill.specs.Drills.{WroteDrill}
@@ -54,6 +58,21 @@ planned_text path request workers input = do
   files ← bundle_of input
   as_text (answer_at over_wanted_rows (λ path. bytes_at files path) path request workers)
 
+-- the audit of a snapshot of the table whose metadata is at a path of a bundle, by so many workers, or the first fault:
+-- of the bundle, of the file with the metadata, of the number of workers, of the audit
+unfoldable pub audited : List ℕ → Target → ℕ → List ℕ → Result Audit RunFault
+audited path target workers input = do
+  files ← bundle_of input
+  audit_at (λ path. bytes_at files path) path target workers
+
+-- the text of an audit
+abbrev pub as_audit : Result Audit RunFault → Result (List ℕ) RunFault
+as_audit (Ok audit) = Ok (audit_text audit)
+as_audit (Err fault) = Err fault
+
+abbrev pub audited_text : List ℕ → Target → ℕ → List ℕ → Result (List ℕ) RunFault
+audited_text path target workers input = as_audit (audited path target workers input)
+
 -- The text that a command asks for, or the first fault, where its files are told: those of a bundle are what standard
 -- input had, those of a folder are not told.
 abbrev pub answer_to : Words → List ℕ → Option (Result (List ℕ) RunFault)
@@ -65,6 +84,8 @@ answer_to (words.Commit source.Bundle request) input = committed_text request in
 answer_to (words.Commit (source.Folder place) request) input = None
 answer_to (words.Show source.Bundle path) input = Some (shown_text path input)
 answer_to (words.Show (source.Folder place) path) input = None
+answer_to (words.Audit source.Bundle target workers path) input = Some (audited_text path target workers input)
+answer_to (words.Audit (source.Folder place) target workers path) input = None
 answer_to (words.Drill asked) input = None
 answer_to (words.Text text) input = Some (Ok text)
 
@@ -76,6 +97,30 @@ IsOfDrill _ output output' = Unit {0}
 abbrev pub run_of : Result Words RunFault → List ℕ → Option (Result (List ℕ) RunFault)
 run_of (Ok asked) input = answer_to asked input
 run_of (Err fault) input = Some (Err fault)
+
+-- the number of findings of which a command tells: an audit of its own, where its files are told; any other of none
+abbrev pub IsCount : Words → List ℕ → ℕ → Type 0
+IsCount (words.Audit source.Bundle target workers path) input count =
+    IfOk (audited path target workers input) (λ (audit : Audit). count ≡ length audit.findings)
+IsCount (words.Audit (source.Folder place) target workers path) input count = Unit {0}
+IsCount _ input count = count ≡ 0
+
+abbrev pub IsCountOf : Result Words RunFault → List ℕ → ℕ → Type 0
+IsCountOf (Ok asked) input count = IsCount asked input count
+IsCountOf (Err fault) input count = count ≡ 0
+
+-- 1 where there are findings
+abbrev pub status_of_count : ℕ → ℕ
+status_of_count count = if count == 0 then 0 else 1
+
+-- the status that the program ends with that wrote what the words ask for
+abbrev pub EndsWith : Result Words RunFault → List ℕ → ℕ → Type 0
+EndsWith asked input status = (count : ℕ) × IsCountOf asked input count × (status ≡ status_of_count count)
+
+-- whether a run ended with a fault, whatever it gives else
+abbrev pub ended : {A : Type 0} → Result A RunFault → Result Unit RunFault
+ended (Ok x) = Ok tt
+ended (Err fault) = Err fault
 
 -- Why the program ends with a fault: standard input can't be read, memory ran out, a write failed that may fail, or the
 -- fault is that of the words and the input.
@@ -94,12 +139,11 @@ pub record Ran (known : Option (Result (List ℕ) RunFault)) (write_may_fail : T
   pub nothing : IfErr result (λ fault. fault ≢ run.Write → output' ≡ output)
   pub front : IsErrOf result run.Write → IfSome known (λ read. WroteFront read output output')
 
--- the program ended with status 0: it wrote the text to its output
-pub record Answered (known : Option (Result (List ℕ) RunFault)) (status : ℕ)
-    (output output' errors errors' : Option (List ℕ)) : Type 0 where
-  pub written : IfSome known (λ read. WroteText read output output')
-  pub status_is : status ≡ 0
-  pub silent : errors' ≡ errors
+-- the program ended without a fault: it wrote the text to its output
+pub record Answered (known : Option (Result (List ℕ) RunFault)) (output output' errors errors' : Option (List ℕ)) : Type 0
+  where
+    pub written : IfSome known (λ read. WroteText read output output')
+    pub silent : errors' ≡ errors
 
 -- a fault was told: its whole line was written where no write of it may fail, else a front of it
 pub record Told (write_may_fail : Type 0) (errors errors' : Option (List ℕ)) (fault : RunFault) : Type 0 where

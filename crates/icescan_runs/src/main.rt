@@ -32,6 +32,8 @@
 //! - an append under three specs, whose manifests, list and metadata are printed byte by byte: names of partition
 //!   fields as Avro spells them, or by id where two would be alike; no summaries where a uuid stands; a uuid with
 //!   hyphens
+//! - audits: of `data/audits`, each table with the finding that it is named after; of the tables from before. What is
+//!   expected was computed by a program in another language, from what the tables were written with
 #![tactic(auto)]
 
 use ice_commands::{Watch, run_words};
