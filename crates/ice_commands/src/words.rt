@@ -38,7 +38,7 @@ fn list_in<'a>(bundle: &'a Bundle, list: &'a Option<Text>) -> Result<&'a str, Ru
 }
 
 /// The files below the folder of a place.
-fn files_of<'a, H: Files>(host: &'a H, place: &'a Place) -> Folder<'a, H>
+pub fn files_of<'a, H: Files>(host: &'a H, place: &'a Place) -> Folder<'a, H>
     ensures { (result.folder.now ≡ place.now.folder) × (result.prefix.now ≡ place.now.prefix) }
 {
     Folder::new(host, place.folder.as_str(), place.prefix.as_str())
@@ -191,7 +191,7 @@ fn drill<H: Threads + Wait + Watch + Sync, W: Sink>(
 }
 
 /// Writes what is asked for.
-fn run_asked<H: Files<File: Send, Dir: Send> + Threads + Wait + Watch + Sync, R: Read, W: Sink>(
+pub fn run_asked<H: Files<File: Send, Dir: Send> + Threads + Wait + Watch + Sync, R: Read, W: Sink>(
     host: &H,
     alloc: Global,
     asked: &Words,

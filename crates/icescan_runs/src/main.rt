@@ -34,7 +34,7 @@
 //!   hyphens
 #![tactic(auto)]
 
-use ice_commands::{Watch, run_words};
+use ice_commands::{Terminals, Watch, run_program};
 use std::alloc::{AllocError, Global};
 use std::fs;
 use std::io::{self, Write};
@@ -77,7 +77,13 @@ where
     let mut input = fs::open(host, from.unwrap_or("nothing"))?;
     let mut output = Vec::new(alloc);
     let mut errors = Vec::new(alloc);
-    let status = run_words(host, alloc, &words, &mut input, &mut output, &mut errors);
+    let terminals = Terminals {
+        input: false,
+        errors: false,
+    };
+    let status = run_program(
+        host, alloc, terminals, &words, &mut input, &mut output, &mut errors,
+    );
     writeln!(page, "> {line}")?;
     match to {
         Some(file) => fs::write(host, file, &output)?,
