@@ -1,11 +1,14 @@
 -- No control byte stands in what a terminal is sent but line feeds.
 use Rattle.std.proofs.Common.{◌≡◌, ◌⊎◌, ◌<◌, ℕ, ◌/◌, ◌%◌, Bool, true, false, List, [], ◌∷◌, ◌++◌, refl, inl, inr}
-use Rattle.std.proofs.Common.{arith, All}
-use Rattle.std.specs.Prelude.{if◌then◌else◌}
+use Rattle.std.proofs.Common.{arith, All, ap, sym, take, Option, Some, None}
+use Rattle.std.specs.Prelude.{if◌then◌else◌, Result, Ok, Err}
 use Rattle.std.specs.List.{flat_map}
-use Rattle.std.proofs.lemmas.List.Elements.{All-append, All-nil, All-cons}
+use Rattle.std.proofs.lemmas.List.Elements.{All-append, All-nil, All-cons, All-take}
+use Rattle.std.proofs.lemmas.List.{append-nil}
 use Rattle.ice_print.specs.Escaping.{hex_digit, is_escaped, escaped_byte}
-use Rattle.ice_hints.specs.Hints.{IsPlain, is_control, shown, shown_byte, shown_line}
+use Rattle.ice_print.specs.Written.{Wrote}
+use Rattle.ice_print.specs.declared.sink.SinkFault.{SinkFault}
+use Rattle.ice_hints.specs.Hints.{AppendsPlain, IsPlain, is_control, shown, shown_byte, shown_line}
 
 all_if : (c : Bool) (xs ys : List ℕ) → (c ≡ true → All IsPlain xs) → (c ≡ false → All IsPlain ys)
     → All IsPlain (if c then xs else ys)
@@ -46,3 +49,15 @@ line bytes = All-append IsPlain (flat_map shown_byte bytes) (10 ∷ []) (all_fla
 
 pub shown_plain : (lines : List (List ℕ)) → All IsPlain (shown lines)
 shown_plain lines = all_flat shown_line line lines
+
+pub nothing_plain : (sent : Option (List ℕ)) → AppendsPlain sent sent
+nothing_plain None = ([], All-nil IsPlain, tt)
+nothing_plain (Some bytes) = ([], All-nil IsPlain, ap Some (sym (append-nil bytes)))
+
+-- a write of such a text, also one that fails
+pub wrote_plain : {X : Type 0} (taken : X → Option (List ℕ)) (may_fail : X → Type 0) (old new : X)
+    (result : Result Unit SinkFault) (text : List ℕ) → All IsPlain text → Wrote taken may_fail old result new text
+    → AppendsPlain (taken old) (taken new)
+wrote_plain taken may_fail old new (Ok x) text plain w = (text, plain, w.all)
+wrote_plain taken may_fail old new (Err e) text plain w =
+    (take w.front.0 text, All-take IsPlain w.front.0 text plain, w.front.2)

@@ -82,7 +82,13 @@ where
         errors: false,
     };
     let status = run_program(
-        host, alloc, terminals, &words, &mut input, &mut output, &mut errors,
+        host,
+        alloc,
+        terminals,
+        &words,
+        &mut input,
+        &mut output,
+        &mut errors,
     );
     writeln!(page, "> {line}")?;
     match to {
