@@ -80,7 +80,7 @@ pub fn quoted_list(alloc: Global, names: &[String]) -> Result<String, AllocError
     let mut text = String::new(alloc);
     for (place, name) in names.iter().enumerate() {
         if place > 0 {
-            let last = place == names.len() - 1;
+            let last = place + 1 == names.len();
             text.push_str(if last { " and " } else { ", " })?;
         }
         text.push_str(quoted(alloc, name.as_str())?.as_str())?;

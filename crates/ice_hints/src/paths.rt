@@ -22,12 +22,20 @@ fn tail_of(path: &str) -> &str {
     }
 }
 
-/// The place where the metadata lies whose path was typed as it is not below the prefix: its last two segments are
-/// those of the path that was typed.
+/// What stands behind the folder in a name of the file system; of any other path its last two segments, in which the
+/// metadata of most tables lies below the table's location.
+fn below_folder<'p>(place: &Place, path: &'p str) -> &'p str {
+    match path.strip_prefix(place.folder.as_str().trim_end_matches('/')) {
+        Some(rest) if rest.starts_with('/') => rest.trim_start_matches('/'),
+        _ => tail_of(path),
+    }
+}
+
+/// Where the metadata may lie whose path was typed as it is not below the prefix.
 fn folded(alloc: Global, place: &Place, path: &str) -> Result<String, AllocError> {
     let prefix = place.prefix.as_str().trim_end_matches('/');
-    let tail = tail_of(path);
-    format!(in alloc; "{prefix}/{tail}")
+    let rest = below_folder(place, path);
+    format!(in alloc; "{prefix}/{rest}")
 }
 
 /// Adds which words name the metadata that was meant, where there is one.
@@ -46,9 +54,9 @@ fn add_right_words<F: Files>(
         return Ok(());
     };
     let location = metadata.table().location.as_str().trim_end_matches('/');
-    let tail = tail_of(path);
+    let rest = below_folder(place, path);
     let location_words = quoted(alloc, location)?;
-    let whole = format!(in alloc; "{location}/{tail}")?;
+    let whole = format!(in alloc; "{location}/{rest}")?;
     let words = quoted(alloc, whole.as_str())?;
     hint.here(
         alloc,
