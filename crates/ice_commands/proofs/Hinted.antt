@@ -1,7 +1,7 @@
 -- A fault that is told without a hint.
 use Rattle.std.proofs.Common.{◌⊎◌, ℕ, List, Option, inl, inr}
 use Rattle.std.specs.Prelude.{Result}
-use Rattle.ice_hints.proofs.Plain.{nothing_plain}
+use Rattle.ice_hint_lines.proofs.Plain.{nothing_plain}
 use Rattle.ice_text.specs.declared.fault.RunFault.{RunFault}
 use Rattle.ice_commands.specs.Runs.{Explained, Refused}
 

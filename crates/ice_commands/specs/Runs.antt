@@ -15,7 +15,7 @@ use Rattle.ice_text.specs.FaultTexts.{fault_text}
 use Rattle.ice_print.specs.PlanTexts.{plan_text}
 use Rattle.ice_requests.specs.Shows.{WroteFront, WroteText, shown_at}
 use Rattle.ice_print.specs.Written.{Appends, AppendsFront}
-use Rattle.ice_hints.specs.Hints.{AppendsPlain}
+use Rattle.ice_hint_lines.specs.Hints.{AppendsPlain}
 use Rattle.ice_command_line.specs.declared.command_line.Lists.TheVariants as lists
 use Rattle.ice_command_line.specs.declared.command_line.Source.TheVariants as source
 use Rattle.ice_command_line.specs.declared.command_line.Words.{Words}

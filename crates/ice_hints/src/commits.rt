@@ -1,10 +1,10 @@
 //! What of a commit is refused.
 
 use crate::case::Case;
-use crate::hint::{Hint, quoted};
 use crate::tables::add_specs;
 use contract_words::{Items, Text};
 use ice_desk::Files;
+use ice_hint_lines::{Hint, quoted};
 use ice_requests::prepare_commit;
 use ice_text::CommitRequest;
 use ice_versions::PrepareFault;

@@ -1,11 +1,10 @@
 //! What of a manifest list or a manifest is at fault.
 
 use crate::case::Case;
-use crate::fields::field_name;
-use crate::hint::{Hint, quoted};
 use contract_words::Text;
 use ice_command_line::{Lists, Words};
 use ice_desk::Files;
+use ice_hint_lines::{Hint, field_name, quoted};
 use ice_manifest::{EntryView, Keep, ListFault, Live, ManifestFault, Row, read_kept};
 use ice_meta::{Metadata, Spec, Target};
 use std::alloc::{AllocError, Global};

@@ -1,9 +1,9 @@
 //! Why no file is found at a path.
 
 use crate::case::Case;
-use crate::hint::{Hint, quoted};
 use ice_command_line::Place;
 use ice_desk::Files;
+use ice_hint_lines::{Hint, quoted};
 use ice_meta::Metadata;
 use ice_requests::file_name;
 use std::alloc::{AllocError, Global};

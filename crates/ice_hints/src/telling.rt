@@ -1,18 +1,17 @@
 //! A fault's hint, from the fault and what was asked for.
 
-ghost use Rattle.ice_hints.specs.Hints.{AppendsPlain};
+ghost use Rattle.ice_hint_lines.specs.Hints.{AppendsPlain};
 
 use crate::case::Case;
 use crate::columns::add_filter;
 use crate::commits::{add_change_file, add_commit, add_unwritten};
-use crate::hint::Hint;
 use crate::manifests::{add_list, add_manifest};
 use crate::paths::{add_file_name, add_path};
-use crate::sentences::sentences_of;
-use crate::showing::put_lines;
 use crate::tables::{add_metadata, add_specs};
 use ice_command_line::{Lists, Words};
 use ice_desk::Files;
+use ice_hint_lines::{Hint, put_lines};
+use ice_sentences::sentences_of;
 use ice_state::{FinishFault, ScanFault};
 use ice_text::{RunFault, Sink};
 use std::alloc::{AllocError, Global};

@@ -1,6 +1,6 @@
 //! The words of refusals of plans.
 
-use crate::sentence::{MEMORY, Sentence};
+use ice_hint_lines::{MEMORY, Sentence};
 use ice_state::{FinishFault, ScanFault};
 
 const NO_SUCH_SPEC: Sentence = Sentence {

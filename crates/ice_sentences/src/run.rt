@@ -1,15 +1,15 @@
 //! The words of refusals of bundles, of files that are read and written, and of all others by those that know them.
 
-use super::avro::of_container;
-use super::commit::{of_change, of_prepare};
-use super::drill::of_drill;
-use super::filter::of_filter;
-use super::manifest::{of_list, of_manifest};
-use super::metadata::of_metadata;
-use super::plan::{of_finish, of_scan};
-use super::schema::of_schema;
-use crate::sentence::{MEMORY, Sentence};
+use crate::avro::of_container;
+use crate::commit::{of_change, of_prepare};
+use crate::drill::of_drill;
+use crate::filter::of_filter;
+use crate::manifest::{of_list, of_manifest};
+use crate::metadata::of_metadata;
+use crate::plan::{of_finish, of_scan};
+use crate::schema::of_schema;
 use avro_file::AvroFault;
+use ice_hint_lines::{MEMORY, Sentence};
 use ice_manifest::{ListFault, ManifestFault};
 use ice_state::FinishFault;
 use ice_text::RunFault;

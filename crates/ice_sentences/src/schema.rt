@@ -1,7 +1,7 @@
 //! The words of refusals of Avro schemas.
 
-use crate::sentence::{MEMORY, Sentence};
 use avro_schema::SchemaFault;
+use ice_hint_lines::{MEMORY, Sentence};
 
 const NOT_JSON: Sentence = Sentence {
     name: "S1 NotJson",

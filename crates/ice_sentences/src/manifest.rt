@@ -1,6 +1,6 @@
 //! The words of refusals of manifest lists and manifests.
 
-use crate::sentence::{MEMORY, Sentence};
+use ice_hint_lines::{MEMORY, Sentence};
 use ice_manifest::{ListFault, ManifestFault};
 
 const AVRO: Sentence = Sentence {

@@ -8,7 +8,7 @@ use Rattle.std.proofs.lemmas.List.{append-nil}
 use Rattle.ice_print.specs.Escaping.{hex_digit, is_escaped, escaped_byte}
 use Rattle.ice_print.specs.Written.{Wrote}
 use Rattle.ice_print.specs.declared.sink.SinkFault.{SinkFault}
-use Rattle.ice_hints.specs.Hints.{AppendsPlain, IsPlain, is_control, shown, shown_byte, shown_line}
+use Rattle.ice_hint_lines.specs.Hints.{AppendsPlain, IsPlain, is_control, shown, shown_byte, shown_line}
 
 all_if : (c : Bool) (xs ys : List ℕ) → (c ≡ true → All IsPlain xs) → (c ≡ false → All IsPlain ys)
     → All IsPlain (if c then xs else ys)

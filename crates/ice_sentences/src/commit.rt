@@ -1,6 +1,6 @@
 //! The words of refusals of change files and of commits.
 
-use crate::sentence::{MEMORY, Sentence};
+use ice_hint_lines::{MEMORY, Sentence};
 use ice_text::ChangeFault;
 use ice_versions::PrepareFault;
 

@@ -1,6 +1,6 @@
 //! The words of refusals of drills.
 
-use crate::sentence::Sentence;
+use ice_hint_lines::Sentence;
 use ice_text::DrillFault;
 
 const CONFLICT: Sentence = Sentence {

@@ -1,4 +1,5 @@
-//! What each refusal says.
+//! What each refusal says, in the words of docs/REFUSALS.md, with which `tools/refusals.py words` compares them.
+#![tactic(auto)]
 
 mod avro;
 mod commit;

@@ -1,7 +1,7 @@
 use Rattle.std.proofs.Common.{All, subst, sym, take}
-use Rattle.ice_hints.specs.Hints.{IsPlain}
-use Rattle.ice_hints.proofs.Plain.{shown_plain}
-use Rattle.ice_hints.proofs.showing.shown.Goals as goal
+use Rattle.ice_hint_lines.specs.Hints.{IsPlain}
+use Rattle.ice_hint_lines.proofs.Plain.{shown_plain}
+use Rattle.ice_hint_lines.proofs.showing.shown.Goals as goal
 
 pub returns-clause-plain : goal.returns-clause-plain
 returns-clause-plain c =

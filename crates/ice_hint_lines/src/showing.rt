@@ -1,11 +1,11 @@
 //! From the lines of a hint to what a terminal is sent.
 
 ghost use Rattle.std.specs.Prelude.{◌≡◌, ◌<◌, ◌++◌, OnOk, IfOk, All};
-ghost use Rattle.ice_hints.specs.Hints.{AppendsPlain, IsPlain, is_control, shown, shown_byte, shown_line};
+ghost use Rattle.ice_hint_lines.specs.Hints.{AppendsPlain, IsPlain, is_control, shown, shown_byte, shown_line};
 ghost use Rattle.ice_print.specs.Escaping.{hex_digit};
 
 use contract_words::Text;
-use ice_text::{Sink, write_all};
+use ice_print::{Sink, write_all};
 use std::alloc::{AllocError, Global};
 
 /// Whether a terminal could take the byte for a command.

@@ -1,6 +1,6 @@
 //! The words of refusals of table metadata.
 
-use crate::sentence::{MEMORY, Sentence};
+use ice_hint_lines::{MEMORY, Sentence};
 use ice_meta::MetaFault;
 
 const NOT_JSON: Sentence = Sentence {
