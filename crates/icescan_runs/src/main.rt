@@ -32,6 +32,8 @@
 //! - an append under three specs, whose manifests, list and metadata are printed byte by byte: names of partition
 //!   fields as Avro spells them, or by id where two would be alike; no summaries where a uuid stands; a uuid with
 //!   hyphens
+//! - refusals with `--explain`, over `data/hints`, which `tools/refusals.py make` writes: below each line what it is
+//!   about and what to do
 #![tactic(auto)]
 
 use ice_commands::{Terminals, Watch, run_program};
