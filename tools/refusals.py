@@ -144,7 +144,7 @@ class Cases:
 
 
 def filters(cases):
-    for line, word in [("F1 Syntax 16", "c = 42 and price or"), ("F1 Syntax 4", "c = "), ("F1 Syntax 5", "c\t\u00e4=1"),
+    for line, word in [("F1 Syntax 17", "c = 42 and price or"), ("F1 Syntax 4", "c = "), ("F1 Syntax 5", "c\t\u00e4=1"),
                        ("F2 NoSuchColumn", "categry = 'books'"), ("F2 NoSuchColumn", "place.town = 'x'"),
                        ("F2 NoSuchColumn", "unheard_of\x1b[31m is null".replace("unheard_of\x1b[31m", "\"un\x1b[31m\"")),
                        ("F3 WrongLiteral", "c = 99999999999"), ("F4 NotComparable", "price > 1 and c = 1"),
@@ -157,7 +157,7 @@ def metadata(cases):
                                      for i in range(65)]}
     schema = json.loads(table())["schemas"][0]
     odd = {**schema, "fields": [{"id": 1, "name": "c", "required": False, "type": "int8"}]}
-    cases.plan("M1 NotJson", "cut.json", table()[:50])
+    cases.plan("M1 NotJson", "cut_text.json", table()[:50])
     cases.plan("M1 NotJson", "gzip.json", b"\x1f\x8b\x08\x00")
     cases.plan("M2 Version 3", "three.json", table(**{"format-version": 3}))
     cases.plan("M3 Missing location", "no_location.json", table(location=None))
@@ -166,7 +166,7 @@ def metadata(cases):
     cases.plan("M6 NoSuchRef", "table.json", table(), "--ref", "relase")
     cases.plan("M7 NoSuchSnapshot", "table.json", table(), "--snapshot", "6")
     cases.plan("M8 NoSnapshot", "empty.json", table(**{"current-snapshot-id": -1, "snapshots": [], "refs": {}, "snapshot-log": []}))
-    cases.plan("M9 IdTwice 0", "twice.json", table(schemas=[schema, schema]))
+    cases.plan("M9 IdTwice 0", "id_twice.json", table(schemas=[schema, schema]))
     cases.plan("M11 Dangling default-spec-id", "dangling.json", table(**{"default-spec-id": 9}))
     cases.plan("M12 TooBig", "big.json", table(**{"partition-specs": [spec]}))
 

@@ -82,19 +82,14 @@ fn add_field(hint: &mut Hint, alloc: Global, id: i32) -> Result<(), AllocError> 
     }
 }
 
-/// Adds the position of the last entry that can be read.
+/// Adds the position of the last entry that can be read, where there is one.
 fn add_position(hint: &mut Hint, alloc: Global, last: Option<u64>) -> Result<(), AllocError> {
     match last {
         Some(position) => hint.here(
             alloc,
             format!(in alloc; "the entry at position {position} is the last that can be read")?,
         ),
-        None => hint.here(
-            alloc,
-            format!(in alloc;
-                "the fault is before the end of the first entry that is not deleted"
-            )?,
-        ),
+        None => Ok(()),
     }
 }
 
