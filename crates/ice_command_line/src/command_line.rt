@@ -435,6 +435,15 @@ fn row_delta_command<'a>(alloc: Global) -> Result<Command<'a>, AllocError> {
     with_source(alloc, with_commit(alloc, command)?)
 }
 
+/// The option that asks for a hint behind the line of a refusal. It has no effect on what the words ask for.
+fn explain_option<'a>(alloc: Global) -> Arg<'a> {
+    Arg::new(alloc, "explain")
+        .long("explain")
+        .action(ArgAction::SetTrue)
+        .global(true)
+        .help("Say behind a refusal what it is about and what to do, as on a terminal")
+}
+
 /// All commands.
 fn program<'a>(alloc: Global) -> Result<Command<'a>, AllocError> {
     Command::new(alloc, "icescan")
@@ -444,6 +453,7 @@ fn program<'a>(alloc: Global) -> Result<Command<'a>, AllocError> {
         .about(ABOUT)
         .after_long_help(PROGRAM_EXAMPLE)
         .subcommand_required(true)
+        .arg(explain_option(alloc))?
         .subcommand(plan_command(alloc)?)?
         .subcommand(list_plan_command(alloc)?)?
         .subcommand(append_command(alloc)?)?

@@ -1,6 +1,8 @@
 -- The whole program: what it makes of its words and of standard input.
 use Rattle.std.specs.Prelude.{◌≡◌, ◌≢◌, ◌⊎◌, ◌==◌, ℕ, List, length, Option, Some, None, IfSome, Result, Ok, Err, OnOk}
-use Rattle.std.specs.Prelude.{IfOk, IfErr, IsErrOf, if◌then◌else◌}
+use Rattle.std.specs.Prelude.{IfOk, IfErr, IsErrOf, if◌then◌else◌, Bool, true, false, ◌||◌, [], ◌∷◌, codes}
+use Rattle.std.specs.List.{list_any}
+use Rattle.std.specs.Str.{bytes_eq}
 use Rattle.contract_words.specs.Outcome.{◌>>=◌}
 use Rattle.ice_audit_run.specs.Audits.{audit_at}
 use Rattle.ice_audit_run.specs.Texts.{audit_text}
@@ -17,6 +19,7 @@ use Rattle.ice_text.specs.FaultTexts.{fault_text}
 use Rattle.ice_print.specs.PlanTexts.{plan_text}
 use Rattle.ice_requests.specs.Shows.{WroteFront, WroteText, shown_at}
 use Rattle.ice_print.specs.Written.{Appends, AppendsFront}
+use Rattle.ice_hint_lines.specs.Hints.{AppendsPlain}
 use Rattle.ice_command_line.specs.declared.command_line.Lists.TheVariants as lists
 use Rattle.ice_command_line.specs.declared.command_line.Source.TheVariants as source
 use Rattle.ice_command_line.specs.declared.command_line.Words.{Words}
@@ -160,3 +163,35 @@ pub record Refused (known : Option (Result (List ℕ) RunFault)) (write_may_fail
   pub nothing : fault ≢ run.Write → output' ≡ output
   pub front : fault ≡ run.Write → IfSome known (λ read. WroteFront read output output')
   pub told : Told tell_may_fail errors errors' fault
+
+-- ---- at a terminal
+
+-- no words are read as `--help` where standard input is a terminal
+abbrev pub meant : Bool → List (List ℕ) → List (List ℕ)
+meant true [] = codes "--help" ∷ []
+meant true (word ∷ words) = word ∷ words
+meant false words = words
+
+-- whether a word is `--explain`
+abbrev pub asks_hints : List (List ℕ) → Bool
+asks_hints words = list_any (λ word. bytes_eq word (codes "--explain")) words
+
+-- whether faults have hints
+abbrev pub hints : Bool → List (List ℕ) → Bool
+hints errors_is_terminal words = errors_is_terminal || asks_hints words
+
+-- a fault was told, and then a text without control characters was written
+pub record ToldWithHint (write_may_fail : Type 0) (errors errors' : Option (List ℕ)) (fault : RunFault) : Type 0 where
+  pub between : Option (List ℕ)
+  pub line : Told write_may_fail errors between fault
+  pub hint : AppendsPlain between errors'
+
+-- the program ended with a fault, as in `Refused`, and told it with a hint
+pub record Explained (known : Option (Result (List ℕ) RunFault)) (write_may_fail tell_may_fail : Type 0) (status : ℕ)
+    (output output' errors errors' : Option (List ℕ)) : Type 0 where
+  pub fault : RunFault
+  pub cause : IfSome known (λ read. MayRefuse read write_may_fail fault)
+  pub status_is : status ≡ status_of fault
+  pub nothing : fault ≢ run.Write → output' ≡ output
+  pub front : fault ≡ run.Write → IfSome known (λ read. WroteFront read output output')
+  pub told : ToldWithHint tell_may_fail errors errors' fault

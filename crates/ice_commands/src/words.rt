@@ -40,7 +40,7 @@ fn list_in<'a>(bundle: &'a Bundle, list: &'a Option<Text>) -> Result<&'a str, Ru
 }
 
 /// The files below the folder of a place.
-fn files_of<'a, H: Files>(host: &'a H, place: &'a Place) -> Folder<'a, H>
+pub fn files_of<'a, H: Files>(host: &'a H, place: &'a Place) -> Folder<'a, H>
     ensures { (result.folder.now ≡ place.now.folder) × (result.prefix.now ≡ place.now.prefix) }
 {
     Folder::new(host, place.folder.as_str(), place.prefix.as_str())
@@ -237,7 +237,7 @@ fn no_findings(answer: Result<(), RunFault>) -> Result<usize, RunFault>
 }
 
 /// Writes what is asked for, and gives the number of findings of which that tells.
-fn run_asked<H: Files<File: Send, Dir: Send> + Threads + Wait + Watch + Sync, R: Read, W: Sink>(
+pub fn run_asked<H: Files<File: Send, Dir: Send> + Threads + Wait + Watch + Sync, R: Read, W: Sink>(
     host: &H,
     alloc: Global,
     asked: &Words,
@@ -286,7 +286,7 @@ fn run<H: Files<File: Send, Dir: Send> + Threads + Wait + Watch + Sync, R: Read,
 }
 
 /// The status that the program ends with that told of so many findings.
-fn status_of_count(count: usize) -> u8
+pub fn status_of_count(count: usize) -> u8
     ensures { result ≡ status_of_count count }
 {
     if count == 0 { 0 } else { 1 }

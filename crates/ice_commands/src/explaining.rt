@@ -1,0 +1,187 @@
+//! The program where a user reads what it writes: a hint stands behind the line of a fault.
+
+ghost use Rattle.std.specs.Prelude.{◌≡◌, ◌⊎◌, ◌∷◌, ℕ, List, [], Result, false, map, string_bytes, codes, IfOk};
+ghost use Rattle.ice_command_line.specs.CommandLines.{ReadAs};
+ghost use Rattle.ice_command_line.specs.declared.command_line.Words.{Words};
+ghost use Rattle.ice_commands.specs.Runs.{Answered, EndsWith, Explained, IsOfDrill, Refused, ToldWithHint, asks_hints};
+ghost use Rattle.ice_commands.specs.Runs.{hints, meant, run_of};
+ghost use Rattle.ice_requests.specs.Bundles.{IsInput};
+ghost use Rattle.ice_text.specs.Faults.{status_of};
+ghost use Rattle.ice_text.specs.declared.fault.RunFault.{RunFault};
+
+use crate::words::{files_of, run_asked, run_words, status_of_count};
+use ice_command_line::{Lists, Place, Source, Words, parse_words};
+use ice_drill::Watch;
+use ice_hints::{Case, put_hint};
+use ice_requests::Folder;
+use ice_text::{RunFault, Sink, report};
+use std::alloc::{AllocError, Global};
+use std::io::Read;
+use std::rt::Files;
+use std::sync::Wait;
+use std::thread::Threads;
+
+/// Which of the program's ends are terminals.
+#[derive(Clone, Copy, Debug)]
+pub struct Terminals {
+    pub input: bool,
+    pub errors: bool,
+}
+
+/// Whether one of the words is `--explain`.
+fn asks_hints(words: &[String]) -> bool
+    ensures { result ≡ asks_hints (map string_bytes words.now) }
+{
+    words.iter().any(|word| word.as_str() == "--explain")
+}
+
+/// The folder that the files of what is asked for are below.
+fn place_of(asked: &Words) -> Option<&Place> {
+    match asked {
+        Words::ListPlan(Lists::Folder(place, _)) => Some(place),
+        Words::Plan(Source::Folder(place), _, _, _) => Some(place),
+        Words::Commit(Source::Folder(place), _) => Some(place),
+        Words::Show(Source::Folder(place), _) => Some(place),
+        Words::Audit(Source::Folder(place), _, _, _) => Some(place),
+        _ => None,
+    }
+}
+
+/// Writes the line of a fault and its hint, and gives the status that the program ends with.
+fn explain<H: Files, E: Sink>(
+    host: &H,
+    alloc: Global,
+    asked: &Words,
+    fault: &RunFault,
+    errors: &mut E,
+) -> u8
+    ensures status { result ≡ status_of fault.now }
+    ensures told { ToldWithHint (E.may_fail errors.old) (E.taken errors.old) (E.taken errors.new) fault.now }
+{
+    let status = report(fault, errors);
+    match place_of(asked) {
+        Some(place) => {
+            let files = files_of(host, place);
+            let case = Case {
+                asked,
+                files: Some(&files),
+            };
+            put_hint(alloc, &case, fault, errors);
+        }
+        None => {
+            let case = Case {
+                asked,
+                files: None::<&Folder<'_, H>>,
+            };
+            put_hint(alloc, &case, fault, errors);
+        }
+    }
+    status
+}
+
+/// Runs the program as `run_words` does, and writes a hint behind the line of a fault of what the words ask for.
+fn run_explained<H, R: Read, W: Sink, E: Sink>(
+    host: &H,
+    alloc: Global,
+    words: &[String],
+    input: &mut R,
+    output: &mut W,
+    errors: &mut E,
+) -> u8
+where
+    H: Files<File: Send, Dir: Send> + Threads + Wait + Watch + Sync,
+    ensures run { (asked : Result Words RunFault) × ReadAs (map string_bytes words.now) asked ×
+        (text : List ℕ) × IsInput (R.remaining input.old) text ×
+        ((Answered (run_of asked text) (W.taken output.old) (W.taken output.new) (E.taken errors.old)
+        (E.taken errors.new)
+        × EndsWith asked text result
+        × IsOfDrill asked (W.taken output.old) (W.taken output.new)) ⊎
+        Explained (run_of asked text) (W.may_fail output.old) (E.may_fail errors.old) result
+        (W.taken output.old) (W.taken output.new) (E.taken errors.old) (E.taken errors.new)) }
+{
+    match parse_words(alloc, words) {
+        Ok(asked) => match run_asked(host, alloc, &asked, input, output) {
+            Ok(count) => status_of_count(count),
+            Err(fault) => explain(host, alloc, &asked, &fault, errors),
+        },
+        Err(fault) => report(&fault, errors),
+    }
+}
+
+/// The word that asks for the help.
+fn help_words(alloc: Global) -> Result<Vec<String>, AllocError>
+    ensures { IfOk result (λ words. map string_bytes words.items ≡ codes "--help" ∷ []) }
+{
+    let mut words = Vec::new(alloc);
+    words.push(String::from_str(alloc, "--help")?)?;
+    Ok(words)
+}
+
+/// Shows the help.
+fn run_help<H, R: Read, W: Sink, E: Sink>(
+    host: &H,
+    alloc: Global,
+    input: &mut R,
+    output: &mut W,
+    errors: &mut E,
+) -> u8
+where
+    H: Files<File: Send, Dir: Send> + Threads + Wait + Watch + Sync,
+    ensures run { (asked : Result Words RunFault) × ReadAs (codes "--help" ∷ []) asked ×
+        (text : List ℕ) × IsInput (R.remaining input.old) text ×
+        ((Answered (run_of asked text) (W.taken output.old) (W.taken output.new) (E.taken errors.old)
+        (E.taken errors.new)
+        × EndsWith asked text result
+        × IsOfDrill asked (W.taken output.old) (W.taken output.new)) ⊎
+        Refused (run_of asked text) (W.may_fail output.old) (E.may_fail errors.old) result
+        (W.taken output.old) (W.taken output.new) (E.taken errors.old) (E.taken errors.new)) }
+{
+    match help_words(alloc) {
+        Ok(words) => run_words(host, alloc, &words, input, output, errors),
+        Err(_) => report(&RunFault::Memory, errors),
+    }
+}
+
+/// Runs the program as `run_words` does. Where standard input is a terminal, no words are read as `--help`. Where
+/// standard error is a terminal, or a word is `--explain`, a hint stands behind the line of a fault: lines that say
+/// what the fault is about and what to do, in which no control character of the table's stands.
+pub fn run_program<H, R: Read, W: Sink, E: Sink>(
+    host: &H,
+    alloc: Global,
+    terminals: Terminals,
+    words: &[String],
+    input: &mut R,
+    output: &mut W,
+    errors: &mut E,
+) -> u8
+where
+    H: Files<File: Send, Dir: Send> + Threads + Wait + Watch + Sync,
+    // No hint was asked for: what `run_words` gives of the words.
+    ensures line { hints terminals.errors (map string_bytes words.now) ≡ false → (asked : Result Words RunFault) ×
+        ReadAs (meant terminals.input (map string_bytes words.now)) asked ×
+        (text : List ℕ) × IsInput (R.remaining input.old) text ×
+        ((Answered (run_of asked text) (W.taken output.old) (W.taken output.new) (E.taken errors.old)
+        (E.taken errors.new)
+        × EndsWith asked text result
+        × IsOfDrill asked (W.taken output.old) (W.taken output.new)) ⊎
+        Refused (run_of asked text) (W.may_fail output.old) (E.may_fail errors.old) result
+        (W.taken output.old) (W.taken output.new) (E.taken errors.old) (E.taken errors.new)) }
+    // In any case: that, and behind the line of a fault a text without control characters.
+    ensures run { (asked : Result Words RunFault) ×
+        ReadAs (meant terminals.input (map string_bytes words.now)) asked ×
+        (text : List ℕ) × IsInput (R.remaining input.old) text ×
+        ((Answered (run_of asked text) (W.taken output.old) (W.taken output.new) (E.taken errors.old)
+        (E.taken errors.new)
+        × EndsWith asked text result
+        × IsOfDrill asked (W.taken output.old) (W.taken output.new)) ⊎
+        Explained (run_of asked text) (W.may_fail output.old) (E.may_fail errors.old) result
+        (W.taken output.old) (W.taken output.new) (E.taken errors.old) (E.taken errors.new)) }
+{
+    if terminals.input && words.is_empty() {
+        run_help(host, alloc, input, output, errors)
+    } else if terminals.errors || asks_hints(words) {
+        run_explained(host, alloc, words, input, output, errors)
+    } else {
+        run_words(host, alloc, words, input, output, errors)
+    }
+}
