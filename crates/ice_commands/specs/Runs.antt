@@ -9,7 +9,7 @@ use Rattle.ice_audit_run.specs.Texts.{audit_text}
 use Rattle.ice_audit_run.specs.declared.audit.Audit.{Audit}
 use Rattle.ice_meta.specs.declared.metadata.Target.{Target}
 use Rattle.ice_state.specs.Lines.{OwnedLine}
-use Rattle.ice_requests.specs.Bundles.{File, bundle_of, bytes_at, first_path}
+use Rattle.ice_requests.specs.Bundles.{File, IsInput, bundle_of, bytes_at, first_path}
 use Rattle.ice_drill.specs.Drills.{WroteDrill}
 use Rattle.ice_requests.specs.Commits.{committed_text}
 use Rattle.ice_requests.specs.ListPlans.{list_answer}
@@ -20,6 +20,7 @@ use Rattle.ice_print.specs.PlanTexts.{plan_text}
 use Rattle.ice_requests.specs.Shows.{WroteFront, WroteText, shown_at}
 use Rattle.ice_print.specs.Written.{Appends, AppendsFront}
 use Rattle.ice_hint_lines.specs.Hints.{AppendsPlain}
+use Rattle.ice_command_line.specs.CommandLines.{ReadAs}
 use Rattle.ice_command_line.specs.declared.command_line.Lists.TheVariants as lists
 use Rattle.ice_command_line.specs.declared.command_line.Source.TheVariants as source
 use Rattle.ice_command_line.specs.declared.command_line.Words.{Words}
@@ -195,3 +196,22 @@ pub record Explained (known : Option (Result (List ℕ) RunFault)) (write_may_fa
   pub nothing : fault ≢ run.Write → output' ≡ output
   pub front : fault ≡ run.Write → IfSome known (λ read. WroteFront read output output')
   pub told : ToldWithHint tell_may_fail errors errors' fault
+
+-- what `run_words` says of a run by its words, by what standard input had left where that is told, by whether a write
+-- of the output and one of a fault may fail, and by its status and what stood and stands written at both ends
+abbrev pub RanWithoutHint : List (List ℕ) → Option (List ℕ) → Type 0 → Type 0 → ℕ → Option (List ℕ) → Option (List ℕ)
+    → Option (List ℕ) → Option (List ℕ) → Type 0
+RanWithoutHint texts left write_may_fail tell_may_fail status output output' errors errors' =
+    (asked : Result Words RunFault) × ReadAs texts asked × (text : List ℕ) × IsInput left text ×
+    ((Answered (run_of asked text) output output' errors errors' × EndsWith asked text status
+    × IsOfDrill asked output output')
+    ⊎ Refused (run_of asked text) write_may_fail tell_may_fail status output output' errors errors')
+
+-- the same, but that a hint may stand behind the line of a fault
+abbrev pub RanWithHint : List (List ℕ) → Option (List ℕ) → Type 0 → Type 0 → ℕ → Option (List ℕ) → Option (List ℕ)
+    → Option (List ℕ) → Option (List ℕ) → Type 0
+RanWithHint texts left write_may_fail tell_may_fail status output output' errors errors' =
+    (asked : Result Words RunFault) × ReadAs texts asked × (text : List ℕ) × IsInput left text ×
+    ((Answered (run_of asked text) output output' errors errors' × EndsWith asked text status
+    × IsOfDrill asked output output')
+    ⊎ Explained (run_of asked text) write_may_fail tell_may_fail status output output' errors errors')

@@ -1,19 +1,13 @@
 //! The program where a user reads what it writes: a hint stands behind the line of a fault.
 
-ghost use Rattle.std.specs.Prelude.{◌≡◌, ◌⊎◌, ◌∷◌, ℕ, List, [], Result, false, map, string_bytes, codes, IfOk};
-ghost use Rattle.ice_command_line.specs.CommandLines.{ReadAs};
-ghost use Rattle.ice_command_line.specs.declared.command_line.Words.{Words};
-ghost use Rattle.ice_commands.specs.Runs.{Answered, EndsWith, Explained, IsOfDrill, Refused, ToldWithHint, asks_hints};
-ghost use Rattle.ice_commands.specs.Runs.{hints, meant, run_of};
-ghost use Rattle.ice_requests.specs.Bundles.{IsInput};
+ghost use Rattle.std.specs.Prelude.{◌≡◌, ◌∷◌, [], false, map, string_bytes, codes, IfOk};
+ghost use Rattle.ice_commands.specs.Runs.{RanWithHint, RanWithoutHint, ToldWithHint, asks_hints, hints, meant};
 ghost use Rattle.ice_text.specs.Faults.{status_of};
-ghost use Rattle.ice_text.specs.declared.fault.RunFault.{RunFault};
 
 use crate::words::{files_of, run_asked, run_words, status_of_count};
-use ice_command_line::{Lists, Place, Source, Words, parse_words};
+use ice_command_line::{Words, parse_words};
 use ice_drill::Watch;
-use ice_hints::{Case, put_hint};
-use ice_requests::Folder;
+use ice_hints::{Case, place_of, put_hint};
 use ice_text::{RunFault, Sink, report};
 use std::alloc::{AllocError, Global};
 use std::io::Read;
@@ -35,18 +29,6 @@ fn asks_hints(words: &[String]) -> bool
     words.iter().any(|word| word.as_str() == "--explain")
 }
 
-/// The folder that the files of what is asked for are below.
-fn place_of(asked: &Words) -> Option<&Place> {
-    match asked {
-        Words::ListPlan(Lists::Folder(place, _)) => Some(place),
-        Words::Plan(Source::Folder(place), _, _, _) => Some(place),
-        Words::Commit(Source::Folder(place), _) => Some(place),
-        Words::Show(Source::Folder(place), _) => Some(place),
-        Words::Audit(Source::Folder(place), _, _, _) => Some(place),
-        _ => None,
-    }
-}
-
 /// Writes the line of a fault and its hint, and gives the status that the program ends with.
 fn explain<H: Files, E: Sink>(
     host: &H,
@@ -59,23 +41,12 @@ fn explain<H: Files, E: Sink>(
     ensures told { ToldWithHint (E.may_fail errors.old) (E.taken errors.old) (E.taken errors.new) fault.now }
 {
     let status = report(fault, errors);
-    match place_of(asked) {
-        Some(place) => {
-            let files = files_of(host, place);
-            let case = Case {
-                asked,
-                files: Some(&files),
-            };
-            put_hint(alloc, &case, fault, errors);
-        }
-        None => {
-            let case = Case {
-                asked,
-                files: None::<&Folder<'_, H>>,
-            };
-            put_hint(alloc, &case, fault, errors);
-        }
-    }
+    let files = place_of(asked).map(|place| files_of(host, place));
+    let case = Case {
+        asked,
+        files: files.as_ref(),
+    };
+    put_hint(alloc, &case, fault, errors);
     status
 }
 
@@ -90,14 +61,9 @@ fn run_explained<H, R: Read, W: Sink, E: Sink>(
 ) -> u8
 where
     H: Files<File: Send, Dir: Send> + Threads + Wait + Watch + Sync,
-    ensures run { (asked : Result Words RunFault) × ReadAs (map string_bytes words.now) asked ×
-        (text : List ℕ) × IsInput (R.remaining input.old) text ×
-        ((Answered (run_of asked text) (W.taken output.old) (W.taken output.new) (E.taken errors.old)
-        (E.taken errors.new)
-        × EndsWith asked text result
-        × IsOfDrill asked (W.taken output.old) (W.taken output.new)) ⊎
-        Explained (run_of asked text) (W.may_fail output.old) (E.may_fail errors.old) result
-        (W.taken output.old) (W.taken output.new) (E.taken errors.old) (E.taken errors.new)) }
+    ensures run { RanWithHint (map string_bytes words.now) (R.remaining input.old) (W.may_fail output.old)
+        (E.may_fail errors.old) result (W.taken output.old) (W.taken output.new) (E.taken errors.old)
+        (E.taken errors.new) }
 {
     match parse_words(alloc, words) {
         Ok(asked) => match run_asked(host, alloc, &asked, input, output) {
@@ -127,14 +93,9 @@ fn run_help<H, R: Read, W: Sink, E: Sink>(
 ) -> u8
 where
     H: Files<File: Send, Dir: Send> + Threads + Wait + Watch + Sync,
-    ensures run { (asked : Result Words RunFault) × ReadAs (codes "--help" ∷ []) asked ×
-        (text : List ℕ) × IsInput (R.remaining input.old) text ×
-        ((Answered (run_of asked text) (W.taken output.old) (W.taken output.new) (E.taken errors.old)
-        (E.taken errors.new)
-        × EndsWith asked text result
-        × IsOfDrill asked (W.taken output.old) (W.taken output.new)) ⊎
-        Refused (run_of asked text) (W.may_fail output.old) (E.may_fail errors.old) result
-        (W.taken output.old) (W.taken output.new) (E.taken errors.old) (E.taken errors.new)) }
+    ensures run { RanWithoutHint (codes "--help" ∷ []) (R.remaining input.old) (W.may_fail output.old)
+        (E.may_fail errors.old) result (W.taken output.old) (W.taken output.new) (E.taken errors.old)
+        (E.taken errors.new) }
 {
     match help_words(alloc) {
         Ok(words) => run_words(host, alloc, &words, input, output, errors),
@@ -156,26 +117,15 @@ pub fn run_program<H, R: Read, W: Sink, E: Sink>(
 ) -> u8
 where
     H: Files<File: Send, Dir: Send> + Threads + Wait + Watch + Sync,
-    // No hint was asked for: what `run_words` gives of the words.
-    ensures line { hints terminals.errors (map string_bytes words.now) ≡ false → (asked : Result Words RunFault) ×
-        ReadAs (meant terminals.input (map string_bytes words.now)) asked ×
-        (text : List ℕ) × IsInput (R.remaining input.old) text ×
-        ((Answered (run_of asked text) (W.taken output.old) (W.taken output.new) (E.taken errors.old)
-        (E.taken errors.new)
-        × EndsWith asked text result
-        × IsOfDrill asked (W.taken output.old) (W.taken output.new)) ⊎
-        Refused (run_of asked text) (W.may_fail output.old) (E.may_fail errors.old) result
-        (W.taken output.old) (W.taken output.new) (E.taken errors.old) (E.taken errors.new)) }
-    // In any case: that, and behind the line of a fault a text without control characters.
-    ensures run { (asked : Result Words RunFault) ×
-        ReadAs (meant terminals.input (map string_bytes words.now)) asked ×
-        (text : List ℕ) × IsInput (R.remaining input.old) text ×
-        ((Answered (run_of asked text) (W.taken output.old) (W.taken output.new) (E.taken errors.old)
-        (E.taken errors.new)
-        × EndsWith asked text result
-        × IsOfDrill asked (W.taken output.old) (W.taken output.new)) ⊎
-        Explained (run_of asked text) (W.may_fail output.old) (E.may_fail errors.old) result
-        (W.taken output.old) (W.taken output.new) (E.taken errors.old) (E.taken errors.new)) }
+    // No hint is asked for: what `run_words` says of the words that are meant.
+    ensures line { hints terminals.errors (map string_bytes words.now) ≡ false →
+        RanWithoutHint (meant terminals.input (map string_bytes words.now)) (R.remaining input.old)
+        (W.may_fail output.old) (E.may_fail errors.old) result (W.taken output.old) (W.taken output.new)
+        (E.taken errors.old) (E.taken errors.new) }
+    // In any case: that, but that a text without control characters may stand behind the line of a fault.
+    ensures run { RanWithHint (meant terminals.input (map string_bytes words.now)) (R.remaining input.old)
+        (W.may_fail output.old) (E.may_fail errors.old) result (W.taken output.old) (W.taken output.new)
+        (E.taken errors.old) (E.taken errors.new) }
 {
     if terminals.input && words.is_empty() {
         run_help(host, alloc, input, output, errors)

@@ -4,10 +4,22 @@ use contract_words::Text;
 use ice_command_line::{Lists, Place, Source, Words};
 use ice_desk::Files;
 use ice_manifest::Row;
-use ice_meta::Metadata;
+use ice_meta::{Metadata, Target};
 use ice_requests::{Request, read_rows};
 use ice_text::CommitRequest;
 use std::alloc::Global;
+
+/// The folder that the files of what is asked for are below.
+pub fn place_of(asked: &Words) -> Option<&Place> {
+    match asked {
+        Words::ListPlan(Lists::Folder(place, _)) => Some(place),
+        Words::Plan(Source::Folder(place), _, _, _) => Some(place),
+        Words::Commit(Source::Folder(place), _) => Some(place),
+        Words::Show(Source::Folder(place), _) => Some(place),
+        Words::Audit(Source::Folder(place), _, _, _) => Some(place),
+        _ => None,
+    }
+}
 
 /// What was asked for, and the files that it was asked of, where they can be read once more.
 #[derive(Drop)]
@@ -19,14 +31,7 @@ pub struct Case<'a, F> {
 impl<'a, F: Files> Case<'a, F> {
     /// The folder that the files are below.
     pub fn place(&self) -> Option<&'a Place> {
-        match self.asked {
-            Words::ListPlan(Lists::Folder(place, _)) => Some(place),
-            Words::Plan(Source::Folder(place), _, _, _) => Some(place),
-            Words::Commit(Source::Folder(place), _) => Some(place),
-            Words::Show(Source::Folder(place), _) => Some(place),
-            Words::Audit(Source::Folder(place), _, _, _) => Some(place),
-            _ => None,
-        }
+        place_of(self.asked)
     }
 
     /// The path of the table's metadata.
@@ -40,10 +45,19 @@ impl<'a, F: Files> Case<'a, F> {
         }
     }
 
-    /// What is asked of the table.
+    /// The plan that is asked of the table.
     pub fn request(&self) -> Option<&'a Request> {
         match self.asked {
             Words::Plan(_, request, _, _) => Some(request),
+            _ => None,
+        }
+    }
+
+    /// The snapshot that is asked for.
+    pub fn target(&self) -> Option<&'a Target> {
+        match self.asked {
+            Words::Plan(_, request, _, _) => Some(&request.target),
+            Words::Audit(_, target, _, _) => Some(target),
             _ => None,
         }
     }

@@ -10,5 +10,5 @@ mod paths;
 mod tables;
 mod telling;
 
-pub use case::Case;
+pub use case::{Case, place_of};
 pub use telling::put_hint;

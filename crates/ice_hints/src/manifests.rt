@@ -51,18 +51,21 @@ fn list_of<'a, F: Files>(case: &Case<'a, F>, metadata: &'a Option<Metadata>) -> 
     match case.asked {
         Words::ListPlan(Lists::Folder(_, list)) => Some(list.as_str()),
         Words::ListPlan(Lists::Bundle(list)) => Some(list.as_ref()?.as_str()),
-        Words::Plan(_, request, _, _) => listed(metadata, &request.target),
-        Words::Audit(_, target, _, _) => listed(metadata, target),
-        _ => None,
+        _ => listed(metadata, case.target()?),
     }
 }
 
 /// The partition spec of a row; for a list that is planned without metadata it has no fields.
-fn spec_of(alloc: Global, metadata: &Option<Metadata>, row: &Row) -> Option<Spec> {
+fn spec_of<F: Files>(
+    alloc: Global,
+    case: &Case<'_, F>,
+    metadata: &Option<Metadata>,
+    row: &Row,
+) -> Option<Spec> {
     let Some(metadata) = metadata else {
         return Some(Spec::empty(alloc, row.spec_id));
     };
-    let schema = metadata.schema_for(&Target::Main);
+    let schema = metadata.schema_for(case.target()?);
     metadata.spec(alloc, row.spec_id, schema).ok()?
 }
 
@@ -108,7 +111,7 @@ fn add_place<F: Files>(
     let Some(row) = row_at(alloc, case, &metadata, path) else {
         return Ok(());
     };
-    let Some(spec) = spec_of(alloc, &metadata, &row) else {
+    let Some(spec) = spec_of(alloc, case, &metadata, &row) else {
         return Ok(());
     };
     match case.read(alloc, path.as_str()) {

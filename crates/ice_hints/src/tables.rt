@@ -117,9 +117,9 @@ pub fn add_metadata<F: Files>(
     };
     let name = quoted(alloc, path)?;
     hint.here(alloc, format!(in alloc; "the metadata is {name}")?)?;
-    match (fault, case.request(), case.metadata(alloc)) {
-        (MetaFault::NoSuchRef | MetaFault::NoSuchSnapshot, Some(request), Some(metadata)) => {
-            add_target(hint, alloc, &request.target, &metadata)
+    match (fault, case.target(), case.metadata(alloc)) {
+        (MetaFault::NoSuchRef | MetaFault::NoSuchSnapshot, Some(target), Some(metadata)) => {
+            add_target(hint, alloc, target, &metadata)
         }
         (MetaFault::NotJson, _, _) => add_compression(hint, alloc, case, path),
         _ => Ok(()),
