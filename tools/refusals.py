@@ -165,6 +165,8 @@ def metadata(cases):
     cases.plan("M5 UnknownType int8", "int8.json", table(schemas=[odd]))
     cases.plan("M6 NoSuchRef", "table.json", table(), "--ref", "relase")
     cases.plan("M7 NoSuchSnapshot", "table.json", table(), "--snapshot", "6")
+    cases.add("M6 NoSuchRef", ["audit", "--ref", "dayly", "mem://t/table.json"])
+    cases.add("M7 NoSuchSnapshot", ["audit", "--snapshot", "6", "mem://t/table.json"])
     cases.plan("M8 NoSnapshot", "empty.json", table(**{"current-snapshot-id": -1, "snapshots": [], "refs": {}, "snapshot-log": []}))
     cases.plan("M9 IdTwice 0", "id_twice.json", table(schemas=[schema, schema]))
     cases.plan("M11 Dangling default-spec-id", "dangling.json", table(**{"default-spec-id": 9}))
