@@ -6,7 +6,8 @@ differs; status 1 then. A row `as above` or `the same` is that of the row above 
 make: writes a table with what each refusal needs into a new folder.
 lines: prints the words of a command for each refusal, with a tab between two, as crates/icescan_runs/stdin has them.
 play: runs PROGRAM once for each refusal with a pseudo-terminal as standard error, over such a folder, and prints what it wrote;
-status 1 where a line is not the one that is wanted, no hint stands behind it, or a control character is in it.
+status 1 where a line is not the one that is wanted, no hint stands behind it, or a control character is in it. Then without words
+and with a terminal as standard input, where it has to show its help.
 
 Not here: K11 and N11, which take a million files and 65,537 rows; the drill's two, Z1 and want of memory, which no files lead to.
 """
@@ -328,6 +329,17 @@ def played(program, words, stdin, folder):
     return shown.replace(b"\r\n", b"\n")
 
 
+def shows_help(program):
+    """Whether no words show the help where standard input is a terminal, and are read as a bundle's plan where it is none."""
+    ours, theirs = pty.openpty()
+    typed = subprocess.run([program], stdin=theirs, capture_output=True)
+    os.close(theirs)
+    os.close(ours)
+    helped = subprocess.run([program, "--help"], stdin=subprocess.DEVNULL, capture_output=True)
+    piped = subprocess.run([program], stdin=subprocess.DEVNULL, capture_output=True)
+    return (typed.stdout, typed.returncode) == (helped.stdout, 0) and piped.stderr == b"icescan: B1 Bundle 1\n"
+
+
 def play(program):
     program = os.path.abspath(program)
     bad = 0
@@ -343,6 +355,9 @@ def play(program):
             print(shown.decode(errors="backslashreplace") + "".join(f"FAULT: {why}\n" for why in faults))
             bad += bool(faults)
     print(f"{len(cases.commands)} refusals, {bad} not as they should be")
+    if not shows_help(program):
+        print("FAULT: no words don't show the help on a terminal, or do in a pipe")
+        bad += 1
     return bad
 
 

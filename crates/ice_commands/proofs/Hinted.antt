@@ -1,11 +1,15 @@
--- A fault that is told without a hint.
-use Rattle.std.proofs.Common.{◌⊎◌, ℕ, List, Option, inl, inr}
+-- Runs of the program with hints and without.
+use Rattle.std.proofs.Common.{◌≡◌, ◌⊎◌, ℕ, Bool, true, false, List, [], ◌∷◌, Option, refl, inl, inr}
 use Rattle.std.specs.Prelude.{Result}
 use Rattle.ice_hint_lines.proofs.Plain.{nothing_plain}
 use Rattle.ice_text.specs.declared.fault.RunFault.{RunFault}
-use Rattle.ice_commands.specs.Runs.{Explained, Refused}
+use Rattle.ice_commands.specs.Runs.{Explained, RanWithHint, RanWithoutHint, Refused, Told, ToldWithHint, meant, run_of}
 
-pub hinted : (known : Option (Result (List ℕ) RunFault)) (w t : Type 0) (status : ℕ) (o o' e e' : Option (List ℕ))
+-- a fault that is told without a hint
+pub plainly : (w : Type 0) (e e' : Option (List ℕ)) (fault : RunFault) → Told w e e' fault → ToldWithHint w e e' fault
+plainly w e e' fault told = record { between = e'; line = told; hint = nothing_plain e' }
+
+hinted : (known : Option (Result (List ℕ) RunFault)) (w t : Type 0) (status : ℕ) (o o' e e' : Option (List ℕ))
     → Refused known w t status o o' e e' → Explained known w t status o o' e e'
 hinted known w t status o o' e e' r = record {
   fault = r.fault;
@@ -13,10 +17,24 @@ hinted known w t status o o' e e' r = record {
   status_is = r.status_is;
   nothing = r.nothing;
   front = r.front;
-  told = record { between = e'; line = r.told; hint = nothing_plain e' };
+  told = plainly t e e' r.fault r.told;
 }
 
-pub or_hinted : {A : Type 0} (known : Option (Result (List ℕ) RunFault)) (w t : Type 0) (status : ℕ)
+or_hinted : {A : Type 0} (known : Option (Result (List ℕ) RunFault)) (w t : Type 0) (status : ℕ)
     (o o' e e' : Option (List ℕ)) → A ⊎ Refused known w t status o o' e e' → A ⊎ Explained known w t status o o' e e'
 or_hinted known w t status o o' e e' (inl a) = inl a
 or_hinted known w t status o o' e e' (inr r) = inr (hinted known w t status o o' e e' r)
+
+-- no hint is a hint without lines
+pub with_hint : (texts : List (List ℕ)) (left : Option (List ℕ)) (w t : Type 0) (status : ℕ)
+    (o o' e e' : Option (List ℕ)) → RanWithoutHint texts left w t status o o' e e'
+    → RanWithHint texts left w t status o o' e e'
+with_hint texts left w t status o o' e e' r =
+    (r.0, r.1, r.2, r.3, or_hinted (run_of r.0 r.2) w t status o o' e e' r.4)
+
+-- words mean what they are but for none on a terminal
+pub meant_same : (input : Bool) (texts : List (List ℕ)) → (input ≡ true → texts ≡ [] → ⊥) → meant input texts ≡ texts
+meant_same true [] some = absurd (some refl refl)
+meant_same true (text ∷ texts) some = refl
+meant_same false [] some = refl
+meant_same false (text ∷ texts) some = refl

@@ -61,7 +61,7 @@ fn run_explained<H, R: Read, W: Sink, E: Sink>(
 ) -> u8
 where
     H: Files<File: Send, Dir: Send> + Threads + Wait + Watch + Sync,
-    ensures run { RanWithHint (map string_bytes words.now) (R.remaining input.old) (W.may_fail output.old)
+    ensures { RanWithHint (map string_bytes words.now) (R.remaining input.old) (W.may_fail output.old)
         (E.may_fail errors.old) result (W.taken output.old) (W.taken output.new) (E.taken errors.old)
         (E.taken errors.new) }
 {
@@ -93,7 +93,7 @@ fn run_help<H, R: Read, W: Sink, E: Sink>(
 ) -> u8
 where
     H: Files<File: Send, Dir: Send> + Threads + Wait + Watch + Sync,
-    ensures run { RanWithoutHint (codes "--help" ∷ []) (R.remaining input.old) (W.may_fail output.old)
+    ensures { RanWithoutHint (codes "--help" ∷ []) (R.remaining input.old) (W.may_fail output.old)
         (E.may_fail errors.old) result (W.taken output.old) (W.taken output.new) (E.taken errors.old)
         (E.taken errors.new) }
 {
