@@ -1,6 +1,7 @@
 -- Runs of the program with hints and without.
-use Rattle.std.proofs.Common.{◌≡◌, ◌⊎◌, ℕ, Bool, true, false, List, [], ◌∷◌, Option, refl, inl, inr}
-use Rattle.std.specs.Prelude.{Result}
+use Rattle.std.proofs.Common.{◌≡◌, ◌⊎◌, ℕ, Bool, true, false, List, [], ◌∷◌, Option, refl, inl, inr, map, length, codes, arith}
+use Rattle.std.specs.Prelude.{◌==◌, Result}
+use Rattle.std.proofs.lemmas.Bool.Decides.{nat_tests}
 use Rattle.ice_hint_lines.proofs.Plain.{nothing_plain}
 use Rattle.ice_text.specs.declared.fault.RunFault.{RunFault}
 use Rattle.ice_commands.specs.Runs.{Explained, RanWithHint, RanWithoutHint, Refused, Told, ToldWithHint, meant, run_of}
@@ -32,9 +33,24 @@ pub with_hint : (texts : List (List ℕ)) (left : Option (List ℕ)) (w t : Type
 with_hint texts left w t status o o' e e' r =
     (r.0, r.1, r.2, r.3, or_hinted (run_of r.0 r.2) w t status o o' e e' r.4)
 
--- words mean what they are but for none on a terminal
-pub meant_same : (input : Bool) (texts : List (List ℕ)) → (input ≡ true → texts ≡ [] → ⊥) → meant input texts ≡ texts
-meant_same true [] some = absurd (some refl refl)
-meant_same true (text ∷ texts) some = refl
-meant_same false [] some = refl
-meant_same false (text ∷ texts) some = refl
+-- no words on a terminal are those of the help
+pub meant_help : {X : Type 0} (f : X → List ℕ) (input none : Bool) (words : List X) → input ≡ true
+    → none ≡ (length words == 0) → none ≡ true → meant input (map f words) ≡ codes "--help" ∷ []
+meant_help f true none [] typed is empty = refl
+meant_help f true none (word ∷ words) typed is empty = absurd (grind (arith, nat_tests))
+meant_help f false none words typed is empty = absurd cc
+
+-- all others mean what they are
+pub meant_words : {X : Type 0} (f : X → List ℕ) (input none : Bool) (words : List X) → none ≡ (length words == 0)
+    → none ≡ false → meant input (map f words) ≡ map f words
+meant_words f true none [] is some = absurd (grind (arith, nat_tests))
+meant_words f true none (word ∷ words) is some = refl
+meant_words f false none [] is some = refl
+meant_words f false none (word ∷ words) is some = refl
+
+-- where standard input is no terminal, all words do
+pub meant_piped : {X : Type 0} (f : X → List ℕ) (input : Bool) (words : List X) → input ≡ false
+    → meant input (map f words) ≡ map f words
+meant_piped f true words piped = absurd cc
+meant_piped f false [] piped = refl
+meant_piped f false (word ∷ words) piped = refl

@@ -8,6 +8,7 @@ use crate::words::{files_of, run_asked, run_words, status_of_count};
 use ice_command_line::{Words, parse_words};
 use ice_drill::Watch;
 use ice_hints::{Case, place_of, put_hint};
+use ice_requests::Folder;
 use ice_text::{RunFault, Sink, report};
 use std::alloc::{AllocError, Global};
 use std::io::Read;
@@ -29,6 +30,12 @@ fn asks_hints(words: &[String]) -> bool
     words.iter().any(|word| word.as_str() == "--explain")
 }
 
+/// The files of what is asked for, where they are below a folder.
+fn folder_of<'a, H: Files>(host: &'a H, asked: &'a Words) -> Option<Folder<'a, H>> {
+    let place = place_of(asked)?;
+    Some(files_of(host, place))
+}
+
 /// Writes the line of a fault and its hint, and gives the status that the program ends with.
 fn explain<H: Files, E: Sink>(
     host: &H,
@@ -41,7 +48,7 @@ fn explain<H: Files, E: Sink>(
     ensures told { ToldWithHint (E.may_fail errors.old) (E.taken errors.old) (E.taken errors.new) fault.now }
 {
     let status = report(fault, errors);
-    let files = place_of(asked).map(|place| files_of(host, place));
+    let files = folder_of(host, asked);
     let case = Case {
         asked,
         files: files.as_ref(),

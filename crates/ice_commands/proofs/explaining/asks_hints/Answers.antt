@@ -14,5 +14,5 @@ list_any-map p f (x ∷ xs) = ap (λ b. p (f x) || b) (list_any-map p f xs)
 pub returns : goal.returns
 returns c =
     any_from_yields_List (λ word. bytes_eq (string_bytes word) (codes "--explain")) _ _ c.any.result c.any.ensures.ran
-        (YieldsList-from_slice c.args.words.now cc) (λ x b q k. search (rules, tests))
+    (YieldsList-from_slice c.args.words.now cc) (λ x b q k. search (rules, tests))
     ∙ sym (list_any-map (λ word. bytes_eq word (codes "--explain")) string_bytes c.args.words.now)

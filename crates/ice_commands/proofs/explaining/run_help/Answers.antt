@@ -7,9 +7,10 @@ use Rattle.ice_commands.proofs.explaining.run_help.Goals as goal
 
 pub returns-in-Ok : goal.returns-in-Ok
 returns-in-Ok g c =
-    subst (λ texts. RanWithoutHint texts (g.R.Read.remaining c.args.input.now) (g.W.Sink.may_fail c.args.output.now)
-        (g.E.Sink.may_fail c.args.errors.now) c.run_words.result (g.W.Sink.taken c.args.output.now) _
-        (g.E.Sink.taken c.args.errors.now) _) c.in-Ok.ensures c.run_words.ensures.run
+    subst (λ texts. RanWithoutHint texts (g.R.Read.remaining c.args.input.now)
+    (g.W.Sink.may_fail c.args.output.now) (g.E.Sink.may_fail c.args.errors.now) c.run_words.result
+    (g.W.Sink.taken c.args.output.now) (g.W.Sink.taken c.run_words.new.output) (g.E.Sink.taken c.args.errors.now)
+    (g.E.Sink.taken c.run_words.new.errors)) c.in-Ok.ensures c.run_words.ensures.run
 
 pub returns-in-Err : goal.returns-in-Err
 returns-in-Err g c =
