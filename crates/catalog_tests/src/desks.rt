@@ -2,6 +2,7 @@
 
 mod draws;
 mod plans;
+mod refusals;
 mod runs;
 mod seats;
 mod table;

@@ -4,6 +4,7 @@ ghost use Rattle.std.specs.Prelude.{◌≡◌, [], IfOk};
 
 mod machine;
 mod names;
+mod refusals;
 mod seats;
 mod threads;
 

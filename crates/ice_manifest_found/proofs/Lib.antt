@@ -5,3 +5,5 @@ pub mod Shown
 pub mod Schemas
 pub mod RowsShown
 pub mod SoundMaps
+pub mod Within
+pub mod Coming

@@ -1,14 +1,13 @@
 -- Where the type of a map allows no pair to be at fault, none is.
 use Rattle.std.proofs.Common.{◌≡◌, ℕ, zero, suc, ◌/◌, ◌%◌, ◌^◌, ◌<◌, ℤ, pos, negsuc, Bool, true, false, cond, ◌&&◌, eqb, ltb}
-use Rattle.std.proofs.Common.{List, [], ◌∷◌, ◌++◌, Option, Some, None, Result, Ok, Err, refl, sym, ap, subst, ◌∙◌, arith}
+use Rattle.std.proofs.Common.{List, [], ◌∷◌, ◌++◌, Option, Some, None, Result, Ok, refl, sym, ap, subst, ◌∙◌, arith}
 use Rattle.std.specs.Ordering.{int_eq}
 use Rattle.std.specs.Option.{option_eq}
 use Rattle.std.proofs.lemmas.Bool.{lt-ltb}
-use Rattle.contract_words.specs.Outcome.{◌>>=◌}
-use Rattle.avro_parts.specs.Number.{IsLong, IsInt, signed_of}
+use Rattle.avro_parts.specs.Number.{IsInt}
 use Rattle.avro_schema.specs.Tree.{Tree, null, boolean, int, long, float, double, symbols, octets, string, fixed}
 use Rattle.avro_schema.specs.Tree.{structure, array, map, union, Fields, no_fields, field}
-use Rattle.avro_file.specs.Value.{Value, small, whole, run, fields, items, Values, values_of}
+use Rattle.avro_file.specs.Value.{Value, small, fields, values_of}
 use Rattle.avro_file.specs.Spelling.{AreJoined, AreBlocks, Spells, SpellsFields}
 use Rattle.avro_schema.specs.View.{tree}
 use Rattle.avro_file.specs.Blocks.{max_items}
@@ -24,7 +23,7 @@ use Rattle.ice_manifest_fields.specs.declared.kind.Kind.TheVariants as kind
 use Rattle.ice_manifest_fields.specs.declared.fault.FieldFault.{FieldFault}
 use Rattle.ice_manifest_fields.specs.Types.{is_whole, is_binary}
 use Rattle.ice_manifest_fields.specs.Each.{each}
-use Rattle.ice_manifest_fields.specs.Schemas.{fields_in, type_at}
+use Rattle.ice_manifest_fields.specs.Schemas.{type_at}
 use Rattle.ice_manifest_fields.specs.Fields.{int_at, within_32, items_as, items_of, there, whole_of}
 use Rattle.ice_manifest_fields.specs.Fields.{binary_of}
 use Rattle.ice_manifest_fields.specs.Maps.{count_in, count_of, bound_in, bound_of}

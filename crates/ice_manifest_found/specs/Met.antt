@@ -1,7 +1,7 @@
 -- What was met where a way of field ids leads, as the field that it is: what a manifest list's row or a manifest's entry
 -- must have there, or may.
 -- Apache Iceberg table spec v2, 'Manifests' and 'Column Projection'.
-use Rattle.std.specs.Prelude.{◌≡◌, ◌≢◌, ℕ, ℤ, List, Bool, Option, Result, Ok, Err, is_some}
+use Rattle.std.specs.Prelude.{◌≡◌, ◌≢◌, ℕ, ℤ, List, Option, Result, Ok, Err}
 use Rattle.contract_words.specs.Outcome.{◌>>=◌}
 use Rattle.avro_file.specs.Picking.{Typed, Picked}
 use Rattle.ice_value.specs.Columns.{ColumnCount, ColumnBound}

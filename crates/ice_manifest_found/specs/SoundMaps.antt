@@ -1,5 +1,5 @@
 -- Maps of columns of which no pair can be at fault, whatever they hold.
-use Rattle.std.specs.Prelude.{Bool, true, false, ◌&&◌, Option, Some, None}
+use Rattle.std.specs.Prelude.{Bool, true, false, ◌&&◌, Option, Some}
 use Rattle.avro_schema.specs.Tree.{Tree, int, array}
 use Rattle.ice_manifest_fields.specs.declared.columns.ColumnMap.{ColumnMap}
 use Rattle.ice_manifest_fields.specs.declared.kind.Kind.{Kind}

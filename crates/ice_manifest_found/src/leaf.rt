@@ -1,31 +1,51 @@
 //! What a found value is, read from its bytes.
 
-ghost use Rattle.std.specs.Prelude.{◌≡◌};
+ghost use Rattle.std.specs.Prelude.{◌≡◌, Option, Some};
 ghost use Rattle.std.specs.Option.{option_copied};
-ghost use Rattle.avro_file.specs.Picking.{Picked};
+ghost use Rattle.avro_schema.specs.View.{tree};
+ghost use Rattle.avro_file.specs.Value.{Value};
+ghost use Rattle.avro_file.specs.Blocks.{StandsAt};
+ghost use Rattle.avro_file.specs.Picking.{Typed, Picked};
 ghost use Rattle.avro_picked.specs.Finding.{IsMet};
 ghost use Rattle.ice_manifest_fields.specs.Fields.{there, whole_of, text_of};
+ghost use Rattle.ice_manifest_found.specs.InPlace.{IsThere};
 
+use crate::standing::Standing;
 use avro_parts::{int_of, long_of, text_of as text_at};
 use avro_picked::Found;
 use avro_schema::Schema;
+
+/// The whole number of either width that stands there; none where anything else does.
+fn whole_at(schema: &Schema, bytes: &[u8]) -> Option<i64>
+    ensures { (v : Value) → StandsAt (tree schema.now) bytes.now v → result ≡ whole_of (Some (tree schema.now, v)) }
+{
+    match schema {
+        Schema::Int => match int_of(bytes) {
+            Ok((number, _)) => Some(i64::from(number)),
+            Err(_) => None,
+        },
+        Schema::Long => match long_of(bytes) {
+            Ok((number, _)) => Some(number),
+            Err(_) => None,
+        },
+        _ => None,
+    }
+}
 
 /// The whole number that was found, of either width; none where nothing or anything else was.
 pub fn whole(found: Option<Found<'_, '_>>) -> Option<i64>
     ensures { (met : Picked) → IsMet found.entry met → result ≡ whole_of (there met) }
 {
     let found = found?;
-    match found.schema() {
-        Schema::Int => match int_of(found.bytes()) {
-            Ok((number, _)) => Some(i64::from(number)),
-            Err(_) => None,
-        },
-        Schema::Long => match long_of(found.bytes()) {
-            Ok((number, _)) => Some(number),
-            Err(_) => None,
-        },
-        _ => None,
-    }
+    whole_at(found.schema(), found.bytes())
+}
+
+/// The whole number that stands there, of either width; none where nothing or anything else does.
+pub fn whole_there(found: Option<Standing<'_, '_>>) -> Option<i64>
+    ensures { (x : Option Typed) → IsThere found.entry x → result ≡ whole_of x }
+{
+    let found = found?;
+    whole_at(found.schema, found.bytes)
 }
 
 /// The text that was found, lent from the file; none where nothing or anything else was.

@@ -3,16 +3,20 @@
 #![tactic(auto)]
 
 mod field;
+mod items;
 mod leaf;
 mod list;
 mod maps;
 mod row;
 mod row_field;
 mod sound;
+mod standing;
 
 pub use field::{int_asked, long_asked, optional_number, optional_path, path_asked};
-pub use leaf::whole;
+pub use items::{ItemsAhead, items_of};
+pub use leaf::{whole, whole_there};
 pub use list::ints;
 pub use maps::{FoundMaps, ReadMaps};
 pub use row::FoundRow;
 pub use row_field::{RowField, row_layout};
+pub use standing::{Standing, field_of};

@@ -142,3 +142,22 @@ fn at_most_65536_rows(rt: HostRuntime) -> Result<(), Fail> {
     }
     Ok(())
 }
+
+/// The first difference of a transcript, looked for again where a growth was refused.
+fn difference_at_last(alloc: Global, transcript: &str) -> Result<String, AllocError> {
+    match difference(alloc, transcript) {
+        Ok(found) if !found.as_str().ends_with(" | Memory") => Ok(found),
+        _ => difference(alloc, transcript),
+    }
+}
+
+/// Run with each allocation refused in turn, by `tools/refuse --test`: a list or a manifest is refused for want of memory
+/// or read as with ample memory, and when it is read again it has its outcome.
+#[test]
+fn a_refused_growth_changes_no_outcome(rt: HostRuntime) -> Result<(), Fail> {
+    for transcript in [ROWS, ENTRIES, TUPLES, REFERENCED] {
+        let found = difference_at_last(rt.alloc(), transcript)?;
+        assert_eq!(rt; found.as_str(), "");
+    }
+    Ok(())
+}

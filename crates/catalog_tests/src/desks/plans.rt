@@ -45,7 +45,7 @@ const CASES: [Case; 14] = [
 const NO_CASE: Case = ([false, false, false], 0, 0, 0, 0, "workers");
 
 /// Whether a plan, or why there is none, is this in words.
-fn is_so(planned: &Result<OwnedPlan, PlanFault>, words: &str) -> bool {
+pub fn is_so(planned: &Result<OwnedPlan, PlanFault>, words: &str) -> bool {
     match planned {
         Ok(plan) => is_plan(words, &plan.lines()),
         Err(PlanFault::Absent(path)) => is_path(words, "absent ", path.as_str()),

@@ -10,7 +10,7 @@ use ice_state::FinishFault;
 use std::alloc::Global;
 
 /// A table of one int column, with a snapshot.
-const METADATA: &[u8] =
+pub const METADATA: &[u8] =
     br#"{"format-version":2,"table-uuid":"f79c3e09-677c-4bbd-a479-3f349cb785e7","location":"mem://t",
 "last-sequence-number":4,"last-updated-ms":0,"last-column-id":1,"schemas":[{"type":"struct","schema-id":0,"fields":[
 {"id":1,"name":"c","required":false,"type":"int"}]}],"current-schema-id":0,"partition-specs":[{"spec-id":0,"fields":[]}],
@@ -37,7 +37,7 @@ fn most_files(alloc: Global) -> Option<World> {
 }
 
 /// The list and its manifests.
-fn all_files(alloc: Global) -> Option<World> {
+pub fn all_files(alloc: Global) -> Option<World> {
     let mut world = most_files(alloc)?;
     world.put(PATHS[1], manifest(alloc, 1).ok()?).ok()?;
     Some(world)

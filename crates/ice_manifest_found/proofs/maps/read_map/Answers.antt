@@ -1,6 +1,5 @@
-use Rattle.std.proofs.Common.{◌≡◌, Option, Some, ap, subst}
+use Rattle.std.proofs.Common.{Option, Some, ap, subst}
 use Rattle.avro_schema.specs.View.{tree}
-use Rattle.avro_file.specs.Picking.{Picked}
 use Rattle.avro_picked.specs.declared.found.Found.{Found}
 use Rattle.avro_picked.specs.Finding.{IsMet}
 use Rattle.avro_file.specs.View.{view}

@@ -47,16 +47,16 @@ returns-clause-answers g c =
     let is = plan_there f w world c.args.listed.specs.items c.args.listed.filter.parts c.args.listed.rows.items scan
     c.in_ok-scan.ensures present lines (c.in_ok-plan.ensures.outcome world told) in
     record {
-      written = on_ok_weaker c.write_plan.result (λ all. (lines, is, all))
-          (rw c.lines.ensures at c.write_plan.ensures.all);
-      refused = write_ends c.write_plan.result _ _ w c.write_plan.ensures.causes c.write_plan.ensures.cause;
-      front = λ failed. (lines, is, rw c.lines.ensures at (c.write_plan.ensures.front failed));
+      written = on_ok_weaker c.write_plan_by_workers.result (λ all. (lines, is, all))
+          (rw c.lines.ensures at c.write_plan_by_workers.ensures.all);
+      refused = write_ends c.write_plan_by_workers.result _ _ w c.write_plan_by_workers.ensures.causes c.write_plan_by_workers.ensures.cause;
+      front = λ failed. (lines, is, rw c.lines.ensures at (c.write_plan_by_workers.ensures.front failed));
     }
 
 pub returns-clause-text : goal.returns-clause-text
 returns-clause-text g c =
     let plan = c.in_ok-plan.plan in
     record {
-      all = on_ok_weaker c.write_plan.result (λ all. (plan, all)) (rw c.lines.ensures at c.write_plan.ensures.all);
-      front = λ failed. (plan, rw c.lines.ensures at (c.write_plan.ensures.front failed));
+      all = on_ok_weaker c.write_plan_by_workers.result (λ all. (plan, all)) (rw c.lines.ensures at c.write_plan_by_workers.ensures.all);
+      front = λ failed. (plan, rw c.lines.ensures at (c.write_plan_by_workers.ensures.front failed));
     }

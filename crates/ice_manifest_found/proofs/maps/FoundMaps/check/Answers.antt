@@ -1,10 +1,10 @@
-use Rattle.std.proofs.Common.{◌≡◌, Result, Ok, Err, refl, ap}
+use Rattle.std.proofs.Common.{◌≡◌, Result, Ok, Err, ap}
 use Rattle.contract_words.specs.Outcome.{◌>>=◌}
 use Rattle.ice_manifest_fields.specs.declared.fault.FieldFault.{FieldFault}
 use Rattle.ice_manifest_fields.specs.declared.fault.ManifestFault.{ManifestFault}
 use Rattle.ice_manifest_fields.specs.ColumnMaps.{upper_bounds}
 use Rattle.ice_manifest_fields.specs.Fields.{there}
-use Rattle.ice_manifest_fields.specs.Naming.{in_manifest, told}
+use Rattle.ice_manifest_fields.specs.Naming.{in_manifest}
 use Rattle.ice_manifest_found.specs.Met.{bounds_in, columns_met, Checks}
 use Rattle.ice_manifest_found.proofs.maps.FoundMaps.check.Goals as goal
 
