@@ -195,7 +195,8 @@ untold_ran w (Err e) o o' h = record { written = tt; refused = tt; nothing = h; 
 
 -- a command that tells of no findings ran as it ran
 pub ran_as : (known : Option (Result (List ℕ) RunFault)) (w : Type 0) (r : Result Unit RunFault)
-    (counted : Result ℕ RunFault) (o o' : Option (List ℕ)) → ended counted ≡ r → Ran known w r o o' → Ran known w (ended counted) o o'
+    (counted : Result ℕ RunFault) (o o' : Option (List ℕ)) → ended counted ≡ r → Ran known w r o o'
+    → Ran known w (ended counted) o o'
 ran_as known w r counted o o' is h = subst (λ x. Ran known w x o o') (sym is) h
 
 pub on_ok_as : (P : Type 0) (r : Result Unit RunFault) (counted : Result ℕ RunFault) → ended counted ≡ r → OnOk r P

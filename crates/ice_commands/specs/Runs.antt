@@ -144,10 +144,10 @@ pub record Ran (known : Option (Result (List ℕ) RunFault)) (write_may_fail : T
   pub front : IsErrOf result run.Write → IfSome known (λ read. WroteFront read output output')
 
 -- the program ended without a fault: it wrote the text to its output
-pub record Answered (known : Option (Result (List ℕ) RunFault)) (output output' errors errors' : Option (List ℕ)) : Type 0
-  where
-    pub written : IfSome known (λ read. WroteText read output output')
-    pub silent : errors' ≡ errors
+pub record Answered (known : Option (Result (List ℕ) RunFault))
+    (output output' errors errors' : Option (List ℕ)) : Type 0 where
+  pub written : IfSome known (λ read. WroteText read output output')
+  pub silent : errors' ≡ errors
 
 -- a fault was told: its whole line was written where no write of it may fail, else a front of it
 pub record Told (write_may_fail : Type 0) (errors errors' : Option (List ℕ)) (fault : RunFault) : Type 0 where

@@ -4,7 +4,6 @@ use Rattle.std.proofs.lemmas.Result.{err_from_is_err_and, IfErr-weaker, IfOk-wea
 use Rattle.ice_audit_run.proofs.Premise.{true_at}
 use Rattle.ice_audit_run.proofs.Steps.{audit_behind, ends_behind, no_metadata, no_workers}
 use Rattle.ice_audit_run.proofs.running.audit_file.Goals.{then-workers-eq0-via-then-workers-eq0}
-use Rattle.ice_audit_run.proofs.running.audit_file.Goals.{then-workers-eq0-via-else-workers-eq0+then-workers-gt-MOST_WORKERS}
 use Rattle.ice_audit_run.proofs.running.audit_file.Goals as goal
 
 pub returns-in_err-metadata-clause-refused : goal.returns-in_err-metadata-clause-refused
@@ -18,7 +17,7 @@ pub returns-then-workers-eq0-clause-refused : goal.returns-then-workers-eq0-clau
 returns-then-workers-eq0-clause-refused g c =
     let out : (c.args.workers ≡ 0) ⊎ (64 < c.args.workers) = elim c.then-workers-eq0.branch [
       | then-workers-eq0-via-then-workers-eq0 w ↦ inl (omega (arith, w.if-workers-eq0.true))
-      | then-workers-eq0-via-else-workers-eq0+then-workers-gt-MOST_WORKERS w ↦
+      | goal.then-workers-eq0-via-else-workers-eq0+then-workers-gt-MOST_WORKERS w ↦
           inr (omega (arith, w.if-workers-gt-MOST_WORKERS.true))
     ] in
     λ world told.
