@@ -145,7 +145,7 @@ class Cases:
 
 
 def filters(cases):
-    for line, word in [("F1 Syntax 17", "c = 42 and price or"), ("F1 Syntax 4", "c = "), ("F1 Syntax 5", "c\t\u00e4=1"),
+    for line, word in [("F1 Syntax 17", "c = 42 and price or"), ("F1 Syntax 4", "c = "), ("F1 Syntax 11", "c\t= '\u00e4' or"),
                        ("F2 NoSuchColumn", "categry = 'books'"), ("F2 NoSuchColumn", "place.town = 'x'"),
                        ("F2 NoSuchColumn", "unheard_of\x1b[31m is null".replace("unheard_of\x1b[31m", "\"un\x1b[31m\"")),
                        ("F3 WrongLiteral", "c = 99999999999"), ("F4 NotComparable", "price > 1 and c = 1"),

@@ -66,7 +66,7 @@ fn add_word<F: Files>(
         Words::ListPlan(Lists::Bundle(None)) => hint.here(
             alloc,
             format!(in alloc;
-                "without a word icescan reads a bundle; `icescan --help` shows the commands"
+                "`list-plan --bundle`, and no word at all, read a bundle; `icescan --help` shows the commands"
             )?,
         ),
         Words::Plan(_, _, workers, _) | Words::Audit(_, _, workers, _) => {
