@@ -38,7 +38,8 @@ fn add_here<F: Files>(
         RunFault::Prepare(fault) => add_commit(hint, alloc, case, fault),
         RunFault::Conflict(path) => add_taken(hint, alloc, case, path.as_str()),
         RunFault::Write => add_unwritten(hint, alloc, case),
-        RunFault::Bundle(_) | RunFault::Workers => add_word(hint, alloc, case),
+        RunFault::Bundle(_) => add_bundle(hint, alloc, case),
+        RunFault::Workers => add_workers(hint, alloc, case),
         _ => Ok(()),
     }
 }
@@ -56,8 +57,8 @@ fn add_taken<F: Files>(
     }
 }
 
-/// Adds which of the words is refused.
-fn add_word<F: Files>(
+/// Adds how a bundle came to be read, where no word says so.
+fn add_bundle<F: Files>(
     hint: &mut Hint,
     alloc: Global,
     case: &Case<'_, F>,
@@ -69,6 +70,17 @@ fn add_word<F: Files>(
                 "`list-plan --bundle`, and no word at all, read a bundle; `icescan --help` shows the commands"
             )?,
         ),
+        _ => Ok(()),
+    }
+}
+
+/// Adds how many workers are asked for.
+fn add_workers<F: Files>(
+    hint: &mut Hint,
+    alloc: Global,
+    case: &Case<'_, F>,
+) -> Result<(), AllocError> {
+    match case.asked {
         Words::Plan(_, _, workers, _) | Words::Audit(_, _, workers, _) => {
             hint.here(alloc, format!(in alloc; "`--workers` is {workers}")?)
         }
