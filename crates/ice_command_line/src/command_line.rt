@@ -49,6 +49,8 @@ pub enum Words {
     Commit(Source, CommitRequest),
     /// The text of the metadata at this path.
     Show(Source, Text),
+    /// The audit, by so many workers, of this snapshot of the table whose metadata is at this path.
+    Audit(Source, Target, usize, Text),
     /// A drill.
     Drill(Drill),
     /// A text of help, or the version.
@@ -99,6 +101,26 @@ const SHOW_EXAMPLE: &str = "Example, at the top of icescan's repository:
 
 Exit status: 0 done, 1 the metadata is refused, 2 the command line or the bundle is, 3 a read or a write failed,
 5 memory ran out. A refusal is one line on standard error.";
+
+const AUDIT_EXAMPLE: &str =
+    "Every manifest of the snapshot is read, also those that no filter wants. A line for each finding names what is
+wrong, the manifest and, where it is about one entry, its file; the last line has the numbers of manifests, live entries
+and findings:
+  live-files   the manifest has another number of live files than the manifest list counts, added and existing ones
+  live-rows    its live files have another number of rows than the manifest list counts
+  uncovered    the manifest list's summary of this partition field does not cover the file's value: a plan under a
+               filter may lose the file
+  below-least  the file's sequence number is below the least one that the manifest list names
+  above-last   the file's sequence number is above the table's last
+  no-column    the file deletes by a column of this id, which the schema lacks
+Where no finding is `uncovered`, the plan under any filter is that of all manifests of the snapshot.
+
+Example, at the top of icescan's repository:
+  icescan audit --dir examples/events-java/table --prefix s3://warehouse/db/events \\
+    s3://warehouse/db/events/metadata/00009-ea5012f5-592b-59fd-6564-e953f439e682.metadata.json
+
+Exit status: 0 nothing found, 1 there are findings, or the table is refused, 2 the command line or the bundle is, 3 a
+read or a write failed, 5 memory ran out. A refusal is one line on standard error.";
 
 const DRILL_EXAMPLE: &str =
     "Each thread appends one file in each of its commits, and tries again on the newer version where another commit came
@@ -212,21 +234,36 @@ fn list_plan_command<'a>(alloc: Global) -> Result<Command<'a>, AllocError> {
     with_source(alloc, command)
 }
 
-/// The options that say what is asked of a table: at most one of the two ways to name a snapshot.
-fn with_request<'a>(alloc: Global, command: Command<'a>) -> Result<Command<'a>, AllocError> {
+/// The options that name a snapshot, at most one of the two ways, with what they are for.
+fn with_target<'a>(
+    alloc: Global,
+    command: Command<'a>,
+    by_name: &'a str,
+    by_id: &'a str,
+) -> Result<Command<'a>, AllocError> {
     let named = Arg::new(alloc, "ref")
         .long("ref")
         .value_name("NAME")
         .conflicts_with("snapshot")?
-        .help("Plan the snapshot of this branch or tag, and not the current one");
+        .help(by_name);
     let command = command.arg(named)?;
     let snapshot = Arg::new(alloc, "snapshot")
         .long("snapshot")
         .value_name("ID")
         .value_parser(value_parser!(i64))
         .allow_negative_numbers(true)
-        .help("Plan the snapshot of this id");
-    let command = command.arg(snapshot)?;
+        .help(by_id);
+    command.arg(snapshot)
+}
+
+/// The options that say what is asked of a table.
+fn with_request<'a>(alloc: Global, command: Command<'a>) -> Result<Command<'a>, AllocError> {
+    let command = with_target(
+        alloc,
+        command,
+        "Plan the snapshot of this branch or tag, and not the current one",
+        "Plan the snapshot of this id",
+    )?;
     let filter = Arg::new(alloc, "filter")
         .long("filter")
         .value_name("TEXT")
@@ -236,14 +273,18 @@ fn with_request<'a>(alloc: Global, command: Command<'a>) -> Result<Command<'a>, 
     command.arg(filter)
 }
 
-/// The option that says how many workers plan.
-fn with_workers<'a>(alloc: Global, command: Command<'a>) -> Result<Command<'a>, AllocError> {
+/// The option that says how many workers there are, with what they do.
+fn with_workers<'a>(
+    alloc: Global,
+    command: Command<'a>,
+    help: &'a str,
+) -> Result<Command<'a>, AllocError> {
     let workers = Arg::new(alloc, "workers")
         .long("workers")
         .value_name("N")
         .value_parser(value_parser!(usize))
         .default_value("1")
-        .help("How many workers read manifests at once, each in a thread of its own: from 1 to 64");
+        .help(help);
     command.arg(workers)
 }
 
@@ -259,7 +300,12 @@ fn plan_command<'a>(alloc: Global) -> Result<Command<'a>, AllocError> {
         )
         .after_long_help(PLAN_EXAMPLE)
         .arg(metadata)?;
-    with_source(alloc, with_workers(alloc, with_request(alloc, command)?)?)
+    let command = with_workers(
+        alloc,
+        with_request(alloc, command)?,
+        "How many workers read manifests at once, each in a thread of its own: from 1 to 64",
+    )?;
+    with_source(alloc, command)
 }
 
 /// The command `show`.
@@ -272,6 +318,32 @@ fn show_command<'a>(alloc: Global) -> Result<Command<'a>, AllocError> {
         .about("Print what a table's metadata says: schemas, partition specs, snapshots and refs")
         .after_long_help(SHOW_EXAMPLE)
         .arg(metadata)?;
+    with_source(alloc, command)
+}
+
+/// The command `audit`.
+fn audit_command<'a>(alloc: Global) -> Result<Command<'a>, AllocError> {
+    let metadata = Arg::new(alloc, "metadata")
+        .value_name("METADATA")
+        .required(true)
+        .help("The path of the table's metadata");
+    let command = Command::new(alloc, "audit")
+        .about(
+            "Check what plans rest on: that each manifest's entries are as the manifest list and the metadata say",
+        )
+        .after_long_help(AUDIT_EXAMPLE)
+        .arg(metadata)?;
+    let command = with_target(
+        alloc,
+        command,
+        "Audit the snapshot of this branch or tag, and not the current one",
+        "Audit the snapshot of this id",
+    )?;
+    let command = with_workers(
+        alloc,
+        command,
+        "From 1 to 64, as for `plan`; today one worker reads all manifests, whatever the number",
+    )?;
     with_source(alloc, command)
 }
 
@@ -363,6 +435,15 @@ fn row_delta_command<'a>(alloc: Global) -> Result<Command<'a>, AllocError> {
     with_source(alloc, with_commit(alloc, command)?)
 }
 
+/// The option that asks for a hint behind the line of a refusal. It has no effect on what the words ask for.
+fn explain_option<'a>(alloc: Global) -> Arg<'a> {
+    Arg::new(alloc, "explain")
+        .long("explain")
+        .action(ArgAction::SetTrue)
+        .global(true)
+        .help("Say behind a refusal what it is about and what to do, as on a terminal")
+}
+
 /// All commands.
 fn program<'a>(alloc: Global) -> Result<Command<'a>, AllocError> {
     Command::new(alloc, "icescan")
@@ -372,11 +453,13 @@ fn program<'a>(alloc: Global) -> Result<Command<'a>, AllocError> {
         .about(ABOUT)
         .after_long_help(PROGRAM_EXAMPLE)
         .subcommand_required(true)
+        .arg(explain_option(alloc))?
         .subcommand(plan_command(alloc)?)?
         .subcommand(list_plan_command(alloc)?)?
         .subcommand(append_command(alloc)?)?
         .subcommand(row_delta_command(alloc)?)?
         .subcommand(show_command(alloc)?)?
+        .subcommand(audit_command(alloc)?)?
         .subcommand(drill_command(alloc)?)
 }
 
@@ -516,6 +599,16 @@ fn show_words(alloc: Global, matches: &ArgMatches<'_>) -> Result<Words, AllocErr
     ))
 }
 
+/// The audit that is asked for.
+fn audit_words(alloc: Global, matches: &ArgMatches<'_>) -> Result<Words, AllocError> {
+    Ok(Words::Audit(
+        source_of(alloc, matches)?,
+        target_of(alloc, matches)?,
+        workers_of(matches),
+        required_text(alloc, matches, "metadata")?,
+    ))
+}
+
 /// The commit that is asked for, and where its files are.
 fn commit_words(
     alloc: Global,
@@ -537,6 +630,7 @@ fn asked_of(alloc: Global, matches: &ArgMatches<'_>) -> Result<Words, RunFault>
     match command {
         "plan" => Ok(plan_words(alloc, matches)?),
         "show" => Ok(show_words(alloc, matches)?),
+        "audit" => Ok(audit_words(alloc, matches)?),
         "append" => commit_words(alloc, matches, ChangeKind::Append),
         "row-delta" => commit_words(alloc, matches, ChangeKind::RowDelta),
         "drill" => Ok(Words::Drill(drill_of(alloc, matches)?)),

@@ -1,7 +1,7 @@
 -- Why the program refuses its words and its input.
 use Rattle.std.proofs.Common.{◌≡◌, ◌≢◌, ℕ, ◌+◌, Bool, true, false, List, [], ◌∷◌, refl, sym, ap, subst, ◌∙◌, ◌⊎◌, inl}
 use Rattle.std.proofs.Common.{inr, Option, Some, None, is_some}
-use Rattle.std.specs.Prelude.{Result, Ok, Err, IfErr, IfSome, if◌then◌else◌}
+use Rattle.std.specs.Prelude.{Result, Ok, Err, IfErr, IfOk, IfSome, IsErrOf, OnOk, if◌then◌else◌}
 use Rattle.contract_words.specs.Outcome.{◌>>=◌}
 use Rattle.ice_text.specs.declared.fault.RunFault.{RunFault}
 use Rattle.ice_text.specs.declared.fault.RunFault.TheVariants as run
@@ -9,10 +9,12 @@ use Rattle.ice_requests.specs.Bundles.{File, IsInput, NoBundle, added, bundle_of
 use Rattle.ice_text.specs.Reads.{MayEnd}
 use Rattle.ice_requests.specs.ListPlans.{list_answer}
 use Rattle.ice_commands.specs.Runs.{MayRefuse, Ran, as_text, bundle_text, list_in, or_first_line}
-use Rattle.ice_commands.specs.Runs.{planned_text, shown_text}
+use Rattle.ice_commands.specs.Runs.{audited, audited_text, ended, planned_text, shown_text}
 use Rattle.ice_command_line.specs.CommandLines.{IsWordsFault}
 use Rattle.ice_requests.specs.Plans.{answer_at, over_wanted_rows}
-use Rattle.ice_requests.specs.Shows.{shown_at}
+use Rattle.ice_requests.specs.Shows.{WroteFront, WroteText, shown_at}
+use Rattle.ice_audit_run.specs.Audits.{audit_at}
+use Rattle.ice_meta.specs.declared.metadata.Target.{Target}
 use Rattle.ice_text.specs.declared.request.Request.{Request}
 
 -- a bundle is refused for a line of it
@@ -106,6 +108,11 @@ pub no_request : (path : List ℕ) (request : Request) (workers : ℕ) (text : L
 unfolding planned_text
 no_request path request workers text e h = rw h refl
 
+pub no_audit : (path : List ℕ) (target : Target) (workers : ℕ) (text : List ℕ) (e : RunFault)
+    → bundle_of text ≡ Err e → Some (audited_text path target workers text) ≡ Some (Err e)
+unfolding audited
+no_audit path target workers text e h = rw h refl
+
 module _ (text : List ℕ) (files : List File) (is : bundle_of text ≡ Ok files) where
   module _ (list : Option (List ℕ)) where
     no_list : (e : RunFault) → list_in files list ≡ Err e → bundle_text list text ≡ Err e
@@ -128,6 +135,11 @@ module _ (text : List ℕ) (files : List File) (is : bundle_of text ≡ Ok files
   pub shown_from : (path : List ℕ) → shown_text path text ≡ shown_at (λ p. bytes_at files p) path
   unfolding shown_text
   shown_from path = rw is refl
+
+  pub audit_from : (path : List ℕ) (target : Target) (workers : ℕ) → audited path target workers text
+      ≡ audit_at (λ p. bytes_at files p) path target workers
+  unfolding audited
+  audit_from path target workers = rw is refl
 
   pub request_from : (path : List ℕ) (request : Request) (workers : ℕ) → planned_text path request workers text
       ≡ as_text (answer_at over_wanted_rows (λ p. bytes_at files p) path request workers)
@@ -178,3 +190,39 @@ pub untold_ran : (w : Type 0) (r : Result Unit RunFault) (o o' : Option (List �
     → IfErr r (λ fault. fault ≢ run.Write → o' ≡ o) → Ran None w r o o'
 untold_ran w (Ok x) o o' h = record { written = tt; refused = tt; nothing = tt; front = λ is. tt }
 untold_ran w (Err e) o o' h = record { written = tt; refused = tt; nothing = h; front = λ is. tt }
+
+-- ---- a number of findings
+
+-- a command that tells of no findings ran as it ran
+pub ran_as : (known : Option (Result (List ℕ) RunFault)) (w : Type 0) (r : Result Unit RunFault)
+    (counted : Result ℕ RunFault) (o o' : Option (List ℕ)) → ended counted ≡ r → Ran known w r o o'
+    → Ran known w (ended counted) o o'
+ran_as known w r counted o o' is h = subst (λ x. Ran known w x o o') (sym is) h
+
+pub on_ok_as : (P : Type 0) (r : Result Unit RunFault) (counted : Result ℕ RunFault) → ended counted ≡ r → OnOk r P
+    → OnOk counted P
+on_ok_as P r (Ok n) is h = subst (λ x. OnOk x P) (sym is) h
+on_ok_as P r (Err e) is h = tt
+
+-- where the answer is known
+pub counted_ran : (known : Result (List ℕ) RunFault) (w : Type 0) (r : Result ℕ RunFault) (o o' : Option (List ℕ))
+    → IfOk r (λ _. WroteText known o o') → IfErr r (MayRefuse known w) → IfErr r (λ fault. fault ≢ run.Write → o' ≡ o)
+    → (IsErrOf r run.Write → WroteFront known o o') → Ran (Some known) w (ended r) o o'
+counted_ran known w (Ok n) o o' all no nothing front =
+    record { written = all; refused = tt; nothing = tt; front = λ is. absurd cc }
+counted_ran known w (Err e) o o' all no nothing front = record {
+  written = tt;
+  refused = no;
+  nothing = nothing;
+  front = λ is. let failed : e ≡ run.Write = cc in front (ap Err failed);
+}
+
+-- over a folder
+pub untold_counted : (w : Type 0) (r : Result ℕ RunFault) (o o' : Option (List ℕ))
+    → IfErr r (λ fault. fault ≢ run.Write → o' ≡ o) → Ran None w (ended r) o o'
+untold_counted w (Ok n) o o' h = record { written = tt; refused = tt; nothing = tt; front = λ is. tt }
+untold_counted w (Err e) o o' h = record { written = tt; refused = tt; nothing = h; front = λ is. tt }
+
+pub untold_count : (r : Result ℕ RunFault) → IfOk r (λ _. Unit {0})
+untold_count (Ok n) = tt
+untold_count (Err e) = tt

@@ -1,9 +1,15 @@
 -- The whole program: what it makes of its words and of standard input.
-use Rattle.std.specs.Prelude.{◌≡◌, ◌≢◌, ◌⊎◌, ℕ, List, Option, Some, None, IfSome, Result, Ok, Err, OnOk, IfErr}
-use Rattle.std.specs.Prelude.{IsErrOf}
+use Rattle.std.specs.Prelude.{◌≡◌, ◌≢◌, ◌⊎◌, ◌==◌, ℕ, List, length, Option, Some, None, IfSome, Result, Ok, Err, OnOk}
+use Rattle.std.specs.Prelude.{IfOk, IfErr, IsErrOf, if◌then◌else◌, Bool, true, false, ◌||◌, [], ◌∷◌, codes}
+use Rattle.std.specs.List.{list_any}
+use Rattle.std.specs.Str.{bytes_eq}
 use Rattle.contract_words.specs.Outcome.{◌>>=◌}
+use Rattle.ice_audit_run.specs.Audits.{audit_at}
+use Rattle.ice_audit_run.specs.Texts.{audit_text}
+use Rattle.ice_audit_run.specs.declared.audit.Audit.{Audit}
+use Rattle.ice_meta.specs.declared.metadata.Target.{Target}
 use Rattle.ice_state.specs.Lines.{OwnedLine}
-use Rattle.ice_requests.specs.Bundles.{File, bundle_of, bytes_at, first_path}
+use Rattle.ice_requests.specs.Bundles.{File, IsInput, bundle_of, bytes_at, first_path}
 use Rattle.ice_drill.specs.Drills.{WroteDrill}
 use Rattle.ice_requests.specs.Commits.{committed_text}
 use Rattle.ice_requests.specs.ListPlans.{list_answer}
@@ -13,6 +19,8 @@ use Rattle.ice_text.specs.FaultTexts.{fault_text}
 use Rattle.ice_print.specs.PlanTexts.{plan_text}
 use Rattle.ice_requests.specs.Shows.{WroteFront, WroteText, shown_at}
 use Rattle.ice_print.specs.Written.{Appends, AppendsFront}
+use Rattle.ice_hint_lines.specs.Hints.{AppendsPlain}
+use Rattle.ice_command_line.specs.CommandLines.{ReadAs}
 use Rattle.ice_command_line.specs.declared.command_line.Lists.TheVariants as lists
 use Rattle.ice_command_line.specs.declared.command_line.Source.TheVariants as source
 use Rattle.ice_command_line.specs.declared.command_line.Words.{Words}
@@ -54,6 +62,21 @@ planned_text path request workers input = do
   files ← bundle_of input
   as_text (answer_at over_wanted_rows (λ path. bytes_at files path) path request workers)
 
+-- the audit of a snapshot of the table whose metadata is at a path of a bundle, by so many workers, or the first fault:
+-- of the bundle, of the file with the metadata, of the number of workers, of the audit
+unfoldable pub audited : List ℕ → Target → ℕ → List ℕ → Result Audit RunFault
+audited path target workers input = do
+  files ← bundle_of input
+  audit_at (λ path. bytes_at files path) path target workers
+
+-- the text of an audit
+abbrev pub as_audit : Result Audit RunFault → Result (List ℕ) RunFault
+as_audit (Ok audit) = Ok (audit_text audit)
+as_audit (Err fault) = Err fault
+
+abbrev pub audited_text : List ℕ → Target → ℕ → List ℕ → Result (List ℕ) RunFault
+audited_text path target workers input = as_audit (audited path target workers input)
+
 -- The text that a command asks for, or the first fault, where its files are told: those of a bundle are what standard
 -- input had, those of a folder are not told.
 abbrev pub answer_to : Words → List ℕ → Option (Result (List ℕ) RunFault)
@@ -65,6 +88,8 @@ answer_to (words.Commit source.Bundle request) input = committed_text request in
 answer_to (words.Commit (source.Folder place) request) input = None
 answer_to (words.Show source.Bundle path) input = Some (shown_text path input)
 answer_to (words.Show (source.Folder place) path) input = None
+answer_to (words.Audit source.Bundle target workers path) input = Some (audited_text path target workers input)
+answer_to (words.Audit (source.Folder place) target workers path) input = None
 answer_to (words.Drill asked) input = None
 answer_to (words.Text text) input = Some (Ok text)
 
@@ -76,6 +101,30 @@ IsOfDrill _ output output' = Unit {0}
 abbrev pub run_of : Result Words RunFault → List ℕ → Option (Result (List ℕ) RunFault)
 run_of (Ok asked) input = answer_to asked input
 run_of (Err fault) input = Some (Err fault)
+
+-- the number of findings of which a command tells: an audit of its own, where its files are told; any other of none
+abbrev pub IsCount : Words → List ℕ → ℕ → Type 0
+IsCount (words.Audit source.Bundle target workers path) input count =
+    IfOk (audited path target workers input) (λ (audit : Audit). count ≡ length audit.findings)
+IsCount (words.Audit (source.Folder place) target workers path) input count = Unit {0}
+IsCount _ input count = count ≡ 0
+
+abbrev pub IsCountOf : Result Words RunFault → List ℕ → ℕ → Type 0
+IsCountOf (Ok asked) input count = IsCount asked input count
+IsCountOf (Err fault) input count = count ≡ 0
+
+-- 1 where there are findings
+abbrev pub status_of_count : ℕ → ℕ
+status_of_count count = if count == 0 then 0 else 1
+
+-- the status that the program ends with that wrote what the words ask for
+abbrev pub EndsWith : Result Words RunFault → List ℕ → ℕ → Type 0
+EndsWith asked input status = (count : ℕ) × IsCountOf asked input count × (status ≡ status_of_count count)
+
+-- whether a run ended with a fault, whatever it gives else
+abbrev pub ended : {A : Type 0} → Result A RunFault → Result Unit RunFault
+ended (Ok x) = Ok tt
+ended (Err fault) = Err fault
 
 -- Why the program ends with a fault: standard input can't be read, memory ran out, a write failed that may fail, or the
 -- fault is that of the words and the input.
@@ -94,11 +143,10 @@ pub record Ran (known : Option (Result (List ℕ) RunFault)) (write_may_fail : T
   pub nothing : IfErr result (λ fault. fault ≢ run.Write → output' ≡ output)
   pub front : IsErrOf result run.Write → IfSome known (λ read. WroteFront read output output')
 
--- the program ended with status 0: it wrote the text to its output
-pub record Answered (known : Option (Result (List ℕ) RunFault)) (status : ℕ)
+-- the program ended without a fault: it wrote the text to its output
+pub record Answered (known : Option (Result (List ℕ) RunFault))
     (output output' errors errors' : Option (List ℕ)) : Type 0 where
   pub written : IfSome known (λ read. WroteText read output output')
-  pub status_is : status ≡ 0
   pub silent : errors' ≡ errors
 
 -- a fault was told: its whole line was written where no write of it may fail, else a front of it
@@ -116,3 +164,54 @@ pub record Refused (known : Option (Result (List ℕ) RunFault)) (write_may_fail
   pub nothing : fault ≢ run.Write → output' ≡ output
   pub front : fault ≡ run.Write → IfSome known (λ read. WroteFront read output output')
   pub told : Told tell_may_fail errors errors' fault
+
+-- ---- at a terminal
+
+-- no words are read as `--help` where standard input is a terminal
+abbrev pub meant : Bool → List (List ℕ) → List (List ℕ)
+meant true [] = codes "--help" ∷ []
+meant true (word ∷ words) = word ∷ words
+meant false words = words
+
+-- whether a word is `--explain`
+abbrev pub asks_hints : List (List ℕ) → Bool
+asks_hints words = list_any (λ word. bytes_eq word (codes "--explain")) words
+
+-- whether faults have hints
+abbrev pub hints : Bool → List (List ℕ) → Bool
+hints errors_is_terminal words = errors_is_terminal || asks_hints words
+
+-- a fault was told, and then a text without control characters was written
+pub record ToldWithHint (write_may_fail : Type 0) (errors errors' : Option (List ℕ)) (fault : RunFault) : Type 0 where
+  pub between : Option (List ℕ)
+  pub line : Told write_may_fail errors between fault
+  pub hint : AppendsPlain between errors'
+
+-- the program ended with a fault, as in `Refused`, and told it with a hint
+pub record Explained (known : Option (Result (List ℕ) RunFault)) (write_may_fail tell_may_fail : Type 0) (status : ℕ)
+    (output output' errors errors' : Option (List ℕ)) : Type 0 where
+  pub fault : RunFault
+  pub cause : IfSome known (λ read. MayRefuse read write_may_fail fault)
+  pub status_is : status ≡ status_of fault
+  pub nothing : fault ≢ run.Write → output' ≡ output
+  pub front : fault ≡ run.Write → IfSome known (λ read. WroteFront read output output')
+  pub told : ToldWithHint tell_may_fail errors errors' fault
+
+-- what `run_words` says of a run by its words, by what standard input had left where that is told, by whether a write
+-- of the output and one of a fault may fail, and by its status and what stood and stands written at both ends
+abbrev pub RanWithoutHint : List (List ℕ) → Option (List ℕ) → Type 0 → Type 0 → ℕ → Option (List ℕ) → Option (List ℕ)
+    → Option (List ℕ) → Option (List ℕ) → Type 0
+RanWithoutHint texts left write_may_fail tell_may_fail status output output' errors errors' =
+    (asked : Result Words RunFault) × ReadAs texts asked × (text : List ℕ) × IsInput left text ×
+    ((Answered (run_of asked text) output output' errors errors' × EndsWith asked text status
+    × IsOfDrill asked output output')
+    ⊎ Refused (run_of asked text) write_may_fail tell_may_fail status output output' errors errors')
+
+-- the same, but that a hint may stand behind the line of a fault
+abbrev pub RanWithHint : List (List ℕ) → Option (List ℕ) → Type 0 → Type 0 → ℕ → Option (List ℕ) → Option (List ℕ)
+    → Option (List ℕ) → Option (List ℕ) → Type 0
+RanWithHint texts left write_may_fail tell_may_fail status output output' errors errors' =
+    (asked : Result Words RunFault) × ReadAs texts asked × (text : List ℕ) × IsInput left text ×
+    ((Answered (run_of asked text) output output' errors errors' × EndsWith asked text status
+    × IsOfDrill asked output output')
+    ⊎ Explained (run_of asked text) write_may_fail tell_may_fail status output output' errors errors')

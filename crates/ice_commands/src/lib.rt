@@ -3,8 +3,10 @@
 #![tactic(auto)]
 
 mod commit_lines;
+mod explaining;
 mod words;
 
+pub use explaining::{Terminals, run_program};
 pub use ice_command_line::{Lists, Place, Source, Words, parse_words};
 pub use ice_drill::{Drill, Watch, drill_table, run_drill};
 pub use ice_requests::{

@@ -5,16 +5,18 @@ ghost use Rattle.std.specs.Prelude.{IfOk, IfErr, OnOk};
 ghost use Rattle.ice_requests.specs.Bundles.{IsInput, bundle_of};
 ghost use Rattle.ice_requests.specs.Commits.{committed_text};
 ghost use Rattle.ice_drill.specs.Drills.{WroteDrill};
-ghost use Rattle.ice_commands.specs.Runs.{Answered, IsOfDrill, Ran, Refused, answer_to, list_in};
-ghost use Rattle.ice_commands.specs.Runs.{run_of};
+ghost use Rattle.ice_commands.specs.Runs.{Answered, EndsWith, IsCount, IsCountOf, IsOfDrill, Ran, Refused, answer_to};
+ghost use Rattle.ice_commands.specs.Runs.{ended, list_in, run_of, status_of_count};
 ghost use Rattle.ice_command_line.specs.CommandLines.{ReadAs};
 ghost use Rattle.ice_command_line.specs.declared.command_line.Words.{Words};
 ghost use Rattle.ice_text.specs.declared.fault.RunFault.{RunFault};
 
 use crate::commit_lines::commit_lines;
 use contract_words::Text;
+use ice_audit_run::audit_file;
 use ice_command_line::{Lists, Place, Source, Words, parse_words};
 use ice_drill::{Watch, run_drill};
+use ice_meta::Target;
 use ice_requests::{
     Bundle, CommitFolder, Folder, commit_to, plan_file, prepare_commit, read_bundle, run_list_plan,
     show_file,
@@ -38,7 +40,7 @@ fn list_in<'a>(bundle: &'a Bundle, list: &'a Option<Text>) -> Result<&'a str, Ru
 }
 
 /// The files below the folder of a place.
-fn files_of<'a, H: Files>(host: &'a H, place: &'a Place) -> Folder<'a, H>
+pub fn files_of<'a, H: Files>(host: &'a H, place: &'a Place) -> Folder<'a, H>
     ensures { (result.folder.now ≡ place.now.folder) × (result.prefix.now ≡ place.now.prefix) }
 {
     Folder::new(host, place.folder.as_str(), place.prefix.as_str())
@@ -126,6 +128,39 @@ fn show<H: Files, R: Read, W: Sink>(
     }
 }
 
+/// Writes the audit of a snapshot of the table whose metadata is at a path, and gives the number of findings.
+fn audit<H: Files, R: Read, W: Sink>(
+    host: &H,
+    alloc: Global,
+    source: &Source,
+    target: &Target,
+    workers: usize,
+    path: &Text,
+    input: &mut R,
+    output: &mut W,
+) -> Result<usize, RunFault>
+    ensures { (text : List ℕ) × IsInput (R.remaining input.old) text ×
+        Ran (answer_to (Words.Audit source.now target.now workers path.now) text) (W.may_fail output.old)
+        (ended result) (W.taken output.old) (W.taken output.new)
+        × IfOk result (IsCount (Words.Audit source.now target.now workers path.now) text) }
+{
+    let path = path.as_str();
+    match source {
+        Source::Bundle => {
+            let bundle = read_bundle(alloc, input)?;
+            audit_file(alloc, &bundle, path, target, workers, output)
+        }
+        Source::Folder(place) => audit_file(
+            alloc,
+            &files_of(host, place),
+            path,
+            target,
+            workers,
+            output,
+        ),
+    }
+}
+
 /// Writes the files of a commit to a table in a bundle, as lines of a bundle.
 fn print_commit<W: Sink>(
     alloc: Global,
@@ -190,50 +225,76 @@ fn drill<H: Threads + Wait + Watch + Sync, W: Sink>(
     run_drill(host, alloc, drill, output)
 }
 
-/// Writes what is asked for.
-fn run_asked<H: Files<File: Send, Dir: Send> + Threads + Wait + Watch + Sync, R: Read, W: Sink>(
+/// The answer of a command that tells of no findings.
+fn no_findings(answer: Result<(), RunFault>) -> Result<usize, RunFault>
+    ensures same { ended result ≡ answer }
+    ensures none { IfOk result (λ count. count ≡ 0) }
+{
+    match answer {
+        Ok(()) => Ok(0),
+        Err(fault) => Err(fault),
+    }
+}
+
+/// Writes what is asked for, and gives the number of findings of which that tells.
+pub fn run_asked<H: Files<File: Send, Dir: Send> + Threads + Wait + Watch + Sync, R: Read, W: Sink>(
     host: &H,
     alloc: Global,
     asked: &Words,
     input: &mut R,
     output: &mut W,
-) -> Result<(), RunFault>
+) -> Result<usize, RunFault>
     ensures ran { (text : List ℕ) × IsInput (R.remaining input.old) text ×
-        Ran (answer_to asked.now text) (W.may_fail output.old) result (W.taken output.old) (W.taken output.new) }
+        Ran (answer_to asked.now text) (W.may_fail output.old) (ended result) (W.taken output.old)
+        (W.taken output.new)
+        × IfOk result (IsCount asked.now text) }
     ensures drilled { OnOk result (IsOfDrill (Ok asked.now) (W.taken output.old) (W.taken output.new)) }
 {
     match asked {
-        Words::ListPlan(lists) => list_plan(host, alloc, lists, input, output),
-        Words::Plan(source, request, workers, path) => plan(
+        Words::ListPlan(lists) => no_findings(list_plan(host, alloc, lists, input, output)),
+        Words::Plan(source, request, workers, path) => no_findings(plan(
             host, alloc, source, request, *workers, path, input, output,
+        )),
+        Words::Commit(source, request) => {
+            no_findings(commit(host, alloc, source, request, input, output))
+        }
+        Words::Show(source, path) => no_findings(show(host, alloc, source, path, input, output)),
+        Words::Audit(source, target, workers, path) => audit(
+            host, alloc, source, target, *workers, path, input, output,
         ),
-        Words::Commit(source, request) => commit(host, alloc, source, request, input, output),
-        Words::Show(source, path) => show(host, alloc, source, path, input, output),
-        Words::Drill(asked) => drill(host, alloc, *asked, output),
-        Words::Text(text) => tell(text, output),
+        Words::Drill(asked) => no_findings(drill(host, alloc, *asked, output)),
+        Words::Text(text) => no_findings(tell(text, output)),
     }
 }
 
-/// Writes what the words ask for.
+/// Writes what the words ask for, and gives the number of findings of which that tells.
 fn run<H: Files<File: Send, Dir: Send> + Threads + Wait + Watch + Sync, R: Read, W: Sink>(
     host: &H,
     alloc: Global,
     words: &[String],
     input: &mut R,
     output: &mut W,
-) -> Result<(), RunFault>
+) -> Result<usize, RunFault>
     ensures { (asked : Result Words RunFault) × ReadAs (map string_bytes words.now) asked ×
         OnOk result (IsOfDrill asked (W.taken output.old) (W.taken output.new)) ×
         (text : List ℕ) × IsInput (R.remaining input.old) text ×
-        Ran (run_of asked text) (W.may_fail output.old) result (W.taken output.old) (W.taken output.new) }
+        Ran (run_of asked text) (W.may_fail output.old) (ended result) (W.taken output.old) (W.taken output.new)
+        × IfOk result (IsCountOf asked text) }
 {
     let asked = parse_words(alloc, words)?;
     run_asked(host, alloc, &asked, input, output)
 }
 
-/// Runs the program: it writes what the words ask for to `output` and ends with 0, or it writes the line of the first
-/// fault to `errors` and ends with the fault's status. Faults are found in this order: of the words, of reading
-/// standard input where it holds a bundle, of the bundle, of what is asked for.
+/// The status that the program ends with that told of so many findings.
+pub fn status_of_count(count: usize) -> u8
+    ensures { result ≡ status_of_count count }
+{
+    if count == 0 { 0 } else { 1 }
+}
+
+/// Runs the program: it writes what the words ask for to `output` and ends with 0, with 1 where that is an audit with
+/// findings; or it writes the line of the first fault to `errors` and ends with the fault's status. Faults are found in
+/// this order: of the words, of reading standard input where it holds a bundle, of the bundle, of what is asked for.
 pub fn run_words<H, R: Read, W: Sink, E: Sink>(
     host: &H,
     alloc: Global,
@@ -250,14 +311,15 @@ where
     // writing or memory failed.
     ensures run { (asked : Result Words RunFault) × ReadAs (map string_bytes words.now) asked ×
         (text : List ℕ) × IsInput (R.remaining input.old) text ×
-        ((Answered (run_of asked text) result (W.taken output.old) (W.taken output.new)
-        (E.taken errors.old) (E.taken errors.new)
+        ((Answered (run_of asked text) (W.taken output.old) (W.taken output.new) (E.taken errors.old)
+        (E.taken errors.new)
+        × EndsWith asked text result
         × IsOfDrill asked (W.taken output.old) (W.taken output.new)) ⊎
         Refused (run_of asked text) (W.may_fail output.old) (E.may_fail errors.old) result
         (W.taken output.old) (W.taken output.new) (E.taken errors.old) (E.taken errors.new)) }
 {
     match run(host, alloc, words, input, output) {
-        Ok(()) => 0,
+        Ok(count) => status_of_count(count),
         Err(fault) => report(&fault, errors),
     }
 }

@@ -3,9 +3,10 @@
 #![tactic(auto)]
 
 use contract_words::Text;
-use ice_commands::run_words;
+use ice_commands::{Terminals, run_program};
 use ice_text::{Output, RunFault, report};
 use std::alloc::Global;
+use std::io::IsTerminal;
 use std::process::ExitCode;
 use std::{env, io};
 
@@ -23,9 +24,14 @@ fn main(rt: HostRuntime) -> ExitCode {
     let status = match words_of(&rt) {
         Ok(words) => {
             let mut output = Output::new(rt.stdout());
-            run_words(
+            let terminals = Terminals {
+                input: rt.stdin().is_terminal(),
+                errors: rt.stderr().is_terminal(),
+            };
+            run_program(
                 &rt,
                 rt.alloc(),
+                terminals,
                 &words,
                 &mut rt.stdin(),
                 &mut output,

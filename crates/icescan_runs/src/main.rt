@@ -32,9 +32,13 @@
 //! - an append under three specs, whose manifests, list and metadata are printed byte by byte: names of partition
 //!   fields as Avro spells them, or by id where two would be alike; no summaries where a uuid stands; a uuid with
 //!   hyphens
+//! - audits: of `data/audits`, each table with the finding that it is named after; of the tables from before. What is
+//!   expected was computed by a program in another language, from what the tables were written with
+//! - refusals with `--explain`, over `data/hints`, which `tools/refusals.py make` writes: below each line what it is
+//!   about and what to do
 #![tactic(auto)]
 
-use ice_commands::{Watch, run_words};
+use ice_commands::{Terminals, Watch, run_program};
 use std::alloc::{AllocError, Global};
 use std::fs;
 use std::io::{self, Write};
@@ -77,7 +81,19 @@ where
     let mut input = fs::open(host, from.unwrap_or("nothing"))?;
     let mut output = Vec::new(alloc);
     let mut errors = Vec::new(alloc);
-    let status = run_words(host, alloc, &words, &mut input, &mut output, &mut errors);
+    let terminals = Terminals {
+        input: false,
+        errors: false,
+    };
+    let status = run_program(
+        host,
+        alloc,
+        terminals,
+        &words,
+        &mut input,
+        &mut output,
+        &mut errors,
+    );
     writeln!(page, "> {line}")?;
     match to {
         Some(file) => fs::write(host, file, &output)?,

@@ -15,6 +15,7 @@ returns-in_err-asked g c =
       is_left left,
       words_ran
           (g.W.Sink.may_fail c.args.output.now) _ c.in_err-asked.field-0.0 c.in_err-asked.ensures.causes,
+      tt,
     )
 
 pub returns : goal.returns
@@ -25,4 +26,5 @@ returns g c = let w = c.run_asked.ensures in (
   w.ran.0,
   w.ran.1,
   w.ran.2,
+  w.ran.3,
 )

@@ -1,0 +1,5 @@
+pub mod CoverageLaws
+pub mod Told
+pub mod Telltale
+pub mod Walks
+pub mod Counted

@@ -1,0 +1,132 @@
+-- Of the findings on one entry those on coverage are the names of the fields outside of the limits.
+use Rattle.std.proofs.Common.{◌≡◌, ℕ, ℤ, Bool, true, false, nat_lt, List, [], ◌∷◌, ◌++◌, length, map, not, refl, sym}
+use Rattle.std.proofs.Common.{◌∙◌, ap, cond}
+use Rattle.std.specs.Prelude.{pos}
+use Rattle.ice_value.specs.declared.file_content.FileContent.{FileContent}
+use Rattle.ice_value.specs.declared.file_content.FileContent.TheVariants.{Data, PositionDeletes, EqualityDeletes}
+use Rattle.ice_manifest_reading.specs.declared.entry.Entry.{Entry}
+use Rattle.ice_manifest_reading.specs.declared.row.Row.{Row}
+use Rattle.ice_audit.specs.declared.basis.Basis.{Basis}
+use Rattle.ice_audit.specs.declared.finding.Finding.{Finding}
+use Rattle.ice_audit.specs.declared.finding.Flaw.{Flaw}
+use Rattle.ice_audit.specs.declared.finding.Flaw.TheVariants.{Uncovered, BelowLeast, AboveLast, NoColumn}
+use Rattle.ice_audit.specs.declared.finding.Flaw.TheVariants.{LiveFiles, LiveRows}
+use Rattle.ice_audit.specs.declared.limits.FieldLimits.{FieldLimits}
+use Rattle.ice_audit.specs.Coverage.{outside}
+use Rattle.ice_audit.specs.Counting.{count_flaws, is_borne_out, live_by_counts, rows_of}
+use Rattle.ice_audit.specs.Findings.{entry_findings, finding_of, manifest_finding, missing, missing_columns, missing_in}
+use Rattle.ice_audit.specs.Flaws.{flaw_where}
+use Rattle.ice_audit.specs.Telling.{is_uncovered, uncovered}
+
+-- ---- two lists
+
+none_left : {X : Type 0} (xs ys : List X) → xs ++ ys ≡ [] → xs ≡ []
+none_left [] ys h = refl
+none_left (x ∷ xs) ys h = absurd cc
+
+none_right : {X : Type 0} (xs ys : List X) → xs ++ ys ≡ [] → ys ≡ []
+none_right [] ys h = h
+none_right (x ∷ xs) ys h = absurd cc
+
+none_both : {X : Type 0} (xs ys : List X) → xs ≡ [] → ys ≡ [] → xs ++ ys ≡ []
+none_both [] ys h k = k
+none_both (x ∷ xs) ys h k = absurd cc
+
+uncovered_first : (b : Bool) (x : Finding) (xs ys zs : List Finding) → zs ≡ xs ++ ys
+    → cond b (x ∷ zs) zs ≡ cond b (x ∷ xs) xs ++ ys
+uncovered_first true x xs ys zs h = ap (λ (l : List Finding). x ∷ l) h
+uncovered_first false x xs ys zs h = h
+
+uncovered-append : (xs ys : List Finding) → uncovered (xs ++ ys) ≡ uncovered xs ++ uncovered ys
+uncovered-append [] ys = refl
+uncovered-append (x ∷ xs) ys = uncovered_first (is_uncovered x.flaw) x (uncovered xs) (uncovered ys)
+    (uncovered (xs ++ ys)) (uncovered-append xs ys)
+
+pub none_of_both : (xs ys : List Finding) → uncovered (xs ++ ys) ≡ [] → (uncovered xs ≡ []) × (uncovered ys ≡ [])
+none_of_both xs ys h =
+    let k = sym (uncovered-append xs ys) ∙ h in
+    (none_left (uncovered xs) (uncovered ys) k, none_right (uncovered xs) (uncovered ys) k)
+
+pub none_of_all : (xs ys : List Finding) → uncovered xs ≡ [] → uncovered ys ≡ [] → uncovered (xs ++ ys) ≡ []
+none_of_all xs ys h k = uncovered-append xs ys ∙ none_both (uncovered xs) (uncovered ys) h k
+
+-- ---- the findings on one entry
+
+module _ (row : Row) (x : Entry) where
+  abbrev found : List Flaw → List Finding
+  found flaws = map (finding_of row x) flaws
+
+  found-append : (ls ms : List Flaw) → found (ls ++ ms) ≡ found ls ++ found ms
+  found-append [] ms = refl
+  found-append (l ∷ ls) ms = ap (λ (more : List Finding). finding_of row x l ∷ more) (found-append ls ms)
+
+  of_names : (names : List (List ℕ)) → uncovered (found (map Uncovered names)) ≡ [] → names ≡ []
+  of_names [] h = refl
+  of_names (n ∷ ns) h = absurd cc
+
+  of_names_back : (names : List (List ℕ)) → names ≡ [] → uncovered (found (map Uncovered names)) ≡ []
+  of_names_back [] h = refl
+  of_names_back (n ∷ ns) h = absurd cc
+
+  no_least : (b : Bool) → uncovered (found (flaw_where b BelowLeast)) ≡ []
+  no_least true = refl
+  no_least false = refl
+
+  no_last : (b : Bool) → uncovered (found (flaw_where b AboveLast)) ≡ []
+  no_last true = refl
+  no_last false = refl
+
+  no_columns : (ids : List ℤ) → uncovered (found (map NoColumn ids)) ≡ []
+  no_columns [] = refl
+  no_columns (id ∷ ids) = no_columns ids
+
+  no_missing : (content : FileContent) (columns ids : List ℤ) → uncovered (found (missing_in content columns ids)) ≡ []
+  no_missing Data columns ids = refl
+  no_missing PositionDeletes columns ids = refl
+  no_missing EqualityDeletes columns ids = no_columns (missing columns ids)
+
+  none_in : (ls ms : List Flaw) → uncovered (found ls) ≡ [] → uncovered (found ms) ≡ []
+      → uncovered (found (ls ++ ms)) ≡ []
+  none_in ls ms h k = ap uncovered (found-append ls ms) ∙ none_of_all (found ls) (found ms) h k
+
+  others : (basis : Basis) → uncovered (found (flaw_where (nat_lt x.sequence_number row.min_sequence_number) BelowLeast
+      ++ (flaw_where (nat_lt basis.last x.sequence_number) AboveLast ++ missing_columns basis x))) ≡ []
+  others basis =
+      none_in (flaw_where (nat_lt x.sequence_number row.min_sequence_number) BelowLeast)
+      (flaw_where (nat_lt basis.last x.sequence_number) AboveLast ++ missing_columns basis x)
+      (no_least (nat_lt x.sequence_number row.min_sequence_number))
+      (none_in (flaw_where (nat_lt basis.last x.sequence_number) AboveLast) (missing_columns basis x)
+      (no_last (nat_lt basis.last x.sequence_number))
+      (no_missing x.file.content basis.columns x.file.equality_ids))
+
+  abbrev rest : Basis → List Flaw
+  rest basis = flaw_where (nat_lt x.sequence_number row.min_sequence_number) BelowLeast
+      ++ (flaw_where (nat_lt basis.last x.sequence_number) AboveLast ++ missing_columns basis x)
+
+  pub told : (basis : Basis) (limits : List FieldLimits) → uncovered (entry_findings basis row limits x) ≡ []
+      → outside limits x.file.tuple ≡ []
+  told basis limits h =
+      let names = outside limits x.file.tuple in
+      of_names names (none_of_both (found (map Uncovered names)) (found (rest basis))
+      (ap uncovered (sym (found-append (map Uncovered names) (rest basis))) ∙ h)).0
+
+  pub told_back : (basis : Basis) (limits : List FieldLimits) → outside limits x.file.tuple ≡ []
+      → uncovered (entry_findings basis row limits x) ≡ []
+  told_back basis limits h =
+      let names = outside limits x.file.tuple in
+      none_in (map Uncovered names) (rest basis) (of_names_back names h) (others basis)
+
+-- ---- the findings on what a row counts
+
+counted : (row : Row) (files rows : Bool)
+    → uncovered (map (manifest_finding row) (flaw_where files LiveFiles ++ flaw_where rows LiveRows)) ≡ []
+counted row true true = refl
+counted row true false = refl
+counted row false true = refl
+counted row false false = refl
+
+pub no_counts : (row : Row) (entries : List Entry)
+    → uncovered (map (manifest_finding row) (count_flaws row entries)) ≡ []
+no_counts row entries = counted row
+    (not (is_borne_out (live_by_counts row.counts.added_files row.counts.existing_files) (pos (length entries))))
+    (not (is_borne_out (live_by_counts row.counts.added_rows row.counts.existing_rows) (rows_of entries)))

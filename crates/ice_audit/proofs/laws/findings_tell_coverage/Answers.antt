@@ -1,0 +1,12 @@
+use Rattle.ice_audit.proofs.Telltale.{covered_one, none_of_one, told_of_covered, told_of_manifest}
+use Rattle.ice_audit.proofs.laws.findings_tell_coverage.Goals as goal
+
+pub returns-clause-entry : goal.returns-clause-entry
+returns-clause-entry c =
+    λ basis row spec x is full. (covered_one basis row spec is x full, none_of_one basis row spec is x)
+
+pub returns-clause-manifest : goal.returns-clause-manifest
+returns-clause-manifest c = λ basis row spec bytes lives is has. (
+  told_of_manifest c.contents_fit.ensures.cells basis row spec is bytes lives has,
+  told_of_covered basis row spec is lives,
+)

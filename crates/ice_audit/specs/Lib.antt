@@ -1,0 +1,5 @@
+pub mod Coverage
+pub mod Flaws
+pub mod Counting
+pub mod Findings
+pub mod Telling

@@ -1,0 +1,47 @@
+//! What the limits of partition values come to.
+
+ghost use Rattle.std.specs.Prelude.{◌≡◌, ◌↔◌, ℕ, List, [], Some, Ok, length, true};
+ghost use Rattle.std.specs.List.{AllByRecursion};
+ghost use Rattle.ice_audit.specs.Coverage.{allows, limits_of, outside, row_limits};
+ghost use Rattle.ice_audit.specs.Findings.{entry_findings, manifest_findings};
+ghost use Rattle.ice_audit.specs.Telling.{uncovered};
+ghost use Rattle.ice_audit.specs.declared.basis.Basis.{Basis};
+ghost use Rattle.ice_manifest_reading.specs.Manifests.{entries, live_of};
+ghost use Rattle.ice_manifest_reading.specs.declared.entry.Entry.{Entry};
+ghost use Rattle.ice_manifest_reading.specs.declared.entry.Live.{Live};
+ghost use Rattle.ice_manifest_reading.specs.declared.row.Row.{Row};
+ghost use Rattle.ice_meta.specs.declared.spec.PartitionField.{PartitionField};
+ghost use Rattle.ice_meta.specs.declared.spec.Spec.{Spec};
+ghost use Rattle.ice_project.specs.Fields.{field_of, fields_of};
+ghost use Rattle.ice_project.specs.Summaries.{IsCovered, IsSummaryOf};
+ghost use Rattle.ice_state.specs.Covering.{RowCovers};
+ghost use Rattle.ice_state.specs.Specs.{spec_of};
+ghost use Rattle.ice_value.specs.declared.cell.Cell.{Cell};
+ghost use Rattle.ice_value.specs.declared.file_bounds.Summary.{Summary};
+
+use ice_manifest_reading::contents_fit;
+
+/// A field's limits allow just the values that its summary covers. So of an entry, which has a value for each field of
+/// its spec, no field is outside of the limits of its row just where the row's summaries cover its values.
+pub fn limits_tell_coverage()
+    ensures value { (field : PartitionField) (summary : Summary) (value : Cell) →
+        allows (limits_of field summary) value ≡ true ↔ IsSummaryOf (field_of field) summary value }
+    ensures entry { (spec : Spec) (summaries : List Summary) (tuple : List Cell) → length tuple ≡ length spec.fields →
+        outside (row_limits spec (Some summaries)) tuple ≡ [] ↔ IsCovered (fields_of spec) summaries tuple }
+{}
+
+/// No finding on a live entry, which has a value for each field of its spec, says that a summary does not cover it just
+/// where the row's summaries do. And no finding on a row's manifest says so of any just where the row's summaries cover
+/// each of them.
+pub fn findings_tell_coverage()
+    ensures entry { (basis : Basis) (row : Row) (spec : Spec) (x : Entry) →
+        spec_of basis.specs row.spec_id ≡ Some spec → length x.file.tuple ≡ length spec.fields →
+        uncovered (entry_findings basis row (row_limits spec row.partitions) x) ≡ []
+        ↔ RowCovers basis.specs row x.file.tuple }
+    ensures manifest { (basis : Basis) (row : Row) (spec : Spec) (bytes : List ℕ) (lives : List Live) →
+        spec_of basis.specs row.spec_id ≡ Some spec → live_of row spec bytes ≡ Ok lives →
+        uncovered (manifest_findings basis row spec (entries lives)) ≡ []
+        ↔ AllByRecursion (λ (l : Live). RowCovers basis.specs row l.entry.file.tuple) lives }
+{
+    contents_fit();
+}

@@ -1,0 +1,16 @@
+//! Audits of tables: what of a snapshot's manifests is not as the manifest list and the table's metadata say, so that a
+//! plan of it might lack files.
+#![tactic(auto)]
+
+mod basis;
+mod counts;
+mod entries;
+mod finding;
+mod flaws;
+mod laws;
+mod limits;
+
+pub use basis::Basis;
+pub use entries::push_findings;
+pub use finding::{Finding, Flaw};
+pub use laws::{findings_tell_coverage, limits_tell_coverage};

@@ -1,0 +1,44 @@
+use Rattle.std.proofs.Common.{◌≡◌, ◌∙◌, ap, arith, length, refl, sym}
+use Rattle.std.specs.Prelude.{Ok}
+use Rattle.std.proofs.lemmas.Result.{err_from_is_err_and}
+use Rattle.ice_audit_run.proofs.Steps.{no_bytes, no_entries, no_spec, row_there}
+use Rattle.ice_audit_run.proofs.audit.audit_row.Goals as goal
+
+pub returns-in_err-spec-clause-refused : goal.returns-in_err-spec-clause-refused
+returns-in_err-spec-clause-refused g c =
+    let p = err_from_is_err_and c.from_residual.result c.from_residual.ensures.1 in
+    let none = rw c.as_slice.ensures at c.in_err-spec.ensures.err in
+    λ world told. rw (p.1, p.2)
+    (no_spec (g.F.Files.may_fail c.args.files.now) world c.args.basis.now c.args.row.now c.in_err-spec.field-0.0 none)
+
+pub returns-in_err-bytes-clause-refused : goal.returns-in_err-bytes-clause-refused
+returns-in_err-bytes-clause-refused g c =
+    let p = err_from_is_err_and c.from_residual-in_err-bytes.result c.from_residual-in_err-bytes.ensures.1 in
+    let known = rw c.as_slice.ensures at c.in_ok-spec.ensures.ok in
+    λ world told.
+    let refused = rw c.as_str.ensures at (c.in_err-bytes.ensures.refused world told) in
+    rw (p.1, p.2)
+    (no_bytes (g.F.Files.may_fail c.args.files.now) world c.args.basis.now c.args.row.now c.in_ok-spec.spec.now known
+    c.in_err-bytes.field-0.0 refused)
+
+pub returns-in_err-entries-clause-refused : goal.returns-in_err-entries-clause-refused
+returns-in_err-entries-clause-refused g c =
+    let p = err_from_is_err_and c.from_residual-in_err-entries.result c.from_residual-in_err-entries.ensures.1 in
+    let known = rw c.as_slice.ensures at c.in_ok-spec.ensures.ok in
+    λ world told.
+    let has = (rw c.as_str.ensures at (c.in_ok-bytes.ensures.found world told)) ∙ ap Ok (sym c.deref.ensures.value) in
+    rw (p.1, p.2)
+    (no_entries (g.F.Files.may_fail c.args.files.now) world c.args.basis.now c.args.row.now c.in_ok-spec.spec.now known
+    c.deref.result.now has c.in_err-entries.field-0.0 c.in_err-entries.ensures.refused)
+
+pub returns-clause-found : goal.returns-clause-found
+returns-clause-found g c =
+    let known = rw c.as_slice.ensures at c.in_ok-spec.ensures.ok in
+    let found = c.in_ok-entries.entries in
+    let count : length found.items ≡ c.len.result = omega (arith, c.len.ensures, found.ok) in
+    let put = rw c.deref-2.ensures.value at c.in_ok-push_findings.ensures in
+    λ world told.
+    let has = (rw c.as_str.ensures at (c.in_ok-bytes.ensures.found world told)) ∙ ap Ok (sym c.deref.ensures.value) in
+    let is = row_there (g.F.Files.may_fail c.args.files.now) world c.args.basis.now c.args.row.now
+    c.in_ok-spec.spec.now known c.deref.result.now has found.items c.in_ok-entries.ensures.found in
+    (_, is, refl, count, put)

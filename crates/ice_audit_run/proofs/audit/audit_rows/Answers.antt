@@ -1,0 +1,65 @@
+use Rattle.std.proofs.Common.{◌≡◌, ◌≤◌, ◌∙◌, ◌+◌, ap, arith, drop, length, subst, sym}
+use Rattle.std.specs.Prelude.{Ok}
+use Rattle.std.proofs.lemmas.Result.{err_from_is_err_and}
+use Rattle.ice_desk.specs.Wanted.{paths_of}
+use Rattle.ice_desk.specs.Worlds.{EndsAt}
+use Rattle.ice_text.specs.Reads.{MayEnd}
+use Rattle.ice_audit_run.specs.Audits.{joined, rows_audit}
+use Rattle.ice_audit_run.proofs.Steps.{first_row_ends, join_nothing, joins, later_row_ends, row_step, rows_end}
+use Rattle.ice_audit_run.proofs.Steps.{rows_more}
+use Rattle.ice_audit_run.proofs.audit.audit_rows.Goals as goal
+
+pub rows-init : goal.rows-init
+rows-init g c = record {
+  found = λ world told left h. rw c.new-findings.ensures (h ∙ ap Ok (sym (join_nothing left)));
+  ends = λ world told e h. h;
+  few = omega arith;
+}
+
+pub rows-preserved : goal.rows-preserved
+rows-preserved g c =
+    let rows = c.args.rows.now in
+    let basis = c.args.basis.now in
+    let f = g.F.Files.may_fail c.args.files.now in
+    let i = c.rows.row-index in
+    let row = c.row-item.result in
+    let kept = c.rows.invariant in
+    let step = row_step rows i row c.rows-test.true c.row-item.is in
+    record {
+      found = λ world told left h.
+          let here = c.in_ok-entries.ensures.found world told in
+          kept.found world told (joined here.0 left) (ap (rows_audit world basis) step
+          ∙ rows_more world basis row (drop (i + 1) rows) here.0 left here.1 h)
+          ∙ ap Ok (joins i c.rows.entries _ c.rows.findings c.audit_row.new.findings here.0 left here.2 here.3 here.4);
+      ends = λ world told e h.
+          let here = c.in_ok-entries.ensures.found world told in
+          kept.ends world told e
+          (subst (λ rs. MayEnd (rows_audit world basis rs) (EndsAt world f (paths_of rs)) ⊥ e) (sym step)
+          (later_row_ends f world basis row (drop (i + 1) rows) here.0 e here.1 h));
+      few = omega (arith, kept.few);
+    }
+
+pub returns-in_err-entries-clause-refused : goal.returns-in_err-entries-clause-refused
+returns-in_err-entries-clause-refused g c =
+    let p = err_from_is_err_and c.from_residual.result c.from_residual.ensures.1 in
+    let rows = c.args.rows.now in
+    let basis = c.args.basis.now in
+    let f = g.F.Files.may_fail c.args.files.now in
+    let i = c.rows.row-index in
+    let row = c.row-item.result in
+    let e = c.in_err-entries.field-0.0 in
+    let step = row_step rows i row c.rows-test.true c.row-item.is in
+    λ world told. rw (p.1, p.2)
+    (c.rows.invariant.ends world told e
+    (subst (λ rs. MayEnd (rows_audit world basis rs) (EndsAt world f (paths_of rs)) ⊥ e) (sym step)
+    (first_row_ends f world basis row (drop (i + 1) rows) e (c.in_err-entries.ensures.refused world told))))
+
+pub returns-clause-found : goal.returns-clause-found
+returns-clause-found g c =
+    let rows = c.args.rows.now in
+    let low : length rows ≤ c.rows.row-index = c.rows-test.false in
+    let high : c.rows.row-index ≤ length rows = c.rows.auto.row-index-end in
+    let all : c.rows.row-index ≡ length rows = omega arith in
+    λ world told.
+    rows_end world c.args.basis.now rows c.rows.row-index (length rows) c.rows.entries c.rows.findings low all
+    (c.rows.invariant.found world told)

@@ -1,0 +1,4 @@
+pub mod Subjects
+pub mod Audits
+pub mod Texts
+pub mod Premises

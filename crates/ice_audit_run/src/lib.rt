@@ -1,0 +1,15 @@
+//! Audits of a table's snapshot over any files: every manifest is read, and what is found is written, line by line.
+#![tactic(auto)]
+
+mod audit;
+mod laws;
+mod lines;
+mod manifests;
+mod running;
+mod subject;
+
+pub use audit::Audit;
+pub use ice_audit::{Basis, Finding, Flaw};
+pub use laws::audits_tell_of_summaries;
+pub use running::{audit_file, run_audit};
+pub use subject::{Subject, select_subject};

@@ -1,0 +1,75 @@
+//! The live entries of a row's manifest.
+
+ghost use Rattle.std.specs.Prelude.{◌≡◌, ◌≢◌, ◌⊎◌, Ok, Err, IfOk, IfErr, IsErrOf};
+ghost use Rattle.std.specs.Option.{option_copied};
+ghost use Rattle.ice_audit_run.specs.Audits.{all_known, of_manifest, spec_for as spec_wanted};
+ghost use Rattle.ice_manifest_reading.specs.Manifests.{entries_of};
+ghost use Rattle.ice_state.specs.Specs.{spec_of};
+ghost use Rattle.ice_text.specs.Reads.{MayEnd, as_run};
+
+use ice_manifest_reading::{EntryView, Everything, ManifestFault, Row, read_kept};
+use ice_meta::Spec;
+use ice_state::{FinishFault, ScanFault};
+use ice_text::RunFault;
+use std::alloc::Global;
+
+fn spec_of(specs: &[Spec], id: i32) -> Option<&Spec>
+    ensures { option_copied result ≡ spec_of specs.now id }
+{
+    specs.iter().find(|spec| spec.id == id)
+}
+
+/// The spec of a row.
+pub fn spec_for<'a>(specs: &'a [Spec], row: &Row) -> Result<&'a Spec, RunFault>
+    ensures ok { IfOk result (λ spec. spec_wanted specs.now row.now ≡ Ok spec.now) }
+    ensures err { IfErr result (λ e. spec_wanted specs.now row.now ≡ Err e) }
+    ensures write { IsErrOf result RunFault.Write → ⊥ }
+{
+    match spec_of(specs, row.spec_id) {
+        Some(spec) => Ok(spec),
+        None => Err(RunFault::Scan(ScanFault::NoSuchSpec(row.spec_id))),
+    }
+}
+
+/// Stops at the first row whose spec is missing.
+pub fn check_specs(specs: &[Spec], rows: &[Row]) -> Result<(), RunFault>
+    ensures known { result ≡ all_known specs.now rows.now }
+    ensures write { IsErrOf result RunFault.Write → ⊥ }
+{
+    'rows: for row in rows {
+        spec_for(specs, row)?;
+    }
+    Ok(())
+}
+
+/// Why the manifest of a row can't be read; or that memory ran out.
+fn refusal(alloc: Global, row: &Row, fault: ManifestFault) -> RunFault
+    ensures cause { (result ≡ RunFault.Memory) ⊎ (result ≡ of_manifest row.now.path fault) }
+    ensures write { result ≢ RunFault.Write }
+{
+    if let ManifestFault::Memory = fault {
+        return RunFault::Memory;
+    }
+    match row.path.copy(alloc) {
+        Ok(path) => RunFault::Finish(FinishFault::Bad(path, fault)),
+        Err(_) => RunFault::Memory,
+    }
+}
+
+/// The live entries of the manifest of a row and its spec.
+pub fn entries_in<'d>(
+    alloc: Global,
+    row: &Row,
+    spec: &Spec,
+    bytes: &'d [u8],
+) -> Result<Vec<EntryView<'d>>, RunFault>
+    ensures found { IfOk result (λ found. entries_of row.now spec.now bytes.now ≡ Ok found.items) }
+    ensures refused { IfErr result (MayEnd (as_run (of_manifest row.now.path) (entries_of row.now spec.now bytes.now))
+        (λ _. ⊥) ⊥) }
+    ensures write { IsErrOf result RunFault.Write → ⊥ }
+{
+    match read_kept(alloc, row, spec, &Everything, bytes) {
+        Ok(found) => Ok(found),
+        Err(fault) => Err(refusal(alloc, row, fault)),
+    }
+}

@@ -1,0 +1,114 @@
+//! Audits that are asked for, over any files.
+
+ghost use Rattle.std.specs.Prelude.{◌≡◌, ◌≢◌, Some, Ok, IfOk, IfErr, IsErrOf};
+ghost use Rattle.ice_audit_run.specs.Audits.{audit_at, audit_of, audit_reads, audit_reads_at};
+ghost use Rattle.ice_audit_run.specs.Premises.{HasTrueSummaries, HasTrueSummariesAt};
+ghost use Rattle.ice_audit_run.specs.Texts.{WroteAudit, WroteAuditFront};
+ghost use Rattle.ice_desk.specs.Worlds.{EndsAt};
+ghost use Rattle.ice_state.specs.Contents.{World};
+ghost use Rattle.ice_text.specs.Reads.{MayEnd};
+
+use crate::audit::{Audit, audit_rows};
+use crate::laws::audits_tell_of_summaries;
+use crate::lines::audit_lines;
+use crate::manifests::check_specs;
+use crate::subject::select_subject;
+use ice_desk::{Files, MOST_WORKERS};
+use ice_meta::Target;
+use ice_text::{RunFault, Sink, read_file, read_rows, write_all};
+use std::alloc::Global;
+
+/// What a snapshot's audit finds.
+fn audit_table<F: Files>(
+    alloc: Global,
+    files: &F,
+    metadata: &[u8],
+    target: &Target,
+) -> Result<Audit, RunFault>
+    ensures found { (world : World) → F.world files.now ≡ Some world →
+        IfOk result (λ audit. audit_of world metadata.now target.now ≡ Ok audit) }
+    ensures refused { (world : World) → F.world files.now ≡ Some world →
+        IfErr result (MayEnd (audit_of world metadata.now target.now)
+        (EndsAt world (F.may_fail files.now) (audit_reads world metadata.now target.now)) ⊥) }
+    ensures write { IsErrOf result RunFault.Write → ⊥ }
+{
+    let subject = select_subject(alloc, metadata, target)?;
+    let rows = read_rows(alloc, files, subject.list.as_str())?;
+    check_specs(subject.basis.specs.as_slice(), &rows)?;
+    audit_rows(alloc, files, &subject.basis, &rows)
+}
+
+/// Audits a snapshot of the table whose metadata these are the bytes of: reads each of its manifests, also those that
+/// no filter wants, writes a line for each finding and then their numbers, and gives the number of findings.
+///
+/// Where there is none, the summaries of all manifests tell the truth: the premise under which `run_plan` writes, for
+/// any filter, the plan over all manifests of the snapshot.
+///
+/// The refusal is `Metadata` with the first fault of the bytes, or where there is no such snapshot; then, of reading
+/// the manifest list and after it the manifests in the order of their paths, `Absent` for the first that is not there
+/// and `Device` for the first that can't be read; between them `List` and `Scan` where the list is at fault, and
+/// `Finish` for the first manifest at fault. Then nothing was written, and neither after `Memory`. After `Write`, for
+/// which a write failed, a front of the text was.
+pub fn run_audit<F: Files, W: Sink>(
+    alloc: Global,
+    files: &F,
+    metadata: &[u8],
+    target: &Target,
+    output: &mut W,
+) -> Result<usize, RunFault>
+    // Over files that tell their world.
+    ensures written { (world : World) → F.world files.now ≡ Some world →
+        IfOk result (λ count. WroteAudit (audit_of world metadata.now target.now) count (W.taken output.old)
+        (W.taken output.new)) }
+    ensures truth { (world : World) → F.world files.now ≡ Some world →
+        IfOk result (λ count. count ≡ 0 → HasTrueSummaries world metadata.now target.now) }
+    ensures refused { (world : World) → F.world files.now ≡ Some world →
+        IfErr result (MayEnd (audit_of world metadata.now target.now)
+        (EndsAt world (F.may_fail files.now) (audit_reads world metadata.now target.now)) (W.may_fail output.old)) }
+    ensures front { (world : World) → F.world files.now ≡ Some world → IsErrOf result RunFault.Write →
+        WroteAuditFront (audit_of world metadata.now target.now) (W.taken output.old) (W.taken output.new) }
+
+    // Over all files.
+    ensures nothing { IfErr result (λ fault. fault ≢ RunFault.Write → W.taken output.new ≡ W.taken output.old) }
+{
+    audits_tell_of_summaries();
+    let audit = audit_table(alloc, files, metadata, target)?;
+    let text = audit_lines(alloc, &audit)?;
+    write_all(output, &text)?;
+    Ok(audit.findings.as_slice().len())
+}
+
+/// Audits a snapshot of the table whose metadata is in the file at a path, and gives the number of findings. All is
+/// read by one worker, whatever the number of workers.
+///
+/// The refusal is `Absent` where there is no such file, `Device` where reading it failed; then `Workers` where there
+/// are to be none, or more than 64; else as `run_audit`'s.
+pub fn audit_file<F: Files, W: Sink>(
+    alloc: Global,
+    files: &F,
+    path: &str,
+    target: &Target,
+    workers: usize,
+    output: &mut W,
+) -> Result<usize, RunFault>
+    // Over files that tell their world.
+    ensures written { (world : World) → F.world files.now ≡ Some world →
+        IfOk result (λ count. WroteAudit (audit_at world path.now target.now workers) count (W.taken output.old)
+        (W.taken output.new)) }
+    ensures truth { (world : World) → F.world files.now ≡ Some world →
+        IfOk result (λ count. count ≡ 0 → HasTrueSummariesAt world path.now target.now) }
+    ensures refused { (world : World) → F.world files.now ≡ Some world →
+        IfErr result (MayEnd (audit_at world path.now target.now workers)
+        (EndsAt world (F.may_fail files.now) (audit_reads_at world path.now target.now)) (W.may_fail output.old)) }
+    ensures front { (world : World) → F.world files.now ≡ Some world → IsErrOf result RunFault.Write →
+        WroteAuditFront (audit_at world path.now target.now workers) (W.taken output.old) (W.taken output.new) }
+
+    // Over all files.
+    ensures nothing { IfErr result (λ fault. fault ≢ RunFault.Write → W.taken output.new ≡ W.taken output.old) }
+{
+    let metadata = read_file(alloc, files, path)?;
+    if workers == 0 || workers > MOST_WORKERS {
+        return Err(RunFault::Workers);
+    }
+    run_audit(alloc, files, &metadata, target, output)
+}

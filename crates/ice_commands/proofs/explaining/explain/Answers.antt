@@ -1,0 +1,8 @@
+use Rattle.ice_commands.proofs.explaining.explain.Goals as goal
+
+pub returns-clause-told : goal.returns-clause-told
+returns-clause-told g c = record {
+  between = g.E.Sink.taken c.report.new.errors;
+  line = record { front = c.report.ensures.front; all = c.report.ensures.all };
+  hint = c.put_hint.ensures;
+}
