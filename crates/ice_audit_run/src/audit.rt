@@ -87,7 +87,7 @@ fn audit_row<F: Files>(
     Ok(entries.len())
 }
 
-/// What is read of the manifests of these rows, one after the other: of each nothing is kept but what was found, and the
+/// What is read of the manifests of these rows, one after the other: of each nothing is kept but what was found and the
 /// paths of its live files.
 pub fn audit_rows<F: Files>(
     alloc: Global,

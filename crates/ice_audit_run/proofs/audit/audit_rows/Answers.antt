@@ -11,7 +11,8 @@ use Rattle.ice_audit_run.proofs.audit.audit_rows.Goals as goal
 
 pub rows-init : goal.rows-init
 rows-init g c = record {
-  found = λ world told left h. rw c.new-findings.ensures (h ∙ ap Ok (sym (join_nothing left)));
+  found = λ world told left h. rw (c.new-findings.ensures, c.new-live.ensures.items)
+      (h ∙ ap Ok (sym (join_nothing left)));
   ends = λ world told e h. h;
   few = omega arith;
 }
