@@ -1,6 +1,6 @@
 -- The steps of an audit, and why each of them may end the run.
 use Rattle.std.proofs.Common.{◌≡◌, ◌≢◌, ◌⊎◌, inl, inr, ℕ, ◌+◌, List, [], ◌∷◌, ◌++◌, length, refl, sym, ap, subst, ◌∙◌}
-use Rattle.std.proofs.Common.{Option, Some, None, is_some, arith, add_assoc, append_assoc, zero-add, ◌<◌, ◌≤◌}
+use Rattle.std.proofs.Common.{Option, Some, None, arith, add_assoc, append_assoc, zero-add, ◌<◌, ◌≤◌}
 use Rattle.std.proofs.Common.{add-one, add-zero, drop, drop-cons, get_or, map}
 use Rattle.std.proofs.Math.ListN.{drop_of_length-le}
 use Rattle.std.proofs.lemmas.List.{append-nil}
@@ -24,7 +24,7 @@ use Rattle.ice_meta.specs.declared.spec.Spec.{Spec}
 use Rattle.ice_state.specs.Contents.{World}
 use Rattle.ice_state.specs.declared.fault.ScanFault.TheVariants as scan
 use Rattle.ice_state.specs.Specs.{spec_of}
-use Rattle.ice_text.proofs.Steps.{bytes_in, fails_later, first_ends, only_first, then_ends}
+use Rattle.ice_text.proofs.Steps.{fails_later, first_ends, only_first, then_ends}
 use Rattle.ice_text.specs.Reads.{MayEnd, as_run, file_in, rows_at, rows_in}
 use Rattle.ice_text.specs.declared.fault.RunFault.{RunFault}
 use Rattle.ice_text.specs.declared.fault.RunFault.TheVariants as run
