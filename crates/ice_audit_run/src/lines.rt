@@ -50,7 +50,8 @@ fn push_flaw_end(text: &mut Vec<u8>, flaw: &Flaw) -> Result<(), AllocError>
     match flaw {
         Flaw::Uncovered(field) => push_path(text, b" field ", field.as_bytes()),
         Flaw::NoColumn(id) => push_int(text, b" column ", *id),
-        Flaw::LiveFiles | Flaw::LiveRows | Flaw::BelowLeast | Flaw::AboveLast | Flaw::LiveTwice => Ok(()),
+        Flaw::LiveFiles | Flaw::LiveRows | Flaw::BelowLeast | Flaw::AboveLast | Flaw::LiveTwice =>
+            Ok(()),
     }
 }
 
