@@ -3,3 +3,4 @@ pub mod Told
 pub mod Telltale
 pub mod Walks
 pub mod Counted
+pub mod Repeated

@@ -16,7 +16,11 @@ use Rattle.ice_audit.specs.Coverage.{outside}
 use Rattle.ice_audit.specs.Counting.{count_flaws, is_borne_out, live_by_counts, rows_of}
 use Rattle.ice_audit.specs.Findings.{entry_findings, finding_of, manifest_finding, missing, missing_columns, missing_in}
 use Rattle.ice_audit.specs.Flaws.{flaw_where}
+use Rattle.ice_audit.specs.Repeats.{path_before, repeat_where, repeats, repeats_behind, repeats_in}
 use Rattle.ice_audit.specs.Telling.{is_uncovered, uncovered}
+use Rattle.ice_audit.specs.declared.repeats.LiveFile.{LiveFile}
+use Rattle.contract_words.specs.Sorting.{sorted}
+use Rattle.std.specs.Str.{bytes_eq}
 
 -- ---- two lists
 
@@ -130,3 +134,21 @@ pub no_counts : (row : Row) (entries : List Entry)
 no_counts row entries = counted row
     (not (is_borne_out (live_by_counts row.counts.added_files row.counts.existing_files) (pos (length entries))))
     (not (is_borne_out (live_by_counts row.counts.added_rows row.counts.existing_rows) (rows_of entries)))
+
+-- ---- the findings on files that are live twice
+
+repeat_none : (b : Bool) (x : LiveFile) → uncovered (repeat_where b x) ≡ []
+repeat_none true x = refl
+repeat_none false x = refl
+
+none_behind : (x : LiveFile) (xs : List LiveFile) → uncovered (repeats_behind x xs) ≡ []
+none_behind x [] = refl
+none_behind x (y ∷ ys) = none_of_all (repeat_where (bytes_eq x.path y.path) y) (repeats_behind y ys)
+    (repeat_none (bytes_eq x.path y.path) y) (none_behind y ys)
+
+none_repeated : (xs : List LiveFile) → uncovered (repeats_in xs) ≡ []
+none_repeated [] = refl
+none_repeated (x ∷ xs) = none_behind x xs
+
+pub no_repeats : (files : List LiveFile) → uncovered (repeats files) ≡ []
+no_repeats files = none_repeated (sorted path_before files)

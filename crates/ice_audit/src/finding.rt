@@ -15,6 +15,8 @@ pub enum Flaw {
     BelowLeast,
     /// The entry's sequence number is above the table's last.
     AboveLast,
+    /// Another live file has the file's path.
+    LiveTwice,
     /// The file deletes by a column of this id, which the schema lacks.
     NoColumn(i32),
 }

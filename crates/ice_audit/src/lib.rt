@@ -9,8 +9,10 @@ mod finding;
 mod flaws;
 mod laws;
 mod limits;
+mod repeats;
 
 pub use basis::Basis;
 pub use entries::push_findings;
 pub use finding::{Finding, Flaw};
 pub use laws::{findings_tell_coverage, limits_tell_coverage};
+pub use repeats::{LiveFile, push_live, push_repeats};

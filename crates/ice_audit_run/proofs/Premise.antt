@@ -1,5 +1,5 @@
 -- No finding says that a summary does not cover an entry just where the premise of the plan holds.
-use Rattle.std.proofs.Common.{◌≡◌, ℕ, List, [], ◌∷◌, ◌++◌, length, refl, sym, ap, ◌∙◌}
+use Rattle.std.proofs.Common.{◌≡◌, ℕ, List, [], ◌∷◌, ◌++◌, length, map, refl, sym, ap, ◌∙◌}
 use Rattle.std.proofs.Common.{Option, Some, None, option_map, subst, arith}
 use Rattle.std.specs.Prelude.{Result, Ok, Err}
 use Rattle.std.specs.List.{AllByRecursion}
@@ -7,6 +7,7 @@ use Rattle.contract_words.specs.Outcome.{◌>>=◌}
 use Rattle.ice_audit.specs.declared.basis.Basis.{Basis}
 use Rattle.ice_audit.specs.declared.finding.Finding.{Finding}
 use Rattle.ice_audit.specs.Findings.{manifest_findings}
+use Rattle.ice_audit.specs.Repeats.{live_file, repeats}
 use Rattle.ice_manifest_fields.specs.declared.fault.ManifestFault.{ManifestFault}
 use Rattle.ice_manifest_reading.specs.Laws.{HasACellForEach}
 use Rattle.ice_manifest_reading.specs.Manifests.{entries, entries_of, live_of}
@@ -23,14 +24,15 @@ use Rattle.ice_text.specs.Reads.{as_run, file_in, rows_at}
 use Rattle.ice_text.specs.declared.fault.RunFault.{RunFault}
 use Rattle.ice_text.proofs.Steps.{bytes_in}
 use Rattle.ice_audit_run.specs.Audits.{all_known, audit_of, joined, nothing, of_manifest, or_unknown, row_audit}
-use Rattle.ice_audit_run.specs.Audits.{rows_audit, spec_for}
+use Rattle.ice_audit_run.specs.Audits.{rows_audit, spec_for, whole}
 use Rattle.ice_audit_run.specs.Premises.{HasTrueSummaries, HasTrueSummariesAt}
 use Rattle.ice_audit_run.specs.Subjects.{subject_of}
 use Rattle.ice_audit_run.specs.declared.audit.Audit.{Audit}
+use Rattle.ice_audit_run.specs.declared.audit.Reading.{Reading}
 use Rattle.ice_audit_run.specs.declared.subject.Subject.{Subject}
 use Rattle.ice_audit_run.proofs.Steps.{steps}
 use Rattle.ice_audit.proofs.Telltale.{told_of_covered, told_of_manifest}
-use Rattle.ice_audit.proofs.Told.{none_of_all, none_of_both}
+use Rattle.ice_audit.proofs.Told.{no_repeats, none_of_all, none_of_both}
 use Rattle.ice_audit.specs.Telling.{uncovered}
 
 -- ---- reading step by step
@@ -50,7 +52,7 @@ lives_in (Err e) found h = absurd cc
 
 -- ---- the manifest of a row
 
-pub record IsRowOf (world : World) (basis : Basis) (row : Row) (audit : Audit) : Type 0 where
+pub record IsRowOf (world : World) (basis : Basis) (row : Row) (audit : Reading) : Type 0 where
   pub spec : Spec
   pub bytes : List ℕ
   pub lives : List Live
@@ -59,7 +61,7 @@ pub record IsRowOf (world : World) (basis : Basis) (row : Row) (audit : Audit) :
   pub lives_are : live_of row spec bytes ≡ Ok lives
   pub findings_are : audit.findings ≡ manifest_findings basis row spec (entries lives)
 
-row_of : (world : World) (basis : Basis) (row : Row) (audit : Audit) → row_audit world basis row ≡ Ok audit
+row_of : (world : World) (basis : Basis) (row : Row) (audit : Reading) → row_audit world basis row ≡ Ok audit
     → IsRowOf world basis row audit
 unfolding row_audit entries_of
 row_of world basis row audit h =
@@ -72,6 +74,7 @@ row_of world basis row audit h =
       manifests = 1;
       entries = length three.0;
       findings = manifest_findings basis row one.0 three.0;
+      live = map (live_file row) three.0;
     } ≡ audit = cc three.2 in
     record {
       spec = one.0;
@@ -80,11 +83,11 @@ row_of world basis row audit h =
       spec_is = spec_there row (spec_of basis.specs row.spec_id) one.0 one.1;
       bytes_are = bytes_in world row.path two.0 two.1;
       lives_are = found.1;
-      findings_are = sym (ap (λ (a : Audit). a.findings) here)
+      findings_are = sym (ap (λ (a : Reading). a.findings) here)
           ∙ ap (λ (es : List Entry). manifest_findings basis row one.0 es) found.2;
     }
 
-live_are : (world : World) (basis : Basis) (row : Row) (audit : Audit) (r : IsRowOf world basis row audit)
+live_are : (world : World) (basis : Basis) (row : Row) (audit : Reading) (r : IsRowOf world basis row audit)
     → live world basis.specs row ≡ r.lives
 live_are world basis row audit r =
     ap (λ o. live_or_none (option_map (manifest_of basis.specs row) o)) r.bytes_are
@@ -95,7 +98,7 @@ abbrev IsRowCovered : World → Basis → Row → Type 0
 IsRowCovered world basis row = AllByRecursion (λ (l : Live). RowCovers basis.specs row l.entry.file.tuple)
     (live world basis.specs row)
 
-row_covered : (full : HasACellForEach) (world : World) (basis : Basis) (row : Row) (audit : Audit)
+row_covered : (full : HasACellForEach) (world : World) (basis : Basis) (row : Row) (audit : Reading)
     → row_audit world basis row ≡ Ok audit → uncovered audit.findings ≡ [] → IsRowCovered world basis row
 row_covered full world basis row audit h none =
     let r = row_of world basis row audit h in
@@ -104,7 +107,7 @@ row_covered full world basis row audit h none =
     (told_of_manifest full basis row r.spec r.spec_is r.bytes r.lives r.lives_are
     (ap uncovered (sym r.findings_are) ∙ none))
 
-row_none : (world : World) (basis : Basis) (row : Row) (audit : Audit) → row_audit world basis row ≡ Ok audit
+row_none : (world : World) (basis : Basis) (row : Row) (audit : Reading) → row_audit world basis row ≡ Ok audit
     → IsRowCovered world basis row → uncovered audit.findings ≡ []
 row_none world basis row audit h covered =
     let r = row_of world basis row audit h in
@@ -115,18 +118,18 @@ row_none world basis row audit h covered =
 
 -- ---- the manifests of all rows
 
-rows_parts : (world : World) (basis : Basis) (row : Row) (rows : List Row) (audit : Audit)
+rows_parts : (world : World) (basis : Basis) (row : Row) (rows : List Row) (audit : Reading)
     → rows_audit world basis (row ∷ rows) ≡ Ok audit
-    → (a : Audit) × (b : Audit) × (row_audit world basis row ≡ Ok a) × (rows_audit world basis rows ≡ Ok b)
+    → (a : Reading) × (b : Reading) × (row_audit world basis row ≡ Ok a) × (rows_audit world basis rows ≡ Ok b)
     × (audit.findings ≡ a.findings ++ b.findings)
 unfolding rows_audit
 rows_parts world basis row rows audit h =
     let one = steps (row_audit world basis row) _ audit h in
     let two = steps (rows_audit world basis rows) _ audit one.2 in
     let here : joined one.0 two.0 ≡ audit = cc two.2 in
-    (one.0, two.0, one.1, two.1, sym (ap (λ (a : Audit). a.findings) here))
+    (one.0, two.0, one.1, two.1, sym (ap (λ (a : Reading). a.findings) here))
 
-rows_covered : (full : HasACellForEach) (world : World) (basis : Basis) (rows : List Row) (audit : Audit)
+rows_covered : (full : HasACellForEach) (world : World) (basis : Basis) (rows : List Row) (audit : Reading)
     → rows_audit world basis rows ≡ Ok audit → uncovered audit.findings ≡ [] → AreCovered world basis.specs rows
 rows_covered full world basis [] audit h none = tt
 rows_covered full world basis (row ∷ rows) audit h none =
@@ -134,11 +137,11 @@ rows_covered full world basis (row ∷ rows) audit h none =
     let parts = none_of_both p.0.findings p.1.findings (ap uncovered (sym p.4) ∙ none) in
     (row_covered full world basis row p.0 p.2 parts.0, rows_covered full world basis rows p.1 p.3 parts.1)
 
-rows_none : (world : World) (basis : Basis) (rows : List Row) (audit : Audit) → rows_audit world basis rows ≡ Ok audit
+rows_none : (world : World) (basis : Basis) (rows : List Row) (audit : Reading) → rows_audit world basis rows ≡ Ok audit
     → AreCovered world basis.specs rows → uncovered audit.findings ≡ []
 unfolding rows_audit
 rows_none world basis [] audit h covered =
-    let here : nothing ≡ audit = cc in ap (λ (a : Audit). uncovered a.findings) (sym here)
+    let here : nothing ≡ audit = cc in ap (λ (a : Reading). uncovered a.findings) (sym here)
 rows_none world basis (row ∷ rows) audit h covered =
     let p = rows_parts world basis row rows audit h in
     ap uncovered p.4
@@ -152,7 +155,9 @@ pub record IsAuditOf (world : World) (metadata : List ℕ) (target : Target) (au
   pub rows : List Row
   pub subject_is : subject_of metadata target ≡ Ok subject
   pub rows_are : rows_at world subject.list ≡ Ok rows
-  pub audit_is : rows_audit world subject.basis rows ≡ Ok audit
+  pub read : Reading
+  pub read_is : rows_audit world subject.basis rows ≡ Ok read
+  pub audit_is : whole read ≡ audit
 
 pub parts_of : (world : World) (metadata : List ℕ) (target : Target) (audit : Audit)
     → audit_of world metadata target ≡ Ok audit → IsAuditOf world metadata target audit
@@ -161,7 +166,16 @@ parts_of world metadata target audit h =
     let one = steps (subject_of metadata target) _ audit h in
     let two = steps (rows_at world one.0.list) _ audit one.2 in
     let three = steps (all_known one.0.basis.specs two.0) _ audit two.2 in
-    record { subject = one.0; rows = two.0; subject_is = one.1; rows_are = two.1; audit_is = three.2 }
+    let four = steps (rows_audit world one.0.basis two.0) _ audit three.2 in
+    record {
+      subject = one.0;
+      rows = two.0;
+      subject_is = one.1;
+      rows_are = two.1;
+      read = four.0;
+      read_is = four.1;
+      audit_is = cc four.2;
+    }
 
 one_value : {A : Type 0} (r : Result A RunFault) (x y : A) → r ≡ Ok x → r ≡ Ok y → x ≡ y
 one_value (Ok z) x y h k = cc
@@ -172,7 +186,9 @@ pub truth : (full : HasACellForEach) (world : World) (metadata : List ℕ) (targ
     → HasTrueSummaries world metadata target
 truth full world metadata target audit h none =
     let p = parts_of world metadata target audit h in
-    let covered = rows_covered full world p.subject.basis p.rows audit p.audit_is none in
+    let parts = none_of_both p.read.findings (repeats p.read.live)
+    (ap (λ (a : Audit). uncovered a.findings) p.audit_is ∙ none) in
+    let covered = rows_covered full world p.subject.basis p.rows p.read p.read_is parts.0 in
     λ subject rows is has.
     let same : p.subject ≡ subject = one_value (subject_of metadata target) p.subject subject p.subject_is is in
     let alike : p.rows ≡ rows = one_value (rows_at world subject.list) p.rows rows
@@ -185,7 +201,10 @@ pub no_lie : (world : World) (metadata : List ℕ) (target : Target) (audit : Au
     → uncovered audit.findings ≡ []
 no_lie world metadata target audit h tells =
     let p = parts_of world metadata target audit h in
-    rows_none world p.subject.basis p.rows audit p.audit_is (tells p.subject p.rows p.subject_is p.rows_are)
+    let read_none = rows_none world p.subject.basis p.rows p.read p.read_is
+    (tells p.subject p.rows p.subject_is p.rows_are) in
+    ap (λ (a : Audit). uncovered a.findings) (sym p.audit_is)
+    ∙ none_of_all p.read.findings (repeats p.read.live) read_none (no_repeats p.read.live)
 
 -- where nothing was found
 pub none_at_zero : (findings : List Finding) → length findings ≡ 0 → uncovered findings ≡ []

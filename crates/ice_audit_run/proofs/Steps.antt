@@ -1,7 +1,7 @@
 -- The steps of an audit, and why each of them may end the run.
 use Rattle.std.proofs.Common.{◌≡◌, ◌≢◌, ◌⊎◌, inl, inr, ℕ, ◌+◌, List, [], ◌∷◌, ◌++◌, length, refl, sym, ap, subst, ◌∙◌}
-use Rattle.std.proofs.Common.{Option, Some, None, is_some, arith, add_assoc, append_assoc, zero-add, ◌<◌, ◌≤◌}
-use Rattle.std.proofs.Common.{add-one, add-zero, drop, drop-cons, get_or}
+use Rattle.std.proofs.Common.{Option, Some, None, arith, add_assoc, append_assoc, zero-add, ◌<◌, ◌≤◌}
+use Rattle.std.proofs.Common.{add-one, add-zero, drop, drop-cons, get_or, map}
 use Rattle.std.proofs.Math.ListN.{drop_of_length-le}
 use Rattle.std.proofs.lemmas.List.{append-nil}
 use Rattle.std.proofs.lemmas.Bool.{le-leb, lt-leb}
@@ -10,6 +10,8 @@ use Rattle.contract_words.specs.Outcome.{◌>>=◌}
 use Rattle.ice_audit.specs.declared.basis.Basis.{Basis}
 use Rattle.ice_audit.specs.declared.finding.Finding.{Finding}
 use Rattle.ice_audit.specs.Findings.{manifest_findings}
+use Rattle.ice_audit.specs.Repeats.{live_file}
+use Rattle.ice_audit.specs.declared.repeats.LiveFile.{LiveFile}
 use Rattle.ice_desk.specs.Wanted.{paths_of}
 use Rattle.ice_desk.specs.Worlds.{EndsAt}
 use Rattle.ice_manifest_fields.specs.declared.fault.ManifestFault.{ManifestFault}
@@ -22,15 +24,16 @@ use Rattle.ice_meta.specs.declared.spec.Spec.{Spec}
 use Rattle.ice_state.specs.Contents.{World}
 use Rattle.ice_state.specs.declared.fault.ScanFault.TheVariants as scan
 use Rattle.ice_state.specs.Specs.{spec_of}
-use Rattle.ice_text.proofs.Steps.{bytes_in, fails_later, first_ends, only_first, then_ends}
+use Rattle.ice_text.proofs.Steps.{fails_later, first_ends, only_first, then_ends}
 use Rattle.ice_text.specs.Reads.{MayEnd, as_run, file_in, rows_at, rows_in}
 use Rattle.ice_text.specs.declared.fault.RunFault.{RunFault}
 use Rattle.ice_text.specs.declared.fault.RunFault.TheVariants as run
 use Rattle.ice_audit_run.specs.Audits.{all_known, audit_at, audit_of, audit_reads, audit_reads_at, by_workers, joined}
 use Rattle.ice_audit_run.specs.Audits.{manifests_of, nothing, of_manifest, reads_behind}
-use Rattle.ice_audit_run.specs.Audits.{or_unknown, reads_of, row_audit, rows_audit, spec_for}
+use Rattle.ice_audit_run.specs.Audits.{or_unknown, reads_of, row_audit, rows_audit, spec_for, whole}
 use Rattle.ice_audit_run.specs.Subjects.{IsOfMetadata, subject_of}
 use Rattle.ice_audit_run.specs.declared.audit.Audit.{Audit}
+use Rattle.ice_audit_run.specs.declared.audit.Reading.{Reading}
 use Rattle.ice_audit_run.specs.declared.subject.Subject.{Subject}
 
 -- ---- the manifest of a row
@@ -98,18 +101,19 @@ module _ (f : List ℕ → Type 0) (world : World) (basis : Basis) (row : Row) w
             manifests = 1;
             entries = length found;
             findings = manifest_findings basis row spec found;
+            live = map (live_file row) found;
           })
       unfolding row_audit
       row_there found is = rw (known, has, is) refl
 
 -- ---- the manifests of all rows
 
-row_bytes : (world : World) (basis : Basis) (row : Row) (audit : Audit) → row_audit world basis row ≡ Ok audit
+row_bytes : (world : World) (basis : Basis) (row : Row) (read : Reading) → row_audit world basis row ≡ Ok read
     → (bytes : List ℕ) × (file_in world row.path ≡ Ok bytes)
 unfolding row_audit
-row_bytes world basis row audit h =
-    let one = steps (spec_for basis.specs row) _ audit h in
-    let two = steps (file_in world row.path) _ audit one.2 in
+row_bytes world basis row read h =
+    let one = steps (spec_for basis.specs row) _ read h in
+    let two = steps (file_in world row.path) _ read one.2 in
     (two.0, two.1)
 
 module _ (f : List ℕ → Type 0) (world : World) (basis : Basis) (row : Row) (rows : List Row) where
@@ -122,17 +126,17 @@ module _ (f : List ℕ → Type 0) (world : World) (basis : Basis) (row : Row) (
   first_row_ends e h = first_ends at_rows ⊥ (EndsAt world f (row.path ∷ [])) (row_audit world basis row) _ e
       (λ p m. only_first world f row.path (paths_of rows) p m) h
 
-  pub later_row_ends : (audit : Audit) (e : RunFault) → row_audit world basis row ≡ Ok audit
+  pub later_row_ends : (read : Reading) (e : RunFault) → row_audit world basis row ≡ Ok read
       → MayEnd (rows_audit world basis rows) (EndsAt world f (paths_of rows)) ⊥ e
       → MayEnd (rows_audit world basis (row ∷ rows)) at_rows ⊥ e
   unfolding rows_audit
-  later_row_ends audit e is h =
-      let bytes = row_bytes world basis row audit is in
-      then_ends at_rows ⊥ (row_audit world basis row) _ audit e is
+  later_row_ends read e is h =
+      let bytes = row_bytes world basis row read is in
+      then_ends at_rows ⊥ (row_audit world basis row) _ read e is
       (first_ends at_rows ⊥ (EndsAt world f (paths_of rows)) (rows_audit world basis rows) _ e
       (λ p m. fails_later world f row.path bytes.0 (paths_of rows) p bytes.1 m) h)
 
-pub rows_more : (world : World) (basis : Basis) (row : Row) (rows : List Row) (a b : Audit)
+pub rows_more : (world : World) (basis : Basis) (row : Row) (rows : List Row) (a b : Reading)
     → row_audit world basis row ≡ Ok a → rows_audit world basis rows ≡ Ok b
     → rows_audit world basis (row ∷ rows) ≡ Ok (joined a b)
 unfolding rows_audit
@@ -147,29 +151,31 @@ pub row_step : (rows : List Row) (i : ℕ) (row : Row) → i < length rows → r
     → drop i rows ≡ row ∷ drop (i + 1) rows
 row_step rows i row lt is = drop-cons rows i row lt ∙ rw (← is, add-one) refl
 
-nothing_joined : (n m : ℕ) (fs : List Finding)
-    → joined (record { manifests = n; entries = m; findings = fs }) nothing
-    ≡ record { manifests = n; entries = m; findings = fs }
-nothing_joined n m fs = simp (add-zero, append-nil)
+nothing_joined : (n m : ℕ) (fs : List Finding) (ls : List LiveFile)
+    → joined (record { manifests = n; entries = m; findings = fs; live = ls }) nothing
+    ≡ record { manifests = n; entries = m; findings = fs; live = ls }
+nothing_joined n m fs ls = simp (add-zero, append-nil)
 
 -- behind the last row nothing is left to audit
-pub rows_end : (world : World) (basis : Basis) (rows : List Row) (i n m : ℕ) (fs : List Finding)
+pub rows_end : (world : World) (basis : Basis) (rows : List Row) (i n m : ℕ) (fs : List Finding) (ls : List LiveFile)
     → length rows ≤ i → i ≡ n
-    → ((left : Audit) → rows_audit world basis (drop i rows) ≡ Ok left
-    → rows_audit world basis rows ≡ Ok (joined (record { manifests = i; entries = m; findings = fs }) left))
-    → rows_audit world basis rows ≡ Ok (record { manifests = n; entries = m; findings = fs })
-rows_end world basis rows i n m fs past is h =
+    → ((left : Reading) → rows_audit world basis (drop i rows) ≡ Ok left
+    → rows_audit world basis rows
+    ≡ Ok (joined (record { manifests = i; entries = m; findings = fs; live = ls }) left))
+    → rows_audit world basis rows ≡ Ok (record { manifests = n; entries = m; findings = fs; live = ls })
+rows_end world basis rows i n m fs ls past is h =
     let none : drop i rows ≡ [] = drop_of_length-le rows past in
-    h nothing (ap (rows_audit world basis) none ∙ no_rows world basis) ∙ rw is (ap Ok (nothing_joined n m fs))
+    h nothing (ap (rows_audit world basis) none ∙ no_rows world basis) ∙ rw is (ap Ok (nothing_joined n m fs ls))
 
-pub join_nothing : (a : Audit) → joined nothing a ≡ a
+pub join_nothing : (a : Reading) → joined nothing a ≡ a
 join_nothing a = simp zero-add
 
 -- what is joined to one more
-pub joins : (i m n : ℕ) (fs gs : List Finding) (x a : Audit) → x.manifests ≡ 1 → x.entries ≡ n → gs ≡ fs ++ x.findings
-    → joined (record { manifests = i; entries = m; findings = fs }) (joined x a)
-    ≡ joined (record { manifests = i + 1; entries = m + n; findings = gs }) a
-joins i m n fs gs x a one es found = rw (one, es, found) (simp (add_assoc, append_assoc))
+pub joins : (i m n : ℕ) (fs gs : List Finding) (ks ls : List LiveFile) (x a : Reading) → x.manifests ≡ 1
+    → x.entries ≡ n → gs ≡ fs ++ x.findings → ls ≡ ks ++ x.live
+    → joined (record { manifests = i; entries = m; findings = fs; live = ks }) (joined x a)
+    ≡ joined (record { manifests = i + 1; entries = m + n; findings = gs; live = ls }) a
+joins i m n fs gs ks ls x a one es found has = rw (one, es, found, has) (simp (add_assoc, append_assoc))
 
 -- ---- a snapshot
 
@@ -267,7 +273,7 @@ module _ (f : List ℕ → Type 0) (world : World) (metadata : List ℕ) (target
         (known_ends (λ _. ⊥) ⊥ subject.basis.specs rows e h)))
 
     module _ (known : all_known subject.basis.specs rows ≡ Ok tt) where
-      audit_is : audit_of world metadata target ≡ rows_audit world subject.basis rows
+      audit_is : audit_of world metadata target ≡ (rows_audit world subject.basis rows >>= λ read. Ok (whole read))
       unfolding audit_of
       audit_is = rw (is, has, known) refl
 
@@ -276,12 +282,12 @@ module _ (f : List ℕ → Type 0) (world : World) (metadata : List ℕ) (target
       unfolding audit_of
       no_audit e h =
           let later = first_ends stops ⊥ (EndsAt world f (paths_of rows)) (rows_audit world subject.basis rows)
-          (λ a. Ok a) e reads_manifests h in
-          subst (λ read. MayEnd read stops ⊥ e) (same (rows_audit world subject.basis rows) ∙ sym audit_is) later
+          (λ read. Ok (whole read)) e reads_manifests h in
+          subst (λ found. MayEnd found stops ⊥ e) (sym audit_is) later
 
-      pub audit_there : (audit : Audit) → rows_audit world subject.basis rows ≡ Ok audit
-          → audit_of world metadata target ≡ Ok audit
-      audit_there audit h = audit_is ∙ h
+      pub audit_there : (read : Reading) → rows_audit world subject.basis rows ≡ Ok read
+          → audit_of world metadata target ≡ Ok (whole read)
+      audit_there read h = audit_is ∙ ap (λ (found : Result Reading RunFault). found >>= λ r. Ok (whole r)) h
 
 -- ---- what is written
 

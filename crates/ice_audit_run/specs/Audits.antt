@@ -1,9 +1,10 @@
 -- Audits of a snapshot: every manifest is read, also those that no filter wants.
-use Rattle.std.specs.Prelude.{◌≡◌, ℕ, ◌+◌, List, [], ◌∷◌, ◌++◌, length, Option, Some, None, Result, Ok, Err}
-use Rattle.std.specs.Prelude.{◌&&◌, nat_le, if◌then◌else◌}
+use Rattle.std.specs.Prelude.{ℕ, ◌+◌, List, [], ◌∷◌, ◌++◌, length, Option, Some, None, Result, Ok, Err}
+use Rattle.std.specs.Prelude.{◌&&◌, map, nat_le, if◌then◌else◌}
 use Rattle.contract_words.specs.Outcome.{◌>>=◌}
 use Rattle.ice_audit.specs.declared.basis.Basis.{Basis}
 use Rattle.ice_audit.specs.Findings.{manifest_findings}
+use Rattle.ice_audit.specs.Repeats.{live_file, repeats}
 use Rattle.ice_desk.specs.Wanted.{paths_of}
 use Rattle.ice_manifest_fields.specs.declared.fault.ManifestFault.{ManifestFault}
 use Rattle.ice_manifest_fields.specs.declared.fault.ManifestFault.TheVariants as manifest
@@ -19,6 +20,7 @@ use Rattle.ice_text.specs.Reads.{as_run, file_in, rows_at}
 use Rattle.ice_text.specs.declared.fault.RunFault.{RunFault}
 use Rattle.ice_text.specs.declared.fault.RunFault.TheVariants as run
 use Rattle.ice_audit_run.specs.declared.audit.Audit.{Audit}
+use Rattle.ice_audit_run.specs.declared.audit.Reading.{Reading}
 use Rattle.ice_audit_run.specs.declared.subject.Subject.{Subject}
 use Rattle.ice_audit_run.specs.Subjects.{subject_of}
 
@@ -40,32 +42,43 @@ abbrev pub of_manifest : List ℕ → ManifestFault → RunFault
 of_manifest path manifest.Memory = run.Memory
 of_manifest path fault = run.Finish (finish.Bad path fault)
 
--- the audit of no manifest, and of some and then others
-abbrev pub nothing : Audit
-nothing = record { manifests = 0; entries = 0; findings = [] }
+-- what is read of no manifest, and of some and then others
+abbrev pub nothing : Reading
+nothing = record { manifests = 0; entries = 0; findings = []; live = [] }
 
-abbrev pub joined : Audit → Audit → Audit
+abbrev pub joined : Reading → Reading → Reading
 joined a b = record {
   manifests = a.manifests + b.manifests;
   entries = a.entries + b.entries;
   findings = a.findings ++ b.findings;
+  live = a.live ++ b.live;
 }
 
--- the audit of a row's manifest, or the first refusal: its spec is missing, it is absent, or it can't be read
-unfoldable pub row_audit : World → Basis → Row → Result Audit RunFault
+-- what is read of a row's manifest, or the first refusal: its spec is missing, it is absent, or it can't be read
+unfoldable pub row_audit : World → Basis → Row → Result Reading RunFault
 row_audit world basis row = do
   spec ← spec_for basis.specs row
   bytes ← file_in world row.path
   found ← as_run (of_manifest row.path) (entries_of row spec bytes)
-  Ok (record { manifests = 1; entries = length found; findings = manifest_findings basis row spec found })
+  Ok (record {
+    manifests = 1;
+    entries = length found;
+    findings = manifest_findings basis row spec found;
+    live = map (live_file row) found;
+  })
 
--- the audit of the manifests of these rows, in their order, or the first refusal
-unfoldable pub rows_audit : World → Basis → List Row → Result Audit RunFault
+-- what is read of the manifests of these rows, in their order, or the first refusal
+unfoldable pub rows_audit : World → Basis → List Row → Result Reading RunFault
 rows_audit world basis [] = Ok nothing
 rows_audit world basis (row ∷ rows) = do
   first ← row_audit world basis row
   others ← rows_audit world basis rows
   Ok (joined first others)
+
+-- the audit that reads this: behind what was found manifest by manifest stand the files whose path another has
+abbrev pub whole : Reading → Audit
+whole read =
+    record { manifests = read.manifests; entries = read.entries; findings = read.findings ++ repeats read.live }
 
 -- the audit of a snapshot of the table whose metadata these are the bytes of, or the first refusal: the metadata's,
 -- that of the manifest list, that a row's spec is missing, or that of a manifest
@@ -74,7 +87,8 @@ audit_of world metadata target = do
   subject ← subject_of metadata target
   rows ← rows_at world subject.list
   _ ← all_known subject.basis.specs rows
-  rows_audit world subject.basis rows
+  read ← rows_audit world subject.basis rows
+  Ok (whole read)
 
 -- the paths that are read, in this order: the list's, and then those of the manifests
 abbrev pub manifests_of : Result (List Row) RunFault → List (List ℕ)

@@ -4,7 +4,7 @@ use Rattle.std.specs.List.{flat_map}
 use Rattle.ice_audit.specs.declared.finding.Finding.{Finding}
 use Rattle.ice_audit.specs.declared.finding.Flaw.{Flaw}
 use Rattle.ice_audit.specs.declared.finding.Flaw.TheVariants.{LiveFiles, LiveRows, Uncovered, BelowLeast, AboveLast}
-use Rattle.ice_audit.specs.declared.finding.Flaw.TheVariants.{NoColumn}
+use Rattle.ice_audit.specs.declared.finding.Flaw.TheVariants.{LiveTwice, NoColumn}
 use Rattle.ice_print.specs.Pieces.{named_number, named_path, named_signed}
 use Rattle.ice_print.specs.Written.{Appends, AppendsFront}
 use Rattle.ice_text.specs.declared.fault.RunFault.{RunFault}
@@ -17,6 +17,7 @@ flaw_name LiveRows = codes "live-rows"
 flaw_name (Uncovered field) = codes "uncovered"
 flaw_name BelowLeast = codes "below-least"
 flaw_name AboveLast = codes "above-last"
+flaw_name LiveTwice = codes "live-twice"
 flaw_name (NoColumn id) = codes "no-column"
 
 -- the field or the column that it is about
@@ -27,6 +28,7 @@ flaw_end LiveFiles = []
 flaw_end LiveRows = []
 flaw_end BelowLeast = []
 flaw_end AboveLast = []
+flaw_end LiveTwice = []
 
 -- the file that it is about
 abbrev pub file_text : Option (List ℕ) → List ℕ

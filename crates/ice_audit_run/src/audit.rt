@@ -1,8 +1,8 @@
 //! The audit of a manifest list's rows.
 
 ghost use Rattle.std.specs.Prelude.{◌≡◌, ◌++◌, ◌∷◌, ℕ, List, [], Some, Ok, IfOk, IfErr, IsErrOf};
-ghost use Rattle.ice_audit_run.specs.Audits.{row_audit, rows_audit};
-ghost use Rattle.ice_audit_run.specs.declared.audit.Audit.{Audit};
+ghost use Rattle.ice_audit_run.specs.Audits.{row_audit, rows_audit, whole};
+ghost use Rattle.ice_audit_run.specs.declared.audit.Reading.{Reading};
 ghost use Rattle.ice_desk.specs.Wanted.{paths_of};
 ghost use Rattle.ice_desk.specs.Worlds.{EndsAt};
 ghost use Rattle.ice_state.specs.Contents.{World};
@@ -10,34 +10,70 @@ ghost use Rattle.ice_text.specs.Reads.{MayEnd};
 
 use crate::manifests::{entries_in, spec_for};
 use contract_words::Items;
-use ice_audit::{Basis, Finding, push_findings};
+use ice_audit::{Basis, Finding, LiveFile, push_findings, push_live, push_repeats};
 use ice_desk::Files;
 use ice_manifest_reading::Row;
 use ice_text::{RunFault, read_file};
-use std::alloc::Global;
+use std::alloc::{AllocError, Global};
 
-/// What was found of some manifests.
+/// What was found of a snapshot.
 #[derive(Debug, Drop)]
 pub struct Audit {
     /// How many manifests were read.
     pub manifests: usize,
     /// How many live entries they have.
     pub entries: u128,
-    /// What was found, manifest by manifest in the order of their paths, in each entry by entry.
+    /// What was found, manifest by manifest in the order of their paths, in each entry by entry; and then, in the order
+    /// of their paths, the files whose path another live file has.
     pub findings: Items<Finding>,
 }
 
-/// Puts the findings on a row's manifest last, and gives the number of its live entries.
+/// What was read of some manifests.
+#[derive(Debug, Drop)]
+pub struct Reading {
+    /// How many manifests there are.
+    pub manifests: usize,
+    /// How many live entries they have.
+    pub entries: u128,
+    /// What was found of each manifest.
+    pub findings: Items<Finding>,
+    /// The live files.
+    pub live: Items<LiveFile>,
+}
+
+impl Reading {
+    /// The audit that reads this, with what is found of all files together.
+    pub fn whole(self, alloc: Global) -> Result<Audit, AllocError>
+        ensures { IfOk result (λ audit. audit ≡ whole self) }
+    {
+        let Reading {
+            manifests,
+            entries,
+            mut findings,
+            live,
+        } = self;
+        push_repeats(alloc, &mut findings, live.into_vec())?;
+        Ok(Audit {
+            manifests,
+            entries,
+            findings,
+        })
+    }
+}
+
+/// Puts the findings on a row's manifest and its live files last, and gives the number of its live entries.
 fn audit_row<F: Files>(
     alloc: Global,
     files: &F,
     basis: &Basis,
     row: &Row,
     findings: &mut Items<Finding>,
+    live: &mut Vec<LiveFile>,
 ) -> Result<usize, RunFault>
     ensures found { (world : World) → F.world files.now ≡ Some world →
-        IfOk result (λ entries. (audit : Audit) × (row_audit world basis.now row.now ≡ Ok audit)
-        × (audit.manifests ≡ 1) × (audit.entries ≡ entries) × (findings.new ≡ findings.old ++ audit.findings)) }
+        IfOk result (λ entries. (read : Reading) × (row_audit world basis.now row.now ≡ Ok read)
+        × (read.manifests ≡ 1) × (read.entries ≡ entries) × (findings.new ≡ findings.old ++ read.findings)
+        × (live.new.items ≡ live.old.items ++ read.live)) }
     ensures refused { (world : World) → F.world files.now ≡ Some world →
         IfErr result (MayEnd (row_audit world basis.now row.now)
         (EndsAt world (F.may_fail files.now) (row.now.path ∷ [])) ⊥) }
@@ -47,31 +83,35 @@ fn audit_row<F: Files>(
     let bytes = read_file(alloc, files, row.path.as_str())?;
     let entries = entries_in(alloc, row, spec, &bytes)?;
     push_findings(alloc, findings, basis, row, spec, &entries)?;
+    push_live(alloc, live, row, &entries)?;
     Ok(entries.len())
 }
 
-/// The audit of the manifests of these rows, one after the other: of each nothing is kept but what was found.
+/// What is read of the manifests of these rows, one after the other: of each nothing is kept but what was found and the
+/// paths of its live files.
 pub fn audit_rows<F: Files>(
     alloc: Global,
     files: &F,
     basis: &Basis,
     rows: &[Row],
-) -> Result<Audit, RunFault>
+) -> Result<Reading, RunFault>
     ensures found { (world : World) → F.world files.now ≡ Some world →
-        IfOk result (λ audit. rows_audit world basis.now rows.now ≡ Ok audit) }
+        IfOk result (λ read. rows_audit world basis.now rows.now ≡ Ok read) }
     ensures refused { (world : World) → F.world files.now ≡ Some world →
         IfErr result (MayEnd (rows_audit world basis.now rows.now)
         (EndsAt world (F.may_fail files.now) (paths_of rows.now)) ⊥) }
     ensures write { IsErrOf result RunFault.Write → ⊥ }
 {
     let mut findings = Items::new(alloc);
+    let mut live = Vec::new(alloc);
     let mut entries: u128 = 0;
     'rows: for row in rows {
-        entries += audit_row(alloc, files, basis, row, &mut findings)? as u128;
+        entries += audit_row(alloc, files, basis, row, &mut findings, &mut live)? as u128;
     }
-    Ok(Audit {
+    Ok(Reading {
         manifests: rows.len(),
         entries,
         findings,
+        live: Items::from_vec(live),
     })
 }

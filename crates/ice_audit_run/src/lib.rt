@@ -8,8 +8,8 @@ mod manifests;
 mod running;
 mod subject;
 
-pub use audit::Audit;
-pub use ice_audit::{Basis, Finding, Flaw};
+pub use audit::{Audit, Reading};
+pub use ice_audit::{Basis, Finding, Flaw, LiveFile};
 pub use laws::audits_tell_of_summaries;
 pub use running::{audit_file, run_audit};
 pub use subject::{Subject, select_subject};

@@ -39,6 +39,7 @@ fn flaw_name(flaw: &Flaw) -> &'static [u8]
         Flaw::Uncovered(_) => b"uncovered",
         Flaw::BelowLeast => b"below-least",
         Flaw::AboveLast => b"above-last",
+        Flaw::LiveTwice => b"live-twice",
         Flaw::NoColumn(_) => b"no-column",
     }
 }
@@ -49,7 +50,8 @@ fn push_flaw_end(text: &mut Vec<u8>, flaw: &Flaw) -> Result<(), AllocError>
     match flaw {
         Flaw::Uncovered(field) => push_path(text, b" field ", field.as_bytes()),
         Flaw::NoColumn(id) => push_int(text, b" column ", *id),
-        Flaw::LiveFiles | Flaw::LiveRows | Flaw::BelowLeast | Flaw::AboveLast => Ok(()),
+        Flaw::LiveFiles | Flaw::LiveRows | Flaw::BelowLeast | Flaw::AboveLast | Flaw::LiveTwice =>
+            Ok(()),
     }
 }
 

@@ -35,7 +35,8 @@ fn audit_table<F: Files>(
     let subject = select_subject(alloc, metadata, target)?;
     let rows = read_rows(alloc, files, subject.list.as_str())?;
     check_specs(subject.basis.specs.as_slice(), &rows)?;
-    audit_rows(alloc, files, &subject.basis, &rows)
+    let read = audit_rows(alloc, files, &subject.basis, &rows)?;
+    Ok(read.whole(alloc)?)
 }
 
 /// Audits a snapshot of the table whose metadata these are the bytes of: reads each of its manifests, also those that

@@ -113,6 +113,7 @@ and findings:
   below-least  the file's sequence number is below the least one that the manifest list names
   above-last   the file's sequence number is above the table's last
   no-column    the file deletes by a column of this id, which the schema lacks
+  live-twice   another live entry has the file's path: `plan` refuses that (these lines come behind all others)
 Where no finding is `uncovered`, the plan under any filter is that of all manifests of the snapshot.
 
 Example, at the top of icescan's repository:

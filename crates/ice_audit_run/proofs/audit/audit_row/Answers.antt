@@ -41,4 +41,4 @@ returns-clause-found g c =
     let has = (rw c.as_str.ensures at (c.in_ok-bytes.ensures.found world told)) ∙ ap Ok (sym c.deref.ensures.value) in
     let is = row_there (g.F.Files.may_fail c.args.files.now) world c.args.basis.now c.args.row.now
     c.in_ok-spec.spec.now known c.deref.result.now has found.items c.in_ok-entries.ensures.found in
-    (_, is, refl, count, put)
+    (_, is, refl, count, put, rw c.deref-3.ensures.value at c.in_ok-push_live.ensures)

@@ -11,7 +11,8 @@ use Rattle.ice_audit_run.proofs.audit.audit_rows.Goals as goal
 
 pub rows-init : goal.rows-init
 rows-init g c = record {
-  found = λ world told left h. rw c.new-findings.ensures (h ∙ ap Ok (sym (join_nothing left)));
+  found = λ world told left h. rw (c.new-findings.ensures, c.new-live.ensures.items)
+      (h ∙ ap Ok (sym (join_nothing left)));
   ends = λ world told e h. h;
   few = omega arith;
 }
@@ -30,7 +31,8 @@ rows-preserved g c =
           let here = c.in_ok-entries.ensures.found world told in
           kept.found world told (joined here.0 left) (ap (rows_audit world basis) step
           ∙ rows_more world basis row (drop (i + 1) rows) here.0 left here.1 h)
-          ∙ ap Ok (joins i c.rows.entries _ c.rows.findings c.audit_row.new.findings here.0 left here.2 here.3 here.4);
+          ∙ ap Ok (joins i c.rows.entries _ c.rows.findings c.audit_row.new.findings c.rows.live.items
+          c.audit_row.new.live.items here.0 left here.2 here.3 here.4 here.5);
       ends = λ world told e h.
           let here = c.in_ok-entries.ensures.found world told in
           kept.ends world told e
@@ -60,6 +62,7 @@ returns-clause-found g c =
     let low : length rows ≤ c.rows.row-index = c.rows-test.false in
     let high : c.rows.row-index ≤ length rows = c.rows.auto.row-index-end in
     let all : c.rows.row-index ≡ length rows = omega arith in
-    λ world told.
-    rows_end world c.args.basis.now rows c.rows.row-index (length rows) c.rows.entries c.rows.findings low all
-    (c.rows.invariant.found world told)
+    λ world told. rw c.from_vec.ensures
+    (rows_end world c.args.basis.now rows c.rows.row-index (length rows) c.rows.entries c.rows.findings
+    c.rows.live.items low all
+    (c.rows.invariant.found world told))

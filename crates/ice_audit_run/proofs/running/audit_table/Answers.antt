@@ -1,5 +1,5 @@
 use Rattle.std.proofs.Common.{refl, sym}
-use Rattle.std.proofs.lemmas.Result.{err_from_is_err_and, IfErr-weaker, IfOk-weaker}
+use Rattle.std.proofs.lemmas.Result.{err_from_is_err_and}
 use Rattle.ice_audit_run.proofs.Steps.{audit_there, metadata_is_no_write, no_audit, no_list, no_specs, not_selected}
 use Rattle.ice_audit_run.proofs.running.audit_table.Goals as goal
 
@@ -35,24 +35,25 @@ returns-in_err-check_specs-clause-refused g c =
     (no_specs (g.F.Files.may_fail c.args.files.now) world c.args.metadata.now c.args.target.now c.in_ok-subject.subject
     c.in_ok-subject.ensures.gives c.in_ok-rows.rows.items has c.in_err-check_specs.field-0.0 unknown)
 
+pub returns-in_err-read-clause-refused : goal.returns-in_err-read-clause-refused
+returns-in_err-read-clause-refused g c =
+    let p = err_from_is_err_and c.from_residual-in_err-read.result c.from_residual-in_err-read.ensures.1 in
+    let f = g.F.Files.may_fail c.args.files.now in
+    let known = sym (rw (c.as_slice.ensures, c.deref.ensures.value) at c.in_ok-check_specs.ensures.known) in
+    λ world told.
+    let has = rw c.as_str.ensures at (c.in_ok-rows.ensures.found world told) in
+    let refused = rw c.deref-2.ensures.value at (c.in_err-read.ensures.refused world told) in
+    rw (p.1, p.2)
+    (no_audit f world c.args.metadata.now c.args.target.now c.in_ok-subject.subject c.in_ok-subject.ensures.gives
+    c.in_ok-rows.rows.items has known c.in_err-read.field-0.0 refused)
+
 pub returns-clause-found : goal.returns-clause-found
 returns-clause-found g c =
     let f = g.F.Files.may_fail c.args.files.now in
     let known = sym (rw (c.as_slice.ensures, c.deref.ensures.value) at c.in_ok-check_specs.ensures.known) in
     λ world told.
     let has = rw c.as_str.ensures at (c.in_ok-rows.ensures.found world told) in
-    IfOk-weaker c.audit_rows.result _ _
-    (λ audit h. audit_there f world c.args.metadata.now c.args.target.now c.in_ok-subject.subject
-    c.in_ok-subject.ensures.gives c.in_ok-rows.rows.items has known audit h)
-    (rw c.deref-2.ensures.value at (c.audit_rows.ensures.found world told))
-
-pub returns-clause-refused : goal.returns-clause-refused
-returns-clause-refused g c =
-    let f = g.F.Files.may_fail c.args.files.now in
-    let known = sym (rw (c.as_slice.ensures, c.deref.ensures.value) at c.in_ok-check_specs.ensures.known) in
-    λ world told.
-    let has = rw c.as_str.ensures at (c.in_ok-rows.ensures.found world told) in
-    IfErr-weaker c.audit_rows.result _ _
-    (λ e h. no_audit f world c.args.metadata.now c.args.target.now c.in_ok-subject.subject
-    c.in_ok-subject.ensures.gives c.in_ok-rows.rows.items has known e h)
-    (rw c.deref-2.ensures.value at (c.audit_rows.ensures.refused world told))
+    let read = rw c.deref-2.ensures.value at (c.in_ok-read.ensures.found world told) in
+    rw c.in_ok-whole.ensures
+    (audit_there f world c.args.metadata.now c.args.target.now c.in_ok-subject.subject c.in_ok-subject.ensures.gives
+    c.in_ok-rows.rows.items has known c.in_ok-read.read read)
