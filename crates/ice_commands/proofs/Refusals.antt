@@ -208,11 +208,11 @@ on_ok_as P r (Err e) is h = tt
 pub counted_ran : (known : Result (List ℕ) RunFault) (w : Type 0) (r : Result ℕ RunFault) (o o' : Option (List ℕ))
     → IfOk r (λ _. WroteText known o o') → IfErr r (MayRefuse known w) → IfErr r (λ fault. fault ≢ run.Write → o' ≡ o)
     → (IsErrOf r run.Write → WroteFront known o o') → Ran (Some known) w (ended r) o o'
-counted_ran known w (Ok n) o o' all no nothing front =
+counted_ran known w (Ok n) o o' all refusal nothing front =
     record { written = all; refused = tt; nothing = tt; front = λ is. absurd cc }
-counted_ran known w (Err e) o o' all no nothing front = record {
+counted_ran known w (Err e) o o' all refusal nothing front = record {
   written = tt;
-  refused = no;
+  refused = refusal;
   nothing = nothing;
   front = λ is. let failed : e ≡ run.Write = cc in front (ap Err failed);
 }

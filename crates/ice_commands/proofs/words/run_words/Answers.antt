@@ -5,8 +5,19 @@ use Rattle.ice_commands.proofs.words.run_words.Goals as goal
 pub returns-in-Ok : goal.returns-in-Ok
 returns-in-Ok g c =
     let w = c.in-Ok.ensures in
-    let ends = (c.in-Ok.count, w.6, c.status_of_count.ensures) in
-    record { run = (w.0, w.1, w.3, w.4, inl (record { written = w.5.written; silent = refl }, ends, w.2)) }
+    record {
+      run = (
+        w.0,
+        w.1,
+        w.3,
+        w.4,
+        inl (
+          record { written = w.5.written; silent = refl },
+          (c.in-Ok.count, w.6, c.status_of_count.ensures),
+          w.2,
+        ),
+      );
+    }
 
 pub returns-in-Err : goal.returns-in-Err
 returns-in-Err g c =
