@@ -12,11 +12,15 @@ returns-in-Ok-run_asked g c =
       c.in-Ok.ensures,
       ran.0,
       ran.1,
-      inl (record { written = ran.2.written; silent = refl }, (c.in-Ok-run_asked.count, ran.3, c.status_of_count.ensures), w.drilled),
+      inl (
+        record { written = ran.2.written; silent = refl },
+        (c.in-Ok-run_asked.count, ran.3, c.status_of_count.ensures),
+        w.drilled,
+      ),
     )
 
-pub returns-in-Err-run_asked : goal.returns-in-Err-run_asked
-returns-in-Err-run_asked g c =
+pub returns-in-Ok : goal.returns-in-Ok
+returns-in-Ok g c =
     let ran = c.in-Err-run_asked.ensures.ran in (
       Ok c.in-Ok.asked,
       c.in-Ok.ensures,
@@ -32,8 +36,8 @@ returns-in-Err-run_asked g c =
       }),
     )
 
-pub returns-in-Err : goal.returns-in-Err
-returns-in-Err g c =
+pub returns : goal.returns
+returns g c =
     let left = g.R.Read.remaining c.args.input.now in
     let fault = c.in-Err.fault in
     let ran = words_ran (g.W.Sink.may_fail c.args.output.now) (g.W.Sink.taken c.args.output.now) fault
