@@ -362,10 +362,13 @@ def play(program):
 
 
 def documented():
-    """What docs/REFUSALS.md says: number and name, what is wrong, what to do."""
-    found, above = [], None
+    """What docs/REFUSALS.md says of refusals: number and name, what is wrong, what to do."""
+    found, above, is_audit = [], None, False
     with open(os.path.join(TOP, "docs/REFUSALS.md")) as doc:
         for line in doc:
+            is_audit = line.startswith("## Findings") or is_audit and not line.startswith("## ")
+            if is_audit:
+                continue
             cells = [cell.strip() for cell in re.split(r"(?<!\\)\|", line)[1:-1]]
             if len(cells) != 4 or not cells[0].startswith("`"):
                 continue
