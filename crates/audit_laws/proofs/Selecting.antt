@@ -1,12 +1,10 @@
 -- What is audited of a table is what a plan of it reads, whatever its filter.
-use Rattle.std.proofs.Common.{◌≡◌, ℕ, List, [], refl, sym, ap, subst, ◌∙◌, Option, None}
+use Rattle.std.proofs.Common.{◌≡◌, ℕ, List, [], sym, ap, subst, ◌∙◌, Option, None}
 use Rattle.std.specs.Prelude.{Result, Ok, Err}
 use Rattle.contract_words.specs.Outcome.{◌>>=◌}
 use Rattle.ice_filter.specs.declared.bound.BoundLeaf.{BoundLeaf}
-use Rattle.ice_filter.specs.declared.fault.FilterFault.{FilterFault}
 use Rattle.ice_filter.specs.declared.leaf.Leaf.{Leaf}
 use Rattle.ice_filter.specs.declared.parts.Part.{Part}
-use Rattle.ice_meta.specs.declared.fault.MetaFault.{MetaFault}
 use Rattle.ice_meta.specs.declared.metadata.Target.{Target}
 use Rattle.ice_meta.specs.declared.schema.Schema.{Schema}
 use Rattle.ice_meta.specs.declared.spec.Spec.{Spec}
@@ -18,7 +16,6 @@ use Rattle.ice_text.specs.declared.fault.RunFault.{RunFault}
 use Rattle.ice_text.specs.declared.request.Request.{Request}
 use Rattle.ice_requests.specs.Selections.{bound_in, parts_in, selected, selected_by}
 use Rattle.ice_requests.specs.declared.selection.Selection.{Selection}
-use Rattle.ice_manifest_reading.specs.declared.row.Row.{Row}
 use Rattle.ice_requests.specs.Plans.{TellsTheTruth}
 use Rattle.ice_state.specs.Contents.{World}
 use Rattle.ice_state.specs.Covering.{AreCovered}
