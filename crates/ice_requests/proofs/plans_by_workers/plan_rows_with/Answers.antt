@@ -50,7 +50,7 @@ returns-clause-answers g c =
       written = on_ok_weaker c.write_plan_by_workers.result (λ all. (lines, is, all))
           (rw c.lines.ensures at c.write_plan_by_workers.ensures.all);
       refused = write_ends c.write_plan_by_workers.result _ _ w c.write_plan_by_workers.ensures.causes
-        c.write_plan_by_workers.ensures.cause;
+          c.write_plan_by_workers.ensures.cause;
       front = λ failed. (lines, is, rw c.lines.ensures at (c.write_plan_by_workers.ensures.front failed));
     }
 
@@ -59,6 +59,6 @@ returns-clause-text g c =
     let plan = c.in_ok-plan.plan in
     record {
       all = on_ok_weaker c.write_plan_by_workers.result (λ all. (plan, all))
-        (rw c.lines.ensures at c.write_plan_by_workers.ensures.all);
+          (rw c.lines.ensures at c.write_plan_by_workers.ensures.all);
       front = λ failed. (plan, rw c.lines.ensures at (c.write_plan_by_workers.ensures.front failed));
     }
