@@ -2,9 +2,9 @@
 """failing_plans.py PROGRAM: plans of a small table whose files can't be read for a while, or whose text can't be
 written.
 
-Each file that a plan reads fails 1 to 4 times, with 1, 2 and 64 workers. More than one worker has a manifest that
-failed three times in the plan, and one that failed four times refused, as the metadata and the list are that failed
-once. One worker tries each file once. No thread is started, and the plan is the same. Standard output takes each number
+Each file that a plan reads fails 1 to 4 times, with 1, 2 and 64 workers. A manifest that failed three times is in the
+plan, and one that failed four times is refused, as the metadata and the list are that failed once. No thread is
+started, and the plan is the same. Standard output takes each number
 of bytes below those of the plan, and then refuses, or takes nothing: the run has to end in `W1 Write`, and what went
 out is just that front of the text.
 
