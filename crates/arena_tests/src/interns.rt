@@ -12,7 +12,7 @@ type Row = (&'static [u8], u32);
 const RESERVED: [Row; 3] = [(b"ab", 0), (b"cd", 1), (b"ab", 0)];
 
 /// Without room that was made before.
-const PATHS: [Row; 9] = [
+const PATHS: [Row; 14] = [
     (b"s3://a/one", 0),
     (b"", 1),
     (b"s3://a/two", 2),
@@ -22,6 +22,12 @@ const PATHS: [Row; 9] = [
     (b"s3://a/on", 4),
     (b"\x00", 5),
     (b"s3://a/two", 2),
+    // From here on all have one hash.
+    (b"s3://a/one/file0.orc-zzz", 6),
+    (b"s3://a/oaipbnepdJg8S22rG", 7),
+    (b"s3://a/oplodhpalcGrtVv.2", 8),
+    (b"s3://a/openljiljbfjilnoiHpATxCkQ", 9),
+    (b"s3://a/oaipbnepdJg8S22rG", 7),
 ];
 
 /// Whether each string gets its number.
@@ -57,11 +63,16 @@ fn unreserved(rt: HostRuntime) {
                 b"s3://a/two",
                 b"s3://a/one.",
                 b"s3://a/on",
-                b"\x00"
+                b"\x00",
+                b"s3://a/one/file0.orc-zzz",
+                b"s3://a/oaipbnepdJg8S22rG",
+                b"s3://a/oplodhpalcGrtVv.2",
+                b"s3://a/openljiljbfjilnoiHpATxCkQ"
             ]
         )
     );
     assert!(rt; arena.find(b"s3://a/ONE").is_none());
+    assert!(rt; arena.find(b"s3://a/obofclchk.6XcAeji").is_none());
 }
 
 fn path(alloc: Global, number: u32) -> Result<String, AllocError> {
