@@ -4,3 +4,4 @@ pub mod Cells
 pub mod Columns
 pub mod Equality
 pub mod Pairs
+pub mod Summaries
