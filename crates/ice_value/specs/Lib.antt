@@ -4,4 +4,6 @@ pub mod Cells
 pub mod Columns
 pub mod Equality
 pub mod Pairs
+pub mod Runs
+pub mod Said
 pub mod Summaries

@@ -1,25 +1,14 @@
 -- What a manifest list says of one partition field (Apache Iceberg table spec v2, "Manifest Lists": field_summary).
-use Rattle.std.specs.Prelude.{ℕ, Bool, ◌&&◌, List, Option, None, Some}
-use Rattle.std.specs.Global.{Box}
+use Rattle.std.specs.Prelude.{ℕ, Bool, ◌&&◌, List, Option}
 use Rattle.std.specs.Option.{option_eq}
 use Rattle.std.specs.Str.{bytes_eq}
 use Rattle.std.proofs.Math.Bool.{beq}
-use Rattle.ice_value.specs.declared.file_bounds.Bounds.{Bounds}
 
 pub record FieldSummary : Type 0 where
   pub contains_null : Bool
   pub contains_nan : Option Bool
   pub lower : Option (List ℕ)
   pub upper : Option (List ℕ)
-
--- the bounds, where there is one
-abbrev pub lower_in : Option (Box Bounds) → Option (List ℕ)
-lower_in None = None
-lower_in (Some bounds) = bounds.value.lower
-
-abbrev pub upper_in : Option (Box Bounds) → Option (List ℕ)
-upper_in None = None
-upper_in (Some bounds) = bounds.value.upper
 
 -- summaries that agree in every field
 abbrev pub same_summary : FieldSummary → FieldSummary → Bool

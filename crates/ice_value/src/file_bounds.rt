@@ -3,70 +3,60 @@
 ghost use Rattle.std.specs.Prelude.{◌≡◌, IfOk};
 ghost use Rattle.std.specs.Option.{option_copied};
 ghost use Rattle.ice_value.specs.Columns.{count_of, bound_of};
-ghost use Rattle.ice_value.specs.Summaries.{lower_in, upper_in};
+ghost use Rattle.ice_value.specs.Said.{summary_said};
 
+use crate::bounded::{Bounded, Flags};
 use crate::columns::{ColumnBounds, ColumnCounts};
-use contract_words::{Duplicate, Items};
+use contract_words::Duplicate;
 use std::alloc::{AllocError, Global};
 use std::fmt::{self, Debug, Formatter};
 use std::marker::Model;
 
 /// What a manifest list says about one partition field over all files of a manifest. Bounds are single values in bytes,
-/// of the type that the field's transform gives. A list may have millions of summaries, most of them without a bound:
-/// bounds take memory of their own, and only where there is one.
+/// of the type that the field's transform gives.
+///
+/// A list may have millions of summaries of one byte: bounds take memory of their own, and only where there are any.
 #[derive(Drop)]
 pub struct Summary {
-    contains_null: bool,
-    contains_nan: Option<bool>,
-    bounds: Option<Box<Bounds>>,
+    said: Said,
 }
 
 #[derive(Drop)]
-struct Bounds {
-    lower: Option<Items<u8>>,
-    upper: Option<Items<u8>>,
+enum Said {
+    Unbounded(Flags),
+    Bounded(Box<Bounded>),
 }
 
 impl Model for Summary {
-    ghost use Rattle.ice_value.specs.Summaries.{FieldSummary, lower_in, upper_in};
+    ghost use Rattle.ice_value.specs.Summaries.{FieldSummary};
+    ghost use Rattle.ice_value.specs.Said.{summary_said};
 
     ghost Value = { FieldSummary };
 
-    ghost view = { λ s. record {
-      contains_null = s.contains_null;
-      contains_nan = s.contains_nan;
-      lower = lower_in s.bounds;
-      upper = upper_in s.bounds;
-    } };
+    ghost view = { λ s. summary_said s.said };
 }
 
-/// A copy of bytes, where there are any.
-fn copied(alloc: Global, lent: Option<&[u8]>) -> Result<Option<Items<u8>>, AllocError>
-    ensures { IfOk result (λ copy. copy ≡ option_copied lent.entry) }
-{
-    match lent {
-        Some(bytes) => Ok(Some(Items::from_vec(bytes.to_vec(alloc)?))),
-        None => Ok(None),
-    }
-}
-
-/// Copies of the bounds, where there is one.
-fn bounds_of(
+/// Copies of these bounds, beside which the summary says this.
+fn said_with(
     alloc: Global,
+    flags: Flags,
     lower: Option<&[u8]>,
     upper: Option<&[u8]>,
-) -> Result<Option<Box<Bounds>>, AllocError>
-    ensures lower { IfOk result (λ bounds. lower_in bounds ≡ option_copied lower.entry) }
-    ensures upper { IfOk result (λ bounds. upper_in bounds ≡ option_copied upper.entry) }
+) -> Result<Said, AllocError>
+    ensures { IfOk result (λ said. summary_said said ≡ record {
+      contains_null = flags.contains_null;
+      contains_nan = flags.contains_nan;
+      lower = option_copied lower.entry;
+      upper = option_copied upper.entry;
+    }) }
 {
-    if lower.is_none() && upper.is_none() {
-        return Ok(None);
-    }
-    let bounds = Bounds {
-        lower: copied(alloc, lower)?,
-        upper: copied(alloc, upper)?,
+    let bounded = match (lower, upper) {
+        (None, None) => return Ok(Said::Unbounded(flags)),
+        (Some(lower), None) => Bounded::from_lower(alloc, flags, lower)?,
+        (None, Some(upper)) => Bounded::from_upper(alloc, flags, upper)?,
+        (Some(lower), Some(upper)) => Bounded::from_both(alloc, flags, lower, upper)?,
     };
-    Ok(Some(Box::new(alloc, bounds)?))
+    Ok(Said::Bounded(Box::new(alloc, bounded)?))
 }
 
 impl Summary {
@@ -85,51 +75,80 @@ impl Summary {
           upper = option_copied upper.entry;
         }) }
     {
-        Ok(Summary {
+        let flags = Flags {
             contains_null,
             contains_nan,
-            bounds: bounds_of(alloc, lower, upper)?,
+        };
+        Ok(Summary {
+            said: said_with(alloc, flags, lower, upper)?,
         })
+    }
+
+    /// What it says beside bounds.
+    fn flags(&self) -> Flags
+        ensures { result ≡ record { contains_null = self.now.contains_null; contains_nan = self.now.contains_nan } }
+    {
+        match &self.said {
+            Said::Unbounded(flags) => *flags,
+            Said::Bounded(bounded) => bounded.flags(),
+        }
     }
 
     /// Whether a partition value is null.
     pub fn contains_null(&self) -> bool
         ensures { result ≡ self.now.contains_null }
     {
-        self.contains_null
+        self.flags().contains_null
     }
 
     /// Whether a partition value is no number, where the writer says it.
     pub fn contains_nan(&self) -> Option<bool>
         ensures { result ≡ self.now.contains_nan }
     {
-        self.contains_nan
+        self.flags().contains_nan
     }
 
     /// No partition value is below it.
     pub fn lower(&self) -> Option<&[u8]>
         ensures { option_copied result ≡ self.now.lower }
     {
-        Some(self.bounds.as_ref()?.lower.as_ref()?.as_slice())
+        match &self.said {
+            Said::Unbounded(_) => None,
+            Said::Bounded(bounded) => bounded.lower(),
+        }
     }
 
     /// No partition value is above it.
     pub fn upper(&self) -> Option<&[u8]>
         ensures { option_copied result ≡ self.now.upper }
     {
-        Some(self.bounds.as_ref()?.upper.as_ref()?.as_slice())
+        match &self.said {
+            Said::Unbounded(_) => None,
+            Said::Bounded(bounded) => bounded.upper(),
+        }
+    }
+}
+
+/// A bound as a list of bytes is shown.
+#[derive(Drop)]
+struct Shown<'a> {
+    bytes: &'a [u8],
+}
+
+impl<'a> Debug for Shown<'a> {
+    fn fmt<W: fmt::Write>(&self, f: &mut Formatter<W>) -> fmt::Result {
+        f.debug_struct("Items").field("items", &self.bytes).finish()
     }
 }
 
 /// Its four fields.
 impl Debug for Summary {
     fn fmt<W: fmt::Write>(&self, f: &mut Formatter<W>) -> fmt::Result {
-        let bounds = self.bounds.as_ref();
         f.debug_struct("Summary")
-            .field("contains_null", &self.contains_null)
-            .field("contains_nan", &self.contains_nan)
-            .field("lower", &bounds.and_then(|bounds| bounds.lower.as_ref()))
-            .field("upper", &bounds.and_then(|bounds| bounds.upper.as_ref()))
+            .field("contains_null", &self.contains_null())
+            .field("contains_nan", &self.contains_nan())
+            .field("lower", &self.lower().map(|bytes| Shown { bytes }))
+            .field("upper", &self.upper().map(|bytes| Shown { bytes }))
             .finish()
     }
 }
@@ -144,8 +163,8 @@ impl PartialEq for Summary {
     ghost laws = { partial_equiv_from_equiv same_summary_equiv };
 
     fn eq(&self, other: &Self) -> bool {
-        self.contains_null == other.contains_null
-            && self.contains_nan == other.contains_nan
+        self.contains_null() == other.contains_null()
+            && self.contains_nan() == other.contains_nan()
             && self.lower() == other.lower()
             && self.upper() == other.upper()
     }
@@ -155,8 +174,8 @@ impl Duplicate for Summary {
     fn copy(&self, alloc: Global) -> Result<Summary, AllocError> {
         Summary::new(
             alloc,
-            self.contains_null,
-            self.contains_nan,
+            self.contains_null(),
+            self.contains_nan(),
             self.lower(),
             self.upper(),
         )

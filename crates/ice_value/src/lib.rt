@@ -4,6 +4,7 @@
 
 mod applying;
 mod bound;
+mod bounded;
 mod cell;
 mod column_type;
 mod columns;
