@@ -1,3 +1,5 @@
+use Rattle.std.proofs.Common.{Ok, sym, ap, ◌∙◌}
+use Rattle.std.specs.Option.{option_copied}
 use Rattle.std.proofs.lemmas.Result.{err_from_is_err_and}
 use Rattle.avro_schema.specs.Tree.{structure}
 use Rattle.ice_manifest_fields.specs.Seen.{fields_seen}
