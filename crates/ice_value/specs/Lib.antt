@@ -1,5 +1,6 @@
 pub mod Applying
 pub mod Bounds
+pub mod Briefs
 pub mod Cells
 pub mod Columns
 pub mod Equality

@@ -1,33 +1,29 @@
-//! A summary with a bound.
+//! A summary whose bounds are of any length.
 
-ghost use Rattle.std.specs.Prelude.{◌≡◌, ◌++◌, length, Some, None, IfOk};
+ghost use Rattle.std.specs.Prelude.{◌≡◌, ◌++◌, length, IfOk};
 ghost use Rattle.std.specs.Option.{option_copied};
+ghost use Rattle.ice_value.specs.Runs.{lower_of, upper_of, IsSplit};
 ghost use Rattle.ice_value.specs.declared.bounded.Bounds.TheVariants.{Both};
 
 use contract_words::Items;
 use std::alloc::{AllocError, Global};
 use std::marker::Model;
 
-/// What a summary says beside bounds.
-#[derive(Clone, Copy)]
-pub(crate) struct Flags {
-    pub contains_null: bool,
-    pub contains_nan: Option<bool>,
-}
-
 /// Which bounds a run of bytes holds.
 #[derive(Clone, Copy)]
-pub(crate) enum Bounds {
+enum Bounds {
+    Neither,
     Lower,
     Upper,
     /// So many bytes of a lower bound, and behind them an upper one.
     Both(u32),
 }
 
-/// A summary with a bound. All its bounds are one run of bytes, since lists may have millions of summaries.
+/// A summary with bounds of any length. They are one run of bytes, since lists may have millions of summaries.
 #[derive(Drop)]
 pub(crate) struct Bounded {
-    flags: Flags,
+    contains_null: bool,
+    contains_nan: Option<bool>,
     bounds: Bounds,
     run: Items<u8>,
 }
@@ -39,8 +35,8 @@ impl Model for Bounded {
     ghost Value = { FieldSummary };
 
     ghost view = { λ b. record {
-      contains_null = b.flags.contains_null;
-      contains_nan = b.flags.contains_nan;
+      contains_null = b.contains_null;
+      contains_nan = b.contains_nan;
       lower = lower_of b.bounds b.run;
       upper = upper_of b.bounds b.run;
     } };
@@ -68,87 +64,78 @@ fn both(lower: &[u8]) -> Result<Bounds, AllocError>
     }
 }
 
+/// Copies of the bounds in one run of bytes.
+fn run_of(
+    alloc: Global,
+    lower: Option<&[u8]>,
+    upper: Option<&[u8]>,
+) -> Result<(Bounds, Items<u8>), AllocError>
+    ensures split { IfOk result (λ made. IsSplit made.0 made.1) }
+    ensures lower { IfOk result (λ made. lower_of made.0 made.1 ≡ option_copied lower.entry) }
+    ensures upper { IfOk result (λ made. upper_of made.0 made.1 ≡ option_copied upper.entry) }
+{
+    match (lower, upper) {
+        (None, None) => Ok((Bounds::Neither, Items::new(alloc))),
+        (Some(lower), None) => Ok((Bounds::Lower, Items::from_vec(lower.to_vec(alloc)?))),
+        (None, Some(upper)) => Ok((Bounds::Upper, Items::from_vec(upper.to_vec(alloc)?))),
+        (Some(lower), Some(upper)) => Ok((both(lower)?, joined(alloc, lower, upper)?)),
+    }
+}
+
 impl Bounded {
-    /// A summary with a copy of a lower bound alone.
-    pub fn from_lower(alloc: Global, flags: Flags, lower: &[u8]) -> Result<Bounded, AllocError>
-        ensures { IfOk result (λ bounded. bounded ≡ record {
-          contains_null = flags.contains_null;
-          contains_nan = flags.contains_nan;
-          lower = Some lower.now;
-          upper = None;
-        }) }
-    {
-        Ok(Bounded {
-            flags,
-            bounds: Bounds::Lower,
-            run: Items::from_vec(lower.to_vec(alloc)?),
-        })
-    }
-
-    /// A summary with a copy of an upper bound alone.
-    pub fn from_upper(alloc: Global, flags: Flags, upper: &[u8]) -> Result<Bounded, AllocError>
-        ensures { IfOk result (λ bounded. bounded ≡ record {
-          contains_null = flags.contains_null;
-          contains_nan = flags.contains_nan;
-          lower = None;
-          upper = Some upper.now;
-        }) }
-    {
-        Ok(Bounded {
-            flags,
-            bounds: Bounds::Upper,
-            run: Items::from_vec(upper.to_vec(alloc)?),
-        })
-    }
-
-    /// A summary with copies of both bounds.
-    pub fn from_both(
+    /// A summary with copies of these bounds.
+    pub fn new(
         alloc: Global,
-        flags: Flags,
-        lower: &[u8],
-        upper: &[u8],
+        contains_null: bool,
+        contains_nan: Option<bool>,
+        lower: Option<&[u8]>,
+        upper: Option<&[u8]>,
     ) -> Result<Bounded, AllocError>
         ensures { IfOk result (λ bounded. bounded ≡ record {
-          contains_null = flags.contains_null;
-          contains_nan = flags.contains_nan;
-          lower = Some lower.now;
-          upper = Some upper.now;
+          contains_null = contains_null;
+          contains_nan = contains_nan;
+          lower = option_copied lower.entry;
+          upper = option_copied upper.entry;
         }) }
     {
-        let bounds = both(lower)?;
+        let (bounds, run) = run_of(alloc, lower, upper)?;
         Ok(Bounded {
-            flags,
+            contains_null,
+            contains_nan,
             bounds,
-            run: joined(alloc, lower, upper)?,
+            run,
         })
     }
 
-    /// What it says beside bounds.
-    pub fn flags(&self) -> Flags
-        ensures { result ≡ record { contains_null = self.now.contains_null; contains_nan = self.now.contains_nan } }
+    pub fn contains_null(&self) -> bool
+        ensures { result ≡ self.now.contains_null }
     {
-        self.flags
+        self.contains_null
     }
 
-    /// The lower bound.
+    pub fn contains_nan(&self) -> Option<bool>
+        ensures { result ≡ self.now.contains_nan }
+    {
+        self.contains_nan
+    }
+
     pub fn lower(&self) -> Option<&[u8]>
         ensures { option_copied result ≡ self.now.lower }
     {
         let run = self.run.as_slice();
         match self.bounds {
             Bounds::Lower => Some(run),
-            Bounds::Upper => None,
+            Bounds::Upper | Bounds::Neither => None,
             Bounds::Both(length) => Some(&run[..length as usize]),
         }
     }
 
-    /// The upper bound.
     pub fn upper(&self) -> Option<&[u8]>
         ensures { option_copied result ≡ self.now.upper }
     {
         let run = self.run.as_slice();
         match self.bounds {
-            Bounds::Lower => None,
+            Bounds::Lower | Bounds::Neither => None,
             Bounds::Upper => Some(run),
             Bounds::Both(length) => Some(&run[length as usize..]),
         }

@@ -3,9 +3,9 @@
 ghost use Rattle.std.specs.Prelude.{◌≡◌, IfOk};
 ghost use Rattle.std.specs.Option.{option_copied};
 ghost use Rattle.ice_value.specs.Columns.{count_of, bound_of};
-ghost use Rattle.ice_value.specs.Said.{summary_said};
 
-use crate::bounded::{Bounded, Flags};
+use crate::bounded::Bounded;
+use crate::brief::Brief;
 use crate::columns::{ColumnBounds, ColumnCounts};
 use contract_words::Duplicate;
 use std::alloc::{AllocError, Global};
@@ -15,7 +15,8 @@ use std::marker::Model;
 /// What a manifest list says about one partition field over all files of a manifest. Bounds are single values in bytes,
 /// of the type that the field's transform gives.
 ///
-/// A list may have millions of summaries of one byte: bounds take memory of their own, and only where there are any.
+/// A list may have millions of summaries of a byte or some more, so that one with short bounds is small: bounds take
+/// memory of their own only where one of them has more than two bytes.
 #[derive(Drop)]
 pub struct Summary {
     said: Said,
@@ -23,8 +24,8 @@ pub struct Summary {
 
 #[derive(Drop)]
 enum Said {
-    Unbounded(Flags),
-    Bounded(Box<Bounded>),
+    Short(Brief),
+    Long(Box<Bounded>),
 }
 
 impl Model for Summary {
@@ -36,31 +37,8 @@ impl Model for Summary {
     ghost view = { λ s. summary_said s.said };
 }
 
-/// Copies of these bounds, beside which the summary says this.
-fn said_with(
-    alloc: Global,
-    flags: Flags,
-    lower: Option<&[u8]>,
-    upper: Option<&[u8]>,
-) -> Result<Said, AllocError>
-    ensures { IfOk result (λ said. summary_said said ≡ record {
-      contains_null = flags.contains_null;
-      contains_nan = flags.contains_nan;
-      lower = option_copied lower.entry;
-      upper = option_copied upper.entry;
-    }) }
-{
-    let bounded = match (lower, upper) {
-        (None, None) => return Ok(Said::Unbounded(flags)),
-        (Some(lower), None) => Bounded::from_lower(alloc, flags, lower)?,
-        (None, Some(upper)) => Bounded::from_upper(alloc, flags, upper)?,
-        (Some(lower), Some(upper)) => Bounded::from_both(alloc, flags, lower, upper)?,
-    };
-    Ok(Said::Bounded(Box::new(alloc, bounded)?))
-}
-
 impl Summary {
-    /// A summary with copies of these bounds. It takes memory for bounds alone.
+    /// A summary with copies of these bounds. It takes memory only where one of them has more than two bytes.
     pub fn new(
         alloc: Global,
         contains_null: bool,
@@ -75,37 +53,35 @@ impl Summary {
           upper = option_copied upper.entry;
         }) }
     {
-        let flags = Flags {
-            contains_null,
-            contains_nan,
-        };
-        Ok(Summary {
-            said: said_with(alloc, flags, lower, upper)?,
-        })
-    }
-
-    /// What it says beside bounds.
-    fn flags(&self) -> Flags
-        ensures { result ≡ record { contains_null = self.now.contains_null; contains_nan = self.now.contains_nan } }
-    {
-        match &self.said {
-            Said::Unbounded(flags) => *flags,
-            Said::Bounded(bounded) => bounded.flags(),
+        if let Some(brief) = Brief::new(contains_null, contains_nan, lower, upper) {
+            return Ok(Summary {
+                said: Said::Short(brief),
+            });
         }
+        let bounded = Bounded::new(alloc, contains_null, contains_nan, lower, upper)?;
+        Ok(Summary {
+            said: Said::Long(Box::new(alloc, bounded)?),
+        })
     }
 
     /// Whether a partition value is null.
     pub fn contains_null(&self) -> bool
         ensures { result ≡ self.now.contains_null }
     {
-        self.flags().contains_null
+        match &self.said {
+            Said::Short(brief) => brief.contains_null(),
+            Said::Long(bounded) => bounded.contains_null(),
+        }
     }
 
     /// Whether a partition value is no number, where the writer says it.
     pub fn contains_nan(&self) -> Option<bool>
         ensures { result ≡ self.now.contains_nan }
     {
-        self.flags().contains_nan
+        match &self.said {
+            Said::Short(brief) => brief.contains_nan(),
+            Said::Long(bounded) => bounded.contains_nan(),
+        }
     }
 
     /// No partition value is below it.
@@ -113,8 +89,8 @@ impl Summary {
         ensures { option_copied result ≡ self.now.lower }
     {
         match &self.said {
-            Said::Unbounded(_) => None,
-            Said::Bounded(bounded) => bounded.lower(),
+            Said::Short(brief) => brief.lower(),
+            Said::Long(bounded) => bounded.lower(),
         }
     }
 
@@ -123,8 +99,8 @@ impl Summary {
         ensures { option_copied result ≡ self.now.upper }
     {
         match &self.said {
-            Said::Unbounded(_) => None,
-            Said::Bounded(bounded) => bounded.upper(),
+            Said::Short(brief) => brief.upper(),
+            Said::Long(bounded) => bounded.upper(),
         }
     }
 }

@@ -5,6 +5,7 @@
 mod applying;
 mod bound;
 mod bounded;
+mod brief;
 mod cell;
 mod column_type;
 mod columns;
