@@ -2,6 +2,7 @@
 #![tactic(auto)]
 
 mod found;
+mod guide;
 mod layout;
 mod places;
 mod row;
