@@ -30,6 +30,7 @@ use Rattle.avro_picked.specs.declared.guide.Guide.{Guide, out-Guide, the_lemmas}
 use Rattle.avro_picked.specs.Finding.{fields_in, is_structure, branches_in}
 use Rattle.avro_picked.specs.Guides.{Guided, guided, Guides, no_guides, guide, guides_of, seen, all_seen, is_on, asks}
 use Rattle.avro_picked.specs.Guides.{ids_in, AreAsked, kept, as_fields, inner, type_guided, id_guided, IsGuide, AreParts}
+use Rattle.avro_picked.specs.Placing.{nth_way}
 use Rattle.avro_picked.proofs.Values.{First, first_read}
 use Rattle.avro_picked.proofs.Ways.{one_end, taken_or_not, union_of_branches, not_both as both_read}
 
@@ -329,3 +330,33 @@ pub field_parts : (ways : List (List ℤ)) (g : Guide) → IsGuide ways (seen g)
     → AreParts ways (all_seen (out-Guide g).parts.items) (kept ways (fields_in (tree (out-Guide g).schema.now)))
 field_parts ways g is structured = subst (λ (t : Tree). AreParts ways (all_seen (out-Guide g).parts.items) (inner ways t))
     (structure_of (tree (out-Guide g).schema.now) structured) (parts_guide ways g is)
+
+-- ---- ids that ways ask for
+
+either_first : (a b : Bool) → a ≡ true → (a || b) ≡ true
+either_first true b is = refl
+either_first false b is = absurd cc
+
+either_second : (a b : Bool) → b ≡ true → (a || b) ≡ true
+either_second true b is = refl
+either_second false b is = is
+
+all_on : (all way : List ℤ) (ways : List (List ℤ))
+    → ((id : ℤ) → is_on way (Some id) ≡ true → is_on all (Some id) ≡ true) → AreAsked (all ∷ ways) way
+all_on all [] ways on = tt
+all_on all (i ∷ way) ways on = (
+  either_first (is_on all (Some i)) (asks ways (Some i))
+      (on i (either_first (int_eq i i) (is_on way (Some i)) ((Decides-int_eq i i).1 refl))),
+  all_on all way ways (λ id is. on id (either_second (option_eq int_eq (Some id) (Some i)) (is_on way (Some id)) is)),
+)
+
+asked_more : (other : List ℤ) (ways : List (List ℤ)) (way : List ℤ) → AreAsked ways way → AreAsked (other ∷ ways) way
+asked_more other ways [] asked = tt
+asked_more other ways (i ∷ way) asked =
+    (either_second (is_on other (Some i)) (asks ways (Some i)) asked.0, asked_more other ways way asked.1)
+
+-- each way asks for its own ids
+pub nth_asked : (ways : List (List ℤ)) (k : ℕ) → k < length ways → AreAsked ways (nth_way ways k)
+nth_asked [] k lt = absurd (omega (arith, lt))
+nth_asked (way ∷ ways) zero lt = all_on way way ways (λ id on. on)
+nth_asked (way ∷ ways) (suc k) lt = asked_more way ways (nth_way ways k) (nth_asked ways k (omega (arith, lt)))

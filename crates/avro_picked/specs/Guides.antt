@@ -89,3 +89,7 @@ abbrev mutual
   AreParts ways (guide g gs) (field id t fs) = (id_guided g ≡ id) × (type_guided g ≡ t) × IsGuide ways g
       × AreParts ways gs fs
   AreParts ways gs fs = ⊥
+
+-- a guide of this type
+abbrev pub IsGuideOf : List (List ℤ) → Tree → Guide → Type 0
+IsGuideOf ways t g = (type_guided (seen g) ≡ t) × IsGuide ways (seen g)
