@@ -13,7 +13,7 @@ ghost use Rattle.avro_file.specs.Blocks.{StandsAt};
 ghost use Rattle.avro_file.specs.Picking.{pick, field_value, unless_absent};
 ghost use Rattle.avro_picked.specs.Finding.{IsMet, within, LeadsTo};
 ghost use Rattle.avro_picked.specs.Guides.{ids_in, is_on as is_id_on, asks as is_asked, kept, as_fields, guided, seen};
-ghost use Rattle.avro_picked.specs.Guides.{all_seen, id_guided, type_guided, IsGuide, AreParts, AreAsked};
+ghost use Rattle.avro_picked.specs.Guides.{IsGuideOf, all_seen, id_guided, type_guided, IsGuide, AreParts, AreAsked};
 
 use crate::found::{Found, MAX_ITEMS, branches_of, is_null, is_record};
 use avro_file::{end_of, lean_schema, natural, takes_bytes};
@@ -223,6 +223,35 @@ fn place_past<'s, 'a>(
         here = end_of(&guide.passing, here)?;
     }
     Ok(None)
+}
+
+impl<'s> Guide<'s> {
+    /// The guide of a type for ways of field ids, which each begin at its values.
+    pub fn new(
+        alloc: Global,
+        schema: &'s Schema,
+        ways: &[Vec<i32>],
+    ) -> Result<Guide<'s>, AllocError>
+        ensures { IfOk result (IsGuideOf (ids_in ways.now) (tree schema.now)) }
+    {
+        guide_of(alloc, None, schema, ways)
+    }
+
+    /// A schema whose values end where those of the type do, or meet the same fault there.
+    pub fn passing(&self) -> &Schema
+        ensures { (ways : List (List ℤ)) (t : Tree) → IsGuideOf ways t self.now → EndAlike (tree result.now) t }
+    {
+        &self.passing
+    }
+
+    /// What stands where one of the ways leads from the value at the front of the bytes, which was checked; none where
+    /// a field on it is absent, or a null is met.
+    pub fn found<'a>(&self, way: &[i32], bytes: &'a [u8]) -> Option<Found<'s, 'a>>
+        ensures { (ways : List (List ℤ)) (t : Tree) (v : Value) → IsGuideOf ways t self.now → AreAsked ways way.now
+            → StandsAt t bytes.now v → IsMet result (pick way.now (t, v)) }
+    {
+        found_by(self, way, bytes)
+    }
 }
 
 /// What stands where the way leads from the value of the guide's type at the front of the bytes, which was checked.

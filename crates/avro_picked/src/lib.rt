@@ -8,5 +8,6 @@ mod places;
 mod row;
 
 pub use found::Found;
+pub use guide::Guide;
 pub use layout::Layout;
 pub use places::Places;
