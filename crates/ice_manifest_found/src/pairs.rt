@@ -1,6 +1,6 @@
 //! The pairs of a map of columns, one after the other where they lie in the file.
 
-ghost use Rattle.std.specs.Prelude.{◌≡◌, ℤ, List, [], ◌∷◌, IfOk};
+ghost use Rattle.std.specs.Prelude.{◌≡◌, ◌++◌, ℤ, List, [], ◌∷◌, IfOk};
 ghost use Rattle.contract_words.specs.Outcome.{Gives};
 ghost use Rattle.avro_schema.specs.Tree.{Tree};
 ghost use Rattle.avro_schema.specs.View.{tree};
@@ -8,7 +8,7 @@ ghost use Rattle.avro_file.specs.Value.{Value, values_of};
 ghost use Rattle.avro_file.specs.Blocks.{StandsAt};
 ghost use Rattle.avro_file.specs.Picking.{Picked};
 ghost use Rattle.avro_picked.specs.Finding.{IsMet};
-ghost use Rattle.avro_picked.specs.Guides.{IsGuideOf, AreAsked};
+ghost use Rattle.avro_picked.specs.Guides.{ids_in, IsGuideOf, AreAsked};
 ghost use Rattle.ice_value.specs.Pairs.{count_said, counts_said, bound_said, bounds_said};
 ghost use Rattle.ice_manifest_fields.specs.Each.{each};
 ghost use Rattle.ice_manifest_fields.specs.Fields.{there, items_as, long_at, int_at};
@@ -27,6 +27,23 @@ use avro_schema::Schema;
 use ice_manifest_fields::{ColumnMap, FieldFault, ManifestFault};
 use std::alloc::{AllocError, Global};
 
+fn push_way(alloc: Global, ids: &[i32], ways: &mut Vec<Vec<i32>>) -> Result<(), AllocError>
+    ensures { IfOk result (λ _. ids_in ways.new.items ≡ ids_in ways.old.items ++ ids.now ∷ []) }
+{
+    ways.push(Vec::from_slice(alloc, ids)?)?;
+    Ok(())
+}
+
+/// The ways to the key of a pair and to what it says.
+fn ways_of(alloc: Global, map: ColumnMap) -> Result<Vec<Vec<i32>>, AllocError>
+    ensures { IfOk result (λ ways. ids_in ways.items ≡ pair_ways map) }
+{
+    let mut ways = Vec::new(alloc);
+    push_way(alloc, &[map.key], &mut ways)?;
+    push_way(alloc, &[map.said], &mut ways)?;
+    Ok(ways)
+}
+
 /// The guide of a pair's type, for its key and for what it says.
 fn pair_guide<'s>(
     alloc: Global,
@@ -35,9 +52,7 @@ fn pair_guide<'s>(
 ) -> Result<Guide<'s>, AllocError>
     ensures { IfOk result (IsGuideOf (pair_ways map) (tree schema.now)) }
 {
-    let mut ways = Vec::with_capacity(alloc, 2)?;
-    ways.push(Vec::from_slice(alloc, &[map.key])?)?;
-    ways.push(Vec::from_slice(alloc, &[map.said])?)?;
+    let ways = ways_of(alloc, map)?;
     Guide::new(alloc, schema, &ways)
 }
 

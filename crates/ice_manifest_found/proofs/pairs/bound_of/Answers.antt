@@ -24,7 +24,35 @@ returns-in_err-column c =
     ∙ sym (bound_itself m (t, v)))
 
 pub returns-in-Some : goal.returns-in-Some
-returns-in-Some c = ?
+returns-in-Some c = λ v is.
+    let m = c.args.map in
+    let t = tree c.args.item.now.schema.now in
+    let key : to_z w32 (of_z w32 m.key) ≡ m.key = to_z-of_z w32 m.key (search rules) in
+    let said : to_z w32 (of_z w32 m.said) ≡ m.said = to_z-of_z w32 m.said (search rules) in
+    let key_there : AreAsked (pair_ways m) (to_z w32 (of_z w32 m.key) ∷ []) =
+    subst (λ (z : ℤ). AreAsked (pair_ways m) (z ∷ [])) (sym key) (key_asked m) in
+    let column : to_z w32 (of_z w32 c.in_ok-column.column) ≡ c.in_ok-column.column =
+    to_z-of_z w32 c.in_ok-column.column (search rules) in
+    let said_there : AreAsked (pair_ways m) (to_z w32 (of_z w32 m.said) ∷ []) =
+    subst (λ (z : ℤ). AreAsked (pair_ways m) (z ∷ [])) (sym said) (said_asked m) in
+    let found : IsMet c.found.result (at m.said (t, v)) = subst (λ (z : ℤ). IsMet c.found.result (at z (t, v))) said
+    (c.found.ensures (pair_ways m) t v c.requires said_there is) in
+    rw column (bound_made m (t, v) c.in_ok-column.column c.in-Some.bound.now
+    (c.in_ok-column.ensures (pair_ways m) t v c.requires key_there is ∙ ap (λ (z : ℤ). int_at z (t, v)) key)
+    (ap (asked m.said) (c.in-Some.ensures (at m.said (t, v)) found)) ∙ sym (bound_itself m (t, v)))
 
 pub returns-in-None : goal.returns-in-None
-returns-in-None c = ?
+returns-in-None c = λ v is.
+    let m = c.args.map in
+    let t = tree c.args.item.now.schema.now in
+    let key : to_z w32 (of_z w32 m.key) ≡ m.key = to_z-of_z w32 m.key (search rules) in
+    let said : to_z w32 (of_z w32 m.said) ≡ m.said = to_z-of_z w32 m.said (search rules) in
+    let key_there : AreAsked (pair_ways m) (to_z w32 (of_z w32 m.key) ∷ []) =
+    subst (λ (z : ℤ). AreAsked (pair_ways m) (z ∷ [])) (sym key) (key_asked m) in
+    let said_there : AreAsked (pair_ways m) (to_z w32 (of_z w32 m.said) ∷ []) =
+    subst (λ (z : ℤ). AreAsked (pair_ways m) (z ∷ [])) (sym said) (said_asked m) in
+    let found : IsMet c.found.result (at m.said (t, v)) = subst (λ (z : ℤ). IsMet c.found.result (at z (t, v))) said
+    (c.found.ensures (pair_ways m) t v c.requires said_there is) in
+    rw said (bound_without_bytes m (t, v) c.in_ok-column.column _
+    (c.in_ok-column.ensures (pair_ways m) t v c.requires key_there is ∙ ap (λ (z : ℤ). int_at z (t, v)) key)
+    (ap (asked m.said) (c.in-None.ensures (at m.said (t, v)) found)) ∙ sym (bound_itself m (t, v)))

@@ -34,7 +34,8 @@ bound_of-requires c =
 
 pub returns-in_err-bound_of : goal.returns-in_err-bound_of
 returns-in_err-bound_of c =
-    let p = err_from_is_err_and c.from_residual.result c.from_residual.ensures.1 in
+    let p = err_from_is_err_and c.from_residual-in_err-bound_of.result
+    c.from_residual-in_err-bound_of.ensures.1 in
     rw (p.1, p.2) (λ vs ahead _. ap (told in_manifest) (stops_so_far (bound_of c.args.map) c.args.items c.items.items
     c.next_by.new.self c.in-Some.item (bounds_said c.items.bounds.items) c.in_err-bound_of.field-0.0
     c.in-Some.ensures.items c.in_err-bound_of.ensures c.items.invariant.0 vs ahead))
