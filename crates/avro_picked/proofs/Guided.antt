@@ -1,13 +1,12 @@
 -- Guides of types, and where ways lead by them.
 use Rattle.std.proofs.Common.{◌≡◌, ◌≤◌, ◌<◌, ◌+◌, ℕ, zero, suc, ℤ, Bool, true, false, ◌||◌, cond, List, [], ◌∷◌, ◌++◌}
 use Rattle.std.proofs.Common.{length, get_or, drop, map, IfOk, Option, Some, None, Result, Ok, Err, refl, sym, ap, subst, ◌∙◌}
-use Rattle.std.proofs.Common.{add-one, drop-cons, append_assoc, arith, rules, Vec, Global}
+use Rattle.std.proofs.Common.{add-one, drop-cons, arith, rules, Vec, Global}
 use Rattle.std.proofs.Math.ListN.{drop_of_length-le}
-use Rattle.std.proofs.lemmas.List.{append-nil, map-append}
+use Rattle.std.proofs.lemmas.List.{append-nil}
 use Rattle.std.proofs.lemmas.Bool.Decides.{Decides-int_eq}
 use Rattle.std.specs.Ordering.{int_eq}
 use Rattle.std.specs.Option.{option_eq}
-use denote.Ref.{Bor}
 use Rattle.avro_schema.specs.declared.schema.Field.{Field}
 use Rattle.avro_schema.specs.declared.schema.Schema.{Schema}
 use Rattle.std.specs.Prelude.{if◌then◌else◌}
@@ -16,14 +15,12 @@ use Rattle.avro_schema.specs.Tree.{Tree, null, boolean, int, long, float, double
 use Rattle.avro_schema.specs.Tree.{structure, array, union, Fields, no_fields, field}
 use Rattle.avro_schema.specs.View.{tree}
 use Rattle.avro_parts.specs.declared.refusal.Refusal.{Refusal}
-use Rattle.avro_parts.specs.declared.place.Place.{Place}
 use Rattle.avro_parts.specs.Parts.{Position, behind}
 use Rattle.avro_file.specs.Alike.{EndAlike}
 use Rattle.avro_file.specs.Spelling.{takes_bytes}
 use Rattle.avro_file.specs.Value.{Value, values_of}
 use Rattle.avro_file.specs.Reading.{datum_at, fields_at}
 use Rattle.avro_file.specs.Picking.{field_value}
-use Rattle.avro_file.proofs.Steps.{ok_is}
 use Rattle.avro_file.proofs.Views.{field_trees, branch_trees}
 use Rattle.avro_file.proofs.Behind.{behind_ok, behind_err, empty_value}
 use Rattle.avro_picked.specs.declared.guide.Guide.{Guide, out-Guide, the_lemmas}

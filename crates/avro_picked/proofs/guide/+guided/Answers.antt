@@ -5,7 +5,7 @@ use Rattle.std.proofs.lemmas.List.{nil_from_length}
 use Rattle.std.proofs.lemmas.Int.{ints, to_z-of_z}
 use Rattle.std.specs.Ordering.{int_eq}
 use Rattle.std.specs.Option.{option_eq}
-use Rattle.avro_schema.specs.Tree.{Tree, no_fields}
+use Rattle.avro_schema.specs.Tree.{no_fields}
 use Rattle.avro_schema.specs.View.{tree}
 use Rattle.avro_parts.specs.Place.{position_of}
 use Rattle.avro_file.specs.Reading.{branch_at}

@@ -2,7 +2,6 @@ use Rattle.std.proofs.Common.{◌≡◌, ℤ, [], ◌∷◌, to_z, of_z, w32, ru
 use Rattle.std.proofs.lemmas.Int.{to_z-of_z}
 use Rattle.std.proofs.lemmas.Result.{err_from_is_err_and}
 use Rattle.avro_schema.specs.View.{tree}
-use Rattle.avro_file.specs.Picking.{Typed}
 use Rattle.avro_picked.specs.Finding.{IsMet}
 use Rattle.avro_picked.specs.Guides.{AreAsked}
 use Rattle.ice_manifest_fields.specs.Fields.{asked, at, int_at}

@@ -2,8 +2,6 @@ use Rattle.std.proofs.Common.{◌≡◌, ℤ, [], ◌∷◌, to_z, of_z, w32, w6
 use Rattle.std.proofs.lemmas.Int.{to_z-of_z}
 use Rattle.std.proofs.lemmas.Result.{err_from_is_err_and}
 use Rattle.avro_schema.specs.View.{tree}
-use Rattle.avro_file.specs.Value.{Value}
-use Rattle.avro_file.specs.Picking.{Typed}
 use Rattle.avro_picked.specs.Guides.{AreAsked}
 use Rattle.ice_manifest_fields.specs.Fields.{int_at, long_at}
 use Rattle.ice_manifest_found.specs.Met.{pair_ways}

@@ -1,4 +1,3 @@
-use Rattle.std.proofs.Common.{sym}
 use Rattle.avro_picked.proofs.Guided.{passing_alike}
 use Rattle.avro_picked.proofs.guide.Guide.passing.Goals as goal
 
