@@ -86,6 +86,15 @@ pub none_asked : (ways : List (Vec ℤ Global)) (id : Option ℤ) (i : ℕ) → 
     → asks (ids_in (drop i ways)) id ≡ false
 none_asked ways id i le = ap (λ (ws : List (Vec ℤ Global)). asks (ids_in ws) id) (drop_of_length-le ways le)
 
+-- a field without an id is none that a way asks for
+nothing_on : (way : List ℤ) → is_on way None ≡ false
+nothing_on [] = refl
+nothing_on (passed ∷ way) = nothing_on way
+
+pub nothing_asked : (ways : List (List ℤ)) → asks ways None ≡ false
+nothing_asked [] = refl
+nothing_asked (way ∷ ways) = rw (nothing_on way) (nothing_asked ways)
+
 -- ---- the loops that make guides
 
 pub parts_done : (ways : List (List ℤ)) (gs : List Guide) (fs : List Field) (i : ℕ) (all : Fields) → length fs ≤ i

@@ -1,12 +1,13 @@
 //! A type as ways go through it, for objects that have unions on the ways.
 
-ghost use Rattle.std.specs.Prelude.{◌≡◌, ℤ, List, IfOk};
+ghost use Rattle.std.specs.Prelude.{◌≡◌, ◌||◌, ℤ, List, Some, IfOk};
 ghost use Rattle.avro_schema.specs.Tree.{Tree, Fields};
 ghost use Rattle.avro_schema.specs.View.{tree, trees, parts as field_parts, fields_of as field_trees};
 ghost use Rattle.avro_schema.specs.View.{branches_of as branch_trees};
 ghost use Rattle.avro_parts.specs.Place.{position_of};
 ghost use Rattle.avro_parts.specs.Parts.{Position};
 ghost use Rattle.avro_file.specs.Alike.{EndAlike};
+ghost use Rattle.avro_file.specs.Spelling.{takes_bytes as takes_some};
 ghost use Rattle.avro_file.specs.Value.{Value, values_of};
 ghost use Rattle.avro_file.specs.Reading.{datum_at, fields_at};
 ghost use Rattle.avro_file.specs.Blocks.{StandsAt};
@@ -37,11 +38,11 @@ pub struct Guide<'s> {
 }
 
 /// Whether the id is on the way.
-fn is_on(way: &[i32], id: Option<i32>) -> bool
-    ensures { result ≡ is_id_on way.now id }
+fn is_on(way: &[i32], id: i32) -> bool
+    ensures { result ≡ is_id_on way.now (Some id) }
 {
     'way: for passed in way {
-        if id == Some(*passed) {
+        if id == *passed {
             return true;
         }
     }
@@ -49,8 +50,8 @@ fn is_on(way: &[i32], id: Option<i32>) -> bool
 }
 
 /// Whether the id is on one of the ways.
-fn asks(ways: &[Vec<i32>], id: Option<i32>) -> bool
-    ensures { result ≡ is_asked (ids_in ways.now) id }
+fn asks(ways: &[Vec<i32>], id: i32) -> bool
+    ensures { result ≡ is_asked (ids_in ways.now) (Some id) }
 {
     'ways: for way in ways {
         if is_on(way, id) {
@@ -58,6 +59,19 @@ fn asks(ways: &[Vec<i32>], id: Option<i32>) -> bool
         }
     }
     false
+}
+
+/// Whether a field with this id, if it has one, takes bytes or is one that a way asks for.
+fn is_kept(field: &Field, ways: &[Vec<i32>]) -> bool
+    ensures { result ≡ (takes_some (tree field.now.schema) || is_asked (ids_in ways.now) field.now.id) }
+{
+    if takes_bytes(&field.schema) {
+        return true;
+    }
+    match field.id {
+        Some(id) => asks(ways, id),
+        None => false,
+    }
 }
 
 /// A guide of a type that has these parts.
@@ -127,10 +141,9 @@ fn field_guides<'s>(
 {
     let mut guides = Vec::new(alloc);
     'fields: for field in fields {
-        if !takes_bytes(&field.schema) && !asks(ways, field.id) {
-            continue 'fields;
+        if is_kept(field, ways) {
+            guides.push(guide_of(alloc, field.id, &field.schema, ways)?)?;
         }
-        guides.push(guide_of(alloc, field.id, &field.schema, ways)?)?;
     }
     Ok(guides)
 }

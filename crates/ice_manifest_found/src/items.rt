@@ -57,7 +57,7 @@ impl<'s, 'a> ItemsAhead<'s, 'a> {
     }
 
     /// The same at the next item; none behind the last one.
-    fn at_item(&self) -> Option<ItemsAhead<'s, 'a>>
+    pub(crate) fn at_item(&self) -> Option<ItemsAhead<'s, 'a>>
         ensures block { IfSome result (λ at. 0 < at.in_block) }
         ensures no_more { IfSome result (λ at. still at ≤ still self.now) }
         ensures items { (vs : List Value) → AreAhead self.now vs → AtItem self.now vs result }

@@ -101,6 +101,22 @@ fn each_count(
     Ok(counts)
 }
 
+/// The counts that the items to come say. No guide is made for none.
+fn counts_ahead(
+    alloc: Global,
+    items: ItemsAhead,
+    map: ColumnMap,
+) -> Result<Vec<(i32, i64)>, ManifestFault>
+    ensures { (vs : List Value) → AreAhead items.entry vs →
+        Gives ManifestFault.Memory (λ counts. counts_said counts.items) result
+        (told in_manifest (each (count_of_item map) (items_as (tree items.entry.schema.now) (values_of vs)))) }
+{
+    match items.at_item() {
+        Some(_) => each_count(alloc, items, map),
+        None => Ok(Vec::new(alloc)),
+    }
+}
+
 /// The counts that a map says; none where no map was found.
 pub(crate) fn counts_in_place(
     alloc: Global,
@@ -112,7 +128,7 @@ pub(crate) fn counts_in_place(
         (told in_manifest (counts_in map (there met))) }
 {
     match items_of(found) {
-        Some(items) => each_count(alloc, items, map),
+        Some(items) => counts_ahead(alloc, items, map),
         None => Ok(Vec::new(alloc)),
     }
 }
@@ -151,6 +167,22 @@ fn each_bound<'d>(
     Ok(bounds)
 }
 
+/// The bounds that the items to come say. No guide is made for none.
+fn bounds_ahead<'d>(
+    alloc: Global,
+    items: ItemsAhead<'_, 'd>,
+    map: ColumnMap,
+) -> Result<Vec<(i32, &'d [u8])>, ManifestFault>
+    ensures { (vs : List Value) → AreAhead items.entry vs →
+        Gives ManifestFault.Memory (λ bounds. bounds_said bounds.items) result
+        (told in_manifest (each (bound_of_item map) (items_as (tree items.entry.schema.now) (values_of vs)))) }
+{
+    match items.at_item() {
+        Some(_) => each_bound(alloc, items, map),
+        None => Ok(Vec::new(alloc)),
+    }
+}
+
 /// The bounds that a map says; none where no map was found.
 pub(crate) fn bounds_in_place<'d>(
     alloc: Global,
@@ -162,7 +194,7 @@ pub(crate) fn bounds_in_place<'d>(
         (told in_manifest (bounds_in map (there met))) }
 {
     match items_of(found) {
-        Some(items) => each_bound(alloc, items, map),
+        Some(items) => bounds_ahead(alloc, items, map),
         None => Ok(Vec::new(alloc)),
     }
 }
