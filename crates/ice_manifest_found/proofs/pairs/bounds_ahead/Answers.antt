@@ -1,5 +1,4 @@
-use Rattle.std.proofs.Common.{◌≡◌, [], List, refl}
-use Rattle.avro_file.specs.Value.{Value}
+use Rattle.std.proofs.Common.{◌≡◌, [], refl}
 use Rattle.ice_manifest_fields.specs.Each.{each}
 use Rattle.ice_manifest_found.proofs.pairs.bounds_ahead.Goals as goal
 
