@@ -3,3 +3,4 @@ pub mod Ways
 pub mod Picks
 pub mod Rows
 pub mod Placed
+pub mod Guided

@@ -215,7 +215,7 @@ onward_first id all vs fs i f p q lt is o =
     first_read f.id (tree f.schema) (field_trees (drop (i + 1) fs)) p o.values q
     (ap (λ (r : Fields). fields_at r p) (sym (next_field fs i f lt is)) ∙ o.read)
 
-taken_or_not : (id : ℤ) (own : Option ℤ) (t : Tree) (fs : Fields) (v : Value) (vs ws : List Value) → ws ≡ v ∷ vs
+pub taken_or_not : (id : ℤ) (own : Option ℤ) (t : Tree) (fs : Fields) (v : Value) (vs ws : List Value) → ws ≡ v ∷ vs
     → field_value id (field own t fs) (values_of ws) ≡ cond (option_eq int_eq own (Some id)) (Some (t, v))
     (field_value id fs (values_of vs))
 taken_or_not id own t fs v vs ws is = rw is refl

@@ -2,3 +2,4 @@ pub mod Picked
 pub mod Finding
 pub mod Rows
 pub mod Placing
+pub mod Guides

@@ -1,5 +1,5 @@
 -- Where the values of an object begin, as a layout places them.
-use Rattle.std.specs.Prelude.{◌≡◌, ◌≤◌, ℕ, zero, suc, ℤ, List, [], ◌∷◌, length, Option, Some, None}
+use Rattle.std.specs.Prelude.{◌≡◌, ◌≤◌, ℕ, zero, suc, ℤ, List, [], ◌∷◌, length, Option, Some, None, IfSome}
 use Rattle.avro_schema.specs.Tree.{Tree}
 use Rattle.avro_schema.specs.View.{tree}
 use Rattle.avro_file.specs.declared.object.Object.{Object}
@@ -9,6 +9,7 @@ use Rattle.avro_picked.specs.declared.layout.Layout.{Layout}
 use Rattle.avro_picked.specs.declared.places.Places.{Places}
 use Rattle.avro_picked.specs.Rows.{row, trees_of, AreAlike, Stand, AreLeads}
 use Rattle.avro_picked.specs.Finding.{layout_tree, ways_of}
+use Rattle.avro_picked.specs.Guides.{IsGuideOf}
 
 -- the k-th way
 abbrev pub nth_way : List (List ℤ) → ℕ → List ℤ
@@ -20,10 +21,11 @@ abbrev pub way_of : Layout → ℕ → List ℤ
 way_of l k = nth_way (ways_of l) k
 
 -- Its steps end as the row of its type does, in which its leads go where its ways do. The type that it passes objects
--- by ends as its own.
+-- by ends as its own, and its guide is one of its type.
 abbrev pub IsLayout : Layout → Type 0
 IsLayout l = AreAlike (trees_of l.steps.items) (row (layout_tree l))
     × AreLeads (layout_tree l) l.ways.items l.leads.items × EndAlike (tree l.passing) (layout_tree l)
+    × IfSome l.guide (IsGuideOf (ways_of l) (layout_tree l))
 
 -- a list with a place for each value
 abbrev pub FitsLayout : Layout → Places → Type 0

@@ -24,8 +24,8 @@ pub const MAX_ITEMS: u64 = 16_777_216;
 /// A value in an object, which was checked whole. It lends the file's bytes and owns nothing.
 #[derive(Clone, Copy, Debug)]
 pub struct Found<'s, 'a> {
-    schema: &'s Schema,
-    bytes: &'a [u8],
+    pub(crate) schema: &'s Schema,
+    pub(crate) bytes: &'a [u8],
 }
 
 impl<'s, 'a> Found<'s, 'a> {
@@ -112,7 +112,7 @@ pub fn found_on_way<'s, 'a>(
 }
 
 /// Whether the values of the schema are null.
-fn is_null(schema: &Schema) -> bool
+pub fn is_null(schema: &Schema) -> bool
     ensures { result ≡ has_null_only (tree schema.now) }
 {
     match schema {

@@ -1,13 +1,15 @@
 //! Which values of an object are wanted.
 
-ghost use Rattle.std.specs.Prelude.{◌≡◌, ◌≤◌, map, length, drop, IfOk};
+ghost use Rattle.std.specs.Prelude.{◌≡◌, ◌≤◌, map, length, drop, IfOk, IfSome};
 ghost use Rattle.avro_file.specs.Value.{Value};
 ghost use Rattle.avro_file.specs.Blocks.{StandsAt};
 ghost use Rattle.avro_file.specs.Picking.{pick};
 ghost use Rattle.avro_picked.specs.Finding.{IsMet};
+ghost use Rattle.avro_picked.specs.Guides.{ids_in, IsGuideOf};
 ghost use Rattle.avro_schema.specs.View.{tree};
 
 use crate::found::{Found, found_here, found_on_way};
+use crate::guide::{Guide, found_by, guide_of};
 use crate::places::Places;
 use crate::row::{Lead, Step, lead_of, row_end, steps_of};
 use avro_file::{AvroFault, Datum, Object, Objects, lean_schema};
@@ -25,12 +27,40 @@ pub struct Layout<'s> {
     steps: Vec<Step>,
     /// Where each way leads in it.
     leads: Vec<Option<Lead<'s>>>,
+    /// What ways are walked by that go on behind a union; none where no way does.
+    guide: Option<Guide<'s>>,
+}
+
+/// Whether a way goes on behind the value to which it leads in the row. It tells nothing but how ways are walked.
+fn any_goes_on(ways: &[Vec<i32>], leads: &[Option<Lead>]) -> bool {
+    'ways: for (way, lead) in ways.iter().zip(leads) {
+        match lead {
+            Some(lead) if lead.passed < way.len() => return true,
+            _ => {}
+        }
+    }
+    false
+}
+
+/// The guide of a type for these ways; none where none of them goes on behind the value to which it leads in the row.
+fn guide_behind<'s>(
+    alloc: Global,
+    schema: &'s Schema,
+    ways: &[Vec<i32>],
+    leads: &[Option<Lead<'s>>],
+) -> Result<Option<Guide<'s>>, AllocError>
+    ensures { IfOk result (λ some. IfSome some (λ guide. IsGuideOf (ids_in ways.now) (tree schema.now) guide)) }
+{
+    if !any_goes_on(ways, leads) {
+        return Ok(None);
+    }
+    Ok(Some(guide_of(alloc, None, schema, ways)?))
 }
 
 impl<'s> Layout<'s> {
     ghost use Rattle.std.specs.Result.{IfErr};
     ghost use Rattle.avro_file.specs.Files.{ahead, type_of, Shows};
-    ghost use Rattle.std.specs.Prelude.{◌<◌, IfSome};
+    ghost use Rattle.std.specs.Prelude.{◌<◌};
     ghost use Rattle.avro_file.specs.Files.{Next};
     ghost use Rattle.avro_picked.specs.Finding.{layout_tree, ways_of, ArePicked, NextPicked};
     ghost use Rattle.avro_picked.specs.Placing.{way_of, IsLayout, FitsLayout, ArePlaced};
@@ -55,12 +85,14 @@ impl<'s> Layout<'s> {
             kept.push(Vec::from_slice(alloc, way)?)?;
         }
         let passing = lean_schema(alloc, schema)?;
+        let guide = guide_behind(alloc, schema, ways, &leads)?;
         Ok(Layout {
             schema,
             passing,
             ways: kept,
             steps,
             leads,
+            guide,
         })
     }
 
@@ -159,8 +191,14 @@ impl<'s> Layout<'s> {
         let Some(lead) = self.leads[way] else {
             return None;
         };
-        let start = places.start_of(lead.step, end);
-        found_at(lead, &self.ways[way], object.bytes(), start)
+        let way = &self.ways[way];
+        match &self.guide {
+            Some(guide) if lead.passed < way.len() => found_by(guide, way, object.bytes()),
+            _ => {
+                let start = places.start_of(lead.step, end);
+                found_at(lead, way, object.bytes(), start)
+            }
+        }
     }
 }
 

@@ -2,10 +2,12 @@
 #![tactic(auto)]
 
 mod found;
+mod guide;
 mod layout;
 mod places;
 mod row;
 
 pub use found::Found;
+pub use guide::Guide;
 pub use layout::Layout;
 pub use places::Places;

@@ -337,8 +337,9 @@ fn fields_without_bytes(rt: HostRuntime) {
         b"\x02\x04\x04\x06\x00\x02\x02k\x08\x00\x02\x0a\x0c\x8e\x80\x80\x80\x00\x00\x00\x00\x0e";
     let lines = "[None, Some(Fixed([])), Some(Int(1)), None, \
 Some(Array([Record([Fixed([]), Int(2), Null]), Record([Fixed([]), Int(3), Null])])), \
-Some(Map([(\"k\", Record([Fixed([]), Int(4), Null]))])), Some(Int(5)), None, Some(Int(6))]\n\
-[None, Some(Fixed([])), Some(Int(7)), None, Some(Array([])), Some(Map([])), None, None, Some(Int(7))]\nend";
+Some(Map([(\"k\", Record([Fixed([]), Int(4), Null]))])), Some(Int(5)), None, Some(Int(6)), Some(Fixed([])), None]\n\
+[None, Some(Fixed([])), Some(Int(7)), None, Some(Array([])), Some(Map([])), None, None, Some(Int(7)), None, None]\n\
+end";
     assert!(rt;
         gives(
             rt.alloc(),
@@ -354,7 +355,9 @@ Some(Map([(\"k\", Record([Fixed([]), Int(4), Null]))])), Some(Int(5)), None, Som
                 &[7],
                 &[8, 4],
                 &[9],
-                &[10]
+                &[10],
+                &[8, 3],
+                &[8, 5]
             ],
             lines
         )

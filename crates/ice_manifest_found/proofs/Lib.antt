@@ -9,3 +9,4 @@ pub mod Within
 pub mod Coming
 pub mod PairsSaid
 pub mod ColumnsSaid
+pub mod Itself

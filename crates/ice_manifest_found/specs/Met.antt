@@ -1,7 +1,7 @@
 -- What was met where a way of field ids leads, as the field that it is: what a manifest list's row or a manifest's entry
 -- must have there, or may.
 -- Apache Iceberg table spec v2, 'Manifests' and 'Column Projection'.
-use Rattle.std.specs.Prelude.{◌≡◌, ◌≢◌, ℕ, ℤ, List, Option, Result, Ok, Err}
+use Rattle.std.specs.Prelude.{◌≡◌, ◌≢◌, ℕ, ℤ, List, [], ◌∷◌, Option, Result, Ok, Err}
 use Rattle.contract_words.specs.Outcome.{◌>>=◌}
 use Rattle.avro_file.specs.Picking.{Typed, Picked}
 use Rattle.ice_value.specs.Columns.{ColumnCount, ColumnBound}
@@ -51,6 +51,10 @@ abbrev pub ints_met : ℤ → Picked → Result (List ℤ) FieldFault
 ints_met item met = each (int_item item) (items_of (there met))
 
 -- ---- columns
+
+-- the ways to the key of a pair and to what it says
+abbrev pub pair_ways : ColumnMap → List (List ℤ)
+pair_ways m = (m.key ∷ []) ∷ (m.said ∷ []) ∷ []
 
 -- the counts of a map; none where there is no map
 abbrev pub counts_in : ColumnMap → Option Typed → Result (List ColumnCount) FieldFault

@@ -5,6 +5,7 @@ ghost use Rattle.avro_schema.specs.declared.schema.ArrayKind.{ArrayKind};
 ghost use Rattle.avro_schema.specs.Tree.{array};
 ghost use Rattle.avro_schema.specs.View.{tree};
 ghost use Rattle.avro_file.specs.Value.{Value, items, values_of};
+ghost use Rattle.avro_file.specs.Alike.{EndAlike};
 ghost use Rattle.avro_file.specs.Blocks.{StandsAt};
 ghost use Rattle.avro_file.specs.Picking.{Picked};
 ghost use Rattle.avro_picked.specs.Finding.{IsMet};
@@ -20,7 +21,7 @@ use avro_schema::Schema;
 /// The items of a list that are still to come. It lends the file's bytes and owns nothing.
 #[derive(Clone, Copy, Debug)]
 pub struct ItemsAhead<'s, 'a> {
-    schema: &'s Schema,
+    pub(crate) schema: &'s Schema,
     /// How many items of the block that is being read are to come.
     in_block: u64,
     place: Place<'a>,
@@ -56,7 +57,7 @@ impl<'s, 'a> ItemsAhead<'s, 'a> {
     }
 
     /// The same at the next item; none behind the last one.
-    fn at_item(&self) -> Option<ItemsAhead<'s, 'a>>
+    pub(crate) fn at_item(&self) -> Option<ItemsAhead<'s, 'a>>
         ensures block { IfSome result (λ at. 0 < at.in_block) }
         ensures no_more { IfSome result (λ at. still at ≤ still self.now) }
         ensures items { (vs : List Value) → AreAhead self.now vs → AtItem self.now vs result }
@@ -86,21 +87,33 @@ impl<'s, 'a> ItemsAhead<'s, 'a> {
         }
     }
 
-    /// The next item; none behind the last one.
-    pub fn next(&mut self) -> Option<Standing<'s, 'a>>
+    /// The next item, which is passed by a schema whose values end where the items do; none behind the last one.
+    pub(crate) fn next_by(&mut self, passing: &Schema) -> Option<Standing<'s, 'a>>
+        requires { EndAlike (tree passing.now) (tree self.old.schema.now) }
         ensures fewer { IfSome result (λ _. still self.new < still self.old) }
         ensures items { (vs : List Value) → AreAhead self.old vs → NextItem self.old vs result self.new }
+        ensures schema { self.new.schema.now ≡ self.old.schema.now }
+        ensures item { IfSome result (λ item. item.schema.now ≡ self.old.schema.now) }
     {
         let here = self.at_item()?;
         // It was checked, so that reading does not fail.
-        let Ok(after) = end_of(here.schema, here.place) else {
+        let Ok(after) = end_of(passing, here.place) else {
             return None;
         };
         self.in_block = here.in_block - 1;
         self.place = after;
         Some(Standing {
-            schema: here.schema,
+            schema: self.schema,
             bytes: here.place.bytes,
         })
+    }
+
+    /// The next item; none behind the last one.
+    pub fn next(&mut self) -> Option<Standing<'s, 'a>>
+        ensures fewer { IfSome result (λ _. still self.new < still self.old) }
+        ensures items { (vs : List Value) → AreAhead self.old vs → NextItem self.old vs result self.new }
+    {
+        let schema = self.schema;
+        self.next_by(schema)
     }
 }

@@ -91,6 +91,14 @@ pub fn bytes_there<'a>(found: Option<Standing<'_, 'a>>) -> Option<&'a [u8]>
     bytes_at(found.schema, found.bytes)
 }
 
+/// The bytes that were found, lent from the file; none where nothing or anything else was.
+pub fn binary<'a>(found: Option<Found<'_, 'a>>) -> Option<&'a [u8]>
+    ensures { (met : Picked) → IsMet found.entry met → option_copied result ≡ binary_of (there met) }
+{
+    let found = found?;
+    bytes_at(found.schema(), found.bytes())
+}
+
 /// The text that was found, lent from the file; none where nothing or anything else was.
 pub fn text<'a>(found: Option<Found<'_, 'a>>) -> Option<&'a str>
     ensures { (met : Picked) → IsMet found.entry met → option_copied result ≡ text_of (there met) }

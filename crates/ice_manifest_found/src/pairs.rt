@@ -1,69 +1,87 @@
 //! The pairs of a map of columns, one after the other where they lie in the file.
 
-ghost use Rattle.std.specs.Prelude.{◌≡◌, List};
+ghost use Rattle.std.specs.Prelude.{◌≡◌, ◌++◌, ℤ, List, [], ◌∷◌, IfOk};
 ghost use Rattle.contract_words.specs.Outcome.{Gives};
-ghost use Rattle.avro_schema.specs.Tree.{structure};
+ghost use Rattle.avro_schema.specs.Tree.{Tree};
 ghost use Rattle.avro_schema.specs.View.{tree};
 ghost use Rattle.avro_file.specs.Value.{Value, values_of};
+ghost use Rattle.avro_file.specs.Blocks.{StandsAt};
 ghost use Rattle.avro_file.specs.Picking.{Picked};
 ghost use Rattle.avro_picked.specs.Finding.{IsMet};
+ghost use Rattle.avro_picked.specs.Guides.{ids_in, IsGuideOf, AreAsked};
 ghost use Rattle.ice_value.specs.Pairs.{count_said, counts_said, bound_said, bounds_said};
 ghost use Rattle.ice_manifest_fields.specs.Each.{each};
 ghost use Rattle.ice_manifest_fields.specs.Fields.{there, items_as, long_at, int_at};
-ghost use Rattle.ice_manifest_fields.specs.Maps.{count_in as count_within, count_of as count_of_item};
-ghost use Rattle.ice_manifest_fields.specs.Maps.{bound_in as bound_within, bound_of as bound_of_item};
+ghost use Rattle.ice_manifest_fields.specs.Maps.{count_of as count_of_item, bound_of as bound_of_item};
 ghost use Rattle.ice_manifest_fields.specs.Naming.{in_manifest, told};
-ghost use Rattle.ice_manifest_fields.specs.Seen.{result_map, fields_seen};
-ghost use Rattle.ice_manifest_found.specs.InPlace.{Stands, RecordStands, AreAhead};
-ghost use Rattle.ice_manifest_found.specs.Met.{counts_in, bounds_in};
+ghost use Rattle.ice_manifest_fields.specs.Seen.{result_map};
+ghost use Rattle.ice_manifest_found.specs.InPlace.{Stands, AreAhead};
+ghost use Rattle.ice_manifest_found.specs.Met.{pair_ways, counts_in, bounds_in};
 
+use crate::field::{int_asked, long_asked};
 use crate::items::{ItemsAhead, items_of};
-use crate::leaf::{bytes_there, whole_there};
-use crate::standing::{Standing, field_of};
-use avro_picked::Found;
-use avro_schema::Field;
-use ice_manifest_fields::{ColumnMap, FieldFault, ManifestFault, within_32};
-use std::alloc::Global;
+use crate::leaf::binary;
+use crate::standing::Standing;
+use avro_picked::{Found, Guide};
+use avro_schema::Schema;
+use ice_manifest_fields::{ColumnMap, FieldFault, ManifestFault};
+use std::alloc::{AllocError, Global};
 
-/// A whole number of 64 bits at a field of a record.
-fn long_in(fields: &[Field], bytes: &[u8], id: i32) -> Result<i64, FieldFault>
-    ensures { (v : Value) → RecordStands fields.entry bytes.entry v →
-        result ≡ long_at id (structure (fields_seen fields.now), v) }
+fn push_way(alloc: Global, ids: &[i32], ways: &mut Vec<Vec<i32>>) -> Result<(), AllocError>
+    ensures { IfOk result (λ _. ids_in ways.new.items ≡ ids_in ways.old.items ++ ids.now ∷ []) }
 {
-    match whole_there(field_of(fields, bytes, id)) {
-        Some(number) => Ok(number),
-        None => Err(FieldFault::Missing(id)),
-    }
+    ways.push(Vec::from_slice(alloc, ids)?)?;
+    Ok(())
 }
 
-/// A whole number of 32 bits at a field of a record.
-fn int_in(fields: &[Field], bytes: &[u8], id: i32) -> Result<i32, FieldFault>
-    ensures { (v : Value) → RecordStands fields.entry bytes.entry v →
-        result ≡ int_at id (structure (fields_seen fields.now), v) }
+/// The ways to the key of a pair and to what it says.
+fn ways_of(alloc: Global, map: ColumnMap) -> Result<Vec<Vec<i32>>, AllocError>
+    ensures { IfOk result (λ ways. ids_in ways.items ≡ pair_ways map) }
 {
-    within_32(long_in(fields, bytes, id)?, id)
+    let mut ways = Vec::new(alloc);
+    push_way(alloc, &[map.key], &mut ways)?;
+    push_way(alloc, &[map.said], &mut ways)?;
+    Ok(ways)
 }
 
-/// The count that a pair says.
-fn count_in(fields: &[Field], bytes: &[u8], map: ColumnMap) -> Result<(i32, i64), FieldFault>
-    ensures { (v : Value) → RecordStands fields.entry bytes.entry v →
-        result_map count_said result ≡ count_within map (structure (fields_seen fields.now), v) }
+/// The guide of a pair's type, for its key and for what it says.
+fn pair_guide<'s>(
+    alloc: Global,
+    schema: &'s Schema,
+    map: ColumnMap,
+) -> Result<Guide<'s>, AllocError>
+    ensures { IfOk result (IsGuideOf (pair_ways map) (tree schema.now)) }
 {
-    Ok((
-        int_in(fields, bytes, map.key)?,
-        long_in(fields, bytes, map.said)?,
-    ))
+    let ways = ways_of(alloc, map)?;
+    Guide::new(alloc, schema, &ways)
+}
+
+/// A whole number of 64 bits at a field of an item.
+fn long_in(guide: &Guide, bytes: &[u8], id: i32) -> Result<i64, FieldFault>
+    ensures { (ways : List (List ℤ)) (t : Tree) (v : Value) → IsGuideOf ways t guide.now → AreAsked ways (id ∷ [])
+        → StandsAt t bytes.now v → result ≡ long_at id (t, v) }
+{
+    long_asked(guide.found(&[id], bytes), id)
+}
+
+/// A whole number of 32 bits at a field of an item.
+fn int_in(guide: &Guide, bytes: &[u8], id: i32) -> Result<i32, FieldFault>
+    ensures { (ways : List (List ℤ)) (t : Tree) (v : Value) → IsGuideOf ways t guide.now → AreAsked ways (id ∷ [])
+        → StandsAt t bytes.now v → result ≡ int_at id (t, v) }
+{
+    int_asked(guide.found(&[id], bytes), id)
 }
 
 /// The count that an item of a map says.
-fn count_of(item: &Standing, map: ColumnMap) -> Result<(i32, i64), FieldFault>
+fn count_of(guide: &Guide, item: &Standing, map: ColumnMap) -> Result<(i32, i64), FieldFault>
+    requires { IsGuideOf (pair_ways map) (tree item.now.schema.now) guide.now }
     ensures { (v : Value) → Stands item.now v →
         result_map count_said result ≡ count_of_item map (tree item.now.schema.now, v) }
 {
-    match item.record() {
-        Some((fields, bytes)) => count_in(fields, bytes, map),
-        None => Err(FieldFault::Missing(map.key)),
-    }
+    Ok((
+        int_in(guide, item.bytes, map.key)?,
+        long_in(guide, item.bytes, map.said)?,
+    ))
 }
 
 fn each_count(
@@ -75,11 +93,28 @@ fn each_count(
         Gives ManifestFault.Memory (λ counts. counts_said counts.items) result
         (told in_manifest (each (count_of_item map) (items_as (tree items.entry.schema.now) (values_of vs)))) }
 {
+    let guide = pair_guide(alloc, items.schema, map)?;
     let mut counts = Vec::new(alloc);
-    'items: while let Some(item) = items.next() {
-        counts.push(count_of(&item, map)?)?;
+    'items: while let Some(item) = items.next_by(guide.passing()) {
+        counts.push(count_of(&guide, &item, map)?)?;
     }
     Ok(counts)
+}
+
+/// The counts that the items to come say. No guide is made for none.
+fn counts_ahead(
+    alloc: Global,
+    items: ItemsAhead,
+    map: ColumnMap,
+) -> Result<Vec<(i32, i64)>, ManifestFault>
+    ensures { (vs : List Value) → AreAhead items.entry vs →
+        Gives ManifestFault.Memory (λ counts. counts_said counts.items) result
+        (told in_manifest (each (count_of_item map) (items_as (tree items.entry.schema.now) (values_of vs)))) }
+{
+    match items.at_item() {
+        Some(_) => each_count(alloc, items, map),
+        None => Ok(Vec::new(alloc)),
+    }
 }
 
 /// The counts that a map says; none where no map was found.
@@ -93,35 +128,25 @@ pub(crate) fn counts_in_place(
         (told in_manifest (counts_in map (there met))) }
 {
     match items_of(found) {
-        Some(items) => each_count(alloc, items, map),
+        Some(items) => counts_ahead(alloc, items, map),
         None => Ok(Vec::new(alloc)),
     }
 }
 
-/// The bound that a pair says.
-fn bound_in<'d>(
-    fields: &[Field],
-    bytes: &'d [u8],
+/// The bound that an item of a map says.
+fn bound_of<'d>(
+    guide: &Guide,
+    item: &Standing<'_, 'd>,
     map: ColumnMap,
 ) -> Result<(i32, &'d [u8]), FieldFault>
-    ensures { (v : Value) → RecordStands fields.entry bytes.entry v →
-        result_map bound_said result ≡ bound_within map (structure (fields_seen fields.now), v) }
-{
-    let column = int_in(fields, bytes, map.key)?;
-    match bytes_there(field_of(fields, bytes, map.said)) {
-        Some(bound) => Ok((column, bound)),
-        None => Err(FieldFault::Missing(map.said)),
-    }
-}
-
-/// The bound that an item of a map says.
-fn bound_of<'d>(item: &Standing<'_, 'd>, map: ColumnMap) -> Result<(i32, &'d [u8]), FieldFault>
+    requires { IsGuideOf (pair_ways map) (tree item.now.schema.now) guide.now }
     ensures { (v : Value) → Stands item.now v →
         result_map bound_said result ≡ bound_of_item map (tree item.now.schema.now, v) }
 {
-    match item.record() {
-        Some((fields, bytes)) => bound_in(fields, bytes, map),
-        None => Err(FieldFault::Missing(map.key)),
+    let column = int_in(guide, item.bytes, map.key)?;
+    match binary(guide.found(&[map.said], item.bytes)) {
+        Some(bound) => Ok((column, bound)),
+        None => Err(FieldFault::Missing(map.said)),
     }
 }
 
@@ -134,11 +159,28 @@ fn each_bound<'d>(
         Gives ManifestFault.Memory (λ bounds. bounds_said bounds.items) result
         (told in_manifest (each (bound_of_item map) (items_as (tree items.entry.schema.now) (values_of vs)))) }
 {
+    let guide = pair_guide(alloc, items.schema, map)?;
     let mut bounds = Vec::new(alloc);
-    'items: while let Some(item) = items.next() {
-        bounds.push(bound_of(&item, map)?)?;
+    'items: while let Some(item) = items.next_by(guide.passing()) {
+        bounds.push(bound_of(&guide, &item, map)?)?;
     }
     Ok(bounds)
+}
+
+/// The bounds that the items to come say. No guide is made for none.
+fn bounds_ahead<'d>(
+    alloc: Global,
+    items: ItemsAhead<'_, 'd>,
+    map: ColumnMap,
+) -> Result<Vec<(i32, &'d [u8])>, ManifestFault>
+    ensures { (vs : List Value) → AreAhead items.entry vs →
+        Gives ManifestFault.Memory (λ bounds. bounds_said bounds.items) result
+        (told in_manifest (each (bound_of_item map) (items_as (tree items.entry.schema.now) (values_of vs)))) }
+{
+    match items.at_item() {
+        Some(_) => each_bound(alloc, items, map),
+        None => Ok(Vec::new(alloc)),
+    }
 }
 
 /// The bounds that a map says; none where no map was found.
@@ -152,7 +194,7 @@ pub(crate) fn bounds_in_place<'d>(
         (told in_manifest (bounds_in map (there met))) }
 {
     match items_of(found) {
-        Some(items) => each_bound(alloc, items, map),
+        Some(items) => bounds_ahead(alloc, items, map),
         None => Ok(Vec::new(alloc)),
     }
 }

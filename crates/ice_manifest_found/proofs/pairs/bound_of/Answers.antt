@@ -1,19 +1,57 @@
-use Rattle.std.proofs.Common.{◌≡◌, Option, to_z, of_z, w32, rules, sym, ap, ◌∙◌}
+use Rattle.std.proofs.Common.{◌≡◌, ℤ, [], ◌∷◌, to_z, of_z, w32, rules, sym, ap, subst, ◌∙◌}
 use Rattle.std.proofs.lemmas.Int.{to_z-of_z}
-use Rattle.contract_words.specs.Outcome.{◌>>=◌}
-use Rattle.avro_file.specs.Picking.{Typed}
-use Rattle.ice_manifest_fields.specs.Fields.{asked}
-use Rattle.ice_manifest_fields.specs.Maps.{bound_in, bound_of}
+use Rattle.std.proofs.lemmas.Result.{err_from_is_err_and}
+use Rattle.avro_schema.specs.View.{tree}
+use Rattle.avro_picked.specs.Finding.{IsMet}
+use Rattle.avro_picked.specs.Guides.{AreAsked}
+use Rattle.ice_manifest_fields.specs.Fields.{asked, at, int_at}
+use Rattle.ice_manifest_found.specs.Met.{pair_ways}
+use Rattle.ice_manifest_found.proofs.Itself.{key_asked, said_asked, bound_itself}
+use Rattle.ice_manifest_found.proofs.PairsSaid.{bound_made, bound_without_column, bound_without_bytes}
 use Rattle.ice_manifest_found.proofs.pairs.bound_of.Goals as goal
 
+pub returns-in_err-column : goal.returns-in_err-column
+returns-in_err-column c =
+    let m = c.args.map in
+    let t = tree c.args.item.now.schema.now in
+    let key : to_z w32 (of_z w32 m.key) ≡ m.key = to_z-of_z w32 m.key (search rules) in
+    let key_there : AreAsked (pair_ways m) (to_z w32 (of_z w32 m.key) ∷ []) =
+    subst (λ (z : ℤ). AreAsked (pair_ways m) (z ∷ [])) (sym key) (key_asked m) in
+    let p = err_from_is_err_and c.from_residual.result c.from_residual.ensures.1 in
+    rw (p.1, p.2) (λ v is. bound_without_column m (t, v) c.in_err-column.field-0.0
+    (c.in_err-column.ensures (pair_ways m) t v c.requires key_there is ∙ ap (λ (z : ℤ). int_at z (t, v)) key)
+    ∙ sym (bound_itself m (t, v)))
+
 pub returns-in-Some : goal.returns-in-Some
-unfolding bound_of
 returns-in-Some c = λ v is.
-    let r = c.in-Some.ensures v is in
-    c.bound_in.ensures r.0 r.1 ∙ sym (ap (λ (x : Option Typed). asked c.args.map.key x >>= bound_in c.args.map) r.2)
+    let m = c.args.map in
+    let t = tree c.args.item.now.schema.now in
+    let key : to_z w32 (of_z w32 m.key) ≡ m.key = to_z-of_z w32 m.key (search rules) in
+    let said : to_z w32 (of_z w32 m.said) ≡ m.said = to_z-of_z w32 m.said (search rules) in
+    let key_there : AreAsked (pair_ways m) (to_z w32 (of_z w32 m.key) ∷ []) =
+    subst (λ (z : ℤ). AreAsked (pair_ways m) (z ∷ [])) (sym key) (key_asked m) in
+    let column : to_z w32 (of_z w32 c.in_ok-column.column) ≡ c.in_ok-column.column =
+    to_z-of_z w32 c.in_ok-column.column (search rules) in
+    let said_there : AreAsked (pair_ways m) (to_z w32 (of_z w32 m.said) ∷ []) =
+    subst (λ (z : ℤ). AreAsked (pair_ways m) (z ∷ [])) (sym said) (said_asked m) in
+    let found : IsMet c.found.result (at m.said (t, v)) = subst (λ (z : ℤ). IsMet c.found.result (at z (t, v))) said
+    (c.found.ensures (pair_ways m) t v c.requires said_there is) in
+    rw column (bound_made m (t, v) c.in_ok-column.column c.in-Some.bound.now
+    (c.in_ok-column.ensures (pair_ways m) t v c.requires key_there is ∙ ap (λ (z : ℤ). int_at z (t, v)) key)
+    (ap (asked m.said) (c.in-Some.ensures (at m.said (t, v)) found)) ∙ sym (bound_itself m (t, v)))
 
 pub returns-in-None : goal.returns-in-None
-unfolding bound_of
 returns-in-None c = λ v is.
-    let key : to_z w32 (of_z w32 c.args.map.key) ≡ c.args.map.key = to_z-of_z w32 c.args.map.key (search rules) in
-    rw key (sym (ap (λ (x : Option Typed). asked c.args.map.key x >>= bound_in c.args.map) (c.in-None.ensures v is)))
+    let m = c.args.map in
+    let t = tree c.args.item.now.schema.now in
+    let key : to_z w32 (of_z w32 m.key) ≡ m.key = to_z-of_z w32 m.key (search rules) in
+    let said : to_z w32 (of_z w32 m.said) ≡ m.said = to_z-of_z w32 m.said (search rules) in
+    let key_there : AreAsked (pair_ways m) (to_z w32 (of_z w32 m.key) ∷ []) =
+    subst (λ (z : ℤ). AreAsked (pair_ways m) (z ∷ [])) (sym key) (key_asked m) in
+    let said_there : AreAsked (pair_ways m) (to_z w32 (of_z w32 m.said) ∷ []) =
+    subst (λ (z : ℤ). AreAsked (pair_ways m) (z ∷ [])) (sym said) (said_asked m) in
+    let found : IsMet c.found.result (at m.said (t, v)) = subst (λ (z : ℤ). IsMet c.found.result (at z (t, v))) said
+    (c.found.ensures (pair_ways m) t v c.requires said_there is) in
+    rw said (bound_without_bytes m (t, v) c.in_ok-column.column _
+    (c.in_ok-column.ensures (pair_ways m) t v c.requires key_there is ∙ ap (λ (z : ℤ). int_at z (t, v)) key)
+    (ap (asked m.said) (c.in-None.ensures (at m.said (t, v)) found)) ∙ sym (bound_itself m (t, v)))

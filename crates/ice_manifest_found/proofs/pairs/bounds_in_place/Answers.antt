@@ -12,8 +12,8 @@ use Rattle.ice_manifest_found.proofs.pairs.bounds_in_place.Goals as goal
 pub returns-in-Some : goal.returns-in-Some
 returns-in-Some c = λ met is.
     let list = c.in-Some.ensures met is in
-    subst (λ (ys : List Typed). Gives Memory (λ pairs. bounds_said pairs.items) c.each_bound.result
-    (told in_manifest (each (bound_of c.args.map) ys))) (sym list.2) (c.each_bound.ensures list.0 list.1)
+    subst (λ (ys : List Typed). Gives Memory (λ pairs. bounds_said pairs.items) c.bounds_ahead.result
+    (told in_manifest (each (bound_of c.args.map) ys))) (sym list.2) (c.bounds_ahead.ensures list.0 list.1)
 
 pub returns-in-None : goal.returns-in-None
 unfolding each

@@ -1,3 +1,4 @@
+use Rattle.std.proofs.Common.{◌≡◌}
 use Rattle.ice_value.specs.Pairs.{counts_said}
 use Rattle.ice_manifest_fields.specs.Maps.{count_of}
 use Rattle.ice_manifest_found.specs.InPlace.{still}
@@ -6,6 +7,7 @@ use Rattle.ice_manifest_found.proofs.pairs.each_count.Given as goal
 
 abbrev pub invariant-items : goal.invariant-items
 invariant-items l = SoFar (count_of l.map) l.initial.items l.items (counts_said l.counts.items)
+    × (l.items.schema.now ≡ l.initial.items.schema.now)
 
 abbrev pub decreases-items : goal.decreases-items
 decreases-items l = still l.items

@@ -1,27 +1,17 @@
-use Rattle.std.proofs.Common.{◌≡◌, ℤ, to_z, of_z, w32, w64, rules, ap, subst}
+use Rattle.std.proofs.Common.{◌≡◌, ℤ, [], ◌∷◌, to_z, of_z, w32, rules, sym, ap, subst, ◌∙◌}
 use Rattle.std.proofs.lemmas.Int.{to_z-of_z}
-use Rattle.avro_schema.specs.Tree.{structure}
-use Rattle.ice_manifest_fields.specs.Fields.{asked, at, there}
-use Rattle.ice_manifest_fields.specs.Seen.{fields_seen}
-use Rattle.ice_manifest_found.specs.InPlace.{IsThere}
+use Rattle.avro_picked.specs.Finding.{IsMet}
+use Rattle.avro_picked.specs.Guides.{AreAsked}
+use Rattle.ice_manifest_fields.specs.Fields.{at}
+use Rattle.ice_manifest_found.specs.Met.{long_met}
 use Rattle.ice_manifest_found.proofs.pairs.long_in.Goals as goal
 
-pub returns-in-Some : goal.returns-in-Some
-returns-in-Some c = λ v is.
+pub returns : goal.returns
+returns c = λ ways t v is asked there.
     let same : to_z w32 (of_z w32 c.args.id) ≡ c.args.id = to_z-of_z w32 c.args.id (search rules) in
-    let number : to_z w64 (of_z w64 c.in-Some.number) ≡ c.in-Some.number =
-    to_z-of_z w64 c.in-Some.number (search rules) in
-    let found : IsThere c.field_of.result (there (at c.args.id (structure (fields_seen c.args.fields.now), v))) =
-    subst (λ (z : ℤ). IsThere c.field_of.result (there (at z (structure (fields_seen c.args.fields.now), v)))) same
-    (c.field_of.ensures v is) in
-    rw number (ap (asked c.args.id) (c.in-Some.ensures (there (at c.args.id
-    (structure (fields_seen c.args.fields.now), v))) found))
-
-pub returns-in-None : goal.returns-in-None
-returns-in-None c = λ v is.
-    let same : to_z w32 (of_z w32 c.args.id) ≡ c.args.id = to_z-of_z w32 c.args.id (search rules) in
-    let found : IsThere c.field_of.result (there (at c.args.id (structure (fields_seen c.args.fields.now), v))) =
-    subst (λ (z : ℤ). IsThere c.field_of.result (there (at z (structure (fields_seen c.args.fields.now), v)))) same
-    (c.field_of.ensures v is) in
-    rw same (ap (asked c.args.id) (c.in-None.ensures (there (at c.args.id
-    (structure (fields_seen c.args.fields.now), v))) found))
+    let met = at c.args.id (t, v) in
+    let asks : AreAsked ways (to_z w32 (of_z w32 c.args.id) ∷ []) = subst (λ (z : ℤ). AreAsked ways (z ∷ [])) (sym same)
+    asked in
+    let found : IsMet c.found.result met = subst (λ (z : ℤ). IsMet c.found.result (at z (t, v))) same
+    (c.found.ensures ways t v is asks there) in
+    c.long_asked.ensures met found ∙ ap (λ (z : ℤ). long_met z met) same

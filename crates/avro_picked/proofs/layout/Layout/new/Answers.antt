@@ -1,5 +1,7 @@
-use Rattle.std.proofs.Common.{◌≡◌, ◌∙◌, sym, subst, IfSome, List, ℤ, length, ◌≤◌}
+use Rattle.std.proofs.Common.{◌≡◌, ◌∙◌, sym, ap, subst, IfSome, List, ℤ, length, ◌≤◌}
+use Rattle.std.proofs.Math.Seq.{take_all}
 use Rattle.avro_schema.specs.View.{tree}
+use Rattle.avro_picked.specs.Guides.{ids_in, IsGuideOf}
 use Rattle.avro_picked.specs.Rows.{IsLead}
 use Rattle.avro_picked.proofs.Picks.{one_more}
 use Rattle.avro_picked.proofs.Placed.{leads_on, some_fits}
@@ -22,4 +24,11 @@ ways-preserved c =
     )
 
 pub returns-clause-leads : goal.returns-clause-leads
-returns-clause-leads c = (c.in_ok-steps.ensures.alike, c.ways.invariant.1, c.in_ok-passing.ensures)
+returns-clause-leads c =
+    let all = c.ways.invariant.0 ∙ ap ids_in (take_all c.ways.way-index c.args.ways.now c.ways-test.false) in (
+      c.in_ok-steps.ensures.alike,
+      c.ways.invariant.1,
+      c.in_ok-passing.ensures,
+      subst (λ (ws : List (List ℤ)). IfSome c.in_ok-guide.guide (IsGuideOf ws (tree c.args.schema.now))) (sym all)
+          c.in_ok-guide.ensures,
+    )
