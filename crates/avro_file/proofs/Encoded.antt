@@ -138,8 +138,12 @@ pair_written k v old = ap (λ (s : List ℕ). old ++ (long_bytes k ++ s)) (appen
 pub repeated_written : (n : ItemCount) (b : Box Datum Global) → written (view (datum.Repeated n b))
     ≡ block_bytes n.number (all_written (values_of (replicate n.number (view b.value))))
 unfolding written
-repeated_written n b = rw (view-Repeated n b, values_len-values_of (replicate n.number (view b.value)), length-replicate
-    n.number (view b.value)) refl
+repeated_written n b = rw (
+  view-Repeated n b,
+  values_len-values_of (replicate n.number (view b.value)),
+  length-replicate
+      n.number (view b.value),
+) refl
 
 pub times_on : (v : Value) (n i : ℕ) (old new total : List ℕ) → i < n → new ≡ old ++ written v
     → old ++ all_written (values_of (replicate (n - i) v)) ≡ total
