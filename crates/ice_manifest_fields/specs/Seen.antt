@@ -9,7 +9,8 @@ use Rattle.avro_file.specs.declared.datum.Datum.{Datum, LongPairs, BytesPairs}
 use Rattle.avro_file.specs.Value.{Value, fields, Values, values_of}
 use Rattle.avro_file.specs.View.{view, views, long_pairs, bytes_pairs}
 use Rattle.avro_file.specs.Picking.{Typed}
-use Rattle.ice_manifest_fields.specs.declared.field.Listed.{Listed, Each, Repeated}
+use Rattle.ice_manifest_fields.specs.declared.field.Listed.{Listed}
+use Rattle.ice_manifest_fields.specs.declared.field.Listed.TheVariants.{Each, Repeated}
 
 abbrev pub result_map : {A B E : Type 0} → (A → B) → Result A E → Result B E
 result_map f (Ok x) = Ok (f x)

@@ -233,7 +233,7 @@ fn counts_listed(
     map: ColumnMap,
 ) -> Result<Vec<(i32, i64)>, ManifestFault>
     ensures { Gives ManifestFault.Memory (λ counts. counts_said counts.items) result
-        (told in_manifest (each (count_of_item map) (items_listed (tree schema.now) items))) }
+        (told in_manifest (each (count_of_item map) (items_listed (tree schema.now) items.entry))) }
 {
     match items {
         Listed::Each(items) => counts_of(alloc, schema, items, map),
@@ -340,7 +340,7 @@ fn bounds_listed<'d>(
     map: ColumnMap,
 ) -> Result<Vec<(i32, &'d [u8])>, ManifestFault>
     ensures { Gives ManifestFault.Memory (λ bounds. bounds_said bounds.items) result
-        (told in_manifest (each (bound_of_item map) (items_listed (tree schema.now) items))) }
+        (told in_manifest (each (bound_of_item map) (items_listed (tree schema.now) items.entry))) }
 {
     match items {
         Listed::Each(items) => bounds_of(alloc, schema, items, map),

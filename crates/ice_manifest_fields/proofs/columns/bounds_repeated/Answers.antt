@@ -1,14 +1,19 @@
-use Rattle.std.proofs.Common.{◌∙◌, List, Ok, sym, ap}
+use Rattle.std.proofs.Common.{refl, ◌∙◌, List, Ok, sym, ap}
 use Rattle.std.proofs.lemmas.Result.{err_from_is_err_and}
 use Rattle.avro_schema.specs.View.{tree}
 use Rattle.avro_file.specs.View.{view}
 use Rattle.ice_value.specs.Columns.{ColumnBound}
 use Rattle.ice_value.specs.Pairs.{bound_said}
+use Rattle.ice_manifest_fields.specs.Each.{each}
 use Rattle.ice_manifest_fields.specs.Naming.{in_manifest, told}
 use Rattle.ice_manifest_fields.specs.Maps.{bound_of}
 use Rattle.ice_manifest_fields.proofs.Built.{each_same, same_fails, same_on, same_over}
 use Rattle.ice_manifest_fields.proofs.Lent.{bounds_pushed}
 use Rattle.ice_manifest_fields.proofs.columns.bounds_repeated.Goals as goal
+
+pub returns-then-times-eq0 : goal.returns-then-times-eq0
+unfolding each
+returns-then-times-eq0 c = rw (c.if-times-eq0.true, c.new-bounds.ensures.items) refl
 
 pub returns-in_err-said : goal.returns-in_err-said
 returns-in_err-said c =

@@ -1,7 +1,7 @@
 use Rattle.std.proofs.Common.{◌≡◌}
 use Rattle.avro_schema.specs.View.{tree}
 use Rattle.ice_manifest_fields.proofs.Steps.{tree-Array, view-Array, items_as_is}
-use Rattle.avro_file.specs.View.{views, long_pairs, bytes_pairs}
+use Rattle.avro_file.specs.View.{view, views, long_pairs, bytes_pairs}
 use Rattle.ice_manifest_fields.specs.Seen.{pairs_in}
 use Rattle.ice_manifest_fields.proofs.Built.{view-LongPairs, view-BytesPairs, view-Repeated, repeated_items}
 use Rattle.ice_manifest_fields.proofs.field.items_of.Goals as goal
