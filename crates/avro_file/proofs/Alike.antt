@@ -1,7 +1,7 @@
 -- Values of schemas that end alike.
-use Rattle.std.proofs.Common.{◌≡◌, ℕ, zero, suc, ◌+◌, ◌<◌, ◌≤◌, ℤ, pos, negsuc, Bool, true, false, List, [], ◌∷◌, ◌++◌}
+use Rattle.std.proofs.Common.{◌≡◌, ℕ, zero, suc, ◌+◌, ◌<◌, ◌≤◌, ℤ, pos, negsuc, false, List, [], ◌∷◌, ◌++◌}
 use Rattle.std.proofs.Common.{length, get_or, drop, Option, Result, Ok, Err, refl, sym, ap, subst, ◌∙◌, add-one}
-use Rattle.std.proofs.Common.{drop-cons, append_assoc, arith}
+use Rattle.std.proofs.Common.{drop-cons, append_assoc}
 use Rattle.std.proofs.Math.ListN.{drop_of_length-le}
 use Rattle.std.proofs.lemmas.List.{append-nil}
 use Rattle.contract_words.specs.Outcome.{◌>>=◌}
@@ -10,10 +10,10 @@ use Rattle.avro_parts.specs.Number.{long_at}
 use Rattle.avro_parts.specs.Parts.{Position, Read, behind, string_at, count_at}
 use Rattle.avro_schema.specs.declared.schema.Field.{Field}
 use Rattle.avro_schema.specs.declared.schema.Schema.{Schema}
-use Rattle.avro_schema.specs.Tree.{Tree, structure, array, map, union, Fields, no_fields, field, Branches, no_branches}
+use Rattle.avro_schema.specs.Tree.{Tree, structure, array, map, union, Fields, field, Branches}
 use Rattle.avro_schema.specs.Tree.{branch}
 use Rattle.avro_schema.specs.View.{tree}
-use Rattle.avro_file.specs.Value.{Value, Pair}
+use Rattle.avro_file.specs.Value.{Value}
 use Rattle.avro_file.specs.Reading.{values_at, block_then, blocks_at, entry_at, datum_at, fields_at, branch_at, chosen_by}
 use Rattle.avro_file.specs.Spelling.{takes_bytes}
 use Rattle.avro_file.specs.Blocks.{inside, refused, max_items, object_at}

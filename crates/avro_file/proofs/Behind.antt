@@ -103,30 +103,34 @@ no_bytes (suc n) bytes e = absurd (omega (arith, ltb-false _ _ e))
 mutual
   unfolding datum_at fields_at takes_bytes some_takes_bytes
 
-  pub empty_value : (s : Tree) (p : Position) → takes_bytes s ≡ false → (v : Value) × (datum_at s p ≡ Ok (v, p))
-  empty_value null p e = (nothing, refl)
-  empty_value boolean p e = absurd cc
-  empty_value int p e = absurd cc
-  empty_value long p e = absurd cc
-  empty_value float p e = absurd cc
-  empty_value double p e = absurd cc
-  empty_value (octets kind) p e = absurd cc
-  empty_value string p e = absurd cc
-  empty_value (fixed n kind) p e = (raw [], rw (no_bytes n p.bytes e) refl)
-  empty_value (symbols n) p e = absurd cc
-  empty_value (structure fs) p e = let vs = empty_fields fs p e in (fields (values_of vs.0), rw vs.1 refl)
-  empty_value (array s id kind) p e = absurd cc
-  empty_value (map s) p e = absurd cc
-  empty_value (union bs) p e = absurd cc
+  -- it is the same wherever it is read
+  pub steady_value : (s : Tree) → takes_bytes s ≡ false → (v : Value) × ((p : Position) → datum_at s p ≡ Ok (v, p))
+  steady_value null e = (nothing, λ p. refl)
+  steady_value boolean e = absurd cc
+  steady_value int e = absurd cc
+  steady_value long e = absurd cc
+  steady_value float e = absurd cc
+  steady_value double e = absurd cc
+  steady_value (octets kind) e = absurd cc
+  steady_value string e = absurd cc
+  steady_value (fixed n kind) e = (raw [], λ p. rw (no_bytes n p.bytes e) refl)
+  steady_value (symbols n) e = absurd cc
+  steady_value (structure fs) e = let vs = steady_fields fs e in (fields (values_of vs.0), λ p. rw (vs.1 p) refl)
+  steady_value (array s id kind) e = absurd cc
+  steady_value (map s) e = absurd cc
+  steady_value (union bs) e = absurd cc
 
-  empty_fields : (fs : Fields) (p : Position) → some_takes_bytes fs ≡ false
-      → (vs : List Value) × (fields_at fs p ≡ Ok (vs, p))
-  empty_fields no_fields p e = ([], refl)
-  empty_fields (field id s fs) p e =
+  steady_fields : (fs : Fields) → some_takes_bytes fs ≡ false
+      → (vs : List Value) × ((p : Position) → fields_at fs p ≡ Ok (vs, p))
+  steady_fields no_fields e = ([], λ p. refl)
+  steady_fields (field id s fs) e =
       let both = neither (takes_bytes s) (some_takes_bytes fs) e in
-      let first = empty_value s p both.0 in
-      let others = empty_fields fs p both.1 in
-      (first.0 ∷ others.0, rw (first.1, others.1) refl)
+      let first = steady_value s both.0 in
+      let others = steady_fields fs both.1 in
+      (first.0 ∷ others.0, λ p. rw (first.1 p, others.1 p) refl)
+
+pub empty_value : (s : Tree) (p : Position) → takes_bytes s ≡ false → (v : Value) × (datum_at s p ≡ Ok (v, p))
+empty_value s p e = let v = steady_value s e in (v.0, v.1 p)
 
 -- any number of them ends where it begins
 pub empty_values : (s : Tree) (n : ℕ) (p : Position) → takes_bytes s ≡ false

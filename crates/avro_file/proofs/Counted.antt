@@ -1,5 +1,5 @@
 -- Whatever lies in memory is counted by numbers.
-use Rattle.std.proofs.Common.{◌≡◌, ℕ, suc, ℤ, List, [], ◌∷◌, map, length, subst, sym, refl, ap, arith}
+use Rattle.std.proofs.Common.{◌≡◌, ℕ, zero, suc, ℤ, List, [], ◌∷◌, map, length, replicate, subst, sym, refl, ap, arith}
 use denote.Ref.{Bor}
 use Rattle.avro_file.specs.declared.datum.Datum.{Datum}
 use Rattle.avro_file.specs.declared.datum.Datum.TheOpen.{Datum-F}
@@ -40,6 +40,14 @@ bytes_pairs_counted : (ps : List (ℤ × Bor (List ℕ))) → AreCounted (values
 bytes_pairs_counted [] = tt
 bytes_pairs_counted (p ∷ ps) = ((tt, (tt, tt)), bytes_pairs_counted ps)
 
+repeated_many : (n : ℕ) (v : Value) → values_len (values_of (replicate n v)) ≡ n
+repeated_many zero v = refl
+repeated_many (suc n) v = ap suc (repeated_many n v)
+
+repeated_counted : (n : ℕ) (v : Value) → IsCounted v → AreCounted (values_of (replicate n v))
+repeated_counted zero v is = tt
+repeated_counted (suc n) v is = (is, repeated_counted n v is)
+
 abbrev known_entries : List (Bor (List ℕ) × Known) → List Pair
 known_entries es = map (λ (e : Bor (List ℕ) × Value). (e.0.now, e.1)) (map (λ (e : Bor (List ℕ) × Datum). (
   e.0,
@@ -75,6 +83,10 @@ layer_counted (Datum-F.LongPairs v) = (
 layer_counted (Datum-F.BytesPairs v) = (
   omega (arith, v.ok, v.small, bytes_pairs_many v.items),
   bytes_pairs_counted v.items,
+)
+layer_counted (Datum-F.Repeated n b) = (
+  omega (arith, n.fits_long, repeated_many n.number (view b.value.0)),
+  repeated_counted n.number (view b.value.0) b.value.1,
 )
 layer_counted (Datum-F.Map v) = (omega (arith, v.ok, v.small, entries_many v.items), entries_counted v.items)
 layer_counted (Datum-F.Union n b) = b.value.1

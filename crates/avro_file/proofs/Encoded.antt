@@ -1,20 +1,21 @@
 -- What the steps of writing a value leave.
-use Rattle.std.proofs.Common.{◌≡◌, ℕ, zero, suc, ◌+◌, ◌*◌, ◌/◌, ◌%◌, ◌^◌, ◌<◌, ◌≤◌, pos, ℤ, List, [], ◌∷◌, ◌++◌, length}
-use Rattle.std.proofs.Common.{get_or, drop, refl, sym, ap, ◌∙◌, append_assoc, add-one, map, drop-cons, arith, rules}
+use Rattle.std.proofs.Common.{◌≡◌, ℕ, zero, suc, ◌+◌, ◌-◌, ◌*◌, ◌/◌, ◌%◌, ◌^◌, ◌<◌, ◌≤◌, pos, ℤ, List, [], ◌∷◌, ◌++◌}
+use Rattle.std.proofs.Common.{length, get_or, drop, replicate, refl, sym, ap, ◌∙◌, append_assoc, add-one, map, drop-cons, arith, rules}
 use Rattle.std.proofs.Common.{Vec, Box, Global}
-use Rattle.std.proofs.lemmas.List.{append-nil}
+use Rattle.std.proofs.lemmas.List.{append-nil, length-replicate}
 use Rattle.std.proofs.lemmas.Bool.{lt-ltb, le-ltb}
 use Rattle.std.proofs.Math.Nat.{pow-suc}
 use Rattle.std.proofs.Math.ListN.{drop_of_length-le}
 use denote.Ref.{Bor}
 use Rattle.avro_file.specs.declared.datum.Datum as datum
 use Rattle.avro_file.specs.declared.datum.Datum.{Datum}
+use Rattle.avro_file.specs.declared.datum.ItemCount.{ItemCount}
 use Rattle.avro_file.specs.Value.{Value, items, values_of, entries_of}
 use Rattle.avro_file.specs.View.{view, views, entry_views, pair_with, long_pairs, bytes_pairs}
 use Rattle.avro_file.specs.Writing.{groups_of, long_bytes, run_bytes, block_bytes, written, all_written}
 use Rattle.avro_file.specs.Writing.{entries_written}
 use Rattle.avro_file.proofs.Views.{view-Union, view-Map}
-use Rattle.avro_file.proofs.Paired.{view-LongPairs, view-BytesPairs, long_pairs_len, bytes_pairs_len}
+use Rattle.avro_file.proofs.Paired.{view-LongPairs, view-BytesPairs, view-Repeated, long_pairs_len, bytes_pairs_len}
 use Rattle.avro_file.proofs.Taken.{values_len-values_of, entries_len-entries_of}
 
 -- ---- numbers
@@ -53,7 +54,7 @@ ten_groups n lt = omega (arith, lt)
 
 -- ---- values that hold others
 
-view-Array : (v : Vec Datum Global) → view (datum.Array v) ≡ items (values_of (views v.items))
+pub view-Array : (v : Vec Datum Global) → view (datum.Array v) ≡ items (values_of (views v.items))
 view-Array v = search (rules, datum.the_lemmas)
 
 views_len : (ds : List Datum) → length (views ds) ≡ length ds
@@ -131,6 +132,36 @@ pub pair_written : (k : ℤ) (v : Value) (old : List ℕ)
 unfolding written
 pair_written k v old = ap (λ (s : List ℕ). old ++ (long_bytes k ++ s)) (append-nil (written v)) ∙ sym
     (append_assoc old (long_bytes k) (written v))
+
+-- ---- so many times one value
+
+pub repeated_written : (n : ItemCount) (b : Box Datum Global) → written (view (datum.Repeated n b))
+    ≡ block_bytes n.number (all_written (values_of (replicate n.number (view b.value))))
+unfolding written
+repeated_written n b = rw (
+  view-Repeated n b,
+  values_len-values_of (replicate n.number (view b.value)),
+  length-replicate
+      n.number (view b.value),
+) refl
+
+pub times_on : (v : Value) (n i : ℕ) (old new total : List ℕ) → i < n → new ≡ old ++ written v
+    → old ++ all_written (values_of (replicate (n - i) v)) ≡ total
+    → new ++ all_written (values_of (replicate (n - (i + 1)) v)) ≡ total
+unfolding all_written
+times_on v n i old new total lt e so_far =
+    let k : n - i ≡ suc (n - (i + 1)) = omega arith in
+    let rest = all_written (values_of (replicate (n - (i + 1)) v)) in
+    let one : old ++ all_written (values_of (replicate (n - i) v)) ≡ old ++ (written v ++ rest) = rw k refl in
+    ap (λ (s : List ℕ). s ++ rest) e ∙ append_assoc old (written v) rest ∙ sym one ∙ so_far
+
+pub times_over : (v : Value) (n i : ℕ) (old total : List ℕ) → n ≤ i
+    → old ++ all_written (values_of (replicate (n - i) v)) ≡ total → old ≡ total
+unfolding all_written
+times_over v n i old total le so_far =
+    let k : n - i ≡ 0 = omega arith in
+    let one : old ++ all_written (values_of (replicate (n - i) v)) ≡ old = rw k (append-nil old) in
+    sym one ∙ so_far
 
 -- ---- keys and values
 

@@ -7,6 +7,7 @@ pub mod Steps
 pub mod Taken
 pub mod Loop
 pub mod Behind
+pub mod Steady
 pub mod Alike
 pub mod Places
 pub mod Encoded

@@ -1,6 +1,6 @@
 -- Records of an int and another value, as they are read.
 use Rattle.std.proofs.Common.{◌≡◌, ℕ, suc, ℤ, Option, List, ◌∷◌, [], ◌≤◌, ◌<◌, length, drop, get_or, Ok, Err, refl, ap}
-use Rattle.std.proofs.Common.{arith, rules, Vec, Global, IfSome, take, ◌+◌, ◌-◌, ◌/◌, ◌%◌, ◌^◌}
+use Rattle.std.proofs.Common.{arith, rules, Vec, Box, Global, IfSome, take, replicate, ◌+◌, ◌-◌, ◌/◌, ◌%◌, ◌^◌}
 use denote.Ref.{Bor}
 use Rattle.avro_schema.specs.declared.schema.BytesKind.TheVariants.{Plain}
 use Rattle.avro_schema.specs.declared.schema.Field.{Field}
@@ -8,6 +8,7 @@ use Rattle.avro_schema.specs.View.{tree}
 use Rattle.avro_schema.specs.Tree.{Tree, long, octets, array, no_fields, field}
 use Rattle.avro_parts.specs.declared.refusal.Refusal.{Refusal}
 use Rattle.avro_file.specs.declared.datum.Datum as datum
+use Rattle.avro_file.specs.declared.datum.ItemCount.{ItemCount}
 use Rattle.avro_file.specs.declared.pairs.Second.TheVariants as Second
 use Rattle.avro_parts.specs.Number.{number_at, long_at, int_at}
 use Rattle.avro_file.specs.Value.{Value, nothing, whole, run, items, chosen, values_of}
@@ -86,6 +87,10 @@ view-LongPairs v = search (rules, datum.the_lemmas)
 pub view-BytesPairs : (v : Vec (ℤ × Bor (List ℕ)) Global)
     → view (datum.BytesPairs v) ≡ items (values_of (bytes_pairs v.items))
 view-BytesPairs v = search (rules, datum.the_lemmas)
+
+pub view-Repeated : (n : ItemCount) (b : Box datum.Datum Global)
+    → view (datum.Repeated n b) ≡ items (values_of (replicate n.number (view b.value)))
+view-Repeated n b = search (rules, datum.the_lemmas)
 
 pub long_pairs_len : (ps : List (ℤ × ℤ)) → length (long_pairs ps) ≡ length ps
 long_pairs_len [] = refl

@@ -1,6 +1,6 @@
 -- The value that a `Datum` is.
 -- Avro 1.11.1 specification, 'Primitive Types' and 'Complex Types'.
-use Rattle.std.specs.Prelude.{ℕ, ℤ, List, map}
+use Rattle.std.specs.Prelude.{ℕ, ℤ, List, map, replicate}
 use denote.Ref.{Bor}
 use Rattle.avro_file.specs.declared.datum.Datum.{Datum, fold-Datum}
 use Rattle.avro_file.specs.declared.datum.Datum.TheOpen.{Datum-F}
@@ -32,6 +32,7 @@ value_step (Datum-F.Record v) = fields (values_of v.items)
 value_step (Datum-F.Array v) = items (values_of v.items)
 value_step (Datum-F.LongPairs v) = items (values_of (long_pairs v.items))
 value_step (Datum-F.BytesPairs v) = items (values_of (bytes_pairs v.items))
+value_step (Datum-F.Repeated n b) = items (values_of (replicate n.number b.value))
 value_step (Datum-F.Map v) = entries (entries_of (map (λ e. (e.0.now, e.1)) v.items))
 value_step (Datum-F.Union n b) = chosen n b.value
 value_step (Datum-F.NullBranch n) = chosen n nothing

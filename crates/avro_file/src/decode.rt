@@ -1,6 +1,6 @@
 //! Values of every schema.
 
-ghost use Rattle.std.specs.Prelude.{◌≡◌, ◌≤◌, ℕ, ℤ, Option, suc, List, length, Ok, IfOk, map, MatchOption, pos, ◌<ℤ◌};
+ghost use Rattle.std.specs.Prelude.{◌≡◌, ◌≤◌, ℕ, ℤ, Option, suc, List, length, Ok, IfOk, map, MatchOption, pos, ◌<ℤ◌, false};
 ghost use Rattle.contract_words.specs.Outcome.{Gives};
 ghost use Rattle.avro_parts.specs.Exact.{IsRead};
 ghost use Rattle.avro_schema.specs.declared.schema.ArrayKind.{ArrayKind};
@@ -10,9 +10,12 @@ ghost use Rattle.avro_file.specs.View.{view, views, entry_views};
 ghost use Rattle.avro_parts.specs.Place.{position_of};
 ghost use Rattle.avro_file.specs.Reading.{IsScalar, IsRunOfBytes, with_front, values_at, blocks_at, entry_at};
 ghost use Rattle.avro_file.specs.Reading.{datum_at, fields_at, branch_at, chosen_by};
+ghost use Rattle.avro_file.specs.Spelling.{takes_bytes as takes_some};
 
-use crate::datum::Datum;
+use crate::datum::{Datum, ItemCount};
+use crate::ends::takes_bytes;
 use crate::pairs::{Second, bytes_pairs_of, long_pairs_of, second_of_pair};
+use crate::repeated::nulls_of;
 use avro_parts::{
     Place, Refusal, boolean_of, bytes_of, count_of, int_of, long_of, run_of_len, symbol_of, text_of,
 };
@@ -173,7 +176,7 @@ fn record_of<'a>(
     Ok((values, here))
 }
 
-/// An array. Pairs of an int and a long or bytes are kept without a datum for each.
+/// An array. Pairs of an int and a long or bytes, and items that take no bytes, are kept without a datum for each.
 #[cycle(datum)]
 #[tactic(auto, unfolding(crate::specs::Reading::datum_at))]
 fn array_datum_of<'a>(
@@ -193,11 +196,35 @@ fn array_datum_of<'a>(
             let (pairs, place) = bytes_pairs_of(alloc, place)?;
             Ok((Datum::BytesPairs(pairs), place))
         }
+        None if !takes_bytes(schema) => repeated_of(alloc, schema, place),
         None => {
             let (values, place) = array_of(alloc, schema, place)?;
             Ok((Datum::Array(values), place))
         }
     }
+}
+
+/// An array whose items take no bytes: one of them is kept, and how many there are. A number that is no long is refused
+/// as want of memory.
+#[cycle(datum)]
+fn repeated_of<'a>(
+    alloc: Global,
+    schema: &Schema,
+    place: Place<'a>,
+) -> Result<(Datum<'a>, Place<'a>), Refusal>
+    requires { takes_some (tree schema.now) ≡ false }
+    ensures { (id : Option ℤ) (kind : ArrayKind) → Gives Refusal.Memory (λ x. (view x.0, position_of x.1)) result
+        (datum_at (array (tree schema.now) id kind) (position_of place.entry)) }
+{
+    let (count, after) = nulls_of(place)?;
+    if count == 0 {
+        return Ok((Datum::Array(Vec::new(alloc)), after));
+    }
+    let (item, _) = datum_of(alloc, schema, after)?;
+    let Some(count) = ItemCount::new(count) else {
+        return Err(Refusal::Memory);
+    };
+    Ok((Datum::Repeated(count, Box::new(alloc, item)?), after))
 }
 
 /// The blocks of an array, up to the one that is empty.

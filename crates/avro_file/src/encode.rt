@@ -1,6 +1,6 @@
 //! Values as bytes.
 
-ghost use Rattle.std.specs.Prelude.{◌≡◌, ◌++◌, ◌∷◌, [], ◌<◌, ◌^◌, pos, length, IfOk};
+ghost use Rattle.std.specs.Prelude.{◌≡◌, ◌++◌, ◌∷◌, [], ◌<◌, ◌^◌, pos, length, IfOk, replicate};
 ghost use Rattle.avro_file.specs.View.{view, views, entry_views, pair_with, long_pairs, bytes_pairs};
 ghost use Rattle.avro_file.specs.Value.{whole, run, values_of, entries_of};
 ghost use Rattle.avro_file.specs.Writing.{groups_of, unsigned_of, long_bytes, run_bytes, block_bytes, written};
@@ -171,6 +171,7 @@ pub fn push_datum(bytes: Vec<u8>, datum: &Datum<'_>) -> Result<Vec<u8>, AllocErr
         Datum::Array(items) => push_items(bytes, items),
         Datum::LongPairs(pairs) => push_long_pairs(bytes, pairs),
         Datum::BytesPairs(pairs) => push_bytes_pairs(bytes, pairs),
+        Datum::Repeated(count, item) => push_repeated(bytes, count.get(), item),
         Datum::Map(entries) => push_entries(bytes, entries),
         Datum::Union(position, value) => {
             let bytes = push_position(bytes, *position)?;
@@ -203,6 +204,34 @@ fn push_items(bytes: Vec<u8>, items: &[Datum<'_>]) -> Result<Vec<u8>, AllocError
     }
     let bytes = push_count(bytes, items.len() as u64)?;
     let bytes = push_all(bytes, items)?;
+    push_byte(bytes, 0)
+}
+
+/// Puts a value last so many times.
+#[cycle(write)]
+fn push_times(bytes: Vec<u8>, count: u64, item: &Datum<'_>) -> Result<Vec<u8>, AllocError>
+    ensures { IfOk result (λ all. all.items ≡
+        bytes.items ++ all_written (values_of (replicate count (view item.now)))) }
+{
+    let mut bytes = bytes;
+    'times: for _ in 0..count {
+        bytes = push_datum(bytes, item)?;
+    }
+    Ok(bytes)
+}
+
+/// Puts an array of so many times one item last.
+#[cycle(write)]
+fn push_repeated(bytes: Vec<u8>, count: u64, item: &Datum<'_>) -> Result<Vec<u8>, AllocError>
+    requires { count < 2 ^ 63 }
+    ensures { IfOk result (λ all. all.items ≡
+        bytes.items ++ block_bytes count (all_written (values_of (replicate count (view item.now))))) }
+{
+    if count == 0 {
+        return push_byte(bytes, 0);
+    }
+    let bytes = push_count(bytes, count)?;
+    let bytes = push_times(bytes, count, item)?;
     push_byte(bytes, 0)
 }
 

@@ -16,11 +16,12 @@ mod named;
 mod object;
 mod pairs;
 mod quick;
+mod repeated;
 mod window;
 mod writer;
 
 pub use container::{Container, Objects};
-pub use datum::Datum;
+pub use datum::{Datum, ItemCount};
 pub use decode::{datum_of, natural};
 pub use ends::{end_of, takes_bytes};
 pub use fault::{AvroFault, CodecName};

@@ -1,7 +1,7 @@
 -- Arrays of pairs, and null branches.
 use Rattle.std.proofs.Common.{◌≡◌, ℕ, zero, suc, ◌+◌, ◌≤◌, ◌<◌, List, [], ◌∷◌, ◌++◌, length, get_or, drop, map, None, ℤ}
 use Rattle.std.proofs.Common.{refl, sym, ap, ◌∙◌, add-one, drop-cons, append_assoc, rules, Vec, Box, Global, Result, Ok}
-use Rattle.std.proofs.Common.{Err}
+use Rattle.std.proofs.Common.{Err, replicate, ◌≢◌, ◌-◌, arith}
 use denote.Ref.{Bor}
 use Rattle.std.proofs.lemmas.List.{append-nil, map_push}
 use Rattle.std.specs.declared.sync.Arc.{Arc}
@@ -11,6 +11,7 @@ use Rattle.avro_schema.specs.Tree.{Tree, union, Branches, no_branches, branch}
 use Rattle.avro_schema.specs.View.{tree, trees, branches_of}
 use Rattle.avro_file.specs.declared.datum.Datum as datum
 use Rattle.avro_file.specs.declared.datum.Datum.{Datum}
+use Rattle.avro_file.specs.declared.datum.ItemCount.{ItemCount}
 use Rattle.avro_file.specs.Value.{Value, nothing, items, chosen, values_of}
 use Rattle.avro_file.specs.View.{view, views, long_pairs, bytes_pairs}
 use Rattle.avro_file.specs.Picking.{Typed, present, of_branch, unless_null, unless_absent}
@@ -30,6 +31,14 @@ view-LongPairs v = search (rules, datum.the_lemmas)
 pub view-BytesPairs : (v : Vec (ℤ × Bor (List ℕ)) Global)
     → view (datum.BytesPairs v) ≡ items (values_of (bytes_pairs v.items))
 view-BytesPairs v = search (rules, datum.the_lemmas)
+
+pub view-Repeated : (n : ItemCount) (b : Box Datum Global)
+    → view (datum.Repeated n b) ≡ items (values_of (replicate n.number (view b.value)))
+view-Repeated n b = search (rules, datum.the_lemmas)
+
+pub repeated_items : (t : Tree) (v : Value) (n : ℕ) → replicate n (t, v) ≡ items_as t (values_of (replicate n v))
+repeated_items t v zero = refl
+repeated_items t v (suc n) = ap (λ (xs : List Typed). (t, v) ∷ xs) (repeated_items t v n)
 
 pub view-Union : (n : ℕ) (b : Box Datum Global) → view (datum.Union n b) ≡ chosen n (view b.value)
 view-Union n b = search (rules, datum.the_lemmas)
@@ -90,3 +99,31 @@ pub made_done : {A X E : Type 0} (make : A → Value) (says : Typed → Result X
     (xs : List A) (i : ℕ) → length xs ≤ i → joined front (each says (items_as t (values_of (map make (drop i xs)))))
     ≡ Ok front
 made_done {A} {X} {E} make says t front xs i le = rw (end_of xs i le) (no_item says front)
+
+-- ---- reading so many times the same
+
+pub each_same : {Y X E : Type 0} (says : Y → Result X E) (y : Y) (x : X) (n : ℕ) → Ok x ≡ says y
+    → each says (replicate n y) ≡ Ok (replicate n x)
+unfolding each
+each_same {Y} {X} {E} says y x zero h = refl
+each_same {Y} {X} {E} says y x (suc n) h = rw (← h, each_same says y x n h) refl
+
+pub same_fails : {Y X E : Type 0} (says : Y → Result X E) (y : Y) (e : E) (n : ℕ) → n ≢ 0 → Err e ≡ says y
+    → each says (replicate n y) ≡ Err e
+unfolding each
+same_fails {Y} {X} {E} says y e zero some h = absurd (some refl)
+same_fails {Y} {X} {E} says y e (suc n) some h = rw (← h) refl
+
+pub same_on : {A : Type 0} (x : A) (n i : ℕ) (old new : List A) → i < n → new ≡ old ++ x ∷ []
+    → old ++ replicate (n - i) x ≡ replicate n x → new ++ replicate (n - (i + 1)) x ≡ replicate n x
+same_on {A} x n i old new lt e so_far =
+    let rest = replicate (n - (i + 1)) x in
+    let k : n - i ≡ suc (n - (i + 1)) = omega arith in
+    ap (λ (xs : List A). xs ++ rest) e ∙ append_assoc old (x ∷ []) rest ∙ sym (ap (λ (m : ℕ). old ++ replicate m x) k)
+    ∙ so_far
+
+pub same_over : {A : Type 0} (x : A) (n i : ℕ) (old : List A) → n ≤ i → old ++ replicate (n - i) x ≡ replicate n x
+    → old ≡ replicate n x
+same_over {A} x n i old le so_far =
+    let k : n - i ≡ 0 = omega arith in
+    sym (append-nil old) ∙ sym (ap (λ (m : ℕ). old ++ replicate m x) k) ∙ so_far

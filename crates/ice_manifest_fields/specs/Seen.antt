@@ -1,5 +1,5 @@
 -- What the code's values are.
-use Rattle.std.specs.Prelude.{List, [], map, Result, Ok, Err}
+use Rattle.std.specs.Prelude.{List, [], map, replicate, Result, Ok, Err}
 use denote.Ref.{Bor}
 use Rattle.avro_schema.specs.declared.schema.Schema.{Schema}
 use Rattle.avro_schema.specs.declared.schema.Field.{Field}
@@ -9,6 +9,8 @@ use Rattle.avro_file.specs.declared.datum.Datum.{Datum, LongPairs, BytesPairs}
 use Rattle.avro_file.specs.Value.{Value, fields, Values, values_of}
 use Rattle.avro_file.specs.View.{view, views, long_pairs, bytes_pairs}
 use Rattle.avro_file.specs.Picking.{Typed}
+use Rattle.ice_manifest_fields.specs.declared.field.Listed.{Listed}
+use Rattle.ice_manifest_fields.specs.declared.field.Listed.TheVariants.{Each, Repeated}
 
 abbrev pub result_map : {A B E : Type 0} → (A → B) → Result A E → Result B E
 result_map f (Ok x) = Ok (f x)
@@ -40,5 +42,7 @@ pairs_in d = []
 abbrev pub items_seen : Tree → List Datum → List Typed
 items_seen t ds = map (λ d. (t, view d)) ds
 
-abbrev pub listed : Bor Schema × Bor (List Datum) → List Typed
-listed p = items_seen (tree p.0.now) p.1.now
+-- the items of a list
+abbrev pub items_listed : Tree → Listed → List Typed
+items_listed t (Each ds) = items_seen t ds.now
+items_listed t (Repeated n d) = replicate n (t, view d.now)

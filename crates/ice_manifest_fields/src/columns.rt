@@ -1,6 +1,6 @@
 //! What a data file says of its columns.
 
-ghost use Rattle.std.specs.Prelude.{◌≡◌, [], ◌∷◌, Some, All};
+ghost use Rattle.std.specs.Prelude.{◌≡◌, [], ◌∷◌, Some, All, replicate};
 ghost use Rattle.contract_words.specs.Outcome.{Gives};
 ghost use Rattle.avro_schema.specs.View.{tree, trees, branches_of as branches_of_trees};
 ghost use Rattle.avro_file.specs.View.{view};
@@ -8,7 +8,7 @@ ghost use Rattle.ice_value.specs.Pairs.{count_said, counts_said, bound_said, bou
 ghost use Rattle.ice_manifest_fields.specs.Each.{each};
 ghost use Rattle.ice_manifest_fields.specs.Fields.{items_of as items_value};
 ghost use Rattle.ice_manifest_fields.specs.Naming.{in_manifest, told};
-ghost use Rattle.ice_manifest_fields.specs.Seen.{result_map, fields_seen, object, listed};
+ghost use Rattle.ice_manifest_fields.specs.Seen.{result_map, fields_seen, object, items_seen, items_listed};
 ghost use Rattle.ice_manifest_fields.specs.Places.{lies_as_pairs, IsKey};
 ghost use Rattle.ice_manifest_fields.specs.Schemas.{each_branch, pair_fields, is_pair, lists_pairs, map_fits};
 ghost use Rattle.ice_manifest_fields.specs.Schemas.{column_fields as fields_of_columns};
@@ -16,7 +16,7 @@ ghost use Rattle.ice_manifest_fields.specs.Maps.{count_in as count_within, count
 ghost use Rattle.ice_manifest_fields.specs.Maps.{bound_in as bound_within, bound_of as bound_of_item};
 
 use crate::fault::{FieldFault, ManifestFault};
-use crate::field::{int_at, items_of, lent_binary, long_at, pairs_built};
+use crate::field::{Listed, int_at, items_of, lent_binary, long_at, pairs_built};
 use crate::kind::Kind;
 use crate::picking::{itself, position_of};
 use crate::shape::{branches_of, has_items, items_of as types_of_items, optional, required};
@@ -195,13 +195,50 @@ fn counts_of(
     map: ColumnMap,
 ) -> Result<Vec<(i32, i64)>, ManifestFault>
     ensures { Gives ManifestFault.Memory (λ counts. counts_said counts.items) result
-        (told in_manifest (each (count_of_item map) (listed (schema.entry, items.entry)))) }
+        (told in_manifest (each (count_of_item map) (items_seen (tree schema.now) items.now))) }
 {
     let mut counts = Vec::with_capacity(alloc, items.len())?;
     'items: for item in items {
         counts.push(count_of(schema, item, map)?)?;
     }
     Ok(counts)
+}
+
+/// The counts that so many times the same item says.
+fn counts_repeated(
+    alloc: Global,
+    schema: &Schema,
+    times: u64,
+    item: &Datum,
+    map: ColumnMap,
+) -> Result<Vec<(i32, i64)>, ManifestFault>
+    ensures { Gives ManifestFault.Memory (λ counts. counts_said counts.items) result
+        (told in_manifest (each (count_of_item map) (replicate times (tree schema.now, view item.now)))) }
+{
+    let mut counts = Vec::new(alloc);
+    if times == 0 {
+        return Ok(counts);
+    }
+    let said = count_of(schema, item, map)?;
+    'times: for _ in 0..times {
+        counts.push(said)?;
+    }
+    Ok(counts)
+}
+
+fn counts_listed(
+    alloc: Global,
+    schema: &Schema,
+    items: Listed<'_, '_>,
+    map: ColumnMap,
+) -> Result<Vec<(i32, i64)>, ManifestFault>
+    ensures { Gives ManifestFault.Memory (λ counts. counts_said counts.items) result
+        (told in_manifest (each (count_of_item map) (items_listed (tree schema.now) items.entry))) }
+{
+    match items {
+        Listed::Each(items) => counts_of(alloc, schema, items, map),
+        Listed::Repeated(times, item) => counts_repeated(alloc, schema, times, item, map),
+    }
 }
 
 /// The counts that a map says, lent where they lie as pairs. Any other value says none.
@@ -222,7 +259,7 @@ pub fn counts_of_map<'a, 'd>(
         _ => {
             let built = pairs_built(alloc, datum)?;
             let (schema, items) = items_of(schema, datum, &built);
-            Ok(ColumnCounts::made(counts_of(alloc, schema, items, map)?))
+            Ok(ColumnCounts::made(counts_listed(alloc, schema, items, map)?))
         }
     }
 }
@@ -265,13 +302,50 @@ fn bounds_of<'d>(
     map: ColumnMap,
 ) -> Result<Vec<(i32, &'d [u8])>, ManifestFault>
     ensures { Gives ManifestFault.Memory (λ bounds. bounds_said bounds.items) result
-        (told in_manifest (each (bound_of_item map) (listed (schema.entry, items.entry)))) }
+        (told in_manifest (each (bound_of_item map) (items_seen (tree schema.now) items.now))) }
 {
     let mut bounds = Vec::with_capacity(alloc, items.len())?;
     'items: for item in items {
         bounds.push(bound_of(schema, item, map)?)?;
     }
     Ok(bounds)
+}
+
+/// The bounds that so many times the same item says.
+fn bounds_repeated<'d>(
+    alloc: Global,
+    schema: &Schema,
+    times: u64,
+    item: &Datum<'d>,
+    map: ColumnMap,
+) -> Result<Vec<(i32, &'d [u8])>, ManifestFault>
+    ensures { Gives ManifestFault.Memory (λ bounds. bounds_said bounds.items) result
+        (told in_manifest (each (bound_of_item map) (replicate times (tree schema.now, view item.now)))) }
+{
+    let mut bounds = Vec::new(alloc);
+    if times == 0 {
+        return Ok(bounds);
+    }
+    let said = bound_of(schema, item, map)?;
+    'times: for _ in 0..times {
+        bounds.push(said)?;
+    }
+    Ok(bounds)
+}
+
+fn bounds_listed<'d>(
+    alloc: Global,
+    schema: &Schema,
+    items: Listed<'_, 'd>,
+    map: ColumnMap,
+) -> Result<Vec<(i32, &'d [u8])>, ManifestFault>
+    ensures { Gives ManifestFault.Memory (λ bounds. bounds_said bounds.items) result
+        (told in_manifest (each (bound_of_item map) (items_listed (tree schema.now) items.entry))) }
+{
+    match items {
+        Listed::Each(items) => bounds_of(alloc, schema, items, map),
+        Listed::Repeated(times, item) => bounds_repeated(alloc, schema, times, item, map),
+    }
 }
 
 /// The bounds that a map says, lent where they lie as pairs. Any other value says none.
@@ -292,7 +366,7 @@ pub fn bounds_of_map<'a, 'd>(
         _ => {
             let built = pairs_built(alloc, datum)?;
             let (schema, items) = items_of(schema, datum, &built);
-            Ok(ColumnBounds::made(bounds_of(alloc, schema, items, map)?))
+            Ok(ColumnBounds::made(bounds_listed(alloc, schema, items, map)?))
         }
     }
 }

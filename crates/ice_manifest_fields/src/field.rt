@@ -2,23 +2,20 @@
 
 ghost use Rattle.std.specs.Prelude.{◌≡◌, ◌≤◌, Some, IfOk, length};
 ghost use Rattle.std.specs.Option.{option_copied};
-ghost use Rattle.contract_words.specs.Outcome.{Gives};
 ghost use Rattle.avro_schema.specs.View.{tree};
 ghost use Rattle.avro_file.specs.Value.{whole, run};
 ghost use Rattle.avro_file.specs.View.{view, views, pair_with, long_pairs, bytes_pairs};
-ghost use Rattle.ice_manifest_fields.specs.Each.{each};
-ghost use Rattle.ice_manifest_fields.specs.Naming.{in_manifest, told};
 ghost use Rattle.ice_manifest_fields.specs.Fields.{items_of as items_value};
 ghost use Rattle.ice_manifest_fields.specs.Fields.{long_at as long_said, int_at as int_said, truth_at as truth_said};
 ghost use Rattle.ice_manifest_fields.specs.Fields.{optional_long as long_if_there};
 ghost use Rattle.ice_manifest_fields.specs.Fields.{optional_truth as truth_if_there};
 ghost use Rattle.ice_manifest_fields.specs.Fields.{optional_binary as binary_if_there};
-ghost use Rattle.ice_manifest_fields.specs.Fields.{int_item as int_of_item, short_path as short_path_of};
+ghost use Rattle.ice_manifest_fields.specs.Fields.{short_path as short_path_of};
 ghost use Rattle.ice_manifest_fields.specs.Fields.{within_32 as within, not_negative as natural};
-ghost use Rattle.ice_manifest_fields.specs.Seen.{result_map, object, pairs_in, listed};
+ghost use Rattle.ice_manifest_fields.specs.Seen.{result_map, object, pairs_in, items_listed};
 
-use crate::fault::{FieldFault, ManifestFault};
-use crate::picking::{itself, pick};
+use crate::fault::FieldFault;
+use crate::picking::pick;
 use avro_file::Datum;
 use avro_schema::{Field, Schema};
 use contract_words::Items;
@@ -189,63 +186,30 @@ pub fn pairs_built<'d>(alloc: Global, datum: &Datum<'d>) -> Result<Vec<Datum<'d>
     }
 }
 
+/// The items of a list.
+#[derive(Debug, Drop)]
+pub enum Listed<'a, 'd> {
+    Each(&'a [Datum<'d>]),
+    /// So many times the same.
+    Repeated(u64, &'a Datum<'d>),
+}
+
 /// The items of a list and their type, where its pairs were built. Any other value has none.
 pub fn items_of<'a, 'd>(
     schema: &'a Schema,
     datum: &'a Datum<'d>,
     built: &'a [Datum<'d>],
-) -> (&'a Schema, &'a [Datum<'d>])
+) -> (&'a Schema, Listed<'a, 'd>)
     requires { views built.now ≡ pairs_in datum.now }
-    ensures { listed result ≡ items_value (Some (tree schema.now, view datum.now)) }
+    ensures { items_listed (tree result.0.now) result.1 ≡ items_value (Some (tree schema.now, view datum.now)) }
 {
     match (schema, datum) {
-        (Schema::Array(items, _, _), Datum::Array(data)) => (items, data),
-        (Schema::Array(items, _, _), Datum::LongPairs(_)) => (items, built),
-        (Schema::Array(items, _, _), Datum::BytesPairs(_)) => (items, built),
-        _ => (schema, &built[..0]),
+        (Schema::Array(items, _, _), Datum::Array(data)) => (items, Listed::Each(data)),
+        (Schema::Array(items, _, _), Datum::LongPairs(_)) => (items, Listed::Each(built)),
+        (Schema::Array(items, _, _), Datum::BytesPairs(_)) => (items, Listed::Each(built)),
+        (Schema::Array(items, _, _), Datum::Repeated(count, item)) => {
+            (items, Listed::Repeated(count.get(), item))
+        }
+        _ => (schema, Listed::Each(&built[..0])),
     }
-}
-
-/// A whole number of 32 bits that is an item of a list.
-#[tactic(auto, unfolding(crate::specs::Fields::int_item))]
-fn int_item(schema: &Schema, datum: &Datum, id: i32) -> Result<i32, FieldFault>
-    ensures { result ≡ int_of_item id (tree schema.now, view datum.now) }
-{
-    match itself(schema, datum) {
-        Some((_, Datum::Int(number))) => within_32(i64::from(*number), id),
-        Some((_, Datum::Long(number))) => within_32(*number, id),
-        _ => Err(FieldFault::Missing(id)),
-    }
-}
-
-/// Whole numbers of 32 bits, the items of a list.
-fn int_items(
-    alloc: Global,
-    schema: &Schema,
-    items: &[Datum],
-    id: i32,
-) -> Result<Items<i32>, ManifestFault>
-    ensures { Gives ManifestFault.Memory (λ ids. ids) result
-        (told in_manifest (each (int_of_item id) (listed (schema.entry, items.entry)))) }
-{
-    let mut ids = Items::new(alloc);
-    'items: for item in items {
-        ids.push(int_item(schema, item, id)?)?;
-    }
-    Ok(ids)
-}
-
-/// The whole numbers of a list, whose items have this id. Any other value has none.
-pub fn ints_of(
-    alloc: Global,
-    schema: &Schema,
-    datum: &Datum,
-    item: i32,
-) -> Result<Items<i32>, ManifestFault>
-    ensures { Gives ManifestFault.Memory (λ ids. ids) result
-        (told in_manifest (each (int_of_item item) (items_value (Some (tree schema.now, view datum.now))))) }
-{
-    let built = pairs_built(alloc, datum)?;
-    let (schema, items) = items_of(schema, datum, &built);
-    int_items(alloc, schema, items, item)
 }

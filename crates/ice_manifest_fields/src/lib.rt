@@ -17,10 +17,7 @@ pub use columns::{
 };
 pub use decimal::shortest;
 pub use fault::{FieldFault, ListFault, ManifestFault};
-pub use field::{
-    ints_of, items_of, not_negative, optional_binary, optional_truth, pairs_built, short_path,
-    truth_at, within_32,
-};
+pub use field::{not_negative, optional_binary, optional_truth, short_path, truth_at, within_32};
 pub use kind::Kind;
 pub use laws::decimals_are_kept_shortest;
 pub use picking::itself;

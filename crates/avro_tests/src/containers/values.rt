@@ -4,6 +4,11 @@ use super::*;
 
 const ARRAY: &[u8] = b"{\"type\":\"array\",\"items\":\"long\"}";
 
+const NULLS: &[u8] = b"{\"type\":\"array\",\"items\":\"null\"}";
+
+const NO_BYTES: &[u8] =
+    b"{\"type\":\"array\",\"items\":{\"type\":\"fixed\",\"name\":\"f\",\"size\":0}}";
+
 const KINDS: &[u8] = b"{\"type\":\"enum\",\"name\":\"e\",\"symbols\":[\"a\",\"b\"]}";
 
 const UNION: &[u8] = b"[\"null\",\"long\"]";
@@ -99,6 +104,25 @@ const VALUES: &[(&[u8], &[u8], &str)] = &[
     ),
     (ARRAY, b"\x82\x80\x80\x10", "TooManyItems"),
     (ARRAY, b"\x80\x80\x80\x10", "BlockSize"),
+    // items that take no bytes: none, the most that may be in one block and in two, one more, and a block that is cut
+    (NULLS, b"\x00", "Array([])"),
+    (
+        NULLS,
+        b"\x80\x80\x80\x10\x00",
+        "Repeated(ItemCount { number: 16777216 }, Null)",
+    ),
+    (
+        NULLS,
+        b"\xfe\xff\xff\x0f\x01\x00\x00",
+        "Repeated(ItemCount { number: 16777216 }, Null)",
+    ),
+    (NULLS, b"\xfe\xff\xff\x0f\x04\x00", "TooManyItems"),
+    (NULLS, b"\x80\x80\x80\x10", "BlockSize"),
+    (
+        NO_BYTES,
+        b"\x80\x80\x80\x10\x00",
+        "Repeated(ItemCount { number: 16777216 }, Fixed([]))",
+    ),
 ];
 
 /// Whether a file of this block of one object gives what looks like this.

@@ -171,6 +171,20 @@ fn every_type_written_back(rt: HostRuntime) -> Result<(), AllocError> {
     Ok(())
 }
 
+/// An array of records that take no bytes.
+const EMPTIES: &[u8] =
+    b"{\"type\":\"array\",\"items\":{\"type\":\"record\",\"name\":\"r\",\"fields\":[\
+{\"name\":\"n\",\"type\":\"null\"},{\"name\":\"f\",\"type\":{\"type\":\"fixed\",\"name\":\"x\",\"size\":0}}]}}";
+
+#[test]
+fn a_million_without_bytes_written_back(rt: HostRuntime) -> Result<(), AllocError> {
+    let content = [b"\x08".as_slice(), b"\x80\x89\x7a\x00"];
+    let bytes = file_of_one(rt.alloc(), [b"\xa8\x02".as_slice(), EMPTIES], content)?;
+    let look = "Repeated(ItemCount { number: 1000000 }, Record([Null, Fixed([])]))";
+    assert!(rt; is_file_written_back(rt.alloc(), &bytes, look, EMPTIES));
+    Ok(())
+}
+
 /// A record with the last fields of that one.
 const LAST: &[u8] = b"{\"type\":\"record\",\"name\":\"r\",\"fields\":[\
 {\"name\":\"n\",\"type\":[\"null\",\"string\"]},\

@@ -1,8 +1,7 @@
-use Rattle.std.proofs.Common.{◌≡◌, ◌∙◌, sym, Ok, Err, List, ℕ}
+use Rattle.std.proofs.Common.{◌∙◌, sym}
 use Rattle.std.proofs.lemmas.Result.{err_from_is_err_and}
 use Rattle.avro_schema.specs.View.{tree}
 use Rattle.avro_file.specs.Where.{file_position_of}
-use Rattle.avro_file.specs.Blocks.{object_at}
 use Rattle.avro_file.proofs.Heads.{object_stops, object_comes}
 use Rattle.avro_file.proofs.Behind.{behind_ok, behind_err}
 use Rattle.avro_file.proofs.Alike.{object_alike}

@@ -1,4 +1,4 @@
-use Rattle.std.proofs.Common.{◌≡◌, pos, [], ◌∷◌, ◌++◌, Ok, refl, ap, ◌∙◌, arith}
+use Rattle.std.proofs.Common.{◌≡◌, pos, [], ◌∷◌, ◌++◌, Ok, refl, ap, sym, ◌∙◌, arith}
 use Rattle.std.proofs.lemmas.Result.{err_from_is_err_and}
 use Rattle.std.proofs.lemmas.List.{map_push}
 use Rattle.std.proofs.lemmas.Int.{ints}
@@ -10,10 +10,15 @@ use Rattle.avro_file.proofs.Views.{field_trees, branch_trees, tree-Record, branc
 use Rattle.avro_file.proofs.Views.{structure_read, chosen_fails, is_chosen, view-Record, view-Union, tree-Map, view-Map}
 use Rattle.avro_file.proofs.Views.{map_read, entry_read, key_fails, value_fails}
 use Rattle.avro_file.specs.Value.{Value, nothing}
+use Rattle.avro_parts.specs.Parts.{Position}
+use Rattle.avro_file.proofs.Steps.{ok_is}
 use Rattle.avro_file.specs.declared.pairs.Second.TheVariants as Second
 use Rattle.avro_file.specs.Pairs.{IsPair}
 use Rattle.avro_file.proofs.Leaves.{tree-Array}
-use Rattle.avro_file.proofs.Paired.{as_bytes_pair, array_fails, view-Null, view-NullBranch}
+use Rattle.avro_file.proofs.Paired.{as_bytes_pair, array_fails, view-Null, view-NullBranch, view-Repeated}
+use Rattle.avro_file.proofs.Behind.{steady_value}
+use Rattle.avro_file.proofs.Steady.{repeated_read, repeated_fails}
+use Rattle.avro_file.proofs.Encoded.{view-Array}
 use Rattle.avro_file.proofs.Loop.{values_on, values_fail, values_done, fields_on, fields_fail, fields_done, blocks_done}
 use Rattle.avro_file.proofs.Loop.{count_fails, block_fails, blocks_on, shorter}
 use Rattle.avro_file.proofs.Taken.{datum_takes, entry_takes}
@@ -225,3 +230,36 @@ datum_of-returns-in_ok-entries-in-Map t c =
     let here : c.deref-in-Map.result.now ≡ c.in-Map.values.value = c.deref-in-Map.ensures in
     rw (c.in-Map.is, tree-Map c.in-Map.values, ← here, view-Map c.in_ok-entries-in-Map.entries)
     (map_read (tree c.deref-in-Map.result.now) (position_of c.args.place) _ _ c.in_ok-entries-in-Map.ensures)
+
+-- ---- items that take no bytes
+
+pub repeated_of-returns-in_err-count : goal.repeated_of-returns-in_err-count
+repeated_of-returns-in_err-count t c =
+    let p = err_from_is_err_and c.from_residual.result c.from_residual.ensures.1 in
+    let always = steady_value (tree c.args.schema.now) c.requires in
+    rw (p.1, p.2) (λ id kind m. repeated_fails (tree c.args.schema.now) always.0 always.1 c.in_err-count.field-0.0 id
+    kind (position_of c.args.place) c.in_err-count.ensures)
+
+pub repeated_of-returns-then-count-eq0 : goal.repeated_of-returns-then-count-eq0
+repeated_of-returns-then-count-eq0 t c =
+    let always = steady_value (tree c.args.schema.now) c.requires in
+    λ id kind. let read = repeated_read (tree c.args.schema.now) always.0 always.1 id kind (position_of c.args.place)
+    c.in_ok-count.count _ c.in_ok-count.ensures in
+    rw (view-Array c.new.result, c.new.ensures.items) (rw c.if-count-eq0.true at read)
+
+pub repeated_of-returns-in_err-item : goal.repeated_of-returns-in_err-item
+repeated_of-returns-in_err-item t c =
+    let p = err_from_is_err_and c.from_residual-in_err-item.result c.from_residual-in_err-item.ensures.1 in
+    let always = steady_value (tree c.args.schema.now) c.requires in
+    rw (p.1, p.2) (λ id kind m. let same = sym (always.1 (position_of c.in_ok-count.after)) ∙ c.in_err-item.ensures m in
+    absurd cc)
+
+pub repeated_of-returns : goal.repeated_of-returns
+repeated_of-returns t c =
+    let always = steady_value (tree c.args.schema.now) c.requires in
+    let same = ok_is _ _ (sym (always.1 (position_of c.in_ok-count.after)) ∙ c.in_ok-item.ensures) in
+    let item : always.0 ≡ view c.in_ok-item.item = ap (λ (x : Value × Position). x.0) same in
+    let count : c.in-Some.count.number ≡ c.in_ok-count.count = c.in-Some.ensures in
+    λ id kind. rw (view-Repeated c.in-Some.count c.in_ok-new.field-0, c.in_ok-new.ensures.ok, count, ← item)
+    (repeated_read (tree c.args.schema.now) always.0 always.1 id kind (position_of c.args.place) c.in_ok-count.count _
+    c.in_ok-count.ensures)

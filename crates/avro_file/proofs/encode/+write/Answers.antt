@@ -2,7 +2,7 @@ use Rattle.std.proofs.Common.{◌≡◌, ◌++◌, List, ℕ, ap, sym, ◌∙◌
 use Rattle.std.proofs.lemmas.List.{append-nil}
 use Rattle.avro_file.specs.View.{view}
 use Rattle.avro_file.proofs.Encoded.{array_written, map_written, union_written, made_on, made_over, long_pairs_written}
-use Rattle.avro_file.proofs.Encoded.{bytes_pairs_written, pairs_on, pairs_over}
+use Rattle.avro_file.proofs.Encoded.{bytes_pairs_written, repeated_written, times_on, times_over, pairs_on, pairs_over}
 use Rattle.avro_file.proofs.encode.+write.Goals as goal
 
 pub push_all-values-preserved : goal.push_all-values-preserved
@@ -49,6 +49,20 @@ push_datum-returns-in_ok-bytes-in-Union t c =
       ←
           c.in_ok-bytes-in-Union.ensures,
     ) c.push_datum.ensures
+
+pub push_datum-returns-in-Repeated : goal.push_datum-returns-in-Repeated
+push_datum-returns-in-Repeated t c =
+    let here : c.deref-in-Repeated.result.now ≡ c.in-Repeated.item.value = c.deref-in-Repeated.ensures in
+    rw (c.in-Repeated.is, repeated_written c.in-Repeated.count c.in-Repeated.item, ← here, ← c.get.ensures.same)
+    c.push_repeated.ensures
+
+pub push_times-times-preserved : goal.push_times-times-preserved
+push_times-times-preserved t c = times_on (view c.args.item.now) c.args.count c.times.counter c.times.bytes.items
+    c.in_ok-bytes.bytes.items _ c.times-test.true c.in_ok-bytes.ensures c.times.invariant
+
+pub push_times-returns : goal.push_times-returns
+push_times-returns t c = times_over (view c.args.item.now) c.args.count c.times.counter c.times.bytes.items _
+    c.times-test.false c.times.invariant
 
 pub push_pairs-pairs-preserved : goal.push_pairs-pairs-preserved
 push_pairs-pairs-preserved t c =

@@ -1,5 +1,5 @@
-use Rattle.std.proofs.Common.{◌≡◌, ◌++◌, drop}
-use Rattle.avro_file.specs.View.{views, entry_views}
+use Rattle.std.proofs.Common.{◌≡◌, ◌++◌, ◌-◌, drop, replicate}
+use Rattle.avro_file.specs.View.{view, views, entry_views}
 use Rattle.avro_file.specs.Value.{values_of, entries_of}
 use Rattle.avro_file.specs.Writing.{all_written, entries_written}
 use Rattle.avro_file.proofs.encode.+write.Given as goal
@@ -11,3 +11,8 @@ invariant-push_all-values l = l.bytes.items ++ all_written (values_of (views (dr
 abbrev pub invariant-push_pairs-pairs : goal.invariant-push_pairs-pairs
 invariant-push_pairs-pairs l = l.bytes.items ++ entries_written (entries_of (entry_views (drop l.pair-index l.pairs)))
     ≡ l.initial.bytes.items ++ entries_written (entries_of (entry_views l.pairs))
+
+abbrev pub invariant-push_times-times : goal.invariant-push_times-times
+invariant-push_times-times l =
+    l.bytes.items ++ all_written (values_of (replicate (l.count - l.counter) (view l.item)))
+    ≡ l.initial.bytes.items ++ all_written (values_of (replicate l.count (view l.item)))

@@ -1,9 +1,9 @@
-use Rattle.std.proofs.Common.{◌≡◌, sym, refl}
+use Rattle.std.proofs.Common.{◌≡◌, sym}
 use Rattle.avro_schema.specs.View.{tree}
 use Rattle.avro_file.proofs.Views.{field_trees, branch_trees, tree-Record, tree-Map, tree-Union}
 use Rattle.avro_file.proofs.Leaves.{tree-Array}
-use Rattle.avro_file.proofs.Alike.{structure_alike, array_alike, map_alike, union_alike, field_kept, field_left, fields_kept}
-use Rattle.avro_file.proofs.Alike.{branch_kept, branches_kept}
+use Rattle.avro_file.proofs.Alike.{structure_alike, array_alike, map_alike, union_alike, field_kept, field_left}
+use Rattle.avro_file.proofs.Alike.{branch_kept}
 use Rattle.avro_file.proofs.lean.+lean.Goals as goal
 
 pub lean_schema-returns-in_ok-new-in-Array : goal.lean_schema-returns-in_ok-new-in-Array

@@ -1,9 +1,9 @@
 use Rattle.std.proofs.Common.{◌≡◌}
 use Rattle.avro_schema.specs.View.{tree}
 use Rattle.ice_manifest_fields.proofs.Steps.{tree-Array, view-Array, items_as_is}
-use Rattle.avro_file.specs.View.{views, long_pairs, bytes_pairs}
+use Rattle.avro_file.specs.View.{view, views, long_pairs, bytes_pairs}
 use Rattle.ice_manifest_fields.specs.Seen.{pairs_in}
-use Rattle.ice_manifest_fields.proofs.Built.{view-LongPairs, view-BytesPairs}
+use Rattle.ice_manifest_fields.proofs.Built.{view-LongPairs, view-BytesPairs, view-Repeated, repeated_items}
 use Rattle.ice_manifest_fields.proofs.field.items_of.Goals as goal
 
 pub returns-in-Array-Array : goal.returns-in-Array-Array
@@ -56,3 +56,18 @@ returns-in-Array-BytesPairs c =
       ← built,
     ) (items_as_is (tree c.in-Array-BytesPairs.items.value)
     c.args.built.now)
+
+pub returns-in-Array-Repeated : goal.returns-in-Array-Repeated
+returns-in-Array-Repeated c =
+    let at = c.in-Array-Repeated in
+    let s : c.deref-in-Array-Repeated.result.now ≡ at.items.value = c.deref-in-Array-Repeated.ensures in
+    let d : c.deref-in-Array-Repeated-2.result.now ≡ at.item.value = c.deref-in-Array-Repeated-2.ensures in
+    rw (
+      at.is-0,
+      at.is-1,
+      tree-Array at.items at.field-1-0 at.field-2-0,
+      view-Repeated at.count at.item,
+      c.get.ensures.same,
+      s,
+      d,
+    ) (repeated_items (tree at.items.value) (view at.item.value) at.count.number)
