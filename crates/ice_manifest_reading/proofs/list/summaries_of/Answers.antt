@@ -10,12 +10,13 @@ use Rattle.ice_manifest_reading.proofs.list.summaries_of.Goals as goal
 
 pub items-init : goal.items-init
 items-init c =
-    subst (λ (front : List Summary). SoFar summary_of c.args.items c.args.items front) (sym c.in_ok-with_capacity.ensures)
+    subst (λ (front : List Summary). SoFar summary_of c.args.items c.args.items front) (sym c.in_ok-summaries.ensures)
     (none_so_far summary_of c.args.items)
 
 pub returns-in_err-summary_of : goal.returns-in_err-summary_of
 returns-in_err-summary_of c =
-    let p = err_from_is_err_and c.from_residual.result c.from_residual.ensures.1 in
+    let p = err_from_is_err_and c.from_residual-in_err-summary_of.result
+    c.from_residual-in_err-summary_of.ensures.1 in
     rw (p.1, p.2) (λ vs ahead other. fails_so_far in_list summary_of c.args.items c.items.items c.next.new.self
     c.in-Some.item c.items.summaries _ c.in-Some.ensures.items (λ v at. c.in_err-summary_of.ensures v at other)
     c.items.invariant vs ahead)
