@@ -1,14 +1,14 @@
 -- What is left out, and the leaf that is to blame.
-use Rattle.std.proofs.Common.{◌≡◌, ℕ, suc, ◌+◌, ◌<◌, ◌≤◌, Bool, true, false, not, ◌&&◌, ◌==◌, cond, List, [], ◌∷◌, length}
-use Rattle.std.proofs.Common.{Option, None, Some, refl, sym, ap, ◌∙◌, arith, map}
-use Rattle.std.specs.Prelude.{is_none, is_some, slice_get}
+use Rattle.std.proofs.Common.{◌≡◌, ℕ, ◌+◌, ◌<◌, ◌≤◌, Bool, true, false, not, ◌&&◌, ◌==◌, cond, List, [], ◌∷◌, length}
+use Rattle.std.proofs.Common.{Option, None, Some, refl, sym, ◌∙◌, arith}
+use Rattle.std.specs.Prelude.{is_some, slice_get}
 use Rattle.std.specs.Option.{option_and_then}
 use Rattle.std.specs.List.{AllByRecursion, Contains, list_all}
 use Rattle.std.proofs.lemmas.Option.{slice_get-get_or}
 use Rattle.ice_filter.specs.declared.bound.BoundLeaf.{BoundLeaf}
 use Rattle.ice_filter.specs.declared.parts.Part.{Part}
 use Rattle.ice_filter.specs.declared.parts.Part.TheVariants.{True, False, Leaf, And, Or}
-use Rattle.ice_filter.specs.Trees.{map_leaves, meaning, tree_of}
+use Rattle.ice_filter.specs.Trees.{meaning, tree_of}
 use Rattle.ice_filter.proofs.Mapped.{mapped_meaning}
 use Rattle.ice_manifest_reading.specs.declared.entry.Live.{Live}
 use Rattle.ice_manifest_reading.specs.declared.row.Row.{Row}
@@ -16,7 +16,7 @@ use Rattle.ice_meta.specs.declared.spec.Spec.{Spec}
 use Rattle.ice_project.specs.Fields.{fields_of}
 use Rattle.ice_project.specs.Files.{file_allows, file_may}
 use Rattle.ice_project.specs.Projection.{leaf_tests, projection}
-use Rattle.ice_project.specs.Summaries.{field_test_allowed, summaries_may, tests_allowed}
+use Rattle.ice_project.specs.Summaries.{field_test_allowed, tests_allowed}
 use Rattle.ice_project.specs.Tuples.{field_test_met, part_meets, tests_met}
 use Rattle.ice_project.specs.declared.part_filter.FieldTest.{FieldTest}
 use Rattle.ice_project.specs.declared.part_filter.PartFilter.{PartFilter}
@@ -25,9 +25,9 @@ use Rattle.ice_state.specs.Pruning.{summaries_allow}
 use Rattle.ice_value.specs.declared.cell.Cell.{Cell}
 use Rattle.ice_value.specs.declared.file_bounds.FileBounds.{FileBounds}
 use Rattle.ice_value.specs.declared.file_bounds.Summary.{Summary}
-use Rattle.ice_explain.specs.Alone.{leaves, lone_leaf, lone_leaves, lone_tests, only, only_test}
+use Rattle.ice_explain.specs.Alone.{leaves, lone_leaves, lone_tests, only, only_test}
 use Rattle.ice_explain.specs.Asking.{filter_tests, spec_tests}
-use Rattle.ice_explain.specs.Blaming.{blamed_column, blamed_field, first_no, leaf_allows}
+use Rattle.ice_explain.specs.Blaming.{blamed_field, first_no, leaf_allows}
 use Rattle.ice_explain.specs.Fates.{file_fate, is_out_of_bounds, row_fate}
 use Rattle.ice_explain.specs.declared.lone.LoneLeaf.{LoneLeaf}
 use Rattle.ice_explain.specs.declared.lone.LoneTest.{LoneTest}

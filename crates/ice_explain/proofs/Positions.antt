@@ -1,6 +1,6 @@
 -- Each test of a projection is of one of the spec's fields, which has a name.
-use Rattle.std.proofs.Common.{◌≡◌, ℕ, suc, ◌+◌, ◌-◌, ◌<◌, ◌≤◌, Bool, true, false, cond, List, [], ◌∷◌, ◌++◌, length, map}
-use Rattle.std.proofs.Common.{Option, None, Some, refl, sym, ap, ◌∙◌, arith, subst}
+use Rattle.std.proofs.Common.{◌≡◌, ℕ, ◌+◌, ◌<◌, ◌≤◌, Bool, true, false, cond, List, [], ◌∷◌, ◌++◌, length, map}
+use Rattle.std.proofs.Common.{Option, None, Some, refl, arith, subst}
 use Rattle.std.specs.Prelude.{is_some, option_map, slice_get}
 use Rattle.std.specs.Option.{option_and_then}
 use Rattle.std.specs.Ordering.{int_eq}
@@ -15,12 +15,12 @@ use Rattle.ice_filter.specs.Trees.{map_leaves}
 use Rattle.ice_meta.specs.declared.spec.PartitionField.{PartitionField}
 use Rattle.ice_meta.specs.declared.spec.Spec.{Spec}
 use Rattle.ice_project.specs.Fields.{field_of, fields_of}
-use Rattle.ice_project.specs.Projection.{leaf_test, leaf_tests, projected_test, projection, test_at, typed_test, with_test}
+use Rattle.ice_project.specs.Projection.{leaf_test, leaf_tests, projected_test, test_at, typed_test, with_test}
 use Rattle.ice_project.specs.declared.field.Field.{Field}
 use Rattle.ice_project.specs.declared.part_filter.FieldTest.{FieldTest}
 use Rattle.ice_transform.specs.Values.{type_of}
 use Rattle.ice_value.specs.declared.column_type.ColumnType.{ColumnType}
-use Rattle.ice_explain.specs.Alone.{field_name, lone_test, lone_tests, tests_in}
+use Rattle.ice_explain.specs.Alone.{lone_test, tests_in}
 use Rattle.ice_explain.specs.declared.lone.LoneTest.{LoneTest}
 
 -- a test, where there is one, is of the value at that position

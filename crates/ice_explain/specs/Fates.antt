@@ -1,6 +1,6 @@
 -- What becomes of manifests and files under a filter, and which leaf of it is to blame: Apache Iceberg table spec,
 -- version 2, "Scan Planning".
-use Rattle.std.specs.Prelude.{ℕ, Bool, true, false, ◌&&◌, not, if◌then◌else◌}
+use Rattle.std.specs.Prelude.{Bool, true, false, ◌&&◌, not, if◌then◌else◌}
 use Rattle.ice_value.specs.declared.file_content.FileContent.{FileContent}
 use Rattle.ice_value.specs.declared.file_content.FileContent.TheVariants as holds
 use Rattle.ice_project.specs.Files.{file_may}
