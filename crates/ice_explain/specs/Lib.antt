@@ -1,0 +1,4 @@
+pub mod Alone
+pub mod Blaming
+pub mod Asking
+pub mod Fates
