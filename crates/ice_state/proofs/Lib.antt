@@ -1,4 +1,6 @@
+pub mod Gaps
 pub mod Ascending
+pub mod ByKind
 pub mod Contents
 pub mod Covered
 pub mod DeletesKept
@@ -27,6 +29,7 @@ pub mod Pruned
 pub mod Ranked
 pub mod RankedIndex
 pub mod RankedLines
+pub mod Rising
 pub mod RowsMoved
 pub mod Runs
 pub mod Scanning

@@ -11,14 +11,11 @@ use Rattle.contract_words.proofs.Sorted.{sorted_rises, sorted_ties, unique}
 use Rattle.ice_manifest_reading.specs.declared.entry.Entry.{Entry}
 use Rattle.ice_entries.specs.declared.entries.EntryNumber.{EntryNumber}
 use Rattle.ice_entries.specs.Kept.{Kept, IsKept, AreKept, entry_at as kept_entry, entries_at as kept_at, no_entry}
-use Rattle.ice_state.specs.declared.finish.Named.{Named}
 use Rattle.ice_state.specs.declared.ordered.Placed.{Placed}
 use Rattle.ice_state.specs.Contents.{Content}
 use Rattle.ice_state.specs.Lines.{entry_at, entries_at, AreWithin}
-use Rattle.ice_state.specs.Named.{entry_named, entries_named, IsNamed, AreNamed}
 use Rattle.ice_state.specs.Orders.{IsOrder, runs_in}
 use Rattle.ice_state.specs.Outcomes.{by_path, entries_in, kept_in, path_before}
-use Rattle.ice_state.specs.Segments.{Segmented, segment_at}
 use Rattle.ice_state.specs.Placed.{place_of, entry_placed, entries_placed, ArePlaced}
 use Rattle.ice_state.proofs.Sharing.{order}
 
@@ -71,27 +68,14 @@ one_more kept ns (p ∷ ps) (suc i) d l within =
     ∙ sym (append_assoc (entry_at (kept_at kept ns) p) (entries_at (kept_at kept ns) (take i ps)) _)
 
 -- the entry of one more place, put last
-pub pushed_more : (kept : Segmented) (segment : ℕ) (ns : List EntryNumber) (places : List ℕ) (i : ℕ) (d : EntryNumber)
-    (old : List Entry) (found new : List Named) (x : Named) → i < length places
-    → AreWithin (length (kept_at (segment_at kept segment) ns)) places → x.number.segment ≡ segment
-    → x.number.number ≡ get_or ns (get_or places i 0) d → new ≡ found ++ x ∷ []
-    → entries_named kept found ≡ old ++ entries_at (kept_at (segment_at kept segment) ns) (take i places)
-    → entries_named kept new ≡ old ++ entries_at (kept_at (segment_at kept segment) ns) (take (i + 1) places)
-pushed_more kept segment ns places i d old found new x l within here at is before =
-    let one = segment_at kept segment in
-    ap (entries_named kept) is
-    ∙ map-append (entry_named kept) found (x ∷ [])
-    ∙ ap (λ s. entries_named kept found ++ kept_entry (segment_at kept s) x.number.number ∷ []) here
-    ∙ ap (λ n. entries_named kept found ++ kept_entry one n ∷ []) at
-    ∙ ap (λ xs. xs ++ kept_entry one (get_or ns (get_or places i 0) d) ∷ []) before
-    ∙ append_assoc old (entries_at (kept_at one ns) (take i places)) _
-    ∙ ap (λ xs. old ++ xs) (sym (one_more one ns places i d l within))
-    ∙ ap (λ n. old ++ entries_at (kept_at one ns) (take n places)) (sym (add-one i))
-
-last_named : (kept : Segmented) (xs : List Named) (x : Named) → AreNamed kept xs → IsNamed kept x
-    → AreNamed kept (xs ++ x ∷ [])
-last_named kept [] x all one = (one, tt)
-last_named kept (y ∷ ys) x all one = (all.0, last_named kept ys x all.1 one)
+pub put_more : (kept : Kept) (ns : List EntryNumber) (places : List ℕ) (i : ℕ) (d : EntryNumber) (old : List Entry)
+    → i < length places → AreWithin (length (kept_at kept ns)) places
+    → (old ++ entries_at (kept_at kept ns) (take i places)) ++ kept_entry kept (get_or ns (get_or places i 0) d) ∷ []
+    ≡ old ++ entries_at (kept_at kept ns) (take (i + 1) places)
+put_more kept ns places i d old l within =
+    append_assoc old (entries_at (kept_at kept ns) (take i places)) _
+    ∙ ap (λ xs. old ++ xs) (sym (one_more kept ns places i d l within))
+    ∙ ap (λ n. old ++ entries_at (kept_at kept ns) (take n places)) (sym (add-one i))
 
 number_kept : (kept : Kept) (ns : List EntryNumber) (i : ℕ) (d : EntryNumber) → AreKept kept ns
     → i < length (kept_at kept ns) → IsKept kept (get_or ns i d)
@@ -104,18 +88,11 @@ place_within n [] i all l = absurd (omega arith)
 place_within n (p ∷ ps) zero all l = all.0
 place_within n (p ∷ ps) (suc i) all l = place_within n ps i all.1 (omega arith)
 
--- it bears the entry's path
-pub named_more : (kept : Segmented) (segment : ℕ) (ns : List EntryNumber) (places : List ℕ) (i : ℕ) (d : EntryNumber)
-    (found new : List Named) (x : Named) → i < length places → segment < length kept
-    → AreKept (segment_at kept segment) ns → AreWithin (length (kept_at (segment_at kept segment) ns)) places
-    → x.number.segment ≡ segment → x.number.number ≡ get_or ns (get_or places i 0) d
-    → x.path.now ≡ (entry_named kept x).file.path → new ≡ found ++ x ∷ [] → AreNamed kept found → AreNamed kept new
-named_more kept segment ns places i d found new x l there all within here at path is before =
-    let one = segment_at kept segment in
-    let number : IsKept one x.number.number = subst (IsKept one) (sym at)
-    (number_kept one ns (get_or places i 0) d all (place_within (length (kept_at one ns)) places i within l)) in
-    let both = subst (λ s. (s < length kept) × IsKept (segment_at kept s) x.number.number) (sym here) (there, number) in
-    subst (AreNamed kept) (sym is) (last_named kept found x before (both, path))
+-- the number at a place
+pub number_placed : (kept : Kept) (ns : List EntryNumber) (places : List ℕ) (i : ℕ) (d : EntryNumber) → i < length places
+    → AreKept kept ns → AreWithin (length (kept_at kept ns)) places → IsKept kept (get_or ns (get_or places i 0) d)
+number_placed kept ns places i d l all within =
+    number_kept kept ns (get_or places i 0) d all (place_within (length (kept_at kept ns)) places i within l)
 
 -- ---- runs
 

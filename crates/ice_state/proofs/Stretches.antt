@@ -13,33 +13,32 @@ use Rattle.ice_value.specs.declared.file_content.FileContent.TheVariants.{Data}
 use Rattle.ice_deletes.proofs.Lists.{range_is}
 use Rattle.ice_entries.specs.Alike.{AreAlike}
 use Rattle.ice_entries.specs.Kept.{no_entry}
-use Rattle.ice_state.specs.declared.finish.FilesByKind.{FilesByKind}
-use Rattle.ice_state.specs.declared.finish.Named.{Named}
+use Rattle.ice_state.specs.declared.by_kind.FilesByKind.{FilesByKind}
 use Rattle.ice_state.specs.declared.segments.FileNumber.{FileNumber}
-use Rattle.ice_state.specs.Named.{AreNamed, entry_named, entries_named}
+use Rattle.ice_state.specs.ByKind.{HasFilesOf}
 use Rattle.ice_state.specs.Parts.{holds_deletes}
 use Rattle.ice_state.specs.Pruning.{holds, same_content}
 use Rattle.ice_state.specs.Segments.{AreKept, IsKept, Segmented, entry_at, entries_at}
 use Rattle.ice_state.specs.SharedPlaces.{AreBeside}
-use Rattle.ice_state.specs.Stretches.{AreLikeFirst, AreStretches, HasFilesOf, HasPut}
+use Rattle.ice_state.specs.Stretches.{AreLikeFirst, AreStretches, HasPut, IsStretch}
 use Rattle.ice_state.proofs.PathsOnce.{not_true}
 
--- ---- entries by their paths
+-- ---- files at places
 
-pub named_kept : (kept : Segmented) (xs : List Named) (i : ℕ) (d : Named) → AreNamed kept xs → i < length xs
-    → IsKept kept (get_or xs i d).number
-named_kept kept [] i d all l = absurd (omega arith)
-named_kept kept (x ∷ xs) zero d all l = all.0.0
-named_kept kept (x ∷ xs) (suc i) d all l = named_kept kept xs i d all.1 (omega arith)
+pub number_kept : (kept : Segmented) (ns : List FileNumber) (i : ℕ) (d : FileNumber) → AreKept kept ns → i < length ns
+    → IsKept kept (get_or ns i d)
+number_kept kept [] i d all l = absurd (omega arith)
+number_kept kept (n ∷ ns) zero d all l = all.0
+number_kept kept (n ∷ ns) (suc i) d all l = number_kept kept ns i d all.1 (omega arith)
 
--- the entry that is named at a place
-pub named_entry : (kept : Segmented) (xs : List Named) (i : ℕ) (d : Named) → i < length xs
-    → entry_at kept (get_or xs i d).number ≡ get_or (entries_named kept xs) i no_entry
-named_entry kept xs i d l = sym (get_or-map (entry_named kept) xs i d no_entry l)
+-- the entry of the file at a place
+pub file_entry : (kept : Segmented) (ns : List FileNumber) (i : ℕ) (d : FileNumber) → i < length ns
+    → entry_at kept (get_or ns i d) ≡ get_or (entries_at kept ns) i no_entry
+file_entry kept ns i d l = sym (get_or-map (entry_at kept) ns i d no_entry l)
 
 -- ---- one file more
 
-kept_more : (kept : Segmented) (ns : List FileNumber) (n : FileNumber) → AreKept kept ns → IsKept kept n
+pub kept_more : (kept : Segmented) (ns : List FileNumber) (n : FileNumber) → AreKept kept ns → IsKept kept n
     → AreKept kept (ns ++ n ∷ [])
 kept_more kept [] n all one = (one, tt)
 kept_more kept (m ∷ ms) n all one = (all.0, kept_more kept ms n all.1 one)
@@ -69,28 +68,28 @@ one_alike es first next here all = λ i after before.
     split (suc i) zero l = absurd (omega arith)
     split (suc i) (suc n) l = elim (split i n (omega arith)) [ inl less ↦ inl (omega arith) | inr same ↦ inr (ap suc same) ]
 
-module _ (kept : Segmented) (named : List Named) (all : AreNamed kept named) (old : List FileNumber) (d : Named) where
+module _ (kept : Segmented) (named : List FileNumber) (all : AreKept kept named) (old : List FileNumber) (d : FileNumber) where
   abbrev es : List Entry
-  es = entries_named kept named
+  es = entries_at kept named
 
   put_more : (files new : List FileNumber) (first end : ℕ) → first ≤ end → end < length named
       → (AreKept kept old → AreKept kept files)
       → entries_at kept files ≡ entries_at kept old ++ slice_range es first end
-      → new ≡ files ++ (get_or named end d).number ∷ []
+      → new ≡ files ++ (get_or named end d) ∷ []
       → (AreKept kept old → AreKept kept new)
       × (entries_at kept new ≡ entries_at kept old ++ slice_range es first (end + 1))
   put_more files new first end le l has are is =
-      let n = (get_or named end d).number in
-      let size : length es ≡ length named = length-map named (entry_named kept) in (
-        λ were. subst (AreKept kept) (sym is) (kept_more kept files n (has were) (named_kept kept named end d all l)),
+      let n = (get_or named end d) in
+      let size : length es ≡ length named = length-map named (entry_at kept) in (
+        λ were. subst (AreKept kept) (sym is) (kept_more kept files n (has were) (number_kept kept named end d all l)),
         ap (entries_at kept) is ∙ map-append (entry_at kept) files (n ∷ [])
-            ∙ (λ i. are i ++ named_entry kept named end d l i ∷ [])
+            ∙ (λ i. are i ++ file_entry kept named end d l i ∷ [])
             ∙ append_assoc (entries_at kept old) (slice_range es first end) (get_or es end no_entry ∷ [])
             ∙ ap (λ xs. entries_at kept old ++ xs) (sym (range_more es first end le (omega (arith, l, size)))),
       )
 
   pub put_first : (new : List FileNumber) (first : ℕ) → first < length named
-      → new ≡ old ++ (get_or named first d).number ∷ [] → HasPut kept named old new first (first + 1)
+      → new ≡ old ++ (get_or named first d) ∷ [] → HasPut kept named old new first (first + 1)
   put_first new first l is =
       let none : first - first ≡ 0 = omega arith in
       let empty : slice_range es first first ≡ [] = ap (λ n. take n (drop first es)) none in
@@ -106,19 +105,19 @@ module _ (kept : Segmented) (named : List Named) (all : AreNamed kept named) (ol
 
   pub put_next : (files new : List FileNumber) (first end : ℕ) → HasPut kept named old files first end
       → end < length named
-      → AreAlike (entry_at kept (get_or named first d).number) (entry_at kept (get_or named end d).number)
-      → new ≡ files ++ (get_or named end d).number ∷ [] → HasPut kept named old new first (end + 1)
+      → AreAlike (entry_at kept (get_or named first d)) (entry_at kept (get_or named end d))
+      → new ≡ files ++ (get_or named end d) ∷ [] → HasPut kept named old new first (end + 1)
   put_next files new first end put l near is =
       let more = put_more files new first end (omega (arith, put.after)) l put.kept put.pushed is in
-      let here = named_entry kept named first d (omega (arith, put.after, l)) in
-      let there = named_entry kept named end d l in
+      let here = file_entry kept named first d (omega (arith, put.after, l)) in
+      let there = file_entry kept named end d l in
       record {
         after = omega (arith, put.after);
         within = omega (arith, l);
         kept = more.0;
         pushed = more.1;
         alike = one_alike es first end (subst (AreAlike (get_or es first no_entry)) there
-            (subst (λ (x : Entry). AreAlike x (entry_at kept (get_or named end d).number)) here near)) put.alike;
+            (subst (λ (x : Entry). AreAlike x (entry_at kept (get_or named end d))) here near)) put.alike;
       }
 
 -- ---- a stretch more
@@ -177,13 +176,16 @@ module _ (es : List Entry) (first end : ℕ) (after : first < end) (within : end
       sym (take-append-drop first (take end es))
       ∙ (λ i. take-take first end es (omega (arith, after)) i ++ sym (range_is first end es (omega (arith, after))) i)
 
-  -- what stands among them
-  pub among : (q : FileContent → Bool) → filter (λ (x : Entry). q x.file.content) (take end es)
-      ≡ filter (λ (x : Entry). q x.file.content) (take first es) ++ cond (q (get_or es first no_entry).file.content) range []
-  among q =
+  -- what stands among them, behind others
+  pub among : (xs : List Entry) (q : FileContent → Bool) → filter (λ (x : Entry). q x.file.content) (xs ++ take end es)
+      ≡ filter (λ (x : Entry). q x.file.content) (xs ++ take first es)
+      ++ cond (q (get_or es first no_entry).file.content) range []
+  among xs q =
       let p : Entry → Bool = λ x. q x.file.content in
-      ap (filter p) up_to ∙ filter-append p (take first es) range
-      ∙ ap (λ xs. filter p (take first es) ++ xs) (of_content q)
+      ap (λ ys. filter p (xs ++ ys)) up_to
+      ∙ ap (filter p) (sym (append_assoc xs (take first es) range))
+      ∙ filter-append p (xs ++ take first es) range
+      ∙ ap (λ ys. filter p (xs ++ take first es) ++ ys) (of_content q)
 
 -- the files that come later leave earlier ones as they are
 still_alike : (files more : List Entry) (first end : ℕ) → first < end → end ≤ length files → AreLikeFirst files first end
@@ -223,19 +225,19 @@ stretches_more files more first (end ∷ ends) some beside is =
 abbrev is_data : FileContent → Bool
 is_data K = same_content K Data
 
-module _ (kept : Segmented) (named : List Named) (old new : List FileNumber) (first end : ℕ)
-    (put : HasPut kept named old new first end) where
+module _ (kept : Segmented) (named old new : List FileNumber) (first end : ℕ)
+    (put : HasPut kept named old new first end) (xs : List Entry) where
   abbrev entries : List Entry
-  entries = entries_named kept named
+  entries = entries_at kept named
 
   abbrev before : List Entry
-  before = take first entries
+  before = xs ++ take first entries
 
   abbrev upto : List Entry
-  upto = take end entries
+  upto = xs ++ take end entries
 
   in_all : end ≤ length entries
-  in_all = omega (arith, put.within, length-map named (entry_named kept))
+  in_all = omega (arith, put.within, length-map named (entry_at kept))
 
   -- the files of data
   pub data_put : (files : FilesByKind) (ends : List ℕ) → files.data_files.items ≡ old → HasFilesOf kept before files
@@ -259,16 +261,18 @@ module _ (kept : Segmented) (named : List Named) (old new : List FileNumber) (fi
       ++ length (entries_at kept old ++ slice_range entries first end) ∷ [])) (sym parts) more_stretches))
       ) in
       record {
-        kept = subst (AreKept kept) (sym is_new) (put.kept (subst (AreKept kept) was has.kept));
-        kept_deletes = subst (AreKept kept) (sym same) has.kept_deletes;
+        numbers = (
+          subst (AreKept kept) (sym is_new) (put.kept (subst (AreKept kept) was has.numbers.0)),
+          subst (AreKept kept) (sym same) has.numbers.1,
+        );
         all =
             ap (entries_at kept) is_new ∙ parts
-            ∙ ap (λ xs. xs ++ slice_range entries first end) (sym same_data ∙ has.all)
-            ∙ sym (among entries first end put.after in_all put.alike is_data
+            ∙ ap (λ ys. ys ++ slice_range entries first end) (sym same_data ∙ has.all)
+            ∙ sym (among entries first end put.after in_all put.alike xs is_data
             ∙ ap (λ b. filter (holds Data) before ++ cond b (slice_range entries first end) []) here);
         all_deletes =
             ap (entries_at kept) same ∙ has.all_deletes ∙ sym (append-nil (filter holds_deletes before))
-            ∙ sym (among entries first end put.after in_all put.alike (λ K. not (is_data K))
+            ∙ sym (among entries first end put.after in_all put.alike xs (λ K. not (is_data K))
             ∙ ap (λ b. filter holds_deletes before ++ cond (not b) (slice_range entries first end) []) here);
         stretches = subst (λ (ns : List FileNumber). AreStretches (entries_at kept ns) 0 now.ends.items) (sym is_new)
             (subst (λ (es : List ℕ). AreStretches (entries_at kept new) 0 es) (sym is_ends) stretch);
@@ -284,16 +288,18 @@ module _ (kept : Segmented) (named : List Named) (old new : List FileNumber) (fi
       let here : is_data (get_or entries first no_entry).file.content ≡ false =
       not_true (is_data (get_or entries first no_entry).file.content) deletes in
       record {
-        kept = subst (AreKept kept) (sym same) has.kept;
-        kept_deletes = subst (AreKept kept) (sym is_new) (put.kept (subst (AreKept kept) was has.kept_deletes));
+        numbers = (
+          subst (AreKept kept) (sym same) has.numbers.0,
+          subst (AreKept kept) (sym is_new) (put.kept (subst (AreKept kept) was has.numbers.1)),
+        );
         all =
             ap (entries_at kept) same ∙ has.all ∙ sym (append-nil (filter (holds Data) before))
-            ∙ sym (among entries first end put.after in_all put.alike is_data
+            ∙ sym (among entries first end put.after in_all put.alike xs is_data
             ∙ ap (λ b. filter (holds Data) before ++ cond b (slice_range entries first end) []) here);
         all_deletes =
             ap (entries_at kept) is_new ∙ put.pushed
-            ∙ ap (λ xs. xs ++ slice_range entries first end) (sym same_deletes ∙ has.all_deletes)
-            ∙ sym (among entries first end put.after in_all put.alike (λ K. not (is_data K))
+            ∙ ap (λ ys. ys ++ slice_range entries first end) (sym same_deletes ∙ has.all_deletes)
+            ∙ sym (among entries first end put.after in_all put.alike xs (λ K. not (is_data K))
             ∙ ap (λ b. filter holds_deletes before ++ cond (not b) (slice_range entries first end) []) here);
         stretches = subst (λ (ns : List FileNumber). AreStretches (entries_at kept ns) 0 now.ends.items) (sym same)
             (subst (λ (es : List ℕ). AreStretches (entries_at kept files.data_files.items) 0 es) (sym same_ends)
@@ -301,27 +307,66 @@ module _ (kept : Segmented) (named : List Named) (old new : List FileNumber) (fi
       }
 
 -- what an entry holds that is named at a place
-pub content_named : (kept : Segmented) (named : List Named) (first : ℕ) (d : Named) (K : FileContent)
-    → first < length named → K ≡ (entry_at kept (get_or named first d).number).file.content
-    → (get_or (entries_named kept named) first no_entry).file.content ≡ K
+pub content_named : (kept : Segmented) (named : List FileNumber) (first : ℕ) (d : FileNumber) (K : FileContent)
+    → first < length named → K ≡ (entry_at kept (get_or named first d)).file.content
+    → (get_or (entries_at kept named) first no_entry).file.content ≡ K
 content_named kept named first d K l is =
-    ap (λ (x : Entry). x.file.content) (sym (named_entry kept named first d l)) ∙ sym is
+    ap (λ (x : Entry). x.file.content) (sym (file_entry kept named first d l)) ∙ sym is
 
 -- what follows of a success
 pub ok_further : {T E : Type 0} (r : Result T E) (P Q : T → Type 0) → ((x : T) → P x → Q x) → IfOk r P → IfOk r Q
 ok_further (Ok x) P Q h p = h x p
 ok_further (Err e) P Q h p = tt
 
+-- ---- stretches that are looked for
+
+-- a file alone, and one more that is like it
+pub stretch_of_one : (kept : Segmented) (files : List FileNumber) (first : ℕ) → first < length files
+    → IsStretch kept files first (first + 1)
+stretch_of_one kept files first l = record {
+  after = omega arith;
+  within = omega (arith, l);
+  alike = λ i after before. absurd (omega (arith, after, before));
+}
+
+pub stretch_more : (kept : Segmented) (files : List FileNumber) (first end : ℕ) (d : FileNumber)
+    → IsStretch kept files first end → end < length files
+    → AreAlike (entry_at kept (get_or files first d)) (entry_at kept (get_or files end d))
+    → IsStretch kept files first (end + 1)
+stretch_more kept files first end d is l near =
+    let here = file_entry kept files first d (omega (arith, is.after, l)) in
+    let there = file_entry kept files end d l in
+    record {
+      after = omega (arith, is.after);
+      within = omega (arith, l);
+      alike = one_alike (entries_at kept files) first end
+          (subst (AreAlike (get_or (entries_at kept files) first no_entry)) there
+          (subst (λ (x : Entry). AreAlike x (entry_at kept (get_or files end d))) here near)) is.alike;
+    }
+
+-- stretches up to a place, and one more
+abbrev pub AreStretchesTo : List Entry → ℕ → List ℕ → ℕ → Type 0
+AreStretchesTo files first [] last = first ≡ last
+AreStretchesTo files first (end ∷ ends) last =
+    (first < end) × (end ≤ length files) × AreLikeFirst files first end × AreStretchesTo files end ends last
+
+pub stretches_to_more : (files : List Entry) (first : ℕ) (ends : List ℕ) (last end : ℕ)
+    → AreStretchesTo files first ends last → last < end → end ≤ length files → AreLikeFirst files last end
+    → AreStretchesTo files first (ends ++ end ∷ []) end
+stretches_to_more files first [] last end is after within alike =
+    (omega (arith, is, after), within, subst (λ (n : ℕ). AreLikeFirst files n end) (sym is) alike, refl)
+stretches_to_more files first (e ∷ es) last end is after within alike =
+    (is.0, is.1, is.2, stretches_to_more files e es last end is.3 after within alike)
+
+pub stretches_to_all : (files : List Entry) (first : ℕ) (ends : List ℕ) (last : ℕ) → AreStretchesTo files first ends last
+    → last ≡ length files → AreStretches files first ends
+stretches_to_all files first [] last is all = is ∙ all
+stretches_to_all files first (e ∷ es) last is all = (is.0, is.1, is.2, stretches_to_all files e es last is.3 all)
+
 -- ---- looking up stretches
 
-pub number_kept : (kept : Segmented) (ns : List FileNumber) (i : ℕ) (d : FileNumber) → AreKept kept ns → i < length ns
-    → IsKept kept (get_or ns i d)
-number_kept kept [] i d all l = absurd (omega arith)
-number_kept kept (n ∷ ns) zero d all l = all.0
-number_kept kept (n ∷ ns) (suc i) d all l = number_kept kept ns i d all.1 (omega arith)
-
 -- the stretch at a place among the ends
-pub record IsStretch (kept : Segmented) (files : List FileNumber) (first end : ℕ) (ends : List ℕ) : Type 0 where
+pub record HasStretch (kept : Segmented) (files : List FileNumber) (first end : ℕ) (ends : List ℕ) : Type 0 where
   pub after : first < end
   pub within : end ≤ length files
   pub alike : AreLikeFirst (entries_at kept files) first end
@@ -329,7 +374,7 @@ pub record IsStretch (kept : Segmented) (files : List FileNumber) (first end : �
 
 pub stretch_at : (kept : Segmented) (files : List FileNumber) (first : ℕ) (ends : List ℕ) (i d : ℕ) → i < length ends
     → AreStretches (entries_at kept files) first (drop i ends)
-    → IsStretch kept files first (get_or ends i d) (drop (i + 1) ends)
+    → HasStretch kept files first (get_or ends i d) (drop (i + 1) ends)
 stretch_at kept files first ends i d l are =
     let all = subst (AreStretches (entries_at kept files) first) (drop_more ends i d l) are in
     record {

@@ -1,10 +1,11 @@
+pub mod Apart
 pub mod Applying
+pub mod ByKind
 pub mod Contents
 pub mod Covering
 pub mod Joins
 pub mod KeptDeletes
 pub mod Lines
-pub mod Named
 pub mod Orders
 pub mod Outcomes
 pub mod Parts

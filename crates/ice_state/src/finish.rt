@@ -7,27 +7,30 @@ ghost use Rattle.std.specs.List.Sorted.{IsPermutation};
 ghost use Rattle.std.specs.Option.{option_copied};
 ghost use Rattle.contract_words.specs.Outcome.{Gives};
 ghost use Rattle.ice_deletes.specs.Unions.{renumbered, AreBelow};
-ghost use Rattle.ice_entries.specs.Kept.{entries_at as entries_in};
+ghost use Rattle.ice_manifest_reading.specs.declared.entry.Entry.{Entry};
 ghost use Rattle.ice_deletes.specs.Groups.{is_in};
 ghost use Rattle.ice_deletes.specs.declared.group.Group.TheVariants.{Referenced};
 ghost use Rattle.ice_state.specs.Applying.{data_key_of, delete_key_of};
 ghost use Rattle.ice_state.specs.KeptDeletes.{IsIndexed, IsIndexOf, IsState};
 ghost use Rattle.ice_state.specs.Lines.{lines_of, IsPlanned};
-ghost use Rattle.ice_state.specs.Named.{entry_named, IsNamed, AreNamed, entries_named};
+ghost use Rattle.ice_state.specs.ByKind.{AreKeptByKind, entries_by_kind, HasFilesOf, IsInOrder};
 ghost use Rattle.ice_state.specs.Orders.{IsOrder};
 ghost use Rattle.ice_state.specs.Outcomes.{missing, bad, twice, by_path, kept_in, plan_over, outcome_of};
 ghost use Rattle.ice_state.specs.Outcomes.{entries_in as entries_given};
 ghost use Rattle.ice_state.specs.Parts.{fault_of, Stops, holds_deletes, places_of};
 ghost use Rattle.ice_state.specs.Segments.{AreKept, entries_at, segment_at, Segmented};
-ghost use Rattle.ice_state.specs.Stretches.{AreStretches, HasFilesOf, HasPut};
+ghost use Rattle.ice_state.specs.Stretches.{AreStretches};
 ghost use Rattle.ice_state.specs.Shares.{count_at};
 ghost use Rattle.ice_state.specs.Slots.{contents, given, HasNumbers, HaveNumbers, IsIn};
 
+use crate::apart::are_apart;
+use crate::by_kind::{FilesByKind, gathered};
 use crate::deletes::push_places;
 use crate::fault::FinishFault;
 use crate::file_places::places_among;
+use crate::in_order::{sort_by_path, sort_data_files, sorted_by_path};
 use crate::indexed::IndexedDeletes;
-use crate::ordered::{Ordered, order_of_files, rows_by_first_path};
+use crate::ordered::order_of_files;
 use crate::plan::NumberedPlan;
 use crate::ranks::ranks;
 use crate::segments::{FileNumber, Segments};
@@ -36,7 +39,6 @@ use crate::taken::Taken;
 use contract_words::Items;
 use ice_deletes::{DeleteIndex, Finder};
 use ice_manifest_reading::{ManifestFault, Row};
-use ice_value::FileContent;
 use std::alloc::{AllocError, Global};
 
 /// Stops at the first row that wasn't taken.
@@ -77,219 +79,56 @@ fn check_good(alloc: Global, rows: &[Row], slots: &[Option<Taken>]) -> Result<()
     Ok(())
 }
 
-/// A kept entry by its path.
-#[derive(Clone, Copy, Debug, Drop)]
-struct Named<'a> {
-    path: &'a [u8],
-    number: FileNumber,
-}
-
 /// Stops at the first path that two neighbours share.
-fn check_once(alloc: Global, entries: &Segments, named: &[Named<'_>]) -> Result<(), FinishFault>
-    requires { AreNamed entries.now named.now }
-    ensures { MatchResult result (λ _. twice (entries_named entries.now named.now) ≡ [])
-        (λ f. Stops f (twice (entries_named entries.now named.now))) }
+fn check_neighbours(
+    alloc: Global,
+    entries: &Segments,
+    files: &[FileNumber],
+) -> Result<(), FinishFault>
+    requires { AreKept entries.now files.now }
+    ensures { MatchResult result (λ _. twice (entries_at entries.now files.now) ≡ [])
+        (λ f. Stops f (twice (entries_at entries.now files.now))) }
 {
-    for i in 1..named.len() {
-        let before = named[i - 1].path;
-        if before == named[i].path {
-            return Err(FinishFault::PathTwice(Items::from_vec(before.to_vec(alloc)?)));
+    for i in 1..files.len() {
+        let path = entries.path(files[i - 1]);
+        if path == entries.path(files[i]) {
+            return Err(FinishFault::PathTwice(Items::from_vec(path.to_vec(alloc)?)));
         }
     }
     Ok(())
 }
 
-/// Puts kept entries last, by path.
-fn push_named<'a>(
-    found: &mut Vec<Named<'a>>,
-    entries: &'a Segments,
-    ordered: &Ordered,
-) -> Result<(), AllocError>
-    requires { IsIn entries.now ordered.now }
-    ensures named { AreNamed entries.now found.old.items → AreNamed entries.now found.new.items }
-    ensures pushed { OnOk result (entries_named entries.now found.new.items
-        ≡ entries_named entries.now found.old.items
-        ++ by_path (entries_in (segment_at entries.now ordered.now.segment) ordered.now.numbers)) }
+/// Stops at the first path that two of the files share.
+fn check_once(alloc: Global, entries: &Segments, files: &FilesByKind) -> Result<(), FinishFault>
+    requires { AreKeptByKind entries.now files.now }
+    ensures { (xs : List Entry) → IsPermutation xs (entries_by_kind entries.now files.now) →
+        MatchResult result (λ _. twice (by_path xs) ≡ []) (λ f. Stops f (twice (by_path xs))) }
 {
-    let segment = entries.segment(ordered.segment);
-    let numbers = ordered.numbers.as_slice();
-    'order: for place in ordered.order.as_slice() {
-        let number = numbers[*place as usize];
-        found.push(Named {
-            path: segment.path(number),
-            number: FileNumber {
-                segment: ordered.segment,
-                number,
-            },
-        })?;
-    }
-    Ok(())
+    let mut all = files.data_files.as_slice().to_vec(alloc)?;
+    all.extend_from_slice(&files.delete_files)?;
+    let sorted = sorted_by_path(alloc, entries, &all)?;
+    check_neighbours(alloc, entries, &sorted)
 }
 
-/// How many entries are kept of all rows.
-fn count(slots: &[Option<Taken>]) -> usize {
-    let mut count: usize = 0;
-    for slot in slots {
-        if let Some(Taken::Good(ordered)) = slot {
-            count = count.saturating_add(ordered.order.as_slice().len());
-        }
-    }
-    count
-}
-
-/// Puts what a row gave last.
-fn push_row<'a>(
-    found: &mut Vec<Named<'a>>,
-    entries: &'a Segments,
-    slot: &Option<Taken>,
-) -> Result<(), AllocError>
-    requires { IfSome slot.now (HasNumbers entries.now) }
-    ensures named { AreNamed entries.now found.old.items → AreNamed entries.now found.new.items }
-    ensures pushed { OnOk result (entries_named entries.now found.new.items
-        ≡ entries_named entries.now found.old.items
-        ++ by_path (entries_given (option_map (given entries.now) slot.now))) }
-{
-    match slot {
-        Some(Taken::Good(ordered)) => push_named(found, entries, ordered),
-        _ => Ok(()),
-    }
-}
-
-/// The kept entries, row by row, those of each row by path, and the rows by the first path of each: what is left is to
-/// merge them.
-fn gathered<'a>(
-    alloc: Global,
-    entries: &'a Segments,
-    slots: &[Option<Taken>],
-) -> Result<Vec<Named<'a>>, AllocError>
-    requires { HaveNumbers entries.now slots.now }
-    ensures named { IfOk result (λ found. AreNamed entries.now found.items) }
-    ensures all { IfOk result (λ found.
-        IsPermutation (kept_in (contents entries.now slots.now)) (entries_named entries.now found.items)) }
-{
-    let rows = rows_by_first_path(alloc, entries, slots)?;
-    let mut found = Vec::with_capacity(alloc, count(slots))?;
-    'rows: for row in rows.as_slice() {
-        push_row(&mut found, entries, &slots[*row as usize])?;
-    }
-    Ok(found)
-}
-
-/// Puts entries in the order of their paths.
-fn sort_by_path(named: &mut Vec<Named<'_>>) -> Result<(), AllocError>
-    ensures named { (kept : Segmented) → AreNamed kept named.old.items → AreNamed kept named.new.items }
-    ensures sorted { (kept : Segmented) → AreNamed kept named.old.items →
-        OnOk result (entries_named kept named.new.items ≡ by_path (entries_named kept named.old.items)) }
-{
-    named.sort_by(|a, b| a.path.cmp(b.path))?;
-    Ok(())
-}
-
-/// The files of entries, by what they hold.
-#[derive(Debug, Drop)]
-struct FilesByKind {
-    data_files: Vec<FileNumber>,
-    /// Where each stretch of data files that are alike ends.
-    ends: Vec<usize>,
-    delete_files: Vec<FileNumber>,
-}
-
-impl FilesByKind {
-    /// No files, with room for so many of each kind.
-    fn with_capacity(
-        alloc: Global,
-        data_files: usize,
-        delete_files: usize,
-    ) -> Result<FilesByKind, AllocError>
-        ensures { (kept : Segmented) → IfOk result (HasFilesOf kept []) }
-    {
-        Ok(FilesByKind {
-            data_files: Vec::with_capacity(alloc, data_files)?,
-            ends: Vec::new(alloc),
-            delete_files: Vec::with_capacity(alloc, delete_files)?,
-        })
-    }
-
-    /// Puts the file of an entry last, and those that follow and are like it. Says where these end.
-    fn push(
-        &mut self,
-        entries: &Segments,
-        named: &[Named<'_>],
-        first: usize,
-    ) -> Result<usize, AllocError>
-        requires named { AreNamed entries.now named.now }
-        requires place { first < length named.now }
-        ensures bounds { IfOk result (λ end. (first < end) × (end ≤ length named.now)) }
-        ensures pushed { HasFilesOf entries.now (take first (entries_named entries.now named.now)) self.old →
-            IfOk result (λ end. HasFilesOf entries.now (take end (entries_named entries.now named.now)) self.new) }
-    {
-        if entries.content(named[first].number) != FileContent::Data {
-            return push_alike(&mut self.delete_files, entries, named, first);
-        }
-        let end = push_alike(&mut self.data_files, entries, named, first)?;
-        self.ends.push(self.data_files.len())?;
-        Ok(end)
-    }
-}
-
-/// Puts the file of an entry last, and those that follow and are like it. Says where these end.
-fn push_alike(
-    files: &mut Vec<FileNumber>,
-    entries: &Segments,
-    named: &[Named<'_>],
-    first: usize,
-) -> Result<usize, AllocError>
-    requires named { AreNamed entries.now named.now }
-    requires place { first < length named.now }
-    ensures { IfOk result (HasPut entries.now named.now files.old.items files.new.items first) }
-{
-    let one = named[first].number;
-    files.push(one)?;
-    let mut end = first + 1;
-    'named: while end < named.len() && entries.are_alike(one, named[end].number) {
-        files.push(named[end].number)?;
-        end += 1;
-    }
-    Ok(end)
-}
-
-/// The files of entries, of which so many hold deletes.
-fn files_by_kind(
+/// Puts files in the order of their paths. Stops at the first path that two of them share.
+fn put_in_order(
     alloc: Global,
     entries: &Segments,
-    named: &[Named<'_>],
-    deletes: usize,
-) -> Result<FilesByKind, AllocError>
-    requires { AreNamed entries.now named.now }
-    ensures { IfOk result (HasFilesOf entries.now (entries_named entries.now named.now)) }
+    files: &mut FilesByKind,
+) -> Result<(), FinishFault>
+    requires { AreKeptByKind entries.now files.old }
+    ensures sorted { (xs : List Entry) → HasFilesOf entries.now xs files.old →
+        OnOk result (HasFilesOf entries.now (by_path xs) files.new) }
+    ensures once { (xs : List Entry) → HasFilesOf entries.now xs files.old →
+        MatchResult result (λ _. twice (by_path xs) ≡ []) (λ f. Stops f (twice (by_path xs))) }
 {
-    let many = named.len();
-    let mut files = FilesByKind::with_capacity(alloc, many.saturating_sub(deletes), deletes)?;
-    let mut first = 0;
-    'named: while first < many {
-        first = files.push(entries, named, first)?;
+    let rise = sort_data_files(alloc, entries, &mut files.data_files, &mut files.ends)?;
+    let deletes_rise = sort_by_path(alloc, entries, &mut files.delete_files)?;
+    if rise && deletes_rise && are_apart(entries, &files.data_files, &files.delete_files) {
+        return Ok(());
     }
-    Ok(files)
-}
-
-/// Those of the entries whose files hold deletes.
-fn delete_files(
-    alloc: Global,
-    entries: &Segments,
-    named: &[Named<'_>],
-) -> Result<Vec<FileNumber>, AllocError>
-    requires { AreNamed entries.now named.now }
-    ensures kept { IfOk result (λ found. AreKept entries.now found.items) }
-    ensures all { IfOk result (λ found. entries_at entries.now found.items
-        ≡ filter holds_deletes (entries_named entries.now named.now)) }
-{
-    let mut found = Vec::new(alloc);
-    'named: for d in named {
-        if entries.content(d.number) != FileContent::Data {
-            found.push(d.number)?;
-        }
-    }
-    Ok(found)
+    // As far as that tells, two share a path. All of them, sorted together, say which.
+    check_once(alloc, entries, files)
 }
 
 /// The order of files: read off the same ones by path where they are found among them, else they are sorted.
@@ -409,19 +248,13 @@ fn planned_by(
     alloc: Global,
     entries: &Segments,
     deletes: &IndexedDeletes,
-    named: Vec<Named<'_>>,
+    files: FilesByKind,
 ) -> Result<NumberedPlan, AllocError>
-    requires named { AreNamed entries.now named.items }
-    requires sorted { by_path (entries_named entries.now named.items) ≡ entries_named entries.now named.items }
-    requires once { twice (entries_named entries.now named.items) ≡ [] }
-    requires deletes { IsIndexOf entries.now (entries_named entries.now named.items) deletes.now }
+    requires { (xs : List Entry) × IsInOrder entries.now xs files × IsIndexOf entries.now xs deletes.now }
     ensures planned { IfOk result (IsPlanned entries.now) }
-    ensures lines { IfOk result (λ plan. lines_of entries.now plan
-        ≡ plan_over (entries_named entries.now named.entry.items) (entries_named entries.now named.entry.items)) }
+    ensures lines { (xs : List Entry) → HasFilesOf entries.now xs files →
+        IfOk result (λ plan. lines_of entries.now plan ≡ plan_over xs xs) }
 {
-    let files = files_by_kind(alloc, entries, &named, deletes.files.len())?;
-    // The lines need its room.
-    drop(named);
     let order = order_among(alloc, entries, &deletes.files, &files.delete_files)?;
     let places = lines(alloc, entries, &files, deletes, order.as_slice())?;
     Ok(NumberedPlan {
@@ -431,17 +264,17 @@ fn planned_by(
     })
 }
 
-/// The delete files among the entries, indexed.
+/// The delete files, indexed.
 fn indexed_anew(
     alloc: Global,
     entries: &Segments,
-    named: &[Named<'_>],
+    delete_files: &[FileNumber],
 ) -> Result<IndexedDeletes, AllocError>
-    requires { AreNamed entries.now named.now }
-    ensures { IfOk result (IsIndexOf entries.now (entries_named entries.now named.now)) }
+    requires { AreKept entries.now delete_files.now }
+    ensures { (xs : List Entry) → entries_at entries.now delete_files.now ≡ filter holds_deletes xs →
+        IfOk result (IsIndexOf entries.now xs) }
 {
-    let files = delete_files(alloc, entries, named)?;
-    IndexedDeletes::build(alloc, entries, files)
+    IndexedDeletes::build(alloc, entries, delete_files.to_vec(alloc)?)
 }
 
 /// A line for each data file. Where the index of the delete files was dropped, it is built anew.
@@ -449,22 +282,27 @@ fn planned(
     alloc: Global,
     entries: &Segments,
     deletes: &Option<IndexedDeletes>,
-    named: Vec<Named<'_>>,
+    files: FilesByKind,
 ) -> Result<NumberedPlan, AllocError>
-    requires named { AreNamed entries.now named.items }
-    requires sorted { by_path (entries_named entries.now named.items) ≡ entries_named entries.now named.items }
-    requires once { twice (entries_named entries.now named.items) ≡ [] }
-    requires deletes { IfSome deletes.now (IsIndexOf entries.now (entries_named entries.now named.items)) }
+    requires { (xs : List Entry) × IsInOrder entries.now xs files × IfSome deletes.now (IsIndexOf entries.now xs) }
     ensures planned { IfOk result (IsPlanned entries.now) }
-    ensures lines { IfOk result (λ plan. lines_of entries.now plan
-        ≡ plan_over (entries_named entries.now named.entry.items) (entries_named entries.now named.entry.items)) }
+    ensures lines { (xs : List Entry) → HasFilesOf entries.now xs files →
+        IfOk result (λ plan. lines_of entries.now plan ≡ plan_over xs xs) }
 {
     match deletes {
-        Some(deletes) => planned_by(alloc, entries, deletes, named),
+        Some(deletes) => planned_by(alloc, entries, deletes, files),
         None => {
-            let deletes = indexed_anew(alloc, entries, &named)?;
-            planned_by(alloc, entries, &deletes, named)
+            let deletes = indexed_anew(alloc, entries, &files.delete_files)?;
+            planned_by(alloc, entries, &deletes, files)
         }
+    }
+}
+
+/// How many of the files hold deletes, where these are indexed.
+fn count_of(deletes: &Option<IndexedDeletes>) -> usize {
+    match deletes {
+        Some(deletes) => deletes.files.len(),
+        None => 0,
     }
 }
 
@@ -484,8 +322,7 @@ pub fn plan_or_fault(
 {
     check_taken(alloc, rows, slots)?;
     check_good(alloc, rows, slots)?;
-    let mut named = gathered(alloc, entries, slots)?;
-    sort_by_path(&mut named)?;
-    check_once(alloc, entries, &named)?;
-    Ok(planned(alloc, entries, deletes, named)?)
+    let mut files = gathered(alloc, entries, slots, count_of(deletes))?;
+    put_in_order(alloc, entries, &mut files)?;
+    Ok(planned(alloc, entries, deletes, files)?)
 }

@@ -1,10 +1,13 @@
 //! The core of a scan: what partial states contain, and the plan that they finish with.
 #![tactic(auto)]
 
+mod apart;
+mod by_kind;
 mod deletes;
 mod fault;
 mod file_places;
 mod finish;
+mod in_order;
 mod indexed;
 mod keep;
 pub mod laws;

@@ -1,0 +1,118 @@
+-- Entries, and those of them that hold data and that hold deletes.
+use Rattle.std.proofs.Common.{◌≡◌, ◌<◌, ◌≤◌, ◌+◌, ◌∙◌, ◌++◌, ℕ, zero, suc, Bool, true, false, not, cond, List, [], ◌∷◌}
+use Rattle.std.proofs.Common.{refl, sym, ap, subst, arith, filter, length, ◌⊎◌, inl, inr}
+use Rattle.std.specs.List.Sorted.{IsPermutation}
+use Rattle.std.specs.Str.{bytes_eq}
+use Rattle.std.proofs.lemmas.List.Sorted.{IsPermutation-append, IsPermutation-cons, IsPermutation-refl, IsPermutation-trans}
+use Rattle.contract_words.proofs.Sorted.{filter-sorted}
+use Rattle.ice_manifest_reading.specs.declared.entry.Entry.{Entry}
+use Rattle.ice_value.specs.declared.file_content.FileContent.TheVariants.{Data}
+use Rattle.ice_state.specs.declared.by_kind.FilesByKind.{FilesByKind}
+use Rattle.ice_state.specs.Apart.{ShareNoPath}
+use Rattle.ice_state.specs.ByKind.{AreKeptByKind, entries_by_kind, HasFilesOf}
+use Rattle.ice_state.specs.Outcomes.{by_path, path_before, twice}
+use Rattle.ice_state.specs.Parts.{holds_deletes}
+use Rattle.ice_state.specs.Pruning.{holds}
+use Rattle.ice_state.specs.Segments.{Segmented, entries_at}
+use Rattle.ice_state.specs.Shares.{count_at}
+use Rattle.ice_state.specs.Stretches.{AreStretches}
+use Rattle.ice_state.proofs.PathsOnce.{by_path_moves}
+use Rattle.ice_state.proofs.Permuted.{fronts}
+use Rattle.ice_state.proofs.Rising.{few_if_once, once_if_few}
+use Rattle.ice_state.proofs.Sharing.{count-by_path, order}
+
+abbrev data_of : List Entry → List Entry
+data_of xs = filter (holds Data) xs
+
+abbrev deletes_of : List Entry → List Entry
+deletes_of xs = filter holds_deletes xs
+
+-- ---- in order by kind where they are in order
+
+pub filtered_by_path : (p : Entry → Bool) (xs : List Entry) → filter p (by_path xs) ≡ by_path (filter p xs)
+filtered_by_path p xs = filter-sorted path_before order p xs
+
+-- ---- the entries by kind are the entries
+
+pub parted : (xs : List Entry) → IsPermutation xs (data_of xs ++ deletes_of xs)
+parted [] = IsPermutation-refl []
+parted (x ∷ xs) =
+    let rest = IsPermutation-cons x xs (data_of xs ++ deletes_of xs) (parted xs) in
+    elim (holds Data x) as (λ b. IsPermutation (x ∷ xs)
+    (cond b (x ∷ data_of xs) (data_of xs) ++ cond (not b) (x ∷ deletes_of xs) (deletes_of xs))) [
+      | true ↦ rest
+      | false ↦ IsPermutation-trans (x ∷ xs) (x ∷ (data_of xs ++ deletes_of xs)) (data_of xs ++ (x ∷ deletes_of xs)) rest
+          (fronts (x ∷ []) (data_of xs) (deletes_of xs))
+    ]
+
+-- ---- no path stands twice where none does of a kind, and none is of both
+
+counted : (xs : List Entry) (p : List ℕ) → count_at xs p ≡ count_at (data_of xs) p + count_at (deletes_of xs) p
+counted [] p = refl
+counted (x ∷ xs) p =
+    let rest = counted xs p in
+    elim (holds Data x) as (λ b. count_at (x ∷ xs) p
+    ≡ count_at (cond b (x ∷ data_of xs) (data_of xs)) p + count_at (cond (not b) (x ∷ deletes_of xs) (deletes_of xs)) p) [
+      | true ↦ elim (bytes_eq x.file.path p) as (λ v. length
+          (cond v (x ∷ filter (λ (w : Entry). bytes_eq w.file.path p) xs) (filter (λ (w : Entry). bytes_eq w.file.path p) xs))
+          ≡ length (cond v (x ∷ filter (λ (w : Entry). bytes_eq w.file.path p) (data_of xs))
+          (filter (λ (w : Entry). bytes_eq w.file.path p) (data_of xs))) + count_at (deletes_of xs) p)
+          [ true ↦ omega (arith, rest) | false ↦ rest ]
+      | false ↦ elim (bytes_eq x.file.path p) as (λ v. length
+          (cond v (x ∷ filter (λ (w : Entry). bytes_eq w.file.path p) xs) (filter (λ (w : Entry). bytes_eq w.file.path p) xs))
+          ≡ count_at (data_of xs) p + length (cond v (x ∷ filter (λ (w : Entry). bytes_eq w.file.path p) (deletes_of xs))
+          (filter (λ (w : Entry). bytes_eq w.file.path p) (deletes_of xs))))
+          [ true ↦ omega (arith, rest) | false ↦ rest ]
+    ]
+
+pub once_by_kind : (xs data_files delete_files : List Entry) → data_files ≡ by_path (data_of xs)
+    → delete_files ≡ by_path (deletes_of xs) → twice data_files ≡ [] → twice delete_files ≡ []
+    → ShareNoPath data_files delete_files → twice (by_path xs) ≡ []
+once_by_kind xs data_files delete_files are are_deletes once once_deletes apart = once_if_few (by_path xs) (λ p.
+    let few = few_if_once (data_of xs) (subst (λ (ys : List Entry). twice ys ≡ []) are once) p in
+    let few_deletes = few_if_once (deletes_of xs) (subst (λ (ys : List Entry). twice ys ≡ []) are_deletes once_deletes) p in
+    let count : count_at data_files p ≡ count_at (data_of xs) p =
+    ap (λ (ys : List Entry). count_at ys p) are ∙ count-by_path (data_of xs) p in
+    let count_deletes : count_at delete_files p ≡ count_at (deletes_of xs) p =
+    ap (λ (ys : List Entry). count_at ys p) are_deletes ∙ count-by_path (deletes_of xs) p in
+    let all = counted xs p in
+    let sorted = count-by_path xs p in
+    elim (apart p) [
+      | inl none ↦ omega (arith, few, few_deletes, count, count_deletes, all, sorted, none)
+      | inr none ↦ omega (arith, few, few_deletes, count, count_deletes, all, sorted, none)
+    ])
+
+-- ---- files that were put in order
+
+module _ (kept : Segmented) (xs : List Entry) (files now : FilesByKind) (has : HasFilesOf kept xs files)
+    (are : entries_at kept now.data_files.items ≡ by_path (entries_at kept files.data_files.items))
+    (are_deletes : entries_at kept now.delete_files.items ≡ by_path (entries_at kept files.delete_files.items)) where
+  data_are : entries_at kept now.data_files.items ≡ by_path (data_of xs)
+  data_are = are ∙ ap by_path has.all
+
+  deletes_are : entries_at kept now.delete_files.items ≡ by_path (deletes_of xs)
+  deletes_are = are_deletes ∙ ap by_path has.all_deletes
+
+  pub put_in_order : AreKeptByKind kept now → AreStretches (entries_at kept now.data_files.items) 0 now.ends.items
+      → HasFilesOf kept (by_path xs) now
+  put_in_order all stretches = record {
+    numbers = all;
+    all = data_are ∙ sym (filtered_by_path (holds Data) xs);
+    all_deletes = deletes_are ∙ sym (filtered_by_path holds_deletes xs);
+    stretches = stretches;
+  }
+
+  pub none_twice : twice (entries_at kept now.data_files.items) ≡ [] → twice (entries_at kept now.delete_files.items) ≡ []
+      → ShareNoPath (entries_at kept now.data_files.items) (entries_at kept now.delete_files.items)
+      → twice (by_path xs) ≡ []
+  none_twice = once_by_kind xs (entries_at kept now.data_files.items) (entries_at kept now.delete_files.items) data_are
+      deletes_are
+
+  pub all_moved : IsPermutation xs (entries_by_kind kept now)
+  all_moved =
+      let P : List Entry → List Entry → Type 0 = λ us vs. IsPermutation xs (us ++ vs) in
+      subst (λ (us : List Entry). P us (entries_at kept now.delete_files.items)) (sym data_are)
+      (subst (λ (vs : List Entry). P (by_path (data_of xs)) vs) (sym deletes_are)
+      (IsPermutation-trans xs (data_of xs ++ deletes_of xs) (by_path (data_of xs) ++ by_path (deletes_of xs)) (parted xs)
+      (IsPermutation-append (data_of xs) (by_path (data_of xs)) (deletes_of xs) (by_path (deletes_of xs))
+      (by_path_moves (data_of xs)) (by_path_moves (deletes_of xs)))))

@@ -1,0 +1,31 @@
+-- The files of kept entries, by what they hold. No public contract cites these words.
+use Rattle.std.specs.Prelude.{◌≡◌, ◌++◌, List, [], filter}
+use Rattle.ice_manifest_reading.specs.declared.entry.Entry.{Entry}
+use Rattle.ice_value.specs.declared.file_content.FileContent.TheVariants.{Data}
+use Rattle.ice_state.specs.declared.by_kind.FilesByKind.{FilesByKind}
+use Rattle.ice_state.specs.Outcomes.{by_path, twice}
+use Rattle.ice_state.specs.Parts.{holds_deletes}
+use Rattle.ice_state.specs.Pruning.{holds}
+use Rattle.ice_state.specs.Segments.{Segmented, AreKept, entries_at}
+use Rattle.ice_state.specs.Stretches.{AreStretches}
+
+-- each number stands for an entry
+abbrev pub AreKeptByKind : Segmented → FilesByKind → Type 0
+AreKeptByKind kept files = AreKept kept files.data_files.items × AreKept kept files.delete_files.items
+
+-- the entries of the data files, and behind them those of the delete files
+abbrev pub entries_by_kind : Segmented → FilesByKind → List Entry
+entries_by_kind kept files = entries_at kept files.data_files.items ++ entries_at kept files.delete_files.items
+
+-- these are the files of the entries, as they stand among these
+pub record HasFilesOf (kept : Segmented) (entries : List Entry) (files : FilesByKind) : Type 0 where
+  pub numbers : AreKeptByKind kept files
+  pub all : entries_at kept files.data_files.items ≡ filter (holds Data) entries
+  pub all_deletes : entries_at kept files.delete_files.items ≡ filter holds_deletes entries
+  pub stretches : AreStretches (entries_at kept files.data_files.items) 0 files.ends.items
+
+-- these are the files of entries in the order of their paths, of which none stands twice
+pub record IsInOrder (kept : Segmented) (entries : List Entry) (files : FilesByKind) : Type 0 where
+  pub has : HasFilesOf kept entries files
+  pub sorted : by_path entries ≡ entries
+  pub once : twice entries ≡ []
