@@ -1,5 +1,5 @@
 -- Paths that stand in gaps of entries in order are none of theirs.
-use Rattle.std.proofs.Common.{◌≡◌, ◌<◌, ◌≤◌, ℕ, zero, suc, List, [], ◌∷◌, refl, sym, ap, ◌∙◌, Bool, true, false, length}
+use Rattle.std.proofs.Common.{◌≡◌, ◌<◌, ◌≤◌, ℕ, zero, suc, List, [], ◌∷◌, refl, sym, ap, Bool, true, false, length}
 use Rattle.std.proofs.Common.{arith, cond, filter, get_or, subst, is_lt, ◌⊎◌, inl, inr, ◌+◌, ◌-◌}
 use Rattle.std.specs.List.{AllByRecursion}
 use Rattle.std.specs.Cmp.{IsStrictWeakOrder}
@@ -15,7 +15,7 @@ use Rattle.ice_entries.specs.Kept.{no_entry}
 use Rattle.ice_state.specs.Outcomes.{by_path, path_before}
 use Rattle.ice_state.specs.Shares.{count_at}
 use Rattle.ice_state.specs.Apart.{IsBehind, IsGap, IsInFront, IsRun, path_at, ShareNoPath}
-use Rattle.ice_state.proofs.Sharing.{count_more, order}
+use Rattle.ice_state.proofs.Sharing.{order}
 use Rattle.ice_state.proofs.Rising.{cases, other_path}
 
 abbrev before : List ℕ → List ℕ → Bool

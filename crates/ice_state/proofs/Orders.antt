@@ -1,10 +1,9 @@
 -- The entries of manifests in the order of their paths.
 use Rattle.std.proofs.Common.{◌≡◌, ◌<◌, ℕ, zero, suc, List, [], ◌∷◌, ◌++◌, refl, sym, ap, ◌∙◌, Bool, map, filter}
-use Rattle.std.proofs.Common.{length, get_or, arith, take, append_assoc, add-one, subst, ◌+◌}
+use Rattle.std.proofs.Common.{length, get_or, arith, take, append_assoc, add-one, ◌+◌}
 use Rattle.std.specs.List.{flat_map, range_with_len}
 use Rattle.std.specs.List.Sorted.{ties, IsPermutation}
 use Rattle.std.specs.Cmp.{IsStrictWeakOrder}
-use Rattle.std.proofs.lemmas.List.{map-append}
 use Rattle.std.proofs.lemmas.List.Elements.{filter-append}
 use Rattle.contract_words.specs.Sorting.{sorted}
 use Rattle.contract_words.proofs.Sorted.{sorted_rises, sorted_ties, unique}

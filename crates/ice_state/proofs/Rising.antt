@@ -1,6 +1,6 @@
 -- Entries whose paths rise stand in order, and no path twice.
 use Rattle.std.proofs.Common.{◌≡◌, ◌<◌, ◌≤◌, ℕ, zero, suc, List, [], ◌∷◌, refl, sym, ap, ◌∙◌, Bool, true, false, length}
-use Rattle.std.proofs.Common.{arith, cond, get_or, subst, Ordering, is_lt, ◌⊎◌, inl, inr, ◌+◌, ◌-◌}
+use Rattle.std.proofs.Common.{arith, cond, subst, Ordering, is_lt, ◌⊎◌, inl, inr, ◌+◌, ◌-◌}
 use Rattle.std.specs.Cmp.Lexicographic.{slice_cmp}
 use Rattle.std.specs.Ordering.{nat_cmp, is_eq}
 use Rattle.std.specs.declared.cmp.Ordering.TheVariants.{Less, Equal, Greater}
@@ -9,8 +9,6 @@ use Rattle.std.proofs.lemmas.Map.Text.{is_eq-slice_cmp}
 use Rattle.std.proofs.lemmas.Slice.Eq.{bytes_eq-Decides}
 use Rattle.contract_words.proofs.Sorted.{sorted_rises}
 use Rattle.ice_manifest_reading.specs.declared.entry.Entry.{Entry}
-use Rattle.ice_entries.specs.Kept.{no_entry}
-use Rattle.ice_state.specs.declared.fault.FinishFault.{FinishFault}
 use Rattle.ice_state.specs.declared.fault.FinishFault.TheVariants.{PathTwice}
 use Rattle.ice_state.specs.Outcomes.{by_path, path_before, twice}
 use Rattle.ice_state.specs.Shares.{count_at}

@@ -1,4 +1,4 @@
-use Rattle.std.proofs.Common.{◌≡◌, ◌<◌, ◌∙◌, List, ℕ, ap, arith, length, subst}
+use Rattle.std.proofs.Common.{◌∙◌, List, ℕ, ap, arith, subst}
 use Rattle.std.proofs.lemmas.List.{length-map}
 use Rattle.ice_manifest_reading.specs.declared.entry.Entry.{Entry}
 use Rattle.ice_state.specs.Apart.{IsGap, path_at}

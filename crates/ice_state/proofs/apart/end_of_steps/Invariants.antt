@@ -1,4 +1,4 @@
-use Rattle.std.proofs.Common.{◌≤◌, ◌-◌, length}
+use Rattle.std.proofs.Common.{◌≤◌, ◌-◌}
 use Rattle.ice_state.proofs.apart.end_of_steps.Given as goal
 
 abbrev pub invariant-steps : goal.invariant-steps

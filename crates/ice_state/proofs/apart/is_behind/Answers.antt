@@ -1,10 +1,9 @@
 use Rattle.std.proofs.Common.{◌≡◌, ◌-◌, ◌∙◌, List, ℕ, ap, arith, is_lt, subst, sym, true}
 use Rattle.std.specs.Cmp.Lexicographic.{slice_cmp}
 use Rattle.std.specs.Ordering.{nat_cmp}
-use Rattle.std.proofs.lemmas.List.{length-map}
 use Rattle.ice_manifest_reading.specs.declared.entry.Entry.{Entry}
 use Rattle.ice_state.specs.Apart.{path_at}
-use Rattle.ice_state.specs.Segments.{entry_at, entries_at}
+use Rattle.ice_state.specs.Segments.{entries_at}
 use Rattle.ice_state.proofs.Stretches.{file_entry}
 use Rattle.ice_state.proofs.apart.is_behind.Goals as goal
 

@@ -1,4 +1,4 @@
-use Rattle.std.proofs.Common.{◌≡◌, ◌-◌, ◌∙◌, List, ℕ, ap, arith, is_lt, subst, sym, true}
+use Rattle.std.proofs.Common.{◌≡◌, ◌∙◌, List, ℕ, ap, arith, is_lt, subst, sym, true}
 use Rattle.std.specs.Cmp.Lexicographic.{slice_cmp}
 use Rattle.std.specs.Ordering.{nat_cmp}
 use Rattle.std.proofs.lemmas.List.{length-map}

@@ -1,6 +1,6 @@
-use Rattle.std.proofs.Common.{◌≡◌, ◌<◌, ◌∙◌, ◌++◌, ◌∷◌, [], List, ap, arith, get_or, length, refl, subst, sym, take}
+use Rattle.std.proofs.Common.{◌≡◌, ◌<◌, ◌∙◌, ◌++◌, ◌∷◌, [], List, ap, arith, get_or, length, refl, subst, sym}
 use Rattle.std.proofs.lemmas.List.{map-append, take_all}
-use Rattle.ice_entries.specs.Kept.{Kept, IsKept as IsKeptIn, entry_at as entry_in, entries_at as kept_at}
+use Rattle.ice_entries.specs.Kept.{entries_at as kept_at}
 use Rattle.ice_entries.specs.declared.entries.EntryNumber.{EntryNumber}
 use Rattle.ice_entries.specs.declared.entries.EntryNumber.TheVariants.{Record}
 use Rattle.ice_manifest_reading.specs.declared.entry.Entry.{Entry}

@@ -1,4 +1,4 @@
-use Rattle.std.proofs.Common.{◌≡◌, ◌<◌, ◌∙◌, ◌++◌, List, ℕ, ap, arith, get_or, length, option_map, refl, subst, sym, take}
+use Rattle.std.proofs.Common.{◌<◌, ◌++◌, List, ℕ, ap, arith, get_or, length, option_map, refl, subst, sym, take}
 use Rattle.std.specs.List.{flat_map, range_with_len}
 use Rattle.std.specs.List.Sorted.{IsPermutation}
 use Rattle.std.proofs.lemmas.List.{take_all}

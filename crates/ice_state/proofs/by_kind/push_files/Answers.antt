@@ -1,4 +1,4 @@
-use Rattle.std.proofs.Common.{◌++◌, List, ap, append-nil, arith, length, subst, sym, take}
+use Rattle.std.proofs.Common.{◌++◌, List, append-nil, arith, subst, sym}
 use Rattle.std.proofs.lemmas.List.{length-map, take_all}
 use Rattle.ice_manifest_reading.specs.declared.entry.Entry.{Entry}
 use Rattle.ice_state.specs.ByKind.{HasFilesOf}

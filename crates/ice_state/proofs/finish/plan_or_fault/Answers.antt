@@ -1,9 +1,8 @@
-use Rattle.std.proofs.Common.{◌≡◌, ◌∙◌, [], ap, refl, subst, sym, List}
+use Rattle.std.proofs.Common.{◌≡◌, ◌∙◌, [], refl, subst, sym, List}
 use Rattle.std.specs.List.Sorted.{IsPermutation}
 use Rattle.std.proofs.lemmas.Result.{err_from_is_err_and}
 use Rattle.ice_manifest_reading.specs.declared.entry.Entry.{Entry}
 use Rattle.ice_state.specs.declared.fault.FinishFault.{FinishFault}
-use Rattle.ice_state.specs.ByKind.{HasFilesOf}
 use Rattle.ice_state.specs.Lines.{lines_of}
 use Rattle.ice_state.specs.Outcomes.{by_path, kept_in, twice}
 use Rattle.ice_state.specs.Parts.{Stops}
