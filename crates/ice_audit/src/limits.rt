@@ -1,14 +1,14 @@
 //! What the summaries of a manifest's row let the partition values of its entries be.
 
 ghost use Rattle.std.specs.Prelude.{◌≡◌, IfOk};
-ghost use Rattle.std.specs.Option.{option_and_then};
+ghost use Rattle.std.specs.Option.{option_and_then, option_copied};
 ghost use Rattle.ice_project.specs.Fields.{field_of};
 ghost use Rattle.ice_project.specs.Limits.{limit};
 ghost use Rattle.ice_project.specs.Summaries.{type_of_values};
 ghost use Rattle.ice_value.specs.Cells.{is_at_most};
 ghost use Rattle.ice_audit.specs.Coverage.{allows, is_above, is_below, limits_in, limits_of, row_limits};
 
-use contract_words::{Items, Text};
+use contract_words::Text;
 use ice_manifest_reading::Row;
 use ice_meta::{PartitionField, Spec};
 use ice_project::transform_named;
@@ -82,13 +82,13 @@ fn type_of_values(alloc: Global, field: &PartitionField) -> Result<Option<Column
 fn bound_of(
     alloc: Global,
     values: &Option<ColumnType>,
-    bytes: &Option<Items<u8>>,
+    bytes: Option<&[u8]>,
 ) -> Result<Option<Cell>, AllocError>
-    ensures { IfOk result (λ bound. bound ≡ option_and_then (λ t. limit t bytes.now) values.now) }
+    ensures { IfOk result (λ bound. bound ≡ option_and_then (λ t. limit t (option_copied bytes.entry)) values.now) }
 {
     match (values, bytes) {
         (Some(ColumnType::Uuid), _) => Ok(None),
-        (Some(column_type), Some(bytes)) => read_bound(alloc, column_type, bytes.as_slice()),
+        (Some(column_type), Some(bytes)) => read_bound(alloc, column_type, bytes),
         _ => Ok(None),
     }
 }
@@ -103,9 +103,9 @@ fn limits_of(
     let values = type_of_values(alloc, field)?;
     Ok(FieldLimits {
         name: field.name.copy(alloc)?,
-        null: summary.contains_null,
-        low: bound_of(alloc, &values, &summary.lower)?,
-        high: bound_of(alloc, &values, &summary.upper)?,
+        null: summary.contains_null(),
+        low: bound_of(alloc, &values, summary.lower())?,
+        high: bound_of(alloc, &values, summary.upper())?,
     })
 }
 

@@ -136,12 +136,16 @@ fn summary_of(
 ) -> Result<Summary, AllocError>
     ensures { IfOk result (λ summary. summary ≡ summary_with column_type.now (column_of place (lent files.now))) }
 {
-    Ok(Summary {
-        contains_null: has_null(files, place),
-        contains_nan: None,
-        lower: bound_of(alloc, column_type, least(files, place))?,
-        upper: bound_of(alloc, column_type, greatest(files, place))?,
-    })
+    let contains_null = has_null(files, place);
+    let lower = bound_of(alloc, column_type, least(files, place))?;
+    let upper = bound_of(alloc, column_type, greatest(files, place))?;
+    Summary::new(
+        alloc,
+        contains_null,
+        None,
+        lower.as_ref().map(Items::as_slice),
+        upper.as_ref().map(Items::as_slice),
+    )
 }
 
 /// Whether a value at the place is not null.

@@ -2,6 +2,7 @@
 
 ghost use Rattle.std.specs.Prelude.{◌≡◌, ◌<◌, ◌^◌, ◌++◌, pos, length, IfOk, IfSome};
 ghost use Rattle.std.specs.List.{AllByRecursion};
+ghost use Rattle.std.specs.Option.{option_copied};
 ghost use Rattle.avro_file.specs.Value.{small, whole, truth, text as text_value, run, chosen, fields, values_of};
 ghost use Rattle.avro_file.specs.View.{view, views};
 ghost use Rattle.ice_meta.specs.Committing.{IsLong};
@@ -70,12 +71,12 @@ fn optional_truth<'a>(alloc: Global, flag: Option<bool>) -> Result<Datum<'a>, Al
     }
 }
 
-fn optional_bytes<'a>(alloc: Global, bytes: &'a Option<Items<u8>>) -> Result<Datum<'a>, AllocError>
-    ensures value { IfOk result (λ datum. view datum ≡ if_some run bytes.now) }
-    ensures fits { IfOk result (λ _. IfSome bytes.now IsShort) }
+fn optional_bytes<'a>(alloc: Global, bytes: Option<&'a [u8]>) -> Result<Datum<'a>, AllocError>
+    ensures value { IfOk result (λ datum. view datum ≡ if_some run (option_copied bytes.entry)) }
+    ensures fits { IfOk result (λ _. IfSome (option_copied bytes.entry) IsShort) }
 {
     match bytes {
-        Some(bytes) => some_value(alloc, Datum::Bytes(bytes.as_slice())),
+        Some(bytes) => some_value(alloc, Datum::Bytes(bytes)),
         None => Ok(no_value()),
     }
 }
@@ -93,10 +94,10 @@ fn summary_datum<'a>(alloc: Global, summary: &'a Summary) -> Result<Datum<'a>, A
     ensures fits { IfOk result (λ _. SummaryFits summary.now) }
 {
     Ok(record(vec![in alloc;
-        Datum::Boolean(summary.contains_null),
-        optional_truth(alloc, summary.contains_nan)?,
-        optional_bytes(alloc, &summary.lower)?,
-        optional_bytes(alloc, &summary.upper)?,
+        Datum::Boolean(summary.contains_null()),
+        optional_truth(alloc, summary.contains_nan())?,
+        optional_bytes(alloc, summary.lower())?,
+        optional_bytes(alloc, summary.upper())?,
     ]?))
 }
 

@@ -1,6 +1,6 @@
 //! The items of a list, one after the other where they lie in the file.
 
-ghost use Rattle.std.specs.Prelude.{◌≡◌, ◌≤◌, ◌<◌, ℤ, List, Option, Some, IfSome};
+ghost use Rattle.std.specs.Prelude.{◌≡◌, ◌≤◌, ◌<◌, ℤ, List, length, Option, Some, IfSome};
 ghost use Rattle.avro_schema.specs.declared.schema.ArrayKind.{ArrayKind};
 ghost use Rattle.avro_schema.specs.Tree.{array};
 ghost use Rattle.avro_schema.specs.View.{tree};
@@ -73,6 +73,17 @@ impl<'s, 'a> ItemsAhead<'s, 'a> {
             }),
             // It was checked, so that reading does not fail.
             _ => None,
+        }
+    }
+
+    /// For how many items room may be made before they are read: for all of a list in one block. A list in several
+    /// blocks may have more, and one of items without a byte too.
+    pub fn room(&self) -> usize
+        ensures { result ≤ length self.now.place.bytes.now }
+    {
+        match self.at_item() {
+            Some(at) => self.place.bytes.len().min(at.in_block as usize),
+            None => 0,
         }
     }
 

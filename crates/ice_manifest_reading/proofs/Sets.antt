@@ -2,8 +2,7 @@
 use Rattle.std.proofs.Common.{◌≡◌, ◌≢◌, ◌⊎◌, ◌↔◌, inl, inr, ℕ, ℤ, Bool, true, false, cond, ◌&&◌, ◌==◌, nat_le, List, []}
 use Rattle.std.proofs.Common.{◌∷◌, length, Option, Some, None, Ok, Err, refl, sym, ap, subst, ◌∙◌, arith, eqb-true}
 use Rattle.std.proofs.Common.{eq-eqb}
-use Rattle.std.specs.Cmp.{booleans_Decides, IsEquivalence, decided}
-use Rattle.std.proofs.Math.Bool.{beq}
+use Rattle.std.specs.Cmp.{IsEquivalence, decided}
 use Rattle.std.specs.Bool.{Decides}
 use Rattle.std.specs.Option.{option_eq}
 use Rattle.std.specs.Ordering.{int_eq, nat_cmp, is_lt}
@@ -17,11 +16,13 @@ use Rattle.std.proofs.lemmas.Slice.Eq.{slice_eq-Decides, bytes_eq-Decides}
 use Rattle.contract_words.specs.Sorting.{put, sorted}
 use Rattle.ice_manifest_fields.specs.declared.fault.ListFault.TheVariants.{ManifestTwice, TooManyRows}
 use Rattle.ice_value.specs.declared.file_bounds.Summary.{Summary}
+use Rattle.ice_value.specs.Summaries.{same_summary}
+use Rattle.ice_value.specs.Equality.{summary_decides}
 use Rattle.ice_manifest_reading.specs.declared.counts.Counts.{Counts}
 use Rattle.ice_manifest_reading.specs.declared.row.Row.{Row}
 use Rattle.ice_manifest_reading.specs.declared.row.ManifestContent.{ManifestContent}
 use Rattle.ice_manifest_reading.specs.declared.row.ManifestContent.TheVariants.{Data, Deletes}
-use Rattle.ice_manifest_reading.specs.Lists.{path_before, same_content, same_counts, same_summary, same_row}
+use Rattle.ice_manifest_reading.specs.Lists.{path_before, same_content, same_counts, same_row}
 use Rattle.ice_manifest_reading.specs.Lists.{twice_after, path_twice, unless_twice, in_order}
 use Rattle.ice_manifest_reading.specs.Laws.{GivesTheRows, HasTwo, RefusesTwo, RefusesTheLeast}
 use Rattle.ice_manifest_reading.proofs.Rising.{order, given, less_from, in_order_rises}
@@ -115,18 +116,6 @@ numbers None (Some y) = (λ h. absurd cc, λ h. absurd cc)
 numbers (Some x) None = (λ h. absurd cc, λ h. absurd cc)
 numbers (Some x) (Some y) = Decides-like _ (λ h. ap Some h) (λ h. cc) (Decides-int_eq x y)
 
-truths : (a b : Option Bool) → Decides (option_eq beq a b) (a ≡ b)
-truths None None = (λ h. refl, λ h. refl)
-truths None (Some y) = (λ h. absurd cc, λ h. absurd cc)
-truths (Some x) None = (λ h. absurd cc, λ h. absurd cc)
-truths (Some x) (Some y) = Decides-like _ (λ h. ap Some h) (λ h. cc) (booleans_Decides x y)
-
-texts : (a b : Option (List ℕ)) → Decides (option_eq bytes_eq a b) (a ≡ b)
-texts None None = (λ h. refl, λ h. refl)
-texts None (Some y) = (λ h. absurd cc, λ h. absurd cc)
-texts (Some x) None = (λ h. absurd cc, λ h. absurd cc)
-texts (Some x) (Some y) = Decides-like _ (λ h. ap Some h) (λ h. cc) (bytes_eq-Decides x y)
-
 counts_made : Option ℤ → Option ℤ → Option ℤ → Option ℤ → Option ℤ → Option ℤ → Counts
 counts_made a b c d e f = record {
   added_files = a;
@@ -166,45 +155,12 @@ counts_self a = rw (
   (numbers a.existing_rows a.existing_rows).1 refl,
 ) ((numbers a.deleted_rows a.deleted_rows).1 refl)
 
-summary_made : Bool → Option Bool → Option (List ℕ) → Option (List ℕ) → Summary
-summary_made a b c d = record { contains_null = a; contains_nan = b; lower = c; upper = d }
-
-summary_is : (a : Summary) → a ≡ summary_made a.contains_null a.contains_nan a.lower a.upper
-unfolding summary_made
-summary_is a = refl
-
-summary_same : (a b : Summary) → same_summary a b ≡ true → a ≡ b
-summary_same a b h =
-    let p = both (beq a.contains_null b.contains_null) _ h in
-    let q = both (option_eq beq a.contains_nan b.contains_nan) _ p.1 in
-    let r = both (option_eq bytes_eq a.lower b.lower) _ q.1 in
-    let one : a.contains_null ≡ b.contains_null = (booleans_Decides a.contains_null b.contains_null).0 p.0 in
-    let two : a.contains_nan ≡ b.contains_nan = (truths a.contains_nan b.contains_nan).0 q.0 in
-    let three : a.lower ≡ b.lower = (texts a.lower b.lower).0 r.0 in
-    let four : a.upper ≡ b.upper = (texts a.upper b.upper).0 r.1 in
-    summary_is a ∙ rw (one, two, three, four) refl ∙ sym (summary_is b)
-
-summary_self : (a : Summary) → same_summary a a ≡ true
-summary_self a = rw (
-  (booleans_Decides a.contains_null a.contains_null).1 refl,
-  (truths a.contains_nan a.contains_nan).1
-      refl,
-  (texts a.lower a.lower).1 refl,
-) ((texts a.upper a.upper).1 refl)
-
-summaries : (a b : Summary) → Decides (same_summary a b) (a ≡ b)
-summaries a b = (
-  summary_same a b,
-  λ e. let P : Summary → Type 0 = λ v. same_summary a v ≡ true in
-      subst P e (summary_self a),
-)
-
 partitions : (a b : Option (List Summary)) → Decides (option_eq (pointwise same_summary) a b) (a ≡ b)
 partitions None None = (λ h. refl, λ h. refl)
 partitions None (Some y) = (λ h. absurd cc, λ h. absurd cc)
 partitions (Some x) None = (λ h. absurd cc, λ h. absurd cc)
-partitions (Some x) (Some y) = Decides-like _ (λ h. ap Some h) (λ h. cc) (slice_eq-Decides summaries x y
-    (pointwise same_summary x y) refl)
+partitions (Some x) (Some y) = Decides-like _ (λ h. ap Some h) (λ h. cc) (slice_eq-Decides summary_decides
+    x y (pointwise same_summary x y) refl)
 
 -- ---- rows
 

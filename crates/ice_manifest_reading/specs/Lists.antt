@@ -2,7 +2,6 @@
 use Rattle.std.specs.Prelude.{ℕ, ℤ, pos, List, [], ◌∷◌, length, Bool, true, false, ◌&&◌, Option, Some, None, Result, Ok}
 use Rattle.std.specs.Prelude.{Err, nat_le, ◌==◌, if◌then◌else◌}
 use Rattle.std.specs.declared.cmp.Ordering.{Ordering}
-use Rattle.std.proofs.Math.Bool.{beq}
 use Rattle.std.specs.Ordering.{int_eq, nat_cmp, is_lt}
 use Rattle.std.specs.Option.{option_eq}
 use Rattle.std.specs.Cmp.Lexicographic.{slice_cmp, pointwise}
@@ -16,6 +15,7 @@ use Rattle.avro_file.specs.Ahead.{Ahead, running, refusing}
 use Rattle.avro_file.specs.Files.{opened_at}
 use Rattle.avro_file.specs.Picking.{Typed, pick}
 use Rattle.ice_value.specs.declared.file_bounds.Summary.{Summary}
+use Rattle.ice_value.specs.Summaries.{same_summary}
 use Rattle.ice_manifest_fields.specs.declared.fault.FieldFault.{FieldFault}
 use Rattle.ice_manifest_fields.specs.declared.fault.FieldFault.TheVariants.{BadContent}
 use Rattle.ice_manifest_fields.specs.declared.fault.ListFault.{ListFault}
@@ -128,11 +128,6 @@ same_counts a b =
     option_eq int_eq a.added_files b.added_files && (option_eq int_eq a.existing_files b.existing_files
     && (option_eq int_eq a.deleted_files b.deleted_files && (option_eq int_eq a.added_rows b.added_rows
     && (option_eq int_eq a.existing_rows b.existing_rows && option_eq int_eq a.deleted_rows b.deleted_rows))))
-
-abbrev pub same_summary : Summary → Summary → Bool
-same_summary a b =
-    beq a.contains_null b.contains_null && (option_eq beq a.contains_nan b.contains_nan
-    && (option_eq bytes_eq a.lower b.lower && option_eq bytes_eq a.upper b.upper))
 
 -- rows that agree in every field
 unfoldable pub same_row : Row → Row → Bool

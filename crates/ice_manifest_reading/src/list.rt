@@ -93,27 +93,12 @@ fn truth_asked(fields: &[Field], bytes: &[u8], id: i32) -> Result<bool, FieldFau
     }
 }
 
-/// A copy of bytes, where there are any.
-fn copied(alloc: Global, lent: Option<&[u8]>) -> Result<Option<Items<u8>>, AllocError>
-    ensures { IfOk result (λ copy. copy ≡ option_copied lent.entry) }
-{
-    match lent {
-        Some(bytes) => Ok(Some(Items::from_vec(bytes.to_vec(alloc)?))),
-        None => Ok(None),
-    }
-}
-
-/// A copy of the bytes at a field of a record; none where they are absent or null.
-fn binary_in(
-    alloc: Global,
-    fields: &[Field],
-    bytes: &[u8],
-    id: i32,
-) -> Result<Option<Items<u8>>, AllocError>
+/// The bytes at a field of a record; none where they are absent or null.
+fn binary_in<'a>(fields: &[Field], bytes: &'a [u8], id: i32) -> Option<&'a [u8]>
     ensures { (v : Value) → RecordStands fields.entry bytes.entry v →
-        IfOk result (λ copy. copy ≡ binary_if_there id (structure (fields_seen fields.now), v)) }
+        option_copied result ≡ binary_if_there id (structure (fields_seen fields.now), v) }
 {
-    copied(alloc, bytes_there(field_of(fields, bytes, id)))
+    bytes_there(field_of(fields, bytes, id))
 }
 
 /// The summary that a record's fields say.
@@ -121,12 +106,11 @@ fn summary_in(alloc: Global, fields: &[Field], bytes: &[u8]) -> Result<Summary, 
     ensures { (v : Value) → RecordStands fields.entry bytes.entry v → Gives ListFault.Memory (λ x. x) result
         (told in_list (summary_said (structure (fields_seen fields.now), v))) }
 {
-    Ok(Summary {
-        contains_null: truth_asked(fields, bytes, 509)?,
-        contains_nan: truth_in(fields, bytes, 518),
-        lower: binary_in(alloc, fields, bytes, 510)?,
-        upper: binary_in(alloc, fields, bytes, 511)?,
-    })
+    let contains_null = truth_asked(fields, bytes, 509)?;
+    let contains_nan = truth_in(fields, bytes, 518);
+    let lower = binary_in(fields, bytes, 510);
+    let upper = binary_in(fields, bytes, 511);
+    Ok(Summary::new(alloc, contains_null, contains_nan, lower, upper)?)
 }
 
 /// The summary that an item of a list says.
@@ -144,7 +128,7 @@ fn summaries_of(alloc: Global, mut items: ItemsAhead) -> Result<Items<Summary>, 
     ensures { (vs : List Value) → AreAhead items.entry vs → Gives ListFault.Memory (λ x. x) result
         (told in_list (each summary_of_item (items_as (tree items.entry.schema.now) (values_of vs)))) }
 {
-    let mut summaries = Items::new(alloc);
+    let mut summaries = Items::with_capacity(alloc, items.room())?;
     'items: while let Some(item) = items.next() {
         summaries.push(summary_of(alloc, &item)?)?;
     }

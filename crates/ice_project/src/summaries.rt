@@ -1,7 +1,6 @@
 //! Manifests that may have a matching tuple.
 
 ghost use Rattle.std.specs.Prelude.{◌≡◌, true, List};
-ghost use Rattle.std.specs.Option.{option_copied};
 ghost use Rattle.ice_filter.specs.declared.bound.BoundLeaf.{BoundLeaf};
 ghost use Rattle.ice_filter.specs.declared.parts.Part.{Part};
 ghost use Rattle.ice_meta.specs.declared.spec.Spec.{Spec};
@@ -19,28 +18,18 @@ use contract_words::Items;
 use ice_filter::{LeafTest, Test};
 use ice_value::Summary;
 
-/// The bytes of a bound.
-fn bytes_of(bound: &Option<Items<u8>>) -> Option<&[u8]>
-    ensures { option_copied result ≡ bound.now }
-{
-    match bound {
-        Some(bytes) => Some(bytes.as_slice()),
-        None => None,
-    }
-}
-
 impl FieldTest {
     /// Whether the summary allows a value that meets the test.
     fn is_allowed_by(&self, summary: &Summary) -> bool
         ensures { result ≡ summary_allows self.now summary.now }
     {
         if matches!(self.test, Test::IsNull) {
-            summary.contains_null
+            summary.contains_null()
         } else {
             let limits = Limits {
                 column_type: self.value_type,
-                low: bytes_of(&summary.lower),
-                high: bytes_of(&summary.upper),
+                low: summary.lower(),
+                high: summary.upper(),
             };
             limits.may_meet(&self.test)
         }

@@ -1,6 +1,9 @@
--- The tests of cells and of tuples say whether they are one, and their order is total.
+-- The tests of cells, of tuples and of summaries say whether they are one, and the order of cells and tuples is total.
 use Rattle.std.proofs.Common.{◌≡◌, ℕ, ◌<◌, ◌<ℤ◌, ap, rules, true, false, List, [], ◌∷◌, ℤ, pos, refl, sym, subst}
-use Rattle.std.proofs.Common.{◌∙◌}
+use Rattle.std.proofs.Common.{◌∙◌, ◌&&◌, Bool, Option, None, Some}
+use Rattle.std.proofs.Math.Bool.{beq}
+use Rattle.std.specs.Option.{option_eq}
+use Rattle.std.specs.Str.{bytes_eq}
 use Rattle.std.specs.Bool.{Decides}
 use Rattle.std.specs.declared.cmp.Ordering.{Ordering}
 use Rattle.std.specs.declared.cmp.Ordering.TheVariants.{Less, Equal, Greater}
@@ -16,6 +19,7 @@ use Rattle.std.proofs.lemmas.Bool.Decides.{Decides-int_eq, Decides-like}
 use Rattle.ice_value.specs.declared.cell.Cell.{Cell}
 use Rattle.ice_value.specs.declared.cell.Cell.TheVariants as cells
 use Rattle.ice_value.specs.Cells.{same_cell, same_tuple, kind_of, cell_cmp, tuple_cmp}
+use Rattle.ice_value.specs.Summaries.{FieldSummary, same_summary}
 
 -- the test of cells says whether they are one
 pub cell_decides : (a b : Cell) → Decides (same_cell a b) (a ≡ b)
@@ -165,3 +169,57 @@ tuple_cmp_equal a b = (
   λ e. let P : List Cell → Type 0 = λ v. tuple_cmp a v ≡ Equal in
       subst P e (tied_itself tuple_cmp_total a),
 )
+
+-- ---- summaries
+
+truths_decide : (a b : Option Bool) → Decides (option_eq beq a b) (a ≡ b)
+truths_decide None None = (λ h. refl, λ h. refl)
+truths_decide None (Some y) = (λ h. absurd cc, λ h. absurd cc)
+truths_decide (Some x) None = (λ h. absurd cc, λ h. absurd cc)
+truths_decide (Some x) (Some y) = Decides-like _ (λ h. ap Some h) (λ h. cc) (booleans_Decides x y)
+
+bounds_decide : (a b : Option (List ℕ)) → Decides (option_eq bytes_eq a b) (a ≡ b)
+bounds_decide None None = (λ h. refl, λ h. refl)
+bounds_decide None (Some y) = (λ h. absurd cc, λ h. absurd cc)
+bounds_decide (Some x) None = (λ h. absurd cc, λ h. absurd cc)
+bounds_decide (Some x) (Some y) = Decides-like _ (λ h. ap Some h) (λ h. cc) (bytes_eq-Decides x y)
+
+both : (a b : Bool) → (a && b) ≡ true → (a ≡ true) × (b ≡ true)
+both true b h = (refl, h)
+both false b h = absurd cc
+
+summary_made : Bool → Option Bool → Option (List ℕ) → Option (List ℕ) → FieldSummary
+summary_made a b c d = record { contains_null = a; contains_nan = b; lower = c; upper = d }
+
+summary_is : (a : FieldSummary) → a ≡ summary_made a.contains_null a.contains_nan a.lower a.upper
+unfolding summary_made
+summary_is a = refl
+
+one_summary : (a b : FieldSummary) → same_summary a b ≡ true → a ≡ b
+one_summary a b h =
+    let p = both (beq a.contains_null b.contains_null) _ h in
+    let q = both (option_eq beq a.contains_nan b.contains_nan) _ p.1 in
+    let r = both (option_eq bytes_eq a.lower b.lower) _ q.1 in
+    let one : a.contains_null ≡ b.contains_null = (booleans_Decides a.contains_null b.contains_null).0 p.0 in
+    let two : a.contains_nan ≡ b.contains_nan = (truths_decide a.contains_nan b.contains_nan).0 q.0 in
+    let three : a.lower ≡ b.lower = (bounds_decide a.lower b.lower).0 r.0 in
+    let four : a.upper ≡ b.upper = (bounds_decide a.upper b.upper).0 r.1 in
+    summary_is a ∙ rw (one, two, three, four) refl ∙ sym (summary_is b)
+
+same_itself : (a : FieldSummary) → same_summary a a ≡ true
+same_itself a = rw (
+  (booleans_Decides a.contains_null a.contains_null).1 refl,
+  (truths_decide a.contains_nan a.contains_nan).1 refl,
+  (bounds_decide a.lower a.lower).1 refl,
+) ((bounds_decide a.upper a.upper).1 refl)
+
+-- the test of summaries says whether they are one
+pub summary_decides : (a b : FieldSummary) → Decides (same_summary a b) (a ≡ b)
+summary_decides a b = (
+  one_summary a b,
+  λ e. let P : FieldSummary → Type 0 = λ v. same_summary a v ≡ true in
+      subst P e (same_itself a),
+)
+
+pub same_summary_equiv : IsEquivalence same_summary
+same_summary_equiv = decided same_summary summary_decides

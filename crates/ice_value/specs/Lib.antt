@@ -1,6 +1,10 @@
 pub mod Applying
 pub mod Bounds
+pub mod Briefs
 pub mod Cells
 pub mod Columns
 pub mod Equality
 pub mod Pairs
+pub mod Runs
+pub mod Said
+pub mod Summaries

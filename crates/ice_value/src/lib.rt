@@ -4,6 +4,8 @@
 
 mod applying;
 mod bound;
+mod bounded;
+mod brief;
 mod cell;
 mod column_type;
 mod columns;

@@ -40,26 +40,15 @@ fn at_least_ten(alloc: Global) -> Result<Bound, AllocError> {
     })
 }
 
-/// A bound of a column of the type int.
-fn bound(alloc: Global, value: u8) -> Result<Items<u8>, AllocError> {
-    let bytes = [value, 0, 0, 0].to_vec(alloc)?;
-    Ok(Items::from_vec(bytes))
-}
-
-fn summary(lower: Items<u8>, upper: Items<u8>) -> Summary {
-    Summary {
-        contains_null: false,
-        contains_nan: None,
-        lower: Some(lower),
-        upper: Some(upper),
-    }
-}
-
-/// The summary of values from 1 to this one.
+/// The summary of values from 1 to this one, of a column of the type int.
 fn up_to(alloc: Global, upper: u8) -> Result<Summary, AllocError> {
-    let lower = bound(alloc, 1)?;
-    let upper = bound(alloc, upper)?;
-    Ok(summary(lower, upper))
+    Summary::new(
+        alloc,
+        false,
+        None,
+        Some(&[1, 0, 0, 0]),
+        Some(&[upper, 0, 0, 0]),
+    )
 }
 
 /// A summary of values up to each of these.

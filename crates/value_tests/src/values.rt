@@ -414,14 +414,19 @@ fn copies_cells(alloc: Global) -> Result<bool, AllocError> {
 }
 
 fn copies_summary(alloc: Global) -> Result<bool, AllocError> {
-    let lower = [5, 0, 0, 0].to_vec(alloc)?;
-    let summary = Summary {
-        contains_null: true,
-        contains_nan: None,
-        lower: Some(Items::from_vec(lower)),
-        upper: None,
-    };
-    Ok(summary.copy(alloc)? == summary)
+    let (low, high) = ([5, 0, 0, 0].as_slice(), [6, 0].as_slice());
+    for (lower, upper) in [
+        (None, None),
+        (Some(low), None),
+        (None, Some(high)),
+        (Some(low), Some(high)),
+    ] {
+        let summary = Summary::new(alloc, true, Some(false), lower, upper)?;
+        if summary.copy(alloc)? != summary || summary.lower() != lower || summary.upper() != upper {
+            return Ok(false);
+        }
+    }
+    Ok(true)
 }
 
 #[test]

@@ -37,7 +37,7 @@ pub fn text_cell(alloc: Global, characters: &str) -> Result<Cell, AllocError> {
     Ok(Cell::Text(text(alloc, characters)?))
 }
 
-pub fn bytes(alloc: Global, bytes: &[u8]) -> Result<Items<u8>, AllocError> {
+fn bytes(alloc: Global, bytes: &[u8]) -> Result<Items<u8>, AllocError> {
     Ok(Items::from_vec(bytes.to_vec(alloc)?))
 }
 

@@ -2,7 +2,7 @@
 
 use super::cases::Ask::{AtLeast, AtMost, Equal, Less, More, Null, Present, Starts, Unlike};
 use super::cases::Literal::{Bytes, Text, Whole};
-use super::cases::{Ask, Literal, asked, bytes};
+use super::cases::{Ask, Literal, asked};
 use contract_words::Items;
 use ice_project::{PartFilter, summary_may};
 use ice_value::{ColumnType, Summary};
@@ -20,14 +20,13 @@ struct Manifest {
 }
 
 fn summary(alloc: Global, manifest: &Manifest) -> Result<Summary, AllocError> {
-    let low = bytes(alloc, manifest.low)?;
-    let high = bytes(alloc, manifest.high)?;
-    Ok(Summary {
-        contains_null: manifest.contains_null,
-        contains_nan: None,
-        lower: Some(low),
-        upper: Some(high),
-    })
+    Summary::new(
+        alloc,
+        manifest.contains_null,
+        None,
+        Some(manifest.low),
+        Some(manifest.high),
+    )
 }
 
 /// The summaries of the manifest, as often as is said.

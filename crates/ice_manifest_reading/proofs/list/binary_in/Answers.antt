@@ -1,4 +1,4 @@
-use Rattle.std.proofs.Common.{◌≡◌, ℕ, ℤ, List, Option, IfOk, to_z, of_z, w32, rules, subst}
+use Rattle.std.proofs.Common.{◌≡◌, ℤ, to_z, of_z, w32, rules, subst}
 use Rattle.std.proofs.lemmas.Int.{to_z-of_z}
 use Rattle.avro_schema.specs.Tree.{structure}
 use Rattle.avro_file.specs.Picking.{Typed}
@@ -13,5 +13,4 @@ returns c = λ v is.
     let same : to_z w32 (of_z w32 c.args.id) ≡ c.args.id = to_z-of_z w32 c.args.id (search rules) in
     let found : IsThere c.field_of.result (there (at c.args.id x)) =
     subst (λ (z : ℤ). IsThere c.field_of.result (there (at z x))) same (c.field_of.ensures v is) in
-    subst (λ (o : Option (List ℕ)). IfOk c.copied.result (λ copy. copy ≡ o))
-    (c.bytes_there.ensures (there (at c.args.id x)) found) c.copied.ensures
+    c.bytes_there.ensures (there (at c.args.id x)) found

@@ -10,7 +10,7 @@ use Rattle.ice_manifest_reading.proofs.list.summaries_of.Goals as goal
 
 pub items-init : goal.items-init
 items-init c =
-    subst (λ (front : List Summary). SoFar summary_of c.args.items c.args.items front) (sym c.new-summaries.ensures)
+    subst (λ (front : List Summary). SoFar summary_of c.args.items c.args.items front) (sym c.in_ok-with_capacity.ensures)
     (none_so_far summary_of c.args.items)
 
 pub returns-in_err-summary_of : goal.returns-in_err-summary_of

@@ -1,3 +1,5 @@
+use Rattle.std.proofs.Common.{Ok, sym, ap, ◌∙◌}
+use Rattle.std.specs.Option.{option_copied}
 use Rattle.std.proofs.lemmas.Result.{err_from_is_err_and}
 use Rattle.avro_schema.specs.Tree.{structure}
 use Rattle.ice_manifest_fields.specs.Seen.{fields_seen}
@@ -13,5 +15,6 @@ returns-in_err-truth_asked c =
 pub returns : goal.returns
 returns c = λ v is.
     summary_made (structure (fields_seen c.args.fields.now), v) c.in_ok-truth_asked.field-0 c.truth_in.result
-    c.in_ok-binary_in.field-0 c.in_ok-binary_in-2.field-0 (c.in_ok-truth_asked.ensures v is) (c.truth_in.ensures v is)
-    (c.in_ok-binary_in.ensures v is) (c.in_ok-binary_in-2.ensures v is)
+    (option_copied c.binary_in.result) (option_copied c.binary_in-2.result) (c.in_ok-truth_asked.ensures v is)
+    (c.truth_in.ensures v is) (c.binary_in.ensures v is) (c.binary_in-2.ensures v is)
+    ∙ ap Ok (sym c.in_ok-new.ensures)
