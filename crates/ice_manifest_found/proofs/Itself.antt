@@ -1,4 +1,4 @@
--- What an item of a map says, found from the item itself and not first from the record that it is.
+-- What an item of a list says, found from the item itself and not first from the record that it is.
 use Rattle.std.proofs.Common.{◌≡◌, ℤ, true, [], ◌∷◌, Option, Some, None, Result, Ok, refl, sym, ap, ◌∙◌, ◌⊎◌, inl, inr}
 use Rattle.std.proofs.Common.{arith}
 use Rattle.contract_words.specs.Outcome.{◌>>=◌}
@@ -61,7 +61,7 @@ either (structure fs) (entries es) = inr (refl, λ id. refl)
 either (structure fs) (chosen n v) = inr (refl, λ id. refl)
 
 -- the record that was met, whose fields are those of the item; or none, and no field
-abbrev RecordMet : Typed → Type 0
+abbrev pub RecordMet : Typed → Type 0
 RecordMet y = ((x : Typed) × (record_of (there (pick [] y)) ≡ Some x) × ((id : ℤ) → at id y ≡ at id x))
     ⊎ ((record_of (there (pick [] y)) ≡ None) × ((id : ℤ) → there (at id y) ≡ None))
 
@@ -106,6 +106,9 @@ met_in y (Some (t, items vs)) is = met_some y t (items vs) is refl (either t (it
 met_in y (Some (t, entries es)) is = met_some y t (entries es) is refl (either t (entries es))
 met_in y (Some (t, chosen n v)) is = met_some y t (chosen n v) is refl (either t (chosen n v))
 
+pub record_met : (y : Typed) → RecordMet y
+record_met y = met_in y (bare y) refl
+
 -- ---- counts
 
 abbrev key_of : ColumnMap → Option Typed → Result ℤ FieldFault
@@ -130,7 +133,7 @@ counted_by m y (inr r) = ap (λ (o : Option Typed). asked m.key o >>= count_in m
     ∙ sym (counted_there m y ∙ ap (λ (o : Option Typed). counted m o (there (at m.said y))) (r.1 m.key))
 
 pub count_itself : (m : ColumnMap) (y : Typed) → count_of m y ≡ count_in m y
-count_itself m y = counted_by m y (met_in y (bare y) refl)
+count_itself m y = counted_by m y (record_met y)
 
 -- ---- bounds
 
@@ -153,4 +156,4 @@ bounded_by m y (inr r) = ap (λ (o : Option Typed). asked m.key o >>= bound_in m
     ∙ sym (bounded_there m y ∙ ap (λ (o : Option Typed). bounded m o (there (at m.said y))) (r.1 m.key))
 
 pub bound_itself : (m : ColumnMap) (y : Typed) → bound_of m y ≡ bound_in m y
-bound_itself m y = bounded_by m y (met_in y (bare y) refl)
+bound_itself m y = bounded_by m y (record_met y)

@@ -1,28 +1,23 @@
 -- What stands at the front of bytes, and within it.
-use Rattle.std.proofs.Common.{◌≡◌, ◌<◌, ◌≤◌, ◌<ℤ◌, ℕ, ℤ, pos, true, false, List, [], length, get_or, drop, Option, Some, None, Ok}
-use Rattle.std.proofs.Common.{Err, rules, refl, sym, ap, subst, ◌∙◌, arith}
-use Rattle.std.specs.Ordering.{int_eq}
-use Rattle.std.specs.Option.{option_eq}
+use Rattle.std.proofs.Common.{◌≡◌, ◌<◌, ◌≤◌, ◌<ℤ◌, ℕ, ℤ, pos, true, false, List, [], length, get_or, Some, None, Ok}
+use Rattle.std.proofs.Common.{Err, rules, refl, sym, ap, ◌∙◌, arith}
 use Rattle.avro_schema.specs.declared.schema.Schema.{Schema, Null, the_lemmas}
-use Rattle.avro_schema.specs.declared.schema.Field.{Field}
 use Rattle.avro_schema.specs.Tree.{Tree, structure, Fields}
 use Rattle.avro_schema.specs.View.{tree}
 use Rattle.avro_parts.specs.Number.{long_at}
 use Rattle.avro_parts.specs.Parts.{Position}
-use Rattle.avro_file.specs.Value.{Value, fields, values_of}
+use Rattle.avro_file.specs.Value.{Value}
 use Rattle.avro_file.specs.Reading.{branch_at}
 use Rattle.avro_file.specs.Blocks.{max_items, StandsAt}
-use Rattle.avro_file.specs.Picking.{Typed, Picked, pick, unless_absent}
-use Rattle.avro_file.proofs.Views.{field_trees, branch_trees, branch_there}
+use Rattle.avro_file.specs.Picking.{pick}
+use Rattle.avro_file.proofs.Views.{branch_trees, branch_there}
 use Rattle.avro_picked.specs.Finding.{branches_in, has_null_only, is_structure, within}
 use Rattle.avro_picked.proofs.Values.{structure_taken, chosen_taken, stands, stood}
-use Rattle.avro_picked.proofs.Ways.{Onward, null_at_end, present_at_end, pick_chosen, branch_chosen}
-use Rattle.avro_picked.proofs.Ways.{onward_first, found_field, no_field, chosen_read, union_of_branches}
+use Rattle.avro_picked.proofs.Ways.{null_at_end, present_at_end, pick_chosen, branch_chosen}
+use Rattle.avro_picked.proofs.Ways.{chosen_read, union_of_branches}
 use Rattle.avro_picked.proofs.Ways.{number_fails, negative_fails, past_fails}
 use Rattle.avro_parts.specs.declared.refusal.Refusal.{Refusal}
-use Rattle.ice_manifest_fields.specs.Fields.{at, there, record_of}
-use Rattle.ice_manifest_found.specs.declared.standing.Standing.{Standing}
-use Rattle.ice_manifest_found.specs.InPlace.{IsThere}
+use Rattle.ice_manifest_fields.specs.Fields.{there, record_of}
 use Rattle.ice_manifest_found.proofs.Shown.{none_there}
 
 pub other_null : (s : Schema) → (s ≡ Null → ⊥) → has_null_only (tree s) ≡ false
@@ -82,44 +77,6 @@ chosen_there t ss n d bytes rest v is lt number at =
       stands (tree (get_or ss n d)) behind taken.0 read.0 (omega arith) one,
       ap (λ (u : Tree). pick [] (u, v)) (union_of_branches t (branch_trees ss) is) ∙ picked,
     )
-
--- ---- fields
-
--- Finding among the fields from here on is finding among all.
-abbrev pub FromHere : ℤ → Fields → List ℕ → Fields → Position → Type 0
-FromHere id all bytes rest here = (v : Value) → StandsAt (structure all) bytes v → (vs : List Value) × (after : Position)
-    × (v ≡ fields (values_of vs)) × Onward id all vs rest here after
-
-pub from_first : (id : ℤ) (all : Fields) (bytes : List ℕ)
-    → FromHere id all bytes all (record { bytes = bytes; left = max_items })
-from_first id all bytes = λ v at.
-    let read = stood (structure all) bytes v at in
-    let taken = structure_taken all (record { bytes = bytes; left = max_items }) v read.0 read.1 in
-    (taken.0, read.0, taken.2, record { values = taken.0; read = taken.1; same = refl })
-
--- what is found at the field that was looked for
-pub field_there : (id : ℤ) (all : Fields) (bytes : List ℕ) (fs : List Field) (i : ℕ) (f : Field) (here : Position)
-    (r : Option Standing) → i < length fs → f ≡ get_or fs i f → here.left ≤ max_items
-    → option_eq int_eq f.id (Some id) ≡ true → FromHere id all bytes (field_trees (drop i fs)) here
-    → ((w : Value) → StandsAt (tree f.schema) here.bytes w → IsThere r (there (pick [] (tree f.schema, w))))
-    → (v : Value) → StandsAt (structure all) bytes v → IsThere r (there (at id (structure all, v)))
-field_there id all bytes fs i f here r lt is le same from found = λ v at_front.
-    let o = from v at_front in
-    let first = onward_first id all o.0 fs i f here o.1 lt is o.3 in
-    let value = found_field id all o.0 fs i f here o.1 lt is o.3 first same in
-    let met : at id (structure all, v) ≡ pick [] (tree f.schema, first.first) =
-    ap (λ (w : Value). at id (structure all, w)) o.2 ∙ ap (unless_absent (pick [])) value in
-    subst (λ (m : Picked). IsThere r (there m)) (sym met)
-    (found first.first (stands (tree f.schema) here first.first first.between le first.read))
-
-pub no_field_there : (id : ℤ) (all : Fields) (bytes : List ℕ) (fs : List Field) (i : ℕ) (here : Position)
-    → length fs ≤ i → FromHere id all bytes (field_trees (drop i fs)) here
-    → (v : Value) → StandsAt (structure all) bytes v → there (at id (structure all, v)) ≡ None
-no_field_there id all bytes fs i here le from = λ v at_front.
-    let o = from v at_front in
-    let value = no_field id all o.0 fs i here o.1 le o.3 in
-    ap (λ (w : Value). there (at id (structure all, w))) o.2 ∙ ap (λ (x : Option Typed). there (unless_absent (pick [])
-    x)) value
 
 -- ---- records
 

@@ -56,8 +56,15 @@ impl<'s, 'a> ItemsAhead<'s, 'a> {
         }
     }
 
+    /// The type of the items.
+    pub fn schema(&self) -> &'s Schema
+        ensures { result.now ≡ self.now.schema.now }
+    {
+        self.schema
+    }
+
     /// The same at the next item; none behind the last one.
-    pub(crate) fn at_item(&self) -> Option<ItemsAhead<'s, 'a>>
+    pub fn at_item(&self) -> Option<ItemsAhead<'s, 'a>>
         ensures block { IfSome result (λ at. 0 < at.in_block) }
         ensures no_more { IfSome result (λ at. still at ≤ still self.now) }
         ensures items { (vs : List Value) → AreAhead self.now vs → AtItem self.now vs result }
@@ -88,7 +95,7 @@ impl<'s, 'a> ItemsAhead<'s, 'a> {
     }
 
     /// The next item, which is passed by a schema whose values end where the items do; none behind the last one.
-    pub(crate) fn next_by(&mut self, passing: &Schema) -> Option<Standing<'s, 'a>>
+    pub fn next_by(&mut self, passing: &Schema) -> Option<Standing<'s, 'a>>
         requires { EndAlike (tree passing.now) (tree self.old.schema.now) }
         ensures fewer { IfSome result (λ _. still self.new < still self.old) }
         ensures items { (vs : List Value) → AreAhead self.old vs → NextItem self.old vs result self.new }

@@ -61,12 +61,12 @@ fn truth_at(schema: &Schema, bytes: &[u8]) -> Option<bool>
     }
 }
 
-/// The truth value that stands there; none where nothing or anything else does.
-pub fn truth_there(found: Option<Standing<'_, '_>>) -> Option<bool>
-    ensures { (x : Option Typed) → IsThere found.entry x → result ≡ truth_of x }
+/// The truth value that was found; none where nothing or anything else was.
+pub fn truth(found: Option<Found<'_, '_>>) -> Option<bool>
+    ensures { (met : Picked) → IsMet found.entry met → result ≡ truth_of (there met) }
 {
     let found = found?;
-    truth_at(found.schema, found.bytes)
+    truth_at(found.schema(), found.bytes())
 }
 
 /// The bytes that stand there, lent from the file; none where anything else does.
@@ -81,14 +81,6 @@ fn bytes_at<'a>(schema: &Schema, bytes: &'a [u8]) -> Option<&'a [u8]>
         },
         _ => None,
     }
-}
-
-/// The bytes that stand there, lent from the file; none where nothing or anything else does.
-pub fn bytes_there<'a>(found: Option<Standing<'_, 'a>>) -> Option<&'a [u8]>
-    ensures { (x : Option Typed) → IsThere found.entry x → option_copied result ≡ binary_of x }
-{
-    let found = found?;
-    bytes_at(found.schema, found.bytes)
 }
 
 /// The bytes that were found, lent from the file; none where nothing or anything else was.

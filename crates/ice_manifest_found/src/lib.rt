@@ -15,9 +15,10 @@ mod standing;
 
 pub use field::{int_asked, long_asked, optional_number, optional_path, path_asked};
 pub use items::{ItemsAhead, items_of};
-pub use leaf::{bytes_there, truth_there, whole, whole_there};
+pub use leaf::{binary, truth, whole, whole_there};
 pub use list::ints;
 pub use maps::{FoundMaps, ReadMaps};
+pub use pairs::push_way;
 pub use row::FoundRow;
 pub use row_field::{RowField, row_layout};
-pub use standing::{Standing, field_of};
+pub use standing::Standing;

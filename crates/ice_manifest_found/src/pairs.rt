@@ -27,7 +27,8 @@ use avro_schema::Schema;
 use ice_manifest_fields::{ColumnMap, FieldFault, ManifestFault};
 use std::alloc::{AllocError, Global};
 
-fn push_way(alloc: Global, ids: &[i32], ways: &mut Vec<Vec<i32>>) -> Result<(), AllocError>
+/// Puts the way of these ids behind the ways.
+pub fn push_way(alloc: Global, ids: &[i32], ways: &mut Vec<Vec<i32>>) -> Result<(), AllocError>
     ensures { IfOk result (λ _. ids_in ways.new.items ≡ ids_in ways.old.items ++ ids.now ∷ []) }
 {
     ways.push(Vec::from_slice(alloc, ids)?)?;

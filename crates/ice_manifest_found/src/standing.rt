@@ -1,18 +1,16 @@
 //! Values that stand at the front of bytes, and what is found within them. Nothing is built.
 
 ghost use Rattle.std.specs.Prelude.{◌≡◌, [], option_map};
-ghost use Rattle.avro_schema.specs.Tree.{structure};
 ghost use Rattle.avro_schema.specs.View.{tree, trees, branches_of as branch_trees};
 ghost use Rattle.avro_file.specs.Value.{Value};
 ghost use Rattle.avro_file.specs.Blocks.{StandsAt};
 ghost use Rattle.avro_file.specs.Picking.{pick};
 ghost use Rattle.avro_picked.specs.Finding.{branches_in, within};
-ghost use Rattle.ice_manifest_fields.specs.Fields.{at, there, record_of as record_there};
-ghost use Rattle.ice_manifest_fields.specs.Seen.{fields_seen};
-ghost use Rattle.ice_manifest_found.specs.InPlace.{Stands, IsThere, RecordStands, IsRecord};
+ghost use Rattle.ice_manifest_fields.specs.Fields.{there, record_of as record_there};
+ghost use Rattle.ice_manifest_found.specs.InPlace.{Stands, IsThere, IsRecord};
 
-use avro_file::{end_of, natural};
-use avro_parts::{Place, long_of};
+use avro_file::natural;
+use avro_parts::long_of;
 use avro_schema::{Field, Schema};
 
 /// The most items that the arrays and maps of one object may have.
@@ -63,29 +61,6 @@ fn itself<'s, 'a>(schema: &'s Schema, bytes: &'a [u8]) -> Option<Standing<'s, 'a
         return None;
     }
     unless_null(&branches[position], bytes)
-}
-
-/// What stands at the field with this id, where the fields are those of a record at the front of the bytes; none where
-/// it is absent or null.
-pub fn field_of<'s, 'a>(fields: &'s [Field], bytes: &'a [u8], id: i32) -> Option<Standing<'s, 'a>>
-    ensures { (v : Value) → RecordStands fields.entry bytes.entry v →
-        IsThere result (there (at id (structure (fields_seen fields.now), v))) }
-{
-    let mut here = Place {
-        bytes,
-        left: MAX_ITEMS,
-    };
-    'fields: for field in fields {
-        if field.id == Some(id) {
-            return itself(&field.schema, here.bytes);
-        }
-        // It was checked, so that reading does not fail.
-        let Ok(after) = end_of(&field.schema, here) else {
-            return None;
-        };
-        here = after;
-    }
-    None
 }
 
 impl<'s, 'a> Standing<'s, 'a> {

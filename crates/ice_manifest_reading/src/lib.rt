@@ -11,6 +11,7 @@ mod manifest;
 mod row;
 mod shape;
 mod status;
+mod summaries;
 mod tuple;
 
 pub use counts::Counts;

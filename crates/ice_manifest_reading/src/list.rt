@@ -1,43 +1,29 @@
 //! Reading a manifest list.
 
-ghost use Rattle.std.specs.Prelude.{◌≡◌, ◌≤◌, true, List, Some, pos, length, option_map, OnOk, IfOk};
+ghost use Rattle.std.specs.Prelude.{◌≡◌, ◌≤◌, true, pos, length, option_map, OnOk, IfOk};
 ghost use Rattle.std.specs.List.Sorted.{IsStrictlySortedBy};
-ghost use Rattle.std.specs.Option.{option_copied};
 ghost use Rattle.contract_words.specs.Outcome.{Gives};
-ghost use Rattle.avro_schema.specs.Tree.{structure};
-ghost use Rattle.avro_schema.specs.View.{tree};
-ghost use Rattle.avro_file.specs.Value.{Value, values_of};
-ghost use Rattle.avro_file.specs.Picking.{Picked};
 ghost use Rattle.avro_file.specs.Files.{ahead, type_of};
-ghost use Rattle.avro_picked.specs.Finding.{layout_tree, ways_of, is_structure, IsMet};
+ghost use Rattle.avro_picked.specs.Finding.{layout_tree, ways_of, is_structure};
 ghost use Rattle.avro_picked.specs.Placing.{IsLayout};
-ghost use Rattle.ice_manifest_fields.specs.Each.{each};
-ghost use Rattle.ice_manifest_fields.specs.Fields.{at, there, items_as, items_of as items_said};
-ghost use Rattle.ice_manifest_fields.specs.Fields.{truth_at as truth_must_be, optional_truth as truth_if_there};
-ghost use Rattle.ice_manifest_fields.specs.Fields.{optional_binary as binary_if_there};
+ghost use Rattle.ice_manifest_fields.specs.Fields.{at, there};
 ghost use Rattle.ice_manifest_fields.specs.Naming.{in_list, told};
 ghost use Rattle.ice_manifest_fields.specs.Schemas.{fields_in};
-ghost use Rattle.ice_manifest_fields.specs.Seen.{fields_seen};
-ghost use Rattle.ice_manifest_found.specs.InPlace.{Stands, RecordStands, AreAhead};
 ghost use Rattle.ice_manifest_found.specs.RowsFound.{row_seen, row_ways, IsRow};
 ghost use Rattle.ice_manifest_reading.specs.Lists.{rows_of, row_of as row_said, row_content as content_in};
 ghost use Rattle.ice_manifest_reading.specs.Lists.{content_at as content_said, counts_at as counts_said};
-ghost use Rattle.ice_manifest_reading.specs.Lists.{summary_in as summary_said, summary_of as summary_of_item};
 ghost use Rattle.ice_manifest_reading.specs.Lists.{summaries_in};
 ghost use Rattle.ice_manifest_reading.specs.Lists.{rows_ahead, path_twice as twice_in, in_order as ordered};
 ghost use Rattle.ice_manifest_reading.specs.Lists.{checked as checked_in, path_order};
 
 use crate::counts::Counts;
 use crate::row::{ManifestContent, Row};
+use crate::summaries::summaries_in_list;
 use avro_file::{Container, Objects};
-use avro_picked::{Found, Layout};
-use avro_schema::Field;
+use avro_picked::Layout;
 use contract_words::{Items, Text};
 use ice_manifest_fields::{FieldFault, ListFault, check_row_fields, fields_of};
-use ice_manifest_found::{
-    FoundRow, ItemsAhead, RowField, Standing, bytes_there, field_of, items_of, row_layout,
-    truth_there,
-};
+use ice_manifest_found::{FoundRow, RowField, row_layout};
 use ice_value::Summary;
 use std::alloc::{AllocError, Global};
 
@@ -72,78 +58,6 @@ fn counts_at(row: &FoundRow) -> Result<Counts, FieldFault>
         existing_rows: row.optional_long(RowField::ExistingRows),
         deleted_rows: row.optional_long(RowField::DeletedRows),
     })
-}
-
-/// A truth value at a field of a record; none where it is absent or null.
-fn truth_in(fields: &[Field], bytes: &[u8], id: i32) -> Option<bool>
-    ensures { (v : Value) → RecordStands fields.entry bytes.entry v →
-        result ≡ truth_if_there id (structure (fields_seen fields.now), v) }
-{
-    truth_there(field_of(fields, bytes, id))
-}
-
-/// A truth value at a field of a record.
-fn truth_asked(fields: &[Field], bytes: &[u8], id: i32) -> Result<bool, FieldFault>
-    ensures { (v : Value) → RecordStands fields.entry bytes.entry v →
-        result ≡ truth_must_be id (structure (fields_seen fields.now), v) }
-{
-    match truth_in(fields, bytes, id) {
-        Some(holds) => Ok(holds),
-        None => Err(FieldFault::Missing(id)),
-    }
-}
-
-/// The bytes at a field of a record; none where they are absent or null.
-fn binary_in<'a>(fields: &[Field], bytes: &'a [u8], id: i32) -> Option<&'a [u8]>
-    ensures { (v : Value) → RecordStands fields.entry bytes.entry v →
-        option_copied result ≡ binary_if_there id (structure (fields_seen fields.now), v) }
-{
-    bytes_there(field_of(fields, bytes, id))
-}
-
-/// The summary that a record's fields say.
-fn summary_in(alloc: Global, fields: &[Field], bytes: &[u8]) -> Result<Summary, ListFault>
-    ensures { (v : Value) → RecordStands fields.entry bytes.entry v → Gives ListFault.Memory (λ x. x) result
-        (told in_list (summary_said (structure (fields_seen fields.now), v))) }
-{
-    let contains_null = truth_asked(fields, bytes, 509)?;
-    let contains_nan = truth_in(fields, bytes, 518);
-    let lower = binary_in(fields, bytes, 510);
-    let upper = binary_in(fields, bytes, 511);
-    Ok(Summary::new(alloc, contains_null, contains_nan, lower, upper)?)
-}
-
-/// The summary that an item of a list says.
-fn summary_of(alloc: Global, item: &Standing) -> Result<Summary, ListFault>
-    ensures { (v : Value) → Stands item.now v → Gives ListFault.Memory (λ x. x) result
-        (told in_list (summary_of_item (tree item.now.schema.now, v))) }
-{
-    match item.record() {
-        Some((fields, bytes)) => summary_in(alloc, fields, bytes),
-        None => Err(ListFault::MissingField(508)),
-    }
-}
-
-fn summaries_of(alloc: Global, mut items: ItemsAhead) -> Result<Items<Summary>, ListFault>
-    ensures { (vs : List Value) → AreAhead items.entry vs → Gives ListFault.Memory (λ x. x) result
-        (told in_list (each summary_of_item (items_as (tree items.entry.schema.now) (values_of vs)))) }
-{
-    let mut summaries = Items::with_capacity(alloc, items.room())?;
-    'items: while let Some(item) = items.next() {
-        summaries.push(summary_of(alloc, &item)?)?;
-    }
-    Ok(summaries)
-}
-
-/// The summaries that a list says. Any other value says none.
-fn summaries_in_list(alloc: Global, found: Found) -> Result<Items<Summary>, ListFault>
-    ensures { (met : Picked) → IsMet (Some found.entry) met → Gives ListFault.Memory (λ x. x) result
-        (told in_list (each summary_of_item (items_said (there met)))) }
-{
-    match items_of(Some(found)) {
-        Some(items) => summaries_of(alloc, items),
-        None => Ok(Items::new(alloc)),
-    }
 }
 
 /// The summaries of the row's partition fields, read one by one where they lie; none where the row does not say them.

@@ -6,7 +6,7 @@ use Rattle.ice_manifest_fields.specs.Each.{each}
 use Rattle.ice_manifest_fields.specs.Fields.{there, items_of}
 use Rattle.ice_manifest_fields.specs.Naming.{in_list, told}
 use Rattle.ice_manifest_reading.specs.Lists.{summary_of}
-use Rattle.ice_manifest_reading.proofs.list.summaries_in_list.Goals as goal
+use Rattle.ice_manifest_reading.proofs.summaries.summaries_in_list.Goals as goal
 
 pub returns-in-Some : goal.returns-in-Some
 returns-in-Some c = λ met is.
