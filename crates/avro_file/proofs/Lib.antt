@@ -4,6 +4,7 @@ pub mod Windows
 pub mod Ascii
 pub mod Leaves
 pub mod Steps
+pub mod FewGroups
 pub mod Taken
 pub mod Loop
 pub mod Behind

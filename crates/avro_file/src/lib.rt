@@ -17,6 +17,7 @@ mod object;
 mod pairs;
 mod quick;
 mod repeated;
+mod short;
 mod window;
 mod writer;
 

@@ -10,7 +10,8 @@ ghost use Rattle.avro_file.specs.Reading.{with_front, values_at, blocks_at, datu
 ghost use Rattle.avro_file.specs.View.{long_pairs, bytes_pairs};
 ghost use Rattle.avro_file.specs.Pairs.{pair, IsPair};
 
-use avro_parts::{Place, Refusal, bytes_of, count_of, int_of, long_of};
+use crate::short::{bytes_of, count_of, int_of, long_of};
+use avro_parts::{Place, Refusal};
 use avro_schema::{Field, Schema};
 use std::alloc::Global;
 

@@ -14,22 +14,30 @@ use Rattle.avro_schema.specs.Tree as tree_of
 use Rattle.avro_schema.specs.Tree.{Tree, null, boolean, int, long, float, double, symbols, octets, string, fixed}
 use Rattle.avro_schema.specs.Tree.{structure, array, union, Fields, no_fields, field}
 use Rattle.avro_schema.specs.View.{tree}
+use denote.Ref.{Bor}
+use Rattle.avro_schema.specs.declared.schema.ArrayKind.{ArrayKind}
+use Rattle.avro_parts.specs.declared.place.Place.{Place}
+use Rattle.avro_parts.specs.Place.{position_of}
 use Rattle.avro_parts.specs.declared.refusal.Refusal.{Refusal}
+use Rattle.avro_file.specs.Blocks.{max_items, StandsAt}
+use Rattle.avro_picked.specs.Picked.{value_met}
 use Rattle.avro_parts.specs.Parts.{Position, behind}
 use Rattle.avro_file.specs.Alike.{EndAlike}
 use Rattle.avro_file.specs.Spelling.{takes_bytes}
 use Rattle.avro_file.specs.Value.{Value, values_of}
 use Rattle.avro_file.specs.Reading.{datum_at, fields_at}
-use Rattle.avro_file.specs.Picking.{field_value}
+use Rattle.avro_file.specs.Picking.{Picked, absent, null_met, present, field_value}
 use Rattle.avro_file.proofs.Views.{field_trees, branch_trees}
 use Rattle.avro_file.proofs.Behind.{behind_ok, behind_err, empty_value}
 use Rattle.avro_picked.specs.declared.guide.Guide.{Guide, out-Guide, the_lemmas}
-use Rattle.avro_picked.specs.Finding.{fields_in, is_structure, branches_in}
+use Rattle.avro_picked.specs.Finding.{fields_in, is_structure, branches_in, items_in, items_type}
 use Rattle.avro_picked.specs.Guides.{Guided, guided, Guides, no_guides, guide, guides_of, seen, all_seen, is_on, asks}
 use Rattle.avro_picked.specs.Guides.{ids_in, AreAsked, kept, as_fields, inner, type_guided, id_guided, IsGuide, AreParts}
+use Rattle.avro_picked.specs.Guides.{GuidesTo, HasItems, GuidesItems}
 use Rattle.avro_picked.specs.Placing.{nth_way}
-use Rattle.avro_picked.proofs.Values.{First, first_read}
+use Rattle.avro_picked.proofs.Values.{First, first_read, stands}
 use Rattle.avro_picked.proofs.Ways.{one_end, taken_or_not, union_of_branches, not_both as both_read}
+use Rattle.avro_picked.proofs.Ways.{Settles}
 
 -- ---- one level of a guide
 
@@ -336,6 +344,78 @@ pub field_parts : (ways : List (List ℤ)) (g : Guide) → IsGuide ways (seen g)
     → AreParts ways (all_seen (out-Guide g).parts.items) (kept ways (fields_in (tree (out-Guide g).schema.now)))
 field_parts ways g is structured = subst (λ (t : Tree). AreParts ways (all_seen (out-Guide g).parts.items) (inner ways t))
     (structure_of (tree (out-Guide g).schema.now) structured) (parts_guide ways g is)
+
+-- ---- where guides lead
+
+pub guides_settle : (ways : List (List ℤ)) (left : ℕ) (r : Result (Option (Bor Guide × Place)) Refusal)
+    → Settles (λ met. GuidesTo ways left met r)
+guides_settle ways left (Ok (Some x)) = λ met none h.
+    let k : absent ≡ present (type_guided (seen x.0.now), h.0) = h.2 in absurd cc
+guides_settle ways left (Ok None) = λ met none h. none
+guides_settle ways left (Err f) = λ met none h. h
+
+pub guides_more : (ways : List (List ℤ)) (few many : ℕ) (met : Picked)
+    (r : Result (Option (Bor Guide × Place)) Refusal) → few ≤ many → GuidesTo ways few met r → GuidesTo ways many met r
+guides_more ways few many met (Ok (Some x)) le h =
+    (h.0, (omega (arith, le, h.1.0), h.1.1, h.1.2), h.2, h.3)
+guides_more ways few many met (Ok None) le h = h
+guides_more ways few many met (Err e) le h = h
+
+-- what was found by a guide in an object that was checked
+pub guided_there : (ways : List (List ℤ)) (met : Picked) (g : Bor Guide) (place : Place)
+    → GuidesTo ways max_items met (Ok (Some (g, place)))
+    → (v : Value) × StandsAt (tree (out-Guide g.now).schema.now) place.bytes.now v
+    × (met ≡ present (tree (out-Guide g.now).schema.now, v))
+guided_there ways met g place h =
+    let read = rw (type_is g.now) at h.1.2 in (
+      h.0,
+      stands (tree (out-Guide g.now).schema.now) (position_of place) h.0 h.1.1 (omega (arith, h.1.0)) read,
+      rw (type_is g.now) at h.2,
+    )
+
+-- ---- the items of arrays
+
+pub array_of : (t s : Tree) → items_in t ≡ Some s → (id : Option ℤ) × (kind : ArrayKind) × (t ≡ array s id kind)
+array_of null s is = absurd cc
+array_of boolean s is = absurd cc
+array_of int s is = absurd cc
+array_of long s is = absurd cc
+array_of float s is = absurd cc
+array_of double s is = absurd cc
+array_of (octets kind) s is = absurd cc
+array_of string s is = absurd cc
+array_of (fixed n kind) s is = absurd cc
+array_of (symbols n) s is = absurd cc
+array_of (structure fs) s is = absurd cc
+array_of (tree_of.map u) s is = absurd cc
+array_of (union bs) s is = absurd cc
+array_of (array u own kind) s is = (own, kind, ap (λ (x : Tree). array x own kind) cc)
+
+only_part : (ways : List (List ℤ)) (gs : List Guide) (s : Tree) → AreParts ways (all_seen gs) (field None s no_fields)
+    → (g : Guide) × (gs ≡ g ∷ []) × (type_guided (seen g) ≡ s) × IsGuide ways (seen g)
+only_part ways [] s are = absurd are
+only_part ways (g ∷ []) s are = (g, refl, are.1, are.2)
+only_part ways (g ∷ h ∷ gs) s are = absurd are.3
+
+-- the one part of an array's guide is of its items
+pub item_part : (ways : List (List ℤ)) (g : Guide) (s : Tree) → IsGuide ways (seen g)
+    → items_in (tree (out-Guide g).schema.now) ≡ Some s
+    → (h : Guide) × ((out-Guide g).parts.items ≡ h ∷ []) × (type_guided (seen h) ≡ s) × IsGuide ways (seen h)
+item_part ways g s is listed =
+    let a = array_of (tree (out-Guide g).schema.now) s listed in
+    only_part ways (out-Guide g).parts.items s (subst (λ (t : Tree). AreParts ways (all_seen (out-Guide g).parts.items)
+    (inner ways t)) a.2 (parts_guide ways g is))
+
+-- the guide of the items of a list that is led to
+pub items_guided : (ways : List (List ℤ)) (met : Picked) (t : Tree) (v : Value) (r : Option (Bor Guide))
+    → met ≡ present (t, v) → HasItems ways t r → GuidesItems ways r met
+items_guided ways met t v (Some g) is h = (type_guided (seen g.now), rw is h.0, (refl, h.1))
+items_guided ways met t v None is h = rw is h
+
+pub nothing_listed : (met : Picked) → value_met met ≡ None → items_type met ≡ None
+nothing_listed absent is = refl
+nothing_listed null_met is = refl
+nothing_listed (present x) is = absurd cc
 
 -- ---- ids that ways ask for
 

@@ -145,25 +145,31 @@ none_of_none : (id : ℤ) (fs : Fields) → field_value id fs no_values ≡ None
 none_of_none id no_fields = refl
 none_of_none id (field own t fs) = refl
 
-absent_leads : (left : ℕ) (way : List ℤ) (met : Picked) (o : Option Typed) (r : Result (Option (Bor Schema × Place)) Refusal)
-    → o ≡ None → value_met met ≡ None → LeadsTo left (unless_absent (pick way) o) r → LeadsTo left met r
-absent_leads left way met o (Ok (Some x)) none is h = let k : absent ≡ present (tree x.0.now, h.0) =
-    ap (unless_absent (pick way)) (sym none) ∙ h.2 in absurd cc
-absent_leads left way met o (Ok None) none is h = is
-absent_leads left way met o (Err f) none is h = h
+-- where nothing is met leads nowhere, as a field that is absent
+abbrev pub Settles : (Picked → Type 0) → Type 0
+Settles P = (met : Picked) → value_met met ≡ None → P absent → P met
+
+pub leads_settle : (left : ℕ) (r : Result (Option (Bor Schema × Place)) Refusal) → Settles (λ met. LeadsTo left met r)
+leads_settle left (Ok (Some x)) = λ met none h. let k : absent ≡ present (tree x.0.now, h.0) = h.2 in absurd cc
+leads_settle left (Ok None) = λ met none h. none
+leads_settle left (Err f) = λ met none h. h
+
+absent_met : (P : Picked → Type 0) → Settles P → (way : List ℤ) (met : Picked) (o : Option Typed) → o ≡ None
+    → value_met met ≡ None → P (unless_absent (pick way) o) → P met
+absent_met P settle way met o none is h =
+    settle met is (subst P (ap (unless_absent (pick way)) none) h)
 
 -- what is found below the field is found from the value
-pub leads_below : (left : ℕ) (id : ℤ) (ids : List ℤ) (t : Tree) (p : Position) (v : Value)
-    (r : Result (Option (Bor Schema × Place)) Refusal) (b : Below id t p v)
-    → LeadsTo left (unless_absent (pick ids) (field_value id (fields_in t) (values_of b.values))) r
-    → LeadsTo left (within (id ∷ ids) (t, v)) r
-leads_below left id ids t p v r b h =
+met_below : (P : Picked → Type 0) → Settles P → (id : ℤ) (ids : List ℤ) (t : Tree) (p : Position) (v : Value)
+    (b : Below id t p v) → P (unless_absent (pick ids) (field_value id (fields_in t) (values_of b.values)))
+    → P (within (id ∷ ids) (t, v))
+met_below P settle id ids t p v b h =
     let next : Typed → Picked = λ y. unless_absent (pick ids) (field_with id y) in
-    either_way b.something (λ some. subst (λ (m : Picked). LeadsTo left m r)
+    either_way b.something (λ some. subst P
     (ap (unless_absent (pick ids)) (sym b.same) ∙ sym (something_met next t v some)) h)
     (λ none. let lacks : field_value id (fields_in t) (values_of b.values) ≡ None =
     ap (λ (vs : List Value). field_value id (fields_in t) (values_of vs)) none ∙ none_of_none id (fields_in t) in
-    absent_leads left ids (within (id ∷ ids) (t, v)) (field_value id (fields_in t) (values_of b.values)) r lacks
+    absent_met P settle ids (within (id ∷ ids) (t, v)) (field_value id (fields_in t) (values_of b.values)) lacks
     (none_met next t v (ap (λ (o : Option Typed). value_met (unless_absent (pick ids) o)) (b.same ∙ lacks))) h)
 
 pub null_at_end : (t : Tree) (p q : Position) (v : Value) → has_null_only t ≡ true → datum_at t p ≡ Ok (v, q)
@@ -254,16 +260,23 @@ branch_chosen [] n d v lt = absurd (omega arith)
 branch_chosen (s ∷ ss) zero d v lt = refl
 branch_chosen (s ∷ ss) (suc n) d v lt = branch_chosen ss n d v (omega arith)
 
+pub met_into : (P : Picked → Type 0) → Settles P → (id : ℤ) (ids : List ℤ) (t : Tree) (fs : Fields) (p q : Position)
+    (v : Value) → fs ≡ fields_in t → datum_at t p ≡ Ok (v, q)
+    → ((vs : List Value) (after : Position) → fields_at fs p ≡ Ok (vs, after)
+    → P (unless_absent (pick ids) (field_value id fs (values_of vs)))) → P (within (id ∷ ids) (t, v))
+met_into P settle id ids t fs p q v is e on =
+    let b = below id t p q v e in
+    met_below P settle id ids t p v b (subst (λ (gs : Fields). (vs : List Value) (after : Position)
+    → fields_at gs p ≡ Ok (vs, after) → P (unless_absent (pick ids) (field_value id gs (values_of vs)))) is
+    on b.values b.after b.read)
+
 pub leads_into : (left : ℕ) (id : ℤ) (ids : List ℤ) (t : Tree) (fs : Fields) (p q : Position) (v : Value)
     (r : Result (Option (Bor Schema × Place)) Refusal) → fs ≡ fields_in t → datum_at t p ≡ Ok (v, q)
     → ((vs : List Value) (after : Position) → fields_at fs p ≡ Ok (vs, after)
     → LeadsTo left (unless_absent (pick ids) (field_value id fs (values_of vs))) r)
     → LeadsTo left (within (id ∷ ids) (t, v)) r
 leads_into left id ids t fs p q v r is e on =
-    let b = below id t p q v e in
-    leads_below left id ids t p v r b (subst (λ (gs : Fields). (vs : List Value) (after : Position)
-    → fields_at gs p ≡ Ok (vs, after) → LeadsTo left (unless_absent (pick ids) (field_value id gs (values_of vs))) r) is
-    on b.values b.after b.read)
+    met_into (λ met. LeadsTo left met r) (leads_settle left r) id ids t fs p q v is e on
 
 pub not_both : {A : Type 0} (r : Result A Refusal) (x : A) (f : Refusal) → r ≡ Ok x → r ≡ Err f → ⊥
 not_both r x f e g = let k : Ok x ≡ Err f = sym e ∙ g in absurd cc
@@ -310,17 +323,25 @@ past_fails ss n p q v le e =
     absurd cc
 
 -- picking goes on in the branch that was chosen
-pub leads_chosen : (left : ℕ) (way : List ℤ) (t : Tree) (ss : List Schema) (n : ℕ) (d : Schema) (p q : Position) (v : Value)
-    (r : Result (Option (Bor Schema × Place)) Refusal) → branches_in t ≡ Some (branch_trees ss) → n < length ss
+pub met_chosen : (P : Picked → Type 0) (way : List ℤ) (t : Tree) (ss : List Schema) (n : ℕ) (d : Schema)
+    (p q : Position) (v : Value) → branches_in t ≡ Some (branch_trees ss) → n < length ss
     → chosen_by (branch_at (branch_trees ss)) (pos n) p ≡ Ok (v, q)
     → ((w : Value) (after : Position) → datum_at (tree (get_or ss n d)) p ≡ Ok (w, after)
-    → LeadsTo left (within way (tree (get_or ss n d), w)) r) → LeadsTo left (pick way (t, v)) r
-leads_chosen left way t ss n d p q v r is lt e on =
+    → P (within way (tree (get_or ss n d), w))) → P (pick way (t, v))
+met_chosen P way t ss n d p q v is lt e on =
     let taken = chosen_taken (branch_at (branch_trees ss)) n p v q e in
     let read : datum_at (tree (get_or ss n d)) p ≡ Ok (taken.0, q) = sym (branch_there ss n d p lt) ∙ taken.1 in
     let there = pick_chosen way (branch_trees ss) n v (tree (get_or ss n d)) taken.0 taken.2
     (branch_chosen ss n d taken.0 lt) in
     rw (union_of_branches t (branch_trees ss) is, there) (on taken.0 q read)
+
+pub leads_chosen : (left : ℕ) (way : List ℤ) (t : Tree) (ss : List Schema) (n : ℕ) (d : Schema) (p q : Position)
+    (v : Value) (r : Result (Option (Bor Schema × Place)) Refusal) → branches_in t ≡ Some (branch_trees ss)
+    → n < length ss → chosen_by (branch_at (branch_trees ss)) (pos n) p ≡ Ok (v, q)
+    → ((w : Value) (after : Position) → datum_at (tree (get_or ss n d)) p ≡ Ok (w, after)
+    → LeadsTo left (within way (tree (get_or ss n d), w)) r) → LeadsTo left (pick way (t, v)) r
+leads_chosen left way t ss n d p q v r is lt e on =
+    met_chosen (λ met. LeadsTo left met r) way t ss n d p q v is lt e on
 
 -- ---- objects
 

@@ -4,7 +4,7 @@ use Rattle.std.specs.Prelude.{◌≡◌, ◌≤◌, ℕ, ℤ, List, map, Option,
 use Rattle.std.specs.Prelude.{[], ◌∷◌, Bool, true, false, ◌⊎◌}
 use Rattle.std.specs.Global.{Global}
 use denote.Ref.{Bor}
-use Rattle.avro_schema.specs.Tree.{Tree, null, structure, union, Fields, no_fields, Branches}
+use Rattle.avro_schema.specs.Tree.{Tree, null, structure, array, union, Fields, no_fields, Branches}
 use Rattle.avro_schema.specs.View.{tree}
 use Rattle.avro_schema.specs.declared.schema.Schema.{Schema}
 use Rattle.avro_parts.specs.declared.place.Place.{Place}
@@ -54,6 +54,16 @@ is_structure t = false
 abbrev pub branches_in : Tree → Option Branches
 branches_in (union bs) = Some bs
 branches_in t = None
+
+-- the type of an array's items
+abbrev pub items_in : Tree → Option Tree
+items_in (array t id kind) = Some t
+items_in t = None
+
+-- the type of the items of a list that was met
+abbrev pub items_type : Picked → Option Tree
+items_type (present x) = items_in x.0
+items_type met = None
 
 -- the type whose only value is null
 abbrev pub has_null_only : Tree → Bool

@@ -11,7 +11,8 @@ ghost use Rattle.avro_file.specs.Reading.{datum_at, fields_at};
 ghost use Rattle.avro_file.specs.Picking.{pick, field_value, unless_absent};
 ghost use Rattle.avro_file.specs.Blocks.{StandsAt};
 ghost use Rattle.avro_picked.specs.Finding.{IsMet};
-ghost use Rattle.avro_picked.specs.Finding.{within, branches_in, fields_in, is_structure, has_null_only, LeadsTo};
+ghost use Rattle.avro_picked.specs.Finding.{within, branches_in, fields_in, items_in, is_structure, has_null_only};
+ghost use Rattle.avro_picked.specs.Finding.{LeadsTo};
 
 use avro_file::{Datum, Object, datum_of, end_of, natural};
 use avro_parts::{Place, Refusal, long_of};
@@ -137,6 +138,16 @@ pub fn branches_of(schema: &Schema) -> Option<&[Schema]>
 {
     match schema {
         Schema::Union(branches) => Some(branches),
+        _ => None,
+    }
+}
+
+/// The type of an array's items.
+pub fn items_of(schema: &Schema) -> Option<&Schema>
+    ensures { option_map (λ items. tree items.now) result ≡ items_in (tree schema.now) }
+{
+    match schema {
+        Schema::Array(items, _, _) => Some(items),
         _ => None,
     }
 }

@@ -1,7 +1,7 @@
 //! A type as ways go through it, for objects that have unions on the ways.
 
-ghost use Rattle.std.specs.Prelude.{◌≡◌, ◌||◌, ℤ, List, Some, IfOk};
-ghost use Rattle.avro_schema.specs.Tree.{Tree, Fields};
+ghost use Rattle.std.specs.Prelude.{◌≡◌, ◌||◌, ℤ, List, None, Some, IfOk};
+ghost use Rattle.avro_schema.specs.Tree.{Tree, Fields, no_fields, field};
 ghost use Rattle.avro_schema.specs.View.{tree, trees, parts as field_parts, fields_of as field_trees};
 ghost use Rattle.avro_schema.specs.View.{branches_of as branch_trees};
 ghost use Rattle.avro_parts.specs.Place.{position_of};
@@ -12,11 +12,12 @@ ghost use Rattle.avro_file.specs.Value.{Value, values_of};
 ghost use Rattle.avro_file.specs.Reading.{datum_at, fields_at};
 ghost use Rattle.avro_file.specs.Blocks.{StandsAt};
 ghost use Rattle.avro_file.specs.Picking.{pick, field_value, unless_absent};
-ghost use Rattle.avro_picked.specs.Finding.{IsMet, within, LeadsTo};
+ghost use Rattle.avro_picked.specs.Finding.{IsMet, within};
 ghost use Rattle.avro_picked.specs.Guides.{ids_in, is_on as is_id_on, asks as is_asked, kept, as_fields, guided, seen};
 ghost use Rattle.avro_picked.specs.Guides.{IsGuideOf, all_seen, id_guided, type_guided, IsGuide, AreParts, AreAsked};
+ghost use Rattle.avro_picked.specs.Guides.{GuidesTo, HasItems, GuidesItems, IsGuided};
 
-use crate::found::{Found, MAX_ITEMS, branches_of, is_null, is_record};
+use crate::found::{Found, MAX_ITEMS, branches_of, is_null, is_record, items_of};
 use avro_file::{end_of, lean_schema, natural, takes_bytes};
 use avro_parts::{Place, Refusal, long_of};
 use avro_schema::{Field, Schema};
@@ -33,8 +34,16 @@ pub struct Guide<'s> {
     schema: &'s Schema,
     /// Its values end where those of the type do.
     passing: Schema,
-    /// Of a union its branches. Of a record its fields, but for those that take no bytes and that no way asks for.
+    /// Of a union its branches, and of an array its items. Of a record its fields, but for those that take no bytes and
+    /// that no way asks for.
     parts: Vec<Guide<'s>>,
+}
+
+/// An object, which was checked, and a guide of its type. It lends both.
+#[derive(Clone, Copy, Debug)]
+pub struct GuidedObject<'e, 's, 'a> {
+    pub(crate) guide: &'e Guide<'s>,
+    pub(crate) bytes: &'a [u8],
 }
 
 /// Whether the id is on the way.
@@ -114,6 +123,10 @@ pub fn guide_of<'s>(
             let parts = branch_guides(alloc, branches, ways)?;
             with_parts(alloc, id, schema, parts)
         }
+        Schema::Array(items, _, _) => {
+            let parts = item_guides(alloc, items, ways)?;
+            with_parts(alloc, id, schema, parts)
+        }
         Schema::Null
         | Schema::Boolean
         | Schema::Int
@@ -124,7 +137,6 @@ pub fn guide_of<'s>(
         | Schema::Bytes(_)
         | Schema::String
         | Schema::Fixed(_, _)
-        | Schema::Array(_, _, _)
         | Schema::Map(_) => with_parts(alloc, id, schema, Vec::new(alloc)),
     }
 }
@@ -165,16 +177,31 @@ fn branch_guides<'s>(
     Ok(guides)
 }
 
-/// The type and the place of what stands where the way leads from a value of the guide's type at the place.
+/// The guide of an array's items.
+#[cycle(guide)]
+fn item_guides<'s>(
+    alloc: Global,
+    items: &'s Schema,
+    ways: &[Vec<i32>],
+) -> Result<Vec<Guide<'s>>, AllocError>
+    ensures { IfOk result (λ guides. AreParts (ids_in ways.now) (all_seen guides.items)
+        (field None (tree items.now) no_fields)) }
+{
+    let mut guides = Vec::with_capacity(alloc, 1)?;
+    guides.push(guide_of(alloc, None, items, ways)?)?;
+    Ok(guides)
+}
+
+/// The guide and the place of what stands where the way leads from a value of the guide's type at the place.
 #[cycle(guided)]
-fn place_by<'s, 'a>(
-    guide: &Guide<'s>,
+fn place_by<'e, 's, 'a>(
+    guide: &'e Guide<'s>,
     way: &[i32],
     place: Place<'a>,
-) -> Result<Option<(&'s Schema, Place<'a>)>, Refusal>
+) -> Result<Option<(&'e Guide<'s>, Place<'a>)>, Refusal>
     ensures { (ways : List (List ℤ)) (v : Value) (after : Position) → IsGuide ways (seen guide.now)
         → AreAsked ways way.now → datum_at (type_guided (seen guide.now)) (position_of place.entry) ≡ Ok (v, after)
-        → LeadsTo place.entry.left (pick way.now (type_guided (seen guide.now), v)) result }
+        → GuidesTo ways place.entry.left (pick way.now (type_guided (seen guide.now), v)) result }
 {
     let Some(_) = branches_of(guide.schema) else {
         return place_inside(guide, way, place);
@@ -195,14 +222,14 @@ fn place_by<'s, 'a>(
 
 /// The same from the branch that a union chose, or from a value that is no union's.
 #[cycle(guided)]
-fn place_inside<'s, 'a>(
-    guide: &Guide<'s>,
+fn place_inside<'e, 's, 'a>(
+    guide: &'e Guide<'s>,
     way: &[i32],
     place: Place<'a>,
-) -> Result<Option<(&'s Schema, Place<'a>)>, Refusal>
+) -> Result<Option<(&'e Guide<'s>, Place<'a>)>, Refusal>
     ensures { (ways : List (List ℤ)) (v : Value) (after : Position) → IsGuide ways (seen guide.now)
         → AreAsked ways way.now → datum_at (type_guided (seen guide.now)) (position_of place.entry) ≡ Ok (v, after)
-        → LeadsTo place.entry.left (within way.now (type_guided (seen guide.now), v)) result }
+        → GuidesTo ways place.entry.left (within way.now (type_guided (seen guide.now), v)) result }
 {
     match way.split_first() {
         Some((id, rest)) => if is_record(guide.schema) {
@@ -211,22 +238,22 @@ fn place_inside<'s, 'a>(
             Ok(None)
         },
         None if is_null(guide.schema) => Ok(None),
-        None => Ok(Some((guide.schema, place))),
+        None => Ok(Some((guide, place))),
     }
 }
 
 /// The same from the field with this id on, where the guides are those of a record's fields, which begin at the place.
 #[cycle(guided)]
-fn place_past<'s, 'a>(
-    guides: &[Guide<'s>],
+fn place_past<'e, 's, 'a>(
+    guides: &'e [Guide<'s>],
     id: i32,
     way: &[i32],
     place: Place<'a>,
-) -> Result<Option<(&'s Schema, Place<'a>)>, Refusal>
+) -> Result<Option<(&'e Guide<'s>, Place<'a>)>, Refusal>
     ensures { (ways : List (List ℤ)) (fs : Fields) (vs : List Value) (after : Position)
         → AreParts ways (all_seen guides.now) fs → AreAsked ways way.now
         → fields_at fs (position_of place.entry) ≡ Ok (vs, after)
-        → LeadsTo place.entry.left (unless_absent (pick way.now) (field_value id fs (values_of vs))) result }
+        → GuidesTo ways place.entry.left (unless_absent (pick way.now) (field_value id fs (values_of vs))) result }
 {
     let mut here = place;
     'guides: for guide in guides {
@@ -267,6 +294,37 @@ impl<'s> Guide<'s> {
     }
 }
 
+/// The guide of the items, where the type is an array.
+fn items_part<'e, 's>(guide: &'e Guide<'s>) -> Option<&'e Guide<'s>>
+    ensures { (ways : List (List ℤ)) → IsGuide ways (seen guide.now) →
+        HasItems ways (type_guided (seen guide.now)) result }
+{
+    match items_of(guide.schema) {
+        Some(_) => guide.parts.first(),
+        None => None,
+    }
+}
+
+impl<'e, 's, 'a> GuidedObject<'e, 's, 'a> {
+    /// The guide of the items of the list that stands where one of the ways leads from the object; none where no list
+    /// stands there.
+    pub fn items_guide(&self, way: &[i32]) -> Option<&'e Guide<'s>>
+        ensures { (ways : List (List ℤ)) (t : Tree) (v : Value) → IsGuided ways t v self.now → AreAsked ways way.now
+            → GuidesItems ways result (pick way.now (t, v)) }
+    {
+        let place = Place {
+            bytes: self.bytes,
+            left: MAX_ITEMS,
+        };
+        match place_by(self.guide, way, place) {
+            Ok(Some((list, _))) => items_part(list),
+            Ok(None) => None,
+            // It was checked, so that reading does not fail.
+            Err(_) => None,
+        }
+    }
+}
+
 /// What stands where the way leads from the value of the guide's type at the front of the bytes, which was checked.
 #[inline(never)]
 pub fn found_by<'s, 'a>(guide: &Guide<'s>, way: &[i32], bytes: &'a [u8]) -> Option<Found<'s, 'a>>
@@ -279,8 +337,8 @@ pub fn found_by<'s, 'a>(guide: &Guide<'s>, way: &[i32], bytes: &'a [u8]) -> Opti
         left: MAX_ITEMS,
     };
     match place_by(guide, way, place) {
-        Ok(Some((schema, place))) => Some(Found {
-            schema,
+        Ok(Some((guide, place))) => Some(Found {
+            schema: guide.schema,
             bytes: place.bytes,
         }),
         Ok(None) => None,

@@ -8,8 +8,8 @@ ghost use Rattle.avro_picked.specs.Finding.{IsMet};
 ghost use Rattle.avro_picked.specs.Guides.{ids_in, IsGuideOf};
 ghost use Rattle.avro_schema.specs.View.{tree};
 
-use crate::found::{Found, found_here, found_on_way};
-use crate::guide::{Guide, found_by, guide_of};
+use crate::found::{Found, branches_of, fields_of, found_here, found_on_way, items_of};
+use crate::guide::{Guide, GuidedObject, found_by, guide_of};
 use crate::places::Places;
 use crate::row::{Lead, Step, lead_of, row_end, steps_of};
 use avro_file::{AvroFault, Datum, Object, Objects, lean_schema};
@@ -27,22 +27,56 @@ pub struct Layout<'s> {
     steps: Vec<Step>,
     /// Where each way leads in it.
     leads: Vec<Option<Lead<'s>>>,
-    /// What ways are walked by that go on behind a union; none where no way does.
+    /// What ways are walked by that go on behind a union, and the items of lists; none where none of them needs it.
     guide: Option<Guide<'s>>,
 }
 
-/// Whether a way goes on behind the value to which it leads in the row. It tells nothing but how ways are walked.
-fn any_goes_on(ways: &[Vec<i32>], leads: &[Option<Lead>]) -> bool {
+/// Whether the type has no types within it.
+fn is_simple(schema: &Schema) -> bool {
+    !matches!(
+        schema,
+        Schema::Record(_) | Schema::Union(_) | Schema::Array(_, _, _) | Schema::Map(_)
+    )
+}
+
+/// Whether values of the type are walked in few steps without a guide: simple ones, and pairs of simple ones.
+fn is_short(schema: &Schema) -> bool {
+    match fields_of(schema) {
+        [first, second] => is_simple(&first.schema) && is_simple(&second.schema),
+        _ => is_simple(schema),
+    }
+}
+
+/// Whether the type is a list whose items are walked by a guide.
+fn has_long_items(schema: &Schema) -> bool {
+    match items_of(schema) {
+        Some(items) => !is_short(items),
+        None => false,
+    }
+}
+
+/// Whether values of the type may be a list whose items are walked by a guide.
+fn may_have_long_items(schema: &Schema) -> bool {
+    match branches_of(schema) {
+        Some(branches) => branches.iter().any(has_long_items),
+        None => has_long_items(schema),
+    }
+}
+
+/// Whether a way goes on behind the value to which it leads in the row, or leads to a list whose items are walked by a
+/// guide. It tells nothing but how ways are walked.
+fn any_is_guided(ways: &[Vec<i32>], leads: &[Option<Lead>]) -> bool {
     'ways: for (way, lead) in ways.iter().zip(leads) {
         match lead {
-            Some(lead) if lead.passed < way.len() => return true,
+            Some(lead) if lead.passed < way.len() || may_have_long_items(lead.schema) =>
+                return true,
             _ => {}
         }
     }
     false
 }
 
-/// The guide of a type for these ways; none where none of them goes on behind the value to which it leads in the row.
+/// The guide of a type for these ways; none where none of them needs one.
 fn guide_behind<'s>(
     alloc: Global,
     schema: &'s Schema,
@@ -51,7 +85,7 @@ fn guide_behind<'s>(
 ) -> Result<Option<Guide<'s>>, AllocError>
     ensures { IfOk result (λ some. IfSome some (λ guide. IsGuideOf (ids_in ways.now) (tree schema.now) guide)) }
 {
-    if !any_goes_on(ways, leads) {
+    if !any_is_guided(ways, leads) {
         return Ok(None);
     }
     Ok(Some(guide_of(alloc, None, schema, ways)?))
@@ -64,6 +98,7 @@ impl<'s> Layout<'s> {
     ghost use Rattle.avro_file.specs.Files.{Next};
     ghost use Rattle.avro_picked.specs.Finding.{layout_tree, ways_of, ArePicked, NextPicked};
     ghost use Rattle.avro_picked.specs.Placing.{way_of, IsLayout, FitsLayout, ArePlaced};
+    ghost use Rattle.avro_picked.specs.Guides.{IsGuided};
 
     /// The layout of a type for ways of field ids, which each begin at the object and go through records and through
     /// the branches that unions choose; `[]` is the object itself. `Memory` is its only refusal.
@@ -169,6 +204,23 @@ impl<'s> Layout<'s> {
         match end {
             Some(end) => Ok(Some(objects.pass(end))),
             None => objects.next_alike(&self.passing),
+        }
+    }
+
+    /// An object and the guide of its type for the layout's ways; none where no guide was made, since all of them are
+    /// walked in few steps without.
+    pub fn guided<'a>(&self, object: Object<'s, 'a>) -> Option<GuidedObject<'_, 's, 'a>>
+        requires layout { IsLayout self.now }
+        requires schema { tree object.schema.now ≡ layout_tree self.now }
+        ensures { (v : Value) → Shows object.entry v →
+            IfSome result (λ guided. IsGuided (ways_of self.now) (layout_tree self.now) v guided) }
+    {
+        match &self.guide {
+            Some(guide) => Some(GuidedObject {
+                guide,
+                bytes: object.bytes(),
+            }),
+            None => None,
         }
     }
 

@@ -8,6 +8,6 @@ mod places;
 mod row;
 
 pub use found::Found;
-pub use guide::Guide;
+pub use guide::{Guide, GuidedObject};
 pub use layout::Layout;
 pub use places::Places;

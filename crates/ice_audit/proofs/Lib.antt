@@ -1,3 +1,4 @@
+pub mod Apart
 pub mod CoverageLaws
 pub mod Told
 pub mod Telltale

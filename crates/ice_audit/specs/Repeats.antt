@@ -18,6 +18,10 @@ live_file row x = record { path = x.file.path; manifest = row.path }
 abbrev pub path_before : LiveFile → LiveFile → Bool
 path_before a b = is_lt (slice_cmp nat_cmp a.path b.path)
 
+-- two files have one path
+abbrev pub has_path_of : LiveFile → LiveFile → Bool
+has_path_of a b = bytes_eq a.path b.path
+
 -- the finding that a file has the path of another
 abbrev pub repeat_of : LiveFile → Finding
 repeat_of x = record { manifest = x.manifest; file = Some x.path; flaw = LiveTwice }

@@ -1,11 +1,13 @@
-//! What the limits of partition values come to.
+//! What the limits of partition values, and findings, come to.
 
 ghost use Rattle.std.specs.Prelude.{◌≡◌, ◌↔◌, ℕ, List, [], Some, Ok, length, true};
-ghost use Rattle.std.specs.List.{AllByRecursion};
+ghost use Rattle.std.specs.List.{AllByRecursion, IsDistinct};
 ghost use Rattle.ice_audit.specs.Coverage.{allows, limits_of, outside, row_limits};
 ghost use Rattle.ice_audit.specs.Findings.{entry_findings, manifest_findings};
+ghost use Rattle.ice_audit.specs.Repeats.{has_path_of, repeats};
 ghost use Rattle.ice_audit.specs.Telling.{uncovered};
 ghost use Rattle.ice_audit.specs.declared.basis.Basis.{Basis};
+ghost use Rattle.ice_audit.specs.declared.repeats.LiveFile.{LiveFile};
 ghost use Rattle.ice_manifest_reading.specs.Manifests.{entries, live_of};
 ghost use Rattle.ice_manifest_reading.specs.declared.entry.Entry.{Entry};
 ghost use Rattle.ice_manifest_reading.specs.declared.entry.Live.{Live};
@@ -45,3 +47,8 @@ pub fn findings_tell_coverage()
 {
     contents_fit();
 }
+
+/// There is no finding that a path is live twice just where no live file has the path of another.
+pub fn repeats_tell_paths_apart()
+    ensures { (files : List LiveFile) → repeats files ≡ [] ↔ IsDistinct has_path_of files }
+{}

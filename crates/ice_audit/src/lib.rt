@@ -14,5 +14,5 @@ mod repeats;
 pub use basis::Basis;
 pub use entries::push_findings;
 pub use finding::{Finding, Flaw};
-pub use laws::{findings_tell_coverage, limits_tell_coverage};
+pub use laws::{findings_tell_coverage, limits_tell_coverage, repeats_tell_paths_apart};
 pub use repeats::{LiveFile, push_live, push_repeats};

@@ -1,2 +1,3 @@
+pub mod AnyFiles
 pub mod Premise
 pub mod Steps

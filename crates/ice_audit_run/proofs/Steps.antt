@@ -151,7 +151,7 @@ pub row_step : (rows : List Row) (i : ℕ) (row : Row) → i < length rows → r
     → drop i rows ≡ row ∷ drop (i + 1) rows
 row_step rows i row lt is = drop-cons rows i row lt ∙ rw (← is, add-one) refl
 
-nothing_joined : (n m : ℕ) (fs : List Finding) (ls : List LiveFile)
+pub nothing_joined : (n m : ℕ) (fs : List Finding) (ls : List LiveFile)
     → joined (record { manifests = n; entries = m; findings = fs; live = ls }) nothing
     ≡ record { manifests = n; entries = m; findings = fs; live = ls }
 nothing_joined n m fs ls = simp (add-zero, append-nil)

@@ -2,3 +2,4 @@ pub mod Subjects
 pub mod Audits
 pub mod Texts
 pub mod Premises
+pub mod AnyFiles

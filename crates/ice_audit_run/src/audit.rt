@@ -1,6 +1,7 @@
 //! The audit of a manifest list's rows.
 
 ghost use Rattle.std.specs.Prelude.{◌≡◌, ◌++◌, ◌∷◌, ℕ, List, [], Some, Ok, IfOk, IfErr, IsErrOf};
+ghost use Rattle.ice_audit_run.specs.AnyFiles.{IsReadOf, IsReadOfRow, MayStop};
 ghost use Rattle.ice_audit_run.specs.Audits.{row_audit, rows_audit, whole};
 ghost use Rattle.ice_audit_run.specs.declared.audit.Reading.{Reading};
 ghost use Rattle.ice_desk.specs.Wanted.{paths_of};
@@ -78,6 +79,10 @@ fn audit_row<F: Files>(
         IfErr result (MayEnd (row_audit world basis.now row.now)
         (EndsAt world (F.may_fail files.now) (row.now.path ∷ [])) ⊥) }
     ensures write { IsErrOf result RunFault.Write → ⊥ }
+    ensures read { IfOk result (λ entries. (read : Reading) × IsReadOfRow basis.now row.now read
+        × (read.manifests ≡ 1) × (read.entries ≡ entries) × (findings.new ≡ findings.old ++ read.findings)
+        × (live.new.items ≡ live.old.items ++ read.live)) }
+    ensures stops { IfErr result (MayStop (F.world files.now) (F.may_fail files.now) ⊥) }
 {
     let spec = spec_for(basis.specs.as_slice(), row)?;
     let bytes = read_file(alloc, files, row.path.as_str())?;
@@ -101,6 +106,8 @@ pub fn audit_rows<F: Files>(
         IfErr result (MayEnd (rows_audit world basis.now rows.now)
         (EndsAt world (F.may_fail files.now) (paths_of rows.now)) ⊥) }
     ensures write { IsErrOf result RunFault.Write → ⊥ }
+    ensures read { IfOk result (IsReadOf basis.now rows.now) }
+    ensures stops { IfErr result (MayStop (F.world files.now) (F.may_fail files.now) ⊥) }
 {
     let mut findings = Items::new(alloc);
     let mut live = Vec::new(alloc);

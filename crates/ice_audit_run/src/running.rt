@@ -1,6 +1,7 @@
 //! Audits that are asked for, over any files.
 
-ghost use Rattle.std.specs.Prelude.{◌≡◌, ◌≢◌, Some, Ok, IfOk, IfErr, IsErrOf};
+ghost use Rattle.std.specs.Prelude.{◌≡◌, ◌≢◌, ℕ, List, Some, Ok, IfOk, IfErr, IsErrOf};
+ghost use Rattle.ice_audit_run.specs.AnyFiles.{IsAnAudit, MayStop, WritesAnAudit};
 ghost use Rattle.ice_audit_run.specs.Audits.{audit_at, audit_of, audit_reads, audit_reads_at};
 ghost use Rattle.ice_audit_run.specs.Premises.{HasTrueSummaries, HasTrueSummariesAt};
 ghost use Rattle.ice_audit_run.specs.Texts.{WroteAudit, WroteAuditFront};
@@ -31,6 +32,8 @@ fn audit_table<F: Files>(
         IfErr result (MayEnd (audit_of world metadata.now target.now)
         (EndsAt world (F.may_fail files.now) (audit_reads world metadata.now target.now)) ⊥) }
     ensures write { IsErrOf result RunFault.Write → ⊥ }
+    ensures read { IfOk result (IsAnAudit metadata.now target.now) }
+    ensures stops { IfErr result (MayStop (F.world files.now) (F.may_fail files.now) ⊥) }
 {
     let subject = select_subject(alloc, metadata, target)?;
     let rows = read_rows(alloc, files, subject.list.as_str())?;
@@ -71,6 +74,8 @@ pub fn run_audit<F: Files, W: Sink>(
 
     // Over all files.
     ensures nothing { IfErr result (λ fault. fault ≢ RunFault.Write → W.taken output.new ≡ W.taken output.old) }
+    ensures text { WritesAnAudit metadata.now target.now result (W.taken output.old) (W.taken output.new) }
+    ensures refusal { IfErr result (MayStop (F.world files.now) (F.may_fail files.now) (W.may_fail output.old)) }
 {
     audits_tell_of_summaries();
     let audit = audit_table(alloc, files, metadata, target)?;
@@ -106,6 +111,9 @@ pub fn audit_file<F: Files, W: Sink>(
 
     // Over all files.
     ensures nothing { IfErr result (λ fault. fault ≢ RunFault.Write → W.taken output.new ≡ W.taken output.old) }
+    ensures text { (metadata : List ℕ) ×
+        WritesAnAudit metadata target.now result (W.taken output.old) (W.taken output.new) }
+    ensures refusal { IfErr result (MayStop (F.world files.now) (F.may_fail files.now) (W.may_fail output.old)) }
 {
     let metadata = read_file(alloc, files, path)?;
     if workers == 0 || workers > MOST_WORKERS {

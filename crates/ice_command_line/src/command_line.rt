@@ -222,6 +222,15 @@ fn with_source<'a>(alloc: Global, command: Command<'a>) -> Result<Command<'a>, A
     command.group(ways)
 }
 
+/// The option that keeps a terminal from being shown what is read. It has no effect on what the words ask for.
+fn with_quiet<'a>(alloc: Global, command: Command<'a>) -> Result<Command<'a>, AllocError> {
+    let quiet = Arg::new(alloc, "quiet")
+        .long("quiet")
+        .action(ArgAction::SetTrue)
+        .help("Don't show on a terminal how much was read so far");
+    command.arg(quiet)
+}
+
 /// The command `list-plan`.
 fn list_plan_command<'a>(alloc: Global) -> Result<Command<'a>, AllocError> {
     let list = Arg::new(alloc, "list")
@@ -232,7 +241,7 @@ fn list_plan_command<'a>(alloc: Global) -> Result<Command<'a>, AllocError> {
         .about("Right for tables without partitions alone: print the plan of a manifest list")
         .after_long_help(LIST_EXAMPLE)
         .arg(list)?;
-    with_source(alloc, command)
+    with_quiet(alloc, with_source(alloc, command)?)
 }
 
 /// The options that name a snapshot, at most one of the two ways, with what they are for.
@@ -306,7 +315,7 @@ fn plan_command<'a>(alloc: Global) -> Result<Command<'a>, AllocError> {
         with_request(alloc, command)?,
         "How many workers read manifests at once, each in a thread of its own: from 1 to 64",
     )?;
-    with_source(alloc, command)
+    with_quiet(alloc, with_source(alloc, command)?)
 }
 
 /// The command `show`.
@@ -345,7 +354,7 @@ fn audit_command<'a>(alloc: Global) -> Result<Command<'a>, AllocError> {
         command,
         "From 1 to 64, as for `plan`; today one worker reads all manifests, whatever the number",
     )?;
-    with_source(alloc, command)
+    with_quiet(alloc, with_source(alloc, command)?)
 }
 
 /// The command `drill`.
@@ -425,7 +434,7 @@ fn append_command<'a>(alloc: Global) -> Result<Command<'a>, AllocError> {
             "Commit data files to a table: write manifests, a manifest list and, last, new metadata",
         )
         .after_long_help(APPEND_EXAMPLE);
-    with_source(alloc, with_commit(alloc, command)?)
+    with_quiet(alloc, with_source(alloc, with_commit(alloc, command)?)?)
 }
 
 /// The command `row-delta`.
@@ -433,7 +442,7 @@ fn row_delta_command<'a>(alloc: Global) -> Result<Command<'a>, AllocError> {
     let command = Command::new(alloc, "row-delta")
         .about("Commit data files and delete files to a table, in the same way")
         .after_long_help(ROW_DELTA_EXAMPLE);
-    with_source(alloc, with_commit(alloc, command)?)
+    with_quiet(alloc, with_source(alloc, with_commit(alloc, command)?)?)
 }
 
 /// The option that asks for a hint behind the line of a refusal. It has no effect on what the words ask for.

@@ -1,6 +1,6 @@
 -- The whole program: what it makes of its words and of standard input.
 use Rattle.std.specs.Prelude.{◌≡◌, ◌≢◌, ◌⊎◌, ◌==◌, ℕ, List, length, Option, Some, None, IfSome, Result, Ok, Err, OnOk}
-use Rattle.std.specs.Prelude.{IfOk, IfErr, IsErrOf, if◌then◌else◌, Bool, true, false, ◌||◌, [], ◌∷◌, codes}
+use Rattle.std.specs.Prelude.{IfOk, IfErr, IsErrOf, if◌then◌else◌, Bool, true, false, not, ◌&&◌, ◌||◌, [], ◌∷◌, codes}
 use Rattle.std.specs.List.{list_any}
 use Rattle.std.specs.Str.{bytes_eq}
 use Rattle.contract_words.specs.Outcome.{◌>>=◌}
@@ -173,9 +173,17 @@ meant true [] = codes "--help" ∷ []
 meant true (word ∷ words) = word ∷ words
 meant false words = words
 
+-- whether a word is this one
+abbrev pub has_word : List ℕ → List (List ℕ) → Bool
+has_word wanted words = list_any (λ word. bytes_eq word wanted) words
+
 -- whether a word is `--explain`
 abbrev pub asks_hints : List (List ℕ) → Bool
-asks_hints words = list_any (λ word. bytes_eq word (codes "--explain")) words
+asks_hints words = has_word (codes "--explain") words
+
+-- whether what is read is shown: on a terminal, unless a word is `--quiet`
+abbrev pub shows_progress : Bool → List (List ℕ) → Bool
+shows_progress errors_is_terminal words = errors_is_terminal && not (has_word (codes "--quiet") words)
 
 -- whether faults have hints
 abbrev pub hints : Bool → List (List ℕ) → Bool

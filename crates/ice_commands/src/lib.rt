@@ -9,6 +9,7 @@ mod words;
 pub use explaining::{Terminals, run_program};
 pub use ice_command_line::{Lists, Place, Source, Words, parse_words};
 pub use ice_drill::{Drill, Watch, drill_table, run_drill};
+pub use ice_progress::{Cleared, Progress, ProgressLine, Screen, Silent};
 pub use ice_requests::{
     Bundle, CommitFolder, CommitRequest, Folder, Request, Selection, Store, StoreFault, commit_to,
     commits_are_put, file_name, fill_file, plan_file, plans_of_true_summaries, prepare_commit,

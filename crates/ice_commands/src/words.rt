@@ -1,7 +1,7 @@
 //! The program over its words, standard input, the files of the system, output and errors.
 
 ghost use Rattle.std.specs.Prelude.{◌≡◌, ◌⊎◌, ℕ, List, Option, Some, None, Result, Ok, Err, map, string_bytes};
-ghost use Rattle.std.specs.Prelude.{IfOk, IfErr, OnOk};
+ghost use Rattle.std.specs.Prelude.{IfOk, IfErr, OnOk, true};
 ghost use Rattle.ice_requests.specs.Bundles.{IsInput, bundle_of};
 ghost use Rattle.ice_requests.specs.Commits.{committed_text};
 ghost use Rattle.ice_drill.specs.Drills.{WroteDrill};
@@ -17,6 +17,7 @@ use ice_audit_run::audit_file;
 use ice_command_line::{Lists, Place, Source, Words, parse_words};
 use ice_drill::{Watch, run_drill};
 use ice_meta::Target;
+use ice_progress::{Progress, Silent, Watched};
 use ice_requests::{
     Bundle, CommitFolder, Folder, commit_to, plan_file, prepare_commit, read_bundle, run_list_plan,
     show_file,
@@ -47,13 +48,15 @@ pub fn files_of<'a, H: Files>(host: &'a H, place: &'a Place) -> Folder<'a, H>
 }
 
 /// Writes the plan of a manifest list.
-fn list_plan<H: Files, R: Read, W: Sink>(
+fn list_plan<H: Files, P: Progress, R: Read, W: Sink>(
     host: &H,
     alloc: Global,
     lists: &Lists,
+    progress: &P,
     input: &mut R,
     output: &mut W,
 ) -> Result<(), RunFault>
+    requires { P.may_be_told progress.now ≡ true }
     ensures { (text : List ℕ) × IsInput (R.remaining input.old) text ×
         Ran (answer_to (Words.ListPlan lists.now) text) (W.may_fail output.old) result (W.taken output.old)
         (W.taken output.new) }
@@ -66,7 +69,7 @@ fn list_plan<H: Files, R: Read, W: Sink>(
         }
         Lists::Folder(place, list) => run_list_plan(
             alloc,
-            &files_of(host, place),
+            &Watched::new(files_of(host, place), progress),
             list.as_str(),
             output,
         ),
@@ -74,16 +77,20 @@ fn list_plan<H: Files, R: Read, W: Sink>(
 }
 
 /// Writes the plan that is asked of the table whose metadata is at a path.
-fn plan<H: Files<File: Send, Dir: Send> + Threads + Sync, R: Read, W: Sink>(
+fn plan<H, P: Progress + Sync, R: Read, W: Sink>(
     host: &H,
     alloc: Global,
     source: &Source,
     request: &Request,
     workers: usize,
     path: &Text,
+    progress: &P,
     input: &mut R,
     output: &mut W,
 ) -> Result<(), RunFault>
+where
+    H: Files<File: Send, Dir: Send> + Threads + Sync,
+    requires { P.may_be_told progress.now ≡ true }
     ensures { (text : List ℕ) × IsInput (R.remaining input.old) text ×
         Ran (answer_to (Words.Plan source.now request.now workers path.now) text) (W.may_fail output.old) result
         (W.taken output.old) (W.taken output.new) }
@@ -97,7 +104,7 @@ fn plan<H: Files<File: Send, Dir: Send> + Threads + Sync, R: Read, W: Sink>(
         Source::Folder(place) => plan_file(
             host,
             alloc,
-            &files_of(host, place),
+            &Watched::new(files_of(host, place), progress),
             path,
             request,
             workers,
@@ -129,16 +136,18 @@ fn show<H: Files, R: Read, W: Sink>(
 }
 
 /// Writes the audit of a snapshot of the table whose metadata is at a path, and gives the number of findings.
-fn audit<H: Files, R: Read, W: Sink>(
+fn audit<H: Files, P: Progress, R: Read, W: Sink>(
     host: &H,
     alloc: Global,
     source: &Source,
     target: &Target,
     workers: usize,
     path: &Text,
+    progress: &P,
     input: &mut R,
     output: &mut W,
 ) -> Result<usize, RunFault>
+    requires { P.may_be_told progress.now ≡ true }
     ensures { (text : List ℕ) × IsInput (R.remaining input.old) text ×
         Ran (answer_to (Words.Audit source.now target.now workers path.now) text) (W.may_fail output.old)
         (ended result) (W.taken output.old) (W.taken output.new)
@@ -152,7 +161,7 @@ fn audit<H: Files, R: Read, W: Sink>(
         }
         Source::Folder(place) => audit_file(
             alloc,
-            &files_of(host, place),
+            &Watched::new(files_of(host, place), progress),
             path,
             target,
             workers,
@@ -180,14 +189,16 @@ fn print_commit<W: Sink>(
 }
 
 /// Makes a commit to a table in a folder and tells it, or writes its files as lines of a bundle.
-fn commit<H: Files, R: Read, W: Sink>(
+fn commit<H: Files, P: Progress, R: Read, W: Sink>(
     host: &H,
     alloc: Global,
     source: &Source,
     request: &CommitRequest,
+    progress: &P,
     input: &mut R,
     output: &mut W,
 ) -> Result<(), RunFault>
+    requires { P.may_be_told progress.now ≡ true }
     ensures { (text : List ℕ) × IsInput (R.remaining input.old) text ×
         Ran (answer_to (Words.Commit source.now request.now) text) (W.may_fail output.old) result
         (W.taken output.old) (W.taken output.new) }
@@ -198,8 +209,9 @@ fn commit<H: Files, R: Read, W: Sink>(
             print_commit(alloc, &bundle, request, output)
         }
         Source::Folder(place) => {
+            let files = Watched::new(files_of(host, place), progress);
             let mut store = CommitFolder::new(files_of(host, place), &request.ids);
-            commit_to(alloc, &files_of(host, place), request, &mut store, output)
+            commit_to(alloc, &files, request, &mut store, output)
         }
     }
 }
@@ -236,14 +248,19 @@ fn no_findings(answer: Result<(), RunFault>) -> Result<usize, RunFault>
     }
 }
 
-/// Writes what is asked for, and gives the number of findings of which that tells.
-pub fn run_asked<H: Files<File: Send, Dir: Send> + Threads + Wait + Watch + Sync, R: Read, W: Sink>(
+/// Writes what is asked for, and gives the number of findings of which that tells. `progress` is told of the files that
+/// are read below a folder.
+pub fn run_asked<H, P: Progress + Sync, R: Read, W: Sink>(
     host: &H,
     alloc: Global,
     asked: &Words,
+    progress: &P,
     input: &mut R,
     output: &mut W,
 ) -> Result<usize, RunFault>
+where
+    H: Files<File: Send, Dir: Send> + Threads + Wait + Watch + Sync,
+    requires { P.may_be_told progress.now ≡ true }
     ensures ran { (text : List ℕ) × IsInput (R.remaining input.old) text ×
         Ran (answer_to asked.now text) (W.may_fail output.old) (ended result) (W.taken output.old)
         (W.taken output.new)
@@ -251,16 +268,18 @@ pub fn run_asked<H: Files<File: Send, Dir: Send> + Threads + Wait + Watch + Sync
     ensures drilled { OnOk result (IsOfDrill (Ok asked.now) (W.taken output.old) (W.taken output.new)) }
 {
     match asked {
-        Words::ListPlan(lists) => no_findings(list_plan(host, alloc, lists, input, output)),
+        Words::ListPlan(lists) => {
+            no_findings(list_plan(host, alloc, lists, progress, input, output))
+        }
         Words::Plan(source, request, workers, path) => no_findings(plan(
-            host, alloc, source, request, *workers, path, input, output,
+            host, alloc, source, request, *workers, path, progress, input, output,
         )),
         Words::Commit(source, request) => {
-            no_findings(commit(host, alloc, source, request, input, output))
+            no_findings(commit(host, alloc, source, request, progress, input, output))
         }
         Words::Show(source, path) => no_findings(show(host, alloc, source, path, input, output)),
         Words::Audit(source, target, workers, path) => audit(
-            host, alloc, source, target, *workers, path, input, output,
+            host, alloc, source, target, *workers, path, progress, input, output,
         ),
         Words::Drill(asked) => no_findings(drill(host, alloc, *asked, output)),
         Words::Text(text) => no_findings(tell(text, output)),
@@ -282,7 +301,7 @@ fn run<H: Files<File: Send, Dir: Send> + Threads + Wait + Watch + Sync, R: Read,
         × IfOk result (IsCountOf asked text) }
 {
     let asked = parse_words(alloc, words)?;
-    run_asked(host, alloc, &asked, input, output)
+    run_asked(host, alloc, &asked, &Silent, input, output)
 }
 
 /// The status that the program ends with that told of so many findings.

@@ -1,6 +1,6 @@
 -- What is found of an object and of its file.
 use Rattle.std.proofs.Common.{◌≡◌, ◌+◌, ◌<◌, ℕ, zero, suc, ℤ, pos, List, [], ◌∷◌, ◌++◌, length, get_or, map, Bool, true, is_some, Option, Some, None}
-use Rattle.std.proofs.Common.{Result, Ok, refl, sym, ap, subst, ◌∙◌, arith}
+use Rattle.std.proofs.Common.{Result, Ok, refl, sym, ap, subst, ◌∙◌, arith, IfSome}
 use Rattle.std.proofs.lemmas.List.{length-map}
 use Rattle.avro_schema.specs.Tree.{Tree, null, boolean, int, long, float, double, symbols, octets, string, fixed}
 use Rattle.avro_schema.specs.Tree.{structure, array, map as map_type, union, Fields}
@@ -10,7 +10,9 @@ use Rattle.avro_file.specs.Blocks.{StandsAt}
 use Rattle.avro_file.specs.Files.{Shows}
 use Rattle.avro_file.specs.Picking.{Typed, Picked, present, pick}
 use Rattle.avro_picked.specs.declared.found.Found.{Found}
-use Rattle.avro_picked.specs.Finding.{layout_tree, is_structure, IsMet}
+use Rattle.avro_picked.specs.declared.guide.GuidedObject.{GuidedObject}
+use Rattle.avro_picked.specs.Finding.{layout_tree, ways_of, is_structure, IsMet}
+use Rattle.avro_picked.specs.Guides.{IsGuided}
 use Rattle.avro_picked.specs.Placing.{nth_way, way_of}
 use Rattle.avro_picked.proofs.Values.{stood, structure_taken}
 use Rattle.ice_meta.specs.declared.spec.PartitionField.{PartitionField}
@@ -20,9 +22,10 @@ use Rattle.ice_manifest_fields.specs.Seen.{fields_seen}
 use Rattle.ice_entry_found.specs.declared.entry.FoundEntry.{FoundEntry}
 use Rattle.ice_entry_found.specs.declared.file.FoundFile.{FoundFile}
 use Rattle.ice_entry_found.specs.Ways.{to_cell, to_cells, to_entries, to_files, entry_fields, file_fields, wanted_ways}
-use Rattle.ice_entry_found.specs.Ways.{IsNumberOf}
+use Rattle.ice_entry_found.specs.declared.field.FileField.{FileField}
+use Rattle.ice_entry_found.specs.Ways.{file_id, to_file, pair_ids, IsNumberOf}
 use Rattle.ice_entry_found.specs.Seen.{value_read, record_met, entry_seen, IsPlaced, file_of, file_seen, IsFile, tuple_of}
-use Rattle.ice_entry_found.specs.Seen.{tuple_seen, HasTuple}
+use Rattle.ice_entry_found.specs.Seen.{tuple_seen, HasTuple, IsGuidedFile}
 use Rattle.ice_entry_found.proofs.Records.{picked_onward}
 
 -- ---- from the object
@@ -127,6 +130,27 @@ file_shown f found k next way is number finds =
     subst (λ (met : Picked). IsMet found met) (onward ∙ ap (pick (next ∷ way)) (sym here))
     (shown f.entry.now found k (pos 2 ∷ next ∷ way) is.0 number finds)
 
+-- where the file's object stands with a guide
+pub guided_shown : (f : FoundFile) (r : Option GuidedObject) → IsFile f → ((v : Value) → Shows f.entry.now.object v
+    → IfSome r (λ guided. IsGuided (ways_of f.entry.now.layout.now) (layout_tree f.entry.now.layout.now) v guided))
+    → IfSome r (λ guided. IsGuidedFile f guided)
+unfolding entry_seen file_seen
+guided_shown f None is shows = tt
+guided_shown f (Some guided) is shows =
+    let e = f.entry.now in
+    let v : Value = is.0.2.0 in
+    let read : v ≡ (entry_seen e).1 = sym (ap value_read is.0.2.1.1) in
+    let object_is : (layout_tree e.layout.now, v) ≡ entry_seen e =
+    ap (λ (t : Tree). (t, v)) (sym is.0.1.1) ∙ ap (λ (w : Value). (tree e.object.schema.now, w)) read in
+    let here = ap record_met is.1.1 in (
+      layout_tree e.layout.now,
+      v,
+      subst (λ (ws : List (List ℤ)). IsGuided ws (layout_tree e.layout.now) v guided) is.0.0 (shows v is.0.2.1),
+      λ field. ap (pick (to_file field)) object_is
+          ∙ picked_onward (pos 2) (file_id field) [] (entry_seen e) (structure (fields_seen f.fields.now), fields is.1.0)
+          is.1.1 ∙ ap (pick (file_id field ∷ [])) (sym here),
+    )
+
 -- ---- from the partition values
 
 nth_behind : (front ways : List (List ℤ)) (k : ℕ) → nth_way (front ++ ways) (length front + k) ≡ nth_way ways k
@@ -147,15 +171,15 @@ nth_cell (q ∷ ps) (suc k) p lt is = nth_cell ps k p (omega arith) is
 pub cell_shown : (f : FoundFile) (found : Option Found) (k : ℕ) (p : PartitionField) → IsFile f → HasTuple f
     → k < length f.entry.now.partition.now → p ≡ get_or f.entry.now.partition.now k p
     → ((v : Value) → Shows f.entry.now.object v
-    → IsMet found (pick (way_of f.entry.now.layout.now (16 + k)) (layout_tree f.entry.now.layout.now, v)))
+    → IsMet found (pick (way_of f.entry.now.layout.now (17 + k)) (layout_tree f.entry.now.layout.now, v)))
     → IsMet found (at p.field_id (tuple_seen f))
 unfolding tuple_seen
 cell_shown f found k p is tuple lt here finds =
     let ps = f.entry.now.partition.now in
-    let front : List (List ℤ) = to_entries entry_fields ++ to_files file_fields in
-    let number : nth_way (wanted_ways ps) (16 + k) ≡ to_cell p =
+    let front : List (List ℤ) = to_entries entry_fields ++ (to_files file_fields ++ pair_ids ∷ []) in
+    let number : nth_way (wanted_ways ps) (17 + k) ≡ to_cell p =
     nth_behind front (to_cells ps) k ∙ nth_cell ps k p lt here in
-    let few : 16 + k < length (wanted_ways ps) = omega (arith, length-map ps to_cell, lt) in
+    let few : 17 + k < length (wanted_ways ps) = omega (arith, length-map ps to_cell, lt) in
     let onward = picked_onward (pos 102) p.field_id [] (file_seen f) tuple.0 tuple.1 in
     subst (λ (met : Picked). IsMet found met) (onward ∙ ap (at p.field_id) (sym (ap record_met tuple.1)))
-    (file_shown f found (16 + k) (pos 102) (p.field_id ∷ []) is (few, number) finds)
+    (file_shown f found (17 + k) (pos 102) (p.field_id ∷ []) is (few, number) finds)

@@ -6,14 +6,17 @@ use Rattle.avro_parts.specs.declared.refusal.Refusal.{Refusal}
 use Rattle.avro_file.specs.Value.{Value, nothing, fields, Values}
 use Rattle.avro_file.specs.Blocks.{object_at}
 use Rattle.avro_file.specs.Files.{Shows}
-use Rattle.avro_file.specs.Picking.{Typed}
+use Rattle.avro_file.specs.Picking.{Typed, pick}
 use Rattle.avro_picked.specs.Finding.{ways_of}
 use Rattle.avro_picked.specs.Placing.{ArePlaced}
+use Rattle.avro_picked.specs.declared.guide.GuidedObject.{GuidedObject}
+use Rattle.avro_picked.specs.Guides.{IsGuided}
 use Rattle.ice_manifest_fields.specs.Fields.{at, there, record_of}
 use Rattle.ice_manifest_fields.specs.Seen.{fields_seen}
 use Rattle.ice_entry_found.specs.declared.entry.FoundEntry.{FoundEntry}
 use Rattle.ice_entry_found.specs.declared.file.FoundFile.{FoundFile}
-use Rattle.ice_entry_found.specs.Ways.{wanted_ways}
+use Rattle.ice_entry_found.specs.declared.field.FileField.{FileField}
+use Rattle.ice_entry_found.specs.Ways.{file_id, to_file, wanted_ways}
 
 -- what was read; null where nothing could be
 abbrev pub value_read : Result (Value × List ℕ) Refusal → Value
@@ -55,3 +58,9 @@ tuple_seen f = record_met (tuple_of f)
 
 abbrev pub HasTuple : FoundFile → Type 0
 HasTuple f = (y : Typed) × (tuple_of f ≡ Some y)
+
+-- The file's entry stands there, and the guide is of its type and keeps all that is wanted of it. Each field of the file
+-- is what the way leads to from the entry.
+abbrev pub IsGuidedFile : FoundFile → GuidedObject → Type 0
+IsGuidedFile f guided = (t : Tree) × (v : Value) × IsGuided (wanted_ways f.entry.now.partition.now) t v guided
+    × ((field : FileField) → pick (to_file field) (t, v) ≡ at (file_id field) (file_seen f))

@@ -55,9 +55,13 @@ abbrev pub file_fields : List FileField
 file_fields = file.Content ∷ file.Path ∷ file.Partition ∷ file.RecordCount ∷ file.FileSize ∷ file.ValueCounts
     ∷ file.NullCounts ∷ file.LowerBounds ∷ file.UpperBounds ∷ file.EqualityIds ∷ file.ReferencedFile ∷ []
 
+-- the fields of the pairs of a file's maps, which a guide keeps
+abbrev pub pair_ids : List ℤ
+pair_ids = pos 119 ∷ pos 120 ∷ pos 121 ∷ pos 122 ∷ pos 126 ∷ pos 127 ∷ pos 129 ∷ pos 130 ∷ []
+
 -- all that is read of an entry where the spec has these partition fields
 abbrev pub wanted_ways : List PartitionField → List (List ℤ)
-wanted_ways ps = to_entries entry_fields ++ (to_files file_fields ++ to_cells ps)
+wanted_ways ps = to_entries entry_fields ++ (to_files file_fields ++ pair_ids ∷ to_cells ps)
 
 abbrev pub ids_in : List (Vec ℤ Global) → List (List ℤ)
 ids_in ways = map (λ way. way.items) ways

@@ -4,8 +4,8 @@ ghost use Rattle.std.specs.Prelude.{◌≡◌, List};
 ghost use Rattle.ice_meta.specs.declared.spec.PartitionField.{PartitionField};
 ghost use Rattle.ice_entry_found.specs.Ways.{entry_id, file_id, to_entry, to_file, IsNumberOf};
 
-/// The partition values are read behind all fields of entries and files.
-pub(crate) const PARTITION_START: usize = 16;
+/// The partition values are read behind all fields of entries and files, and of pairs.
+pub(crate) const PARTITION_START: usize = 17;
 
 /// A field of an entry.
 #[derive(Clone, Copy, Debug, PartialEq, Eq)]

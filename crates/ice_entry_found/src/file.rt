@@ -1,6 +1,6 @@
 //! The file of an entry whose fields were found.
 
-ghost use Rattle.std.specs.Prelude.{◌≡◌, ◌<◌, length, get_or, None, is_some, MatchOption};
+ghost use Rattle.std.specs.Prelude.{◌≡◌, ◌<◌, length, get_or, None, is_some, IfSome, MatchOption};
 ghost use Rattle.avro_picked.specs.Finding.{is_structure};
 ghost use Rattle.avro_schema.specs.View.{tree};
 ghost use Rattle.avro_picked.specs.Finding.{IsMet};
@@ -8,10 +8,11 @@ ghost use Rattle.ice_meta.specs.declared.spec.PartitionField.{PartitionField};
 ghost use Rattle.ice_manifest_fields.specs.Fields.{at};
 ghost use Rattle.ice_entry_found.specs.Ways.{file_id};
 ghost use Rattle.ice_entry_found.specs.Seen.{IsPlaced, IsFile, HasTuple, file_of, file_seen, tuple_of, tuple_seen};
+ghost use Rattle.ice_entry_found.specs.Seen.{IsGuidedFile};
 
 use crate::entry::FoundEntry;
 use crate::field::{EntryField, FileField, PARTITION_START};
-use avro_picked::Found;
+use avro_picked::{Found, GuidedObject};
 use avro_schema::{Field, Schema};
 use ice_manifest_fields::fields_of;
 
@@ -47,6 +48,16 @@ impl<'f, 'e, 's, 'a> FoundFile<'f, 'e, 's, 'a> {
         entry
             .layout
             .found(entry.object, entry.places, field.number())
+    }
+
+    /// The object in which the file stands, with a guide that keeps the fields of its maps' pairs; none where the
+    /// layout has no guide.
+    pub fn guided(&self) -> Option<GuidedObject<'e, 's, 'a>>
+        requires { IsFile self.now }
+        ensures { IfSome result (λ guided. IsGuidedFile self.now guided) }
+    {
+        let entry = self.entry;
+        entry.layout.guided(entry.object)
     }
 
     /// Whether the partition values are there.

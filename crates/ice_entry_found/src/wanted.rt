@@ -11,8 +11,22 @@ use crate::field::{EntryField, FileField};
 use avro_file::AvroFault;
 use avro_picked::Layout;
 use avro_schema::Schema;
+use ice_manifest_fields::{LOWER_BOUNDS, NULL_COUNTS, UPPER_BOUNDS, VALUE_COUNTS};
 use ice_meta::PartitionField;
 use std::alloc::{AllocError, Global};
+
+/// The fields of the pairs of a file's maps. No way leads to them from an entry: they stand among what is wanted so that
+/// a guide of the entry, where the layout has one, keeps them in the pairs.
+const PAIR_IDS: [i32; 8] = [
+    VALUE_COUNTS.key,
+    VALUE_COUNTS.said,
+    NULL_COUNTS.key,
+    NULL_COUNTS.said,
+    LOWER_BOUNDS.key,
+    LOWER_BOUNDS.said,
+    UPPER_BOUNDS.key,
+    UPPER_BOUNDS.said,
+];
 
 fn push_way(alloc: Global, ids: &[i32], ways: &mut Vec<Vec<i32>>) -> Result<(), AllocError>
     ensures { IfOk result (λ _. ids_in ways.new.items ≡ ids_in ways.old.items ++ ids.now ∷ []) }
@@ -57,7 +71,7 @@ fn push_cell_ways(
     Ok(())
 }
 
-/// The ways to the fields of an entry and of its file.
+/// The ways to the fields of an entry and of its file, and those of pairs.
 fn field_ways(alloc: Global) -> Result<Vec<Vec<i32>>, AllocError>
     ensures { IfOk result (λ ways. ids_in ways.items ≡ wanted_ways []) }
 {
@@ -78,6 +92,7 @@ fn field_ways(alloc: Global) -> Result<Vec<Vec<i32>>, AllocError>
     push_file_way(alloc, FileField::UpperBounds, &mut ways)?;
     push_file_way(alloc, FileField::EqualityIds, &mut ways)?;
     push_file_way(alloc, FileField::ReferencedFile, &mut ways)?;
+    push_way(alloc, &PAIR_IDS, &mut ways)?;
     Ok(ways)
 }
 

@@ -1,5 +1,5 @@
 -- What an item of a list says, found from the item itself and not first from the record that it is.
-use Rattle.std.proofs.Common.{◌≡◌, ℤ, true, [], ◌∷◌, Option, Some, None, Result, Ok, refl, sym, ap, ◌∙◌, ◌⊎◌, inl, inr}
+use Rattle.std.proofs.Common.{◌≡◌, ℤ, List, true, [], ◌∷◌, Option, Some, None, Result, Ok, refl, sym, ap, ◌∙◌, ◌⊎◌, inl, inr}
 use Rattle.std.proofs.Common.{arith}
 use Rattle.contract_words.specs.Outcome.{◌>>=◌}
 use Rattle.avro_schema.specs.Tree as tree_of
@@ -17,13 +17,16 @@ use Rattle.ice_manifest_fields.specs.declared.fault.FieldFault.{FieldFault}
 use Rattle.ice_manifest_fields.specs.declared.columns.ColumnMap.{ColumnMap}
 use Rattle.ice_manifest_fields.specs.Fields.{at, there, record_of, asked, whole_of, binary_of, within_32, int_at}
 use Rattle.ice_manifest_fields.specs.Maps.{count_in, count_of, bound_in, bound_of}
-use Rattle.ice_manifest_found.specs.Met.{pair_ways}
+use Rattle.ice_manifest_found.specs.Met.{pair_ids, pair_ways}
 
-pub key_asked : (m : ColumnMap) → AreAsked (pair_ways m) (m.key ∷ [])
-key_asked m = nth_asked (pair_ways m) 0 (omega arith)
+pub key_asked : (ways : List (List ℤ)) (m : ColumnMap) → AreAsked ways (pair_ids m) → AreAsked ways (m.key ∷ [])
+key_asked ways m asked = (asked.0, tt)
 
-pub said_asked : (m : ColumnMap) → AreAsked (pair_ways m) (m.said ∷ [])
-said_asked m = nth_asked (pair_ways m) 1 (omega arith)
+pub said_asked : (ways : List (List ℤ)) (m : ColumnMap) → AreAsked ways (pair_ids m) → AreAsked ways (m.said ∷ [])
+said_asked ways m asked = asked.1
+
+pub pair_asked : (m : ColumnMap) → AreAsked (pair_ways m) (pair_ids m)
+pair_asked m = ((nth_asked (pair_ways m) 0 (omega arith)).0, nth_asked (pair_ways m) 1 (omega arith))
 
 -- ---- a record, or none
 

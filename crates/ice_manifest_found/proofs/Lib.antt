@@ -10,3 +10,4 @@ pub mod Coming
 pub mod PairsSaid
 pub mod ColumnsSaid
 pub mod Itself
+pub mod Guiding

@@ -12,6 +12,7 @@ use Rattle.avro_file.specs.Value.{Value, values_of}
 use Rattle.avro_file.specs.Reading.{values_at, blocks_at, datum_at}
 use Rattle.avro_file.specs.Blocks.{max_items, StandsAt}
 use Rattle.avro_file.specs.Picking.{Typed}
+use Rattle.avro_picked.specs.Finding.{items_in}
 use Rattle.ice_manifest_fields.specs.Fields.{items_of, items_as}
 use Rattle.ice_manifest_fields.specs.Seen.{fields_seen}
 use Rattle.ice_manifest_found.specs.declared.standing.Standing.{Standing}
@@ -62,7 +63,13 @@ NextItem old vs (Some s) new = (v : Value) × (ws : List Value) × (vs ≡ v ∷
     × (s.schema.now ≡ old.schema.now) × (new.schema.now ≡ old.schema.now)
 NextItem old vs None new = vs ≡ []
 
--- the items of what is there are to come; or nothing with items is there
+-- the type of the items of what is there
+abbrev pub type_listed : Option Typed → Option Tree
+type_listed (Some x) = items_in x.0
+type_listed None = None
+
+-- the items of what is there are to come, and have that type; or nothing with items is there
 abbrev pub ListAhead : Option ItemsAhead → Option Typed → Type 0
 ListAhead (Some i) x = (vs : List Value) × AreAhead i vs × (items_of x ≡ items_as (tree i.schema.now) (values_of vs))
+    × (type_listed x ≡ Some (tree i.schema.now))
 ListAhead None x = items_of x ≡ []

@@ -1,9 +1,13 @@
 -- What was met where a way of field ids leads, as the field that it is: what a manifest list's row or a manifest's entry
 -- must have there, or may.
 -- Apache Iceberg table spec v2, 'Manifests' and 'Column Projection'.
-use Rattle.std.specs.Prelude.{◌≡◌, ◌≢◌, ℕ, ℤ, List, [], ◌∷◌, Option, Result, Ok, Err}
+use Rattle.std.specs.Prelude.{◌≡◌, ◌≢◌, ℕ, ℤ, pos, List, [], ◌∷◌, Option, Some, None, Result, Ok, Err}
 use Rattle.contract_words.specs.Outcome.{◌>>=◌}
-use Rattle.avro_file.specs.Picking.{Typed, Picked}
+use Rattle.avro_schema.specs.Tree.{Tree}
+use Rattle.avro_file.specs.Value.{Value}
+use Rattle.avro_file.specs.Picking.{Typed, Picked, pick}
+use Rattle.avro_picked.specs.declared.guide.GuidedObject.{GuidedObject}
+use Rattle.avro_picked.specs.Guides.{IsGuided, AreAsked}
 use Rattle.ice_value.specs.Columns.{ColumnCount, ColumnBound}
 use Rattle.ice_value.specs.declared.file_bounds.FileBounds.{FileBounds}
 use Rattle.ice_manifest_fields.specs.declared.fault.FieldFault.{FieldFault}
@@ -63,12 +67,29 @@ counts_in m x = each (count_of m) (items_of x)
 abbrev pub bounds_in : ColumnMap → Option Typed → Result (List ColumnBound) FieldFault
 bounds_in m x = each (bound_of m) (items_of x)
 
+-- the fields of a map's pairs
+abbrev pub pair_ids : ColumnMap → List ℤ
+pair_ids m = m.key ∷ m.said ∷ []
+
+-- the guide, if there is one, leads from an entry to what was met at the map, and keeps the fields of its pairs
+abbrev pub LeadsToMap : ColumnMap → Option GuidedObject → Picked → Type 0
+LeadsToMap m (Some guided) met = (ways : List (List ℤ)) × (t : Tree) × (v : Value) × IsGuided ways t v guided
+    × (pick (pos 2 ∷ m.id ∷ []) (t, v) ≡ met) × AreAsked ways (pos 2 ∷ m.id ∷ []) × AreAsked ways (pair_ids m)
+LeadsToMap m None met = Unit {0}
+
 -- what stands at the four maps of a data file's columns
 pub record MapsMet : Type 0 where
   pub values : Picked
   pub nulls : Picked
   pub lower : Picked
   pub upper : Picked
+
+-- the guide, if there is one, leads to each of them
+pub record LeadsToMaps (guided : Option GuidedObject) (met : MapsMet) : Type 0 where
+  pub values : LeadsToMap value_counts guided met.values
+  pub nulls : LeadsToMap null_value_counts guided met.nulls
+  pub lower : LeadsToMap lower_bounds guided met.lower
+  pub upper : LeadsToMap upper_bounds guided met.upper
 
 unfoldable pub columns_met : MapsMet → Result FileBounds FieldFault
 columns_met met = do

@@ -1,6 +1,6 @@
 -- The fields that are read of a manifest list's rows, and the objects in which they were found. Apache Iceberg table spec
 -- v2, "Manifest Lists".
-use Rattle.std.specs.Prelude.{◌≡◌, ◌<◌, ℕ, ℤ, pos, List, [], ◌∷◌, length, map, Result, Ok, Err, Vec}
+use Rattle.std.specs.Prelude.{◌≡◌, ◌<◌, ℕ, ℤ, pos, List, [], ◌∷◌, ◌++◌, length, map, Result, Ok, Err, Vec}
 use Rattle.std.specs.Global.{Global}
 use Rattle.avro_schema.specs.View.{tree}
 use Rattle.avro_parts.specs.declared.refusal.Refusal.{Refusal}
@@ -43,8 +43,12 @@ row_fields = row.Path ∷ row.Length ∷ row.SpecId ∷ row.AddedSnapshotId ∷ 
     ∷ row.DeletedFiles ∷ row.Partitions ∷ row.AddedRows ∷ row.ExistingRows ∷ row.DeletedRows ∷ row.SequenceNumber
     ∷ row.MinSequenceNumber ∷ row.Content ∷ []
 
+-- the fields of the summaries of a row's partition fields, which a guide keeps
+abbrev pub summary_ids : List ℤ
+summary_ids = pos 509 ∷ pos 518 ∷ pos 510 ∷ pos 511 ∷ []
+
 abbrev pub row_ways : List (List ℤ)
-row_ways = to_fields row_fields
+row_ways = to_fields row_fields ++ summary_ids ∷ []
 
 abbrev pub ids_in : List (Vec ℤ Global) → List (List ℤ)
 ids_in ways = map (λ way. way.items) ways

@@ -94,16 +94,16 @@ impl<'s, 'a> ItemsAhead<'s, 'a> {
         }
     }
 
-    /// The next item, which is passed by a schema whose values end where the items do; none behind the last one.
-    pub fn next_by(&mut self, passing: &Schema) -> Option<Standing<'s, 'a>>
-        requires { EndAlike (tree passing.now) (tree self.old.schema.now) }
+    /// The next item, which is passed by a schema; none behind the last one. Nothing is said of it but where values of
+    /// that schema end where the items do.
+    pub(crate) fn next_passed(&mut self, passing: &Schema) -> Option<Standing<'s, 'a>>
         ensures fewer { IfSome result (λ _. still self.new < still self.old) }
-        ensures items { (vs : List Value) → AreAhead self.old vs → NextItem self.old vs result self.new }
+        ensures items { EndAlike (tree passing.now) (tree self.old.schema.now) → (vs : List Value)
+            → AreAhead self.old vs → NextItem self.old vs result self.new }
         ensures schema { self.new.schema.now ≡ self.old.schema.now }
         ensures item { IfSome result (λ item. item.schema.now ≡ self.old.schema.now) }
     {
         let here = self.at_item()?;
-        // It was checked, so that reading does not fail.
         let Ok(after) = end_of(passing, here.place) else {
             return None;
         };
@@ -113,6 +113,18 @@ impl<'s, 'a> ItemsAhead<'s, 'a> {
             schema: self.schema,
             bytes: here.place.bytes,
         })
+    }
+
+    /// The next item, which is passed by a schema whose values end where the items do; none behind the last one.
+    pub fn next_by(&mut self, passing: &Schema) -> Option<Standing<'s, 'a>>
+        requires { EndAlike (tree passing.now) (tree self.old.schema.now) }
+        ensures fewer { IfSome result (λ _. still self.new < still self.old) }
+        ensures items { (vs : List Value) → AreAhead self.old vs → NextItem self.old vs result self.new }
+        ensures schema { self.new.schema.now ≡ self.old.schema.now }
+        ensures item { IfSome result (λ item. item.schema.now ≡ self.old.schema.now) }
+    {
+        // It was checked, so that reading does not fail.
+        self.next_passed(passing)
     }
 
     /// The next item; none behind the last one.

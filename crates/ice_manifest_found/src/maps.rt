@@ -6,13 +6,13 @@ ghost use Rattle.avro_file.specs.Picking.{Picked};
 ghost use Rattle.avro_picked.specs.Finding.{IsMet};
 ghost use Rattle.ice_manifest_fields.specs.Fields.{there};
 ghost use Rattle.ice_manifest_fields.specs.Naming.{in_manifest, told};
-ghost use Rattle.ice_manifest_found.specs.Met.{MapsMet, counts_in, bounds_in, columns_met, Checks};
+ghost use Rattle.ice_manifest_found.specs.Met.{MapsMet, counts_in, bounds_in, columns_met, Checks, LeadsToMap};
 ghost use Rattle.ice_manifest_found.specs.MapsRead.{IsReadAs, AreMet, AreRead};
 
 use crate::pairs::{bounds_in_place, counts_in_place};
 use crate::sound::is_sound;
 use avro_file::Datum;
-use avro_picked::Found;
+use avro_picked::{Found, GuidedObject};
 use avro_schema::Schema;
 use ice_manifest_fields::{
     ColumnMap, Kind, LOWER_BOUNDS, ManifestFault, NULL_COUNTS, UPPER_BOUNDS, VALUE_COUNTS,
@@ -23,7 +23,9 @@ use std::alloc::{AllocError, Global};
 
 /// The maps of a data file's columns, as they were found.
 #[derive(Clone, Copy, Debug)]
-pub struct FoundMaps<'s, 'd> {
+pub struct FoundMaps<'e, 's, 'd> {
+    /// The object in which they were found, with a guide that keeps the fields of their pairs, if there is one.
+    pub guided: &'e Option<GuidedObject<'e, 's, 'd>>,
     /// How many values each column has, null ones among them.
     pub value_counts: Option<Found<'s, 'd>>,
     /// How many values of each column are null.
@@ -36,20 +38,20 @@ pub struct FoundMaps<'s, 'd> {
 
 /// A map of a data file's columns, in the way in which it is read.
 #[derive(Debug, Drop)]
-enum ReadMap<'s, 'd> {
+enum ReadMap<'e, 's, 'd> {
     /// Its type, and one list of its pairs.
     Pairs(&'s Schema, Datum<'d>),
-    /// Its pairs are read one by one where it lies, if it was found.
-    InPlace(Option<Found<'s, 'd>>),
+    /// Its pairs are read one by one where it lies, if it was found, by a guide of the object, if there is one.
+    InPlace(Option<Found<'s, 'd>>, &'e Option<GuidedObject<'e, 's, 'd>>),
 }
 
 /// The maps of a data file's columns, which were read from the file. It lends the file's bytes.
 #[derive(Debug, Drop)]
-pub struct ReadMaps<'s, 'd> {
-    value_counts: ReadMap<'s, 'd>,
-    null_counts: ReadMap<'s, 'd>,
-    lower_bounds: ReadMap<'s, 'd>,
-    upper_bounds: ReadMap<'s, 'd>,
+pub struct ReadMaps<'e, 's, 'd> {
+    value_counts: ReadMap<'e, 's, 'd>,
+    null_counts: ReadMap<'e, 's, 'd>,
+    lower_bounds: ReadMap<'e, 's, 'd>,
+    upper_bounds: ReadMap<'e, 's, 'd>,
 }
 
 /// Whether the map is an array of pairs of an int, which is their key, and of a long or bytes, which is what they say.
@@ -70,35 +72,37 @@ fn lies_as_pairs(schema: &Schema, map: ColumnMap) -> bool {
 }
 
 /// The map that was found.
-fn read_map<'s, 'd>(
+fn read_map<'e, 's, 'd>(
     alloc: Global,
     found: Option<Found<'s, 'd>>,
+    guided: &'e Option<GuidedObject<'e, 's, 'd>>,
     map: ColumnMap,
-) -> Result<ReadMap<'s, 'd>, AllocError>
-    ensures { (met : Picked) → IsMet found.entry met → IfOk result (λ read. IsReadAs read met) }
+) -> Result<ReadMap<'e, 's, 'd>, AllocError>
+    ensures { (met : Picked) → IsMet found.entry met → LeadsToMap map guided.now met →
+        IfOk result (λ read. IsReadAs map read met) }
 {
     match found {
         Some(found) if lies_as_pairs(found.schema(), map) => {
             let pairs = found.datum(alloc)?;
             Ok(ReadMap::Pairs(found.schema(), pairs))
         }
-        found => Ok(ReadMap::InPlace(found)),
+        found => Ok(ReadMap::InPlace(found, guided)),
     }
 }
 
 /// The counts that a map says, lent from it; none where there is no map.
 fn counts<'a>(
     alloc: Global,
-    read: &'a ReadMap<'_, '_>,
+    read: &'a ReadMap<'_, '_, '_>,
     map: ColumnMap,
 ) -> Result<ColumnCounts<'a>, ManifestFault>
-    ensures { (met : Picked) → IsReadAs read.now met →
+    ensures { (met : Picked) → IsReadAs map read.now met →
         Gives ManifestFault.Memory (λ x. x) result (told in_manifest (counts_in map (there met))) }
 {
     match read {
         ReadMap::Pairs(schema, datum) => counts_of_map(alloc, schema, datum, map),
-        ReadMap::InPlace(found) => {
-            let counts = counts_in_place(alloc, *found, map)?;
+        ReadMap::InPlace(found, guided) => {
+            let counts = counts_in_place(alloc, *found, guided, map)?;
             Ok(ColumnCounts::made(counts))
         }
     }
@@ -107,75 +111,87 @@ fn counts<'a>(
 /// The bounds that a map says, lent from it; none where there is no map.
 fn bounds<'a, 'd>(
     alloc: Global,
-    read: &'a ReadMap<'_, 'd>,
+    read: &'a ReadMap<'_, '_, 'd>,
     map: ColumnMap,
 ) -> Result<ColumnBounds<'a, 'd>, ManifestFault>
-    ensures { (met : Picked) → IsReadAs read.now met →
+    ensures { (met : Picked) → IsReadAs map read.now met →
         Gives ManifestFault.Memory (λ x. x) result (told in_manifest (bounds_in map (there met))) }
 {
     match read {
         ReadMap::Pairs(schema, datum) => bounds_of_map(alloc, schema, datum, map),
-        ReadMap::InPlace(found) => {
-            let bounds = bounds_in_place(alloc, *found, map)?;
+        ReadMap::InPlace(found, guided) => {
+            let bounds = bounds_in_place(alloc, *found, guided, map)?;
             Ok(ColumnBounds::made(bounds))
         }
     }
 }
 
 /// The first fault of the pairs of a map of counts. Where its type allows none, it is not read.
-fn check_counts(alloc: Global, found: Option<Found>, map: ColumnMap) -> Result<(), ManifestFault>
+fn check_counts(
+    alloc: Global,
+    found: Option<Found>,
+    guided: &Option<GuidedObject>,
+    map: ColumnMap,
+) -> Result<(), ManifestFault>
     requires { map.kind ≡ Kind.Whole }
-    ensures { (met : Picked) → IsMet found.entry met → Checks result (counts_in map (there met)) }
+    ensures { (met : Picked) → IsMet found.entry met → LeadsToMap map guided.now met →
+        Checks result (counts_in map (there met)) }
 {
     match found {
         Some(found) if is_sound(found.schema(), map) => Ok(()),
         found => {
-            let _counts = counts_in_place(alloc, found, map)?;
+            let _counts = counts_in_place(alloc, found, guided, map)?;
             Ok(())
         }
     }
 }
 
 /// The first fault of the pairs of a map of bounds. Where its type allows none, it is not read.
-fn check_bounds(alloc: Global, found: Option<Found>, map: ColumnMap) -> Result<(), ManifestFault>
+fn check_bounds(
+    alloc: Global,
+    found: Option<Found>,
+    guided: &Option<GuidedObject>,
+    map: ColumnMap,
+) -> Result<(), ManifestFault>
     requires { map.kind ≡ Kind.Binary }
-    ensures { (met : Picked) → IsMet found.entry met → Checks result (bounds_in map (there met)) }
+    ensures { (met : Picked) → IsMet found.entry met → LeadsToMap map guided.now met →
+        Checks result (bounds_in map (there met)) }
 {
     match found {
         Some(found) if is_sound(found.schema(), map) => Ok(()),
         found => {
-            let _bounds = bounds_in_place(alloc, found, map)?;
+            let _bounds = bounds_in_place(alloc, found, guided, map)?;
             Ok(())
         }
     }
 }
 
-impl<'s, 'd> FoundMaps<'s, 'd> {
+impl<'e, 's, 'd> FoundMaps<'e, 's, 'd> {
     /// The first fault that reading the maps would find. Of a map whose type allows none nothing is read.
     #[tactic(auto, unfolding(crate::specs::Met::columns_met))]
     pub fn check(&self, alloc: Global) -> Result<(), ManifestFault>
         ensures { (met : MapsMet) → AreMet self.now met → Checks result (columns_met met) }
     {
-        check_counts(alloc, self.value_counts, VALUE_COUNTS)?;
-        check_counts(alloc, self.null_counts, NULL_COUNTS)?;
-        check_bounds(alloc, self.lower_bounds, LOWER_BOUNDS)?;
-        check_bounds(alloc, self.upper_bounds, UPPER_BOUNDS)
+        check_counts(alloc, self.value_counts, self.guided, VALUE_COUNTS)?;
+        check_counts(alloc, self.null_counts, self.guided, NULL_COUNTS)?;
+        check_bounds(alloc, self.lower_bounds, self.guided, LOWER_BOUNDS)?;
+        check_bounds(alloc, self.upper_bounds, self.guided, UPPER_BOUNDS)
     }
 
     /// The maps, of which those that lie as pairs are read into one list each, and the others are left where they lie.
-    pub fn read(&self, alloc: Global) -> Result<ReadMaps<'s, 'd>, AllocError>
+    pub fn read(&self, alloc: Global) -> Result<ReadMaps<'e, 's, 'd>, AllocError>
         ensures { (met : MapsMet) → AreMet self.now met → IfOk result (λ maps. AreRead maps met) }
     {
         Ok(ReadMaps {
-            value_counts: read_map(alloc, self.value_counts, VALUE_COUNTS)?,
-            null_counts: read_map(alloc, self.null_counts, NULL_COUNTS)?,
-            lower_bounds: read_map(alloc, self.lower_bounds, LOWER_BOUNDS)?,
-            upper_bounds: read_map(alloc, self.upper_bounds, UPPER_BOUNDS)?,
+            value_counts: read_map(alloc, self.value_counts, self.guided, VALUE_COUNTS)?,
+            null_counts: read_map(alloc, self.null_counts, self.guided, NULL_COUNTS)?,
+            lower_bounds: read_map(alloc, self.lower_bounds, self.guided, LOWER_BOUNDS)?,
+            upper_bounds: read_map(alloc, self.upper_bounds, self.guided, UPPER_BOUNDS)?,
         })
     }
 }
 
-impl<'s, 'd> ReadMaps<'s, 'd> {
+impl<'e, 's, 'd> ReadMaps<'e, 's, 'd> {
     /// The counts and bounds of the columns, lent from the maps; or the first fault of the first map that has one.
     #[tactic(auto, unfolding(crate::specs::Met::columns_met))]
     pub fn columns(&self, alloc: Global) -> Result<FileBounds<'_, 'd>, ManifestFault>

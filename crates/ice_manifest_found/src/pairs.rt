@@ -1,6 +1,6 @@
 //! The pairs of a map of columns, one after the other where they lie in the file.
 
-ghost use Rattle.std.specs.Prelude.{◌≡◌, ◌++◌, ℤ, List, [], ◌∷◌, IfOk};
+ghost use Rattle.std.specs.Prelude.{◌≡◌, ◌++◌, ℤ, List, [], ◌∷◌, IfOk, IfSome};
 ghost use Rattle.contract_words.specs.Outcome.{Gives};
 ghost use Rattle.avro_schema.specs.Tree.{Tree};
 ghost use Rattle.avro_schema.specs.View.{tree};
@@ -8,7 +8,7 @@ ghost use Rattle.avro_file.specs.Value.{Value, values_of};
 ghost use Rattle.avro_file.specs.Blocks.{StandsAt};
 ghost use Rattle.avro_file.specs.Picking.{Picked};
 ghost use Rattle.avro_picked.specs.Finding.{IsMet};
-ghost use Rattle.avro_picked.specs.Guides.{ids_in, IsGuideOf, AreAsked};
+ghost use Rattle.avro_picked.specs.Guides.{ids_in, IsGuideOf, IsGuideFor, AreAsked, MayGuide};
 ghost use Rattle.ice_value.specs.Pairs.{count_said, counts_said, bound_said, bounds_said};
 ghost use Rattle.ice_manifest_fields.specs.Each.{each};
 ghost use Rattle.ice_manifest_fields.specs.Fields.{there, items_as, long_at, int_at};
@@ -16,16 +16,19 @@ ghost use Rattle.ice_manifest_fields.specs.Maps.{count_of as count_of_item, boun
 ghost use Rattle.ice_manifest_fields.specs.Naming.{in_manifest, told};
 ghost use Rattle.ice_manifest_fields.specs.Seen.{result_map};
 ghost use Rattle.ice_manifest_found.specs.InPlace.{Stands, AreAhead};
-ghost use Rattle.ice_manifest_found.specs.Met.{pair_ways, counts_in, bounds_in};
+ghost use Rattle.ice_manifest_found.specs.Met.{pair_ids, pair_ways, counts_in, bounds_in, LeadsToMap};
 
 use crate::field::{int_asked, long_asked};
 use crate::items::{ItemsAhead, items_of};
 use crate::leaf::binary;
 use crate::standing::Standing;
-use avro_picked::{Found, Guide};
+use avro_picked::{Found, Guide, GuidedObject};
 use avro_schema::Schema;
 use ice_manifest_fields::{ColumnMap, FieldFault, ManifestFault};
 use std::alloc::{AllocError, Global};
+
+/// The field id of an entry's file.
+const DATA_FILE: i32 = 2;
 
 /// Puts the way of these ids behind the ways.
 pub fn push_way(alloc: Global, ids: &[i32], ways: &mut Vec<Vec<i32>>) -> Result<(), AllocError>
@@ -51,10 +54,23 @@ fn pair_guide<'s>(
     schema: &'s Schema,
     map: ColumnMap,
 ) -> Result<Guide<'s>, AllocError>
-    ensures { IfOk result (IsGuideOf (pair_ways map) (tree schema.now)) }
+    ensures { IfOk result (IsGuideFor (pair_ids map) (tree schema.now)) }
 {
     let ways = ways_of(alloc, map)?;
     Guide::new(alloc, schema, &ways)
+}
+
+/// The guide of the pairs of a map, taken from that of the entry in which the map stands.
+fn guide_of_pairs<'e, 's>(
+    guided: &Option<GuidedObject<'e, 's, '_>>,
+    map: ColumnMap,
+) -> Option<&'e Guide<'s>>
+    ensures { (met : Picked) → LeadsToMap map guided.now met → MayGuide (pair_ids map) result met }
+{
+    match guided {
+        Some(guided) => guided.items_guide(&[DATA_FILE, map.id]),
+        None => None,
+    }
 }
 
 /// A whole number of 64 bits at a field of an item.
@@ -75,8 +91,7 @@ fn int_in(guide: &Guide, bytes: &[u8], id: i32) -> Result<i32, FieldFault>
 
 /// The count that an item of a map says.
 fn count_of(guide: &Guide, item: &Standing, map: ColumnMap) -> Result<(i32, i64), FieldFault>
-    requires { IsGuideOf (pair_ways map) (tree item.now.schema.now) guide.now }
-    ensures { (v : Value) → Stands item.now v →
+    ensures { (v : Value) → IsGuideFor (pair_ids map) (tree item.now.schema.now) guide.now → Stands item.now v →
         result_map count_said result ≡ count_of_item map (tree item.now.schema.now, v) }
 {
     Ok((
@@ -88,22 +103,22 @@ fn count_of(guide: &Guide, item: &Standing, map: ColumnMap) -> Result<(i32, i64)
 fn each_count(
     alloc: Global,
     mut items: ItemsAhead,
+    guide: &Guide,
     map: ColumnMap,
 ) -> Result<Vec<(i32, i64)>, ManifestFault>
-    ensures { (vs : List Value) → AreAhead items.entry vs →
-        Gives ManifestFault.Memory (λ counts. counts_said counts.items) result
+    ensures { (vs : List Value) → IsGuideFor (pair_ids map) (tree items.entry.schema.now) guide.now
+        → AreAhead items.entry vs → Gives ManifestFault.Memory (λ counts. counts_said counts.items) result
         (told in_manifest (each (count_of_item map) (items_as (tree items.entry.schema.now) (values_of vs)))) }
 {
-    let guide = pair_guide(alloc, items.schema, map)?;
     let mut counts = Vec::new(alloc);
-    'items: while let Some(item) = items.next_by(guide.passing()) {
-        counts.push(count_of(&guide, &item, map)?)?;
+    'items: while let Some(item) = items.next_passed(guide.passing()) {
+        counts.push(count_of(guide, &item, map)?)?;
     }
     Ok(counts)
 }
 
-/// The counts that the items to come say. No guide is made for none.
-fn counts_ahead(
+/// The counts that the items to come say, by a guide of their own. None is made for no items.
+fn counts_unguided(
     alloc: Global,
     items: ItemsAhead,
     map: ColumnMap,
@@ -113,8 +128,29 @@ fn counts_ahead(
         (told in_manifest (each (count_of_item map) (items_as (tree items.entry.schema.now) (values_of vs)))) }
 {
     match items.at_item() {
-        Some(_) => each_count(alloc, items, map),
+        Some(_) => {
+            let guide = pair_guide(alloc, items.schema, map)?;
+            each_count(alloc, items, &guide, map)
+        }
         None => Ok(Vec::new(alloc)),
+    }
+}
+
+/// The counts that the items to come say.
+fn counts_ahead(
+    alloc: Global,
+    items: ItemsAhead,
+    guide: Option<&Guide>,
+    map: ColumnMap,
+) -> Result<Vec<(i32, i64)>, ManifestFault>
+    ensures { (vs : List Value)
+        → IfSome guide.entry (λ guide. IsGuideFor (pair_ids map) (tree items.entry.schema.now) guide.now)
+        → AreAhead items.entry vs → Gives ManifestFault.Memory (λ counts. counts_said counts.items) result
+        (told in_manifest (each (count_of_item map) (items_as (tree items.entry.schema.now) (values_of vs)))) }
+{
+    match guide {
+        Some(guide) => each_count(alloc, items, guide, map),
+        None => counts_unguided(alloc, items, map),
     }
 }
 
@@ -122,14 +158,15 @@ fn counts_ahead(
 pub(crate) fn counts_in_place(
     alloc: Global,
     found: Option<Found>,
+    guided: &Option<GuidedObject>,
     map: ColumnMap,
 ) -> Result<Vec<(i32, i64)>, ManifestFault>
-    ensures { (met : Picked) → IsMet found.entry met →
+    ensures { (met : Picked) → IsMet found.entry met → LeadsToMap map guided.now met →
         Gives ManifestFault.Memory (λ counts. counts_said counts.items) result
         (told in_manifest (counts_in map (there met))) }
 {
     match items_of(found) {
-        Some(items) => counts_ahead(alloc, items, map),
+        Some(items) => counts_ahead(alloc, items, guide_of_pairs(guided, map), map),
         None => Ok(Vec::new(alloc)),
     }
 }
@@ -140,8 +177,7 @@ fn bound_of<'d>(
     item: &Standing<'_, 'd>,
     map: ColumnMap,
 ) -> Result<(i32, &'d [u8]), FieldFault>
-    requires { IsGuideOf (pair_ways map) (tree item.now.schema.now) guide.now }
-    ensures { (v : Value) → Stands item.now v →
+    ensures { (v : Value) → IsGuideFor (pair_ids map) (tree item.now.schema.now) guide.now → Stands item.now v →
         result_map bound_said result ≡ bound_of_item map (tree item.now.schema.now, v) }
 {
     let column = int_in(guide, item.bytes, map.key)?;
@@ -154,22 +190,22 @@ fn bound_of<'d>(
 fn each_bound<'d>(
     alloc: Global,
     mut items: ItemsAhead<'_, 'd>,
+    guide: &Guide,
     map: ColumnMap,
 ) -> Result<Vec<(i32, &'d [u8])>, ManifestFault>
-    ensures { (vs : List Value) → AreAhead items.entry vs →
-        Gives ManifestFault.Memory (λ bounds. bounds_said bounds.items) result
+    ensures { (vs : List Value) → IsGuideFor (pair_ids map) (tree items.entry.schema.now) guide.now
+        → AreAhead items.entry vs → Gives ManifestFault.Memory (λ bounds. bounds_said bounds.items) result
         (told in_manifest (each (bound_of_item map) (items_as (tree items.entry.schema.now) (values_of vs)))) }
 {
-    let guide = pair_guide(alloc, items.schema, map)?;
     let mut bounds = Vec::new(alloc);
-    'items: while let Some(item) = items.next_by(guide.passing()) {
-        bounds.push(bound_of(&guide, &item, map)?)?;
+    'items: while let Some(item) = items.next_passed(guide.passing()) {
+        bounds.push(bound_of(guide, &item, map)?)?;
     }
     Ok(bounds)
 }
 
-/// The bounds that the items to come say. No guide is made for none.
-fn bounds_ahead<'d>(
+/// The bounds that the items to come say, by a guide of their own. None is made for no items.
+fn bounds_unguided<'d>(
     alloc: Global,
     items: ItemsAhead<'_, 'd>,
     map: ColumnMap,
@@ -179,8 +215,29 @@ fn bounds_ahead<'d>(
         (told in_manifest (each (bound_of_item map) (items_as (tree items.entry.schema.now) (values_of vs)))) }
 {
     match items.at_item() {
-        Some(_) => each_bound(alloc, items, map),
+        Some(_) => {
+            let guide = pair_guide(alloc, items.schema, map)?;
+            each_bound(alloc, items, &guide, map)
+        }
         None => Ok(Vec::new(alloc)),
+    }
+}
+
+/// The bounds that the items to come say.
+fn bounds_ahead<'d>(
+    alloc: Global,
+    items: ItemsAhead<'_, 'd>,
+    guide: Option<&Guide>,
+    map: ColumnMap,
+) -> Result<Vec<(i32, &'d [u8])>, ManifestFault>
+    ensures { (vs : List Value)
+        → IfSome guide.entry (λ guide. IsGuideFor (pair_ids map) (tree items.entry.schema.now) guide.now)
+        → AreAhead items.entry vs → Gives ManifestFault.Memory (λ bounds. bounds_said bounds.items) result
+        (told in_manifest (each (bound_of_item map) (items_as (tree items.entry.schema.now) (values_of vs)))) }
+{
+    match guide {
+        Some(guide) => each_bound(alloc, items, guide, map),
+        None => bounds_unguided(alloc, items, map),
     }
 }
 
@@ -188,14 +245,15 @@ fn bounds_ahead<'d>(
 pub(crate) fn bounds_in_place<'d>(
     alloc: Global,
     found: Option<Found<'_, 'd>>,
+    guided: &Option<GuidedObject>,
     map: ColumnMap,
 ) -> Result<Vec<(i32, &'d [u8])>, ManifestFault>
-    ensures { (met : Picked) → IsMet found.entry met →
+    ensures { (met : Picked) → IsMet found.entry met → LeadsToMap map guided.now met →
         Gives ManifestFault.Memory (λ bounds. bounds_said bounds.items) result
         (told in_manifest (bounds_in map (there met))) }
 {
     match items_of(found) {
-        Some(items) => bounds_ahead(alloc, items, map),
+        Some(items) => bounds_ahead(alloc, items, guide_of_pairs(guided, map), map),
         None => Ok(Vec::new(alloc)),
     }
 }

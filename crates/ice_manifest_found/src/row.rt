@@ -6,13 +6,14 @@ ghost use Rattle.ice_manifest_fields.specs.Fields.{at, long_at, int_at, int_or_z
 ghost use Rattle.ice_manifest_fields.specs.Fields.{number_at, optional_long, optional_int};
 ghost use Rattle.ice_manifest_fields.specs.Schemas.{fields_in, type_at as type_said};
 ghost use Rattle.ice_manifest_fields.specs.Seen.{result_map};
-ghost use Rattle.ice_manifest_found.specs.RowsFound.{row_id, row_seen, IsRow};
+ghost use Rattle.avro_picked.specs.Guides.{MayGuide};
+ghost use Rattle.ice_manifest_found.specs.RowsFound.{row_id, row_seen, summary_ids, IsRow};
 
 use crate::field::{int_asked, long_asked, number_asked, optional_int, path_asked};
 use crate::leaf::whole;
 use crate::row_field::RowField;
 use avro_file::Object;
-use avro_picked::{Found, Layout, Places};
+use avro_picked::{Found, Guide, Layout, Places};
 use ice_manifest_fields::{FieldFault, fields_of, type_at};
 use ice_value::SequenceNumber;
 
@@ -31,6 +32,16 @@ impl<'e, 's, 'a> FoundRow<'e, 's, 'a> {
         ensures { IsMet result (at (row_id field) (row_seen self.now)) }
     {
         self.layout.found(self.object, self.places, field.number())
+    }
+
+    /// The guide of the items of the list that stands at a field of the row, by which what a summary says is found;
+    /// none where no list stands there, or the layout has no guide.
+    pub fn items_guide(&self, field: RowField) -> Option<&'e Guide<'s>>
+        requires { IsRow self.now }
+        ensures { MayGuide summary_ids result (at (row_id field) (row_seen self.now)) }
+    {
+        let guided = self.layout.guided(self.object)?;
+        guided.items_guide(&[field.id()])
     }
 
     /// Whether the list's rows have no such field.

@@ -6,11 +6,17 @@ ghost use Rattle.avro_schema.specs.View.{tree};
 ghost use Rattle.avro_picked.specs.Finding.{layout_tree, ways_of};
 ghost use Rattle.avro_picked.specs.Placing.{IsLayout};
 ghost use Rattle.ice_manifest_found.specs.RowsFound.{row_id, to_fields, row_ways, ids_in, IsNumberOf};
+ghost use Rattle.ice_manifest_found.specs.RowsFound.{row_ways as wanted_ways};
 
+use crate::pairs::push_way;
 use avro_file::AvroFault;
 use avro_picked::Layout;
 use avro_schema::Schema;
 use std::alloc::{AllocError, Global};
+
+/// The fields of the summaries of a row's partition fields. No way leads to them from a row: they stand among what is
+/// wanted so that a guide of the row, where the layout has one, keeps them in the summaries.
+const SUMMARY_IDS: [i32; 4] = [509, 518, 510, 511];
 
 /// A field of a manifest list's row.
 #[derive(Clone, Copy, Debug, PartialEq, Eq)]
@@ -88,15 +94,11 @@ fn ways_to(alloc: Global, fields: &[RowField]) -> Result<Vec<Vec<i32>>, AllocErr
     Ok(ways)
 }
 
-/// The layout of a manifest list's objects, which have this type, for the values that are read of a row. `Memory` is
-/// its only refusal.
-pub fn row_layout<'s>(alloc: Global, schema: &'s Schema) -> Result<Layout<'s>, AvroFault>
-    ensures schema { IfOk result (λ layout. layout_tree layout ≡ tree schema.now) }
-    ensures ways { IfOk result (λ layout. ways_of layout ≡ row_ways) }
-    ensures leads { IfOk result IsLayout }
-    ensures memory { IfErr result (λ e. e ≡ AvroFault.Memory) }
+/// The ways to all that is read of a row.
+fn row_ways(alloc: Global) -> Result<Vec<Vec<i32>>, AllocError>
+    ensures { IfOk result (λ ways. ids_in ways.items ≡ wanted_ways) }
 {
-    let ways = ways_to(
+    let mut ways = ways_to(
         alloc,
         &[
             RowField::Path,
@@ -115,5 +117,18 @@ pub fn row_layout<'s>(alloc: Global, schema: &'s Schema) -> Result<Layout<'s>, A
             RowField::Content,
         ],
     )?;
+    push_way(alloc, &SUMMARY_IDS, &mut ways)?;
+    Ok(ways)
+}
+
+/// The layout of a manifest list's objects, which have this type, for the values that are read of a row. `Memory` is
+/// its only refusal.
+pub fn row_layout<'s>(alloc: Global, schema: &'s Schema) -> Result<Layout<'s>, AvroFault>
+    ensures schema { IfOk result (λ layout. layout_tree layout ≡ tree schema.now) }
+    ensures ways { IfOk result (λ layout. ways_of layout ≡ row_ways) }
+    ensures leads { IfOk result IsLayout }
+    ensures memory { IfErr result (λ e. e ≡ AvroFault.Memory) }
+{
+    let ways = row_ways(alloc)?;
     Layout::new(alloc, schema, &ways)
 }

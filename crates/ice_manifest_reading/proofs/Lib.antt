@@ -5,6 +5,7 @@ pub mod Records
 pub mod Cells
 pub mod Rising
 pub mod Sets
+pub mod Gathered
 pub mod Said
 pub mod Absent
 pub mod Told
@@ -18,3 +19,4 @@ pub mod NoMemory
 pub mod Found
 pub mod FoundRows
 pub mod SummariesSaid
+pub mod Guided

@@ -12,6 +12,7 @@ use Rattle.ice_manifest_fields.specs.Fields.{truth_at, optional_truth, optional_
 use Rattle.ice_manifest_fields.specs.Naming.{in_list, lists_field, told}
 use Rattle.ice_manifest_found.proofs.Itself.{RecordMet, record_met}
 use Rattle.ice_manifest_reading.specs.Lists.{summary_in, summary_of}
+use Rattle.ice_manifest_found.specs.RowsFound.{summary_ids}
 use Rattle.ice_manifest_reading.specs.SummaryWays.{summary_ways}
 
 abbrev summary : Bool → Option Bool → Option (List ℕ) → Option (List ℕ) → Summary
@@ -38,17 +39,20 @@ summary_without_null x f is = ap (λ (r : Result Bool FieldFault). told in_list 
 
 -- ---- an item of a list
 
-pub null_asked : AreAsked summary_ways (pos 509 ∷ [])
-null_asked = nth_asked summary_ways 0 (omega arith)
+pub all_asked : AreAsked summary_ways summary_ids
+all_asked = (refl, (refl, (refl, (refl, tt))))
 
-pub nan_asked : AreAsked summary_ways (pos 518 ∷ [])
-nan_asked = nth_asked summary_ways 1 (omega arith)
+pub null_asked : (ways : List (List ℤ)) → AreAsked ways summary_ids → AreAsked ways (pos 509 ∷ [])
+null_asked ways asked = (asked.0, tt)
 
-pub lower_asked : AreAsked summary_ways (pos 510 ∷ [])
-lower_asked = nth_asked summary_ways 2 (omega arith)
+pub nan_asked : (ways : List (List ℤ)) → AreAsked ways summary_ids → AreAsked ways (pos 518 ∷ [])
+nan_asked ways asked = (asked.1.0, tt)
 
-pub upper_asked : AreAsked summary_ways (pos 511 ∷ [])
-upper_asked = nth_asked summary_ways 3 (omega arith)
+pub lower_asked : (ways : List (List ℤ)) → AreAsked ways summary_ids → AreAsked ways (pos 510 ∷ [])
+lower_asked ways asked = (asked.1.1.0, tt)
+
+pub upper_asked : (ways : List (List ℤ)) → AreAsked ways summary_ids → AreAsked ways (pos 511 ∷ [])
+upper_asked ways asked = asked.1.1.1
 
 abbrev summarized : Picked → Picked → Picked → Picked → Result Summary FieldFault
 summarized b n l u = asked (pos 509) (truth_of (there b)) >>= λ holds. Ok (summary holds (truth_of (there n))

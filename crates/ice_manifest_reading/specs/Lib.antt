@@ -1,6 +1,7 @@
 pub mod ManifestSchemas
 pub mod Partitions
 pub mod Lists
+pub mod Gathering
 pub mod SummaryWays
 pub mod Manifests
 pub mod Laws

@@ -1,6 +1,6 @@
 //! Reading a manifest list.
 
-ghost use Rattle.std.specs.Prelude.{◌≡◌, ◌≤◌, true, pos, length, option_map, OnOk, IfOk};
+ghost use Rattle.std.specs.Prelude.{◌≡◌, ◌≤◌, ◌++◌, [], ◌∷◌, true, pos, length, option_map, OnOk, IfOk};
 ghost use Rattle.std.specs.List.Sorted.{IsStrictlySortedBy};
 ghost use Rattle.contract_words.specs.Outcome.{Gives};
 ghost use Rattle.avro_file.specs.Files.{ahead, type_of};
@@ -15,6 +15,7 @@ ghost use Rattle.ice_manifest_reading.specs.Lists.{content_at as content_said, c
 ghost use Rattle.ice_manifest_reading.specs.Lists.{summaries_in};
 ghost use Rattle.ice_manifest_reading.specs.Lists.{rows_ahead, path_twice as twice_in, in_order as ordered};
 ghost use Rattle.ice_manifest_reading.specs.Lists.{checked as checked_in, path_order};
+ghost use Rattle.ice_manifest_reading.specs.Gathering.{AreSame, Gathers};
 
 use crate::counts::Counts;
 use crate::row::{ManifestContent, Row};
@@ -69,7 +70,8 @@ fn partitions_at(alloc: Global, row: &FoundRow) -> Result<Option<Items<Summary>>
     let Some(found) = row.found(RowField::Partitions) else {
         return Ok(None);
     };
-    Ok(Some(summaries_in_list(alloc, found)?))
+    let guide = row.items_guide(RowField::Partitions);
+    Ok(Some(summaries_in_list(alloc, found, guide)?))
 }
 
 /// The row that an object says.
@@ -92,7 +94,24 @@ fn row_of(alloc: Global, row: &FoundRow) -> Result<Row, ListFault>
     })
 }
 
-/// The rows of all objects that are to come, which are records, in the file's order.
+/// How many rows a list may have.
+const MOST_ROWS: usize = 65536;
+
+/// Puts a row behind the others. Where these have doubled since they were put in order, they are put in order again,
+/// equal ones once: so a list of many equal rows takes the memory of few.
+fn put_row(rows: &mut Vec<Row>, ordered: &mut usize, row: Row) -> Result<(), AllocError>
+    ensures { OnOk result (AreSame (rows.old.items ++ row ∷ []) rows.new.items) }
+{
+    rows.push(row)?;
+    if rows.len() / 2 < *ordered {
+        return Ok(());
+    }
+    put_in_order(rows)?;
+    *ordered = rows.len().max(MOST_ROWS / 2);
+    Ok(())
+}
+
+/// The rows of all objects that are to come, which are records. Equal ones may be there once.
 fn all_rows<'s>(
     alloc: Global,
     layout: &Layout<'s>,
@@ -102,18 +121,19 @@ fn all_rows<'s>(
     requires ways { ways_of layout.now ≡ row_ways }
     requires schema { layout_tree layout.now ≡ type_of reader }
     requires records { is_structure (layout_tree layout.now) ≡ true }
-    ensures { Gives ListFault.Memory (λ rows. rows.items) result
+    ensures { Gathers (λ rows. rows.items) result
         (rows_ahead (fields_in (layout_tree layout.now)) (ahead reader.entry)) }
 {
     let mut places = layout.places(alloc)?;
     let mut rows = Vec::new(alloc);
+    let mut ordered = MOST_ROWS / 2;
     'objects: while let Some(object) = layout.next_placed(&mut reader, &mut places)? {
         let row = FoundRow {
             layout,
             places: &places,
             object,
         };
-        rows.push(row_of(alloc, &row)?)?;
+        put_row(&mut rows, &mut ordered, row_of(alloc, &row)?)?;
     }
     Ok(rows)
 }
@@ -149,7 +169,7 @@ fn checked(alloc: Global, rows: Vec<Row>) -> Result<Vec<Row>, ListFault>
     if let Some(path) = path_twice(&rows) {
         return Err(ListFault::ManifestTwice(path.copy(alloc)?));
     }
-    if rows.len() <= 65536 {
+    if rows.len() <= MOST_ROWS {
         Ok(rows)
     } else {
         Err(ListFault::TooManyRows)

@@ -15,7 +15,7 @@ ghost use Rattle.ice_manifest_fields.specs.Naming.{in_manifest, told};
 ghost use Rattle.ice_manifest_fields.specs.Schemas.{fields_in};
 ghost use Rattle.ice_manifest_fields.specs.Seen.{result_map};
 ghost use Rattle.ice_manifest_found.specs.Met.{Checks};
-ghost use Rattle.ice_entry_found.specs.Seen.{entry_seen, IsPlaced, file_seen, IsFile};
+ghost use Rattle.ice_entry_found.specs.Seen.{entry_seen, IsPlaced, file_seen, IsFile, IsGuidedFile};
 ghost use Rattle.ice_entry_found.specs.Ways.{entry_id, file_id, wanted_ways};
 ghost use Rattle.ice_manifest_reading.specs.Manifests.{live_of, status_of as status_in, status_at as status_said};
 ghost use Rattle.ice_manifest_reading.specs.Manifests.{content_of as content_in, content_at as content_said};
@@ -40,7 +40,7 @@ use crate::shape::check_entry_fields;
 use crate::status::Status;
 use crate::tuple::tuple_at;
 use avro_file::{Container, Objects, objects_take_bytes};
-use avro_picked::Layout;
+use avro_picked::{GuidedObject, Layout};
 use contract_words::Items;
 use ice_entry_found::{EntryField, FileField, FoundEntry, FoundFile, entry_layout};
 use ice_manifest_fields::{FieldFault, ManifestFault, fields_of, type_at};
@@ -150,11 +150,16 @@ fn referenced_at<'d>(
 }
 
 /// The maps of the file's columns, which are not read yet.
-fn maps_of<'s, 'd>(file: &FoundFile<'_, '_, 's, 'd>) -> FoundMaps<'s, 'd>
-    requires { IsFile file.now }
+fn maps_of<'e, 's, 'd>(
+    file: &FoundFile<'_, '_, 's, 'd>,
+    guided: &'e Option<GuidedObject<'e, 's, 'd>>,
+) -> FoundMaps<'e, 's, 'd>
+    requires file { IsFile file.now }
+    requires guided { IfSome guided.now (λ guided. IsGuidedFile file.now guided) }
     ensures { AreMapsIn file.now result }
 {
     FoundMaps {
+        guided,
         value_counts: file.found(FileField::ValueCounts),
         null_counts: file.found(FileField::NullCounts),
         lower_bounds: file.found(FileField::LowerBounds),
@@ -167,14 +172,15 @@ fn check_columns(alloc: Global, file: &FoundFile) -> Result<(), ManifestFault>
     requires { IsFile file.now }
     ensures { Checks result (columns_said (file_seen file.now)) }
 {
-    maps_of(file).check(alloc)
+    let guided = file.guided();
+    maps_of(file, &guided).check(alloc)
 }
 
 /// The counts and bounds of the file's columns, lent by its maps.
 fn columns_of<'a, 'd>(
     alloc: Global,
     file: &FoundFile,
-    maps: &'a ReadMaps<'_, 'd>,
+    maps: &'a ReadMaps<'_, '_, 'd>,
 ) -> Result<FileBounds<'a, 'd>, ManifestFault>
     requires { AreMapsOf file.now maps.now }
     ensures { Gives ManifestFault.Memory (λ x. x) result (told in_manifest (columns_said (file_seen file.now))) }
@@ -331,7 +337,8 @@ fn push_by_columns<'d, K: Keep>(
         Gives ManifestFault.Memory (λ _. found.new.items) result
         (Ok (found.old.items ++ entries_kept (K.kept keep.now) (live_with entry.entry columns ∷ []))) }
 {
-    let maps = maps_of(file).read(alloc)?;
+    let guided = file.guided();
+    let maps = maps_of(file, &guided).read(alloc)?;
     let bounds = columns_of(alloc, file, &maps)?;
     Ok(push_kept(keep, found, Live { entry, bounds })?)
 }

@@ -1,6 +1,6 @@
 //! The summaries that a manifest list's row says, read where they lie in the file.
 
-ghost use Rattle.std.specs.Prelude.{◌≡◌, ℤ, List, [], ◌∷◌, Some, IfOk};
+ghost use Rattle.std.specs.Prelude.{◌≡◌, ℤ, List, [], ◌∷◌, Some, IfOk, IfSome};
 ghost use Rattle.std.specs.Option.{option_copied};
 ghost use Rattle.contract_words.specs.Outcome.{Gives};
 ghost use Rattle.avro_schema.specs.Tree.{Tree};
@@ -9,13 +9,14 @@ ghost use Rattle.avro_file.specs.Value.{Value, values_of};
 ghost use Rattle.avro_file.specs.Blocks.{StandsAt};
 ghost use Rattle.avro_file.specs.Picking.{Picked};
 ghost use Rattle.avro_picked.specs.Finding.{IsMet};
-ghost use Rattle.avro_picked.specs.Guides.{ids_in, IsGuideOf, AreAsked};
+ghost use Rattle.avro_picked.specs.Guides.{ids_in, IsGuideOf, IsGuideFor, AreAsked, MayGuide};
 ghost use Rattle.ice_manifest_fields.specs.Each.{each};
 ghost use Rattle.ice_manifest_fields.specs.Fields.{there, items_as, items_of as items_said};
 ghost use Rattle.ice_manifest_fields.specs.Fields.{truth_at as truth_must_be, optional_truth as truth_if_there};
 ghost use Rattle.ice_manifest_fields.specs.Fields.{optional_binary as binary_if_there};
 ghost use Rattle.ice_manifest_fields.specs.Naming.{in_list, told};
 ghost use Rattle.ice_manifest_found.specs.InPlace.{Stands, AreAhead};
+ghost use Rattle.ice_manifest_found.specs.RowsFound.{summary_ids};
 ghost use Rattle.ice_manifest_reading.specs.Lists.{summary_in as summary_said, summary_of as summary_of_item};
 ghost use Rattle.ice_manifest_reading.specs.SummaryWays.{summary_ways};
 
@@ -41,7 +42,7 @@ fn ways(alloc: Global) -> Result<Vec<Vec<i32>>, AllocError>
 
 /// The guide of a summary's type, for what it says.
 fn summary_guide<'s>(alloc: Global, schema: &'s Schema) -> Result<Guide<'s>, AllocError>
-    ensures { IfOk result (IsGuideOf summary_ways (tree schema.now)) }
+    ensures { IfOk result (IsGuideFor summary_ids (tree schema.now)) }
 {
     let ways = ways(alloc)?;
     Guide::new(alloc, schema, &ways)
@@ -76,7 +77,7 @@ fn binary_in<'a>(guide: &Guide, bytes: &'a [u8], id: i32) -> Option<&'a [u8]>
 
 /// The summary that an item's fields say.
 fn summary_in(alloc: Global, guide: &Guide, bytes: &[u8]) -> Result<Summary, ListFault>
-    ensures { (t : Tree) (v : Value) → IsGuideOf summary_ways t guide.now → StandsAt t bytes.now v
+    ensures { (t : Tree) (v : Value) → IsGuideFor summary_ids t guide.now → StandsAt t bytes.now v
         → Gives ListFault.Memory (λ x. x) result (told in_list (summary_said (t, v))) }
 {
     let contains_null = truth_asked(guide, bytes, 509)?;
@@ -88,7 +89,7 @@ fn summary_in(alloc: Global, guide: &Guide, bytes: &[u8]) -> Result<Summary, Lis
 
 /// The summary that an item of a list says.
 fn summary_of(alloc: Global, guide: &Guide, item: &Standing) -> Result<Summary, ListFault>
-    requires { IsGuideOf summary_ways (tree item.now.schema.now) guide.now }
+    requires { IsGuideFor summary_ids (tree item.now.schema.now) guide.now }
     ensures { (v : Value) → Stands item.now v → Gives ListFault.Memory (λ x. x) result
         (told in_list (summary_of_item (tree item.now.schema.now, v))) }
 {
@@ -98,36 +99,64 @@ fn summary_of(alloc: Global, guide: &Guide, item: &Standing) -> Result<Summary, 
     }
 }
 
-fn each_summary(alloc: Global, mut items: ItemsAhead) -> Result<Items<Summary>, ListFault>
+fn each_summary(
+    alloc: Global,
+    mut items: ItemsAhead,
+    guide: &Guide,
+) -> Result<Items<Summary>, ListFault>
+    requires { IsGuideFor summary_ids (tree items.schema.now) guide.now }
     ensures { (vs : List Value) → AreAhead items.entry vs → Gives ListFault.Memory (λ x. x) result
         (told in_list (each summary_of_item (items_as (tree items.entry.schema.now) (values_of vs)))) }
 {
-    let guide = summary_guide(alloc, items.schema())?;
     let mut summaries = Items::with_capacity(alloc, items.room())?;
     'items: while let Some(item) = items.next_by(guide.passing()) {
-        summaries.push(summary_of(alloc, &guide, &item)?)?;
+        summaries.push(summary_of(alloc, guide, &item)?)?;
     }
     Ok(summaries)
 }
 
-/// The summaries that the items to come say. No guide is made for none.
-fn summaries_of(alloc: Global, items: ItemsAhead) -> Result<Items<Summary>, ListFault>
+/// The summaries that the items to come say, by a guide of their own. None is made for no items.
+fn summaries_unguided(alloc: Global, items: ItemsAhead) -> Result<Items<Summary>, ListFault>
     ensures { (vs : List Value) → AreAhead items.entry vs → Gives ListFault.Memory (λ x. x) result
         (told in_list (each summary_of_item (items_as (tree items.entry.schema.now) (values_of vs)))) }
 {
     match items.at_item() {
-        Some(_) => each_summary(alloc, items),
+        Some(_) => {
+            let guide = summary_guide(alloc, items.schema())?;
+            each_summary(alloc, items, &guide)
+        }
         None => Ok(Items::new(alloc)),
     }
 }
 
-/// The summaries that a list says. Any other value says none.
-pub fn summaries_in_list(alloc: Global, found: Found) -> Result<Items<Summary>, ListFault>
+/// The summaries that the items to come say.
+fn summaries_of(
+    alloc: Global,
+    items: ItemsAhead,
+    guide: Option<&Guide>,
+) -> Result<Items<Summary>, ListFault>
+    requires { IfSome guide (λ guide. IsGuideFor summary_ids (tree items.schema.now) guide.now) }
+    ensures { (vs : List Value) → AreAhead items.entry vs → Gives ListFault.Memory (λ x. x) result
+        (told in_list (each summary_of_item (items_as (tree items.entry.schema.now) (values_of vs)))) }
+{
+    match guide {
+        Some(guide) => each_summary(alloc, items, guide),
+        None => summaries_unguided(alloc, items),
+    }
+}
+
+/// The summaries that a list says, by the guide of its items, if there is one. Any other value says none.
+pub fn summaries_in_list(
+    alloc: Global,
+    found: Found,
+    guide: Option<&Guide>,
+) -> Result<Items<Summary>, ListFault>
+    requires { (met : Picked) × IsMet (Some found) met × MayGuide summary_ids guide met }
     ensures { (met : Picked) → IsMet (Some found.entry) met → Gives ListFault.Memory (λ x. x) result
         (told in_list (each summary_of_item (items_said (there met)))) }
 {
     match items_of(Some(found)) {
-        Some(items) => summaries_of(alloc, items),
+        Some(items) => summaries_of(alloc, items, guide),
         None => Ok(Items::new(alloc)),
     }
 }

@@ -9,3 +9,4 @@ pub mod Plans
 pub mod Segments
 pub mod Shows
 pub mod Stored
+pub mod DigitValues

@@ -1,11 +1,11 @@
 -- A bundle: files that are handed over in one text, a line each: the path, escaped, one space, and the bytes as
 -- hexadecimal digits.
 use Rattle.std.specs.Prelude.{◌≡◌, ◌⊎◌, IfSome}
-use Rattle.std.specs.Prelude.{ℕ, ◌+◌, ◌==◌, List, [], ◌∷◌, ◌++◌, take, drop, position, Option, Some, None, is_some}
+use Rattle.std.specs.Prelude.{ℕ, ◌+◌, ◌*◌, ◌==◌, List, [], ◌∷◌, ◌++◌, take, drop, position, Option, Some, None, is_some}
 use Rattle.std.specs.Prelude.{option_and_then, Result, Ok, Err, if◌then◌else◌}
 use Rattle.std.specs.Result.{result_ok}
 use Rattle.std.specs.Str.{bytes_eq, is_utf8}
-use Rattle.hex.specs.Hex.{decode_of}
+use Rattle.hex.specs.Hex.{decode_of, hex_digit_value}
 use Rattle.contract_words.specs.Outcome.{◌>>=◌}
 use Rattle.ice_print.specs.Escaping.{unescaped}
 use Rattle.ice_text.specs.declared.fault.RunFault.{RunFault}
@@ -41,6 +41,15 @@ if_text path = if is_utf8 path then Some path else None
 
 unfoldable pub path_of : List ℕ → Option (List ℕ)
 path_of escaped = option_and_then if_text (unescaped escaped)
+
+-- the byte of two digits, by what each of them has as its value
+abbrev pub byte_with : Option ℕ → Option ℕ → Option ℕ
+byte_with None low = None
+byte_with (Some high) None = None
+byte_with (Some high) (Some low) = Some (high * 16 + low)
+
+abbrev pub byte_of : ℕ → ℕ → Option ℕ
+byte_of high low = byte_with (hex_digit_value high) (hex_digit_value low)
 
 unfoldable pub bytes_of : List ℕ → Option (List ℕ)
 bytes_of digits = result_ok (decode_of digits)

@@ -3,10 +3,10 @@
 ghost use Rattle.std.specs.Prelude.{◌≡◌, ◌≢◌, ◌==◌, position, [], option_map, string_bytes};
 ghost use Rattle.std.specs.Prelude.{IfOk, OnOk, IfErr, Some, Ok, Err};
 ghost use Rattle.contract_words.specs.Outcome.{Gives};
-ghost use Rattle.ice_requests.specs.Bundles.{added, bundle_of, bytes_of, file_of, first_path, path_of};
+ghost use Rattle.ice_requests.specs.Bundles.{added, bundle_of, file_of, first_path, path_of};
 
 use crate::bundle_text::Front;
-use hex::FromHexError;
+use crate::digits::bytes_from;
 use ice_desk::{Files, ReadFault};
 use ice_text::{RunFault, unescape};
 use indexmap::IndexMap;
@@ -45,18 +45,6 @@ fn path_from(alloc: Global, escaped: &[u8]) -> Result<Option<String>, RunFault>
     };
     match String::from_utf8(path) {
         Ok(path) => Ok(Some(path)),
-        Err(_) => Ok(None),
-    }
-}
-
-/// The bytes that digits name.
-#[tactic(auto, unfolding(crate::specs::Bundles::bytes_of))]
-fn bytes_from(alloc: Global, digits: &[u8]) -> Result<Option<Vec<u8>>, RunFault>
-    ensures { Gives RunFault.Memory (option_map (λ v. v.items)) result (Ok (bytes_of digits.now)) }
-{
-    match hex::decode(alloc, digits) {
-        Ok(bytes) => Ok(Some(bytes)),
-        Err(FromHexError::OutOfMemory) => Err(RunFault::Memory),
         Err(_) => Ok(None),
     }
 }

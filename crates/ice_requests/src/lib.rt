@@ -6,6 +6,7 @@ mod base;
 mod bundle;
 mod bundle_text;
 mod committing;
+mod digits;
 mod folder;
 mod input;
 mod list_plans;

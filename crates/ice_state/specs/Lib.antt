@@ -5,6 +5,7 @@ pub mod Contents
 pub mod Covering
 pub mod Joins
 pub mod KeptDeletes
+pub mod Keys
 pub mod Lines
 pub mod Orders
 pub mod Outcomes

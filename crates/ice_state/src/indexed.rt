@@ -1,6 +1,7 @@
 //! The delete files of a state's taken rows, indexed as they come.
 
 ghost use Rattle.std.specs.Prelude.{◌≡◌, ◌++◌, filter, length, IfOk, IfSome, List, OnOk, option_map, Some};
+ghost use Rattle.std.specs.List.Sorted.{IsPermutation};
 ghost use Rattle.ice_entries.specs.Kept.{entries_at as entries_in};
 ghost use Rattle.ice_manifest_reading.specs.declared.entry.Entry.{Entry};
 ghost use Rattle.ice_state.specs.KeptDeletes.{HasPlaces, IsIndexOf};
@@ -36,6 +37,9 @@ impl IndexedDeletes {
         requires { AreKept entries.now files.items }
         ensures places { IfOk result HasPlaces }
         ensures index { (xs : List Entry) → entries_at entries.now files.items ≡ filter holds_deletes xs →
+            IfOk result (IsIndexOf entries.now xs) }
+        ensures moved { (xs : List Entry) →
+            IsPermutation (filter holds_deletes xs) (entries_at entries.now files.items) →
             IfOk result (IsIndexOf entries.now xs) }
     {
         let records = records(alloc, entries, &files)?;
@@ -171,7 +175,16 @@ fn gained_files(
     Ok(found)
 }
 
-/// The same, indexed.
+/// Files by their numbers.
+fn by_number(files: Vec<FileNumber>) -> Vec<FileNumber>
+    ensures { IsPermutation files.items result.items }
+{
+    let mut files = files;
+    files.sort_unstable_by(|a, b| a.order(b));
+    files
+}
+
+/// The same, indexed by their numbers, so that each is found again by its own.
 fn indexed_gains(
     alloc: Global,
     slots: &[Option<Taken>],
@@ -185,7 +198,7 @@ fn indexed_gains(
         (kept_in (gains (contents kept slots.now) (contents entries.now other.now)))) }
 {
     let files = gained_files(alloc, slots, entries, other)?;
-    IndexedDeletes::build(alloc, entries, files)
+    IndexedDeletes::build(alloc, entries, by_number(files))
 }
 
 /// The delete files and those of a manifest, indexed; none where they were dropped, or memory is refused.

@@ -23,6 +23,7 @@ mod scan;
 mod segments;
 mod shared_places;
 mod slots;
+mod sorting;
 mod taken;
 
 pub use fault::{FinishFault, ScanFault};

@@ -1,17 +1,18 @@
 //! The kept entries of a manifest, by position and by path.
 
-ghost use Rattle.std.specs.Prelude.{◌≡◌, IfOk, IfSome, List, OnOk, length, map};
+ghost use Rattle.std.specs.Prelude.{◌≡◌, [], IfOk, IfSome, IsTrue, List, length, map};
 ghost use Rattle.std.specs.List.{range_with_len};
 ghost use Rattle.std.specs.List.Sorted.{IsPermutation};
 ghost use Rattle.ice_entries.specs.Kept.{AreKept, entries_at};
 ghost use Rattle.ice_manifest_reading.specs.declared.entry.Entry.{Entry};
 ghost use Rattle.ice_state.specs.Orders.{AreOrdered, IsOrder};
-ghost use Rattle.ice_state.specs.Outcomes.{by_path};
+ghost use Rattle.ice_state.specs.Outcomes.{by_path, twice};
 ghost use Rattle.ice_state.specs.Placed.{AreEachPlaced, ArePlaced, entries_placed, place_of};
 ghost use Rattle.ice_state.specs.Segments.{AreKept as AreKeptFiles, entries_at as entries_of};
 ghost use Rattle.ice_state.specs.Slots.{HasNumbers, HaveNumbers};
 
 use crate::segments::{FileNumber, Segments};
+use crate::sorting::{Placed, sort_by_path};
 use crate::taken::Taken;
 use contract_words::Items;
 use ice_entries::{Entries, EntryNumber};
@@ -48,13 +49,6 @@ impl Ordered {
     }
 }
 
-/// The path of an entry beside the entry's place.
-#[derive(Clone, Copy, Debug, Drop)]
-struct Placed<'a> {
-    path: &'a [u8],
-    place: u32,
-}
-
 /// The places of entries in the order of their paths. More entries than can be numbered count as want of memory.
 fn order_of(
     alloc: Global,
@@ -65,10 +59,26 @@ fn order_of(
     ensures { IfOk result (IsOrder (entries_at entries.now numbers.now)) }
 {
     let placed = paths_of(alloc, entries, numbers)?;
+    let places = sorted_places(alloc, placed)?;
+    Ok(places.order)
+}
+
+/// The same of entries in many segments, and whether their paths rise.
+pub fn places_by_path(
+    alloc: Global,
+    entries: &Segments,
+    files: &[FileNumber],
+) -> Result<SortedPlaces, AllocError>
+    requires { AreKeptFiles entries.now files.now }
+    ensures order { IfOk result (λ places. IsOrder (entries_of entries.now files.now) places.order) }
+    ensures once { IfOk result (λ places. IsTrue places.rise →
+        twice (by_path (entries_of entries.now files.now)) ≡ []) }
+{
+    let placed = paths_of_files(alloc, entries, files)?;
     sorted_places(alloc, placed)
 }
 
-/// The same of entries in many segments.
+/// The order alone.
 pub fn order_of_files(
     alloc: Global,
     entries: &Segments,
@@ -77,8 +87,8 @@ pub fn order_of_files(
     requires { AreKeptFiles entries.now files.now }
     ensures { IfOk result (IsOrder (entries_of entries.now files.now)) }
 {
-    let placed = paths_of_files(alloc, entries, files)?;
-    sorted_places(alloc, placed)
+    let places = places_by_path(alloc, entries, files)?;
+    Ok(places.order)
 }
 
 /// The paths of entries, each beside its place.
@@ -99,6 +109,7 @@ fn paths_of<'a>(
             return Err(AllocError);
         };
         placed.push(Placed {
+            key: 0,
             path: entries.path(numbers[i]),
             place,
         })?;
@@ -124,6 +135,7 @@ fn paths_of_files<'a>(
             return Err(AllocError);
         };
         placed.push(Placed {
+            key: 0,
             path: entries.path(files[i]),
             place,
         })?;
@@ -141,7 +153,7 @@ pub fn rows_by_first_path(
     ensures { IfOk result (λ rows. IsPermutation (range_with_len 0 (length slots.now)) rows) }
 {
     let mut placed = first_paths(alloc, entries, slots)?;
-    sort_by_path(&mut placed)?;
+    let _ = sort_by_path(&mut placed)?;
     places_of(alloc, &placed)
 }
 
@@ -160,6 +172,7 @@ fn first_paths<'a>(
             return Err(AllocError);
         };
         placed.push(Placed {
+            key: 0,
             path: first_path(entries, &slots[i]),
             place,
         })?;
@@ -181,25 +194,25 @@ fn first_path<'a>(entries: &'a Segments, slot: &Option<Taken>) -> &'a [u8]
     entries.segment(ordered.segment).path(number)
 }
 
-/// The places of all entries, in the order of the paths.
-fn sorted_places(alloc: Global, placed: Vec<Placed<'_>>) -> Result<Items<u32>, AllocError>
-    ensures { (entries : List Entry) → AreEachPlaced entries placed.entry.items → IfOk result (IsOrder entries) }
-{
-    let mut placed = placed;
-    sort_by_path(&mut placed)?;
-    places_of(alloc, &placed)
+/// Places of entries in the order of their paths.
+#[derive(Debug, Drop)]
+pub struct SortedPlaces {
+    pub order: Items<u32>,
+    /// Whether the paths rise, so that none stands twice.
+    pub rise: bool,
 }
 
-/// Puts paths in their order.
-fn sort_by_path(placed: &mut Vec<Placed<'_>>) -> Result<(), AllocError>
-    ensures same { IsPermutation placed.old.items placed.new.items }
-    ensures placed { (entries : List Entry) →
-        ArePlaced entries placed.old.items → ArePlaced entries placed.new.items }
-    ensures sorted { (entries : List Entry) → ArePlaced entries placed.old.items →
-        OnOk result (entries_placed entries placed.new.items ≡ by_path (entries_placed entries placed.old.items)) }
+/// The places of all entries, in the order of the paths.
+fn sorted_places(alloc: Global, placed: Vec<Placed<'_>>) -> Result<SortedPlaces, AllocError>
+    ensures order { (entries : List Entry) → AreEachPlaced entries placed.entry.items →
+        IfOk result (λ places. IsOrder entries places.order) }
+    ensures once { (entries : List Entry) → AreEachPlaced entries placed.entry.items →
+        IfOk result (λ places. IsTrue places.rise → twice (by_path entries) ≡ []) }
 {
-    placed.sort_by(|a, b| a.path.cmp(b.path))?;
-    Ok(())
+    let mut placed = placed;
+    let rise = sort_by_path(&mut placed)?;
+    let order = places_of(alloc, &placed)?;
+    Ok(SortedPlaces { order, rise })
 }
 
 /// The places alone.

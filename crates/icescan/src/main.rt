@@ -3,7 +3,7 @@
 #![tactic(auto)]
 
 use contract_words::Text;
-use ice_commands::{Terminals, run_program};
+use ice_commands::{Cleared, Progress, ProgressLine, Terminals, run_program};
 use ice_text::{Output, RunFault, report};
 use std::alloc::Global;
 use std::io::IsTerminal;
@@ -20,10 +20,11 @@ fn words_of(rt: &HostRuntime) -> io::Result<Vec<String>> {
 }
 
 fn main(rt: HostRuntime) -> ExitCode {
-    let mut errors = Output::new(rt.stderr());
+    let line = ProgressLine::new(&rt, rt.alloc());
+    let mut errors = Cleared::new(Output::new(rt.stderr()), &line);
     let status = match words_of(&rt) {
         Ok(words) => {
-            let mut output = Output::new(rt.stdout());
+            let mut output = Cleared::new(Output::new(rt.stdout()), &line);
             let terminals = Terminals {
                 input: rt.stdin().is_terminal(),
                 errors: rt.stderr().is_terminal(),
@@ -33,6 +34,7 @@ fn main(rt: HostRuntime) -> ExitCode {
                 rt.alloc(),
                 terminals,
                 &words,
+                &line,
                 &mut rt.stdin(),
                 &mut output,
                 &mut errors,
@@ -40,6 +42,7 @@ fn main(rt: HostRuntime) -> ExitCode {
         }
         Err(e) => report(&words_fault(rt.alloc(), &e), &mut errors),
     };
+    line.clear();
     ExitCode::from(status)
 }
 

@@ -38,7 +38,7 @@
 //!   about and what to do
 #![tactic(auto)]
 
-use ice_commands::{Terminals, Watch, run_program};
+use ice_commands::{Silent, Terminals, Watch, run_program};
 use std::alloc::{AllocError, Global};
 use std::fs;
 use std::io::{self, Write};
@@ -90,6 +90,7 @@ where
         alloc,
         terminals,
         &words,
+        &Silent,
         &mut input,
         &mut output,
         &mut errors,

@@ -14,13 +14,14 @@ use Rattle.avro_file.proofs.Views.{branch_trees}
 use Rattle.avro_file.proofs.Behind.{behind_ok}
 use Rattle.avro_picked.specs.declared.guide.Guide.{Guide, out-Guide}
 use Rattle.avro_picked.specs.Picked.{value_met}
-use Rattle.avro_picked.specs.Finding.{LeadsTo, fields_in}
-use Rattle.avro_picked.specs.Guides.{seen, all_seen, kept, type_guided, id_guided, IsGuide, AreParts}
+use Rattle.avro_picked.specs.Finding.{fields_in}
+use Rattle.avro_picked.specs.Guides.{seen, all_seen, kept, type_guided, id_guided, IsGuide, AreParts, GuidesTo}
 use Rattle.avro_picked.proofs.Values.{fewer_left}
-use Rattle.avro_picked.proofs.Ways.{pick_itself, leads_more, null_at_end, present_at_end, chosen_read, number_fails}
-use Rattle.avro_picked.proofs.Ways.{negative_fails, past_fails, leads_chosen, leads_into}
+use Rattle.avro_picked.proofs.Ways.{pick_itself, null_at_end, present_at_end, chosen_read, number_fails}
+use Rattle.avro_picked.proofs.Ways.{negative_fails, past_fails, met_chosen, met_into}
 use Rattle.avro_picked.proofs.Guided.{type_is, id_is, branch_parts, field_parts, no_structure, parts_many, nth_part}
 use Rattle.avro_picked.proofs.Guided.{kept_read, led_begun, front_led, led_on, led_to, led_nowhere, passed_to, passing_reads}
+use Rattle.avro_picked.proofs.Guided.{guides_settle, guides_more}
 use Rattle.avro_picked.proofs.guide.+guided.Goals as goal
 
 pub place_by-returns-in_default : goal.place_by-returns-in_default
@@ -74,9 +75,9 @@ place_by-returns t c = λ ways v after is asked e.
     subst (λ (g : Guide). type_guided (seen g) ≡ tree branch) (sym c.index.ensures) part.0 in
     let guide_there : IsGuide ways (seen c.index.result.now) =
     subst (λ (g : Guide). IsGuide ways (seen g)) (sym c.index.ensures) part.1 in
-    rw (type_is c.args.guide.now) (leads_chosen c.args.place.left c.args.way.now
-    (tree (out-Guide c.args.guide.now).schema.now) branches c.in-Some-natural.position
-    (out-Guide c.args.guide.now).schema.now _ after v c.place_inside-2.result (sym c.in-Some.ensures)
+    rw (type_is c.args.guide.now) (met_chosen (λ met. GuidesTo ways c.args.place.left met c.place_inside-2.result)
+    c.args.way.now (tree (out-Guide c.args.guide.now).schema.now) branches c.in-Some-natural.position
+    (out-Guide c.args.guide.now).schema.now _ after v (sym c.in-Some.ensures)
     (omega (arith, inside, parts_many ways parts.items branches are)) (rw there at read) (λ w end f.
     rw (← type) (c.place_inside-2.ensures ways w end guide_there asked (rw type f))))
 
@@ -88,8 +89,9 @@ place_inside-returns-then-is_record t c = λ ways v after is asked e.
     let asks = rw way at asked in
     let are : AreParts ways (all_seen c.deref.result.now) (kept ways (fields_in schema)) = rw c.deref.ensures.value
     (field_parts ways c.args.guide.now is (sym c.if-is_record.ensures)) in
-    rw (type_is c.args.guide.now, way) (leads_into c.args.place.left c.in-Some.id.now c.in-Some.rest.now schema
-    (fields_in schema) (position_of c.args.place) after v c.place_past.result refl (rw (type_is c.args.guide.now) at e)
+    rw (type_is c.args.guide.now, way) (met_into (λ met. GuidesTo ways c.args.place.left met c.place_past.result)
+    (guides_settle ways c.args.place.left c.place_past.result) c.in-Some.id.now c.in-Some.rest.now schema
+    (fields_in schema) (position_of c.args.place) after v refl (rw (type_is c.args.guide.now) at e)
     (λ vs end f. let k = kept_read ways (fields_in schema) (position_of c.args.place) vs end f in
     rw (k.same c.in-Some.id.now asks.0) (rw same at (c.place_past.ensures ways (kept ways (fields_in schema)) k.values end
     are asks.1 k.read))))
@@ -98,8 +100,9 @@ pub place_inside-returns-else-is_record : goal.place_inside-returns-else-is_reco
 place_inside-returns-else-is_record t c = λ ways v after is asked e.
     let way : c.args.way.now ≡ c.in-Some.id.now ∷ c.in-Some.rest.now = c.in-Some.ensures.cases.0 in
     let schema = tree (out-Guide c.args.guide.now).schema.now in
-    rw (type_is c.args.guide.now, way) (leads_into c.args.place.left c.in-Some.id.now c.in-Some.rest.now schema no_fields
-    (position_of c.args.place) after v (Ok None) (no_structure schema (sym c.if-is_record.ensures))
+    rw (type_is c.args.guide.now, way) (met_into (λ met. GuidesTo ways c.args.place.left met (Ok None))
+    (guides_settle ways c.args.place.left (Ok None)) c.in-Some.id.now c.in-Some.rest.now schema no_fields
+    (position_of c.args.place) after v (no_structure schema (sym c.if-is_record.ensures))
     (rw (type_is c.args.guide.now) at e) (λ vs end f. refl))
 
 pub place_inside-returns-in-None : goal.place_inside-returns-in-None
@@ -113,9 +116,10 @@ place_inside-returns-in-None-2 t c = λ ways v after is asked e.
     let no_way : c.args.way.now ≡ [] = nil_from_length _ c.in-None.ensures.cases in
     let read = rw (type_is c.args.guide.now) at e in (
       v,
-      (omega arith, after, read),
+      (omega arith, after, e),
       rw (type_is c.args.guide.now, no_way) (present_at_end (tree (out-Guide c.args.guide.now).schema.now)
           (position_of c.args.place) after v (sym c.if-is_null.ensures) read),
+      is,
     )
 
 pub place_past-guides-init : goal.place_past-guides-init
@@ -135,12 +139,12 @@ place_past-returns-then-eq t c = λ ways fs vs after are asked e.
     let own : option_eq int_eq (id_guided (seen here)) (Some id) ≡ true = rw (id_is here) (sym c.if-eq.ensures) in
     let there = led_to ways id fs vs (seen here) (all_seen (drop (c.guides.guide-index + 1) c.args.guides.now))
     (position_of c.guides.here) after f own in
-    let on = leads_more c.guides.here.left c.args.place.left (pick c.args.way.now (
+    let on = guides_more ways c.guides.here.left c.args.place.left (pick c.args.way.now (
       type_guided (seen here),
       f.first.first,
     )) c.place_by.result c.guides.invariant.0 (c.place_by.ensures ways f.first.first f.first.between f.is asked
     f.first.read) in
-    rw (← same) (subst (λ (met : Picked). LeadsTo c.args.place.left met c.place_by.result)
+    rw (← same) (subst (λ (met : Picked). GuidesTo ways c.args.place.left met c.place_by.result)
     (sym (ap (unless_absent (pick c.args.way.now)) there)) on)
 
 pub place_past-returns-in_err-here : goal.place_past-returns-in_err-here

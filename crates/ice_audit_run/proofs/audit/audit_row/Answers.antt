@@ -1,6 +1,9 @@
 use Rattle.std.proofs.Common.{◌≡◌, ◌∙◌, ap, arith, length, refl, sym}
-use Rattle.std.specs.Prelude.{Ok}
+use Rattle.std.specs.Prelude.{Ok, Some}
 use Rattle.std.proofs.lemmas.Result.{err_from_is_err_and}
+use Rattle.ice_manifest_reading.specs.Manifests.{entries_of}
+use Rattle.ice_state.specs.Specs.{spec_of}
+use Rattle.ice_audit_run.proofs.AnyFiles.{given, manifest_stops, read_stops, spec_stops}
 use Rattle.ice_audit_run.proofs.Steps.{no_bytes, no_entries, no_spec, row_there}
 use Rattle.ice_audit_run.proofs.audit.audit_row.Goals as goal
 
@@ -42,3 +45,41 @@ returns-clause-found g c =
     let is = row_there (g.F.Files.may_fail c.args.files.now) world c.args.basis.now c.args.row.now
     c.in_ok-spec.spec.now known c.deref.result.now has found.items c.in_ok-entries.ensures.found in
     (_, is, refl, count, put, rw c.deref-3.ensures.value at c.in_ok-push_live.ensures)
+
+pub returns-in_err-spec-clause-stops : goal.returns-in_err-spec-clause-stops
+returns-in_err-spec-clause-stops g c =
+    let p = err_from_is_err_and c.from_residual.result c.from_residual.ensures.1 in
+    let row = c.args.row.now in
+    let none = rw c.as_slice.ensures at c.in_err-spec.ensures.err in
+    rw (p.1, p.2)
+    (spec_stops (g.F.Files.world c.args.files.now) (g.F.Files.may_fail c.args.files.now) row
+    (spec_of c.args.basis.now.specs row.spec_id) c.in_err-spec.field-0.0 none)
+
+pub returns-in_err-bytes-clause-stops : goal.returns-in_err-bytes-clause-stops
+returns-in_err-bytes-clause-stops g c =
+    let p = err_from_is_err_and c.from_residual-in_err-bytes.result c.from_residual-in_err-bytes.ensures.1 in
+    let no = c.in_err-bytes.ensures in
+    rw (p.1, p.2)
+    (read_stops (g.F.Files.world c.args.files.now) (g.F.Files.may_fail c.args.files.now) c.in_err-bytes.field-0.0
+    no.absent no.device no.write)
+
+pub returns-in_err-entries-clause-stops : goal.returns-in_err-entries-clause-stops
+returns-in_err-entries-clause-stops g c =
+    let p = err_from_is_err_and c.from_residual-in_err-entries.result c.from_residual-in_err-entries.ensures.1 in
+    let row = c.args.row.now in
+    rw (p.1, p.2)
+    (manifest_stops (g.F.Files.world c.args.files.now) (g.F.Files.may_fail c.args.files.now) row.path
+    (entries_of row c.in_ok-spec.spec.now c.deref.result.now) c.in_err-entries.field-0.0
+    c.in_err-entries.ensures.refused)
+
+pub returns-clause-read : goal.returns-clause-read
+returns-clause-read g c =
+    let known = rw c.as_slice.ensures at c.in_ok-spec.ensures.ok in
+    let found = c.in_ok-entries.entries in
+    let row = c.args.row.now in
+    let bytes = c.deref.result.now in
+    let count : length found.items ≡ c.len.result = omega (arith, c.len.ensures, found.ok) in
+    let put = rw c.deref-2.ensures.value at c.in_ok-push_findings.ensures in
+    let is = row_there (g.F.Files.may_fail c.args.files.now) (λ path. Some bytes) c.args.basis.now row
+    c.in_ok-spec.spec.now known bytes (given row.path bytes) found.items c.in_ok-entries.ensures.found in
+    (_, (bytes, is), refl, count, put, rw c.deref-3.ensures.value at c.in_ok-push_live.ensures)

@@ -4,7 +4,9 @@ use Rattle.std.proofs.lemmas.Result.{err_from_is_err_and}
 use Rattle.ice_desk.specs.Wanted.{paths_of}
 use Rattle.ice_desk.specs.Worlds.{EndsAt}
 use Rattle.ice_text.specs.Reads.{MayEnd}
+use Rattle.ice_audit_run.specs.AnyFiles.{IsReadOf}
 use Rattle.ice_audit_run.specs.Audits.{joined, rows_audit}
+use Rattle.ice_audit_run.proofs.AnyFiles.{read_end, read_more}
 use Rattle.ice_audit_run.proofs.Steps.{first_row_ends, join_nothing, joins, later_row_ends, row_step, rows_end}
 use Rattle.ice_audit_run.proofs.Steps.{rows_more}
 use Rattle.ice_audit_run.proofs.audit.audit_rows.Goals as goal
@@ -14,6 +16,8 @@ rows-init g c = record {
   found = λ world told left h. rw (c.new-findings.ensures, c.new-live.ensures.items)
       (h ∙ ap Ok (sym (join_nothing left)));
   ends = λ world told e h. h;
+  read = λ left h. rw (c.new-findings.ensures, c.new-live.ensures.items)
+      (subst (IsReadOf c.args.basis.now c.args.rows.now) (sym (join_nothing left)) h);
   few = omega arith;
 }
 
@@ -38,6 +42,14 @@ rows-preserved g c =
           kept.ends world told e
           (subst (λ rs. MayEnd (rows_audit world basis rs) (EndsAt world f (paths_of rs)) ⊥ e) (sym step)
           (later_row_ends f world basis row (drop (i + 1) rows) here.0 e here.1 h));
+      read = λ left h.
+          let here = c.in_ok-entries.ensures.read in
+          let more = read_more basis row (drop (i + 1) rows) here.0 left here.1 h in
+          let all = kept.read (joined here.0 left)
+          (subst (λ rs. IsReadOf basis rs (joined here.0 left)) (sym step) more) in
+          subst (IsReadOf basis rows)
+          (joins i c.rows.entries _ c.rows.findings c.audit_row.new.findings c.rows.live.items
+          c.audit_row.new.live.items here.0 left here.2 here.3 here.4 here.5) all;
       few = omega (arith, kept.few);
     }
 
@@ -66,3 +78,18 @@ returns-clause-found g c =
     (rows_end world c.args.basis.now rows c.rows.row-index (length rows) c.rows.entries c.rows.findings
     c.rows.live.items low all
     (c.rows.invariant.found world told))
+
+pub returns-in_err-entries-clause-stops : goal.returns-in_err-entries-clause-stops
+returns-in_err-entries-clause-stops g c =
+    let p = err_from_is_err_and c.from_residual.result c.from_residual.ensures.1 in
+    rw (p.1, p.2) c.in_err-entries.ensures.stops
+
+pub returns-clause-read : goal.returns-clause-read
+returns-clause-read g c =
+    let rows = c.args.rows.now in
+    let low : length rows ≤ c.rows.row-index = c.rows-test.false in
+    let high : c.rows.row-index ≤ length rows = c.rows.auto.row-index-end in
+    let all : c.rows.row-index ≡ length rows = omega arith in
+    rw c.from_vec.ensures
+    (read_end c.args.basis.now rows c.rows.row-index (length rows) c.rows.entries c.rows.findings c.rows.live.items low
+    all c.rows.invariant.read)

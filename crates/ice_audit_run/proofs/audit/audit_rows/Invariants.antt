@@ -1,5 +1,6 @@
 use Rattle.std.proofs.Common.{◌≡◌, ◌*◌, ◌^◌, ◌≤◌, drop}
 use Rattle.std.specs.Prelude.{Some, Ok}
+use Rattle.ice_audit_run.specs.AnyFiles.{IsReadOf}
 use Rattle.ice_audit_run.specs.Audits.{joined, rows_audit}
 use Rattle.ice_audit_run.specs.declared.audit.Reading.{Reading}
 use Rattle.ice_desk.specs.Wanted.{paths_of}
@@ -25,5 +26,12 @@ invariant-rows g l = record {
       → MayEnd (rows_audit world l.basis (drop l.row-index l.rows))
       (EndsAt world (g.F.Files.may_fail l.files) (paths_of (drop l.row-index l.rows))) ⊥ e
       → MayEnd (rows_audit world l.basis l.rows) (EndsAt world (g.F.Files.may_fail l.files) (paths_of l.rows)) ⊥ e;
+  read : (left : Reading) → IsReadOf l.basis (drop l.row-index l.rows) left
+      → IsReadOf l.basis l.rows (joined (record {
+        manifests = l.row-index;
+        entries = l.entries;
+        findings = l.findings;
+        live = l.live.items;
+      }) left);
   few : l.entries ≤ l.row-index * 2 ^ 64;
 }

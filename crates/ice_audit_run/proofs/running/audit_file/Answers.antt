@@ -1,6 +1,8 @@
 use Rattle.std.proofs.Common.{◌≡◌, ◌⊎◌, ◌<◌, ◌≤◌, ◌∙◌, ap, inl, inr, sym, arith}
-use Rattle.std.specs.Prelude.{Ok}
+use Rattle.std.specs.Prelude.{Err, Ok, []}
 use Rattle.std.proofs.lemmas.Result.{err_from_is_err_and, IfErr-weaker, IfOk-weaker}
+use Rattle.ice_text.specs.declared.fault.RunFault.TheVariants as run
+use Rattle.ice_audit_run.proofs.AnyFiles.{read_stops, writes_stop}
 use Rattle.ice_audit_run.proofs.Premise.{true_at}
 use Rattle.ice_audit_run.proofs.Steps.{audit_behind, ends_behind, no_metadata, no_workers}
 use Rattle.ice_audit_run.proofs.running.audit_file.Goals.{then-workers-eq0-via-then-workers-eq0}
@@ -62,3 +64,33 @@ returns-clause-front g c =
     let same = audit_behind f world c.args.path.now c.args.target.now c.args.workers c.deref.result.now has some few in
     let w = c.run_audit.ensures.front world told failed in
     (w.0, same ∙ w.1, w.2)
+
+pub returns-in_err-metadata-clause-text : goal.returns-in_err-metadata-clause-text
+returns-in_err-metadata-clause-text g c =
+    let p = err_from_is_err_and c.from_residual.result c.from_residual.ensures.1 in
+    rw (p.1, p.2) (
+      [],
+      record {
+        all = tt;
+        front = λ is.
+            let failed : c.in_err-metadata.field-0.0 ≡ run.Write = cc in
+            absurd (c.in_err-metadata.ensures.write (ap Err failed));
+      },
+    )
+
+pub returns-in_err-metadata-clause-refusal : goal.returns-in_err-metadata-clause-refusal
+returns-in_err-metadata-clause-refusal g c =
+    let p = err_from_is_err_and c.from_residual.result c.from_residual.ensures.1 in
+    let world = g.F.Files.world c.args.files.now in
+    let f = g.F.Files.may_fail c.args.files.now in
+    let e = c.in_err-metadata.field-0.0 in
+    let no = c.in_err-metadata.ensures in
+    rw (p.1, p.2)
+    (writes_stop world f (g.W.Sink.may_fail c.args.output.now) e
+    (read_stops world f e no.absent no.device no.write))
+
+pub returns-then-workers-eq0-clause-text : goal.returns-then-workers-eq0-clause-text
+returns-then-workers-eq0-clause-text g c = ([], record { all = tt; front = λ is. absurd cc })
+
+pub returns-clause-text : goal.returns-clause-text
+returns-clause-text g c = (c.deref.result.now, c.run_audit.ensures.text)

@@ -32,9 +32,9 @@ returns-then-asks_hints-clause-run g c =
       | else-terminals-via-else-terminals w ↦ meant_piped string_bytes input words w.if-terminals.false
     ] in
     subst (λ texts. RanWithHint texts (g.R.Read.remaining c.args.input.now)
-    (g.W.Sink.may_fail c.args.output.now) (g.E.Sink.may_fail c.args.errors.now) c.run_explained.result
-    (g.W.Sink.taken c.args.output.now) (g.W.Sink.taken c.run_explained.new.output) (g.E.Sink.taken c.args.errors.now)
-    (g.E.Sink.taken c.run_explained.new.errors)) (sym same) c.run_explained.ensures
+    (g.W.Sink.may_fail c.args.output.now) (g.E.Sink.may_fail c.args.errors.now) c.run_shown.result
+    (g.W.Sink.taken c.args.output.now) (g.W.Sink.taken c.run_shown.new.output) (g.E.Sink.taken c.args.errors.now)
+    (g.E.Sink.taken c.run_shown.new.errors)) (sym same) c.run_shown.ensures
 
 pub returns-else-asks_hints-clause-line : goal.returns-else-asks_hints-clause-line
 returns-else-asks_hints-clause-line g c =

@@ -9,6 +9,7 @@ use Rattle.avro_picked.specs.declared.found.Found.{Found}
 use Rattle.avro_picked.specs.Finding.{IsMet}
 use Rattle.ice_manifest_fields.specs.Fields.{there, items_of, items_as}
 use Rattle.ice_manifest_fields.proofs.Steps.{tree-Array}
+use Rattle.ice_manifest_found.specs.InPlace.{type_listed}
 use Rattle.ice_manifest_found.proofs.items.items_of.Goals as goal
 
 pub returns-in-Array : goal.returns-in-Array
@@ -27,4 +28,6 @@ returns-in-Array c = λ met is.
       ap (λ (p : Picked). items_of (there p)) m.2 ∙ ap (λ (u : Tree). items_of (Some (u, m.0))) of
           ∙ ap (λ (w : Value). items_of (Some (t, w))) list.1
           ∙ ap (λ (s : Schema). items_as (tree s) (values_of list.0)) (sym c.new.ensures.schema),
+      ap (λ (p : Picked). type_listed (there p)) m.2 ∙ ap (λ (u : Tree). type_listed (Some (u, m.0))) of
+          ∙ ap (λ (s : Schema). Some (tree s)) (sym c.new.ensures.schema),
     )

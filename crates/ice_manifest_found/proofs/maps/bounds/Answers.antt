@@ -12,18 +12,19 @@ use Rattle.ice_manifest_found.proofs.maps.bounds.Goals as goal
 
 pub returns-in-Pairs : goal.returns-in-Pairs
 returns-in-Pairs c = λ met is.
-    let here : IsReadAs (Pairs c.in-Pairs.schema c.in-Pairs.datum) met =
-    subst (λ (r : ReadMap). IsReadAs r met) c.in-Pairs.is is in
+    let here : IsReadAs c.args.map (Pairs c.in-Pairs.schema c.in-Pairs.datum) met =
+    subst (λ (r : ReadMap). IsReadAs c.args.map r met) c.in-Pairs.is is in
     subst (λ (x : Option Typed). Gives Memory (λ y. y) c.bounds_of_map.result
     (told in_manifest (bounds_in c.args.map x))) here c.bounds_of_map.ensures
 
 pub returns-in_err-bounds-in-InPlace : goal.returns-in_err-bounds-in-InPlace
 returns-in_err-bounds-in-InPlace c =
     let p = err_from_is_err_and c.from_residual.result c.from_residual.ensures.1 in
-    rw (p.1, p.2) (λ met is. c.in_err-bounds-in-InPlace.ensures met
-    (subst (λ (r : ReadMap). IsReadAs r met) c.in-InPlace.is is))
+    rw (p.1, p.2) (λ met is. let here = subst (λ (r : ReadMap). IsReadAs c.args.map r met) c.in-InPlace.is is in
+    c.in_err-bounds-in-InPlace.ensures met here.0 here.1)
 
 pub returns-in_ok-bounds-in-InPlace : goal.returns-in_ok-bounds-in-InPlace
 returns-in_ok-bounds-in-InPlace c = λ met is.
-    c.in_ok-bounds-in-InPlace.ensures met (subst (λ (r : ReadMap). IsReadAs r met) c.in-InPlace.is is)
+    let here = subst (λ (r : ReadMap). IsReadAs c.args.map r met) c.in-InPlace.is is in
+    c.in_ok-bounds-in-InPlace.ensures met here.0 here.1
     ∙ ap Ok (sym c.made.ensures)

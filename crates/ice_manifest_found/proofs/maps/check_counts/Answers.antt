@@ -8,7 +8,7 @@ use Rattle.ice_manifest_found.proofs.SoundMaps.{counts_sound}
 use Rattle.ice_manifest_found.proofs.maps.check_counts.Goals as goal
 
 pub returns-in-Some : goal.returns-in-Some
-returns-in-Some c = λ met is.
+returns-in-Some c = λ met is leads.
     let sound = ap (λ (s : Schema). is_sound c.args.map (tree s)) (sym c.schema.ensures) ∙ sym c.is_sound.ensures
     ∙ c.if-is_sound.true in
     counts_sound c.args.map c.in-Some.found met c.requires sound

@@ -1,9 +1,7 @@
-use Rattle.std.proofs.Common.{◌≡◌, [], refl}
-use Rattle.ice_manifest_fields.specs.Each.{each}
 use Rattle.ice_manifest_found.proofs.pairs.bounds_ahead.Goals as goal
 
+pub returns-in-Some : goal.returns-in-Some
+returns-in-Some c = λ vs fits ahead. c.each_bound.ensures vs (rw c.in-Some.is at fits) ahead
+
 pub returns-in-None : goal.returns-in-None
-unfolding each
-returns-in-None c = λ vs ahead.
-    let none : vs ≡ [] = c.in-None.ensures.items vs ahead in
-    rw (c.new.ensures.items, none) refl
+returns-in-None c = λ vs fits ahead. c.bounds_unguided.ensures vs ahead

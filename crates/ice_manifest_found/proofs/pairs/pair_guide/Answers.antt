@@ -1,8 +1,12 @@
 use Rattle.std.proofs.Common.{ℤ, List, IfOk, ap, subst, ◌∙◌}
 use Rattle.avro_schema.specs.View.{tree}
 use Rattle.avro_picked.specs.Guides.{ids_in, IsGuideOf}
+use Rattle.ice_manifest_found.specs.Met.{pair_ways, pair_ids}
+use Rattle.ice_manifest_found.proofs.Itself.{pair_asked}
+use Rattle.ice_manifest_found.proofs.Guiding.{guide_for}
 use Rattle.ice_manifest_found.proofs.pairs.pair_guide.Goals as goal
 
 pub returns : goal.returns
-returns c = subst (λ (ws : List (List ℤ)). IfOk c.new.result (IsGuideOf ws (tree c.args.schema.now)))
-    (ap ids_in c.deref.ensures.value ∙ c.in_ok-ways.ensures) c.new.ensures
+returns c = guide_for (pair_ways c.args.map) (pair_ids c.args.map) (tree c.args.schema.now) c.new.result
+    (subst (λ (ws : List (List ℤ)). IfOk c.new.result (IsGuideOf ws (tree c.args.schema.now)))
+    (ap ids_in c.deref.ensures.value ∙ c.in_ok-ways.ensures) c.new.ensures) (pair_asked c.args.map)

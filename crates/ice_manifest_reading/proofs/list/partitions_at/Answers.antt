@@ -21,6 +21,9 @@ returns-in_err-summaries_in_list c =
     (ap (λ (x : Option Typed). told in_list (each summary_of (items_of x))) (sym list)
     ∙ c.in_err-summaries_in_list.ensures met c.in-Some.ensures other))
 
+pub summaries_in_list-requires : goal.summaries_in_list-requires
+summaries_in_list-requires c = (at (pos 507) (row_seen c.args.row.now), c.in-Some.ensures, c.items_guide-guide.ensures)
+
 pub returns : goal.returns
 returns c =
     let met = at (pos 507) (row_seen c.args.row.now) in

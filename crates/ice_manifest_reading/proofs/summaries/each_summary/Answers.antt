@@ -3,13 +3,13 @@ use Rattle.std.proofs.lemmas.Result.{err_from_is_err_and}
 use Rattle.avro_schema.specs.declared.schema.Schema.{Schema}
 use Rattle.avro_schema.specs.View.{tree}
 use Rattle.avro_file.specs.Alike.{EndAlike}
-use Rattle.avro_picked.specs.Guides.{IsGuideOf}
+use Rattle.avro_picked.specs.Guides.{IsGuideFor}
 use Rattle.ice_value.specs.declared.file_bounds.Summary.{Summary}
 use Rattle.ice_manifest_fields.specs.Naming.{in_list, told}
 use Rattle.ice_manifest_fields.proofs.Joining.{told_ok}
 use Rattle.ice_manifest_found.proofs.Coming.{SoFar, none_so_far, more_so_far, fails_so_far, all_so_far}
 use Rattle.ice_manifest_reading.specs.Lists.{summary_of}
-use Rattle.ice_manifest_reading.specs.SummaryWays.{summary_ways}
+use Rattle.ice_manifest_found.specs.RowsFound.{summary_ids}
 use Rattle.ice_manifest_reading.proofs.summaries.each_summary.Goals as goal
 
 pub items-init : goal.items-init
@@ -21,14 +21,13 @@ items-init c = (
 
 pub next_by-requires : goal.next_by-requires
 next_by-requires c =
-    subst (λ (s : Schema). EndAlike (tree c.passing.result.now) (tree s))
-    (c.schema.ensures ∙ sym c.items.invariant.1)
-    (c.passing.ensures summary_ways (tree c.schema.result.now) c.in_ok-guide.ensures)
+    subst (λ (s : Schema). EndAlike (tree c.passing.result.now) (tree s)) (sym c.items.invariant.1)
+    (c.passing.ensures c.requires.0 (tree c.args.items.schema.now) c.requires.1)
 
 pub summary_of-requires : goal.summary_of-requires
 summary_of-requires c =
-    subst (λ (s : Schema). IsGuideOf summary_ways (tree s) c.in_ok-guide.guide)
-    (c.schema.ensures ∙ sym (c.in-Some.ensures.item ∙ c.items.invariant.1)) c.in_ok-guide.ensures
+    subst (λ (s : Schema). IsGuideFor summary_ids (tree s) c.args.guide.now)
+    (sym (c.in-Some.ensures.item ∙ c.items.invariant.1)) c.requires
 
 pub returns-in_err-summary_of : goal.returns-in_err-summary_of
 returns-in_err-summary_of c =

@@ -5,8 +5,17 @@ use Rattle.ice_manifest_fields.specs.declared.fault.ListFault.TheVariants.{Memor
 use Rattle.ice_manifest_fields.specs.Each.{each}
 use Rattle.ice_manifest_fields.specs.Fields.{there, items_of}
 use Rattle.ice_manifest_fields.specs.Naming.{in_list, told}
+use Rattle.avro_schema.specs.View.{tree}
+use Rattle.ice_manifest_found.specs.RowsFound.{summary_ids}
+use Rattle.ice_manifest_found.proofs.Guiding.{guide_fits}
 use Rattle.ice_manifest_reading.specs.Lists.{summary_of}
 use Rattle.ice_manifest_reading.proofs.summaries.summaries_in_list.Goals as goal
+
+pub summaries_of-requires : goal.summaries_of-requires
+summaries_of-requires c =
+    let met = c.requires.0 in
+    let list = c.in-Some.ensures met c.requires.1 in
+    guide_fits summary_ids c.args.guide met (tree c.in-Some.items.schema.now) c.requires.2 list.3
 
 pub returns-in-Some : goal.returns-in-Some
 returns-in-Some c = λ met is.

@@ -9,7 +9,7 @@ returns c =
     let kept = c.args.entries.now in
     let numbers = c.args.numbers.now in
     let found = c.in_ok-placed.ensures in
-    c.sorted_places.ensures (entries_at kept numbers) (record {
+    c.in_ok-places.ensures.order (entries_at kept numbers) (record {
       placed = found.placed;
       places = found.places ∙ ap (range_with_len 0) (sym (length-map numbers (entry_at kept)));
       all = found.all;

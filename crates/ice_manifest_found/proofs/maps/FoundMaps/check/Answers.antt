@@ -21,9 +21,9 @@ last_checked {A} {B} (Err e) (Err f) make is = λ other.
 pub returns : goal.returns
 unfolding columns_met
 returns c = λ met are.
-    let values = c.in_ok-check_counts.ensures met.values are.values in
-    let nulls = c.in_ok-check_counts-2.ensures met.nulls are.nulls in
-    let lower = c.in_ok-check_bounds.ensures met.lower are.lower in
+    let values = c.in_ok-check_counts.ensures met.values are.values are.guided.values in
+    let nulls = c.in_ok-check_counts-2.ensures met.nulls are.nulls are.guided.nulls in
+    let lower = c.in_ok-check_bounds.ensures met.lower are.lower are.guided.lower in
     rw (values.1, nulls.1, lower.1)
     (last_checked c.check_bounds-2.result (bounds_in upper_bounds (there met.upper)) _
-    (c.check_bounds-2.ensures met.upper are.upper))
+    (c.check_bounds-2.ensures met.upper are.upper are.guided.upper))

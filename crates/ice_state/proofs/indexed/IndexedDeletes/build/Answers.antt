@@ -31,6 +31,14 @@ returns-clause-places c =
     indexed_below (map delete_key_of (entries_at kept files)) c.in_ok-index.index (length files) (omega arith)
     (indexed (goal.at.returns-clause-places c).In_ok-index)
 
+pub returns-clause-moved : goal.returns-clause-moved
+returns-clause-moved c = λ xs moved.
+    record {
+      files = c.requires;
+      all = moved;
+      index = indexed (goal.at.returns-clause-moved c).In_ok-index;
+    }
+
 pub returns-clause-index : goal.returns-clause-index
 returns-clause-index c = λ xs are.
     let kept = c.args.entries.now in

@@ -1,0 +1,26 @@
+-- Where the guide of an entry leads.
+use Rattle.std.proofs.Common.{◌≡◌, pos, [], ◌∷◌, IfSome, Option, Some, None, refl}
+use Rattle.avro_file.specs.Picking.{Picked}
+use Rattle.avro_picked.specs.declared.guide.GuidedObject.{GuidedObject}
+use Rattle.avro_picked.specs.Guides.{AreAsked}
+use Rattle.ice_meta.specs.declared.spec.PartitionField.{PartitionField}
+use Rattle.ice_manifest_fields.specs.declared.columns.ColumnMap.{ColumnMap}
+use Rattle.ice_manifest_fields.specs.ColumnMaps.{value_counts, null_value_counts, lower_bounds, upper_bounds}
+use Rattle.ice_manifest_fields.specs.Fields.{at}
+use Rattle.ice_manifest_found.specs.Met.{LeadsToMap, LeadsToMaps}
+use Rattle.ice_entry_found.specs.declared.field.FileField.{FileField}
+use Rattle.ice_entry_found.specs.declared.field.FileField.TheVariants.{ValueCounts, NullCounts, LowerBounds, UpperBounds}
+use Rattle.ice_entry_found.specs.declared.file.FoundFile.{FoundFile}
+use Rattle.ice_entry_found.specs.Seen.{IsGuidedFile, file_seen}
+use Rattle.ice_entry_found.specs.Ways.{file_id, wanted_ways}
+use Rattle.ice_manifest_reading.specs.Behind.{maps_at}
+
+pub leads_to_maps : (f : FoundFile) (guided : Option GuidedObject) → IfSome guided (λ g. IsGuidedFile f g)
+    → LeadsToMaps guided (maps_at f)
+leads_to_maps f None is = record { values = tt; nulls = tt; lower = tt; upper = tt }
+leads_to_maps f (Some g) is = let ways = wanted_ways f.entry.now.partition.now in record {
+  values = (ways, is.0, is.1, is.2, is.3 ValueCounts, (refl, (refl, tt)), (refl, (refl, tt)));
+  nulls = (ways, is.0, is.1, is.2, is.3 NullCounts, (refl, (refl, tt)), (refl, (refl, tt)));
+  lower = (ways, is.0, is.1, is.2, is.3 LowerBounds, (refl, (refl, tt)), (refl, (refl, tt)));
+  upper = (ways, is.0, is.1, is.2, is.3 UpperBounds, (refl, (refl, tt)), (refl, (refl, tt)));
+}

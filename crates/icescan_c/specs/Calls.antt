@@ -1,0 +1,81 @@
+-- What calls do to what handles hold.
+use Rattle.std.specs.Prelude.{◌≡◌, ◌⊎◌, ℕ, List, Option, Some, None, Result, Ok, Err}
+use Rattle.ice_text.specs.declared.request.Request.{Request}
+use Rattle.icescan_c.specs.Kept.{Kept}
+use Rattle.icescan_c.specs.Making.{Makes, asked, finished, started}
+use Rattle.icescan_c.specs.Requests.{ReadsTexts}
+use Rattle.icescan_c.specs.States.{TakesOver, TakesRow, untaken}
+use Rattle.icescan_c.specs.Statuses.{status_of}
+use Rattle.icescan_c.specs.declared.held.Held.{Held}
+use Rattle.icescan_c.specs.declared.held.Held.TheVariants as held
+use Rattle.icescan_c.specs.declared.status.Refusal.{Refusal}
+use Rattle.icescan_c.specs.declared.status.Refusal.TheVariants as refusal
+
+-- A call works so on what a handle holds. A handle that holds nothing is refused.
+abbrev pub OnHandle : (Held → Result Unit Refusal → Held → Type 0) → Option Held → ℕ → Option Held → Type 0
+OnHandle works None status after = (status ≡ status_of (Err refusal.Kind)) × (after ≡ None)
+OnHandle works (Some before) status after = (ended : Result Unit Refusal) × (kept : Held) × (status ≡ status_of ended)
+    × (after ≡ Some kept) × works before ended kept
+
+-- the call is refused so, and what was held stays
+abbrev pub Refuses : {X : Type 0} → Refusal → X → Result Unit Refusal → X → Type 0
+Refuses refused before ended after = (ended ≡ Err refused) × (after ≡ before)
+
+-- a handle comes to hold this; without memory for it what was held stays
+abbrev pub ComesToHold : Held → Option Held → Result Unit Refusal → Option Held → Type 0
+ComesToHold made before (Ok x) after = after ≡ Some made
+ComesToHold made before ended after = Refuses refusal.Memory before ended after
+
+-- ---- scans
+
+-- A handle comes to hold what a request selects, or the line of its fault; without memory for it what was held stays. A
+-- request that could not be read is refused.
+abbrev pub Asks : List ℕ → Result Request Refusal → Option Held → Result Unit Refusal → Option Held → Type 0
+Asks metadata (Ok request) before ended after = Refuses refusal.Memory before ended after
+    ⊎ ((kept : Held) × (after ≡ Some kept) × Makes (asked metadata request) ended kept)
+Asks metadata (Err refused) before ended after = Refuses refused before ended after
+
+-- the same of a request that is read of these texts
+abbrev pub Selects : List ℕ → List (List ℕ) → Request → Option Held → ℕ → Option Held → Type 0
+Selects metadata texts request before status after = (read : Result Request Refusal) × (ended : Result Unit Refusal)
+    × ReadsTexts texts request read × (status ≡ status_of ended) × Asks metadata read before ended after
+
+-- what was selected becomes the scan of a manifest list
+abbrev pub Starts : List ℕ → Held → Result Unit Refusal → Held → Type 0
+Starts list (held.Selection selection) ended after = Makes (started selection list) ended after
+Starts list other ended after = Refuses refusal.Kind other ended after
+
+-- ---- states
+
+-- a handle comes to hold the state of a scan in which no row is taken
+abbrev pub Begins : Held → Option Held → Result Unit Refusal → Option Held → Type 0
+Begins (held.Scan scan) before ended after = ComesToHold (held.State (untaken scan)) before ended after
+Begins other before ended after = Refuses refusal.Kind before ended after
+
+abbrev pub BeginsOf : Option Held → Option Held → ℕ → Option Held → Type 0
+BeginsOf None before status after = (status ≡ status_of (Err refusal.Kind)) × (after ≡ before)
+BeginsOf (Some scan) before status after = (ended : Result Unit Refusal) × (status ≡ status_of ended)
+    × Begins scan before ended after
+
+abbrev pub IsStateAfter : (Kept → Type 0) → Held → Type 0
+IsStateAfter is (held.State kept) = is kept
+IsStateAfter is other = ⊥
+
+-- a state takes the row i
+abbrev pub Takes : ℕ → List ℕ → Held → Result Unit Refusal → Held → Type 0
+Takes i manifest (held.State before) ended after = IsStateAfter (TakesRow before i manifest ended) after
+Takes i manifest other ended after = Refuses refusal.Kind other ended after
+
+-- a state takes over what another took
+abbrev pub Merges : Held → Held → Result Unit Refusal → Held → Type 0
+Merges (held.State other) (held.State before) ended after = IsStateAfter (TakesOver before other ended) after
+Merges other before ended after = Refuses refusal.Kind before ended after
+
+abbrev pub MergesOf : Option Held → Option Held → ℕ → Option Held → Type 0
+MergesOf None before status after = (status ≡ status_of (Err refusal.Kind)) × (after ≡ before)
+MergesOf (Some other) before status after = OnHandle (Merges other) before status after
+
+-- a state becomes the plan of what it took
+abbrev pub Finishes : Held → Result Unit Refusal → Held → Type 0
+Finishes (held.State kept) ended after = Makes (finished kept) ended after
+Finishes other ended after = Refuses refusal.Kind other ended after

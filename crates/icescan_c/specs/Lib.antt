@@ -1,0 +1,8 @@
+pub mod Calls
+pub mod Handles
+pub mod Kept
+pub mod Making
+pub mod Readings
+pub mod Requests
+pub mod States
+pub mod Statuses

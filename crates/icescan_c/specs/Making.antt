@@ -1,0 +1,53 @@
+-- What is made of the bytes that C hands in.
+use Rattle.std.specs.Prelude.{◌≡◌, ◌≤◌, ℕ, List, length, take, Result, Ok, Err}
+use Rattle.contract_words.specs.Outcome.{Gives, ◌>>=◌}
+use Rattle.ice_manifest_reading.specs.Lists.{rows_of}
+use Rattle.ice_requests.specs.Selections.{selected}
+use Rattle.ice_requests.specs.declared.selection.Selection.{Selection}
+use Rattle.ice_state.specs.Outcomes.{outcome}
+use Rattle.ice_state.specs.Scans.{scan_of}
+use Rattle.ice_text.specs.FaultTexts.{fault_text}
+use Rattle.ice_text.specs.Faults.{of_finish, of_list, of_scan}
+use Rattle.ice_text.specs.Faults.{status_of as fault_status}
+use Rattle.ice_text.specs.Reads.{as_run}
+use Rattle.ice_text.specs.declared.fault.RunFault.{RunFault}
+use Rattle.ice_text.specs.declared.fault.RunFault.TheVariants as run
+use Rattle.ice_text.specs.declared.request.Request.{Request}
+use Rattle.icescan_c.specs.Kept.{Kept}
+use Rattle.icescan_c.specs.declared.held.Held.{Held}
+use Rattle.icescan_c.specs.declared.held.Held.TheVariants as held
+use Rattle.icescan_c.specs.declared.status.Refusal.{Refusal}
+use Rattle.icescan_c.specs.declared.status.Refusal.TheVariants as refusal
+
+-- what a request selects of the table whose metadata these are the bytes of
+unfoldable pub asked : List ℕ → Request → Result Held RunFault
+asked metadata request = do
+  selection ← selected metadata request
+  Ok (held.Selection selection)
+
+-- the scan of what was selected, whose manifest list these are the bytes of
+unfoldable pub started : Selection → List ℕ → Result Held RunFault
+started selection list = do
+  rows ← as_run of_list (rows_of list)
+  scan ← as_run of_scan (scan_of rows selection.specs selection.filter.parts)
+  Ok (held.Scan scan)
+
+-- the plan of what a state took
+unfoldable pub finished : Kept → Result Held RunFault
+finished kept = do
+  plan ← as_run of_finish (outcome kept.scan kept.content)
+  Ok (held.Plan plan)
+
+-- the line of a fault is held, or a front of it where memory ran out
+abbrev pub IsLineOf : RunFault → Held → Type 0
+IsLineOf fault after = (n : ℕ) × (n ≤ length (fault_text fault)) × (after ≡ held.Fault (take n (fault_text fault)))
+
+-- what was made is held, or the line of the fault, with whose status the call ends
+abbrev pub Holds : Result Held RunFault → Result Unit Refusal → Held → Type 0
+Holds (Ok made) ended after = (ended ≡ Ok tt) × (after ≡ made)
+Holds (Err fault) ended after = (ended ≡ Err (refusal.Fault (fault_status fault))) × IsLineOf fault after
+
+-- that is held which reading gives, unless memory ran out
+abbrev pub Makes : Result Held RunFault → Result Unit Refusal → Held → Type 0
+Makes read ended after = (made : Result Held RunFault) × Gives run.Memory (λ held. held) made read
+    × Holds made ended after

@@ -1,0 +1,16 @@
+//! The library for programs in C: an engine keeps its own files, threads and memory; it hands bytes in, and gets the
+//! plan out. `include/icescan.h` tells callers in C what each call does, and what is left to them.
+#![tactic(auto)]
+
+mod asking;
+mod handle;
+mod held;
+mod lent;
+mod loose;
+mod plan_calls;
+mod scan_calls;
+mod state_calls;
+mod states;
+mod status;
+mod telling;
+mod working;

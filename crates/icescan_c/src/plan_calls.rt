@@ -1,0 +1,85 @@
+//! The calls on plans.
+
+ghost use Rattle.std.specs.Prelude.{◌≡◌};
+ghost use Rattle.icescan_c.specs.Readings.{IsCount, IsDeleteOf, IsFileOfLine, Reads, at_place, count_of};
+ghost use Rattle.icescan_c.specs.Readings.{equalities_of, lines_in, positions_of};
+
+use crate::handle::Handle;
+use crate::status::{Refusal, status};
+use crate::telling::File;
+use std::alloc::Global;
+
+/// Tells how many data files the plan has.
+#[unsafe(no_mangle)]
+pub extern "C" fn icescan_plan_count(alloc: Global, plan: &mut Handle, count: &mut usize) -> u32
+    ensures told { Reads IsCount (λ held. count_of (lines_in held)) plan.old.held count.old result count.new }
+    ensures unchanged { plan.new.held ≡ plan.old.held }
+{
+    let Some(held) = plan.take(alloc) else {
+        return status(Err(Refusal::Kind));
+    };
+    let ended = held.count_files(count);
+    plan.put(held);
+    status(ended)
+}
+
+/// Lends the data file `i` of the plan.
+#[unsafe(no_mangle)]
+pub extern "C" fn icescan_plan_file(
+    alloc: Global,
+    plan: &mut Handle,
+    i: usize,
+    file: &mut File,
+) -> u32
+    ensures told { Reads IsFileOfLine (λ held. at_place (lines_in held) i) plan.old.held file.old result file.new }
+    ensures unchanged { plan.new.held ≡ plan.old.held }
+{
+    let Some(held) = plan.take(alloc) else {
+        return status(Err(Refusal::Kind));
+    };
+    let ended = held.lend_file(i, file);
+    plan.put(held);
+    status(ended)
+}
+
+/// Lends the position delete file `j` of the data file `i` of the plan.
+#[unsafe(no_mangle)]
+pub extern "C" fn icescan_plan_position(
+    alloc: Global,
+    plan: &mut Handle,
+    i: usize,
+    j: usize,
+    file: &mut File,
+) -> u32
+    ensures told { Reads IsDeleteOf (λ held. at_place (positions_of (at_place (lines_in held) i)) j) plan.old.held
+        file.old result file.new }
+    ensures unchanged { plan.new.held ≡ plan.old.held }
+{
+    let Some(held) = plan.take(alloc) else {
+        return status(Err(Refusal::Kind));
+    };
+    let ended = held.lend_position(i, j, file);
+    plan.put(held);
+    status(ended)
+}
+
+/// Lends the equality delete file `j` of the data file `i` of the plan.
+#[unsafe(no_mangle)]
+pub extern "C" fn icescan_plan_equality(
+    alloc: Global,
+    plan: &mut Handle,
+    i: usize,
+    j: usize,
+    file: &mut File,
+) -> u32
+    ensures told { Reads IsDeleteOf (λ held. at_place (equalities_of (at_place (lines_in held) i)) j) plan.old.held
+        file.old result file.new }
+    ensures unchanged { plan.new.held ≡ plan.old.held }
+{
+    let Some(held) = plan.take(alloc) else {
+        return status(Err(Refusal::Kind));
+    };
+    let ended = held.lend_equality(i, j, file);
+    plan.put(held);
+    status(ended)
+}

@@ -1,0 +1,111 @@
+//! Scans that are shared by their states.
+
+ghost use Rattle.std.specs.Prelude.{◌≡◌, IfOk};
+ghost use Rattle.contract_words.specs.Outcome.{Gives};
+ghost use Rattle.ice_state.specs.Outcomes.{outcome};
+ghost use Rattle.icescan_c.specs.States.{TakesOver, TakesRow, untaken};
+
+use crate::status::Refusal;
+use ice_state::{FinishFault, OwnedPlan, Partial, Scan};
+use std::alloc::{AllocError, Global};
+use std::marker::Model;
+use std::sync::Arc;
+
+/// A scan that its states share.
+#[derive(Drop)]
+pub struct SharedScan {
+    scan: Arc<Scan>,
+}
+
+impl Model for SharedScan {
+    ghost use Rattle.std.specs.Arc.{arc_value};
+    ghost use Rattle.ice_state.specs.Scans.{Scanned};
+
+    ghost Value = { Scanned };
+
+    ghost view = { λ s. arc_value s.scan };
+}
+
+impl SharedScan {
+    /// The scan, in room of its own.
+    pub fn new(alloc: Global, scan: Scan) -> Result<SharedScan, AllocError>
+        ensures { IfOk result (λ shared. shared ≡ scan) }
+    {
+        Ok(SharedScan {
+            scan: Arc::new(alloc, scan)?,
+        })
+    }
+
+    /// The scan.
+    pub fn scan(&self) -> &Scan
+        ensures { result.now ≡ self.now }
+    {
+        &self.scan
+    }
+}
+
+/// What was read of a scan so far.
+#[derive(Drop)]
+pub struct State {
+    scan: SharedScan,
+    partial: Partial,
+}
+
+impl Model for State {
+    ghost use Rattle.ice_state.specs.Contents.{IsOf};
+    ghost use Rattle.icescan_c.specs.Kept.{Kept};
+
+    ghost Value = { Kept };
+
+    ghost view = { λ s. record { scan = s.scan; content = s.partial } };
+
+    ghost invariant = { λ s. IsOf s.scan s.partial };
+}
+
+impl State {
+    /// The state in which no row of the scan is taken.
+    pub fn new(alloc: Global, scan: &SharedScan) -> Result<State, AllocError>
+        ensures { IfOk result (λ state. state ≡ untaken scan.now) }
+    {
+        let partial = Partial::empty(alloc, scan.scan())?;
+        Ok(State {
+            scan: SharedScan {
+                scan: Arc::try_clone(&scan.scan)?,
+            },
+            partial,
+        })
+    }
+
+    /// Takes the manifest of the wanted row `i`, which has these bytes: `PastEnd` where there is no such row, or
+    /// `Memory`, and then the state is as it was.
+    pub fn take(&mut self, i: usize, manifest: &[u8]) -> Result<(), Refusal>
+        ensures { TakesRow self.old i manifest.now result self.new }
+    {
+        let scan = self.scan.scan();
+        if scan.wanted().len() <= i {
+            return Err(Refusal::PastEnd);
+        }
+        self.partial.take(scan, i, manifest)?;
+        Ok(())
+    }
+
+    /// Takes over what another state of the same scan took: `Sizes` where it is one of a scan that wants another
+    /// number of manifests, or `Memory`, and then the state is as it was.
+    pub fn merge(&mut self, other: &State) -> Result<(), Refusal>
+        ensures { TakesOver self.old other.now result self.new }
+    {
+        if self.scan.scan().wanted().len() != other.scan.scan().wanted().len() {
+            return Err(Refusal::Sizes);
+        }
+        self.partial.merge(&other.partial)?;
+        Ok(())
+    }
+
+    /// The plan, or what keeps the content from being one.
+    pub fn into_plan(self) -> Result<OwnedPlan, FinishFault>
+        ensures { Gives FinishFault.Memory (λ plan. plan) result (outcome self.scan self.content) }
+    {
+        let State { scan, partial } = self;
+        partial.into_plan(scan.scan())
+    }
+}

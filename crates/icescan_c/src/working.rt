@@ -1,0 +1,123 @@
+//! Making scans, states and plans of what a handle holds.
+
+ghost use Rattle.contract_words.specs.Outcome.{Gives};
+ghost use Rattle.icescan_c.specs.Calls.{Finishes, Merges, Starts, Takes};
+ghost use Rattle.icescan_c.specs.Making.{Holds, Makes, asked, finished, started};
+
+use crate::held::Held;
+use crate::states::{SharedScan, State};
+use crate::status::Refusal;
+use contract_words::Items;
+use ice_manifest::read_list;
+use ice_requests::{Selection, select};
+use ice_state::Scan;
+use ice_text::{Request, RunFault, report};
+use std::alloc::Global;
+use std::mem::replace;
+
+/// What a request selects of the table whose metadata these are the bytes of.
+#[tactic(auto, unfolding(crate::specs::Making::asked))]
+fn asked(alloc: Global, metadata: &[u8], request: &Request) -> Result<Held, RunFault>
+    ensures { Gives RunFault.Memory (λ held. held) result (asked metadata.now request.now) }
+{
+    Ok(Held::Selection(select(alloc, metadata, request)?))
+}
+
+/// The scan of what was selected, whose manifest list these are the bytes of.
+#[tactic(auto, unfolding(crate::specs::Making::started))]
+fn started(alloc: Global, selection: Selection, list: &[u8]) -> Result<Held, RunFault>
+    ensures { Gives RunFault.Memory (λ held. held) result (started selection list.now) }
+{
+    let rows = read_list(alloc, list)?;
+    let Selection {
+        list: _,
+        specs,
+        filter,
+    } = selection;
+    let scan = Scan::new(alloc, rows, specs.into_vec(), filter)?;
+    Ok(Held::Scan(SharedScan::new(alloc, scan)?))
+}
+
+/// The plan of what a state took.
+#[tactic(auto, unfolding(crate::specs::Making::finished))]
+fn finished(state: State) -> Result<Held, RunFault>
+    ensures { Gives RunFault.Memory (λ held. held) result (finished state) }
+{
+    Ok(Held::Plan(state.into_plan()?))
+}
+
+impl Held {
+    /// Holds what was made, or the line of the fault.
+    fn hold(&mut self, alloc: Global, made: Result<Held, RunFault>) -> Result<(), Refusal>
+        ensures { Holds made result self.new }
+    {
+        match made {
+            Ok(held) => {
+                *self = held;
+                Ok(())
+            }
+            Err(fault) => {
+                let mut line = Vec::new(alloc);
+                let status = report(&fault, &mut line);
+                *self = Held::Fault(Items::from_vec(line));
+                Err(Refusal::Fault(status))
+            }
+        }
+    }
+
+    /// Holds what a request selects of a table, or the line of the fault.
+    pub fn ask(&mut self, alloc: Global, metadata: &[u8], request: &Request) -> Result<(), Refusal>
+        ensures { Makes (asked metadata.now request.now) result self.new }
+    {
+        self.hold(alloc, asked(alloc, metadata, request))
+    }
+
+    /// Holds the scan of what was selected, or the line of the fault. `Kind` where it held no selection.
+    pub fn start(&mut self, alloc: Global, list: &[u8]) -> Result<(), Refusal>
+        ensures { Starts list.now self.old result self.new }
+    {
+        match replace(self, Held::Nothing) {
+            Held::Selection(selection) => self.hold(alloc, started(alloc, selection, list)),
+            held => {
+                *self = held;
+                Err(Refusal::Kind)
+            }
+        }
+    }
+
+    /// Takes the manifest of the wanted row `i` into a state: `Kind` where it held none, else as `State::take`.
+    pub fn take(&mut self, i: usize, manifest: &[u8]) -> Result<(), Refusal>
+        ensures { Takes i manifest.now self.old result self.new }
+    {
+        match self {
+            Held::State(state) => state.take(i, manifest),
+            _ => Err(Refusal::Kind),
+        }
+    }
+
+    /// Takes over what another state took: `Kind` where one of them is none, else as `State::merge`.
+    pub fn merge(&mut self, other: &Held) -> Result<(), Refusal>
+        ensures { Merges other.now self.old result self.new }
+    {
+        let Held::State(other) = other else {
+            return Err(Refusal::Kind);
+        };
+        match self {
+            Held::State(state) => state.merge(other),
+            _ => Err(Refusal::Kind),
+        }
+    }
+
+    /// Holds the plan of what a state took, or the line of the fault. `Kind` where it held no state.
+    pub fn finish(&mut self, alloc: Global) -> Result<(), Refusal>
+        ensures { Finishes self.old result self.new }
+    {
+        match replace(self, Held::Nothing) {
+            Held::State(state) => self.hold(alloc, finished(state)),
+            held => {
+                *self = held;
+                Err(Refusal::Kind)
+            }
+        }
+    }
+}

@@ -1,0 +1,148 @@
+/* Hands bad input to the library, and compares what it answers:
+ *
+ *     refused METADATA LIST MANIFEST
+ *
+ * The three are files of one table that has snapshots; the manifest is the first that its current snapshot wants. */
+#include "icescan.h"
+
+#include <stdio.h>
+#include <stdlib.h>
+#include <string.h>
+
+static int failures;
+
+static void want(const char *what, uint32_t status, uint32_t wanted) {
+    if (status != wanted) {
+        printf("%s: status %u, not %u\n", what, (unsigned)status, (unsigned)wanted);
+        failures++;
+    }
+}
+
+static void want_line(const char *what, icescan_handle *handle, const char *front) {
+    icescan_bytes line = ICESCAN_NO_BYTES;
+    want(what, icescan_fault(handle, &line), ICESCAN_OK);
+    if (line.len < strlen(front) || memcmp(line.at, front, strlen(front)) != 0) {
+        printf("%s: %.*s", what, (int)line.len, line.at ? (const char *)line.at : "");
+        failures++;
+    }
+}
+
+struct file {
+    uint8_t *bytes;
+    size_t len;
+};
+
+static struct file read_file(const char *name) {
+    struct file file = {malloc(1 << 20), 0};
+    FILE *in = fopen(name, "rb");
+    if (!in || !file.bytes)
+        exit(3);
+    file.len = fread(file.bytes, 1, 1 << 20, in);
+    fclose(in);
+    return file;
+}
+
+static const uint8_t *text(const char *text) {
+    return (const uint8_t *)text;
+}
+
+/* A handle that holds nothing: each call refuses it and leaves what it was to write. */
+static void nothing(const char *what, icescan_handle *none) {
+    icescan_handle other = ICESCAN_NOTHING;
+    icescan_bytes bytes = {text("before"), 6};
+    icescan_file file = ICESCAN_NO_FILE;
+    size_t count = 77;
+    file.record_count = 77;
+    want(what, icescan_scan_list(none, &bytes), ICESCAN_KIND);
+    want(what, icescan_scan_start(none, text("x"), 1), ICESCAN_KIND);
+    want(what, icescan_scan_count(none, &count), ICESCAN_KIND);
+    want(what, icescan_scan_wanted(none, 0, &bytes), ICESCAN_KIND);
+    want(what, icescan_state_new(none, &other), ICESCAN_KIND);
+    want(what, icescan_state_take(none, 0, text("x"), 1), ICESCAN_KIND);
+    want(what, icescan_state_merge(none, &other), ICESCAN_KIND);
+    want(what, icescan_finish(none), ICESCAN_KIND);
+    want(what, icescan_plan_count(none, &count), ICESCAN_KIND);
+    want(what, icescan_plan_file(none, 0, &file), ICESCAN_KIND);
+    want(what, icescan_plan_position(none, 0, 0, &file), ICESCAN_KIND);
+    want(what, icescan_plan_equality(none, 0, 0, &file), ICESCAN_KIND);
+    want(what, icescan_fault(none, &bytes), ICESCAN_KIND);
+    if (other.held || bytes.len != 6 || count != 77 || file.record_count != 77)
+        want(what, 1, 0);
+}
+
+int main(int count, char **words) {
+    if (count != 4)
+        return 2;
+    struct file metadata = read_file(words[1]), list = read_file(words[2]), manifest = read_file(words[3]);
+    icescan_handle scan = ICESCAN_NOTHING, state = ICESCAN_NOTHING, other = ICESCAN_NOTHING;
+    icescan_bytes path = ICESCAN_NO_BYTES;
+    icescan_file file = ICESCAN_NO_FILE;
+    size_t wanted = 0;
+
+    nothing("no handle", &scan);
+    icescan_free(&scan);
+
+    /* What is asked. */
+    want("null metadata", icescan_scan_new(&scan, NULL, 5, NULL, 0, NULL, 0), ICESCAN_NULL);
+    want("no metadata", icescan_scan_new(&scan, NULL, 0, NULL, 0, NULL, 0), ICESCAN_TABLE);
+    want_line("no metadata", &scan, "icescan: M");
+    want("no JSON", icescan_scan_new(&scan, text("{]"), 2, NULL, 0, NULL, 0), ICESCAN_TABLE);
+    want_line("no JSON", &scan, "icescan: M");
+    want("no UTF-8", icescan_scan_new(&scan, metadata.bytes, metadata.len, text("\xff"), 1, NULL, 0), ICESCAN_ENCODING);
+    want_line("no UTF-8: what was held stays", &scan, "icescan: M");
+    want("no such ref", icescan_scan_new(&scan, metadata.bytes, metadata.len, text("nowhere"), 7, NULL, 0),
+         ICESCAN_TABLE);
+    want_line("no such ref", &scan, "icescan: M");
+    want("no such snapshot", icescan_scan_new_at(&scan, metadata.bytes, metadata.len, 5, NULL, 0), ICESCAN_TABLE);
+    want_line("no such snapshot", &scan, "icescan: M");
+    want("bad filter", icescan_scan_new(&scan, metadata.bytes, metadata.len, NULL, 0, text("= ="), 3), ICESCAN_ASKED);
+    want_line("bad filter", &scan, "icescan: F");
+    want("a fault is no scan", icescan_scan_count(&scan, &wanted), ICESCAN_KIND);
+
+    /* The list. */
+    want("asked", icescan_scan_new(&scan, metadata.bytes, metadata.len, NULL, 0, NULL, 0), ICESCAN_OK);
+    want("list's path", icescan_scan_list(&scan, &path), ICESCAN_OK);
+    want("not started", icescan_state_new(&scan, &state), ICESCAN_KIND);
+    want("null list", icescan_scan_start(&scan, NULL, 9), ICESCAN_NULL);
+    want("still asked", icescan_scan_list(&scan, &path), ICESCAN_OK);
+    want("bad list", icescan_scan_start(&scan, text("Obj"), 3), ICESCAN_TABLE);
+    want_line("bad list", &scan, "");
+    want("asked", icescan_scan_new(&scan, metadata.bytes, metadata.len, NULL, 0, NULL, 0), ICESCAN_OK);
+    want("started", icescan_scan_start(&scan, list.bytes, list.len), ICESCAN_OK);
+    want("twice", icescan_scan_start(&scan, list.bytes, list.len), ICESCAN_KIND);
+    want("wanted", icescan_scan_count(&scan, &wanted), ICESCAN_OK);
+    want("first", icescan_scan_wanted(&scan, 0, &path), ICESCAN_OK);
+    want("past the last", icescan_scan_wanted(&scan, wanted, &path), ICESCAN_PAST_END);
+    want("far past", icescan_scan_wanted(&scan, SIZE_MAX, &path), ICESCAN_PAST_END);
+
+    /* States. */
+    want("state", icescan_state_new(&scan, &state), ICESCAN_OK);
+    want("other state", icescan_state_new(&scan, &other), ICESCAN_OK);
+    want("past the last", icescan_state_take(&state, wanted, manifest.bytes, manifest.len), ICESCAN_PAST_END);
+    want("null manifest", icescan_state_take(&state, 0, NULL, 1), ICESCAN_NULL);
+    want("a scan is no state", icescan_state_merge(&state, &scan), ICESCAN_KIND);
+    want("a state is no scan", icescan_state_new(&state, &other), ICESCAN_KIND);
+    want("taken", icescan_state_take(&state, 0, manifest.bytes, manifest.len), ICESCAN_OK);
+    want("merged", icescan_state_merge(&state, &other), ICESCAN_OK);
+    if (wanted > 1) {
+        want("not all", icescan_finish(&state), ICESCAN_TABLE);
+        want_line("not all", &state, "icescan: Z1 Missing");
+    }
+    for (size_t i = 0; i < wanted; i++)
+        want("no manifest", icescan_state_take(&other, i, text("Obj"), 3), ICESCAN_OK);
+    want("bad manifests", icescan_finish(&other), ICESCAN_TABLE);
+    want_line("bad manifests", &other, "icescan: Z2 Bad");
+    want("a fault is no plan", icescan_plan_file(&other, 0, &file), ICESCAN_KIND);
+
+    icescan_free(&other);
+    icescan_free(&other);
+    nothing("freed", &other);
+    icescan_free(&scan);
+    icescan_free(&state);
+    free(metadata.bytes);
+    free(list.bytes);
+    free(manifest.bytes);
+    if (!failures)
+        puts("refused as they should be");
+    return failures != 0;
+}

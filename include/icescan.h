@@ -1,0 +1,195 @@
+/* icescan for C: which files a scan of an Apache Iceberg table (format version 2) has to read.
+ *
+ * The caller reads files and has threads; the library is handed bytes and gives the plan:
+ *
+ *     icescan_handle scan = ICESCAN_NOTHING, state = ICESCAN_NOTHING;
+ *     icescan_scan_new(&scan, metadata, metadata_len, "", 0, filter, filter_len);
+ *     icescan_scan_list(&scan, &path);                 read the file at that path ..
+ *     icescan_scan_start(&scan, list, list_len);       .. and hand its bytes in
+ *     icescan_state_new(&scan, &state);
+ *     icescan_scan_count(&scan, &count);
+ *     for each i below count, in any order:
+ *         icescan_scan_wanted(&scan, i, &path);        read the file at that path ..
+ *         icescan_state_take(&state, i, bytes, len);   .. and hand its bytes in
+ *     icescan_finish(&state);                          the state is the plan now
+ *     icescan_plan_count(&state, &count);
+ *     for each i below count:
+ *         icescan_plan_file(&state, i, &file);
+ *     icescan_free(&state);
+ *     icescan_free(&scan);
+ *
+ * Each call answers how it ended. Of one scan there may be many states, each in a thread of its own;
+ * icescan_state_merge brings together what they took, in any order, and the plan is that of one state that took every
+ * manifest.
+ *
+ * Handles. A handle is ICESCAN_NOTHING before it is first handed in. The library alone writes it, and the caller never
+ * copies it. It goes to one call at a time, and no call is given one handle twice. Another thread may have it once the
+ * caller has ordered the two, by a lock, or by starting or joining a thread. The caller frees it with icescan_free:
+ * states, scan and plan in any order.
+ *
+ * What is lent by pointer and length is read only. It stays until the next call that changes what the handle holds:
+ * icescan_free, icescan_scan_new, icescan_scan_new_at, icescan_scan_start, icescan_finish, and icescan_state_new on the
+ * state's handle.
+ *
+ * Bytes that are handed in are read during the call and never after it. The library can't tell whether they are there.
+ *
+ * What is written to, a count or a file, has some value before, as 0 or ICESCAN_NO_FILE. A call that is refused leaves
+ * it as it was.
+ *
+ * A handle that holds nothing, or was freed, or holds another kind of thing; a number past the end; bytes at NULL; a
+ * text that is no UTF-8; metadata, a list or a manifest that is none: each is answered by a status. Left to the caller
+ * is that pointers to handles and to what is written are not NULL, and that no call is made from a signal's handler.
+ * Memory is taken by malloc, realloc and free.
+ */
+#ifndef ICESCAN_H
+#define ICESCAN_H
+
+#include <stddef.h>
+#include <stdint.h>
+
+#ifdef __cplusplus
+extern "C" {
+#endif
+
+/* How a call ended. */
+enum {
+    ICESCAN_OK = 0,
+    ICESCAN_TABLE = 1,     /* the table is refused: icescan_fault tells why */
+    ICESCAN_ASKED = 2,     /* the filter is refused: icescan_fault tells why */
+    ICESCAN_MEMORY = 5,    /* memory ran out */
+    ICESCAN_KIND = 6,      /* the handle holds nothing of the kind that the call is for */
+    ICESCAN_PAST_END = 7,  /* there is no such number */
+    ICESCAN_ENCODING = 8,  /* a name or a filter is no UTF-8 */
+    ICESCAN_SIZES = 9,     /* the states are of scans that want different numbers of manifests */
+    ICESCAN_NULL = 10      /* there are to be bytes at NULL */
+};
+
+/* A scan, a state, a plan, or the line of a fault. */
+typedef struct {
+    void *held;
+} icescan_handle;
+
+#define ICESCAN_NOTHING {NULL}
+
+/* Bytes that are lent: where they begin, which is NULL where there are none, and how many there are. */
+typedef struct {
+    const uint8_t *at;
+    size_t len;
+} icescan_bytes;
+
+#define ICESCAN_NO_BYTES {NULL, 0}
+
+typedef struct {
+    const int32_t *at;
+    size_t len;
+} icescan_ids;
+
+/* A data file or a delete file of a plan. Its counts are as its manifest says: any number. */
+typedef struct {
+    icescan_bytes path;
+    icescan_ids equality_ids;  /* of an equality delete file: the columns by which it deletes */
+    uint64_t sequence_number;
+    int64_t record_count;
+    int64_t file_size;
+    size_t positions;          /* of a data file: how many position delete files apply to it */
+    size_t equalities;         /* and how many equality delete files */
+    int32_t spec_id;
+} icescan_file;
+
+#define ICESCAN_NO_FILE {{NULL, 0}, {NULL, 0}, 0, 0, 0, 0, 0, 0}
+
+/* Asks for the snapshot that a branch or tag names, for the current one where the name is empty, under a filter where
+ * its text is not empty. The scan's handle holds what that selects, and what it held before is let go. After
+ * ICESCAN_TABLE and ICESCAN_ASKED it holds the line of the fault instead; after ICESCAN_ENCODING and ICESCAN_NULL what
+ * it held; after ICESCAN_MEMORY the one or the other. */
+uint32_t icescan_scan_new(icescan_handle *scan, const uint8_t *metadata, size_t metadata_len, const uint8_t *name,
+                          size_t name_len, const uint8_t *filter, size_t filter_len);
+
+/* The same for the snapshot of an id. */
+uint32_t icescan_scan_new_at(icescan_handle *scan, const uint8_t *metadata, size_t metadata_len, int64_t snapshot,
+                             const uint8_t *filter, size_t filter_len);
+
+/* Lends the path of the snapshot's manifest list, as the table knows it. */
+uint32_t icescan_scan_list(icescan_handle *scan, icescan_bytes *path);
+
+/* Starts the scan by the bytes of the manifest list. The handle holds the scan then; after ICESCAN_TABLE and
+ * ICESCAN_MEMORY the line of the fault. */
+uint32_t icescan_scan_start(icescan_handle *scan, const uint8_t *list, size_t list_len);
+
+/* Tells how many manifests the scan wants, and lends the path of one of them, counted from 0. */
+uint32_t icescan_scan_count(icescan_handle *scan, size_t *count);
+uint32_t icescan_scan_wanted(icescan_handle *scan, size_t i, icescan_bytes *path);
+
+/* Makes a state of a scan, in which no manifest is taken. The scan may be freed before its states. */
+uint32_t icescan_state_new(icescan_handle *scan, icescan_handle *state);
+
+/* Takes the manifest i that the scan wants, which has these bytes. One that was taken stays as it is. One that can't be
+ * read is taken too: icescan_finish tells it. A refusal leaves the state as it was. */
+uint32_t icescan_state_take(icescan_handle *state, size_t i, const uint8_t *manifest, size_t manifest_len);
+
+/* Takes over what another state of the same scan took, which stays as it is. A refusal leaves both as they were. That
+ * the scans are the same is left to the caller; only how many manifests they want is compared. */
+uint32_t icescan_state_merge(icescan_handle *state, icescan_handle *other);
+
+/* Finishes a state: its handle holds the plan then; after ICESCAN_TABLE, as where a wanted manifest was not taken, and
+ * after ICESCAN_MEMORY the line of the fault. */
+uint32_t icescan_finish(icescan_handle *state);
+
+/* Tells how many data files the plan has, and lends one of them, in the order of their paths, counted from 0; and of
+ * the data file i the delete file j of those that apply to it, in the order of their paths. */
+uint32_t icescan_plan_count(icescan_handle *plan, size_t *count);
+uint32_t icescan_plan_file(icescan_handle *plan, size_t i, icescan_file *file);
+uint32_t icescan_plan_position(icescan_handle *plan, size_t i, size_t j, icescan_file *file);
+uint32_t icescan_plan_equality(icescan_handle *plan, size_t i, size_t j, icescan_file *file);
+
+/* Lends the line that a handle holds after a call on it that answered ICESCAN_TABLE or ICESCAN_ASKED, with the line
+ * feed at its end; a front of it where memory ran out. It is the line that the program `icescan` writes then. */
+uint32_t icescan_fault(icescan_handle *handle, icescan_bytes *line);
+
+/* Lets go what a handle holds. A handle that holds nothing, as one that was freed, may be freed again. */
+void icescan_free(icescan_handle *handle);
+
+/* The library takes bytes to be there. These ask before, and NULL with a length of 0 is no bytes. */
+static inline const uint8_t *icescan_some(const uint8_t *bytes) {
+    return bytes ? bytes : (const uint8_t *)"";
+}
+
+static inline uint32_t icescan_scan_new_asked(icescan_handle *scan, const uint8_t *metadata, size_t metadata_len,
+                                              const uint8_t *name, size_t name_len, const uint8_t *filter,
+                                              size_t filter_len) {
+    if ((!metadata && metadata_len) || (!name && name_len) || (!filter && filter_len))
+        return ICESCAN_NULL;
+    return icescan_scan_new(scan, icescan_some(metadata), metadata_len, icescan_some(name), name_len,
+                            icescan_some(filter), filter_len);
+}
+
+static inline uint32_t icescan_scan_new_at_asked(icescan_handle *scan, const uint8_t *metadata, size_t metadata_len,
+                                                 int64_t snapshot, const uint8_t *filter, size_t filter_len) {
+    if ((!metadata && metadata_len) || (!filter && filter_len))
+        return ICESCAN_NULL;
+    return icescan_scan_new_at(scan, icescan_some(metadata), metadata_len, snapshot, icescan_some(filter), filter_len);
+}
+
+static inline uint32_t icescan_scan_start_asked(icescan_handle *scan, const uint8_t *list, size_t list_len) {
+    if (!list && list_len)
+        return ICESCAN_NULL;
+    return icescan_scan_start(scan, icescan_some(list), list_len);
+}
+
+static inline uint32_t icescan_state_take_asked(icescan_handle *state, size_t i, const uint8_t *manifest,
+                                                size_t manifest_len) {
+    if (!manifest && manifest_len)
+        return ICESCAN_NULL;
+    return icescan_state_take(state, i, icescan_some(manifest), manifest_len);
+}
+
+#define icescan_scan_new icescan_scan_new_asked
+#define icescan_scan_new_at icescan_scan_new_at_asked
+#define icescan_scan_start icescan_scan_start_asked
+#define icescan_state_take icescan_state_take_asked
+
+#ifdef __cplusplus
+}
+#endif
+
+#endif
