@@ -33,5 +33,6 @@ pub use laws::{
 pub use lean::lean_schema;
 pub use named::KnownSchema;
 pub use object::Object;
+pub use pairs::{Second, bytes_pairs_of, long_pairs_of, second_of_pair};
 pub use quick::value_end;
 pub use writer::{Property, Writer};

@@ -1,20 +1,15 @@
 -- Pairs that are lent as they lie.
 use Rattle.std.proofs.Common.{◌≡◌, nat_eq, ℕ, ◌+◌, ℤ, Bool, true, false, ◌&&◌, List, [], ◌∷◌, ◌++◌, map, Option, Some}
-use Rattle.std.proofs.Common.{None, Result, Ok, cond, refl, ap, ◌∙◌, arith, rules, Bor, Vec, Global}
+use Rattle.std.proofs.Common.{None, Result, Ok, cond, refl, ap, ◌∙◌, arith, Bor}
 use Rattle.std.proofs.lemmas.Bool.{eqb-true}
 use Rattle.std.proofs.lemmas.List.{map_push}
 use Rattle.std.proofs.lemmas.List.Elements.{All-weaker, recursion_from_All}
 use Rattle.std.specs.List.{All, AllByRecursion}
 use Rattle.std.specs.Ordering.{int_eq}
 use Rattle.std.specs.Option.{option_eq}
-use Rattle.std.specs.declared.sync.Arc.{Arc}
-use Rattle.avro_schema.specs.declared.schema.Schema.{the_lemmas}
-use Rattle.avro_schema.specs.declared.schema.Schema.TheVariants.{Record}
-use Rattle.avro_schema.specs.declared.schema.Field.{Field}
 use Rattle.avro_schema.specs.Tree as trees
 use Rattle.avro_schema.specs.Tree.{Tree, null, boolean, int, long, float, double, octets, string, fixed, symbols}
 use Rattle.avro_schema.specs.Tree.{structure, array, union, Fields, no_fields, field}
-use Rattle.avro_schema.specs.View.{tree}
 use Rattle.avro_file.specs.Value.{Value, Values, value, no_values, small, whole, run, values_of}
 use Rattle.avro_file.specs.View.{pair_with, long_pairs, bytes_pairs}
 use Rattle.avro_file.specs.Picking.{Typed, field_value, bare}
@@ -24,7 +19,6 @@ use Rattle.ice_manifest_fields.specs.Each.{each}
 use Rattle.ice_manifest_fields.specs.Fields.{there, at, items_as, int_at}
 use Rattle.ice_manifest_fields.specs.Maps.{count_in, count_of, bound_in, bound_of}
 use Rattle.ice_manifest_fields.specs.Places.{place_from, place_of, lies_as_pairs, IsKey}
-use Rattle.ice_manifest_fields.specs.Seen.{fields_seen}
 use Rattle.ice_manifest_fields.proofs.Steps.{beyond}
 
 pub counts_pushed : (new old : List (ℤ × ℤ)) (p : ℤ × ℤ) → new ≡ old ++ p ∷ []
@@ -34,9 +28,6 @@ counts_pushed new old p h = ap counts_said h ∙ map_push count_said old p
 pub bounds_pushed : (new old : List (ℤ × Bor (List ℕ))) (p : ℤ × Bor (List ℕ)) → new ≡ old ++ p ∷ []
     → bounds_said new ≡ bounds_said old ++ bound_said p ∷ []
 bounds_pushed new old p h = ap bounds_said h ∙ map_push bound_said old p
-
-pub tree-Record : (a : Arc (Vec Field Global) Global) → tree (Record a) ≡ structure (fields_seen a.value.items)
-tree-Record a = search (rules, the_lemmas)
 
 -- ---- where the fields of a pair stand
 
@@ -200,14 +191,3 @@ bounds_lent m t pairs h keys =
     rw (s.1)
     (each_lent (λ (p : ℤ × Bor (List ℕ)). pair_with p.0 (run p.1.now)) bound_said (bound_of m) (structure s.0) pairs
     (recursion_from_All _ pairs (All-weaker IsKey _ (λ p key. bound_lent m s.0 p s.2 s.3 key) pairs keys)))
-
--- ---- the test
-
-pub both_lie : (m : ColumnMap) (fs : Fields) (k s : Option ℕ) (b : Bool) → k ≡ place_of m.key fs
-    → s ≡ place_of m.said fs → option_eq nat_eq k (Some 0) ≡ true → b ≡ option_eq nat_eq s (Some 1)
-    → b ≡ lies_as_pairs m (structure fs)
-both_lie m fs k s b key said first second = second ∙ rw (← key, ← said, first) refl
-
-pub key_elsewhere : (m : ColumnMap) (fs : Fields) (k : Option ℕ) (b : Bool) → k ≡ place_of m.key fs
-    → b ≡ option_eq nat_eq k (Some 0) → b ≡ false → b ≡ lies_as_pairs m (structure fs)
-key_elsewhere m fs k b key is other = other ∙ rw (← key, ← is, other) refl

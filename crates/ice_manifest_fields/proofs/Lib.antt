@@ -2,5 +2,4 @@ pub mod Joining
 pub mod Steps
 pub mod Decimals
 pub mod OneSpelling
-pub mod Built
 pub mod Lent

@@ -8,17 +8,14 @@ mod fault;
 mod field;
 mod kind;
 mod laws;
-mod picking;
 mod shape;
 
 pub use columns::{
-    ColumnMap, LOWER_BOUNDS, NULL_COUNTS, UPPER_BOUNDS, VALUE_COUNTS, bounds_of_map,
-    check_column_fields, counts_of_map,
+    ColumnMap, LOWER_BOUNDS, NULL_COUNTS, UPPER_BOUNDS, VALUE_COUNTS, check_column_fields, see_keys,
 };
 pub use decimal::shortest;
 pub use fault::{FieldFault, ListFault, ManifestFault};
-pub use field::{not_negative, optional_binary, optional_truth, short_path, truth_at, within_32};
+pub use field::{not_negative, short_path, within_32};
 pub use kind::Kind;
 pub use laws::decimals_are_kept_shortest;
-pub use picking::itself;
 pub use shape::{branches_of, check_ids, check_row_fields, fields_of, optional, required, type_at};

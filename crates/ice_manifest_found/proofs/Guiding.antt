@@ -1,5 +1,5 @@
 -- Guides of the items of lists.
-use Rattle.std.proofs.Common.{◌≡◌, ℕ, ℤ, pos, List, [], ◌∷◌, IfOk, IfSome, Option, Some, None, Result, Ok, Err, refl, sym, ap}
+use Rattle.std.proofs.Common.{◌≡◌, ℤ, List, [], ◌∷◌, IfOk, IfSome, Option, Some, None, Result, Ok, Err, refl, sym, ap}
 use Rattle.std.proofs.Common.{subst, ◌∙◌}
 use denote.Ref.{Bor}
 use Rattle.avro_schema.specs.Tree.{Tree}

@@ -11,3 +11,4 @@ pub mod PairsSaid
 pub mod ColumnsSaid
 pub mod Itself
 pub mod Guiding
+pub mod ListedPairs

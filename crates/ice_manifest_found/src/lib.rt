@@ -6,6 +6,7 @@ mod field;
 mod items;
 mod leaf;
 mod list;
+mod listed;
 mod maps;
 mod pairs;
 mod row;

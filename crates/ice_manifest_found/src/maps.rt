@@ -7,16 +7,14 @@ ghost use Rattle.avro_picked.specs.Finding.{IsMet};
 ghost use Rattle.ice_manifest_fields.specs.Fields.{there};
 ghost use Rattle.ice_manifest_fields.specs.Naming.{in_manifest, told};
 ghost use Rattle.ice_manifest_found.specs.Met.{MapsMet, counts_in, bounds_in, columns_met, Checks, LeadsToMap};
-ghost use Rattle.ice_manifest_found.specs.MapsRead.{IsReadAs, AreMet, AreRead};
+ghost use Rattle.ice_manifest_found.specs.MapsRead.{AreCounts, AreBounds, AreMet, AreRead};
 
+use crate::listed::{listed_bytes, listed_longs, lists_bytes, lists_longs};
 use crate::pairs::{bounds_in_place, counts_in_place};
 use crate::sound::is_sound;
-use avro_file::Datum;
 use avro_picked::{Found, GuidedObject};
-use avro_schema::Schema;
 use ice_manifest_fields::{
     ColumnMap, Kind, LOWER_BOUNDS, ManifestFault, NULL_COUNTS, UPPER_BOUNDS, VALUE_COUNTS,
-    bounds_of_map, counts_of_map, fields_of,
 };
 use ice_value::{ColumnBounds, ColumnCounts, FileBounds};
 use std::alloc::{AllocError, Global};
@@ -38,9 +36,9 @@ pub struct FoundMaps<'e, 's, 'd> {
 
 /// A map of a data file's columns, in the way in which it is read.
 #[derive(Debug, Drop)]
-enum ReadMap<'e, 's, 'd> {
-    /// Its type, and one list of its pairs.
-    Pairs(&'s Schema, Datum<'d>),
+enum ReadMap<'e, 's, 'd, T> {
+    /// Its pairs, which were read.
+    Pairs(Vec<(i32, T)>),
     /// Its pairs are read one by one where it lies, if it was found, by a guide of the object, if there is one.
     InPlace(Option<Found<'s, 'd>>, &'e Option<GuidedObject<'e, 's, 'd>>),
 }
@@ -48,43 +46,45 @@ enum ReadMap<'e, 's, 'd> {
 /// The maps of a data file's columns, which were read from the file. It lends the file's bytes.
 #[derive(Debug, Drop)]
 pub struct ReadMaps<'e, 's, 'd> {
-    value_counts: ReadMap<'e, 's, 'd>,
-    null_counts: ReadMap<'e, 's, 'd>,
-    lower_bounds: ReadMap<'e, 's, 'd>,
-    upper_bounds: ReadMap<'e, 's, 'd>,
+    value_counts: ReadMap<'e, 's, 'd, i64>,
+    null_counts: ReadMap<'e, 's, 'd, i64>,
+    lower_bounds: ReadMap<'e, 's, 'd, &'d [u8]>,
+    upper_bounds: ReadMap<'e, 's, 'd, &'d [u8]>,
 }
 
-/// Whether the map is an array of pairs of an int, which is their key, and of a long or bytes, which is what they say.
-/// It is read into one list then, quicker than pair by pair: it tells nothing but how a map is read.
-fn lies_as_pairs(schema: &Schema, map: ColumnMap) -> bool {
-    let Schema::Array(items, _, _) = schema else {
-        return false;
-    };
-    let [first, second] = fields_of(items) else {
-        return false;
-    };
-    first.id == Some(map.key)
-        && second.id == Some(map.said)
-        && matches!(
-            (&first.schema, &second.schema),
-            (Schema::Int, Schema::Long) | (Schema::Int, Schema::Bytes(_))
-        )
-}
-
-/// The map that was found.
-fn read_map<'e, 's, 'd>(
+/// The map of counts that was found.
+fn read_counts<'e, 's, 'd>(
     alloc: Global,
     found: Option<Found<'s, 'd>>,
     guided: &'e Option<GuidedObject<'e, 's, 'd>>,
     map: ColumnMap,
-) -> Result<ReadMap<'e, 's, 'd>, AllocError>
+) -> Result<ReadMap<'e, 's, 'd, i64>, AllocError>
     ensures { (met : Picked) → IsMet found.entry met → LeadsToMap map guided.now met →
-        IfOk result (λ read. IsReadAs map read met) }
+        IfOk result (λ read. AreCounts map read met) }
 {
     match found {
-        Some(found) if lies_as_pairs(found.schema(), map) => {
-            let pairs = found.datum(alloc)?;
-            Ok(ReadMap::Pairs(found.schema(), pairs))
+        Some(found) if lists_longs(found.schema(), map) => {
+            let pairs = listed_longs(alloc, found)?;
+            Ok(ReadMap::Pairs(pairs))
+        }
+        found => Ok(ReadMap::InPlace(found, guided)),
+    }
+}
+
+/// The map of bounds that was found.
+fn read_bounds<'e, 's, 'd>(
+    alloc: Global,
+    found: Option<Found<'s, 'd>>,
+    guided: &'e Option<GuidedObject<'e, 's, 'd>>,
+    map: ColumnMap,
+) -> Result<ReadMap<'e, 's, 'd, &'d [u8]>, AllocError>
+    ensures { (met : Picked) → IsMet found.entry met → LeadsToMap map guided.now met →
+        IfOk result (λ read. AreBounds map read met) }
+{
+    match found {
+        Some(found) if lists_bytes(found.schema(), map) => {
+            let pairs = listed_bytes(alloc, found)?;
+            Ok(ReadMap::Pairs(pairs))
         }
         found => Ok(ReadMap::InPlace(found, guided)),
     }
@@ -93,14 +93,14 @@ fn read_map<'e, 's, 'd>(
 /// The counts that a map says, lent from it; none where there is no map.
 fn counts<'a>(
     alloc: Global,
-    read: &'a ReadMap<'_, '_, '_>,
+    read: &'a ReadMap<'_, '_, '_, i64>,
     map: ColumnMap,
 ) -> Result<ColumnCounts<'a>, ManifestFault>
-    ensures { (met : Picked) → IsReadAs map read.now met →
+    ensures { (met : Picked) → AreCounts map read.now met →
         Gives ManifestFault.Memory (λ x. x) result (told in_manifest (counts_in map (there met))) }
 {
     match read {
-        ReadMap::Pairs(schema, datum) => counts_of_map(alloc, schema, datum, map),
+        ReadMap::Pairs(pairs) => Ok(ColumnCounts::lent(pairs.as_slice())),
         ReadMap::InPlace(found, guided) => {
             let counts = counts_in_place(alloc, *found, guided, map)?;
             Ok(ColumnCounts::made(counts))
@@ -111,14 +111,14 @@ fn counts<'a>(
 /// The bounds that a map says, lent from it; none where there is no map.
 fn bounds<'a, 'd>(
     alloc: Global,
-    read: &'a ReadMap<'_, '_, 'd>,
+    read: &'a ReadMap<'_, '_, 'd, &'d [u8]>,
     map: ColumnMap,
 ) -> Result<ColumnBounds<'a, 'd>, ManifestFault>
-    ensures { (met : Picked) → IsReadAs map read.now met →
+    ensures { (met : Picked) → AreBounds map read.now met →
         Gives ManifestFault.Memory (λ x. x) result (told in_manifest (bounds_in map (there met))) }
 {
     match read {
-        ReadMap::Pairs(schema, datum) => bounds_of_map(alloc, schema, datum, map),
+        ReadMap::Pairs(pairs) => Ok(ColumnBounds::lent(pairs.as_slice())),
         ReadMap::InPlace(found, guided) => {
             let bounds = bounds_in_place(alloc, *found, guided, map)?;
             Ok(ColumnBounds::made(bounds))
@@ -183,10 +183,10 @@ impl<'e, 's, 'd> FoundMaps<'e, 's, 'd> {
         ensures { (met : MapsMet) → AreMet self.now met → IfOk result (λ maps. AreRead maps met) }
     {
         Ok(ReadMaps {
-            value_counts: read_map(alloc, self.value_counts, self.guided, VALUE_COUNTS)?,
-            null_counts: read_map(alloc, self.null_counts, self.guided, NULL_COUNTS)?,
-            lower_bounds: read_map(alloc, self.lower_bounds, self.guided, LOWER_BOUNDS)?,
-            upper_bounds: read_map(alloc, self.upper_bounds, self.guided, UPPER_BOUNDS)?,
+            value_counts: read_counts(alloc, self.value_counts, self.guided, VALUE_COUNTS)?,
+            null_counts: read_counts(alloc, self.null_counts, self.guided, NULL_COUNTS)?,
+            lower_bounds: read_bounds(alloc, self.lower_bounds, self.guided, LOWER_BOUNDS)?,
+            upper_bounds: read_bounds(alloc, self.upper_bounds, self.guided, UPPER_BOUNDS)?,
         })
     }
 }

@@ -1,6 +1,7 @@
 -- Entries as they are found in the objects of a manifest.
 use Rattle.std.proofs.Common.{◌≡◌, ℕ, ◌+◌, ℤ, pos, Bool, true, List, Option, Some, Result, Ok, Err, refl, sym, ap, subst}
-use Rattle.std.proofs.Common.{◌∙◌}
+use Rattle.std.proofs.Common.{◌∙◌, ◌++◌}
+use Rattle.std.proofs.lemmas.List.{append-nil}
 use Rattle.contract_words.specs.Outcome.{◌>>=◌}
 use Rattle.ice_meta.specs.Partitioning.{is_unpartitioned}
 use Rattle.ice_manifest_fields.specs.Fields.{asked, record_at}
@@ -28,11 +29,11 @@ use Rattle.ice_entry_found.proofs.Shown.{entry_is, structure_is}
 use Rattle.ice_manifest_reading.specs.declared.row.Row.{Row}
 use Rattle.ice_manifest_reading.specs.declared.entry.Entry.{Entry}
 use Rattle.ice_manifest_reading.specs.declared.entry.Live.{Live}
-use Rattle.ice_manifest_reading.specs.Manifests.{entry_of, entries_ahead, kept_of, kept_behind}
+use Rattle.ice_manifest_reading.specs.Manifests.{entry_of, entries_ahead}
 use Rattle.ice_manifest_reading.specs.Manifests.{unless_deleted}
-use Rattle.ice_manifest_reading.specs.Behind.{live_behind}
+use Rattle.ice_manifest_reading.specs.Collecting.{given_of, given_behind, live_behind}
 use Rattle.ice_manifest_reading.specs.declared.status.Status.TheVariants.{Existing, Added, Deleted}
-use Rattle.ice_manifest_reading.proofs.Keeping.{next_kept, kept_fails}
+use Rattle.ice_manifest_reading.proofs.Collected.{next_given, given_fails}
 use Rattle.ice_manifest_reading.proofs.Reading.{Is}
 
 -- the value that the next object shows
@@ -48,23 +49,23 @@ seen_is e s same record_is = ap (λ (t : Tree). (t, (entry_seen e).1)) (same ∙
 value_is : (e : FoundEntry) → Is e.object (entry_seen e).1
 value_is e = λ v is. ap (λ (x : Typed). x.1) (entry_is e v is)
 
-pub entry_kept : (keeps : Live → Bool) (row : Row) (spec : Spec) (s : Tree) (k : ℕ) (front found : List Entry)
+pub entry_given : {X : Type 0} (gives : Live → List X) (row : Row) (spec : Spec) (s : Tree) (k : ℕ) (front found : List X)
     (now new : Ahead) (e : FoundEntry) → Next Shows now (Ok (Some e.object)) new → tree e.object.schema.now ≡ s
-    → is_structure s ≡ true → kept_behind keeps front (entry_of row spec k (entry_seen e)) ≡ Ok found
-    → joined front (kept_of keeps (entries_ahead row spec (fields_in s) k now)) ≡ joined found
-    (kept_of keeps (entries_ahead row spec (fields_in s) (k + 1) new))
-entry_kept keeps row spec s k front found now new e next same record_is is =
-    next_kept keeps row spec (fields_in s) k front found now new e.object (entry_seen e).1 next (value_is e)
-    (subst (λ (x : Typed). kept_behind keeps front (entry_of row spec k x) ≡ Ok found) (seen_is e s same record_is) is)
+    → is_structure s ≡ true → given_behind gives front (entry_of row spec k (entry_seen e)) ≡ Ok found
+    → joined front (given_of gives (entries_ahead row spec (fields_in s) k now)) ≡ joined found
+    (given_of gives (entries_ahead row spec (fields_in s) (k + 1) new))
+entry_given {X} gives row spec s k front found now new e next same record_is is =
+    next_given gives row spec (fields_in s) k front found now new e.object (entry_seen e).1 next (value_is e)
+    (subst (λ (x : Typed). given_behind gives front (entry_of row spec k x) ≡ Ok found) (seen_is e s same record_is) is)
 
-pub entry_at_fault : (keeps : Live → Bool) (row : Row) (spec : Spec) (s : Tree) (k : ℕ) (front : List Entry)
+pub entry_at_fault : {X : Type 0} (gives : Live → List X) (row : Row) (spec : Spec) (s : Tree) (k : ℕ) (front : List X)
     (now new : Ahead) (e : FoundEntry) (f : ManifestFault) → Next Shows now (Ok (Some e.object)) new
     → tree e.object.schema.now ≡ s → is_structure s ≡ true
-    → kept_behind keeps front (entry_of row spec k (entry_seen e)) ≡ Err f
-    → joined front (kept_of keeps (entries_ahead row spec (fields_in s) k now)) ≡ Err f
-entry_at_fault keeps row spec s k front now new e f next same record_is is =
-    kept_fails keeps row spec (fields_in s) k front now new e.object (entry_seen e).1 f next (value_is e)
-    (subst (λ (x : Typed). kept_behind keeps front (entry_of row spec k x) ≡ Err f) (seen_is e s same record_is) is)
+    → given_behind gives front (entry_of row spec k (entry_seen e)) ≡ Err f
+    → joined front (given_of gives (entries_ahead row spec (fields_in s) k now)) ≡ Err f
+entry_at_fault {X} gives row spec s k front now new e f next same record_is is =
+    given_fails gives row spec (fields_in s) k front now new e.object (entry_seen e).1 f next (value_is e)
+    (subst (λ (x : Typed). given_behind gives front (entry_of row spec k x) ≡ Err f) (seen_is e s same record_is) is)
 
 -- the fields of a file's type
 pub file_fields_are : (f : FoundFile) → IsFile f → fields_in (file_seen f).0 ≡ fields_seen f.fields.now
@@ -119,12 +120,12 @@ live_goes row spec position status e f unpartitioned snapshot sequence file_sequ
     let partition = sym (ap (λ (x : FoundEntry). x.partition.now) n.same ∙ n.partition_is) in
     rw (sym n.sequence_is, sym n.file_sequence_is, here, sym n.snapshot_is, sym n.open_is, partition) refl
 
--- an entry that is not deleted is kept as a live one
-pub alive : (keeps : Live → Bool) (front : List Entry) (status : Status) (read : Result Live ManifestFault)
+-- an entry that is not deleted gives what a live one does
+pub alive : {X : Type 0} (gives : Live → List X) (front : List X) (status : Status) (read : Result Live ManifestFault)
     → (status ≡ Deleted → ⊥)
-    → kept_behind keeps front (unless_deleted status read) ≡ live_behind keeps front read
-alive keeps front Existing (Ok l) not = refl
-alive keeps front Existing (Err f) not = refl
-alive keeps front Added (Ok l) not = refl
-alive keeps front Added (Err f) not = refl
-alive keeps front Deleted read not = absurd (not refl)
+    → given_behind gives front (unless_deleted status read) ≡ live_behind gives front read
+alive {X} gives front Existing (Ok l) not = ap (λ (xs : List X). Ok (front ++ xs)) (append-nil (gives l))
+alive {X} gives front Existing (Err f) not = refl
+alive {X} gives front Added (Ok l) not = ap (λ (xs : List X). Ok (front ++ xs)) (append-nil (gives l))
+alive {X} gives front Added (Err f) not = refl
+alive {X} gives front Deleted read not = absurd (not refl)

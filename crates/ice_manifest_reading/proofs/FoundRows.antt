@@ -1,5 +1,5 @@
 -- Rows as they are found in the objects of a manifest list.
-use Rattle.std.proofs.Common.{◌≡◌, ℕ, ℤ, pos, true, List, ◌∷◌, [], ◌++◌, Some, Result, Ok, Err, refl, sym, ap, subst, ◌∙◌}
+use Rattle.std.proofs.Common.{◌≡◌, ℕ, ℤ, pos, true, List, ◌∷◌, [], ◌++◌, Option, Some, Result, Ok, Err, refl, sym, ap, subst, ◌∙◌}
 use Rattle.avro_schema.specs.Tree.{Tree, structure}
 use Rattle.avro_schema.specs.View.{tree}
 use Rattle.avro_file.specs.Ahead.{Ahead}
@@ -12,7 +12,8 @@ use Rattle.ice_manifest_fields.specs.declared.fault.ListFault.{ListFault}
 use Rattle.ice_manifest_fields.specs.Fields.{at, there, long_at, int_at, number_or_zero, path_at}
 use Rattle.ice_manifest_fields.specs.Naming.{Naming, in_list, told}
 use Rattle.ice_manifest_fields.specs.Schemas.{fields_in}
-use Rattle.ice_manifest_fields.proofs.Joining.{joined}
+use Rattle.ice_manifest_fields.proofs.Joining.{joined, told_ok}
+use Rattle.ice_value.specs.declared.file_bounds.Summary.{Summary}
 use Rattle.ice_manifest_found.specs.declared.row.FoundRow.{FoundRow}
 use Rattle.ice_manifest_found.specs.RowsFound.{row_seen}
 use Rattle.ice_manifest_found.proofs.RowsShown.{row_is}
@@ -77,3 +78,28 @@ unfolding row_of
 summaries_at_fault x path length spec content sequence least snapshot counts e p l s c q m n k is =
     rw (sym p, sym l, sym s, sym c, sym q, sym m, sym n, sym k)
     (then_at_fault in_list (summaries_in (there (at (pos 507) x))) _ e is)
+
+-- where all fields are read, they are the row
+pub all_read : (x : Typed) (path : List ℕ) (length spec : ℤ) (content : ManifestContent) (sequence least : ℕ)
+    (snapshot : ℤ) (counts : Counts) (partitions : Option (List Summary)) (length2 spec2 snapshot2 : ℤ)
+    (kept : Counts) (summaries : Option (List Summary)) → Ok path ≡ path_at (pos 500) x
+    → Ok length ≡ long_at (pos 501) x → Ok spec ≡ int_at (pos 502) x → Ok content ≡ content_at x
+    → Ok sequence ≡ number_or_zero (pos 515) x → Ok least ≡ number_or_zero (pos 516) x
+    → Ok snapshot ≡ long_at (pos 503) x → Ok counts ≡ counts_at x
+    → told in_list (summaries_in (there (at (pos 507) x))) ≡ Ok partitions → length2 ≡ length → spec2 ≡ spec
+    → snapshot2 ≡ snapshot → kept ≡ counts → summaries ≡ partitions → told in_list (row_of x) ≡ Ok (record {
+      path = path;
+      length = length2;
+      spec_id = spec2;
+      content = content;
+      sequence_number = sequence;
+      min_sequence_number = least;
+      added_snapshot_id = snapshot2;
+      counts = kept;
+      partitions = summaries;
+    })
+unfolding row_of
+all_read x path length spec content sequence least snapshot counts partitions length2 spec2 snapshot2 kept summaries
+    p l s c q m n k is l2 s2 n2 k2 is2 =
+    let said = told_ok in_list (summaries_in (there (at (pos 507) x))) partitions is in
+    rw (sym p, sym l, sym s, sym c, sym q, sym m, sym n, sym k, said, l2, s2, n2, k2, is2) refl

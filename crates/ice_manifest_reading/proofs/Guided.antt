@@ -1,18 +1,11 @@
 -- Where the guide of an entry leads.
-use Rattle.std.proofs.Common.{◌≡◌, pos, [], ◌∷◌, IfSome, Option, Some, None, refl}
-use Rattle.avro_file.specs.Picking.{Picked}
+use Rattle.std.proofs.Common.{IfSome, Option, Some, None, refl}
 use Rattle.avro_picked.specs.declared.guide.GuidedObject.{GuidedObject}
-use Rattle.avro_picked.specs.Guides.{AreAsked}
-use Rattle.ice_meta.specs.declared.spec.PartitionField.{PartitionField}
-use Rattle.ice_manifest_fields.specs.declared.columns.ColumnMap.{ColumnMap}
-use Rattle.ice_manifest_fields.specs.ColumnMaps.{value_counts, null_value_counts, lower_bounds, upper_bounds}
-use Rattle.ice_manifest_fields.specs.Fields.{at}
-use Rattle.ice_manifest_found.specs.Met.{LeadsToMap, LeadsToMaps}
-use Rattle.ice_entry_found.specs.declared.field.FileField.{FileField}
+use Rattle.ice_manifest_found.specs.Met.{LeadsToMaps}
 use Rattle.ice_entry_found.specs.declared.field.FileField.TheVariants.{ValueCounts, NullCounts, LowerBounds, UpperBounds}
 use Rattle.ice_entry_found.specs.declared.file.FoundFile.{FoundFile}
-use Rattle.ice_entry_found.specs.Seen.{IsGuidedFile, file_seen}
-use Rattle.ice_entry_found.specs.Ways.{file_id, wanted_ways}
+use Rattle.ice_entry_found.specs.Seen.{IsGuidedFile}
+use Rattle.ice_entry_found.specs.Ways.{wanted_ways}
 use Rattle.ice_manifest_reading.specs.Behind.{maps_at}
 
 pub leads_to_maps : (f : FoundFile) (guided : Option GuidedObject) → IfSome guided (λ g. IsGuidedFile f g)

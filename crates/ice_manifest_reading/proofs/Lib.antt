@@ -14,6 +14,7 @@ pub mod Whole
 pub mod Contents
 pub mod Few
 pub mod Held
+pub mod Collected
 pub mod Keeping
 pub mod NoMemory
 pub mod Found

@@ -5,13 +5,9 @@ use Rattle.std.specs.Str.{bytes_eq}
 use Rattle.std.specs.List.{dedup, dedup_from}
 use Rattle.std.specs.List.Retain.{IsFiltered, DiffersFromLast}
 use Rattle.std.proofs.lemmas.List.Filters.{dedup_is}
-use denote.Enum.Bare.{sameb}
 use Rattle.ice_manifest_fields.proofs.Steps.{step_of, end_of}
 use Rattle.ice_manifest_reading.specs.declared.row.Row.{Row}
-use Rattle.ice_manifest_reading.specs.declared.row.ManifestContent.{ManifestContent}
-use Rattle.ice_manifest_reading.specs.declared.row.ManifestContent.TheVariants.{Data, Deletes}
-use Rattle.ice_manifest_reading.specs.contracts.row.ManifestContent.{the_type}
-use Rattle.ice_manifest_reading.specs.Lists.{twice_after, same_content}
+use Rattle.ice_manifest_reading.specs.Lists.{twice_after}
 
 -- ---- rows in their order
 
@@ -40,10 +36,3 @@ dedup_alike E F (x ∷ xs) h = dedup_from_alike E F x xs h
 pub deduped : (E F : Row → Row → Bool) (xs ys : List Row) → IsFiltered (DiffersFromLast E) [] xs ys
     → ((x y : Row) → E x y ≡ F x y) → ys ≡ dedup F xs
 deduped E F xs ys h alike = dedup_is E xs ys h ∙ dedup_alike E F xs alike
-
--- comparing contents as the derived test does
-pub contents_alike : (x y : ManifestContent) → sameb the_type x y ≡ same_content x y
-contents_alike Data Data = refl
-contents_alike Data Deletes = refl
-contents_alike Deletes Data = refl
-contents_alike Deletes Deletes = refl

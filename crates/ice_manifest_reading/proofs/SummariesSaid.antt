@@ -1,10 +1,9 @@
 -- What a record says as a summary, by what stands at its fields.
 use Rattle.std.proofs.Common.{◌≡◌, ℕ, ℤ, pos, Bool, List, [], ◌∷◌, Option, Some, None, Result, Ok, Err, refl, sym, ap}
-use Rattle.std.proofs.Common.{◌∙◌, inl, inr, arith}
+use Rattle.std.proofs.Common.{◌∙◌, inl, inr}
 use Rattle.contract_words.specs.Outcome.{◌>>=◌}
 use Rattle.avro_file.specs.Picking.{Typed, Picked, pick}
 use Rattle.avro_picked.specs.Guides.{AreAsked}
-use Rattle.avro_picked.proofs.Guided.{nth_asked}
 use Rattle.ice_value.specs.declared.file_bounds.Summary.{Summary}
 use Rattle.ice_manifest_fields.specs.declared.fault.FieldFault.{FieldFault}
 use Rattle.ice_manifest_fields.specs.Fields.{at, there, asked, record_of, truth_of, binary_of}

@@ -1,6 +1,5 @@
--- What is read of an entry before it is kept.
-use Rattle.std.specs.Prelude.{◌≡◌, ◌≢◌, pos, List, [], ◌∷◌, ◌++◌, Bool, Result, Ok, Err}
-use Rattle.contract_words.specs.Outcome.{◌>>=◌}
+-- What is read of an entry's file.
+use Rattle.std.specs.Prelude.{◌≡◌, ◌≢◌, pos, Result, Ok, Err}
 use Rattle.ice_value.specs.declared.file_bounds.FileBounds.{FileBounds}
 use Rattle.ice_manifest_fields.specs.declared.fault.FieldFault.{FieldFault}
 use Rattle.ice_manifest_fields.specs.declared.fault.ManifestFault.{ManifestFault}
@@ -14,9 +13,6 @@ use Rattle.ice_manifest_found.specs.MapsRead.{AreMet, AreRead}
 use Rattle.ice_entry_found.specs.declared.file.FoundFile.{FoundFile}
 use Rattle.ice_entry_found.specs.Seen.{file_seen}
 use Rattle.ice_manifest_reading.specs.declared.data_file.DataFile.{DataFile}
-use Rattle.ice_manifest_reading.specs.declared.entry.Entry.{Entry}
-use Rattle.ice_manifest_reading.specs.declared.entry.Live.{Live}
-use Rattle.ice_manifest_reading.specs.Manifests.{entries_kept}
 
 -- what stands at the maps of a file's columns
 abbrev pub maps_at : FoundFile → MapsMet
@@ -39,7 +35,3 @@ AreMapsOf f maps = AreRead maps (maps_at f)
 abbrev pub ReadsFile : Result DataFile ManifestFault → Result (DataFile × FileBounds) FieldFault → Type 0
 ReadsFile (Ok file) read = (columns : FileBounds) × (read ≡ Ok (file, columns))
 ReadsFile (Err e) read = e ≢ Memory → told in_manifest read ≡ Err e
-
--- what is kept once a live entry was read, behind what was kept before it
-abbrev pub live_behind : (Live → Bool) → List Entry → Result Live ManifestFault → Result (List Entry) ManifestFault
-live_behind keeps front read = read >>= λ live. Ok (front ++ entries_kept keeps (live ∷ []))

@@ -2,6 +2,7 @@ pub mod ManifestSchemas
 pub mod Partitions
 pub mod Lists
 pub mod Gathering
+pub mod Equality
 pub mod SummaryWays
 pub mod Manifests
 pub mod Laws
@@ -11,3 +12,5 @@ pub mod Faults
 pub mod Same
 pub mod Behind
 pub mod Keeping
+pub mod Collecting
+pub mod Telling

@@ -1,6 +1,8 @@
 //! Manifest lists and manifests as they are read: their rows and live entries, found by field id, or the first fault.
 #![tactic(auto)]
 
+mod collect;
+mod columns;
 mod counts;
 mod data_file;
 mod entry;
@@ -12,6 +14,7 @@ mod row;
 mod shape;
 mod status;
 mod summaries;
+mod tell;
 mod tuple;
 
 pub use counts::Counts;
@@ -27,6 +30,7 @@ pub use laws::{
     rows_are_a_set, rows_are_refused_together, snapshots_are_inherited,
 };
 pub use list::read_list;
-pub use manifest::{read_kept, read_manifest};
+pub use manifest::{read_kept, read_manifest, read_told};
 pub use row::{ManifestContent, Row};
 pub use status::Status;
+pub use tell::Tell;

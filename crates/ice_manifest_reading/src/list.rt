@@ -18,7 +18,7 @@ ghost use Rattle.ice_manifest_reading.specs.Lists.{checked as checked_in, path_o
 ghost use Rattle.ice_manifest_reading.specs.Gathering.{AreSame, Gathers};
 
 use crate::counts::Counts;
-use crate::row::{ManifestContent, Row};
+use crate::row::{LentRow, ManifestContent, Row, kept_summaries};
 use crate::summaries::summaries_in_list;
 use avro_file::{Container, Objects};
 use avro_picked::Layout;
@@ -76,21 +76,20 @@ fn partitions_at(alloc: Global, row: &FoundRow) -> Result<Option<Items<Summary>>
 
 /// The row that an object says.
 #[tactic(auto, unfolding(crate::specs::Lists::row_of))]
-fn row_of(alloc: Global, row: &FoundRow) -> Result<Row, ListFault>
+fn row_of<'d>(alloc: Global, row: &FoundRow<'_, '_, 'd>) -> Result<LentRow<'d>, ListFault>
     requires { IsRow row.now }
     ensures { Gives ListFault.Memory (λ x. x) result (told in_list (row_said (row_seen row.now))) }
 {
-    let path = row.path(RowField::Path)?;
-    Ok(Row {
-        path: Text::from_string(String::from_str(alloc, path)?),
+    Ok(LentRow {
+        path: row.path(RowField::Path)?,
         length: row.long(RowField::Length)?,
         spec_id: row.int(RowField::SpecId)?,
         content: content_at(row)?,
         sequence_number: row.number_or_zero(RowField::SequenceNumber)?,
         min_sequence_number: row.number_or_zero(RowField::MinSequenceNumber)?,
         added_snapshot_id: row.long(RowField::AddedSnapshotId)?,
-        counts: counts_at(row)?,
-        partitions: partitions_at(alloc, row)?,
+        counts: counts_at(row)?.kept(alloc)?,
+        partitions: kept_summaries(alloc, partitions_at(alloc, row)?)?,
     })
 }
 
@@ -99,11 +98,15 @@ const MOST_ROWS: usize = 65536;
 
 /// Puts a row behind the others. Where these have doubled since they were put in order, they are put in order again,
 /// equal ones once: so a list of many equal rows takes the memory of few.
-fn put_row(rows: &mut Vec<Row>, ordered: &mut usize, row: Row) -> Result<(), AllocError>
-    ensures { OnOk result (AreSame (rows.old.items ++ row ∷ []) rows.new.items) }
+fn put_row<'d>(
+    rows: &mut Vec<LentRow<'d>>,
+    ordered: &mut usize,
+    row: LentRow<'d>,
+) -> Result<(), AllocError>
+    ensures { OnOk result (AreSame (rows.old.items ++ row.entry ∷ []) rows.new.items) }
 {
     rows.push(row)?;
-    if rows.len() / 2 < *ordered {
+    if rows.len() / 2 <= *ordered {
         return Ok(());
     }
     put_in_order(rows)?;
@@ -112,11 +115,11 @@ fn put_row(rows: &mut Vec<Row>, ordered: &mut usize, row: Row) -> Result<(), All
 }
 
 /// The rows of all objects that are to come, which are records. Equal ones may be there once.
-fn all_rows<'s>(
+fn all_rows<'s, 'd>(
     alloc: Global,
     layout: &Layout<'s>,
-    mut reader: Objects<'s, '_>,
-) -> Result<Vec<Row>, ListFault>
+    mut reader: Objects<'s, 'd>,
+) -> Result<Vec<LentRow<'d>>, ListFault>
     requires layout { IsLayout layout.now }
     requires ways { ways_of layout.now ≡ row_ways }
     requires schema { layout_tree layout.now ≡ type_of reader }
@@ -139,38 +142,50 @@ fn all_rows<'s>(
 }
 
 /// Puts the rows in the order of their paths, equal ones once.
-fn put_in_order(rows: &mut Vec<Row>) -> Result<(), AllocError>
+fn put_in_order(rows: &mut Vec<LentRow<'_>>) -> Result<(), AllocError>
     ensures { OnOk result (rows.new.items ≡ ordered rows.old.items) }
 {
-    rows.sort_by(|a, b| a.path.as_bytes().cmp(b.path.as_bytes()))?;
+    rows.sort_by(|a, b| a.path().as_bytes().cmp(b.path().as_bytes()))?;
     rows.dedup();
     Ok(())
 }
 
 /// The path of two rows of which one stands right behind the other.
-fn path_twice(rows: &[Row]) -> Option<&Text>
+fn path_twice<'d>(rows: &[LentRow<'d>]) -> Option<&'d str>
     ensures { option_map (λ path. path.now) result ≡ twice_in rows.now }
 {
     let (first, others) = rows.split_first()?;
     let mut last = first;
     'rows: for row in others {
-        if row.path == last.path {
-            return Some(&row.path);
+        if row.path() == last.path() {
+            return Some(row.path());
         }
         last = row;
     }
     None
 }
 
+/// The rows, with copies of their paths.
+fn owned(alloc: Global, rows: Vec<LentRow<'_>>) -> Result<Vec<Row>, AllocError>
+    ensures { IfOk result (λ owned. owned.items ≡ rows.entry.items) }
+{
+    let mut owned = Vec::with_capacity(alloc, rows.len())?;
+    'rows: for row in rows {
+        owned.push(row.owned(alloc)?)?;
+    }
+    Ok(owned)
+}
+
 /// The rows, where no path is there twice and there are not too many.
-fn checked(alloc: Global, rows: Vec<Row>) -> Result<Vec<Row>, ListFault>
-    ensures { Gives ListFault.Memory (λ rows. rows.items) result (checked_in rows.items) }
+fn checked(alloc: Global, rows: Vec<LentRow<'_>>) -> Result<Vec<Row>, ListFault>
+    ensures { Gives ListFault.Memory (λ rows. rows.items) result (checked_in rows.entry.items) }
 {
     if let Some(path) = path_twice(&rows) {
-        return Err(ListFault::ManifestTwice(path.copy(alloc)?));
+        let path = String::from_str(alloc, path)?;
+        return Err(ListFault::ManifestTwice(Text::from_string(path)));
     }
     if rows.len() <= MOST_ROWS {
-        Ok(rows)
+        Ok(owned(alloc, rows)?)
     } else {
         Err(ListFault::TooManyRows)
     }

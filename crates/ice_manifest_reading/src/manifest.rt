@@ -1,6 +1,6 @@
 //! Reading a manifest.
 
-ghost use Rattle.std.specs.Prelude.{◌≡◌, ◌≤◌, ◌<◌, ◌^◌, [], ◌∷◌, ◌++◌, pos, true, OnOk, IfOk, IfSome, length};
+ghost use Rattle.std.specs.Prelude.{◌≡◌, ◌≤◌, ◌<◌, ◌^◌, pos, true, IfOk, IfSome, length};
 ghost use Rattle.std.specs.Option.{option_copied};
 ghost use Rattle.contract_words.specs.Outcome.{Gives};
 ghost use Rattle.avro_file.specs.Ahead.{still_ahead};
@@ -10,12 +10,10 @@ ghost use Rattle.avro_picked.specs.Placing.{IsLayout};
 ghost use Rattle.ice_manifest_fields.specs.Fields.{int_or_zero as int_or_zero_said, path_at as path_said};
 ghost use Rattle.ice_manifest_fields.specs.Fields.{long_at as long_said, ints_at as ints_said};
 ghost use Rattle.ice_manifest_fields.specs.Fields.{int_at as int_said, optional_number as number_said};
-ghost use Rattle.ice_manifest_fields.specs.Maps.{columns_of as columns_said};
 ghost use Rattle.ice_manifest_fields.specs.Naming.{in_manifest, told};
 ghost use Rattle.ice_manifest_fields.specs.Schemas.{fields_in};
 ghost use Rattle.ice_manifest_fields.specs.Seen.{result_map};
-ghost use Rattle.ice_manifest_found.specs.Met.{Checks};
-ghost use Rattle.ice_entry_found.specs.Seen.{entry_seen, IsPlaced, file_seen, IsFile, IsGuidedFile};
+ghost use Rattle.ice_entry_found.specs.Seen.{entry_seen, IsPlaced, file_seen, IsFile};
 ghost use Rattle.ice_entry_found.specs.Ways.{entry_id, file_id, wanted_ways};
 ghost use Rattle.ice_manifest_reading.specs.Manifests.{live_of, status_of as status_in, status_at as status_said};
 ghost use Rattle.ice_manifest_reading.specs.Manifests.{content_of as content_in, content_at as content_said};
@@ -25,31 +23,32 @@ ghost use Rattle.ice_manifest_reading.specs.Manifests.{file_sequence_at as file_
 ghost use Rattle.ice_manifest_reading.specs.Manifests.{snapshot_at as snapshot_said, referenced_at as referenced_said};
 ghost use Rattle.ice_manifest_reading.specs.Manifests.{file_of as file_said};
 ghost use Rattle.ice_manifest_reading.specs.Manifests.{live_at as live_said, entry_of as entry_said, entries_ahead};
-ghost use Rattle.ice_manifest_reading.specs.Manifests.{kept_of};
-ghost use Rattle.ice_manifest_reading.specs.Manifests.{kept_behind, entries_kept, entries_of};
-ghost use Rattle.ice_manifest_reading.specs.Behind.{AreMapsIn, AreMapsOf, ReadsFile, live_behind};
-ghost use Rattle.ice_manifest_reading.specs.Keeping.{live_with};
+ghost use Rattle.ice_manifest_reading.specs.Manifests.{kept_of, entries_of};
+ghost use Rattle.ice_manifest_reading.specs.Behind.{ReadsFile};
+ghost use Rattle.ice_manifest_reading.specs.Collecting.{given_of, given_behind, live_behind};
+ghost use Rattle.ice_manifest_reading.specs.Telling.{told_of};
 ghost use Rattle.ice_meta.specs.Partitioning.{is_unpartitioned};
-ghost use Rattle.ice_value.specs.declared.file_bounds.FileBounds.{FileBounds};
 
+use crate::collect::{Collect, Keeping, Telling};
+use crate::columns::check_columns;
 use crate::data_file::FileView;
-use crate::entry::{Entry, EntryView, Live};
+use crate::entry::{Entry, EntryView};
 use crate::keep::{Everything, Keep};
 use crate::row::{ManifestContent, Row};
 use crate::shape::check_entry_fields;
 use crate::status::Status;
+use crate::tell::Tell;
 use crate::tuple::tuple_at;
 use avro_file::{Container, Objects, objects_take_bytes};
-use avro_picked::{GuidedObject, Layout};
+use avro_picked::Layout;
 use contract_words::Items;
 use ice_entry_found::{EntryField, FileField, FoundEntry, FoundFile, entry_layout};
 use ice_manifest_fields::{FieldFault, ManifestFault, fields_of, type_at};
 use ice_manifest_found::{
-    FoundMaps, ReadMaps, int_asked, ints, long_asked, optional_number, optional_path, path_asked,
-    whole,
+    int_asked, ints, long_asked, optional_number, optional_path, path_asked, whole,
 };
 use ice_meta::Spec;
-use ice_value::{FileBounds, FileContent, SequenceNumber};
+use ice_value::{FileContent, SequenceNumber};
 use std::alloc::{AllocError, Global};
 
 /// The field id of the items of a file's equality ids.
@@ -147,45 +146,6 @@ fn referenced_at<'d>(
         FileContent::PositionDeletes => optional_path(file.found(field), field.id()),
         FileContent::Data | FileContent::EqualityDeletes => Ok(None),
     }
-}
-
-/// The maps of the file's columns, which are not read yet.
-fn maps_of<'e, 's, 'd>(
-    file: &FoundFile<'_, '_, 's, 'd>,
-    guided: &'e Option<GuidedObject<'e, 's, 'd>>,
-) -> FoundMaps<'e, 's, 'd>
-    requires file { IsFile file.now }
-    requires guided { IfSome guided.now (λ guided. IsGuidedFile file.now guided) }
-    ensures { AreMapsIn file.now result }
-{
-    FoundMaps {
-        guided,
-        value_counts: file.found(FileField::ValueCounts),
-        null_counts: file.found(FileField::NullCounts),
-        lower_bounds: file.found(FileField::LowerBounds),
-        upper_bounds: file.found(FileField::UpperBounds),
-    }
-}
-
-/// The first fault of what is said of the file's columns.
-fn check_columns(alloc: Global, file: &FoundFile) -> Result<(), ManifestFault>
-    requires { IsFile file.now }
-    ensures { Checks result (columns_said (file_seen file.now)) }
-{
-    let guided = file.guided();
-    maps_of(file, &guided).check(alloc)
-}
-
-/// The counts and bounds of the file's columns, lent by its maps.
-fn columns_of<'a, 'd>(
-    alloc: Global,
-    file: &FoundFile,
-    maps: &'a ReadMaps<'_, '_, 'd>,
-) -> Result<FileBounds<'a, 'd>, ManifestFault>
-    requires { AreMapsOf file.now maps.now }
-    ensures { Gives ManifestFault.Memory (λ x. x) result (told in_manifest (columns_said (file_seen file.now))) }
-{
-    maps.columns(alloc)
 }
 
 /// The ids of the columns by which equality deletes compare rows.
@@ -310,67 +270,13 @@ struct Source<'a> {
     ghost known: { unpartitioned ≡ is_unpartitioned spec.now },
 }
 
-/// Puts a live entry last, if it is kept by what is said of its file's columns.
-fn push_kept<'d, K: Keep>(
-    keep: &K,
-    found: &mut Vec<EntryView<'d>>,
-    live: Live<'_, 'd>,
-) -> Result<(), AllocError>
-    ensures { OnOk result (found.new.items ≡ found.old.items ++ entries_kept (K.kept keep.now) (live.entry ∷ [])) }
-{
-    if keep.keeps(&live) {
-        found.push(live.entry)?;
-    }
-    Ok(())
-}
-
-/// Puts a live entry last, if it is kept by what is said of its file's columns, which has no fault.
-fn push_by_columns<'d, K: Keep>(
-    alloc: Global,
-    keep: &K,
-    found: &mut Vec<EntryView<'d>>,
-    entry: EntryView<'d>,
-    file: &FoundFile<'_, '_, '_, 'd>,
-) -> Result<(), ManifestFault>
-    requires { IsFile file.now }
-    ensures { (columns : FileBounds) → columns_said (file_seen file.now) ≡ Ok columns →
-        Gives ManifestFault.Memory (λ _. found.new.items) result
-        (Ok (found.old.items ++ entries_kept (K.kept keep.now) (live_with entry.entry columns ∷ []))) }
-{
-    let guided = file.guided();
-    let maps = maps_of(file, &guided).read(alloc)?;
-    let bounds = columns_of(alloc, file, &maps)?;
-    Ok(push_kept(keep, found, Live { entry, bounds })?)
-}
-
-/// Puts a live entry last, if it is kept. What is said of its file's columns, which has no fault, is read only where it
-/// tells.
-fn push_live<'d, K: Keep>(
-    alloc: Global,
-    keep: &K,
-    found: &mut Vec<EntryView<'d>>,
-    entry: EntryView<'d>,
-    file: &FoundFile<'_, '_, '_, 'd>,
-) -> Result<(), ManifestFault>
-    requires { IsFile file.now }
-    ensures { (columns : FileBounds) → columns_said (file_seen file.now) ≡ Ok columns →
-        Gives ManifestFault.Memory (λ _. found.new.items) result
-        (Ok (found.old.items ++ entries_kept (K.kept keep.now) (live_with entry.entry columns ∷ []))) }
-{
-    match keep.without_columns(&entry) {
-        Some(true) => Ok(found.push(entry)?),
-        Some(false) => Ok(()),
-        None => push_by_columns(alloc, keep, found, entry, file),
-    }
-}
-
-/// Puts an entry that exists or was added last, if it is kept.
+/// Puts what an entry gives that exists or was added last.
 #[tactic(auto, unfolding(crate::specs::Manifests::live_at))]
-fn read_live<'d, K: Keep>(
+fn read_live<'d, C: Collect<'d>>(
     alloc: Global,
     source: &Source<'_>,
-    keep: &K,
-    found: &mut Vec<EntryView<'d>>,
+    collect: &C,
+    found: &mut Vec<C::Item>,
     position: u64,
     status: Status,
     entry: &FoundEntry<'_, '_, 'd>,
@@ -378,7 +284,7 @@ fn read_live<'d, K: Keep>(
     requires placed { IsPlaced entry.now }
     requires partition { entry.now.partition.now ≡ source.now.spec.now.fields }
     ensures { Gives ManifestFault.Memory (λ _. found.new.items) result
-        (live_behind (K.kept keep.now) found.old.items
+        (live_behind (C.given collect.now) found.old.items
         (live_said source.now.row.now source.now.spec.now position status (entry_seen entry.now))) }
 {
     let row = source.row;
@@ -398,48 +304,48 @@ fn read_live<'d, K: Keep>(
         file_sequence_number,
         file: view,
     };
-    push_live(alloc, keep, found, entry, &file)
+    collect.put(alloc, found, entry, &file)
 }
 
-/// Puts the entry that an object says last, if it is live and kept. Of a deleted one nothing but the status is looked
+/// Puts what the entry that an object says gives last, if it is live. Of a deleted one nothing but the status is looked
 /// at.
 #[tactic(auto, unfolding(crate::specs::Manifests::entry_of))]
-fn read_object<'d, K: Keep>(
+fn read_object<'d, C: Collect<'d>>(
     alloc: Global,
     source: &Source<'_>,
-    keep: &K,
-    found: &mut Vec<EntryView<'d>>,
+    collect: &C,
+    found: &mut Vec<C::Item>,
     position: u64,
     entry: &FoundEntry<'_, '_, 'd>,
 ) -> Result<(), ManifestFault>
     requires placed { IsPlaced entry.now }
     requires partition { entry.now.partition.now ≡ source.now.spec.now.fields }
     ensures { Gives ManifestFault.Memory (λ _. found.new.items) result
-        (kept_behind (K.kept keep.now) found.old.items
+        (given_behind (C.given collect.now) found.old.items
         (entry_said source.now.row.now source.now.spec.now position (entry_seen entry.now))) }
 {
     let status = status_at(entry)?;
     match status {
         Status::Deleted => Ok(()),
-        _ => read_live(alloc, source, keep, found, position, status, entry),
+        _ => read_live(alloc, source, collect, found, position, status, entry),
     }
 }
 
-/// The kept entries of all objects that are to come, which are records and few enough to be numbered.
-fn all_entries<'s, 'd, K: Keep>(
+/// What the entries of all objects give that are to come, which are records and few enough to be numbered.
+fn all_entries<'s, 'd, C: Collect<'d>>(
     alloc: Global,
     source: &Source<'_>,
-    keep: &K,
+    collect: &C,
     layout: &Layout<'s>,
     mut reader: Objects<'s, 'd>,
-) -> Result<Vec<EntryView<'d>>, ManifestFault>
+) -> Result<Vec<C::Item>, ManifestFault>
     requires few { still_ahead (ahead reader) < 2 ^ 64 }
     requires layout { IsLayout layout.now }
     requires ways { ways_of layout.now ≡ wanted_ways source.now.spec.now.fields }
     requires schema { layout_tree layout.now ≡ type_of reader }
     requires records { is_structure (layout_tree layout.now) ≡ true }
     ensures { Gives ManifestFault.Memory (λ found. found.items) result
-        (kept_of (K.kept keep.now) (entries_ahead source.now.row.now source.now.spec.now
+        (given_of (C.given collect.now) (entries_ahead source.now.row.now source.now.spec.now
         (fields_in (layout_tree layout.now)) 0 (ahead reader.entry))) }
 {
     let partition = source.spec.fields.as_slice();
@@ -453,28 +359,23 @@ fn all_entries<'s, 'd, K: Keep>(
             places: &places,
             object,
         };
-        read_object(alloc, source, keep, &mut found, position, &entry)?;
+        read_object(alloc, source, collect, &mut found, position, &entry)?;
         position += 1;
     }
     Ok(found)
 }
 
-/// Those live entries of a row's manifest that are kept, in the order of their positions, with their numbers inherited.
-/// Their paths are lent by the bytes.
-///
-/// The fault is the first of these: the file's as it is opened; that of the first field that the schema lacks or has
-/// with another type; entry by entry, also of entries that are not kept, the file's, or that of the entry's first field
-/// at fault. Of a deleted entry nothing but the status is looked at.
+/// What the live entries of a row's manifest give, in the order of their positions. The fault is that of `read_kept`.
 #[tactic(auto, unfolding(crate::specs::Manifests::live_of))]
-pub fn read_kept<'d, K: Keep>(
+fn read_given<'d, C: Collect<'d>>(
     alloc: Global,
     row: &Row,
     spec: &Spec,
-    keep: &K,
+    collect: &C,
     bytes: &'d [u8],
-) -> Result<Vec<EntryView<'d>>, ManifestFault>
+) -> Result<Vec<C::Item>, ManifestFault>
     ensures { Gives ManifestFault.Memory (λ found. found.items) result
-        (kept_of (K.kept keep.now) (live_of row.now spec.now bytes.now)) }
+        (given_of (C.given collect.now) (live_of row.now spec.now bytes.now)) }
 {
     let container = Container::open(alloc, bytes)?;
     let schema = container.schema();
@@ -487,7 +388,41 @@ pub fn read_kept<'d, K: Keep>(
     };
     // An entry takes a byte at least, so there are no more of them than bytes.
     objects_take_bytes();
-    all_entries(alloc, &source, keep, &layout, container.objects())
+    all_entries(alloc, &source, collect, &layout, container.objects())
+}
+
+/// Those live entries of a row's manifest that are kept, in the order of their positions, with their numbers inherited.
+/// Their paths are lent by the bytes.
+///
+/// The fault is the first of these: the file's as it is opened; that of the first field that the schema lacks or has
+/// with another type; entry by entry, also of entries that are not kept, the file's, or that of the entry's first field
+/// at fault. Of a deleted entry nothing but the status is looked at.
+pub fn read_kept<'d, K: Keep>(
+    alloc: Global,
+    row: &Row,
+    spec: &Spec,
+    keep: &K,
+    bytes: &'d [u8],
+) -> Result<Vec<EntryView<'d>>, ManifestFault>
+    ensures { Gives ManifestFault.Memory (λ found. found.items) result
+        (kept_of (K.kept keep.now) (live_of row.now spec.now bytes.now)) }
+{
+    read_given(alloc, row, spec, &Keeping { keep }, bytes)
+}
+
+/// What is told of each live entry of a row's manifest, in the order of their positions. The fault is that of
+/// `read_kept`.
+pub fn read_told<T: Tell>(
+    alloc: Global,
+    row: &Row,
+    spec: &Spec,
+    tell: &T,
+    bytes: &[u8],
+) -> Result<Vec<T::Told>, ManifestFault>
+    ensures { Gives ManifestFault.Memory (λ found. found.items) result
+        (told_of (T.told tell.now) (live_of row.now spec.now bytes.now)) }
+{
+    read_given(alloc, row, spec, &Telling { tell }, bytes)
 }
 
 /// The entries, with copies of their paths.

@@ -4,6 +4,10 @@ pub const ENTRIES: &str = r#"case snapshots and numbers are inherited
 schema {"type":"record","name":"manifest_entry","fields":[{"name":"status","type":"int","field-id":0},{"name":"snapshot_id","type":["null","long"],"field-id":1},{"name":"sequence_number","type":["null","long"],"field-id":3},{"name":"file_sequence_number","type":["null","long"],"field-id":4},{"name":"data_file","type":["null",{"type":"record","name":"r2","fields":[{"name":"content","type":"int","field-id":134},{"name":"file_path","type":"string","field-id":100},{"name":"record_count","type":"long","field-id":103},{"name":"file_size_in_bytes","type":"long","field-id":104}]}],"field-id":2}]}
 block 1 02 00 00 00 02 00 02 61 00 00
 data 7 = 0 a Data 1 7 Some(7) 0 0 [] 7 true [];
+block 3 02 00 00 00 02 00 02 61 00 00 04 00 00 00 00 02 00 00 00 02 00 02 61 00 00
+told 7 = [0, 2]
+block 2 02 00 00 00 02 00 02 61 00 00 02 00 00 00 00
+told 7 = MissingField(2)
 block 1 02 02 12 02 0a 02 08 02 00 02 61 00 00
 data 7 = 0 a Data 9 5 Some(4) 0 0 [] 7 true [];
 block 1 00 00 02 0a 00 02 00 02 61 00 00

@@ -4,7 +4,8 @@
 use super::files::split;
 use contract_words::{Items, Text};
 use ice_manifest_reading::{
-    Counts, DataFile, Entry, Keep, Live, ManifestContent, Row, read_kept, read_list, read_manifest,
+    Counts, DataFile, Entry, EntryView, Keep, Live, ManifestContent, Row, Tell, read_kept,
+    read_list, read_manifest, read_told,
 };
 use ice_meta::{PartitionField, Spec};
 use ice_value::SequenceNumber;
@@ -144,6 +145,30 @@ impl Keep for Noting {
     }
 }
 
+/// Tells the position of each entry: of the first one without what its manifest says of columns.
+struct Positions;
+
+impl Tell for Positions {
+    type Told = u64;
+
+    ghost told = { λ positions live. live.entry.position };
+
+    fn tell(&self, _alloc: Global, live: &Live<'_, '_>) -> Result<u64, AllocError> {
+        Ok(live.entry.lent().position)
+    }
+
+    fn without_columns(
+        &self,
+        _alloc: Global,
+        entry: &EntryView<'_>,
+    ) -> Result<Option<u64>, AllocError> {
+        match entry.lent().position {
+            0 => Ok(Some(0)),
+            _ => Ok(None),
+        }
+    }
+}
+
 const NO_COUNTS: Counts = Counts {
     added_files: None,
     existing_files: None,
@@ -155,7 +180,7 @@ const NO_COUNTS: Counts = Counts {
 
 fn content_of(content: &str) -> ManifestContent {
     match content {
-        "data" | "seen" => ManifestContent::Data,
+        "data" | "seen" | "told" => ManifestContent::Data,
         _ => ManifestContent::Deletes,
     }
 }
@@ -251,6 +276,16 @@ pub fn kept_outcome(
             let said = noting.said.into_inner();
             format!(in alloc; "{count};{said}")
         }
+        Err(fault) => format!(in alloc; "{fault:?}"),
+    }
+}
+
+/// The positions that are told of the live entries.
+pub fn told_outcome(alloc: Global, source: &str, bytes: &[u8]) -> Result<String, AllocError> {
+    let row = row_of(alloc, source)?;
+    let spec = Spec::empty(alloc, row.spec_id);
+    match read_told(alloc, &row, &spec, &Positions, bytes) {
+        Ok(positions) => format!(in alloc; "{positions:?}"),
         Err(fault) => format!(in alloc; "{fault:?}"),
     }
 }

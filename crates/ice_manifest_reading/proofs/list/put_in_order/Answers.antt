@@ -3,7 +3,7 @@ use Rattle.std.specs.Cmp.{IsStrictWeakOrder}
 use Rattle.std.specs.List.{dedup}
 use Rattle.std.proofs.lemmas.Cmp.{nat_list_cmp_total}
 use Rattle.std.proofs.lemmas.List.Sorted.{answers_always, ranks_by}
-use Rattle.ice_manifest_reading.proofs.Neighbours.{deduped, contents_alike}
+use Rattle.ice_manifest_reading.proofs.Neighbours.{deduped}
 use Rattle.contract_words.proofs.Sorted.{sorted_from_sort}
 use Rattle.ice_manifest_reading.specs.declared.row.Row.{Row}
 use Rattle.ice_manifest_reading.specs.Lists.{path_before, same_row}
@@ -19,4 +19,4 @@ returns c =
     (c.in_ok-sort_by.ensures.stable path_before order (answers_always _ (λ (a : Bor Row × (Bor Row × Unit {0}))
     (r : Ordering). is_lt r ≡ path_before a.0.now a.1.0.now) _ (λ f a r g h. search rules))) in
     deduped _ same_row c.sort_by.new.self.items c.dedup.new.self.items c.dedup.ensures.filtered
-    (λ x y. rw (contents_alike x.content y.content) refl) ∙ ap (dedup same_row) sort
+    (λ x y. refl) ∙ ap (dedup same_row) sort

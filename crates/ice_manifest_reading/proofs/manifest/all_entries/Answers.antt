@@ -6,8 +6,8 @@ use Rattle.ice_entry_found.specs.Ways.{wanted_ways}
 use Rattle.ice_manifest_fields.specs.Schemas.{fields_in}
 use Rattle.ice_manifest_fields.proofs.Joining.{joined}
 use Rattle.ice_manifest_reading.proofs.Reading.{fewer}
-use Rattle.ice_manifest_reading.proofs.Keeping.{none_kept, kept_end}
-use Rattle.ice_manifest_reading.proofs.Found.{shown_next, entry_kept, entry_at_fault}
+use Rattle.ice_manifest_reading.proofs.Collected.{none_given, given_end}
+use Rattle.ice_manifest_reading.proofs.Found.{shown_next, entry_given, entry_at_fault}
 use Rattle.ice_manifest_reading.proofs.manifest.all_entries.Goals as goal
 
 pub objects-init : goal.objects-init
@@ -18,21 +18,15 @@ pub read_object-requires : goal.read_object-requires
 read_object-requires g c =
     let next = rw c.in-Some.is at c.in_ok-object.ensures.next in
     let placed = rw c.in-Some.is at c.in_ok-object.ensures.placed in
-    record {
-      placed = (
-        c.requires.ways ∙ ap wanted_ways (sym c.as_slice-partition.ensures),
-        placed,
-        shown_next (ahead c.objects.reader) (ahead c.next_placed.new.objects)
-            c.in-Some.object next,
-      );
-      partition = c.as_slice-partition.ensures;
-    }
+    let ways = c.requires.ways ∙ ap wanted_ways (sym c.as_slice-partition.ensures) in
+    let shown = shown_next (ahead c.objects.reader) (ahead c.next_placed.new.objects) c.in-Some.object next in
+    λ _. ((refl, tt), ((ways, placed, shown), c.as_slice-partition.ensures))
 
 pub returns-in_err-object : goal.returns-in_err-object
 returns-in_err-object g c =
     let p = err_from_is_err_and c.from_residual-in_err-object.result c.from_residual-in_err-object.ensures.1 in
-    let keeps = g.K.Keep.kept c.args.keep.now in
-    rw (p.1, p.2) (λ other. sym c.objects.invariant.0 ∙ kept_end keeps c.args.source.now.row.now
+    let gives = g.C.Collect.given c.args.collect.now in
+    rw (p.1, p.2) (λ other. sym c.objects.invariant.0 ∙ given_end gives c.args.source.now.row.now
     c.args.source.now.spec.now _ c.objects.position c.objects.found.items (ahead c.objects.reader)
     (ahead c.next_placed.new.objects) _ c.in_err-object.ensures.next)
 
@@ -40,10 +34,10 @@ pub returns-in_err-read_object : goal.returns-in_err-read_object
 returns-in_err-read_object g c =
     let p = err_from_is_err_and c.from_residual-in_err-read_object.result
     c.from_residual-in_err-read_object.ensures.1 in
-    let keeps = g.K.Keep.kept c.args.keep.now in
+    let gives = g.C.Collect.given c.args.collect.now in
     let next = rw c.in-Some.is at c.in_ok-object.ensures.next in
     let placed = rw c.in-Some.is at c.in_ok-object.ensures.placed in
-    rw (p.1, p.2) (λ other. sym c.objects.invariant.0 ∙ entry_at_fault keeps c.args.source.now.row.now
+    rw (p.1, p.2) (λ other. sym c.objects.invariant.0 ∙ entry_at_fault gives c.args.source.now.row.now
     c.args.source.now.spec.now (layout_tree c.args.layout.now) c.objects.position c.objects.found.items
     (ahead c.objects.reader) (ahead c.next_placed.new.objects) _ _ next placed.1 c.requires.records
     (c.in_err-read_object.ensures other))
@@ -62,9 +56,9 @@ pub objects-preserved : goal.objects-preserved
 objects-preserved g c =
     let next = rw c.in-Some.is at c.in_ok-object.ensures.next in
     let placed = rw c.in-Some.is at c.in_ok-object.ensures.placed in
-    let keeps = g.K.Keep.kept c.args.keep.now in
+    let gives = g.C.Collect.given c.args.collect.now in
     let less = fewer (ahead c.objects.reader) (ahead c.next_placed.new.objects) c.in-Some.object next in (
-      sym (entry_kept keeps c.args.source.now.row.now c.args.source.now.spec.now (layout_tree c.args.layout.now)
+      sym (entry_given gives c.args.source.now.row.now c.args.source.now.spec.now (layout_tree c.args.layout.now)
           c.objects.position c.objects.found.items c.read_object.new.found.items (ahead c.objects.reader)
           (ahead c.next_placed.new.objects) _ next placed.1 c.requires.records c.in_ok-read_object.ensures) ∙
           c.objects.invariant.0,
@@ -75,10 +69,10 @@ objects-preserved g c =
 
 pub returns : goal.returns
 returns g c =
-    let keeps = g.K.Keep.kept c.args.keep.now in
+    let gives = g.C.Collect.given c.args.collect.now in
     sym c.objects.invariant.0 ∙ search (
       rules,
-      none_kept keeps c.args.source.now.row.now c.args.source.now.spec.now
+      none_given gives c.args.source.now.row.now c.args.source.now.spec.now
           (fields_in (layout_tree c.args.layout.now)) c.objects.position c.objects.found.items (ahead c.objects.reader)
           (ahead c.next_placed.new.objects),
     )

@@ -51,4 +51,4 @@ returns g c =
     let columns = columns_read row.content c.in-Some.file.entry.now.partition.now (file_seen c.in-Some.file)
     c.in_ok-view.view c.in_ok-view.ensures.0 c.in_ok-view.ensures.1 in
     rw (goes, c.in_ok-view.ensures.1) (simp (spec_id, snapshot) at
-    c.push_live.ensures c.in_ok-view.ensures.0 columns)
+    c.put.ensures c.in_ok-view.ensures.0 columns)

@@ -12,7 +12,7 @@ returns-in_default g c =
     let status = c.in_ok-status.status in
     rw (
       sym c.in_ok-status.ensures,
-      alive (g.K.Keep.kept c.args.keep.now) c.args.found.now.items status
+      alive (g.C.Collect.given c.args.collect.now) c.args.found.now.items status
           (live_at row spec c.args.position status (entry_seen c.args.entry.now)) c.in_default.not-Deleted,
     )
     c.read_live.ensures

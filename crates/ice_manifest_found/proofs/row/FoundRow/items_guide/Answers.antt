@@ -1,10 +1,10 @@
-use Rattle.std.proofs.Common.{◌≡◌, ℤ, List, [], ◌∷◌, to_z, of_z, w32, rules, sym, subst, ◌∙◌}
+use Rattle.std.proofs.Common.{◌≡◌, ℤ, List, [], ◌∷◌, to_z, of_z, w32, rules, subst, ◌∙◌}
 use Rattle.std.proofs.lemmas.Int.{to_z-of_z}
 use Rattle.avro_schema.specs.Tree.{Tree}
 use Rattle.avro_file.specs.Value.{Value}
 use Rattle.avro_file.specs.Picking.{pick}
 use Rattle.avro_picked.specs.Guides.{AreAsked, IsGuided, GuidesItems}
-use Rattle.ice_manifest_found.specs.RowsFound.{row_id, row_ways}
+use Rattle.ice_manifest_found.specs.RowsFound.{row_id}
 use Rattle.ice_manifest_found.proofs.Guiding.{row_guided, row_asked}
 use Rattle.ice_manifest_found.proofs.row.FoundRow.items_guide.Goals as goal
 
