@@ -1,6 +1,6 @@
 //! Files by their paths.
 
-ghost use Rattle.std.specs.Prelude.{◌≡◌, ℕ, List, Option, IfOk, IsErrOf, Some, None};
+ghost use Rattle.std.specs.Prelude.{◌≡◌, ℕ, List, Option, IfOk, OnOk, IsErrOf, Some, None};
 ghost use Rattle.ice_desk.specs.Worlds.{HasAt};
 ghost use Rattle.ice_state.specs.Contents.{World};
 
@@ -30,4 +30,15 @@ pub trait Files {
         ensures found { IfOk result (λ bytes. HasAt (world self.now) path.now (Some bytes.items)) }
         ensures absent { IsErrOf result ReadFault.Absent → HasAt (world self.now) path.now None }
         ensures device { IsErrOf result ReadFault.Device → may_fail self.now path.now };
+
+    /// Puts the bytes of the file at a path in place of those that `bytes` has, into its room where they fit: who reads
+    /// many files one after the other makes room for the longest alone. A refusal leaves any bytes.
+    fn read_into(&self, alloc: Global, path: &str, bytes: &mut Vec<u8>) -> Result<(), ReadFault>
+        ensures found { OnOk result (HasAt (world self.now) path.now (Some bytes.new.items)) }
+        ensures absent { IsErrOf result ReadFault.Absent → HasAt (world self.now) path.now None }
+        ensures device { IsErrOf result ReadFault.Device → may_fail self.now path.now }
+    {
+        *bytes = self.read(alloc, path)?;
+        Ok(())
+    }
 }

@@ -18,16 +18,21 @@ fn path_of(alloc: Global, path: &str) -> Result<Text, AllocError>
     Ok(Text::from_string(String::from_str(alloc, path)?))
 }
 
-/// The bytes of the file at a path.
-fn read_file<F: Files>(alloc: Global, files: &F, path: &str) -> Result<Vec<u8>, WantedFault>
-    ensures found { IfOk result (λ bytes. HasAt (F.world files.now) path.now (Some bytes.items)) }
+/// Puts the bytes of the file at a path in place of those that `bytes` has.
+fn read_file<F: Files>(
+    alloc: Global,
+    files: &F,
+    path: &str,
+    bytes: &mut Vec<u8>,
+) -> Result<(), WantedFault>
+    ensures found { OnOk result (HasAt (F.world files.now) path.now (Some bytes.new.items)) }
     ensures refused { (world : World) → F.world files.now ≡ Some world →
         IfErr result (MayStop world (F.may_fail files.now) (path.now ∷ [])) }
     ensures absent { (path : List ℕ) → IsErrOf result (WantedFault.Absent path) → HasAt (F.world files.now) path None }
     ensures device { (path : List ℕ) → IsErrOf result (WantedFault.Device path) → F.may_fail files.now path }
 {
-    match files.read(alloc, path) {
-        Ok(bytes) => Ok(bytes),
+    match files.read_into(alloc, path, bytes) {
+        Ok(()) => Ok(()),
         Err(ReadFault::Absent) => Err(WantedFault::Absent(path_of(alloc, path)?)),
         Err(ReadFault::Device) => Err(WantedFault::Device(path_of(alloc, path)?)),
         Err(ReadFault::Memory) => Err(WantedFault::Memory),
@@ -61,12 +66,13 @@ pub fn take_wanted<F: Files>(
     ensures absent { (path : List ℕ) → IsErrOf result (WantedFault.Absent path) → HasAt (F.world files.now) path None }
     ensures device { (path : List ℕ) → IsErrOf result (WantedFault.Device path) → F.may_fail files.now path }
 {
+    let mut bytes = Vec::new(alloc);
     for (i, row) in scan.wanted().iter().enumerate() {
         if state.is_taken(i) {
             continue;
         }
-        let bytes = read_file(alloc, files, row.path.as_str())?;
-        state.take(scan, i, &bytes)?;
+        read_file(alloc, files, row.path.as_str(), &mut bytes)?;
+        state.take(scan, i, bytes.as_slice())?;
     }
     Ok(())
 }

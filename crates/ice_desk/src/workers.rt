@@ -18,7 +18,7 @@ pub trait Gate {
     fn before_take(&self, worker: usize, i: usize);
 }
 
-/// Reads and takes a manifest, and marks it then; unless it was marked before.
+/// Reads and takes a manifest, and marks it then; unless it was marked before. `bytes` is the room that it is read into.
 fn serve<F: Files, G: Gate>(
     alloc: Global,
     files: &F,
@@ -29,6 +29,7 @@ fn serve<F: Files, G: Gate>(
     worker: usize,
     gate: &G,
     i: usize,
+    bytes: &mut Vec<u8>,
 ) -> Served
     requires seat { IsSeatOf desk.now seat.old }
     requires state { IsOf scan.now state.old }
@@ -44,8 +45,8 @@ fn serve<F: Files, G: Gate>(
     }
     gate.before_take(worker, i);
     let row = &scan.wanted()[i];
-    match files.read(alloc, row.path.as_str()) {
-        Ok(bytes) => match state.take(scan, i, &bytes) {
+    match files.read_into(alloc, row.path.as_str(), bytes) {
+        Ok(()) => match state.take(scan, i, bytes.as_slice()) {
             Ok(()) => {
                 desk.mark(seat, i);
                 Served::Taken
@@ -81,8 +82,11 @@ pub fn work<F: Files, G: Gate>(
         state.new result }
 {
     let mut left = Left::none();
+    let mut bytes = Vec::new(alloc);
     while let Claim::Index(i) = desk.claim(seat) {
-        let served = serve(alloc, files, scan, desk, seat, state, worker, gate, i);
+        let served = serve(
+            alloc, files, scan, desk, seat, state, worker, gate, i, &mut bytes,
+        );
         left.count(served);
     }
     left

@@ -59,4 +59,10 @@ impl<F: Files, P: Progress> Files for Watched<'_, F, P> {
         self.progress.file_read(bytes.len());
         Ok(bytes)
     }
+
+    fn read_into(&self, alloc: Global, path: &str, bytes: &mut Vec<u8>) -> Result<(), ReadFault> {
+        self.files.read_into(alloc, path, bytes)?;
+        self.progress.file_read(bytes.len());
+        Ok(())
+    }
 }

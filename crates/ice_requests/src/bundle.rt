@@ -139,12 +139,15 @@ impl Bundle {
     }
 }
 
-/// The same bytes.
-fn copy_of(alloc: Global, bytes: &[u8]) -> Result<Vec<u8>, ReadFault>
-    ensures ok { IfOk result (λ copied. copied.items ≡ bytes.now) }
+/// Puts these bytes in place of those that `bytes` has.
+fn copy_into(found: &[u8], bytes: &mut Vec<u8>) -> Result<(), ReadFault>
+    ensures ok { OnOk result (bytes.new.items ≡ found.now) }
     ensures err { IfErr result (λ e. e ≡ ReadFault.Memory) }
 {
-    bytes.to_vec(alloc).map_err(|_| ReadFault::Memory)
+    bytes.clear();
+    bytes
+        .extend_from_slice(found)
+        .map_err(|_| ReadFault::Memory)
 }
 
 impl Files for Bundle {
@@ -156,8 +159,14 @@ impl Files for Bundle {
     ghost may_fail = { λ files path. ⊥ };
 
     fn read(&self, alloc: Global, path: &str) -> Result<Vec<u8>, ReadFault> {
+        let mut bytes = Vec::new(alloc);
+        self.read_into(alloc, path, &mut bytes)?;
+        Ok(bytes)
+    }
+
+    fn read_into(&self, _alloc: Global, path: &str, bytes: &mut Vec<u8>) -> Result<(), ReadFault> {
         match self.files.get(path) {
-            Some(bytes) => copy_of(alloc, bytes),
+            Some(found) => copy_into(found, bytes),
             None => Err(ReadFault::Absent),
         }
     }

@@ -7,7 +7,7 @@ ghost use Rattle.ice_requests.specs.Folders.{Inside, IsNamed, climbs};
 mod placing;
 
 use crate::bundle::find_byte;
-use crate::input::{MOST_READS, read_all};
+use crate::input::{MOST_READS, read_all_into};
 use ice_desk::{Files, ReadFault};
 pub use placing::{CommitFolder, fill_file};
 use std::alloc::{AllocError, Global};
@@ -102,6 +102,12 @@ impl<H: std::rt::Files> Files for Folder<'_, H> {
     ghost may_fail = { λ _ _. Unit {0} };
 
     fn read(&self, alloc: Global, path: &str) -> Result<Vec<u8>, ReadFault> {
+        let mut bytes = Vec::new(alloc);
+        self.read_into(alloc, path, &mut bytes)?;
+        Ok(bytes)
+    }
+
+    fn read_into(&self, alloc: Global, path: &str, bytes: &mut Vec<u8>) -> Result<(), ReadFault> {
         let Ok(name) = file_name(alloc, self.folder, self.prefix, path) else {
             return Err(ReadFault::Memory);
         };
@@ -109,7 +115,7 @@ impl<H: std::rt::Files> Files for Folder<'_, H> {
             return Err(ReadFault::Absent);
         };
         match fs::open(self.host, name.as_str()) {
-            Ok(mut file) => read_all(alloc, &mut file, MOST_READS),
+            Ok(mut file) => read_all_into(alloc, &mut file, MOST_READS, bytes),
             Err(e) => Err(open_fault(&e)),
         }
     }

@@ -48,24 +48,24 @@ loop-i-preserved g c =
     record {
       of_scan = c.in_ok-take.ensures.of_scan;
       behind = rw add-one (ap (drop (suc i)) c.in_ok-take.ensures.ok ∙ took_behind scan c.loop-i.state scan.wanted i
-          c.deref.result.now ∙ behind_more _ _ i kept.behind);
+          c.as_slice.result.now ∙ behind_more _ _ i kept.behind);
       so_far = λ j m. ap (λ s. is_row_taken s j) c.in_ok-take.ensures.ok ∙ ⊎_elim
-          (λ l. taken_before scan c.loop-i.state scan.wanted i j c.deref.result.now (kept.so_far j l))
-          (λ e. ap (is_row_taken (took scan c.loop-i.state i c.deref.result.now)) e ∙ taken_here scan c.loop-i.state
-          scan.wanted i c.deref.result.now kept.of_scan (omega (arith, l, kept.of_scan)))
+          (λ l. taken_before scan c.loop-i.state scan.wanted i j c.as_slice.result.now (kept.so_far j l))
+          (λ e. ap (is_row_taken (took scan c.loop-i.state i c.as_slice.result.now)) e ∙ taken_here scan c.loop-i.state
+          scan.wanted i c.as_slice.result.now kept.of_scan (omega (arith, l, kept.of_scan)))
           (below_or_at j i m);
       taken = λ world ts told h.
-          let found = rw (told, c.as_str.ensures, ← c.deref.ensures.value) at c.in_ok-bytes.ensures.found in
+          let found = rw (told, c.as_str.ensures, ← c.as_slice.ensures.value) at c.in_ok-read_file.ensures.found in
           rw add-one (goes_on world scan c.take.new.self ts i (omega (arith, l, h.flags)) (c.in_ok-take.ensures.world
-          world _ (kept.taken world ts told h) (has_bytes world scan.wanted i row c.deref.result.now l here
+          world _ (kept.taken world ts told h) (has_bytes world scan.wanted i row c.as_slice.result.now l here
           found)));
       present = λ world told h.
-          let found = rw (told, c.as_str.ensures) at c.in_ok-bytes.ensures.found in
-          kept.present world told (rw next (has_next world row _ c.in_ok-bytes.bytes.items found (rw add-one at h)));
+          let found = rw (told, c.as_str.ensures, ← c.as_slice.ensures.value) at c.in_ok-read_file.ensures.found in
+          kept.present world told (rw next (has_next world row _ c.as_slice.result.now found (rw add-one at h)));
       ahead = λ world told e h.
-          let found = rw (told, c.as_str.ensures) at c.in_ok-bytes.ensures.found in
+          let found = rw (told, c.as_str.ensures, ← c.as_slice.ensures.value) at c.in_ok-read_file.ensures.found in
           kept.ahead world told e (rw next (stops_later world (g.F.Files.may_fail c.args.files.now) row.path
-          c.in_ok-bytes.bytes.items _ e found (rw add-one at h)));
+          c.as_slice.result.now _ e found (rw add-one at h)));
     }
 
 pub returns-clause-taken : goal.returns-clause-taken

@@ -11,13 +11,13 @@ returns-in-Ok-take-clause-served g c =
     let inside : c.args.i < length c.args.scan.now.wanted = omega (arith, c.requires.manifest, c.requires.desk) in
     let here = rw c.wanted.ensures at c.index-wanted-i.is in (
       c.mark.ensures.marked ∙ ap (λ v. marking v c.args.i) looked.0,
-      (c.deref.result.now, c.in-Ok-take.ensures.ok),
+      (c.as_slice.result.now, c.in-Ok-take.ensures.ok),
       λ world ts told h.
-          let found = rw (told, c.as_str.ensures, ← c.deref.ensures.value) at c.in-Ok.ensures.found in
+          let found = rw (told, c.as_str.ensures, ← c.as_slice.ensures.value) at c.in-Ok.ensures.found in
           record {
             flags = add_length ts c.args.i ∙ h.flags;
             is = c.in-Ok-take.ensures.world world ts h.is (has_bytes world c.args.scan.now.wanted c.args.i
-                c.index-wanted-i.result c.deref.result.now inside here found);
+                c.index-wanted-i.result c.as_slice.result.now inside here found);
           },
     )
 
