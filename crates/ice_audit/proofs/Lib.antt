@@ -5,3 +5,9 @@ pub mod Telltale
 pub mod Walks
 pub mod Counted
 pub mod Repeated
+pub mod Found
+pub mod Members
+pub mod Said
+pub mod Rising
+pub mod LastSaid
+pub mod ColumnsTold

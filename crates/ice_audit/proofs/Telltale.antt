@@ -7,7 +7,6 @@ use Rattle.ice_value.specs.declared.file_bounds.Summary.{Summary}
 use Rattle.ice_manifest_reading.specs.Laws.{HasACellForEach}
 use Rattle.ice_manifest_reading.specs.Manifests.{entries, live_of}
 use Rattle.std.specs.Prelude.{Ok}
-use Rattle.ice_manifest_reading.specs.declared.entry.Entry.{Entry}
 use Rattle.ice_manifest_reading.specs.declared.entry.Live.{Live}
 use Rattle.ice_manifest_reading.specs.declared.row.Row.{Row}
 use Rattle.ice_meta.specs.declared.spec.Spec.{Spec}
@@ -45,50 +44,50 @@ module _ (basis : Basis) (row : Row) (spec : Spec) (is : spec_of basis.specs row
   only other h = let same : Some spec ≡ Some other = sym is ∙ h in cc
 
   abbrev findings_in : List Live → List Finding
-  findings_in ls = live_findings basis row spec (entries ls)
+  findings_in ls = live_findings basis row spec ls
 
   -- of one entry
-  pub covered_one : (x : Entry) → length x.file.tuple ≡ length spec.fields
-      → uncovered (entry_findings basis row (row_limits spec row.partitions) x) ≡ []
-      → RowCovers basis.specs row x.file.tuple
-  covered_one x full h =
-      let covers = covered_where_none spec row.partitions x.file.tuple full
-      (told row x basis (row_limits spec row.partitions) h) in
-      λ other found. subst (λ (s : Spec). Covers s row.partitions x.file.tuple) (only other found) covers
+  pub covered_one : (l : Live) → length l.entry.file.tuple ≡ length spec.fields
+      → uncovered (entry_findings basis row (row_limits spec row.partitions) l) ≡ []
+      → RowCovers basis.specs row l.entry.file.tuple
+  covered_one l full h =
+      let covers = covered_where_none spec row.partitions l.entry.file.tuple full
+      (told row l basis (row_limits spec row.partitions) h) in
+      λ other found. subst (λ (s : Spec). Covers s row.partitions l.entry.file.tuple) (only other found) covers
 
-  pub none_of_one : (x : Entry) → RowCovers basis.specs row x.file.tuple
-      → uncovered (entry_findings basis row (row_limits spec row.partitions) x) ≡ []
-  none_of_one x h = told_back row x basis (row_limits spec row.partitions)
-      (none_where_covered spec row.partitions x.file.tuple (h spec is))
+  pub none_of_one : (l : Live) → RowCovers basis.specs row l.entry.file.tuple
+      → uncovered (entry_findings basis row (row_limits spec row.partitions) l) ≡ []
+  none_of_one l h = told_back row l basis (row_limits spec row.partitions)
+      (none_where_covered spec row.partitions l.entry.file.tuple (h spec is))
 
   covered_in : (ls : List Live) → AllByRecursion IsFull ls → uncovered (findings_in ls) ≡ []
       → AllByRecursion (λ (l : Live). RowCovers basis.specs row l.entry.file.tuple) ls
   covered_in [] full h = tt
   covered_in (l ∷ ls) full h =
-      let parts = none_of_both (entry_findings basis row (row_limits spec row.partitions) l.entry) (findings_in ls) h in
-      (covered_one l.entry full.0 parts.0, covered_in ls full.1 parts.1)
+      let parts = none_of_both (entry_findings basis row (row_limits spec row.partitions) l) (findings_in ls) h in
+      (covered_one l full.0 parts.0, covered_in ls full.1 parts.1)
 
   none_in : (ls : List Live) → AllByRecursion (λ (l : Live). RowCovers basis.specs row l.entry.file.tuple) ls
       → uncovered (findings_in ls) ≡ []
   none_in [] h = refl
   none_in (l ∷ ls) h =
-      none_of_all (entry_findings basis row (row_limits spec row.partitions) l.entry) (findings_in ls)
-      (none_of_one l.entry h.0) (none_in ls h.1)
+      none_of_all (entry_findings basis row (row_limits spec row.partitions) l) (findings_in ls)
+      (none_of_one l h.0) (none_in ls h.1)
 
 -- no finding says that a summary does not cover an entry just where the row's summaries cover all entries
 pub told_of_manifest : (full : HasACellForEach) (basis : Basis) (row : Row) (spec : Spec)
     → spec_of basis.specs row.spec_id ≡ Some spec → (bytes : List ℕ) (lives : List Live)
-    → live_of row spec bytes ≡ Ok lives → uncovered (manifest_findings basis row spec (entries lives)) ≡ []
+    → live_of row spec bytes ≡ Ok lives → uncovered (manifest_findings basis row spec lives) ≡ []
     → AllByRecursion (λ (l : Live). RowCovers basis.specs row l.entry.file.tuple) lives
 told_of_manifest full basis row spec is bytes lives has none = covered_in basis row spec is lives
     (each_at (IsFull basis row spec is) lives (λ l c. full row spec bytes lives l has c))
     (none_of_both (map (manifest_finding row) (count_flaws row (entries lives)))
-    (live_findings basis row spec (entries lives)) none).1
+    (live_findings basis row spec lives) none).1
 
 pub told_of_covered : (basis : Basis) (row : Row) (spec : Spec) → spec_of basis.specs row.spec_id ≡ Some spec
     → (lives : List Live) → AllByRecursion (λ (l : Live). RowCovers basis.specs row l.entry.file.tuple) lives
-    → uncovered (manifest_findings basis row spec (entries lives)) ≡ []
+    → uncovered (manifest_findings basis row spec lives) ≡ []
 told_of_covered basis row spec is lives covered =
     none_of_all (map (manifest_finding row) (count_flaws row (entries lives)))
-    (live_findings basis row spec (entries lives)) (no_counts row (entries lives))
+    (live_findings basis row spec lives) (no_counts row (entries lives))
     (none_in basis row spec is lives covered)

@@ -5,16 +5,21 @@ use Rattle.std.specs.Prelude.{pos}
 use Rattle.ice_value.specs.declared.file_content.FileContent.{FileContent}
 use Rattle.ice_value.specs.declared.file_content.FileContent.TheVariants.{Data, PositionDeletes, EqualityDeletes}
 use Rattle.ice_manifest_reading.specs.declared.entry.Entry.{Entry}
+use Rattle.ice_manifest_reading.specs.declared.entry.Live.{Live}
 use Rattle.ice_manifest_reading.specs.declared.row.Row.{Row}
+use Rattle.ice_value.specs.declared.file_bounds.FileBounds.{FileBounds}
 use Rattle.ice_audit.specs.declared.basis.Basis.{Basis}
+use Rattle.ice_audit.specs.declared.basis.TypedColumn.{TypedColumn}
 use Rattle.ice_audit.specs.declared.finding.Finding.{Finding}
 use Rattle.ice_audit.specs.declared.finding.Flaw.{Flaw}
 use Rattle.ice_audit.specs.declared.finding.Flaw.TheVariants.{Uncovered, BelowLeast, AboveLast, NoColumn}
-use Rattle.ice_audit.specs.declared.finding.Flaw.TheVariants.{LiveFiles, LiveRows}
+use Rattle.ice_audit.specs.declared.finding.Flaw.TheVariants.{LiveFiles, LiveRows, BoundsCross, ExcessNulls}
 use Rattle.ice_audit.specs.declared.limits.FieldLimits.{FieldLimits}
+use Rattle.ice_audit.specs.ColumnFlaws.{bounds_cross, column_flaws, columns_flaws, has_excess_nulls}
 use Rattle.ice_audit.specs.Coverage.{outside}
 use Rattle.ice_audit.specs.Counting.{count_flaws, is_borne_out, live_by_counts, rows_of}
-use Rattle.ice_audit.specs.Findings.{entry_findings, finding_of, manifest_finding, missing, missing_columns, missing_in}
+use Rattle.ice_audit.specs.Findings.{entry_findings, finding_of, flaws_by, manifest_finding, missing, missing_columns}
+use Rattle.ice_audit.specs.Findings.{missing_in}
 use Rattle.ice_audit.specs.Flaws.{flaw_where}
 use Rattle.ice_audit.specs.Repeats.{path_before, repeat_where, repeats, repeats_behind, repeats_in}
 use Rattle.ice_audit.specs.Telling.{is_uncovered, uncovered}
@@ -107,18 +112,45 @@ module _ (row : Row) (x : Entry) where
   rest basis = flaw_where (nat_lt x.sequence_number row.min_sequence_number) BelowLeast
       ++ (flaw_where (nat_lt basis.last x.sequence_number) AboveLast ++ missing_columns basis x)
 
-  pub told : (basis : Basis) (limits : List FieldLimits) → uncovered (entry_findings basis row limits x) ≡ []
+  one_column : (cross nulls : Bool) (id : ℤ)
+      → uncovered (found (flaw_where cross (BoundsCross id) ++ flaw_where nulls (ExcessNulls id))) ≡ []
+  one_column true true id = refl
+  one_column true false id = refl
+  one_column false true id = refl
+  one_column false false id = refl
+
+  said : (file : FileBounds) (columns : List TypedColumn) → uncovered (found (columns_flaws file columns)) ≡ []
+  said file [] = refl
+  said file (c ∷ cs) = none_in (column_flaws file c) (columns_flaws file cs)
+      (one_column (bounds_cross file c) (has_excess_nulls file c.id) c.id) (said file cs)
+
+  told_by : (basis : Basis) (limits : List FieldLimits) → uncovered (found (flaws_by basis row limits x)) ≡ []
       → outside limits x.file.tuple ≡ []
-  told basis limits h =
+  told_by basis limits h =
       let names = outside limits x.file.tuple in
       of_names names (none_of_both (found (map Uncovered names)) (found (rest basis))
       (ap uncovered (sym (found-append (map Uncovered names) (rest basis))) ∙ h)).0
 
-  pub told_back : (basis : Basis) (limits : List FieldLimits) → outside limits x.file.tuple ≡ []
-      → uncovered (entry_findings basis row limits x) ≡ []
-  told_back basis limits h =
+  told_back_by : (basis : Basis) (limits : List FieldLimits) → outside limits x.file.tuple ≡ []
+      → uncovered (found (flaws_by basis row limits x)) ≡ []
+  told_back_by basis limits h =
       let names = outside limits x.file.tuple in
       none_in (map Uncovered names) (rest basis) (of_names_back names h) (others basis)
+
+module _ (row : Row) (l : Live) where
+  pub told : (basis : Basis) (limits : List FieldLimits) → uncovered (entry_findings basis row limits l) ≡ []
+      → outside limits l.entry.file.tuple ≡ []
+  told basis limits h =
+      let flaws = flaws_by basis row limits l.entry in
+      let columns = columns_flaws l.bounds basis.typed in
+      told_by row l.entry basis limits (none_of_both (found row l.entry flaws) (found row l.entry columns)
+      (ap uncovered (sym (found-append row l.entry flaws columns)) ∙ h)).0
+
+  pub told_back : (basis : Basis) (limits : List FieldLimits) → outside limits l.entry.file.tuple ≡ []
+      → uncovered (entry_findings basis row limits l) ≡ []
+  told_back basis limits h =
+      none_in row l.entry (flaws_by basis row limits l.entry) (columns_flaws l.bounds basis.typed)
+      (told_back_by row l.entry basis limits h) (said row l.entry l.bounds basis.typed)
 
 -- ---- the findings on what a row counts
 

@@ -6,12 +6,15 @@ use Rattle.ice_value.specs.declared.file_content.FileContent.{FileContent}
 use Rattle.ice_value.specs.declared.file_content.FileContent.TheVariants.{EqualityDeletes}
 use Rattle.ice_meta.specs.declared.spec.Spec.{Spec}
 use Rattle.ice_manifest_reading.specs.declared.entry.Entry.{Entry}
+use Rattle.ice_manifest_reading.specs.declared.entry.Live.{Live}
 use Rattle.ice_manifest_reading.specs.declared.row.Row.{Row}
+use Rattle.ice_manifest_reading.specs.Manifests.{entries}
 use Rattle.ice_audit.specs.declared.basis.Basis.{Basis}
 use Rattle.ice_audit.specs.declared.finding.Finding.{Finding}
 use Rattle.ice_audit.specs.declared.finding.Flaw.{Flaw}
 use Rattle.ice_audit.specs.declared.finding.Flaw.TheVariants.{Uncovered, BelowLeast, AboveLast, NoColumn}
 use Rattle.ice_audit.specs.declared.limits.FieldLimits.{FieldLimits}
+use Rattle.ice_audit.specs.ColumnFlaws.{columns_flaws}
 use Rattle.ice_audit.specs.Counting.{count_flaws}
 use Rattle.ice_audit.specs.Coverage.{outside, row_limits}
 use Rattle.ice_audit.specs.Flaws.{flaw_where}
@@ -38,6 +41,10 @@ flaws_by basis row limits x = map Uncovered (outside limits x.file.tuple)
     ++ (flaw_where (nat_lt basis.last x.sequence_number) AboveLast
     ++ missing_columns basis x))
 
+-- the same, and then what is wrong with what the manifest says of the file's columns
+abbrev pub live_flaws : Basis → Row → List FieldLimits → Live → List Flaw
+live_flaws basis row limits l = flaws_by basis row limits l.entry ++ columns_flaws l.bounds basis.typed
+
 -- a finding on a live entry of a row's manifest, and one on the manifest
 abbrev pub finding_of : Row → Entry → Flaw → Finding
 finding_of row x flaw = record { manifest = row.path; file = Some x.file.path; flaw = flaw }
@@ -46,14 +53,14 @@ abbrev pub manifest_finding : Row → Flaw → Finding
 manifest_finding row flaw = record { manifest = row.path; file = None; flaw = flaw }
 
 -- the findings on a live entry of a row's manifest
-abbrev pub entry_findings : Basis → Row → List FieldLimits → Entry → List Finding
-entry_findings basis row limits x = map (finding_of row x) (flaws_by basis row limits x)
+abbrev pub entry_findings : Basis → Row → List FieldLimits → Live → List Finding
+entry_findings basis row limits l = map (finding_of row l.entry) (live_flaws basis row limits l)
 
 -- those on all of them, entry by entry
-abbrev pub live_findings : Basis → Row → Spec → List Entry → List Finding
-live_findings basis row spec entries = flat_map (entry_findings basis row (row_limits spec row.partitions)) entries
+abbrev pub live_findings : Basis → Row → Spec → List Live → List Finding
+live_findings basis row spec lives = flat_map (entry_findings basis row (row_limits spec row.partitions)) lives
 
 -- what is found of a row's manifest: first of what the row counts, then of the live entries
-abbrev pub manifest_findings : Basis → Row → Spec → List Entry → List Finding
-manifest_findings basis row spec entries =
-    map (manifest_finding row) (count_flaws row entries) ++ live_findings basis row spec entries
+abbrev pub manifest_findings : Basis → Row → Spec → List Live → List Finding
+manifest_findings basis row spec lives =
+    map (manifest_finding row) (count_flaws row (entries lives)) ++ live_findings basis row spec lives

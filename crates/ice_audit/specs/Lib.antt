@@ -1,6 +1,10 @@
 pub mod Coverage
 pub mod Flaws
+pub mod Ids
+pub mod ColumnFlaws
+pub mod ColumnsSaid
 pub mod Counting
 pub mod Findings
 pub mod Repeats
+pub mod Examining
 pub mod Telling

@@ -1,10 +1,11 @@
 -- Paths of live files that another live file has too.
-use Rattle.std.specs.Prelude.{Bool, List, [], ◌∷◌, ◌++◌, Some, if◌then◌else◌}
+use Rattle.std.specs.Prelude.{Bool, List, [], ◌∷◌, ◌++◌, map, Some, if◌then◌else◌}
 use Rattle.std.specs.Cmp.Lexicographic.{slice_cmp}
 use Rattle.std.specs.Ordering.{nat_cmp, is_lt}
 use Rattle.std.specs.Str.{bytes_eq}
 use Rattle.contract_words.specs.Sorting.{sorted}
 use Rattle.ice_manifest_reading.specs.declared.entry.Entry.{Entry}
+use Rattle.ice_manifest_reading.specs.declared.entry.Live.{Live}
 use Rattle.ice_manifest_reading.specs.declared.row.Row.{Row}
 use Rattle.ice_audit.specs.declared.finding.Finding.{Finding}
 use Rattle.ice_audit.specs.declared.finding.Flaw.TheVariants.{LiveTwice}
@@ -13,6 +14,9 @@ use Rattle.ice_audit.specs.declared.repeats.LiveFile.{LiveFile}
 -- the file of a live entry of a row's manifest
 abbrev pub live_file : Row → Entry → LiveFile
 live_file row x = record { path = x.file.path; manifest = row.path }
+
+abbrev pub live_files : Row → List Live → List LiveFile
+live_files row lives = map (λ (l : Live). live_file row l.entry) lives
 
 -- by their paths
 abbrev pub path_before : LiveFile → LiveFile → Bool

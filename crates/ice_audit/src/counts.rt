@@ -1,11 +1,13 @@
 //! Whether the live entries of a manifest bear out what the manifest list counts.
 
-ghost use Rattle.std.specs.Prelude.{◌≡◌, IfOk};
-ghost use Rattle.ice_audit.specs.Counting.{count_flaws, is_borne_out, live_by_counts, rows_of};
+ghost use Rattle.std.specs.Prelude.{◌≡◌, IfOk, length};
+ghost use Rattle.ice_audit.specs.Counting.{flaws_by_counts, is_borne_out, live_by_counts};
+ghost use Rattle.ice_audit.specs.Examining.{rows_examined};
 
+use crate::examined::Examined;
 use crate::finding::Flaw;
 use crate::flaws::push_where;
-use ice_manifest_reading::{EntryView, Row};
+use ice_manifest_reading::Row;
 use std::alloc::{AllocError, Global};
 
 fn widened(count: Option<i32>) -> Option<i64>
@@ -28,12 +30,12 @@ fn live_by_counts(added: Option<i64>, existing: Option<i64>) -> Option<i128>
 }
 
 /// The rows of the files, as the manifest says.
-fn rows_of(entries: &[EntryView<'_>]) -> i128
-    ensures { result ≡ rows_of entries.now }
+fn rows_of(entries: &[Examined]) -> i128
+    ensures { result ≡ rows_examined entries.now }
 {
     let mut rows: i128 = 0;
     'entries: for entry in entries {
-        rows += entry.lent().record_count as i128;
+        rows += entry.rows as i128;
     }
     rows
 }
@@ -48,12 +50,9 @@ fn is_borne_out(count: Option<i128>, number: i128) -> bool
 }
 
 /// Whether the list counts other live files, and other rows of them, than the manifest has.
-pub fn count_flaws(
-    alloc: Global,
-    row: &Row,
-    entries: &[EntryView<'_>],
-) -> Result<Vec<Flaw>, AllocError>
-    ensures { IfOk result (λ flaws. flaws.items ≡ count_flaws row.now entries.now) }
+pub fn count_flaws(alloc: Global, row: &Row, entries: &[Examined]) -> Result<Vec<Flaw>, AllocError>
+    ensures { IfOk result (λ flaws. flaws.items
+        ≡ flaws_by_counts row.now (length entries.now) (rows_examined entries.now)) }
 {
     let counts = row.counts;
     let mut flaws = Vec::new(alloc);

@@ -19,6 +19,10 @@ pub enum Flaw {
     LiveTwice,
     /// The file deletes by a column of this id, which the schema lacks.
     NoColumn(i32),
+    /// By its manifest, a column of the file has a lower bound that is above its upper one.
+    BoundsCross(i32),
+    /// By its manifest, a column of the file has more nulls than values, null ones among them.
+    ExcessNulls(i32),
 }
 
 /// A flaw, and where it was found.

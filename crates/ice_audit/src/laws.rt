@@ -1,15 +1,16 @@
 //! What the limits of partition values, and findings, come to.
 
-ghost use Rattle.std.specs.Prelude.{◌≡◌, ◌↔◌, ℕ, List, [], Some, Ok, length, true};
-ghost use Rattle.std.specs.List.{AllByRecursion, IsDistinct};
+ghost use Rattle.std.specs.Prelude.{◌≡◌, ◌↔◌, ℕ, ℤ, List, [], Some, Ok, length, true};
+ghost use Rattle.std.specs.List.{AllByRecursion, Contains, IsDistinct};
+ghost use Rattle.ice_audit.specs.ColumnFlaws.{bounds_cross, has_excess_nulls};
 ghost use Rattle.ice_audit.specs.Coverage.{allows, limits_of, outside, row_limits};
+ghost use Rattle.ice_audit.specs.Examining.{finding_at};
 ghost use Rattle.ice_audit.specs.Findings.{entry_findings, manifest_findings};
 ghost use Rattle.ice_audit.specs.Repeats.{has_path_of, repeats};
-ghost use Rattle.ice_audit.specs.Telling.{uncovered};
+ghost use Rattle.ice_audit.specs.Telling.{IsSaid, uncovered};
 ghost use Rattle.ice_audit.specs.declared.basis.Basis.{Basis};
 ghost use Rattle.ice_audit.specs.declared.repeats.LiveFile.{LiveFile};
-ghost use Rattle.ice_manifest_reading.specs.Manifests.{entries, live_of};
-ghost use Rattle.ice_manifest_reading.specs.declared.entry.Entry.{Entry};
+ghost use Rattle.ice_manifest_reading.specs.Manifests.{live_of};
 ghost use Rattle.ice_manifest_reading.specs.declared.entry.Live.{Live};
 ghost use Rattle.ice_manifest_reading.specs.declared.row.Row.{Row};
 ghost use Rattle.ice_meta.specs.declared.spec.PartitionField.{PartitionField};
@@ -21,6 +22,7 @@ ghost use Rattle.ice_state.specs.Specs.{spec_of};
 ghost use Rattle.ice_value.specs.declared.cell.Cell.{Cell};
 ghost use Rattle.ice_value.specs.declared.file_bounds.Summary.{Summary};
 
+use crate::finding::Flaw;
 use ice_manifest_reading::contents_fit;
 
 /// A field's limits allow just the values that its summary covers. So of an entry, which has a value for each field of
@@ -36,13 +38,13 @@ pub fn limits_tell_coverage()
 /// where the row's summaries do. And no finding on a row's manifest says so of any just where the row's summaries cover
 /// each of them.
 pub fn findings_tell_coverage()
-    ensures entry { (basis : Basis) (row : Row) (spec : Spec) (x : Entry) →
-        spec_of basis.specs row.spec_id ≡ Some spec → length x.file.tuple ≡ length spec.fields →
-        uncovered (entry_findings basis row (row_limits spec row.partitions) x) ≡ []
-        ↔ RowCovers basis.specs row x.file.tuple }
+    ensures entry { (basis : Basis) (row : Row) (spec : Spec) (l : Live) →
+        spec_of basis.specs row.spec_id ≡ Some spec → length l.entry.file.tuple ≡ length spec.fields →
+        uncovered (entry_findings basis row (row_limits spec row.partitions) l) ≡ []
+        ↔ RowCovers basis.specs row l.entry.file.tuple }
     ensures manifest { (basis : Basis) (row : Row) (spec : Spec) (bytes : List ℕ) (lives : List Live) →
         spec_of basis.specs row.spec_id ≡ Some spec → live_of row spec bytes ≡ Ok lives →
-        uncovered (manifest_findings basis row spec (entries lives)) ≡ []
+        uncovered (manifest_findings basis row spec lives) ≡ []
         ↔ AllByRecursion (λ (l : Live). RowCovers basis.specs row l.entry.file.tuple) lives }
 {
     contents_fit();
@@ -51,4 +53,15 @@ pub fn findings_tell_coverage()
 /// There is no finding that a path is live twice just where no live file has the path of another.
 pub fn repeats_tell_paths_apart()
     ensures { (files : List LiveFile) → repeats files ≡ [] ↔ IsDistinct has_path_of files }
+{}
+
+/// There is a finding that the bounds of a column cross just where a live entry of this file has, of a column of the
+/// schema, a lower bound above its upper one; and one of excess nulls just where it has more nulls than values.
+pub fn findings_tell_columns()
+    ensures bounds { (basis : Basis) (row : Row) (spec : Spec) (lives : List Live) (path : List ℕ) (column : ℤ) →
+        Contains (manifest_findings basis row spec lives) (finding_at row path (Flaw.BoundsCross column))
+        ↔ IsSaid bounds_cross basis.typed lives path column }
+    ensures nulls { (basis : Basis) (row : Row) (spec : Spec) (lives : List Live) (path : List ℕ) (column : ℤ) →
+        Contains (manifest_findings basis row spec lives) (finding_at row path (Flaw.ExcessNulls column))
+        ↔ IsSaid (λ file c. has_excess_nulls file c.id) basis.typed lives path column }
 {}

@@ -3,16 +3,21 @@
 #![tactic(auto)]
 
 mod basis;
+mod columns;
 mod counts;
 mod entries;
+mod examined;
 mod finding;
 mod flaws;
+mod ids;
 mod laws;
 mod limits;
 mod repeats;
 
-pub use basis::Basis;
-pub use entries::push_findings;
+pub use basis::{Basis, TypedColumn};
+pub use entries::audit_manifest;
 pub use finding::{Finding, Flaw};
-pub use laws::{findings_tell_coverage, limits_tell_coverage, repeats_tell_paths_apart};
-pub use repeats::{LiveFile, push_live, push_repeats};
+pub use laws::{
+    findings_tell_columns, findings_tell_coverage, limits_tell_coverage, repeats_tell_paths_apart,
+};
+pub use repeats::{LiveFile, push_repeats};

@@ -1,13 +1,12 @@
 //! Paths that are live more than once.
 
-ghost use Rattle.std.specs.Prelude.{◌≡◌, ◌++◌, OnOk, map};
+ghost use Rattle.std.specs.Prelude.{◌≡◌, ◌++◌, OnOk};
 ghost use Rattle.std.specs.Str.{bytes_eq};
 ghost use Rattle.contract_words.specs.Sorting.{sorted};
-ghost use Rattle.ice_audit.specs.Repeats.{live_file, path_before, repeat_where, repeats, repeats_in};
+ghost use Rattle.ice_audit.specs.Repeats.{path_before, repeat_where, repeats, repeats_in};
 
 use crate::finding::{Finding, Flaw};
 use contract_words::{Items, Text};
-use ice_manifest_reading::{EntryView, Row};
 use std::alloc::{AllocError, Global};
 
 /// A live file.
@@ -17,25 +16,6 @@ pub struct LiveFile {
     pub path: Items<u8>,
     /// The path of the manifest that has its entry.
     pub manifest: Text,
-}
-
-/// Puts the files of the live entries of a row's manifest last.
-pub fn push_live(
-    alloc: Global,
-    files: &mut Vec<LiveFile>,
-    row: &Row,
-    entries: &[EntryView<'_>],
-) -> Result<(), AllocError>
-    ensures { OnOk result (files.new.items ≡ files.old.items ++ map (live_file row.now) entries.now) }
-{
-    'entries: for entry in entries {
-        let entry = entry.lent();
-        files.push(LiveFile {
-            path: Items::from_vec(entry.path.to_vec(alloc)?),
-            manifest: row.path.copy(alloc)?,
-        })?;
-    }
-    Ok(())
 }
 
 /// Puts files in the order of their paths.

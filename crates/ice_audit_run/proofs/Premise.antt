@@ -1,17 +1,14 @@
 -- No finding says that a summary does not cover an entry just where the premise of the plan holds.
-use Rattle.std.proofs.Common.{◌≡◌, ℕ, List, [], ◌∷◌, ◌++◌, length, map, refl, sym, ap, ◌∙◌}
+use Rattle.std.proofs.Common.{◌≡◌, ℕ, List, [], ◌∷◌, ◌++◌, length, refl, sym, ap, ◌∙◌}
 use Rattle.std.proofs.Common.{Option, Some, None, option_map, subst, arith}
 use Rattle.std.specs.Prelude.{Result, Ok, Err}
 use Rattle.std.specs.List.{AllByRecursion}
-use Rattle.contract_words.specs.Outcome.{◌>>=◌}
 use Rattle.ice_audit.specs.declared.basis.Basis.{Basis}
 use Rattle.ice_audit.specs.declared.finding.Finding.{Finding}
 use Rattle.ice_audit.specs.Findings.{manifest_findings}
-use Rattle.ice_audit.specs.Repeats.{live_file, repeats}
-use Rattle.ice_manifest_fields.specs.declared.fault.ManifestFault.{ManifestFault}
+use Rattle.ice_audit.specs.Repeats.{live_files, repeats}
 use Rattle.ice_manifest_reading.specs.Laws.{HasACellForEach}
-use Rattle.ice_manifest_reading.specs.Manifests.{entries, entries_of, live_of}
-use Rattle.ice_manifest_reading.specs.declared.entry.Entry.{Entry}
+use Rattle.ice_manifest_reading.specs.Manifests.{live_of}
 use Rattle.ice_manifest_reading.specs.declared.entry.Live.{Live}
 use Rattle.ice_manifest_reading.specs.declared.row.Row.{Row}
 use Rattle.ice_meta.specs.declared.metadata.Target.{Target}
@@ -45,11 +42,6 @@ ok_in : {A E : Type 0} (of : E → RunFault) (r : Result A E) (x : A) → as_run
 ok_in of (Ok y) x h = cc
 ok_in of (Err e) x h = absurd cc
 
-lives_in : (r : Result (List Live) ManifestFault) (found : List Entry) → (r >>= λ ls. Ok (entries ls)) ≡ Ok found
-    → (ls : List Live) × (r ≡ Ok ls) × (found ≡ entries ls)
-lives_in (Ok ls) found h = (ls, refl, let same : entries ls ≡ found = cc in sym same)
-lives_in (Err e) found h = absurd cc
-
 -- ---- the manifest of a row
 
 pub record IsRowOf (world : World) (basis : Basis) (row : Row) (audit : Reading) : Type 0 where
@@ -59,32 +51,29 @@ pub record IsRowOf (world : World) (basis : Basis) (row : Row) (audit : Reading)
   pub spec_is : spec_of basis.specs row.spec_id ≡ Some spec
   pub bytes_are : world row.path ≡ Some bytes
   pub lives_are : live_of row spec bytes ≡ Ok lives
-  pub findings_are : audit.findings ≡ manifest_findings basis row spec (entries lives)
+  pub findings_are : audit.findings ≡ manifest_findings basis row spec lives
 
 row_of : (world : World) (basis : Basis) (row : Row) (audit : Reading) → row_audit world basis row ≡ Ok audit
     → IsRowOf world basis row audit
-unfolding row_audit entries_of
+unfolding row_audit
 row_of world basis row audit h =
     let one = steps (spec_for basis.specs row) _ audit h in
     let two = steps (file_in world row.path) _ audit one.2 in
-    let three = steps (as_run (of_manifest row.path) (entries_of row one.0 two.0)) _ audit two.2 in
-    let found = lives_in (live_of row one.0 two.0) three.0
-    (ok_in (of_manifest row.path) (entries_of row one.0 two.0) three.0 three.1) in
+    let three = steps (as_run (of_manifest row.path) (live_of row one.0 two.0)) _ audit two.2 in
     let here : record {
       manifests = 1;
       entries = length three.0;
       findings = manifest_findings basis row one.0 three.0;
-      live = map (live_file row) three.0;
+      live = live_files row three.0;
     } ≡ audit = cc three.2 in
     record {
       spec = one.0;
       bytes = two.0;
-      lives = found.0;
+      lives = three.0;
       spec_is = spec_there row (spec_of basis.specs row.spec_id) one.0 one.1;
       bytes_are = bytes_in world row.path two.0 two.1;
-      lives_are = found.1;
-      findings_are = sym (ap (λ (a : Reading). a.findings) here)
-          ∙ ap (λ (es : List Entry). manifest_findings basis row one.0 es) found.2;
+      lives_are = ok_in (of_manifest row.path) (live_of row one.0 two.0) three.0 three.1;
+      findings_are = sym (ap (λ (a : Reading). a.findings) here);
     }
 
 live_are : (world : World) (basis : Basis) (row : Row) (audit : Reading) (r : IsRowOf world basis row audit)

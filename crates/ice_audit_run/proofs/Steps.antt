@@ -1,7 +1,7 @@
 -- The steps of an audit, and why each of them may end the run.
 use Rattle.std.proofs.Common.{◌≡◌, ◌≢◌, ◌⊎◌, inl, inr, ℕ, ◌+◌, List, [], ◌∷◌, ◌++◌, length, refl, sym, ap, subst, ◌∙◌}
 use Rattle.std.proofs.Common.{Option, Some, None, arith, add_assoc, append_assoc, zero-add, ◌<◌, ◌≤◌}
-use Rattle.std.proofs.Common.{add-one, add-zero, drop, drop-cons, get_or, map}
+use Rattle.std.proofs.Common.{add-one, add-zero, drop, drop-cons, get_or}
 use Rattle.std.proofs.Math.ListN.{drop_of_length-le}
 use Rattle.std.proofs.lemmas.List.{append-nil}
 use Rattle.std.proofs.lemmas.Bool.{le-leb, lt-leb}
@@ -10,14 +10,14 @@ use Rattle.contract_words.specs.Outcome.{◌>>=◌}
 use Rattle.ice_audit.specs.declared.basis.Basis.{Basis}
 use Rattle.ice_audit.specs.declared.finding.Finding.{Finding}
 use Rattle.ice_audit.specs.Findings.{manifest_findings}
-use Rattle.ice_audit.specs.Repeats.{live_file}
+use Rattle.ice_audit.specs.Repeats.{live_files}
 use Rattle.ice_audit.specs.declared.repeats.LiveFile.{LiveFile}
 use Rattle.ice_desk.specs.Wanted.{paths_of}
 use Rattle.ice_desk.specs.Worlds.{EndsAt}
 use Rattle.ice_manifest_fields.specs.declared.fault.ManifestFault.{ManifestFault}
 use Rattle.ice_manifest_fields.specs.declared.fault.ManifestFault.TheVariants as manifest
-use Rattle.ice_manifest_reading.specs.Manifests.{entries_of}
-use Rattle.ice_manifest_reading.specs.declared.entry.Entry.{Entry}
+use Rattle.ice_manifest_reading.specs.Manifests.{live_of}
+use Rattle.ice_manifest_reading.specs.declared.entry.Live.{Live}
 use Rattle.ice_manifest_reading.specs.declared.row.Row.{Row}
 use Rattle.ice_meta.specs.declared.metadata.Target.{Target}
 use Rattle.ice_meta.specs.declared.spec.Spec.{Spec}
@@ -88,23 +88,23 @@ module _ (f : List ℕ → Type 0) (world : World) (basis : Basis) (row : Row) w
 
     module _ (bytes : List ℕ) (has : file_in world row.path ≡ Ok bytes) where
       pub no_entries : (e : RunFault)
-          → MayEnd (as_run (of_manifest row.path) (entries_of row spec bytes)) (λ _. ⊥) ⊥ e
+          → MayEnd (as_run (of_manifest row.path) (live_of row spec bytes)) (λ _. ⊥) ⊥ e
           → MayEnd (row_audit world basis row) at_row ⊥ e
       unfolding row_audit
       no_entries e h = then_ends at_row ⊥ (spec_for basis.specs row) _ spec e known
           (then_ends at_row ⊥ (file_in world row.path) _ bytes e has
-          (first_ends at_row ⊥ (λ _. ⊥) (as_run (of_manifest row.path) (entries_of row spec bytes)) _ e
+          (first_ends at_row ⊥ (λ _. ⊥) (as_run (of_manifest row.path) (live_of row spec bytes)) _ e
           (λ p m. absurd m) h))
 
-      pub row_there : (found : List Entry) → entries_of row spec bytes ≡ Ok found → row_audit world basis row
+      pub row_there : (lives : List Live) → live_of row spec bytes ≡ Ok lives → row_audit world basis row
           ≡ Ok (record {
             manifests = 1;
-            entries = length found;
-            findings = manifest_findings basis row spec found;
-            live = map (live_file row) found;
+            entries = length lives;
+            findings = manifest_findings basis row spec lives;
+            live = live_files row lives;
           })
       unfolding row_audit
-      row_there found is = rw (known, has, is) refl
+      row_there lives is = rw (known, has, is) refl
 
 -- ---- the manifests of all rows
 

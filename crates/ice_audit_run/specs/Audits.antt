@@ -1,15 +1,15 @@
 -- Audits of a snapshot: every manifest is read, also those that no filter wants.
 use Rattle.std.specs.Prelude.{ℕ, ◌+◌, List, [], ◌∷◌, ◌++◌, length, Option, Some, None, Result, Ok, Err}
-use Rattle.std.specs.Prelude.{◌&&◌, map, nat_le, if◌then◌else◌}
+use Rattle.std.specs.Prelude.{◌&&◌, nat_le, if◌then◌else◌}
 use Rattle.contract_words.specs.Outcome.{◌>>=◌}
 use Rattle.ice_audit.specs.declared.basis.Basis.{Basis}
 use Rattle.ice_audit.specs.Findings.{manifest_findings}
-use Rattle.ice_audit.specs.Repeats.{live_file, repeats}
+use Rattle.ice_audit.specs.Repeats.{live_files, repeats}
 use Rattle.ice_desk.specs.Wanted.{paths_of}
 use Rattle.ice_manifest_fields.specs.declared.fault.ManifestFault.{ManifestFault}
 use Rattle.ice_manifest_fields.specs.declared.fault.ManifestFault.TheVariants as manifest
 use Rattle.ice_manifest_reading.specs.declared.row.Row.{Row}
-use Rattle.ice_manifest_reading.specs.Manifests.{entries_of}
+use Rattle.ice_manifest_reading.specs.Manifests.{live_of}
 use Rattle.ice_meta.specs.declared.metadata.Target.{Target}
 use Rattle.ice_meta.specs.declared.spec.Spec.{Spec}
 use Rattle.ice_state.specs.Contents.{World}
@@ -59,12 +59,12 @@ unfoldable pub row_audit : World → Basis → Row → Result Reading RunFault
 row_audit world basis row = do
   spec ← spec_for basis.specs row
   bytes ← file_in world row.path
-  found ← as_run (of_manifest row.path) (entries_of row spec bytes)
+  lives ← as_run (of_manifest row.path) (live_of row spec bytes)
   Ok (record {
     manifests = 1;
-    entries = length found;
-    findings = manifest_findings basis row spec found;
-    live = map (live_file row) found;
+    entries = length lives;
+    findings = manifest_findings basis row spec lives;
+    live = live_files row lives;
   })
 
 -- what is read of the manifests of these rows, in their order, or the first refusal

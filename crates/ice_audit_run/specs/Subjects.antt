@@ -2,6 +2,7 @@
 use Rattle.std.specs.Prelude.{ℕ, ℤ, List, map, Result, Ok}
 use Rattle.contract_words.specs.Outcome.{◌>>=◌}
 use Rattle.ice_audit.specs.declared.basis.Basis.{Basis}
+use Rattle.ice_audit.specs.declared.basis.TypedColumn.{TypedColumn}
 use Rattle.ice_meta.specs.declared.metadata.Target.{Target}
 use Rattle.ice_meta.specs.declared.schema.Column.{Column}
 use Rattle.ice_meta.specs.declared.schema.Schema.{Schema}
@@ -16,10 +17,21 @@ use Rattle.ice_audit_run.specs.declared.subject.Subject.{Subject}
 abbrev pub column_ids : Schema → List ℤ
 column_ids schema = map (λ (c : Column). c.id) schema.columns
 
+-- the columns, with the types of their values
+abbrev pub typed_column : Column → TypedColumn
+typed_column c = record { id = c.id; column_type = c.column_type }
+
+abbrev pub typed_columns : Schema → List TypedColumn
+typed_columns schema = map typed_column schema.columns
+
 -- what a table's entries are held against, under a schema
 abbrev pub basis_of : Schema → Table → Basis
-basis_of schema table =
-    record { specs = bound_specs schema table; columns = column_ids schema; last = table.last_sequence_number }
+basis_of schema table = record {
+  specs = bound_specs schema table;
+  columns = column_ids schema;
+  typed = typed_columns schema;
+  last = table.last_sequence_number;
+}
 
 -- a snapshot of a table, or that it has none such
 unfoldable pub subject_in : Table → Target → Result Subject RunFault

@@ -4,7 +4,7 @@ use Rattle.std.specs.List.{flat_map}
 use Rattle.ice_audit.specs.declared.finding.Finding.{Finding}
 use Rattle.ice_audit.specs.declared.finding.Flaw.{Flaw}
 use Rattle.ice_audit.specs.declared.finding.Flaw.TheVariants.{LiveFiles, LiveRows, Uncovered, BelowLeast, AboveLast}
-use Rattle.ice_audit.specs.declared.finding.Flaw.TheVariants.{LiveTwice, NoColumn}
+use Rattle.ice_audit.specs.declared.finding.Flaw.TheVariants.{LiveTwice, NoColumn, BoundsCross, ExcessNulls}
 use Rattle.ice_print.specs.Pieces.{named_number, named_path, named_signed}
 use Rattle.ice_print.specs.Written.{Appends, AppendsFront}
 use Rattle.ice_text.specs.declared.fault.RunFault.{RunFault}
@@ -19,11 +19,15 @@ flaw_name BelowLeast = codes "below-least"
 flaw_name AboveLast = codes "above-last"
 flaw_name LiveTwice = codes "live-twice"
 flaw_name (NoColumn id) = codes "no-column"
+flaw_name (BoundsCross id) = codes "bounds-cross"
+flaw_name (ExcessNulls id) = codes "excess-nulls"
 
 -- the field or the column that it is about
 abbrev pub flaw_end : Flaw → List ℕ
 flaw_end (Uncovered field) = named_path (codes " field ") field
 flaw_end (NoColumn id) = named_signed (codes " column ") id
+flaw_end (BoundsCross id) = named_signed (codes " column ") id
+flaw_end (ExcessNulls id) = named_signed (codes " column ") id
 flaw_end LiveFiles = []
 flaw_end LiveRows = []
 flaw_end BelowLeast = []

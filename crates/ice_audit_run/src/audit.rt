@@ -9,9 +9,9 @@ ghost use Rattle.ice_desk.specs.Worlds.{EndsAt};
 ghost use Rattle.ice_state.specs.Contents.{World};
 ghost use Rattle.ice_text.specs.Reads.{MayEnd};
 
-use crate::manifests::{entries_in, spec_for};
+use crate::manifests::{audit_bytes, spec_for};
 use contract_words::Items;
-use ice_audit::{Basis, Finding, LiveFile, push_findings, push_live, push_repeats};
+use ice_audit::{Basis, Finding, LiveFile, push_repeats};
 use ice_desk::Files;
 use ice_manifest_reading::Row;
 use ice_text::{RunFault, read_file};
@@ -86,10 +86,8 @@ fn audit_row<F: Files>(
 {
     let spec = spec_for(basis.specs.as_slice(), row)?;
     let bytes = read_file(alloc, files, row.path.as_str())?;
-    let entries = entries_in(alloc, row, spec, &bytes)?;
-    push_findings(alloc, findings, basis, row, spec, &entries)?;
-    push_live(alloc, live, row, &entries)?;
-    Ok(entries.len())
+    let entries = audit_bytes(alloc, basis, row, spec, &bytes, findings, live)?;
+    Ok(entries)
 }
 
 /// What is read of the manifests of these rows, one after the other: of each nothing is kept but what was found and the

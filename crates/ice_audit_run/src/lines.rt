@@ -41,6 +41,8 @@ fn flaw_name(flaw: &Flaw) -> &'static [u8]
         Flaw::AboveLast => b"above-last",
         Flaw::LiveTwice => b"live-twice",
         Flaw::NoColumn(_) => b"no-column",
+        Flaw::BoundsCross(_) => b"bounds-cross",
+        Flaw::ExcessNulls(_) => b"excess-nulls",
     }
 }
 
@@ -50,6 +52,8 @@ fn push_flaw_end(text: &mut Vec<u8>, flaw: &Flaw) -> Result<(), AllocError>
     match flaw {
         Flaw::Uncovered(field) => push_path(text, b" field ", field.as_bytes()),
         Flaw::NoColumn(id) => push_int(text, b" column ", *id),
+        Flaw::BoundsCross(id) => push_int(text, b" column ", *id),
+        Flaw::ExcessNulls(id) => push_int(text, b" column ", *id),
         Flaw::LiveFiles | Flaw::LiveRows | Flaw::BelowLeast | Flaw::AboveLast | Flaw::LiveTwice =>
             Ok(()),
     }

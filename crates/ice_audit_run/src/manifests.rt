@@ -1,13 +1,18 @@
 //! The live entries of a row's manifest.
 
-ghost use Rattle.std.specs.Prelude.{◌≡◌, ◌≢◌, ◌⊎◌, Ok, Err, IfOk, IfErr, IsErrOf};
+ghost use Rattle.std.specs.Prelude.{◌≡◌, ◌≢◌, ◌⊎◌, ◌++◌, List, Ok, Err, IfOk, IfErr, IsErrOf, length};
 ghost use Rattle.std.specs.Option.{option_copied};
+ghost use Rattle.ice_audit.specs.Findings.{manifest_findings};
+ghost use Rattle.ice_audit.specs.Repeats.{live_files};
 ghost use Rattle.ice_audit_run.specs.Audits.{all_known, of_manifest, spec_for as spec_wanted};
-ghost use Rattle.ice_manifest_reading.specs.Manifests.{entries_of};
+ghost use Rattle.ice_manifest_reading.specs.Manifests.{live_of};
+ghost use Rattle.ice_manifest_reading.specs.declared.entry.Live.{Live};
 ghost use Rattle.ice_state.specs.Specs.{spec_of};
 ghost use Rattle.ice_text.specs.Reads.{MayEnd, as_run};
 
-use ice_manifest_reading::{EntryView, Everything, ManifestFault, Row, read_kept};
+use contract_words::Items;
+use ice_audit::{Basis, Finding, LiveFile, audit_manifest};
+use ice_manifest_reading::{ManifestFault, Row};
 use ice_meta::Spec;
 use ice_state::{FinishFault, ScanFault};
 use ice_text::RunFault;
@@ -56,20 +61,27 @@ fn refusal(alloc: Global, row: &Row, fault: ManifestFault) -> RunFault
     }
 }
 
-/// The live entries of the manifest of a row and its spec.
-pub fn entries_in<'d>(
+/// Puts the findings on the manifest of a row and its spec and the files of its live entries last, and gives the number
+/// of these.
+pub fn audit_bytes(
     alloc: Global,
+    basis: &Basis,
     row: &Row,
     spec: &Spec,
-    bytes: &'d [u8],
-) -> Result<Vec<EntryView<'d>>, RunFault>
-    ensures found { IfOk result (λ found. entries_of row.now spec.now bytes.now ≡ Ok found.items) }
-    ensures refused { IfErr result (MayEnd (as_run (of_manifest row.now.path) (entries_of row.now spec.now bytes.now))
+    bytes: &[u8],
+    findings: &mut Items<Finding>,
+    live: &mut Vec<LiveFile>,
+) -> Result<usize, RunFault>
+    ensures found { IfOk result (λ number. (lives : List Live) × (live_of row.now spec.now bytes.now ≡ Ok lives)
+        × (number ≡ length lives)
+        × (findings.new ≡ findings.old ++ manifest_findings basis.now row.now spec.now lives)
+        × (live.new.items ≡ live.old.items ++ live_files row.now lives)) }
+    ensures refused { IfErr result (MayEnd (as_run (of_manifest row.now.path) (live_of row.now spec.now bytes.now))
         (λ _. ⊥) ⊥) }
     ensures write { IsErrOf result RunFault.Write → ⊥ }
 {
-    match read_kept(alloc, row, spec, &Everything, bytes) {
-        Ok(found) => Ok(found),
+    match audit_manifest(alloc, basis, row, spec, bytes, findings, live) {
+        Ok(number) => Ok(number),
         Err(fault) => Err(refusal(alloc, row, fault)),
     }
 }

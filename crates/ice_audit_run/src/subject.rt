@@ -2,10 +2,10 @@
 
 ghost use Rattle.std.specs.Prelude.{◌≡◌, IfErr, IfOk};
 ghost use Rattle.contract_words.specs.Outcome.{Gives};
-ghost use Rattle.ice_audit_run.specs.Subjects.{IsOfMetadata, column_ids, subject_in, subject_of};
+ghost use Rattle.ice_audit_run.specs.Subjects.{IsOfMetadata, column_ids, subject_in, subject_of, typed_columns};
 
 use contract_words::{Items, Text};
-use ice_audit::Basis;
+use ice_audit::{Basis, TypedColumn};
 use ice_meta::{Metadata, Schema, Target};
 use ice_text::RunFault;
 use std::alloc::{AllocError, Global};
@@ -31,6 +31,21 @@ fn column_ids(alloc: Global, schema: &Schema) -> Result<Items<i32>, AllocError>
     Ok(ids)
 }
 
+/// A schema's columns, with the types of their values.
+fn typed_columns(alloc: Global, schema: &Schema) -> Result<Items<TypedColumn>, AllocError>
+    ensures { IfOk result (λ columns. columns ≡ typed_columns schema.now) }
+{
+    let columns = schema.columns.as_slice();
+    let mut typed = Items::new(alloc);
+    'columns: for column in columns {
+        typed.push(TypedColumn {
+            id: column.id,
+            column_type: column.column_type,
+        })?;
+    }
+    Ok(typed)
+}
+
 /// A snapshot of a table, with the schema that counts for it: the current one, or that of the snapshot itself for a tag
 /// and for a snapshot's id. The refusal is `Metadata` where there is no such snapshot; or `Memory`.
 #[tactic(auto, unfolding(crate::specs::Subjects::subject_in))]
@@ -43,6 +58,7 @@ fn subject_in(alloc: Global, metadata: &Metadata, target: &Target) -> Result<Sub
     let basis = Basis {
         specs: metadata.specs(alloc, schema)?,
         columns: column_ids(alloc, schema)?,
+        typed: typed_columns(alloc, schema)?,
         last: metadata.table().last_sequence_number,
     };
     Ok(Subject {

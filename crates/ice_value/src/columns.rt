@@ -79,6 +79,13 @@ impl<'a> ColumnCounts<'a> {
         }
     }
 
+    /// The columns' ids, each with its number of values, in the file's order.
+    pub fn pairs(&self) -> &[(i32, i64)]
+        ensures { counts_said result.now ≡ self.now }
+    {
+        self.pairs.as_slice()
+    }
+
     /// The number of values of the column.
     pub fn get(&self, column: i32) -> Option<i64>
         ensures { result ≡ count_of column self.now }
@@ -127,6 +134,13 @@ impl<'a, 'd> ColumnBounds<'a, 'd> {
         ColumnBounds {
             pairs: Pairs::Made(pairs),
         }
+    }
+
+    /// The columns' ids, each with its bound, in the file's order.
+    pub fn pairs(&self) -> &[(i32, &'d [u8])]
+        ensures { bounds_said result.now ≡ self.now }
+    {
+        self.pairs.as_slice()
     }
 
     /// The bytes of the column's bound.

@@ -3,7 +3,7 @@ use Rattle.ice_audit.proofs.laws.findings_tell_coverage.Goals as goal
 
 pub returns-clause-entry : goal.returns-clause-entry
 returns-clause-entry c =
-    λ basis row spec x is full. (covered_one basis row spec is x full, none_of_one basis row spec is x)
+    λ basis row spec l is full. (covered_one basis row spec is l full, none_of_one basis row spec is l)
 
 pub returns-clause-manifest : goal.returns-clause-manifest
 returns-clause-manifest c = λ basis row spec bytes lives is has. (

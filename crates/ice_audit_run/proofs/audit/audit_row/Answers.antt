@@ -1,7 +1,7 @@
-use Rattle.std.proofs.Common.{◌≡◌, ◌∙◌, ap, arith, length, refl, sym}
+use Rattle.std.proofs.Common.{◌∙◌, ap, refl, sym}
 use Rattle.std.specs.Prelude.{Ok, Some}
 use Rattle.std.proofs.lemmas.Result.{err_from_is_err_and}
-use Rattle.ice_manifest_reading.specs.Manifests.{entries_of}
+use Rattle.ice_manifest_reading.specs.Manifests.{live_of}
 use Rattle.ice_state.specs.Specs.{spec_of}
 use Rattle.ice_audit_run.proofs.AnyFiles.{given, manifest_stops, read_stops, spec_stops}
 use Rattle.ice_audit_run.proofs.Steps.{no_bytes, no_entries, no_spec, row_there}
@@ -37,14 +37,12 @@ returns-in_err-entries-clause-refused g c =
 pub returns-clause-found : goal.returns-clause-found
 returns-clause-found g c =
     let known = rw c.as_slice.ensures at c.in_ok-spec.ensures.ok in
-    let found = c.in_ok-entries.entries in
-    let count : length found.items ≡ c.len.result = omega (arith, c.len.ensures, found.ok) in
-    let put = rw c.deref-2.ensures.value at c.in_ok-push_findings.ensures in
+    let found = c.in_ok-entries.ensures.found in
     λ world told.
     let has = (rw c.as_str.ensures at (c.in_ok-bytes.ensures.found world told)) ∙ ap Ok (sym c.deref.ensures.value) in
     let is = row_there (g.F.Files.may_fail c.args.files.now) world c.args.basis.now c.args.row.now
-    c.in_ok-spec.spec.now known c.deref.result.now has found.items c.in_ok-entries.ensures.found in
-    (_, is, refl, count, put, rw c.deref-3.ensures.value at c.in_ok-push_live.ensures)
+    c.in_ok-spec.spec.now known c.deref.result.now has found.0 found.1 in
+    (_, is, refl, sym found.2, found.3, found.4)
 
 pub returns-in_err-spec-clause-stops : goal.returns-in_err-spec-clause-stops
 returns-in_err-spec-clause-stops g c =
@@ -69,17 +67,15 @@ returns-in_err-entries-clause-stops g c =
     let row = c.args.row.now in
     rw (p.1, p.2)
     (manifest_stops (g.F.Files.world c.args.files.now) (g.F.Files.may_fail c.args.files.now) row.path
-    (entries_of row c.in_ok-spec.spec.now c.deref.result.now) c.in_err-entries.field-0.0
+    (live_of row c.in_ok-spec.spec.now c.deref.result.now) c.in_err-entries.field-0.0
     c.in_err-entries.ensures.refused)
 
 pub returns-clause-read : goal.returns-clause-read
 returns-clause-read g c =
     let known = rw c.as_slice.ensures at c.in_ok-spec.ensures.ok in
-    let found = c.in_ok-entries.entries in
+    let found = c.in_ok-entries.ensures.found in
     let row = c.args.row.now in
     let bytes = c.deref.result.now in
-    let count : length found.items ≡ c.len.result = omega (arith, c.len.ensures, found.ok) in
-    let put = rw c.deref-2.ensures.value at c.in_ok-push_findings.ensures in
     let is = row_there (g.F.Files.may_fail c.args.files.now) (λ path. Some bytes) c.args.basis.now row
-    c.in_ok-spec.spec.now known bytes (given row.path bytes) found.items c.in_ok-entries.ensures.found in
-    (_, (bytes, is), refl, count, put, rw c.deref-3.ensures.value at c.in_ok-push_live.ensures)
+    c.in_ok-spec.spec.now known bytes (given row.path bytes) found.0 found.1 in
+    (_, (bytes, is), refl, sym found.2, found.3, found.4)

@@ -1,0 +1,16 @@
+use Rattle.std.proofs.Common.{List, subst, ◌∙◌}
+use Rattle.contract_words.specs.Outcome.{Gives}
+use Rattle.ice_manifest_fields.specs.declared.fault.ManifestFault.TheVariants.{Memory}
+use Rattle.ice_manifest_reading.specs.Manifests.{live_of}
+use Rattle.ice_manifest_reading.specs.Telling.{told_of}
+use Rattle.ice_audit.specs.Examining.{examined}
+use Rattle.ice_audit.specs.declared.limits.FieldLimits.{FieldLimits}
+use Rattle.ice_audit.proofs.examined.examine.Goals as goal
+
+pub returns : goal.returns
+returns c =
+    let row = c.args.row.now in
+    let read = live_of row c.args.spec.now c.args.bytes.now in
+    subst (λ (limits : List FieldLimits). Gives Memory (λ found. found.items) c.read_told.result
+    (told_of (examined c.args.basis.now row limits) read)) (c.as_slice-2.ensures.value ∙ c.in_ok-limits.ensures)
+    c.read_told.ensures
