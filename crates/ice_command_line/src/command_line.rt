@@ -3,6 +3,7 @@
 ghost use Rattle.std.specs.Prelude.{◌≡◌, map, string_bytes, IfErr};
 ghost use Rattle.ice_command_line.specs.CommandLines.{IsWordsFault, ReadAs, asks_first_list};
 
+use crate::explain_command::explain_command;
 use clap::builder::ValueParser;
 use clap::error::ErrorKind;
 use clap::{Arg, ArgAction, ArgGroup, ArgMatches, Command, Error, value_parser};
@@ -51,6 +52,8 @@ pub enum Words {
     Show(Source, Text),
     /// The audit, by so many workers, of this snapshot of the table whose metadata is at this path.
     Audit(Source, Target, usize, Text),
+    /// The plan, by so many workers, that is asked of the table whose metadata is at this path, explained.
+    Explain(Source, Request, usize, Text),
     /// A drill.
     Drill(Drill),
     /// A text of help, or the version.
@@ -192,7 +195,7 @@ read or a write failed, 4 there is a file at the metadata's path already, 5 memo
 standard error.";
 
 /// The options that say where files come from: just one of the two ways has to be taken.
-fn with_source<'a>(alloc: Global, command: Command<'a>) -> Result<Command<'a>, AllocError> {
+pub fn with_source<'a>(alloc: Global, command: Command<'a>) -> Result<Command<'a>, AllocError> {
     let bundle = Arg::new(alloc, "bundle")
         .long("bundle")
         .action(ArgAction::SetTrue)
@@ -223,7 +226,7 @@ fn with_source<'a>(alloc: Global, command: Command<'a>) -> Result<Command<'a>, A
 }
 
 /// The option that keeps a terminal from being shown what is read. It has no effect on what the words ask for.
-fn with_quiet<'a>(alloc: Global, command: Command<'a>) -> Result<Command<'a>, AllocError> {
+pub fn with_quiet<'a>(alloc: Global, command: Command<'a>) -> Result<Command<'a>, AllocError> {
     let quiet = Arg::new(alloc, "quiet")
         .long("quiet")
         .action(ArgAction::SetTrue)
@@ -267,7 +270,7 @@ fn with_target<'a>(
 }
 
 /// The options that say what is asked of a table.
-fn with_request<'a>(alloc: Global, command: Command<'a>) -> Result<Command<'a>, AllocError> {
+pub fn with_request<'a>(alloc: Global, command: Command<'a>) -> Result<Command<'a>, AllocError> {
     let command = with_target(
         alloc,
         command,
@@ -284,7 +287,7 @@ fn with_request<'a>(alloc: Global, command: Command<'a>) -> Result<Command<'a>, 
 }
 
 /// The option that says how many workers there are, with what they do.
-fn with_workers<'a>(
+pub fn with_workers<'a>(
     alloc: Global,
     command: Command<'a>,
     help: &'a str,
@@ -470,6 +473,7 @@ fn program<'a>(alloc: Global) -> Result<Command<'a>, AllocError> {
         .subcommand(row_delta_command(alloc)?)?
         .subcommand(show_command(alloc)?)?
         .subcommand(audit_command(alloc)?)?
+        .subcommand(explain_command(alloc)?)?
         .subcommand(drill_command(alloc)?)
 }
 
@@ -619,6 +623,16 @@ fn audit_words(alloc: Global, matches: &ArgMatches<'_>) -> Result<Words, AllocEr
     ))
 }
 
+/// The explanation that is asked for.
+fn explain_words(alloc: Global, matches: &ArgMatches<'_>) -> Result<Words, AllocError> {
+    Ok(Words::Explain(
+        source_of(alloc, matches)?,
+        request_of(alloc, matches)?,
+        workers_of(matches),
+        required_text(alloc, matches, "metadata")?,
+    ))
+}
+
 /// The commit that is asked for, and where its files are.
 fn commit_words(
     alloc: Global,
@@ -641,6 +655,7 @@ fn asked_of(alloc: Global, matches: &ArgMatches<'_>) -> Result<Words, RunFault>
         "plan" => Ok(plan_words(alloc, matches)?),
         "show" => Ok(show_words(alloc, matches)?),
         "audit" => Ok(audit_words(alloc, matches)?),
+        "explain" => Ok(explain_words(alloc, matches)?),
         "append" => commit_words(alloc, matches, ChangeKind::Append),
         "row-delta" => commit_words(alloc, matches, ChangeKind::RowDelta),
         "drill" => Ok(Words::Drill(drill_of(alloc, matches)?)),

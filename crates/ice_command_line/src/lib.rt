@@ -2,5 +2,6 @@
 #![tactic(auto)]
 
 mod command_line;
+mod explain_command;
 
 pub use command_line::{Lists, Place, Source, Words, parse_words};

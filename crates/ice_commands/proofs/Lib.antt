@@ -1,3 +1,4 @@
 pub mod Committed
 pub mod Hinted
 pub mod Refusals
+pub mod ExplainedLaws

@@ -7,6 +7,7 @@ use Rattle.contract_words.specs.Outcome.{◌>>=◌}
 use Rattle.ice_audit_run.specs.Audits.{audit_at}
 use Rattle.ice_audit_run.specs.Texts.{audit_text}
 use Rattle.ice_audit_run.specs.declared.audit.Audit.{Audit}
+use Rattle.ice_commands.specs.Explained.{explained_text}
 use Rattle.ice_meta.specs.declared.metadata.Target.{Target}
 use Rattle.ice_state.specs.Lines.{OwnedLine}
 use Rattle.ice_requests.specs.Bundles.{File, IsInput, bundle_of, bytes_at, first_path}
@@ -90,6 +91,8 @@ answer_to (words.Show source.Bundle path) input = Some (shown_text path input)
 answer_to (words.Show (source.Folder place) path) input = None
 answer_to (words.Audit source.Bundle target workers path) input = Some (audited_text path target workers input)
 answer_to (words.Audit (source.Folder place) target workers path) input = None
+answer_to (words.Explain source.Bundle request workers path) input = Some (explained_text path request workers input)
+answer_to (words.Explain (source.Folder place) request workers path) input = None
 answer_to (words.Drill asked) input = None
 answer_to (words.Text text) input = Some (Ok text)
 

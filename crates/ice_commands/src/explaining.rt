@@ -52,6 +52,13 @@ fn folder_of<'a, H: Files>(host: &'a H, asked: &'a Words) -> Option<Folder<'a, H
     Some(files_of(host, place))
 }
 
+/// Whether a hint stands behind the line of a fault.
+fn shows_hints(terminals: Terminals, words: &[String]) -> bool
+    ensures { result ≡ hints terminals.errors (map string_bytes words.now) }
+{
+    terminals.errors || asks_hints(words)
+}
+
 /// Writes the line of a fault and its hint, and gives the status that the program ends with.
 fn explain<H: Files, E: Sink>(
     host: &H,
@@ -186,7 +193,7 @@ where
 {
     if terminals.input && words.is_empty() {
         run_help(host, alloc, input, output, errors)
-    } else if terminals.errors || asks_hints(words) {
+    } else if shows_hints(terminals, words) {
         run_shown(
             host, alloc, terminals, words, progress, input, output, errors,
         )

@@ -4,6 +4,7 @@
 
 mod commit_lines;
 mod explaining;
+mod explanations;
 mod words;
 
 pub use explaining::{Terminals, run_program};

@@ -12,6 +12,7 @@ ghost use Rattle.ice_command_line.specs.declared.command_line.Words.{Words};
 ghost use Rattle.ice_text.specs.declared.fault.RunFault.{RunFault};
 
 use crate::commit_lines::commit_lines;
+use crate::explanations::explain;
 use contract_words::Text;
 use ice_audit_run::audit_file;
 use ice_command_line::{Lists, Place, Source, Words, parse_words};
@@ -281,6 +282,9 @@ where
         Words::Audit(source, target, workers, path) => audit(
             host, alloc, source, target, *workers, path, progress, input, output,
         ),
+        Words::Explain(source, request, workers, path) => no_findings(explain(
+            host, alloc, source, request, *workers, path, progress, input, output,
+        )),
         Words::Drill(asked) => no_findings(drill(host, alloc, *asked, output)),
         Words::Text(text) => no_findings(tell(text, output)),
     }

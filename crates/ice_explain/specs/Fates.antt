@@ -5,6 +5,7 @@ use Rattle.ice_value.specs.declared.file_content.FileContent.{FileContent}
 use Rattle.ice_value.specs.declared.file_content.FileContent.TheVariants as holds
 use Rattle.ice_project.specs.Files.{file_may}
 use Rattle.ice_project.specs.Tuples.{part_meets}
+use Rattle.ice_manifest_reading.specs.declared.entry.Entry.{Entry}
 use Rattle.ice_manifest_reading.specs.declared.entry.Live.{Live}
 use Rattle.ice_manifest_reading.specs.declared.row.Row.{Row}
 use Rattle.ice_state.specs.Pruning.{holds as holds_in, summaries_allow}
@@ -43,13 +44,17 @@ file_fate tests of_spec l =
     then (if is_out_of_bounds tests l then ByBounds (blamed_column tests.leaves l.bounds) else Kept)
     else ByPartition (blamed_field of_spec.lone (λ part. part_meets part l.entry.file.tuple))
 
-abbrev pub file_verdict : FilterTests → SpecTests → Live → Verdict
-file_verdict tests of_spec l = record {
-  path = l.entry.file.path;
-  bytes = l.entry.file.file_size;
-  subject = subject_of l.entry.file.content;
-  fate = file_fate tests of_spec l;
+-- the verdict on an entry's file of which this becomes
+abbrev pub verdict_on : Entry → Fate → Verdict
+verdict_on x fate = record {
+  path = x.file.path;
+  bytes = x.file.file_size;
+  subject = subject_of x.file.content;
+  fate = fate;
 }
+
+abbrev pub file_verdict : FilterTests → SpecTests → Live → Verdict
+file_verdict tests of_spec l = verdict_on l.entry (file_fate tests of_spec l)
 
 -- it is not left out
 abbrev pub is_kept : Fate → Bool

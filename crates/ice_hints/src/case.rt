@@ -17,6 +17,7 @@ pub fn place_of(asked: &Words) -> Option<&Place> {
         Words::Commit(Source::Folder(place), _) => Some(place),
         Words::Show(Source::Folder(place), _) => Some(place),
         Words::Audit(Source::Folder(place), _, _, _) => Some(place),
+        Words::Explain(Source::Folder(place), _, _, _) => Some(place),
         _ => None,
     }
 }
@@ -37,9 +38,10 @@ impl<'a, F: Files> Case<'a, F> {
     /// The path of the table's metadata.
     pub fn metadata_path(&self) -> Option<&'a str> {
         match self.asked {
-            Words::Plan(_, _, _, path) | Words::Show(_, path) | Words::Audit(_, _, _, path) => {
-                Some(path.as_str())
-            }
+            Words::Plan(_, _, _, path)
+            | Words::Show(_, path)
+            | Words::Audit(_, _, _, path)
+            | Words::Explain(_, _, _, path) => Some(path.as_str()),
             Words::Commit(_, request) => Some(request.metadata.as_str()),
             _ => None,
         }
@@ -48,7 +50,7 @@ impl<'a, F: Files> Case<'a, F> {
     /// The plan that is asked of the table.
     pub fn request(&self) -> Option<&'a Request> {
         match self.asked {
-            Words::Plan(_, request, _, _) => Some(request),
+            Words::Plan(_, request, _, _) | Words::Explain(_, request, _, _) => Some(request),
             _ => None,
         }
     }
@@ -56,7 +58,9 @@ impl<'a, F: Files> Case<'a, F> {
     /// The snapshot that is asked for.
     pub fn target(&self) -> Option<&'a Target> {
         match self.asked {
-            Words::Plan(_, request, _, _) => Some(&request.target),
+            Words::Plan(_, request, _, _) | Words::Explain(_, request, _, _) => {
+                Some(&request.target)
+            }
             Words::Audit(_, target, _, _) => Some(target),
             _ => None,
         }

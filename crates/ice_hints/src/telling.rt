@@ -81,7 +81,9 @@ fn add_workers<F: Files>(
     case: &Case<'_, F>,
 ) -> Result<(), AllocError> {
     match case.asked {
-        Words::Plan(_, _, workers, _) | Words::Audit(_, _, workers, _) => {
+        Words::Plan(_, _, workers, _)
+        | Words::Audit(_, _, workers, _)
+        | Words::Explain(_, _, workers, _) => {
             hint.here(alloc, format!(in alloc; "`--workers` is {workers}")?)
         }
         _ => Ok(()),

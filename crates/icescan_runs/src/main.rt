@@ -34,6 +34,8 @@
 //!   hyphens
 //! - audits: of `data/audits`, each table with the finding that it is named after; of the tables from before. What is
 //!   expected was computed by a program in another language, from what the tables were written with
+//! - explanations of plans of tables from before: with what is expected of `id = 42`, of filters of several leaves, of one
+//!   that is never met, as that program computed it from the files too
 //! - refusals with `--explain`, over `data/hints`, which `tools/refusals.py make` writes: below each line what it is
 //!   about and what to do
 #![tactic(auto)]

@@ -22,8 +22,8 @@ returns-then-is_empty-clause-run g c =
     (g.W.Sink.taken c.args.output.now) (g.W.Sink.taken c.run_help.new.output) (g.E.Sink.taken c.args.errors.now)
     (g.E.Sink.taken c.run_help.new.errors)) (sym helped) (with_hint _ _ _ _ _ _ _ _ _ c.run_help.ensures)
 
-pub returns-then-asks_hints-clause-run : goal.returns-then-asks_hints-clause-run
-returns-then-asks_hints-clause-run g c =
+pub returns-then-shows_hints-clause-run : goal.returns-then-shows_hints-clause-run
+returns-then-shows_hints-clause-run g c =
     let words = c.args.words.now in
     let input = c.args.terminals.input in
     let same : meant input (map string_bytes words) ≡ map string_bytes words = elim c.else-terminals.branch [
@@ -36,8 +36,8 @@ returns-then-asks_hints-clause-run g c =
     (g.W.Sink.taken c.args.output.now) (g.W.Sink.taken c.run_shown.new.output) (g.E.Sink.taken c.args.errors.now)
     (g.E.Sink.taken c.run_shown.new.errors)) (sym same) c.run_shown.ensures
 
-pub returns-else-asks_hints-clause-line : goal.returns-else-asks_hints-clause-line
-returns-else-asks_hints-clause-line g c =
+pub returns-else-shows_hints-clause-line : goal.returns-else-shows_hints-clause-line
+returns-else-shows_hints-clause-line g c =
     let words = c.args.words.now in
     let input = c.args.terminals.input in
     let same : meant input (map string_bytes words) ≡ map string_bytes words = elim c.else-terminals.branch [
@@ -50,8 +50,8 @@ returns-else-asks_hints-clause-line g c =
     (g.W.Sink.taken c.args.output.now) (g.W.Sink.taken c.run_words.new.output) (g.E.Sink.taken c.args.errors.now)
     (g.E.Sink.taken c.run_words.new.errors)) (sym same) c.run_words.ensures.run
 
-pub returns-else-asks_hints-clause-run : goal.returns-else-asks_hints-clause-run
-returns-else-asks_hints-clause-run g c =
+pub returns-else-shows_hints-clause-run : goal.returns-else-shows_hints-clause-run
+returns-else-shows_hints-clause-run g c =
     let words = c.args.words.now in
     let input = c.args.terminals.input in
     let same : meant input (map string_bytes words) ≡ map string_bytes words = elim c.else-terminals.branch [

@@ -52,6 +52,19 @@ returns-in-Show-clause-ran g c =
       c.no_findings-in-Show.ensures.none,
     )
 
+pub returns-in-Explain-clause-ran : goal.returns-in-Explain-clause-ran
+returns-in-Explain-clause-ran g c =
+    let asked : c.args.asked.now ≡ words.Explain c.in-Explain.source c.in-Explain.request c.in-Explain.workers
+    c.in-Explain.path = search rules in
+    let told = c.explain.ensures in
+    rw asked (
+      told.0,
+      told.1,
+      ran_as _ (g.W.Sink.may_fail c.args.output.now) c.explain.result c.no_findings-in-Explain.result _ _
+          c.no_findings-in-Explain.ensures.same told.2,
+      c.no_findings-in-Explain.ensures.none,
+    )
+
 pub returns-in-Drill-clause-ran : goal.returns-in-Drill-clause-ran
 returns-in-Drill-clause-ran g c =
     let left = g.R.Read.remaining c.args.input.now in

@@ -1,0 +1,10 @@
+pub mod Wanted
+pub mod Ends
+pub mod Times
+pub mod Counted
+pub mod Kept
+pub mod AnyKept
+pub mod Telling
+pub mod Planned
+pub mod Files
+pub mod Rows

@@ -1,0 +1,64 @@
+-- Which rows are wanted, and the filter through the spec of each.
+use Rattle.std.proofs.Common.{◌≡◌, ℕ, ℤ, Bool, true, false, cond, List, [], ◌∷◌, map, Option, None, Some, refl, sym, ap}
+use Rattle.std.proofs.Common.{◌∙◌, filter as filter_list}
+use Rattle.std.specs.Prelude.{Ok, option_map}
+use Rattle.std.specs.List.{find}
+use Rattle.std.specs.Ordering.{int_eq}
+use Rattle.ice_explain.specs.Asking.{filter_tests, spec_tests, tests_of}
+use Rattle.ice_explain.specs.declared.tests.FilterTests.{FilterTests}
+use Rattle.ice_explain.specs.declared.tests.SpecTests.{SpecTests}
+use Rattle.ice_explain.proofs.Scanned.{row_kept}
+use Rattle.ice_filter.specs.declared.bound.BoundLeaf.{BoundLeaf}
+use Rattle.ice_filter.specs.declared.parts.Part.{Part}
+use Rattle.ice_manifest_reading.specs.declared.row.Row.{Row}
+use Rattle.ice_meta.specs.declared.spec.Spec.{Spec}
+use Rattle.ice_state.specs.Pruning.{pruner_of}
+use Rattle.ice_state.specs.Scans.{Scanned, by_row_path, scan_of, wanted_rows}
+use Rattle.ice_state.specs.Specs.{spec_of}
+use Rattle.ice_state.proofs.Scans.{scan_made}
+use Rattle.ice_explain_run.specs.RowsTold.{AreFor, is_wanted, is_wanted_by}
+
+found_step : (filter : List (Part BoundLeaf)) (spec : Spec) (specs : List Spec) (id : ℤ) (b : Bool)
+    → find (λ (t : SpecTests). int_eq t.spec.id id) (map (spec_tests filter) specs)
+    ≡ option_map (spec_tests filter) (spec_of specs id)
+    → cond b (Some (spec_tests filter spec))
+    (find (λ (t : SpecTests). int_eq t.spec.id id) (map (spec_tests filter) specs))
+    ≡ option_map (spec_tests filter) (cond b (Some spec) (spec_of specs id))
+found_step filter spec specs id true rest = refl
+found_step filter spec specs id false rest = rest
+
+found_in : (filter : List (Part BoundLeaf)) (specs : List Spec) (id : ℤ)
+    → find (λ (t : SpecTests). int_eq t.spec.id id) (map (spec_tests filter) specs)
+    ≡ option_map (spec_tests filter) (spec_of specs id)
+found_in filter [] id = refl
+found_in filter (spec ∷ specs) id =
+    found_step filter spec specs id (int_eq spec.id id) (found_in filter specs id)
+
+module _ (specs : List Spec) (filter : List (Part BoundLeaf)) (columns : List (List ℕ)) where
+  abbrev tests : FilterTests
+  tests = filter_tests specs filter columns
+
+  pub of_id : (id : ℤ) → tests_of tests id ≡ option_map (spec_tests filter) (spec_of specs id)
+  of_id id = found_in filter specs id
+
+  same_wanted : (row : Row) (o : Option Spec) → spec_of specs row.spec_id ≡ o
+      → is_wanted_by (option_map (spec_tests filter) o) row ≡ (pruner_of filter specs).wants row
+  same_wanted row None h = rw h refl
+  same_wanted row (Some spec) h = row_kept specs filter spec row h
+
+  pub wanted_is : (row : Row) → is_wanted tests row ≡ (pruner_of filter specs).wants row
+  wanted_is row = ap (λ (o : Option SpecTests). is_wanted_by o row) (of_id row.spec_id)
+      ∙ same_wanted row (spec_of specs row.spec_id) refl
+
+  pub wanted_are : (rows : List Row) → filter_list (is_wanted tests) rows ≡ wanted_rows (pruner_of filter specs) rows
+  wanted_are [] = refl
+  wanted_are (row ∷ rows) = rw (wanted_is row, wanted_are rows) refl
+
+-- the wanted rows of a scan that the tests are for
+pub scan_wants : (by : FilterTests) (specs : List Spec) (filter : List (Part BoundLeaf)) (rows : List Row)
+    (scan : Scanned) → AreFor by specs filter → scan_of rows specs filter ≡ Ok scan
+    → scan.wanted ≡ filter_list (is_wanted by) (by_row_path rows)
+scan_wants by specs filter rows scan for is =
+    sym (ap (λ (s : Scanned). s.wanted) (scan_made rows specs filter scan is).1)
+    ∙ sym (wanted_are specs filter for.0 (by_row_path rows))
+    ∙ ap (λ (t : FilterTests). filter_list (is_wanted t) (by_row_path rows)) (sym for.1)
