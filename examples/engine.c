@@ -160,7 +160,7 @@ static void take_all(icescan_handle *scan, const struct table *table, size_t wan
     for (size_t w = 0; w < WORKERS; w++) {
         status = workers[w].status;
         if (status == ICESCAN_OK && w > 0)
-            status = icescan_state_merge(&workers[0].state, &workers[w].state);
+            status = icescan_state_absorb(&workers[0].state, &workers[w].state);
         if (status != ICESCAN_OK)
             tell(&workers[w].state, status);
     }

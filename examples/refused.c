@@ -60,6 +60,7 @@ static void nothing(const char *what, icescan_handle *none) {
     want(what, icescan_state_new(none, &other), ICESCAN_KIND);
     want(what, icescan_state_take(none, 0, text("x"), 1), ICESCAN_KIND);
     want(what, icescan_state_merge(none, &other), ICESCAN_KIND);
+    want(what, icescan_state_absorb(none, &other), ICESCAN_KIND);
     want(what, icescan_finish(none), ICESCAN_KIND);
     want(what, icescan_plan_count(none, &count), ICESCAN_KIND);
     want(what, icescan_plan_file(none, 0, &file), ICESCAN_KIND);
@@ -75,6 +76,7 @@ int main(int count, char **words) {
         return 2;
     struct file metadata = read_file(words[1]), list = read_file(words[2]), manifest = read_file(words[3]);
     icescan_handle scan = ICESCAN_NOTHING, state = ICESCAN_NOTHING, other = ICESCAN_NOTHING;
+    icescan_handle filtered = ICESCAN_NOTHING, another = ICESCAN_NOTHING;
     icescan_bytes path = ICESCAN_NO_BYTES;
     icescan_file file = ICESCAN_NO_FILE;
     size_t wanted = 0;
@@ -124,6 +126,15 @@ int main(int count, char **words) {
     want("a state is no scan", icescan_state_new(&state, &other), ICESCAN_KIND);
     want("taken", icescan_state_take(&state, 0, manifest.bytes, manifest.len), ICESCAN_OK);
     want("merged", icescan_state_merge(&state, &other), ICESCAN_OK);
+    want("filtered", icescan_scan_new(&filtered, metadata.bytes, metadata.len, NULL, 0, text("id = 42"), 7), ICESCAN_OK);
+    want("started", icescan_scan_start(&filtered, list.bytes, list.len), ICESCAN_OK);
+    want("its state", icescan_state_new(&filtered, &another), ICESCAN_OK);
+    want("of another scan", icescan_state_merge(&state, &another), ICESCAN_OTHER_SCAN);
+    want("of another scan", icescan_state_absorb(&state, &another), ICESCAN_OTHER_SCAN);
+    want("absorbed", icescan_state_take(&another, 0, manifest.bytes, manifest.len), ICESCAN_KIND);
+    want("a new state", icescan_state_new(&scan, &another), ICESCAN_OK);
+    want("absorbed", icescan_state_absorb(&state, &another), ICESCAN_OK);
+    want("absorbed once", icescan_state_absorb(&state, &another), ICESCAN_KIND);
     if (wanted > 1) {
         want("not all", icescan_finish(&state), ICESCAN_TABLE);
         want_line("not all", &state, "icescan: Z1 Missing");
@@ -139,6 +150,8 @@ int main(int count, char **words) {
     nothing("freed", &other);
     icescan_free(&scan);
     icescan_free(&state);
+    icescan_free(&filtered);
+    icescan_free(&another);
     free(metadata.bytes);
     free(list.bytes);
     free(manifest.bytes);

@@ -19,8 +19,8 @@
  *     icescan_free(&scan);
  *
  * Each call answers how it ended. Of one scan there may be many states, each in a thread of its own;
- * icescan_state_merge brings together what they took, in any order, and the plan is that of one state that took every
- * manifest.
+ * icescan_state_absorb and icescan_state_merge bring together what they took, in any order, and the plan is that of one
+ * state that took every manifest.
  *
  * Handles. A handle is ICESCAN_NOTHING before it is first handed in. The library alone writes it, and the caller never
  * copies it. It goes to one call at a time, and no call is given one handle twice. Another thread may have it once the
@@ -28,8 +28,8 @@
  * states, scan and plan in any order.
  *
  * What is lent by pointer and length is read only. It stays until the next call that changes what the handle holds:
- * icescan_free, icescan_scan_new, icescan_scan_new_at, icescan_scan_start, icescan_finish, and icescan_state_new on the
- * state's handle.
+ * icescan_free, icescan_scan_new, icescan_scan_new_at, icescan_scan_start, icescan_finish, icescan_state_absorb on the
+ * other's handle, and icescan_state_new on the state's handle.
  *
  * Bytes that are handed in are read during the call and never after it. The library can't tell whether they are there.
  *
@@ -54,14 +54,14 @@ extern "C" {
 /* How a call ended. */
 enum {
     ICESCAN_OK = 0,
-    ICESCAN_TABLE = 1,     /* the table is refused: icescan_fault tells why */
-    ICESCAN_ASKED = 2,     /* the filter is refused: icescan_fault tells why */
-    ICESCAN_MEMORY = 5,    /* memory ran out */
-    ICESCAN_KIND = 6,      /* the handle holds nothing of the kind that the call is for */
-    ICESCAN_PAST_END = 7,  /* there is no such number */
-    ICESCAN_ENCODING = 8,  /* a name or a filter is no UTF-8 */
-    ICESCAN_SIZES = 9,     /* the states are of scans that want different numbers of manifests */
-    ICESCAN_NULL = 10      /* there are to be bytes at NULL */
+    ICESCAN_TABLE = 1,      /* the table is refused: icescan_fault tells why */
+    ICESCAN_ASKED = 2,      /* the filter is refused: icescan_fault tells why */
+    ICESCAN_MEMORY = 5,     /* memory ran out */
+    ICESCAN_KIND = 6,       /* the handle holds nothing of the kind that the call is for */
+    ICESCAN_PAST_END = 7,   /* there is no such number */
+    ICESCAN_ENCODING = 8,   /* a name or a filter is no UTF-8 */
+    ICESCAN_OTHER_SCAN = 9, /* the states are of scans that want different manifests */
+    ICESCAN_NULL = 10       /* there are to be bytes at NULL */
 };
 
 /* A scan, a state, a plan, or the line of a fault. */
@@ -127,9 +127,14 @@ uint32_t icescan_state_new(icescan_handle *scan, icescan_handle *state);
  * read is taken too: icescan_finish tells it. A refusal leaves the state as it was. */
 uint32_t icescan_state_take(icescan_handle *state, size_t i, const uint8_t *manifest, size_t manifest_len);
 
-/* Takes over what another state of the same scan took, which stays as it is. A refusal leaves both as they were. That
- * the scans are the same is left to the caller; only how many manifests they want is compared. */
+/* Takes over what another state of the same scan took, which stays as it is. A refusal leaves both as they were.
+ * States are refused whose scans don't want the same rows of a manifest list; that their filters and partition specs are
+ * the same is left to the caller. */
 uint32_t icescan_state_merge(icescan_handle *state, icescan_handle *other);
+
+/* The same of a state that nobody needs any more: nothing of it is copied. The other handle holds nothing then, however
+ * the call ends; a refusal leaves the state as it was. */
+uint32_t icescan_state_absorb(icescan_handle *state, icescan_handle *other);
 
 /* Finishes a state: its handle holds the plan then; after ICESCAN_TABLE, as where a wanted manifest was not taken, and
  * after ICESCAN_MEMORY the line of the fault. */

@@ -1,6 +1,6 @@
 //! What a scan reads: the rows that it wants, and what they are read by.
 
-ghost use Rattle.std.specs.Prelude.{◌≡◌, ◌<◌, [], length, OnOk, Some, MatchResult, IfOk};
+ghost use Rattle.std.specs.Prelude.{◌≡◌, ◌<◌, ◌↔◌, [], length, OnOk, Some, MatchResult, IfOk, IsTrue};
 ghost use Rattle.contract_words.specs.Outcome.{Gives};
 ghost use Rattle.ice_state.specs.Parts.{spec_at, NamesFirst};
 ghost use Rattle.ice_state.specs.Pruning.{pruner_of};
@@ -61,6 +61,13 @@ impl Scan {
         ensures { result.now ≡ self.now.wanted }
     {
         &self.wanted
+    }
+
+    /// Whether the other scan wants the same rows.
+    pub fn wants_same_rows(&self, other: &Scan) -> bool
+        ensures { IsTrue result ↔ (self.now.wanted ≡ other.now.wanted) }
+    {
+        self.wanted == other.wanted
     }
 
     /// What the manifest of the wanted row `i` is read by.

@@ -22,10 +22,10 @@ pub record TakesRow (before : Kept) (i : ℕ) (manifest : List ℕ) (ended : Res
     pub past : IsErrOf ended refusal.PastEnd ↔ (length before.scan.wanted ≤ i)
     pub causes : OnErr ended ((ended ≡ Err refusal.PastEnd) ⊎ (ended ≡ Err refusal.Memory))
 
--- a state takes over what another took
+-- a state takes over what another of the same scan took
 pub record TakesOver (before other : Kept) (ended : Result Unit Refusal) (after : Kept) : Type 0 where
   pub scan : after.scan ≡ before.scan
   pub ok : OnOk ended (after.content ≡ join before.content other.content)
   pub err : OnErr ended (after.content ≡ before.content)
-  pub sizes : IsErrOf ended refusal.Sizes ↔ (length before.scan.wanted ≢ length other.scan.wanted)
-  pub causes : OnErr ended ((ended ≡ Err refusal.Sizes) ⊎ (ended ≡ Err refusal.Memory))
+  pub other_scan : IsErrOf ended refusal.OtherScan ↔ (before.scan.wanted ≢ other.scan.wanted)
+  pub causes : OnErr ended ((ended ≡ Err refusal.OtherScan) ⊎ (ended ≡ Err refusal.Memory))

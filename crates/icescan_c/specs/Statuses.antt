@@ -10,4 +10,4 @@ status_of (Err refusal.Memory) = 5
 status_of (Err refusal.Kind) = 6
 status_of (Err refusal.PastEnd) = 7
 status_of (Err refusal.Encoding) = 8
-status_of (Err refusal.Sizes) = 9
+status_of (Err refusal.OtherScan) = 9

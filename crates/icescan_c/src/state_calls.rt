@@ -1,6 +1,6 @@
 //! The calls on states.
 
-ghost use Rattle.std.specs.Prelude.{◌≡◌};
+ghost use Rattle.std.specs.Prelude.{◌≡◌, None};
 ghost use Rattle.icescan_c.specs.Calls.{Begins, BeginsOf, Finishes, Merges, MergesOf, OnHandle, Takes};
 
 use crate::handle::Handle;
@@ -78,6 +78,30 @@ pub extern "C" fn icescan_state_merge(alloc: Global, state: &mut Handle, other: 
     let ended = merge(alloc, state, &held);
     other.put(held);
     ended
+}
+
+/// Takes over what another state took, which nobody needs any more.
+fn absorb(alloc: Global, state: &mut Handle, other: Held) -> u32
+    ensures { OnHandle (Merges other) state.old.held result state.new.held }
+{
+    let Some(mut held) = state.take(alloc) else {
+        return status(Err(Refusal::Kind));
+    };
+    let ended = held.absorb(other);
+    state.put(held);
+    status(ended)
+}
+
+/// Takes over what another state of the same scan took. The other handle holds nothing then, however the call ends.
+#[unsafe(no_mangle)]
+pub extern "C" fn icescan_state_absorb(alloc: Global, state: &mut Handle, other: &mut Handle) -> u32
+    ensures emptied { other.new.held ≡ None }
+    ensures merged { MergesOf other.old.held state.old.held result state.new.held }
+{
+    match other.take(alloc) {
+        Some(held) => absorb(alloc, state, Box::into_inner(held)),
+        None => status(Err(Refusal::Kind)),
+    }
 }
 
 /// Finishes a state: the handle holds the plan then, or what keeps the state from being one.

@@ -89,15 +89,26 @@ impl State {
         Ok(())
     }
 
-    /// Takes over what another state of the same scan took: `Sizes` where it is one of a scan that wants another
-    /// number of manifests, or `Memory`, and then the state is as it was.
+    /// Takes over what another state of the same scan took: `OtherScan` where its scan wants other rows of a list, or
+    /// `Memory`, and then the state is as it was.
     pub fn merge(&mut self, other: &State) -> Result<(), Refusal>
         ensures { TakesOver self.old other.now result self.new }
     {
-        if self.scan.scan().wanted().len() != other.scan.scan().wanted().len() {
-            return Err(Refusal::Sizes);
+        if !self.scan.scan().wants_same_rows(other.scan.scan()) {
+            return Err(Refusal::OtherScan);
         }
         self.partial.merge(&other.partial)?;
+        Ok(())
+    }
+
+    /// The same as `merge`, of a state that nobody needs any more: none of its entries is copied.
+    pub fn absorb(&mut self, other: State) -> Result<(), Refusal>
+        ensures { TakesOver self.old other result self.new }
+    {
+        if !self.scan.scan().wants_same_rows(other.scan.scan()) {
+            return Err(Refusal::OtherScan);
+        }
+        self.partial.absorb(other.partial)?;
         Ok(())
     }
 

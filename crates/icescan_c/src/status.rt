@@ -19,8 +19,8 @@ pub enum Refusal {
     PastEnd,
     /// A text is no UTF-8.
     Encoding,
-    /// The states are of scans that want different numbers of manifests.
-    Sizes,
+    /// The states are of scans that want different rows.
+    OtherScan,
 }
 
 impl From<AllocError> for Refusal {
@@ -42,6 +42,6 @@ pub(crate) fn status(ended: Result<(), Refusal>) -> u32
         Err(Refusal::Kind) => 6,
         Err(Refusal::PastEnd) => 7,
         Err(Refusal::Encoding) => 8,
-        Err(Refusal::Sizes) => 9,
+        Err(Refusal::OtherScan) => 9,
     }
 }

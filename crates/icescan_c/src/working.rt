@@ -108,6 +108,19 @@ impl Held {
         }
     }
 
+    /// The same as `merge`, of a state that nobody needs any more.
+    pub fn absorb(&mut self, other: Held) -> Result<(), Refusal>
+        ensures { Merges other self.old result self.new }
+    {
+        let Held::State(other) = other else {
+            return Err(Refusal::Kind);
+        };
+        match self {
+            Held::State(state) => state.absorb(other),
+            _ => Err(Refusal::Kind),
+        }
+    }
+
     /// Holds the plan of what a state took, or the line of the fault. `Kind` where it held no state.
     pub fn finish(&mut self, alloc: Global) -> Result<(), Refusal>
         ensures { Finishes self.old result self.new }
