@@ -126,7 +126,7 @@ int main(int count, char **words) {
     want("a state is no scan", icescan_state_new(&state, &other), ICESCAN_KIND);
     want("taken", icescan_state_take(&state, 0, manifest.bytes, manifest.len), ICESCAN_OK);
     want("merged", icescan_state_merge(&state, &other), ICESCAN_OK);
-    want("filtered", icescan_scan_new(&filtered, metadata.bytes, metadata.len, NULL, 0, text("id = 42"), 7), ICESCAN_OK);
+    want("filtered", icescan_scan_new(&filtered, metadata.bytes, metadata.len, NULL, 0, text("ts < 0"), 6), ICESCAN_OK);
     want("started", icescan_scan_start(&filtered, list.bytes, list.len), ICESCAN_OK);
     want("its state", icescan_state_new(&filtered, &another), ICESCAN_OK);
     want("of another scan", icescan_state_merge(&state, &another), ICESCAN_OTHER_SCAN);
