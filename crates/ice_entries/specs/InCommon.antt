@@ -1,5 +1,5 @@
 -- What entries have in common.
-use Rattle.std.specs.Prelude.{◌≡◌, ℕ, ◌<◌, false, List, [], length, slice_index_or, pos}
+use Rattle.std.specs.Prelude.{◌≡◌, ℕ, ◌<◌, false, List, [], length, slice_index_or, None, pos}
 use Rattle.ice_value.specs.declared.file_content.FileContent.TheVariants.{Data}
 use Rattle.ice_manifest_reading.specs.declared.entry.Entry.{Entry}
 use Rattle.ice_entries.specs.declared.common.Common.{Common}
@@ -10,6 +10,7 @@ abbrev pub common_of : LentCommon → Common
 common_of c =
     record {
       content = c.content;
+      format = c.format;
       spec_id = c.spec_id;
       unpartitioned = c.unpartitioned;
       tuple = c.tuple.now;
@@ -21,15 +22,17 @@ abbrev pub common_in : Entry → Common
 common_in e =
     record {
       content = e.file.content;
+      format = e.file.format;
       spec_id = e.spec_id;
       unpartitioned = e.unpartitioned;
       tuple = e.file.tuple;
       equality_ids = e.file.equality_ids;
     }
 
--- the files are of one kind and one spec
+-- the files are of one kind, one format and one spec
 abbrev pub IsOfSpec : Common → Common → Type 0
 IsOfSpec a b = (a.spec_id ≡ b.spec_id) × (a.unpartitioned ≡ b.unpartitioned) × (a.content ≡ b.content)
+    × (a.format ≡ b.format)
 
 -- the partition values and the equality ids are the same
 abbrev pub HasListsOf : Common → Common → Type 0
@@ -41,7 +44,8 @@ AreOfPartition a b = (a.spec_id ≡ b.spec_id) × (a.tuple ≡ b.tuple)
 
 -- what no number stands for
 abbrev pub no_common : Common
-no_common = record { content = Data; spec_id = pos 0; unpartitioned = false; tuple = []; equality_ids = [] }
+no_common =
+    record { content = Data; format = None; spec_id = pos 0; unpartitioned = false; tuple = []; equality_ids = [] }
 
 abbrev pub common_at : List Common → ℕ → Common
 common_at commons n = slice_index_or commons n no_common

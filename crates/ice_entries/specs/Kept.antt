@@ -26,6 +26,7 @@ no_entry =
       file_sequence_number = None;
       file = record {
         content = Data;
+        format = None;
         path = [];
         tuple = [];
         record_count = pos 0;

@@ -23,6 +23,7 @@ entry_in shared row =
       file_sequence_number = origin.file_sequence_number;
       file = record {
         content = common.content;
+        format = common.format;
         path = row.0;
         tuple = common.tuple;
         record_count = row.1.record_count;

@@ -7,13 +7,14 @@ ghost use Rattle.ice_entries.specs.Alike.{AreOfKind};
 
 use contract_words::{Duplicate, Items};
 use ice_manifest_reading::LentEntry;
-use ice_value::{Cell, FileContent, is_same_tuple};
+use ice_value::{Cell, FileContent, FileFormat, is_same_tuple};
 use std::alloc::{AllocError, Global};
 
 /// What many entries have in common: those of a partition, say.
 #[derive(Drop)]
 pub(crate) struct Common {
     pub(crate) content: FileContent,
+    pub(crate) format: Option<FileFormat>,
     pub(crate) spec_id: i32,
     pub(crate) unpartitioned: bool,
     pub(crate) tuple: Items<Cell>,
@@ -24,6 +25,7 @@ pub(crate) struct Common {
 #[derive(Clone, Copy)]
 pub(crate) struct LentCommon<'a> {
     pub(crate) content: FileContent,
+    pub(crate) format: Option<FileFormat>,
     pub(crate) spec_id: i32,
     pub(crate) unpartitioned: bool,
     pub(crate) tuple: &'a [Cell],
@@ -37,6 +39,7 @@ impl Common {
     {
         LentCommon {
             content: self.content,
+            format: self.format,
             spec_id: self.spec_id,
             unpartitioned: self.unpartitioned,
             tuple: self.tuple.as_slice(),
@@ -44,13 +47,14 @@ impl Common {
         }
     }
 
-    /// Whether the files are of one kind and one spec.
+    /// Whether the files are of one kind, one format and one spec.
     fn is_of_spec(&self, wanted: &LentCommon<'_>) -> bool
         ensures { IsTrue result ↔ IsOfSpec self.now (common_of wanted.now) }
     {
         self.spec_id == wanted.spec_id
             && self.unpartitioned == wanted.unpartitioned
             && self.content == wanted.content
+            && self.format == wanted.format
     }
 
     /// Whether the files have the same partition values and equality ids.
@@ -91,6 +95,7 @@ impl<'a> LentCommon<'a> {
     {
         LentCommon {
             content: entry.content,
+            format: entry.format,
             spec_id: entry.spec_id,
             unpartitioned: entry.unpartitioned,
             tuple: entry.tuple,
@@ -104,6 +109,7 @@ impl<'a> LentCommon<'a> {
     {
         Ok(Common {
             content: self.content,
+            format: self.format,
             spec_id: self.spec_id,
             unpartitioned: self.unpartitioned,
             tuple: Items::from_vec(Cell::copy_slice(self.tuple, alloc)?),

@@ -46,6 +46,14 @@ impl Room {
         }
     }
 
+    /// For so many entries, of whose paths nothing is known.
+    pub fn of_entries(entries: usize) -> Room {
+        Room {
+            entries,
+            ..Room::none()
+        }
+    }
+
     /// For one more entry. Where more is asked than there can be, there is no more to ask for.
     fn with(self, entry: &LentEntry<'_>) -> Room {
         let named = entry.referenced.map_or(0, |path| path.len());
@@ -135,8 +143,8 @@ impl Entries {
         self.table.each_path_once();
     }
 
-    /// Keeps an entry, as a clash if its path is known.
-    fn add(&mut self, entry: &LentEntry<'_>) -> Result<EntryNumber, AllocError>
+    /// Keeps an entry, as a clash if its path is known. A refusal, for want of memory, forgets none that was kept.
+    pub fn add(&mut self, entry: &LentEntry<'_>) -> Result<EntryNumber, AllocError>
         requires { HasShortPaths entry.now }
         ensures keeps { Keeps self.old self.new }
         ensures kept { IfOk result (λ number. IsKept self.new number) }

@@ -114,6 +114,7 @@ impl Shared {
             sequence_number: origin.sequence_number,
             file_sequence_number: origin.file_sequence_number,
             content: common.content,
+            format: common.format,
             path,
             tuple: common.tuple.as_slice(),
             record_count: own.record_count,

@@ -3,7 +3,7 @@
 use crate::common::LentCommon;
 use crate::origin::Origin;
 use contract_words::Text;
-use ice_value::{Cell, FileContent};
+use ice_value::{Cell, FileContent, FileFormat};
 use std::alloc::AllocError;
 
 /// What can be spelled. Whoever finds one by its spelling has to compare it: that two have two spellings is true of
@@ -15,7 +15,11 @@ pub(crate) trait Spell {
 
 impl<'a> Spell for LentCommon<'a> {
     fn spell(&self, spelling: &mut Vec<u8>) -> Result<(), AllocError> {
-        spelling.extend_from_slice(&[code_of(self.content), self.unpartitioned as u8])?;
+        spelling.extend_from_slice(&[
+            code_of(self.content),
+            code_of_format(self.format),
+            self.unpartitioned as u8,
+        ])?;
         spelling.extend_from_slice(&self.spec_id.to_le_bytes())?;
         spelling.extend_from_slice(&self.equality_ids.len().to_le_bytes())?;
         spell_ids(spelling, self.equality_ids)?;
@@ -64,6 +68,15 @@ fn code_of(content: FileContent) -> u8 {
         FileContent::Data => 0,
         FileContent::PositionDeletes => 1,
         FileContent::EqualityDeletes => 2,
+    }
+}
+
+fn code_of_format(format: Option<FileFormat>) -> u8 {
+    match format {
+        None => 0,
+        Some(FileFormat::Avro) => 1,
+        Some(FileFormat::Orc) => 2,
+        Some(FileFormat::Parquet) => 3,
     }
 }
 

@@ -171,15 +171,15 @@ nth_cell (q ∷ ps) (suc k) p lt is = nth_cell ps k p (omega arith) is
 pub cell_shown : (f : FoundFile) (found : Option Found) (k : ℕ) (p : PartitionField) → IsFile f → HasTuple f
     → k < length f.entry.now.partition.now → p ≡ get_or f.entry.now.partition.now k p
     → ((v : Value) → Shows f.entry.now.object v
-    → IsMet found (pick (way_of f.entry.now.layout.now (17 + k)) (layout_tree f.entry.now.layout.now, v)))
+    → IsMet found (pick (way_of f.entry.now.layout.now (18 + k)) (layout_tree f.entry.now.layout.now, v)))
     → IsMet found (at p.field_id (tuple_seen f))
 unfolding tuple_seen
 cell_shown f found k p is tuple lt here finds =
     let ps = f.entry.now.partition.now in
     let front : List (List ℤ) = to_entries entry_fields ++ (to_files file_fields ++ pair_ids ∷ []) in
-    let number : nth_way (wanted_ways ps) (17 + k) ≡ to_cell p =
+    let number : nth_way (wanted_ways ps) (18 + k) ≡ to_cell p =
     nth_behind front (to_cells ps) k ∙ nth_cell ps k p lt here in
-    let few : 17 + k < length (wanted_ways ps) = omega (arith, length-map ps to_cell, lt) in
+    let few : 18 + k < length (wanted_ways ps) = omega (arith, length-map ps to_cell, lt) in
     let onward = picked_onward (pos 102) p.field_id [] (file_seen f) tuple.0 tuple.1 in
     subst (λ (met : Picked). IsMet found met) (onward ∙ ap (at p.field_id) (sym (ap record_met tuple.1)))
-    (file_shown f found (17 + k) (pos 102) (p.field_id ∷ []) is (few, number) finds)
+    (file_shown f found (18 + k) (pos 102) (p.field_id ∷ []) is (few, number) finds)

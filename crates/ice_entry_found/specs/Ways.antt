@@ -28,6 +28,7 @@ file_id file.LowerBounds = pos 125
 file_id file.UpperBounds = pos 128
 file_id file.EqualityIds = pos 135
 file_id file.ReferencedFile = pos 143
+file_id file.Format = pos 101
 
 -- the ids on the way to a field of the entry, to a field of its file, and to a partition value
 abbrev pub to_entry : EntryField → List ℤ
@@ -53,7 +54,8 @@ entry_fields = entry.Status ∷ entry.SnapshotId ∷ entry.SequenceNumber ∷ en
 
 abbrev pub file_fields : List FileField
 file_fields = file.Content ∷ file.Path ∷ file.Partition ∷ file.RecordCount ∷ file.FileSize ∷ file.ValueCounts
-    ∷ file.NullCounts ∷ file.LowerBounds ∷ file.UpperBounds ∷ file.EqualityIds ∷ file.ReferencedFile ∷ []
+    ∷ file.NullCounts ∷ file.LowerBounds ∷ file.UpperBounds ∷ file.EqualityIds ∷ file.ReferencedFile
+    ∷ file.Format ∷ []
 
 -- the fields of the pairs of a file's maps, which a guide keeps
 abbrev pub pair_ids : List ℤ

@@ -5,7 +5,7 @@ ghost use Rattle.ice_meta.specs.declared.spec.PartitionField.{PartitionField};
 ghost use Rattle.ice_entry_found.specs.Ways.{entry_id, file_id, to_entry, to_file, IsNumberOf};
 
 /// The partition values are read behind all fields of entries and files, and of pairs.
-pub(crate) const PARTITION_START: usize = 17;
+pub(crate) const PARTITION_START: usize = 18;
 
 /// A field of an entry.
 #[derive(Clone, Copy, Debug, PartialEq, Eq)]
@@ -31,6 +31,7 @@ pub enum FileField {
     UpperBounds,
     EqualityIds,
     ReferencedFile,
+    Format,
 }
 
 impl EntryField {
@@ -78,6 +79,7 @@ impl FileField {
             FileField::UpperBounds => 128,
             FileField::EqualityIds => 135,
             FileField::ReferencedFile => 143,
+            FileField::Format => 101,
         }
     }
 
@@ -97,6 +99,7 @@ impl FileField {
             FileField::UpperBounds => 13,
             FileField::EqualityIds => 14,
             FileField::ReferencedFile => 15,
+            FileField::Format => 16,
         }
     }
 }

@@ -92,6 +92,7 @@ fn field_ways(alloc: Global) -> Result<Vec<Vec<i32>>, AllocError>
     push_file_way(alloc, FileField::UpperBounds, &mut ways)?;
     push_file_way(alloc, FileField::EqualityIds, &mut ways)?;
     push_file_way(alloc, FileField::ReferencedFile, &mut ways)?;
+    push_file_way(alloc, FileField::Format, &mut ways)?;
     push_way(alloc, &PAIR_IDS, &mut ways)?;
     Ok(ways)
 }

@@ -13,6 +13,7 @@ use Rattle.avro_schema.specs.declared.schema.ArrayKind.TheVariants as stands_for
 use Rattle.avro_file.specs.Value.{Value, Values, small, text, fields, value, values_of}
 use Rattle.avro_file.specs.Files.{opened_at, reader_of}
 use Rattle.avro_file.specs.Picking.{Typed, pick}
+use Rattle.ice_value.specs.Formats.{format_named}
 use Rattle.ice_value.specs.declared.cell.Cell.{Cell}
 use Rattle.ice_value.specs.declared.cell.Cell.TheVariants as cell
 use Rattle.ice_value.specs.declared.column_type.ColumnType.{ColumnType}
@@ -238,6 +239,7 @@ file_says : (of_row : ManifestContent) (h : Heading) (f : NewFile) → of_row �
           h.types f,
     ) (record {
       content = f.content;
+      format = format_named f.format;
       path = f.path;
       tuple = f.tuple;
       record_count = f.record_count;
@@ -251,6 +253,7 @@ file_says of_row h f same heading new fit =
     let may : MayHold of_row f.content = subst (λ (c : ManifestContent). MayHold c f.content) (sym same) new.content in
     record {
       content = rw (content_within (pos 134) f.content) (content_again of_row f.content may);
+      format = refl;
       path = rw short refl;
       tuple = tuple_again (naming_of h.spec.fields) h.spec.fields h.types f heading.typed heading.different new.tuple;
       record_count = refl;

@@ -7,6 +7,7 @@ use Rattle.serde_json.specs.Data.{Data, Items}
 use Rattle.serde_json.specs.Written.{compact_text}
 use Rattle.avro_file.specs.Header.{Property}
 use Rattle.avro_file.specs.Writing.{in_order, file_bytes}
+use Rattle.ice_value.specs.Formats.{format_named}
 use Rattle.ice_meta.specs.declared.spec.PartitionField.{PartitionField}
 use Rattle.ice_meta.specs.declared.spec.Spec.{Spec}
 use Rattle.ice_meta.specs.Partitioning.{is_unpartitioned}
@@ -93,6 +94,7 @@ new_entry row h position f = record {
   file_sequence_number = Some row.sequence_number;
   file = record {
     content = f.content;
+    format = format_named f.format;
     path = f.path;
     tuple = f.tuple;
     record_count = f.record_count;

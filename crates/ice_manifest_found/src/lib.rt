@@ -16,7 +16,7 @@ mod standing;
 
 pub use field::{int_asked, long_asked, optional_number, optional_path, path_asked};
 pub use items::{ItemsAhead, items_of};
-pub use leaf::{binary, truth, whole, whole_there};
+pub use leaf::{binary, text, truth, whole, whole_there};
 pub use list::ints;
 pub use maps::{FoundMaps, ReadMaps};
 pub use pairs::push_way;

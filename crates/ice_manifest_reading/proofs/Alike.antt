@@ -175,6 +175,7 @@ file_alike of_row ps x y s =
     rw (content_alike of_row ps x y s)
     (then_alike_at (content_at of_row y) _ _ (λ content is.
     rw (
+      s.format,
       s.path,
       tuple_alike ps x y s.tuple,
       s.record_count,

@@ -1,5 +1,5 @@
 -- What live entries give that are read one after the other.
-use Rattle.std.proofs.Common.{◌≡◌, ℕ, ◌+◌, Bool, true, false, List, [], ◌∷◌, ◌++◌, map, filter, Option, Some, Result, Ok}
+use Rattle.std.proofs.Common.{◌≡◌, ℕ, ◌+◌, Bool, true, false, List, [], ◌∷◌, ◌++◌, map, Option, Some, Result, Ok}
 use Rattle.std.proofs.Common.{Err, refl, sym, ap, ◌∙◌}
 use Rattle.std.specs.List.{flat_map}
 use Rattle.contract_words.specs.Outcome.{◌>>=◌}
@@ -15,7 +15,7 @@ use Rattle.ice_manifest_reading.specs.declared.row.Row.{Row}
 use Rattle.ice_manifest_reading.specs.declared.entry.Entry.{Entry}
 use Rattle.ice_manifest_reading.specs.declared.entry.Live.{Live}
 use Rattle.ice_manifest_fields.specs.Naming.{in_manifest}
-use Rattle.ice_manifest_reading.specs.Collecting.{given_of, given_behind}
+use Rattle.ice_manifest_reading.specs.Collecting.{given_of, given_behind, if_kept, behind}
 use Rattle.ice_manifest_reading.specs.Manifests.{says_entry, kept, entries_ahead, entries_kept, kept_of}
 use Rattle.ice_manifest_reading.specs.Telling.{told_of}
 use Rattle.ice_manifest_fields.proofs.Joining.{joined, joined_err, joined_end}
@@ -138,3 +138,22 @@ pub told_given : {T : Type 0} (tells : Live → T) (read : Result (List Live) Ma
     → given_of (λ l. tells l ∷ []) read ≡ told_of tells read
 told_given {T} tells (Ok found) = ap Ok (each_told tells found)
 told_given {T} tells (Err f) = refl
+
+-- an entry is gathered if it is kept
+pub kept_if : (keeps : Live → Bool) (l : Live) (b : Bool) → b ≡ keeps l
+    → if_kept b l.entry ≡ entries_kept keeps (l ∷ [])
+kept_if keeps l true h = rw (sym h) refl
+kept_if keeps l false h = rw (sym h) refl
+
+-- ---- what is read behind what was there before
+
+pub behind_is : {X : Type 0} (front : List X) (read : Result (List X) ManifestFault)
+    → behind front read ≡ joined front read
+behind_is {X} front (Ok xs) = sym (joined_ok front xs)
+behind_is {X} front (Err f) = sym (joined_err front f)
+
+pub behind_none : {X : Type 0} (front : List X) (read found : Result (List X) ManifestFault) → front ≡ []
+    → behind front read ≡ found → read ≡ found
+behind_none {X} [] (Ok xs) found none is = is
+behind_none {X} [] (Err f) found none is = is
+behind_none {X} (x ∷ xs) read found none is = absurd cc

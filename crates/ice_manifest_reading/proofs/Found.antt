@@ -41,12 +41,12 @@ pub shown_next : (now new : Ahead) (o : Object) → Next Shows now (Ok (Some o))
 shown_next (running vs ending) new o h = (h.0, h.2)
 shown_next (refusing f) new o h = absurd (cc (h.0))
 
-seen_is : (e : FoundEntry) (s : Tree) → tree e.object.schema.now ≡ s → is_structure s ≡ true
+pub seen_is : (e : FoundEntry) (s : Tree) → tree e.object.schema.now ≡ s → is_structure s ≡ true
     → entry_seen e ≡ (structure (fields_in s), (entry_seen e).1)
 unfolding entry_seen
 seen_is e s same record_is = ap (λ (t : Tree). (t, (entry_seen e).1)) (same ∙ structure_is s record_is)
 
-value_is : (e : FoundEntry) → Is e.object (entry_seen e).1
+pub value_is : (e : FoundEntry) → Is e.object (entry_seen e).1
 value_is e = λ v is. ap (λ (x : Typed). x.1) (entry_is e v is)
 
 pub entry_given : {X : Type 0} (gives : Live → List X) (row : Row) (spec : Spec) (s : Tree) (k : ℕ) (front found : List X)

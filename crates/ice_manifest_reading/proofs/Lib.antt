@@ -21,3 +21,4 @@ pub mod Found
 pub mod FoundRows
 pub mod SummariesSaid
 pub mod Guided
+pub mod Counting

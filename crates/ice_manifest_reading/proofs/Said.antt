@@ -15,6 +15,7 @@ use Rattle.ice_value.specs.declared.file_bounds.FileBounds.{FileBounds}
 use Rattle.ice_meta.specs.declared.spec.PartitionField.{PartitionField}
 use Rattle.ice_meta.specs.Partitioning.{is_unpartitioned}
 use Rattle.ice_value.specs.declared.file_content.FileContent.{FileContent}
+use Rattle.ice_value.specs.declared.file_format.FileFormat.{FileFormat}
 use Rattle.ice_meta.specs.declared.spec.Spec.{Spec}
 use Rattle.ice_manifest_fields.specs.declared.fault.ManifestFault.{ManifestFault}
 use Rattle.ice_manifest_reading.specs.declared.counts.Counts.{Counts}
@@ -35,7 +36,7 @@ use Rattle.ice_manifest_reading.specs.Lists as Lists
 use Rattle.ice_manifest_reading.specs.Lists.{row_of, counts_at, summaries_in, says_row}
 use Rattle.ice_manifest_reading.specs.Manifests.{content_at, file_of, status_at, snapshot_at}
 use Rattle.ice_manifest_reading.specs.Manifests.{sequence_at, file_sequence_at, live_at, unless_deleted, entry_of}
-use Rattle.ice_manifest_reading.specs.Manifests.{referenced_at, says_entry}
+use Rattle.ice_manifest_reading.specs.Manifests.{format_at, referenced_at, says_entry}
 use Rattle.ice_manifest_reading.specs.Laws.{SaysRow, SaysFile, SaysLive, SaysEntry, SayRows, SayEntries, KeepsItsNumber}
 use Rattle.ice_manifest_reading.specs.Laws.{InheritsTheRows, NeedsItsOwn, HasZeroUnderZero, KeepsItsFileNumber}
 use Rattle.ice_manifest_reading.specs.Laws.{InheritsTheRowsForItsFile, HasNoFileNumber, HasZeroForItsFile}
@@ -134,10 +135,12 @@ columns_said x b h =
 abbrev Said : Type 0
 Said = DataFile × FileBounds
 
-abbrev file_made : FileContent → List ℕ → List Cell → ℤ → ℤ → List ℤ → Option (List ℕ) → FileBounds → Said
-file_made content path tuple count size ids referenced columns = (
+abbrev file_made :
+    FileContent → Option FileFormat → List ℕ → List Cell → ℤ → ℤ → List ℤ → Option (List ℕ) → FileBounds → Said
+file_made content format path tuple count size ids referenced columns = (
   record {
     content = content;
+    format = format;
     path = path;
     tuple = tuple;
     record_count = count;
@@ -160,12 +163,13 @@ file_said of_row ps x d h =
     let columns = went_on (columns_of x) _ d size.2 in
     let ids = went_on (ints_at (pos 135) (pos 136) x) _ d columns.2 in
     let referenced = went_on (referenced_at content.0 x) _ d ids.2 in
-    let is : file_made content.0 path.0 tuple.0 count.0 size.0 ids.0 referenced.0 columns.0 ≡ d = ok_is _ d
-    referenced.2 in
+    let is : file_made content.0 (format_at x) path.0 tuple.0 count.0 size.0 ids.0 referenced.0 columns.0 ≡ d =
+    ok_is _ d referenced.2 in
     let same : content.0 ≡ d.0.content = ap (λ (f : Said). f.0.content) is in
     let said = columns_said x d.1 (columns.1 ∙ ap (λ (f : Said). Ok f.1) is) in
     record {
       content = content.1 ∙ ap (λ (f : Said). Ok f.0.content) is;
+      format = ap (λ (f : Said). f.0.format) is;
       path = path.1 ∙ ap (λ (f : Said). Ok f.0.path) is;
       tuple = tuple.1 ∙ ap (λ (f : Said). Ok f.0.tuple) is;
       record_count = count.1 ∙ ap (λ (f : Said). Ok f.0.record_count) is;
@@ -189,6 +193,7 @@ file_by : (of_row : ManifestContent) (ps : List PartitionField) (x : Typed) (d :
 unfolding file_of
 file_by of_row ps x d b m = rw (
   m.content,
+  m.format,
   m.path,
   m.tuple,
   m.record_count,
@@ -202,6 +207,11 @@ file_by of_row ps x d b m = rw (
 pub columns_read : (of_row : ManifestContent) (ps : List PartitionField) (x : Typed) (d : DataFile) (b : FileBounds)
     → file_of of_row ps x ≡ Ok (d, b) → columns_of x ≡ Ok b
 columns_read of_row ps x d b h = columns_by of_row ps x d b (file_said of_row ps x (d, b) h)
+
+-- the number of its rows
+pub count_read : (of_row : ManifestContent) (ps : List PartitionField) (x : Typed) (d : DataFile) (b : FileBounds)
+    → file_of of_row ps x ≡ Ok (d, b) → long_at (pos 103) x ≡ Ok d.record_count
+count_read of_row ps x d b h = (file_said of_row ps x (d, b) h).record_count
 
 -- ---- an entry
 

@@ -40,7 +40,7 @@ use Rattle.ice_manifest_fields.specs.Fields.{optional_long, optional_number}
 use Rattle.ice_manifest_reading.specs.Lists as Lists
 use Rattle.ice_manifest_reading.specs.Lists.{row_of, counts_at, summaries_in, same_row, checked, in_order, rows_of}
 use Rattle.ice_manifest_reading.specs.Manifests.{content_at, status_at, snapshot_at, sequence_at, file_sequence_at}
-use Rattle.ice_manifest_reading.specs.Manifests.{referenced_at, kept, live_of, entries_of}
+use Rattle.ice_manifest_reading.specs.Manifests.{format_at, referenced_at, kept, live_of, entries_of}
 
 -- ---- files by their objects
 
@@ -82,6 +82,7 @@ pub record SaysRow (x : Typed) (r : Row) : Type 0 where
 pub record SaysFile (of_row : ManifestContent) (ps : List PartitionField) (x : Typed) (d : DataFile) (b : FileBounds)
     : Type 0 where
   pub content : content_at of_row x ≡ Ok d.content
+  pub format : format_at x ≡ d.format
   pub path : path_at (pos 100) x ≡ Ok d.path
   pub tuple : tuple_at ps x ≡ Ok d.tuple
   pub record_count : long_at (pos 103) x ≡ Ok d.record_count

@@ -16,6 +16,7 @@ lent x =
       file_sequence_number = x.file_sequence_number;
       file = record {
         content = x.content;
+        format = x.format;
         path = x.path.now;
         tuple = x.tuple.now;
         record_count = x.record_count;

@@ -14,3 +14,5 @@ pub mod Behind
 pub mod Keeping
 pub mod Collecting
 pub mod Telling
+pub mod Tallying
+pub mod Counted

@@ -2,6 +2,7 @@
 -- Fields" and "Sequence Number Inheritance".
 use Rattle.std.specs.Prelude.{ℕ, ℤ, pos, Bool, List, [], ◌∷◌, ◌++◌, map, filter, Option, Some, None, Result, Ok, Err}
 use Rattle.std.specs.Prelude.{unwrap_or, ◌==◌, if◌then◌else◌}
+use Rattle.std.specs.Option.{option_and_then}
 use Rattle.std.specs.Ordering.{int_eq}
 use Rattle.std.specs.List.{enumerate_from, filter_map}
 use Rattle.contract_words.specs.Outcome.{◌>>=◌}
@@ -13,6 +14,8 @@ use Rattle.avro_file.specs.Picking.{Typed}
 use Rattle.ice_value.specs.declared.file_bounds.FileBounds.{FileBounds}
 use Rattle.ice_value.specs.declared.file_content.FileContent.{FileContent}
 use Rattle.ice_value.specs.declared.file_content.FileContent.TheVariants as holds
+use Rattle.ice_value.specs.declared.file_format.FileFormat.{FileFormat}
+use Rattle.ice_value.specs.Formats.{format_named}
 use Rattle.ice_meta.specs.declared.spec.PartitionField.{PartitionField}
 use Rattle.ice_meta.specs.declared.spec.Spec.{Spec}
 use Rattle.ice_meta.specs.Partitioning.{is_unpartitioned}
@@ -35,7 +38,7 @@ use Rattle.ice_manifest_fields.specs.Maps.{columns_of}
 use Rattle.ice_manifest_fields.specs.Schemas.{fields_in}
 use Rattle.ice_manifest_reading.specs.ManifestSchemas.{entry_fields}
 use Rattle.ice_manifest_fields.specs.Fields.{long_at, int_at, int_or_zero, path_at, record_at, ints_at}
-use Rattle.ice_manifest_fields.specs.Fields.{optional_long, optional_number, optional_path}
+use Rattle.ice_manifest_fields.specs.Fields.{optional_long, optional_number, optional_text, optional_path}
 
 -- ---- a data file
 
@@ -49,6 +52,10 @@ content_of Deletes z =
 
 unfoldable pub content_at : ManifestContent → Typed → Result FileContent FieldFault
 content_at of_row x = int_or_zero (pos 134) x >>= content_of of_row
+
+-- the format that a file names (file_format), one of `avro`, `orc` and `parquet`; none where it names no such format
+abbrev pub format_at : Typed → Option FileFormat
+format_at x = option_and_then format_named (optional_text (pos 101) x)
 
 -- the one data file that position deletes are about, where they name one; other files are about none, whatever they say
 unfoldable pub referenced_at : FileContent → Typed → Result (Option (List ℕ)) FieldFault
@@ -70,6 +77,7 @@ file_of of_row ps x = do
   Ok (
     record {
       content = content;
+      format = format_at x;
       path = path;
       tuple = tuple;
       record_count = count;

@@ -57,6 +57,7 @@ SameMap Same m x y = SameItems (Same m) (items_of (there (at m.id x))) (items_of
 -- records that say the same in each field of a data file that is read, of a spec with these partition fields
 pub record SameFile (ps : List PartitionField) (x y : Typed) : Type 0 where
   pub content : int_or_zero (pos 134) x ≡ int_or_zero (pos 134) y
+  pub format : optional_text (pos 101) x ≡ optional_text (pos 101) y
   pub path : text_of (there (at (pos 100) x)) ≡ text_of (there (at (pos 100) y))
   pub tuple : SameTuple ps x y
   pub record_count : optional_long (pos 103) x ≡ optional_long (pos 103) y

@@ -1,190 +1,148 @@
 //! What live entries give, one after the other.
 
-ghost use Rattle.std.specs.Prelude.{◌≡◌, List, [], ◌∷◌, ◌++◌, Ok, OnOk};
+ghost use Rattle.std.specs.Prelude.{◌≡◌, false, ◌++◌, Ok, OnOk};
 ghost use Rattle.contract_words.specs.Outcome.{Gives};
 ghost use Rattle.ice_manifest_fields.specs.Maps.{columns_of as columns_said};
 ghost use Rattle.ice_entry_found.specs.Seen.{file_seen, IsFile};
 ghost use Rattle.ice_value.specs.declared.file_bounds.FileBounds.{FileBounds};
-ghost use Rattle.ice_manifest_reading.specs.declared.entry.Live.{Live};
 ghost use Rattle.ice_manifest_reading.specs.Keeping.{live_with};
-ghost use Rattle.ice_manifest_reading.specs.Manifests.{entries_kept};
+ghost use Rattle.ice_manifest_reading.specs.Collecting.{kept_each, told_each, if_kept};
 
 use crate::columns::{columns_of, maps_of};
 use crate::entry::{EntryView, Live};
+use crate::gather::Gather;
 use crate::keep::Keep;
 use crate::tell::Tell;
 use ice_entry_found::FoundFile;
 use ice_manifest_fields::ManifestFault;
 use std::alloc::{AllocError, Global};
 
-/// Makes something of live entries, whose paths lie in the manifest.
-pub(crate) trait Collect<'d> {
-    /// What is made of them.
-    type Item: Drop;
-
-    /// What a live entry gives.
-    ghost given: { Self → Live → List Self.Item };
-
-    /// Puts what a live entry gives last. What is said of its file's columns has no fault.
-    fn put(
-        &self,
-        alloc: Global,
-        found: &mut Vec<Self::Item>,
-        entry: EntryView<'d>,
-        file: &FoundFile<'_, '_, '_, 'd>,
-    ) -> Result<(), ManifestFault>
-        requires { IsFile file.now }
-        ensures { (columns : FileBounds) → columns_said (file_seen file.now) ≡ Ok columns →
-            Gives ManifestFault.Memory (λ _. found.new.items) result
-            (Ok (found.old.items ++ given self.now (live_with entry.entry columns))) };
+/// What is asked of each live entry: whether it is kept, and what is told of it.
+#[derive(Drop)]
+pub(crate) struct Asked<'a, K, T> {
+    pub(crate) keep: &'a K,
+    pub(crate) tell: &'a T,
 }
 
-/// Puts a live entry last, if it is kept by what is said of its file's columns.
-fn push_kept<'d, K: Keep>(
-    keep: &K,
-    found: &mut Vec<EntryView<'d>>,
-    live: Live<'_, 'd>,
+/// Gathers an entry if it is kept.
+fn gather_if<'d, G: Gather<'d>>(
+    gather: &mut G,
+    kept: bool,
+    entry: EntryView<'d>,
 ) -> Result<(), AllocError>
-    ensures { OnOk result (found.new.items ≡ found.old.items ++ entries_kept (K.kept keep.now) (live.entry ∷ [])) }
+    ensures gathered { OnOk result (G.gathered gather.new ≡ G.gathered gather.old ++ if_kept kept entry.entry) }
+    ensures keeps { G.keeps gather.old gather.new }
 {
-    if keep.keeps(&live) {
-        found.push(live.entry)?;
+    if kept {
+        gather.gather(entry)?;
     }
     Ok(())
 }
 
-/// Puts a live entry last, if it is kept by what is said of its file's columns, which has no fault.
-fn push_by_columns<'d, K: Keep>(
+/// Puts what is told of a live entry last, and gathers the entry if it is kept.
+fn put_read<'d, K: Keep, T: Tell, G: Gather<'d>>(
     alloc: Global,
-    keep: &K,
-    found: &mut Vec<EntryView<'d>>,
-    entry: EntryView<'d>,
-    file: &FoundFile<'_, '_, '_, 'd>,
-) -> Result<(), ManifestFault>
-    requires { IsFile file.now }
-    ensures { (columns : FileBounds) → columns_said (file_seen file.now) ≡ Ok columns →
-        Gives ManifestFault.Memory (λ _. found.new.items) result
-        (Ok (found.old.items ++ entries_kept (K.kept keep.now) (live_with entry.entry columns ∷ []))) }
-{
-    let guided = file.guided();
-    let maps = maps_of(file, &guided).read(alloc)?;
-    let bounds = columns_of(alloc, file, &maps)?;
-    Ok(push_kept(keep, found, Live { entry, bounds })?)
-}
-
-/// Puts a live entry last, if it is kept. What is said of its file's columns, which has no fault, is read only where it
-/// tells.
-fn push_live<'d, K: Keep>(
-    alloc: Global,
-    keep: &K,
-    found: &mut Vec<EntryView<'d>>,
-    entry: EntryView<'d>,
-    file: &FoundFile<'_, '_, '_, 'd>,
-) -> Result<(), ManifestFault>
-    requires { IsFile file.now }
-    ensures { (columns : FileBounds) → columns_said (file_seen file.now) ≡ Ok columns →
-        Gives ManifestFault.Memory (λ _. found.new.items) result
-        (Ok (found.old.items ++ entries_kept (K.kept keep.now) (live_with entry.entry columns ∷ []))) }
-{
-    match keep.without_columns(&entry) {
-        Some(true) => Ok(found.push(entry)?),
-        Some(false) => Ok(()),
-        None => push_by_columns(alloc, keep, found, entry, file),
-    }
-}
-
-/// Gives the entries that are kept.
-#[derive(Drop)]
-pub(crate) struct Keeping<'k, K> {
-    pub(crate) keep: &'k K,
-}
-
-impl<'k, 'd, K: Keep> Collect<'d> for Keeping<'k, K> {
-    type Item = EntryView<'d>;
-
-    ghost given = { λ keeping live. entries_kept (K.kept keeping.keep.now) (live ∷ []) };
-
-    fn put(
-        &self,
-        alloc: Global,
-        found: &mut Vec<EntryView<'d>>,
-        entry: EntryView<'d>,
-        file: &FoundFile<'_, '_, '_, 'd>,
-    ) -> Result<(), ManifestFault> {
-        push_live(alloc, self.keep, found, entry, file)
-    }
-}
-
-/// Puts what is told of a live entry last.
-fn push_told<T: Tell>(
-    alloc: Global,
-    tell: &T,
-    found: &mut Vec<T::Told>,
-    live: Live<'_, '_>,
+    asked: &Asked<'_, K, T>,
+    told: &mut Vec<T::Told>,
+    gather: &mut G,
+    live: Live<'_, 'd>,
 ) -> Result<(), AllocError>
-    ensures { OnOk result (found.new.items ≡ found.old.items ++ T.told tell.now live.entry ∷ []) }
+    ensures told { OnOk result (told.new.items
+        ≡ told.old.items ++ told_each (T.told asked.now.tell.now) live.entry) }
+    ensures gathered { OnOk result (G.gathered gather.new
+        ≡ G.gathered gather.old ++ kept_each (K.kept asked.now.keep.now) live.entry) }
+    ensures keeps { G.keeps gather.old gather.new }
 {
-    let told = tell.tell(alloc, &live)?;
-    Ok(found.push(told)?)
+    let kept = asked.keep.keeps(&live);
+    let said = asked.tell.tell(alloc, &live)?;
+    told.push(said)?;
+    gather_if(gather, kept, live.entry)
 }
 
-/// Puts what is told of a live entry last, by what is said of its file's columns, which has no fault.
-fn push_told_by_columns<T: Tell>(
+/// Puts what is told of a live entry last, and gathers the entry if it is kept, by what is said of its file's columns,
+/// which has no fault.
+fn put_by_columns<'d, K: Keep, T: Tell, G: Gather<'d>>(
     alloc: Global,
-    tell: &T,
-    found: &mut Vec<T::Told>,
-    entry: EntryView<'_>,
-    file: &FoundFile,
+    asked: &Asked<'_, K, T>,
+    told: &mut Vec<T::Told>,
+    gather: &mut G,
+    entry: EntryView<'d>,
+    file: &FoundFile<'_, '_, '_, 'd>,
 ) -> Result<(), ManifestFault>
     requires { IsFile file.now }
-    ensures { (columns : FileBounds) → columns_said (file_seen file.now) ≡ Ok columns →
-        Gives ManifestFault.Memory (λ _. found.new.items) result
-        (Ok (found.old.items ++ T.told tell.now (live_with entry.entry columns) ∷ [])) }
+    ensures told { (columns : FileBounds) → columns_said (file_seen file.now) ≡ Ok columns →
+        Gives ManifestFault.Memory (λ _. told.new.items) result
+        (Ok (told.old.items ++ told_each (T.told asked.now.tell.now) (live_with entry.entry columns))) }
+    ensures gathered { (columns : FileBounds) → columns_said (file_seen file.now) ≡ Ok columns →
+        Gives ManifestFault.Memory (λ _. G.gathered gather.new) result
+        (Ok (G.gathered gather.old ++ kept_each (K.kept asked.now.keep.now) (live_with entry.entry columns))) }
+    ensures keeps { G.keeps gather.old gather.new }
 {
     let guided = file.guided();
     let maps = maps_of(file, &guided).read(alloc)?;
     let bounds = columns_of(alloc, file, &maps)?;
-    Ok(push_told(alloc, tell, found, Live { entry, bounds })?)
+    Ok(put_read(alloc, asked, told, gather, Live { entry, bounds })?)
 }
 
-/// Puts what is told of a live entry last. What is said of its file's columns, which has no fault, is read only where
-/// it tells.
-fn push_told_live<T: Tell>(
+/// Puts what is told of a live entry last, and gathers the entry if it is kept. What is said of its file's columns,
+/// which has no fault, is read only where it tells.
+pub(crate) fn put_live<'d, K: Keep, T: Tell, G: Gather<'d>>(
     alloc: Global,
-    tell: &T,
-    found: &mut Vec<T::Told>,
-    entry: EntryView<'_>,
-    file: &FoundFile,
+    asked: &Asked<'_, K, T>,
+    told: &mut Vec<T::Told>,
+    gather: &mut G,
+    entry: EntryView<'d>,
+    file: &FoundFile<'_, '_, '_, 'd>,
 ) -> Result<(), ManifestFault>
     requires { IsFile file.now }
-    ensures { (columns : FileBounds) → columns_said (file_seen file.now) ≡ Ok columns →
-        Gives ManifestFault.Memory (λ _. found.new.items) result
-        (Ok (found.old.items ++ T.told tell.now (live_with entry.entry columns) ∷ [])) }
+    ensures told { (columns : FileBounds) → columns_said (file_seen file.now) ≡ Ok columns →
+        Gives ManifestFault.Memory (λ _. told.new.items) result
+        (Ok (told.old.items ++ told_each (T.told asked.now.tell.now) (live_with entry.entry columns))) }
+    ensures gathered { (columns : FileBounds) → columns_said (file_seen file.now) ≡ Ok columns →
+        Gives ManifestFault.Memory (λ _. G.gathered gather.new) result
+        (Ok (G.gathered gather.old ++ kept_each (K.kept asked.now.keep.now) (live_with entry.entry columns))) }
+    ensures keeps { G.keeps gather.old gather.new }
 {
-    match tell.without_columns(alloc, &entry)? {
-        Some(told) => Ok(found.push(told)?),
-        None => push_told_by_columns(alloc, tell, found, entry, file),
-    }
+    let kept = asked.keep.without_columns(&entry);
+    let said = asked.tell.without_columns(alloc, &entry)?;
+    let (Some(kept), Some(said)) = (kept, said) else {
+        return put_by_columns(alloc, asked, told, gather, entry, file);
+    };
+    told.push(said)?;
+    Ok(gather_if(gather, kept, entry)?)
 }
 
-/// Gives what is told of each entry.
+/// Entries as a list.
 #[derive(Drop)]
-pub(crate) struct Telling<'t, T> {
-    pub(crate) tell: &'t T,
+pub(crate) struct Views<'d> {
+    pub(crate) list: Vec<EntryView<'d>>,
 }
 
-impl<'t, 'd, T: Tell> Collect<'d> for Telling<'t, T> {
-    type Item = T::Told;
+impl<'d> Gather<'d> for Views<'d> {
+    ghost gathered = { λ views. views.list.items };
 
-    ghost given = { λ telling live. T.told telling.tell.now live ∷ [] };
+    ghost keeps = { λ old new. Unit {0} };
 
-    fn put(
-        &self,
-        alloc: Global,
-        found: &mut Vec<T::Told>,
-        entry: EntryView<'d>,
-        file: &FoundFile<'_, '_, '_, 'd>,
-    ) -> Result<(), ManifestFault> {
-        push_told_live(alloc, self.tell, found, entry, file)
+    fn gather(&mut self, entry: EntryView<'d>) -> Result<(), AllocError> {
+        Ok(self.list.push(entry)?)
+    }
+
+    ghost keeps_itself = { λ views. tt };
+
+    ghost keeps_further = { λ first second third one next. tt };
+}
+
+/// Keeps no entry.
+pub(crate) struct Nothing;
+
+impl Keep for Nothing {
+    ghost kept = { λ none live. false };
+
+    fn keeps(&self, _live: &Live<'_, '_>) -> bool {
+        false
+    }
+
+    fn without_columns(&self, _entry: &EntryView<'_>) -> Option<bool> {
+        Some(false)
     }
 }

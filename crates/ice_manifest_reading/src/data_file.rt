@@ -4,7 +4,7 @@ ghost use Rattle.std.specs.Prelude.{◌≡◌, ◌≤◌, IfOk, IfSome, length};
 ghost use Rattle.std.specs.Option.{option_copied};
 
 use contract_words::Items;
-use ice_value::{Cell, FileContent};
+use ice_value::{Cell, FileContent, FileFormat};
 use std::alloc::{AllocError, Global};
 use std::marker::Model;
 
@@ -12,6 +12,8 @@ use std::marker::Model;
 #[derive(Debug, Drop)]
 pub struct DataFile {
     pub content: FileContent,
+    /// None where the manifest names no format that is known. Plans do not need it.
+    pub format: Option<FileFormat>,
     /// The bytes of a text: that they are UTF-8 was checked when they were read.
     pub path: Items<u8>,
     /// The partition values, in the order of the spec's fields.
@@ -32,6 +34,7 @@ impl DataFile {
     {
         Ok(DataFile {
             content: self.content,
+            format: self.format,
             path: self.path.copy(alloc)?,
             tuple: self.tuple.copy(alloc)?,
             record_count: self.record_count,
@@ -70,6 +73,7 @@ fn bytes_if_some(alloc: Global, path: Option<&str>) -> Result<Option<Items<u8>>,
 #[derive(Debug, Drop)]
 pub(crate) struct FileView<'a> {
     pub(crate) content: FileContent,
+    pub(crate) format: Option<FileFormat>,
     pub(crate) path: &'a str,
     pub(crate) tuple: Items<Cell>,
     pub(crate) record_count: i64,
@@ -86,6 +90,7 @@ impl<'a> Model for FileView<'a> {
 
     ghost view = { λ f. record {
       content = f.content;
+      format = f.format;
       path = f.path.now;
       tuple = f.tuple;
       record_count = f.record_count;
@@ -104,6 +109,12 @@ impl<'a> FileView<'a> {
         ensures { result ≡ self.now.content }
     {
         self.content
+    }
+
+    pub(crate) fn format(&self) -> Option<FileFormat>
+        ensures { result ≡ self.now.format }
+    {
+        self.format
     }
 
     pub(crate) fn tuple(&self) -> &[Cell]
@@ -150,6 +161,7 @@ impl<'a> FileView<'a> {
     {
         let FileView {
             content,
+            format,
             path,
             tuple,
             record_count,
@@ -159,6 +171,7 @@ impl<'a> FileView<'a> {
         } = self;
         Ok(DataFile {
             content,
+            format,
             path: bytes_of(alloc, path)?,
             tuple,
             record_count,

@@ -4,7 +4,7 @@ ghost use Rattle.std.specs.Prelude.{◌≡◌, IfOk};
 ghost use Rattle.ice_manifest_reading.specs.Lending.{lent, HasShortPaths};
 
 use crate::data_file::{DataFile, FileView};
-use ice_value::{Cell, FileBounds, FileContent, SequenceNumber};
+use ice_value::{Cell, FileBounds, FileContent, FileFormat, SequenceNumber};
 use std::alloc::{AllocError, Global};
 use std::marker::Model;
 
@@ -51,6 +51,8 @@ pub struct LentEntry<'a> {
     pub sequence_number: SequenceNumber,
     pub file_sequence_number: Option<SequenceNumber>,
     pub content: FileContent,
+    /// None where the manifest names no format that is known.
+    pub format: Option<FileFormat>,
     pub path: &'a [u8],
     pub tuple: &'a [Cell],
     pub record_count: i64,
@@ -72,6 +74,7 @@ impl Entry {
             sequence_number: self.sequence_number,
             file_sequence_number: self.file_sequence_number,
             content: self.file.content,
+            format: self.file.format,
             path: self.file.path.as_slice(),
             tuple: self.file.tuple.as_slice(),
             record_count: self.file.record_count,
@@ -138,6 +141,7 @@ impl<'a> EntryView<'a> {
             sequence_number: self.sequence_number,
             file_sequence_number: self.file_sequence_number,
             content: self.file.content,
+            format: self.file.format(),
             path: self.file.path(),
             tuple: self.file.tuple(),
             record_count: self.file.record_count(),

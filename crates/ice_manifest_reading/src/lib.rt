@@ -6,6 +6,7 @@ mod columns;
 mod counts;
 mod data_file;
 mod entry;
+mod gather;
 mod keep;
 mod laws;
 mod list;
@@ -14,12 +15,14 @@ mod row;
 mod shape;
 mod status;
 mod summaries;
+mod tally;
 mod tell;
 mod tuple;
 
 pub use counts::Counts;
 pub use data_file::DataFile;
 pub use entry::{Entry, EntryView, LentEntry, Live};
+pub use gather::Gather;
 pub use ice_manifest_fields::{
     FieldFault, Kind, ListFault, ManifestFault, decimals_are_kept_shortest,
 };
@@ -30,7 +33,8 @@ pub use laws::{
     rows_are_a_set, rows_are_refused_together, snapshots_are_inherited,
 };
 pub use list::read_list;
-pub use manifest::{read_kept, read_manifest, read_told};
+pub use manifest::{read_into, read_into_told, read_kept, read_manifest, read_tallied, read_told};
 pub use row::{ManifestContent, Row};
 pub use status::Status;
-pub use tell::Tell;
+pub use tally::{Tallied, Tallies, Tally};
+pub use tell::{Silent, Tell};

@@ -17,6 +17,7 @@ ghost use Rattle.ice_entry_found.specs.Seen.{entry_seen, IsPlaced, file_seen, Is
 ghost use Rattle.ice_entry_found.specs.Ways.{entry_id, file_id, wanted_ways};
 ghost use Rattle.ice_manifest_reading.specs.Manifests.{live_of, status_of as status_in, status_at as status_said};
 ghost use Rattle.ice_manifest_reading.specs.Manifests.{content_of as content_in, content_at as content_said};
+ghost use Rattle.ice_manifest_reading.specs.Manifests.{format_at as format_said};
 ghost use Rattle.ice_manifest_reading.specs.Manifests.{inherited as inherited_in, file_inherited as file_inherited_in};
 ghost use Rattle.ice_manifest_reading.specs.Manifests.{sequence_at as sequence_said};
 ghost use Rattle.ice_manifest_reading.specs.Manifests.{file_sequence_at as file_sequence_said};
@@ -25,19 +26,24 @@ ghost use Rattle.ice_manifest_reading.specs.Manifests.{file_of as file_said};
 ghost use Rattle.ice_manifest_reading.specs.Manifests.{live_at as live_said, entry_of as entry_said, entries_ahead};
 ghost use Rattle.ice_manifest_reading.specs.Manifests.{kept_of, entries_of};
 ghost use Rattle.ice_manifest_reading.specs.Behind.{ReadsFile};
-ghost use Rattle.ice_manifest_reading.specs.Collecting.{given_of, given_behind, live_behind};
+ghost use Rattle.ice_manifest_reading.specs.Collecting.{given_of, given_behind, live_behind, behind};
+ghost use Rattle.ice_manifest_reading.specs.Collecting.{kept_each, told_each};
 ghost use Rattle.ice_manifest_reading.specs.Telling.{told_of};
+ghost use Rattle.ice_manifest_reading.specs.Tallying.{rows_of as rows_said, tallies_of, tallies_in, objects_ahead};
+ghost use Rattle.ice_manifest_reading.specs.Counted.{IsCountedOf};
 ghost use Rattle.ice_meta.specs.Partitioning.{is_unpartitioned};
 
-use crate::collect::{Collect, Keeping, Telling};
+use crate::collect::{Asked, Nothing, Views, put_live};
 use crate::columns::check_columns;
 use crate::data_file::FileView;
 use crate::entry::{Entry, EntryView};
+use crate::gather::Gather;
 use crate::keep::{Everything, Keep};
 use crate::row::{ManifestContent, Row};
 use crate::shape::check_entry_fields;
 use crate::status::Status;
-use crate::tell::Tell;
+use crate::tally::{Counted, Tallied, Tallies};
+use crate::tell::{Silent, Tell};
 use crate::tuple::tuple_at;
 use avro_file::{Container, Objects, objects_take_bytes};
 use avro_picked::Layout;
@@ -45,10 +51,10 @@ use contract_words::Items;
 use ice_entry_found::{EntryField, FileField, FoundEntry, FoundFile, entry_layout};
 use ice_manifest_fields::{FieldFault, ManifestFault, fields_of, type_at};
 use ice_manifest_found::{
-    int_asked, ints, long_asked, optional_number, optional_path, path_asked, whole,
+    int_asked, ints, long_asked, optional_number, optional_path, path_asked, text, whole,
 };
 use ice_meta::Spec;
-use ice_value::{FileContent, SequenceNumber};
+use ice_value::{FileContent, FileFormat, SequenceNumber};
 use std::alloc::{AllocError, Global};
 
 /// The field id of the items of a file's equality ids.
@@ -111,6 +117,14 @@ fn content_at(of_row: ManifestContent, file: &FoundFile) -> Result<FileContent, 
     ensures { result ≡ content_said of_row (file_seen file.now) }
 {
     content_of(of_row, int_or_zero(file, FileField::Content)?)
+}
+
+/// The format of a file, where a known one is named.
+fn format_at(file: &FoundFile) -> Option<FileFormat>
+    requires { IsFile file.now }
+    ensures { result ≡ format_said (file_seen file.now) }
+{
+    FileFormat::parse(text(file.found(FileField::Format))?)
 }
 
 /// A path of at most 65,535 bytes.
@@ -178,6 +192,7 @@ fn file_of<'d>(
     let referenced = referenced_at(content, file)?;
     Ok(FileView {
         content,
+        format: format_at(file),
         path,
         tuple,
         record_count,
@@ -270,22 +285,41 @@ struct Source<'a> {
     ghost known: { unpartitioned ≡ is_unpartitioned spec.now },
 }
 
-/// Puts what an entry gives that exists or was added last.
+/// How many rows the file of an entry has, as the entry says; 0 where it says no number.
+#[tactic(auto, unfolding(crate::specs::Tallying::rows_of))]
+fn rows_of(entry: &FoundEntry) -> i64
+    requires { IsPlaced entry.now }
+    ensures { result ≡ rows_said (entry_seen entry.now) }
+{
+    match FoundFile::of(entry) {
+        Some(file) => whole(file.found(FileField::RecordCount)).unwrap_or(0),
+        None => 0,
+    }
+}
+
+/// Takes in an entry that exists or was added: what is told of it is put last, and it is gathered if it is kept.
+/// Gives how many rows its file has.
 #[tactic(auto, unfolding(crate::specs::Manifests::live_at))]
-fn read_live<'d, C: Collect<'d>>(
+fn read_live<'d, K: Keep, T: Tell, G: Gather<'d>>(
     alloc: Global,
     source: &Source<'_>,
-    collect: &C,
-    found: &mut Vec<C::Item>,
+    asked: &Asked<'_, K, T>,
+    told: &mut Vec<T::Told>,
+    gather: &mut G,
     position: u64,
     status: Status,
     entry: &FoundEntry<'_, '_, 'd>,
-) -> Result<(), ManifestFault>
+) -> Result<i64, ManifestFault>
     requires placed { IsPlaced entry.now }
     requires partition { entry.now.partition.now ≡ source.now.spec.now.fields }
-    ensures { Gives ManifestFault.Memory (λ _. found.new.items) result
-        (live_behind (C.given collect.now) found.old.items
+    ensures told { Gives ManifestFault.Memory (λ _. told.new.items) result
+        (live_behind (told_each (T.told asked.now.tell.now)) told.old.items
         (live_said source.now.row.now source.now.spec.now position status (entry_seen entry.now))) }
+    ensures gathered { Gives ManifestFault.Memory (λ _. G.gathered gather.new) result
+        (live_behind (kept_each (K.kept asked.now.keep.now)) (G.gathered gather.old)
+        (live_said source.now.row.now source.now.spec.now position status (entry_seen entry.now))) }
+    ensures keeps { G.keeps gather.old gather.new }
+    ensures rows { IfOk result (λ rows. rows ≡ rows_said (entry_seen entry.now)) }
 {
     let row = source.row;
     let snapshot_id = snapshot_at(row, entry);
@@ -295,6 +329,7 @@ fn read_live<'d, C: Collect<'d>>(
         return Err(ManifestFault::MissingField(EntryField::DataFile.id()));
     };
     let view = file_of(alloc, row.content, &file)?;
+    let rows = view.record_count;
     let entry = EntryView {
         position,
         spec_id: row.spec_id,
@@ -304,53 +339,76 @@ fn read_live<'d, C: Collect<'d>>(
         file_sequence_number,
         file: view,
     };
-    collect.put(alloc, found, entry, &file)
+    put_live(alloc, asked, told, gather, entry, &file)?;
+    Ok(rows)
 }
 
-/// Puts what the entry that an object says gives last, if it is live. Of a deleted one nothing but the status is looked
-/// at.
+/// Takes in the entry that an object says, if it is live. Of a deleted one nothing but the status can be at
+/// fault. Gives what counts of the entry.
 #[tactic(auto, unfolding(crate::specs::Manifests::entry_of))]
-fn read_object<'d, C: Collect<'d>>(
+fn read_object<'d, K: Keep, T: Tell, G: Gather<'d>>(
     alloc: Global,
     source: &Source<'_>,
-    collect: &C,
-    found: &mut Vec<C::Item>,
+    asked: &Asked<'_, K, T>,
+    told: &mut Vec<T::Told>,
+    gather: &mut G,
     position: u64,
     entry: &FoundEntry<'_, '_, 'd>,
-) -> Result<(), ManifestFault>
+) -> Result<Counted, ManifestFault>
     requires placed { IsPlaced entry.now }
     requires partition { entry.now.partition.now ≡ source.now.spec.now.fields }
-    ensures { Gives ManifestFault.Memory (λ _. found.new.items) result
-        (given_behind (C.given collect.now) found.old.items
+    ensures told { Gives ManifestFault.Memory (λ _. told.new.items) result
+        (given_behind (told_each (T.told asked.now.tell.now)) told.old.items
         (entry_said source.now.row.now source.now.spec.now position (entry_seen entry.now))) }
+    ensures gathered { Gives ManifestFault.Memory (λ _. G.gathered gather.new) result
+        (given_behind (kept_each (K.kept asked.now.keep.now)) (G.gathered gather.old)
+        (entry_said source.now.row.now source.now.spec.now position (entry_seen entry.now))) }
+    ensures keeps { G.keeps gather.old gather.new }
+    ensures counted { IfOk result (IsCountedOf (entry_seen entry.now)) }
 {
     let status = status_at(entry)?;
     match status {
-        Status::Deleted => Ok(()),
-        _ => read_live(alloc, source, collect, found, position, status, entry),
+        Status::Deleted => {
+            let rows = rows_of(entry);
+            Ok(Counted { status, rows })
+        }
+        _ => {
+            let rows = read_live(alloc, source, asked, told, gather, position, status, entry)?;
+            Ok(Counted { status, rows })
+        }
     }
 }
 
-/// What the entries of all objects give that are to come, which are records and few enough to be numbered.
-fn all_entries<'s, 'd, C: Collect<'d>>(
+/// Takes in the entries of all objects that are to come, which are records and few enough to be numbered. Gives
+/// what is told, and how many there are.
+fn all_entries<'s, 'd, K: Keep, T: Tell, G: Gather<'d>>(
     alloc: Global,
     source: &Source<'_>,
-    collect: &C,
+    asked: &Asked<'_, K, T>,
+    gather: &mut G,
     layout: &Layout<'s>,
     mut reader: Objects<'s, 'd>,
-) -> Result<Vec<C::Item>, ManifestFault>
+) -> Result<Tallied<T::Told>, ManifestFault>
     requires few { still_ahead (ahead reader) < 2 ^ 64 }
     requires layout { IsLayout layout.now }
     requires ways { ways_of layout.now ≡ wanted_ways source.now.spec.now.fields }
     requires schema { layout_tree layout.now ≡ type_of reader }
     requires records { is_structure (layout_tree layout.now) ≡ true }
-    ensures { Gives ManifestFault.Memory (λ found. found.items) result
-        (given_of (C.given collect.now) (entries_ahead source.now.row.now source.now.spec.now
+    ensures told { Gives ManifestFault.Memory (λ read. read.told.items) result
+        (given_of (told_each (T.told asked.now.tell.now)) (entries_ahead source.now.row.now source.now.spec.now
         (fields_in (layout_tree layout.now)) 0 (ahead reader.entry))) }
+    ensures gathered { Gives ManifestFault.Memory (λ _. G.gathered gather.new) result
+        (behind (G.gathered gather.old) (given_of (kept_each (K.kept asked.now.keep.now))
+        (entries_ahead source.now.row.now source.now.spec.now (fields_in (layout_tree layout.now)) 0
+        (ahead reader.entry)))) }
+    ensures keeps { G.keeps gather.old gather.new }
+    ensures tallies { IfOk result (λ read. read.tallies
+        ≡ tallies_in (objects_ahead (fields_in (layout_tree layout.now)) (ahead reader.entry))) }
 {
     let partition = source.spec.fields.as_slice();
     let mut places = layout.places(alloc)?;
-    let mut found = Vec::new(alloc);
+    let mut told = Vec::new(alloc);
+    let mut tallies = Tallies::none();
     let mut position: u64 = 0;
     'objects: while let Some(object) = layout.next_placed(&mut reader, &mut places)? {
         let entry = FoundEntry {
@@ -359,23 +417,31 @@ fn all_entries<'s, 'd, C: Collect<'d>>(
             places: &places,
             object,
         };
-        read_object(alloc, source, collect, &mut found, position, &entry)?;
+        let counted = read_object(alloc, source, asked, &mut told, gather, position, &entry)?;
+        tallies.count(counted);
         position += 1;
     }
-    Ok(found)
+    Ok(Tallied { told, tallies })
 }
 
-/// What the live entries of a row's manifest give, in the order of their positions. The fault is that of `read_kept`.
-#[tactic(auto, unfolding(crate::specs::Manifests::live_of))]
-fn read_given<'d, C: Collect<'d>>(
+/// What is told of the live entries of a row's manifest, of which those that are kept are gathered, in the order of
+/// their positions, and how many entries there are. The fault is that of `read_kept`.
+#[tactic(auto, unfolding(crate::specs::Manifests::live_of, crate::specs::Tallying::tallies_of))]
+fn read_given<'d, K: Keep, T: Tell, G: Gather<'d>>(
     alloc: Global,
     row: &Row,
     spec: &Spec,
-    collect: &C,
+    asked: &Asked<'_, K, T>,
     bytes: &'d [u8],
-) -> Result<Vec<C::Item>, ManifestFault>
-    ensures { Gives ManifestFault.Memory (λ found. found.items) result
-        (given_of (C.given collect.now) (live_of row.now spec.now bytes.now)) }
+    gather: &mut G,
+) -> Result<Tallied<T::Told>, ManifestFault>
+    ensures told { Gives ManifestFault.Memory (λ read. read.told.items) result
+        (given_of (told_each (T.told asked.now.tell.now)) (live_of row.now spec.now bytes.now)) }
+    ensures gathered { Gives ManifestFault.Memory (λ _. G.gathered gather.new) result
+        (behind (G.gathered gather.old) (given_of (kept_each (K.kept asked.now.keep.now))
+        (live_of row.now spec.now bytes.now))) }
+    ensures keeps { G.keeps gather.old gather.new }
+    ensures tallies { IfOk result (λ read. read.tallies ≡ tallies_of bytes.now) }
 {
     let container = Container::open(alloc, bytes)?;
     let schema = container.schema();
@@ -388,7 +454,49 @@ fn read_given<'d, C: Collect<'d>>(
     };
     // An entry takes a byte at least, so there are no more of them than bytes.
     objects_take_bytes();
-    all_entries(alloc, &source, collect, &layout, container.objects())
+    all_entries(alloc, &source, asked, gather, &layout, container.objects())
+}
+
+/// Gathers those live entries of a row's manifest that are kept, as `read_into` does, and gives what is told of each
+/// live entry, in the order of their positions. What is said of the columns of an entry's file is read once, and only
+/// where one of both asks for it.
+pub fn read_into_told<'d, K: Keep, T: Tell, G: Gather<'d>>(
+    alloc: Global,
+    row: &Row,
+    spec: &Spec,
+    keep: &K,
+    tell: &T,
+    bytes: &'d [u8],
+    gather: &mut G,
+) -> Result<Vec<T::Told>, ManifestFault>
+    ensures told { Gives ManifestFault.Memory (λ found. found.items) result
+        (told_of (T.told tell.now) (live_of row.now spec.now bytes.now)) }
+    ensures gathered { Gives ManifestFault.Memory (λ _. G.gathered gather.new) result
+        (behind (G.gathered gather.old) (kept_of (K.kept keep.now) (live_of row.now spec.now bytes.now))) }
+    ensures keeps { G.keeps gather.old gather.new }
+{
+    let read = read_given(alloc, row, spec, &Asked { keep, tell }, bytes, gather)?;
+    Ok(read.told)
+}
+
+/// Gathers those live entries of a row's manifest that are kept, as they are read: in the order of their positions,
+/// with their numbers inherited. Their paths are lent by the bytes.
+///
+/// The fault is that of `read_kept`. Some entries may be gathered before it is met.
+pub fn read_into<'d, K: Keep, G: Gather<'d>>(
+    alloc: Global,
+    row: &Row,
+    spec: &Spec,
+    keep: &K,
+    bytes: &'d [u8],
+    gather: &mut G,
+) -> Result<(), ManifestFault>
+    ensures gathered { Gives ManifestFault.Memory (λ _. G.gathered gather.new) result
+        (behind (G.gathered gather.old) (kept_of (K.kept keep.now) (live_of row.now spec.now bytes.now))) }
+    ensures keeps { G.keeps gather.old gather.new }
+{
+    read_into_told(alloc, row, spec, keep, &Silent, bytes, gather)?;
+    Ok(())
 }
 
 /// Those live entries of a row's manifest that are kept, in the order of their positions, with their numbers inherited.
@@ -407,7 +515,11 @@ pub fn read_kept<'d, K: Keep>(
     ensures { Gives ManifestFault.Memory (λ found. found.items) result
         (kept_of (K.kept keep.now) (live_of row.now spec.now bytes.now)) }
 {
-    read_given(alloc, row, spec, &Keeping { keep }, bytes)
+    let mut views = Views {
+        list: Vec::new(alloc),
+    };
+    read_into(alloc, row, spec, keep, bytes, &mut views)?;
+    Ok(views.list)
 }
 
 /// What is told of each live entry of a row's manifest, in the order of their positions. The fault is that of
@@ -422,7 +534,30 @@ pub fn read_told<T: Tell>(
     ensures { Gives ManifestFault.Memory (λ found. found.items) result
         (told_of (T.told tell.now) (live_of row.now spec.now bytes.now)) }
 {
-    read_given(alloc, row, spec, &Telling { tell }, bytes)
+    let mut none = Views {
+        list: Vec::new(alloc),
+    };
+    read_into_told(alloc, row, spec, &Nothing, tell, bytes, &mut none)
+}
+
+/// What is told of each live entry of a row's manifest, in the order of their positions, and how many entries of each
+/// status the manifest has. The fault is that of `read_kept`.
+pub fn read_tallied<T: Tell>(
+    alloc: Global,
+    row: &Row,
+    spec: &Spec,
+    tell: &T,
+    bytes: &[u8],
+) -> Result<Tallied<T::Told>, ManifestFault>
+    ensures told { Gives ManifestFault.Memory (λ read. read.told.items) result
+        (told_of (T.told tell.now) (live_of row.now spec.now bytes.now)) }
+    ensures tallies { IfOk result (λ read. read.tallies ≡ tallies_of bytes.now) }
+{
+    let keep = &Nothing;
+    let mut none = Views {
+        list: Vec::new(alloc),
+    };
+    read_given(alloc, row, spec, &Asked { keep, tell }, bytes, &mut none)
 }
 
 /// The entries, with copies of their paths.

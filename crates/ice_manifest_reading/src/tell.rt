@@ -33,3 +33,24 @@ pub trait Tell {
         Ok(None)
     }
 }
+
+/// Tells nothing.
+pub struct Silent;
+
+impl Tell for Silent {
+    type Told = ();
+
+    ghost told = { λ silent live. tt };
+
+    fn tell(&self, _alloc: Global, _live: &Live<'_, '_>) -> Result<(), AllocError> {
+        Ok(())
+    }
+
+    fn without_columns(
+        &self,
+        _alloc: Global,
+        _entry: &EntryView<'_>,
+    ) -> Result<Option<()>, AllocError> {
+        Ok(Some(()))
+    }
+}

@@ -45,3 +45,5 @@ pub mod SortedAlike
 pub mod Specs
 pub mod Stretches
 pub mod Unfiltered
+pub mod OneSegment
+pub mod Taking

@@ -12,6 +12,7 @@ pub mod Outcomes
 pub mod Parts
 pub mod PlaceLists
 pub mod Placed
+pub mod PlacedFiles
 pub mod Pruning
 pub mod Readings
 pub mod Runs
@@ -23,3 +24,5 @@ pub mod Slots
 pub mod Snapshots
 pub mod Specs
 pub mod Stretches
+pub mod PutSoFar
+pub mod Refusals

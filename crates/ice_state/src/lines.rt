@@ -1,13 +1,14 @@
 //! The lines of a plan as they are lent: whoever owns the entries, callers see the same.
 
 ghost use Rattle.std.specs.Prelude.{◌≡◌, ◌<◌, ◌^◌, length, Some, slice_get};
+ghost use Rattle.std.specs.Option.{option_copied};
 ghost use Rattle.ice_state.specs.Segments.{IsKept, entry_at};
 ghost use Rattle.ice_manifest_reading.specs.Lending.{lent};
 
 use crate::segments::{FileNumber, Segments};
 use crate::shared_places::SharedPlaces;
 use ice_manifest_reading::LentEntry;
-use ice_value::SequenceNumber;
+use ice_value::{Cell, FileContent, FileFormat, SequenceNumber};
 use std::marker::Model;
 
 /// Files of a plan, by the numbers of their entries.
@@ -31,7 +32,7 @@ impl<'a> Files<'a> {
     }
 
     /// The entry at a place.
-    fn entry(&self, i: usize) -> LentEntry<'a>
+    pub(crate) fn entry(&self, i: usize) -> LentEntry<'a>
         requires kept { AreFiles self.now }
         requires within { i < length (entries_of self.now) }
         ensures { slice_get (entries_of self.now) i ≡ Some (lent result) }
@@ -43,7 +44,7 @@ impl<'a> Files<'a> {
 /// A file of a plan.
 #[derive(Debug, Drop)]
 pub struct PlanFile<'a> {
-    entry: LentEntry<'a>,
+    pub(crate) entry: LentEntry<'a>,
 }
 
 impl<'a> Model for PlanFile<'a> {
@@ -61,6 +62,13 @@ impl<'a> PlanFile<'a> {
         ensures { result.now ≡ self.now.file.path }
     {
         self.entry.path
+    }
+
+    /// Its format, where its manifest names a known one.
+    pub fn format(&self) -> Option<FileFormat>
+        ensures { result ≡ self.now.file.format }
+    {
+        self.entry.format
     }
 
     /// The id of its partition spec.
@@ -96,6 +104,27 @@ impl<'a> PlanFile<'a> {
         ensures { result.now ≡ self.now.file.equality_ids }
     {
         self.entry.equality_ids
+    }
+
+    /// What it holds.
+    pub fn content(&self) -> FileContent
+        ensures { result ≡ self.now.file.content }
+    {
+        self.entry.content
+    }
+
+    /// Its partition values, in the order of its spec's fields.
+    pub fn tuple(&self) -> &[Cell]
+        ensures { result.now ≡ self.now.file.tuple }
+    {
+        self.entry.tuple
+    }
+
+    /// The path of the one data file that a position delete file is about, where it names one. Other files have none.
+    pub fn referenced(&self) -> Option<&[u8]>
+        ensures { option_copied result ≡ self.now.file.referenced }
+    {
+        self.entry.referenced
     }
 }
 

@@ -56,23 +56,7 @@ fn is_gain(slot: &Option<Taken>, other: &Option<Taken>) -> bool
     matches!((slot, other), (None, Some(_)))
 }
 
-/// The room that the entries take that the first slots lack of the second.
-fn room_of_gains(slots: &[Option<Taken>], others: &Segments, other: &[Option<Taken>]) -> Room
-    requires same { length slots.now ≡ length other.now }
-    requires numbers { HaveNumbers others.now other.now }
-{
-    let mut room = Room::none();
-    for i in 0..slots.len() {
-        if let (None, Some(Taken::Good(ordered))) = (&slots[i], &other[i]) {
-            room = others
-                .segment(ordered.segment)
-                .room_with(ordered.numbers.as_slice(), room);
-        }
-    }
-    room
-}
-
-/// What the first slots lack of the second, by the numbers of entries that are put to the first segment of the first.
+/// What the first slots lack of the second, by the numbers of entries that are put to those of the first.
 pub fn gained(
     alloc: Global,
     entries: &mut Segments,
@@ -88,7 +72,6 @@ pub fn gained(
     ensures gained { (kept : Segmented) → IfOk result (λ gained. contents entries.new gained.items
         ≡ gains (contents kept slots.now) (contents others.now other.now)) }
 {
-    entries.reserve(room_of_gains(slots, others, other))?;
     let mut gained = Vec::with_capacity(alloc, slots.len())?;
     for i in 0..slots.len() {
         gained.push(gain(alloc, entries, &slots[i], others, &other[i])?)?;
@@ -116,7 +99,7 @@ fn gain(
     }
 }
 
-/// What a manifest gave, by the numbers of entries that are put to those that are kept.
+/// What a manifest gave, by the numbers of entries that are put to the last segment.
 fn put_taken(
     alloc: Global,
     entries: &mut Segments,
@@ -131,10 +114,13 @@ fn put_taken(
 {
     match taken {
         Taken::Good(ordered) => {
-            let segment = others.segment(ordered.segment);
-            let added = entries.add_kept(segment, ordered.numbers.as_slice())?;
+            let theirs = others.segment(ordered.segment);
+            let numbers = ordered.numbers.as_slice();
+            let segment = entries.begin(alloc, numbers.len())?;
+            entries.reserve(segment, theirs.room_with(numbers, Room::none()))?;
+            let added = entries.add_kept(segment, theirs, numbers)?;
             Ok(Taken::Good(Ordered {
-                segment: 0,
+                segment,
                 numbers: Items::from_vec(added),
                 order: Items::from_vec(ordered.order.as_slice().to_vec(alloc)?),
             }))

@@ -1,13 +1,16 @@
 //! What one worker has read of a scan so far.
 
 ghost use Rattle.std.specs.Prelude.{◌≡◌, ◌<◌, ◌≤◌, ◌↔◌, length, OnOk, OnErr, replicate, None, IfOk, IsOk, IsTrue, List};
-ghost use Rattle.std.specs.Prelude.{Bool, ℕ, vec_len};
+ghost use Rattle.std.specs.Prelude.{Bool, ℕ, vec_len, false, Some, slice_get};
 ghost use Rattle.contract_words.specs.Outcome.{Gives};
 ghost use Rattle.ice_meta.specs.declared.spec.Spec.{Spec};
+ghost use Rattle.ice_manifest_fields.specs.Seen.{result_map};
 ghost use Rattle.ice_manifest_reading.specs.declared.row.Row.{Row};
+ghost use Rattle.ice_manifest_reading.specs.Telling.{told_of};
 ghost use Rattle.ice_state.specs.Contents.{World, IsOf, is_row_taken, took, content, no_row, every_row, add, HasBytes};
-ghost use Rattle.ice_state.specs.Contents.{HasEach};
+ghost use Rattle.ice_state.specs.Contents.{HasEach, manifest_of};
 ghost use Rattle.ice_state.specs.Outcomes.{outcome};
+ghost use Rattle.ice_state.specs.Refusals.{RanOut};
 ghost use Rattle.ice_state.specs.Covering.{AreCovered};
 ghost use Rattle.ice_state.specs.Joins.{join, either, TookAllOf};
 ghost use Rattle.ice_state.specs.Pruning.{pruner_of};
@@ -22,8 +25,9 @@ use crate::merging::{gained, has_taken_all_of};
 use crate::plan::{OwnedPlan, Plan};
 use crate::scan::Scan;
 use crate::segments::Segments;
-use crate::slots::{is_slot_taken, put_all, put_behind, put_row};
-use crate::taken::{Taken, take_manifest};
+use crate::slots::{put_all, put_behind, put_row};
+use crate::taken::{Taken, TakenTold, take_manifest};
+use ice_manifest_reading::{ManifestFault, Silent, Tell, read_told};
 use std::alloc::{AllocError, Global};
 use std::marker::Model;
 
@@ -61,7 +65,7 @@ impl Partial {
         for _ in 0..scan.wanted().len() {
             slots.push(None)?;
         }
-        let entries = Segments::new(alloc)?;
+        let entries = Segments::new(alloc);
         let deletes = IndexedDeletes::build(alloc, &entries, Vec::new(alloc)).ok();
         Ok(Partial {
             entries,
@@ -98,20 +102,83 @@ impl Partial {
             HasBytes world scan.now i bytes.now →
             OnOk result (self.new ≡ content world scan.now (add ts i)) }
     {
-        if is_slot_taken(&self.slots, i) {
+        if self.is_taken(i) {
             return Ok(());
         }
+        let _ = self.take_new(scan, i, bytes, &Silent)?;
+        Ok(())
+    }
+
+    /// Takes the manifest of the wanted row `i` as `take` does, and gives what is told of each of its live entries, kept
+    /// or not, in the order of their positions. A row that was taken before is only told. Where memory is refused, the
+    /// state is as it was. Any other fault is the manifest's, which is taken and kept as bad.
+    pub fn take_told<T: Tell>(
+        &mut self,
+        scan: &Scan,
+        i: usize,
+        bytes: &[u8],
+        tell: &T,
+    ) -> Result<Vec<T::Told>, ManifestFault>
+        requires of_scan { IsOf scan.now self.old }
+        requires row { i < length scan.now.wanted }
+
+        ensures of_scan { IsOf scan.now self.new }
+        ensures still { IsTrue (is_row_taken self.old i) → self.new ≡ self.old }
+        ensures ok { (RanOut result → ⊥) → self.new ≡ took scan.now self.old i bytes.now }
+        ensures err { RanOut result → self.new ≡ self.old }
+        ensures told { (row : Row) → slice_get scan.now.wanted i ≡ Some row →
+            Gives ManifestFault.Memory (λ told. told.items) result
+            (told_of (T.told tell.now) (manifest_of scan.now.specs row bytes.now)) }
+        ensures world { (world : World) (ts : List Bool) →
+            self.old ≡ content world scan.now ts →
+            HasBytes world scan.now i bytes.now →
+            (RanOut result → ⊥) → self.new ≡ content world scan.now (add ts i) }
+    {
+        if self.is_taken(i) {
+            return read_told(
+                self.alloc,
+                &scan.wanted()[i],
+                scan.filter_of(i).spec(),
+                tell,
+                bytes,
+            );
+        }
+        self.take_new(scan, i, bytes, tell)?
+    }
+
+    /// Takes the manifest of a wanted row that was not taken, and gives what is told of its live entries, or why it can't
+    /// be read. A refusal, for want of memory, leaves the state as it was.
+    fn take_new<T: Tell>(
+        &mut self,
+        scan: &Scan,
+        i: usize,
+        bytes: &[u8],
+        tell: &T,
+    ) -> Result<Result<Vec<T::Told>, ManifestFault>, AllocError>
+        requires of_scan { IsOf scan.now self.old }
+        requires row { i < length scan.now.wanted }
+        requires new { is_row_taken self.old i ≡ false }
+
+        ensures ok { OnOk result (self.new ≡ took scan.now self.old i bytes.now) }
+        ensures err { OnErr result (self.new ≡ self.old) }
+        ensures told { (row : Row) → slice_get scan.now.wanted i ≡ Some row →
+            IfOk result (λ told. result_map (λ told. told.items) told
+            ≡ told_of (T.told tell.now) (manifest_of scan.now.specs row bytes.now)) }
+        ensures memory { IfOk result (λ told. RanOut told → ⊥) }
+    {
         let row = &scan.wanted()[i];
-        let taken = take_manifest(
+        let filter = scan.filter_of(i);
+        let TakenTold { taken, told } = take_manifest(
             self.alloc,
             &mut self.entries,
             row,
-            &scan.filter_of(i),
+            &filter,
+            tell,
             bytes,
         )?;
         self.deletes = with_taken(self.alloc, self.deletes.take(), &self.entries, &taken);
         put_row(&mut self.slots, i, taken);
-        Ok(())
+        Ok(told)
     }
 
     /// Takes over what another state of the same scan took. A row that was taken here stays as it is. Where the other

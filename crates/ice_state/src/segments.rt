@@ -1,14 +1,15 @@
-//! Entries that are kept in segments: a state's own, and behind them those of each state that it absorbed.
+//! Entries that are kept in segments.
 
-ghost use Rattle.std.specs.Prelude.{◌≡◌, ◌<◌, ◌++◌, ◌^◌, ◌↔◌, length, IfOk, IsTrue, OnErr, OnOk};
+ghost use Rattle.std.specs.Prelude.{◌≡◌, ◌<◌, ◌++◌, ◌^◌, ◌↔◌, [], length, IfOk, IsTrue, OnErr, OnOk};
 ghost use Rattle.ice_entries.specs.Kept.{AreKept as AreKeptIn, entries_at as entries_in};
+ghost use Rattle.ice_entries.specs.Kept.{IsKept as IsKeptIn, entry_at as entry_in, nothing_kept};
 ghost use Rattle.ice_entries.specs.Alike.{AreAlike};
-ghost use Rattle.ice_manifest_reading.specs.Lending.{lent};
+ghost use Rattle.ice_manifest_reading.specs.Lending.{lent, HasShortPaths};
 ghost use Rattle.ice_state.specs.Segments.{AreBefore, entry_at, IsKept, Keeps, segment_at, Segmented};
 ghost use Rattle.ice_state.specs.Segments.{StandsBehind};
 
 use ice_entries::{Entries, EntryNumber, Room};
-use ice_manifest_reading::{EntryView, LentEntry};
+use ice_manifest_reading::LentEntry;
 use ice_value::{FileContent, is_same_tuple};
 use std::alloc::{AllocError, Global};
 use std::cmp::Ordering;
@@ -47,29 +48,73 @@ impl FileNumber {
     }
 }
 
-/// Entries that are kept in segments. There is always a first one, to which entries are put.
+/// How many entries a segment may have, so that those of one more manifest are put to it. The index of so many paths
+/// stays in a processor's cache, where a path is soon looked up, and there are few segments still.
+const FULL: usize = 49_152;
+
+/// For how many entries a further segment has room from the start, and a first one at most, so that it seldom grows: what
+/// grows is made anew, and leaves holes in memory.
+const ROOM: usize = 65_536;
+
+/// A segment that keeps nothing yet, with room for so many entries.
+fn new_segment(alloc: Global, room: usize) -> Result<Entries, AllocError>
+    ensures { IfOk result (λ segment. segment ≡ nothing_kept) }
+{
+    let mut segment = Entries::new(alloc);
+    segment.reserve(Room::of_entries(room))?;
+    Ok(segment)
+}
+
+/// The number of a place. More places than can be numbered count as want of memory.
+fn number_of(place: usize) -> Result<u32, AllocError>
+    ensures { IfOk result (λ number. number ≡ place) }
+{
+    let Ok(number) = u32::try_from(place) else {
+        return Err(AllocError);
+    };
+    Ok(number)
+}
+
+/// Entries that are kept in segments, to the last of which entries are put.
 #[derive(Debug, Drop)]
 pub(crate) struct Segments {
     list: Vec<Entries>,
 }
 
 impl Model for Segments {
-    ghost use Rattle.std.specs.Prelude.{◌<◌, length};
     ghost use Rattle.ice_state.specs.Segments.{Segmented};
 
     ghost Value = { Segmented };
 
     ghost view = { λ s. s.list.items };
-
-    ghost invariant = { λ s. 0 < length s.list.items };
 }
 
 impl Segments {
-    /// One, which keeps nothing yet.
-    pub(crate) fn new(alloc: Global) -> Result<Segments, AllocError> {
-        let mut list = Vec::with_capacity(alloc, 1)?;
-        list.push(Entries::new(alloc))?;
-        Ok(Segments { list })
+    /// None, so that nothing is kept yet.
+    pub(crate) fn new(alloc: Global) -> Segments
+        ensures { result ≡ [] }
+    {
+        Segments {
+            list: Vec::new(alloc),
+        }
+    }
+
+    /// The number of the segment to which the entries of one more manifest are put: the last one, or a new one where
+    /// that is full; the first has room for the entries that are expected. More segments than can be numbered count as
+    /// want of memory. A refusal leaves all as it was.
+    pub(crate) fn begin(&mut self, alloc: Global, expected: usize) -> Result<u32, AllocError>
+        ensures keeps { Keeps self.old self.new }
+        ensures ok { IfOk result (λ segment. segment < length self.new) }
+        ensures err { OnErr result (self.new ≡ self.old) }
+    {
+        let count = self.list.len();
+        if count > 0 && self.list[count - 1].len() < FULL {
+            return number_of(count - 1);
+        }
+        let segment = number_of(count)?;
+        let room = if count > 0 { ROOM } else { expected.min(ROOM) };
+        self.list.push(new_segment(alloc, room)?)?;
+        Ok(segment)
     }
 
     /// The segment of a number.
@@ -78,14 +123,6 @@ impl Segments {
         ensures { result.now ≡ segment_at self.now number }
     {
         &self.list[number as usize]
-    }
-
-    /// The first segment.
-    pub(crate) fn first(&self) -> &Entries
-        ensures some { 0 < length self.now }
-        ensures first { result.now ≡ segment_at self.now 0 }
-    {
-        &self.list[0]
     }
 
     /// The entry of a number.
@@ -125,40 +162,47 @@ impl Segments {
         self.segment(number.segment).path(number.number)
     }
 
-    /// Puts entries of a manifest to the first segment. A refusal, for want of memory, forgets none that was kept.
-    pub(crate) fn add_read(
+    /// Puts an entry to a segment. A refusal, for want of memory, forgets none that was kept.
+    pub(crate) fn add(
         &mut self,
-        views: &[EntryView<'_>],
-    ) -> Result<Vec<EntryNumber>, AllocError>
+        segment: u32,
+        entry: &LentEntry<'_>,
+    ) -> Result<EntryNumber, AllocError>
+        requires there { segment < length self.old }
+        requires short { HasShortPaths entry.now }
+
         ensures keeps { Keeps self.old self.new }
-        ensures kept { IfOk result (λ numbers. AreKeptIn (segment_at self.new 0) numbers.items) }
-        ensures ok { IfOk result (λ numbers. entries_in (segment_at self.new 0) numbers.items ≡ views.now) }
+        ensures kept { IfOk result (λ number. IsKeptIn (segment_at self.new segment) number) }
+        ensures ok { IfOk result (λ number. entry_in (segment_at self.new segment) number ≡ lent entry.now) }
     {
-        self.list[0].add_read(views)
+        self.list[segment as usize].add(entry)
     }
 
-    /// Makes room in the first segment. A refusal, for want of memory, forgets nothing.
-    pub(crate) fn reserve(&mut self, room: Room) -> Result<(), AllocError>
+    /// Makes room in a segment. A refusal, for want of memory, forgets nothing.
+    pub(crate) fn reserve(&mut self, segment: u32, room: Room) -> Result<(), AllocError>
+        requires { segment < length self.old }
         ensures { self.new ≡ self.old }
     {
-        self.list[0].reserve(room)
+        self.list[segment as usize].reserve(room)
     }
 
-    /// Puts entries that others keep to the first segment. A refusal, for want of memory, forgets none that was kept.
+    /// Puts entries that others keep to a segment. A refusal, for want of memory, forgets none that was kept.
     pub(crate) fn add_kept(
         &mut self,
+        segment: u32,
         others: &Entries,
         numbers: &[EntryNumber],
     ) -> Result<Vec<EntryNumber>, AllocError>
-        requires { AreKeptIn others.now numbers.now }
+        requires there { segment < length self.old }
+        requires numbers { AreKeptIn others.now numbers.now }
 
-        ensures some { 0 < length self.new }
+        ensures there { segment < length self.new }
         ensures keeps { Keeps self.old self.new }
-        ensures kept { IfOk result (λ added. AreKeptIn (segment_at self.new 0) added.items) }
-        ensures ok { IfOk result (λ added. entries_in (segment_at self.new 0) added.items
+        ensures kept { IfOk result (λ added. AreKeptIn (segment_at self.new segment) added.items) }
+        ensures ok { IfOk result (λ added. entries_in (segment_at self.new segment) added.items
             ≡ entries_in others.now numbers.now) }
     {
-        self.list[0].add_kept(others, numbers)
+        self.list[segment as usize].add_kept(others, numbers)
     }
 
     /// Puts other segments behind, and says how many stand before them. More than can be numbered count as want of

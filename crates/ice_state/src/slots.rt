@@ -1,25 +1,13 @@
 //! A slot for each wanted row: what its manifest gave, where it was taken.
 
-ghost use Rattle.std.specs.Prelude.{◌≡◌, ◌<◌, ◌≤◌, ◌++◌, length, IsTrue, List, ℕ, vec_len};
-ghost use Rattle.ice_state.specs.Contents.{is_row_taken, took};
+ghost use Rattle.std.specs.Prelude.{◌≡◌, ◌<◌, ◌≤◌, ◌++◌, vec_len};
 ghost use Rattle.ice_state.specs.Joins.{join};
 ghost use Rattle.ice_state.specs.Parts.{with_row};
-ghost use Rattle.ice_state.specs.Scans.{Scanned};
 ghost use Rattle.ice_state.specs.Segments.{AreBefore, Segmented};
 ghost use Rattle.ice_state.specs.Slots.{contents, given, HasNumbers, HaveNumbers};
 
 use crate::ordered::Ordered;
 use crate::taken::Taken;
-
-/// Whether the row was taken.
-pub fn is_slot_taken(slots: &[Option<Taken>], i: usize) -> bool
-    requires { i < length slots.now }
-    ensures test { (kept : Segmented) → result ≡ is_row_taken (contents kept slots.now) i }
-    ensures still { IsTrue result → (kept : Segmented) (scan : Scanned) (bytes : List ℕ) →
-        contents kept slots.now ≡ took scan (contents kept slots.now) i bytes }
-{
-    slots[i].is_some()
-}
 
 /// Adds a row.
 pub fn put_row(slots: &mut Vec<Option<Taken>>, i: usize, taken: Taken)

@@ -4,6 +4,7 @@ pub mod Briefs
 pub mod Cells
 pub mod Columns
 pub mod Equality
+pub mod Formats
 pub mod Pairs
 pub mod Runs
 pub mod Said

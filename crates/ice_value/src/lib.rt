@@ -11,6 +11,7 @@ mod column_type;
 mod columns;
 mod file_bounds;
 mod file_content;
+mod file_format;
 mod sequence_number;
 
 pub use applying::applying_of_deletes;
@@ -23,4 +24,5 @@ pub use column_type::ColumnType;
 pub use columns::{ColumnBounds, ColumnCounts};
 pub use file_bounds::{FileBounds, Summary};
 pub use file_content::FileContent;
+pub use file_format::{FileFormat, names_of_formats};
 pub use sequence_number::SequenceNumber;

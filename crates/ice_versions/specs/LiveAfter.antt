@@ -2,6 +2,7 @@
 -- "Sequence Number Inheritance").
 use Rattle.std.specs.Prelude.{◌≡◌, ◌↔◌, ◌⊎◌, ℕ, List, filter, slice_get, Some}
 use Rattle.std.specs.List.{Contains, flat_map}
+use Rattle.ice_value.specs.Formats.{format_named}
 use Rattle.ice_meta.specs.Partitioning.{is_unpartitioned}
 use Rattle.ice_manifest_reading.specs.declared.data_file.DataFile.{DataFile}
 use Rattle.ice_manifest_reading.specs.declared.entry.Entry.{Entry}
@@ -29,6 +30,7 @@ new_live s c = flat_map (added_entries s) (new_manifests s c)
 abbrev pub data_file : NewFile → DataFile
 data_file f = record {
   content = f.content;
+  format = format_named f.format;
   path = f.path;
   tuple = f.tuple;
   record_count = f.record_count;

@@ -4,6 +4,7 @@ mod columns;
 mod entries;
 mod faults;
 mod files;
+mod formats;
 mod lists;
 mod manifests;
 mod outcomes;
@@ -18,6 +19,7 @@ use columns::COLUMNS;
 use entries::ENTRIES;
 use faults::{ENTRY_FAULTS, ROW_FAULTS, USUAL_ENTRY, USUAL_FILE, USUAL_ROW};
 use files::{begun, put_block};
+use formats::FORMATS;
 use ice_manifest_reading::read_list;
 use lists::LISTS;
 use manifests::MANIFESTS;
@@ -60,6 +62,13 @@ fn upgraded_tables(rt: HostRuntime) -> Result<(), Fail> {
 #[test]
 fn named_data_files(rt: HostRuntime) -> Result<(), Fail> {
     assert_eq!(rt; difference(rt.alloc(), REFERENCED)?.as_str(), "");
+    Ok(())
+}
+
+/// The formats of files, where known ones are named.
+#[test]
+fn formats_of_files(rt: HostRuntime) -> Result<(), Fail> {
+    assert_eq!(rt; difference(rt.alloc(), FORMATS)?.as_str(), "");
     Ok(())
 }
 

@@ -5,6 +5,8 @@
 #[cfg(test)]
 mod deletes;
 #[cfg(test)]
+mod formats;
+#[cfg(test)]
 mod literals;
 #[cfg(test)]
 mod merge_refusals;

@@ -4,8 +4,8 @@
 use super::files::split;
 use contract_words::{Items, Text};
 use ice_manifest_reading::{
-    Counts, DataFile, Entry, EntryView, Keep, Live, ManifestContent, Row, Tell, read_kept,
-    read_list, read_manifest, read_told,
+    Counts, DataFile, Entry, EntryView, Keep, Live, ManifestContent, Row, Tallies, Tell, read_kept,
+    read_list, read_manifest, read_tallied, read_told,
 };
 use ice_meta::{PartitionField, Spec};
 use ice_value::SequenceNumber;
@@ -76,6 +76,14 @@ fn put_referenced(text: &mut String, alloc: Global, file: &DataFile) -> Result<(
     text.push_str(&shown(alloc, path)?)
 }
 
+/// The format of a file, if a known one is named.
+fn put_format(text: &mut String, alloc: Global, file: &DataFile) -> Result<(), AllocError> {
+    match file.format {
+        Some(named) => text.push_str(&format!(in alloc; " in {named:?}")?),
+        None => Ok(()),
+    }
+}
+
 fn put_entry(text: &mut String, alloc: Global, entry: &Entry) -> Result<(), AllocError> {
     let Entry {
         position,
@@ -105,6 +113,7 @@ fn put_entry(text: &mut String, alloc: Global, entry: &Entry) -> Result<(), Allo
         "{record_count} {file_size} {ids:?} {spec_id} {unpartitioned} {tuple:?}"
     )?;
     text.push_str(&rest)?;
+    put_format(text, alloc, file)?;
     put_referenced(text, alloc, file)?;
     text.push_str(";")
 }
@@ -180,7 +189,7 @@ const NO_COUNTS: Counts = Counts {
 
 fn content_of(content: &str) -> ManifestContent {
     match content {
-        "data" | "seen" | "told" => ManifestContent::Data,
+        "data" | "seen" | "told" | "counts" => ManifestContent::Data,
         _ => ManifestContent::Deletes,
     }
 }
@@ -286,6 +295,27 @@ pub fn told_outcome(alloc: Global, source: &str, bytes: &[u8]) -> Result<String,
     let spec = Spec::empty(alloc, row.spec_id);
     match read_told(alloc, &row, &spec, &Positions, bytes) {
         Ok(positions) => format!(in alloc; "{positions:?}"),
+        Err(fault) => format!(in alloc; "{fault:?}"),
+    }
+}
+
+/// How many entries of each status there are, and how many rows their files have.
+pub fn counts_outcome(alloc: Global, source: &str, bytes: &[u8]) -> Result<String, AllocError> {
+    let row = row_of(alloc, source)?;
+    let spec = Spec::empty(alloc, row.spec_id);
+    match read_tallied(alloc, &row, &spec, &Positions, bytes) {
+        Ok(read) => {
+            let Tallies {
+                added,
+                existing,
+                deleted,
+            } = read.tallies;
+            let (new, old, gone) = (added.files, existing.files, deleted.files);
+            let (new_rows, old_rows, gone_rows) = (added.rows, existing.rows, deleted.rows);
+            format!(in alloc;
+                "added {new} {new_rows} existing {old} {old_rows} deleted {gone} {gone_rows}"
+            )
+        }
         Err(fault) => format!(in alloc; "{fault:?}"),
     }
 }

@@ -15,11 +15,12 @@
 //! - `seen 7`, `none 7`: the same, of a manifest of data all of whose entries are kept, or of one of deletes of which
 //!   none is
 //! - `told 7`: the positions that are told of the entries of a manifest of data
+//! - `counts 7`: how many entries of each status it has, and how many rows their files
 //!
 //! `files.rt` says which bytes words are, and `outcomes.rt` what an outcome tells.
 
 use super::files::{begun, put_block, put_words, split};
-use super::outcomes::{kept_outcome, list_outcome, manifest_outcome, told_outcome};
+use super::outcomes::{counts_outcome, kept_outcome, list_outcome, manifest_outcome, told_outcome};
 use std::alloc::{AllocError, Global};
 
 /// What the lines so far say of the next file.
@@ -85,6 +86,7 @@ fn outcome(alloc: Global, source: &str, spec: &str, bytes: &[u8]) -> Result<Stri
         "seen" => kept_outcome(alloc, true, source, bytes),
         "none" => kept_outcome(alloc, false, source, bytes),
         "told" => told_outcome(alloc, source, bytes),
+        "counts" => counts_outcome(alloc, source, bytes),
         _ => manifest_outcome(alloc, source, spec, bytes),
     }
 }

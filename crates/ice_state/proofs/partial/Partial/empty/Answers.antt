@@ -13,13 +13,13 @@ use Rattle.ice_state.proofs.partial.Partial.empty.Goals as goal
 
 pub invariant_of-result : goal.invariant_of-result
 invariant_of-result c =
-    let entries = c.in_ok-entries.entries in
+    let entries = c.new-entries.result in
     let xs = kept_in (contents entries c.loop.slots.items) in
     let nothing : xs ≡ [] =
     ap (λ (ss : List (Option Taken)). kept_in (contents entries ss)) c.loop.invariant
     ∙ ap kept_in (none-contents entries c.loop.counter) ∙ none_kept c.loop.counter in
-    let files : entries_at entries c.new-2.result.items ≡ filter holds_deletes xs =
-    ap (entries_at entries) c.new-2.ensures.items ∙ ap (filter holds_deletes) (sym nothing) in
+    let files : entries_at entries c.new.result.items ≡ filter holds_deletes xs =
+    ap (entries_at entries) c.new.ensures.items ∙ ap (filter holds_deletes) (sym nothing) in
     record {
       numbers = subst (HaveNumbers entries) (sym c.loop.invariant) (none-numbers entries c.loop.counter);
       index =

@@ -4,10 +4,10 @@ use Rattle.ice_manifest_fields.specs.declared.fault.ManifestFault.{ManifestFault
 use Rattle.ice_manifest_fields.specs.declared.fault.ManifestFault.TheVariants.{Memory}
 use Rattle.ice_manifest_reading.specs.Manifests.{live_of}
 use Rattle.ice_manifest_reading.proofs.Collected.{told_given}
-use Rattle.ice_manifest_reading.proofs.manifest.read_told.Goals as goal
+use Rattle.ice_manifest_reading.proofs.manifest.read_tallied.Goals as goal
 
-pub returns : goal.returns
-returns g c =
-    subst (λ (read : Result (List _) ManifestFault). Gives Memory (λ found. found.items) c.read_given.result read)
+pub returns-clause-told : goal.returns-clause-told
+returns-clause-told g c =
+    subst (λ (read : Result (List _) ManifestFault). Gives Memory (λ read. read.told.items) c.read_given.result read)
     (told_given (g.T.Tell.told c.args.tell.now) (live_of c.args.row.now c.args.spec.now c.args.bytes.now))
-    c.read_given.ensures
+    c.read_given.ensures.told

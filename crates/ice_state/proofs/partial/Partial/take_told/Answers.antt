@@ -1,0 +1,37 @@
+use Rattle.std.proofs.Common.{◌∙◌, ◌≡◌, sym, true, false, ap, length, List, subst}
+use Rattle.std.proofs.lemmas.Result.{err_from_is_err_and}
+use Rattle.ice_manifest_reading.specs.declared.row.Row.{Row}
+use Rattle.ice_state.specs.Contents.{is_row_taken}
+use Rattle.ice_state.proofs.Contents.{took-in_world, length-took}
+use Rattle.ice_state.proofs.Taking.{taken_stays, manifest_is}
+use Rattle.ice_state.proofs.partial.Partial.take_told.Goals as goal
+
+pub returns-then-is_taken-clause-ok : goal.returns-then-is_taken-clause-ok
+returns-then-is_taken-clause-ok g c = λ _.
+    taken_stays c.args.scan.now c.args.self.now c.args.scan.now.wanted c.args.i c.args.bytes.now
+    (sym c.is_taken.ensures ∙ c.if-is_taken.true)
+
+pub take_new-requires : goal.take_new-requires
+take_new-requires g c = record {
+  of_scan = c.requires.of_scan;
+  row = c.requires.row;
+  new = sym c.is_taken.ensures ∙ c.if-is_taken.false;
+}
+
+pub returns-clause-still : goal.returns-clause-still
+returns-clause-still g c = λ h.
+    let no_more : true ≡ false = sym h ∙ sym c.is_taken.ensures ∙ c.if-is_taken.false in
+    absurd cc
+
+pub returns-then-is_taken-clause-world : goal.returns-then-is_taken-clause-world
+returns-then-is_taken-clause-world g c = λ world ts is has _. took-in_world world c.args.scan.now ts _ _ _ _
+    (taken_stays c.args.scan.now c.args.self.now c.args.scan.now.wanted c.args.i c.args.bytes.now
+    (sym c.is_taken.ensures ∙ c.if-is_taken.true)) is has
+
+pub returns-clause-of_scan : goal.returns-clause-of_scan
+returns-clause-of_scan g c = ap length c.in_ok-take_new.ensures.ok
+    ∙ length-took c.args.scan.now _ _ c.args.i c.args.bytes.now ∙ c.requires.of_scan
+
+pub returns-clause-world : goal.returns-clause-world
+returns-clause-world g c = λ world ts is has _. took-in_world world c.args.scan.now ts _ _ _ _
+    c.in_ok-take_new.ensures.ok is has
