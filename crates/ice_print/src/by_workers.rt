@@ -16,6 +16,9 @@ use std::thread::{Threads, map_indices};
 /// How many bytes of a text are made ahead at most, by each thread.
 const MOST_AHEAD: usize = 4_194_304;
 
+/// The room of a line in a text that is made ahead. Most lines take less, so that the text need not grow.
+const LINE_ROOM: usize = 128;
+
 /// A text that is made ahead, up to a limit.
 #[derive(Debug, Drop)]
 struct Text {
@@ -43,8 +46,9 @@ fn text_of(alloc: Global, lines: &Lines<'_>, first: usize, count: usize) -> Opti
     ensures { IfSome result (λ text. text.items ≡ range_text lines.now first count) }
 {
     let mut page = Page::new(alloc).ok()?;
+    let room = count.saturating_mul(LINE_ROOM).min(MOST_AHEAD);
     let mut text = Text {
-        bytes: Vec::new(alloc),
+        bytes: Vec::with_capacity(alloc, room).ok()?,
     };
     put_some_lines(&mut page, &mut text, lines, first, count).ok()?;
     page.flush(&mut text).ok()?;
