@@ -1,20 +1,20 @@
 -- What was examined of the live entries of a manifest.
-use Rattle.std.proofs.Common.{◌≡◌, suc, List, [], ◌∷◌, ◌++◌, length, map, refl, sym, ap, append_assoc}
-use Rattle.std.specs.Prelude.{◌+ℤ◌, Result, Ok, Err}
+use Rattle.std.proofs.Common.{◌≡◌, suc, List, [], ◌∷◌, ◌++◌, length, map, refl, ap, append_assoc}
+use Rattle.std.specs.Prelude.{Result, Ok, Err}
 use Rattle.std.specs.List.{flat_map}
 use Rattle.ice_manifest_fields.specs.declared.fault.ManifestFault.{ManifestFault}
-use Rattle.ice_manifest_reading.specs.Manifests.{entries}
 use Rattle.ice_manifest_reading.specs.Telling.{told_of}
 use Rattle.ice_manifest_reading.specs.declared.entry.Live.{Live}
 use Rattle.ice_manifest_reading.specs.declared.row.Row.{Row}
+use Rattle.ice_manifest_reading.specs.declared.tally.Tallies.{Tallies}
 use Rattle.ice_meta.specs.declared.spec.Spec.{Spec}
 use Rattle.ice_audit.specs.declared.basis.Basis.{Basis}
 use Rattle.ice_audit.specs.declared.examined.Examined.{Examined}
 use Rattle.ice_audit.specs.declared.finding.Finding.{Finding}
 use Rattle.ice_audit.specs.declared.repeats.LiveFile.{LiveFile}
-use Rattle.ice_audit.specs.Counting.{flaws_by_counts, rows_of}
+use Rattle.ice_audit.specs.Counting.{count_flaws}
 use Rattle.ice_audit.specs.Coverage.{row_limits}
-use Rattle.ice_audit.specs.Examining.{examined, file_at, findings_on, rows_examined}
+use Rattle.ice_audit.specs.Examining.{examined, file_at, findings_on}
 use Rattle.ice_audit.specs.Findings.{entry_findings, live_findings, manifest_finding, manifest_findings}
 use Rattle.ice_audit.specs.Repeats.{live_file, live_files}
 
@@ -22,17 +22,9 @@ module _ (basis : Basis) (row : Row) (spec : Spec) where
   abbrev seen : Live → Examined
   seen l = examined basis row (row_limits spec row.partitions) l
 
-  same_rows : (ls : List Live) → rows_examined (map seen ls) ≡ rows_of (entries ls)
-  same_rows [] = refl
-  same_rows (l ∷ ls) = ap (λ n. l.entry.file.record_count +ℤ n) (same_rows ls)
-
   same_number : (ls : List Live) → length (map seen ls) ≡ length ls
   same_number [] = refl
   same_number (l ∷ ls) = ap (λ n. suc n) (same_number ls)
-
-  as_many : (ls : List Live) → length (entries ls) ≡ length ls
-  as_many [] = refl
-  as_many (l ∷ ls) = ap (λ n. suc n) (as_many ls)
 
   same_findings : (ls : List Live) → flat_map (findings_on row) (map seen ls) ≡ live_findings basis row spec ls
   same_findings [] = refl
@@ -40,9 +32,9 @@ module _ (basis : Basis) (row : Row) (spec : Spec) where
       ap (λ (more : List Finding). entry_findings basis row (row_limits spec row.partitions) l ++ more)
       (same_findings ls)
 
-  same_files : (ls : List Live) → map (file_at row) (map seen ls) ≡ live_files row ls
+  same_files : (ls : List Live) → map (file_at row) (map seen ls) ≡ live_files basis row ls
   same_files [] = refl
-  same_files (l ∷ ls) = ap (λ (more : List LiveFile). live_file row l.entry ∷ more) (same_files ls)
+  same_files (l ∷ ls) = ap (λ (more : List LiveFile). live_file basis row l.entry ∷ more) (same_files ls)
 
   -- what was told of the live entries of a manifest that was read
   pub told_ok : (read : Result (List Live) ManifestFault) (found : List Examined) → told_of seen read ≡ Ok found
@@ -58,12 +50,11 @@ module _ (basis : Basis) (row : Row) (spec : Spec) where
   pub number_of : (found : List Examined) (ls : List Live) → found ≡ map seen ls → length found ≡ length ls
   number_of found ls is = rw (is, same_number ls) refl
 
-  pub findings_of : (old : List Finding) (found : List Examined) (ls : List Live) → found ≡ map seen ls
-      → (old ++ map (manifest_finding row) (flaws_by_counts row (length found) (rows_examined found)))
-      ++ flat_map (findings_on row) found ≡ old ++ manifest_findings basis row spec ls
-  findings_of old found ls is =
-      rw (is, same_number ls, sym (as_many ls), same_rows ls, same_findings ls, append_assoc) refl
+  pub findings_of : (old : List Finding) (tallies : Tallies) (found : List Examined) (ls : List Live)
+      → found ≡ map seen ls → (old ++ map (manifest_finding row) (count_flaws row tallies))
+      ++ flat_map (findings_on row) found ≡ old ++ manifest_findings basis row spec tallies ls
+  findings_of old tallies found ls is = rw (is, same_findings ls, append_assoc) refl
 
   pub files_of : (found : List Examined) (ls : List Live) → found ≡ map seen ls
-      → map (file_at row) found ≡ live_files row ls
+      → map (file_at row) found ≡ live_files basis row ls
   files_of found ls is = rw (is, same_files ls) refl

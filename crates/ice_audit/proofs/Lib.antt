@@ -1,9 +1,12 @@
 pub mod Apart
+pub mod Stepwise
+pub mod Hitting
+pub mod Searched
 pub mod CoverageLaws
 pub mod Told
+pub mod Dangled
 pub mod Telltale
 pub mod Walks
-pub mod Counted
 pub mod Repeated
 pub mod Found
 pub mod Members
@@ -11,3 +14,4 @@ pub mod Said
 pub mod Rising
 pub mod LastSaid
 pub mod ColumnsTold
+pub mod Miscounts

@@ -6,10 +6,10 @@ use Rattle.std.proofs.lemmas.List.Elements.{Contains-append_left, Contains-appen
 use Rattle.ice_value.specs.declared.file_bounds.FileBounds.{FileBounds}
 use Rattle.ice_value.specs.declared.file_content.FileContent.{FileContent}
 use Rattle.ice_value.specs.declared.file_content.FileContent.TheVariants.{Data, PositionDeletes, EqualityDeletes}
-use Rattle.ice_manifest_reading.specs.Manifests.{entries}
 use Rattle.ice_manifest_reading.specs.declared.entry.Entry.{Entry}
 use Rattle.ice_manifest_reading.specs.declared.entry.Live.{Live}
 use Rattle.ice_manifest_reading.specs.declared.row.Row.{Row}
+use Rattle.ice_manifest_reading.specs.declared.tally.Tallies.{Tallies}
 use Rattle.ice_meta.specs.declared.spec.Spec.{Spec}
 use Rattle.ice_audit.specs.declared.basis.Basis.{Basis}
 use Rattle.ice_audit.specs.declared.basis.TypedColumn.{TypedColumn}
@@ -104,7 +104,7 @@ module _ (flaw : ℤ → Flaw) (holds : FileBounds → TypedColumn → Bool) (sa
     (told : (file : FileBounds) (c : TypedColumn) (id : ℤ) → Contains (column_flaws file c) (flaw id)
     → (holds file c ≡ true) × (c.id ≡ id))
     (tells : (file : FileBounds) (c : TypedColumn) → holds file c ≡ true → Contains (column_flaws file c) (flaw c.id))
-    (basis : Basis) (row : Row) (spec : Spec) (lives : List Live) (path : List ℕ) (id : ℤ) where
+    (basis : Basis) (row : Row) (spec : Spec) (tallies : Tallies) (lives : List Live) (path : List ℕ) (id : ℤ) where
   abbrev finding : Finding
   finding = finding_at row path (flaw id)
 
@@ -140,16 +140,16 @@ module _ (flaw : ℤ → Flaw) (holds : FileBounds → TypedColumn → Bool) (sa
         is_true = here.0;
       }
 
-  pub from_finding : Contains (manifest_findings basis row spec lives) finding → IsSaid holds basis.typed lives path id
+  pub from_finding : Contains (manifest_findings basis row spec tallies lives) finding → IsSaid holds basis.typed lives path id
   from_finding c =
-      elim (Contains-append_cases (map (manifest_finding row) (count_flaws row (entries lives)))
+      elim (Contains-append_cases (map (manifest_finding row) (count_flaws row tallies))
       (live_findings basis row spec lives) finding c) as (λ _. IsSaid holds basis.typed lives path id) [
-        | inl m ↦ let r = from_map (manifest_finding row) (count_flaws row (entries lives)) finding m in
+        | inl m ↦ let r = from_map (manifest_finding row) (count_flaws row tallies) finding m in
             let none : ◌≡◌ {A = Option (List ℕ)} None (Some path) = ap (λ (x : Finding). x.file) r.2 in absurd cc
         | inr m ↦ let r = from_flat (entry_findings basis row limits_here) lives finding m in of_live r.0 r.1 r.2
       ]
 
-  pub to_finding : IsSaid holds basis.typed lives path id → Contains (manifest_findings basis row spec lives) finding
+  pub to_finding : IsSaid holds basis.typed lives path id → Contains (manifest_findings basis row spec tallies lives) finding
   to_finding s =
       let l = s.live in
       let c = s.column in
@@ -160,7 +160,7 @@ module _ (flaw : ℤ → Flaw) (holds : FileBounds → TypedColumn → Bool) (sa
       let same : finding_of row l.entry (flaw c.id) ≡ finding = rw (s.path_is, s.id_is) refl in
       let here = in_flat (entry_findings basis row limits_here) lives l (finding_of row l.entry (flaw c.id)) s.is_live
       found in
-      Contains-append_right (map (manifest_finding row) (count_flaws row (entries lives)))
+      Contains-append_right (map (manifest_finding row) (count_flaws row tallies))
       (live_findings basis row spec lives) finding
       (subst (λ f. Contains (live_findings basis row spec lives) f) same here)
 

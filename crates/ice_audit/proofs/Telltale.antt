@@ -5,10 +5,11 @@ use Rattle.std.specs.List.{AllByRecursion, Contains}
 use Rattle.ice_value.specs.declared.cell.Cell.{Cell}
 use Rattle.ice_value.specs.declared.file_bounds.Summary.{Summary}
 use Rattle.ice_manifest_reading.specs.Laws.{HasACellForEach}
-use Rattle.ice_manifest_reading.specs.Manifests.{entries, live_of}
+use Rattle.ice_manifest_reading.specs.Manifests.{live_of}
 use Rattle.std.specs.Prelude.{Ok}
 use Rattle.ice_manifest_reading.specs.declared.entry.Live.{Live}
 use Rattle.ice_manifest_reading.specs.declared.row.Row.{Row}
+use Rattle.ice_manifest_reading.specs.declared.tally.Tallies.{Tallies}
 use Rattle.ice_meta.specs.declared.spec.Spec.{Spec}
 use Rattle.ice_state.specs.Covering.{Covers, RowCovers}
 use Rattle.ice_state.specs.Specs.{spec_of}
@@ -76,18 +77,19 @@ module _ (basis : Basis) (row : Row) (spec : Spec) (is : spec_of basis.specs row
 
 -- no finding says that a summary does not cover an entry just where the row's summaries cover all entries
 pub told_of_manifest : (full : HasACellForEach) (basis : Basis) (row : Row) (spec : Spec)
-    → spec_of basis.specs row.spec_id ≡ Some spec → (bytes : List ℕ) (lives : List Live)
-    → live_of row spec bytes ≡ Ok lives → uncovered (manifest_findings basis row spec lives) ≡ []
+    → spec_of basis.specs row.spec_id ≡ Some spec → (bytes : List ℕ) (tallies : Tallies) (lives : List Live)
+    → live_of row spec bytes ≡ Ok lives → uncovered (manifest_findings basis row spec tallies lives) ≡ []
     → AllByRecursion (λ (l : Live). RowCovers basis.specs row l.entry.file.tuple) lives
-told_of_manifest full basis row spec is bytes lives has none = covered_in basis row spec is lives
+told_of_manifest full basis row spec is bytes tallies lives has none = covered_in basis row spec is lives
     (each_at (IsFull basis row spec is) lives (λ l c. full row spec bytes lives l has c))
-    (none_of_both (map (manifest_finding row) (count_flaws row (entries lives)))
+    (none_of_both (map (manifest_finding row) (count_flaws row tallies))
     (live_findings basis row spec lives) none).1
 
 pub told_of_covered : (basis : Basis) (row : Row) (spec : Spec) → spec_of basis.specs row.spec_id ≡ Some spec
-    → (lives : List Live) → AllByRecursion (λ (l : Live). RowCovers basis.specs row l.entry.file.tuple) lives
-    → uncovered (manifest_findings basis row spec lives) ≡ []
-told_of_covered basis row spec is lives covered =
-    none_of_all (map (manifest_finding row) (count_flaws row (entries lives)))
-    (live_findings basis row spec lives) (no_counts row (entries lives))
+    → (tallies : Tallies) (lives : List Live)
+    → AllByRecursion (λ (l : Live). RowCovers basis.specs row l.entry.file.tuple) lives
+    → uncovered (manifest_findings basis row spec tallies lives) ≡ []
+told_of_covered basis row spec is tallies lives covered =
+    none_of_all (map (manifest_finding row) (count_flaws row tallies))
+    (live_findings basis row spec lives) (no_counts row tallies)
     (none_in basis row spec is lives covered)

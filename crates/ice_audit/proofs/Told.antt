@@ -1,28 +1,35 @@
 -- Of the findings on one entry those on coverage are the names of the fields outside of the limits.
-use Rattle.std.proofs.Common.{◌≡◌, ℕ, ℤ, Bool, true, false, nat_lt, List, [], ◌∷◌, ◌++◌, length, map, not, refl, sym}
-use Rattle.std.proofs.Common.{◌∙◌, ap, cond}
-use Rattle.std.specs.Prelude.{pos}
+use Rattle.std.proofs.Common.{◌≡◌, ℕ, ℤ, Bool, true, false, nat_lt, List, [], ◌∷◌, ◌++◌, map, refl, sym}
+use Rattle.std.proofs.Common.{◌∙◌, ap, cond, not}
 use Rattle.ice_value.specs.declared.file_content.FileContent.{FileContent}
 use Rattle.ice_value.specs.declared.file_content.FileContent.TheVariants.{Data, PositionDeletes, EqualityDeletes}
 use Rattle.ice_manifest_reading.specs.declared.entry.Entry.{Entry}
 use Rattle.ice_manifest_reading.specs.declared.entry.Live.{Live}
 use Rattle.ice_manifest_reading.specs.declared.row.Row.{Row}
+use Rattle.ice_manifest_reading.specs.declared.tally.Tallies.{Tallies}
 use Rattle.ice_value.specs.declared.file_bounds.FileBounds.{FileBounds}
 use Rattle.ice_audit.specs.declared.basis.Basis.{Basis}
 use Rattle.ice_audit.specs.declared.basis.TypedColumn.{TypedColumn}
+use Rattle.ice_audit.specs.declared.finding.Count.{Count}
 use Rattle.ice_audit.specs.declared.finding.Finding.{Finding}
 use Rattle.ice_audit.specs.declared.finding.Flaw.{Flaw}
 use Rattle.ice_audit.specs.declared.finding.Flaw.TheVariants.{Uncovered, BelowLeast, AboveLast, NoColumn}
-use Rattle.ice_audit.specs.declared.finding.Flaw.TheVariants.{LiveFiles, LiveRows, BoundsCross, ExcessNulls}
+use Rattle.ice_audit.specs.declared.finding.Flaw.TheVariants.{Miscounted, LiveTwice, BoundsCross, ExcessNulls}
+use Rattle.ice_audit.specs.declared.finding.Flaw.TheVariants.{NamedNotLive, DanglingPositions, DanglingEqualities}
 use Rattle.ice_audit.specs.declared.limits.FieldLimits.{FieldLimits}
 use Rattle.ice_audit.specs.ColumnFlaws.{bounds_cross, column_flaws, columns_flaws, has_excess_nulls}
 use Rattle.ice_audit.specs.Coverage.{outside}
-use Rattle.ice_audit.specs.Counting.{count_flaws, is_borne_out, live_by_counts, rows_of}
+use Rattle.ice_audit.specs.Counting.{all_counts, count_flaws, miscounted}
 use Rattle.ice_audit.specs.Findings.{entry_findings, finding_of, flaws_by, manifest_finding, missing, missing_columns}
 use Rattle.ice_audit.specs.Findings.{missing_in}
 use Rattle.ice_audit.specs.Flaws.{flaw_where}
 use Rattle.ice_audit.specs.Repeats.{path_before, repeat_where, repeats, repeats_behind, repeats_in}
-use Rattle.ice_audit.specs.Telling.{is_uncovered, uncovered}
+use Rattle.ice_audit.specs.Telling.{faults, is_fault, is_uncovered, uncovered}
+use Rattle.ice_audit.specs.Dangling.{dangling_flaw, data_files, delete_files, delete_findings, finding_where}
+use Rattle.ice_audit.specs.Dangling.{findings_beside, is_reaching, names_none, paths_in}
+use Rattle.ice_audit.specs.declared.file_key.FileKey.{FileKey}
+use Rattle.ice_value.specs.Applying.{DataKey}
+use Rattle.std.specs.List.{flat_map}
 use Rattle.ice_audit.specs.declared.repeats.LiveFile.{LiveFile}
 use Rattle.contract_words.specs.Sorting.{sorted}
 use Rattle.std.specs.Str.{bytes_eq}
@@ -154,18 +161,14 @@ module _ (row : Row) (l : Live) where
 
 -- ---- the findings on what a row counts
 
-counted : (row : Row) (files rows : Bool)
-    → uncovered (map (manifest_finding row) (flaw_where files LiveFiles ++ flaw_where rows LiveRows)) ≡ []
-counted row true true = refl
-counted row true false = refl
-counted row false true = refl
-counted row false false = refl
+counted : (row : Row) (counts : List Count)
+    → uncovered (map (manifest_finding row) (map Miscounted counts)) ≡ []
+counted row [] = refl
+counted row (count ∷ counts) = counted row counts
 
-pub no_counts : (row : Row) (entries : List Entry)
-    → uncovered (map (manifest_finding row) (count_flaws row entries)) ≡ []
-no_counts row entries = counted row
-    (not (is_borne_out (live_by_counts row.counts.added_files row.counts.existing_files) (pos (length entries))))
-    (not (is_borne_out (live_by_counts row.counts.added_rows row.counts.existing_rows) (rows_of entries)))
+pub no_counts : (row : Row) (tallies : Tallies)
+    → uncovered (map (manifest_finding row) (count_flaws row tallies)) ≡ []
+no_counts row tallies = counted row (miscounted row.counts tallies all_counts)
 
 -- ---- the findings on files that are live twice
 
@@ -184,3 +187,53 @@ none_repeated (x ∷ xs) = none_behind x xs
 
 pub no_repeats : (files : List LiveFile) → uncovered (repeats files) ≡ []
 no_repeats files = none_repeated (sorted path_before files)
+
+-- ---- the findings on delete files
+
+where_none : (b : Bool) (x : LiveFile) (flaw : Flaw) → is_uncovered flaw ≡ false → uncovered (finding_where b x flaw) ≡ []
+where_none true x flaw h = rw h refl
+where_none false x flaw h = refl
+
+dangles : (content : FileContent) → is_uncovered (dangling_flaw content) ≡ false
+dangles Data = refl
+dangles PositionDeletes = refl
+dangles EqualityDeletes = refl
+
+none_on_deletes : (xs : List DataKey) (ds : List (LiveFile × FileKey)) → uncovered (flat_map (findings_beside xs) ds) ≡ []
+none_on_deletes xs [] = refl
+none_on_deletes xs (d ∷ ds) =
+    let named = names_none (paths_in xs) d.1.referenced in
+    let reaching = is_reaching xs d.1 in
+    none_of_all (findings_beside xs d) (flat_map (findings_beside xs) ds)
+    (none_of_all (finding_where named d.0 NamedNotLive)
+    (finding_where (not reaching) d.0 (dangling_flaw d.1.content)) (where_none named d.0 NamedNotLive refl)
+    (where_none (not reaching) d.0 (dangling_flaw d.1.content) (dangles d.1.content))) (none_on_deletes xs ds)
+
+pub no_delete_findings : (files : List LiveFile) → uncovered (delete_findings files) ≡ []
+no_delete_findings files = none_on_deletes (data_files files) (delete_files files)
+
+-- ---- faults
+
+no_fault : (flaw : Flaw) → is_fault flaw ≡ false → is_uncovered flaw ≡ false
+no_fault (Miscounted count) h = refl
+no_fault (Uncovered field) h = absurd cc
+no_fault BelowLeast h = refl
+no_fault AboveLast h = refl
+no_fault LiveTwice h = refl
+no_fault (NoColumn id) h = refl
+no_fault (BoundsCross id) h = refl
+no_fault (ExcessNulls id) h = refl
+no_fault NamedNotLive h = refl
+no_fault DanglingPositions h = refl
+no_fault DanglingEqualities h = refl
+
+no_fault_first : (b : Bool) (x : Finding) (xs : List Finding) → is_fault x.flaw ≡ b
+    → cond b (x ∷ faults xs) (faults xs) ≡ [] → (faults xs ≡ [] → uncovered xs ≡ [])
+    → cond (is_uncovered x.flaw) (x ∷ uncovered xs) (uncovered xs) ≡ []
+no_fault_first true x xs e h rest = absurd cc
+no_fault_first false x xs e h rest = rw (no_fault x.flaw e) (rest h)
+
+-- where there are no faults, all is covered
+pub uncovered_are_faults : (findings : List Finding) → faults findings ≡ [] → uncovered findings ≡ []
+uncovered_are_faults [] h = refl
+uncovered_are_faults (x ∷ xs) h = no_fault_first (is_fault x.flaw) x xs refl h (uncovered_are_faults xs)

@@ -1,37 +1,49 @@
--- What a manifest list counts in a manifest, held against the manifest's live entries: Apache Iceberg table spec,
--- version 2, "Manifest Lists".
-use Rattle.std.specs.Prelude.{ℕ, ℤ, pos, ◌+ℤ◌, Bool, true, not, List, [], ◌∷◌, ◌++◌, length, Option, Some, None}
+-- What a manifest list counts in a manifest, held against the manifest's entries: Apache Iceberg table spec, version 2,
+-- "Manifest Lists".
+use Rattle.std.specs.Prelude.{ℤ, pos, Bool, true, not, List, [], ◌∷◌, map, filter, Option, Some, None}
 use Rattle.std.specs.Ordering.{int_eq}
-use Rattle.ice_manifest_reading.specs.declared.entry.Entry.{Entry}
+use Rattle.ice_manifest_reading.specs.declared.counts.Counts.{Counts}
 use Rattle.ice_manifest_reading.specs.declared.row.Row.{Row}
+use Rattle.ice_manifest_reading.specs.declared.tally.Tallies.{Tallies}
+use Rattle.ice_audit.specs.declared.finding.Count.{Count}
+use Rattle.ice_audit.specs.declared.finding.Count.TheVariants.{AddedFiles, ExistingFiles, DeletedFiles}
+use Rattle.ice_audit.specs.declared.finding.Count.TheVariants.{AddedRows, ExistingRows, DeletedRows}
 use Rattle.ice_audit.specs.declared.finding.Flaw.{Flaw}
-use Rattle.ice_audit.specs.declared.finding.Flaw.TheVariants.{LiveFiles, LiveRows}
-use Rattle.ice_audit.specs.Flaws.{flaw_where}
+use Rattle.ice_audit.specs.declared.finding.Flaw.TheVariants.{Miscounted}
 
--- what is live by two counts, of what was added and of what exists, where both are there
-abbrev pub live_by_counts : Option ℤ → Option ℤ → Option ℤ
-live_by_counts (Some added) (Some existing) = Some (added +ℤ existing)
-live_by_counts (Some added) None = None
-live_by_counts None existing = None
+-- what the list counts, where the writer did not leave it out
+abbrev pub listed : Counts → Count → Option ℤ
+listed counts AddedFiles = counts.added_files
+listed counts ExistingFiles = counts.existing_files
+listed counts DeletedFiles = counts.deleted_files
+listed counts AddedRows = counts.added_rows
+listed counts ExistingRows = counts.existing_rows
+listed counts DeletedRows = counts.deleted_rows
+
+-- how many there are
+abbrev pub there_are : Tallies → Count → ℤ
+there_are tallies AddedFiles = pos tallies.added.files
+there_are tallies ExistingFiles = pos tallies.existing.files
+there_are tallies DeletedFiles = pos tallies.deleted.files
+there_are tallies AddedRows = tallies.added.rows
+there_are tallies ExistingRows = tallies.existing.rows
+there_are tallies DeletedRows = tallies.deleted.rows
 
 -- a count is of this number, or there is none
 abbrev pub is_borne_out : Option ℤ → ℤ → Bool
 is_borne_out None number = true
 is_borne_out (Some count) number = int_eq count number
 
--- the rows of the files
-abbrev pub rows_of : List Entry → ℤ
-rows_of [] = pos 0
-rows_of (x ∷ xs) = x.file.record_count +ℤ rows_of xs
+abbrev pub has_all : Counts → Tallies → Count → Bool
+has_all counts tallies count = is_borne_out (listed counts count) (there_are tallies count)
 
--- whether the list counts other live files than so many, and other rows of them
-abbrev pub flaws_by_counts : Row → ℕ → ℤ → List Flaw
-flaws_by_counts row number rows =
-    let files = live_by_counts row.counts.added_files row.counts.existing_files in
-    let counted = live_by_counts row.counts.added_rows row.counts.existing_rows in
-    flaw_where (not (is_borne_out files (pos number))) LiveFiles
-    ++ flaw_where (not (is_borne_out counted rows)) LiveRows
+-- those of the counts that the list has and that are of another number
+abbrev pub miscounted : Counts → Tallies → List Count → List Count
+miscounted counts tallies which = filter (λ count. not (has_all counts tallies count)) which
 
--- whether the list counts other live files, and other rows of them, than the manifest has
-abbrev pub count_flaws : Row → List Entry → List Flaw
-count_flaws row entries = flaws_by_counts row (length entries) (rows_of entries)
+abbrev pub all_counts : List Count
+all_counts = AddedFiles ∷ ExistingFiles ∷ DeletedFiles ∷ AddedRows ∷ ExistingRows ∷ DeletedRows ∷ []
+
+-- the counts of a row that the manifest's entries do not bear out
+abbrev pub count_flaws : Row → Tallies → List Flaw
+count_flaws row tallies = map Miscounted (miscounted row.counts tallies all_counts)

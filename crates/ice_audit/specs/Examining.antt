@@ -1,5 +1,5 @@
 -- Live entries as an audit looks at them.
-use Rattle.std.specs.Prelude.{ℕ, ℤ, pos, ◌+ℤ◌, List, [], ◌∷◌, map, Some}
+use Rattle.std.specs.Prelude.{ℕ, List, map, Some}
 use Rattle.ice_manifest_reading.specs.declared.entry.Live.{Live}
 use Rattle.ice_manifest_reading.specs.declared.row.Row.{Row}
 use Rattle.ice_audit.specs.declared.basis.Basis.{Basis}
@@ -9,19 +9,15 @@ use Rattle.ice_audit.specs.declared.finding.Flaw.{Flaw}
 use Rattle.ice_audit.specs.declared.limits.FieldLimits.{FieldLimits}
 use Rattle.ice_audit.specs.declared.repeats.LiveFile.{LiveFile}
 use Rattle.ice_audit.specs.Findings.{live_flaws}
+use Rattle.ice_audit.specs.Keys.{key_of}
 
 -- a live entry of a row's manifest, whose values may be within these limits
 abbrev pub examined : Basis → Row → List FieldLimits → Live → Examined
 examined basis row limits l = record {
   path = l.entry.file.path;
-  rows = l.entry.file.record_count;
   flaws = live_flaws basis row limits l;
+  key = key_of basis l.entry;
 }
-
--- the rows of the files
-abbrev pub rows_examined : List Examined → ℤ
-rows_examined [] = pos 0
-rows_examined (x ∷ xs) = x.rows +ℤ rows_examined xs
 
 -- a finding on an entry of a row's manifest, and all of them
 abbrev pub finding_at : Row → List ℕ → Flaw → Finding
@@ -32,4 +28,4 @@ findings_on row x = map (finding_at row x.path) x.flaws
 
 -- the file of an entry
 abbrev pub file_at : Row → Examined → LiveFile
-file_at row x = record { path = x.path; manifest = row.path }
+file_at row x = record { path = x.path; manifest = row.path; key = x.key }

@@ -8,7 +8,7 @@ use Rattle.ice_meta.specs.declared.spec.Spec.{Spec}
 use Rattle.ice_manifest_reading.specs.declared.entry.Entry.{Entry}
 use Rattle.ice_manifest_reading.specs.declared.entry.Live.{Live}
 use Rattle.ice_manifest_reading.specs.declared.row.Row.{Row}
-use Rattle.ice_manifest_reading.specs.Manifests.{entries}
+use Rattle.ice_manifest_reading.specs.declared.tally.Tallies.{Tallies}
 use Rattle.ice_audit.specs.declared.basis.Basis.{Basis}
 use Rattle.ice_audit.specs.declared.finding.Finding.{Finding}
 use Rattle.ice_audit.specs.declared.finding.Flaw.{Flaw}
@@ -60,7 +60,7 @@ entry_findings basis row limits l = map (finding_of row l.entry) (live_flaws bas
 abbrev pub live_findings : Basis → Row → Spec → List Live → List Finding
 live_findings basis row spec lives = flat_map (entry_findings basis row (row_limits spec row.partitions)) lives
 
--- what is found of a row's manifest: first of what the row counts, then of the live entries
-abbrev pub manifest_findings : Basis → Row → Spec → List Live → List Finding
-manifest_findings basis row spec lives =
-    map (manifest_finding row) (count_flaws row (entries lives)) ++ live_findings basis row spec lives
+-- what is found of a row's manifest: first of what the row counts, held against these tallies, then of the live entries
+abbrev pub manifest_findings : Basis → Row → Spec → Tallies → List Live → List Finding
+manifest_findings basis row spec tallies lives =
+    map (manifest_finding row) (count_flaws row tallies) ++ live_findings basis row spec lives

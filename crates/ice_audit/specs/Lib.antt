@@ -1,5 +1,9 @@
 pub mod Coverage
 pub mod Flaws
+pub mod Keys
+pub mod Bases
+pub mod Dangling
+pub mod Lookups
 pub mod Ids
 pub mod ColumnFlaws
 pub mod ColumnsSaid

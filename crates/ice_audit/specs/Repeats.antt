@@ -7,16 +7,18 @@ use Rattle.contract_words.specs.Sorting.{sorted}
 use Rattle.ice_manifest_reading.specs.declared.entry.Entry.{Entry}
 use Rattle.ice_manifest_reading.specs.declared.entry.Live.{Live}
 use Rattle.ice_manifest_reading.specs.declared.row.Row.{Row}
+use Rattle.ice_audit.specs.declared.basis.Basis.{Basis}
 use Rattle.ice_audit.specs.declared.finding.Finding.{Finding}
 use Rattle.ice_audit.specs.declared.finding.Flaw.TheVariants.{LiveTwice}
 use Rattle.ice_audit.specs.declared.repeats.LiveFile.{LiveFile}
+use Rattle.ice_audit.specs.Keys.{key_of}
 
 -- the file of a live entry of a row's manifest
-abbrev pub live_file : Row → Entry → LiveFile
-live_file row x = record { path = x.file.path; manifest = row.path }
+abbrev pub live_file : Basis → Row → Entry → LiveFile
+live_file basis row x = record { path = x.file.path; manifest = row.path; key = key_of basis x }
 
-abbrev pub live_files : Row → List Live → List LiveFile
-live_files row lives = map (λ (l : Live). live_file row l.entry) lives
+abbrev pub live_files : Basis → Row → List Live → List LiveFile
+live_files basis row lives = map (λ (l : Live). live_file basis row l.entry) lives
 
 -- by their paths
 abbrev pub path_before : LiveFile → LiveFile → Bool

@@ -1,6 +1,10 @@
 //! What a table's entries are held against.
 
+ghost use Rattle.std.specs.Prelude.{◌≡◌};
+ghost use Rattle.ice_audit.specs.Bases.{among, has_content_of_deletes, have_deletes};
+
 use contract_words::Items;
+use ice_manifest_reading::{ManifestContent, Row};
 use ice_meta::Spec;
 use ice_value::{ColumnType, SequenceNumber};
 
@@ -13,7 +17,7 @@ pub struct TypedColumn {
     pub column_type: Option<ColumnType>,
 }
 
-/// What a table's metadata says of its entries.
+/// What a table's metadata and its manifest list say of its entries.
 #[derive(Debug, Drop)]
 pub struct Basis {
     /// The partition specs, with the types of their source columns.
@@ -24,4 +28,34 @@ pub struct Basis {
     pub typed: Items<TypedColumn>,
     /// The number of the table's last change.
     pub last: SequenceNumber,
+    /// Whether a manifest of the list has deletes. Only then the keys of live files are kept.
+    pub has_deletes: bool,
+}
+
+fn is_of_deletes(row: &Row) -> bool
+    ensures { result ≡ has_content_of_deletes row.now.content }
+{
+    match row.content {
+        ManifestContent::Data => false,
+        ManifestContent::Deletes => true,
+    }
+}
+
+/// Whether a manifest of the list has deletes.
+fn have_deletes(rows: &[Row]) -> bool
+    ensures { result ≡ have_deletes rows.now }
+{
+    rows.iter().any(|row| is_of_deletes(row))
+}
+
+impl Basis {
+    /// The same, among the rows of a manifest list.
+    pub fn among(self, rows: &[Row]) -> Basis
+        ensures { result ≡ among rows.now self }
+    {
+        Basis {
+            has_deletes: have_deletes(rows),
+            ..self
+        }
+    }
 }

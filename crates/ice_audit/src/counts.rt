@@ -1,66 +1,79 @@
-//! Whether the live entries of a manifest bear out what the manifest list counts.
+//! Whether the entries of a manifest bear out what the manifest list counts.
 
-ghost use Rattle.std.specs.Prelude.{◌≡◌, IfOk, length};
-ghost use Rattle.ice_audit.specs.Counting.{flaws_by_counts, is_borne_out, live_by_counts};
-ghost use Rattle.ice_audit.specs.Examining.{rows_examined};
+ghost use Rattle.std.specs.Prelude.{◌≡◌, ◌++◌, IfOk, OnOk, map, pos};
+ghost use Rattle.ice_audit.specs.Counting.{count_flaws, has_all, is_borne_out, miscounted};
 
-use crate::examined::Examined;
-use crate::finding::Flaw;
-use crate::flaws::push_where;
-use ice_manifest_reading::Row;
+use crate::finding::{Count, Flaw};
+use ice_manifest_reading::{Counts, Row, Tallies, Tally};
 use std::alloc::{AllocError, Global};
 
-fn widened(count: Option<i32>) -> Option<i64>
-    ensures { result ≡ count }
+/// All counts, in the order in which they are told.
+const ALL_COUNTS: [Count; 6] = [
+    Count::AddedFiles,
+    Count::ExistingFiles,
+    Count::DeletedFiles,
+    Count::AddedRows,
+    Count::ExistingRows,
+    Count::DeletedRows,
+];
+
+/// Whether there are as many entries as the list counts, where it counts them.
+fn has_files(count: Option<i32>, tally: &Tally) -> bool
+    ensures { result ≡ is_borne_out count (pos tally.now.files) }
 {
     match count {
-        Some(count) => Some(count as i64),
-        None => None,
-    }
-}
-
-/// What is live by two counts, of what was added and of what exists, where both are there.
-fn live_by_counts(added: Option<i64>, existing: Option<i64>) -> Option<i128>
-    ensures { result ≡ live_by_counts added existing }
-{
-    match (added, existing) {
-        (Some(added), Some(existing)) => Some(added as i128 + existing as i128),
-        _ => None,
-    }
-}
-
-/// The rows of the files, as the manifest says.
-fn rows_of(entries: &[Examined]) -> i128
-    ensures { result ≡ rows_examined entries.now }
-{
-    let mut rows: i128 = 0;
-    'entries: for entry in entries {
-        rows += entry.rows as i128;
-    }
-    rows
-}
-
-fn is_borne_out(count: Option<i128>, number: i128) -> bool
-    ensures { result ≡ is_borne_out count number }
-{
-    match count {
-        Some(count) => count == number,
+        Some(count) => count as i128 == tally.files as i128,
         None => true,
     }
 }
 
-/// Whether the list counts other live files, and other rows of them, than the manifest has.
-pub fn count_flaws(alloc: Global, row: &Row, entries: &[Examined]) -> Result<Vec<Flaw>, AllocError>
-    ensures { IfOk result (λ flaws. flaws.items
-        ≡ flaws_by_counts row.now (length entries.now) (rows_examined entries.now)) }
+/// Whether their files have as many rows as the list counts, where it counts them.
+fn has_rows(count: Option<i64>, tally: &Tally) -> bool
+    ensures { result ≡ is_borne_out count tally.now.rows }
 {
-    let counts = row.counts;
+    match count {
+        Some(count) => count as i128 == tally.rows,
+        None => true,
+    }
+}
+
+/// Whether a manifest has as many entries, or rows in their files, as the list counts.
+fn has_all(counts: &Counts, tallies: &Tallies, count: Count) -> bool
+    ensures { result ≡ has_all counts.now tallies.now count }
+{
+    match count {
+        Count::AddedFiles => has_files(counts.added_files, &tallies.added),
+        Count::ExistingFiles => has_files(counts.existing_files, &tallies.existing),
+        Count::DeletedFiles => has_files(counts.deleted_files, &tallies.deleted),
+        Count::AddedRows => has_rows(counts.added_rows, &tallies.added),
+        Count::ExistingRows => has_rows(counts.existing_rows, &tallies.existing),
+        Count::DeletedRows => has_rows(counts.deleted_rows, &tallies.deleted),
+    }
+}
+
+/// Puts those of the counts last that the manifest's entries do not bear out.
+fn push_miscounted(
+    flaws: &mut Vec<Flaw>,
+    counts: &Counts,
+    tallies: &Tallies,
+    which: &[Count],
+) -> Result<(), AllocError>
+    ensures { OnOk result (flaws.new.items
+        ≡ flaws.old.items ++ map Flaw.Miscounted (miscounted counts.now tallies.now which.now)) }
+{
+    'counts: for count in which {
+        if !has_all(counts, tallies, *count) {
+            flaws.push(Flaw::Miscounted(*count))?;
+        }
+    }
+    Ok(())
+}
+
+/// The counts of a manifest list that the manifest's entries, whose tallies these are, do not bear out.
+pub fn count_flaws(alloc: Global, row: &Row, tallies: &Tallies) -> Result<Vec<Flaw>, AllocError>
+    ensures { IfOk result (λ flaws. flaws.items ≡ count_flaws row.now tallies.now) }
+{
     let mut flaws = Vec::new(alloc);
-    let files = live_by_counts(widened(counts.added_files), widened(counts.existing_files));
-    let has_files = is_borne_out(files, entries.len() as i128);
-    push_where(&mut flaws, !has_files, Flaw::LiveFiles)?;
-    let rows = live_by_counts(counts.added_rows, counts.existing_rows);
-    let has_rows = is_borne_out(rows, rows_of(entries));
-    push_where(&mut flaws, !has_rows, Flaw::LiveRows)?;
+    push_miscounted(&mut flaws, &row.counts, tallies, &ALL_COUNTS)?;
     Ok(flaws)
 }

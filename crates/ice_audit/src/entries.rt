@@ -6,6 +6,7 @@ ghost use Rattle.ice_audit.specs.Examining.{file_at, finding_at, findings_on};
 ghost use Rattle.ice_audit.specs.Findings.{manifest_finding, manifest_findings};
 ghost use Rattle.ice_audit.specs.Repeats.{live_files};
 ghost use Rattle.ice_manifest_reading.specs.Manifests.{live_of};
+ghost use Rattle.ice_manifest_reading.specs.Tallying.{tallies_of};
 ghost use Rattle.ice_manifest_reading.specs.declared.entry.Live.{Live};
 
 use crate::basis::Basis;
@@ -69,11 +70,17 @@ fn push_entries(
     ensures files { OnOk result (files.new.items ≡ files.old.items ++ map (file_at row.now) entries.items) }
 {
     'entries: for entry in entries {
-        let Examined { path, flaws, .. } = entry;
+        let Examined {
+            path,
+            flaws,
+            key,
+            ..
+        } = entry;
         push_flaws(alloc, findings, row, path.as_slice(), flaws.into_vec())?;
         files.push(LiveFile {
             path,
             manifest: row.path.copy(alloc)?,
+            key,
         })?;
     }
     Ok(())
@@ -82,11 +89,11 @@ fn push_entries(
 /// Reads a row's manifest, puts the findings on it and the files of its live entries last, and gives the number of
 /// these.
 ///
-/// The findings are that on its live files and that on their rows, then those on its live entries in the order of their
-/// positions. Of an entry come first the fields whose summary does not cover it, in the order of the spec, then that its
-/// number is below the manifest's least, that it is above the table's last, and the columns that the schema lacks, in
-/// the order of the file's ids; then, column by column of the schema, that its lower bound is above its upper one, and
-/// that it has more nulls than values.
+/// The findings are the counts of the list that its entries do not bear out, in the order of `Count`, then those on its
+/// live entries in the order of their positions. Of an entry come first the fields whose summary does not cover it, in
+/// the order of the spec, then that its number is below the manifest's least, that it is above the table's last, and the
+/// columns that the schema lacks, in the order of the file's ids; then, column by column of the schema, that its lower
+/// bound is above its upper one, and that it has more nulls than values.
 ///
 /// The fault is that of reading the manifest, or `Memory`; then some findings and files may have been put.
 pub fn audit_manifest(
@@ -100,15 +107,15 @@ pub fn audit_manifest(
 ) -> Result<usize, ManifestFault>
     ensures found { IfOk result (λ number. (lives : List Live) × (live_of row.now spec.now bytes.now ≡ Ok lives)
         × (number ≡ length lives)
-        × (findings.new ≡ findings.old ++ manifest_findings basis.now row.now spec.now lives)
-        × (files.new.items ≡ files.old.items ++ live_files row.now lives)) }
+        × (findings.new ≡ findings.old ++ manifest_findings basis.now row.now spec.now (tallies_of bytes.now) lives)
+        × (files.new.items ≡ files.old.items ++ live_files basis.now row.now lives)) }
     ensures refused { IfErr result (λ fault. fault ≢ ManifestFault.Memory →
         live_of row.now spec.now bytes.now ≡ Err fault) }
 {
-    let entries = examine(alloc, basis, row, spec, bytes)?;
-    let number = entries.len();
-    let counted = count_flaws(alloc, row, &entries)?;
+    let examined = examine(alloc, basis, row, spec, bytes)?;
+    let number = examined.told.len();
+    let counted = count_flaws(alloc, row, &examined.tallies)?;
     push_manifest_flaws(alloc, findings, row, counted)?;
-    push_entries(alloc, findings, files, row, entries)?;
+    push_entries(alloc, findings, files, row, examined.told)?;
     Ok(number)
 }

@@ -6,16 +6,18 @@ ghost use Rattle.ice_audit.specs.Coverage.{row_limits};
 ghost use Rattle.ice_audit.specs.Examining.{examined};
 ghost use Rattle.ice_audit.specs.Ids.{Rises};
 ghost use Rattle.ice_manifest_reading.specs.Manifests.{live_of};
+ghost use Rattle.ice_manifest_reading.specs.Tallying.{tallies_of};
 ghost use Rattle.ice_manifest_reading.specs.Telling.{told_of};
 
 use crate::basis::Basis;
 use crate::columns::push_columns_flaws;
+use crate::file_key::{KeptKey, key_of};
 use crate::finding::Flaw;
 use crate::flaws::flaws_of;
 use crate::ids::rising_ids;
 use crate::limits::{FieldLimits, row_limits};
 use contract_words::Items;
-use ice_manifest_reading::{Live, ManifestFault, Row, Tell, read_told};
+use ice_manifest_reading::{Live, ManifestFault, Row, Tallied, Tell, read_tallied};
 use ice_meta::Spec;
 use std::alloc::{AllocError, Global};
 
@@ -24,10 +26,10 @@ use std::alloc::{AllocError, Global};
 pub struct Examined {
     /// The path of its file.
     pub path: Items<u8>,
-    /// How many rows the file has, as the manifest says.
-    pub rows: i64,
     /// What is wrong with it.
     pub flaws: Items<Flaw>,
+    /// What delete files go by, where the snapshot has some.
+    pub key: KeptKey,
 }
 
 /// What live entries are held against.
@@ -52,23 +54,25 @@ impl<'a> Tell for Against<'a> {
         push_columns_flaws(alloc, &mut flaws, columns, self.ids, &live.bounds)?;
         Ok(Examined {
             path: Items::from_vec(entry.path.to_vec(alloc)?),
-            rows: entry.record_count,
             flaws: Items::from_vec(flaws),
+            key: key_of(alloc, self.basis, &entry)?,
         })
     }
 }
 
-/// The live entries of a row's manifest, in the order of their positions. The fault is that of reading the manifest.
+/// The live entries of a row's manifest, in the order of their positions, and how many entries of each status it has. The
+/// fault is that of reading the manifest.
 pub fn examine(
     alloc: Global,
     basis: &Basis,
     row: &Row,
     spec: &Spec,
     bytes: &[u8],
-) -> Result<Vec<Examined>, ManifestFault>
-    ensures { Gives ManifestFault.Memory (λ found. found.items) result
+) -> Result<Tallied<Examined>, ManifestFault>
+    ensures told { Gives ManifestFault.Memory (λ found. found.told.items) result
         (told_of (examined basis.now row.now (row_limits spec.now row.now.partitions))
         (live_of row.now spec.now bytes.now)) }
+    ensures tallies { IfOk result (λ found. found.tallies ≡ tallies_of bytes.now) }
 {
     let limits = row_limits(alloc, spec, row)?;
     let ids = rising_ids(alloc, basis.typed.as_slice())?;
@@ -78,5 +82,5 @@ pub fn examine(
         limits: limits.as_slice(),
         ids: ids.as_slice(),
     };
-    read_told(alloc, row, spec, &against, bytes)
+    read_tallied(alloc, row, spec, &against, bytes)
 }

@@ -1,14 +1,26 @@
 //! What an audit finds.
 
+ghost use Rattle.std.specs.Prelude.{◌≡◌, length};
+ghost use Rattle.ice_audit.specs.Telling.{faults, is_fault};
+
 use contract_words::{Items, Text};
+
+/// What a manifest list counts in a manifest: the entries of a status, and the rows of the files that they are about.
+#[derive(Clone, Copy, Debug, PartialEq, Eq)]
+pub enum Count {
+    AddedFiles,
+    ExistingFiles,
+    DeletedFiles,
+    AddedRows,
+    ExistingRows,
+    DeletedRows,
+}
 
 /// What is wrong with a manifest, or with a live entry of it.
 #[derive(Debug, Drop)]
 pub enum Flaw {
-    /// By the manifest list the manifest has another number of live files, added and existing ones together.
-    LiveFiles,
-    /// By the manifest list its live files have another number of rows.
-    LiveRows,
+    /// By the manifest list the manifest has another number of these.
+    Miscounted(Count),
     /// The summary that the manifest's row has of the partition field of this name does not cover the file's value.
     Uncovered(Text),
     /// The entry's sequence number is below the least one that the manifest's row names.
@@ -23,6 +35,12 @@ pub enum Flaw {
     BoundsCross(i32),
     /// By its manifest, a column of the file has more nulls than values, null ones among them.
     ExcessNulls(i32),
+    /// The position delete file names a data file, and no live data file has that path.
+    NamedNotLive,
+    /// The position delete file applies to no live data file.
+    DanglingPositions,
+    /// The equality delete file applies to no live data file.
+    DanglingEqualities,
 }
 
 /// A flaw, and where it was found.
@@ -34,4 +52,24 @@ pub struct Finding {
     pub file: Option<Items<u8>>,
     /// What is wrong.
     pub flaw: Flaw,
+}
+
+impl Flaw {
+    /// Whether it is a fault of the table. Delete files that apply to nothing are none: they cost time, and no answer is
+    /// wrong for them.
+    pub fn is_fault(&self) -> bool
+        ensures { result ≡ is_fault self.now }
+    {
+        !matches!(self, Flaw::DanglingPositions | Flaw::DanglingEqualities)
+    }
+}
+
+/// How many of the findings are faults.
+pub fn count_faults(findings: &[Finding]) -> usize
+    ensures { result ≡ length (faults findings.now) }
+{
+    findings
+        .iter()
+        .filter(|finding| finding.flaw.is_fault())
+        .count()
 }

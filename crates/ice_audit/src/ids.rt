@@ -1,6 +1,6 @@
 //! Ids of columns that rise, and what pairs of an id and a value say of them.
 
-ghost use Rattle.std.specs.Prelude.{◌≡◌, ◌<◌, ℕ, true, IfNone, IfOk, IfSome, None, get_or, length, pos, replicate};
+ghost use Rattle.std.specs.Prelude.{◌≡◌, ◌<◌, ℕ, true, IfNone, IfOk, IfSome, None, get_or, length, pos};
 ghost use Rattle.ice_audit.specs.Ids.{Rises};
 ghost use Rattle.ice_value.specs.Pairs.{last_of};
 
@@ -71,17 +71,6 @@ pub fn rising_ids(alloc: Global, columns: &[TypedColumn]) -> Result<Vec<i32>, Al
     }
 }
 
-/// Nothing, so many times.
-fn nothing<T: Copy>(alloc: Global, count: usize) -> Result<Vec<Option<T>>, AllocError>
-    ensures { IfOk result (λ nothing. nothing.items ≡ replicate count None) }
-{
-    let mut nothing = Vec::with_capacity(alloc, count)?;
-    'places: for _ in 0..count {
-        nothing.push(None)?;
-    }
-    Ok(nothing)
-}
-
 /// What pairs say of each of these ids, which rise; of several that have an id the last counts.
 pub fn last_said<T: Copy>(
     alloc: Global,
@@ -92,7 +81,7 @@ pub fn last_said<T: Copy>(
     ensures { IfOk result (λ said. (length said.items ≡ length ids.now) × ((k : ℕ) → k < length ids.now →
         get_or said.items k None ≡ last_of (get_or ids.now k (pos 0)) pairs.now)) }
 {
-    let mut said = nothing(alloc, ids.len())?;
+    let mut said = vec![in alloc; None; ids.len()]?;
     let mut near = 0;
     'pairs: for pair in pairs {
         match place_near(ids, near, pair.0) {

@@ -4,15 +4,18 @@ ghost use Rattle.std.specs.Prelude.{◌≡◌, ◌↔◌, ℕ, ℤ, List, [], So
 ghost use Rattle.std.specs.List.{AllByRecursion, Contains, IsDistinct};
 ghost use Rattle.ice_audit.specs.ColumnFlaws.{bounds_cross, has_excess_nulls};
 ghost use Rattle.ice_audit.specs.Coverage.{allows, limits_of, outside, row_limits};
+ghost use Rattle.ice_audit.specs.Dangling.{delete_findings};
 ghost use Rattle.ice_audit.specs.Examining.{finding_at};
-ghost use Rattle.ice_audit.specs.Findings.{entry_findings, manifest_findings};
+ghost use Rattle.ice_audit.specs.Findings.{entry_findings, manifest_finding, manifest_findings};
 ghost use Rattle.ice_audit.specs.Repeats.{has_path_of, repeats};
-ghost use Rattle.ice_audit.specs.Telling.{IsSaid, uncovered};
+ghost use Rattle.ice_audit.specs.Telling.{Dangles, IsMiscounted, IsSaid, NamesNone, uncovered};
 ghost use Rattle.ice_audit.specs.declared.basis.Basis.{Basis};
+ghost use Rattle.ice_audit.specs.declared.finding.Count.{Count};
 ghost use Rattle.ice_audit.specs.declared.repeats.LiveFile.{LiveFile};
 ghost use Rattle.ice_manifest_reading.specs.Manifests.{live_of};
 ghost use Rattle.ice_manifest_reading.specs.declared.entry.Live.{Live};
 ghost use Rattle.ice_manifest_reading.specs.declared.row.Row.{Row};
+ghost use Rattle.ice_manifest_reading.specs.declared.tally.Tallies.{Tallies};
 ghost use Rattle.ice_meta.specs.declared.spec.PartitionField.{PartitionField};
 ghost use Rattle.ice_meta.specs.declared.spec.Spec.{Spec};
 ghost use Rattle.ice_project.specs.Fields.{field_of, fields_of};
@@ -21,6 +24,7 @@ ghost use Rattle.ice_state.specs.Covering.{RowCovers};
 ghost use Rattle.ice_state.specs.Specs.{spec_of};
 ghost use Rattle.ice_value.specs.declared.cell.Cell.{Cell};
 ghost use Rattle.ice_value.specs.declared.file_bounds.Summary.{Summary};
+ghost use Rattle.ice_value.specs.declared.file_content.FileContent.TheVariants.{EqualityDeletes, PositionDeletes};
 
 use crate::finding::Flaw;
 use ice_manifest_reading::contents_fit;
@@ -42,9 +46,9 @@ pub fn findings_tell_coverage()
         spec_of basis.specs row.spec_id ≡ Some spec → length l.entry.file.tuple ≡ length spec.fields →
         uncovered (entry_findings basis row (row_limits spec row.partitions) l) ≡ []
         ↔ RowCovers basis.specs row l.entry.file.tuple }
-    ensures manifest { (basis : Basis) (row : Row) (spec : Spec) (bytes : List ℕ) (lives : List Live) →
+    ensures manifest { (basis : Basis) (row : Row) (spec : Spec) (bytes : List ℕ) (tallies : Tallies) (lives : List Live) →
         spec_of basis.specs row.spec_id ≡ Some spec → live_of row spec bytes ≡ Ok lives →
-        uncovered (manifest_findings basis row spec lives) ≡ []
+        uncovered (manifest_findings basis row spec tallies lives) ≡ []
         ↔ AllByRecursion (λ (l : Live). RowCovers basis.specs row l.entry.file.tuple) lives }
 {
     contents_fit();
@@ -58,10 +62,35 @@ pub fn repeats_tell_paths_apart()
 /// There is a finding that the bounds of a column cross just where a live entry of this file has, of a column of the
 /// schema, a lower bound above its upper one; and one of excess nulls just where it has more nulls than values.
 pub fn findings_tell_columns()
-    ensures bounds { (basis : Basis) (row : Row) (spec : Spec) (lives : List Live) (path : List ℕ) (column : ℤ) →
-        Contains (manifest_findings basis row spec lives) (finding_at row path (Flaw.BoundsCross column))
+    ensures bounds { (basis : Basis) (row : Row) (spec : Spec) (tallies : Tallies) (lives : List Live) (path : List ℕ) (column : ℤ) →
+        Contains (manifest_findings basis row spec tallies lives) (finding_at row path (Flaw.BoundsCross column))
         ↔ IsSaid bounds_cross basis.typed lives path column }
-    ensures nulls { (basis : Basis) (row : Row) (spec : Spec) (lives : List Live) (path : List ℕ) (column : ℤ) →
-        Contains (manifest_findings basis row spec lives) (finding_at row path (Flaw.ExcessNulls column))
+    ensures nulls { (basis : Basis) (row : Row) (spec : Spec) (tallies : Tallies) (lives : List Live) (path : List ℕ) (column : ℤ) →
+        Contains (manifest_findings basis row spec tallies lives) (finding_at row path (Flaw.ExcessNulls column))
         ↔ IsSaid (λ file c. has_excess_nulls file c.id) basis.typed lives path column }
+{}
+
+/// There is a finding on a count of the manifest list just where the list has it and there are not as many.
+pub fn findings_tell_counts()
+    ensures { (basis : Basis) (row : Row) (spec : Spec) (tallies : Tallies) (lives : List Live) (count : Count) →
+        Contains (manifest_findings basis row spec tallies lives) (manifest_finding row (Flaw.Miscounted count))
+        ↔ IsMiscounted row.counts tallies count }
+{}
+
+/// There is a finding that a delete file dangles just where a live delete file of that path, in that manifest, applies
+/// to no live data file; and one that it names a file that is not live just where no live data file has the path that
+/// such a delete file names. Live files are those whose keys are kept, and that is all of them or, where no manifest of
+/// the snapshot has deletes, none.
+pub fn findings_tell_applying()
+    ensures positions { (files : List LiveFile) (manifest path : List ℕ) →
+        Contains (delete_findings files)
+        (record { manifest = manifest; file = Some path; flaw = Flaw.DanglingPositions })
+        ↔ Dangles PositionDeletes files manifest path }
+    ensures equalities { (files : List LiveFile) (manifest path : List ℕ) →
+        Contains (delete_findings files)
+        (record { manifest = manifest; file = Some path; flaw = Flaw.DanglingEqualities })
+        ↔ Dangles EqualityDeletes files manifest path }
+    ensures named { (files : List LiveFile) (manifest path : List ℕ) →
+        Contains (delete_findings files) (record { manifest = manifest; file = Some path; flaw = Flaw.NamedNotLive })
+        ↔ NamesNone files manifest path }
 {}

@@ -5,8 +5,10 @@
 mod basis;
 mod columns;
 mod counts;
+mod deletes;
 mod entries;
 mod examined;
+mod file_key;
 mod finding;
 mod flaws;
 mod ids;
@@ -15,9 +17,12 @@ mod limits;
 mod repeats;
 
 pub use basis::{Basis, TypedColumn};
+pub use deletes::push_delete_findings;
 pub use entries::audit_manifest;
-pub use finding::{Finding, Flaw};
+pub use file_key::{FileKey, KeptKey};
+pub use finding::{Count, Finding, Flaw, count_faults};
 pub use laws::{
-    findings_tell_columns, findings_tell_coverage, limits_tell_coverage, repeats_tell_paths_apart,
+    findings_tell_applying, findings_tell_columns, findings_tell_counts, findings_tell_coverage,
+    limits_tell_coverage, repeats_tell_paths_apart,
 };
 pub use repeats::{LiveFile, push_repeats};

@@ -5,6 +5,7 @@ ghost use Rattle.std.specs.Str.{bytes_eq};
 ghost use Rattle.contract_words.specs.Sorting.{sorted};
 ghost use Rattle.ice_audit.specs.Repeats.{path_before, repeat_where, repeats, repeats_in};
 
+use crate::file_key::KeptKey;
 use crate::finding::{Finding, Flaw};
 use contract_words::{Items, Text};
 use std::alloc::{AllocError, Global};
@@ -16,6 +17,8 @@ pub struct LiveFile {
     pub path: Items<u8>,
     /// The path of the manifest that has its entry.
     pub manifest: Text,
+    /// What delete files go by, where the snapshot has some.
+    pub key: KeptKey,
 }
 
 /// Puts files in the order of their paths.

@@ -1,3 +1,5 @@
 pub mod AnyFiles
 pub mod Premise
+pub mod Others
+pub mod Strays
 pub mod Steps

@@ -5,10 +5,13 @@ use Rattle.std.specs.Prelude.{Result, Ok, Err}
 use Rattle.std.specs.List.{AllByRecursion}
 use Rattle.ice_audit.specs.declared.basis.Basis.{Basis}
 use Rattle.ice_audit.specs.declared.finding.Finding.{Finding}
+use Rattle.ice_audit.specs.Bases.{among}
+use Rattle.ice_audit.specs.Dangling.{delete_findings}
 use Rattle.ice_audit.specs.Findings.{manifest_findings}
 use Rattle.ice_audit.specs.Repeats.{live_files, repeats}
 use Rattle.ice_manifest_reading.specs.Laws.{HasACellForEach}
 use Rattle.ice_manifest_reading.specs.Manifests.{live_of}
+use Rattle.ice_manifest_reading.specs.Tallying.{tallies_of}
 use Rattle.ice_manifest_reading.specs.declared.entry.Live.{Live}
 use Rattle.ice_manifest_reading.specs.declared.row.Row.{Row}
 use Rattle.ice_meta.specs.declared.metadata.Target.{Target}
@@ -29,8 +32,8 @@ use Rattle.ice_audit_run.specs.declared.audit.Reading.{Reading}
 use Rattle.ice_audit_run.specs.declared.subject.Subject.{Subject}
 use Rattle.ice_audit_run.proofs.Steps.{steps}
 use Rattle.ice_audit.proofs.Telltale.{told_of_covered, told_of_manifest}
-use Rattle.ice_audit.proofs.Told.{no_repeats, none_of_all, none_of_both}
-use Rattle.ice_audit.specs.Telling.{uncovered}
+use Rattle.ice_audit.proofs.Told.{no_delete_findings, no_repeats, none_of_all, none_of_both, uncovered_are_faults}
+use Rattle.ice_audit.specs.Telling.{faults, uncovered}
 
 -- ---- reading step by step
 
@@ -51,9 +54,10 @@ pub record IsRowOf (world : World) (basis : Basis) (row : Row) (audit : Reading)
   pub spec_is : spec_of basis.specs row.spec_id ≡ Some spec
   pub bytes_are : world row.path ≡ Some bytes
   pub lives_are : live_of row spec bytes ≡ Ok lives
-  pub findings_are : audit.findings ≡ manifest_findings basis row spec lives
+  pub findings_are : audit.findings ≡ manifest_findings basis row spec (tallies_of bytes) lives
+  pub live_is : audit.live ≡ live_files basis row lives
 
-row_of : (world : World) (basis : Basis) (row : Row) (audit : Reading) → row_audit world basis row ≡ Ok audit
+pub row_of : (world : World) (basis : Basis) (row : Row) (audit : Reading) → row_audit world basis row ≡ Ok audit
     → IsRowOf world basis row audit
 unfolding row_audit
 row_of world basis row audit h =
@@ -63,8 +67,8 @@ row_of world basis row audit h =
     let here : record {
       manifests = 1;
       entries = length three.0;
-      findings = manifest_findings basis row one.0 three.0;
-      live = live_files row three.0;
+      findings = manifest_findings basis row one.0 (tallies_of two.0) three.0;
+      live = live_files basis row three.0;
     } ≡ audit = cc three.2 in
     record {
       spec = one.0;
@@ -74,9 +78,10 @@ row_of world basis row audit h =
       bytes_are = bytes_in world row.path two.0 two.1;
       lives_are = ok_in (of_manifest row.path) (live_of row one.0 two.0) three.0 three.1;
       findings_are = sym (ap (λ (a : Reading). a.findings) here);
+      live_is = sym (ap (λ (a : Reading). a.live) here);
     }
 
-live_are : (world : World) (basis : Basis) (row : Row) (audit : Reading) (r : IsRowOf world basis row audit)
+pub live_are : (world : World) (basis : Basis) (row : Row) (audit : Reading) (r : IsRowOf world basis row audit)
     → live world basis.specs row ≡ r.lives
 live_are world basis row audit r =
     ap (λ o. live_or_none (option_map (manifest_of basis.specs row) o)) r.bytes_are
@@ -93,7 +98,7 @@ row_covered full world basis row audit h none =
     let r = row_of world basis row audit h in
     subst (AllByRecursion (λ (l : Live). RowCovers basis.specs row l.entry.file.tuple))
     (sym (live_are world basis row audit r))
-    (told_of_manifest full basis row r.spec r.spec_is r.bytes r.lives r.lives_are
+    (told_of_manifest full basis row r.spec r.spec_is r.bytes (tallies_of r.bytes) r.lives r.lives_are
     (ap uncovered (sym r.findings_are) ∙ none))
 
 row_none : (world : World) (basis : Basis) (row : Row) (audit : Reading) → row_audit world basis row ≡ Ok audit
@@ -101,22 +106,28 @@ row_none : (world : World) (basis : Basis) (row : Row) (audit : Reading) → row
 row_none world basis row audit h covered =
     let r = row_of world basis row audit h in
     ap uncovered r.findings_are
-    ∙ told_of_covered basis row r.spec r.spec_is r.lives
+    ∙ told_of_covered basis row r.spec r.spec_is (tallies_of r.bytes) r.lives
     (subst (AllByRecursion (λ (l : Live). RowCovers basis.specs row l.entry.file.tuple))
     (live_are world basis row audit r) covered)
 
 -- ---- the manifests of all rows
 
-rows_parts : (world : World) (basis : Basis) (row : Row) (rows : List Row) (audit : Reading)
+pub rows_parts : (world : World) (basis : Basis) (row : Row) (rows : List Row) (audit : Reading)
     → rows_audit world basis (row ∷ rows) ≡ Ok audit
     → (a : Reading) × (b : Reading) × (row_audit world basis row ≡ Ok a) × (rows_audit world basis rows ≡ Ok b)
-    × (audit.findings ≡ a.findings ++ b.findings)
+    × (audit.findings ≡ a.findings ++ b.findings) × (audit.live ≡ a.live ++ b.live)
 unfolding rows_audit
 rows_parts world basis row rows audit h =
     let one = steps (row_audit world basis row) _ audit h in
     let two = steps (rows_audit world basis rows) _ audit one.2 in
-    let here : joined one.0 two.0 ≡ audit = cc two.2 in
-    (one.0, two.0, one.1, two.1, sym (ap (λ (a : Reading). a.findings) here))
+    let here : joined one.0 two.0 ≡ audit = cc two.2 in (
+      one.0,
+      two.0,
+      one.1,
+      two.1,
+      sym (ap (λ (a : Reading). a.findings) here),
+      sym (ap (λ (a : Reading). a.live) here),
+    )
 
 rows_covered : (full : HasACellForEach) (world : World) (basis : Basis) (rows : List Row) (audit : Reading)
     → rows_audit world basis rows ≡ Ok audit → uncovered audit.findings ≡ [] → AreCovered world basis.specs rows
@@ -145,7 +156,7 @@ pub record IsAuditOf (world : World) (metadata : List ℕ) (target : Target) (au
   pub subject_is : subject_of metadata target ≡ Ok subject
   pub rows_are : rows_at world subject.list ≡ Ok rows
   pub read : Reading
-  pub read_is : rows_audit world subject.basis rows ≡ Ok read
+  pub read_is : rows_audit world (among rows subject.basis) rows ≡ Ok read
   pub audit_is : whole read ≡ audit
 
 pub parts_of : (world : World) (metadata : List ℕ) (target : Target) (audit : Audit)
@@ -155,7 +166,7 @@ parts_of world metadata target audit h =
     let one = steps (subject_of metadata target) _ audit h in
     let two = steps (rows_at world one.0.list) _ audit one.2 in
     let three = steps (all_known one.0.basis.specs two.0) _ audit two.2 in
-    let four = steps (rows_audit world one.0.basis two.0) _ audit three.2 in
+    let four = steps (rows_audit world (among two.0 one.0.basis) two.0) _ audit three.2 in
     record {
       subject = one.0;
       rows = two.0;
@@ -166,7 +177,7 @@ parts_of world metadata target audit h =
       audit_is = cc four.2;
     }
 
-one_value : {A : Type 0} (r : Result A RunFault) (x y : A) → r ≡ Ok x → r ≡ Ok y → x ≡ y
+pub one_value : {A : Type 0} (r : Result A RunFault) (x y : A) → r ≡ Ok x → r ≡ Ok y → x ≡ y
 one_value (Ok z) x y h k = cc
 one_value (Err e) x y h k = absurd cc
 
@@ -175,9 +186,10 @@ pub truth : (full : HasACellForEach) (world : World) (metadata : List ℕ) (targ
     → HasTrueSummaries world metadata target
 truth full world metadata target audit h none =
     let p = parts_of world metadata target audit h in
-    let parts = none_of_both p.read.findings (repeats p.read.live)
+    let parts = none_of_both (p.read.findings ++ delete_findings p.read.live) (repeats p.read.live)
     (ap (λ (a : Audit). uncovered a.findings) p.audit_is ∙ none) in
-    let covered = rows_covered full world p.subject.basis p.rows p.read p.read_is parts.0 in
+    let first = none_of_both p.read.findings (delete_findings p.read.live) parts.0 in
+    let covered = rows_covered full world (among p.rows p.subject.basis) p.rows p.read p.read_is first.0 in
     λ subject rows is has.
     let same : p.subject ≡ subject = one_value (subject_of metadata target) p.subject subject p.subject_is is in
     let alike : p.rows ≡ rows = one_value (rows_at world subject.list) p.rows rows
@@ -190,15 +202,20 @@ pub no_lie : (world : World) (metadata : List ℕ) (target : Target) (audit : Au
     → uncovered audit.findings ≡ []
 no_lie world metadata target audit h tells =
     let p = parts_of world metadata target audit h in
-    let read_none = rows_none world p.subject.basis p.rows p.read p.read_is
+    let read_none = rows_none world (among p.rows p.subject.basis) p.rows p.read p.read_is
     (tells p.subject p.rows p.subject_is p.rows_are) in
+    let first = none_of_all p.read.findings (delete_findings p.read.live) read_none (no_delete_findings p.read.live) in
     ap (λ (a : Audit). uncovered a.findings) (sym p.audit_is)
-    ∙ none_of_all p.read.findings (repeats p.read.live) read_none (no_repeats p.read.live)
+    ∙ none_of_all (p.read.findings ++ delete_findings p.read.live) (repeats p.read.live) first
+    (no_repeats p.read.live)
 
--- where nothing was found
-pub none_at_zero : (findings : List Finding) → length findings ≡ 0 → uncovered findings ≡ []
-none_at_zero [] h = refl
-none_at_zero (x ∷ xs) h = absurd (omega (arith, h))
+-- where no fault was found
+no_more : (xs : List Finding) → length xs ≡ 0 → xs ≡ []
+no_more [] h = refl
+no_more (x ∷ xs) h = absurd (omega (arith, h))
+
+pub none_at_zero : (findings : List Finding) → length (faults findings) ≡ 0 → uncovered findings ≡ []
+none_at_zero findings h = uncovered_are_faults findings (no_more (faults findings) h)
 
 pub true_at : (world : World) (path metadata : List ℕ) (target : Target) → file_in world path ≡ Ok metadata
     → HasTrueSummaries world metadata target → HasTrueSummariesAt world path target

@@ -9,6 +9,7 @@ use Rattle.std.specs.Prelude.{Result, Ok, Err}
 use Rattle.contract_words.specs.Outcome.{◌>>=◌}
 use Rattle.ice_audit.specs.declared.basis.Basis.{Basis}
 use Rattle.ice_audit.specs.declared.finding.Finding.{Finding}
+use Rattle.ice_audit.specs.Bases.{among}
 use Rattle.ice_audit.specs.Findings.{manifest_findings}
 use Rattle.ice_audit.specs.Repeats.{live_files}
 use Rattle.ice_audit.specs.declared.repeats.LiveFile.{LiveFile}
@@ -17,6 +18,7 @@ use Rattle.ice_desk.specs.Worlds.{EndsAt}
 use Rattle.ice_manifest_fields.specs.declared.fault.ManifestFault.{ManifestFault}
 use Rattle.ice_manifest_fields.specs.declared.fault.ManifestFault.TheVariants as manifest
 use Rattle.ice_manifest_reading.specs.Manifests.{live_of}
+use Rattle.ice_manifest_reading.specs.Tallying.{tallies_of}
 use Rattle.ice_manifest_reading.specs.declared.entry.Live.{Live}
 use Rattle.ice_manifest_reading.specs.declared.row.Row.{Row}
 use Rattle.ice_meta.specs.declared.metadata.Target.{Target}
@@ -100,8 +102,8 @@ module _ (f : List ℕ → Type 0) (world : World) (basis : Basis) (row : Row) w
           ≡ Ok (record {
             manifests = 1;
             entries = length lives;
-            findings = manifest_findings basis row spec lives;
-            live = live_files row lives;
+            findings = manifest_findings basis row spec (tallies_of bytes) lives;
+            live = live_files basis row lives;
           })
       unfolding row_audit
       row_there lives is = rw (known, has, is) refl
@@ -273,19 +275,21 @@ module _ (f : List ℕ → Type 0) (world : World) (metadata : List ℕ) (target
         (known_ends (λ _. ⊥) ⊥ subject.basis.specs rows e h)))
 
     module _ (known : all_known subject.basis.specs rows ≡ Ok tt) where
-      audit_is : audit_of world metadata target ≡ (rows_audit world subject.basis rows >>= λ read. Ok (whole read))
+      audit_is : audit_of world metadata target
+          ≡ (rows_audit world (among rows subject.basis) rows >>= λ read. Ok (whole read))
       unfolding audit_of
       audit_is = rw (is, has, known) refl
 
-      pub no_audit : (e : RunFault) → MayEnd (rows_audit world subject.basis rows) (EndsAt world f (paths_of rows)) ⊥ e
+      pub no_audit : (e : RunFault)
+          → MayEnd (rows_audit world (among rows subject.basis) rows) (EndsAt world f (paths_of rows)) ⊥ e
           → MayEnd (audit_of world metadata target) stops ⊥ e
       unfolding audit_of
       no_audit e h =
-          let later = first_ends stops ⊥ (EndsAt world f (paths_of rows)) (rows_audit world subject.basis rows)
-          (λ read. Ok (whole read)) e reads_manifests h in
+          let later = first_ends stops ⊥ (EndsAt world f (paths_of rows))
+          (rows_audit world (among rows subject.basis) rows) (λ read. Ok (whole read)) e reads_manifests h in
           subst (λ found. MayEnd found stops ⊥ e) (sym audit_is) later
 
-      pub audit_there : (read : Reading) → rows_audit world subject.basis rows ≡ Ok read
+      pub audit_there : (read : Reading) → rows_audit world (among rows subject.basis) rows ≡ Ok read
           → audit_of world metadata target ≡ Ok (whole read)
       audit_there read h = audit_is ∙ ap (λ (found : Result Reading RunFault). found >>= λ r. Ok (whole r)) h
 

@@ -1,5 +1,7 @@
 -- What an audit says over any files, also those that tell no world, as they may change from one read to the next.
 use Rattle.std.specs.Prelude.{◌≡◌, ℕ, List, [], ◌∷◌, length, Option, Some, None, Result, Ok, IfOk, IsErrOf}
+use Rattle.ice_audit.specs.Bases.{among}
+use Rattle.ice_audit.specs.Telling.{faults}
 use Rattle.ice_audit.specs.declared.basis.Basis.{Basis}
 use Rattle.ice_desk.specs.Worlds.{HasAt}
 use Rattle.ice_manifest_reading.specs.declared.row.Row.{Row}
@@ -33,13 +35,13 @@ pub record IsAnAudit (metadata : List ℕ) (target : Target) (audit : Audit) : T
   pub read : Reading
   pub asked : subject_of metadata target ≡ Ok subject
   pub known : all_known subject.basis.specs rows ≡ Ok tt
-  pub manifests : IsReadOf subject.basis rows read
+  pub manifests : IsReadOf (among rows subject.basis) rows read
   pub is : audit ≡ whole read
 
--- What was written: the text of an audit, which has so many findings, and after a failed write a front of such a text.
+-- What was written: the text of an audit, which has so many faults, and after a failed write a front of such a text.
 pub record WritesAnAudit (metadata : List ℕ) (target : Target) (result : Result ℕ RunFault)
     (output output' : Option (List ℕ)) : Type 0 where
-  pub all : IfOk result (λ count. (audit : Audit) × IsAnAudit metadata target audit × (count ≡ length audit.findings)
+  pub all : IfOk result (λ count. (audit : Audit) × IsAnAudit metadata target audit × (count ≡ length (faults audit.findings))
       × Appends output output' (audit_text audit))
   pub front : IsErrOf result run.Write → (audit : Audit) × IsAnAudit metadata target audit
       × AppendsFront output output' (audit_text audit)

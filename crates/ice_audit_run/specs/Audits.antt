@@ -3,6 +3,8 @@ use Rattle.std.specs.Prelude.{ℕ, ◌+◌, List, [], ◌∷◌, ◌++◌, lengt
 use Rattle.std.specs.Prelude.{◌&&◌, nat_le, if◌then◌else◌}
 use Rattle.contract_words.specs.Outcome.{◌>>=◌}
 use Rattle.ice_audit.specs.declared.basis.Basis.{Basis}
+use Rattle.ice_audit.specs.Bases.{among}
+use Rattle.ice_audit.specs.Dangling.{delete_findings}
 use Rattle.ice_audit.specs.Findings.{manifest_findings}
 use Rattle.ice_audit.specs.Repeats.{live_files, repeats}
 use Rattle.ice_desk.specs.Wanted.{paths_of}
@@ -10,6 +12,7 @@ use Rattle.ice_manifest_fields.specs.declared.fault.ManifestFault.{ManifestFault
 use Rattle.ice_manifest_fields.specs.declared.fault.ManifestFault.TheVariants as manifest
 use Rattle.ice_manifest_reading.specs.declared.row.Row.{Row}
 use Rattle.ice_manifest_reading.specs.Manifests.{live_of}
+use Rattle.ice_manifest_reading.specs.Tallying.{tallies_of}
 use Rattle.ice_meta.specs.declared.metadata.Target.{Target}
 use Rattle.ice_meta.specs.declared.spec.Spec.{Spec}
 use Rattle.ice_state.specs.Contents.{World}
@@ -63,8 +66,8 @@ row_audit world basis row = do
   Ok (record {
     manifests = 1;
     entries = length lives;
-    findings = manifest_findings basis row spec lives;
-    live = live_files row lives;
+    findings = manifest_findings basis row spec (tallies_of bytes) lives;
+    live = live_files basis row lives;
   })
 
 -- what is read of the manifests of these rows, in their order, or the first refusal
@@ -75,10 +78,14 @@ rows_audit world basis (row ∷ rows) = do
   others ← rows_audit world basis rows
   Ok (joined first others)
 
--- the audit that reads this: behind what was found manifest by manifest stand the files whose path another has
+-- the audit that reads this: behind what was found manifest by manifest stand the delete files that name or reach no
+-- live data file, and then the files whose path another has
 abbrev pub whole : Reading → Audit
-whole read =
-    record { manifests = read.manifests; entries = read.entries; findings = read.findings ++ repeats read.live }
+whole read = record {
+  manifests = read.manifests;
+  entries = read.entries;
+  findings = read.findings ++ delete_findings read.live ++ repeats read.live;
+}
 
 -- the audit of a snapshot of the table whose metadata these are the bytes of, or the first refusal: the metadata's,
 -- that of the manifest list, that a row's spec is missing, or that of a manifest
@@ -87,7 +94,7 @@ audit_of world metadata target = do
   subject ← subject_of metadata target
   rows ← rows_at world subject.list
   _ ← all_known subject.basis.specs rows
-  read ← rows_audit world subject.basis rows
+  read ← rows_audit world (among rows subject.basis) rows
   Ok (whole read)
 
 -- the paths that are read, in this order: the list's, and then those of the manifests

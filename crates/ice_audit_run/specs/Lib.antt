@@ -2,4 +2,5 @@ pub mod Subjects
 pub mod Audits
 pub mod Texts
 pub mod Premises
+pub mod Strays
 pub mod AnyFiles

@@ -1,5 +1,5 @@
 -- What of a table is audited: Apache Iceberg table spec, version 2, "Snapshot References" and "Partition Specs".
-use Rattle.std.specs.Prelude.{ℕ, ℤ, List, map, Result, Ok}
+use Rattle.std.specs.Prelude.{ℕ, ℤ, false, List, map, Result, Ok}
 use Rattle.contract_words.specs.Outcome.{◌>>=◌}
 use Rattle.ice_audit.specs.declared.basis.Basis.{Basis}
 use Rattle.ice_audit.specs.declared.basis.TypedColumn.{TypedColumn}
@@ -24,13 +24,14 @@ typed_column c = record { id = c.id; column_type = c.column_type }
 abbrev pub typed_columns : Schema → List TypedColumn
 typed_columns schema = map typed_column schema.columns
 
--- what a table's entries are held against, under a schema
+-- what a table's entries are held against, under a schema, before the rows of the list are known
 abbrev pub basis_of : Schema → Table → Basis
 basis_of schema table = record {
   specs = bound_specs schema table;
   columns = column_ids schema;
   typed = typed_columns schema;
   last = table.last_sequence_number;
+  has_deletes = false;
 }
 
 -- a snapshot of a table, or that it has none such

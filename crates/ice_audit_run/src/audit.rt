@@ -11,7 +11,7 @@ ghost use Rattle.ice_text.specs.Reads.{MayEnd};
 
 use crate::manifests::{audit_bytes, spec_for};
 use contract_words::Items;
-use ice_audit::{Basis, Finding, LiveFile, push_repeats};
+use ice_audit::{Basis, Finding, LiveFile, push_delete_findings, push_repeats};
 use ice_desk::Files;
 use ice_manifest_reading::Row;
 use ice_text::{RunFault, read_file};
@@ -24,8 +24,9 @@ pub struct Audit {
     pub manifests: usize,
     /// How many live entries they have.
     pub entries: u128,
-    /// What was found, manifest by manifest in the order of their paths, in each entry by entry; and then, in the order
-    /// of their paths, the files whose path another live file has.
+    /// What was found, manifest by manifest in the order of their paths, in each entry by entry; then, in the same
+    /// order, the delete files that name no live data file and those that apply to none; and then, in the order of their
+    /// paths, the files whose path another live file has.
     pub findings: Items<Finding>,
 }
 
@@ -53,6 +54,7 @@ impl Reading {
             mut findings,
             live,
         } = self;
+        push_delete_findings(alloc, &mut findings, live.as_slice())?;
         push_repeats(alloc, &mut findings, live.into_vec())?;
         Ok(Audit {
             manifests,

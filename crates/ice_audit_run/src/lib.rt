@@ -10,6 +10,6 @@ mod subject;
 
 pub use audit::{Audit, Reading};
 pub use ice_audit::{Basis, Finding, Flaw, LiveFile, TypedColumn};
-pub use laws::audits_tell_of_summaries;
+pub use laws::{audits_tell_of_deletes, audits_tell_of_summaries};
 pub use running::{audit_file, run_audit};
 pub use subject::{Subject, select_subject};

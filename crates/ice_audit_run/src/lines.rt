@@ -2,12 +2,13 @@
 
 ghost use Rattle.std.specs.Prelude.{◌≡◌, ◌++◌, OnOk, IfOk};
 ghost use Rattle.std.specs.List.{flat_map};
-ghost use Rattle.ice_audit_run.specs.Texts.{audit_text, file_text, finding_text, flaw_end, flaw_name, totals_text};
+ghost use Rattle.ice_audit_run.specs.Texts.{audit_text, count_name, file_text, finding_text, flaw_end, flaw_name};
+ghost use Rattle.ice_audit_run.specs.Texts.{totals_text};
 ghost use Rattle.ice_print.specs.Pieces.{named_number, named_path, named_signed};
 
 use crate::audit::Audit;
 use contract_words::Items;
-use ice_audit::{Finding, Flaw};
+use ice_audit::{Count, Finding, Flaw};
 use ice_print::{put_named_int, put_named_number, put_named_path};
 use itoa::Integer;
 use std::alloc::{AllocError, Global};
@@ -30,12 +31,24 @@ fn push_number<I: Integer>(text: &mut Vec<u8>, name: &[u8], n: I) -> Result<(), 
     put_named_number(text, name, n).map_err(|_| AllocError)
 }
 
+fn count_name(count: Count) -> &'static [u8]
+    ensures { result.now ≡ count_name count }
+{
+    match count {
+        Count::AddedFiles => b"added-files",
+        Count::ExistingFiles => b"existing-files",
+        Count::DeletedFiles => b"deleted-files",
+        Count::AddedRows => b"added-rows",
+        Count::ExistingRows => b"existing-rows",
+        Count::DeletedRows => b"deleted-rows",
+    }
+}
+
 fn flaw_name(flaw: &Flaw) -> &'static [u8]
     ensures { result.now ≡ flaw_name flaw.now }
 {
     match flaw {
-        Flaw::LiveFiles => b"live-files",
-        Flaw::LiveRows => b"live-rows",
+        Flaw::Miscounted(count) => count_name(*count),
         Flaw::Uncovered(_) => b"uncovered",
         Flaw::BelowLeast => b"below-least",
         Flaw::AboveLast => b"above-last",
@@ -43,6 +56,9 @@ fn flaw_name(flaw: &Flaw) -> &'static [u8]
         Flaw::NoColumn(_) => b"no-column",
         Flaw::BoundsCross(_) => b"bounds-cross",
         Flaw::ExcessNulls(_) => b"excess-nulls",
+        Flaw::NamedNotLive => b"named-not-live",
+        Flaw::DanglingPositions => b"dangling-position-deletes",
+        Flaw::DanglingEqualities => b"dangling-equality-deletes",
     }
 }
 
@@ -54,8 +70,8 @@ fn push_flaw_end(text: &mut Vec<u8>, flaw: &Flaw) -> Result<(), AllocError>
         Flaw::NoColumn(id) => push_int(text, b" column ", *id),
         Flaw::BoundsCross(id) => push_int(text, b" column ", *id),
         Flaw::ExcessNulls(id) => push_int(text, b" column ", *id),
-        Flaw::LiveFiles | Flaw::LiveRows | Flaw::BelowLeast | Flaw::AboveLast | Flaw::LiveTwice =>
-            Ok(()),
+        Flaw::Miscounted(_) | Flaw::BelowLeast | Flaw::AboveLast | Flaw::LiveTwice => Ok(()),
+        Flaw::NamedNotLive | Flaw::DanglingPositions | Flaw::DanglingEqualities => Ok(()),
     }
 }
 

@@ -6,6 +6,7 @@ ghost use Rattle.ice_audit.specs.Findings.{manifest_findings};
 ghost use Rattle.ice_audit.specs.Repeats.{live_files};
 ghost use Rattle.ice_audit_run.specs.Audits.{all_known, of_manifest, spec_for as spec_wanted};
 ghost use Rattle.ice_manifest_reading.specs.Manifests.{live_of};
+ghost use Rattle.ice_manifest_reading.specs.Tallying.{tallies_of};
 ghost use Rattle.ice_manifest_reading.specs.declared.entry.Live.{Live};
 ghost use Rattle.ice_state.specs.Specs.{spec_of};
 ghost use Rattle.ice_text.specs.Reads.{MayEnd, as_run};
@@ -74,8 +75,8 @@ pub fn audit_bytes(
 ) -> Result<usize, RunFault>
     ensures found { IfOk result (λ number. (lives : List Live) × (live_of row.now spec.now bytes.now ≡ Ok lives)
         × (number ≡ length lives)
-        × (findings.new ≡ findings.old ++ manifest_findings basis.now row.now spec.now lives)
-        × (live.new.items ≡ live.old.items ++ live_files row.now lives)) }
+        × (findings.new ≡ findings.old ++ manifest_findings basis.now row.now spec.now (tallies_of bytes.now) lives)
+        × (live.new.items ≡ live.old.items ++ live_files basis.now row.now lives)) }
     ensures refused { IfErr result (MayEnd (as_run (of_manifest row.now.path) (live_of row.now spec.now bytes.now))
         (λ _. ⊥) ⊥) }
     ensures write { IsErrOf result RunFault.Write → ⊥ }

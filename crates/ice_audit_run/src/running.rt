@@ -13,7 +13,8 @@ use crate::audit::{Audit, audit_rows};
 use crate::laws::audits_tell_of_summaries;
 use crate::lines::audit_lines;
 use crate::manifests::check_specs;
-use crate::subject::select_subject;
+use crate::subject::{Subject, select_subject};
+use ice_audit::count_faults;
 use ice_desk::{Files, MOST_WORKERS};
 use ice_meta::Target;
 use ice_text::{RunFault, Sink, read_file, read_rows, write_all};
@@ -36,16 +37,19 @@ fn audit_table<F: Files>(
     ensures stops { IfErr result (MayStop (F.world files.now) (F.may_fail files.now) ⊥) }
 {
     let subject = select_subject(alloc, metadata, target)?;
-    let rows = read_rows(alloc, files, subject.list.as_str())?;
-    check_specs(subject.basis.specs.as_slice(), &rows)?;
-    let read = audit_rows(alloc, files, &subject.basis, &rows)?;
+    let Subject { list, basis } = subject;
+    let rows = read_rows(alloc, files, list.as_str())?;
+    check_specs(basis.specs.as_slice(), &rows)?;
+    let basis = basis.among(&rows);
+    let read = audit_rows(alloc, files, &basis, &rows)?;
     Ok(read.whole(alloc)?)
 }
 
 /// Audits a snapshot of the table whose metadata these are the bytes of: reads each of its manifests, also those that
-/// no filter wants, writes a line for each finding and then their numbers, and gives the number of findings.
+/// no filter wants, writes a line for each finding and then their numbers, and gives the number of findings that are
+/// faults (`Flaw::is_fault`).
 ///
-/// Where there is none, the summaries of all manifests tell the truth: the premise under which `run_plan` writes, for
+/// Where there is no fault, the summaries of all manifests tell the truth: the premise under which `run_plan` writes, for
 /// any filter, the plan over all manifests of the snapshot.
 ///
 /// The refusal is `Metadata` with the first fault of the bytes, or where there is no such snapshot; then, of reading
@@ -81,11 +85,11 @@ pub fn run_audit<F: Files, W: Sink>(
     let audit = audit_table(alloc, files, metadata, target)?;
     let text = audit_lines(alloc, &audit)?;
     write_all(output, &text)?;
-    Ok(audit.findings.as_slice().len())
+    Ok(count_faults(audit.findings.as_slice()))
 }
 
-/// Audits a snapshot of the table whose metadata is in the file at a path, and gives the number of findings. All is
-/// read by one worker, whatever the number of workers.
+/// Audits a snapshot of the table whose metadata is in the file at a path, and gives the number of findings that are
+/// faults. All is read by one worker, whatever the number of workers.
 ///
 /// The refusal is `Absent` where there is no such file, `Device` where reading it failed; then `Workers` where there
 /// are to be none, or more than 64; else as `run_audit`'s.

@@ -15,7 +15,7 @@ use std::alloc::{AllocError, Global};
 pub struct Subject {
     /// The path of its manifest list.
     pub list: Text,
-    /// What its entries are held against.
+    /// What its entries are held against, before the rows of the list are known.
     pub basis: Basis,
 }
 
@@ -60,6 +60,7 @@ fn subject_in(alloc: Global, metadata: &Metadata, target: &Target) -> Result<Sub
         columns: column_ids(alloc, schema)?,
         typed: typed_columns(alloc, schema)?,
         last: metadata.table().last_sequence_number,
+        has_deletes: false,
     };
     Ok(Subject {
         list: list.copy(alloc)?,

@@ -109,13 +109,21 @@ const AUDIT_EXAMPLE: &str =
     "Every manifest of the snapshot is read, also those that no filter wants. A line for each finding names what is
 wrong, the manifest and, where it is about one entry, its file; the last line has the numbers of manifests, live entries
 and findings:
-  live-files   the manifest has another number of live files than the manifest list counts, added and existing ones
-  live-rows    its live files have another number of rows than the manifest list counts
+  added-files, existing-files, deleted-files
+               the manifest has another number of entries of this status than the manifest list counts
+  added-rows, existing-rows, deleted-rows
+               the files of these entries have another number of rows than the manifest list counts
   uncovered    the manifest list's summary of this partition field does not cover the file's value: a plan under a
                filter may lose the file
   below-least  the file's sequence number is below the least one that the manifest list names
   above-last   the file's sequence number is above the table's last
   no-column    the file deletes by a column of this id, which the schema lacks
+  bounds-cross, excess-nulls
+               the manifest gives the column of this id a lower bound above its upper one, or more nulls than values
+  named-not-live
+               the position delete file names a data file that is not live
+  dangling-position-deletes, dangling-equality-deletes
+               the delete file applies to no live data file, which costs time and is no fault
   live-twice   another live entry has the file's path: `plan` refuses that (these lines come behind all others)
 Where no finding is `uncovered`, the plan under any filter is that of all manifests of the snapshot.
 
@@ -123,8 +131,8 @@ Example, at the top of icescan's repository:
   icescan audit --dir examples/events-java/table --prefix s3://warehouse/db/events \\
     s3://warehouse/db/events/metadata/00009-ea5012f5-592b-59fd-6564-e953f439e682.metadata.json
 
-Exit status: 0 nothing found, 1 there are findings, or the table is refused, 2 the command line or the bundle is, 3 a
-read or a write failed, 5 memory ran out. A refusal is one line on standard error.";
+Exit status: 0 nothing found, or dangling deletes alone, 1 there are faults, or the table is refused, 2 the command line
+or the bundle is, 3 a read or a write failed, 5 memory ran out. A refusal is one line on standard error.";
 
 const DRILL_EXAMPLE: &str =
     "Each thread appends one file in each of its commits, and tries again on the newer version where another commit came

@@ -4,6 +4,7 @@ use Rattle.std.specs.Prelude.{IfOk, IfErr, IsErrOf, if◌then◌else◌, Bool, t
 use Rattle.std.specs.List.{list_any}
 use Rattle.std.specs.Str.{bytes_eq}
 use Rattle.contract_words.specs.Outcome.{◌>>=◌}
+use Rattle.ice_audit.specs.Telling.{faults}
 use Rattle.ice_audit_run.specs.Audits.{audit_at}
 use Rattle.ice_audit_run.specs.Texts.{audit_text}
 use Rattle.ice_audit_run.specs.declared.audit.Audit.{Audit}
@@ -105,10 +106,11 @@ abbrev pub run_of : Result Words RunFault → List ℕ → Option (Result (List 
 run_of (Ok asked) input = answer_to asked input
 run_of (Err fault) input = Some (Err fault)
 
--- the number of findings of which a command tells: an audit of its own, where its files are told; any other of none
+-- the number of findings that are faults of which a command tells: an audit of its own, where its files are told; any
+-- other of none
 abbrev pub IsCount : Words → List ℕ → ℕ → Type 0
 IsCount (words.Audit source.Bundle target workers path) input count =
-    IfOk (audited path target workers input) (λ (audit : Audit). count ≡ length audit.findings)
+    IfOk (audited path target workers input) (λ (audit : Audit). count ≡ length (faults audit.findings))
 IsCount (words.Audit (source.Folder place) target workers path) input count = Unit {0}
 IsCount _ input count = count ≡ 0
 
@@ -116,7 +118,7 @@ abbrev pub IsCountOf : Result Words RunFault → List ℕ → ℕ → Type 0
 IsCountOf (Ok asked) input count = IsCount asked input count
 IsCountOf (Err fault) input count = count ≡ 0
 
--- 1 where there are findings
+-- 1 where there are faults
 abbrev pub status_of_count : ℕ → ℕ
 status_of_count count = if count == 0 then 0 else 1
 

@@ -136,7 +136,8 @@ fn show<H: Files, R: Read, W: Sink>(
     }
 }
 
-/// Writes the audit of a snapshot of the table whose metadata is at a path, and gives the number of findings.
+/// Writes the audit of a snapshot of the table whose metadata is at a path, and gives the number of findings that are
+/// faults.
 fn audit<H: Files, P: Progress, R: Read, W: Sink>(
     host: &H,
     alloc: Global,
@@ -249,8 +250,8 @@ fn no_findings(answer: Result<(), RunFault>) -> Result<usize, RunFault>
     }
 }
 
-/// Writes what is asked for, and gives the number of findings of which that tells. `progress` is told of the files that
-/// are read below a folder.
+/// Writes what is asked for, and gives the number of faults of a table of which that tells. `progress` is told of the
+/// files that are read below a folder.
 pub fn run_asked<H, P: Progress + Sync, R: Read, W: Sink>(
     host: &H,
     alloc: Global,
@@ -290,7 +291,7 @@ where
     }
 }
 
-/// Writes what the words ask for, and gives the number of findings of which that tells.
+/// Writes what the words ask for, and gives the number of faults of a table of which that tells.
 fn run<H: Files<File: Send, Dir: Send> + Threads + Wait + Watch + Sync, R: Read, W: Sink>(
     host: &H,
     alloc: Global,
@@ -308,16 +309,17 @@ fn run<H: Files<File: Send, Dir: Send> + Threads + Wait + Watch + Sync, R: Read,
     run_asked(host, alloc, &asked, &Silent, input, output)
 }
 
-/// The status that the program ends with that told of so many findings.
+/// The status that the program ends with that told of so many faults of a table.
 pub fn status_of_count(count: usize) -> u8
     ensures { result ≡ status_of_count count }
 {
     if count == 0 { 0 } else { 1 }
 }
 
-/// Runs the program: it writes what the words ask for to `output` and ends with 0, with 1 where that is an audit with
-/// findings; or it writes the line of the first fault to `errors` and ends with the fault's status. Faults are found in
-/// this order: of the words, of reading standard input where it holds a bundle, of the bundle, of what is asked for.
+/// Runs the program: it writes what the words ask for to `output` and ends with 0, with 1 where that is an audit that
+/// found a fault of the table; or it writes the line of the first fault to `errors` and ends with the fault's status.
+/// Faults are found in this order: of the words, of reading standard input where it holds a bundle, of the bundle, of
+/// what is asked for.
 pub fn run_words<H, R: Read, W: Sink, E: Sink>(
     host: &H,
     alloc: Global,

@@ -7,10 +7,10 @@ use Rattle.ice_audit.specs.Examining.{examined}
 use Rattle.ice_audit.specs.declared.limits.FieldLimits.{FieldLimits}
 use Rattle.ice_audit.proofs.examined.examine.Goals as goal
 
-pub returns : goal.returns
-returns c =
+pub returns-clause-told : goal.returns-clause-told
+returns-clause-told c =
     let row = c.args.row.now in
     let read = live_of row c.args.spec.now c.args.bytes.now in
-    subst (λ (limits : List FieldLimits). Gives Memory (λ found. found.items) c.read_told.result
+    subst (λ (limits : List FieldLimits). Gives Memory (λ found. found.told.items) c.read_tallied.result
     (told_of (examined c.args.basis.now row limits) read)) (c.as_slice-2.ensures.value ∙ c.in_ok-limits.ensures)
-    c.read_told.ensures
+    c.read_tallied.ensures.told

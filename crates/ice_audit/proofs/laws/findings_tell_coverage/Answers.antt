@@ -6,7 +6,7 @@ returns-clause-entry c =
     λ basis row spec l is full. (covered_one basis row spec is l full, none_of_one basis row spec is l)
 
 pub returns-clause-manifest : goal.returns-clause-manifest
-returns-clause-manifest c = λ basis row spec bytes lives is has. (
-  told_of_manifest c.contents_fit.ensures.cells basis row spec is bytes lives has,
-  told_of_covered basis row spec is lives,
+returns-clause-manifest c = λ basis row spec bytes tallies lives is has. (
+  told_of_manifest c.contents_fit.ensures.cells basis row spec is bytes tallies lives has,
+  told_of_covered basis row spec is tallies lives,
 )

@@ -3,6 +3,7 @@ use Rattle.std.specs.Prelude.{Err}
 use Rattle.ice_text.specs.declared.fault.RunFault.TheVariants as run
 use Rattle.std.proofs.lemmas.Result.{err_from_is_err_and}
 use Rattle.ice_desk.specs.Worlds.{EndsAt}
+use Rattle.ice_audit.specs.Telling.{faults}
 use Rattle.ice_audit_run.specs.Audits.{audit_of, audit_reads}
 use Rattle.ice_audit_run.proofs.AnyFiles.{writes_stop}
 use Rattle.ice_audit_run.proofs.Premise.{none_at_zero}
@@ -38,7 +39,8 @@ returns-in_err-write_all-clause-front g c =
 pub returns-clause-truth : goal.returns-clause-truth
 returns-clause-truth g c =
     let audit = c.in_ok-audit.audit in
-    let count : length c.as_slice.result.now ≡ length audit.findings = ap length c.as_slice.ensures in
+    let count : c.count_faults.result ≡ length (faults audit.findings) = c.count_faults.ensures
+    ∙ ap (λ found. length (faults found)) c.as_slice.ensures in
     λ world told none.
     (c.audits_tell_of_summaries.ensures world c.args.metadata.now c.args.target.now audit
     (c.in_ok-audit.ensures.found world told)).0 (none_at_zero audit.findings (sym count ∙ none))
@@ -46,7 +48,8 @@ returns-clause-truth g c =
 pub returns-clause-written : goal.returns-clause-written
 returns-clause-written g c =
     let audit = c.in_ok-audit.audit in
-    let count : length c.as_slice.result.now ≡ length audit.findings = ap length c.as_slice.ensures in
+    let count : c.count_faults.result ≡ length (faults audit.findings) = c.count_faults.ensures
+    ∙ ap (λ found. length (faults found)) c.as_slice.ensures in
     let all = rw (c.deref.ensures.value, c.in_ok-text.ensures) at c.in_ok-write_all.ensures.all in
     λ world told. (audit, c.in_ok-audit.ensures.found world told, count, all)
 
@@ -82,6 +85,7 @@ returns-in_err-write_all-clause-refusal g c =
 pub returns-clause-text : goal.returns-clause-text
 returns-clause-text g c =
     let audit = c.in_ok-audit.audit in
-    let count : length c.as_slice.result.now ≡ length audit.findings = ap length c.as_slice.ensures in
+    let count : c.count_faults.result ≡ length (faults audit.findings) = c.count_faults.ensures
+    ∙ ap (λ found. length (faults found)) c.as_slice.ensures in
     let all = rw (c.deref.ensures.value, c.in_ok-text.ensures) at c.in_ok-write_all.ensures.all in
     record { all = (audit, c.in_ok-audit.ensures.read, count, all); front = λ is. absurd cc }

@@ -1,6 +1,7 @@
 use Rattle.std.proofs.Common.{◌≡◌, ℕ, Some, length, refl, ap, subst, sym, ◌∙◌, rules}
 use Rattle.std.specs.Prelude.{IfOk}
 use Rattle.std.proofs.lemmas.Result.{err_from_is_err_and, IfOk-weaker, IfErr-weaker}
+use Rattle.ice_audit.specs.Telling.{faults}
 use Rattle.ice_audit_run.specs.Audits.{audit_at, audit_reads_at}
 use Rattle.ice_audit_run.specs.Texts.{audit_text}
 use Rattle.ice_audit_run.specs.declared.audit.Audit.{Audit}
@@ -56,7 +57,7 @@ returns-in_ok-bundle-in-Bundle g c =
           ran.nothing
           (λ failed. let w = ran.front world refl failed in (audit_text w.0, same ∙ ap as_audit w.1, w.2)),
       IfOk-weaker c.audit_file.result _ _
-          (λ count w. subst (λ read. IfOk read (λ (audit : Audit). count ≡ length audit.findings))
+          (λ count w. subst (λ read. IfOk read (λ (audit : Audit). count ≡ length (faults audit.findings)))
           (sym (audited_is ∙ w.1)) w.2) written,
     )
 

@@ -1,0 +1,41 @@
+use Rattle.std.proofs.Common.{◌≡◌, ◌∙◌, ◌++◌, ◌∷◌, [], ℕ, Bool, List, Option, Some, None, Bor, ap, sym, refl, not, false}
+use Rattle.std.proofs.Common.{get_or, map, take}
+use Rattle.std.specs.List.{flat_map}
+use Rattle.std.specs.List.Sorted.{IsPermutation}
+use Rattle.std.specs.Str.{bytes_eq}
+use Rattle.std.proofs.lemmas.List.{flat_map_more, get_or-map, map-append}
+use Rattle.std.proofs.lemmas.List.Sorted.{list_any-IsPermutation}
+use Rattle.ice_audit.specs.Dangling.{findings_beside, findings_by, is_reaching, names_none, paths_in}
+use Rattle.ice_audit.specs.Lookups.{delete_lent}
+use Rattle.ice_audit.specs.declared.deletes.DeleteFile.{DeleteFile}
+use Rattle.ice_audit.specs.declared.finding.Finding.{Finding}
+use Rattle.ice_audit.proofs.Stepwise.{front_more}
+use Rattle.ice_audit.proofs.deletes.push_findings.Goals as goal
+
+-- in any order
+names_alike : (ps qs : List (List ℕ)) (named : Option (List ℕ)) → IsPermutation ps qs
+    → names_none qs named ≡ names_none ps named
+names_alike ps qs None same = refl
+names_alike ps qs (Some path) same = ap not (sym (list_any-IsPermutation (λ p. bytes_eq p path) ps qs same))
+
+pub deletes-preserved : goal.deletes-preserved
+deletes-preserved c = λ xs same marked.
+    let delete = c.index-deletes-i.result in
+    let d = delete_lent delete in
+    let i = c.deletes.i in
+    let deletes = c.args.deletes.now in
+    let old = c.args.findings.now in
+    let reaches : DeleteFile → Bool = λ e. is_reaching xs (delete_lent e).1 in
+    let low = c.deletes-test.true in
+    let none = c.names_none-none.ensures ∙ names_alike (paths_in xs) (map (λ (p : Bor (List ℕ)). p.now) c.args.paths.now)
+    d.1.referenced same in
+    let mark : get_or c.args.marks.now i false ≡ is_reaching xs d.1 = ap (λ ms. get_or ms i false) marked
+    ∙ get_or-map reaches deletes i delete false low ∙ ap reaches (sym c.index-deletes-i.is) in
+    let all = map-append delete_lent (take i deletes) (delete ∷ []) in
+    c.in_ok-push_findings_by.ensures
+    ∙ ap (λ b. c.deletes.findings ++ findings_by b (get_or c.args.marks.now i false) d) none
+    ∙ ap (λ b. c.deletes.findings ++ findings_by (names_none (paths_in xs) d.1.referenced) b d) mark
+    ∙ ap (λ (fs : List Finding). fs ++ findings_beside xs d) (c.deletes.invariant xs same marked)
+    ∙ flat_map_more (findings_beside xs) old (map delete_lent (take i deletes)) d
+    ∙ ap (λ ds. old ++ flat_map (findings_beside xs) ds)
+    (sym (ap (map delete_lent) (front_more deletes i delete low c.index-deletes-i.is) ∙ all))
