@@ -93,9 +93,11 @@ pub fn file_verdict(
 
 /// Tells what becomes of the live files of manifests of a spec.
 #[derive(Drop)]
-struct FileTests<'a> {
-    tests: &'a FilterTests,
-    of_spec: &'a SpecTests,
+pub struct FileTests<'a> {
+    /// The filter, and what is asked for it.
+    pub tests: &'a FilterTests,
+    /// The filter through the spec.
+    pub of_spec: &'a SpecTests,
 }
 
 impl<'a> Tell for FileTests<'a> {

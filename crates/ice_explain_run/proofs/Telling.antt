@@ -130,3 +130,9 @@ module _ (f : List ℕ → Type 0) (world : World) (path : List ℕ) (request : 
     ends_behind some few w e h = subst (λ x. MayEnd x at_reads w e) (sym (explained_behind some few))
         (more_reads (explained world metadata request) (EndsAt world f (reads world metadata request)) at_reads w e
         reads_of_metadata h)
+
+-- the text can't be written
+pub no_text : {A : Type 0} (r : List ℕ → Type 0) (w : Type 0) (read : Result A RunFault) (e : RunFault)
+    → (e ≡ run.Memory) ⊎ (e ≡ run.Write) → (e ≡ run.Write → w) → MayEnd read r w e
+no_text r w read e (inl is) h = subst (λ x. MayEnd read r w x) (sym is) tt
+no_text r w read e (inr is) h = subst (λ x. MayEnd read r w x) (sym is) (h is)

@@ -14,9 +14,10 @@ use Rattle.ice_manifest_reading.specs.declared.row.Row.{Row}
 use Rattle.ice_meta.specs.declared.spec.Spec.{Spec}
 use Rattle.ice_state.specs.Pruning.{pruner_of}
 use Rattle.ice_state.specs.Scans.{Scanned, by_row_path, scan_of, wanted_rows}
-use Rattle.ice_state.specs.Specs.{spec_of}
-use Rattle.ice_state.proofs.Scans.{scan_made}
-use Rattle.ice_explain_run.specs.RowsTold.{AreFor, is_wanted, is_wanted_by}
+use Rattle.ice_state.specs.Specs.{by_id, spec_of}
+use Rattle.ice_state.proofs.Scans.{made, scan_is, scan_made}
+use Rattle.ice_state.proofs.Specs.{spec_of-by_id}
+use Rattle.ice_explain_run.specs.RowsTold.{AreFor, IsScanFor, is_wanted, is_wanted_by}
 
 found_step : (filter : List (Part BoundLeaf)) (spec : Spec) (specs : List Spec) (id : ℤ) (b : Bool)
     → find (λ (t : SpecTests). int_eq t.spec.id id) (map (spec_tests filter) specs)
@@ -62,3 +63,23 @@ scan_wants by specs filter rows scan for is =
     sym (ap (λ (s : Scanned). s.wanted) (scan_made rows specs filter scan is).1)
     ∙ sym (wanted_are specs filter for.0 (by_row_path rows))
     ∙ ap (λ (t : FilterTests). filter_list (is_wanted t) (by_row_path rows)) (sym for.1)
+
+-- ---- the spec of a row
+
+of_tests : (filter : List (Part BoundLeaf)) (o : Option Spec) (of_spec : SpecTests)
+    → option_map (spec_tests filter) o ≡ Some of_spec → o ≡ Some of_spec.spec
+of_tests filter None of_spec h = absurd cc
+of_tests filter (Some spec) of_spec h =
+    let same : spec_tests filter spec ≡ of_spec = cc in ap (λ (t : SpecTests). Some t.spec) same
+
+-- it is the scan's
+pub same_spec : (by : FilterTests) (scan : Scanned) (id : ℤ) (of_spec : SpecTests) → IsScanFor by scan
+    → tests_of by id ≡ Some of_spec → spec_of scan.specs id ≡ Some of_spec.spec
+same_spec by scan id of_spec for is =
+    let specs = for.1 in
+    let filter = for.2 in
+    let ids : by_id specs ≡ scan.specs =
+    ap (λ (s : Scanned). s.specs) (scan_is for.0 specs scan (made for.0 specs filter scan for.4).1).1 in
+    ap (λ (ss : List Spec). spec_of ss id) (sym ids) ∙ spec_of-by_id specs id
+    ∙ of_tests filter (spec_of specs id) of_spec (sym (of_id specs filter for.3.0 id)
+    ∙ ap (λ (t : FilterTests). tests_of t id) (sym for.3.1) ∙ is)

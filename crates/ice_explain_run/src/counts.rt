@@ -1,7 +1,7 @@
 //! How much a filter leaves out.
 
 ghost use Rattle.std.specs.Prelude.{◌≡◌, ◌+◌};
-ghost use Rattle.ice_explain_run.specs.Counting.{bytes_in, bytes_left, counts_of, has_cause, how_many, is_counted};
+ghost use Rattle.ice_explain_run.specs.Counting.{bytes_in, counts_of, has_cause, is_counted};
 
 use ice_explain::{Fate, Subject, Verdict};
 
@@ -56,16 +56,6 @@ fn is_counted(verdict: &Verdict, subject: Subject, cause: Cause) -> bool
     verdict.subject == subject && has_cause(&verdict.fate, cause)
 }
 
-/// How many of the verdicts are of this subject and cause.
-fn how_many(verdicts: &[Verdict], subject: Subject, cause: Cause) -> usize
-    ensures { result ≡ how_many subject cause verdicts.now }
-{
-    verdicts
-        .iter()
-        .filter(|verdict| is_counted(verdict, subject, cause))
-        .count()
-}
-
 /// The bytes of what a verdict is about, where it is of this subject and is left out.
 fn bytes_in(verdict: &Verdict, subject: Subject) -> i64
     ensures { result ≡ bytes_in subject verdict.now }
@@ -77,25 +67,24 @@ fn bytes_in(verdict: &Verdict, subject: Subject) -> i64
     }
 }
 
-/// The bytes of those of this subject that are left out.
-fn bytes_left(verdicts: &[Verdict], subject: Subject) -> i128
-    ensures { result ≡ bytes_left subject verdicts.now }
-{
-    let mut bytes: i128 = 0;
-    'verdicts: for verdict in verdicts {
-        bytes += bytes_in(verdict, subject) as i128;
-    }
-    bytes
-}
-
 /// What is counted of this subject.
 pub fn counts_of(verdicts: &[Verdict], subject: Subject) -> Counts
     ensures { result ≡ counts_of subject verdicts.now }
 {
+    let mut kept: usize = 0;
+    let mut by_partition: usize = 0;
+    let mut by_bounds: usize = 0;
+    let mut bytes: i128 = 0;
+    'verdicts: for verdict in verdicts {
+        kept += is_counted(verdict, subject, Cause::Kept) as usize;
+        by_partition += is_counted(verdict, subject, Cause::Partition) as usize;
+        by_bounds += is_counted(verdict, subject, Cause::Bounds) as usize;
+        bytes += bytes_in(verdict, subject) as i128;
+    }
     Counts {
-        kept: how_many(verdicts, subject, Cause::Kept),
-        by_partition: how_many(verdicts, subject, Cause::Partition),
-        by_bounds: how_many(verdicts, subject, Cause::Bounds),
-        bytes: bytes_left(verdicts, subject),
+        kept,
+        by_partition,
+        by_bounds,
+        bytes,
     }
 }

@@ -8,6 +8,7 @@ mod counts;
 mod laws;
 mod lines;
 mod manifests;
+mod reading;
 mod running;
 
 pub use laws::explanations_tell_of_plans;

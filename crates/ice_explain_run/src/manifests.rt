@@ -12,19 +12,21 @@ ghost use Rattle.ice_state.specs.Contents.{World, IsOf, add, content, every_row,
 ghost use Rattle.ice_state.specs.Outcomes.{kept_in};
 ghost use Rattle.ice_state.specs.Scans.{by_row_path};
 ghost use Rattle.ice_state.specs.Snapshots.{live_or_none};
+ghost use Rattle.ice_state.specs.Specs.{spec_of};
 ghost use Rattle.ice_text.specs.Reads.{MayEnd, all_present, file_in};
 ghost use Rattle.ice_explain_run.specs.RowsTold.{AreFor, AreToldOf, IsScanFor, MayEndRow, is_wanted, lives_at};
 ghost use Rattle.ice_explain_run.specs.RowsTold.{row_told, rows_told};
 ghost use Rattle.ice_explain_run.specs.Told.{paths_kept, paths_of_data, paths_planned};
 
+use crate::reading::read_file_into;
 use contract_words::Items;
 use ice_desk::Files;
-use ice_explain::{FilterTests, SpecTests, Verdict, file_verdicts, row_verdict};
+use ice_explain::{FileTests, FilterTests, SpecTests, Verdict, row_verdict};
 use ice_filter::Bound;
 use ice_manifest_reading::{ManifestFault, Row};
 use ice_meta::Spec;
 use ice_state::{OwnedPlan, Partial, Scan};
-use ice_text::{RunFault, read_file};
+use ice_text::RunFault;
 use std::alloc::{AllocError, Global};
 
 /// A plan, and what became of each manifest and live file.
@@ -55,27 +57,37 @@ fn sort_by_path(rows: &mut Vec<Row>) -> Result<(), AllocError>
     Ok(())
 }
 
-/// Puts what becomes of the live files of a row's manifest last; nothing where it can't be read.
-fn push_files(
-    alloc: Global,
+/// Takes the manifest of the wanted row at a place, which has these bytes, and puts what becomes of its live files
+/// last; nothing where it can't be read.
+fn take_files(
     tests: &FilterTests,
     of_spec: &SpecTests,
+    scan: &Scan,
+    at: usize,
     row: &Row,
     bytes: &[u8],
+    state: &mut Partial,
     verdicts: &mut Vec<Verdict>,
 ) -> Result<(), AllocError>
-    ensures { OnOk result (verdicts.new.items ≡ verdicts.old.items
+    requires of_scan { IsOf scan.now state.old }
+    requires row { slice_get scan.now.wanted at ≡ Some row.now }
+    requires spec { spec_of scan.now.specs row.now.spec_id ≡ Some of_spec.now.spec }
+    ensures of_scan { IsOf scan.now state.new }
+    ensures taken { OnOk result (state.new ≡ took scan.now state.old at bytes.now) }
+    ensures told { OnOk result (verdicts.new.items ≡ verdicts.old.items
         ++ map (file_verdict tests.now of_spec.now)
         (live_or_none (Some (live_of row.now of_spec.now.spec bytes.now)))) }
 {
-    match file_verdicts(alloc, tests, of_spec, row, bytes) {
-        Ok(mut files) => verdicts.append(&mut files),
+    let tell = FileTests { tests, of_spec };
+    match state.take_told(scan, at, bytes, &tell) {
+        Ok(mut told) => verdicts.append(&mut told),
         Err(ManifestFault::Memory) => Err(AllocError),
         Err(_) => Ok(()),
     }
 }
 
-/// Reads and takes the manifest of the wanted row at a place, and puts what becomes of its live files last.
+/// Reads and takes the manifest of the wanted row at a place, and puts what becomes of its live files last. `bytes` is
+/// the room that it is read into.
 fn read_wanted<F: Files>(
     alloc: Global,
     files: &F,
@@ -84,11 +96,13 @@ fn read_wanted<F: Files>(
     scan: &Scan,
     at: usize,
     row: &Row,
+    bytes: &mut Vec<u8>,
     state: &mut Partial,
     verdicts: &mut Vec<Verdict>,
 ) -> Result<(), RunFault>
     requires of_scan { IsOf scan.now state.old }
     requires row { slice_get scan.now.wanted at ≡ Some row.now }
+    requires spec { spec_of scan.now.specs row.now.spec_id ≡ Some of_spec.now.spec }
     ensures of_scan { OnOk result (IsOf scan.now state.new) }
     ensures told { (world : World) → F.world files.now ≡ Some world →
         OnOk result (verdicts.new.items ≡ verdicts.old.items
@@ -107,14 +121,22 @@ fn read_wanted<F: Files>(
     ensures device { (path : List ℕ) → IsErrOf result (RunFault.Device path) → F.may_fail files.now path }
     ensures write { IsErrOf result RunFault.Write → ⊥ }
 {
-    let bytes = read_file(alloc, files, row.path.as_str())?;
-    state.take(scan, at, &bytes)?;
-    push_files(alloc, tests, of_spec, row, &bytes, verdicts)?;
+    read_file_into(alloc, files, row.path.as_str(), bytes)?;
+    take_files(
+        tests,
+        of_spec,
+        scan,
+        at,
+        row,
+        bytes.as_slice(),
+        state,
+        verdicts,
+    )?;
     Ok(())
 }
 
 /// Puts what becomes of a row's manifest last, and behind it what becomes of its live files where it is wanted; then it
-/// is read and taken, as the wanted row at a place. Gives the place of the next wanted row.
+/// is read into `bytes` and taken, as the wanted row at a place. Gives the place of the next wanted row.
 fn tell_row<F: Files>(
     alloc: Global,
     files: &F,
@@ -122,10 +144,12 @@ fn tell_row<F: Files>(
     scan: &Scan,
     next: usize,
     row: &Row,
+    bytes: &mut Vec<u8>,
     state: &mut Partial,
     verdicts: &mut Vec<Verdict>,
 ) -> Result<usize, RunFault>
     requires of_scan { IsOf scan.now state.old }
+    requires by { IsScanFor tests.now scan.now }
     requires row { is_wanted tests.now row.now ≡ true → slice_get scan.now.wanted next ≡ Some row.now }
     requires few { next + 1 < 2 ^ 64 }
     ensures of_scan { OnOk result (IsOf scan.now state.new) }
@@ -156,7 +180,7 @@ fn tell_row<F: Files>(
         return Ok(next);
     }
     read_wanted(
-        alloc, files, tests, of_spec, scan, next, row, state, verdicts,
+        alloc, files, tests, of_spec, scan, next, row, bytes, state, verdicts,
     )?;
     Ok(next + 1)
 }
@@ -172,6 +196,7 @@ fn tell_rows<F: Files>(
     state: &mut Partial,
 ) -> Result<Vec<Verdict>, RunFault>
     requires of_scan { IsOf scan.now state.old }
+    requires by { IsScanFor tests.now scan.now }
     requires rows { scan.now.wanted ≡ filter (is_wanted tests.now) rows.now }
     ensures of_scan { OnOk result (IsOf scan.now state.new) }
     ensures told { (world : World) → F.world files.now ≡ Some world →
@@ -185,16 +210,27 @@ fn tell_rows<F: Files>(
         IfErr result (MayEnd (all_present world scan.now.wanted)
         (EndsAt world (F.may_fail files.now) (paths_of scan.now.wanted)) ⊥) }
     ensures read { IfOk result (λ verdicts. AreToldOf tests.now rows.now verdicts.items) }
-    ensures kept { IsScanFor tests.now scan.now → state.old ≡ replicate (length scan.now.wanted) None →
+    ensures kept { state.old ≡ replicate (length scan.now.wanted) None →
         IfOk result (λ verdicts. paths_kept verdicts.items ≡ paths_of_data (kept_in state.new)) }
     ensures absent { (path : List ℕ) → IsErrOf result (RunFault.Absent path) → HasAt (F.world files.now) path None }
     ensures device { (path : List ℕ) → IsErrOf result (RunFault.Device path) → F.may_fail files.now path }
     ensures write { IsErrOf result RunFault.Write → ⊥ }
 {
     let mut verdicts = Vec::new(alloc);
+    let mut bytes = Vec::new(alloc);
     let mut next = 0;
     'rows: for row in rows {
-        next = tell_row(alloc, files, tests, scan, next, row, state, &mut verdicts)?;
+        next = tell_row(
+            alloc,
+            files,
+            tests,
+            scan,
+            next,
+            row,
+            &mut bytes,
+            state,
+            &mut verdicts,
+        )?;
     }
     Ok(verdicts)
 }

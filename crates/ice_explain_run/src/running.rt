@@ -10,12 +10,12 @@ ghost use Rattle.ice_state.specs.Contents.{World};
 ghost use Rattle.ice_text.specs.Reads.{MayEnd};
 
 use crate::columns::columns_in;
-use crate::lines::explanation_lines;
+use crate::lines::write_explanation;
 use crate::manifests::{Explanation, explain_rows};
 use ice_desk::{Files, MOST_WORKERS};
 use ice_explain::FilterTests;
 use ice_requests::{Selection, select};
-use ice_text::{Request, RunFault, Sink, read_file, read_rows, write_all};
+use ice_text::{Request, RunFault, Sink, read_file, read_rows};
 use std::alloc::Global;
 
 /// The plan that a request asks for, and what became of the snapshot's manifests and live files.
@@ -76,8 +76,7 @@ pub fn run_explain<F: Files, W: Sink>(
         (W.taken output.old) (W.taken output.new) }
 {
     let explanation = explain_table(alloc, files, metadata, request)?;
-    let text = explanation_lines(alloc, &explanation)?;
-    write_all(output, &text)?;
+    write_explanation(alloc, &explanation, output)?;
     Ok(())
 }
 

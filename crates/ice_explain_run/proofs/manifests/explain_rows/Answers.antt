@@ -2,11 +2,15 @@ use Rattle.std.proofs.Common.{◌≡◌, ◌∙◌, ap, filter, sym}
 use Rattle.std.proofs.lemmas.Result.{err_from_is_err_and}
 use Rattle.ice_requests.proofs.Plans.{no_plan, no_scan, plan_there}
 use Rattle.ice_state.specs.Scans.{by_row_path}
-use Rattle.ice_explain_run.specs.RowsTold.{IsScanFor, is_wanted, rows_told}
+use Rattle.ice_explain_run.specs.RowsTold.{is_wanted, rows_told}
 use Rattle.ice_explain_run.proofs.Kept.{planned_are}
 use Rattle.ice_explain_run.proofs.Rows.{no_manifest}
 use Rattle.ice_explain_run.proofs.Wanted.{scan_wants}
 use Rattle.ice_explain_run.proofs.manifests.explain_rows.Goals as goal
+
+pub tell_rows-requires-clause-by : goal.tell_rows-requires-clause-by
+tell_rows-requires-clause-by g c =
+    (c.args.rows.items, c.args.specs.items, c.args.filter.parts, c.requires, c.in_ok-scan.ensures)
 
 pub tell_rows-requires-clause-rows : goal.tell_rows-requires-clause-rows
 tell_rows-requires-clause-rows g c =
@@ -62,8 +66,6 @@ returns-clause-read g c =
 
 pub returns-clause-kept : goal.returns-clause-kept
 returns-clause-kept g c =
-    let for : IsScanFor c.args.tests.now c.in_ok-scan.scan =
-    (c.args.rows.items, c.args.specs.items, c.args.filter.parts, c.requires, c.in_ok-scan.ensures) in
-    let kept = c.in_ok-verdicts.ensures.kept for c.in_ok-state.ensures.none in
+    let kept = c.in_ok-verdicts.ensures.kept c.in_ok-state.ensures.none in
     rw (c.from_vec.ensures, kept)
     (planned_are c.in_ok-scan.scan c.tell_rows.new.state c.in_ok-plan.plan c.in_ok-plan.ensures.outcome)

@@ -132,4 +132,4 @@ returns-clause-read g c =
     (c.rows.invariant.read [] (subst (λ (rs : List Row). AreToldOf tests rs []) (sym none) refl))
 
 pub returns-clause-kept : goal.returns-clause-kept
-returns-clause-kept g c = λ for none. c.rows.invariant.kept for none
+returns-clause-kept g c = λ none. c.rows.invariant.kept c.requires.by none
