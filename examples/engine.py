@@ -106,4 +106,5 @@ def main():
     library.free(held)
 
 
-main()
+if __name__ == "__main__":
+    main()

@@ -1,0 +1,137 @@
+#!/usr/bin/env python3
+"""Plans a table through the library for C by states that are made in threads and brought together in random trees:
+
+    random_trees.py LIBRARY FOLDER PREFIX METADATA [FILTER [RUNS [SEED]]]
+
+Each run makes up to nine states of one scan, each of which takes some of the wanted manifests in a thread of its own,
+several of them more than once. They are brought together in pairs that are drawn, by icescan_state_merge, which leaves
+the other as it was and may be drawn again, or by icescan_state_absorb, which empties it; what nobody took is taken by
+the last, or in every fourth run left out. The plan has to be that of one state that took each manifest once, and
+without a manifest the refusal has to be that of the least path that is missing.
+"""
+import importlib.util
+import os
+import random
+import sys
+import threading
+from ctypes import byref, c_size_t
+
+HERE = os.path.dirname(os.path.abspath(__file__))
+spec = importlib.util.spec_from_file_location("engine", os.path.join(HERE, "..", "examples", "engine.py"))
+engine = importlib.util.module_from_spec(spec)
+spec.loader.exec_module(engine)
+
+
+class Scan:
+    """A scan that is started, and the bytes of the manifests that it wants."""
+
+    def __init__(self, library, read, metadata, text):
+        self.library, self.held = library, engine.Handle()
+        path, count = engine.Bytes(), c_size_t()
+        library.call("scan_new", self.held, *engine.lent(read(metadata)), *engine.lent(b""), *engine.lent(text))
+        library.call("scan_list", self.held, byref(path))
+        library.call("scan_start", self.held, *engine.lent(read(path.read())))
+        library.call("scan_count", self.held, byref(count))
+        self.paths = []
+        for i in range(count.value):
+            library.call("scan_wanted", self.held, c_size_t(i), byref(path))
+            self.paths.append(path.read())
+        self.manifests = [read(name) for name in self.paths]
+
+    def state(self):
+        state = engine.Handle()
+        self.library.call("state_new", self.held, byref(state))
+        return state
+
+    def take(self, state, i):
+        self.library.call("state_take", state, c_size_t(i), *engine.lent(self.manifests[i]))
+
+
+def finished(library, state):
+    """The plan's text, or the line of the refusal."""
+    call = library.calls["icescan_finish"]
+    if call(byref(state)) == 0:
+        told = b"".join(engine.lines(library, state))
+    else:
+        line = engine.Bytes()
+        library.call("fault", state, byref(line))
+        told = line.read()
+    library.free(state)
+    return told
+
+
+def by_one(scan, wanted):
+    state = scan.state()
+    for i in wanted:
+        scan.take(state, i)
+    return finished(scan.library, state)
+
+
+def shares(draw, many):
+    """Which manifests each state takes, in which order: some twice, some by several, some by none."""
+    for _ in range(draw.randint(1, 9)):
+        share = [i for i in range(many) if draw.random() < 0.5]
+        share += draw.sample(share, len(share) // 3)
+        draw.shuffle(share)
+        yield share
+
+
+def taken_in_threads(scan, parts):
+    states = [scan.state() for _ in parts]
+    threads = [threading.Thread(target=lambda s=s, p=p: [scan.take(s, i) for i in p]) for s, p in zip(states, parts)]
+    for thread in threads:
+        thread.start()
+    for thread in threads:
+        thread.join()
+    return [(state, set(part)) for state, part in zip(states, parts)]
+
+
+def brought_together(scan, draw, states):
+    """One state, and what it took."""
+    merges = 2 * len(states)
+    while len(states) > 1:
+        a, b = draw.sample(range(len(states)), 2)
+        (state, took), (other, others) = states[a], states[b]
+        merges -= 1
+        if merges > 0 and draw.random() < 0.5:
+            scan.library.call("state_merge", state, byref(other))
+        else:
+            scan.library.call("state_absorb", state, byref(other))
+            states[b] = None
+        states[a] = (state, took | others)
+        states = [s for s in states if s]
+    return states[0]
+
+
+def run(scan, draw, whole):
+    many = len(scan.paths)
+    state, took = brought_together(scan, draw, taken_in_threads(scan, list(shares(draw, many))))
+    left = [i for i in range(many) if i not in took]
+    skipped = draw.choice(left) if left and draw.random() < 0.25 else None
+    for i in left:
+        if i != skipped:
+            scan.take(state, i)
+    told = finished(scan.library, state)
+    expected = whole if skipped is None else b"Z1 Missing " + engine.escaped(scan.paths[skipped])
+    return told == expected if skipped is None else expected in told
+
+
+def main():
+    path, folder, prefix, metadata, *rest = sys.argv[1:]
+    text, runs, seed = rest[0] if rest else "", int(rest[1]) if rest[1:] else 200, int(rest[2]) if rest[2:] else 1
+
+    def read(name):
+        with open(folder.encode() + name[len(prefix.encode()):], "rb") as file:
+            return file.read()
+
+    scan = Scan(engine.Library(path), read, metadata.encode(), text.encode())
+    whole = by_one(scan, range(len(scan.paths)))
+    draw = random.Random(seed)
+    wrong = sum(not run(scan, draw, whole) for _ in range(runs))
+    scan.library.free(scan.held)
+    print(f"{runs} trees over {len(scan.paths)} manifests, {wrong} wrong")
+    sys.exit(1 if wrong else 0)
+
+
+if __name__ == "__main__":
+    main()
