@@ -1,4 +1,5 @@
-/* Plans a table with four threads of its own, and prints the text that `icescan plan` prints:
+/* Plans a table with four threads of its own, or as many as -DWORKERS=N says, and prints the text that `icescan plan`
+ * prints:
  *
  *     engine FOLDER PREFIX METADATA [FILTER]
  *
@@ -11,7 +12,9 @@
 #include <stdlib.h>
 #include <string.h>
 
+#ifndef WORKERS
 #define WORKERS 4
+#endif
 
 struct table {
     const char *folder, *prefix;

@@ -1,8 +1,9 @@
 """Plans a table through the shared object that tools/build_c makes, and prints the text that `icescan plan` prints:
 
-    engine.py LIBRARY FOLDER PREFIX METADATA [FILTER]
+    engine.py LIBRARY FOLDER PREFIX METADATA [FILTER [NAME]]
 
-FOLDER stands for the front PREFIX of the table's paths; METADATA is the path of its metadata.
+FOLDER stands for the front PREFIX of the table's paths; METADATA is the path of its metadata. NAME is a branch, a tag
+or, in digits, the id of a snapshot; without it the current snapshot is planned.
 """
 import ctypes
 import sys
@@ -57,11 +58,20 @@ def escaped(path):
     return b"".join(b"\\x%02x" % b if b <= 32 or b in (92, 127) else bytes([b]) for b in path)
 
 
-def plan(library, read, metadata, text):
-    scan, state, path, count = Handle(), Handle(), Bytes(), c_size_t()
-    library.call("scan_new", scan, *lent(read(metadata)), *lent(b""), *lent(text))
+def started(library, read, metadata, text, name):
+    """The scan of a snapshot under a filter."""
+    scan, path = Handle(), Bytes()
+    if name.isdigit():
+        library.call("scan_new_at", scan, *lent(read(metadata)), c_int64(int(name)), *lent(text))
+    else:
+        library.call("scan_new", scan, *lent(read(metadata)), *lent(name), *lent(text))
     library.call("scan_list", scan, byref(path))
     library.call("scan_start", scan, *lent(read(path.read())))
+    return scan
+
+
+def plan(library, read, metadata, text, name):
+    scan, state, path, count = started(library, read, metadata, text, name), Handle(), Bytes(), c_size_t()
     library.call("state_new", scan, byref(state))
     library.call("scan_count", scan, byref(count))
     for i in range(count.value):
@@ -101,7 +111,8 @@ def main():
         with open(folder.encode() + name[len(front):], "rb") as file:
             return file.read()
 
-    held = plan(library, read, metadata.encode(), rest[0].encode() if rest else b"")
+    text, name = (*(word.encode() for word in rest), b"", b"")[:2]
+    held = plan(library, read, metadata.encode(), text, name)
     sys.stdout.buffer.writelines(lines(library, held))
     library.free(held)
 

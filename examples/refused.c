@@ -80,6 +80,8 @@ int main(int count, char **words) {
     icescan_bytes path = ICESCAN_NO_BYTES;
     icescan_file file = ICESCAN_NO_FILE;
     size_t wanted = 0;
+    /* Of the same scan, made anew; of one that wants the same manifests; of one that wants others. */
+    const char *filters[] = {"", "true", "ts < 0"};
 
     nothing("no handle", &scan);
     icescan_free(&scan);
@@ -126,11 +128,14 @@ int main(int count, char **words) {
     want("a state is no scan", icescan_state_new(&state, &other), ICESCAN_KIND);
     want("taken", icescan_state_take(&state, 0, manifest.bytes, manifest.len), ICESCAN_OK);
     want("merged", icescan_state_merge(&state, &other), ICESCAN_OK);
-    want("filtered", icescan_scan_new(&filtered, metadata.bytes, metadata.len, NULL, 0, text("ts < 0"), 6), ICESCAN_OK);
-    want("started", icescan_scan_start(&filtered, list.bytes, list.len), ICESCAN_OK);
-    want("its state", icescan_state_new(&filtered, &another), ICESCAN_OK);
-    want("of another scan", icescan_state_merge(&state, &another), ICESCAN_OTHER_SCAN);
-    want("of another scan", icescan_state_absorb(&state, &another), ICESCAN_OTHER_SCAN);
+    for (size_t i = 0; i < sizeof filters / sizeof *filters; i++) {
+        want(filters[i], icescan_scan_new(&filtered, metadata.bytes, metadata.len, NULL, 0, text(filters[i]),
+             strlen(filters[i])), ICESCAN_OK);
+        want(filters[i], icescan_scan_start(&filtered, list.bytes, list.len), ICESCAN_OK);
+        want(filters[i], icescan_state_new(&filtered, &another), ICESCAN_OK);
+        want(filters[i], icescan_state_merge(&state, &another), i ? ICESCAN_OTHER_SCAN : ICESCAN_OK);
+        want(filters[i], icescan_state_absorb(&state, &another), i ? ICESCAN_OTHER_SCAN : ICESCAN_OK);
+    }
     want("absorbed", icescan_state_take(&another, 0, manifest.bytes, manifest.len), ICESCAN_KIND);
     want("a new state", icescan_state_new(&scan, &another), ICESCAN_OK);
     want("absorbed", icescan_state_absorb(&state, &another), ICESCAN_OK);

@@ -20,12 +20,29 @@
  *
  * Each call answers how it ended. Of one scan there may be many states, each in a thread of its own;
  * icescan_state_absorb and icescan_state_merge bring together what they took, in any order, and the plan is that of one
- * state that took every manifest.
+ * state that took every manifest. A plan names files: it has no partition values, no bounds and no formats.
+ *
+ * Files. The library opens none. A path that it lends is the table's own, as s3://warehouse/t/metadata/m0.avro: bytes
+ * of UTF-8, without a 0 at their end. What is handed in is the whole file: metadata of format version 2 as JSON that is
+ * not compressed, and a list and manifests in Avro's codec `null`; tools/uncompress.py makes those of others.
+ *
+ * Filters. A filter says which rows are asked for, and a data file is left out only where none of its rows can meet it:
+ *
+ *     id = 42 and cat != 'books'        also < <= > >=; a quote in a text stands twice
+ *     id in (1, 2, 3) or id not in (4)  `and` binds closer than `or`; round brackets group
+ *     cat is null                       or: cat is not null
+ *     note starts with 'note 4'         texts alone
+ *     ts >= 1709856000000000            times are microseconds, dates days, since 1970-01-01 00:00 UTC
+ *     key = x'00ff'                     bytes in hexadecimal digits; a uuid is a text
+ *     place."post code" = '0150'        a dot leads into a struct; double quotes are for names that are no plain words
+ *
+ * `true` and `false` are filters too. Floats, doubles, decimals, lists and maps are not compared.
  *
  * Handles. A handle is ICESCAN_NOTHING before it is first handed in. The library alone writes it, and the caller never
- * copies it. It goes to one call at a time, and no call is given one handle twice. Another thread may have it once the
- * caller has ordered the two, by a lock, or by starting or joining a thread. The caller frees it with icescan_free:
- * states, scan and plan in any order.
+ * copies it. It goes to one call at a time, also where the call only reads, and no call is given one handle twice: so
+ * threads that take manifests have their paths lent before they start. Another thread may have it once the caller has
+ * ordered the two, by a lock, or by starting or joining a thread. The caller frees it with icescan_free: states, scan
+ * and plan in any order.
  *
  * What is lent by pointer and length is read only. It stays until the next call that changes what the handle holds:
  * icescan_free, icescan_scan_new, icescan_scan_new_at, icescan_scan_start, icescan_finish, icescan_state_absorb on the
@@ -38,7 +55,9 @@
  *
  * A handle that holds nothing, or was freed, or holds another kind of thing; a number past the end; bytes at NULL; a
  * text that is no UTF-8; metadata, a list or a manifest that is none: each is answered by a status. Left to the caller
- * is that pointers to handles and to what is written are not NULL, and that no call is made from a signal's handler.
+ * is that pointers to handles and to what is written are not NULL, and that no call is made from a signal's handler, or
+ * in the forked child of a process with threads. Bytes at NULL are found by inline functions at the end of this file:
+ * whoever calls the library without it, as by dlsym, hands in bytes that are not at NULL, also where there are 0.
  * Memory is taken by malloc, realloc and free.
  */
 #ifndef ICESCAN_H
@@ -51,20 +70,21 @@
 extern "C" {
 #endif
 
-/* How a call ended. */
+/* How a call ended. A call on a handle of another kind answers ICESCAN_KIND; what else it may answer stands at it. With
+ * the numbers 3 and 4 the program `icescan` ends where a file can't be read, or is there already: no call does. */
 enum {
     ICESCAN_OK = 0,
-    ICESCAN_TABLE = 1,      /* the table is refused: icescan_fault tells why */
+    ICESCAN_TABLE = 1,      /* the table is refused, or has no such snapshot: icescan_fault tells why */
     ICESCAN_ASKED = 2,      /* the filter is refused: icescan_fault tells why */
     ICESCAN_MEMORY = 5,     /* memory ran out */
     ICESCAN_KIND = 6,       /* the handle holds nothing of the kind that the call is for */
     ICESCAN_PAST_END = 7,   /* there is no such number */
     ICESCAN_ENCODING = 8,   /* a name or a filter is no UTF-8 */
-    ICESCAN_OTHER_SCAN = 9, /* the states are of scans that want different manifests */
+    ICESCAN_OTHER_SCAN = 9, /* the states are of two scans */
     ICESCAN_NULL = 10       /* there are to be bytes at NULL */
 };
 
-/* A scan, a state, a plan, or the line of a fault. */
+/* A scan, a state, a plan, or the line of a fault; nothing where `held` is NULL. */
 typedef struct {
     void *held;
 } icescan_handle;
@@ -79,6 +99,7 @@ typedef struct {
 
 #define ICESCAN_NO_BYTES {NULL, 0}
 
+/* The ids of columns, in the same way. */
 typedef struct {
     const int32_t *at;
     size_t len;
@@ -90,7 +111,7 @@ typedef struct {
     icescan_ids equality_ids;  /* of an equality delete file: the columns by which it deletes */
     uint64_t sequence_number;
     int64_t record_count;
-    int64_t file_size;
+    int64_t file_size;         /* in bytes */
     size_t positions;          /* of a data file: how many position delete files apply to it */
     size_t equalities;         /* and how many equality delete files */
     int32_t spec_id;
@@ -99,9 +120,11 @@ typedef struct {
 #define ICESCAN_NO_FILE {{NULL, 0}, {NULL, 0}, 0, 0, 0, 0, 0, 0}
 
 /* Asks for the snapshot that a branch or tag names, for the current one where the name is empty, under a filter where
- * its text is not empty. The scan's handle holds what that selects, and what it held before is let go. After
- * ICESCAN_TABLE and ICESCAN_ASKED it holds the line of the fault instead; after ICESCAN_ENCODING and ICESCAN_NULL what
- * it held; after ICESCAN_MEMORY the one or the other. */
+ * its text is not empty. `metadata` has the bytes of the table's metadata file. The scan's handle holds what that
+ * selects, and what it held before is let go. After ICESCAN_TABLE and ICESCAN_ASKED it holds the line of the fault
+ * instead; after ICESCAN_ENCODING and ICESCAN_NULL what it held; after ICESCAN_MEMORY the one or the other. A branch or
+ * a tag that is not there is ICESCAN_TABLE. A tag and a snapshot are filtered by the names and types of that snapshot's
+ * own schema. */
 uint32_t icescan_scan_new(icescan_handle *scan, const uint8_t *metadata, size_t metadata_len, const uint8_t *name,
                           size_t name_len, const uint8_t *filter, size_t filter_len);
 
@@ -109,27 +132,32 @@ uint32_t icescan_scan_new(icescan_handle *scan, const uint8_t *metadata, size_t 
 uint32_t icescan_scan_new_at(icescan_handle *scan, const uint8_t *metadata, size_t metadata_len, int64_t snapshot,
                              const uint8_t *filter, size_t filter_len);
 
-/* Lends the path of the snapshot's manifest list, as the table knows it. */
+/* Lends the path of the snapshot's manifest list. Once the scan is started there is none: ICESCAN_KIND. */
 uint32_t icescan_scan_list(icescan_handle *scan, icescan_bytes *path);
 
-/* Starts the scan by the bytes of the manifest list. The handle holds the scan then; after ICESCAN_TABLE and
- * ICESCAN_MEMORY the line of the fault. */
+/* Starts the scan by the bytes of the manifest list, once. The handle holds the scan then; after ICESCAN_TABLE and
+ * ICESCAN_MEMORY the line of the fault, and icescan_scan_new begins anew; after ICESCAN_NULL what it held. */
 uint32_t icescan_scan_start(icescan_handle *scan, const uint8_t *list, size_t list_len);
 
-/* Tells how many manifests the scan wants, and lends the path of one of them, counted from 0. */
+/* Tells how many manifests the scan wants, and lends the path of one of them, counted from 0, in the order of the bytes
+ * of their paths: ICESCAN_PAST_END from that count on. Manifests of data files and of delete files stand in one order;
+ * those that the filter rules out are not wanted. */
 uint32_t icescan_scan_count(icescan_handle *scan, size_t *count);
 uint32_t icescan_scan_wanted(icescan_handle *scan, size_t i, icescan_bytes *path);
 
-/* Makes a state of a scan, in which no manifest is taken. The scan may be freed before its states. */
+/* Makes a state of a scan, in which no manifest is taken. The scan may be freed before its states. The state's handle
+ * holds the state, and what it held before is let go; after ICESCAN_MEMORY it holds what it held. */
 uint32_t icescan_state_new(icescan_handle *scan, icescan_handle *state);
 
 /* Takes the manifest i that the scan wants, which has these bytes. One that was taken stays as it is. One that can't be
- * read is taken too: icescan_finish tells it. A refusal leaves the state as it was. */
+ * read is taken too: icescan_finish tells it. A refusal, ICESCAN_PAST_END, ICESCAN_NULL or ICESCAN_MEMORY, leaves the
+ * state as it was. */
 uint32_t icescan_state_take(icescan_handle *state, size_t i, const uint8_t *manifest, size_t manifest_len);
 
 /* Takes over what another state of the same scan took, which stays as it is. A refusal leaves both as they were.
- * States are refused whose scans don't want the same rows of a manifest list; that their filters and partition specs are
- * the same is left to the caller. */
+ * ICESCAN_OTHER_SCAN where the two states are of two scans. One scan may be made twice, as by each thread for itself:
+ * scans are one that were made of the same bytes of metadata, for the same name or id, under the same text of a filter,
+ * and want the same rows of a manifest list. */
 uint32_t icescan_state_merge(icescan_handle *state, icescan_handle *other);
 
 /* The same of a state that nobody needs any more: nothing of it is copied. The other handle holds nothing then, however
@@ -137,11 +165,12 @@ uint32_t icescan_state_merge(icescan_handle *state, icescan_handle *other);
 uint32_t icescan_state_absorb(icescan_handle *state, icescan_handle *other);
 
 /* Finishes a state: its handle holds the plan then; after ICESCAN_TABLE, as where a wanted manifest was not taken, and
- * after ICESCAN_MEMORY the line of the fault. */
+ * after ICESCAN_MEMORY the line of the fault, and what was taken is gone. */
 uint32_t icescan_finish(icescan_handle *state);
 
 /* Tells how many data files the plan has, and lends one of them, in the order of their paths, counted from 0; and of
- * the data file i the delete file j of those that apply to it, in the order of their paths. */
+ * the data file i the delete file j of those that apply to it, in the order of their paths: ICESCAN_PAST_END from those
+ * counts on. How many position and equality delete files apply to a data file stands in its icescan_file. */
 uint32_t icescan_plan_count(icescan_handle *plan, size_t *count);
 uint32_t icescan_plan_file(icescan_handle *plan, size_t i, icescan_file *file);
 uint32_t icescan_plan_position(icescan_handle *plan, size_t i, size_t j, icescan_file *file);

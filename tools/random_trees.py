@@ -4,10 +4,10 @@
     random_trees.py LIBRARY FOLDER PREFIX METADATA [FILTER [RUNS [SEED]]]
 
 Each run makes up to nine states of one scan, each of which takes some of the wanted manifests in a thread of its own,
-several of them more than once. They are brought together in pairs that are drawn, by icescan_state_merge, which leaves
-the other as it was and may be drawn again, or by icescan_state_absorb, which empties it; what nobody took is taken by
-the last, or in every fourth run left out. The plan has to be that of one state that took each manifest once, and
-without a manifest the refusal has to be that of the least path that is missing.
+several of them more than once. They are brought together in pairs that are drawn, by icescan_state_merge, whose other
+is let go or drawn again, or by icescan_state_absorb, which empties it; what nobody took is taken by the last, or in
+every fourth run some of it is left out. The plan has to be that of one state that took each manifest once, and where
+some are missing the refusal has to name the one with the least path.
 """
 import importlib.util
 import os
@@ -26,11 +26,8 @@ class Scan:
     """A scan that is started, and the bytes of the manifests that it wants."""
 
     def __init__(self, library, read, metadata, text):
-        self.library, self.held = library, engine.Handle()
+        self.library, self.held = library, engine.started(library, read, metadata, text, b"")
         path, count = engine.Bytes(), c_size_t()
-        library.call("scan_new", self.held, *engine.lent(read(metadata)), *engine.lent(b""), *engine.lent(text))
-        library.call("scan_list", self.held, byref(path))
-        library.call("scan_start", self.held, *engine.lent(read(path.read())))
         library.call("scan_count", self.held, byref(count))
         self.paths = []
         for i in range(count.value):
@@ -88,18 +85,18 @@ def taken_in_threads(scan, parts):
 
 def brought_together(scan, draw, states):
     """One state, and what it took."""
-    merges = 2 * len(states)
+    again = len(states)
     while len(states) > 1:
         a, b = draw.sample(range(len(states)), 2)
         (state, took), (other, others) = states[a], states[b]
-        merges -= 1
-        if merges > 0 and draw.random() < 0.5:
-            scan.library.call("state_merge", state, byref(other))
-        else:
-            scan.library.call("state_absorb", state, byref(other))
-            states[b] = None
         states[a] = (state, took | others)
-        states = [s for s in states if s]
+        how = draw.choice(("state_absorb", "state_merge"))
+        scan.library.call(how, state, byref(other))
+        if how == "state_merge" and again > 0 and draw.random() < 0.5:
+            again -= 1
+        else:
+            scan.library.free(other)
+            del states[b]
     return states[0]
 
 
@@ -107,13 +104,15 @@ def run(scan, draw, whole):
     many = len(scan.paths)
     state, took = brought_together(scan, draw, taken_in_threads(scan, list(shares(draw, many))))
     left = [i for i in range(many) if i not in took]
-    skipped = draw.choice(left) if left and draw.random() < 0.25 else None
+    skipped = draw.sample(left, draw.randint(1, len(left))) if left and draw.random() < 0.25 else []
     for i in left:
-        if i != skipped:
+        if i not in skipped:
             scan.take(state, i)
     told = finished(scan.library, state)
-    expected = whole if skipped is None else b"Z1 Missing " + engine.escaped(scan.paths[skipped])
-    return told == expected if skipped is None else expected in told
+    if not skipped:
+        return told == whole
+    missing = engine.escaped(min(scan.paths[i] for i in skipped))
+    return told == b"icescan: Z1 Missing %s\n" % missing
 
 
 def main():

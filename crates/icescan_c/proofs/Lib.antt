@@ -1,2 +1,3 @@
+pub mod OfQuestions
 pub mod Values
 pub mod Words

@@ -42,7 +42,7 @@ Selects metadata texts request before status after = (read : Result Request Refu
 
 -- what was selected becomes the scan of a manifest list
 abbrev pub Starts : List ℕ → Held → Result Unit Refusal → Held → Type 0
-Starts list (held.Selection selection) ended after = Makes (started selection list) ended after
+Starts list (held.Selection answer) ended after = Makes (started answer list) ended after
 Starts list other ended after = Refuses refusal.Kind other ended after
 
 -- ---- states

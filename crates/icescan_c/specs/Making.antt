@@ -3,7 +3,6 @@ use Rattle.std.specs.Prelude.{◌≡◌, ◌≤◌, ℕ, List, length, take, Res
 use Rattle.contract_words.specs.Outcome.{Gives, ◌>>=◌}
 use Rattle.ice_manifest_reading.specs.Lists.{rows_of}
 use Rattle.ice_requests.specs.Selections.{selected}
-use Rattle.ice_requests.specs.declared.selection.Selection.{Selection}
 use Rattle.ice_state.specs.Outcomes.{outcome}
 use Rattle.ice_state.specs.Scans.{scan_of}
 use Rattle.ice_text.specs.FaultTexts.{fault_text}
@@ -13,23 +12,33 @@ use Rattle.ice_text.specs.Reads.{as_run}
 use Rattle.ice_text.specs.declared.fault.RunFault.{RunFault}
 use Rattle.ice_text.specs.declared.fault.RunFault.TheVariants as run
 use Rattle.ice_text.specs.declared.request.Request.{Request}
-use Rattle.icescan_c.specs.Kept.{Kept}
+use Rattle.icescan_c.specs.Kept.{Answered, AskedScan, Kept}
 use Rattle.icescan_c.specs.declared.held.Held.{Held}
 use Rattle.icescan_c.specs.declared.held.Held.TheVariants as held
 use Rattle.icescan_c.specs.declared.status.Refusal.{Refusal}
 use Rattle.icescan_c.specs.declared.status.Refusal.TheVariants as refusal
 
 -- what a request selects of the table whose metadata these are the bytes of
+unfoldable pub answered : List ℕ → Request → Result Answered RunFault
+answered metadata request = do
+  selection ← selected metadata request
+  Ok (record { question = record { metadata = metadata; request = request }; selection = selection })
+
 unfoldable pub asked : List ℕ → Request → Result Held RunFault
 asked metadata request = do
-  selection ← selected metadata request
-  Ok (held.Selection selection)
+  answer ← answered metadata request
+  Ok (held.Selection answer)
 
 -- the scan of what was selected, whose manifest list these are the bytes of
-unfoldable pub started : Selection → List ℕ → Result Held RunFault
-started selection list = do
+unfoldable pub scanned : Answered → List ℕ → Result AskedScan RunFault
+scanned answer list = do
   rows ← as_run of_list (rows_of list)
-  scan ← as_run of_scan (scan_of rows selection.specs selection.filter.parts)
+  scan ← as_run of_scan (scan_of rows answer.selection.specs answer.selection.filter.parts)
+  Ok (record { question = answer.question; scan = scan })
+
+unfoldable pub started : Answered → List ℕ → Result Held RunFault
+started answer list = do
+  scan ← scanned answer list
   Ok (held.Scan scan)
 
 -- the plan of what a state took

@@ -18,12 +18,12 @@ fault_in (held.Fault line) = Ok line
 fault_in other = Err refusal.Kind
 
 abbrev pub list_in : Held → Result (List ℕ) Refusal
-list_in (held.Selection selection) = Ok selection.list
+list_in (held.Selection answer) = Ok answer.selection.list
 list_in other = Err refusal.Kind
 
 -- the rows that a scan wants, and the lines of a plan
 abbrev pub wanted_in : Held → Result (List Row) Refusal
-wanted_in (held.Scan scan) = Ok scan.wanted
+wanted_in (held.Scan asked) = Ok asked.scan.wanted
 wanted_in other = Err refusal.Kind
 
 abbrev pub lines_in : Held → Result (List OwnedLine) Refusal

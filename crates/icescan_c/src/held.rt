@@ -1,8 +1,8 @@
 //! What a handle holds.
 
-use crate::states::{SharedScan, State};
+use crate::questions::{Answer, SharedScan};
+use crate::states::State;
 use contract_words::Items;
-use ice_requests::Selection;
 use ice_state::OwnedPlan;
 
 /// What a handle holds.
@@ -11,7 +11,7 @@ pub enum Held {
     /// Nothing yet: what is to be made is written here.
     Nothing,
     /// What a request selects of a table, whose manifest list is still to be read.
-    Selection(Selection),
+    Selection(Answer),
     /// A scan.
     Scan(SharedScan),
     /// A state of a scan.

@@ -8,6 +8,7 @@ mod held;
 mod lent;
 mod loose;
 mod plan_calls;
+mod questions;
 mod scan_calls;
 mod state_calls;
 mod states;

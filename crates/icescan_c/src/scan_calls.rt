@@ -26,7 +26,7 @@ fn ask(
 {
     let request = request?;
     let mut held = Held::Nothing;
-    let ended = held.ask(alloc, metadata, &request);
+    let ended = held.ask(alloc, metadata, request);
     scan.hold(alloc, held)?;
     ended
 }

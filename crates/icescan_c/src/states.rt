@@ -1,48 +1,15 @@
-//! Scans that are shared by their states.
+//! States: what was read of a scan so far.
 
 ghost use Rattle.std.specs.Prelude.{◌≡◌, IfOk};
 ghost use Rattle.contract_words.specs.Outcome.{Gives};
 ghost use Rattle.ice_state.specs.Outcomes.{outcome};
 ghost use Rattle.icescan_c.specs.States.{TakesOver, TakesRow, untaken};
 
+use crate::questions::SharedScan;
 use crate::status::Refusal;
-use ice_state::{FinishFault, OwnedPlan, Partial, Scan};
+use ice_state::{FinishFault, OwnedPlan, Partial};
 use std::alloc::{AllocError, Global};
 use std::marker::Model;
-use std::sync::Arc;
-
-/// A scan that its states share.
-#[derive(Drop)]
-pub struct SharedScan {
-    scan: Arc<Scan>,
-}
-
-impl Model for SharedScan {
-    ghost use Rattle.std.specs.Arc.{arc_value};
-    ghost use Rattle.ice_state.specs.Scans.{Scanned};
-
-    ghost Value = { Scanned };
-
-    ghost view = { λ s. arc_value s.scan };
-}
-
-impl SharedScan {
-    /// The scan, in room of its own.
-    pub fn new(alloc: Global, scan: Scan) -> Result<SharedScan, AllocError>
-        ensures { IfOk result (λ shared. shared ≡ scan) }
-    {
-        Ok(SharedScan {
-            scan: Arc::new(alloc, scan)?,
-        })
-    }
-
-    /// The scan.
-    pub fn scan(&self) -> &Scan
-        ensures { result.now ≡ self.now }
-    {
-        &self.scan
-    }
-}
 
 /// What was read of a scan so far.
 #[derive(Drop)]
@@ -57,9 +24,9 @@ impl Model for State {
 
     ghost Value = { Kept };
 
-    ghost view = { λ s. record { scan = s.scan; content = s.partial } };
+    ghost view = { λ s. record { question = s.scan.question; scan = s.scan.scan; content = s.partial } };
 
-    ghost invariant = { λ s. IsOf s.scan s.partial };
+    ghost invariant = { λ s. IsOf s.scan.scan s.partial };
 }
 
 impl State {
@@ -69,9 +36,7 @@ impl State {
     {
         let partial = Partial::empty(alloc, scan.scan())?;
         Ok(State {
-            scan: SharedScan {
-                scan: Arc::try_clone(&scan.scan)?,
-            },
+            scan: scan.share()?,
             partial,
         })
     }
@@ -89,12 +54,12 @@ impl State {
         Ok(())
     }
 
-    /// Takes over what another state of the same scan took: `OtherScan` where its scan wants other rows of a list, or
-    /// `Memory`, and then the state is as it was.
+    /// Takes over what another state of the same scan took: `OtherScan` where its scan is another, or `Memory`, and then
+    /// the state is as it was.
     pub fn merge(&mut self, other: &State) -> Result<(), Refusal>
         ensures { TakesOver self.old other.now result self.new }
     {
-        if !self.scan.scan().wants_same_rows(other.scan.scan()) {
+        if !self.scan.is_same(&other.scan) {
             return Err(Refusal::OtherScan);
         }
         self.partial.merge(&other.partial)?;
@@ -105,7 +70,7 @@ impl State {
     pub fn absorb(&mut self, other: State) -> Result<(), Refusal>
         ensures { TakesOver self.old other result self.new }
     {
-        if !self.scan.scan().wants_same_rows(other.scan.scan()) {
+        if !self.scan.is_same(&other.scan) {
             return Err(Refusal::OtherScan);
         }
         self.partial.absorb(other.partial)?;

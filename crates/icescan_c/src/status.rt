@@ -19,7 +19,7 @@ pub enum Refusal {
     PastEnd,
     /// A text is no UTF-8.
     Encoding,
-    /// The states are of scans that want different rows.
+    /// The states are of two scans.
     OtherScan,
 }
 

@@ -70,8 +70,8 @@ impl Held {
         ensures { Tells IsOfLength (list_in self.now) path.old (status_of result) path.new }
     {
         match self {
-            Held::Selection(selection) => {
-                *path = Bytes::of(selection.list.as_bytes());
+            Held::Selection(answer) => {
+                *path = Bytes::of(answer.list());
                 Ok(())
             }
             _ => Err(Refusal::Kind),

@@ -5,37 +5,28 @@ ghost use Rattle.icescan_c.specs.Calls.{Finishes, Merges, Starts, Takes};
 ghost use Rattle.icescan_c.specs.Making.{Holds, Makes, asked, finished, started};
 
 use crate::held::Held;
-use crate::states::{SharedScan, State};
+use crate::questions::{Answer, SharedScan};
+use crate::states::State;
 use crate::status::Refusal;
 use contract_words::Items;
-use ice_manifest::read_list;
-use ice_requests::{Selection, select};
-use ice_state::Scan;
 use ice_text::{Request, RunFault, report};
 use std::alloc::Global;
 use std::mem::replace;
 
 /// What a request selects of the table whose metadata these are the bytes of.
 #[tactic(auto, unfolding(crate::specs::Making::asked))]
-fn asked(alloc: Global, metadata: &[u8], request: &Request) -> Result<Held, RunFault>
-    ensures { Gives RunFault.Memory (λ held. held) result (asked metadata.now request.now) }
+fn asked(alloc: Global, metadata: &[u8], request: Request) -> Result<Held, RunFault>
+    ensures { Gives RunFault.Memory (λ held. held) result (asked metadata.now request) }
 {
-    Ok(Held::Selection(select(alloc, metadata, request)?))
+    Ok(Held::Selection(Answer::read(alloc, metadata, request)?))
 }
 
 /// The scan of what was selected, whose manifest list these are the bytes of.
 #[tactic(auto, unfolding(crate::specs::Making::started))]
-fn started(alloc: Global, selection: Selection, list: &[u8]) -> Result<Held, RunFault>
-    ensures { Gives RunFault.Memory (λ held. held) result (started selection list.now) }
+fn started(alloc: Global, answer: Answer, list: &[u8]) -> Result<Held, RunFault>
+    ensures { Gives RunFault.Memory (λ held. held) result (started answer list.now) }
 {
-    let rows = read_list(alloc, list)?;
-    let Selection {
-        list: _,
-        specs,
-        filter,
-    } = selection;
-    let scan = Scan::new(alloc, rows, specs.into_vec(), filter)?;
-    Ok(Held::Scan(SharedScan::new(alloc, scan)?))
+    Ok(Held::Scan(SharedScan::start(alloc, answer, list)?))
 }
 
 /// The plan of what a state took.
@@ -66,8 +57,8 @@ impl Held {
     }
 
     /// Holds what a request selects of a table, or the line of the fault.
-    pub fn ask(&mut self, alloc: Global, metadata: &[u8], request: &Request) -> Result<(), Refusal>
-        ensures { Makes (asked metadata.now request.now) result self.new }
+    pub fn ask(&mut self, alloc: Global, metadata: &[u8], request: Request) -> Result<(), Refusal>
+        ensures { Makes (asked metadata.now request) result self.new }
     {
         self.hold(alloc, asked(alloc, metadata, request))
     }
@@ -77,7 +68,7 @@ impl Held {
         ensures { Starts list.now self.old result self.new }
     {
         match replace(self, Held::Nothing) {
-            Held::Selection(selection) => self.hold(alloc, started(alloc, selection, list)),
+            Held::Selection(answer) => self.hold(alloc, started(alloc, answer, list)),
             held => {
                 *self = held;
                 Err(Refusal::Kind)
