@@ -9,3 +9,4 @@ pub mod Tellings
 pub mod Lists
 pub mod Tasks
 pub mod Points
+pub mod Needed

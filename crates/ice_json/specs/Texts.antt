@@ -21,14 +21,23 @@ use Rattle.ice_json.specs.Values.{cell_json, type_at}
 abbrev pub json_text : List SpecTypes → PlanPlaces → List ℕ
 json_text types p = compact_text (plan_json types p) ++ 10 ∷ []
 
--- the text says this plan: its files stand, each once, at some places
+-- the text says this plan: its files stand, each once, at some places; where no data file stands, no delete file does
 pub record IsJsonOf (types : List SpecTypes) (plan : List OwnedLine) (text : List ℕ) : Type 0 where
   pub files : PlanPlaces
   pub plan_is : plan_of files ≡ plan
   pub placed : ArePlaced files
+  pub needed : files.files ≡ [] → files.deletes ≡ []
   pub text_is : text ≡ json_text types files
 
 -- ---- pieces of it
+
+-- the files of a plan, without delete files where there are these data files and they are none
+abbrev pub needed_by : List Entry → PlanPlaces → PlanPlaces
+needed_by [] p = record { files = []; deletes = []; places = [] }
+needed_by (x ∷ xs) p = p
+
+abbrev pub needed : PlanPlaces → PlanPlaces
+needed p = needed_by p.files p
 
 abbrev pub cells_text : List (Option ColumnType) → List Cell → List ℕ
 cells_text types cells = each_from (λ i c. compact_text (cell_json (type_at types i) c)) 0 cells

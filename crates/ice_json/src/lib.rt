@@ -12,5 +12,5 @@ mod types;
 mod values;
 
 pub use laws::{json_is_the_plan, json_reads_back};
-pub use plan::{JsonFault, write_plan_json};
+pub use plan::{JsonFault, write_plan_json, write_typed_plan};
 pub use types::{SpecTypes, types_of_specs};

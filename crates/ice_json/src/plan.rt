@@ -7,7 +7,7 @@ ghost use Rattle.ice_print.specs.Written.{Appends, AppendsFront, Sent};
 ghost use Rattle.ice_state.specs.PlacedFiles.{ArePlaced};
 ghost use Rattle.ice_json.specs.declared.plan.JsonFault.TheVariants as json;
 ghost use Rattle.ice_json.specs.PlanJson.{tasks_json};
-ghost use Rattle.ice_json.specs.Texts.{deletes_text, json_text, references_text, tasks_text, IsJsonOf};
+ghost use Rattle.ice_json.specs.Texts.{deletes_text, json_text, needed, references_text, tasks_text, IsJsonOf};
 ghost use Rattle.ice_json.specs.Types.{spec_types};
 
 use crate::files::{put_data_file, put_delete_file};
@@ -135,13 +135,57 @@ fn put_plan<S: Sink>(
     page.put(sink, b"]}\n")
 }
 
+/// Sends a plan's JSON, without delete files where no data file stands: none of them applies, and clients refuse them.
+fn put_needed<S: Sink>(
+    page: &mut Page,
+    sink: &mut S,
+    types: &[SpecTypes],
+    plan: &PlacedFiles<'_>,
+) -> Result<(), SinkFault>
+    requires { ArePlaced plan.now }
+    ensures { Sent S.taken S.may_fail sink.old page.old result sink.new page.new
+        (json_text types.now (needed plan.now)) }
+{
+    if plan.count_files() == 0 {
+        page.put(
+            sink,
+            b"{\"status\":\"completed\",\"delete-files\":[],\"file-scan-tasks\":[]}\n",
+        )
+    } else {
+        put_plan(page, sink, types, plan)
+    }
+}
+
+/// Writes a plan as `write_plan_json` does, by the types of the specs. The text, and each refusal, are the same.
+pub fn write_typed_plan<S: Sink>(
+    alloc: Global,
+    types: &[SpecTypes],
+    lines: &Lines<'_>,
+    sink: &mut S,
+) -> Result<(), JsonFault>
+    ensures all { OnOk result ((text : List ℕ) × IsJsonOf types.now lines.now text
+        × Appends (S.taken sink.old) (S.taken sink.new) text) }
+    ensures causes { IfErr result (λ e. (e ≡ json.Memory) ⊎ (e ≡ json.Write)) }
+    ensures nothing { IsErrOf result json.Memory → S.taken sink.new ≡ S.taken sink.old }
+    ensures front { IsErrOf result json.Write → (text : List ℕ) × IsJsonOf types.now lines.now text
+        × AppendsFront (S.taken sink.old) (S.taken sink.new) text }
+    ensures cause { IsErrOf result json.Write → S.may_fail sink.old }
+{
+    let mut page = Page::new(alloc)?;
+    let plan = lines.placed_files();
+    put_needed(&mut page, sink, types, &plan)?;
+    page.flush(sink)?;
+    Ok(())
+}
+
 /// Writes a plan as JSON, in one line: the answer of an Iceberg REST catalog to a scan that was planned. It is written
 /// as it is made, in pieces of some 64 KiB.
 ///
 /// The partition values have the types of the specs, whose fields have the types of their columns in the schema that is
 /// asked: days are dates. A value that isn't of its type, and one of which no type is known, as without specs, is
 /// written as what it is: a boolean, a number, a text, or the hexadecimal digits of its bytes. A year outside 0000 to
-/// 9999 has a sign. All delete files of the plan stand in the list, those too that apply to no data file.
+/// 9999 has a sign. All delete files of the plan stand in the list, those too that apply to no data file; but none where
+/// no data file stands, which clients refuse.
 ///
 /// It refuses for want of memory, and then nothing was written, or where a write fails, and then a front of the text
 /// was.
@@ -159,10 +203,6 @@ pub fn write_plan_json<S: Sink>(
         × AppendsFront (S.taken sink.old) (S.taken sink.new) text }
     ensures cause { IsErrOf result json.Write → S.may_fail sink.old }
 {
-    let mut page = Page::new(alloc)?;
     let types = types_of_specs(alloc, specs)?;
-    let plan = lines.placed_files();
-    put_plan(&mut page, sink, &types, &plan)?;
-    page.flush(sink)?;
-    Ok(())
+    write_typed_plan(alloc, &types, lines, sink)
 }
