@@ -1,5 +1,5 @@
 -- What the findings on delete files tell, one by one.
-use Rattle.std.proofs.Common.{◌≡◌, ◌⊎◌, inl, inr, Bool, true, false, not, ℕ, List, [], ◌∷◌, ◌++◌, refl, sym, ap, subst}
+use Rattle.std.proofs.Common.{◌≡◌, inl, inr, Bool, true, false, not, ℕ, List, [], ◌∷◌, refl, sym, ap, subst}
 use Rattle.std.proofs.Common.{◌∙◌, Option, Some, None}
 use Rattle.std.specs.List.{Contains, filter_map, list_any}
 use Rattle.std.specs.Option.{option_and_then}
@@ -17,7 +17,7 @@ use Rattle.ice_audit.specs.Telling.{Dangles, NamesNone}
 use Rattle.ice_audit.specs.declared.file_key.FileKey.{FileKey}
 use Rattle.ice_audit.specs.declared.finding.Finding.{Finding}
 use Rattle.ice_audit.specs.declared.finding.Flaw.{Flaw}
-use Rattle.ice_audit.specs.declared.finding.Flaw.TheVariants.{NamedNotLive, DanglingPositions, DanglingEqualities}
+use Rattle.ice_audit.specs.declared.finding.Flaw.TheVariants.{NamedNotLive}
 use Rattle.ice_audit.specs.declared.repeats.LiveFile.{LiveFile}
 use Rattle.ice_audit.proofs.Hitting.{passes, passing}
 use Rattle.ice_audit.proofs.Members.{at_head, first_or_behind, from_flat, from_map, in_flat, in_map, in_none}

@@ -2,6 +2,7 @@ pub mod Apart
 pub mod Stepwise
 pub mod Hitting
 pub mod Searched
+pub mod Naming
 pub mod CoverageLaws
 pub mod Told
 pub mod Dangled

@@ -1,5 +1,5 @@
 -- Live files as they are lent, and what is found for them.
-use Rattle.std.specs.Prelude.{ℕ, ◌==◌, ◌&&◌, Bool, List}
+use Rattle.std.specs.Prelude.{ℕ, ◌==◌, ◌&&◌, Bool, List, map}
 use Rattle.std.specs.Borrow.{Bor}
 use Rattle.std.specs.Cmp.Lexicographic.{slice_cmp}
 use Rattle.std.specs.List.{list_any}
@@ -10,13 +10,17 @@ use Rattle.ice_audit.specs.declared.deletes.DataFile.{DataFile}
 use Rattle.ice_audit.specs.declared.deletes.DeleteFile.{DeleteFile}
 use Rattle.ice_audit.specs.declared.file_key.FileKey.{FileKey}
 use Rattle.ice_audit.specs.declared.repeats.LiveFile.{LiveFile}
-use Rattle.ice_audit.specs.Dangling.{data_key}
+use Rattle.ice_audit.specs.Dangling.{data_key, names_none}
 
 abbrev pub data_lent : DataFile → DataKey
 data_lent x = data_key x.path.now x.key.now
 
 abbrev pub delete_lent : DeleteFile → LiveFile × FileKey
 delete_lent d = (d.file.now, d.key.now)
+
+-- of each delete file whether it names a path that is none of these
+abbrev pub naming_none : List (List ℕ) → List DeleteFile → List Bool
+naming_none paths deletes = map (λ d. names_none paths (delete_lent d).1.referenced) deletes
 
 -- the delete file of this number applies to the data file
 abbrev pub is_hit : List (ℕ × DeleteKey) → DataKey → ℕ → Bool

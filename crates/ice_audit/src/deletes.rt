@@ -1,6 +1,6 @@
 //! Live delete files that apply to no live data file, and those that name a file that is none.
 
-ghost use Rattle.std.specs.Prelude.{◌≡◌, ◌<◌, ◌==◌, ◌||◌, ◌++◌, ℕ, Bool, false, IfOk, OnOk, Contains, length, map, get_or};
+ghost use Rattle.std.specs.Prelude.{◌≡◌, ◌<◌, ◌==◌, ◌||◌, ◌++◌, ℕ, Bool, false, IfOk, OnOk, Contains, is_some, length, map, get_or};
 ghost use Rattle.std.specs.Prelude.{List, option_map, ◌↔◌};
 ghost use Rattle.std.specs.List.{flat_map, list_any};
 ghost use Rattle.std.specs.List.Sorted.{IsPermutation, IsSorted};
@@ -11,7 +11,7 @@ ghost use Rattle.ice_audit.specs.Dangling.{dangling_flaw, data_files, data_of, d
 ghost use Rattle.ice_audit.specs.Dangling.{delete_of, finding_where, findings_by, findings_beside, is_reaching};
 ghost use Rattle.ice_audit.specs.Dangling.{names_none, paths_in};
 ghost use Rattle.ice_value.specs.Applying.{DataKey};
-ghost use Rattle.ice_audit.specs.Lookups.{data_lent, delete_lent, is_hit, path_order};
+ghost use Rattle.ice_audit.specs.Lookups.{data_lent, delete_lent, is_hit, naming_none, path_order};
 
 use crate::file_key::FileKey;
 use crate::finding::{Finding, Flaw};
@@ -194,6 +194,31 @@ fn sorted_paths(alloc: Global, files: &[LiveFile]) -> Result<Vec<&[u8]>, AllocEr
     Ok(paths)
 }
 
+/// Whether one of the delete files names a data file.
+fn names_some(deletes: &[DeleteFile<'_>]) -> bool
+    ensures { result ≡ list_any (λ d. is_some (delete_lent d).1.referenced) deletes.now }
+{
+    deletes.iter().any(|delete| delete.key.referenced.is_some())
+}
+
+/// Paths, in order, beside which the delete files name none just where they name a path of no data file: none where
+/// none of them names one.
+fn paths_asked<'a>(
+    alloc: Global,
+    files: &'a [LiveFile],
+    deletes: &[DeleteFile<'_>],
+) -> Result<Vec<&'a [u8]>, AllocError>
+    ensures sorted { IfOk result (λ paths. IsSorted path_order paths.items) }
+    ensures same { IfOk result (λ paths. naming_none (map (λ p. p.now) paths.items) deletes.now
+        ≡ naming_none (paths_in (data_files files.now)) deletes.now) }
+{
+    if names_some(deletes) {
+        sorted_paths(alloc, files)
+    } else {
+        Ok(Vec::new(alloc))
+    }
+}
+
 /// Whether a path is named that is none of these, which are in order.
 fn names_none(paths: &[&[u8]], named: &Option<Items<u8>>) -> bool
     requires { IsSorted path_order paths.now }
@@ -255,8 +280,8 @@ fn push_findings_by(
     )
 }
 
-/// Puts the findings on delete files last, file by file, beside data files that have these paths, in order, and to which
-/// the delete files apply as they are marked.
+/// Puts the findings on delete files last, file by file, beside data files whose paths they name where they name one of
+/// these, which are in order, and to which they apply as they are marked.
 fn push_findings(
     alloc: Global,
     findings: &mut Items<Finding>,
@@ -266,7 +291,8 @@ fn push_findings(
 ) -> Result<(), AllocError>
     requires sorted { IsSorted path_order paths.now }
     requires many { length marks.now ≡ length deletes.now }
-    ensures { (xs : List DataKey) → IsPermutation (paths_in xs) (map (λ p. p.now) paths.now) →
+    ensures { (xs : List DataKey) →
+        naming_none (map (λ p. p.now) paths.now) deletes.now ≡ naming_none (paths_in xs) deletes.now →
         marks.now ≡ map (λ d. is_reaching xs (delete_lent d).1) deletes.now →
         OnOk result (findings.new ≡ findings.old ++ flat_map (findings_beside xs) (map delete_lent deletes.now)) }
 {
@@ -291,7 +317,7 @@ pub fn push_delete_findings(
     if deletes.is_empty() {
         return Ok(());
     }
-    let paths = sorted_paths(alloc, files)?;
+    let paths = paths_asked(alloc, files, &deletes)?;
     let marks = reaching(alloc, files, &deletes)?;
     push_findings(alloc, findings, &deletes, &paths, &marks)
 }

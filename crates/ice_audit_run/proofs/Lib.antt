@@ -3,3 +3,4 @@ pub mod Premise
 pub mod Others
 pub mod Strays
 pub mod Steps
+pub mod Ranges

@@ -23,7 +23,7 @@ use Rattle.ice_audit.specs.declared.basis.TypedColumn.{TypedColumn}
 use Rattle.ice_audit.specs.declared.finding.Finding.{Finding}
 use Rattle.ice_audit.specs.declared.finding.Flaw.{Flaw}
 use Rattle.ice_audit.specs.declared.finding.Flaw.TheVariants.{Uncovered, BelowLeast, AboveLast, NoColumn}
-use Rattle.ice_audit.specs.declared.finding.Flaw.TheVariants.{Miscounted, LiveTwice, BoundsCross, ExcessNulls}
+use Rattle.ice_audit.specs.declared.finding.Flaw.TheVariants.{Miscounted, BoundsCross, ExcessNulls}
 use Rattle.ice_audit.specs.declared.finding.Flaw.TheVariants.{NamedNotLive, DanglingPositions, DanglingEqualities}
 use Rattle.ice_audit.specs.declared.limits.FieldLimits.{FieldLimits}
 use Rattle.ice_audit.specs.declared.repeats.LiveFile.{LiveFile}

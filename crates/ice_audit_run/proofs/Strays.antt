@@ -1,7 +1,7 @@
 -- The findings on delete files of an audit, and the live files of the snapshot.
-use Rattle.std.proofs.Common.{◌≡◌, ◌⊎◌, inl, inr, ℕ, Bool, true, false, List, [], ◌∷◌, ◌++◌, refl, sym, ap, subst, ◌∙◌}
-use Rattle.std.proofs.Common.{◌↔◌, Option, Some, None, map}
-use Rattle.std.specs.Prelude.{Result, Ok, Err, if◌then◌else◌}
+use Rattle.std.proofs.Common.{◌≡◌, inl, inr, ℕ, Bool, true, false, List, [], ◌∷◌, ◌++◌, refl, sym, ap, subst, ◌∙◌}
+use Rattle.std.proofs.Common.{◌↔◌, Option, Some, None}
+use Rattle.std.specs.Prelude.{Ok, if◌then◌else◌}
 use Rattle.std.specs.List.{Contains, filter_map}
 use Rattle.std.specs.Option.{option_and_then}
 use Rattle.std.proofs.lemmas.List.Elements.{Contains-append_cases, Contains-append_left, Contains-append_right}
@@ -10,7 +10,7 @@ use Rattle.ice_audit.specs.Bases.{among, has_content_of_deletes, have_deletes}
 use Rattle.ice_audit.specs.Dangling.{dangling_flaw, data_by, data_files, data_key, data_of, delete_by, delete_files}
 use Rattle.ice_audit.specs.Dangling.{delete_findings, delete_key, delete_of}
 use Rattle.ice_audit.specs.Keys.{file_key, key_of}
-use Rattle.ice_audit.specs.Repeats.{live_file, live_files, repeats}
+use Rattle.ice_audit.specs.Repeats.{live_file, repeats}
 use Rattle.ice_audit.specs.Telling.{Dangles, NamesNone}
 use Rattle.ice_audit.specs.declared.basis.Basis.{Basis}
 use Rattle.ice_audit.specs.declared.file_key.FileKey.{FileKey}
@@ -28,11 +28,10 @@ use Rattle.ice_manifest_reading.specs.declared.row.ManifestContent.{ManifestCont
 use Rattle.ice_manifest_reading.specs.declared.row.ManifestContent.TheVariants as row_of_content
 use Rattle.ice_manifest_reading.specs.declared.row.Row.{Row}
 use Rattle.ice_state.proofs.Elements.{contains_more}
-use Rattle.ice_state.specs.Applying.{Applies, data_key_of, delete_key_of}
+use Rattle.ice_state.specs.Applying.{data_key_of, delete_key_of}
 use Rattle.ice_state.specs.Contents.{World}
 use Rattle.ice_state.specs.Snapshots.{live}
-use Rattle.ice_text.specs.declared.fault.RunFault.{RunFault}
-use Rattle.ice_value.specs.Applying.{Applies as KeyApplies, DataKey, DeleteKey}
+use Rattle.ice_value.specs.Applying.{Applies as KeyApplies, DataKey}
 use Rattle.ice_value.specs.declared.file_content.FileContent.{FileContent}
 use Rattle.ice_value.specs.declared.file_content.FileContent.TheVariants.{Data, PositionDeletes, EqualityDeletes}
 use Rattle.ice_meta.specs.declared.metadata.Target.{Target}

@@ -4,3 +4,4 @@ pub mod Texts
 pub mod Premises
 pub mod Strays
 pub mod AnyFiles
+pub mod Readings

@@ -1,20 +1,21 @@
 //! The audit of a manifest list's rows.
 
-ghost use Rattle.std.specs.Prelude.{◌≡◌, ◌++◌, ◌∷◌, ℕ, List, [], Some, Ok, IfOk, IfErr, IsErrOf};
-ghost use Rattle.ice_audit_run.specs.AnyFiles.{IsReadOf, IsReadOfRow, MayStop};
-ghost use Rattle.ice_audit_run.specs.Audits.{row_audit, rows_audit, whole};
+ghost use Rattle.std.specs.Prelude.{◌≡◌, ◌++◌, ◌∷◌, ◌+◌, ◌^◌, ◌<◌, ℕ, List, [], Some, Ok, IfOk, IfErr, IsErrOf};
+ghost use Rattle.ice_audit_run.specs.AnyFiles.{IsReadOfRow, MayStop};
+ghost use Rattle.ice_audit_run.specs.Audits.{joined, row_audit, whole};
+ghost use Rattle.ice_audit_run.specs.Readings.{ReadsRows};
 ghost use Rattle.ice_audit_run.specs.declared.audit.Reading.{Reading};
-ghost use Rattle.ice_desk.specs.Wanted.{paths_of};
 ghost use Rattle.ice_desk.specs.Worlds.{EndsAt};
 ghost use Rattle.ice_state.specs.Contents.{World};
 ghost use Rattle.ice_text.specs.Reads.{MayEnd};
 
 use crate::manifests::{audit_bytes, spec_for};
+use crate::reading::read_file_into;
 use contract_words::Items;
 use ice_audit::{Basis, Finding, LiveFile, push_delete_findings, push_repeats};
 use ice_desk::Files;
 use ice_manifest_reading::Row;
-use ice_text::{RunFault, read_file};
+use ice_text::RunFault;
 use std::alloc::{AllocError, Global};
 
 /// What was found of a snapshot.
@@ -62,14 +63,36 @@ impl Reading {
             findings,
         })
     }
+
+    /// What was read of these manifests and then of others.
+    pub fn joined(self, others: Reading) -> Result<Reading, AllocError>
+        requires manifests { self.manifests + others.manifests < 2 ^ 64 }
+        requires entries { self.entries + others.entries < 2 ^ 128 }
+        ensures { IfOk result (λ read. read ≡ joined self others) }
+    {
+        let mut findings = self.findings.into_vec();
+        let mut more_findings = others.findings.into_vec();
+        findings.append(&mut more_findings)?;
+        let mut live = self.live.into_vec();
+        let mut more_live = others.live.into_vec();
+        live.append(&mut more_live)?;
+        Ok(Reading {
+            manifests: self.manifests + others.manifests,
+            entries: self.entries + others.entries,
+            findings: Items::from_vec(findings),
+            live: Items::from_vec(live),
+        })
+    }
 }
 
-/// Puts the findings on a row's manifest and its live files last, and gives the number of its live entries.
+/// Puts the findings on a row's manifest and its live files last, and gives the number of its live entries. `bytes` is
+/// the room that the manifest is read into.
 fn audit_row<F: Files>(
     alloc: Global,
     files: &F,
     basis: &Basis,
     row: &Row,
+    bytes: &mut Vec<u8>,
     findings: &mut Items<Finding>,
     live: &mut Vec<LiveFile>,
 ) -> Result<usize, RunFault>
@@ -87,33 +110,35 @@ fn audit_row<F: Files>(
     ensures stops { IfErr result (MayStop (F.world files.now) (F.may_fail files.now) ⊥) }
 {
     let spec = spec_for(basis.specs.as_slice(), row)?;
-    let bytes = read_file(alloc, files, row.path.as_str())?;
-    let entries = audit_bytes(alloc, basis, row, spec, &bytes, findings, live)?;
+    read_file_into(alloc, files, row.path.as_str(), bytes)?;
+    let entries = audit_bytes(alloc, basis, row, spec, bytes.as_slice(), findings, live)?;
     Ok(entries)
 }
 
 /// What is read of the manifests of these rows, one after the other: of each nothing is kept but what was found and the
-/// paths of its live files.
+/// live files. Each manifest is read into the room of the one before.
 pub fn audit_rows<F: Files>(
     alloc: Global,
     files: &F,
     basis: &Basis,
     rows: &[Row],
 ) -> Result<Reading, RunFault>
-    ensures found { (world : World) → F.world files.now ≡ Some world →
-        IfOk result (λ read. rows_audit world basis.now rows.now ≡ Ok read) }
-    ensures refused { (world : World) → F.world files.now ≡ Some world →
-        IfErr result (MayEnd (rows_audit world basis.now rows.now)
-        (EndsAt world (F.may_fail files.now) (paths_of rows.now)) ⊥) }
-    ensures write { IsErrOf result RunFault.Write → ⊥ }
-    ensures read { IfOk result (IsReadOf basis.now rows.now) }
-    ensures stops { IfErr result (MayStop (F.world files.now) (F.may_fail files.now) ⊥) }
+    ensures { ReadsRows (F.world files.now) (F.may_fail files.now) basis.now rows.now result }
 {
     let mut findings = Items::new(alloc);
     let mut live = Vec::new(alloc);
+    let mut bytes = Vec::new(alloc);
     let mut entries: u128 = 0;
     'rows: for row in rows {
-        entries += audit_row(alloc, files, basis, row, &mut findings, &mut live)? as u128;
+        entries += audit_row(
+            alloc,
+            files,
+            basis,
+            row,
+            &mut bytes,
+            &mut findings,
+            &mut live,
+        )? as u128;
     }
     Ok(Reading {
         manifests: rows.len(),

@@ -2,9 +2,11 @@
 #![tactic(auto)]
 
 mod audit;
+mod by_workers;
 mod laws;
 mod lines;
 mod manifests;
+mod reading;
 mod running;
 mod subject;
 

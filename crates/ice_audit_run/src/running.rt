@@ -9,7 +9,8 @@ ghost use Rattle.ice_desk.specs.Worlds.{EndsAt};
 ghost use Rattle.ice_state.specs.Contents.{World};
 ghost use Rattle.ice_text.specs.Reads.{MayEnd};
 
-use crate::audit::{Audit, audit_rows};
+use crate::audit::Audit;
+use crate::by_workers::audit_rows_by_workers;
 use crate::laws::audits_tell_of_summaries;
 use crate::lines::audit_lines;
 use crate::manifests::check_specs;
@@ -19,13 +20,16 @@ use ice_desk::{Files, MOST_WORKERS};
 use ice_meta::Target;
 use ice_text::{RunFault, Sink, read_file, read_rows, write_all};
 use std::alloc::Global;
+use std::thread::Threads;
 
-/// What a snapshot's audit finds.
-fn audit_table<F: Files>(
+/// What a snapshot's audit finds, by so many workers.
+fn audit_table<R: Threads + Sync, F: Files + Sync>(
+    rt: &R,
     alloc: Global,
     files: &F,
     metadata: &[u8],
     target: &Target,
+    workers: usize,
 ) -> Result<Audit, RunFault>
     ensures found { (world : World) → F.world files.now ≡ Some world →
         IfOk result (λ audit. audit_of world metadata.now target.now ≡ Ok audit) }
@@ -41,13 +45,15 @@ fn audit_table<F: Files>(
     let rows = read_rows(alloc, files, list.as_str())?;
     check_specs(basis.specs.as_slice(), &rows)?;
     let basis = basis.among(&rows);
-    let read = audit_rows(alloc, files, &basis, &rows)?;
+    let read = audit_rows_by_workers(rt, alloc, files, &basis, &rows, workers)?;
     Ok(read.whole(alloc)?)
 }
 
 /// Audits a snapshot of the table whose metadata these are the bytes of: reads each of its manifests, also those that
 /// no filter wants, writes a line for each finding and then their numbers, and gives the number of findings that are
-/// faults (`Flaw::is_fault`).
+/// faults (`Flaw::is_fault`). So many workers read the manifests at once, each a range of them in a thread of its own
+/// where one can be started; no more than there are manifests, and 0 counts as 1. The text and the refusal are the same
+/// for every number of workers.
 ///
 /// Where there is no fault, the summaries of all manifests tell the truth: the premise under which `run_plan` writes, for
 /// any filter, the plan over all manifests of the snapshot.
@@ -57,11 +63,13 @@ fn audit_table<F: Files>(
 /// and `Device` for the first that can't be read; between them `List` and `Scan` where the list is at fault, and
 /// `Finish` for the first manifest at fault. Then nothing was written, and neither after `Memory`. After `Write`, for
 /// which a write failed, a front of the text was.
-pub fn run_audit<F: Files, W: Sink>(
+pub fn run_audit<R: Threads + Sync, F: Files + Sync, W: Sink>(
+    rt: &R,
     alloc: Global,
     files: &F,
     metadata: &[u8],
     target: &Target,
+    workers: usize,
     output: &mut W,
 ) -> Result<usize, RunFault>
     // Over files that tell their world.
@@ -82,18 +90,19 @@ pub fn run_audit<F: Files, W: Sink>(
     ensures refusal { IfErr result (MayStop (F.world files.now) (F.may_fail files.now) (W.may_fail output.old)) }
 {
     audits_tell_of_summaries();
-    let audit = audit_table(alloc, files, metadata, target)?;
+    let audit = audit_table(rt, alloc, files, metadata, target, workers)?;
     let text = audit_lines(alloc, &audit)?;
     write_all(output, &text)?;
     Ok(count_faults(audit.findings.as_slice()))
 }
 
 /// Audits a snapshot of the table whose metadata is in the file at a path, and gives the number of findings that are
-/// faults. All is read by one worker, whatever the number of workers.
+/// faults, by so many workers.
 ///
 /// The refusal is `Absent` where there is no such file, `Device` where reading it failed; then `Workers` where there
 /// are to be none, or more than 64; else as `run_audit`'s.
-pub fn audit_file<F: Files, W: Sink>(
+pub fn audit_file<R: Threads + Sync, F: Files + Sync, W: Sink>(
+    rt: &R,
     alloc: Global,
     files: &F,
     path: &str,
@@ -123,5 +132,5 @@ pub fn audit_file<F: Files, W: Sink>(
     if workers == 0 || workers > MOST_WORKERS {
         return Err(RunFault::Workers);
     }
-    run_audit(alloc, files, &metadata, target, output)
+    run_audit(rt, alloc, files, &metadata, target, workers, output)
 }

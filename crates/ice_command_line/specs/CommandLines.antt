@@ -1,13 +1,14 @@
 -- What the words of a command line are read as.
 use Rattle.std.specs.Prelude.{◌≡◌, ◌⊎◌, ℕ, Bool, true, false, ◌&&◌, List, [], ◌∷◌, codes, None, Result, Ok, IfErr}
 use Rattle.std.specs.Str.{bytes_eq}
+use Rattle.ice_command_line.specs.declared.answer_format.Format.TheVariants as format
 use Rattle.ice_command_line.specs.declared.command_line.Lists.TheVariants as lists
 use Rattle.ice_command_line.specs.declared.command_line.Words.{Words}
 use Rattle.ice_command_line.specs.declared.command_line.Words.TheVariants as words
 use Rattle.ice_text.specs.declared.fault.RunFault.{RunFault}
 use Rattle.ice_text.specs.declared.fault.RunFault.TheVariants as run
 
--- the words that ask for the plan of a bundle's first file, before any others are read: none, or these two
+-- the words that ask for the text of the plan of a bundle's first file, before any others are read: none, or these two
 abbrev pub asks_first_list : List (List ℕ) → Bool
 asks_first_list [] = true
 asks_first_list (command ∷ []) = false
@@ -15,7 +16,7 @@ asks_first_list (command ∷ way ∷ []) = bytes_eq command (codes "list-plan") 
 asks_first_list (command ∷ way ∷ word ∷ words) = false
 
 abbrev pub first_list : Words
-first_list = words.ListPlan (lists.Bundle None)
+first_list = words.ListPlan (lists.Bundle None) format.Text
 
 -- why words are refused
 abbrev pub IsWordsFault : RunFault → Type 0

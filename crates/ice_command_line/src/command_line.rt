@@ -3,6 +3,7 @@
 ghost use Rattle.std.specs.Prelude.{◌≡◌, map, string_bytes, IfErr};
 ghost use Rattle.ice_command_line.specs.CommandLines.{IsWordsFault, ReadAs, asks_first_list};
 
+use crate::answer_format::{Format, format_of, with_format};
 use crate::explain_command::explain_command;
 use clap::builder::ValueParser;
 use clap::error::ErrorKind;
@@ -42,10 +43,10 @@ pub enum Source {
 /// What the words ask for.
 #[derive(Debug, Drop)]
 pub enum Words {
-    /// The plan of a manifest list.
-    ListPlan(Lists),
-    /// The plan, by so many workers, that is asked of the table whose metadata is at this path.
-    Plan(Source, Request, usize, Text),
+    /// The plan of a manifest list, in this form.
+    ListPlan(Lists, Format),
+    /// The plan, in this form and by so many workers, that is asked of the table whose metadata is at this path.
+    Plan(Source, Request, Format, usize, Text),
     /// A commit.
     Commit(Source, CommitRequest),
     /// The text of the metadata at this path.
@@ -78,6 +79,12 @@ Floats, doubles, decimals, lists and maps are not compared.
 
 Example, at the top of icescan's repository:
   icescan plan --dir examples/events-java/table --prefix s3://warehouse/db/events --filter \"id = 42\" \\
+    s3://warehouse/db/events/metadata/00009-ea5012f5-592b-59fd-6564-e953f439e682.metadata.json
+
+With --format json the plan is one line, the answer of an Iceberg REST catalog to a scan that was planned: each delete
+file that the scan kept stands once in `delete-files`, and the task of a data file names those that apply to it by their
+places there, from 0. Partition values are as the table format has them in JSON, with days as dates:
+  icescan plan --format json --dir examples/events-java/table --prefix s3://warehouse/db/events \\
     s3://warehouse/db/events/metadata/00009-ea5012f5-592b-59fd-6564-e953f439e682.metadata.json
 
 Exit status: 0 done, 1 the table is refused, 2 the command line, the bundle or the filter is, 3 a read or a write failed,
@@ -252,6 +259,7 @@ fn list_plan_command<'a>(alloc: Global) -> Result<Command<'a>, AllocError> {
         .about("Right for tables without partitions alone: print the plan of a manifest list")
         .after_long_help(LIST_EXAMPLE)
         .arg(list)?;
+    let command = with_format(alloc, command)?;
     with_quiet(alloc, with_source(alloc, command)?)
 }
 
@@ -326,6 +334,7 @@ fn plan_command<'a>(alloc: Global) -> Result<Command<'a>, AllocError> {
         with_request(alloc, command)?,
         "How many workers read manifests at once, each in a thread of its own: from 1 to 64",
     )?;
+    let command = with_format(alloc, command)?;
     with_quiet(alloc, with_source(alloc, command)?)
 }
 
@@ -363,7 +372,7 @@ fn audit_command<'a>(alloc: Global) -> Result<Command<'a>, AllocError> {
     let command = with_workers(
         alloc,
         command,
-        "From 1 to 64, as for `plan`; today one worker reads all manifests, whatever the number",
+        "How many workers read manifests at once, each in a thread of its own: from 1 to 64",
     )?;
     with_quiet(alloc, with_source(alloc, command)?)
 }
@@ -608,6 +617,7 @@ fn plan_words(alloc: Global, matches: &ArgMatches<'_>) -> Result<Words, AllocErr
     Ok(Words::Plan(
         source_of(alloc, matches)?,
         request_of(alloc, matches)?,
+        format_of(matches),
         workers_of(matches),
         required_text(alloc, matches, "metadata")?,
     ))
@@ -657,7 +667,7 @@ fn asked_of(alloc: Global, matches: &ArgMatches<'_>) -> Result<Words, RunFault>
     ensures { IfErr result IsWordsFault }
 {
     let Some((command, matches)) = matches.subcommand() else {
-        return Ok(Words::ListPlan(Lists::Bundle(None)));
+        return Ok(Words::ListPlan(Lists::Bundle(None), Format::Text));
     };
     match command {
         "plan" => Ok(plan_words(alloc, matches)?),
@@ -667,7 +677,7 @@ fn asked_of(alloc: Global, matches: &ArgMatches<'_>) -> Result<Words, RunFault>
         "append" => commit_words(alloc, matches, ChangeKind::Append),
         "row-delta" => commit_words(alloc, matches, ChangeKind::RowDelta),
         "drill" => Ok(Words::Drill(drill_of(alloc, matches)?)),
-        _ => Ok(Words::ListPlan(lists_of(alloc, matches)?)),
+        _ => Ok(Words::ListPlan(lists_of(alloc, matches)?, format_of(matches))),
     }
 }
 
@@ -717,13 +727,13 @@ fn asks_first_list(words: &[String]) -> bool
     }
 }
 
-/// What the words ask for. No words, and `list-plan --bundle`, ask for the plan of a bundle's first file. The refusal
-/// is `Words` with the text that says why, or `Memory`.
+/// What the words ask for. No words, and `list-plan --bundle`, ask for the plan of a bundle's first file, as text. The
+/// refusal is `Words` with the text that says why, or `Memory`.
 pub fn parse_words(alloc: Global, words: &[String]) -> Result<Words, RunFault>
     ensures { ReadAs (map string_bytes words.now) result }
 {
     if asks_first_list(words) {
-        return Ok(Words::ListPlan(Lists::Bundle(None)));
+        return Ok(Words::ListPlan(Lists::Bundle(None), Format::Text));
     }
     parse_some(alloc, words)
 }

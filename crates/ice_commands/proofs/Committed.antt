@@ -1,13 +1,13 @@
 -- What is written of a commit in a bundle.
 use Rattle.std.proofs.Common.{◌≡◌, ◌≢◌, ◌⊎◌, ℕ, List, Bool, true, false, Option, Some, None, refl, sym, ap, subst, ◌∙◌}
 use Rattle.std.proofs.Common.{inl, inr}
-use Rattle.std.specs.Prelude.{Result, Ok, Err, IfSome, if◌then◌else◌}
+use Rattle.std.specs.Prelude.{Result, Ok, Err, IfSome, if◌then◌else◌, option_map}
 use Rattle.serde_json.specs.Written.{compact_text, has_float}
 use Rattle.ice_requests.specs.Bundles.{File, bundle_of, bytes_at}
 use Rattle.ice_requests.specs.Commits.{Commitment, IsTextOf, bundle_lines, commitment, committed_text, in_order}
 use Rattle.ice_requests.specs.Commits.{told_text}
 use Rattle.ice_text.specs.Reads.{MayEnd}
-use Rattle.ice_requests.specs.Shows.{WroteText}
+use Rattle.ice_commands.specs.Answers.{Answer, WroteAnswer, as_answer, plain}
 use Rattle.ice_commands.specs.Runs.{MayRefuse, Ran}
 use Rattle.ice_print.specs.Written.{Appends, AppendsFront}
 use Rattle.ice_text.specs.declared.request.CommitRequest.{CommitRequest}
@@ -18,7 +18,7 @@ use Rattle.ice_commands.proofs.Refusals.{memory_ran}
 -- ---- refusals
 
 -- the fault is want of memory, or that of the answer and no failed write
-abbrev Refuses : Option (Result (List ℕ) RunFault) → RunFault → Type 0
+abbrev Refuses : Option (Result Answer RunFault) → RunFault → Type 0
 Refuses known e = (e ≡ run.Memory) ⊎ ((known ≡ Some (Err e)) × (e ≢ run.Write))
 
 its_fault : (w : Type 0) (e : RunFault) → e ≢ run.Write → MayRefuse (Err e) w e
@@ -40,7 +40,7 @@ its_fault w (run.Prepare f) other = refl
 its_fault w (run.Conflict path) other = refl
 its_fault w run.Workers other = refl
 
-refused_ran : (known : Option (Result (List ℕ) RunFault)) (w : Type 0) (o : Option (List ℕ)) (e : RunFault)
+refused_ran : (known : Option (Result Answer RunFault)) (w : Type 0) (o : Option (List ℕ)) (e : RunFault)
     → Refuses known e
     → Ran known w (Err e) o o
 refused_ran known w o e (inl h) = subst (λ f. Ran known w (Err f) o o) (sym h) (memory_ran known w o)
@@ -52,8 +52,8 @@ refused_ran known w o e (inr h) = subst (λ k. Ran k w (Err e) o o) (sym h.0) (r
 })
 
 module _ (request : CommitRequest) (text : List ℕ) where
-  abbrev known : Option (Result (List ℕ) RunFault)
-  known = committed_text request text
+  abbrev known : Option (Result Answer RunFault)
+  known = option_map as_answer (committed_text request text)
 
   pub no_files : (e : RunFault) → bundle_of text ≡ Err e → known ≡ Some (Err e)
   unfolding committed_text
@@ -63,12 +63,12 @@ module _ (request : CommitRequest) (text : List ℕ) where
     abbrev read : Result Commitment RunFault
     read = commitment (λ path. bytes_at files path) request
 
-    known_is : known ≡ told_text request.out read
+    told_is : committed_text request text ≡ told_text request.out read
     unfolding committed_text
-    known_is = rw is refl
+    told_is = rw is refl
 
     refused_commit : (e : RunFault) → read ≡ Err e → e ≢ run.Write → Refuses known e
-    refused_commit e h other = inr (known_is ∙ ap (told_text request.out) h, other)
+    refused_commit e h other = inr (ap (option_map as_answer) (told_is ∙ ap (told_text request.out) h), other)
 
     commit_refuses : (e : RunFault) → MayEnd read (λ path. ⊥) ⊥ e → Refuses known e
     commit_refuses run.Memory h = inl refl
@@ -106,16 +106,22 @@ module _ (request : CommitRequest) (text : List ℕ) where
       text_by true h = tt
       text_by false h = rw (says.compact h) refl
 
-      text_is : IfSome known (λ r. r ≡ Ok lines)
+      answer_by : (k : Option (Result (List ℕ) RunFault)) → IfSome k (λ r. r ≡ Ok lines)
+          → IfSome (option_map as_answer k) (λ r. r ≡ Ok (plain lines))
+      answer_by None h = tt
+      answer_by (Some r) h = ap as_answer h
+
+      text_is : IfSome known (λ r. r ≡ Ok (plain lines))
       text_is =
           let told = text_by (has_float c.metadata.json) refl in
-          subst (λ k. IfSome k (λ r. r ≡ Ok lines)) (sym (known_is ∙ ap (told_text request.out) made)) told
+          answer_by (committed_text request text)
+          (subst (λ k. IfSome k (λ r. r ≡ Ok lines)) (sym (told_is ∙ ap (told_text request.out) made)) told)
 
-      wrote : (k : Option (Result (List ℕ) RunFault)) (o o' : Option (List ℕ)) → IfSome k (λ r. r ≡ Ok lines)
+      wrote : (k : Option (Result Answer RunFault)) (o o' : Option (List ℕ)) → IfSome k (λ r. r ≡ Ok (plain lines))
           → Appends o o' lines
-          → IfSome k (λ r. WroteText r o o')
+          → IfSome k (λ r. WroteAnswer r o o')
       wrote None o o' h all = tt
-      wrote (Some r) o o' h all = (lines, h, all)
+      wrote (Some r) o o' h all = (plain lines, h, lines, refl, all)
 
       pub wrote_ran : (w : Type 0) (o o' : Option (List ℕ)) → Appends o o' lines → Ran known w (Ok tt) o o'
       wrote_ran w o o' all = record {
@@ -125,8 +131,8 @@ module _ (request : CommitRequest) (text : List ℕ) where
         front = λ is. absurd cc;
       }
 
-      failed : (k : Option (Result (List ℕ) RunFault)) (w : Type 0) (o o' : Option (List ℕ))
-          → IfSome k (λ r. r ≡ Ok lines) → w
+      failed : (k : Option (Result Answer RunFault)) (w : Type 0) (o o' : Option (List ℕ))
+          → IfSome k (λ r. r ≡ Ok (plain lines)) → w
           → AppendsFront o o' lines → Ran k w (Err run.Write) o o'
       failed None w o o' h may front = record {
         written = tt;
@@ -138,7 +144,7 @@ module _ (request : CommitRequest) (text : List ℕ) where
         written = tt;
         refused = may;
         nothing = λ other. absurd (other refl);
-        front = λ is. (lines, h, front);
+        front = λ is. (plain lines, h, lines, refl, front);
       }
 
       pub failed_ran : (w : Type 0) (o o' : Option (List ℕ)) → w → AppendsFront o o' lines

@@ -1,15 +1,15 @@
 -- The explanation of a plan in a bundle.
 use Rattle.std.proofs.Common.{◌≡◌, ℕ, List, Some, refl}
-use Rattle.std.specs.Prelude.{Result, Ok, Err}
-use Rattle.contract_words.specs.Outcome.{◌>>=◌}
-use Rattle.ice_commands.specs.Explained.{as_explanation, explained, explained_text}
+use Rattle.std.specs.Prelude.{Ok, Err}
+use Rattle.ice_commands.specs.Answers.{as_answer}
+use Rattle.ice_commands.specs.Explained.{explained, explained_text}
 use Rattle.ice_explain_run.specs.Explanations.{explained_at}
 use Rattle.ice_requests.specs.Bundles.{File, bundle_of, bytes_at}
 use Rattle.ice_text.specs.declared.fault.RunFault.{RunFault}
 use Rattle.ice_text.specs.declared.request.Request.{Request}
 
 pub no_explanation : (path : List ℕ) (request : Request) (workers : ℕ) (text : List ℕ) (e : RunFault)
-    → bundle_of text ≡ Err e → Some (explained_text path request workers text) ≡ Some (Err e)
+    → bundle_of text ≡ Err e → Some (as_answer (explained_text path request workers text)) ≡ Some (Err e)
 unfolding explained
 no_explanation path request workers text e h = rw h refl
 

@@ -4,13 +4,14 @@ use Rattle.std.specs.Prelude.{◌==◌, Result}
 use Rattle.std.proofs.lemmas.Bool.Decides.{nat_tests}
 use Rattle.ice_hint_lines.proofs.Plain.{nothing_plain}
 use Rattle.ice_text.specs.declared.fault.RunFault.{RunFault}
+use Rattle.ice_commands.specs.Answers.{Answer}
 use Rattle.ice_commands.specs.Runs.{Explained, RanWithHint, RanWithoutHint, Refused, Told, ToldWithHint, meant, run_of}
 
 -- a fault that is told without a hint
 pub plainly : (w : Type 0) (e e' : Option (List ℕ)) (fault : RunFault) → Told w e e' fault → ToldWithHint w e e' fault
 plainly w e e' fault told = record { between = e'; line = told; hint = nothing_plain e' }
 
-hinted : (known : Option (Result (List ℕ) RunFault)) (w t : Type 0) (status : ℕ) (o o' e e' : Option (List ℕ))
+hinted : (known : Option (Result Answer RunFault)) (w t : Type 0) (status : ℕ) (o o' e e' : Option (List ℕ))
     → Refused known w t status o o' e e' → Explained known w t status o o' e e'
 hinted known w t status o o' e e' r = record {
   fault = r.fault;
@@ -21,7 +22,7 @@ hinted known w t status o o' e e' r = record {
   told = plainly t e e' r.fault r.told;
 }
 
-or_hinted : {A : Type 0} (known : Option (Result (List ℕ) RunFault)) (w t : Type 0) (status : ℕ)
+or_hinted : {A : Type 0} (known : Option (Result Answer RunFault)) (w t : Type 0) (status : ℕ)
     (o o' e e' : Option (List ℕ)) → A ⊎ Refused known w t status o o' e e' → A ⊎ Explained known w t status o o' e e'
 or_hinted known w t status o o' e e' (inl a) = inl a
 or_hinted known w t status o o' e e' (inr r) = inr (hinted known w t status o o' e e' r)

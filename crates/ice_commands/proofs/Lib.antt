@@ -1,3 +1,4 @@
+pub mod Answering
 pub mod Committed
 pub mod Hinted
 pub mod Refusals

@@ -1,5 +1,5 @@
 -- Why the program refuses its words and its input.
-use Rattle.std.proofs.Common.{◌≡◌, ◌≢◌, ℕ, ◌+◌, Bool, true, false, List, [], ◌∷◌, refl, sym, ap, subst, ◌∙◌, ◌⊎◌, inl}
+use Rattle.std.proofs.Common.{◌≡◌, ◌≢◌, ℕ, ◌+◌, Bool, true, false, List, [], ◌∷◌, refl, sym, ap, subst, ◌∙◌, inl}
 use Rattle.std.proofs.Common.{inr, Option, Some, None, is_some}
 use Rattle.std.specs.Prelude.{Result, Ok, Err, IfErr, IfOk, IfSome, IsErrOf, OnOk, if◌then◌else◌}
 use Rattle.contract_words.specs.Outcome.{◌>>=◌}
@@ -7,13 +7,14 @@ use Rattle.ice_text.specs.declared.fault.RunFault.{RunFault}
 use Rattle.ice_text.specs.declared.fault.RunFault.TheVariants as run
 use Rattle.ice_requests.specs.Bundles.{File, IsInput, NoBundle, added, bundle_of, bytes_at, file_of, first_path, with_lines}
 use Rattle.ice_text.specs.Reads.{MayEnd}
-use Rattle.ice_requests.specs.ListPlans.{list_answer}
-use Rattle.ice_commands.specs.Runs.{MayRefuse, Ran, as_text, bundle_text, list_in, or_first_line}
-use Rattle.ice_commands.specs.Runs.{audited, audited_text, ended, planned_text, shown_text}
+use Rattle.ice_commands.specs.Answers.{Answer, as_answer}
+use Rattle.ice_commands.specs.Runs.{MayRefuse, Ran, audited, audited_text, ended, list_in, list_plan_in, list_planned}
+use Rattle.ice_commands.specs.Runs.{or_first_line, plan_in, planned, shown_text}
 use Rattle.ice_command_line.specs.CommandLines.{IsWordsFault}
-use Rattle.ice_requests.specs.Plans.{answer_at, over_wanted_rows}
+use Rattle.ice_command_line.specs.declared.answer_format.Format.{Format}
 use Rattle.ice_requests.specs.Shows.{WroteFront, WroteText, shown_at}
 use Rattle.ice_audit_run.specs.Audits.{audit_at}
+use Rattle.ice_commands.proofs.Answering.{front_told, text_told}
 use Rattle.ice_meta.specs.declared.metadata.Target.{Target}
 use Rattle.ice_text.specs.declared.request.Request.{Request}
 
@@ -58,7 +59,7 @@ any_known : {A : Type 0} (known : Option A) → IfSome known (λ x. Unit {0})
 any_known None = tt
 any_known (Some x) = tt
 
-pub memory_ran : (known : Option (Result (List ℕ) RunFault)) (w : Type 0) (o : Option (List ℕ))
+pub memory_ran : (known : Option (Result Answer RunFault)) (w : Type 0) (o : Option (List ℕ))
     → Ran known w (Err run.Memory) o o
 memory_ran known w o = record {
   written = tt;
@@ -67,7 +68,7 @@ memory_ran known w o = record {
   front = λ is. absurd cc;
 }
 
-input_ran : (known : Option (Result (List ℕ) RunFault)) (w : Type 0) (o : Option (List ℕ))
+input_ran : (known : Option (Result Answer RunFault)) (w : Type 0) (o : Option (List ℕ))
     → Ran known w (Err run.Input) o o
 input_ran known w o = record {
   written = tt;
@@ -76,13 +77,13 @@ input_ran known w o = record {
   front = λ is. absurd cc;
 }
 
-line_ran : (known : Option (Result (List ℕ) RunFault)) (w : Type 0) (o : Option (List ℕ)) (n : ℕ)
+line_ran : (known : Option (Result Answer RunFault)) (w : Type 0) (o : Option (List ℕ)) (n : ℕ)
     → known ≡ Some (Err (run.Bundle n)) → Ran known w (Err (run.Bundle n)) o o
 line_ran known w o n is = subst (λ k. Ran k w (Err (run.Bundle n)) o o) (sym is)
     (record { written = tt; refused = refl; nothing = λ _. refl; front = λ is. absurd cc })
 
 -- where standard input gives no bundle, its fault is the answer's
-pub no_bundle_ran : (known : Option (Result (List ℕ) RunFault)) (text : List ℕ) (w : Type 0) (o : Option (List ℕ))
+pub no_bundle_ran : (known : Option (Result Answer RunFault)) (text : List ℕ) (w : Type 0) (o : Option (List ℕ))
     → ((e : RunFault) → bundle_of text ≡ Err e → known ≡ Some (Err e))
     → (e : RunFault) → NoBundle text e → Ran known w (Err e) o o
 no_bundle_ran known text w o passed e (inl h) = subst (λ f. Ran known w (Err f) o o) (sym h) (input_ran known w o)
@@ -93,43 +94,43 @@ no_bundle_ran known text w o passed e (inr (inr h)) =
     subst (λ f. Ran known w (Err f) o o) (sym at.1)
     (line_ran known w o at.0 (passed e h ∙ ap (λ (f : RunFault). Some (Err f)) at.1))
 
-pub no_plan : (list : Option (List ℕ)) (text : List ℕ) (e : RunFault) → bundle_of text ≡ Err e
-    → Some (bundle_text list text) ≡ Some (Err e)
-unfolding bundle_text
-no_plan list text e h = rw h refl
+pub no_plan : (form : Format) (list : Option (List ℕ)) (text : List ℕ) (e : RunFault) → bundle_of text ≡ Err e
+    → Some (list_planned form list text) ≡ Some (Err e)
+unfolding list_planned
+no_plan form list text e h = rw h refl
 
 pub no_show : (path text : List ℕ) (e : RunFault) → bundle_of text ≡ Err e
-    → Some (shown_text path text) ≡ Some (Err e)
+    → Some (as_answer (shown_text path text)) ≡ Some (Err e)
 unfolding shown_text
 no_show path text e h = rw h refl
 
-pub no_request : (path : List ℕ) (request : Request) (workers : ℕ) (text : List ℕ) (e : RunFault)
-    → bundle_of text ≡ Err e → Some (planned_text path request workers text) ≡ Some (Err e)
-unfolding planned_text
-no_request path request workers text e h = rw h refl
+pub no_request : (form : Format) (path : List ℕ) (request : Request) (workers : ℕ) (text : List ℕ) (e : RunFault)
+    → bundle_of text ≡ Err e → Some (planned form path request workers text) ≡ Some (Err e)
+unfolding planned
+no_request form path request workers text e h = rw h refl
 
 pub no_audit : (path : List ℕ) (target : Target) (workers : ℕ) (text : List ℕ) (e : RunFault)
-    → bundle_of text ≡ Err e → Some (audited_text path target workers text) ≡ Some (Err e)
+    → bundle_of text ≡ Err e → Some (as_answer (audited_text path target workers text)) ≡ Some (Err e)
 unfolding audited
 no_audit path target workers text e h = rw h refl
 
 module _ (text : List ℕ) (files : List File) (is : bundle_of text ≡ Ok files) where
-  module _ (list : Option (List ℕ)) where
-    no_list : (e : RunFault) → list_in files list ≡ Err e → bundle_text list text ≡ Err e
-    unfolding bundle_text
+  module _ (form : Format) (list : Option (List ℕ)) where
+    no_list : (e : RunFault) → list_in files list ≡ Err e → list_planned form list text ≡ Err e
+    unfolding list_planned
     no_list e h = rw (is, h) refl
 
     pub list_ran : (w : Type 0) (o : Option (List ℕ)) (e : RunFault) → list_in files list ≡ Err e
-        → Ran (Some (bundle_text list text)) w (Err e) o o
+        → Ran (Some (list_planned form list text)) w (Err e) o o
     list_ran w o e h =
         let first = list_fault files list e h in
-        let none : bundle_text list text ≡ Err (run.Bundle 1) = no_list e h ∙ ap Err first in
-        subst (λ f. Ran (Some (bundle_text list text)) w (Err f) o o) (sym first)
+        let none : list_planned form list text ≡ Err (run.Bundle 1) = no_list e h ∙ ap Err first in
+        subst (λ f. Ran (Some (list_planned form list text)) w (Err f) o o) (sym first)
         (record { written = tt; refused = none; nothing = λ _. refl; front = λ is. absurd cc })
 
-    pub plan_from : (path : List ℕ) → list_in files list ≡ Ok path → bundle_text list text
-        ≡ as_text (list_answer (λ p. bytes_at files p) path)
-    unfolding bundle_text
+    pub plan_from : (path : List ℕ) → list_in files list ≡ Ok path → list_planned form list text
+        ≡ list_plan_in form (λ p. bytes_at files p) path
+    unfolding list_planned
     plan_from path h = rw (is, h) refl
 
   pub shown_from : (path : List ℕ) → shown_text path text ≡ shown_at (λ p. bytes_at files p) path
@@ -141,14 +142,14 @@ module _ (text : List ℕ) (files : List File) (is : bundle_of text ≡ Ok files
   unfolding audited
   audit_from path target workers = rw is refl
 
-  pub request_from : (path : List ℕ) (request : Request) (workers : ℕ) → planned_text path request workers text
-      ≡ as_text (answer_at over_wanted_rows (λ p. bytes_at files p) path request workers)
-  unfolding planned_text
-  request_from path request workers = rw is refl
+  pub request_from : (form : Format) (path : List ℕ) (request : Request) (workers : ℕ)
+      → planned form path request workers text ≡ plan_in form (λ p. bytes_at files p) path request workers
+  unfolding planned
+  request_from form path request workers = rw is refl
 
 -- over files whose reads can't fail
-pub ends_refused : {A : Type 0} (told : Result A RunFault → Result (List ℕ) RunFault) (read : Result A RunFault)
-    (other : Result (List ℕ) RunFault) (r : List ℕ → Type 0) (w : Type 0) (e : RunFault)
+pub ends_refused : {A : Type 0} (told : Result A RunFault → Result Answer RunFault) (read : Result A RunFault)
+    (other : Result Answer RunFault) (r : List ℕ → Type 0) (w : Type 0) (e : RunFault)
     → ((f : RunFault) → told (Err f) ≡ Err f) → ((path : List ℕ) → r path → ⊥) → other ≡ told read → MayEnd read r w e
     → MayRefuse other w e
 ends_refused told read other r w run.Input keeps never q h = tt
@@ -194,7 +195,7 @@ untold_ran w (Err e) o o' h = record { written = tt; refused = tt; nothing = h; 
 -- ---- a number of findings
 
 -- a command that tells of no findings ran as it ran
-pub ran_as : (known : Option (Result (List ℕ) RunFault)) (w : Type 0) (r : Result Unit RunFault)
+pub ran_as : (known : Option (Result Answer RunFault)) (w : Type 0) (r : Result Unit RunFault)
     (counted : Result ℕ RunFault) (o o' : Option (List ℕ)) → ended counted ≡ r → Ran known w r o o'
     → Ran known w (ended counted) o o'
 ran_as known w r counted o o' is h = subst (λ x. Ran known w x o o') (sym is) h
@@ -204,17 +205,18 @@ pub on_ok_as : (P : Type 0) (r : Result Unit RunFault) (counted : Result ℕ Run
 on_ok_as P r (Ok n) is h = subst (λ x. OnOk x P) (sym is) h
 on_ok_as P r (Err e) is h = tt
 
--- where the answer is known
+-- where the text is known
 pub counted_ran : (known : Result (List ℕ) RunFault) (w : Type 0) (r : Result ℕ RunFault) (o o' : Option (List ℕ))
-    → IfOk r (λ _. WroteText known o o') → IfErr r (MayRefuse known w) → IfErr r (λ fault. fault ≢ run.Write → o' ≡ o)
-    → (IsErrOf r run.Write → WroteFront known o o') → Ran (Some known) w (ended r) o o'
+    → IfOk r (λ _. WroteText known o o') → IfErr r (MayRefuse (as_answer known) w)
+    → IfErr r (λ fault. fault ≢ run.Write → o' ≡ o)
+    → (IsErrOf r run.Write → WroteFront known o o') → Ran (Some (as_answer known)) w (ended r) o o'
 counted_ran known w (Ok n) o o' all refusal nothing front =
-    record { written = all; refused = tt; nothing = tt; front = λ is. absurd cc }
+    record { written = text_told known o o' all; refused = tt; nothing = tt; front = λ is. absurd cc }
 counted_ran known w (Err e) o o' all refusal nothing front = record {
   written = tt;
   refused = refusal;
   nothing = nothing;
-  front = λ is. let failed : e ≡ run.Write = cc in front (ap Err failed);
+  front = λ is. let failed : e ≡ run.Write = cc in front_told known o o' (front (ap Err failed));
 }
 
 -- over a folder

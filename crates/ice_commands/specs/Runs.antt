@@ -1,6 +1,7 @@
 -- The whole program: what it makes of its words and of standard input.
 use Rattle.std.specs.Prelude.{◌≡◌, ◌≢◌, ◌⊎◌, ◌==◌, ℕ, List, length, Option, Some, None, IfSome, Result, Ok, Err, OnOk}
 use Rattle.std.specs.Prelude.{IfOk, IfErr, IsErrOf, if◌then◌else◌, Bool, true, false, not, ◌&&◌, ◌||◌, [], ◌∷◌, codes}
+use Rattle.std.specs.Prelude.{option_map}
 use Rattle.std.specs.List.{list_any}
 use Rattle.std.specs.Str.{bytes_eq}
 use Rattle.contract_words.specs.Outcome.{◌>>=◌}
@@ -8,6 +9,8 @@ use Rattle.ice_audit.specs.Telling.{faults}
 use Rattle.ice_audit_run.specs.Audits.{audit_at}
 use Rattle.ice_audit_run.specs.Texts.{audit_text}
 use Rattle.ice_audit_run.specs.declared.audit.Audit.{Audit}
+use Rattle.ice_commands.specs.Answers.{Answer, WroteAnswer, WroteAnswerFront, as_answer, as_json, plain}
+use Rattle.ice_json_run.specs.JsonAnswers.{typed_answer_at, typed_list_answer}
 use Rattle.ice_commands.specs.Explained.{explained_text}
 use Rattle.ice_meta.specs.declared.metadata.Target.{Target}
 use Rattle.ice_state.specs.Lines.{OwnedLine}
@@ -19,10 +22,13 @@ use Rattle.ice_requests.specs.Plans.{answer_at, over_wanted_rows}
 use Rattle.ice_text.specs.Faults.{status_of}
 use Rattle.ice_text.specs.FaultTexts.{fault_text}
 use Rattle.ice_print.specs.PlanTexts.{plan_text}
-use Rattle.ice_requests.specs.Shows.{WroteFront, WroteText, shown_at}
+use Rattle.ice_requests.specs.Shows.{shown_at}
 use Rattle.ice_print.specs.Written.{Appends, AppendsFront}
 use Rattle.ice_hint_lines.specs.Hints.{AppendsPlain}
+use Rattle.ice_state.specs.Contents.{World}
 use Rattle.ice_command_line.specs.CommandLines.{ReadAs}
+use Rattle.ice_command_line.specs.declared.answer_format.Format.{Format}
+use Rattle.ice_command_line.specs.declared.answer_format.Format.TheVariants as format
 use Rattle.ice_command_line.specs.declared.command_line.Lists.TheVariants as lists
 use Rattle.ice_command_line.specs.declared.command_line.Source.TheVariants as source
 use Rattle.ice_command_line.specs.declared.command_line.Words.{Words}
@@ -41,28 +47,39 @@ abbrev pub list_in : List File → Option (List ℕ) → Result (List ℕ) RunFa
 list_in files (Some list) = Ok list
 list_in files None = or_first_line (first_path files)
 
--- a plan's answer as a text
+-- a plan as a text
 abbrev pub as_text : Result (List OwnedLine) RunFault → Result (List ℕ) RunFault
 as_text (Ok plan) = Ok (plan_text plan)
 as_text (Err fault) = Err fault
 
--- the text of the plan of a list in a bundle, or the first fault: of the bundle, of the list
-unfoldable pub bundle_text : Option (List ℕ) → List ℕ → Result (List ℕ) RunFault
-bundle_text list input = do
+-- the plan of the list at a path, in a form
+abbrev pub list_plan_in : Format → World → List ℕ → Result Answer RunFault
+list_plan_in format.Text world list = as_answer (as_text (list_answer world list))
+list_plan_in format.Json world list = as_json (typed_list_answer world list)
+
+-- the plan of a list in a bundle, in a form, or the first fault: of the bundle, of the list
+unfoldable pub list_planned : Format → Option (List ℕ) → List ℕ → Result Answer RunFault
+list_planned form list input = do
   files ← bundle_of input
   path ← list_in files list
-  as_text (list_answer (λ path. bytes_at files path) path)
+  list_plan_in form (λ path. bytes_at files path) path
 
 -- the text of the metadata at a path of a bundle, or the first fault: of the bundle, of the file, of what it says
 unfoldable pub shown_text : List ℕ → List ℕ → Result (List ℕ) RunFault
 shown_text path input = bundle_of input >>= λ files. shown_at (λ path. bytes_at files path) path
 
--- the text of the plan that is asked of a table in a bundle, by so many workers, or the first fault: of the bundle, of
--- the file with the metadata, of the number of workers, of the plan
-unfoldable pub planned_text : List ℕ → Request → ℕ → List ℕ → Result (List ℕ) RunFault
-planned_text path request workers input = do
+-- the plan that is asked of the table whose metadata is at a path, by so many workers, in a form
+abbrev pub plan_in : Format → World → List ℕ → Request → ℕ → Result Answer RunFault
+plan_in format.Text world path request workers =
+    as_answer (as_text (answer_at over_wanted_rows world path request workers))
+plan_in format.Json world path request workers = as_json (typed_answer_at over_wanted_rows world path request workers)
+
+-- the plan that is asked of a table in a bundle, in a form and by so many workers, or the first fault: of the bundle,
+-- of the file with the metadata, of the number of workers, of the plan
+unfoldable pub planned : Format → List ℕ → Request → ℕ → List ℕ → Result Answer RunFault
+planned form path request workers input = do
   files ← bundle_of input
-  as_text (answer_at over_wanted_rows (λ path. bytes_at files path) path request workers)
+  plan_in form (λ path. bytes_at files path) path request workers
 
 -- the audit of a snapshot of the table whose metadata is at a path of a bundle, by so many workers, or the first fault:
 -- of the bundle, of the file with the metadata, of the number of workers, of the audit
@@ -79,30 +96,32 @@ as_audit (Err fault) = Err fault
 abbrev pub audited_text : List ℕ → Target → ℕ → List ℕ → Result (List ℕ) RunFault
 audited_text path target workers input = as_audit (audited path target workers input)
 
--- The text that a command asks for, or the first fault, where its files are told: those of a bundle are what standard
--- input had, those of a folder are not told.
-abbrev pub answer_to : Words → List ℕ → Option (Result (List ℕ) RunFault)
-answer_to (words.ListPlan (lists.Bundle list)) input = Some (bundle_text list input)
-answer_to (words.ListPlan (lists.Folder place list)) input = None
-answer_to (words.Plan source.Bundle request workers path) input = Some (planned_text path request workers input)
-answer_to (words.Plan (source.Folder place) request workers path) input = None
-answer_to (words.Commit source.Bundle request) input = committed_text request input
+-- What a command asks for, or the first fault, where its files are told: those of a bundle are what standard input had,
+-- those of a folder are not told.
+abbrev pub answer_to : Words → List ℕ → Option (Result Answer RunFault)
+answer_to (words.ListPlan (lists.Bundle list) form) input = Some (list_planned form list input)
+answer_to (words.ListPlan (lists.Folder place list) form) input = None
+answer_to (words.Plan source.Bundle request form workers path) input = Some (planned form path request workers input)
+answer_to (words.Plan (source.Folder place) request form workers path) input = None
+answer_to (words.Commit source.Bundle request) input = option_map as_answer (committed_text request input)
 answer_to (words.Commit (source.Folder place) request) input = None
-answer_to (words.Show source.Bundle path) input = Some (shown_text path input)
+answer_to (words.Show source.Bundle path) input = Some (as_answer (shown_text path input))
 answer_to (words.Show (source.Folder place) path) input = None
-answer_to (words.Audit source.Bundle target workers path) input = Some (audited_text path target workers input)
+answer_to (words.Audit source.Bundle target workers path) input =
+    Some (as_answer (audited_text path target workers input))
 answer_to (words.Audit (source.Folder place) target workers path) input = None
-answer_to (words.Explain source.Bundle request workers path) input = Some (explained_text path request workers input)
+answer_to (words.Explain source.Bundle request workers path) input =
+    Some (as_answer (explained_text path request workers input))
 answer_to (words.Explain (source.Folder place) request workers path) input = None
 answer_to (words.Drill asked) input = None
-answer_to (words.Text text) input = Some (Ok text)
+answer_to (words.Text text) input = Some (Ok (plain text))
 
 -- a drill reads nothing; what it wrote is that of a table with all its commits
 abbrev pub IsOfDrill : Result Words RunFault → Option (List ℕ) → Option (List ℕ) → Type 0
 IsOfDrill (Ok (words.Drill asked)) output output' = WroteDrill asked output output'
 IsOfDrill _ output output' = Unit {0}
 
-abbrev pub run_of : Result Words RunFault → List ℕ → Option (Result (List ℕ) RunFault)
+abbrev pub run_of : Result Words RunFault → List ℕ → Option (Result Answer RunFault)
 run_of (Ok asked) input = answer_to asked input
 run_of (Err fault) input = Some (Err fault)
 
@@ -133,25 +152,25 @@ ended (Err fault) = Err fault
 
 -- Why the program ends with a fault: standard input can't be read, memory ran out, a write failed that may fail, or the
 -- fault is that of the words and the input.
-abbrev pub MayRefuse : Result (List ℕ) RunFault → Type 0 → RunFault → Type 0
+abbrev pub MayRefuse : Result Answer RunFault → Type 0 → RunFault → Type 0
 MayRefuse read write_may_fail run.Input = Unit {0}
 MayRefuse read write_may_fail run.Memory = Unit {0}
 MayRefuse read write_may_fail run.Write = write_may_fail
 MayRefuse read write_may_fail fault = read ≡ Err fault
 
--- What a run gives: the text is written, or there is a fault, and nothing was written but after a failed write. Where
--- the answer is known, the text is the answer's, and so is the fault.
-pub record Ran (known : Option (Result (List ℕ) RunFault)) (write_may_fail : Type 0) (result : Result Unit RunFault)
+-- What a run gives: the answer is written, or there is a fault, and nothing was written but after a failed write. Where
+-- the answer is known, it is that one, and so is the fault.
+pub record Ran (known : Option (Result Answer RunFault)) (write_may_fail : Type 0) (result : Result Unit RunFault)
     (output output' : Option (List ℕ)) : Type 0 where
-  pub written : OnOk result (IfSome known (λ read. WroteText read output output'))
+  pub written : OnOk result (IfSome known (λ read. WroteAnswer read output output'))
   pub refused : IfErr result (λ fault. IfSome known (λ read. MayRefuse read write_may_fail fault))
   pub nothing : IfErr result (λ fault. fault ≢ run.Write → output' ≡ output)
-  pub front : IsErrOf result run.Write → IfSome known (λ read. WroteFront read output output')
+  pub front : IsErrOf result run.Write → IfSome known (λ read. WroteAnswerFront read output output')
 
--- the program ended without a fault: it wrote the text to its output
-pub record Answered (known : Option (Result (List ℕ) RunFault))
+-- the program ended without a fault: it wrote the answer to its output
+pub record Answered (known : Option (Result Answer RunFault))
     (output output' errors errors' : Option (List ℕ)) : Type 0 where
-  pub written : IfSome known (λ read. WroteText read output output')
+  pub written : IfSome known (λ read. WroteAnswer read output output')
   pub silent : errors' ≡ errors
 
 -- a fault was told: its whole line was written where no write of it may fail, else a front of it
@@ -160,14 +179,14 @@ pub record Told (write_may_fail : Type 0) (errors errors' : Option (List ℕ)) (
   pub all : (write_may_fail → ⊥) → Appends errors errors' (fault_text fault)
 
 -- The program ended with a fault: it told it, and wrote nothing else but after a failed write, and then a front of the
--- text. The types say whether a write of the output, and one of the fault, may fail.
-pub record Refused (known : Option (Result (List ℕ) RunFault)) (write_may_fail tell_may_fail : Type 0) (status : ℕ)
+-- answer. The types say whether a write of the output, and one of the fault, may fail.
+pub record Refused (known : Option (Result Answer RunFault)) (write_may_fail tell_may_fail : Type 0) (status : ℕ)
     (output output' errors errors' : Option (List ℕ)) : Type 0 where
   pub fault : RunFault
   pub cause : IfSome known (λ read. MayRefuse read write_may_fail fault)
   pub status_is : status ≡ status_of fault
   pub nothing : fault ≢ run.Write → output' ≡ output
-  pub front : fault ≡ run.Write → IfSome known (λ read. WroteFront read output output')
+  pub front : fault ≡ run.Write → IfSome known (λ read. WroteAnswerFront read output output')
   pub told : Told tell_may_fail errors errors' fault
 
 -- ---- at a terminal
@@ -201,13 +220,13 @@ pub record ToldWithHint (write_may_fail : Type 0) (errors errors' : Option (List
   pub hint : AppendsPlain between errors'
 
 -- the program ended with a fault, as in `Refused`, and told it with a hint
-pub record Explained (known : Option (Result (List ℕ) RunFault)) (write_may_fail tell_may_fail : Type 0) (status : ℕ)
+pub record Explained (known : Option (Result Answer RunFault)) (write_may_fail tell_may_fail : Type 0) (status : ℕ)
     (output output' errors errors' : Option (List ℕ)) : Type 0 where
   pub fault : RunFault
   pub cause : IfSome known (λ read. MayRefuse read write_may_fail fault)
   pub status_is : status ≡ status_of fault
   pub nothing : fault ≢ run.Write → output' ≡ output
-  pub front : fault ≡ run.Write → IfSome known (λ read. WroteFront read output output')
+  pub front : fault ≡ run.Write → IfSome known (λ read. WroteAnswerFront read output output')
   pub told : ToldWithHint tell_may_fail errors errors' fault
 
 -- what `run_words` says of a run by its words, by what standard input had left where that is told, by whether a write

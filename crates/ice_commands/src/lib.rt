@@ -5,11 +5,13 @@
 mod commit_lines;
 mod explaining;
 mod explanations;
+mod forms;
 mod words;
 
 pub use explaining::{Terminals, run_program};
-pub use ice_command_line::{Lists, Place, Source, Words, parse_words};
+pub use ice_command_line::{Format, Lists, Place, Source, Words, parse_words};
 pub use ice_drill::{Drill, Watch, drill_table, run_drill};
+pub use ice_json_run::{plan_file_json, run_list_plan_json};
 pub use ice_progress::{Cleared, Progress, ProgressLine, Screen, Silent};
 pub use ice_requests::{
     Bundle, CommitFolder, CommitRequest, Folder, Request, Selection, Store, StoreFault, commit_to,

@@ -1,10 +1,11 @@
 //! The program over its words, standard input, the files of the system, output and errors.
 
 ghost use Rattle.std.specs.Prelude.{◌≡◌, ◌⊎◌, ℕ, List, Option, Some, None, Result, Ok, Err, map, string_bytes};
-ghost use Rattle.std.specs.Prelude.{IfOk, IfErr, OnOk, true};
+ghost use Rattle.std.specs.Prelude.{IfOk, IfErr, OnOk, option_map, true};
 ghost use Rattle.ice_requests.specs.Bundles.{IsInput, bundle_of};
 ghost use Rattle.ice_requests.specs.Commits.{committed_text};
 ghost use Rattle.ice_drill.specs.Drills.{WroteDrill};
+ghost use Rattle.ice_commands.specs.Answers.{as_answer, plain};
 ghost use Rattle.ice_commands.specs.Runs.{Answered, EndsWith, IsCount, IsCountOf, IsOfDrill, Ran, Refused, answer_to};
 ghost use Rattle.ice_commands.specs.Runs.{ended, list_in, run_of, status_of_count};
 ghost use Rattle.ice_command_line.specs.CommandLines.{ReadAs};
@@ -13,15 +14,15 @@ ghost use Rattle.ice_text.specs.declared.fault.RunFault.{RunFault};
 
 use crate::commit_lines::commit_lines;
 use crate::explanations::explain;
+use crate::forms::{write_list_plan, write_plan};
 use contract_words::Text;
 use ice_audit_run::audit_file;
-use ice_command_line::{Lists, Place, Source, Words, parse_words};
+use ice_command_line::{Format, Lists, Place, Source, Words, parse_words};
 use ice_drill::{Watch, run_drill};
 use ice_meta::Target;
 use ice_progress::{Progress, Silent, Watched};
 use ice_requests::{
-    Bundle, CommitFolder, Folder, commit_to, plan_file, prepare_commit, read_bundle, run_list_plan,
-    show_file,
+    Bundle, CommitFolder, Folder, commit_to, prepare_commit, read_bundle, show_file,
 };
 use ice_text::{CommitRequest, Drill, Request, RunFault, Sink, report, write_all};
 use std::alloc::Global;
@@ -48,41 +49,44 @@ pub fn files_of<'a, H: Files>(host: &'a H, place: &'a Place) -> Folder<'a, H>
     Folder::new(host, place.folder.as_str(), place.prefix.as_str())
 }
 
-/// Writes the plan of a manifest list.
+/// Writes the plan of a manifest list, in a form.
 fn list_plan<H: Files, P: Progress, R: Read, W: Sink>(
     host: &H,
     alloc: Global,
     lists: &Lists,
+    format: Format,
     progress: &P,
     input: &mut R,
     output: &mut W,
 ) -> Result<(), RunFault>
     requires { P.may_be_told progress.now ≡ true }
     ensures { (text : List ℕ) × IsInput (R.remaining input.old) text ×
-        Ran (answer_to (Words.ListPlan lists.now) text) (W.may_fail output.old) result (W.taken output.old)
+        Ran (answer_to (Words.ListPlan lists.now format) text) (W.may_fail output.old) result (W.taken output.old)
         (W.taken output.new) }
 {
     match lists {
         Lists::Bundle(list) => {
             let bundle = read_bundle(alloc, input)?;
             let path = list_in(&bundle, list)?;
-            run_list_plan(alloc, &bundle, path, output)
+            write_list_plan(alloc, &bundle, path, format, output)
         }
-        Lists::Folder(place, list) => run_list_plan(
+        Lists::Folder(place, list) => write_list_plan(
             alloc,
             &Watched::new(files_of(host, place), progress),
             list.as_str(),
+            format,
             output,
         ),
     }
 }
 
-/// Writes the plan that is asked of the table whose metadata is at a path.
+/// Writes the plan that is asked of the table whose metadata is at a path, in a form.
 fn plan<H, P: Progress + Sync, R: Read, W: Sink>(
     host: &H,
     alloc: Global,
     source: &Source,
     request: &Request,
+    format: Format,
     workers: usize,
     path: &Text,
     progress: &P,
@@ -93,21 +97,22 @@ where
     H: Files<File: Send, Dir: Send> + Threads + Sync,
     requires { P.may_be_told progress.now ≡ true }
     ensures { (text : List ℕ) × IsInput (R.remaining input.old) text ×
-        Ran (answer_to (Words.Plan source.now request.now workers path.now) text) (W.may_fail output.old) result
+        Ran (answer_to (Words.Plan source.now request.now format workers path.now) text) (W.may_fail output.old) result
         (W.taken output.old) (W.taken output.new) }
 {
     let path = path.as_str();
     match source {
         Source::Bundle => {
             let bundle = read_bundle(alloc, input)?;
-            plan_file(host, alloc, &bundle, path, request, workers, output)
+            write_plan(host, alloc, &bundle, path, request, format, workers, output)
         }
-        Source::Folder(place) => plan_file(
+        Source::Folder(place) => write_plan(
             host,
             alloc,
             &Watched::new(files_of(host, place), progress),
             path,
             request,
+            format,
             workers,
             output,
         ),
@@ -138,7 +143,7 @@ fn show<H: Files, R: Read, W: Sink>(
 
 /// Writes the audit of a snapshot of the table whose metadata is at a path, and gives the number of findings that are
 /// faults.
-fn audit<H: Files, P: Progress, R: Read, W: Sink>(
+fn audit<H, P: Progress + Sync, R: Read, W: Sink>(
     host: &H,
     alloc: Global,
     source: &Source,
@@ -149,6 +154,8 @@ fn audit<H: Files, P: Progress, R: Read, W: Sink>(
     input: &mut R,
     output: &mut W,
 ) -> Result<usize, RunFault>
+where
+    H: Files<File: Send, Dir: Send> + Threads + Sync,
     requires { P.may_be_told progress.now ≡ true }
     ensures { (text : List ℕ) × IsInput (R.remaining input.old) text ×
         Ran (answer_to (Words.Audit source.now target.now workers path.now) text) (W.may_fail output.old)
@@ -159,9 +166,10 @@ fn audit<H: Files, P: Progress, R: Read, W: Sink>(
     match source {
         Source::Bundle => {
             let bundle = read_bundle(alloc, input)?;
-            audit_file(alloc, &bundle, path, target, workers, output)
+            audit_file(host, alloc, &bundle, path, target, workers, output)
         }
         Source::Folder(place) => audit_file(
+            host,
             alloc,
             &Watched::new(files_of(host, place), progress),
             path,
@@ -180,7 +188,7 @@ fn print_commit<W: Sink>(
     output: &mut W,
 ) -> Result<(), RunFault>
     ensures { (text : List ℕ) → bundle_of text ≡ Ok bundle.now →
-        Ran (committed_text request.now text) (W.may_fail output.old) result (W.taken output.old)
+        Ran (option_map as_answer (committed_text request.now text)) (W.may_fail output.old) result (W.taken output.old)
         (W.taken output.new) }
 {
     let prepared = prepare_commit(alloc, bundle, request)?;
@@ -220,7 +228,8 @@ fn commit<H: Files, P: Progress, R: Read, W: Sink>(
 
 /// Writes a text.
 fn tell<W: Sink>(text: &Text, output: &mut W) -> Result<(), RunFault>
-    ensures { Ran (Some (Ok text.now)) (W.may_fail output.old) result (W.taken output.old) (W.taken output.new) }
+    ensures { Ran (Some (Ok (plain text.now))) (W.may_fail output.old) result (W.taken output.old)
+        (W.taken output.new) }
 {
     write_all(output, text.as_bytes())?;
     Ok(())
@@ -270,11 +279,11 @@ where
     ensures drilled { OnOk result (IsOfDrill (Ok asked.now) (W.taken output.old) (W.taken output.new)) }
 {
     match asked {
-        Words::ListPlan(lists) => {
-            no_findings(list_plan(host, alloc, lists, progress, input, output))
-        }
-        Words::Plan(source, request, workers, path) => no_findings(plan(
-            host, alloc, source, request, *workers, path, progress, input, output,
+        Words::ListPlan(lists, format) => no_findings(list_plan(
+            host, alloc, lists, *format, progress, input, output,
+        )),
+        Words::Plan(source, request, format, workers, path) => no_findings(plan(
+            host, alloc, source, request, *format, *workers, path, progress, input, output,
         )),
         Words::Commit(source, request) => {
             no_findings(commit(host, alloc, source, request, progress, input, output))

@@ -12,8 +12,8 @@ use std::alloc::Global;
 /// The folder that the files of what is asked for are below.
 pub fn place_of(asked: &Words) -> Option<&Place> {
     match asked {
-        Words::ListPlan(Lists::Folder(place, _)) => Some(place),
-        Words::Plan(Source::Folder(place), _, _, _) => Some(place),
+        Words::ListPlan(Lists::Folder(place, _), _) => Some(place),
+        Words::Plan(Source::Folder(place), _, _, _, _) => Some(place),
         Words::Commit(Source::Folder(place), _) => Some(place),
         Words::Show(Source::Folder(place), _) => Some(place),
         Words::Audit(Source::Folder(place), _, _, _) => Some(place),
@@ -38,7 +38,7 @@ impl<'a, F: Files> Case<'a, F> {
     /// The path of the table's metadata.
     pub fn metadata_path(&self) -> Option<&'a str> {
         match self.asked {
-            Words::Plan(_, _, _, path)
+            Words::Plan(_, _, _, _, path)
             | Words::Show(_, path)
             | Words::Audit(_, _, _, path)
             | Words::Explain(_, _, _, path) => Some(path.as_str()),
@@ -50,7 +50,7 @@ impl<'a, F: Files> Case<'a, F> {
     /// The plan that is asked of the table.
     pub fn request(&self) -> Option<&'a Request> {
         match self.asked {
-            Words::Plan(_, request, _, _) | Words::Explain(_, request, _, _) => Some(request),
+            Words::Plan(_, request, _, _, _) | Words::Explain(_, request, _, _) => Some(request),
             _ => None,
         }
     }
@@ -58,7 +58,7 @@ impl<'a, F: Files> Case<'a, F> {
     /// The snapshot that is asked for.
     pub fn target(&self) -> Option<&'a Target> {
         match self.asked {
-            Words::Plan(_, request, _, _) | Words::Explain(_, request, _, _) => {
+            Words::Plan(_, request, _, _, _) | Words::Explain(_, request, _, _) => {
                 Some(&request.target)
             }
             Words::Audit(_, target, _, _) => Some(target),

@@ -49,8 +49,8 @@ fn listed<'a>(metadata: &'a Option<Metadata>, target: &Target) -> Option<&'a str
 /// The manifest list that is read.
 fn list_of<'a, F: Files>(case: &Case<'a, F>, metadata: &'a Option<Metadata>) -> Option<&'a str> {
     match case.asked {
-        Words::ListPlan(Lists::Folder(_, list)) => Some(list.as_str()),
-        Words::ListPlan(Lists::Bundle(list)) => Some(list.as_ref()?.as_str()),
+        Words::ListPlan(Lists::Folder(_, list), _) => Some(list.as_str()),
+        Words::ListPlan(Lists::Bundle(list), _) => Some(list.as_ref()?.as_str()),
         _ => listed(metadata, case.target()?),
     }
 }

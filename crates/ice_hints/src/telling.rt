@@ -64,7 +64,7 @@ fn add_bundle<F: Files>(
     case: &Case<'_, F>,
 ) -> Result<(), AllocError> {
     match case.asked {
-        Words::ListPlan(Lists::Bundle(None)) => hint.here(
+        Words::ListPlan(Lists::Bundle(None), _) => hint.here(
             alloc,
             format!(in alloc;
                 "`list-plan --bundle`, and no word at all, read a bundle; `icescan --help` shows the commands"
@@ -81,7 +81,7 @@ fn add_workers<F: Files>(
     case: &Case<'_, F>,
 ) -> Result<(), AllocError> {
     match case.asked {
-        Words::Plan(_, _, workers, _)
+        Words::Plan(_, _, _, workers, _)
         | Words::Audit(_, _, workers, _)
         | Words::Explain(_, _, workers, _) => {
             hint.here(alloc, format!(in alloc; "`--workers` is {workers}")?)

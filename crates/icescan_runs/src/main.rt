@@ -36,6 +36,8 @@
 //!   expected was computed by a program in another language, from what the tables were written with
 //! - explanations of plans of tables from before: with what is expected of `id = 42`, of filters of several leaves, of one
 //!   that is never met, as that program computed it from the files too
+//! - plans as JSON: of `id = 42`, with the delete files that its explanation keeps, and of lists, as that program made them;
+//!   a refusal is that of the text
 //! - refusals with `--explain`, over `data/hints`, which `tools/refusals.py make` writes: below each line what it is
 //!   about and what to do
 #![tactic(auto)]

@@ -1,4 +1,4 @@
-use Rattle.std.proofs.Common.{◌∙◌, ap, sym, refl, Bor, List, ℕ, map, option_map}
+use Rattle.std.proofs.Common.{◌∙◌, ap, sym, refl, Bor, List, ℕ, option_map}
 use Rattle.ice_value.specs.Applying.{DataKey}
 use Rattle.ice_audit.specs.Dangling.{data_of, paths_in}
 use Rattle.ice_audit.specs.Lookups.{data_lent}

@@ -3,7 +3,7 @@ use Rattle.std.specs.List.{Contains, list_any}
 use Rattle.ice_value.specs.Applying.{DataKey, DeleteKey}
 use Rattle.ice_deletes.specs.Found.{AppliesAt, lent}
 use Rattle.ice_deletes.specs.declared.index.Hits.{Hits}
-use Rattle.ice_audit.specs.Dangling.{data_files, data_of}
+use Rattle.ice_audit.specs.Dangling.{data_of}
 use Rattle.ice_audit.specs.Lookups.{data_lent, is_hit}
 use Rattle.ice_audit.proofs.Hitting.{found_below, marks_more}
 use Rattle.ice_audit.proofs.Stepwise.{none_more, some_more}

@@ -1,4 +1,4 @@
-use Rattle.std.proofs.Common.{◌∙◌, ap, sym, subst, Bor, List, ℕ, map, Some}
+use Rattle.std.proofs.Common.{◌∙◌, ap, sym, Bor, List, ℕ, map, Some}
 use Rattle.ice_audit.specs.Dangling.{names_none}
 use Rattle.ice_audit.proofs.Searched.{search_tells}
 use Rattle.ice_audit.proofs.deletes.names_none.Goals as goal

@@ -1,22 +1,14 @@
-use Rattle.std.proofs.Common.{◌≡◌, ◌∙◌, ◌++◌, ◌∷◌, [], ℕ, Bool, List, Option, Some, None, Bor, ap, sym, refl, not, false}
+use Rattle.std.proofs.Common.{◌≡◌, ◌∙◌, ◌++◌, ◌∷◌, [], ℕ, Bool, List, Bor, ap, sym, false}
 use Rattle.std.proofs.Common.{get_or, map, take}
 use Rattle.std.specs.List.{flat_map}
-use Rattle.std.specs.List.Sorted.{IsPermutation}
-use Rattle.std.specs.Str.{bytes_eq}
 use Rattle.std.proofs.lemmas.List.{flat_map_more, get_or-map, map-append}
-use Rattle.std.proofs.lemmas.List.Sorted.{list_any-IsPermutation}
 use Rattle.ice_audit.specs.Dangling.{findings_beside, findings_by, is_reaching, names_none, paths_in}
 use Rattle.ice_audit.specs.Lookups.{delete_lent}
 use Rattle.ice_audit.specs.declared.deletes.DeleteFile.{DeleteFile}
 use Rattle.ice_audit.specs.declared.finding.Finding.{Finding}
+use Rattle.ice_audit.proofs.Naming.{names_same}
 use Rattle.ice_audit.proofs.Stepwise.{front_more}
 use Rattle.ice_audit.proofs.deletes.push_findings.Goals as goal
-
--- in any order
-names_alike : (ps qs : List (List ℕ)) (named : Option (List ℕ)) → IsPermutation ps qs
-    → names_none qs named ≡ names_none ps named
-names_alike ps qs None same = refl
-names_alike ps qs (Some path) same = ap not (sym (list_any-IsPermutation (λ p. bytes_eq p path) ps qs same))
 
 pub deletes-preserved : goal.deletes-preserved
 deletes-preserved c = λ xs same marked.
@@ -27,8 +19,8 @@ deletes-preserved c = λ xs same marked.
     let old = c.args.findings.now in
     let reaches : DeleteFile → Bool = λ e. is_reaching xs (delete_lent e).1 in
     let low = c.deletes-test.true in
-    let none = c.names_none-none.ensures ∙ names_alike (paths_in xs) (map (λ (p : Bor (List ℕ)). p.now) c.args.paths.now)
-    d.1.referenced same in
+    let none = c.names_none-none.ensures ∙ names_same (map (λ (p : Bor (List ℕ)). p.now) c.args.paths.now) (paths_in xs)
+    deletes i delete low c.index-deletes-i.is same in
     let mark : get_or c.args.marks.now i false ≡ is_reaching xs d.1 = ap (λ ms. get_or ms i false) marked
     ∙ get_or-map reaches deletes i delete false low ∙ ap reaches (sym c.index-deletes-i.is) in
     let all = map-append delete_lent (take i deletes) (delete ∷ []) in

@@ -1,9 +1,10 @@
-use Rattle.std.proofs.Common.{◌≡◌, ◌≤◌, ◌∙◌, ◌+◌, ap, arith, drop, length, subst, sym}
-use Rattle.std.specs.Prelude.{Ok}
+use Rattle.std.proofs.Common.{◌≡◌, ◌≤◌, ◌∙◌, ◌+◌, ap, arith, drop, length, refl, subst, sym}
+use Rattle.std.specs.Prelude.{Err, Ok}
 use Rattle.std.proofs.lemmas.Result.{err_from_is_err_and}
 use Rattle.ice_desk.specs.Wanted.{paths_of}
 use Rattle.ice_desk.specs.Worlds.{EndsAt}
 use Rattle.ice_text.specs.Reads.{MayEnd}
+use Rattle.ice_text.specs.declared.fault.RunFault.TheVariants as run
 use Rattle.ice_audit_run.specs.AnyFiles.{IsReadOf}
 use Rattle.ice_audit_run.specs.Audits.{joined, rows_audit}
 use Rattle.ice_audit_run.proofs.AnyFiles.{read_end, read_more}
@@ -53,8 +54,8 @@ rows-preserved g c =
       few = omega (arith, kept.few);
     }
 
-pub returns-in_err-entries-clause-refused : goal.returns-in_err-entries-clause-refused
-returns-in_err-entries-clause-refused g c =
+pub returns-in_err-entries : goal.returns-in_err-entries
+returns-in_err-entries g c =
     let p = err_from_is_err_and c.from_residual.result c.from_residual.ensures.1 in
     let rows = c.args.rows.now in
     let basis = c.args.basis.now in
@@ -63,33 +64,34 @@ returns-in_err-entries-clause-refused g c =
     let row = c.row-item.result in
     let e = c.in_err-entries.field-0.0 in
     let step = row_step rows i row c.rows-test.true c.row-item.is in
-    λ world told. rw (p.1, p.2)
-    (c.rows.invariant.ends world told e
-    (subst (λ rs. MayEnd (rows_audit world basis rs) (EndsAt world f (paths_of rs)) ⊥ e) (sym step)
-    (first_row_ends f world basis row (drop (i + 1) rows) e (c.in_err-entries.ensures.refused world told))))
+    rw (p.1, p.2) (record {
+      found = λ world told. tt;
+      refused = λ world told. c.rows.invariant.ends world told e
+          (subst (λ rs. MayEnd (rows_audit world basis rs) (EndsAt world f (paths_of rs)) ⊥ e) (sym step)
+          (first_row_ends f world basis row (drop (i + 1) rows) e (c.in_err-entries.ensures.refused world told)));
+      write = λ is.
+          let failed : e ≡ run.Write = cc in
+          absurd (c.in_err-entries.ensures.write (ap Err failed));
+      read = tt;
+      stops = c.in_err-entries.ensures.stops;
+      few = tt;
+    })
 
-pub returns-clause-found : goal.returns-clause-found
-returns-clause-found g c =
+pub returns : goal.returns
+returns g c =
     let rows = c.args.rows.now in
-    let low : length rows ≤ c.rows.row-index = c.rows-test.false in
-    let high : c.rows.row-index ≤ length rows = c.rows.auto.row-index-end in
-    let all : c.rows.row-index ≡ length rows = omega arith in
-    λ world told. rw c.from_vec.ensures
-    (rows_end world c.args.basis.now rows c.rows.row-index (length rows) c.rows.entries c.rows.findings
-    c.rows.live.items low all
-    (c.rows.invariant.found world told))
-
-pub returns-in_err-entries-clause-stops : goal.returns-in_err-entries-clause-stops
-returns-in_err-entries-clause-stops g c =
-    let p = err_from_is_err_and c.from_residual.result c.from_residual.ensures.1 in
-    rw (p.1, p.2) c.in_err-entries.ensures.stops
-
-pub returns-clause-read : goal.returns-clause-read
-returns-clause-read g c =
-    let rows = c.args.rows.now in
-    let low : length rows ≤ c.rows.row-index = c.rows-test.false in
-    let high : c.rows.row-index ≤ length rows = c.rows.auto.row-index-end in
-    let all : c.rows.row-index ≡ length rows = omega arith in
-    rw c.from_vec.ensures
-    (read_end c.args.basis.now rows c.rows.row-index (length rows) c.rows.entries c.rows.findings c.rows.live.items low
-    all c.rows.invariant.read)
+    let basis = c.args.basis.now in
+    let i = c.rows.row-index in
+    let low : length rows ≤ i = c.rows-test.false in
+    let high : i ≤ length rows = c.rows.auto.row-index-end in
+    let all : i ≡ length rows = omega arith in
+    let kept = c.rows.invariant in
+    rw c.from_vec.ensures (record {
+      found = λ world told. rows_end world basis rows i (length rows) c.rows.entries c.rows.findings c.rows.live.items low
+          all (kept.found world told);
+      refused = λ world told. tt;
+      write = λ is. absurd cc;
+      read = read_end basis rows i (length rows) c.rows.entries c.rows.findings c.rows.live.items low all kept.read;
+      stops = tt;
+      few = (refl, omega (arith, kept.few, all));
+    })

@@ -6,10 +6,13 @@ use Rattle.ice_explain_run.specs.Texts.{explanation_text}
 use Rattle.ice_requests.specs.Bundles.{bytes_at}
 use Rattle.ice_requests.specs.Plans.{reads_at}
 use Rattle.ice_text.proofs.Steps.{never_fails}
+use Rattle.ice_commands.specs.Answers.{as_answer}
 use Rattle.ice_commands.specs.Explained.{as_explanation, explained_text}
 use Rattle.ice_command_line.specs.declared.command_line.Source.TheVariants as source
 use Rattle.ice_commands.proofs.ExplainedLaws.{explanation_from, no_explanation}
-use Rattle.ice_commands.proofs.Refusals.{ends_refused, is_left, left_of, no_bundle_ran, untold_ran}
+use Rattle.ice_commands.proofs.Answering.{front_told, text_told}
+use Rattle.ice_commands.proofs.Refusals.{ends_refused, is_left, left_of, no_bundle_ran}
+use Rattle.ice_commands.proofs.Refusals.{untold_ran}
 use Rattle.ice_commands.proofs.explanations.explain.Goals as goal
 
 pub returns-in_err-bundle-in-Bundle : goal.returns-in_err-bundle-in-Bundle
@@ -20,7 +23,7 @@ returns-in_err-bundle-in-Bundle g c =
     rw (p.1, p.2, asked) (
       no.0,
       no.1,
-      no_bundle_ran (Some (explained_text c.args.path.now c.args.request.now c.args.workers no.0)) no.0
+      no_bundle_ran (Some (as_answer (explained_text c.args.path.now c.args.request.now c.args.workers no.0))) no.0
           (g.W.Sink.may_fail c.args.output.now) _
           (no_explanation c.args.path.now c.args.request.now c.args.workers no.0)
           c.in_err-bundle-in-Bundle.field-0.0 no.2,
@@ -35,6 +38,7 @@ returns-in_ok-bundle-in-Bundle g c =
     let found = c.in_ok-bundle-in-Bundle.ensures.found in
     let bundle = c.in_ok-bundle-in-Bundle.bundle in
     let world : World = λ path. bytes_at bundle path in
+    let told = explained_text c.args.path.now request workers found.0 in
     let same = ap as_explanation (explanation_from found.0 bundle found.2 c.args.path.now request workers
     ∙ ap (λ p. explained_at world p request workers) (sym c.as_str-path.ensures)) in
     let ran = c.explain_file.ensures in
@@ -43,15 +47,16 @@ returns-in_ok-bundle-in-Bundle g c =
       found.1,
       record {
         written = IfOk-weaker c.explain_file.result _ _
-            (λ _ w. (explanation_text w.0, same ∙ ap as_explanation w.1, w.2)) (ran.written world refl);
+            (λ _ w. text_told told _ _ (explanation_text w.0, same ∙ ap as_explanation w.1, w.2))
+            (ran.written world refl);
         refused = IfErr-weaker c.explain_file.result _ _
-            (λ e h. ends_refused as_explanation (explained_at world path request workers)
-            (explained_text c.args.path.now request workers found.0) _ (g.W.Sink.may_fail c.args.output.now) e
-            (λ f. refl) (never_fails world (reads_at world path request)) same h)
+            (λ e h. ends_refused (λ x. as_answer (as_explanation x)) (explained_at world path request workers)
+            (as_answer told) _ (g.W.Sink.may_fail c.args.output.now) e
+            (λ f. refl) (never_fails world (reads_at world path request)) (ap as_answer same) h)
             (ran.refused world refl);
         nothing = ran.refusal.nothing;
         front = λ failed. let w = ran.front world refl failed in
-            (explanation_text w.0, same ∙ ap as_explanation w.1, w.2);
+            front_told told _ _ (explanation_text w.0, same ∙ ap as_explanation w.1, w.2);
       },
     )
 

@@ -8,6 +8,7 @@ use Rattle.ice_audit_run.specs.declared.audit.Audit.{Audit}
 use Rattle.ice_state.specs.Contents.{World}
 use Rattle.ice_requests.specs.Bundles.{bytes_at}
 use Rattle.ice_text.proofs.Steps.{never_fails}
+use Rattle.ice_commands.specs.Answers.{as_answer}
 use Rattle.ice_commands.specs.Runs.{as_audit, audited, audited_text}
 use Rattle.ice_command_line.specs.declared.command_line.Source.TheVariants as source
 use Rattle.ice_commands.proofs.Refusals.{audit_from, counted_ran, ends_refused, is_left, left_of, no_audit}
@@ -22,7 +23,7 @@ returns-in_err-bundle-in-Bundle g c =
     rw (p.1, p.2, asked) (
       no.0,
       no.1,
-      no_bundle_ran (Some (audited_text c.args.path.now c.args.target.now c.args.workers no.0)) no.0
+      no_bundle_ran (Some (as_answer (audited_text c.args.path.now c.args.target.now c.args.workers no.0))) no.0
           (g.W.Sink.may_fail c.args.output.now) _ (no_audit c.args.path.now c.args.target.now c.args.workers no.0)
           c.in_err-bundle-in-Bundle.field-0.0 no.2,
       tt,
@@ -50,9 +51,9 @@ returns-in_ok-bundle-in-Bundle g c =
           c.audit_file.result _ _
           (IfOk-weaker c.audit_file.result _ _ (λ _ w. (audit_text w.0, same ∙ ap as_audit w.1, w.3)) written)
           (IfErr-weaker c.audit_file.result _ _
-          (λ e h. ends_refused as_audit (audit_at world path target workers)
-          (audited_text c.args.path.now target workers found.0) _ (g.W.Sink.may_fail c.args.output.now) e (λ f. refl)
-          (never_fails world (audit_reads_at world path target)) same h)
+          (λ e h. ends_refused (λ x. as_answer (as_audit x)) (audit_at world path target workers)
+          (as_answer (audited_text c.args.path.now target workers found.0)) _ (g.W.Sink.may_fail c.args.output.now) e
+          (λ f. refl) (never_fails world (audit_reads_at world path target)) (ap as_answer same) h)
           (ran.refused world refl))
           ran.nothing
           (λ failed. let w = ran.front world refl failed in (audit_text w.0, same ∙ ap as_audit w.1, w.2)),

@@ -1,6 +1,8 @@
 use Rattle.std.proofs.Common.{◌≡◌, rules}
+use Rattle.std.specs.Prelude.{option_map}
 use Rattle.std.proofs.lemmas.Result.{err_from_is_err_and}
 use Rattle.ice_requests.specs.Commits.{committed_text}
+use Rattle.ice_commands.specs.Answers.{as_answer}
 use Rattle.ice_command_line.specs.declared.command_line.Source.TheVariants as source
 use Rattle.ice_commands.proofs.Committed.{no_files}
 use Rattle.ice_commands.proofs.Refusals.{is_left, left_of, no_bundle_ran, untold_ran}
@@ -14,7 +16,7 @@ returns-in_err-bundle-in-Bundle g c =
     rw (p.1, p.2, asked) (
       no.0,
       no.1,
-      no_bundle_ran (committed_text c.args.request.now no.0) no.0
+      no_bundle_ran (option_map as_answer (committed_text c.args.request.now no.0)) no.0
           (g.W.Sink.may_fail c.args.output.now) _ (no_files c.args.request.now no.0)
           c.in_err-bundle-in-Bundle.field-0.0 no.2,
     )

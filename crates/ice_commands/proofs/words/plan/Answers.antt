@@ -1,11 +1,10 @@
 use Rattle.std.proofs.Common.{◌≡◌, Some, refl, ap, sym, ◌∙◌, rules}
 use Rattle.std.proofs.lemmas.Result.{err_from_is_err_and, IfOk-weaker, IfErr-weaker}
 use Rattle.ice_state.specs.Contents.{World}
-use Rattle.ice_print.specs.PlanTexts.{plan_text}
 use Rattle.ice_requests.specs.Bundles.{bytes_at}
-use Rattle.ice_requests.specs.Plans.{answer_at, over_wanted_rows, reads_at}
+use Rattle.ice_requests.specs.Plans.{reads_at}
 use Rattle.ice_text.proofs.Steps.{never_fails}
-use Rattle.ice_commands.specs.Runs.{as_text, planned_text}
+use Rattle.ice_commands.specs.Runs.{plan_in, planned}
 use Rattle.ice_command_line.specs.declared.command_line.Source.TheVariants as source
 use Rattle.ice_commands.proofs.Refusals.{ends_refused, is_left, left_of, no_bundle_ran, no_request, request_from}
 use Rattle.ice_commands.proofs.Refusals.{untold_ran}
@@ -19,8 +18,9 @@ returns-in_err-bundle-in-Bundle g c =
     rw (p.1, p.2, asked) (
       no.0,
       no.1,
-      no_bundle_ran (Some (planned_text c.args.path.now c.args.request.now c.args.workers no.0)) no.0
-          (g.W.Sink.may_fail c.args.output.now) _ (no_request c.args.path.now c.args.request.now c.args.workers no.0)
+      no_bundle_ran (Some (planned c.args.format c.args.path.now c.args.request.now c.args.workers no.0)) no.0
+          (g.W.Sink.may_fail c.args.output.now) _
+          (no_request c.args.format c.args.path.now c.args.request.now c.args.workers no.0)
           c.in_err-bundle-in-Bundle.field-0.0 no.2,
     )
 
@@ -33,22 +33,23 @@ returns-in_ok-bundle-in-Bundle g c =
     let found = c.in_ok-bundle-in-Bundle.ensures.found in
     let bundle = c.in_ok-bundle-in-Bundle.bundle in
     let world : World = λ path. bytes_at bundle path in
-    let same = request_from found.0 bundle found.2 c.args.path.now request workers
-    ∙ ap (λ p. as_text (answer_at over_wanted_rows world p request workers)) (sym c.as_str-path.ensures) in
-    let ran = c.plan_file.ensures in
-    let told = ran.wanted world refl in
+    let form = c.args.format in
+    let same = request_from found.0 bundle found.2 form c.args.path.now request workers
+    ∙ ap (λ p. plan_in form world p request workers) (sym c.as_str-path.ensures) in
+    let ran = c.write_plan.ensures in
+    let told = ran.answers world refl in
     rw asked (
       found.0,
       found.1,
       record {
-        written = IfOk-weaker c.plan_file.result _ _ (λ _ w. (plan_text w.0, same ∙ ap as_text w.1, w.2)) told.written;
-        refused = IfErr-weaker c.plan_file.result _ _
-            (λ e h. ends_refused as_text (answer_at over_wanted_rows world path request workers)
-            (planned_text c.args.path.now request workers found.0) _ (g.W.Sink.may_fail c.args.output.now) e (λ f. refl)
+        written = IfOk-weaker c.write_plan.result _ _ (λ _ w. (w.0, same ∙ w.1, w.2, w.3, w.4)) told.written;
+        refused = IfErr-weaker c.write_plan.result _ _
+            (λ e h. ends_refused (λ x. x) (plan_in form world path request workers)
+            (planned form c.args.path.now request workers found.0) _ (g.W.Sink.may_fail c.args.output.now) e (λ f. refl)
             (never_fails world (reads_at world path request)) same h)
             told.refused;
         nothing = ran.refusal.nothing;
-        front = λ failed. let w = told.front failed in (plan_text w.0, same ∙ ap as_text w.1, w.2);
+        front = λ failed. let w = told.front failed in (w.0, same ∙ w.1, w.2, w.3, w.4);
       },
     )
 
@@ -60,5 +61,5 @@ returns-in-Folder g c =
       left_of left,
       is_left left,
       untold_ran (g.W.Sink.may_fail c.args.output.now)
-          c.plan_file-in-Folder.result _ _ c.plan_file-in-Folder.ensures.refusal.nothing,
+          c.write_plan-in-Folder.result _ _ c.write_plan-in-Folder.ensures.refusal.nothing,
     )

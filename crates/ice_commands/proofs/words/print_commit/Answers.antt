@@ -1,8 +1,10 @@
 use Rattle.std.proofs.Common.{refl}
+use Rattle.std.specs.Prelude.{option_map}
 use Rattle.std.proofs.lemmas.Result.{err_from_is_err_and}
 use Rattle.ice_state.specs.Contents.{World}
 use Rattle.ice_requests.specs.Bundles.{bytes_at}
 use Rattle.ice_requests.specs.Commits.{committed_text}
+use Rattle.ice_commands.specs.Answers.{as_answer}
 use Rattle.ice_commands.proofs.Committed.{commit_ran, failed_ran, wrote_ran}
 use Rattle.ice_commands.proofs.Refusals.{memory_ran}
 use Rattle.ice_requests.proofs.Stored.{added_is, text_is}
@@ -19,13 +21,13 @@ returns-in_err-prepared g c = λ text is.
 pub returns-in_err-metadata : goal.returns-in_err-metadata
 returns-in_err-metadata g c = λ text is.
     let p = err_from_is_err_and c.from_residual-in_err-metadata.result c.from_residual-in_err-metadata.ensures.1 in
-    rw (p.1, p.2) (memory_ran (committed_text c.args.request.now text) (g.W.Sink.may_fail c.args.output.now)
+    rw (p.1, p.2) (memory_ran (option_map as_answer (committed_text c.args.request.now text)) (g.W.Sink.may_fail c.args.output.now)
     _)
 
 pub returns-in_err-lines : goal.returns-in_err-lines
 returns-in_err-lines g c = λ text is.
     let p = err_from_is_err_and c.from_residual-in_err-lines.result c.from_residual-in_err-lines.ensures.1 in
-    rw (p.1, p.2) (memory_ran (committed_text c.args.request.now text) (g.W.Sink.may_fail c.args.output.now)
+    rw (p.1, p.2) (memory_ran (option_map as_answer (committed_text c.args.request.now text)) (g.W.Sink.may_fail c.args.output.now)
     _)
 
 pub returns-in_err-write_all : goal.returns-in_err-write_all

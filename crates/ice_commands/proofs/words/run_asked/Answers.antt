@@ -5,7 +5,7 @@ use Rattle.ice_commands.proofs.words.run_asked.Goals as goal
 
 pub returns-in-ListPlan-clause-ran : goal.returns-in-ListPlan-clause-ran
 returns-in-ListPlan-clause-ran g c =
-    let asked : c.args.asked.now ≡ words.ListPlan c.in-ListPlan.lists = search rules in
+    let asked : c.args.asked.now ≡ words.ListPlan c.in-ListPlan.lists c.in-ListPlan.format = search rules in
     let told = c.list_plan.ensures in
     rw asked (
       told.0,
@@ -17,8 +17,8 @@ returns-in-ListPlan-clause-ran g c =
 
 pub returns-in-Plan-clause-ran : goal.returns-in-Plan-clause-ran
 returns-in-Plan-clause-ran g c =
-    let asked : c.args.asked.now ≡ words.Plan c.in-Plan.source c.in-Plan.request c.in-Plan.workers c.in-Plan.path
-    = search rules in
+    let asked : c.args.asked.now ≡ words.Plan c.in-Plan.source c.in-Plan.request c.in-Plan.format c.in-Plan.workers
+    c.in-Plan.path = search rules in
     let told = c.plan.ensures in
     rw asked (
       told.0,

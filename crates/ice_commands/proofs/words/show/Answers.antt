@@ -4,9 +4,12 @@ use Rattle.ice_state.specs.Contents.{World}
 use Rattle.ice_requests.specs.Bundles.{bytes_at}
 use Rattle.ice_requests.specs.Shows.{shown_at}
 use Rattle.ice_text.proofs.Steps.{never_fails}
+use Rattle.ice_commands.specs.Answers.{as_answer}
 use Rattle.ice_commands.specs.Runs.{shown_text}
 use Rattle.ice_command_line.specs.declared.command_line.Source.TheVariants as source
-use Rattle.ice_commands.proofs.Refusals.{ends_refused, is_left, left_of, no_bundle_ran, no_show, shown_from, untold_ran}
+use Rattle.ice_commands.proofs.Answering.{front_told, text_told}
+use Rattle.ice_commands.proofs.Refusals.{ends_refused, is_left, left_of, no_bundle_ran}
+use Rattle.ice_commands.proofs.Refusals.{no_show, shown_from, untold_ran}
 use Rattle.ice_commands.proofs.words.show.Goals as goal
 
 pub returns-in_err-bundle-in-Bundle : goal.returns-in_err-bundle-in-Bundle
@@ -17,7 +20,7 @@ returns-in_err-bundle-in-Bundle g c =
     rw (p.1, p.2, asked) (
       no.0,
       no.1,
-      no_bundle_ran (Some (shown_text c.args.path.now no.0)) no.0
+      no_bundle_ran (Some (as_answer (shown_text c.args.path.now no.0))) no.0
           (g.W.Sink.may_fail c.args.output.now) _ (no_show c.args.path.now no.0)
           c.in_err-bundle-in-Bundle.field-0.0 no.2,
     )
@@ -35,13 +38,16 @@ returns-in_ok-bundle-in-Bundle g c =
       found.0,
       found.1,
       record {
-        written = IfOk-weaker c.show_file.result _ _ (λ _ w. (w.0, same ∙ w.1, w.2)) (ran.written world refl);
+        written = IfOk-weaker c.show_file.result _ _
+            (λ _ w. text_told (shown_text c.args.path.now found.0) _ _ (w.0, same ∙ w.1, w.2))
+            (ran.written world refl);
         refused = IfErr-weaker c.show_file.result _ _
-            (λ e h. ends_refused (λ x. x) (shown_at world path) (shown_text c.args.path.now found.0) _
-            (g.W.Sink.may_fail c.args.output.now) e (λ f. refl) (never_fails world (path ∷ [])) same h)
+            (λ e h. ends_refused as_answer (shown_at world path) (as_answer (shown_text c.args.path.now found.0)) _
+            (g.W.Sink.may_fail c.args.output.now) e (λ f. refl) (never_fails world (path ∷ [])) (ap as_answer same) h)
             (ran.refused world refl);
         nothing = ran.nothing;
-        front = λ failed. let w = ran.front world refl failed in (w.0, same ∙ w.1, w.2);
+        front = λ failed. let w = ran.front world refl failed in
+            front_told (shown_text c.args.path.now found.0) _ _ (w.0, same ∙ w.1, w.2);
       },
     )
 
