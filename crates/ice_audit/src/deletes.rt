@@ -201,8 +201,7 @@ fn names_some(deletes: &[DeleteFile<'_>]) -> bool
     deletes.iter().any(|delete| delete.key.referenced.is_some())
 }
 
-/// Paths, in order, beside which the delete files name none just where they name a path of no data file: none where
-/// none of them names one.
+/// The paths of the data files, in order; none where no delete file names a data file, since then no path is looked for.
 fn paths_asked<'a>(
     alloc: Global,
     files: &'a [LiveFile],
@@ -280,8 +279,8 @@ fn push_findings_by(
     )
 }
 
-/// Puts the findings on delete files last, file by file, beside data files whose paths they name where they name one of
-/// these, which are in order, and to which they apply as they are marked.
+/// Puts the findings on delete files last, file by file. A path that one of them names is that of a live data file just
+/// where it is among these paths, which are in order; those that are marked apply to a data file.
 fn push_findings(
     alloc: Global,
     findings: &mut Items<Finding>,
