@@ -16,19 +16,29 @@ use Rattle.ice_audit.specs.declared.finding.Flaw.{Flaw}
 abbrev at : List ℤ → ℕ → ℤ
 at ids k = get_or ids k (pos 0)
 
+pub count_told : (column : ℤ) (said : Option ℤ) (pairs : List (ℤ × ℤ)) (counts : List ColumnCount)
+    → counts_said pairs ≡ counts → said ≡ last_of column pairs → said ≡ count_of column counts
+count_told column said pairs counts is told = told ∙ last_count column pairs ∙ ap (count_of column) is
+
+pub bound_told : (column : ℤ) (said : Option (Bor (List ℕ))) (pairs : List (ℤ × Bor (List ℕ)))
+    (bounds : List ColumnBound) → bounds_said pairs ≡ bounds → said ≡ last_of column pairs
+    → option_copied said ≡ bound_of column bounds
+bound_told column said pairs bounds is told =
+    ap (λ (o : Option (Bor (List ℕ))). option_map (λ (b : Bor (List ℕ)). b.now) o) told
+    ∙ last_bound column pairs ∙ ap (bound_of column) is
+
 pub counts_at : (ids : List ℤ) (said : List (Option ℤ)) (pairs : List (ℤ × ℤ)) (counts : List ColumnCount)
     → counts_said pairs ≡ counts → ((k : ℕ) → k < length ids → get_or said k None ≡ last_of (at ids k) pairs)
     → (k : ℕ) → k < length ids → get_or said k None ≡ count_of (at ids k) counts
 counts_at ids said pairs counts is told k low =
-    told k low ∙ last_count (at ids k) pairs ∙ ap (count_of (at ids k)) is
+    count_told (at ids k) (get_or said k None) pairs counts is (told k low)
 
 pub bounds_at : (ids : List ℤ) (said : List (Option (Bor (List ℕ)))) (pairs : List (ℤ × Bor (List ℕ)))
     (bounds : List ColumnBound)
     → bounds_said pairs ≡ bounds → ((k : ℕ) → k < length ids → get_or said k None ≡ last_of (at ids k) pairs)
     → (k : ℕ) → k < length ids → option_copied (get_or said k None) ≡ bound_of (at ids k) bounds
 bounds_at ids said pairs bounds is told k low =
-    ap (λ (o : Option (Bor (List ℕ))). option_map (λ (b : Bor (List ℕ)). b.now) o) (told k low)
-    ∙ last_bound (at ids k) pairs ∙ ap (bound_of (at ids k)) is
+    bound_told (at ids k) (get_or said k None) pairs bounds is (told k low)
 
 -- one more column
 pub flaws_more : (file : FileBounds) (cs : List TypedColumn) (i : ℕ) (d : TypedColumn) (old mid new : List Flaw)

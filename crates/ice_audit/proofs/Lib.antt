@@ -14,5 +14,6 @@ pub mod Members
 pub mod Said
 pub mod Rising
 pub mod LastSaid
+pub mod AmongPairs
 pub mod ColumnsTold
 pub mod Miscounts

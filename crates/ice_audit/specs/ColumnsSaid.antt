@@ -1,9 +1,11 @@
--- What a manifest says of a column, looked up.
+-- What a manifest says of a column, looked up, and the maps that say it.
 use Rattle.std.specs.Prelude.{◌≡◌, ◌<◌, ℕ, ℤ, pos, List, None, length, get_or}
 use Rattle.std.specs.Option.{option_copied}
 use Rattle.ice_value.specs.Columns.{bound_of, count_of}
+use Rattle.ice_value.specs.Pairs.{bounds_said, counts_said}
 use Rattle.ice_value.specs.declared.file_bounds.FileBounds.{FileBounds}
 use Rattle.ice_audit.specs.declared.columns.ColumnSaid.{ColumnSaid}
+use Rattle.ice_audit.specs.declared.columns.RisingMaps.{RisingMaps}
 use Rattle.ice_audit.specs.declared.columns.FileSaid.{FileSaid}
 
 -- the manifest says this of the column
@@ -27,3 +29,10 @@ pub record AreSaidOf (file : FileBounds) (ids : List ℤ) (said : FileSaid) : Ty
       ≡ bound_of (get_or ids k (pos 0)) file.lower_bounds
   pub upper : (k : ℕ) → k < length ids → option_copied (get_or said.upper_bounds.items k None)
       ≡ bound_of (get_or ids k (pos 0)) file.upper_bounds
+
+-- these are the pairs of its maps
+pub record AreMapsOf (file : FileBounds) (maps : RisingMaps) : Type 0 where
+  pub values : counts_said maps.value_counts.pairs.now ≡ file.value_counts
+  pub nulls : counts_said maps.null_counts.pairs.now ≡ file.null_counts
+  pub lower : bounds_said maps.lower_bounds.pairs.now ≡ file.lower_bounds
+  pub upper : bounds_said maps.upper_bounds.pairs.now ≡ file.upper_bounds

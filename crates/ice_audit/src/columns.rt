@@ -1,9 +1,9 @@
 //! What a manifest says of the columns of a file and what can't be.
 
-ghost use Rattle.std.specs.Prelude.{◌≡◌, ◌++◌, IfOk, OnOk, Some};
+ghost use Rattle.std.specs.Prelude.{◌≡◌, ◌++◌, IfOk, IfSome, OnOk, Some};
 ghost use Rattle.std.specs.Option.{option_copied};
 ghost use Rattle.ice_audit.specs.ColumnFlaws.{column_flaws, columns_flaws, cross, is_more, is_past};
-ghost use Rattle.ice_audit.specs.ColumnsSaid.{AreSaidOf, IsSaidOf};
+ghost use Rattle.ice_audit.specs.ColumnsSaid.{AreMapsOf, AreSaidOf, IsSaidOf};
 ghost use Rattle.ice_audit.specs.Ids.{Rises};
 ghost use Rattle.ice_project.specs.Limits.{limit};
 ghost use Rattle.ice_value.specs.declared.file_bounds.FileBounds.{FileBounds};
@@ -12,9 +12,19 @@ use crate::basis::TypedColumn;
 use crate::finding::Flaw;
 use crate::flaws::push_where;
 use crate::ids::{last_said, place_near};
+use crate::pairs::RisingPairs;
 use ice_value::{ColumnType, FileBounds, compare_bound, read_bound};
 use std::alloc::{AllocError, Global};
 use std::cmp::Ordering;
+
+/// The maps of the columns of a file, where the ids of the pairs of each rise.
+#[derive(Drop)]
+struct RisingMaps<'a, 'd> {
+    value_counts: RisingPairs<'a, i64>,
+    null_counts: RisingPairs<'a, i64>,
+    lower_bounds: RisingPairs<'a, &'d [u8]>,
+    upper_bounds: RisingPairs<'a, &'d [u8]>,
+}
 
 /// What a manifest says of columns of a file, each at the place of its id.
 #[derive(Drop)]
@@ -32,6 +42,31 @@ struct ColumnSaid<'a> {
     null_count: Option<i64>,
     lower_bound: Option<&'a [u8]>,
     upper_bound: Option<&'a [u8]>,
+}
+
+/// The maps of the columns, if the ids of the pairs of each rise.
+fn rising_maps<'a, 'd>(bounds: &'a FileBounds<'_, 'd>) -> Option<RisingMaps<'a, 'd>>
+    ensures { IfSome result (AreMapsOf bounds.now) }
+{
+    Some(RisingMaps {
+        value_counts: RisingPairs::new(bounds.value_counts.pairs())?,
+        null_counts: RisingPairs::new(bounds.null_counts.pairs())?,
+        lower_bounds: RisingPairs::new(bounds.lower_bounds.pairs())?,
+        upper_bounds: RisingPairs::new(bounds.upper_bounds.pairs())?,
+    })
+}
+
+/// What the maps say of a column.
+fn column_found<'d>(maps: &mut RisingMaps<'_, 'd>, column: i32) -> ColumnSaid<'d>
+    ensures said { (file : FileBounds) → AreMapsOf file maps.old → IsSaidOf file column result }
+    ensures same { (file : FileBounds) → AreMapsOf file maps.old → AreMapsOf file maps.new }
+{
+    ColumnSaid {
+        value_count: maps.value_counts.said_of(column),
+        null_count: maps.null_counts.said_of(column),
+        lower_bound: maps.lower_bounds.said_of(column),
+        upper_bound: maps.upper_bounds.said_of(column),
+    }
 }
 
 /// What the manifest says of the columns of these ids, which rise.
@@ -143,15 +178,34 @@ fn push_column_flaws(
         said.lower_bound,
         said.upper_bound,
     )?;
-    push_where(flaws, cross, Flaw::BoundsCross(column.id))?;
     let excess = has_excess(said.null_count, said.value_count);
+    if !cross && !excess {
+        return Ok(());
+    }
+    push_where(flaws, cross, Flaw::BoundsCross(column.id))?;
     push_where(flaws, excess, Flaw::ExcessNulls(column.id))?;
     Ok(())
 }
 
-/// Puts what is wrong with what is said of the schema's columns last, column by column. These ids, which rise, are
-/// looked up quickly; those of all columns are best.
-pub fn push_columns_flaws(
+/// Puts what is wrong with what the maps say of the schema's columns last, column by column.
+fn push_flaws_found(
+    alloc: Global,
+    flaws: &mut Vec<Flaw>,
+    columns: &[TypedColumn],
+    maps: &mut RisingMaps<'_, '_>,
+) -> Result<(), AllocError>
+    ensures { (file : FileBounds) → AreMapsOf file maps.old →
+        OnOk result (flaws.new.items ≡ flaws.old.items ++ columns_flaws file columns.now) }
+{
+    'columns: for column in columns {
+        let of_column = column_found(maps, column.id);
+        push_column_flaws(alloc, flaws, column, &of_column)?;
+    }
+    Ok(())
+}
+
+/// The same, also where the ids of a map do not rise: what it says last of each column is put in a list first.
+fn push_flaws_listed(
     alloc: Global,
     flaws: &mut Vec<Flaw>,
     columns: &[TypedColumn],
@@ -168,4 +222,22 @@ pub fn push_columns_flaws(
         push_column_flaws(alloc, flaws, column, &of_column)?;
     }
     Ok(())
+}
+
+/// Puts what is wrong with what is said of the schema's columns last, column by column. Where the ids of a map do not
+/// rise, these ids, which rise, are looked up quickly; those of all columns are best.
+pub fn push_columns_flaws(
+    alloc: Global,
+    flaws: &mut Vec<Flaw>,
+    columns: &[TypedColumn],
+    ids: &[i32],
+    bounds: &FileBounds<'_, '_>,
+) -> Result<(), AllocError>
+    requires { Rises ids.now }
+    ensures { OnOk result (flaws.new.items ≡ flaws.old.items ++ columns_flaws bounds.now columns.now) }
+{
+    match rising_maps(bounds) {
+        Some(mut maps) => push_flaws_found(alloc, flaws, columns, &mut maps),
+        None => push_flaws_listed(alloc, flaws, columns, ids, bounds),
+    }
 }

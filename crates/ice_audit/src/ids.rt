@@ -19,30 +19,7 @@ fn is_rising(ids: &[i32]) -> bool
     true
 }
 
-/// The place of an id among ids that rise.
-fn place_of(ids: &[i32], id: i32) -> Option<usize>
-    requires { Rises ids.now }
-    ensures there { IfSome result (λ k. (k < length ids.now) × (get_or ids.now k (pos 0) ≡ id)) }
-    ensures absent { IfNone result ((k : ℕ) → k < length ids.now → get_or ids.now k (pos 0) ≡ id → ⊥) }
-{
-    let mut low = 0;
-    let mut high = ids.len();
-    'halves: while low < high {
-        let middle = low + (high - low) / 2;
-        if ids[middle] < id {
-            low = middle + 1;
-        } else {
-            high = middle;
-        }
-    }
-    if low < ids.len() && ids[low] == id {
-        Some(low)
-    } else {
-        None
-    }
-}
-
-/// The same, quicker where it is this place.
+/// The place of an id among ids that rise; quicker where it is this one.
 pub fn place_near(ids: &[i32], near: usize, id: i32) -> Option<usize>
     requires { Rises ids.now }
     ensures there { IfSome result (λ k. (k < length ids.now) × (get_or ids.now k (pos 0) ≡ id)) }
@@ -51,7 +28,7 @@ pub fn place_near(ids: &[i32], near: usize, id: i32) -> Option<usize>
     if near < ids.len() && ids[near] == id {
         Some(near)
     } else {
-        place_of(ids, id)
+        ids.binary_search(&id).ok()
     }
 }
 

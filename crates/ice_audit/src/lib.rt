@@ -14,6 +14,7 @@ mod flaws;
 mod ids;
 mod laws;
 mod limits;
+mod pairs;
 mod repeats;
 
 pub use basis::{Basis, TypedColumn};

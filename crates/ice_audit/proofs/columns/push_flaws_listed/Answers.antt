@@ -3,7 +3,7 @@ use Rattle.std.proofs.lemmas.Int.{to_z-of_z}
 use Rattle.ice_audit.specs.ColumnsSaid.{IsSaidOf}
 use Rattle.ice_audit.specs.declared.basis.TypedColumn.{TypedColumn}
 use Rattle.ice_audit.proofs.ColumnsTold.{flaws_more}
-use Rattle.ice_audit.proofs.columns.push_columns_flaws.Goals as goal
+use Rattle.ice_audit.proofs.columns.push_flaws_listed.Goals as goal
 
 pub columns-preserved : goal.columns-preserved
 columns-preserved c =
