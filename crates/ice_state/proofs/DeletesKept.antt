@@ -104,7 +104,7 @@ files_both kept (n ∷ ns) ms first rest = (first.0, files_both kept ns ms first
 
 -- ---- the index of the delete files among entries
 
-no_more : {X : Type 0} (xs : List X) → IsPermutation xs [] → xs ≡ []
+pub no_more : {X : Type 0} (xs : List X) → IsPermutation xs [] → xs ≡ []
 no_more [] same = refl
 no_more (x ∷ xs) same = let many = length_permutation (x ∷ xs) [] same in absurd (omega arith)
 

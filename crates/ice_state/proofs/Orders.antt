@@ -4,6 +4,7 @@ use Rattle.std.proofs.Common.{length, get_or, arith, take, append_assoc, add-one
 use Rattle.std.specs.List.{flat_map, range_with_len}
 use Rattle.std.specs.List.Sorted.{ties, IsPermutation}
 use Rattle.std.specs.Cmp.{IsStrictWeakOrder}
+use Rattle.std.proofs.lemmas.List.{get_or-map, length-map}
 use Rattle.std.proofs.lemmas.List.Elements.{filter-append}
 use Rattle.contract_words.specs.Sorting.{sorted}
 use Rattle.contract_words.proofs.Sorted.{sorted_rises, sorted_ties, unique}
@@ -11,6 +12,7 @@ use Rattle.ice_manifest_reading.specs.declared.entry.Entry.{Entry}
 use Rattle.ice_entries.specs.declared.entries.EntryNumber.{EntryNumber}
 use Rattle.ice_entries.specs.Kept.{Kept, IsKept, AreKept, entry_at as kept_entry, entries_at as kept_at, no_entry}
 use Rattle.ice_state.specs.declared.sorting.Placed.{Placed}
+use Rattle.ice_state.specs.Apart.{path_at}
 use Rattle.ice_state.specs.Contents.{Content}
 use Rattle.ice_state.specs.Lines.{entry_at, entries_at, AreWithin}
 use Rattle.ice_state.specs.Orders.{IsOrder, runs_in}
@@ -92,6 +94,33 @@ pub number_placed : (kept : Kept) (ns : List EntryNumber) (places : List ℕ) (i
     → AreKept kept ns → AreWithin (length (kept_at kept ns)) places → IsKept kept (get_or ns (get_or places i 0) d)
 number_placed kept ns places i d l all within =
     number_kept kept ns (get_or places i 0) d all (place_within (length (kept_at kept ns)) places i within l)
+
+-- ---- paths in order
+
+pub many_placed : (xs : List Entry) (places : List ℕ) → IsOrder xs places → length (by_path xs) ≡ length places
+many_placed xs places is =
+    ap length (sym is.sorted)
+    ∙ sym (length-map (entries_at xs places) (λ (x : Entry). x.file.path))
+    ∙ ap length (keys_at (λ (x : Entry). x.file.path) xs places is.within)
+    ∙ length-map places (λ i. (get_or xs i no_entry).file.path)
+
+-- the path of the number at a place
+pub path_placed : (kept : Kept) (ns : List EntryNumber) (places : List ℕ) (k : ℕ) (d : EntryNumber) → k < length places
+    → IsOrder (kept_at kept ns) places
+    → (kept_entry kept (get_or ns (get_or places k 0) d)).file.path ≡ path_at (by_path (kept_at kept ns)) k
+path_placed kept ns places k d l is =
+    let xs = kept_at kept ns in
+    let path : Entry → List ℕ = λ x. x.file.path in
+    let at : ℕ → List ℕ = λ i. path (get_or xs i no_entry) in
+    let place = get_or places k 0 in
+    let within : place < length ns =
+    omega (arith, place_within (length xs) places k is.within l, length-map ns (kept_entry kept)) in
+    let many : length (entries_at xs places) ≡ length places = ap length is.sorted ∙ many_placed xs places is in
+    ap path (sym (get_or-map (kept_entry kept) ns place d no_entry within))
+    ∙ sym (get_or-map at places k 0 (path no_entry) l)
+    ∙ ap (λ (ps : List (List ℕ)). get_or ps k (path no_entry)) (sym (keys_at path xs places is.within))
+    ∙ get_or-map path (entries_at xs places) k no_entry (path no_entry) (omega (arith, l, many))
+    ∙ ap (λ (ys : List Entry). path (get_or ys k no_entry)) is.sorted
 
 -- ---- runs
 

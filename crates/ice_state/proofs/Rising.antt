@@ -1,20 +1,21 @@
 -- Entries whose paths rise stand in order, and no path twice.
 use Rattle.std.proofs.Common.{◌≡◌, ◌<◌, ◌≤◌, ℕ, zero, suc, List, [], ◌∷◌, refl, sym, ap, ◌∙◌, Bool, true, false, length}
-use Rattle.std.proofs.Common.{arith, cond, subst, Ordering, is_lt, ◌⊎◌, inl, inr, ◌+◌, ◌-◌}
+use Rattle.std.proofs.Common.{arith, cond, subst, Ordering, is_lt, ◌⊎◌, inl, inr, ◌+◌, ◌-◌, ◌++◌}
 use Rattle.std.specs.Cmp.Lexicographic.{slice_cmp}
 use Rattle.std.specs.Ordering.{nat_cmp, is_eq}
 use Rattle.std.specs.declared.cmp.Ordering.TheVariants.{Less, Equal, Greater}
 use Rattle.std.specs.Str.{bytes_eq}
 use Rattle.std.proofs.lemmas.Map.Text.{is_eq-slice_cmp}
 use Rattle.std.proofs.lemmas.Slice.Eq.{bytes_eq-Decides}
-use Rattle.contract_words.proofs.Sorted.{sorted_rises}
+use Rattle.contract_words.proofs.Sorted.{Rises, sorted_rises}
 use Rattle.ice_manifest_reading.specs.declared.entry.Entry.{Entry}
 use Rattle.ice_state.specs.declared.fault.FinishFault.TheVariants.{PathTwice}
 use Rattle.ice_state.specs.Outcomes.{by_path, path_before, twice}
 use Rattle.ice_state.specs.Shares.{count_at}
 use Rattle.ice_state.specs.Apart.{path_at}
+use Rattle.ice_state.specs.Rising.{Rise}
 use Rattle.contract_words.specs.Sorting.{put}
-use Rattle.ice_state.proofs.Sharing.{count_more, count-by_path, none_shared, order}
+use Rattle.ice_state.proofs.Sharing.{count_more, count-by_path, none_shared, one_path, order}
 
 -- up to a place each entry's path stands before the next one's
 abbrev pub RiseUpTo : List Entry → ℕ → Type 0
@@ -61,6 +62,65 @@ once_if_rising (x ∷ y ∷ ys) h =
     ap (λ b. cond b (PathTwice x.file.path ∷ twice (y ∷ ys)) (twice (y ∷ ys)))
     (other_path x.file.path y.file.path (h 0 (omega arith)))
     ∙ once_if_rising (y ∷ ys) (λ k l. h (suc k) (omega arith))
+
+-- ---- entries in order of which none stands twice rise
+
+-- of two paths that differ, one that isn't behind the other stands before it
+before_other : (p q : List ℕ) → is_lt (slice_cmp nat_cmp q p) ≡ false → bytes_eq p q ≡ false
+    → is_lt (slice_cmp nat_cmp p q) ≡ true
+before_other p q back other =
+    let P : (b : Bool) → is_lt (slice_cmp nat_cmp p q) ≡ b → b ≡ true =
+    λ b. elim b as (λ v. is_lt (slice_cmp nat_cmp p q) ≡ v → v ≡ true) [
+      | true ↦ λ t. refl
+      | false ↦ λ f. (let same = one_path p q f back in cc)
+    ] in
+    P (is_lt (slice_cmp nat_cmp p q)) refl
+
+none_twice : (x y : Entry) (ys : List Entry) → twice (x ∷ y ∷ ys) ≡ []
+    → (bytes_eq x.file.path y.file.path ≡ false) × (twice (y ∷ ys) ≡ [])
+none_twice x y ys once =
+    let P : (b : Bool) → cond b (PathTwice x.file.path ∷ twice (y ∷ ys)) (twice (y ∷ ys)) ≡ []
+    → (b ≡ false) × (twice (y ∷ ys) ≡ []) =
+    λ b. elim b as (λ v. cond v (PathTwice x.file.path ∷ twice (y ∷ ys)) (twice (y ∷ ys)) ≡ []
+    → (v ≡ false) × (twice (y ∷ ys) ≡ [])) [ true ↦ λ h. cc | false ↦ λ h. (refl, h) ] in
+    P (bytes_eq x.file.path y.file.path) once
+
+rise_if_once : (xs : List Entry) → Rises path_before order xs → twice xs ≡ [] → Rise xs
+rise_if_once [] rises once k l = absurd (omega (arith, l))
+rise_if_once (x ∷ []) rises once k l = absurd (omega (arith, l))
+rise_if_once (x ∷ y ∷ ys) rises once zero l =
+    before_other x.file.path y.file.path rises.0.0 (none_twice x y ys once).0
+rise_if_once (x ∷ y ∷ ys) rises once (suc k) l =
+    rise_if_once (y ∷ ys) rises.1 (none_twice x y ys once).1 k (omega (arith, l))
+
+pub by_path_rises : (xs : List Entry) → twice (by_path xs) ≡ [] → Rise (by_path xs)
+by_path_rises xs once = rise_if_once (by_path xs) (sorted_rises path_before order xs) once
+
+-- ---- one run behind another
+
+-- the last place moves with one more in front
+last_moves : (n : ℕ) → suc (suc n) - 1 ≡ suc (suc n - 1)
+last_moves n = omega arith
+
+pub rise_behind : (xs ys : List Entry) → Rise xs → Rise ys
+    → (0 < length xs → is_lt (slice_cmp nat_cmp (path_at xs (length xs - 1)) (path_at ys 0)) ≡ true) → Rise (xs ++ ys)
+rise_behind [] ys first rest between k l = rest k l
+rise_behind (x ∷ []) ys first rest between zero l = between (omega arith)
+rise_behind (x ∷ []) ys first rest between (suc k) l = rest k (omega (arith, l))
+rise_behind (x ∷ y ∷ xs) ys first rest between zero l = first zero (omega arith)
+rise_behind (x ∷ y ∷ xs) ys first rest between (suc k) l =
+    let P : ℕ → Type 0 = λ n. is_lt (slice_cmp nat_cmp (path_at (x ∷ y ∷ xs) n) (path_at ys 0)) ≡ true in
+    rise_behind (y ∷ xs) ys (λ k l. first (suc k) (omega (arith, l))) rest
+    (λ some. subst P (last_moves (length xs)) (between (omega arith))) k (omega (arith, l))
+
+-- both end where the second does
+pub end_of_both : (xs ys : List Entry) → 0 < length ys
+    → path_at (xs ++ ys) (length (xs ++ ys) - 1) ≡ path_at ys (length ys - 1)
+end_of_both [] ys some = refl
+end_of_both (x ∷ []) [] some = absurd (omega (arith, some))
+end_of_both (x ∷ []) (y ∷ ys) some = ap (path_at (x ∷ y ∷ ys)) (last_moves (length ys))
+end_of_both (x ∷ z ∷ xs) ys some =
+    ap (path_at (x ∷ z ∷ (xs ++ ys))) (last_moves (length (xs ++ ys))) ∙ end_of_both (z ∷ xs) ys some
 
 -- ---- no path stands twice just where each is counted once at most
 

@@ -7,7 +7,7 @@ use Rattle.std.proofs.lemmas.List.{append-nil}
 use Rattle.std.proofs.lemmas.List.Sorted.{IsPermutation-sym, IsPermutation-trans}
 use Rattle.ice_manifest_reading.specs.declared.entry.Entry.{Entry}
 use Rattle.ice_state.specs.Contents.{Content}
-use Rattle.ice_state.specs.Orders.{runs_in}
+use Rattle.ice_state.specs.Orders.{run_at, runs_in}
 use Rattle.ice_state.specs.Outcomes.{by_path, entries_in, kept_in}
 use Rattle.ice_state.specs.Readings.{Reading}
 use Rattle.ice_state.specs.declared.taken.Taken.{Taken}
@@ -16,10 +16,6 @@ use Rattle.ice_state.specs.Slots.{HasNumbers, HaveNumbers}
 use Rattle.ice_state.proofs.Orders.{by_path_runs}
 use Rattle.ice_state.proofs.PathsOnce.{by_path_moves}
 use Rattle.ice_state.proofs.Permuted.{pieces_moved}
-
--- what one row gave, by path
-abbrev pub run_at : Content → ℕ → List Entry
-run_at c i = by_path (entries_in (get_or c i None))
 
 -- pieces, by what stands at their places
 in_order : (piece : ℕ → List Entry) (f : Option Reading → List Entry) (c : Content) (m : ℕ)

@@ -9,6 +9,7 @@ use Rattle.ice_state.specs.declared.taken.Taken.{Taken}
 use Rattle.ice_state.specs.declared.taken.Taken.TheVariants as taken
 use Rattle.ice_state.specs.Contents.{is_row_taken}
 use Rattle.ice_state.specs.Orders.{AreOrdered, IsOrder}
+use Rattle.ice_state.specs.Outcomes.{by_path, twice}
 use Rattle.ice_state.specs.Readings.{Good}
 use Rattle.ice_state.specs.Segments.{AreBefore, Keeps, Segmented, segment_at}
 use Rattle.ice_state.specs.Slots.{given, HasNumbers, contents, HaveNumbers, IsIn}
@@ -32,15 +33,18 @@ module _ (old new : Kept) (keeps : KeepsIn old new) where
     numbers = are_kept ordered.numbers all.numbers;
     order = subst (λ (xs : List Entry). IsOrder xs ordered.order) (sym (entries_kept ordered.numbers all.numbers))
         all.order;
+    once = λ t. subst (λ (xs : List Entry). twice (by_path xs) ≡ []) (sym (entries_kept ordered.numbers all.numbers))
+        (all.once t);
   }
 
 -- the same entries by other numbers
 pub ordered_alike : (old new : Kept) (ordered moved : Ordered) (numbers : List EntryNumber) → AreOrdered old ordered
     → AreKept new numbers → entries_at new numbers ≡ entries_at old ordered.numbers → moved.numbers ≡ numbers
-    → moved.order ≡ ordered.order → AreOrdered new moved
-ordered_alike old new ordered moved numbers all kept same is order = record {
+    → moved.order ≡ ordered.order → moved.rise ≡ ordered.rise → AreOrdered new moved
+ordered_alike old new ordered moved numbers all kept same is order rise = record {
   numbers = subst (AreKept new) (sym is) kept;
   order = rw (is, same, order) all.order;
+  once = λ t. rw (is, same) (all.once (sym rise ∙ t));
 }
 
 module _ (old new : Segmented) (keeps : Keeps old new) where
@@ -150,12 +154,19 @@ module _ (before : ℕ) (firsts kept : Segmented) (are : AreBefore before firsts
       ap (segment_at (firsts ++ kept)) further ∙ segment_behind firsts kept n
 
   pub is_in_behind : (ordered moved : Ordered) → IsIn kept ordered → moved.segment ≡ ordered.segment + before
-      → moved.numbers ≡ ordered.numbers → moved.order ≡ ordered.order → IsIn (firsts ++ kept) moved
-  is_in_behind ordered moved all at numbers order =
+      → moved.numbers ≡ ordered.numbers → moved.order ≡ ordered.order → moved.rise ≡ ordered.rise
+      → IsIn (firsts ++ kept) moved
+  is_in_behind ordered moved all at numbers order rise =
       let within : moved.segment < length (firsts ++ kept) =
       omega (arith, all.0, at, are.counted, length-both firsts kept) in
-      let one = behind_at ordered.segment moved.segment at in
-      (within, record { numbers = rw (one, numbers) all.1.numbers; order = rw (one, numbers, order) all.1.order })
+      let one = behind_at ordered.segment moved.segment at in (
+        within,
+        record {
+          numbers = rw (one, numbers) all.1.numbers;
+          order = rw (one, numbers, order) all.1.order;
+          once = λ t. rw (one, numbers) (all.1.once (sym rise ∙ t));
+        },
+      )
 
   pub given_behind : (ordered moved : Ordered) → moved.segment ≡ ordered.segment + before
       → moved.numbers ≡ ordered.numbers

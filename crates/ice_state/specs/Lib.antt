@@ -15,6 +15,7 @@ pub mod Placed
 pub mod PlacedFiles
 pub mod Pruning
 pub mod Readings
+pub mod Rising
 pub mod Runs
 pub mod Scans
 pub mod Segments

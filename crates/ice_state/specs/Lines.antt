@@ -13,6 +13,10 @@ pub record OwnedLine : Type 0 where
   pub positions : List Entry
   pub equalities : List Entry
 
+-- no delete file applies to the data file
+abbrev pub LacksDeletes : OwnedLine → Type 0
+LacksDeletes line = (line.positions ≡ []) × (line.equalities ≡ [])
+
 -- the entries of a plan's files
 abbrev pub entries_of : Files → List Entry
 entries_of files = kept_at files.entries.now files.numbers.now

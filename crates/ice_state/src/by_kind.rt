@@ -1,16 +1,19 @@
 //! The files of kept entries, by what they hold.
 
-ghost use Rattle.std.specs.Prelude.{◌≡◌, ◌<◌, ◌≤◌, ◌++◌, [], IfOk, IfSome, length, List, OnOk, option_map, take};
+ghost use Rattle.std.specs.Prelude.{◌≡◌, ◌++◌, ◌∷◌, [], IfOk, IfSome, IsTrue, length, List, OnOk, option_map};
+ghost use Rattle.std.specs.List.{range_with_len};
 ghost use Rattle.std.specs.List.Sorted.{IsPermutation};
 ghost use Rattle.ice_entries.specs.Kept.{entries_at as entries_in};
 ghost use Rattle.ice_manifest_reading.specs.declared.entry.Entry.{Entry};
-ghost use Rattle.ice_state.specs.ByKind.{HasFilesOf};
-ghost use Rattle.ice_state.specs.Outcomes.{by_path, entries_in as entries_given, kept_in};
-ghost use Rattle.ice_state.specs.Segments.{AreKept, entries_at, segment_at, Segmented};
+ghost use Rattle.ice_state.specs.ByKind.{AreFilesOf, HasFilesOf};
+ghost use Rattle.ice_state.specs.KeptDeletes.{IsState};
+ghost use Rattle.ice_state.specs.Orders.{runs_at};
+ghost use Rattle.ice_state.specs.Outcomes.{by_path, entries_in as entries_given};
+ghost use Rattle.ice_state.specs.Segments.{AreKept, entries_at, entry_at, IsKept, segment_at, Segmented};
 ghost use Rattle.ice_state.specs.Slots.{contents, given, HasNumbers, HaveNumbers, IsIn};
-ghost use Rattle.ice_state.specs.Stretches.{HasPut};
 
-use crate::ordered::{Ordered, rows_by_first_path};
+use crate::indexed::IndexedDeletes;
+use crate::ordered::Ordered;
 use crate::segments::{FileNumber, Segments};
 use crate::taken::Taken;
 use ice_value::FileContent;
@@ -20,8 +23,6 @@ use std::alloc::{AllocError, Global};
 #[derive(Debug, Drop)]
 pub struct FilesByKind {
     pub data_files: Vec<FileNumber>,
-    /// Where each stretch of data files that are alike ends.
-    pub ends: Vec<usize>,
     pub delete_files: Vec<FileNumber>,
 }
 
@@ -36,53 +37,23 @@ impl FilesByKind {
     {
         Ok(FilesByKind {
             data_files: Vec::with_capacity(alloc, data_files)?,
-            ends: Vec::new(alloc),
             delete_files: Vec::with_capacity(alloc, delete_files)?,
         })
     }
 
-    /// Puts a file last, and those that follow and are like it. Says where these end.
-    fn push(
-        &mut self,
-        entries: &Segments,
-        files: &[FileNumber],
-        first: usize,
-    ) -> Result<usize, AllocError>
-        requires files { AreKept entries.now files.now }
-        requires place { first < length files.now }
-        ensures bounds { IfOk result (λ end. (first < end) × (end ≤ length files.now)) }
-        ensures pushed { (xs : List Entry) →
-            HasFilesOf entries.now (xs ++ take first (entries_at entries.now files.now)) self.old →
-            IfOk result (λ end. HasFilesOf entries.now (xs ++ take end (entries_at entries.now files.now)) self.new) }
+    /// Puts a file last.
+    fn push(&mut self, entries: &Segments, file: FileNumber) -> Result<(), AllocError>
+        requires { IsKept entries.now file }
+        ensures { (xs : List Entry) → HasFilesOf entries.now xs self.old →
+            OnOk result (HasFilesOf entries.now (xs ++ entry_at entries.now file ∷ []) self.new) }
     {
-        if entries.content(files[first]) != FileContent::Data {
-            return push_alike(&mut self.delete_files, entries, files, first);
+        if entries.content(file) != FileContent::Data {
+            self.delete_files.push(file)?;
+        } else {
+            self.data_files.push(file)?;
         }
-        let end = push_alike(&mut self.data_files, entries, files, first)?;
-        self.ends.push(self.data_files.len())?;
-        Ok(end)
+        Ok(())
     }
-}
-
-/// Puts a file last, and those that follow and are like it. Says where these end.
-fn push_alike(
-    found: &mut Vec<FileNumber>,
-    entries: &Segments,
-    files: &[FileNumber],
-    first: usize,
-) -> Result<usize, AllocError>
-    requires files { AreKept entries.now files.now }
-    requires place { first < length files.now }
-    ensures { IfOk result (HasPut entries.now files.now found.old.items found.new.items first) }
-{
-    let one = files[first];
-    found.push(one)?;
-    let mut end = first + 1;
-    'files: while end < files.len() && entries.are_alike(one, files[end]) {
-        found.push(files[end])?;
-        end += 1;
-    }
-    Ok(end)
 }
 
 /// Puts files last, as they stand.
@@ -95,9 +66,8 @@ fn push_files(
     ensures { (xs : List Entry) → HasFilesOf entries.now xs found.old →
         OnOk result (HasFilesOf entries.now (xs ++ entries_at entries.now files.now) found.new) }
 {
-    let mut first = 0;
-    'files: while first < files.len() {
-        first = found.push(entries, files, first)?;
+    'files: for file in files {
+        found.push(entries, *file)?;
     }
     Ok(())
 }
@@ -124,7 +94,7 @@ fn files_in_order(
     Ok(files)
 }
 
-/// Puts the files of what a row gave last.
+/// Puts the files of what a row gave last, by path.
 fn push_row(
     alloc: Global,
     files: &mut FilesByKind,
@@ -145,6 +115,27 @@ fn push_row(
     }
 }
 
+/// The same, of files that are not asked what they hold.
+fn push_whole_row(
+    alloc: Global,
+    files: &mut Vec<FileNumber>,
+    entries: &Segments,
+    slot: &Option<Taken>,
+) -> Result<(), AllocError>
+    requires { IfSome slot.now (HasNumbers entries.now) }
+    ensures { (xs : List Entry) → AreFilesOf entries.now xs files.old.items →
+        OnOk result (AreFilesOf entries.now
+        (xs ++ by_path (entries_given (option_map (given entries.now) slot.now))) files.new.items) }
+{
+    match slot {
+        Some(Taken::Good(ordered)) => {
+            let mut row = files_in_order(alloc, entries, ordered)?;
+            files.append(&mut row)
+        }
+        _ => Ok(()),
+    }
+}
+
 /// How many entries are kept of all rows.
 fn count(slots: &[Option<Taken>]) -> usize {
     let mut count: usize = 0;
@@ -156,23 +147,63 @@ fn count(slots: &[Option<Taken>]) -> usize {
     count
 }
 
-/// The files of all kept entries, of which about so many hold deletes: row by row, those of each row by path, and the
-/// rows by the first path of each. So they come in the order of their paths, unless rows lie across one another.
+/// The files of all kept entries: row by row, those of each row by path.
+fn files_of_rows(
+    alloc: Global,
+    entries: &Segments,
+    slots: &[Option<Taken>],
+    rows: &[u32],
+) -> Result<Vec<FileNumber>, AllocError>
+    requires numbers { HaveNumbers entries.now slots.now }
+    requires rows { IsPermutation (range_with_len 0 (length slots.now)) rows.now }
+    ensures { IfOk result (λ files. AreFilesOf entries.now (runs_at (contents entries.now slots.now) rows.now) files.items) }
+{
+    let mut files = Vec::with_capacity(alloc, count(slots))?;
+    'rows: for row in rows {
+        push_whole_row(alloc, &mut files, entries, &slots[*row as usize])?;
+    }
+    Ok(files)
+}
+
+/// The same by what they hold, of which about so many hold deletes.
+fn kinds_of_rows(
+    alloc: Global,
+    entries: &Segments,
+    slots: &[Option<Taken>],
+    rows: &[u32],
+    deletes: usize,
+) -> Result<FilesByKind, AllocError>
+    requires numbers { HaveNumbers entries.now slots.now }
+    requires rows { IsPermutation (range_with_len 0 (length slots.now)) rows.now }
+    ensures { IfOk result (HasFilesOf entries.now (runs_at (contents entries.now slots.now) rows.now)) }
+{
+    let data_files = count(slots).saturating_sub(deletes);
+    let mut files = FilesByKind::with_capacity(alloc, data_files, deletes)?;
+    'rows: for row in rows {
+        push_row(alloc, &mut files, entries, &slots[*row as usize])?;
+    }
+    Ok(files)
+}
+
+/// The files of all kept entries by what they hold: row by row, those of each row by path. Where the index tells of no
+/// delete files, all hold data.
 pub fn gathered(
     alloc: Global,
     entries: &Segments,
     slots: &[Option<Taken>],
-    deletes: usize,
+    deletes: &Option<IndexedDeletes>,
+    rows: &[u32],
 ) -> Result<FilesByKind, AllocError>
-    requires { HaveNumbers entries.now slots.now }
-    ensures { IfOk result (λ files. (xs : List Entry) × IsPermutation (kept_in (contents entries.now slots.now)) xs
-        × HasFilesOf entries.now xs files) }
+    requires state { IsState entries.now slots.now deletes.now }
+    requires rows { IsPermutation (range_with_len 0 (length slots.now)) rows.now }
+    ensures { IfOk result (HasFilesOf entries.now (runs_at (contents entries.now slots.now) rows.now)) }
 {
-    let rows = rows_by_first_path(alloc, entries, slots)?;
-    let data_files = count(slots).saturating_sub(deletes);
-    let mut files = FilesByKind::with_capacity(alloc, data_files, deletes)?;
-    'rows: for row in rows.as_slice() {
-        push_row(alloc, &mut files, entries, &slots[*row as usize])?;
+    match deletes {
+        Some(deletes) if deletes.files.is_empty() => Ok(FilesByKind {
+            data_files: files_of_rows(alloc, entries, slots, rows)?,
+            delete_files: Vec::new(alloc),
+        }),
+        Some(deletes) => kinds_of_rows(alloc, entries, slots, rows, deletes.files.len()),
+        None => kinds_of_rows(alloc, entries, slots, rows, 0),
     }
-    Ok(files)
 }

@@ -13,13 +13,13 @@ ghost use Rattle.ice_deletes.specs.declared.group.Group.TheVariants.{Referenced}
 ghost use Rattle.ice_state.specs.Applying.{data_key_of, delete_key_of};
 ghost use Rattle.ice_state.specs.KeptDeletes.{IsIndexed, IsIndexOf, IsState};
 ghost use Rattle.ice_state.specs.Lines.{lines_of, IsPlanned};
-ghost use Rattle.ice_state.specs.ByKind.{AreKeptByKind, entries_by_kind, HasFilesOf, IsInOrder};
+ghost use Rattle.ice_state.specs.ByKind.{AreInOrder, AreKeptByKind, entries_by_kind, HasFilesOf, IsInOrder};
 ghost use Rattle.ice_state.specs.Orders.{IsOrder};
 ghost use Rattle.ice_state.specs.Outcomes.{missing, bad, twice, by_path, kept_in, plan_over, outcome_of};
 ghost use Rattle.ice_state.specs.Outcomes.{entries_in as entries_given};
 ghost use Rattle.ice_state.specs.Parts.{fault_of, Stops, holds_deletes, places_of};
 ghost use Rattle.ice_state.specs.Segments.{AreKept, entries_at, segment_at, Segmented};
-ghost use Rattle.ice_state.specs.Stretches.{AreStretches};
+ghost use Rattle.ice_state.specs.Stretches.{IsStretch};
 ghost use Rattle.ice_state.specs.Shares.{count_at};
 ghost use Rattle.ice_state.specs.Slots.{contents, given, HasNumbers, HaveNumbers, IsIn};
 
@@ -28,11 +28,12 @@ use crate::by_kind::{FilesByKind, gathered};
 use crate::deletes::push_places;
 use crate::fault::FinishFault;
 use crate::file_places::places_among;
-use crate::in_order::{sort_by_path, sort_data_files, sorted_by_path};
+use crate::in_order::{sort_by_path, sorted_by_path};
 use crate::indexed::IndexedDeletes;
-use crate::ordered::order_of_files;
+use crate::ordered::{order_of_files, rows_by_first_path};
 use crate::plan::NumberedPlan;
 use crate::ranks::ranks;
+use crate::row_runs::rows_rise;
 use crate::segments::{FileNumber, Segments};
 use crate::shared_places::SharedPlaces;
 use crate::taken::Taken;
@@ -122,7 +123,7 @@ fn put_in_order(
     ensures once { (xs : List Entry) → HasFilesOf entries.now xs files.old →
         MatchResult result (λ _. twice (by_path xs) ≡ []) (λ f. Stops f (twice (by_path xs))) }
 {
-    let rise = sort_data_files(alloc, entries, &mut files.data_files, &mut files.ends)?;
+    let rise = sort_by_path(alloc, entries, &mut files.data_files)?;
     let deletes_rise = sort_by_path(alloc, entries, &mut files.delete_files)?;
     if rise && deletes_rise && are_apart(entries, &files.data_files, &files.delete_files) {
         return Ok(());
@@ -159,7 +160,6 @@ fn lines(
     order: &[u32],
 ) -> Result<SharedPlaces, AllocError>
     requires files { AreKept entries.now files.now.data_files.items }
-    requires stretches { AreStretches (entries_at entries.now files.now.data_files.items) 0 files.now.ends.items }
     requires index { IsIndexed entries.now deletes.now }
     requires order { IsOrder (entries_at entries.now deletes.now.files.items) order.now }
     ensures { IfOk result (λ places. places ≡ map (λ x. places_of (enumerate_from 0
@@ -183,7 +183,6 @@ fn looked_up(
     ranks: &[u32],
 ) -> Result<SharedPlaces, AllocError>
     requires files { AreKept entries.now files.now.data_files.items }
-    requires stretches { AreStretches (entries_at entries.now files.now.data_files.items) 0 files.now.ends.items }
     requires ranks { AreBelow (length ranks.now) index.now }
     ensures { IfOk result (λ places. places ≡ map (λ x. places_of (renumbered ranks.now index.now) (data_key_of x))
         (entries_at entries.now files.now.data_files.items)) }
@@ -191,7 +190,7 @@ fn looked_up(
     if index.names_files() {
         return each_looked_up(alloc, entries, &files.data_files, index, ranks);
     }
-    stretches_looked_up(alloc, entries, &files.data_files, &files.ends, index, ranks)
+    stretches_looked_up(alloc, entries, &files.data_files, index, ranks)
 }
 
 /// The same, file by file.
@@ -215,17 +214,29 @@ fn each_looked_up(
     Ok(places)
 }
 
-/// The same, a stretch of files that are alike after the other, where these end.
+/// Where the files end that follow one and are like it.
+fn end_of_stretch(entries: &Segments, files: &[FileNumber], first: usize) -> usize
+    requires files { AreKept entries.now files.now }
+    requires place { first < length files.now }
+    ensures { IsStretch entries.now files.now first result }
+{
+    let one = files[first];
+    let mut end = first + 1;
+    'files: while end < files.len() && entries.are_alike(one, files[end]) {
+        end += 1;
+    }
+    end
+}
+
+/// The same, a stretch of files that are alike after the other.
 fn stretches_looked_up(
     alloc: Global,
     entries: &Segments,
     files: &[FileNumber],
-    ends: &[usize],
     index: &DeleteIndex,
     ranks: &[u32],
 ) -> Result<SharedPlaces, AllocError>
     requires files { AreKept entries.now files.now }
-    requires stretches { AreStretches (entries_at entries.now files.now) 0 ends.now }
     requires ranks { AreBelow (length ranks.now) index.now }
     requires unnamed { list_any (λ e. is_in Referenced e.1) index.now ≡ false }
     ensures { IfOk result (λ places. places
@@ -234,11 +245,12 @@ fn stretches_looked_up(
     let mut places = SharedPlaces::with_capacity(alloc, files.len())?;
     let mut finder = Finder::new(index);
     let mut first = 0;
-    'ends: for end in ends {
+    'stretches: while first < files.len() {
         let entry = entries.entry(files[first]);
         push_places(&mut places, &mut finder, ranks, &entry)?;
-        places.push_again(first, *end - first - 1)?;
-        first = *end;
+        let end = end_of_stretch(entries, files, first);
+        places.push_again(first, end - first - 1)?;
+        first = end;
     }
     Ok(places)
 }
@@ -298,12 +310,24 @@ fn planned(
     }
 }
 
-/// How many of the files hold deletes, where these are indexed.
-fn count_of(deletes: &Option<IndexedDeletes>) -> usize {
-    match deletes {
-        Some(deletes) => deletes.files.len(),
-        None => 0,
+/// The files of all kept entries in the order of their paths. Stops at the first path that two of them share. Where the
+/// rows' files rise one row behind the other, no path is looked at.
+fn files_by_path(
+    alloc: Global,
+    entries: &Segments,
+    slots: &[Option<Taken>],
+    deletes: &Option<IndexedDeletes>,
+) -> Result<FilesByKind, FinishFault>
+    requires { IsState entries.now slots.now deletes.now }
+    ensures { (xs : List Entry) × IsPermutation (kept_in (contents entries.now slots.now)) xs
+        × MatchResult result (AreInOrder entries.now xs) (λ f. Stops f (twice (by_path xs))) }
+{
+    let rows = rows_by_first_path(alloc, entries, slots)?;
+    let mut files = gathered(alloc, entries, slots, deletes, rows.as_slice())?;
+    if !rows_rise(entries, slots, rows.as_slice()) {
+        put_in_order(alloc, entries, &mut files)?;
     }
+    Ok(files)
 }
 
 /// The plan of slots, or their first fault.
@@ -322,7 +346,6 @@ pub fn plan_or_fault(
 {
     check_taken(alloc, rows, slots)?;
     check_good(alloc, rows, slots)?;
-    let mut files = gathered(alloc, entries, slots, count_of(deletes))?;
-    put_in_order(alloc, entries, &mut files)?;
+    let files = files_by_path(alloc, entries, slots, deletes)?;
     Ok(planned(alloc, entries, deletes, files)?)
 }

@@ -21,6 +21,7 @@ mod places;
 mod plan;
 mod pruning;
 mod ranks;
+mod row_runs;
 mod scan;
 mod segments;
 mod shared_places;

@@ -1,7 +1,9 @@
 //! The lines of a plan as they are lent: whoever owns the entries, callers see the same.
 
-ghost use Rattle.std.specs.Prelude.{◌≡◌, ◌<◌, ◌^◌, length, Some, slice_get};
+ghost use Rattle.std.specs.Prelude.{◌≡◌, ◌<◌, ◌^◌, length, Some, slice_get, IsTrue};
+ghost use Rattle.std.specs.List.{AllByRecursion};
 ghost use Rattle.std.specs.Option.{option_copied};
+ghost use Rattle.ice_state.specs.Lines.{LacksDeletes};
 ghost use Rattle.ice_state.specs.Segments.{IsKept, entry_at};
 ghost use Rattle.ice_manifest_reading.specs.Lending.{lent};
 
@@ -260,6 +262,13 @@ impl<'a> Lines<'a> {
         ensures few { result < 2 ^ 63 }
     {
         self.places.len()
+    }
+
+    /// Whether the plan has no delete files at all, which is found without a look at its lines.
+    pub fn lacks_deletes(&self) -> bool
+        ensures { IsTrue result → AllByRecursion LacksDeletes self.now }
+    {
+        self.deletes.numbers.is_empty()
     }
 
     /// The line at a place.

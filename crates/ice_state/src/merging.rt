@@ -123,6 +123,7 @@ fn put_taken(
                 segment,
                 numbers: Items::from_vec(added),
                 order: Items::from_vec(ordered.order.as_slice().to_vec(alloc)?),
+                rise: ordered.rise,
             }))
         }
         Taken::Bad(fault) => Ok(Taken::Bad(fault.copy(alloc)?)),

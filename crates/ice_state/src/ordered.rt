@@ -25,6 +25,8 @@ pub struct Ordered {
     pub segment: u32,
     pub numbers: Items<EntryNumber>,
     pub order: Items<u32>,
+    /// Whether the paths rise in that order, so that none stands twice.
+    pub rise: bool,
 }
 
 impl Ordered {
@@ -40,30 +42,33 @@ impl Ordered {
         ensures same { IfOk result (λ ordered. ordered.numbers ≡ numbers.items) }
         ensures ordered { IfOk result (AreOrdered entries.now) }
     {
-        let order = order_of(alloc, entries, &numbers)?;
+        let SortedPlaces { order, rise } = places_in_order(alloc, entries, &numbers)?;
         Ok(Ordered {
             segment,
             numbers: Items::from_vec(numbers),
             order,
+            rise,
         })
     }
 }
 
-/// The places of entries in the order of their paths. More entries than can be numbered count as want of memory.
-fn order_of(
+/// The places of entries in the order of their paths, and whether these rise. More entries than can be numbered count as
+/// want of memory.
+fn places_in_order(
     alloc: Global,
     entries: &Entries,
     numbers: &[EntryNumber],
-) -> Result<Items<u32>, AllocError>
+) -> Result<SortedPlaces, AllocError>
     requires { AreKept entries.now numbers.now }
-    ensures { IfOk result (IsOrder (entries_at entries.now numbers.now)) }
+    ensures order { IfOk result (λ places. IsOrder (entries_at entries.now numbers.now) places.order) }
+    ensures once { IfOk result (λ places. IsTrue places.rise →
+        twice (by_path (entries_at entries.now numbers.now)) ≡ []) }
 {
     let placed = paths_of(alloc, entries, numbers)?;
-    let places = sorted_places(alloc, placed)?;
-    Ok(places.order)
+    sorted_places(alloc, placed)
 }
 
-/// The same of entries in many segments, and whether their paths rise.
+/// The same of entries in many segments.
 pub fn places_by_path(
     alloc: Global,
     entries: &Segments,

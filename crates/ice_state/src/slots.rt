@@ -50,6 +50,7 @@ fn behind(taken: Taken, before: u32) -> Taken
             segment: ordered.segment.saturating_add(before),
             numbers: ordered.numbers,
             order: ordered.order,
+            rise: ordered.rise,
         }),
         Taken::Bad(fault) => Taken::Bad(fault),
     }

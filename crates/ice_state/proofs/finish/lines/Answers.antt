@@ -43,7 +43,6 @@ looked_up-requires c =
     let ranked = subst (AreRanks c.args.order.now) (sym c.deref.ensures.value) c.in_ok-ranks.ensures in
     record {
       files = c.requires.files;
-      stretches = c.requires.stretches;
       ranks = below_ranks c.args.entries.now c.args.deletes.now index.0 index.1 c.args.order.now c.requires.order
           c.deref.result.now ranked;
     }

@@ -50,7 +50,6 @@ lines-requires c =
     let kept = c.args.entries.now in
     record {
       files = c.requires.1.has.numbers.0;
-      stretches = c.requires.1.has.stretches;
       index = (c.requires.0, c.requires.2);
       order = subst (IsOrder (entries_at kept c.args.deletes.now.files.items)) (sym c.as_slice.ensures)
           (ordered (goal.at.lines-requires c).In_ok-order);

@@ -17,16 +17,14 @@ if_ok (Err e) P p = tt
 
 abbrev now : In_ok-deletes_rise → FilesByKind
 now c = record {
-  data_files = c.sort_data_files.new.files;
-  ends = c.sort_data_files.new.ends;
-  delete_files = c.sort_by_path.new.files;
+  data_files = c.sort_by_path.new.files;
+  delete_files = c.sort_by_path-2.new.files;
 }
 
 put : (c : In_ok-deletes_rise) (xs : List Entry) → HasFilesOf c.args.entries.now xs c.args.files.now
     → HasFilesOf c.args.entries.now (by_path xs) (now c)
 put c xs has = kinds.put_in_order c.args.entries.now xs c.args.files.now (now c) has c.in_ok-rise.ensures.sorted
     c.in_ok-deletes_rise.ensures.sorted (c.in_ok-rise.ensures.kept, c.in_ok-deletes_rise.ensures.kept)
-    (c.in_ok-rise.ensures.stretches has.stretches)
 
 -- files that are by path stay as they are where they are put in order
 still : (kept : Segmented) (old new here : List FileNumber) → entries_at kept new ≡ by_path (entries_at kept old)
@@ -37,18 +35,18 @@ still kept old new here are is =
 
 pub are_apart-requires-clause-sorted : goal.are_apart-requires-clause-sorted
 are_apart-requires-clause-sorted c = still c.args.entries.now c.args.files.now.data_files.items
-    c.sort_data_files.new.files.items c.deref.result.now c.in_ok-rise.ensures.sorted c.deref.ensures.value
+    c.sort_by_path.new.files.items c.deref.result.now c.in_ok-rise.ensures.sorted c.deref.ensures.value
 
 pub are_apart-requires-clause-sorted_others : goal.are_apart-requires-clause-sorted_others
 are_apart-requires-clause-sorted_others c = still c.args.entries.now c.args.files.now.delete_files.items
-    c.sort_by_path.new.files.items c.deref-then-deletes_rise.result.now c.in_ok-deletes_rise.ensures.sorted
+    c.sort_by_path-2.new.files.items c.deref-then-deletes_rise.result.now c.in_ok-deletes_rise.ensures.sorted
     c.deref-then-deletes_rise.ensures.value
 
 pub returns-then-are_apart : goal.returns-then-are_apart
 returns-then-are_apart c =
     let kept = c.args.entries.now in
     let at = (goal.at.returns-then-are_apart c).In_ok-deletes_rise in
-    let apart = subst (λ (ns : List FileNumber). ShareNoPath (entries_at kept c.sort_data_files.new.files.items)
+    let apart = subst (λ (ns : List FileNumber). ShareNoPath (entries_at kept c.sort_by_path.new.files.items)
     (entries_at kept ns)) c.deref-then-deletes_rise.ensures.value
     (subst (λ (ns : List FileNumber). ShareNoPath (entries_at kept ns)
     (entries_at kept c.deref-then-deletes_rise.result.now)) c.deref.ensures.value

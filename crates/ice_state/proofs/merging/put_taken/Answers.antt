@@ -1,7 +1,6 @@
-use Rattle.std.proofs.Common.{rules, ◌≡◌, ◌∙◌, ap, sym, subst, List}
+use Rattle.std.proofs.Common.{rules, ◌≡◌, ◌∙◌, ap, refl, sym, subst, List}
 use Rattle.ice_entries.specs.declared.entries.EntryNumber.{EntryNumber}
 use Rattle.ice_entries.specs.Kept.{Kept, entries_at, AreKept}
-use Rattle.ice_state.specs.Orders.{AreOrdered}
 use Rattle.ice_state.specs.Segments.{Segmented, Keeps}
 use Rattle.ice_state.specs.Slots.{HasNumbers, IsIn}
 use Rattle.ice_state.proofs.SegmentLists.{keeps-trans}
@@ -18,7 +17,7 @@ returns-in_ok-to_vec-in-Good-clause-numbers c =
     let same = added.ok ∙ ap (entries_at c.segment-theirs.result.now) numbers
     ∙ ap (λ (one : Kept). entries_at one ordered.numbers) c.segment-theirs.ensures in (
       c.add_kept.ensures.there,
-      ordered_alike _ _ ordered _ c.in_ok-added-in-Good.added.items here.1 added.kept same c.from_vec.ensures order,
+      ordered_alike _ _ ordered _ c.in_ok-added-in-Good.added.items here.1 added.kept same c.from_vec.ensures order refl,
     )
 
 pub returns-in_err-reserve-in-Good-clause-keeps : goal.returns-in_err-reserve-in-Good-clause-keeps

@@ -1,9 +1,6 @@
-use Rattle.std.proofs.Common.{◌∙◌, ◌≡◌, sym, true, false, ap, length, List, subst}
-use Rattle.std.proofs.lemmas.Result.{err_from_is_err_and}
-use Rattle.ice_manifest_reading.specs.declared.row.Row.{Row}
-use Rattle.ice_state.specs.Contents.{is_row_taken}
+use Rattle.std.proofs.Common.{◌∙◌, ◌≡◌, sym, true, false, ap, length}
 use Rattle.ice_state.proofs.Contents.{took-in_world, length-took}
-use Rattle.ice_state.proofs.Taking.{taken_stays, manifest_is}
+use Rattle.ice_state.proofs.Taking.{taken_stays}
 use Rattle.ice_state.proofs.partial.Partial.take_told.Goals as goal
 
 pub returns-then-is_taken-clause-ok : goal.returns-then-is_taken-clause-ok
