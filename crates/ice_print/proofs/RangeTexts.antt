@@ -10,9 +10,8 @@ use Rattle.std.proofs.Math.Nat.{mul-le-mul_right, suc-mul}
 use Rattle.std.proofs.Math.ListN.{drop_of_length-le}
 use Rattle.ice_state.specs.Lines.{OwnedLine}
 use Rattle.ice_print.specs.PlanTexts.{line_text}
-use Rattle.std.specs.Prelude.{IfSome, Vec}
-use Rattle.std.specs.Global.{Global}
-use Rattle.ice_print.specs.Ranges.{AreTexts, range_text}
+use Rattle.ice_print.specs.declared.by_workers.Draft.{Draft}
+use Rattle.ice_print.specs.Ranges.{AreTexts, IsDraftOf, range_text}
 
 drop_drop : {X : Type 0} (xs : List X) (a n : ℕ) → drop n (drop a xs) ≡ drop (a + n) xs
 drop_drop xs zero n = let e : n ≡ 0 + n = omega arith in ap (λ k. drop k xs) e
@@ -97,13 +96,12 @@ range_part ls a i n each l =
     ∙ append_assoc (range_text ls a (i * each)) (range_text ls (a + i * each) each)
     (range_text ls (a + (i + 1) * each) (n * each - (i + 1) * each))
 
--- a text that was made is that of its range
-pub text_at : (ls : List OwnedLine) (first each : ℕ) (texts : List (Option (Vec ℕ Global))) (i : ℕ) (t : Vec ℕ Global)
-    (found : Option (Vec ℕ Global)) → AreTexts ls first each texts → i < length texts → found ≡ get_or texts i found
-    → found ≡ Some t → t.items ≡ range_text ls (first + i * each) each
-text_at ls first each texts i t found are l at is =
-    let e : get_or texts i found ≡ Some t = sym at ∙ is in
-    subst (λ o. IfSome o (λ text. text.items ≡ range_text ls (first + i * each) each)) e (are i found l)
+-- a draft is of its range
+pub draft_at : (ls : List OwnedLine) (first each : ℕ) (drafts : List (Option Draft)) (i : ℕ) (found : Option Draft)
+    → AreTexts ls first each drafts → i < length drafts → found ≡ get_or drafts i found
+    → IsDraftOf found (range_text ls (first + i * each) each)
+draft_at ls first each drafts i found are l at =
+    subst (λ draft. IsDraftOf draft (range_text ls (first + i * each) each)) (sym at) (are i found l)
 
 -- of ranges from the first line on: one more
 pub window_step : (ls : List OwnedLine) (i each : ℕ) → range_text ls 0 ((i + 1) * each) ≡ range_text ls 0 (i * each)
@@ -122,3 +120,13 @@ window_part ls i each =
     ∙ ap (λ t. t ++ range_text ls (0 + (i + 1) * each) (length ls)) (window_step ls i each)
     ∙ append_assoc (range_text ls 0 (i * each)) (range_text ls (i * each) each)
     (range_text ls (0 + (i + 1) * each) (length ls))
+
+-- a draft of one range, and those of the ranges behind it
+pub texts_both : (ls : List OwnedLine) (first each : ℕ) (ds es : List (Option Draft)) → length ds ≡ 1
+    → AreTexts ls first each ds → AreTexts ls (first + each) each es → AreTexts ls first each (ds ++ es)
+texts_both ls first each [] es one front back i d l = absurd (omega (arith, one))
+texts_both ls first each (x ∷ y ∷ ds) es one front back i d l = absurd (omega (arith, one))
+texts_both ls first each (x ∷ []) es one front back zero d l = front zero d (omega arith)
+texts_both ls first each (x ∷ []) es one front back (suc i) d l =
+    let far : first + each + i * each ≡ first + suc i * each = omega (arith, suc-mul i each) in
+    subst (λ (n : ℕ). IsDraftOf (get_or es i d) (range_text ls n each)) far (back i d (omega (arith, l)))

@@ -3,10 +3,11 @@ use Rattle.std.proofs.lemmas.List.Sums.{sum_by-cons}
 use Rattle.std.proofs.Common.{◌≡◌, ◌<◌, ◌≤◌, ◌+◌, ℕ, zero, suc, List, [], ◌∷◌, ◌++◌, arith, get_or, length, map, take}
 use Rattle.std.proofs.Common.{drop, slice_get, Option, Some, None, Result, Ok, Err, refl, sym, ap, subst, ◌∙◌}
 use Rattle.std.proofs.Common.{append_assoc}
-use Rattle.std.specs.List.{flat_map}
+use Rattle.std.specs.List.{AllByRecursion, flat_map}
 use Rattle.std.specs.Prelude.{ℤ, pos, sum_by}
 use Rattle.std.specs.Fmt.{signed_decimal}
-use Rattle.ice_print.specs.PlanTexts.{ids_text}
+use Rattle.ice_state.specs.Lines.{LacksDeletes, OwnedLine}
+use Rattle.ice_print.specs.PlanTexts.{deletes_of, ids_text}
 use Rattle.std.proofs.lemmas.List.{append-nil, take_all}
 use Rattle.ice_print.specs.declared.sink.SinkFault.{SinkFault}
 use Rattle.std.specs.Result.{IsErr}
@@ -148,6 +149,12 @@ sum_next f [] i x h = absurd cc
 sum_next f (y ∷ ys) zero x h = let e : y ≡ x = cc in rw e (omega arith)
 sum_next f (y ∷ ys) (suc i) x h = omega
     (arith, sum_by-cons f y (take (suc i) ys), sum_by-cons f y (take i ys), sum_next f ys i x h)
+
+-- lines without delete files have none together
+pub none_counted : (lines : List OwnedLine) → AllByRecursion LacksDeletes lines → 0 ≡ sum_by deletes_of lines
+none_counted [] all = refl
+none_counted (l ∷ ls) all =
+    omega (arith, sum_by-cons deletes_of l ls, ap length all.0.0, ap length all.0.1, none_counted ls all.1)
 
 -- the number that stands at a place
 pub number_at : (xs : List ℤ) (i : ℕ) → i < length xs → slice_get xs i ≡ Some (get_or xs i (pos 0))

@@ -34,9 +34,30 @@ impl Page {
     pub fn new(alloc: Global) -> Result<Page, AllocError>
         ensures { IfOk result (λ page. page ≡ []) }
     {
+        Page::with_room(alloc, ROOM)
+    }
+
+    /// A page on which nothing waits, with room for so many bytes.
+    pub(crate) fn with_room(alloc: Global, room: usize) -> Result<Page, AllocError>
+        ensures { IfOk result (λ page. page ≡ []) }
+    {
         Ok(Page {
-            bytes: Vec::with_capacity(alloc, ROOM)?,
+            bytes: Vec::with_capacity(alloc, room)?,
         })
+    }
+
+    /// What waits.
+    pub(crate) fn bytes(&self) -> &[u8]
+        ensures { result.now ≡ self.now }
+    {
+        &self.bytes
+    }
+
+    /// Takes all that waits off the page, to no sink.
+    pub(crate) fn clear(&mut self)
+        ensures { self.new ≡ [] }
+    {
+        self.bytes.clear();
     }
 
     /// Puts a piece behind those that wait, where there is room for it.
@@ -55,7 +76,7 @@ impl Page {
         ensures empty { OnOk result (self.new ≡ []) }
     {
         write_all(sink, &self.bytes)?;
-        self.bytes.clear();
+        self.clear();
         Ok(())
     }
 

@@ -18,6 +18,9 @@ use ice_state::{Line, Lines, PlanFile, PlanFiles};
 pub fn count_deletes(lines: &Lines<'_>) -> u128
     ensures { result ≡ sum_by deletes_of lines.now }
 {
+    if lines.lacks_deletes() {
+        return 0;
+    }
     let mut deletes: u128 = 0;
     for i in 0..lines.len() {
         let line = lines.line(i);
@@ -59,7 +62,12 @@ pub fn put_totals<S: Sink>(
     page.put(sink, b"\n")
 }
 
-fn put_lines<S: Sink>(page: &mut Page, sink: &mut S, lines: &Lines<'_>) -> Result<(), SinkFault>
+/// Sends the text of a plan's lines.
+pub(crate) fn put_lines<S: Sink>(
+    page: &mut Page,
+    sink: &mut S,
+    lines: &Lines<'_>,
+) -> Result<(), SinkFault>
     ensures { Sent S.taken S.may_fail sink.old page.old result sink.new page.new (flat_map line_text lines.now) }
 {
     put_some_lines(page, sink, lines, 0, lines.len())

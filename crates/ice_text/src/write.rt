@@ -28,7 +28,7 @@ pub fn write_plan<S: Sink>(alloc: Global, lines: &Lines<'_>, sink: &mut S) -> Re
 }
 
 /// How many lines of a plan a worker makes the text of at a time.
-const LINES_AT_A_TIME: usize = 4_096;
+const LINES_AT_A_TIME: usize = 8_192;
 
 /// The same as `write_plan`, the text of ranges of lines made by so many workers, from 1 to 64, each in a thread of its
 /// own where one can be started.

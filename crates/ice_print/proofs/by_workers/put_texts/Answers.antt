@@ -1,19 +1,15 @@
-use Rattle.ice_print.proofs.RangeTexts.{range_part, range_step, text_at}
+use Rattle.ice_print.proofs.RangeTexts.{draft_at, range_part, range_step}
 use Rattle.ice_print.proofs.Sends.{sent_less, sent_more}
 use Rattle.ice_print.proofs.by_workers.put_texts.Goals.{in-Some+in_ok-put-in-Some, in-None+in_ok-put_some_lines-in-None}
 use Rattle.ice_print.proofs.by_workers.put_texts.Goals as goal
 
 pub returns-in_err-put-in-Some : goal.returns-in_err-put-in-Some
 returns-in_err-put-in-Some g c =
+    let made = c.in-Some.ensures _ (draft_at c.args.lines.now c.args.first c.args.each c.args.drafts.now c.loop-i.i
+    c.index-drafts-i.result c.requires.texts c.loop-i-test.true c.index-drafts-i.is) in
     rw (range_part c.args.lines.now c.args.first c.loop-i.i _ c.args.each c.loop-i-test.true)
     (sent_more _ _ _ _ _ _ _ _ _ _ _ _ c.loop-i.invariant
-    (sent_less _ _ _ _ _ _ _ _ _ _ _ c.from_residual.ensures.0
-    (rw (
-      c.deref.ensures.value,
-      text_at c.args.lines.now c.args.first c.args.each c.args.texts.now c.loop-i.i
-          c.in-Some.text c.index-texts-i.result c.requires.texts c.loop-i-test.true c.index-texts-i.is c.in-Some.is,
-    ) at
-    c.in_err-put-in-Some.ensures)))
+    (sent_less _ _ _ _ _ _ _ _ _ _ _ c.from_residual.ensures.0 (rw made at c.in_err-put-in-Some.ensures)))
 
 pub returns-in_err-put_some_lines-in-None : goal.returns-in_err-put_some_lines-in-None
 returns-in_err-put_some_lines-in-None g c =
@@ -24,14 +20,12 @@ returns-in_err-put_some_lines-in-None g c =
 
 pub loop-i-preserved : goal.loop-i-preserved
 loop-i-preserved g c = rw (range_step c.args.lines.now c.args.first c.loop-i.i c.args.each)
-    (elim c.match-text.branch [
-      | in-Some+in_ok-put-in-Some w ↦ rw (w.sink-is, w.page-is) (sent_more _ _ _ _ _ _ _ _ _ _ _ _ c.loop-i.invariant
-          (rw (
-            w.deref.ensures.value,
-            text_at c.args.lines.now c.args.first c.args.each c.args.texts.now c.loop-i.i
-                w.in-Some.text c.index-texts-i.result c.requires.texts c.loop-i-test.true c.index-texts-i.is w.in-Some.is,
-          ) at
-          w.in_ok-put-in-Some.ensures))
+    (elim c.match-whole_text.branch [
+      | in-Some+in_ok-put-in-Some w ↦
+          let made = w.in-Some.ensures _ (draft_at c.args.lines.now c.args.first c.args.each c.args.drafts.now
+          c.loop-i.i c.index-drafts-i.result c.requires.texts c.loop-i-test.true c.index-drafts-i.is) in
+          rw (w.sink-is, w.page-is) (sent_more _ _ _ _ _ _ _ _ _ _ _ _ c.loop-i.invariant
+          (rw made at w.in_ok-put-in-Some.ensures))
       | in-None+in_ok-put_some_lines-in-None w ↦ rw (w.sink-is, w.page-is) (sent_more _ _ _ _ _ _ _ _ _ _ _ _
           c.loop-i.invariant w.in_ok-put_some_lines-in-None.ensures)
     ])

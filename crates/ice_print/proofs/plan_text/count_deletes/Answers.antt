@@ -1,7 +1,10 @@
 use Rattle.std.proofs.Common.{ap, arith, length, add-one}
 use Rattle.ice_print.specs.PlanTexts.{deletes_of}
-use Rattle.ice_print.proofs.Sends.{sum_next}
+use Rattle.ice_print.proofs.Sends.{none_counted, sum_next}
 use Rattle.ice_print.proofs.plan_text.count_deletes.Goals as goal
+
+pub returns-then-lacks_deletes : goal.returns-then-lacks_deletes
+returns-then-lacks_deletes c = none_counted c.args.lines.now (c.lacks_deletes.ensures c.if-lacks_deletes.true)
 
 pub loop-i-preserved : goal.loop-i-preserved
 loop-i-preserved c =

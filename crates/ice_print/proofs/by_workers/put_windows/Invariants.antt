@@ -1,7 +1,7 @@
 use Rattle.std.proofs.Common.{◌*◌, Ok}
 use Rattle.ice_print.specs.Ranges.{range_text}
 use Rattle.ice_print.specs.Written.{Sent}
-use Rattle.ice_print.proofs.by_workers.put_lines_by_workers.Given as goal
+use Rattle.ice_print.proofs.by_workers.put_windows.Given as goal
 
 -- the texts of the windows so far were sent
 abbrev pub invariant-loop-i : goal.invariant-loop-i
