@@ -14,7 +14,8 @@ use ice_state::Lines;
 use std::alloc::{AllocError, Global};
 use std::thread::{Threads, join_mut};
 
-/// How many bytes of a text are made ahead at most, by each thread. Of the room for so many the system gives what is used.
+/// How many bytes of a text are made ahead at most, by each thread. All have to be there to be taken; of them Linux gives
+/// only those that are written to.
 const MOST_AHEAD: usize = 8_388_608;
 
 /// Takes nothing: what is on its way there stays on its page, as far as that has room.
@@ -218,7 +219,8 @@ fn put_lines_by_workers<R: Threads + Sync, S: Sink>(
     ensures { Sent S.taken S.may_fail sink.old page.old result sink.new page.new (flat_map line_text lines.now) }
 {
     if 1 < workers && each < lines.len() {
-        if let Ok(mut drafts) = drafts_of(alloc, workers) {
+        let ranges = lines.len().div_ceil(each);
+        if let Ok(mut drafts) = drafts_of(alloc, workers.min(ranges)) {
             return put_windows(rt, page, sink, lines, each, &mut drafts);
         }
     }
@@ -226,8 +228,8 @@ fn put_lines_by_workers<R: Threads + Sync, S: Sink>(
 }
 
 /// The same as `put_plan`, the text of the lines made by so many threads at once, from 1 to 64, each of so many lines at
-/// a time, from 1 to 65,536. At most 8 MB a thread are made before they are sent; a longer text, and one for which
-/// memory lacks, is sent as it is made.
+/// a time, from 1 to 65,536. At most 8 MB a thread are made before they are sent, for which room is taken at the start;
+/// a longer text is sent as it is made, and so are all where there is no such room.
 #[tactic(auto, unfolding(crate::specs::PlanTexts::plan_text))]
 pub fn put_plan_by_workers<R: Threads + Sync, S: Sink>(
     rt: &R,

@@ -61,6 +61,7 @@ pub(crate) fn rows_rise(entries: &Segments, slots: &[Option<Taken>], rows: &[u32
         ≡ runs_at (contents entries.now slots.now) rows.now }
     ensures once { IsTrue result → twice (runs_at (contents entries.now slots.now) rows.now) ≡ [] }
 {
+    // No path stands before an empty one, so that a first row which begins with one is left to be sorted.
     let mut before: &[u8] = &[];
     'rows: for row in rows {
         if let Some(run) = run_of(entries, &slots[*row as usize]) {
