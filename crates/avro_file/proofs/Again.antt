@@ -5,14 +5,14 @@ use Rattle.std.specs.Str.{IsUtf8}
 use Rattle.std.proofs.lemmas.Bool.{lt-ltb, le-ltb}
 use Rattle.std.proofs.lemmas.List.{take_at, drop_at, length-append}
 use Rattle.std.proofs.lemmas.Str.{is_utf8-from_IsUtf8}
-use Rattle.avro_parts.specs.declared.refusal.Refusal.{Refusal}
+use Rattle.avro_file_parts.specs.declared.refusal.Refusal.{Refusal}
 use Rattle.contract_words.specs.Outcome.{◌>>=◌}
-use Rattle.avro_parts.specs.Number.{IsGroups, IsNumber, IsLong, IsInt, int_at, groups_at, number_at, long_at}
+use Rattle.avro_file_parts.specs.Number.{IsGroups, IsNumber, IsLong, IsInt, int_at, groups_at, number_at, long_at}
 use Rattle.avro_schema.specs.Tree.{Tree, null, boolean, int, long, float, double, symbols, octets, string, fixed}
 use Rattle.avro_schema.specs.Tree.{structure, array, map, union, Fields, no_fields, field, Branches, no_branches}
 use Rattle.avro_schema.specs.Tree.{branch}
 use Rattle.avro_file.specs.Value.{Value, nothing, truth, small, whole, single, twice, symbol, text, run, raw}
-use Rattle.avro_parts.specs.Parts.{Position, Read, boolean_at, run_at, bytes_at, string_at, symbol_at, count_at}
+use Rattle.avro_file_parts.specs.Parts.{Position, Read, boolean_at, run_at, bytes_at, string_at, symbol_at, count_at}
 use Rattle.avro_file.specs.Reading.{leaf}
 use Rattle.avro_file.specs.Reading.{values_at, block_then, blocks_at, chosen_by, entry_at, datum_at, fields_at}
 use Rattle.avro_file.specs.Reading.{branch_at}

@@ -5,9 +5,9 @@ use Rattle.std.proofs.Common.{drop-cons, append_assoc}
 use Rattle.std.proofs.Math.ListN.{drop_of_length-le}
 use Rattle.std.proofs.lemmas.List.{append-nil}
 use Rattle.contract_words.specs.Outcome.{◌>>=◌}
-use Rattle.avro_parts.specs.declared.refusal.Refusal.{Refusal}
-use Rattle.avro_parts.specs.Number.{long_at}
-use Rattle.avro_parts.specs.Parts.{Position, Read, behind, string_at, count_at}
+use Rattle.avro_file_parts.specs.declared.refusal.Refusal.{Refusal}
+use Rattle.avro_file_parts.specs.Number.{long_at}
+use Rattle.avro_file_parts.specs.Parts.{Position, Read, behind, string_at, count_at}
 use Rattle.avro_schema.specs.declared.schema.Field.{Field}
 use Rattle.avro_schema.specs.declared.schema.Schema.{Schema}
 use Rattle.avro_schema.specs.Tree.{Tree, structure, array, map, union, Fields, field, Branches}

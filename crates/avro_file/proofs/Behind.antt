@@ -5,14 +5,14 @@ use Rattle.std.proofs.Common.{drop-cons, arith}
 use Rattle.std.proofs.lemmas.Bool.{le-ltb, ltb-false}
 use Rattle.std.proofs.Math.ListN.{drop_of_length-le}
 use Rattle.contract_words.specs.Outcome.{◌>>=◌}
-use Rattle.avro_parts.specs.declared.refusal.Refusal.{Refusal}
+use Rattle.avro_file_parts.specs.declared.refusal.Refusal.{Refusal}
 use Rattle.avro_schema.specs.Tree.{Tree, null, boolean, int, long, float, double, symbols, octets, string, fixed}
 use Rattle.avro_schema.specs.Tree.{structure, array, map, union, Fields, no_fields, field}
 use Rattle.avro_schema.specs.declared.schema.Field.{Field}
 use Rattle.avro_schema.specs.View.{tree}
-use Rattle.avro_parts.specs.Exact.{IsRead}
+use Rattle.avro_file_parts.specs.Exact.{IsRead}
 use Rattle.avro_file.specs.Value.{Value, Pair, nothing, raw, fields, items, entries, chosen, values_of, entries_of}
-use Rattle.avro_parts.specs.Parts.{Position, Read, behind, run_at}
+use Rattle.avro_file_parts.specs.Parts.{Position, Read, behind, run_at}
 use Rattle.avro_file.specs.Reading.{with_front, values_at, blocks_at, entry_at}
 use Rattle.avro_file.specs.Reading.{datum_at, fields_at, chosen_by}
 use Rattle.avro_file.specs.Spelling.{takes_bytes, some_takes_bytes}

@@ -7,12 +7,12 @@ use Rattle.std.proofs.lemmas.Bool.{ltb-true, ltb-false}
 use Rattle.std.proofs.lemmas.List.{take-append-le, drop-append-le}
 use Rattle.avro_schema.specs.Tree.{Tree}
 use Rattle.avro_schema.specs.Texts.{schema_of}
-use Rattle.avro_parts.specs.declared.refusal.Refusal.{Refusal}
+use Rattle.avro_file_parts.specs.declared.refusal.Refusal.{Refusal}
 use Rattle.avro_file.specs.declared.fault.AvroFault.{AvroFault}
 use Rattle.avro_file.specs.declared.fault.AvroFault.TheVariants.{NotAvro, Truncated}
 use Rattle.avro_file.specs.Value.{Value}
 use Rattle.avro_file.specs.Spelling.{AreJoined, Spells}
-use Rattle.avro_parts.specs.Heads.{BlockHead, head_at}
+use Rattle.avro_file_parts.specs.Heads.{BlockHead, head_at}
 use Rattle.avro_file.specs.Blocks.{fault_of, refused, Run, head_then, objects_run, blocks_run}
 use Rattle.avro_file.specs.Holding.{HoldsBlocks, AreWithinLimits}
 use Rattle.avro_file.specs.Header.{Property, wanted_with, none_wanted, last_under, schema_key, codec_key, FileHeader}

@@ -7,14 +7,14 @@ use Rattle.std.proofs.lemmas.List.{length-append, length-drop}
 use Rattle.avro_schema.specs.Tree.{Tree, null, boolean, int, long, float, double, symbols, octets, string, fixed}
 use Rattle.avro_schema.specs.Tree.{structure, array, map, union, Fields, no_fields, field}
 use Rattle.avro_schema.specs.Texts.{schema_of}
-use Rattle.avro_parts.specs.declared.refusal.Refusal.{Refusal}
+use Rattle.avro_file_parts.specs.declared.refusal.Refusal.{Refusal}
 use Rattle.avro_file.specs.declared.fault.AvroFault.TheVariants.{NotAvro, Schema}
-use Rattle.avro_parts.specs.Number.{IsInt}
+use Rattle.avro_file_parts.specs.Number.{IsInt}
 use Rattle.avro_file.specs.Value.{Value}
 use Rattle.avro_file.specs.Reading.{datum_at}
 use Rattle.avro_file.specs.Spelling.{IsRun, AreBlocks, IsEntry, Spells, SpellsFields, takes_bytes, some_takes_bytes}
 use Rattle.avro_file.specs.Header.{FileHeader, header_at}
-use Rattle.avro_parts.specs.Heads.{BlockHead, head_at}
+use Rattle.avro_file_parts.specs.Heads.{BlockHead, head_at}
 use Rattle.avro_file.specs.Blocks.{fault_of, inside, refused, max_items, object_at, Run}
 use Rattle.avro_file.specs.Blocks.{object_then, objects_run, head_then, blocks_run, run_from}
 use Rattle.avro_file.specs.Ahead.{still_ahead}

@@ -2,9 +2,9 @@
 use Rattle.std.proofs.Common.{◌≡◌, ℕ, ◌+◌, ◌-◌, ◌*◌, ◌^◌, ◌<◌, ◌≤◌, List, ◌∷◌, length, get_or, drop, Ok, sym, ap, subst, ◌∙◌}
 use Rattle.std.proofs.Common.{refl, arith}
 use Rattle.std.proofs.lemmas.Bool.{lt-ltb, le-ltb}
-use Rattle.avro_parts.specs.Number.{groups_at, number_at, long_at, int_at, signed_of}
-use Rattle.avro_parts.proofs.Groups.{narrow_found}
-use Rattle.avro_parts.proofs.NumberPlaces.{at_place}
+use Rattle.avro_file_parts.specs.Number.{groups_at, number_at, long_at, int_at, signed_of}
+use Rattle.avro_file_parts.proofs.Groups.{narrow_found}
+use Rattle.avro_file_parts.proofs.NumberPlaces.{at_place}
 
 -- a low group and a last one
 low_and_last : (a b : ℕ) (rest : List ℕ) → 128 ≤ a → a < 256 → b < 128

@@ -15,7 +15,7 @@ use Rattle.std.specs.Cmp.Lexicographic.{slice_cmp}
 use Rattle.contract_words.proofs.Sorted.{filter-sorted, irreflexive}
 use Rattle.avro_schema.specs.Tree.{Tree}
 use Rattle.avro_schema.specs.Texts.{schema_of}
-use Rattle.avro_parts.specs.Number.{IsLong}
+use Rattle.avro_file_parts.specs.Number.{IsLong}
 use Rattle.avro_file.specs.declared.writer.Property as declared
 use Rattle.avro_file.specs.Property.{shown_properties}
 use Rattle.avro_file.specs.Value.{Value, values_of}

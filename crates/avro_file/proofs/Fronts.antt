@@ -3,13 +3,13 @@ use Rattle.std.proofs.Common.{◌≡◌, ℕ, zero, suc, ◌≤◌, pos, List, [
 use Rattle.std.proofs.Common.{Result, Ok, Err, ◌⊎◌, inl, inr, refl, sym, ap, subst, ◌∙◌, append_assoc, arith}
 use Rattle.avro_schema.specs.Tree.{Tree}
 use Rattle.avro_schema.specs.Texts.{schema_of}
-use Rattle.avro_parts.specs.declared.refusal.Refusal.{Refusal}
+use Rattle.avro_file_parts.specs.declared.refusal.Refusal.{Refusal}
 use Rattle.avro_file.specs.declared.fault.AvroFault.{AvroFault}
 use Rattle.avro_file.specs.declared.fault.AvroFault.TheVariants.{Schema}
-use Rattle.avro_parts.specs.Number.{IsLong}
+use Rattle.avro_file_parts.specs.Number.{IsLong}
 use Rattle.avro_file.specs.Value.{Value}
 use Rattle.avro_file.specs.Spelling.{AreJoined, Spells}
-use Rattle.avro_parts.specs.Heads.{BlockHead, head_at}
+use Rattle.avro_file_parts.specs.Heads.{BlockHead, head_at}
 use Rattle.avro_file.specs.Blocks.{refused, object_at, Run, object_then, objects_run, head_then}
 use Rattle.avro_file.specs.Blocks.{blocks_run, run_from}
 use Rattle.avro_file.specs.Holding.{AreWithinLimits}

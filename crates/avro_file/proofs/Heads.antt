@@ -5,14 +5,14 @@ use Rattle.std.specs.Str.{bytes_eq}
 use Rattle.std.proofs.lemmas.List.{length-append}
 use Rattle.std.proofs.lemmas.Bool.{eqb-true}
 use Rattle.std.proofs.lemmas.Slice.Eq.{bytes_eq-Decides}
-use Rattle.avro_parts.specs.declared.refusal.Refusal.{Refusal}
-use Rattle.avro_parts.specs.declared.refusal.Refusal.TheVariants.{BadSync}
+use Rattle.avro_file_parts.specs.declared.refusal.Refusal.{Refusal}
+use Rattle.avro_file_parts.specs.declared.refusal.Refusal.TheVariants.{BadSync}
 use Rattle.avro_file.specs.declared.fault.AvroFault.TheVariants.{BlockSize}
-use Rattle.avro_parts.specs.Number.{IsLong, long_at}
+use Rattle.avro_file_parts.specs.Number.{IsLong, long_at}
 use Rattle.avro_schema.specs.Tree.{Tree}
 use Rattle.avro_file.specs.Value.{Value}
-use Rattle.avro_parts.specs.Parts.{run_at}
-use Rattle.avro_parts.specs.Heads.{BlockHead, natural_of, head_at}
+use Rattle.avro_file_parts.specs.Parts.{run_at}
+use Rattle.avro_file_parts.specs.Heads.{BlockHead, natural_of, head_at}
 use Rattle.avro_file.specs.Blocks.{fault_of, refused, object_at, Run, at_end, stopped}
 use Rattle.avro_file.specs.Blocks.{preceded, objects_run, head_then, blocks_run, FilePosition, run_from}
 use Rattle.avro_file.proofs.Steps.{bind_ok, passed, ok_is}

@@ -3,16 +3,16 @@ use Rattle.std.proofs.Common.{◌≡◌, ◌≢◌, ℕ, zero, suc, ◌-◌, ◌
 use Rattle.std.proofs.Common.{Some, None, Result, Ok, Err, refl, sym, ap, subst, ◌∙◌, arith}
 use Rattle.std.specs.Str.{bytes_eq}
 use Rattle.std.proofs.lemmas.Slice.Eq.{bytes_eq-Decides}
-use Rattle.avro_parts.specs.declared.refusal.Refusal.{Refusal}
+use Rattle.avro_file_parts.specs.declared.refusal.Refusal.{Refusal}
 use Rattle.avro_file.specs.declared.fault.AvroFault.{AvroFault}
 use Rattle.avro_file.specs.declared.fault.AvroFault.TheVariants.{BlockSize}
-use Rattle.avro_parts.specs.Number.{IsLong}
+use Rattle.avro_file_parts.specs.Number.{IsLong}
 use Rattle.avro_schema.specs.Tree.{Tree}
 use Rattle.avro_file.specs.Value.{Value}
-use Rattle.avro_parts.specs.Parts.{Position, run_at}
+use Rattle.avro_file_parts.specs.Parts.{Position, run_at}
 use Rattle.avro_file.specs.Reading.{datum_at}
 use Rattle.avro_file.specs.Spelling.{AreJoined, Spells, item_count}
-use Rattle.avro_parts.specs.Heads.{BlockHead, head_at}
+use Rattle.avro_file_parts.specs.Heads.{BlockHead, head_at}
 use Rattle.avro_file.specs.Blocks.{fault_of, inside, refused, max_items, object_at, Run, at_end}
 use Rattle.avro_file.specs.Blocks.{stopped, preceded, object_then, objects_run, head_then, blocks_run}
 use Rattle.avro_file.specs.Holding.{HoldsBlocks, Holds, AreWithinLimits}

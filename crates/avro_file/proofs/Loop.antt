@@ -4,14 +4,14 @@ use Rattle.std.proofs.Common.{length, get_or, drop, Ok, Err, refl, sym, ap, ◌�
 use Rattle.std.proofs.Common.{arith}
 use Rattle.std.proofs.lemmas.List.{append-nil, length-append}
 use Rattle.std.proofs.Math.ListN.{drop_of_length-le}
-use Rattle.avro_parts.specs.declared.refusal.Refusal.{Refusal}
+use Rattle.avro_file_parts.specs.declared.refusal.Refusal.{Refusal}
 use Rattle.avro_schema.specs.declared.schema.Field.{Field}
 use Rattle.contract_words.specs.Outcome.{◌>>=◌}
-use Rattle.avro_parts.specs.Number.{IsGroups, IsLong}
+use Rattle.avro_file_parts.specs.Number.{IsGroups, IsLong}
 use Rattle.avro_file.specs.Spelling.{IsCount}
 use Rattle.avro_file.specs.Value.{Value}
 use Rattle.avro_schema.specs.View.{tree}
-use Rattle.avro_parts.specs.Parts.{Position, Read, count_at}
+use Rattle.avro_file_parts.specs.Parts.{Position, Read, count_at}
 use Rattle.avro_file.specs.Reading.{with_front, values_at, blocks_at, datum_at, fields_at}
 use Rattle.avro_file.proofs.Steps.{ok_is}
 use Rattle.avro_file.proofs.Views.{field_trees}

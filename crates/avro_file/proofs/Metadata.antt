@@ -3,7 +3,7 @@ use Rattle.std.proofs.Common.{◌≡◌, ℕ, zero, suc, ◌+◌, ◌-◌, ◌^�
 use Rattle.std.proofs.Common.{sym, ap, subst, ◌∙◌, append_assoc, arith}
 use Rattle.std.proofs.lemmas.List.{length-append}
 use Rattle.contract_words.specs.Outcome.{◌>>=◌}
-use Rattle.avro_parts.specs.Parts.{Position, run_at}
+use Rattle.avro_file_parts.specs.Parts.{Position, run_at}
 use Rattle.avro_file.specs.Reading.{blocks_at}
 use Rattle.avro_file.specs.Spelling.{AreJoined, AreBlocks}
 use Rattle.avro_file.specs.Header.{Property, Wanted, wanted_with, none_wanted, property_at, properties_at, wanted_at}

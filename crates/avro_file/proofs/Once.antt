@@ -5,10 +5,10 @@ use Rattle.std.proofs.lemmas.List.{append_cancel_left}
 use Rattle.avro_schema.specs.Tree.{Tree}
 use Rattle.avro_schema.specs.Texts.{schema_of}
 use Rattle.avro_file.specs.Value.{Value}
-use Rattle.avro_parts.specs.Parts.{Position, run_at}
+use Rattle.avro_file_parts.specs.Parts.{Position, run_at}
 use Rattle.avro_file.specs.Reading.{blocks_at, datum_at}
 use Rattle.avro_file.specs.Spelling.{AreJoined, Spells, item_count}
-use Rattle.avro_parts.specs.Heads.{BlockHead, head_at}
+use Rattle.avro_file_parts.specs.Heads.{BlockHead, head_at}
 use Rattle.avro_file.specs.Holding.{HoldsBlocks}
 use Rattle.avro_file.specs.Header.{Property, property_at, schema_key, last_under, IsProperty, AreProperties}
 use Rattle.avro_file.specs.Files.{magic, HoldsFile}

@@ -6,20 +6,20 @@ use Rattle.avro_schema.specs.declared.schema.BytesKind.TheVariants.{Plain}
 use Rattle.avro_schema.specs.declared.schema.Field.{Field}
 use Rattle.avro_schema.specs.View.{tree}
 use Rattle.avro_schema.specs.Tree.{Tree, long, octets, array, no_fields, field}
-use Rattle.avro_parts.specs.declared.refusal.Refusal.{Refusal}
+use Rattle.avro_file_parts.specs.declared.refusal.Refusal.{Refusal}
 use Rattle.avro_file.specs.declared.datum.Datum as datum
 use Rattle.avro_file.specs.declared.datum.ItemCount.{ItemCount}
 use Rattle.avro_file.specs.declared.pairs.Second.TheVariants as Second
-use Rattle.avro_parts.specs.Number.{number_at, long_at, int_at}
+use Rattle.avro_file_parts.specs.Number.{number_at, long_at, int_at}
 use Rattle.avro_file.specs.Value.{Value, nothing, whole, run, items, chosen, values_of}
 use Rattle.avro_file.specs.View.{view, pair_with, long_pairs, bytes_pairs}
-use Rattle.avro_parts.specs.Parts.{Position, bytes_at}
+use Rattle.avro_file_parts.specs.Parts.{Position, bytes_at}
 use Rattle.avro_file.specs.Reading.{blocks_at, datum_at}
 use Rattle.avro_file.specs.Pairs.{pair, IsPair}
 use Rattle.avro_file.specs.Ending.{standing, Ends, EndsWith, EndsCounted}
 use Rattle.avro_file.proofs.Behind.{behind_ok, behind_is}
 use Rattle.avro_file.proofs.Places.{short_int, bytes_found, bytes_end_there, some_weaker}
-use Rattle.avro_parts.proofs.NumberPlaces.{one_group}
+use Rattle.avro_file_parts.proofs.NumberPlaces.{one_group}
 use Rattle.avro_file.proofs.Views.{field_trees}
 
 -- ---- one pair

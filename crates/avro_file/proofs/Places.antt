@@ -7,18 +7,18 @@ use Rattle.std.specs.Str.{IsUtf8}
 use Rattle.std.proofs.lemmas.Str.{is_utf8-from_IsUtf8}
 use Rattle.std.proofs.lemmas.List.{length-drop, length-append}
 use Rattle.std.proofs.Math.Seq.{drop-append_seam}
-use Rattle.avro_parts.specs.declared.refusal.Refusal.{Refusal}
-use Rattle.avro_parts.specs.Number.{number_at, long_at, int_at, signed_of}
-use Rattle.avro_parts.specs.Parts.{Read, behind, boolean_at, run_at, bytes_at, string_at, symbol_at}
+use Rattle.avro_file_parts.specs.declared.refusal.Refusal.{Refusal}
+use Rattle.avro_file_parts.specs.Number.{number_at, long_at, int_at, signed_of}
+use Rattle.avro_file_parts.specs.Parts.{Read, behind, boolean_at, run_at, bytes_at, string_at, symbol_at}
 use Rattle.avro_file.specs.Reading.{leaf}
-use Rattle.avro_parts.specs.Parts.{count_at}
+use Rattle.avro_file_parts.specs.Parts.{count_at}
 use Rattle.avro_file.specs.Reading.{blocks_at, entry_at, datum_at, fields_at, branch_at}
 use Rattle.avro_file.specs.Blocks.{max_items, object_at}
 use Rattle.avro_file.specs.Ending.{standing, EndsWith, Ends, EndsCounted}
-use Rattle.avro_parts.proofs.Groups.{narrow_found, tenth_place}
-use Rattle.avro_parts.proofs.Groups.{times_one}
-use Rattle.avro_parts.proofs.NumberPlaces.{at_place, drop_drop, GroupsUpTo, no_groups, last_fits, found}
-use Rattle.avro_parts.proofs.NumberPlaces.{to_end}
+use Rattle.avro_file_parts.proofs.Groups.{narrow_found, tenth_place}
+use Rattle.avro_file_parts.proofs.Groups.{times_one}
+use Rattle.avro_file_parts.proofs.NumberPlaces.{at_place, drop_drop, GroupsUpTo, no_groups, last_fits, found}
+use Rattle.avro_file_parts.proofs.NumberPlaces.{to_end}
 use Rattle.avro_file.proofs.Taken.{number_takes}
 use Rattle.avro_file.proofs.Loop.{long_len}
 use Rattle.avro_file.proofs.Steps.{ok_is}

@@ -3,8 +3,8 @@ use Rattle.std.proofs.Common.{◌≡◌, ℕ, List, [], ◌∷◌, ◌++◌, Opt
 use Rattle.std.proofs.Common.{arith}
 use Rattle.std.specs.Str.{bytes_eq}
 use Rattle.contract_words.specs.Outcome.{◌>>=◌}
-use Rattle.avro_parts.specs.declared.refusal.Refusal.{Refusal}
-use Rattle.avro_parts.specs.Parts.{Position, Read, string_at, bytes_at}
+use Rattle.avro_file_parts.specs.declared.refusal.Refusal.{Refusal}
+use Rattle.avro_file_parts.specs.Parts.{Position, Read, string_at, bytes_at}
 use Rattle.avro_file.specs.Reading.{with_front}
 use Rattle.avro_file.specs.Header.{Property, schema_key, codec_key, last_under, Wanted, wanted_with, none_wanted}
 use Rattle.avro_file.specs.Header.{property_at, properties_at, wanted_at, metadata_at, IsProperty}

@@ -3,9 +3,9 @@ use Rattle.std.proofs.Common.{◌≡◌, ℕ, zero, suc, Option, ℤ, List, ◌�
 use Rattle.std.proofs.Common.{◌∙◌}
 use Rattle.std.proofs.lemmas.List.{map-append, replicate-append-replicate}
 use Rattle.contract_words.specs.Outcome.{◌>>=◌}
-use Rattle.avro_parts.specs.declared.refusal.Refusal.{Refusal}
+use Rattle.avro_file_parts.specs.declared.refusal.Refusal.{Refusal}
 use Rattle.avro_schema.specs.Tree.{Tree, null, array}
-use Rattle.avro_parts.specs.Parts.{Position, Read, count_at}
+use Rattle.avro_file_parts.specs.Parts.{Position, Read, count_at}
 use Rattle.avro_file.specs.Value.{Value, nothing, items, values_of}
 use Rattle.avro_file.specs.Reading.{with_front, values_at, block_then, blocks_at, datum_at}
 use Rattle.avro_file.proofs.Paired.{array_read, array_fails}

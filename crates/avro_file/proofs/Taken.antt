@@ -6,20 +6,20 @@ use Rattle.std.specs.Str.{is_utf8, IsUtf8}
 use Rattle.std.proofs.lemmas.Bool.{ltb-true, ltb-false}
 use Rattle.std.proofs.lemmas.List.{take-append-drop, length-append, length-take}
 use Rattle.std.proofs.lemmas.Str.{IsUtf8-from_is_utf8}
-use Rattle.avro_parts.specs.declared.refusal.Refusal.{Refusal}
-use Rattle.avro_parts.specs.declared.refusal.Refusal.TheVariants.{Short, BadNumber, BadUnion, BadUtf8, BadBoolean}
-use Rattle.avro_parts.specs.declared.refusal.Refusal.TheVariants.{TooManyItems, BadSync, BlockSize, Memory}
+use Rattle.avro_file_parts.specs.declared.refusal.Refusal.{Refusal}
+use Rattle.avro_file_parts.specs.declared.refusal.Refusal.TheVariants.{Short, BadNumber, BadUnion, BadUtf8, BadBoolean}
+use Rattle.avro_file_parts.specs.declared.refusal.Refusal.TheVariants.{TooManyItems, BadSync, BlockSize, Memory}
 use Rattle.contract_words.specs.Outcome.{◌>>=◌}
-use Rattle.avro_parts.specs.Number.{IsGroups, IsNumber, IsLong, IsInt, int_at, signed_of, groups_at, from_start}
-use Rattle.avro_parts.specs.Number.{number_at, long_at}
+use Rattle.avro_file_parts.specs.Number.{IsGroups, IsNumber, IsLong, IsInt, int_at, signed_of, groups_at, from_start}
+use Rattle.avro_file_parts.specs.Number.{number_at, long_at}
 use Rattle.avro_schema.specs.Tree.{Tree, null, boolean, int, long, float, double, symbols, octets, string, fixed}
 use Rattle.avro_schema.specs.Tree.{structure, array, map, union, Fields, no_fields, field, Branches, no_branches}
 use Rattle.avro_schema.specs.Tree.{branch}
 use Rattle.avro_file.specs.Value.{Value, nothing, truth, small, whole, single, twice, symbol, text, run, raw, fields}
 use Rattle.avro_file.specs.Value.{items, entries, chosen, values_of, Pair, entries_of}
-use Rattle.avro_parts.specs.Parts.{Position, Read, boolean_at, run_at, run_of, bytes_at, string_at, symbol_of}
+use Rattle.avro_file_parts.specs.Parts.{Position, Read, boolean_at, run_at, run_of, bytes_at, string_at, symbol_of}
 use Rattle.avro_file.specs.Reading.{leaf}
-use Rattle.avro_parts.specs.Parts.{symbol_at, counted, magnitude, count_at}
+use Rattle.avro_file_parts.specs.Parts.{symbol_at, counted, magnitude, count_at}
 use Rattle.avro_file.specs.Reading.{values_at, block_then, blocks_at}
 use Rattle.avro_file.specs.Reading.{chosen_by, entry_at, datum_at, fields_at, branch_at}
 use Rattle.avro_file.specs.Spelling.{IsRun, bit, AreJoined, IsCount, AreBlocks, IsEntry, IsChosen, Spells, SpellsFields}

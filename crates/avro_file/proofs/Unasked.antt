@@ -3,8 +3,8 @@ use Rattle.std.proofs.Common.{◌≡◌, ◌≢◌, ℕ, zero, suc, ◌+◌, ◌
 use Rattle.std.proofs.Common.{◌++◌, length, take, drop, Option, Some, None, Result, Ok, Err, refl, ap, ◌∙◌}
 use Rattle.std.specs.Str.{is_utf8, bytes_eq}
 use Rattle.contract_words.specs.Outcome.{◌>>=◌}
-use Rattle.avro_parts.specs.declared.refusal.Refusal.{Refusal}
-use Rattle.avro_parts.specs.declared.refusal.Refusal.TheVariants as refusal
+use Rattle.avro_file_parts.specs.declared.refusal.Refusal.{Refusal}
+use Rattle.avro_file_parts.specs.declared.refusal.Refusal.TheVariants as refusal
 use Rattle.avro_file.specs.declared.fault.AvroFault.{AvroFault}
 use Rattle.avro_file.specs.declared.fault.AvroFault.TheVariants as fault
 use Rattle.avro_schema.specs.declared.fault.SchemaFault.{SchemaFault}
@@ -12,15 +12,15 @@ use Rattle.avro_schema.specs.Tree.{Tree, null, boolean, int, long, float, double
 use Rattle.avro_schema.specs.Tree.{structure, array, map, union, Fields, no_fields, field, Branches, no_branches}
 use Rattle.avro_schema.specs.Tree.{branch}
 use Rattle.avro_schema.specs.Texts.{schema_of}
-use Rattle.avro_parts.specs.Number.{signed_of, groups_at, from_start, number_at, long_at, int_at}
+use Rattle.avro_file_parts.specs.Number.{signed_of, groups_at, from_start, number_at, long_at, int_at}
 use Rattle.avro_file.specs.Value.{Value, truth, small, whole, single, twice, symbol, text, run, raw, fields, items}
 use Rattle.avro_file.specs.Value.{entries, chosen, values_of, entries_of}
-use Rattle.avro_parts.specs.Parts.{Position, Read, boolean_at, run_at, run_of, bytes_at, string_at, symbol_of}
+use Rattle.avro_file_parts.specs.Parts.{Position, Read, boolean_at, run_at, run_of, bytes_at, string_at, symbol_of}
 use Rattle.avro_file.specs.Reading.{leaf}
-use Rattle.avro_parts.specs.Parts.{symbol_at, magnitude, counted, count_at}
+use Rattle.avro_file_parts.specs.Parts.{symbol_at, magnitude, counted, count_at}
 use Rattle.avro_file.specs.Reading.{values_at, block_then, blocks_at}
 use Rattle.avro_file.specs.Reading.{chosen_by, entry_at, datum_at, fields_at, branch_at}
-use Rattle.avro_parts.specs.Heads.{BlockHead, natural_of, head_at}
+use Rattle.avro_file_parts.specs.Heads.{BlockHead, natural_of, head_at}
 use Rattle.avro_file.specs.Blocks.{fault_of, inside, refused, max_items, object_at, Run}
 use Rattle.avro_file.specs.Blocks.{stopped, object_then, objects_run, head_then, blocks_run, FilePosition, run_from}
 use Rattle.avro_file.specs.Header.{property_at, properties_at, metadata_at, header_at}

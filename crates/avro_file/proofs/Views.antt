@@ -4,8 +4,8 @@ use Rattle.std.proofs.Common.{refl, arith, rules, Vec, Box, Global, map, ap, ◌
 use Rattle.std.proofs.lemmas.Int.{ints}
 use denote.Ref.{Bor}
 use Rattle.std.specs.declared.sync.Arc.{Arc}
-use Rattle.avro_parts.specs.declared.refusal.Refusal.{Refusal}
-use Rattle.avro_parts.specs.declared.refusal.Refusal.TheVariants.{BadUnion}
+use Rattle.avro_file_parts.specs.declared.refusal.Refusal.{Refusal}
+use Rattle.avro_file_parts.specs.declared.refusal.Refusal.TheVariants.{BadUnion}
 use Rattle.avro_schema.specs.declared.schema.Schema.{Schema, Record, Map, Union, the_lemmas}
 use Rattle.avro_schema.specs.declared.schema.Field.{Field}
 use Rattle.avro_file.specs.declared.datum.Datum as datum
@@ -14,7 +14,7 @@ use Rattle.avro_schema.specs.Tree.{structure, union, Fields, Branches}
 use Rattle.avro_schema.specs.View.{tree, trees, parts, fields_of, branches_of}
 use Rattle.avro_file.specs.Value.{Value, values_of, fields, chosen, entries, Pair, entries_of}
 use Rattle.avro_file.specs.View.{view, views, entry_views}
-use Rattle.avro_parts.specs.Parts.{Position, Read, string_at}
+use Rattle.avro_file_parts.specs.Parts.{Position, Read, string_at}
 use Rattle.avro_file.specs.Reading.{blocks_at, entry_at, datum_at, fields_at, branch_at}
 use Rattle.avro_file.specs.Reading.{chosen_by}
 

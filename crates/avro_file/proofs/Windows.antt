@@ -16,9 +16,9 @@ use Rattle.std.proofs.Math.Nat.{mod-lt, pow-le-pow_right}
 use Rattle.std.proofs.Math.Pow.{pow-lt}
 use Rattle.avro_schema.specs.Tree.{long}
 use Rattle.contract_words.specs.Outcome.{◌>>=◌}
-use Rattle.avro_parts.specs.Number.{long_at, int_at}
-use Rattle.avro_parts.specs.Parts.{Position, Read, behind}
-use Rattle.avro_parts.proofs.NumberPlaces.{GroupsUpTo, no_groups, one_more}
+use Rattle.avro_file_parts.specs.Number.{long_at, int_at}
+use Rattle.avro_file_parts.specs.Parts.{Position, Read, behind}
+use Rattle.avro_file_parts.proofs.NumberPlaces.{GroupsUpTo, no_groups, one_more}
 use Rattle.avro_file.specs.Reading.{values_at, datum_at}
 use Rattle.avro_file.specs.Pairs.{pair}
 use Rattle.avro_file.specs.Ending.{standing, Ends, EndsCounted}

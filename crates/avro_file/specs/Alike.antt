@@ -1,7 +1,7 @@
 -- Types whose values end alike.
 use Rattle.std.specs.Prelude.{◌≡◌, ℕ}
 use Rattle.avro_schema.specs.Tree.{Tree, Fields, Branches}
-use Rattle.avro_parts.specs.Parts.{Position, behind}
+use Rattle.avro_file_parts.specs.Parts.{Position, behind}
 use Rattle.avro_file.specs.Reading.{datum_at, fields_at, branch_at}
 
 -- wherever they are read, values of both end at the same place with as many items left, or meet the same fault

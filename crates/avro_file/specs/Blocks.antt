@@ -5,13 +5,13 @@ use Rattle.std.specs.Prelude.{◌≡◌, ◌≢◌, ℕ, zero, suc, ◌-◌, Lis
 use Rattle.std.specs.Prelude.{Result, Ok, Err}
 use Rattle.contract_words.specs.Outcome.{◌>>=◌}
 use Rattle.avro_schema.specs.Tree.{Tree}
-use Rattle.avro_parts.specs.declared.refusal.Refusal.{Refusal}
-use Rattle.avro_parts.specs.declared.refusal.Refusal.TheVariants as refusal
-use Rattle.avro_parts.specs.declared.refusal.Refusal.TheVariants.{BadSync, BlockSize}
+use Rattle.avro_file_parts.specs.declared.refusal.Refusal.{Refusal}
+use Rattle.avro_file_parts.specs.declared.refusal.Refusal.TheVariants as refusal
+use Rattle.avro_file_parts.specs.declared.refusal.Refusal.TheVariants.{BadSync, BlockSize}
 use Rattle.avro_file.specs.declared.fault.AvroFault.{AvroFault}
 use Rattle.avro_file.specs.declared.fault.AvroFault.TheVariants as fault
 use Rattle.avro_file.specs.Value.{Value}
-use Rattle.avro_parts.specs.Heads.{BlockHead, head_at}
+use Rattle.avro_file_parts.specs.Heads.{BlockHead, head_at}
 use Rattle.avro_file.specs.Reading.{datum_at}
 
 -- what a refusal is called, in a file of so many bytes

@@ -1,7 +1,7 @@
 -- Where values end, by places in the bytes.
 use Rattle.std.specs.Prelude.{◌≡◌, ◌≤◌, ◌<◌, ℕ, List, length, drop, Result, Ok}
-use Rattle.avro_parts.specs.declared.refusal.Refusal.{Refusal}
-use Rattle.avro_parts.specs.Parts.{Position, Read, behind}
+use Rattle.avro_file_parts.specs.declared.refusal.Refusal.{Refusal}
+use Rattle.avro_file_parts.specs.Parts.{Position, Read, behind}
 
 -- a reader at a place in the bytes, which may read so many items more
 abbrev pub standing : List ℕ → ℕ → ℕ → Position

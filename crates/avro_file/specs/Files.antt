@@ -7,7 +7,7 @@ use Rattle.contract_words.specs.Outcome.{◌>>=◌}
 use Rattle.avro_schema.specs.Tree.{Tree}
 use Rattle.avro_schema.specs.View.{tree}
 use Rattle.avro_schema.specs.Texts.{schema_of}
-use Rattle.avro_parts.specs.declared.refusal.Refusal.{Refusal}
+use Rattle.avro_file_parts.specs.declared.refusal.Refusal.{Refusal}
 use Rattle.avro_file.specs.declared.fault.AvroFault.{AvroFault}
 use Rattle.avro_file.specs.declared.fault.AvroFault.TheVariants.{NotAvro, Codec, Schema}
 use Rattle.avro_file.specs.declared.container.Container.{Container}

@@ -3,7 +3,7 @@
 use Rattle.std.specs.Prelude.{◌≡◌, ℕ, ◌<◌, ◌≤◌, pos, List, [], ◌++◌, length, Some, Ok, Err, ◌⊎◌}
 use Rattle.avro_schema.specs.Tree.{Tree}
 use Rattle.avro_file.specs.declared.fault.AvroFault.TheVariants.{NotAvro, Truncated}
-use Rattle.avro_parts.specs.Number.{IsLong}
+use Rattle.avro_file_parts.specs.Number.{IsLong}
 use Rattle.avro_file.specs.Value.{Value}
 use Rattle.avro_file.specs.Spelling.{AreJoined, Spells}
 use Rattle.avro_file.specs.Holding.{Holds}

@@ -5,8 +5,8 @@ use Rattle.std.specs.Prelude.{◌≡◌, ℕ, suc, ◌-◌, ◌^◌, List, [], �
 use Rattle.std.specs.Prelude.{if◌then◌else◌, codes}
 use Rattle.std.specs.Str.{IsUtf8, bytes_eq}
 use Rattle.contract_words.specs.Outcome.{◌>>=◌}
-use Rattle.avro_parts.specs.declared.refusal.Refusal.{Refusal}
-use Rattle.avro_parts.specs.Parts.{Position, Read, run_at, bytes_at, string_at}
+use Rattle.avro_file_parts.specs.declared.refusal.Refusal.{Refusal}
+use Rattle.avro_file_parts.specs.Parts.{Position, Read, run_at, bytes_at, string_at}
 use Rattle.avro_file.specs.Reading.{blocks_at}
 use Rattle.avro_file.specs.Spelling.{IsRun, AreBlocks}
 

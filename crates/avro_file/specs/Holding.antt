@@ -2,7 +2,7 @@
 -- Avro 1.11.1 specification, 'Object Container Files': file data blocks.
 use Rattle.std.specs.Prelude.{◌≡◌, ℕ, zero, suc, ◌≤◌, pos, List, [], ◌++◌, length}
 use Rattle.std.specs.List.{AllByRecursion}
-use Rattle.avro_parts.specs.Number.{IsLong}
+use Rattle.avro_file_parts.specs.Number.{IsLong}
 use Rattle.avro_schema.specs.Tree.{Tree}
 use Rattle.avro_file.specs.Value.{Value}
 use Rattle.avro_file.specs.Spelling.{AreJoined, Spells, item_count}

@@ -6,10 +6,10 @@ use Rattle.contract_words.specs.Outcome.{◌>>=◌}
 use Rattle.avro_schema.specs.Tree.{Tree, null, boolean, int, long, float, double, symbols, octets, string, fixed}
 use Rattle.avro_schema.specs.Tree.{structure, array, map, union, Fields, no_fields, field, Branches, no_branches}
 use Rattle.avro_schema.specs.Tree.{branch}
-use Rattle.avro_parts.specs.declared.refusal.Refusal.{Refusal}
-use Rattle.avro_parts.specs.declared.refusal.Refusal.TheVariants.{BadNumber, BadUnion}
-use Rattle.avro_parts.specs.Number.{long_at, int_at}
-use Rattle.avro_parts.specs.Parts.{Position, Read, boolean_at, run_at, bytes_at, string_at, symbol_at, count_at}
+use Rattle.avro_file_parts.specs.declared.refusal.Refusal.{Refusal}
+use Rattle.avro_file_parts.specs.declared.refusal.Refusal.TheVariants.{BadNumber, BadUnion}
+use Rattle.avro_file_parts.specs.Number.{long_at, int_at}
+use Rattle.avro_file_parts.specs.Parts.{Position, Read, boolean_at, run_at, bytes_at, string_at, symbol_at, count_at}
 use Rattle.avro_file.specs.Value.{Value, nothing, truth, small, whole, single, twice, symbol, text, run, raw, fields}
 use Rattle.avro_file.specs.Value.{items, entries, chosen, values_of, Pair, entries_of}
 

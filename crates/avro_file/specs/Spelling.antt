@@ -4,7 +4,7 @@
 use Rattle.std.specs.Prelude.{◌≡◌, ℕ, zero, suc, ◌+◌, ◌<◌, ℤ, pos, negsuc, Bool, true, false, List, [], ◌∷◌, ◌++◌}
 use Rattle.std.specs.Prelude.{length, nat_lt, ◌||◌, ◌⊎◌}
 use Rattle.std.specs.Str.{IsUtf8}
-use Rattle.avro_parts.specs.Number.{IsLong, IsInt}
+use Rattle.avro_file_parts.specs.Number.{IsLong, IsInt}
 use Rattle.avro_schema.specs.Tree.{Tree, null, boolean, int, long, float, double, symbols, octets, string, fixed}
 use Rattle.avro_schema.specs.Tree.{structure, array, map, union, Fields, no_fields, field, Branches, no_branches}
 use Rattle.avro_schema.specs.Tree.{branch}

@@ -2,8 +2,8 @@
 
 ghost use Rattle.std.specs.Prelude.{◌≡◌, ◌≢◌, List, length, Ok};
 ghost use Rattle.contract_words.specs.Outcome.{Gives};
-ghost use Rattle.avro_parts.specs.Exact.{IsRead};
-ghost use Rattle.avro_parts.specs.Parts.{behind};
+ghost use Rattle.avro_file_parts.specs.Exact.{IsRead};
+ghost use Rattle.avro_file_parts.specs.Parts.{behind};
 ghost use Rattle.avro_schema.specs.Tree.{Tree};
 ghost use Rattle.avro_schema.specs.View.{tree};
 ghost use Rattle.avro_file.specs.Alike.{EndAlike};
@@ -15,7 +15,7 @@ use crate::datum::Datum;
 use crate::decode::datum_of;
 use crate::ends::end_of;
 use crate::quick::value_end;
-use avro_parts::{Place, Refusal, head_of, long_of, run_of_len};
+use avro_file_parts::{Place, Refusal, head_of, long_of, run_of_len};
 use avro_schema::Schema;
 use std::alloc::Global;
 

@@ -2,7 +2,7 @@
 
 ghost use Rattle.std.specs.Prelude.{◌≡◌, List, length, IfOk, IsTrue, Ok, None};
 ghost use Rattle.contract_words.specs.Outcome.{Gives};
-ghost use Rattle.avro_parts.specs.Exact.{IsRead};
+ghost use Rattle.avro_file_parts.specs.Exact.{IsRead};
 ghost use Rattle.avro_schema.specs.View.{tree};
 ghost use Rattle.avro_schema.specs.Texts.{schema_of};
 ghost use Rattle.avro_file.specs.Where.{header_of_file, now_of};
@@ -15,7 +15,7 @@ use crate::header::{Header, MAGIC, NO_CODEC, header_of};
 use crate::known::schema_once;
 use crate::named::{KnownSchema, NamedSchema};
 use crate::object::Object;
-use avro_parts::Refusal;
+use avro_file_parts::Refusal;
 use avro_schema::{Schema, SchemaFault};
 use std::alloc::{AllocError, Global};
 

@@ -2,12 +2,12 @@
 
 ghost use Rattle.std.specs.Prelude.{◌≡◌, ◌≤◌, ℕ, ℤ, Option, suc, List, length, Ok, IfOk, map, MatchOption, pos, ◌<ℤ◌, false};
 ghost use Rattle.contract_words.specs.Outcome.{Gives};
-ghost use Rattle.avro_parts.specs.Exact.{IsRead};
+ghost use Rattle.avro_file_parts.specs.Exact.{IsRead};
 ghost use Rattle.avro_schema.specs.declared.schema.ArrayKind.{ArrayKind};
 ghost use Rattle.avro_schema.specs.Tree.{array};
 ghost use Rattle.avro_schema.specs.View.{tree, trees, parts, fields_of, branches_of};
 ghost use Rattle.avro_file.specs.View.{view, views, entry_views};
-ghost use Rattle.avro_parts.specs.Place.{position_of};
+ghost use Rattle.avro_file_parts.specs.Place.{position_of};
 ghost use Rattle.avro_file.specs.Reading.{IsScalar, IsRunOfBytes, with_front, values_at, blocks_at, entry_at};
 ghost use Rattle.avro_file.specs.Reading.{datum_at, fields_at, branch_at, chosen_by};
 ghost use Rattle.avro_file.specs.Spelling.{takes_bytes as takes_some};
@@ -16,7 +16,7 @@ use crate::datum::{Datum, ItemCount};
 use crate::ends::takes_bytes;
 use crate::pairs::{Second, bytes_pairs_of, long_pairs_of, second_of_pair};
 use crate::repeated::nulls_of;
-use avro_parts::{
+use avro_file_parts::{
     Place, Refusal, boolean_of, bytes_of, count_of, int_of, long_of, run_of_len, symbol_of, text_of,
 };
 use avro_schema::{Field, Schema};

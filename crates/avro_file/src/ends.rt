@@ -2,15 +2,15 @@
 
 ghost use Rattle.std.specs.Prelude.{◌≡◌, ◌≤◌, ℕ, suc, List, length, Ok};
 ghost use Rattle.avro_schema.specs.View.{tree, trees, parts, fields_of, branches_of};
-ghost use Rattle.avro_parts.specs.Exact.{IsRead};
-ghost use Rattle.avro_parts.specs.Place.{position_of};
-ghost use Rattle.avro_parts.specs.Parts.{behind};
+ghost use Rattle.avro_file_parts.specs.Exact.{IsRead};
+ghost use Rattle.avro_file_parts.specs.Place.{position_of};
+ghost use Rattle.avro_file_parts.specs.Parts.{behind};
 ghost use Rattle.avro_file.specs.Reading.{IsScalar, IsRunOfBytes, values_at, blocks_at, entry_at, datum_at};
 ghost use Rattle.avro_file.specs.Reading.{fields_at, branch_at, chosen_by};
 ghost use Rattle.avro_file.specs.Spelling.{takes_bytes as takes_some, some_takes_bytes as one_takes_some};
 
 use crate::decode::natural;
-use avro_parts::{
+use avro_file_parts::{
     Place, Refusal, boolean_of, bytes_of, count_of, int_of, long_of, run_of_len, symbol_of, text_of,
 };
 use avro_schema::{Field, Schema};

@@ -1,13 +1,13 @@
 //! The header of a file: its metadata and marker.
 
 ghost use Rattle.std.specs.Prelude.{◌≡◌, List, [], ◌∷◌, length, Ok};
-ghost use Rattle.avro_parts.specs.Exact.{IsRead};
-ghost use Rattle.avro_parts.specs.Place.{position_of};
+ghost use Rattle.avro_file_parts.specs.Exact.{IsRead};
+ghost use Rattle.avro_file_parts.specs.Place.{position_of};
 ghost use Rattle.avro_file.specs.Where.{wanted_of, header_of_file};
 ghost use Rattle.avro_file.specs.Reading.{values_at};
 ghost use Rattle.avro_file.specs.Header.{property_at, wanted_with, wanted_at, metadata_at, header_at};
 
-use avro_parts::{Place, Refusal, bytes_of, count_of, run_of_len, text_of};
+use avro_file_parts::{Place, Refusal, bytes_of, count_of, run_of_len, text_of};
 
 /// How each file begins.
 pub const MAGIC: &[u8] = b"Obj\x01";

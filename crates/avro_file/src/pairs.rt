@@ -5,13 +5,13 @@ ghost use Rattle.contract_words.specs.Outcome.{Gives};
 ghost use Rattle.avro_schema.specs.Tree.{long, octets};
 ghost use Rattle.avro_schema.specs.View.{tree};
 ghost use Rattle.avro_schema.specs.declared.schema.BytesKind.TheVariants.{Plain};
-ghost use Rattle.avro_parts.specs.Place.{position_of};
+ghost use Rattle.avro_file_parts.specs.Place.{position_of};
 ghost use Rattle.avro_file.specs.Reading.{with_front, values_at, blocks_at, datum_at};
 ghost use Rattle.avro_file.specs.View.{long_pairs, bytes_pairs};
 ghost use Rattle.avro_file.specs.Pairs.{pair, IsPair};
 
 use crate::short::{bytes_of, count_of, int_of, long_of};
-use avro_parts::{Place, Refusal};
+use avro_file_parts::{Place, Refusal};
 use avro_schema::{Field, Schema};
 use std::alloc::Global;
 

@@ -3,8 +3,8 @@
 ghost use Rattle.std.specs.Prelude.{◌≡◌, ◌≢◌, ◌≤◌, ◌<◌, ◌+◌, ◌-◌, ◌^◌, ℕ, suc, List, length, Ok, IfSome, slice_range};
 ghost use Rattle.std.specs.Prelude.{drop};
 ghost use Rattle.avro_schema.specs.View.{tree, trees, parts, fields_of, branches_of};
-ghost use Rattle.avro_parts.specs.Number.{number_at, long_at, int_at};
-ghost use Rattle.avro_parts.specs.Parts.{boolean_at, run_at, bytes_at, string_at, symbol_at, count_at as items_at};
+ghost use Rattle.avro_file_parts.specs.Number.{number_at, long_at, int_at};
+ghost use Rattle.avro_file_parts.specs.Parts.{boolean_at, run_at, bytes_at, string_at, symbol_at, count_at as items_at};
 ghost use Rattle.avro_file.specs.Reading.{values_at, blocks_at, entry_at, datum_at, fields_at};
 ghost use Rattle.avro_schema.specs.declared.schema.BytesKind.TheVariants.{Plain};
 ghost use Rattle.avro_schema.specs.Tree.{long, octets, union};
@@ -14,7 +14,7 @@ ghost use Rattle.avro_file.specs.Ending.{standing, EndsWith, Ends, EndsCounted};
 use crate::ends::takes_bytes;
 use crate::pairs::{Second, second_of_pair};
 use crate::window::{WINDOW, is_ascii_run, window_pairs_end};
-use avro_parts::unsigned_of;
+use avro_file_parts::unsigned_of;
 use avro_schema::{Field, Schema};
 
 /// The number at a place, and its end. An end of 0 stands for none.

@@ -2,12 +2,12 @@
 
 ghost use Rattle.std.specs.Prelude.{◌≡◌, suc, length, replicate};
 ghost use Rattle.avro_schema.specs.Tree.{null};
-ghost use Rattle.avro_parts.specs.Exact.{IsRead};
-ghost use Rattle.avro_parts.specs.Place.{position_of};
+ghost use Rattle.avro_file_parts.specs.Exact.{IsRead};
+ghost use Rattle.avro_file_parts.specs.Place.{position_of};
 ghost use Rattle.avro_file.specs.Value.{nothing};
 ghost use Rattle.avro_file.specs.Reading.{blocks_at, datum_at};
 
-use avro_parts::{Place, Refusal, count_of};
+use avro_file_parts::{Place, Refusal, count_of};
 
 /// How many nulls the blocks of an array hold, up to the one that is empty. Other values that take no bytes are counted
 /// as nulls are.

@@ -1,12 +1,12 @@
 //! Numbers of one or two groups, as most are, which are read at once.
 
 ghost use Rattle.std.specs.Prelude.{◌≡◌, Ok, IfSome};
-ghost use Rattle.avro_parts.specs.Exact.{IsRead};
-ghost use Rattle.avro_parts.specs.Number.{int_at, long_at, signed_of};
-ghost use Rattle.avro_parts.specs.Parts.{bytes_at, count_at};
-ghost use Rattle.avro_parts.specs.Place.{position_of};
+ghost use Rattle.avro_file_parts.specs.Exact.{IsRead};
+ghost use Rattle.avro_file_parts.specs.Number.{int_at, long_at, signed_of};
+ghost use Rattle.avro_file_parts.specs.Parts.{bytes_at, count_at};
+ghost use Rattle.avro_file_parts.specs.Place.{position_of};
 
-use avro_parts::{Place, Refusal, run_of_len};
+use avro_file_parts::{Place, Refusal, run_of_len};
 
 /// The number that so many groups of bits stand for, with its sign.
 #[inline(always)]
@@ -40,7 +40,7 @@ pub(crate) fn int_of(bytes: &[u8]) -> Result<(i32, &[u8]), Refusal>
 {
     match short_of(bytes) {
         Some((number, rest)) => Ok((i32::from(number), rest)),
-        None => avro_parts::int_of(bytes),
+        None => avro_file_parts::int_of(bytes),
     }
 }
 
@@ -51,13 +51,13 @@ pub(crate) fn long_of(bytes: &[u8]) -> Result<(i64, &[u8]), Refusal>
 {
     match short_of(bytes) {
         Some((number, rest)) => Ok((i64::from(number), rest)),
-        None => avro_parts::long_of(bytes),
+        None => avro_file_parts::long_of(bytes),
     }
 }
 
 /// A length, and that many bytes.
 #[inline(always)]
-#[tactic(auto, unfolding(avro_parts::specs::Parts::bytes_at))]
+#[tactic(auto, unfolding(avro_file_parts::specs::Parts::bytes_at))]
 pub(crate) fn bytes_of(bytes: &[u8]) -> Result<(&[u8], &[u8]), Refusal>
     ensures { IsRead (λ x. (x.0.now, x.1.now)) result (bytes_at bytes.now) }
 {
@@ -70,7 +70,7 @@ pub(crate) fn bytes_of(bytes: &[u8]) -> Result<(&[u8], &[u8]), Refusal>
 
 /// The count of a block's items.
 #[inline(always)]
-#[tactic(auto, unfolding(avro_parts::specs::Parts::count_at))]
+#[tactic(auto, unfolding(avro_file_parts::specs::Parts::count_at))]
 pub(crate) fn count_of(place: Place<'_>) -> Result<(u64, Place<'_>), Refusal>
     ensures { IsRead (λ x. (x.0, position_of x.1)) result (count_at (position_of place.entry)) }
 {
@@ -80,6 +80,6 @@ pub(crate) fn count_of(place: Place<'_>) -> Result<(u64, Place<'_>), Refusal>
             let left = place.left - items;
             Ok((items, Place { bytes: rest, left }))
         }
-        _ => avro_parts::count_of(place),
+        _ => avro_file_parts::count_of(place),
     }
 }

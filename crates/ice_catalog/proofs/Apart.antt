@@ -2,13 +2,13 @@
 use Rattle.std.proofs.Common.{◌≡◌, ℕ, zero, suc, true, false, List, [], ◌∷◌, ◌++◌, length, refl, sym, ◌∙◌, ap}
 use Rattle.std.specs.Prelude.{◌==◌, cond, slice_set, slice_get, Option, Some, None, Ok, Err}
 use Rattle.std.proofs.lemmas.Bool.Decides.{Decides-eqb}
-use Rattle.ice_versions.specs.declared.change.Commit.{Commit}
+use Rattle.ice_catalog_versions.specs.declared.change.Commit.{Commit}
 use Rattle.ice_catalog.specs.declared.event.Event.{Event}
 use Rattle.ice_catalog.specs.declared.event.Event.TheVariants as on
 use Rattle.ice_catalog.specs.declared.event.Reply.{Reply}
 use Rattle.ice_catalog.specs.declared.event.Reply.TheVariants as reply
 use Rattle.ice_catalog.specs.Apart.{is_of, alone, pin_after, pin_replies, replies_of_pin}
-use Rattle.ice_versions.specs.Histories.{prepared_on}
+use Rattle.ice_catalog_versions.specs.Histories.{prepared_on}
 use Rattle.ice_catalog.specs.Machines.{Machine, PinnedScan, at_pin, commit, committed, event, finish_at, in_scan}
 use Rattle.ice_catalog.specs.Machines.{machine_after, merge, replies_to, take}
 

@@ -6,12 +6,12 @@ use Rattle.ice_manifest_reading.specs.declared.row.Row.{Row}
 use Rattle.ice_state.specs.Contents.{World, HasBytesAt, add, content}
 use Rattle.ice_state.specs.Joins.{either}
 use Rattle.ice_state.specs.Outcomes.{outcome}
-use Rattle.ice_versions.specs.Histories.{History, state_of}
+use Rattle.ice_catalog_versions.specs.Histories.{History, state_of}
 use Rattle.ice_catalog.specs.Machines.{PinnedScan, finish, finish_by, finished, merge, merge_by, take, take_by}
 use Rattle.ice_catalog.specs.Machines.{took_row, with_worker, world_in, world_of}
-use Rattle.ice_versions.specs.States.{State}
+use Rattle.ice_catalog_versions.specs.States.{State}
 use Rattle.ice_catalog.specs.declared.event.Reply.TheVariants as reply
-use Rattle.ice_versions.specs.declared.world.World as files
+use Rattle.ice_catalog_versions.specs.declared.world.World as files
 
 same_world : (state : Option State) (w : files.World) → option_map (λ s. s.world) state ≡ Some w → (path : List ℕ)
     → world_in state path ≡ get w path

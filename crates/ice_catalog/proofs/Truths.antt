@@ -18,11 +18,11 @@ use Rattle.ice_manifest_fields.specs.declared.fault.ListFault.{ListFault}
 use Rattle.ice_manifest_reading.specs.declared.row.Row.{Row}
 use Rattle.ice_manifest_reading.specs.Lists.{rows_of}
 use Rattle.ice_catalog.specs.Apart.{Reads, TellsTheTruth}
-use Rattle.ice_versions.specs.Bases.{base_rows, rows_at, specs_under, table_specs}
-use Rattle.ice_versions.specs.Covered.{HasCoveredRows}
+use Rattle.ice_catalog_versions.specs.Bases.{base_rows, rows_at, specs_under, table_specs}
+use Rattle.ice_catalog_versions.specs.Covered.{HasCoveredRows}
 use Rattle.ice_catalog.specs.Pins.{as_pin, of_list, of_meta, rows_in, there}
-use Rattle.ice_versions.specs.States.{State}
-use Rattle.ice_versions.proofs.Covered.{IsCoveredAt}
+use Rattle.ice_catalog_versions.specs.States.{State}
+use Rattle.ice_catalog_versions.proofs.Covered.{IsCoveredAt}
 
 -- ---- what a pinned scan reads
 

@@ -26,11 +26,11 @@ use Rattle.ice_state.proofs.Snapshots.{of_snapshot}
 use Rattle.ice_catalog.specs.declared.event.Event.{Event}
 use Rattle.ice_catalog.specs.declared.event.Event.TheVariants as on
 use Rattle.ice_catalog.specs.Apart.{Reads, TellsTheTruth, TookEvery, alone, is_of, pin_after, plan_reply, specs_of}
-use Rattle.ice_versions.specs.Histories.{History, state_of}
+use Rattle.ice_catalog_versions.specs.Histories.{History, state_of}
 use Rattle.ice_catalog.specs.Machines.{Machine, PinnedScan, begun, event, finish_at, finished, machine_after, merge_by}
 use Rattle.ice_catalog.specs.Machines.{pin, pinned_on, take_by, took_row, world_in, world_of}
 use Rattle.ice_catalog.specs.Pins.{as_pin, of_scan, scan_in}
-use Rattle.ice_versions.specs.States.{State}
+use Rattle.ice_catalog_versions.specs.States.{State}
 use Rattle.ice_catalog.proofs.Apart.{after_apart, get_last}
 use Rattle.ice_catalog.proofs.Steps.{finishes}
 

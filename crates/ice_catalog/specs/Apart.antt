@@ -18,12 +18,12 @@ use Rattle.ice_catalog.specs.declared.event.Event.{Event}
 use Rattle.ice_catalog.specs.declared.event.Event.TheVariants as on
 use Rattle.ice_catalog.specs.declared.event.Reply.{Reply}
 use Rattle.ice_catalog.specs.declared.event.Reply.TheVariants as reply
-use Rattle.ice_versions.specs.Covered.{BeganCovered}
-use Rattle.ice_versions.specs.Histories.{History, state_of}
+use Rattle.ice_catalog_versions.specs.Covered.{BeganCovered}
+use Rattle.ice_catalog_versions.specs.Histories.{History, state_of}
 use Rattle.ice_catalog.specs.Machines.{Machine, PinnedScan, finish_in, finished, in_scan, merge, take}
 use Rattle.ice_catalog.specs.Machines.{machine_after, pin, started}
 use Rattle.ice_catalog.specs.Pins.{rows_in}
-use Rattle.ice_versions.specs.States.{State}
+use Rattle.ice_catalog_versions.specs.States.{State}
 
 -- ---- a pin alone
 

@@ -3,8 +3,8 @@ use Rattle.std.specs.Prelude.{List, Bool, Option, refl}
 use Rattle.std.specs.Coded.{Coded, code_by, coded×, coded_list, coded_option, coded_bool}
 use Rattle.ice_state.specs.Scans.{Scanned}
 use Rattle.ice_state.specs.declared.scan.Scan.{the_code}
-use Rattle.ice_versions.specs.Codes.{history_code}
-use Rattle.ice_versions.specs.Histories.{History}
+use Rattle.ice_catalog_versions.specs.Codes.{history_code}
+use Rattle.ice_catalog_versions.specs.Histories.{History}
 use Rattle.ice_catalog.specs.Machines.{Machine, PinnedScan}
 
 abbrev pub pinned_code : Coded PinnedScan

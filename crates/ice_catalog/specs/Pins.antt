@@ -19,7 +19,7 @@ use Rattle.ice_meta.specs.declared.metadata.Target.TheVariants.{Main}
 use Rattle.ice_state.specs.Scans.{Scanned, scan_of}
 use Rattle.ice_state.specs.declared.fault.ScanFault.{ScanFault}
 use Rattle.ice_state.specs.declared.fault.ScanFault.TheVariants as scan
-use Rattle.ice_versions.specs.States.{State}
+use Rattle.ice_catalog_versions.specs.States.{State}
 use Rattle.ice_catalog.specs.declared.pinning.PinFault.{PinFault}
 use Rattle.ice_catalog.specs.declared.pinning.PinFault.TheVariants.{Refused, Memory}
 

@@ -2,19 +2,19 @@
 
 ghost use Rattle.std.specs.Prelude.{◌≡◌, List, ◌++◌, IfOk, length, vec_len};
 ghost use Rattle.ice_catalog.specs.Apart.{TellsPinnedPlans};
-ghost use Rattle.ice_versions.specs.Live.{IsGrown};
+ghost use Rattle.ice_catalog_versions.specs.Live.{IsGrown};
 ghost use Rattle.std.specs.Prelude.{slice_get};
-ghost use Rattle.ice_versions.specs.Histories.{History};
+ghost use Rattle.ice_catalog_versions.specs.Histories.{History};
 ghost use Rattle.ice_catalog.specs.Machines.{at_pin, commit, event, finish_at, finish_in, in_scan, merge, pin, take};
 ghost use Rattle.ice_catalog.specs.Machines.{machine_after, replies_to, started};
 ghost use Rattle.ice_catalog.specs.declared.event.Event.{Event};
 
 use crate::event::{Event, Reply};
-use crate::machine_laws::pinned_plans_of_commits;
+use crate::ice_catalog_laws::pinned_plans_of_commits;
 use crate::scanning::Scanning;
-use ice_book::Book;
+use ice_catalog_book::Book;
 use ice_filter::Filter;
-use ice_versions::{Change, Ids, PrepareFault, Version, prepare};
+use ice_catalog_versions::{Change, Ids, PrepareFault, Version, prepare};
 use std::alloc::{AllocError, Global};
 use std::marker::Model;
 use std::sync::Arc;

@@ -3,11 +3,11 @@
 ghost use Rattle.std.specs.Prelude.{◌≡◌, ℕ, List, Option, Some, length, slice_get};
 ghost use Rattle.ice_catalog.specs.Apart.{Reads, TellsTheTruth, TookEvery, pin_after, pin_replies, plan_reply};
 ghost use Rattle.ice_catalog.specs.Apart.{replies_of_pin};
-ghost use Rattle.ice_versions.specs.Covered.{BeganCovered};
-ghost use Rattle.ice_versions.specs.Histories.{state_of};
-ghost use Rattle.ice_versions.specs.Live.{IsGrown};
+ghost use Rattle.ice_catalog_versions.specs.Covered.{BeganCovered};
+ghost use Rattle.ice_catalog_versions.specs.Histories.{state_of};
+ghost use Rattle.ice_catalog_versions.specs.Live.{IsGrown};
 ghost use Rattle.ice_catalog.specs.Machines.{Machine, PinnedScan, event, machine_after, pin, pinned_on, replies_to};
-ghost use Rattle.ice_versions.specs.States.{State};
+ghost use Rattle.ice_catalog_versions.specs.States.{State};
 ghost use Rattle.ice_catalog.specs.declared.event.Event.{Event};
 ghost use Rattle.ice_catalog.specs.declared.event.Event.TheVariants.{Finish};
 ghost use Rattle.ice_filter.specs.declared.bound.BoundLeaf.{BoundLeaf};

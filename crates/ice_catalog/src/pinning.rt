@@ -10,7 +10,7 @@ use ice_filter::{Filter, FilterFault, bind};
 use ice_manifest::{ListFault, Row, read_list};
 use ice_meta::{MetaFault, Metadata, Target};
 use ice_state::{Scan, ScanFault};
-use ice_versions::World;
+use ice_catalog_versions::World;
 use std::alloc::{AllocError, Global};
 
 /// Why a version is not scanned.

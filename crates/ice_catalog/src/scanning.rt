@@ -13,7 +13,7 @@ use crate::event::Reply;
 use crate::pinning::{PinFault, scan_of};
 use ice_filter::Filter;
 use ice_state::{FinishFault, Partial, Scan};
-use ice_versions::Version;
+use ice_catalog_versions::Version;
 use std::alloc::{AllocError, Global};
 use std::marker::Model;
 use std::sync::Arc;

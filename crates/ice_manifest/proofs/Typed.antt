@@ -10,7 +10,7 @@ use Rattle.avro_schema.specs.declared.schema.ArrayKind.{ArrayKind}
 use Rattle.avro_schema.specs.declared.schema.BytesKind.{BytesKind}
 use Rattle.avro_schema.specs.Tree as tree_of
 use Rattle.avro_schema.specs.Tree.{Tree, Fields, no_fields, field, structure}
-use Rattle.avro_parts.specs.Number.{IsLong as SpellsLong, IsInt as SpellsInt}
+use Rattle.avro_file_parts.specs.Number.{IsLong as SpellsLong, IsInt as SpellsInt}
 use Rattle.avro_file.specs.Value.{Value, nothing, truth, small, whole, text, run, raw, fields, items, chosen, values_of}
 use Rattle.avro_file.specs.Spelling.{AreJoined, Spells, SpellsFields, bit}
 use Rattle.avro_file.specs.Writing.{long_bytes, run_bytes}

@@ -12,14 +12,14 @@ use Rattle.avro_file.specs.Value.{Value}
 use Rattle.avro_file.specs.Ahead.{Ahead, running, refusing}
 use Rattle.avro_file.specs.Files.{Next, Shows}
 use Rattle.avro_file.specs.Picking.{Typed}
-use Rattle.avro_picked.specs.Finding.{is_structure}
+use Rattle.avro_file_picked.specs.Finding.{is_structure}
 use Rattle.ice_meta.specs.declared.spec.PartitionField.{PartitionField}
 use Rattle.ice_value.specs.declared.file_bounds.FileBounds.{FileBounds}
 use Rattle.ice_manifest_fields.specs.Schemas.{fields_in}
 use Rattle.ice_manifest_fields.specs.Fields.{asked, optional_long}
-use Rattle.ice_entry_found.specs.declared.entry.FoundEntry.{FoundEntry}
-use Rattle.ice_entry_found.specs.declared.file.FoundFile.{FoundFile}
-use Rattle.ice_entry_found.specs.Seen.{entry_seen, record_met, file_of, file_seen, IsFile}
+use Rattle.ice_manifest_layouts.specs.declared.entry.FoundEntry.{FoundEntry}
+use Rattle.ice_manifest_layouts.specs.declared.file.FoundFile.{FoundFile}
+use Rattle.ice_manifest_layouts.specs.Seen.{entry_seen, record_met, file_of, file_seen, IsFile}
 use Rattle.ice_manifest_reading.specs.declared.data_file.DataFile.{DataFile}
 use Rattle.ice_manifest_reading.specs.declared.row.ManifestContent.{ManifestContent}
 use Rattle.ice_manifest_reading.specs.declared.status.Status.{Status}

@@ -16,16 +16,16 @@ use Rattle.avro_file.specs.Value.{Value}
 use Rattle.avro_file.specs.Ahead.{Ahead, running, refusing}
 use Rattle.avro_file.specs.Files.{Next, Shows}
 use Rattle.avro_file.specs.Picking.{Typed}
-use Rattle.avro_picked.specs.Finding.{is_structure}
+use Rattle.avro_file_picked.specs.Finding.{is_structure}
 use Rattle.ice_meta.specs.declared.spec.Spec.{Spec}
 use Rattle.ice_manifest_fields.specs.declared.fault.ManifestFault.{ManifestFault}
 use Rattle.ice_manifest_fields.specs.Schemas.{fields_in}
 use Rattle.ice_manifest_fields.proofs.Joining.{joined}
-use Rattle.ice_entry_found.specs.declared.entry.FoundEntry.{FoundEntry}
-use Rattle.ice_entry_found.specs.declared.file.FoundFile.{FoundFile}
-use Rattle.ice_entry_found.specs.Seen.{entry_seen, record_met, file_of, file_seen, IsFile}
+use Rattle.ice_manifest_layouts.specs.declared.entry.FoundEntry.{FoundEntry}
+use Rattle.ice_manifest_layouts.specs.declared.file.FoundFile.{FoundFile}
+use Rattle.ice_manifest_layouts.specs.Seen.{entry_seen, record_met, file_of, file_seen, IsFile}
 use Rattle.ice_manifest_fields.specs.Seen.{fields_seen}
-use Rattle.ice_entry_found.proofs.Shown.{entry_is, structure_is}
+use Rattle.ice_manifest_layouts.proofs.Shown.{entry_is, structure_is}
 use Rattle.ice_manifest_reading.specs.declared.row.Row.{Row}
 use Rattle.ice_manifest_reading.specs.declared.entry.Entry.{Entry}
 use Rattle.ice_manifest_reading.specs.declared.entry.Live.{Live}

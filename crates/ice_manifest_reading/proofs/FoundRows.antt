@@ -5,7 +5,7 @@ use Rattle.avro_schema.specs.View.{tree}
 use Rattle.avro_file.specs.Ahead.{Ahead}
 use Rattle.avro_file.specs.Files.{Next, Shows}
 use Rattle.avro_file.specs.Picking.{Typed}
-use Rattle.avro_picked.specs.Finding.{is_structure}
+use Rattle.avro_file_picked.specs.Finding.{is_structure}
 use Rattle.contract_words.specs.Outcome.{◌>>=◌}
 use Rattle.ice_manifest_fields.specs.declared.fault.FieldFault.{FieldFault}
 use Rattle.ice_manifest_fields.specs.declared.fault.ListFault.{ListFault}
@@ -14,10 +14,10 @@ use Rattle.ice_manifest_fields.specs.Naming.{Naming, in_list, told}
 use Rattle.ice_manifest_fields.specs.Schemas.{fields_in}
 use Rattle.ice_manifest_fields.proofs.Joining.{joined, told_ok}
 use Rattle.ice_value.specs.declared.file_bounds.Summary.{Summary}
-use Rattle.ice_manifest_found.specs.declared.row.FoundRow.{FoundRow}
-use Rattle.ice_manifest_found.specs.RowsFound.{row_seen}
-use Rattle.ice_manifest_found.proofs.RowsShown.{row_is}
-use Rattle.ice_entry_found.proofs.Shown.{structure_is}
+use Rattle.ice_manifest_values.specs.declared.row.FoundRow.{FoundRow}
+use Rattle.ice_manifest_values.specs.RowsFound.{row_seen}
+use Rattle.ice_manifest_values.proofs.RowsShown.{row_is}
+use Rattle.ice_manifest_layouts.proofs.Shown.{structure_is}
 use Rattle.ice_manifest_reading.specs.declared.counts.Counts.{Counts}
 use Rattle.ice_manifest_reading.specs.declared.row.ManifestContent.{ManifestContent}
 use Rattle.ice_manifest_reading.specs.declared.row.Row.{Row}

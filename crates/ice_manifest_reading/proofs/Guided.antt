@@ -1,11 +1,11 @@
 -- Where the guide of an entry leads.
 use Rattle.std.proofs.Common.{IfSome, Option, Some, None, refl}
-use Rattle.avro_picked.specs.declared.guide.GuidedObject.{GuidedObject}
-use Rattle.ice_manifest_found.specs.Met.{LeadsToMaps}
-use Rattle.ice_entry_found.specs.declared.field.FileField.TheVariants.{ValueCounts, NullCounts, LowerBounds, UpperBounds}
-use Rattle.ice_entry_found.specs.declared.file.FoundFile.{FoundFile}
-use Rattle.ice_entry_found.specs.Seen.{IsGuidedFile}
-use Rattle.ice_entry_found.specs.Ways.{wanted_ways}
+use Rattle.avro_file_picked.specs.declared.guide.GuidedObject.{GuidedObject}
+use Rattle.ice_manifest_values.specs.Met.{LeadsToMaps}
+use Rattle.ice_manifest_layouts.specs.declared.field.FileField.TheVariants.{ValueCounts, NullCounts, LowerBounds, UpperBounds}
+use Rattle.ice_manifest_layouts.specs.declared.file.FoundFile.{FoundFile}
+use Rattle.ice_manifest_layouts.specs.Seen.{IsGuidedFile}
+use Rattle.ice_manifest_layouts.specs.Ways.{wanted_ways}
 use Rattle.ice_manifest_reading.specs.Behind.{maps_at}
 
 pub leads_to_maps : (f : FoundFile) (guided : Option GuidedObject) → IfSome guided (λ g. IsGuidedFile f g)

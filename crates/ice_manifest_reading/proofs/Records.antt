@@ -2,7 +2,7 @@
 use Rattle.std.proofs.Common.{◌≡◌, ℤ, pos, Bool, true, Option, Some, None, Ok, refl, ap, subst}
 use Rattle.avro_schema.specs.Tree.{Tree, null, boolean, int, long, float, double, symbols, octets, string, fixed}
 use Rattle.avro_schema.specs.Tree.{structure, array, map, union}
-use Rattle.avro_picked.specs.Finding.{is_structure}
+use Rattle.avro_file_picked.specs.Finding.{is_structure}
 use Rattle.ice_meta.specs.declared.spec.Spec.{Spec}
 use Rattle.ice_manifest_fields.specs.declared.fault.FieldFault.TheVariants.{WrongType}
 use Rattle.ice_manifest_fields.specs.Types.{is_whole, is_text, fits}

@@ -3,15 +3,15 @@ use Rattle.std.proofs.Common.{◌≡◌, ℕ, ℤ, pos, Bool, List, [], ◌∷�
 use Rattle.std.proofs.Common.{◌∙◌, inl, inr}
 use Rattle.contract_words.specs.Outcome.{◌>>=◌}
 use Rattle.avro_file.specs.Picking.{Typed, Picked, pick}
-use Rattle.avro_picked.specs.Guides.{AreAsked}
+use Rattle.avro_file_picked.specs.Guides.{AreAsked}
 use Rattle.ice_value.specs.declared.file_bounds.Summary.{Summary}
 use Rattle.ice_manifest_fields.specs.declared.fault.FieldFault.{FieldFault}
 use Rattle.ice_manifest_fields.specs.Fields.{at, there, asked, record_of, truth_of, binary_of}
 use Rattle.ice_manifest_fields.specs.Fields.{truth_at, optional_truth, optional_binary}
 use Rattle.ice_manifest_fields.specs.Naming.{in_list, lists_field, told}
-use Rattle.ice_manifest_found.proofs.Itself.{RecordMet, record_met}
+use Rattle.ice_manifest_values.proofs.Itself.{RecordMet, record_met}
 use Rattle.ice_manifest_reading.specs.Lists.{summary_in, summary_of}
-use Rattle.ice_manifest_found.specs.RowsFound.{summary_ids}
+use Rattle.ice_manifest_values.specs.RowsFound.{summary_ids}
 use Rattle.ice_manifest_reading.specs.SummaryWays.{summary_ways}
 
 abbrev summary : Bool → Option Bool → Option (List ℕ) → Option (List ℕ) → Summary

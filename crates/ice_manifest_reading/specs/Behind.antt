@@ -6,12 +6,12 @@ use Rattle.ice_manifest_fields.specs.declared.fault.ManifestFault.{ManifestFault
 use Rattle.ice_manifest_fields.specs.declared.fault.ManifestFault.TheVariants.{Memory}
 use Rattle.ice_manifest_fields.specs.Naming.{in_manifest, told}
 use Rattle.ice_manifest_fields.specs.Fields.{at}
-use Rattle.ice_manifest_found.specs.declared.maps.ReadMaps.{ReadMaps}
-use Rattle.ice_manifest_found.specs.Met.{MapsMet}
-use Rattle.ice_manifest_found.specs.declared.maps.FoundMaps.{FoundMaps}
-use Rattle.ice_manifest_found.specs.MapsRead.{AreMet, AreRead}
-use Rattle.ice_entry_found.specs.declared.file.FoundFile.{FoundFile}
-use Rattle.ice_entry_found.specs.Seen.{file_seen}
+use Rattle.ice_manifest_values.specs.declared.maps.ReadMaps.{ReadMaps}
+use Rattle.ice_manifest_values.specs.Met.{MapsMet}
+use Rattle.ice_manifest_values.specs.declared.maps.FoundMaps.{FoundMaps}
+use Rattle.ice_manifest_values.specs.MapsRead.{AreMet, AreRead}
+use Rattle.ice_manifest_layouts.specs.declared.file.FoundFile.{FoundFile}
+use Rattle.ice_manifest_layouts.specs.Seen.{file_seen}
 use Rattle.ice_manifest_reading.specs.declared.data_file.DataFile.{DataFile}
 
 -- what stands at the maps of a file's columns

@@ -3,7 +3,7 @@
 ghost use Rattle.std.specs.Prelude.{◌≡◌, false, ◌++◌, Ok, OnOk};
 ghost use Rattle.contract_words.specs.Outcome.{Gives};
 ghost use Rattle.ice_manifest_fields.specs.Maps.{columns_of as columns_said};
-ghost use Rattle.ice_entry_found.specs.Seen.{file_seen, IsFile};
+ghost use Rattle.ice_manifest_layouts.specs.Seen.{file_seen, IsFile};
 ghost use Rattle.ice_value.specs.declared.file_bounds.FileBounds.{FileBounds};
 ghost use Rattle.ice_manifest_reading.specs.Keeping.{live_with};
 ghost use Rattle.ice_manifest_reading.specs.Collecting.{kept_each, told_each, if_kept};
@@ -13,7 +13,7 @@ use crate::entry::{EntryView, Live};
 use crate::gather::Gather;
 use crate::keep::Keep;
 use crate::tell::Tell;
-use ice_entry_found::FoundFile;
+use ice_manifest_layouts::FoundFile;
 use ice_manifest_fields::ManifestFault;
 use std::alloc::{AllocError, Global};
 

@@ -4,14 +4,14 @@ ghost use Rattle.std.specs.Prelude.{◌≡◌, IfSome};
 ghost use Rattle.contract_words.specs.Outcome.{Gives};
 ghost use Rattle.ice_manifest_fields.specs.Maps.{columns_of as columns_said};
 ghost use Rattle.ice_manifest_fields.specs.Naming.{in_manifest, told};
-ghost use Rattle.ice_manifest_found.specs.Met.{Checks};
-ghost use Rattle.ice_entry_found.specs.Seen.{file_seen, IsFile, IsGuidedFile};
+ghost use Rattle.ice_manifest_values.specs.Met.{Checks};
+ghost use Rattle.ice_manifest_layouts.specs.Seen.{file_seen, IsFile, IsGuidedFile};
 ghost use Rattle.ice_manifest_reading.specs.Behind.{AreMapsIn, AreMapsOf};
 
-use avro_picked::GuidedObject;
-use ice_entry_found::{FileField, FoundFile};
+use avro_file_picked::GuidedObject;
+use ice_manifest_layouts::{FileField, FoundFile};
 use ice_manifest_fields::ManifestFault;
-use ice_manifest_found::{FoundMaps, ReadMaps};
+use ice_manifest_values::{FoundMaps, ReadMaps};
 use ice_value::FileBounds;
 use std::alloc::Global;
 

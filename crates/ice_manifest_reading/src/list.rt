@@ -4,12 +4,12 @@ ghost use Rattle.std.specs.Prelude.{◌≡◌, ◌≤◌, ◌++◌, [], ◌∷�
 ghost use Rattle.std.specs.List.Sorted.{IsStrictlySortedBy};
 ghost use Rattle.contract_words.specs.Outcome.{Gives};
 ghost use Rattle.avro_file.specs.Files.{ahead, type_of};
-ghost use Rattle.avro_picked.specs.Finding.{layout_tree, ways_of, is_structure};
-ghost use Rattle.avro_picked.specs.Placing.{IsLayout};
+ghost use Rattle.avro_file_picked.specs.Finding.{layout_tree, ways_of, is_structure};
+ghost use Rattle.avro_file_picked.specs.Placing.{IsLayout};
 ghost use Rattle.ice_manifest_fields.specs.Fields.{at, there};
 ghost use Rattle.ice_manifest_fields.specs.Naming.{in_list, told};
 ghost use Rattle.ice_manifest_fields.specs.Schemas.{fields_in};
-ghost use Rattle.ice_manifest_found.specs.RowsFound.{row_seen, row_ways, IsRow};
+ghost use Rattle.ice_manifest_values.specs.RowsFound.{row_seen, row_ways, IsRow};
 ghost use Rattle.ice_manifest_reading.specs.Lists.{rows_of, row_of as row_said, row_content as content_in};
 ghost use Rattle.ice_manifest_reading.specs.Lists.{content_at as content_said, counts_at as counts_said};
 ghost use Rattle.ice_manifest_reading.specs.Lists.{summaries_in};
@@ -21,10 +21,10 @@ use crate::counts::Counts;
 use crate::row::{LentRow, ManifestContent, Row, kept_summaries};
 use crate::summaries::summaries_in_list;
 use avro_file::{Container, Objects};
-use avro_picked::Layout;
+use avro_file_picked::Layout;
 use contract_words::{Items, Text};
 use ice_manifest_fields::{FieldFault, ListFault, check_row_fields, fields_of};
-use ice_manifest_found::{FoundRow, RowField, row_layout};
+use ice_manifest_values::{FoundRow, RowField, row_layout};
 use ice_value::Summary;
 use std::alloc::{AllocError, Global};
 

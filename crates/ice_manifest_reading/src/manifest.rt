@@ -5,16 +5,16 @@ ghost use Rattle.std.specs.Option.{option_copied};
 ghost use Rattle.contract_words.specs.Outcome.{Gives};
 ghost use Rattle.avro_file.specs.Ahead.{still_ahead};
 ghost use Rattle.avro_file.specs.Files.{ahead, type_of};
-ghost use Rattle.avro_picked.specs.Finding.{layout_tree, ways_of, is_structure};
-ghost use Rattle.avro_picked.specs.Placing.{IsLayout};
+ghost use Rattle.avro_file_picked.specs.Finding.{layout_tree, ways_of, is_structure};
+ghost use Rattle.avro_file_picked.specs.Placing.{IsLayout};
 ghost use Rattle.ice_manifest_fields.specs.Fields.{int_or_zero as int_or_zero_said, path_at as path_said};
 ghost use Rattle.ice_manifest_fields.specs.Fields.{long_at as long_said, ints_at as ints_said};
 ghost use Rattle.ice_manifest_fields.specs.Fields.{int_at as int_said, optional_number as number_said};
 ghost use Rattle.ice_manifest_fields.specs.Naming.{in_manifest, told};
 ghost use Rattle.ice_manifest_fields.specs.Schemas.{fields_in};
 ghost use Rattle.ice_manifest_fields.specs.Seen.{result_map};
-ghost use Rattle.ice_entry_found.specs.Seen.{entry_seen, IsPlaced, file_seen, IsFile};
-ghost use Rattle.ice_entry_found.specs.Ways.{entry_id, file_id, wanted_ways};
+ghost use Rattle.ice_manifest_layouts.specs.Seen.{entry_seen, IsPlaced, file_seen, IsFile};
+ghost use Rattle.ice_manifest_layouts.specs.Ways.{entry_id, file_id, wanted_ways};
 ghost use Rattle.ice_manifest_reading.specs.Manifests.{live_of, status_of as status_in, status_at as status_said};
 ghost use Rattle.ice_manifest_reading.specs.Manifests.{content_of as content_in, content_at as content_said};
 ghost use Rattle.ice_manifest_reading.specs.Manifests.{format_at as format_said};
@@ -46,11 +46,11 @@ use crate::tally::{Counted, Tallied, Tallies};
 use crate::tell::{Silent, Tell};
 use crate::tuple::tuple_at;
 use avro_file::{Container, Objects, objects_take_bytes};
-use avro_picked::Layout;
+use avro_file_picked::Layout;
 use contract_words::Items;
-use ice_entry_found::{EntryField, FileField, FoundEntry, FoundFile, entry_layout};
+use ice_manifest_layouts::{EntryField, FileField, FoundEntry, FoundFile, entry_layout};
 use ice_manifest_fields::{FieldFault, ManifestFault, fields_of, type_at};
-use ice_manifest_found::{
+use ice_manifest_values::{
     int_asked, ints, long_asked, optional_number, optional_path, path_asked, text, whole,
 };
 use ice_meta::Spec;

@@ -5,8 +5,8 @@ ghost use Rattle.contract_words.specs.Outcome.{Gives};
 ghost use Rattle.avro_schema.specs.View.{tree, trees, branches_of as branches_of_trees};
 ghost use Rattle.avro_file.specs.Picking.{Picked};
 ghost use Rattle.avro_file.specs.View.{view};
-ghost use Rattle.avro_picked.specs.Finding.{IsMet};
-ghost use Rattle.ice_entry_found.specs.Seen.{file_seen, IsFile, tuple_seen, HasTuple};
+ghost use Rattle.avro_file_picked.specs.Finding.{IsMet};
+ghost use Rattle.ice_manifest_layouts.specs.Seen.{file_seen, IsFile, tuple_seen, HasTuple};
 ghost use Rattle.ice_manifest_fields.specs.Naming.{in_manifest, told};
 ghost use Rattle.ice_manifest_fields.specs.Fields.{there};
 ghost use Rattle.ice_manifest_fields.specs.Seen.{result_map, fields_seen};
@@ -19,10 +19,10 @@ ghost use Rattle.ice_manifest_reading.specs.Partitions.{cell_of as cell_said, ce
 ghost use Rattle.ice_manifest_reading.specs.Partitions.{tuple_at as tuple_said};
 
 use avro_file::Datum;
-use avro_picked::Found;
+use avro_file_picked::Found;
 use avro_schema::{BytesKind, Field, Schema};
 use contract_words::{Items, Text};
-use ice_entry_found::{FileField, FoundFile};
+use ice_manifest_layouts::{FileField, FoundFile};
 use ice_manifest_fields::{
     FieldFault, Kind, ManifestFault, branches_of, required, shortest, type_at,
 };

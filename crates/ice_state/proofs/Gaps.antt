@@ -11,7 +11,7 @@ use Rattle.std.proofs.lemmas.List.Sorted.{ranks_by}
 use Rattle.std.proofs.lemmas.Slice.Eq.{bytes_eq-Decides}
 use Rattle.contract_words.proofs.Sorted.{Rises, irreflexive, sorted_rises}
 use Rattle.ice_manifest_reading.specs.declared.entry.Entry.{Entry}
-use Rattle.ice_entries.specs.Kept.{no_entry}
+use Rattle.ice_state_entries.specs.Kept.{no_entry}
 use Rattle.ice_state.specs.Outcomes.{by_path, path_before}
 use Rattle.ice_state.specs.Shares.{count_at}
 use Rattle.ice_state.specs.Apart.{IsBehind, IsGap, IsInFront, IsRun, path_at, ShareNoPath}

@@ -13,7 +13,7 @@ use Rattle.ice_deletes.specs.Found.{data_key, holds, is_content}
 use Rattle.ice_deletes.specs.Groups.{is_in}
 use Rattle.ice_deletes.specs.Unions.{renumbered}
 use Rattle.ice_manifest_reading.specs.declared.entry.Entry.{Entry}
-use Rattle.ice_entries.specs.Kept.{AreNeighbours, no_entry}
+use Rattle.ice_state_entries.specs.Kept.{AreNeighbours, no_entry}
 use Rattle.ice_state.specs.declared.segments.FileNumber.{FileNumber}
 use Rattle.ice_state.specs.Applying.{data_key_of}
 use Rattle.ice_state.specs.Parts.{ascending, places_of}

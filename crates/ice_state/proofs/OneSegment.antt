@@ -2,9 +2,9 @@
 use Rattle.std.proofs.Common.{◌≡◌, ◌<◌, ◌++◌, ℕ, zero, suc, [], ◌∷◌, List, refl, sym, ap, subst, length, slice_set}
 use Rattle.std.proofs.Common.{arith}
 use Rattle.ice_manifest_reading.specs.declared.entry.Entry.{Entry}
-use Rattle.ice_entries.specs.declared.entries.EntryNumber.{EntryNumber}
-use Rattle.ice_entries.specs.Kept.{Kept, Keeps as KeepsIn, AreKept, IsKept, entries_at, entry_at}
-use Rattle.ice_entries.proofs.Keeping.{AreAdded, one_added}
+use Rattle.ice_state_entries.specs.declared.entries.EntryNumber.{EntryNumber}
+use Rattle.ice_state_entries.specs.Kept.{Kept, Keeps as KeepsIn, AreKept, IsKept, entries_at, entry_at}
+use Rattle.ice_state_entries.proofs.Keeping.{AreAdded, one_added}
 use Rattle.ice_state.specs.Segments.{Segmented, segment_at, Keeps}
 use Rattle.ice_state.proofs.SegmentLists.{keeps-trans}
 

@@ -9,8 +9,8 @@ use Rattle.std.proofs.lemmas.List.Elements.{filter-append}
 use Rattle.contract_words.specs.Sorting.{sorted}
 use Rattle.contract_words.proofs.Sorted.{sorted_rises, sorted_ties, unique}
 use Rattle.ice_manifest_reading.specs.declared.entry.Entry.{Entry}
-use Rattle.ice_entries.specs.declared.entries.EntryNumber.{EntryNumber}
-use Rattle.ice_entries.specs.Kept.{Kept, IsKept, AreKept, entry_at as kept_entry, entries_at as kept_at, no_entry}
+use Rattle.ice_state_entries.specs.declared.entries.EntryNumber.{EntryNumber}
+use Rattle.ice_state_entries.specs.Kept.{Kept, IsKept, AreKept, entry_at as kept_entry, entries_at as kept_at, no_entry}
 use Rattle.ice_state.specs.declared.sorting.Placed.{Placed}
 use Rattle.ice_state.specs.Apart.{path_at}
 use Rattle.ice_state.specs.Contents.{Content}

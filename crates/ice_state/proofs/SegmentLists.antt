@@ -1,7 +1,7 @@
 -- Segments of entries, and what stands in them.
 use Rattle.std.proofs.Common.{◌≡◌, ◌<◌, ◌+◌, ◌++◌, ℕ, zero, suc, [], ◌∷◌, refl, ap, ◌∙◌, length, slice_set, arith}
 use Rattle.std.proofs.lemmas.List.{length-append}
-use Rattle.ice_entries.specs.Kept.{Kept, Keeps as KeepsIn}
+use Rattle.ice_state_entries.specs.Kept.{Kept, Keeps as KeepsIn}
 use Rattle.ice_state.specs.Segments.{Segmented, segment_at, Keeps}
 
 keeps_refl_in : (kept : Kept) → KeepsIn kept kept

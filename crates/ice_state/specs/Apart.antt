@@ -3,7 +3,7 @@ use Rattle.std.specs.Prelude.{◌≡◌, ℕ, suc, ◌<◌, ◌≤◌, ◌-◌, 
 use Rattle.std.specs.Cmp.Lexicographic.{slice_cmp}
 use Rattle.std.specs.Ordering.{nat_cmp, is_lt}
 use Rattle.ice_manifest_reading.specs.declared.entry.Entry.{Entry}
-use Rattle.ice_entries.specs.Kept.{no_entry}
+use Rattle.ice_state_entries.specs.Kept.{no_entry}
 use Rattle.ice_state.specs.Shares.{count_at}
 
 -- no path is that of entries of both

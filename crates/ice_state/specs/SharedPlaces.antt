@@ -3,7 +3,7 @@
 use Rattle.std.specs.Prelude.{ℕ, ◌<◌, List, length, map, slice_index_or}
 use Rattle.std.specs.List.{AllByRecursion}
 use Rattle.ice_manifest_reading.specs.declared.entry.Entry.{Entry}
-use Rattle.ice_entries.specs.Kept.{AreNeighbours, no_entry}
+use Rattle.ice_state_entries.specs.Kept.{AreNeighbours, no_entry}
 use Rattle.ice_state.specs.PlaceLists.{LinePlaces, no_places}
 
 -- the line at a place

@@ -1,7 +1,7 @@
 -- How a state keeps what its manifests gave: by a segment and the numbers of entries there. No public contract cites these words.
 use Rattle.std.specs.Prelude.{◌<◌, List, length, map, Option, option_map, IfSome}
 use Rattle.std.specs.List.{AllByRecursion}
-use Rattle.ice_entries.specs.Kept.{entries_at}
+use Rattle.ice_state_entries.specs.Kept.{entries_at}
 use Rattle.ice_state.specs.declared.ordered.Ordered.{Ordered}
 use Rattle.ice_state.specs.declared.taken.Taken.{Taken}
 use Rattle.ice_state.specs.declared.taken.Taken.TheVariants as taken

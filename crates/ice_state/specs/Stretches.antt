@@ -1,8 +1,8 @@
 -- Stretches of alike files. No public contract cites these words.
 use Rattle.std.specs.Prelude.{ℕ, ◌<◌, ◌≤◌, List, length, slice_index_or}
 use Rattle.ice_manifest_reading.specs.declared.entry.Entry.{Entry}
-use Rattle.ice_entries.specs.Alike.{AreAlike}
-use Rattle.ice_entries.specs.Kept.{no_entry}
+use Rattle.ice_state_entries.specs.Alike.{AreAlike}
+use Rattle.ice_state_entries.specs.Kept.{no_entry}
 use Rattle.ice_state.specs.declared.segments.FileNumber.{FileNumber}
 use Rattle.ice_state.specs.Segments.{Segmented, entries_at}
 

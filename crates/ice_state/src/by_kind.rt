@@ -3,7 +3,7 @@
 ghost use Rattle.std.specs.Prelude.{◌≡◌, ◌++◌, ◌∷◌, [], IfOk, IfSome, IsTrue, length, List, OnOk, option_map};
 ghost use Rattle.std.specs.List.{range_with_len};
 ghost use Rattle.std.specs.List.Sorted.{IsPermutation};
-ghost use Rattle.ice_entries.specs.Kept.{entries_at as entries_in};
+ghost use Rattle.ice_state_entries.specs.Kept.{entries_at as entries_in};
 ghost use Rattle.ice_manifest_reading.specs.declared.entry.Entry.{Entry};
 ghost use Rattle.ice_state.specs.ByKind.{AreFilesOf, HasFilesOf};
 ghost use Rattle.ice_state.specs.KeptDeletes.{IsState};

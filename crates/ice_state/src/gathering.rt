@@ -1,11 +1,11 @@
 //! Entries that are put to a segment as they are read.
 
 ghost use Rattle.std.specs.Prelude.{◌≡◌, ◌<◌, [], length};
-ghost use Rattle.ice_entries.specs.Kept.{AreKept as AreKeptIn};
+ghost use Rattle.ice_state_entries.specs.Kept.{AreKept as AreKeptIn};
 ghost use Rattle.ice_state.specs.Segments.{segment_at};
 
 use crate::segments::Segments;
-use ice_entries::EntryNumber;
+use ice_state_entries::EntryNumber;
 use ice_manifest_reading::{EntryView, Gather};
 use std::alloc::{AllocError, Global};
 use std::marker::Model;
@@ -20,7 +20,7 @@ pub(crate) struct Gathering {
 
 impl Model for Gathering {
     ghost use Rattle.std.specs.Prelude.{◌<◌, length};
-    ghost use Rattle.ice_entries.specs.Kept.{AreKept as AreKeptIn};
+    ghost use Rattle.ice_state_entries.specs.Kept.{AreKept as AreKeptIn};
     ghost use Rattle.ice_state.specs.PutSoFar.{PutSoFar};
     ghost use Rattle.ice_state.specs.Segments.{segment_at};
 
@@ -65,7 +65,7 @@ impl Gathering {
 impl<'d> Gather<'d> for Gathering {
     ghost use Rattle.std.specs.Prelude.{◌≡◌, refl};
     ghost use Rattle.std.proofs.Common.{◌∙◌};
-    ghost use Rattle.ice_entries.specs.Kept.{entries_at as entries_in};
+    ghost use Rattle.ice_state_entries.specs.Kept.{entries_at as entries_in};
     ghost use Rattle.ice_state.specs.Segments.{segment_at, Keeps};
 
     ghost gathered = { λ g. entries_in (segment_at g.segments g.segment) g.numbers };

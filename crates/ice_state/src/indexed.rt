@@ -2,7 +2,7 @@
 
 ghost use Rattle.std.specs.Prelude.{◌≡◌, ◌++◌, filter, length, IfOk, IfSome, List, OnOk, option_map, Some};
 ghost use Rattle.std.specs.List.Sorted.{IsPermutation};
-ghost use Rattle.ice_entries.specs.Kept.{entries_at as entries_in};
+ghost use Rattle.ice_state_entries.specs.Kept.{entries_at as entries_in};
 ghost use Rattle.ice_manifest_reading.specs.declared.entry.Entry.{Entry};
 ghost use Rattle.ice_state.specs.KeptDeletes.{HasPlaces, IsIndexOf};
 ghost use Rattle.ice_state.specs.Outcomes.{entries_in as entries_given, kept_in};

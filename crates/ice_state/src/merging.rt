@@ -10,7 +10,7 @@ use crate::ordered::Ordered;
 use crate::segments::Segments;
 use crate::taken::Taken;
 use contract_words::Items;
-use ice_entries::Room;
+use ice_state_entries::Room;
 use std::alloc::{AllocError, Global};
 
 /// Whether each row that the second slots took is taken in the first.

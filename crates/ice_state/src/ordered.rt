@@ -3,7 +3,7 @@
 ghost use Rattle.std.specs.Prelude.{◌≡◌, [], IfOk, IfSome, IsTrue, List, length, map};
 ghost use Rattle.std.specs.List.{range_with_len};
 ghost use Rattle.std.specs.List.Sorted.{IsPermutation};
-ghost use Rattle.ice_entries.specs.Kept.{AreKept, entries_at};
+ghost use Rattle.ice_state_entries.specs.Kept.{AreKept, entries_at};
 ghost use Rattle.ice_manifest_reading.specs.declared.entry.Entry.{Entry};
 ghost use Rattle.ice_state.specs.Orders.{AreOrdered, IsOrder};
 ghost use Rattle.ice_state.specs.Outcomes.{by_path, twice};
@@ -15,7 +15,7 @@ use crate::segments::{FileNumber, Segments};
 use crate::sorting::{Placed, sort_by_path};
 use crate::taken::Taken;
 use contract_words::Items;
-use ice_entries::{Entries, EntryNumber};
+use ice_state_entries::{Entries, EntryNumber};
 use std::alloc::{AllocError, Global};
 
 /// Kept entries: the segment that keeps them, their numbers there in the order of their positions, and the places of

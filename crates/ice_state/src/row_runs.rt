@@ -3,7 +3,7 @@
 ghost use Rattle.std.specs.Prelude.{◌≡◌, ◌<◌, [], IfSome, IsTrue, length, option_map};
 ghost use Rattle.std.specs.List.{range_with_len};
 ghost use Rattle.std.specs.List.Sorted.{IsPermutation};
-ghost use Rattle.ice_entries.specs.Kept.{entries_at as entries_in};
+ghost use Rattle.ice_state_entries.specs.Kept.{entries_at as entries_in};
 ghost use Rattle.ice_state.specs.Orders.{runs_at};
 ghost use Rattle.ice_state.specs.Outcomes.{by_path, entries_in as entries_given, twice};
 ghost use Rattle.ice_state.specs.Apart.{path_at};

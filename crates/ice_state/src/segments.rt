@@ -1,14 +1,14 @@
 //! Entries that are kept in segments.
 
 ghost use Rattle.std.specs.Prelude.{◌≡◌, ◌<◌, ◌++◌, ◌^◌, ◌↔◌, [], length, IfOk, IsTrue, OnErr, OnOk};
-ghost use Rattle.ice_entries.specs.Kept.{AreKept as AreKeptIn, entries_at as entries_in};
-ghost use Rattle.ice_entries.specs.Kept.{IsKept as IsKeptIn, entry_at as entry_in, nothing_kept};
-ghost use Rattle.ice_entries.specs.Alike.{AreAlike};
+ghost use Rattle.ice_state_entries.specs.Kept.{AreKept as AreKeptIn, entries_at as entries_in};
+ghost use Rattle.ice_state_entries.specs.Kept.{IsKept as IsKeptIn, entry_at as entry_in, nothing_kept};
+ghost use Rattle.ice_state_entries.specs.Alike.{AreAlike};
 ghost use Rattle.ice_manifest_reading.specs.Lending.{lent, HasShortPaths};
 ghost use Rattle.ice_state.specs.Segments.{AreBefore, entry_at, IsKept, Keeps, segment_at, Segmented};
 ghost use Rattle.ice_state.specs.Segments.{StandsBehind};
 
-use ice_entries::{Entries, EntryNumber, Room};
+use ice_state_entries::{Entries, EntryNumber, Room};
 use ice_manifest_reading::LentEntry;
 use ice_value::{FileContent, is_same_tuple};
 use std::alloc::{AllocError, Global};

@@ -3,8 +3,8 @@
 #![tactic(auto)]
 
 use contract_words::Text;
-use ice_commands::{Cleared, Progress, ProgressLine, Terminals, run_program};
-use ice_text::{Output, RunFault, report};
+use icescan_commands::{Cleared, Progress, ProgressLine, Terminals, run_program};
+use icescan_text::{Output, RunFault, report};
 use std::alloc::Global;
 use std::io::IsTerminal;
 use std::process::ExitCode;

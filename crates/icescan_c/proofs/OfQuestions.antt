@@ -4,7 +4,7 @@ use Rattle.ice_filter.specs.declared.bound.BoundLeaf.{BoundLeaf}
 use Rattle.ice_filter.specs.declared.parts.Part.{Part}
 use Rattle.ice_manifest_reading.specs.declared.row.Row.{Row}
 use Rattle.ice_meta.specs.declared.spec.Spec.{Spec}
-use Rattle.ice_requests.specs.declared.selection.Selection.{Selection}
+use Rattle.icescan_requests.specs.declared.selection.Selection.{Selection}
 use Rattle.ice_state.specs.Scans.{Scanned, by_row_path, scan_of, scan_with, unless_missing, without_spec}
 use Rattle.ice_state.specs.Specs.{by_id}
 use Rattle.icescan_c.specs.Kept.{IsAnswer, IsOfQuestion}

@@ -1,6 +1,6 @@
 -- What calls do to what handles hold.
 use Rattle.std.specs.Prelude.{◌≡◌, ◌⊎◌, ℕ, List, Option, Some, None, Result, Ok, Err}
-use Rattle.ice_text.specs.declared.request.Request.{Request}
+use Rattle.icescan_text.specs.declared.request.Request.{Request}
 use Rattle.icescan_c.specs.Kept.{Kept}
 use Rattle.icescan_c.specs.Making.{Makes, asked, finished, started}
 use Rattle.icescan_c.specs.Requests.{ReadsTexts}

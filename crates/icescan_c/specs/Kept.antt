@@ -1,7 +1,7 @@
 -- What scans and states are.
 use Rattle.std.specs.Prelude.{◌≡◌, Ok}
-use Rattle.ice_requests.specs.Selections.{selected}
-use Rattle.ice_requests.specs.declared.selection.Selection.{Selection}
+use Rattle.icescan_requests.specs.Selections.{selected}
+use Rattle.icescan_requests.specs.declared.selection.Selection.{Selection}
 use Rattle.ice_state.specs.Contents.{Content}
 use Rattle.ice_state.specs.Scans.{Scanned}
 use Rattle.ice_state.specs.Specs.{by_id}

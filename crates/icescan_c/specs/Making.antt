@@ -2,16 +2,16 @@
 use Rattle.std.specs.Prelude.{◌≡◌, ◌≤◌, ℕ, List, length, take, Result, Ok, Err}
 use Rattle.contract_words.specs.Outcome.{Gives, ◌>>=◌}
 use Rattle.ice_manifest_reading.specs.Lists.{rows_of}
-use Rattle.ice_requests.specs.Selections.{selected}
+use Rattle.icescan_requests.specs.Selections.{selected}
 use Rattle.ice_state.specs.Outcomes.{outcome}
 use Rattle.ice_state.specs.Scans.{scan_of}
-use Rattle.ice_text.specs.FaultTexts.{fault_text}
-use Rattle.ice_text.specs.Faults.{of_finish, of_list, of_scan}
-use Rattle.ice_text.specs.Faults.{status_of as fault_status}
-use Rattle.ice_text.specs.Reads.{as_run}
-use Rattle.ice_text.specs.declared.fault.RunFault.{RunFault}
-use Rattle.ice_text.specs.declared.fault.RunFault.TheVariants as run
-use Rattle.ice_text.specs.declared.request.Request.{Request}
+use Rattle.icescan_text.specs.FaultTexts.{fault_text}
+use Rattle.icescan_text.specs.Faults.{of_finish, of_list, of_scan}
+use Rattle.icescan_text.specs.Faults.{status_of as fault_status}
+use Rattle.icescan_text.specs.Reads.{as_run}
+use Rattle.icescan_text.specs.declared.fault.RunFault.{RunFault}
+use Rattle.icescan_text.specs.declared.fault.RunFault.TheVariants as run
+use Rattle.icescan_text.specs.declared.request.Request.{Request}
 use Rattle.icescan_c.specs.Kept.{Answered, AskedScan, Kept}
 use Rattle.icescan_c.specs.declared.held.Held.{Held}
 use Rattle.icescan_c.specs.declared.held.Held.TheVariants as held

@@ -4,7 +4,7 @@ use Rattle.std.specs.List.{AllByRecursion}
 use Rattle.std.specs.Str.{IsUtf8}
 use Rattle.ice_meta.specs.declared.metadata.Target.{Target}
 use Rattle.ice_meta.specs.declared.metadata.Target.TheVariants as target
-use Rattle.ice_text.specs.declared.request.Request.{Request}
+use Rattle.icescan_text.specs.declared.request.Request.{Request}
 use Rattle.icescan_c.specs.declared.status.Refusal.{Refusal}
 use Rattle.icescan_c.specs.declared.status.Refusal.TheVariants as refusal
 

@@ -6,7 +6,7 @@ ghost use Rattle.icescan_c.specs.Requests.{ReadsTexts, by_id, by_name, target_in
 use crate::status::Refusal;
 use contract_words::Text;
 use ice_meta::Target;
-use ice_text::Request;
+use icescan_text::Request;
 use std::alloc::Global;
 use std::str::from_utf8;
 

@@ -11,7 +11,7 @@ use crate::handle::Handle;
 use crate::held::Held;
 use crate::lent::Bytes;
 use crate::status::{Refusal, status};
-use ice_text::Request;
+use icescan_text::Request;
 use std::alloc::Global;
 
 /// Has a handle hold what a request selects of a table, or the line of the fault. A request that could not be read is

@@ -9,7 +9,7 @@ use crate::questions::{Answer, SharedScan};
 use crate::states::State;
 use crate::status::Refusal;
 use contract_words::Items;
-use ice_text::{Request, RunFault, report};
+use icescan_text::{Request, RunFault, report};
 use std::alloc::Global;
 use std::mem::replace;
 

@@ -42,7 +42,7 @@
 //!   about and what to do
 #![tactic(auto)]
 
-use ice_commands::{Silent, Terminals, Watch, run_program};
+use icescan_commands::{Silent, Terminals, Watch, run_program};
 use std::alloc::{AllocError, Global};
 use std::fs;
 use std::io::{self, Write};

@@ -1,6 +1,6 @@
 use Rattle.std.proofs.Common.{sym, ◌∙◌}
 use Rattle.std.proofs.lemmas.Result.{err_from_is_err_and}
-use Rattle.avro_parts.specs.Heads.{head_of_block}
+use Rattle.avro_file_parts.specs.Heads.{head_of_block}
 use Rattle.avro_file.specs.Where.{file_position_of}
 use Rattle.avro_file.proofs.Heads.{head_shorter, enters, ends, left_over, head_stops, nil_when_empty, not_nil}
 use Rattle.avro_file.proofs.blocks.entered.Goals as goal

@@ -1,5 +1,5 @@
 use Rattle.avro_schema.specs.View.{tree}
-use Rattle.avro_parts.specs.Place.{position_of}
+use Rattle.avro_file_parts.specs.Place.{position_of}
 use Rattle.avro_file.proofs.Behind.{object_ends, object_fails}
 use Rattle.avro_file.proofs.blocks.read_object.Goals as goal
 

@@ -4,13 +4,13 @@ use Rattle.std.proofs.lemmas.List.{map_push}
 use Rattle.std.proofs.lemmas.Int.{ints}
 use Rattle.avro_schema.specs.View.{tree}
 use Rattle.avro_file.specs.View.{view, views, entry_views}
-use Rattle.avro_parts.specs.Place.{position_of}
+use Rattle.avro_file_parts.specs.Place.{position_of}
 use Rattle.avro_file.specs.Reading.{entry_at, datum_at, branch_at}
 use Rattle.avro_file.proofs.Views.{field_trees, branch_trees, tree-Record, branch_there, no_branch, structure_fails}
 use Rattle.avro_file.proofs.Views.{structure_read, chosen_fails, is_chosen, view-Record, view-Union, tree-Map, view-Map}
 use Rattle.avro_file.proofs.Views.{map_read, entry_read, key_fails, value_fails}
 use Rattle.avro_file.specs.Value.{Value, nothing}
-use Rattle.avro_parts.specs.Parts.{Position}
+use Rattle.avro_file_parts.specs.Parts.{Position}
 use Rattle.avro_file.proofs.Steps.{ok_is}
 use Rattle.avro_file.specs.declared.pairs.Second.TheVariants as Second
 use Rattle.avro_file.specs.Pairs.{IsPair}

@@ -2,7 +2,7 @@ use Rattle.std.proofs.Common.{◌≡◌, ◌<◌, ◌-◌, ℕ, suc, length, dro
 use Rattle.avro_schema.specs.View.{tree}
 use Rattle.avro_file.specs.View.{views, entry_views}
 use Rattle.avro_file.proofs.Views.{field_trees}
-use Rattle.avro_parts.specs.Place.{position_of}
+use Rattle.avro_file_parts.specs.Place.{position_of}
 use Rattle.avro_file.specs.Reading.{with_front, values_at, blocks_at, entry_at, datum_at, fields_at}
 use Rattle.avro_file.proofs.decode.+datum.Given as goal
 

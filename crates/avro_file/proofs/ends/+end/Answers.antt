@@ -3,8 +3,8 @@ use Rattle.std.proofs.lemmas.Result.{err_from_is_err_and}
 use Rattle.std.proofs.lemmas.Int.{ints}
 use Rattle.avro_schema.specs.View.{tree}
 use Rattle.avro_file.specs.Value.{Value}
-use Rattle.avro_parts.specs.Place.{position_of}
-use Rattle.avro_parts.specs.Parts.{Read, behind}
+use Rattle.avro_file_parts.specs.Place.{position_of}
+use Rattle.avro_file_parts.specs.Parts.{Read, behind}
 use Rattle.avro_file.specs.Reading.{entry_at, datum_at, branch_at}
 use Rattle.avro_file.proofs.Views.{field_trees, branch_trees, tree-Record, branch_there, no_branch, entry_read}
 use Rattle.avro_file.proofs.Views.{key_fails, value_fails}

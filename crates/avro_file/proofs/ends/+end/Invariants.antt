@@ -2,7 +2,7 @@ use Rattle.std.proofs.Common.{◌≡◌, ◌<◌, ◌-◌, ℕ, suc, List, [], l
 use Rattle.avro_schema.specs.View.{tree}
 use Rattle.avro_file.specs.Value.{Value, Pair}
 use Rattle.avro_file.proofs.Views.{field_trees}
-use Rattle.avro_parts.specs.Place.{position_of}
+use Rattle.avro_file_parts.specs.Place.{position_of}
 use Rattle.avro_file.specs.Reading.{with_front, values_at, blocks_at, entry_at, datum_at, fields_at}
 use Rattle.avro_file.proofs.ends.+end.Given as goal
 

@@ -1,6 +1,6 @@
 use Rattle.std.proofs.Common.{◌++◌, [], suc, length, refl, arith}
 use Rattle.std.proofs.lemmas.Result.{err_from_is_err_and}
-use Rattle.avro_parts.specs.Place.{position_of}
+use Rattle.avro_file_parts.specs.Place.{position_of}
 use Rattle.avro_file.specs.Where.{wanted_of}
 use Rattle.avro_file.specs.Header.{property_at, properties_at, none_wanted}
 use Rattle.avro_file.proofs.Loop.{blocks_done, count_fails, block_fails, blocks_on, shorter}

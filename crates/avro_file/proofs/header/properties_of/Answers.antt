@@ -1,8 +1,8 @@
 use Rattle.std.proofs.Common.{◌≡◌, List, ◌∷◌, [], ◌++◌, Ok}
 use Rattle.std.proofs.lemmas.Result.{err_from_is_err_and}
-use Rattle.avro_parts.specs.Place.{position_of}
+use Rattle.avro_file_parts.specs.Place.{position_of}
 use Rattle.avro_file.specs.Where.{wanted_of}
-use Rattle.avro_parts.specs.Parts.{string_at}
+use Rattle.avro_file_parts.specs.Parts.{string_at}
 use Rattle.avro_file.specs.Header.{Property, property_at}
 use Rattle.avro_file.proofs.Loop.{values_on, values_fail, values_done}
 use Rattle.avro_file.proofs.Properties.{wanted_on, key_fails, bytes_fail, property_read, wanted_fails, wanted_found}

@@ -1,5 +1,5 @@
 use Rattle.std.proofs.Common.{◌≡◌, ◌-◌, List, []}
-use Rattle.avro_parts.specs.Place.{position_of}
+use Rattle.avro_file_parts.specs.Place.{position_of}
 use Rattle.avro_file.specs.Where.{wanted_of}
 use Rattle.avro_file.specs.Reading.{with_front, values_at}
 use Rattle.avro_file.specs.Header.{Property, property_at, wanted_with}

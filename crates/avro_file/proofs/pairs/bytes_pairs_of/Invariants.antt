@@ -1,7 +1,7 @@
 use Rattle.std.proofs.Common.{◌≡◌, ◌<◌, ℕ, suc, length}
 use Rattle.avro_schema.specs.declared.schema.BytesKind.TheVariants.{Plain}
 use Rattle.avro_schema.specs.Tree.{octets}
-use Rattle.avro_parts.specs.Place.{position_of}
+use Rattle.avro_file_parts.specs.Place.{position_of}
 use Rattle.avro_file.specs.Reading.{with_front, blocks_at, datum_at}
 use Rattle.avro_file.specs.View.{bytes_pairs}
 use Rattle.avro_file.specs.Pairs.{pair}

@@ -1,6 +1,6 @@
 use Rattle.std.proofs.Common.{◌≡◌, ◌<◌, ℕ, suc, length}
 use Rattle.avro_schema.specs.Tree.{long}
-use Rattle.avro_parts.specs.Place.{position_of}
+use Rattle.avro_file_parts.specs.Place.{position_of}
 use Rattle.avro_file.specs.Reading.{with_front, blocks_at, datum_at}
 use Rattle.avro_file.specs.View.{long_pairs}
 use Rattle.avro_file.specs.Pairs.{pair}

@@ -6,7 +6,7 @@ use mir.Syntax.{w32}
 use mir.Val.{to_z, of_z}
 use Rattle.avro_schema.specs.declared.schema.BytesKind.TheVariants.{Plain}
 use Rattle.avro_schema.specs.Tree.{octets}
-use Rattle.avro_parts.specs.Place.{position_of}
+use Rattle.avro_file_parts.specs.Place.{position_of}
 use Rattle.avro_file.specs.Reading.{datum_at}
 use Rattle.avro_file.specs.Value.{run}
 use Rattle.avro_file.specs.View.{pair_with, bytes_pairs}

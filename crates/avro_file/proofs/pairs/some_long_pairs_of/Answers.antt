@@ -5,7 +5,7 @@ use Rattle.std.proofs.lemmas.Int.{to_z-of_z}
 use mir.Syntax.{w32, w64}
 use mir.Val.{to_z, of_z}
 use Rattle.avro_schema.specs.Tree.{long}
-use Rattle.avro_parts.specs.Place.{position_of}
+use Rattle.avro_file_parts.specs.Place.{position_of}
 use Rattle.avro_file.specs.Reading.{datum_at}
 use Rattle.avro_file.specs.Value.{whole}
 use Rattle.avro_file.specs.View.{pair_with, long_pairs}

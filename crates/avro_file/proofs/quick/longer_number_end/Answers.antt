@@ -1,5 +1,5 @@
 use Rattle.std.proofs.Common.{arith}
-use Rattle.avro_parts.proofs.NumberPlaces.{no_groups, one_more}
+use Rattle.avro_file_parts.proofs.NumberPlaces.{no_groups, one_more}
 use Rattle.avro_file.proofs.Places.{long_ends, int_ends, tenth_ends}
 use Rattle.avro_file.proofs.quick.longer_number_end.Goals as goal
 

@@ -1,5 +1,5 @@
 use Rattle.std.proofs.Common.{arith}
-use Rattle.avro_parts.proofs.NumberPlaces.{one_group}
+use Rattle.avro_file_parts.proofs.NumberPlaces.{one_group}
 use Rattle.avro_file.proofs.quick.number_at.Goals as goal
 
 pub returns-then-first-lt128 : goal.returns-then-first-lt128

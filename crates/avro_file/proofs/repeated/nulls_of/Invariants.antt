@@ -1,6 +1,6 @@
 use Rattle.std.proofs.Common.{◌≡◌, ◌<◌, ◌≤◌, ◌+◌, ℕ, suc, length, replicate}
 use Rattle.avro_schema.specs.Tree.{null}
-use Rattle.avro_parts.specs.Place.{position_of}
+use Rattle.avro_file_parts.specs.Place.{position_of}
 use Rattle.avro_file.specs.Value.{nothing}
 use Rattle.avro_file.specs.Reading.{with_front, blocks_at, datum_at}
 use Rattle.avro_file.proofs.repeated.nulls_of.Given as goal

@@ -3,7 +3,7 @@ use Rattle.std.proofs.lemmas.Int.{to_z-of_z}
 use mir.Syntax.{w16}
 use mir.Val.{to_z, of_z}
 use Rattle.std.proofs.Math.Facts.{Fits-lt-pow}
-use Rattle.avro_parts.proofs.NumberPlaces.{one_group, to_end}
+use Rattle.avro_file_parts.proofs.NumberPlaces.{one_group, to_end}
 use Rattle.avro_file.proofs.FewGroups.{two_groups, is_int, is_long}
 use Rattle.avro_file.proofs.short.short_of.Goals as goal
 

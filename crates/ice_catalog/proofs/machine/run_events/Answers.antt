@@ -2,7 +2,7 @@ use Rattle.std.proofs.Common.{◌≡◌, Some, ◌∷◌, ◌++◌, ◌∙◌, a
 use Rattle.std.proofs.lemmas.List.{append-nil, drop_all}
 use Rattle.std.specs.Prelude.{slice_get}
 use Rattle.ice_catalog.specs.declared.event.Event.TheVariants as on
-use Rattle.ice_versions.specs.Live.{IsGrown}
+use Rattle.ice_catalog_versions.specs.Live.{IsGrown}
 use Rattle.ice_catalog.specs.Machines.{Machine, event, machine_after, replies_to, started}
 use Rattle.ice_catalog.proofs.Midway.{grown_midway, machine_midway, reply_at}
 use Rattle.ice_catalog.proofs.machine.run_events.Goals as goal

@@ -4,8 +4,8 @@ use Rattle.ice_value.specs.declared.file_bounds.FileBounds.{FileBounds}
 use Rattle.ice_manifest_fields.specs.declared.fault.FieldFault.{FieldFault}
 use Rattle.ice_manifest_fields.specs.declared.fault.ManifestFault.TheVariants.{Memory}
 use Rattle.ice_manifest_fields.specs.Naming.{in_manifest, told}
-use Rattle.ice_manifest_found.proofs.Said.{columns_said}
-use Rattle.ice_entry_found.specs.Seen.{file_seen}
+use Rattle.ice_manifest_values.proofs.Said.{columns_said}
+use Rattle.ice_manifest_layouts.specs.Seen.{file_seen}
 use Rattle.ice_manifest_reading.specs.Behind.{maps_at}
 use Rattle.ice_manifest_reading.proofs.columns.columns_of.Goals as goal
 

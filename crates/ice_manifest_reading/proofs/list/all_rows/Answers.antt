@@ -1,7 +1,7 @@
 use Rattle.std.proofs.Common.{sym, ◌∙◌, refl, [], ◌∷◌, ◌++◌}
 use Rattle.std.proofs.lemmas.Result.{err_from_is_err_and}
 use Rattle.avro_file.specs.Files.{ahead}
-use Rattle.avro_picked.specs.Finding.{layout_tree}
+use Rattle.avro_file_picked.specs.Finding.{layout_tree}
 use Rattle.ice_manifest_fields.specs.Schemas.{fields_in}
 use Rattle.ice_manifest_fields.proofs.Joining.{joined}
 use Rattle.ice_manifest_reading.proofs.Reading.{fewer, no_row, rows_end}

@@ -2,7 +2,7 @@ use Rattle.std.proofs.Common.{◌≡◌, true, Ok, sym, ap, subst, ◌∙◌}
 use Rattle.avro_schema.specs.Tree.{Tree}
 use Rattle.avro_file.specs.Ahead.{Ahead}
 use Rattle.avro_file.specs.Files.{tree_of, at_start}
-use Rattle.avro_picked.specs.Finding.{is_structure, layout_tree}
+use Rattle.avro_file_picked.specs.Finding.{is_structure, layout_tree}
 use Rattle.ice_manifest_fields.specs.Schemas.{fields_in, row_fields}
 use Rattle.ice_manifest_reading.proofs.Records.{rows_are_records}
 use Rattle.ice_manifest_reading.specs.Lists.{rows_ahead, rows_of}

@@ -1,8 +1,8 @@
 use Rattle.std.proofs.Common.{sym, ap, ◌∙◌, refl, arith, rules}
 use Rattle.std.proofs.lemmas.Result.{err_from_is_err_and}
 use Rattle.avro_file.specs.Files.{ahead}
-use Rattle.avro_picked.specs.Finding.{layout_tree}
-use Rattle.ice_entry_found.specs.Ways.{wanted_ways}
+use Rattle.avro_file_picked.specs.Finding.{layout_tree}
+use Rattle.ice_manifest_layouts.specs.Ways.{wanted_ways}
 use Rattle.ice_manifest_fields.specs.Schemas.{fields_in}
 use Rattle.ice_manifest_reading.specs.Collecting.{kept_each, told_each}
 use Rattle.ice_manifest_fields.proofs.Joining.{joined}

@@ -1,8 +1,8 @@
 use Rattle.std.proofs.Common.{◌≡◌, ◌+◌, ◌≤◌}
 use Rattle.avro_file.specs.Ahead.{Ahead, still_ahead}
 use Rattle.avro_file.specs.Files.{ahead, type_of}
-use Rattle.avro_picked.specs.Finding.{layout_tree}
-use Rattle.avro_picked.specs.Placing.{FitsLayout}
+use Rattle.avro_file_picked.specs.Finding.{layout_tree}
+use Rattle.avro_file_picked.specs.Placing.{FitsLayout}
 use Rattle.ice_manifest_fields.specs.Schemas.{fields_in}
 use Rattle.ice_manifest_reading.specs.Manifests.{entries_ahead}
 use Rattle.ice_manifest_reading.specs.Collecting.{given_of, kept_each, told_each}

@@ -5,10 +5,10 @@ use Rattle.avro_schema.specs.Tree.{Fields}
 use Rattle.ice_manifest_fields.specs.Schemas.{fields_in, type_at}
 use Rattle.ice_manifest_fields.specs.Seen.{fields_seen}
 use Rattle.ice_manifest_fields.specs.Fields.{at, int_or_zero}
-use Rattle.ice_manifest_found.specs.Met.{int_met}
-use Rattle.ice_manifest_found.proofs.Said.{int_said}
-use Rattle.ice_entry_found.specs.Seen.{file_seen}
-use Rattle.ice_entry_found.specs.Ways.{file_id}
+use Rattle.ice_manifest_values.specs.Met.{int_met}
+use Rattle.ice_manifest_values.proofs.Said.{int_said}
+use Rattle.ice_manifest_layouts.specs.Seen.{file_seen}
+use Rattle.ice_manifest_layouts.specs.Ways.{file_id}
 use Rattle.ice_manifest_reading.proofs.Found.{file_fields_are}
 use Rattle.ice_manifest_reading.proofs.manifest.int_or_zero.Goals as goal
 

@@ -1,10 +1,10 @@
 use Rattle.std.proofs.Common.{◌≡◌, ℤ, to_z, of_z, w32, rules, sym, ap, ◌∙◌}
 use Rattle.std.proofs.lemmas.Int.{to_z-of_z}
 use Rattle.ice_manifest_fields.specs.Fields.{at}
-use Rattle.ice_manifest_found.specs.Met.{optional_number_met}
-use Rattle.ice_manifest_found.proofs.Said.{optional_number_said}
-use Rattle.ice_entry_found.specs.Seen.{entry_seen}
-use Rattle.ice_entry_found.specs.Ways.{entry_id}
+use Rattle.ice_manifest_values.specs.Met.{optional_number_met}
+use Rattle.ice_manifest_values.proofs.Said.{optional_number_said}
+use Rattle.ice_manifest_layouts.specs.Seen.{entry_seen}
+use Rattle.ice_manifest_layouts.specs.Ways.{entry_id}
 use Rattle.ice_manifest_reading.proofs.manifest.number_at.Goals as goal
 
 pub returns : goal.returns

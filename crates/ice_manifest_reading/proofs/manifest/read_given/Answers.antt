@@ -2,8 +2,8 @@ use Rattle.std.proofs.Common.{◌≡◌, ◌≤◌, ◌<◌, ◌^◌, true, Ok, 
 use Rattle.avro_schema.specs.Tree.{Tree}
 use Rattle.avro_file.specs.Ahead.{still_ahead}
 use Rattle.avro_file.specs.Files.{ahead, tree_of, opened}
-use Rattle.avro_picked.specs.Finding.{is_structure}
-use Rattle.ice_entry_found.specs.Ways.{wanted_ways}
+use Rattle.avro_file_picked.specs.Finding.{is_structure}
+use Rattle.ice_manifest_layouts.specs.Ways.{wanted_ways}
 use Rattle.ice_manifest_fields.specs.Schemas.{fields_in}
 use Rattle.ice_manifest_reading.specs.ManifestSchemas.{entry_fields}
 use Rattle.ice_manifest_reading.proofs.Few.{entries_take_bytes}

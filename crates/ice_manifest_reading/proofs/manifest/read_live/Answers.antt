@@ -1,7 +1,7 @@
 use Rattle.std.proofs.Common.{◌≡◌, ℤ, to_z, of_z, w32, w64, refl, ap, ◌∙◌, rules}
 use Rattle.std.proofs.lemmas.Int.{to_z-of_z}
 use Rattle.std.proofs.lemmas.Result.{err_from_is_err_and}
-use Rattle.ice_entry_found.specs.Seen.{file_seen}
+use Rattle.ice_manifest_layouts.specs.Seen.{file_seen}
 use Rattle.ice_manifest_reading.specs.declared.data_file.DataFile.{DataFile}
 use Rattle.ice_manifest_reading.proofs.Found.{Numbered, live_goes}
 use Rattle.ice_manifest_reading.proofs.Said.{columns_read}

@@ -1,6 +1,6 @@
 use Rattle.std.proofs.Common.{sym}
 use Rattle.std.proofs.lemmas.Result.{err_from_is_err_and}
-use Rattle.ice_entry_found.specs.Seen.{entry_seen}
+use Rattle.ice_manifest_layouts.specs.Seen.{entry_seen}
 use Rattle.ice_manifest_reading.specs.Manifests.{entry_of, live_at}
 use Rattle.ice_manifest_reading.specs.Collecting.{kept_each, told_each}
 use Rattle.ice_manifest_reading.proofs.Found.{alive}

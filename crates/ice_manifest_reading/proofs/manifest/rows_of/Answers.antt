@@ -2,7 +2,7 @@ use Rattle.std.proofs.Common.{◌≡◌, ℤ, pos, to_z, of_z, w64, rules, Optio
 use Rattle.std.specs.Prelude.{unwrap_or}
 use Rattle.std.proofs.lemmas.Int.{to_z-of_z}
 use Rattle.ice_manifest_fields.specs.Fields.{at}
-use Rattle.ice_entry_found.specs.Seen.{file_seen}
+use Rattle.ice_manifest_layouts.specs.Seen.{file_seen}
 use Rattle.ice_manifest_reading.proofs.Counting.{rows_found}
 use Rattle.ice_manifest_reading.proofs.manifest.rows_of.Goals as goal
 

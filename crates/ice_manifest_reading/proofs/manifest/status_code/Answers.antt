@@ -1,9 +1,9 @@
 use Rattle.std.proofs.Common.{◌≡◌, ℤ, to_z, of_z, w32, rules, pos, sym, ap, ◌∙◌}
 use Rattle.std.proofs.lemmas.Int.{to_z-of_z}
 use Rattle.ice_manifest_fields.specs.Fields.{at}
-use Rattle.ice_manifest_found.specs.Met.{int_met}
-use Rattle.ice_manifest_found.proofs.Said.{int_said}
-use Rattle.ice_entry_found.specs.Seen.{entry_seen}
+use Rattle.ice_manifest_values.specs.Met.{int_met}
+use Rattle.ice_manifest_values.proofs.Said.{int_said}
+use Rattle.ice_manifest_layouts.specs.Seen.{entry_seen}
 use Rattle.ice_manifest_reading.proofs.manifest.status_code.Goals as goal
 
 pub returns : goal.returns

@@ -1,7 +1,7 @@
 use Rattle.std.proofs.Common.{◌≡◌, ℤ, [], ◌∷◌, to_z, of_z, w32, rules, sym, subst}
 use Rattle.std.proofs.lemmas.Int.{to_z-of_z}
-use Rattle.avro_picked.specs.Finding.{IsMet}
-use Rattle.avro_picked.specs.Guides.{AreAsked}
+use Rattle.avro_file_picked.specs.Finding.{IsMet}
+use Rattle.avro_file_picked.specs.Guides.{AreAsked}
 use Rattle.ice_manifest_fields.specs.Fields.{at}
 use Rattle.ice_manifest_reading.proofs.summaries.binary_in.Goals as goal
 

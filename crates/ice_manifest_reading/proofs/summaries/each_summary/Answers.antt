@@ -3,13 +3,13 @@ use Rattle.std.proofs.lemmas.Result.{err_from_is_err_and}
 use Rattle.avro_schema.specs.declared.schema.Schema.{Schema}
 use Rattle.avro_schema.specs.View.{tree}
 use Rattle.avro_file.specs.Alike.{EndAlike}
-use Rattle.avro_picked.specs.Guides.{IsGuideFor}
+use Rattle.avro_file_picked.specs.Guides.{IsGuideFor}
 use Rattle.ice_value.specs.declared.file_bounds.Summary.{Summary}
 use Rattle.ice_manifest_fields.specs.Naming.{in_list, told}
 use Rattle.ice_manifest_fields.proofs.Joining.{told_ok}
-use Rattle.ice_manifest_found.proofs.Coming.{SoFar, none_so_far, more_so_far, fails_so_far, all_so_far}
+use Rattle.ice_manifest_values.proofs.Coming.{SoFar, none_so_far, more_so_far, fails_so_far, all_so_far}
 use Rattle.ice_manifest_reading.specs.Lists.{summary_of}
-use Rattle.ice_manifest_found.specs.RowsFound.{summary_ids}
+use Rattle.ice_manifest_values.specs.RowsFound.{summary_ids}
 use Rattle.ice_manifest_reading.proofs.summaries.each_summary.Goals as goal
 
 pub items-init : goal.items-init

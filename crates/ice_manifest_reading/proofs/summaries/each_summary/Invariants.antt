@@ -1,6 +1,6 @@
 use Rattle.std.proofs.Common.{◌≡◌}
-use Rattle.ice_manifest_found.specs.InPlace.{still}
-use Rattle.ice_manifest_found.proofs.Coming.{SoFar}
+use Rattle.ice_manifest_values.specs.InPlace.{still}
+use Rattle.ice_manifest_values.proofs.Coming.{SoFar}
 use Rattle.ice_manifest_reading.specs.Lists.{summary_of}
 use Rattle.ice_manifest_reading.proofs.summaries.each_summary.Given as goal
 

@@ -1,8 +1,8 @@
 use Rattle.std.proofs.Common.{ℤ, List, IfOk, ap, subst, ◌∙◌}
 use Rattle.avro_schema.specs.View.{tree}
-use Rattle.avro_picked.specs.Guides.{ids_in, IsGuideOf}
-use Rattle.ice_manifest_found.specs.RowsFound.{summary_ids}
-use Rattle.ice_manifest_found.proofs.Guiding.{guide_for}
+use Rattle.avro_file_picked.specs.Guides.{ids_in, IsGuideOf}
+use Rattle.ice_manifest_values.specs.RowsFound.{summary_ids}
+use Rattle.ice_manifest_values.proofs.Guiding.{guide_for}
 use Rattle.ice_manifest_reading.specs.SummaryWays.{summary_ways}
 use Rattle.ice_manifest_reading.proofs.SummariesSaid.{all_asked}
 use Rattle.ice_manifest_reading.proofs.summaries.summary_guide.Goals as goal

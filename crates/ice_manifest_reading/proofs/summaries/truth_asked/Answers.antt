@@ -1,6 +1,6 @@
 use Rattle.std.proofs.Common.{◌≡◌, ℤ, [], ◌∷◌, to_z, of_z, w32, rules, sym, ap, subst, ◌∙◌}
 use Rattle.std.proofs.lemmas.Int.{to_z-of_z}
-use Rattle.avro_picked.specs.Guides.{AreAsked}
+use Rattle.avro_file_picked.specs.Guides.{AreAsked}
 use Rattle.ice_manifest_fields.specs.Fields.{asked, optional_truth}
 use Rattle.ice_manifest_reading.proofs.summaries.truth_asked.Goals as goal
 

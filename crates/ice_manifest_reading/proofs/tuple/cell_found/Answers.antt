@@ -2,9 +2,9 @@ use Rattle.std.proofs.Common.{◌≡◌, Option, Some, IfOk, ap, subst}
 use Rattle.avro_schema.specs.View.{tree}
 use Rattle.avro_file.specs.View.{view}
 use Rattle.avro_file.specs.Picking.{Typed}
-use Rattle.avro_picked.specs.declared.found.Found.{Found}
-use Rattle.avro_picked.specs.Finding.{IsMet}
-use Rattle.ice_manifest_found.proofs.Shown.{tree_there}
+use Rattle.avro_file_picked.specs.declared.found.Found.{Found}
+use Rattle.avro_file_picked.specs.Finding.{IsMet}
+use Rattle.ice_manifest_values.proofs.Shown.{tree_there}
 use Rattle.ice_manifest_reading.specs.Partitions.{cell_of}
 use Rattle.ice_manifest_reading.proofs.tuple.cell_found.Goals as goal
 

@@ -1,6 +1,6 @@
 use Rattle.std.proofs.Common.{◌≡◌, ℕ, zero, suc, ◌<◌, List, [], ◌∷◌, length, get_or, sym, ◌∙◌, refl, arith}
 use Rattle.ice_manifest_fields.specs.Fields.{at}
-use Rattle.ice_entry_found.specs.Seen.{tuple_seen}
+use Rattle.ice_manifest_layouts.specs.Seen.{tuple_seen}
 use Rattle.ice_manifest_reading.proofs.Cells.{cell_next, cells_end}
 use Rattle.ice_manifest_reading.proofs.tuple.cells_of.Goals as goal
 

@@ -1,5 +1,5 @@
 use Rattle.std.proofs.Common.{◌≡◌, ◌++◌, drop}
-use Rattle.ice_entry_found.specs.Seen.{tuple_seen}
+use Rattle.ice_manifest_layouts.specs.Seen.{tuple_seen}
 use Rattle.ice_manifest_reading.specs.Partitions.{cells_of}
 use Rattle.ice_manifest_reading.proofs.tuple.cells_of.Given as goal
 

@@ -7,7 +7,7 @@ use Rattle.ice_manifest_fields.specs.declared.fault.FieldFault.TheVariants.{Miss
 use Rattle.ice_manifest_fields.specs.declared.fault.ManifestFault.TheVariants.{MissingField}
 use Rattle.ice_manifest_fields.specs.Fields.{at, there, record_of}
 use Rattle.ice_manifest_fields.specs.Naming.{in_manifest, told}
-use Rattle.ice_entry_found.specs.Seen.{record_met, file_seen, tuple_of, tuple_seen}
+use Rattle.ice_manifest_layouts.specs.Seen.{record_met, file_seen, tuple_of, tuple_seen}
 use Rattle.ice_manifest_reading.specs.Partitions.{cells_of, tuple_at}
 use Rattle.ice_manifest_reading.proofs.tuple.tuple_at.Goals as goal
 

@@ -1,8 +1,8 @@
 use Rattle.std.proofs.Common.{◌≡◌, ◌<◌, ◌∙◌, ◌++◌, ◌∷◌, [], List, ap, arith, get_or, length, refl, subst, sym}
 use Rattle.std.proofs.lemmas.List.{map-append, take_all}
-use Rattle.ice_entries.specs.Kept.{entries_at as kept_at}
-use Rattle.ice_entries.specs.declared.entries.EntryNumber.{EntryNumber}
-use Rattle.ice_entries.specs.declared.entries.EntryNumber.TheVariants.{Record}
+use Rattle.ice_state_entries.specs.Kept.{entries_at as kept_at}
+use Rattle.ice_state_entries.specs.declared.entries.EntryNumber.{EntryNumber}
+use Rattle.ice_state_entries.specs.declared.entries.EntryNumber.TheVariants.{Record}
 use Rattle.ice_manifest_reading.specs.declared.entry.Entry.{Entry}
 use Rattle.ice_state.specs.declared.segments.FileNumber.{FileNumber}
 use Rattle.ice_state.specs.Lines.{entries_at as entries_at_places}

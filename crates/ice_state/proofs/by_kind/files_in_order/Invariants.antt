@@ -1,5 +1,5 @@
 use Rattle.std.proofs.Common.{◌≡◌, take}
-use Rattle.ice_entries.specs.Kept.{entries_at as kept_at}
+use Rattle.ice_state_entries.specs.Kept.{entries_at as kept_at}
 use Rattle.ice_state.specs.Lines.{entries_at as entries_at_places}
 use Rattle.ice_state.specs.Segments.{AreKept, entries_at, segment_at}
 use Rattle.ice_state.proofs.by_kind.files_in_order.Given as goal

@@ -1,6 +1,6 @@
 use Rattle.std.proofs.Common.{◌≡◌, ◌∙◌, ◌+◌, ◌++◌, ◌∷◌, [], List, append-nil, append_assoc, ap, arith, get_or, subst, sym, take}
 use Rattle.std.proofs.lemmas.List.{map-append, take_all, take_more}
-use Rattle.ice_entries.specs.declared.entries.EntryNumber.TheVariants.{Record}
+use Rattle.ice_state_entries.specs.declared.entries.EntryNumber.TheVariants.{Record}
 use Rattle.ice_manifest_reading.specs.declared.entry.Entry.{Entry}
 use Rattle.ice_state.specs.declared.segments.FileNumber.{FileNumber}
 use Rattle.ice_state.specs.ByKind.{HasFilesOf}

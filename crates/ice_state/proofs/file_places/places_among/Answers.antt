@@ -1,7 +1,7 @@
 use Rattle.std.proofs.Common.{◌≡◌, ◌∙◌, ◌++◌, [], ◌∷◌, ℕ, ap, arith, length}
 use Rattle.std.proofs.lemmas.Grind.{common_steps}
 use Rattle.std.proofs.lemmas.List.{take_all}
-use Rattle.ice_entries.specs.declared.entries.EntryNumber.TheVariants.{Record}
+use Rattle.ice_state_entries.specs.declared.entries.EntryNumber.TheVariants.{Record}
 use Rattle.ice_state.specs.declared.segments.FileNumber.{FileNumber}
 use Rattle.ice_state.specs.Lines.{entries_at as entries_at_places}
 use Rattle.ice_state.specs.Segments.{entries_at}

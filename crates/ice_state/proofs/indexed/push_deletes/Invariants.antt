@@ -1,5 +1,5 @@
 use Rattle.std.proofs.Common.{◌≡◌, ◌++◌, filter, take}
-use Rattle.ice_entries.specs.Kept.{entries_at as entries_in}
+use Rattle.ice_state_entries.specs.Kept.{entries_at as entries_in}
 use Rattle.ice_state.specs.Parts.{holds_deletes}
 use Rattle.ice_state.specs.Segments.{AreKept, entries_at, segment_at}
 use Rattle.ice_state.proofs.indexed.push_deletes.Given as goal

@@ -1,6 +1,6 @@
 use Rattle.std.proofs.Common.{rules, ◌≡◌, ◌∙◌, ap, refl, sym, subst, List}
-use Rattle.ice_entries.specs.declared.entries.EntryNumber.{EntryNumber}
-use Rattle.ice_entries.specs.Kept.{Kept, entries_at, AreKept}
+use Rattle.ice_state_entries.specs.declared.entries.EntryNumber.{EntryNumber}
+use Rattle.ice_state_entries.specs.Kept.{Kept, entries_at, AreKept}
 use Rattle.ice_state.specs.Segments.{Segmented, Keeps}
 use Rattle.ice_state.specs.Slots.{HasNumbers, IsIn}
 use Rattle.ice_state.proofs.SegmentLists.{keeps-trans}

@@ -1,6 +1,6 @@
 use Rattle.std.proofs.Common.{◌≡◌, take, map}
 use Rattle.std.specs.List.{range_with_len}
-use Rattle.ice_entries.specs.Kept.{entries_at}
+use Rattle.ice_state_entries.specs.Kept.{entries_at}
 use Rattle.ice_state.specs.Placed.{ArePlaced, entries_placed, place_of}
 use Rattle.ice_state.proofs.ordered.paths_of.Given as goal
 

@@ -1,7 +1,7 @@
 use Rattle.std.proofs.Common.{◌∙◌, ap, sym}
 use Rattle.std.specs.List.{range_with_len}
 use Rattle.std.proofs.lemmas.List.{length-map}
-use Rattle.ice_entries.specs.Kept.{entry_at, entries_at}
+use Rattle.ice_state_entries.specs.Kept.{entry_at, entries_at}
 use Rattle.ice_state.specs.Placed.{AreEachPlaced}
 use Rattle.ice_state.proofs.ordered.places_in_order.Goals as goal
 

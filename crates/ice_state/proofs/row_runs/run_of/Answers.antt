@@ -1,6 +1,6 @@
 use Rattle.std.proofs.Common.{◌≡◌, ◌∙◌, ◌-◌, ap, arith, rules, length, IfSome, Option, Some, option_map, subst, sym}
 use Rattle.std.proofs.lemmas.Grind.{common_steps}
-use Rattle.ice_entries.specs.Kept.{entries_at as entries_in}
+use Rattle.ice_state_entries.specs.Kept.{entries_at as entries_in}
 use Rattle.ice_state.specs.declared.row_runs.Run.{Run}
 use Rattle.ice_state.specs.declared.taken.Taken.{Taken}
 use Rattle.ice_state.specs.declared.taken.Taken.TheVariants.{Good}

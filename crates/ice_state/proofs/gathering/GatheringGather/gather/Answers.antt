@@ -1,7 +1,7 @@
 use Rattle.std.proofs.Common.{◌≡◌, ◌++◌, ◌∷◌, [], List, refl, sym, ap, subst, ◌∙◌}
-use Rattle.ice_entries.specs.declared.entries.EntryNumber.{EntryNumber}
-use Rattle.ice_entries.specs.Kept.{AreKept, entries_at}
-use Rattle.ice_entries.proofs.Keeping.{all_kept}
+use Rattle.ice_state_entries.specs.declared.entries.EntryNumber.{EntryNumber}
+use Rattle.ice_state_entries.specs.Kept.{AreKept, entries_at}
+use Rattle.ice_state_entries.proofs.Keeping.{all_kept}
 use Rattle.ice_state.specs.PutSoFar.{PutSoFar}
 use Rattle.ice_state.specs.Segments.{segment_at, Keeps}
 use Rattle.ice_state.proofs.OneSegment.{one_more}

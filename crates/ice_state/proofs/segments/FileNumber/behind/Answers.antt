@@ -1,5 +1,5 @@
 use Rattle.std.proofs.Common.{◌≡◌, ◌+◌, ◌<◌, ◌++◌, ap, arith, length, sym, subst}
-use Rattle.ice_entries.specs.Kept.{IsKept as IsKeptIn, entry_at as entry_in, Kept}
+use Rattle.ice_state_entries.specs.Kept.{IsKept as IsKeptIn, entry_at as entry_in, Kept}
 use Rattle.ice_state.proofs.SegmentLists.{length-both}
 use Rattle.ice_state.proofs.SlotContents.{behind_at, few_behind}
 use Rattle.ice_state.proofs.segments.FileNumber.behind.Goals as goal

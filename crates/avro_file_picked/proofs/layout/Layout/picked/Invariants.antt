@@ -1,0 +1,11 @@
+use Rattle.std.proofs.Common.{◌≡◌, map, option_map, take}
+use Rattle.avro_schema.specs.View.{tree}
+use Rattle.avro_file.specs.Value.{Value}
+use Rattle.avro_file.specs.View.{view}
+use Rattle.avro_file.specs.Files.{Shows}
+use Rattle.avro_file_picked.specs.Picked.{picked}
+use Rattle.avro_file_picked.proofs.layout.Layout.picked.Given as goal
+
+abbrev pub invariant-ways : goal.invariant-ways
+invariant-ways l = (v : Value) → Shows l.object v → map (option_map view) l.found.items ≡ map
+    (λ way. picked (tree l.object.schema.now) v way.items) (take l.way-index l.way-items)

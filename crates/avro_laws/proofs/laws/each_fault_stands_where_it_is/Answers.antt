@@ -1,5 +1,0 @@
-use Rattle.avro_laws.proofs.Files.{opening, objects}
-use Rattle.avro_laws.proofs.laws.each_fault_stands_where_it_is.Goals as goal
-
-pub returns : goal.returns
-returns c = record { opening = opening; objects = objects }

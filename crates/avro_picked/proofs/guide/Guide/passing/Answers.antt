@@ -1,5 +1,0 @@
-use Rattle.avro_picked.proofs.Guided.{passing_alike}
-use Rattle.avro_picked.proofs.guide.Guide.passing.Goals as goal
-
-pub returns : goal.returns
-returns c = λ ways t is. rw (← is.0) (passing_alike ways c.args.self.now is.1)

@@ -1,7 +1,0 @@
-use Rattle.std.proofs.Common.{◌≡◌, ℕ, List, map, take, Bor}
-use Rattle.ice_audit.specs.Dangling.{data_files, paths_in}
-use Rattle.ice_audit.proofs.deletes.data_paths.Given as goal
-
-abbrev pub invariant-files : goal.invariant-files
-invariant-files l =
-    map (λ (p : Bor (List ℕ)). p.now) l.paths.items ≡ paths_in (data_files (take l.file-index l.files))

@@ -1,7 +1,0 @@
-use Rattle.std.proofs.Common.{◌≡◌, map, take}
-use Rattle.ice_audit.specs.Dangling.{delete_files}
-use Rattle.ice_audit.specs.Lookups.{delete_lent}
-use Rattle.ice_audit.proofs.deletes.delete_files.Given as goal
-
-abbrev pub invariant-files : goal.invariant-files
-invariant-files l = map delete_lent l.deletes.items ≡ delete_files (take l.file-index l.files)

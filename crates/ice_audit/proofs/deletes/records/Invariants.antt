@@ -1,9 +1,0 @@
-use Rattle.std.proofs.Common.{◌≡◌, map, take}
-use Rattle.ice_deletes.specs.Keys.{key_of}
-use Rattle.ice_audit.specs.Dangling.{delete_key}
-use Rattle.ice_audit.specs.Lookups.{delete_lent}
-use Rattle.ice_audit.proofs.deletes.records.Given as goal
-
-abbrev pub invariant-deletes : goal.invariant-deletes
-invariant-deletes l = map key_of l.records.items
-    ≡ map (λ d. delete_key (delete_lent d).1) (take l.delete-index l.deletes)

@@ -1,8 +1,0 @@
-use Rattle.ice_audit.proofs.Miscounts.{from_finding, to_finding}
-use Rattle.ice_audit.proofs.laws.findings_tell_counts.Goals as goal
-
-pub returns : goal.returns
-returns c = λ basis row spec tallies lives count. (
-  from_finding basis row spec tallies lives count,
-  to_finding basis row spec tallies lives count,
-)

@@ -1,5 +1,0 @@
-use Rattle.ice_audit.proofs.Apart.{apart_repeats, none_repeats}
-use Rattle.ice_audit.proofs.laws.repeats_tell_paths_apart.Goals as goal
-
-pub returns : goal.returns
-returns c = λ files. (none_repeats files, apart_repeats files)

@@ -1,5 +1,0 @@
-use Rattle.std.proofs.Common.{refl}
-use Rattle.ice_audit.proofs.limits.type_of_values.Goals as goal
-
-pub returns-in-Some : goal.returns-in-Some
-returns-in-Some c = rw (c.in-Some.is, c.result_type.ensures, c.in_ok-transform.ensures, c.as_str.ensures) refl

@@ -1,8 +1,0 @@
-use Rattle.ice_audit_run.proofs.Premise.{no_lie, truth}
-use Rattle.ice_audit_run.proofs.laws.audits_tell_of_summaries.Goals as goal
-
-pub returns : goal.returns
-returns c = λ world metadata target audit is. (
-  truth c.contents_fit.ensures.cells world metadata target audit is,
-  no_lie world metadata target audit is,
-)

@@ -1,6 +1,0 @@
-use Rattle.std.proofs.Common.{◌≡◌, drop}
-use Rattle.ice_audit_run.specs.Audits.{all_known}
-use Rattle.ice_audit_run.proofs.manifests.check_specs.Given as goal
-
-abbrev pub invariant-rows : goal.invariant-rows
-invariant-rows l = all_known l.specs (drop l.row-index l.rows) ≡ all_known l.specs l.rows

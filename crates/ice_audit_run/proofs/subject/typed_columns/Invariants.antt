@@ -1,6 +1,0 @@
-use Rattle.std.proofs.Common.{◌≡◌, map, take}
-use Rattle.ice_audit_run.specs.Subjects.{typed_column}
-use Rattle.ice_audit_run.proofs.subject.typed_columns.Given as goal
-
-abbrev pub invariant-columns : goal.invariant-columns
-invariant-columns l = l.typed ≡ map typed_column (take l.column-index l.columns)

@@ -1,6 +1,0 @@
-use Rattle.std.proofs.Common.{◌≡◌, take}
-use Rattle.ice_requests.specs.Commits.{bundle_lines}
-use Rattle.ice_commands.proofs.commit_lines.commit_lines.Given as goal
-
-abbrev pub invariant-files : goal.invariant-files
-invariant-files l = l.text.items ≡ bundle_lines (take l.file-index l.files)

@@ -1,8 +1,0 @@
-use Rattle.std.proofs.Common.{[]}
-use Rattle.ice_entry_found.specs.Ways.{file_id}
-use Rattle.ice_entry_found.proofs.Shown.{file_shown}
-use Rattle.ice_entry_found.proofs.file.FoundFile.found.Goals as goal
-
-pub returns : goal.returns
-returns c = file_shown c.args.self.now c.found.result c.number.result (file_id c.args.field) [] c.requires
-    (c.number.ensures c.args.self.now.entry.now.partition.now) c.found.ensures

@@ -1,6 +1,0 @@
-use Rattle.ice_entry_found.proofs.Shown.{cell_shown}
-use Rattle.ice_entry_found.proofs.file.FoundFile.found_cell.Goals as goal
-
-pub returns : goal.returns
-returns c = λ p is. cell_shown c.args.self.now c.found.result c.args.index p c.requires.file c.requires.tuple
-    c.requires.index is c.found.ensures

@@ -1,7 +1,0 @@
-use Rattle.std.proofs.Common.{◌≡◌, ◌++◌, drop}
-use Rattle.ice_entry_found.specs.Ways.{ids_in, to_cells}
-use Rattle.ice_entry_found.proofs.wanted.push_cell_ways.Given as goal
-
-abbrev pub invariant-partition : goal.invariant-partition
-invariant-partition l = ids_in l.ways.items ++ to_cells (drop l.field-index l.partition)
-    ≡ ids_in l.fn.ways.items ++ to_cells l.partition

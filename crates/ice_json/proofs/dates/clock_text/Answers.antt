@@ -1,7 +1,0 @@
-use Rattle.std.proofs.Common.{refl}
-use Rattle.ice_json.specs.Dates.{time_text}
-use Rattle.ice_json.proofs.dates.clock_text.Goals as goal
-
-pub returns : goal.returns
-unfolding time_text
-returns c = rw c.time_text.ensures refl

@@ -1,6 +1,0 @@
-use Rattle.std.proofs.Common.{◌≡◌, map, take}
-use Rattle.ice_json.specs.Types.{field_type}
-use Rattle.ice_json.proofs.types.field_types.Given as goal
-
-abbrev pub invariant-fields : goal.invariant-fields
-invariant-fields l = l.types ≡ map field_type (take l.field-index l.fields)

@@ -1,6 +1,0 @@
-use Rattle.std.proofs.Common.{◌≡◌, drop}
-use Rattle.ice_json.specs.Types.{types_of}
-use Rattle.ice_json.proofs.types.types_of.Given as goal
-
-abbrev pub invariant-specs : goal.invariant-specs
-invariant-specs l = types_of (drop l.spec-index l.types) l.id ≡ types_of l.types l.id

@@ -1,5 +1,0 @@
-use Rattle.std.proofs.Common.{refl}
-use Rattle.ice_manifest_found.proofs.items.ItemsAhead.next.Goals as goal
-
-pub next_by-requires : goal.next_by-requires
-next_by-requires c = λ p. refl

@@ -1,5 +1,0 @@
-use Rattle.ice_print.proofs.Escapes.{back, only}
-use Rattle.ice_print.proofs.unescaping.escaping.Goals as goal
-
-pub returns : goal.returns
-returns c = record { back = back; only = only }

@@ -1,0 +1,14 @@
+//! Tests of ice_state_entries, of what no clause says: that calls succeed where memory is ample, the entries of manifests that
+//! were written by hand, and what a refused growth leaves.
+#![tactic(auto)]
+
+#[cfg(test)]
+mod cases;
+#[cfg(test)]
+mod drawn;
+#[cfg(test)]
+mod files;
+#[cfg(test)]
+mod refusals;
+#[cfg(test)]
+mod stores;

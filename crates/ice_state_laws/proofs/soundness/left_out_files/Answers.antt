@@ -1,0 +1,28 @@
+use Rattle.ice_project.proofs.FileLaws.{file_sound}
+use Rattle.ice_project.proofs.Orders.{Ordered}
+use Rattle.ice_project.proofs.Sound.{sound}
+use Rattle.ice_state_laws.proofs.soundness.left_out_files.Goals as goal
+
+pub returns : goal.returns
+returns c =
+    let ordered : Ordered = record {
+      itself = c.order_of_cells.ensures.itself;
+      no_other = c.order_of_cells.ensures.no_other;
+      turned = c.order_of_cells.ensures.turned;
+      less = c.order_of_cells.ensures.less;
+    } in
+    record {
+      values = sound (record {
+        ordered = ordered;
+        identity = c.identity_values.ensures;
+        kept = c.null_values.ensures.kept;
+        alone = c.null_values.ensures.alone;
+        equal = c.equal_cells.ensures;
+        rising = c.rising_values.ensures;
+        whole = c.cut_texts.ensures.whole;
+        short = c.cut_texts.ensures.short;
+        valued = λ f t x p. (c.values_of_transforms.ensures f t x p).0;
+        mapped = c.filters_over_other_leaves.ensures.meaning;
+      });
+      columns = file_sound ordered;
+    }

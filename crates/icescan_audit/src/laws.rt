@@ -1,0 +1,54 @@
+//! What an audit tells of the summaries of a manifest list's rows.
+
+ghost use Rattle.std.specs.Prelude.{◌≡◌, ◌↔◌, ℕ, List, [], Ok, Some};
+ghost use Rattle.std.specs.List.{Contains};
+ghost use Rattle.icescan_audit.specs.Audits.{audit_of};
+ghost use Rattle.icescan_audit_findings.specs.Telling.{uncovered};
+ghost use Rattle.icescan_audit.specs.Premises.{HasTrueSummaries};
+ghost use Rattle.icescan_audit.specs.Strays.{DanglesUnder, NamesNoneUnder};
+ghost use Rattle.icescan_audit.specs.Subjects.{subject_of};
+ghost use Rattle.icescan_audit.specs.declared.audit.Audit.{Audit};
+ghost use Rattle.icescan_audit.specs.declared.subject.Subject.{Subject};
+ghost use Rattle.ice_manifest_reading.specs.declared.row.Row.{Row};
+ghost use Rattle.ice_meta.specs.declared.metadata.Target.{Target};
+ghost use Rattle.ice_state.specs.Contents.{World};
+ghost use Rattle.icescan_text.specs.Reads.{rows_at};
+ghost use Rattle.ice_value.specs.declared.file_content.FileContent.TheVariants.{EqualityDeletes, PositionDeletes};
+
+use icescan_audit_findings::Flaw;
+use ice_manifest_reading::contents_fit;
+
+/// The audit of a snapshot has no finding that a summary does not cover an entry just where the summaries of all its
+/// rows tell the truth.
+pub fn audits_tell_of_summaries()
+    ensures { (world : World) (metadata : List ℕ) (target : Target) (audit : Audit) →
+        audit_of world metadata target ≡ Ok audit →
+        (uncovered audit.findings ≡ []) ↔ HasTrueSummaries world metadata target }
+{
+    contents_fit();
+}
+
+/// The audit of a snapshot has a finding that a delete file dangles just where a live delete file of that path, under
+/// that manifest's row, applies to no live data file of the snapshot; and one that it names a file that is not live just
+/// where such a delete file names one, and no live data file of the snapshot has that path.
+pub fn audits_tell_of_deletes()
+    ensures positions { (world : World) (metadata : List ℕ) (target : Target) (audit : Audit) (subject : Subject)
+        (rows : List Row) (manifest path : List ℕ) → audit_of world metadata target ≡ Ok audit →
+        subject_of metadata target ≡ Ok subject → rows_at world subject.list ≡ Ok rows →
+        Contains audit.findings
+        (record { manifest = manifest; file = Some path; flaw = Flaw.DanglingPositions })
+        ↔ DanglesUnder PositionDeletes world subject.basis.specs rows manifest path }
+    ensures equalities { (world : World) (metadata : List ℕ) (target : Target) (audit : Audit) (subject : Subject)
+        (rows : List Row) (manifest path : List ℕ) → audit_of world metadata target ≡ Ok audit →
+        subject_of metadata target ≡ Ok subject → rows_at world subject.list ≡ Ok rows →
+        Contains audit.findings
+        (record { manifest = manifest; file = Some path; flaw = Flaw.DanglingEqualities })
+        ↔ DanglesUnder EqualityDeletes world subject.basis.specs rows manifest path }
+    ensures named { (world : World) (metadata : List ℕ) (target : Target) (audit : Audit) (subject : Subject)
+        (rows : List Row) (manifest path : List ℕ) → audit_of world metadata target ≡ Ok audit →
+        subject_of metadata target ≡ Ok subject → rows_at world subject.list ≡ Ok rows →
+        Contains audit.findings (record { manifest = manifest; file = Some path; flaw = Flaw.NamedNotLive })
+        ↔ NamesNoneUnder world subject.basis.specs rows manifest path }
+{
+    contents_fit();
+}

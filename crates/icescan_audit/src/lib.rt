@@ -1,0 +1,17 @@
+//! Audits of a table's snapshot over any files: every manifest is read, and what is found is written, line by line.
+#![tactic(auto)]
+
+mod audit;
+mod by_workers;
+mod laws;
+mod lines;
+mod manifests;
+mod reading;
+mod running;
+mod subject;
+
+pub use audit::{Audit, Reading};
+pub use icescan_audit_findings::{Basis, Finding, Flaw, LiveFile, TypedColumn};
+pub use laws::{audits_tell_of_deletes, audits_tell_of_summaries};
+pub use running::{audit_file, run_audit};
+pub use subject::{Subject, select_subject};

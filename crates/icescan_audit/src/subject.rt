@@ -1,0 +1,80 @@
+//! What of a table is audited.
+
+ghost use Rattle.std.specs.Prelude.{◌≡◌, IfErr, IfOk};
+ghost use Rattle.contract_words.specs.Outcome.{Gives};
+ghost use Rattle.icescan_audit.specs.Subjects.{IsOfMetadata, column_ids, subject_in, subject_of, typed_columns};
+
+use contract_words::{Items, Text};
+use icescan_audit_findings::{Basis, TypedColumn};
+use ice_meta::{Metadata, Schema, Target};
+use icescan_text::RunFault;
+use std::alloc::{AllocError, Global};
+
+/// A snapshot that is audited.
+#[derive(Debug, Drop)]
+pub struct Subject {
+    /// The path of its manifest list.
+    pub list: Text,
+    /// What its entries are held against, before the rows of the list are known.
+    pub basis: Basis,
+}
+
+/// The ids of a schema's columns.
+fn column_ids(alloc: Global, schema: &Schema) -> Result<Items<i32>, AllocError>
+    ensures { IfOk result (λ ids. ids ≡ column_ids schema.now) }
+{
+    let columns = schema.columns.as_slice();
+    let mut ids = Items::new(alloc);
+    'columns: for column in columns {
+        ids.push(column.id)?;
+    }
+    Ok(ids)
+}
+
+/// A schema's columns, with the types of their values.
+fn typed_columns(alloc: Global, schema: &Schema) -> Result<Items<TypedColumn>, AllocError>
+    ensures { IfOk result (λ columns. columns ≡ typed_columns schema.now) }
+{
+    let columns = schema.columns.as_slice();
+    let mut typed = Items::new(alloc);
+    'columns: for column in columns {
+        typed.push(TypedColumn {
+            id: column.id,
+            column_type: column.column_type,
+        })?;
+    }
+    Ok(typed)
+}
+
+/// A snapshot of a table, with the schema that counts for it: the current one, or that of the snapshot itself for a tag
+/// and for a snapshot's id. The refusal is `Metadata` where there is no such snapshot; or `Memory`.
+#[tactic(auto, unfolding(crate::specs::Subjects::subject_in))]
+fn subject_in(alloc: Global, metadata: &Metadata, target: &Target) -> Result<Subject, RunFault>
+    ensures gives { Gives RunFault.Memory (λ subject. subject) result (subject_in metadata.now.table target.now) }
+    ensures causes { IfErr result IsOfMetadata }
+{
+    let list = metadata.manifest_list(target)?;
+    let schema = metadata.schema_for(target);
+    let basis = Basis {
+        specs: metadata.specs(alloc, schema)?,
+        columns: column_ids(alloc, schema)?,
+        typed: typed_columns(alloc, schema)?,
+        last: metadata.table().last_sequence_number,
+        has_deletes: false,
+    };
+    Ok(Subject {
+        list: list.copy(alloc)?,
+        basis,
+    })
+}
+
+/// What is audited of the table whose metadata these are the bytes of. The refusal is `Metadata` with the first fault
+/// of the bytes, or where there is no such snapshot; or `Memory`.
+#[tactic(auto, unfolding(crate::specs::Subjects::subject_of))]
+pub fn select_subject(alloc: Global, metadata: &[u8], target: &Target) -> Result<Subject, RunFault>
+    ensures gives { Gives RunFault.Memory (λ subject. subject) result (subject_of metadata.now target.now) }
+    ensures causes { IfErr result IsOfMetadata }
+{
+    let metadata = Metadata::read(alloc, metadata)?;
+    subject_in(alloc, &metadata, target)
+}

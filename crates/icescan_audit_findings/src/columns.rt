@@ -1,0 +1,243 @@
+//! What a manifest says of the columns of a file and what can't be.
+
+ghost use Rattle.std.specs.Prelude.{◌≡◌, ◌++◌, IfOk, IfSome, OnOk, Some};
+ghost use Rattle.std.specs.Option.{option_copied};
+ghost use Rattle.icescan_audit_findings.specs.ColumnFlaws.{column_flaws, columns_flaws, cross, is_more, is_past};
+ghost use Rattle.icescan_audit_findings.specs.ColumnsSaid.{AreMapsOf, AreSaidOf, IsSaidOf};
+ghost use Rattle.icescan_audit_findings.specs.Ids.{Rises};
+ghost use Rattle.ice_project.specs.Limits.{limit};
+ghost use Rattle.ice_value.specs.declared.file_bounds.FileBounds.{FileBounds};
+
+use crate::basis::TypedColumn;
+use crate::finding::Flaw;
+use crate::flaws::push_where;
+use crate::ids::{last_said, place_near};
+use crate::pairs::RisingPairs;
+use ice_value::{ColumnType, FileBounds, compare_bound, read_bound};
+use std::alloc::{AllocError, Global};
+use std::cmp::Ordering;
+
+/// The maps of the columns of a file, where the ids of the pairs of each rise.
+#[derive(Drop)]
+struct RisingMaps<'a, 'd> {
+    value_counts: RisingPairs<'a, i64>,
+    null_counts: RisingPairs<'a, i64>,
+    lower_bounds: RisingPairs<'a, &'d [u8]>,
+    upper_bounds: RisingPairs<'a, &'d [u8]>,
+}
+
+/// What a manifest says of columns of a file, each at the place of its id.
+#[derive(Drop)]
+struct FileSaid<'d> {
+    value_counts: Vec<Option<i64>>,
+    null_counts: Vec<Option<i64>>,
+    lower_bounds: Vec<Option<&'d [u8]>>,
+    upper_bounds: Vec<Option<&'d [u8]>>,
+}
+
+/// What a manifest says of a column of a file.
+#[derive(Drop)]
+struct ColumnSaid<'a> {
+    value_count: Option<i64>,
+    null_count: Option<i64>,
+    lower_bound: Option<&'a [u8]>,
+    upper_bound: Option<&'a [u8]>,
+}
+
+/// The maps of the columns, if the ids of the pairs of each rise.
+fn rising_maps<'a, 'd>(bounds: &'a FileBounds<'_, 'd>) -> Option<RisingMaps<'a, 'd>>
+    ensures { IfSome result (AreMapsOf bounds.now) }
+{
+    Some(RisingMaps {
+        value_counts: RisingPairs::new(bounds.value_counts.pairs())?,
+        null_counts: RisingPairs::new(bounds.null_counts.pairs())?,
+        lower_bounds: RisingPairs::new(bounds.lower_bounds.pairs())?,
+        upper_bounds: RisingPairs::new(bounds.upper_bounds.pairs())?,
+    })
+}
+
+/// What the maps say of a column.
+fn column_found<'d>(maps: &mut RisingMaps<'_, 'd>, column: i32) -> ColumnSaid<'d>
+    ensures said { (file : FileBounds) → AreMapsOf file maps.old → IsSaidOf file column result }
+    ensures same { (file : FileBounds) → AreMapsOf file maps.old → AreMapsOf file maps.new }
+{
+    ColumnSaid {
+        value_count: maps.value_counts.said_of(column),
+        null_count: maps.null_counts.said_of(column),
+        lower_bound: maps.lower_bounds.said_of(column),
+        upper_bound: maps.upper_bounds.said_of(column),
+    }
+}
+
+/// What the manifest says of the columns of these ids, which rise.
+fn file_said<'d>(
+    alloc: Global,
+    ids: &[i32],
+    bounds: &FileBounds<'_, 'd>,
+) -> Result<FileSaid<'d>, AllocError>
+    requires { Rises ids.now }
+    ensures { IfOk result (AreSaidOf bounds.now ids.now) }
+{
+    Ok(FileSaid {
+        value_counts: last_said(alloc, ids, bounds.value_counts.pairs())?,
+        null_counts: last_said(alloc, ids, bounds.null_counts.pairs())?,
+        lower_bounds: last_said(alloc, ids, bounds.lower_bounds.pairs())?,
+        upper_bounds: last_said(alloc, ids, bounds.upper_bounds.pairs())?,
+    })
+}
+
+/// What the manifest says of a column, whose id may be at this place.
+fn column_said<'a>(
+    ids: &[i32],
+    said: &FileSaid<'a>,
+    bounds: &'a FileBounds<'_, '_>,
+    near: usize,
+    column: i32,
+) -> ColumnSaid<'a>
+    requires rises { Rises ids.now }
+    requires said { AreSaidOf bounds.now ids.now said.now }
+    ensures { IsSaidOf bounds.now column result }
+{
+    match place_near(ids, near, column) {
+        Some(place) => ColumnSaid {
+            value_count: said.value_counts[place],
+            null_count: said.null_counts[place],
+            lower_bound: said.lower_bounds[place],
+            upper_bound: said.upper_bounds[place],
+        },
+        None => ColumnSaid {
+            value_count: bounds.value_count(column),
+            null_count: bounds.null_count(column),
+            lower_bound: bounds.lower_bound(column),
+            upper_bound: bounds.upper_bound(column),
+        },
+    }
+}
+
+/// Whether a lower bound is above an upper one, where both hold a value of the type. Bounds of UUIDs are not read.
+fn is_past(
+    alloc: Global,
+    column_type: &ColumnType,
+    low: &[u8],
+    high: &[u8],
+) -> Result<bool, AllocError>
+    ensures { IfOk result (λ past. past
+        ≡ is_past (limit column_type.now (Some low.now)) (limit column_type.now (Some high.now))) }
+{
+    if matches!(column_type, ColumnType::Uuid) {
+        return Ok(false);
+    }
+    match read_bound(alloc, column_type, high)? {
+        Some(high) => Ok(matches!(
+            compare_bound(column_type, low, &high),
+            Some(Ordering::Greater)
+        )),
+        None => Ok(false),
+    }
+}
+
+/// Whether a column's lower bound is above its upper one.
+fn bounds_cross(
+    alloc: Global,
+    column_type: &Option<ColumnType>,
+    low: Option<&[u8]>,
+    high: Option<&[u8]>,
+) -> Result<bool, AllocError>
+    ensures { IfOk result (λ answer. answer
+        ≡ cross column_type.now (option_copied low.entry) (option_copied high.entry)) }
+{
+    match (column_type, low, high) {
+        (Some(column_type), Some(low), Some(high)) => is_past(alloc, column_type, low, high),
+        _ => Ok(false),
+    }
+}
+
+/// Whether more values are null than there are.
+fn has_excess(nulls: Option<i64>, values: Option<i64>) -> bool
+    ensures { result ≡ is_more nulls values }
+{
+    match (nulls, values) {
+        (Some(nulls), Some(values)) => nulls > values,
+        _ => false,
+    }
+}
+
+/// Puts what is wrong with what is said of a column last.
+fn push_column_flaws(
+    alloc: Global,
+    flaws: &mut Vec<Flaw>,
+    column: &TypedColumn,
+    said: &ColumnSaid<'_>,
+) -> Result<(), AllocError>
+    ensures { (file : FileBounds) → IsSaidOf file column.now.id said.now →
+        OnOk result (flaws.new.items ≡ flaws.old.items ++ column_flaws file column.now) }
+{
+    let cross = bounds_cross(
+        alloc,
+        &column.column_type,
+        said.lower_bound,
+        said.upper_bound,
+    )?;
+    let excess = has_excess(said.null_count, said.value_count);
+    if !cross && !excess {
+        return Ok(());
+    }
+    push_where(flaws, cross, Flaw::BoundsCross(column.id))?;
+    push_where(flaws, excess, Flaw::ExcessNulls(column.id))?;
+    Ok(())
+}
+
+/// Puts what is wrong with what the maps say of the schema's columns last, column by column.
+fn push_flaws_found(
+    alloc: Global,
+    flaws: &mut Vec<Flaw>,
+    columns: &[TypedColumn],
+    maps: &mut RisingMaps<'_, '_>,
+) -> Result<(), AllocError>
+    ensures { (file : FileBounds) → AreMapsOf file maps.old →
+        OnOk result (flaws.new.items ≡ flaws.old.items ++ columns_flaws file columns.now) }
+{
+    'columns: for column in columns {
+        let of_column = column_found(maps, column.id);
+        push_column_flaws(alloc, flaws, column, &of_column)?;
+    }
+    Ok(())
+}
+
+/// The same, also where the ids of a map do not rise: what it says last of each column is put in a list first.
+fn push_flaws_listed(
+    alloc: Global,
+    flaws: &mut Vec<Flaw>,
+    columns: &[TypedColumn],
+    ids: &[i32],
+    bounds: &FileBounds<'_, '_>,
+) -> Result<(), AllocError>
+    requires { Rises ids.now }
+    ensures { OnOk result (flaws.new.items ≡ flaws.old.items ++ columns_flaws bounds.now columns.now) }
+{
+    let said = file_said(alloc, ids, bounds)?;
+    'columns: for i in 0..columns.len() {
+        let column = &columns[i];
+        let of_column = column_said(ids, &said, bounds, i, column.id);
+        push_column_flaws(alloc, flaws, column, &of_column)?;
+    }
+    Ok(())
+}
+
+/// Puts what is wrong with what is said of the schema's columns last, column by column. Where the ids of a map do not
+/// rise, these ids, which rise, are looked up quickly; those of all columns are best.
+pub fn push_columns_flaws(
+    alloc: Global,
+    flaws: &mut Vec<Flaw>,
+    columns: &[TypedColumn],
+    ids: &[i32],
+    bounds: &FileBounds<'_, '_>,
+) -> Result<(), AllocError>
+    requires { Rises ids.now }
+    ensures { OnOk result (flaws.new.items ≡ flaws.old.items ++ columns_flaws bounds.now columns.now) }
+{
+    match rising_maps(bounds) {
+        Some(mut maps) => push_flaws_found(alloc, flaws, columns, &mut maps),
+        None => push_flaws_listed(alloc, flaws, columns, ids, bounds),
+    }
+}

@@ -1,0 +1,14 @@
+use Rattle.std.proofs.Common.{◌≡◌, rules}
+use Rattle.icescan_words.specs.declared.answer_format.Format.TheVariants as format
+use Rattle.icescan_commands.proofs.Answering.{gives_json, gives_text}
+use Rattle.icescan_commands.proofs.forms.write_plan.Goals as goal
+
+pub returns-in-Text-clause-answers : goal.returns-in-Text-clause-answers
+returns-in-Text-clause-answers g c =
+    let asked : c.args.format ≡ format.Text = search rules in
+    rw asked (λ world told. gives_text _ _ _ _ _ _ (c.plan_file.ensures.wanted world told))
+
+pub returns-in-Json-clause-answers : goal.returns-in-Json-clause-answers
+returns-in-Json-clause-answers g c =
+    let asked : c.args.format ≡ format.Json = search rules in
+    rw asked (λ world told. gives_json _ _ _ _ _ _ (c.plan_file_json.ensures.wanted world told))

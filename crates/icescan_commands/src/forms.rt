@@ -1,0 +1,62 @@
+//! Plans in the form that is asked for.
+
+ghost use Rattle.std.specs.Prelude.{◌≡◌, Some};
+ghost use Rattle.icescan_commands.specs.Answers.{GivesAnswer};
+ghost use Rattle.icescan_commands.specs.Runs.{list_plan_in, plan_in};
+ghost use Rattle.ice_desk.specs.Worlds.{EndsAt};
+ghost use Rattle.icescan_requests.specs.ListPlans.{list_reads};
+ghost use Rattle.icescan_requests.specs.Plans.{OnRefusal, reads_at};
+ghost use Rattle.ice_state.specs.Contents.{World};
+
+use icescan_words::Format;
+use ice_desk::Files;
+use icescan_json_run::{plan_file_json, run_list_plan_json};
+use icescan_requests::{plan_file, run_list_plan};
+use icescan_text::{Request, RunFault, Sink};
+use std::alloc::Global;
+use std::thread::Threads;
+
+/// Writes the plan of the manifest list at a path.
+pub fn write_list_plan<F: Files, W: Sink>(
+    alloc: Global,
+    files: &F,
+    list: &str,
+    format: Format,
+    output: &mut W,
+) -> Result<(), RunFault>
+    ensures answers { (world : World) → F.world files.now ≡ Some world →
+        GivesAnswer (list_plan_in format world list.now)
+        (EndsAt world (F.may_fail files.now) (list_reads world list.now))
+        (W.may_fail output.old) result (W.taken output.old) (W.taken output.new) }
+    ensures refusal { OnRefusal (F.world files.now) (F.may_fail files.now) (W.may_fail output.old) result
+        (W.taken output.old) (W.taken output.new) }
+{
+    match format {
+        Format::Text => run_list_plan(alloc, files, list, output),
+        Format::Json => run_list_plan_json(alloc, files, list, output),
+    }
+}
+
+/// Writes the plan that is asked of the table whose metadata is at a path, by so many workers.
+pub fn write_plan<H: Threads + Sync, F: Files + Sync, W: Sink>(
+    host: &H,
+    alloc: Global,
+    files: &F,
+    path: &str,
+    request: &Request,
+    format: Format,
+    workers: usize,
+    output: &mut W,
+) -> Result<(), RunFault>
+    ensures answers { (world : World) → F.world files.now ≡ Some world →
+        GivesAnswer (plan_in format world path.now request.now workers)
+        (EndsAt world (F.may_fail files.now) (reads_at world path.now request.now))
+        (W.may_fail output.old) result (W.taken output.old) (W.taken output.new) }
+    ensures refusal { OnRefusal (F.world files.now) (F.may_fail files.now) (W.may_fail output.old) result
+        (W.taken output.old) (W.taken output.new) }
+{
+    match format {
+        Format::Text => plan_file(host, alloc, files, path, request, workers, output),
+        Format::Json => plan_file_json(host, alloc, files, path, request, workers, output),
+    }
+}

@@ -1,0 +1,22 @@
+//! The program's commands as calls: those that `icescan_requests` has, drills of `icescan_drill`, and all of them over the
+//! words of a command line, which `icescan_words` reads.
+#![tactic(auto)]
+
+mod commit_lines;
+mod explaining;
+mod explanations;
+mod forms;
+mod words;
+
+pub use explaining::{Terminals, run_program};
+pub use icescan_words::{Format, Lists, Place, Source, Words, parse_words};
+pub use icescan_drill::{Drill, Watch, drill_table, run_drill};
+pub use icescan_json_run::{plan_file_json, run_list_plan_json};
+pub use icescan_progress::{Cleared, Progress, ProgressLine, Screen, Silent};
+pub use icescan_requests::{
+    Bundle, CommitFolder, CommitRequest, Folder, Request, Selection, Store, StoreFault, commit_to,
+    commits_are_put, file_name, fill_file, plan_file, plans_of_true_summaries, prepare_commit,
+    put_commit, put_files, read_all, run_list_plan, run_plan, run_plan_with, run_show, select,
+    show_file,
+};
+pub use words::run_words;

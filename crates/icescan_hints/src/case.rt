@@ -1,0 +1,97 @@
+//! What a hint is told from.
+
+use contract_words::Text;
+use icescan_words::{Lists, Place, Source, Words};
+use ice_desk::Files;
+use ice_manifest::Row;
+use ice_meta::{Metadata, Target};
+use icescan_requests::{Request, read_rows};
+use icescan_text::CommitRequest;
+use std::alloc::Global;
+
+/// The folder that the files of what is asked for are below.
+pub fn place_of(asked: &Words) -> Option<&Place> {
+    match asked {
+        Words::ListPlan(Lists::Folder(place, _), _) => Some(place),
+        Words::Plan(Source::Folder(place), _, _, _, _) => Some(place),
+        Words::Commit(Source::Folder(place), _) => Some(place),
+        Words::Show(Source::Folder(place), _) => Some(place),
+        Words::Audit(Source::Folder(place), _, _, _) => Some(place),
+        Words::Explain(Source::Folder(place), _, _, _) => Some(place),
+        _ => None,
+    }
+}
+
+/// What was asked for, and the files that it was asked of, where they can be read once more.
+#[derive(Drop)]
+pub struct Case<'a, F> {
+    pub asked: &'a Words,
+    pub files: Option<&'a F>,
+}
+
+impl<'a, F: Files> Case<'a, F> {
+    /// The folder that the files are below.
+    pub fn place(&self) -> Option<&'a Place> {
+        place_of(self.asked)
+    }
+
+    /// The path of the table's metadata.
+    pub fn metadata_path(&self) -> Option<&'a str> {
+        match self.asked {
+            Words::Plan(_, _, _, _, path)
+            | Words::Show(_, path)
+            | Words::Audit(_, _, _, path)
+            | Words::Explain(_, _, _, path) => Some(path.as_str()),
+            Words::Commit(_, request) => Some(request.metadata.as_str()),
+            _ => None,
+        }
+    }
+
+    /// The plan that is asked of the table.
+    pub fn request(&self) -> Option<&'a Request> {
+        match self.asked {
+            Words::Plan(_, request, _, _, _) | Words::Explain(_, request, _, _) => Some(request),
+            _ => None,
+        }
+    }
+
+    /// The snapshot that is asked for.
+    pub fn target(&self) -> Option<&'a Target> {
+        match self.asked {
+            Words::Plan(_, request, _, _, _) | Words::Explain(_, request, _, _) => {
+                Some(&request.target)
+            }
+            Words::Audit(_, target, _, _) => Some(target),
+            _ => None,
+        }
+    }
+
+    /// The commit that is asked for.
+    pub fn commit(&self) -> Option<&'a CommitRequest> {
+        match self.asked {
+            Words::Commit(_, request) => Some(request),
+            _ => None,
+        }
+    }
+
+    /// The text of the filter.
+    pub fn filter(&self) -> Option<&'a Text> {
+        self.request()?.filter.as_ref()
+    }
+
+    /// The bytes of the file at a path, where it can be read.
+    pub fn read(&self, alloc: Global, path: &str) -> Option<Vec<u8>> {
+        self.files?.read(alloc, path).ok()
+    }
+
+    /// The table's metadata, where it can be read.
+    pub fn metadata(&self, alloc: Global) -> Option<Metadata> {
+        let bytes = self.read(alloc, self.metadata_path()?)?;
+        Metadata::read(alloc, &bytes).ok()
+    }
+
+    /// The rows of the manifest list at a path, where they can be read.
+    pub fn rows(&self, alloc: Global, list: &str) -> Option<Vec<Row>> {
+        read_rows(alloc, self.files?, list).ok()
+    }
+}

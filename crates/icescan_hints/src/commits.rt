@@ -1,0 +1,112 @@
+//! What of a commit is refused.
+
+use crate::case::Case;
+use crate::tables::add_specs;
+use contract_words::{Items, Text};
+use ice_desk::Files;
+use icescan_hint_lines::{Hint, quoted};
+use icescan_requests::prepare_commit;
+use icescan_text::CommitRequest;
+use ice_catalog_versions::PrepareFault;
+use std::alloc::{AllocError, Global};
+
+/// How many files of a commit are told at most.
+const MOST_FILES: usize = 8;
+
+/// What stands where a file of a commit is to be.
+fn found_at<F: Files>(alloc: Global, case: &Case<'_, F>, path: &str, bytes: &[u8]) -> &'static str {
+    match case.read(alloc, path) {
+        Some(found) if found.as_slice() == bytes => "is there, as this commit writes it",
+        Some(_) => "was there already, with other bytes",
+        None => "is not there",
+    }
+}
+
+/// Adds which files of a commit stand at their places.
+fn add_files<F: Files>(
+    hint: &mut Hint,
+    alloc: Global,
+    case: &Case<'_, F>,
+    files: &[(Text, Items<u8>)],
+) -> Result<(), AllocError> {
+    for file in files.iter().take(MOST_FILES) {
+        let (path, bytes) = file;
+        let found = found_at(alloc, case, path.as_str(), bytes.as_slice());
+        let name = quoted(alloc, path.as_str())?;
+        hint.here(alloc, format!(in alloc; "{name} {found}")?)?;
+    }
+    Ok(())
+}
+
+/// Adds which files of a commit that could not be put stand at their places.
+pub fn add_unwritten<F: Files>(
+    hint: &mut Hint,
+    alloc: Global,
+    case: &Case<'_, F>,
+) -> Result<(), AllocError> {
+    let (Some(request), Some(files)) = (case.commit(), case.files) else {
+        return hint.here(alloc, format!(in alloc; "standard output")?);
+    };
+    match prepare_commit(alloc, files, request) {
+        Ok(prepared) => add_files(hint, alloc, case, prepared.files()),
+        Err(_) => Ok(()),
+    }
+}
+
+/// Adds the path of the change file.
+pub fn add_change_file<F: Files>(
+    hint: &mut Hint,
+    alloc: Global,
+    case: &Case<'_, F>,
+) -> Result<(), AllocError> {
+    let Some(request) = case.commit() else {
+        return Ok(());
+    };
+    let name = quoted(alloc, request.change.as_str())?;
+    hint.here(alloc, format!(in alloc; "the change file is {name}")?)
+}
+
+/// Adds the commit's time and that of the newest snapshot.
+fn add_times<F: Files>(
+    hint: &mut Hint,
+    alloc: Global,
+    case: &Case<'_, F>,
+    request: &CommitRequest,
+) -> Result<(), AllocError> {
+    let now = request.ids.now_ms;
+    let Some(metadata) = case.metadata(alloc) else {
+        return Ok(());
+    };
+    match metadata.newest_time() {
+        Some(newest) => hint.here(
+            alloc,
+            format!(in alloc; "`--now-ms` is {now}, and the newest snapshot is of {newest}")?,
+        ),
+        None => Ok(()),
+    }
+}
+
+/// Adds what of a commit can't be made.
+pub fn add_commit<F: Files>(
+    hint: &mut Hint,
+    alloc: Global,
+    case: &Case<'_, F>,
+    fault: &PrepareFault,
+) -> Result<(), AllocError> {
+    let Some(request) = case.commit() else {
+        return Ok(());
+    };
+    match fault {
+        PrepareFault::SnapshotTaken => {
+            let id = request.ids.snapshot;
+            hint.here(alloc, format!(in alloc; "`--snapshot-id` is {id}")?)
+        }
+        PrepareFault::OutOfOrder => add_times(hint, alloc, case, request),
+        PrepareFault::NoSuchSpec(_) => add_specs(hint, alloc, case),
+        PrepareFault::BaseBad(_) | PrepareFault::SequenceEnd => {
+            let name = quoted(alloc, request.metadata.as_str())?;
+            hint.here(alloc, format!(in alloc; "the metadata is {name}")?)
+        }
+        _ => add_change_file(hint, alloc, case),
+    }
+}

@@ -1,0 +1,125 @@
+//! A fault's hint, from the fault and what was asked for.
+
+ghost use Rattle.icescan_hint_lines.specs.Hints.{AppendsPlain};
+
+use crate::case::Case;
+use crate::columns::add_filter;
+use crate::commits::{add_change_file, add_commit, add_unwritten};
+use crate::manifests::{add_list, add_manifest};
+use crate::paths::{add_file_name, add_path};
+use crate::tables::{add_metadata, add_specs};
+use icescan_words::{Lists, Words};
+use ice_desk::Files;
+use icescan_hint_lines::{Hint, put_lines};
+use icescan_sentences::sentences_of;
+use ice_state::{FinishFault, ScanFault};
+use icescan_text::{RunFault, Sink};
+use std::alloc::{AllocError, Global};
+
+/// Adds what of the words, the table and its files a fault is about.
+fn add_here<F: Files>(
+    hint: &mut Hint,
+    alloc: Global,
+    case: &Case<'_, F>,
+    fault: &RunFault,
+) -> Result<(), AllocError> {
+    match fault {
+        RunFault::Absent(path) | RunFault::Device(path) => {
+            add_path(hint, alloc, case, path.as_str())
+        }
+        RunFault::List(fault) => add_list(hint, alloc, case, fault),
+        RunFault::Scan(ScanFault::NoSuchSpec(_)) => add_specs(hint, alloc, case),
+        RunFault::Finish(FinishFault::Bad(path, fault)) => {
+            add_manifest(hint, alloc, case, path, fault)
+        }
+        RunFault::Metadata(fault) => add_metadata(hint, alloc, case, fault),
+        RunFault::Filter(fault) => add_filter(hint, alloc, case, *fault),
+        RunFault::Change(_) => add_change_file(hint, alloc, case),
+        RunFault::Prepare(fault) => add_commit(hint, alloc, case, fault),
+        RunFault::Conflict(path) => add_taken(hint, alloc, case, path.as_str()),
+        RunFault::Write => add_unwritten(hint, alloc, case),
+        RunFault::Bundle(_) => add_bundle(hint, alloc, case),
+        RunFault::Workers => add_workers(hint, alloc, case),
+        _ => Ok(()),
+    }
+}
+
+/// Adds the file that stands at the place of a commit's metadata.
+fn add_taken<F: Files>(
+    hint: &mut Hint,
+    alloc: Global,
+    case: &Case<'_, F>,
+    path: &str,
+) -> Result<(), AllocError> {
+    match case.place() {
+        Some(place) => add_file_name(hint, alloc, place, path),
+        None => Ok(()),
+    }
+}
+
+/// Adds how a bundle came to be read, where no word says so.
+fn add_bundle<F: Files>(
+    hint: &mut Hint,
+    alloc: Global,
+    case: &Case<'_, F>,
+) -> Result<(), AllocError> {
+    match case.asked {
+        Words::ListPlan(Lists::Bundle(None), _) => hint.here(
+            alloc,
+            format!(in alloc;
+                "`list-plan --bundle`, and no word at all, read a bundle; `icescan --help` shows the commands"
+            )?,
+        ),
+        _ => Ok(()),
+    }
+}
+
+/// Adds how many workers are asked for.
+fn add_workers<F: Files>(
+    hint: &mut Hint,
+    alloc: Global,
+    case: &Case<'_, F>,
+) -> Result<(), AllocError> {
+    match case.asked {
+        Words::Plan(_, _, _, workers, _)
+        | Words::Audit(_, _, workers, _)
+        | Words::Explain(_, _, workers, _) => {
+            hint.here(alloc, format!(in alloc; "`--workers` is {workers}")?)
+        }
+        _ => Ok(()),
+    }
+}
+
+/// The lines of a fault's hint: what each refusal says, what they are about, and what to do. There are none for words
+/// that are not understood.
+fn hint_of<F: Files>(
+    alloc: Global,
+    case: &Case<'_, F>,
+    fault: &RunFault,
+) -> Result<Hint, AllocError> {
+    let sentences = sentences_of(alloc, fault)?;
+    let mut hint = Hint::new(alloc);
+    for sentence in sentences.as_slice() {
+        hint.say(alloc, sentence)?;
+    }
+    add_here(&mut hint, alloc, case, fault)?;
+    if let Some(sentence) = sentences.last() {
+        hint.advise(alloc, sentence)?;
+    }
+    Ok(hint)
+}
+
+/// Writes the hint of a fault, as far as it can be written: lines in which no control character stands. Nothing is
+/// written where memory runs out.
+pub fn put_hint<F: Files, S: Sink>(
+    alloc: Global,
+    case: &Case<'_, F>,
+    fault: &RunFault,
+    errors: &mut S,
+)
+    ensures { AppendsPlain (S.taken errors.old) (S.taken errors.new) }
+{
+    if let Ok(hint) = hint_of(alloc, case, fault) {
+        put_lines(alloc, hint.lines(), errors);
+    }
+}

@@ -1,0 +1,87 @@
+-- The text of a plan's JSON, as it is written. (10 is the line feed.) No public contract cites the words but json_text.
+use Rattle.std.specs.Prelude.{◌≡◌, ℕ, List, [], ◌∷◌, ◌++◌, codes, Option, Some, None}
+use Rattle.std.specs.Fmt.{decimal, signed_decimal}
+use Rattle.json.specs.Print.{quoted}
+use Rattle.serde_json.specs.Written.{compact_text}
+use Rattle.ice_value.specs.declared.cell.Cell.{Cell}
+use Rattle.ice_value.specs.declared.column_type.ColumnType.{ColumnType}
+use Rattle.ice_value.specs.declared.file_content.FileContent.{FileContent}
+use Rattle.ice_value.specs.declared.file_content.FileContent.TheVariants as content
+use Rattle.ice_manifest_reading.specs.declared.data_file.DataFile.{DataFile}
+use Rattle.ice_manifest_reading.specs.declared.entry.Entry.{Entry}
+use Rattle.ice_state.specs.Lines.{OwnedLine}
+use Rattle.ice_state.specs.PlacedFiles.{plan_of, ArePlaced, PlanPlaces}
+use Rattle.icescan_json.specs.Pieces.{each_from}
+use Rattle.icescan_json.specs.PlanJson.{content_name, format_name, delete_json, plan_json, tasks_json}
+use Rattle.icescan_json.specs.Types.{types_of}
+use Rattle.icescan_json.specs.declared.types.SpecTypes.{SpecTypes}
+use Rattle.icescan_json.specs.Values.{cell_json, type_at}
+
+-- one line: the value as serde_json writes it without spaces
+abbrev pub json_text : List SpecTypes → PlanPlaces → List ℕ
+json_text types p = compact_text (plan_json types p) ++ 10 ∷ []
+
+-- the text says this plan: its files stand, each once, at some places; where no data file stands, no delete file does
+pub record IsJsonOf (types : List SpecTypes) (plan : List OwnedLine) (text : List ℕ) : Type 0 where
+  pub files : PlanPlaces
+  pub plan_is : plan_of files ≡ plan
+  pub placed : ArePlaced files
+  pub needed : files.files ≡ [] → files.deletes ≡ []
+  pub text_is : text ≡ json_text types files
+
+-- ---- pieces of it
+
+-- the files of a plan, without delete files where there are these data files and they are none
+abbrev pub needed_by : List Entry → PlanPlaces → PlanPlaces
+needed_by [] p = record { files = []; deletes = []; places = [] }
+needed_by (x ∷ xs) p = p
+
+abbrev pub needed : PlanPlaces → PlanPlaces
+needed p = needed_by p.files p
+
+abbrev pub cells_text : List (Option ColumnType) → List Cell → List ℕ
+cells_text types cells = each_from (λ i c. compact_text (cell_json (type_at types i) c)) 0 cells
+
+abbrev pub format_text : Option (List ℕ) → List ℕ
+format_text None = []
+format_text (Some name) = codes ",\"file-format\":" ++ quoted name
+
+-- a file's path, and what it is
+unfoldable pub file_head : Entry → List ℕ
+file_head x = codes "{\"content\":\"" ++ (content_name x.file.content
+    ++ (codes "\",\"file-path\":" ++ (quoted x.file.path ++ format_text (format_name x))))
+
+unfoldable pub file_partition : List SpecTypes → Entry → List ℕ
+file_partition types x = codes ",\"spec-id\":" ++ (signed_decimal x.spec_id
+    ++ (codes ",\"partition\":[" ++ (cells_text (types_of types x.spec_id) x.file.tuple ++ codes "]")))
+
+unfoldable pub file_sizes : Entry → List ℕ
+file_sizes x = codes ",\"file-size-in-bytes\":" ++ (signed_decimal x.file.file_size
+    ++ (codes ",\"record-count\":" ++ signed_decimal x.file.record_count))
+
+-- a file, but for what its own kind has and the bracket
+unfoldable pub file_text : List SpecTypes → Entry → List ℕ
+file_text types x = file_head x ++ (file_partition types x ++ file_sizes x)
+
+abbrev pub ids_text : DataFile → List ℕ
+ids_text f = each_from (λ _ id. signed_decimal id) 0 f.equality_ids
+
+abbrev pub referenced_text : Option (List ℕ) → List ℕ
+referenced_text None = []
+referenced_text (Some path) = codes ",\"referenced-data-file\":" ++ quoted path
+
+abbrev pub kind_text : DataFile → FileContent → List ℕ
+kind_text f content.Data = []
+kind_text f content.PositionDeletes = referenced_text f.referenced
+kind_text f content.EqualityDeletes = codes ",\"equality-ids\":[" ++ (ids_text f ++ codes "]")
+
+abbrev pub references_text : List ℕ → List ℕ
+references_text [] = []
+references_text (n ∷ ns) = codes ",\"delete-file-references\":["
+    ++ (each_from (λ _ i. decimal i) 0 (n ∷ ns) ++ codes "]")
+
+abbrev pub deletes_text : List SpecTypes → List Entry → List ℕ
+deletes_text types deletes = each_from (λ _ x. compact_text (delete_json types x)) 0 deletes
+
+abbrev pub tasks_text : List SpecTypes → PlanPlaces → List ℕ
+tasks_text types p = each_from (λ _ d. compact_text d) 0 (tasks_json types p.files p.places)

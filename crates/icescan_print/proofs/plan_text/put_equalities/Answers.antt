@@ -1,0 +1,23 @@
+use Rattle.std.proofs.Common.{◌≤◌, add-one, length}
+use Rattle.icescan_print.specs.PlanTexts.{equality_text}
+use Rattle.icescan_print.proofs.Sends.{flat_all, flat_cut, flat_next, sent_less, sent_more, sent_none}
+use Rattle.icescan_print.proofs.plan_text.put_equalities.Goals as goal
+
+pub loop-i-init : goal.loop-i-init
+loop-i-init g c = sent_none _ _ _ _ _
+
+pub returns-in_err-put_equality : goal.returns-in_err-put_equality
+returns-in_err-put_equality g c =
+    rw (flat_cut equality_text c.args.files.now c.loop-i.i c.file.result c.file.ensures)
+    (sent_more _ _ _ _ _ _ _ _ _ _ _ _ c.loop-i.invariant
+    (sent_less _ _ _ _ _ _ _ _ _ _ _ c.from_residual.ensures.0 c.in_err-put_equality.ensures))
+
+pub loop-i-preserved : goal.loop-i-preserved
+loop-i-preserved g c =
+    rw (add-one, flat_next equality_text c.args.files.now c.loop-i.i c.file.result c.file.ensures)
+    (sent_more _ _ _ _ _ _ _ _ _ _ _ _ c.loop-i.invariant c.in_ok-put_equality.ensures)
+
+pub returns : goal.returns
+returns g c =
+    let low : length c.args.files.now ≤ c.loop-i.i = rw c.len-i-end.ensures.counted at c.loop-i-test.false in
+    rw (flat_all equality_text c.args.files.now c.loop-i.i low) at c.loop-i.invariant

@@ -1,0 +1,33 @@
+use Rattle.std.proofs.Common.{◌≡◌, ◌<◌, ◌-◌, ◌+◌, min, length, arith}
+use Rattle.icescan_print.proofs.RangeTexts.{range_end, range_next, range_stop}
+use Rattle.icescan_print.proofs.Sends.{sent_less, sent_more, sent_none}
+use Rattle.icescan_print.proofs.plan_text.put_some_lines.Goals as goal
+
+pub loop-i-init : goal.loop-i-init
+loop-i-init g c =
+    let none : c.args.first - c.args.first ≡ 0 = omega arith in
+    record { from = omega arith; upto = omega arith; sent = rw none (sent_none _ _ _ _ _) }
+
+pub returns-in_err-put_line : goal.returns-in_err-put_line
+returns-in_err-put_line g c =
+    let within : c.loop-i.i < c.args.first + c.args.count =
+    omega (arith, c.loop-i-test.true, c.min-end.ensures, c.saturating_add.ensures) in
+    rw (range_stop c.args.lines.now c.args.first c.loop-i.i c.args.count c.line.result c.loop-i.invariant.from within
+    c.line.ensures)
+    (sent_more _ _ _ _ _ _ _ _ _ _ _ _ c.loop-i.invariant.sent
+    (sent_less _ _ _ _ _ _ _ _ _ _ _ c.from_residual.ensures.0 c.in_err-put_line.ensures))
+
+pub loop-i-preserved : goal.loop-i-preserved
+loop-i-preserved g c = record {
+  from = omega (arith, c.loop-i.invariant.from);
+  upto = omega (arith, c.loop-i.invariant.from, c.loop-i-test.true, c.min-end.ensures, c.saturating_add.ensures);
+  sent = rw (range_next c.args.lines.now c.args.first c.loop-i.i c.line.result c.loop-i.invariant.from c.line.ensures)
+      (sent_more _ _ _ _ _ _ _ _ _ _ _ _ c.loop-i.invariant.sent c.in_ok-put_line.ensures);
+}
+
+pub returns : goal.returns
+returns g c =
+    let ends : c.min-end.result ≡ min (length c.args.lines.now) (c.args.first + c.args.count) =
+    omega (arith, c.min-end.ensures, c.saturating_add.ensures, c.len.ensures.counted, c.len.ensures.few) in
+    rw (← range_end c.args.lines.now c.args.first c.loop-i.i c.args.count c.min-end.result c.loop-i.invariant.from
+    c.loop-i.invariant.upto c.loop-i-test.false ends) c.loop-i.invariant.sent

@@ -1,0 +1,230 @@
+//! Files and folders that are refused while a commit puts its files.
+
+use icescan_requests::{CommitFolder, Folder, Store, StoreFault, fill_file};
+use ice_catalog_versions::Ids;
+use std::alloc::Allocator;
+use std::cell::Cell;
+use std::fs::{self, Metadata, OpenFile, OpenOptions};
+use std::io::{self, ErrorKind, Read, Seek, SeekFrom, Write};
+use std::rt::Files;
+use uuid::Uuid;
+
+/// A file that refuses to be written, or to be kept, and is known by this metadata.
+#[derive(Drop)]
+struct Refusing<'a> {
+    written: Option<ErrorKind>,
+    kept: Option<ErrorKind>,
+    known: Option<&'a Metadata>,
+}
+
+/// What a file answers that refuses so.
+fn answer(refused: Option<ErrorKind>) -> io::Result<()> {
+    match refused {
+        Some(kind) => Err(io::Error::from(kind)),
+        None => Ok(()),
+    }
+}
+
+/// What is told of a file that is known so.
+fn told(known: Option<&Metadata>) -> io::Result<Metadata> {
+    match known {
+        Some(known) => Ok(known.clone()?),
+        None => Err(io::Error::from(ErrorKind::NotFound)),
+    }
+}
+
+impl Write for Refusing<'_> {
+    fn write(&mut self, buf: &[u8]) -> io::Result<usize> {
+        answer(self.written)?;
+        Ok(buf.len())
+    }
+
+    fn flush(&mut self) -> io::Result<()> {
+        Ok(())
+    }
+}
+
+impl Read for Refusing<'_> {
+    fn read(&mut self, _buf: &mut [u8]) -> io::Result<usize> {
+        Ok(0)
+    }
+}
+
+impl Seek for Refusing<'_> {
+    fn seek(&mut self, _to: SeekFrom) -> io::Result<u64> {
+        Ok(0)
+    }
+}
+
+impl OpenFile for Refusing<'_> {
+    fn metadata(&self) -> io::Result<Metadata> {
+        told(self.known)
+    }
+
+    fn set_len(&self, _size: u64) -> io::Result<()> {
+        Ok(())
+    }
+
+    fn sync_all(&self) -> io::Result<()> {
+        answer(self.kept)
+    }
+
+    fn sync_data(&self) -> io::Result<()> {
+        Ok(())
+    }
+}
+
+/// A host whose one folder refuses to be opened, to be synced or to link a file, with what is known of a new file and
+/// of the one at its place. It counts the names that it has.
+#[derive(Drop)]
+struct Host<'a> {
+    opened: Option<ErrorKind>,
+    synced: Option<ErrorKind>,
+    linked: Option<ErrorKind>,
+    known: Option<&'a Metadata>,
+    found: Option<&'a Metadata>,
+    names: Cell<u32>,
+}
+
+impl<'a> Files for Host<'a> {
+    type File = Refusing<'a>;
+
+    type Dir = Refusing<'a>;
+
+    fn open_file(&self, how: &OpenOptions, _path: &str) -> io::Result<Refusing<'a>> {
+        let (kept, known) = if how.asks_create_new() {
+            self.names.set(self.names.get().saturating_add(1));
+            (None, self.known)
+        } else {
+            answer(self.opened)?;
+            (self.synced, None)
+        };
+        Ok(Refusing {
+            written: None,
+            kept,
+            known,
+        })
+    }
+
+    fn open_dir(&self, _path: &str) -> io::Result<Refusing<'a>> {
+        Err(io::Error::from(ErrorKind::Unsupported))
+    }
+
+    fn metadata(&self, _path: &str) -> io::Result<Metadata> {
+        told(self.found)
+    }
+
+    fn symlink_metadata(&self, _path: &str) -> io::Result<Metadata> {
+        told(self.found)
+    }
+
+    fn copy(&self, _from: &str, _to: &str) -> io::Result<u64> {
+        Err(io::Error::from(ErrorKind::Unsupported))
+    }
+
+    fn rename(&self, _from: &str, _to: &str) -> io::Result<()> {
+        Err(io::Error::from(ErrorKind::Unsupported))
+    }
+
+    fn remove_file(&self, _path: &str) -> io::Result<()> {
+        self.names.set(self.names.get().saturating_sub(1));
+        Ok(())
+    }
+
+    fn create_dir(&self, _path: &str) -> io::Result<()> {
+        Err(io::Error::from(ErrorKind::Unsupported))
+    }
+
+    fn remove_dir(&self, _path: &str) -> io::Result<()> {
+        Err(io::Error::from(ErrorKind::Unsupported))
+    }
+
+    fn remove_dir_all<B: Allocator>(&self, _alloc: B, _path: &str) -> io::Result<()> {
+        Err(io::Error::from(ErrorKind::Unsupported))
+    }
+
+    fn hard_link(&self, _original: &str, _link: &str) -> io::Result<()> {
+        answer(self.linked)?;
+        self.names.set(self.names.get().saturating_add(1));
+        Ok(())
+    }
+}
+
+#[test]
+fn files_that_refuse(rt: HostRuntime) {
+    let (full, broken) = (Some(ErrorKind::StorageFull), Some(ErrorKind::Other));
+    for (written, kept) in [(None, None), (full, None), (None, broken), (full, broken)] {
+        let filled = fill_file(
+            &mut Refusing {
+                written,
+                kept,
+                known: None,
+            },
+            b"bytes",
+        );
+        assert_eq!(rt; filled.err().map(|e| e.kind()), written.or(kept));
+    }
+}
+
+/// How a file is put in the folder of a host, and how many names the host has then.
+fn puts(rt: &HostRuntime, host: &Host<'_>) -> (Result<(), StoreFault>, u32) {
+    let ids = Ids {
+        snapshot: 1,
+        uuid: Uuid::from_bytes([7; 16]),
+        now_ms: 0,
+    };
+    let mut folder = CommitFolder::new(Folder::new(host, "table", "mem://t"), &ids);
+    let put = folder.create_new(rt.alloc(), "mem://t/metadata/m", b"bytes");
+    (put, host.names.get())
+}
+
+/// A folder that can't be synced refuses a file, which stays, unless there is no such sync.
+#[test]
+fn folders_that_refuse(rt: HostRuntime) {
+    let (failed, none) = (Err(StoreFault::Failed), Some(ErrorKind::Unsupported));
+    for (opened, synced, wanted) in [
+        (None, None, Ok(())),
+        (None, none, Ok(())),
+        (None, Some(ErrorKind::InvalidInput), Ok(())),
+        (None, Some(ErrorKind::ReadOnlyFilesystem), failed),
+        (None, Some(ErrorKind::Other), failed),
+        (Some(ErrorKind::PermissionDenied), None, failed),
+        (none, none, failed),
+    ] {
+        let host = Host {
+            opened,
+            synced,
+            linked: None,
+            known: None,
+            found: None,
+            names: Cell::new(0),
+        };
+        assert_eq!(rt; puts(&rt, &host), (wanted, 1));
+    }
+}
+
+/// A link that is said to be there was made where what is there is the file itself.
+#[test]
+fn links_that_refuse(rt: HostRuntime) -> io::Result<()> {
+    let (one, other) = (fs::metadata(&rt, "/")?, fs::metadata(&rt, "/proc")?);
+    let untold = Metadata::of_file(5);
+    let there = Err(StoreFault::There);
+    for (known, found, wanted) in [
+        (Some(&one), Some(&one), Ok(())),
+        (Some(&one), Some(&other), there),
+        (Some(&one), None, there),
+        (None, None, there),
+        (Some(&untold), Some(&untold), there),
+    ] {
+        let host = Host {
+            opened: None,
+            synced: None,
+            linked: Some(ErrorKind::AlreadyExists),
+            known,
+            found,
+            names: Cell::new(0),
+        };
+        assert_eq!(rt; puts(&rt, &host), (wanted, 0));
+    }
+    Ok(())
+}

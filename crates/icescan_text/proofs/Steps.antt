@@ -1,0 +1,192 @@
+-- The steps of a plan, and why each of them may end the run.
+use Rattle.std.proofs.Common.{◌≡◌, ◌≢◌, ◌⊎◌, ℕ, zero, suc, false, List, [], ◌∷◌, length, replicate, refl, sym, ap}
+use Rattle.std.proofs.Common.{subst, ◌∙◌, true, Option, Some, None, is_some, inl, inr}
+use Rattle.std.specs.Prelude.{Result, Ok, Err}
+use Rattle.contract_words.specs.Outcome.{◌>>=◌}
+use Rattle.ice_desk.specs.declared.fault.WantedFault.{WantedFault}
+use Rattle.ice_desk.specs.declared.fault.WantedFault.TheVariants as wanted
+use Rattle.ice_desk.specs.Wanted.{IsContentOf, MayStop, paths_of, untaken}
+use Rattle.ice_desk.specs.Worlds.{EndsAt, EndsAtAbsent}
+use Rattle.ice_state.specs.Contents.{Content, HasEach, World, content, no_row}
+use Rattle.ice_manifest_fields.specs.declared.fault.ListFault.{ListFault}
+use Rattle.ice_manifest_fields.specs.declared.fault.ListFault.TheVariants as list
+use Rattle.ice_manifest_reading.specs.declared.row.Row.{Row}
+use Rattle.ice_manifest_reading.specs.Lists.{rows_of}
+use Rattle.ice_state.specs.declared.fault.ScanFault.{ScanFault}
+use Rattle.ice_state.specs.declared.fault.ScanFault.TheVariants as scan
+use Rattle.ice_state.specs.declared.fault.FinishFault.{FinishFault}
+use Rattle.ice_state.specs.declared.fault.FinishFault.TheVariants as finish
+use Rattle.ice_state.specs.Scans.{Scanned}
+use Rattle.icescan_text.specs.declared.fault.RunFault.{RunFault}
+use Rattle.icescan_text.specs.declared.fault.RunFault.TheVariants as run
+use Rattle.icescan_text.specs.Faults.{of_finish, of_list, of_scan, of_wanted}
+use Rattle.icescan_text.specs.Reads.{MayEnd, all_present, as_run, file_in, or_absent, rows_at, rows_in}
+
+module _ (r : List ℕ → Type 0) (w : Type 0) where
+  -- a step's fault is the run's
+  pub first_ends : {A B : Type 0} (s : List ℕ → Type 0) (read : Result A RunFault) (next : A → Result B RunFault)
+      (e : RunFault) → ((path : List ℕ) → s path → r path) → MayEnd read s ⊥ e → MayEnd (read >>= next) r w e
+  first_ends s read next run.Memory stops h = tt
+  first_ends s read next (run.Device path) stops h = stops path h
+  first_ends s read next run.Write stops h = absurd h
+  first_ends s read next (run.Words t) stops h = ap (λ x. x >>= next) h
+  first_ends s read next run.Input stops h = ap (λ x. x >>= next) h
+  first_ends s read next (run.Bundle n) stops h = ap (λ x. x >>= next) h
+  first_ends s read next (run.Absent path) stops h = ap (λ x. x >>= next) h
+  first_ends s read next (run.List f) stops h = ap (λ x. x >>= next) h
+  first_ends s read next (run.Scan f) stops h = ap (λ x. x >>= next) h
+  first_ends s read next (run.Finish f) stops h = ap (λ x. x >>= next) h
+  first_ends s read next (run.Metadata f) stops h = ap (λ x. x >>= next) h
+  first_ends s read next (run.Filter f) stops h = ap (λ x. x >>= next) h
+  first_ends s read next (run.Drill f) stops h = ap (λ x. x >>= next) h
+  first_ends s read next (run.Change f) stops h = ap (λ x. x >>= next) h
+  first_ends s read next (run.Prepare f) stops h = ap (λ x. x >>= next) h
+  first_ends s read next (run.Conflict path) stops h = ap (λ x. x >>= next) h
+  first_ends s read next run.Workers stops h = ap (λ x. x >>= next) h
+
+  pub list_ends : {A : Type 0} (read : Result A ListFault) (f : ListFault) → (f ≢ list.Memory → read ≡ Err f)
+      → MayEnd (as_run of_list read) r w (of_list f)
+  list_ends read list.Memory h = tt
+  list_ends read (list.Avro e) h = ap (as_run of_list) (h (λ m. cc))
+  list_ends read (list.MissingField id) h = ap (as_run of_list) (h (λ m. cc))
+  list_ends read (list.WrongFieldType id) h = ap (as_run of_list) (h (λ m. cc))
+  list_ends read (list.OutOfRange id) h = ap (as_run of_list) (h (λ m. cc))
+  list_ends read list.BadContent h = ap (as_run of_list) (h (λ m. cc))
+  list_ends read (list.ManifestTwice path) h = ap (as_run of_list) (h (λ m. cc))
+  list_ends read list.TooManyRows h = ap (as_run of_list) (h (λ m. cc))
+
+  pub scan_ends : {A : Type 0} (read : Result A ScanFault) (f : ScanFault) → (f ≢ scan.Memory → read ≡ Err f)
+      → MayEnd (as_run of_scan read) r w (of_scan f)
+  scan_ends read scan.Memory h = tt
+  scan_ends read (scan.NoSuchSpec id) h = ap (as_run of_scan) (h (λ m. cc))
+
+  pub finish_ends : {A : Type 0} (read : Result A FinishFault) (f : FinishFault) → (f ≢ finish.Memory → read ≡ Err f)
+      → MayEnd (as_run of_finish read) r w (of_finish f)
+  finish_ends read finish.Memory h = tt
+  finish_ends read (finish.Missing path) h = ap (as_run of_finish) (h (λ m. cc))
+  finish_ends read (finish.Bad path e) h = ap (as_run of_finish) (h (λ m. cc))
+  finish_ends read (finish.PathTwice path) h = ap (as_run of_finish) (h (λ m. cc))
+
+  -- where a step gave its value, the next one's fault is the run's
+  pub then_ends : {A B : Type 0} (read : Result A RunFault) (next : A → Result B RunFault) (x : A) (e : RunFault) → read
+      ≡ Ok x → MayEnd (next x) r w e → MayEnd (read >>= next) r w e
+  then_ends read next x e is h = subst (λ s. MayEnd (s >>= next) r w e) (sym is) h
+
+-- a file that is there
+pub found_in : (world : World) (path bytes : List ℕ) → world path ≡ Some bytes → file_in world path ≡ Ok bytes
+unfolding file_in
+found_in world path bytes h = ap (or_absent path) h
+
+pub absent_in : (world : World) (path : List ℕ) → world path ≡ None → file_in world path ≡ Err (run.Absent path)
+unfolding file_in
+absent_in world path h = ap (or_absent path) h
+
+here : (path : List ℕ) (o : Option (List ℕ)) (bytes : List ℕ) → or_absent path o ≡ Ok bytes → o ≡ Some bytes
+here path None bytes h = absurd cc
+here path (Some x) bytes h = cc
+
+pub bytes_in : (world : World) (path bytes : List ℕ) → file_in world path ≡ Ok bytes → world path ≡ Some bytes
+unfolding file_in
+bytes_in world path bytes h = here path (world path) bytes h
+
+step_present : (world : World) (path : List ℕ) (found : Option (List ℕ)) (rest : Result Unit RunFault)
+    → (or_absent path found >>= λ _. rest) ≡ Ok tt → (is_some found ≡ true) × (rest ≡ Ok tt)
+step_present world path None rest h = absurd cc
+step_present world path (Some x) rest h = (refl, h)
+
+is_present : (world : World) (path : List ℕ) (found : Option (List ℕ)) (rest : Result Unit RunFault) → is_some found
+    ≡ true → rest ≡ Ok tt → (or_absent path found >>= λ _. rest) ≡ Ok tt
+is_present world path None rest h k = absurd cc
+is_present world path (Some x) rest h k = k
+
+-- where each is present, the world has each
+pub has_each : (world : World) (rows : List Row) → all_present world rows ≡ Ok tt → HasEach world rows
+unfolding all_present file_in
+has_each world [] h = tt
+has_each world (row ∷ rows) h = let p = step_present world row.path (world row.path) (all_present world rows)
+    h in (p.0, has_each world rows p.1)
+
+pub each_present : (world : World) (rows : List Row) → HasEach world rows → all_present world rows ≡ Ok tt
+unfolding all_present file_in
+each_present world [] h = refl
+each_present world (row ∷ rows) h = is_present world row.path (world row.path) (all_present world rows) h.0
+    (each_present world rows h.1)
+
+-- a state in which no row was taken lacks all rows
+pub untaken_all : (rows : List Row) → untaken (replicate (length rows) None) rows ≡ rows
+untaken_all [] = refl
+untaken_all (row ∷ rows) = ap (λ (rest : List Row). row ∷ rest) (untaken_all rows)
+
+-- a state in which no row was taken has the content of no row
+pub nothing_taken : (world : World) (made : Scanned) (c : Content) → c ≡ content world made (no_row made)
+    → IsContentOf world made c (no_row made)
+nothing_taken world made c h = record { flags = flags (length made.wanted); is = h }
+  where
+    flags : (n : ℕ) → length (replicate n false) ≡ n
+    flags zero = refl
+    flags (suc n) = ap suc (flags n)
+
+absent_next : (world : World) (next path : List ℕ) (found : Option (List ℕ)) (rest : Result Unit RunFault)
+    → ((path ≡ next) × (found ≡ None)) ⊎ ((is_some found ≡ true) × (rest ≡ Err (run.Absent path)))
+    → (or_absent next found >>= λ _. rest) ≡ Err (run.Absent path)
+absent_next world next path None rest (inl h) = ap (λ p. Err (run.Absent p)) (sym h.0)
+absent_next world next path None rest (inr h) = absurd cc
+absent_next world next path (Some x) rest (inl h) = absurd cc
+absent_next world next path (Some x) rest (inr h) = h.1
+
+-- the first that is absent is the fault
+absent_of : (world : World) (rows : List Row) (path : List ℕ) → EndsAtAbsent world (paths_of rows) path
+    → all_present world rows ≡ Err (run.Absent path)
+unfolding all_present file_in
+absent_of world [] path h = absurd h
+absent_of world (row ∷ rows) path (inl h) = absent_next world row.path path (world row.path) (all_present world rows)
+    (inl (h.0, ap world (sym h.0) ∙ h.1))
+absent_of world (row ∷ rows) path (inr h) = absent_next world row.path path (world row.path) (all_present world rows)
+    (inr (h.0, absent_of world rows path h.1))
+
+-- where the first of these reads fails
+pub only_first : (world : World) (f : List ℕ → Type 0) (next : List ℕ) (paths : List (List ℕ)) (path : List ℕ)
+    → EndsAt world f (next ∷ []) path → EndsAt world f (next ∷ paths) path
+only_first world f next paths path (inl h) = inl h
+only_first world f next paths path (inr h) = absurd h.1
+
+pub fails_here : (world : World) (f : List ℕ → Type 0) (path : List ℕ) → f path → EndsAt world f (path ∷ []) path
+fails_here world f path h = inl (refl, h)
+
+-- where a later one fails
+pub fails_later : (world : World) (f : List ℕ → Type 0) (next bytes : List ℕ) (paths : List (List ℕ)) (path : List ℕ)
+    → file_in world next ≡ Ok bytes → EndsAt world f paths path → EndsAt world f (next ∷ paths) path
+fails_later world f next bytes paths path has h = inr (ap is_some (bytes_in world next bytes has), h)
+
+-- reads that never fail
+pub never_fails : (world : World) (paths : List (List ℕ)) (path : List ℕ) → EndsAt world (λ _. ⊥) paths path → ⊥
+never_fails world [] path h = h
+never_fails world (next ∷ paths) path (inl h) = h.1
+never_fails world (next ∷ paths) path (inr h) = never_fails world paths path h.1
+
+module _ (world : World) (f : List ℕ → Type 0) where
+  pub stops_end : (rows : List Row) (e : WantedFault) → MayStop world f (paths_of rows) e
+      → MayEnd (all_present world rows) (EndsAt world f (paths_of rows)) ⊥ (of_wanted e)
+  stops_end rows (wanted.Absent path) h = absent_of world rows path h
+  stops_end rows (wanted.Device path) h = h
+  stops_end rows wanted.Memory h = tt
+
+-- the rows of a list
+module _ (f : List ℕ → Type 0) (world : World) (path : List ℕ) where
+  pub no_file : (e : RunFault) → MayEnd (file_in world path) (EndsAt world f (path ∷ [])) ⊥ e
+      → MayEnd (rows_at world path) (EndsAt world f (path ∷ [])) ⊥ e
+  unfolding rows_at
+  no_file e h = first_ends (EndsAt world f (path ∷ [])) ⊥ (EndsAt world f (path ∷ [])) (file_in world path) rows_in e
+      (λ p m. m) h
+
+  pub no_rows : (bytes : List ℕ) → file_in world path ≡ Ok bytes → (e : ListFault)
+      → (e ≢ list.Memory → rows_of bytes ≡ Err e)
+      → MayEnd (rows_at world path) (EndsAt world f (path ∷ [])) ⊥ (of_list e)
+  unfolding rows_at rows_in
+  no_rows bytes has e h = then_ends (EndsAt world f (path ∷ [])) ⊥ (file_in world path) rows_in bytes (of_list e) has
+      (list_ends (EndsAt world f (path ∷ [])) ⊥ (rows_of bytes) e h)
+
+  pub rows_there : (bytes : List ℕ) (rows : List Row) → file_in world path ≡ Ok bytes → rows_of bytes ≡ Ok rows
+      → rows_at world path ≡ Ok rows
+  unfolding rows_at rows_in
+  rows_there bytes rows has is = rw has (ap (as_run of_list) is)

@@ -1,0 +1,27 @@
+//! What is asked of tables, and why the program ends without an answer, with the line and the status that tell it;
+//! reading files that have to be there; writing a plan; and change files. The texts of plans and tables, and the sinks
+//! that they go to, are in `icescan_print`.
+#![tactic(auto)]
+
+mod change;
+mod drill;
+mod drill_fault;
+mod fault;
+mod fault_text;
+mod reading;
+mod reporting;
+mod request;
+mod write;
+
+pub use change::{ChangeFault, ChangeKind, ChangeMember, read_change};
+pub use drill::Drill;
+pub use drill_fault::DrillFault;
+pub use fault::RunFault;
+pub use icescan_print::{
+    Output, Page, Shown, Sink, SinkFault, count_deletes, escaping, main_of, put_escaped,
+    put_named_long, put_named_number, put_table, put_totals, unescape, write_all,
+};
+pub use reading::{read_file, read_rows};
+pub use reporting::report;
+pub use request::{CommitRequest, Request};
+pub use write::{write_plan, write_plan_by_workers};

@@ -1,0 +1,30 @@
+//! What is asked of a table.
+
+use crate::change::ChangeKind;
+use contract_words::Text;
+use ice_meta::Target;
+use ice_catalog_versions::Ids;
+
+/// What of a table is asked for.
+#[derive(Debug, Drop)]
+pub struct Request {
+    /// The snapshot.
+    pub target: Target,
+    /// The text of a filter; without one every row is asked for.
+    pub filter: Option<Text>,
+}
+
+/// A commit that is asked for.
+#[derive(Debug, Drop)]
+pub struct CommitRequest {
+    /// What it may add.
+    pub kind: ChangeKind,
+    /// The names that it takes, and its time.
+    pub ids: Ids,
+    /// The path of the table's metadata.
+    pub metadata: Text,
+    /// The path of the change file.
+    pub change: Text,
+    /// The path of the new metadata.
+    pub out: Text,
+}

@@ -1,0 +1,64 @@
+//! Writing a plan.
+
+ghost use Rattle.std.specs.Prelude.{◌≡◌, ◌⊎◌, ◌<◌, ◌≤◌, OnOk, IfErr, IsErrOf};
+ghost use Rattle.icescan_print.specs.PlanTexts.{plan_text};
+ghost use Rattle.icescan_print.specs.Written.{Appends, AppendsFront};
+
+use crate::fault::RunFault;
+use icescan_print::{Page, Sink, count_deletes, put_plan, put_plan_by_workers};
+use ice_state::Lines;
+use std::alloc::Global;
+use std::thread::Threads;
+
+/// Writes the text of a plan and nothing else. It refuses for want of memory, and then nothing was written, or where a
+/// write fails, and then a front of the text was.
+pub fn write_plan<S: Sink>(alloc: Global, lines: &Lines<'_>, sink: &mut S) -> Result<(), RunFault>
+    ensures all { OnOk result (Appends (S.taken sink.old) (S.taken sink.new) (plan_text lines.now)) }
+    ensures causes { IfErr result (λ e. (e ≡ RunFault.Memory) ⊎ (e ≡ RunFault.Write)) }
+    ensures nothing { IsErrOf result RunFault.Memory → S.taken sink.new ≡ S.taken sink.old }
+    ensures front { IsErrOf result RunFault.Write →
+        AppendsFront (S.taken sink.old) (S.taken sink.new) (plan_text lines.now) }
+    ensures cause { IsErrOf result RunFault.Write → S.may_fail sink.old }
+{
+    let mut page = Page::new(alloc)?;
+    let deletes = count_deletes(lines);
+    put_plan(&mut page, sink, lines, deletes)?;
+    page.flush(sink)?;
+    Ok(())
+}
+
+/// How many lines of a plan a worker makes the text of at a time.
+const LINES_AT_A_TIME: usize = 8_192;
+
+/// The same as `write_plan`, the text of ranges of lines made by so many workers, from 1 to 64, each in a thread of its
+/// own where one can be started.
+pub fn write_plan_by_workers<R: Threads + Sync, S: Sink>(
+    rt: &R,
+    alloc: Global,
+    lines: &Lines<'_>,
+    workers: usize,
+    sink: &mut S,
+) -> Result<(), RunFault>
+    requires { (0 < workers) × (workers ≤ 64) }
+    ensures all { OnOk result (Appends (S.taken sink.old) (S.taken sink.new) (plan_text lines.now)) }
+    ensures causes { IfErr result (λ e. (e ≡ RunFault.Memory) ⊎ (e ≡ RunFault.Write)) }
+    ensures nothing { IsErrOf result RunFault.Memory → S.taken sink.new ≡ S.taken sink.old }
+    ensures front { IsErrOf result RunFault.Write →
+        AppendsFront (S.taken sink.old) (S.taken sink.new) (plan_text lines.now) }
+    ensures cause { IsErrOf result RunFault.Write → S.may_fail sink.old }
+{
+    let mut page = Page::new(alloc)?;
+    let deletes = count_deletes(lines);
+    put_plan_by_workers(
+        rt,
+        alloc,
+        &mut page,
+        sink,
+        lines,
+        deletes,
+        workers,
+        LINES_AT_A_TIME,
+    )?;
+    page.flush(sink)?;
+    Ok(())
+}

@@ -1,5 +1,0 @@
-use Rattle.lexer_laws.proofs.Parts.{kept}
-use Rattle.lexer_laws.proofs.laws.texts_are_kept_as_parts.Goals as goal
-
-pub returns : goal.returns
-returns c = λ text. kept text

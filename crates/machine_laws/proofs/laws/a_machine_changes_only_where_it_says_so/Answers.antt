@@ -1,5 +1,0 @@
-use Rattle.machine_laws.proofs.Squares.{stays}
-use Rattle.machine_laws.proofs.laws.a_machine_changes_only_where_it_says_so.Goals as goal
-
-pub returns : goal.returns
-returns c = stays

@@ -1,5 +1,0 @@
-use Rattle.machine_laws.proofs.Squares.{begins, pinned_where}
-use Rattle.machine_laws.proofs.laws.a_scan_begins_with_nothing_taken.Goals as goal
-
-pub returns : goal.returns
-returns c = record { pinned = pinned_where; state = begins }

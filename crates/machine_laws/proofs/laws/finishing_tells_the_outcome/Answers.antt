@@ -1,5 +1,0 @@
-use Rattle.machine_laws.proofs.Squares.{finish_outcome}
-use Rattle.machine_laws.proofs.laws.finishing_tells_the_outcome.Goals as goal
-
-pub returns : goal.returns
-returns c = finish_outcome

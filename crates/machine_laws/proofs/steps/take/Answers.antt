@@ -1,6 +1,0 @@
-use Rattle.machine_laws.proofs.Calls.{on_ok, take_call}
-use Rattle.machine_laws.proofs.steps.take.Goals as goal
-
-pub returns : goal.returns
-returns c = λ m k w p same has there.
-    on_ok c.take.result _ _ (take_call m k w c.args.i p _ _ _ _ same has there) c.take.ensures.ok
