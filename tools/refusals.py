@@ -1,7 +1,7 @@
 #!/usr/bin/env python3
 """refusals.py words | make FOLDER | lines FOLDER | play PROGRAM: the refusals of icescan, and what is said of them.
 
-words: compares the sentences of crates/icescan_sentences/src with the tables of docs/REFUSALS.md, row by row, and says what
+words: compares the sentences of crates/icescan_hints/src with the tables of docs/REFUSALS.md, row by row, and says what
 differs; status 1 then. A row `as above` or `the same` is that of the row above it, and `see ..` has no sentence of its own.
 make: writes a table with what each refusal needs into a new folder.
 lines: prints the words of a command for each refusal, with a tab between two, as crates/icescan_runs/stdin has them.
@@ -380,9 +380,9 @@ def documented():
 
 
 def written():
-    """The same of the sentences of icescan_sentences."""
+    """The same of the sentences of icescan_hints."""
     found = []
-    folder = os.path.join(TOP, "crates/icescan_sentences/src")
+    folder = os.path.join(TOP, "crates/icescan_hints/src")
     string = r'"((?:[^"\\]|\\.)*)"'
     shape = re.compile(rf'name:\s*{string},\s*wrong:\s*{string},\s*advice:\s*(?:None|Some\(\s*{string},?\s*\)),', re.S)
 
@@ -398,7 +398,7 @@ def words():
     """Z1 is in no table: no files lead to it."""
     doc, own = documented(), [row for row in written() if row[0] != "Z1 Missing"]
     wrong = [("only in docs/REFUSALS.md", row) for row in doc if row not in own]
-    wrong += [("only in icescan_sentences", row) for row in own if row not in doc]
+    wrong += [("only in icescan_hints", row) for row in own if row not in doc]
     for where, row in wrong:
         print(f"{where}: {row}")
     print(f"{len(doc)} rows, {len(own)} sentences, {len(wrong)} not in both")

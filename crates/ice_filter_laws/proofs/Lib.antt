@@ -9,3 +9,10 @@ pub mod Fronts
 pub mod Lying
 pub mod Filters
 pub mod Parts
+pub mod Grown
+pub mod Fields
+pub mod Found
+pub mod Tabled
+pub mod Leaves
+pub mod FirstFault
+pub mod Ordered

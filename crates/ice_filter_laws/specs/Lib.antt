@@ -1,3 +1,5 @@
 pub mod Filters
 pub mod Lying
 pub mod Spelling
+pub mod Columns
+pub mod Faults

@@ -1,6 +1,10 @@
 //! Laws of the filter language's lexer.
 #![tactic(auto)]
 
+mod columns;
+mod faults;
 mod laws;
 
+pub use columns::columns_are_found_by_name;
+pub use faults::bind_refuses_the_first_leaf_at_fault;
 pub use laws::{texts_are_kept_as_parts, texts_say_filters, tokens_are_spelled};

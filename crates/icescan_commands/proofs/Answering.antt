@@ -1,8 +1,8 @@
 -- What is written of texts and plans, as answers.
 use Rattle.std.proofs.Common.{◌≡◌, ℕ, List, Option, Some, refl, ap, ◌∙◌}
 use Rattle.std.specs.Prelude.{Result, Ok, Err}
-use Rattle.icescan_json_run.specs.JsonAnswers.{AnswersInJson}
-use Rattle.icescan_json_run.specs.declared.typed.TypedPlan.{TypedPlan}
+use Rattle.icescan_json.specs.JsonAnswers.{AnswersInJson}
+use Rattle.icescan_json.specs.declared.typed.TypedPlan.{TypedPlan}
 use Rattle.icescan_print.specs.PlanTexts.{plan_text}
 use Rattle.icescan_print.specs.Written.{Appends, AppendsFront}
 use Rattle.icescan_requests.specs.Plans.{Answers}

@@ -3,7 +3,7 @@ use Rattle.std.proofs.Common.{◌≡◌, ℕ, List, Some, refl}
 use Rattle.std.specs.Prelude.{Ok, Err}
 use Rattle.icescan_commands.specs.Answers.{as_answer}
 use Rattle.icescan_commands.specs.Explained.{explained, explained_text}
-use Rattle.icescan_explain_run.specs.Explanations.{explained_at}
+use Rattle.icescan_explain.specs.Explanations.{explained_at}
 use Rattle.icescan_requests.specs.Bundles.{File, bundle_of, bytes_at}
 use Rattle.icescan_text.specs.declared.fault.RunFault.{RunFault}
 use Rattle.icescan_text.specs.declared.request.Request.{Request}

@@ -1,7 +1,7 @@
 -- What commands answer, and what is written of an answer.
 use Rattle.std.specs.Prelude.{◌≡◌, ℕ, List, Option, Result, Ok, Err, OnOk, IfErr, IsErrOf}
-use Rattle.icescan_json_run.specs.JsonAnswers.{IsJsonOfPlan}
-use Rattle.icescan_json_run.specs.declared.typed.TypedPlan.{TypedPlan}
+use Rattle.icescan_json.specs.JsonAnswers.{IsJsonOfPlan}
+use Rattle.icescan_json.specs.declared.typed.TypedPlan.{TypedPlan}
 use Rattle.icescan_text.specs.Reads.{MayEnd}
 use Rattle.icescan_print.specs.Written.{Appends, AppendsFront}
 use Rattle.icescan_text.specs.declared.fault.RunFault.{RunFault}

@@ -1,9 +1,9 @@
 -- The explanation of a plan that is asked of a table in a bundle.
 use Rattle.std.specs.Prelude.{ℕ, List, Result, Ok, Err}
 use Rattle.contract_words.specs.Outcome.{◌>>=◌}
-use Rattle.icescan_explain_run.specs.Explanations.{explained_at}
-use Rattle.icescan_explain_run.specs.Texts.{explanation_text}
-use Rattle.icescan_explain_run.specs.declared.manifests.Explanation.{Explanation}
+use Rattle.icescan_explain.specs.Explanations.{explained_at}
+use Rattle.icescan_explain.specs.Texts.{explanation_text}
+use Rattle.icescan_explain.specs.declared.manifests.Explanation.{Explanation}
 use Rattle.icescan_requests.specs.Bundles.{bundle_of, bytes_at}
 use Rattle.icescan_text.specs.declared.fault.RunFault.{RunFault}
 use Rattle.icescan_text.specs.declared.request.Request.{Request}

@@ -10,7 +10,7 @@ use Rattle.icescan_audit.specs.Audits.{audit_at}
 use Rattle.icescan_audit.specs.Texts.{audit_text}
 use Rattle.icescan_audit.specs.declared.audit.Audit.{Audit}
 use Rattle.icescan_commands.specs.Answers.{Answer, WroteAnswer, WroteAnswerFront, as_answer, as_json, plain}
-use Rattle.icescan_json_run.specs.JsonAnswers.{typed_answer_at, typed_list_answer}
+use Rattle.icescan_json.specs.JsonAnswers.{typed_answer_at, typed_list_answer}
 use Rattle.icescan_commands.specs.Explained.{explained_text}
 use Rattle.ice_meta.specs.declared.metadata.Target.{Target}
 use Rattle.ice_state.specs.Lines.{OwnedLine}
@@ -24,7 +24,7 @@ use Rattle.icescan_text.specs.FaultTexts.{fault_text}
 use Rattle.icescan_print.specs.PlanTexts.{plan_text}
 use Rattle.icescan_requests.specs.Shows.{shown_at}
 use Rattle.icescan_print.specs.Written.{Appends, AppendsFront}
-use Rattle.icescan_hint_lines.specs.Hints.{AppendsPlain}
+use Rattle.icescan_hints.specs.Hints.{AppendsPlain}
 use Rattle.ice_state.specs.Contents.{World}
 use Rattle.icescan_words.specs.CommandLines.{ReadAs}
 use Rattle.icescan_words.specs.declared.answer_format.Format.{Format}

@@ -8,7 +8,7 @@ ghost use Rattle.icescan_words.specs.declared.command_line.Words.{Words};
 use crate::words::files_of;
 use contract_words::Text;
 use icescan_words::{Source, Words};
-use icescan_explain_run::explain_file;
+use icescan_explain::explain_file;
 use icescan_progress::{Progress, Watched};
 use icescan_requests::read_bundle;
 use icescan_text::{Request, RunFault, Sink};

@@ -10,7 +10,7 @@ ghost use Rattle.ice_state.specs.Contents.{World};
 
 use icescan_words::Format;
 use ice_desk::Files;
-use icescan_json_run::{plan_file_json, run_list_plan_json};
+use icescan_json::{plan_file_json, run_list_plan_json};
 use icescan_requests::{plan_file, run_list_plan};
 use icescan_text::{Request, RunFault, Sink};
 use std::alloc::Global;

@@ -11,7 +11,7 @@ mod words;
 pub use explaining::{Terminals, run_program};
 pub use icescan_words::{Format, Lists, Place, Source, Words, parse_words};
 pub use icescan_drill::{Drill, Watch, drill_table, run_drill};
-pub use icescan_json_run::{plan_file_json, run_list_plan_json};
+pub use icescan_json::{plan_file_json, run_list_plan_json};
 pub use icescan_progress::{Cleared, Progress, ProgressLine, Screen, Silent};
 pub use icescan_requests::{
     Bundle, CommitFolder, CommitRequest, Folder, Request, Selection, Store, StoreFault, commit_to,

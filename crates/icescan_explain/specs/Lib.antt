@@ -2,3 +2,12 @@ pub mod Alone
 pub mod Blaming
 pub mod Asking
 pub mod Fates
+pub mod Columns
+pub mod Applying
+pub mod Counting
+pub mod Texts
+pub mod Writing
+pub mod RowsTold
+pub mod Explanations
+pub mod Told
+pub mod AnyFiles

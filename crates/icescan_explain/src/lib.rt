@@ -1,16 +1,27 @@
 //! Why a filter leaves out manifests and files of a table: the first leaf of it that alone says no.
 #![tactic(auto)]
 
+mod applied;
 mod blame;
+mod columns;
 mod copies;
+mod counts;
+mod explained;
 mod files;
 mod laws;
+mod lines;
 mod lone;
+mod manifests;
+mod reading;
+mod running;
 mod tests;
 mod verdict;
 
+pub use explained::explanations_tell_of_plans;
 pub use files::{FileTests, file_verdict, file_verdicts};
 pub use laws::{fates_are_those_of_scans, left_out_names_a_leaf, named_leaves_say_no};
 pub use lone::{LoneLeaf, LoneTest};
+pub use manifests::Explanation;
+pub use running::{explain_file, run_explain};
 pub use tests::{FilterTests, SpecTests, row_verdict};
 pub use verdict::{Fate, Subject, Verdict};

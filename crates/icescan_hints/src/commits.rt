@@ -4,7 +4,7 @@ use crate::case::Case;
 use crate::tables::add_specs;
 use contract_words::{Items, Text};
 use ice_desk::Files;
-use icescan_hint_lines::{Hint, quoted};
+use crate::hint::{Hint, quoted};
 use icescan_requests::prepare_commit;
 use icescan_text::CommitRequest;
 use ice_catalog_versions::PrepareFault;

@@ -3,7 +3,7 @@
 use crate::case::Case;
 use icescan_words::Place;
 use ice_desk::Files;
-use icescan_hint_lines::{Hint, quoted};
+use crate::hint::{Hint, quoted};
 use ice_meta::Metadata;
 use icescan_requests::file_name;
 use std::alloc::{AllocError, Global};

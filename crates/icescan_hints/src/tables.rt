@@ -2,7 +2,8 @@
 
 use crate::case::Case;
 use ice_desk::Files;
-use icescan_hint_lines::{Hint, add_none_named, quoted};
+use crate::hint::{Hint, quoted};
+use crate::nearest::add_none_named;
 use ice_meta::{MetaFault, Metadata, Table, Target};
 use std::alloc::{AllocError, Global};
 

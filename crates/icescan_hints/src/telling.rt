@@ -1,6 +1,6 @@
 //! A fault's hint, from the fault and what was asked for.
 
-ghost use Rattle.icescan_hint_lines.specs.Hints.{AppendsPlain};
+ghost use Rattle.icescan_hints.specs.Hints.{AppendsPlain};
 
 use crate::case::Case;
 use crate::columns::add_filter;
@@ -10,8 +10,9 @@ use crate::paths::{add_file_name, add_path};
 use crate::tables::{add_metadata, add_specs};
 use icescan_words::{Lists, Words};
 use ice_desk::Files;
-use icescan_hint_lines::{Hint, put_lines};
-use icescan_sentences::sentences_of;
+use crate::hint::Hint;
+use crate::showing::put_lines;
+use crate::run::sentences_of;
 use ice_state::{FinishFault, ScanFault};
 use icescan_text::{RunFault, Sink};
 use std::alloc::{AllocError, Global};

@@ -10,3 +10,7 @@ pub mod Lists
 pub mod Tasks
 pub mod Points
 pub mod Needed
+pub mod Written
+pub mod Asked
+pub mod Listings
+pub mod AnswersTold

@@ -6,3 +6,4 @@ pub mod PlanJson
 pub mod Told
 pub mod Pieces
 pub mod Texts
+pub mod JsonAnswers

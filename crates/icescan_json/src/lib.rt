@@ -1,16 +1,25 @@
 //! A plan as the JSON with which an Iceberg REST catalog answers a scan that was planned.
 #![tactic(auto)]
 
+mod answers;
 mod dates;
 mod decimals;
 mod files;
 mod laws;
+mod list_plans;
 mod pieces;
 mod plan;
+mod planning;
 mod quotes;
+mod table_plans;
+mod typed;
 mod types;
 mod values;
 
+pub use answers::{json_answers_are_plans, json_answers_tell_plans};
 pub use laws::{json_is_the_plan, json_reads_back};
+pub use list_plans::run_list_plan_json;
 pub use plan::{JsonFault, write_plan_json, write_typed_plan};
+pub use table_plans::{plan_file_json, run_plan_json_with};
+pub use typed::TypedPlan;
 pub use types::{SpecTypes, types_of_specs};

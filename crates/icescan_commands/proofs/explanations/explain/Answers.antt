@@ -1,8 +1,8 @@
 use Rattle.std.proofs.Common.{◌≡◌, Some, refl, ap, sym, ◌∙◌, rules}
 use Rattle.std.proofs.lemmas.Result.{err_from_is_err_and, IfOk-weaker, IfErr-weaker}
 use Rattle.ice_state.specs.Contents.{World}
-use Rattle.icescan_explain_run.specs.Explanations.{explained_at}
-use Rattle.icescan_explain_run.specs.Texts.{explanation_text}
+use Rattle.icescan_explain.specs.Explanations.{explained_at}
+use Rattle.icescan_explain.specs.Texts.{explanation_text}
 use Rattle.icescan_requests.specs.Bundles.{bytes_at}
 use Rattle.icescan_requests.specs.Plans.{reads_at}
 use Rattle.icescan_text.proofs.Steps.{never_fails}

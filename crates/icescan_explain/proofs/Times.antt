@@ -1,0 +1,103 @@
+-- How often a path was counted, in a map whose keys are byte strings.
+use Rattle.std.proofs.Common.{◌≡◌, ℕ, ◌+◌, Ordering, Bool, true, false, cond, List, Option, Some, Vec, Global}
+use Rattle.std.proofs.Common.{refl, sym, ap, ◌∙◌, subst, arith, [], ◌∷◌, ◌++◌, ◌≤◌, add-one, filter, length, take}
+use Rattle.std.specs.Prelude.{slice_get, sum_by}
+use Rattle.std.proofs.Math.Seq.{take-suc}
+use Rattle.std.proofs.lemmas.List.{length-append}
+use Rattle.std.proofs.lemmas.List.Elements.{filter-append}
+use Rattle.std.proofs.lemmas.List.Sums.{sum_by-append}
+use Rattle.std.proofs.lemmas.Option.{get_or_from_slice_get, slice_get_within}
+use Rattle.std.specs.Prelude.{unwrap_or}
+use Rattle.std.specs.BTreeMap as tree
+use Rattle.std.specs.BTreeMap.{BTreeMap}
+use Rattle.std.specs.Cmp.{eq_by_cmp_equiv}
+use Rattle.std.specs.Cmp.Lexicographic.{slice_cmp, nat_list_cmp_total, nat_list_eq_equiv}
+use Rattle.std.specs.Map.{AreApart, IsKeyTest, KeepsOthers, lookup}
+use Rattle.std.specs.Ordering.{nat_cmp, is_eq}
+use Rattle.std.specs.Str.{bytes_eq}
+use Rattle.std.proofs.lemmas.Map.Text.{is_eq-slice_cmp}
+use Rattle.std.proofs.lemmas.Slice.Eq.{bytes_eq-Decides}
+use Rattle.ice_manifest_reading.specs.declared.entry.Entry.{Entry}
+use Rattle.ice_state.specs.Lines.{OwnedLine}
+use Rattle.icescan_explain.specs.Applying.{applied, named, named_in_line, times_in}
+use Rattle.icescan_explain.specs.declared.applied.Applied.{Applied}
+
+apart : (bs cs ks : List ℕ) → bytes_eq bs cs ≡ false → is_eq (slice_cmp nat_cmp bs ks) ≡ true
+    → is_eq (slice_cmp nat_cmp cs ks) ≡ false
+apart bs cs ks n y =
+    is_eq-slice_cmp cs ks ∙ nat_list_eq_equiv.symm cs ks
+    ∙ sym (nat_list_eq_equiv.congr bs ks cs (sym (is_eq-slice_cmp bs ks) ∙ y)) ∙ n
+
+module _ {K : Type 0} (eq : K → K → Bool) (test : K → Bool) where
+  other_entries : {X : Type 0} (old new : List (K × X)) → KeepsOthers eq test old new → (other : K → Bool)
+      → IsKeyTest eq other → AreApart test other → lookup other new ≡ lookup other old
+  unfolding KeepsOthers
+  other_entries old new h = h
+
+abbrev pub Keyed : Type 0
+Keyed = BTreeMap (Vec ℕ Global) ℕ
+
+abbrev pub order : Vec ℕ Global → Vec ℕ Global → Ordering
+order x y = slice_cmp nat_cmp x.items y.items
+
+abbrev pub at_bytes : Keyed → List ℕ → Option ℕ
+at_bytes m bs = tree.get_by (λ k. slice_cmp nat_cmp bs k.items) m
+
+-- what a map has at any bytes, where it has something new at some
+pub updates : (bs : List ℕ) (m n : Keyed) (w : Option ℕ)
+    → tree.UpdatesBy order (λ k. slice_cmp nat_cmp bs k.items) m n w
+    → (cs : List ℕ) → at_bytes n cs ≡ cond (bytes_eq cs bs) w (at_bytes m cs)
+updates bs m n w h cs = go (bytes_eq bs cs) refl where
+  turned : bytes_eq cs bs ≡ bytes_eq bs cs
+  turned = nat_list_eq_equiv.symm cs bs
+
+  go : (b : Bool) → bytes_eq bs cs ≡ b → at_bytes n cs ≡ cond (bytes_eq cs bs) w (at_bytes m cs)
+  go true e = let same : bs ≡ cs = (bytes_eq-Decides bs cs).0 e in
+      rw (turned, e) (subst (λ q. at_bytes n q ≡ w) same h.1)
+  go false e = rw (turned, e)
+      (other_entries _ _ _ _ h.3 _ (λ x y. (eq_by_cmp_equiv nat_list_cmp_total).congr cs x.items y.items)
+      (λ k. apart bs cs k.items e))
+
+pub once_more : (bs : List ℕ) (a b : Applied)
+    → tree.UpdatesBy order (λ k. slice_cmp nat_cmp bs k.items) a.counts b.counts (Some (times_in a bs + 1))
+    → (cs : List ℕ) → times_in b cs ≡ times_in a cs + cond (bytes_eq cs bs) 1 0
+once_more bs a b h cs = go (bytes_eq cs bs) refl where
+  has : at_bytes b.counts cs ≡ cond (bytes_eq cs bs) (Some (times_in a bs + 1)) (at_bytes a.counts cs)
+  has = updates bs a.counts b.counts (Some (times_in a bs + 1)) h cs
+
+  go : (t : Bool) → bytes_eq cs bs ≡ t → times_in b cs ≡ times_in a cs + cond t 1 0
+  go true e =
+      let same : cs ≡ bs = (bytes_eq-Decides cs bs).0 e in
+      let there : at_bytes b.counts cs ≡ Some (times_in a bs + 1) = rw e at has in
+      ap (λ o. unwrap_or o 0) there ∙ ap (λ q. times_in a q + 1) (sym same)
+  go false e =
+      let there : at_bytes b.counts cs ≡ at_bytes a.counts cs = rw e at has in
+      ap (λ o. unwrap_or o 0) there ∙ omega arith
+
+-- ---- one more file, and one more line
+
+taken : {A : Type 0} (xs : List A) (i : ℕ) (x : A) → slice_get xs i ≡ Some x → take (i + 1) xs ≡ take i xs ++ x ∷ []
+taken xs i x is = ap (λ n. take n xs) (add-one i) ∙ take-suc xs i x (slice_get_within xs i x is)
+    ∙ ap (λ y. take i xs ++ y ∷ []) (get_or_from_slice_get xs i x x is)
+
+one : (b : Bool) (d : Entry) → length (cond b (d ∷ []) []) ≡ cond b 1 0
+one true d = refl
+one false d = refl
+
+pub named_more : (q : List ℕ) (ds : List Entry) (i : ℕ) (d : Entry) → slice_get ds i ≡ Some d
+    → named q (take (i + 1) ds) ≡ named q (take i ds) + cond (bytes_eq q d.file.path) 1 0
+named_more q ds i d is =
+    let test : Entry → Bool = λ (x : Entry). bytes_eq q x.file.path in
+    ap (named q) (taken ds i d is)
+    ∙ ap length (filter-append test (take i ds) (d ∷ []))
+    ∙ length-append (filter test (take i ds)) (cond (bytes_eq q d.file.path) (d ∷ []) [])
+    ∙ ap (λ n. named q (take i ds) + n) (one (bytes_eq q d.file.path) d)
+
+pub applied_more : (q : List ℕ) (lines : List OwnedLine) (i : ℕ) (line : OwnedLine) → slice_get lines i ≡ Some line
+    → applied (take (i + 1) lines) q ≡ applied (take i lines) q + named_in_line q line
+applied_more q lines i line is = ap (sum_by (named_in_line q)) (taken lines i line is)
+    ∙ sum_by-append (named_in_line q) (take i lines) (line ∷ []) ∙ omega arith
+
+pub one_at_most : (b : Bool) → cond b 1 0 ≤ 1
+one_at_most true = omega arith
+one_at_most false = omega arith

@@ -1,0 +1,41 @@
+-- Explanations of plans: what became of each manifest and each live file.
+use Rattle.std.specs.Prelude.{ℕ, List, Result, Ok}
+use Rattle.contract_words.specs.Outcome.{◌>>=◌}
+use Rattle.icescan_explain.specs.Asking.{ice_filter_tests}
+use Rattle.icescan_explain.specs.declared.tests.FilterTests.{FilterTests}
+use Rattle.ice_manifest_reading.specs.declared.row.Row.{Row}
+use Rattle.icescan_requests.specs.Plans.{by_workers, over_wanted_rows, rows_plan}
+use Rattle.icescan_requests.specs.Selections.{selected}
+use Rattle.icescan_requests.specs.declared.selection.Selection.{Selection}
+use Rattle.ice_state.specs.Contents.{World}
+use Rattle.ice_state.specs.Scans.{by_row_path}
+use Rattle.icescan_text.specs.Reads.{file_in, rows_at}
+use Rattle.icescan_text.specs.declared.fault.RunFault.{RunFault}
+use Rattle.icescan_text.specs.declared.request.Request.{Request}
+use Rattle.icescan_explain.specs.Columns.{columns_in}
+use Rattle.icescan_explain.specs.RowsTold.{rows_told}
+use Rattle.icescan_explain.specs.declared.manifests.Explanation.{Explanation}
+
+-- what is asked for a request
+abbrev pub tests_for : Selection → Request → FilterTests
+tests_for selection request = ice_filter_tests selection.specs selection.filter.parts (columns_in request.filter)
+
+-- The plan of these rows, with what became of each manifest, by path, and of its live files; or the refusal of the
+-- plan.
+unfoldable pub rows_explained : World → Selection → Request → List Row → Result Explanation RunFault
+rows_explained world selection request rows = do
+  plan ← rows_plan over_wanted_rows world selection.specs selection.filter.parts rows
+  Ok (record { plan = plan; verdicts = rows_told (tests_for selection request) world (by_row_path rows) })
+
+-- the same that a request asks for, or the first refusal
+unfoldable pub explained : World → List ℕ → Request → Result Explanation RunFault
+explained world metadata request = do
+  selection ← selected metadata request
+  rows ← rows_at world selection.list
+  rows_explained world selection request rows
+
+-- the same of the metadata in the file at a path, by so many workers
+unfoldable pub explained_at : World → List ℕ → Request → ℕ → Result Explanation RunFault
+explained_at world path request workers = do
+  metadata ← file_in world path
+  by_workers workers (explained world metadata request)

@@ -1,0 +1,118 @@
+//! Explanations that are asked for, over any files.
+
+ghost use Rattle.std.specs.Prelude.{◌≡◌, ℕ, List, Some, None, Ok, IfErr, IfOk, IsErrOf, OnOk};
+ghost use Rattle.ice_desk.specs.Worlds.{EndsAt, HasAt};
+ghost use Rattle.icescan_explain.specs.AnyFiles.{IsAnExplanation, WritesAnExplanation};
+ghost use Rattle.icescan_explain.specs.Explanations.{explained, explained_at};
+ghost use Rattle.icescan_explain.specs.Writing.{WroteExplanation, WroteExplanationFront};
+ghost use Rattle.icescan_requests.specs.Plans.{OnRefusal, reads, reads_at};
+ghost use Rattle.ice_state.specs.Contents.{World};
+ghost use Rattle.icescan_text.specs.Reads.{MayEnd};
+
+use crate::columns::columns_in;
+use crate::lines::write_explanation;
+use crate::manifests::{Explanation, explain_rows};
+use ice_desk::{Files, MOST_WORKERS};
+use crate::tests::FilterTests;
+use icescan_requests::{Selection, select};
+use icescan_text::{Request, RunFault, Sink, read_file, read_rows};
+use std::alloc::Global;
+
+/// The plan that a request asks for, and what became of the snapshot's manifests and live files.
+fn explain_table<F: Files>(
+    alloc: Global,
+    files: &F,
+    metadata: &[u8],
+    request: &Request,
+) -> Result<Explanation, RunFault>
+    ensures found { (world : World) → F.world files.now ≡ Some world →
+        IfOk result (λ x. explained world metadata.now request.now ≡ Ok x) }
+    ensures refused { (world : World) → F.world files.now ≡ Some world →
+        IfErr result (MayEnd (explained world metadata.now request.now)
+        (EndsAt world (F.may_fail files.now) (reads world metadata.now request.now)) ⊥) }
+    ensures read { IfOk result (IsAnExplanation metadata.now request.now) }
+    ensures absent { (path : List ℕ) → IsErrOf result (RunFault.Absent path) → HasAt (F.world files.now) path None }
+    ensures device { (path : List ℕ) → IsErrOf result (RunFault.Device path) → F.may_fail files.now path }
+    ensures write { IsErrOf result RunFault.Write → ⊥ }
+{
+    let Selection {
+        list,
+        specs,
+        filter,
+    } = select(alloc, metadata, request)?;
+    let rows = read_rows(alloc, files, list.as_str())?;
+    let columns = columns_in(alloc, &request.filter)?;
+    let tests = FilterTests::new(alloc, specs.as_slice(), &filter, &columns)?;
+    explain_rows(alloc, files, &tests, rows, specs.into_vec(), filter)
+}
+
+/// Explains the plan that a request asks for, of the table whose metadata these are the bytes of: writes a line for
+/// each manifest of the snapshot, by path, and behind each that is wanted one for each of its live entries, by
+/// position; and then three lines that count manifests, data files and delete files.
+///
+/// The data files that are told as kept are those of the plan, and where there is no plan there is no explanation: the
+/// refusals and their order are those of `run_plan`. Then nothing was written, and neither after `Memory`. After
+/// `Write`, for which a write failed, a front of the text was.
+pub fn run_explain<F: Files, W: Sink>(
+    alloc: Global,
+    files: &F,
+    metadata: &[u8],
+    request: &Request,
+    output: &mut W,
+) -> Result<(), RunFault>
+    // Over files that tell their world.
+    ensures written { (world : World) → F.world files.now ≡ Some world →
+        OnOk result (WroteExplanation (explained world metadata.now request.now) (W.taken output.old)
+        (W.taken output.new)) }
+    ensures refused { (world : World) → F.world files.now ≡ Some world →
+        IfErr result (MayEnd (explained world metadata.now request.now)
+        (EndsAt world (F.may_fail files.now) (reads world metadata.now request.now)) (W.may_fail output.old)) }
+    ensures front { (world : World) → F.world files.now ≡ Some world → IsErrOf result RunFault.Write →
+        WroteExplanationFront (explained world metadata.now request.now) (W.taken output.old) (W.taken output.new) }
+
+    // Over all files.
+    ensures text { WritesAnExplanation metadata.now request.now result (W.taken output.old) (W.taken output.new) }
+    ensures refusal { OnRefusal (F.world files.now) (F.may_fail files.now) (W.may_fail output.old) result
+        (W.taken output.old) (W.taken output.new) }
+{
+    let explanation = explain_table(alloc, files, metadata, request)?;
+    write_explanation(alloc, &explanation, output)?;
+    Ok(())
+}
+
+/// Explains the plan that a request asks for, of the table whose metadata is in the file at a path. All is read by one
+/// worker, whatever the number of workers.
+///
+/// The refusal is `Absent` where there is no such file, `Device` where reading it failed; then `Workers` where there
+/// are to be none, or more than 64; else as `run_explain`'s.
+pub fn explain_file<F: Files, W: Sink>(
+    alloc: Global,
+    files: &F,
+    path: &str,
+    request: &Request,
+    workers: usize,
+    output: &mut W,
+) -> Result<(), RunFault>
+    // Over files that tell their world.
+    ensures written { (world : World) → F.world files.now ≡ Some world →
+        OnOk result (WroteExplanation (explained_at world path.now request.now workers) (W.taken output.old)
+        (W.taken output.new)) }
+    ensures refused { (world : World) → F.world files.now ≡ Some world →
+        IfErr result (MayEnd (explained_at world path.now request.now workers)
+        (EndsAt world (F.may_fail files.now) (reads_at world path.now request.now)) (W.may_fail output.old)) }
+    ensures front { (world : World) → F.world files.now ≡ Some world → IsErrOf result RunFault.Write →
+        WroteExplanationFront (explained_at world path.now request.now workers) (W.taken output.old)
+        (W.taken output.new) }
+
+    // Over all files.
+    ensures text { (metadata : List ℕ) ×
+        WritesAnExplanation metadata request.now result (W.taken output.old) (W.taken output.new) }
+    ensures refusal { OnRefusal (F.world files.now) (F.may_fail files.now) (W.may_fail output.old) result
+        (W.taken output.old) (W.taken output.new) }
+{
+    let metadata = read_file(alloc, files, path)?;
+    if workers == 0 || workers > MOST_WORKERS {
+        return Err(RunFault::Workers);
+    }
+    run_explain(alloc, files, &metadata, request, output)
+}

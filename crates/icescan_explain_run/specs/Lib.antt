@@ -1,9 +1,0 @@
-pub mod Columns
-pub mod Applying
-pub mod Counting
-pub mod Texts
-pub mod Writing
-pub mod RowsTold
-pub mod Explanations
-pub mod Told
-pub mod AnyFiles

@@ -1,0 +1,51 @@
+//! The words of refusals of plans.
+
+use crate::sentence::{MEMORY, Sentence};
+use ice_state::{FinishFault, ScanFault};
+
+const NO_SUCH_SPEC: Sentence = Sentence {
+    name: "X1 NoSuchSpec",
+    wrong: "a manifest is of a partition spec that the metadata does not have; of several, the one with the
+least path",
+    advice: Some("the metadata is corrupt; take the version before"),
+};
+
+const BAD: Sentence = Sentence {
+    name: "Z2 Bad",
+    wrong: "the manifest at this path can't be read",
+    advice: None,
+};
+
+const PATH_TWICE: Sentence = Sentence {
+    name: "Z3 PathTwice",
+    wrong: "two live entries, of two manifests or two places in one, name the same file: reading it once or
+twice would both be a guess",
+    advice: Some(
+        "the last commit was at fault; take the snapshot before, or rewrite the manifests",
+    ),
+};
+
+/// The scan reads each wanted manifest before it makes a plan, so none is missing.
+const MISSING: Sentence = Sentence {
+    name: "Z1 Missing",
+    wrong: "a manifest was not read",
+    advice: Some("nothing that a user does leads here: report it"),
+};
+
+/// What a refusal of a scan says.
+pub fn of_scan(fault: ScanFault) -> Sentence {
+    match fault {
+        ScanFault::NoSuchSpec(_) => NO_SUCH_SPEC,
+        ScanFault::Memory => MEMORY,
+    }
+}
+
+/// What a refusal of a plan says.
+pub fn of_finish(fault: &FinishFault) -> Sentence {
+    match fault {
+        FinishFault::Missing(_) => MISSING,
+        FinishFault::Bad(_, _) => BAD,
+        FinishFault::PathTwice(_) => PATH_TWICE,
+        FinishFault::Memory => MEMORY,
+    }
+}

@@ -1,0 +1,126 @@
+//! The words of refusals of bundles, of files that are read and written, and of all others by those that know them.
+
+use crate::avro::of_container;
+use crate::commit::{of_change, of_prepare};
+use crate::drill::of_drill;
+use crate::filter::of_filter;
+use crate::manifest::{of_list, of_manifest};
+use crate::metadata::of_metadata;
+use crate::plan::{of_finish, of_scan};
+use crate::schema::of_schema;
+use avro_file::AvroFault;
+use crate::sentence::{MEMORY, Sentence};
+use ice_manifest::{ListFault, ManifestFault};
+use ice_state::FinishFault;
+use icescan_text::RunFault;
+use std::alloc::{AllocError, Global};
+
+const BUNDLE: Sentence = Sentence {
+    name: "B1 Bundle",
+    wrong: "the line of that number, from 1, is not a path, one space and bytes in hexadecimal; or an
+earlier line has the path; or the bundle is empty",
+    advice: Some("look at that line; escape bytes of the path, and only those that need it"),
+};
+
+const ABSENT: Sentence = Sentence {
+    name: "P2 Absent",
+    wrong: "a file that the table names is not in the bundle, or not below the folder; or its path does not
+begin with the prefix, or has a segment `..` behind it",
+    advice: Some(
+        "look whether the prefix is that of the table's paths, and whether the file was deleted by an
+expiry; plan a newer snapshot",
+    ),
+};
+
+const DEVICE: Sentence = Sentence {
+    name: "P3 Device",
+    wrong: "the file may be there, and reading it failed: a folder, links in a circle, no right to read it,
+no end within 16,777,216 reads; `-` is standard input",
+    advice: Some("look at its rights and at the disk; try again"),
+};
+
+const WORKERS: Sentence = Sentence {
+    name: "P5 Workers",
+    wrong: "the number behind `--workers` is 0, or over 64",
+    advice: Some("ask for 1 to 64; as many as there are processors is a good choice"),
+};
+
+const WRITE: Sentence = Sentence {
+    name: "W1 Write",
+    wrong: "the answer can't be written; the front of it that was written stands. Of a commit: a new file
+can't be put at its place, since the folder is not there or may not be read, another file is, or
+the path is not below the prefix; or the file or its folder can't be synced",
+    advice: Some(
+        "look at the disk or at the program that reads the answer, and throw the front away. Commit again
+under a new UUID; a commit whose metadata stands at `--out` was made",
+    ),
+};
+
+const CONFLICT: Sentence = Sentence {
+    name: "Conflict",
+    wrong: "a file stands at `--out` already: another commit was made before this one, and nothing names
+what this one wrote; status 4",
+    advice: Some("read that metadata, and commit again on it under a new UUID"),
+};
+
+/// What a refusal says, and what those inside it say, the outermost first. Of words that are not understood nothing is
+/// said: their own text says all.
+pub fn sentences_of(alloc: Global, fault: &RunFault) -> Result<Vec<Sentence>, AllocError> {
+    let mut found = Vec::new(alloc);
+    match fault {
+        RunFault::Words(_) => {}
+        RunFault::Bundle(_) => found.push(BUNDLE)?,
+        RunFault::Absent(_) => found.push(ABSENT)?,
+        RunFault::Input | RunFault::Device(_) => found.push(DEVICE)?,
+        RunFault::List(fault) => add_list(&mut found, fault)?,
+        RunFault::Scan(fault) => found.push(of_scan(*fault))?,
+        RunFault::Finish(fault) => add_finish(&mut found, fault)?,
+        RunFault::Metadata(fault) => found.push(of_metadata(fault))?,
+        RunFault::Filter(fault) => found.push(of_filter(*fault))?,
+        RunFault::Drill(fault) => found.push(of_drill(fault))?,
+        RunFault::Change(fault) => found.push(of_change(*fault))?,
+        RunFault::Prepare(fault) => found.push(of_prepare(fault))?,
+        RunFault::Conflict(_) => found.push(CONFLICT)?,
+        RunFault::Workers => found.push(WORKERS)?,
+        RunFault::Write => found.push(WRITE)?,
+        RunFault::Memory => found.push(MEMORY)?,
+    }
+    Ok(found)
+}
+
+/// Adds what a refusal of a manifest list says.
+fn add_list(found: &mut Vec<Sentence>, fault: &ListFault) -> Result<(), AllocError> {
+    found.push(of_list(fault))?;
+    match fault {
+        ListFault::Avro(fault) => add_container(found, fault),
+        _ => Ok(()),
+    }
+}
+
+/// Adds what a refusal of a plan says.
+fn add_finish(found: &mut Vec<Sentence>, fault: &FinishFault) -> Result<(), AllocError> {
+    found.push(of_finish(fault))?;
+    match fault {
+        FinishFault::Bad(_, fault) => add_manifest(found, fault),
+        _ => Ok(()),
+    }
+}
+
+/// Adds what a refusal of a manifest says.
+fn add_manifest(found: &mut Vec<Sentence>, fault: &ManifestFault) -> Result<(), AllocError> {
+    found.push(of_manifest(fault))?;
+    match fault {
+        ManifestFault::Avro(fault) => add_container(found, fault),
+        _ => Ok(()),
+    }
+}
+
+/// Adds what a refusal of a container says.
+fn add_container(found: &mut Vec<Sentence>, fault: &AvroFault) -> Result<(), AllocError> {
+    found.push(of_container(fault))?;
+    match fault {
+        AvroFault::Schema(fault) => found.push(of_schema(*fault))?,
+        _ => {}
+    }
+    Ok(())
+}

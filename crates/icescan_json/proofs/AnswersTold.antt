@@ -1,0 +1,81 @@
+-- The answers in JSON are those in text, and tell their plans.
+use Rattle.std.proofs.Common.{◌≡◌, ◌∙◌, ℕ, Bool, true, false, List, Some, ap, map, option_and_then, refl, sym}
+use Rattle.std.specs.Prelude.{Result, Ok, Err, nat_le, ◌&&◌, if◌then◌else◌}
+use Rattle.contract_words.specs.Outcome.{◌>>=◌}
+use Rattle.serde_json.specs.Read.{read}
+use Rattle.serde_json.specs.Written.{compact_text}
+use Rattle.icescan_json.specs.PlanJson.{plan_json}
+use Rattle.icescan_json.specs.Told.{HasFittingNumbers, paths_of, told}
+use Rattle.icescan_json.specs.Types.{spec_types}
+use Rattle.icescan_json.specs.declared.types.SpecTypes.{SpecTypes}
+use Rattle.icescan_requests.specs.ListPlans.{list_answer}
+use Rattle.icescan_requests.specs.Plans.{Ending, answer_at, answer_by, by_workers}
+use Rattle.icescan_requests.specs.Selections.{selected}
+use Rattle.ice_state.specs.Contents.{World}
+use Rattle.ice_state.specs.Lines.{OwnedLine}
+use Rattle.ice_state.specs.PlacedFiles.{ArePlaced, PlanPlaces, plan_of}
+use Rattle.icescan_text.specs.Reads.{file_in}
+use Rattle.icescan_text.specs.declared.fault.RunFault.{RunFault}
+use Rattle.icescan_text.specs.declared.fault.RunFault.TheVariants as run
+use Rattle.icescan_text.specs.declared.request.Request.{Request}
+use Rattle.icescan_json.specs.JsonAnswers.{IsJsonOfPlan, TellsPlan, plan_answered, typed_answer_at, typed_answer_by}
+use Rattle.icescan_json.specs.JsonAnswers.{typed_list_answer}
+use Rattle.icescan_json.specs.declared.typed.TypedPlan.{TypedPlan}
+
+-- putting something beside a plan leaves the plan, or the refusal
+beside : (plan : Result (List OwnedLine) RunFault) (put : List OwnedLine → TypedPlan)
+    → ((lines : List OwnedLine) → (put lines).plan ≡ lines) → plan_answered (plan >>= λ lines. Ok (put lines)) ≡ plan
+beside (Ok lines) put same = rw (same lines) refl
+beside (Err e) put same = refl
+
+behind_first : {A : Type 0} (first : Result A RunFault) (next : A → Result (List OwnedLine) RunFault)
+    (put : A → List OwnedLine → TypedPlan) → ((a : A) (lines : List OwnedLine) → (put a lines).plan ≡ lines)
+    → plan_answered (first >>= λ a. (first >>= next) >>= λ lines. Ok (put a lines)) ≡ (first >>= next)
+behind_first (Ok a) next put same = beside (next a) (put a) (same a)
+behind_first (Err e) next put same = refl
+
+of_metadata : (ending : Ending) (world : World) (metadata : List ℕ) (request : Request)
+    → plan_answered (typed_answer_by ending world metadata request) ≡ answer_by ending world metadata request
+unfolding typed_answer_by answer_by
+of_metadata ending world metadata request = behind_first (selected metadata request) _
+    (λ selection lines. record { types = map spec_types selection.specs; plan = lines }) (λ selection lines. refl)
+
+of_crew : (enough : Bool) (typed : Result TypedPlan RunFault) (plan : Result (List OwnedLine) RunFault)
+    → plan_answered typed ≡ plan
+    → plan_answered (if enough then typed else Err run.Workers) ≡ (if enough then plan else Err run.Workers)
+of_crew true typed plan same = same
+of_crew false typed plan same = refl
+
+of_file : (ending : Ending) (world : World) (request : Request) (workers : ℕ) (found : Result (List ℕ) RunFault)
+    → plan_answered (found >>= λ metadata. by_workers workers (typed_answer_by ending world metadata request))
+    ≡ (found >>= λ metadata. by_workers workers (answer_by ending world metadata request))
+of_file ending world request workers (Ok metadata) = of_crew (nat_le 1 workers && nat_le workers 64)
+    (typed_answer_by ending world metadata request) (answer_by ending world metadata request)
+    (of_metadata ending world metadata request)
+of_file ending world request workers (Err e) = refl
+
+pub same_at : (ending : Ending) (world : World) (path : List ℕ) (request : Request) (workers : ℕ)
+    → plan_answered (typed_answer_at ending world path request workers) ≡ answer_at ending world path request workers
+unfolding typed_answer_at answer_at
+same_at ending world path request workers = of_file ending world request workers (file_in world path)
+
+pub same_list : (world : World) (list : List ℕ) → plan_answered (typed_list_answer world list) ≡ list_answer world list
+unfolding typed_list_answer
+same_list world list = beside (list_answer world list) _ (λ lines. refl)
+
+pub asked_plan : (ending : Ending) (world : World) (path : List ℕ) (request : Request) (workers : ℕ) (typed : TypedPlan)
+    → typed_answer_at ending world path request workers ≡ Ok typed
+    → answer_at ending world path request workers ≡ Ok typed.plan
+asked_plan ending world path request workers typed is =
+    sym (same_at ending world path request workers) ∙ ap plan_answered is
+
+-- the text of a plan tells the plan, where the text of its files at their places does
+pub tells_plan : ((types : List SpecTypes) (p : PlanPlaces) → HasFittingNumbers p → ArePlaced p
+    → option_and_then told (read (compact_text (plan_json types p))) ≡ Some (map paths_of (plan_of p)))
+    → (typed : TypedPlan) (text : List ℕ) (json : IsJsonOfPlan typed text) → HasFittingNumbers json.files
+    → TellsPlan typed.plan text
+tells_plan is_plan typed text json fitting = (
+  compact_text (plan_json typed.types json.files),
+  json.text_is,
+  is_plan typed.types json.files fitting json.placed ∙ ap (λ plan. Some (map paths_of plan)) json.plan_is,
+)

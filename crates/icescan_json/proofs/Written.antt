@@ -1,0 +1,90 @@
+-- What is written of an answer in JSON, and why it may end.
+use Rattle.std.proofs.Common.{◌≡◌, ◌≢◌, ◌⊎◌, ◌<◌, ◌≤◌, ◌∙◌, inl, inr, ℕ, List, Option, refl, sym, ap, subst}
+use Rattle.std.specs.Prelude.{Result, Ok, Err, OnOk, IfErr, IsErrOf}
+use Rattle.std.proofs.lemmas.Result.{IfErr-weaker, on_ok_weaker}
+use Rattle.contract_words.specs.Outcome.{◌>>=◌}
+use Rattle.icescan_json.specs.Texts.{IsJsonOf}
+use Rattle.icescan_json.specs.declared.types.SpecTypes.{SpecTypes}
+use Rattle.icescan_print.specs.Written.{Appends, AppendsFront}
+use Rattle.icescan_requests.proofs.Crews.{enough}
+use Rattle.icescan_requests.proofs.Plans.{more_reads}
+use Rattle.icescan_requests.specs.Plans.{by_workers}
+use Rattle.ice_state.specs.Lines.{OwnedLine}
+use Rattle.icescan_text.specs.Reads.{MayEnd}
+use Rattle.icescan_text.specs.declared.fault.RunFault.{RunFault}
+use Rattle.icescan_text.specs.declared.fault.RunFault.TheVariants as run
+use Rattle.icescan_text.proofs.Steps.{first_ends}
+use Rattle.icescan_json.specs.JsonAnswers.{AnswersInJson, IsJsonOfPlan, WritesJson}
+use Rattle.icescan_json.specs.declared.typed.TypedPlan.{TypedPlan}
+
+-- a write may fail
+pub may_write : {A : Type 0} (r : List ℕ → Type 0) (w : Type 0) (read : Result A RunFault) (e : RunFault)
+    → MayEnd read r ⊥ e → MayEnd read r w e
+may_write r w read e h = subst (λ x. MayEnd x r w e) (same read) (first_ends r w r read (λ a. Ok a) e (λ p m. m) h)
+  where
+    same : {A : Type 0} (x : Result A RunFault) → (x >>= λ a. Ok a) ≡ x
+    same (Ok a) = refl
+    same (Err e) = refl
+
+-- a refusal that comes before the first write
+pub refused_json : (answer : Result TypedPlan RunFault) (r : List ℕ → Type 0) (w : Type 0) (e : RunFault)
+    (o o' : Option (List ℕ)) → MayEnd answer r ⊥ e → (e ≢ run.Write) → AnswersInJson answer r w (Err e) o o'
+refused_json answer r w e o o' h not_write = record {
+  written = tt;
+  refused = may_write r w answer e h;
+  front = λ is. let q : e ≡ run.Write = cc in absurd (not_write q);
+}
+
+pub refused_writes_none : (e : RunFault) (o o' : Option (List ℕ)) → (e ≢ run.Write) → WritesJson (Err e) o o'
+refused_writes_none e o o' not_write =
+    record { all = tt; front = λ is. let q : e ≡ run.Write = cc in absurd (not_write q) }
+
+-- what writing the JSON of a plan gives
+module _ (typed : TypedPlan) (result : Result Unit RunFault) (w : Type 0) (o o' : Option (List ℕ))
+    (all : OnOk result ((text : List ℕ) × IsJsonOfPlan typed text × Appends o o' text))
+    (front : IsErrOf result run.Write → (text : List ℕ) × IsJsonOfPlan typed text × AppendsFront o o' text) where
+  pub written_json : (answer : Result TypedPlan RunFault) (r : List ℕ → Type 0) → answer ≡ Ok typed
+      → IfErr result (λ e. (e ≡ run.Memory) ⊎ (e ≡ run.Write)) → (IsErrOf result run.Write → w)
+      → AnswersInJson answer r w result o o'
+  written_json answer r is causes fails = record {
+    written = on_ok_weaker result (λ t. (typed, is, t.0, t.1, t.2)) all;
+    refused = ends result causes fails;
+    front = λ failed. let f = front failed in (typed, is, f.0, f.1, f.2);
+  }
+    where
+      ends : (result : Result Unit RunFault) → IfErr result (λ e. (e ≡ run.Memory) ⊎ (e ≡ run.Write))
+          → (IsErrOf result run.Write → w) → IfErr result (MayEnd answer r w)
+      ends (Ok u) causes fails = tt
+      ends (Err e) (inl is) fails = subst (MayEnd answer r w) (sym is) tt
+      ends (Err e) (inr is) fails = subst (MayEnd answer r w) (sym is) (fails (ap Err is))
+
+  pub writes_json : WritesJson result o o'
+  writes_json = record {
+    all = on_ok_weaker result (λ t. (typed, t.0, t.1, t.2)) all;
+    front = λ failed. let f = front failed in (typed, f.0, f.1, f.2);
+  }
+
+-- the same answer, and more reads that may fail
+pub json_as : (answer other : Result TypedPlan RunFault) (r s : List ℕ → Type 0) (w : Type 0)
+    (result : Result Unit RunFault) (o o' : Option (List ℕ)) → other ≡ answer → ((path : List ℕ) → r path → s path)
+    → AnswersInJson answer r w result o o' → AnswersInJson other s w result o o'
+json_as answer other r s w result o o' same more h =
+    subst (λ a. AnswersInJson a s w result o o') (sym same)
+    (record {
+      written = h.written;
+      refused = IfErr-weaker result _ _ (λ e m. more_reads answer r s w e more m) h.refused;
+      front = h.front;
+    })
+
+-- the same by so many workers, of which there are enough
+pub refused_by_workers : (answer other : Result TypedPlan RunFault) (workers : ℕ) (r : List ℕ → Type 0) (w : Type 0)
+    (e : RunFault) (o o' : Option (List ℕ)) → 0 < workers → workers ≤ 64 → other ≡ answer → MayEnd answer r ⊥ e
+    → (e ≢ run.Write) → AnswersInJson (by_workers workers other) r w (Err e) o o'
+refused_by_workers answer other workers r w e o o' some few same h not_write =
+    subst (λ a. AnswersInJson a r w (Err e) o o') (sym (enough workers other some few ∙ same))
+    (refused_json answer r w e o o' h not_write)
+
+-- the same types, the same JSON
+pub typed_json : {types known : List SpecTypes} {plan : List OwnedLine} {text : List ℕ} → types ≡ known
+    → IsJsonOf types plan text → IsJsonOf known plan text
+typed_json {plan = plan} {text = text} same json = subst (λ types. IsJsonOf types plan text) same json

@@ -1,0 +1,151 @@
+//! The plan of a table's snapshot as JSON.
+
+ghost use Rattle.std.specs.Prelude.{◌≡◌, ◌⊎◌, ◌<◌, ◌≤◌, ◌↔◌, ℕ, List, Some, None, Ok, OnOk, IfOk, IfErr, IsErrOf, map};
+ghost use Rattle.ice_desk.specs.Worlds.{EndsAt, HasAt};
+ghost use Rattle.icescan_json.specs.Types.{spec_types};
+ghost use Rattle.icescan_json.specs.JsonAnswers.{AnswersInJson, WritesJson, WroteWithTypes};
+ghost use Rattle.icescan_json.specs.JsonAnswers.{typed_answer_at, typed_answer_by};
+ghost use Rattle.icescan_requests.specs.Plans.{OnRefusal, TellsTheTruth, TellsTheTruthAt, by_workers};
+ghost use Rattle.icescan_requests.specs.Plans.{over_all_rows, over_wanted_rows, reads, reads_at};
+ghost use Rattle.icescan_requests.specs.Selections.{selected};
+ghost use Rattle.icescan_requests.specs.declared.selection.Selection.{Selection};
+ghost use Rattle.ice_state.specs.Contents.{World};
+ghost use Rattle.icescan_text.specs.Reads.{MayEnd};
+
+use crate::planning::plan_rows_with;
+use crate::typed::{TypedPlan, write_json};
+use contract_words::Items;
+use ice_desk::{Files, Gate, MOST_WORKERS};
+use crate::types::types_of_specs;
+use icescan_requests::{Selection, plans_of_true_summaries, select};
+use icescan_text::{Request, RunFault, Sink, read_file, read_rows};
+use std::alloc::Global;
+use std::thread::Threads;
+
+/// A gate at which no worker is held up, and that nobody watches.
+#[derive(Drop)]
+struct OpenGate;
+
+impl Gate for OpenGate {
+    fn before_take(&self, _worker: usize, _i: usize) {}
+}
+
+/// The plan that a request asks for, of the table whose metadata these are the bytes of, by so many workers; and the
+/// types of the partition values of the table's specs.
+fn plan_table<R: Threads + Sync, F: Files + Sync, G: Gate + Sync>(
+    rt: &R,
+    alloc: Global,
+    files: &F,
+    metadata: &[u8],
+    request: &Request,
+    workers: usize,
+    gate: &G,
+) -> Result<TypedPlan, RunFault>
+    requires { (0 < workers) × (workers ≤ 64) }
+    ensures found { (world : World) → F.world files.now ≡ Some world →
+        IfOk result (λ typed. typed_answer_by over_wanted_rows world metadata.now request.now ≡ Ok typed) }
+    ensures refused { (world : World) → F.world files.now ≡ Some world →
+        IfErr result (MayEnd (typed_answer_by over_wanted_rows world metadata.now request.now)
+        (EndsAt world (F.may_fail files.now) (reads world metadata.now request.now)) ⊥) }
+    ensures typed { IfOk result (λ typed. (selection : Selection) × (selected metadata.now request.now ≡ Ok selection)
+        × (typed.types ≡ map spec_types selection.specs)) }
+    ensures absent { (path : List ℕ) → IsErrOf result (RunFault.Absent path) → HasAt (F.world files.now) path None }
+    ensures device { (path : List ℕ) → IsErrOf result (RunFault.Device path) → F.may_fail files.now path }
+    ensures write { IsErrOf result RunFault.Write → ⊥ }
+    ensures workers { IsErrOf result RunFault.Workers → ⊥ }
+{
+    let Selection {
+        list,
+        specs,
+        filter,
+    } = select(alloc, metadata, request)?;
+    let rows = read_rows(alloc, files, list.as_str())?;
+    let specs = specs.into_vec();
+    let types = types_of_specs(alloc, &specs)?;
+    let plan = plan_rows_with(rt, alloc, files, rows, specs, filter, workers, gate)?;
+    Ok(TypedPlan {
+        types: Items::from_vec(types),
+        plan,
+    })
+}
+
+/// Writes the plan that a request asks for as JSON, in one line: the answer of an Iceberg REST catalog to a scan that
+/// was planned. The table is the one whose metadata these are the bytes of. So many workers, from 1 to 64, read and take
+/// the wanted manifests at once, each in a thread of its own where one can be started; `gate` is told of each of their
+/// reads. The JSON is written by one.
+///
+/// The plan, the refusals and their order are those of `icescan_requests::run_plan_with`, whatever the number of workers.
+/// After any refusal but `Write` nothing was written, and after that one a front of the text was.
+pub fn run_plan_json_with<R: Threads + Sync, F: Files + Sync, G: Gate + Sync, W: Sink>(
+    rt: &R,
+    alloc: Global,
+    files: &F,
+    metadata: &[u8],
+    request: &Request,
+    workers: usize,
+    gate: &G,
+    output: &mut W,
+) -> Result<(), RunFault>
+    ensures workers { IsErrOf result RunFault.Workers ↔ ((workers ≡ 0) ⊎ (64 < workers)) }
+
+    // Over files that tell their world, where the summaries of the rows tell the truth: the answer over all rows.
+    ensures plan { (world : World) → F.world files.now ≡ Some world → TellsTheTruth world metadata.now request.now →
+        AnswersInJson (by_workers workers (typed_answer_by over_all_rows world metadata.now request.now))
+        (EndsAt world (F.may_fail files.now) (reads world metadata.now request.now))
+        (W.may_fail output.old) result (W.taken output.old) (W.taken output.new) }
+    // Whatever the summaries say: the answer over the wanted rows.
+    ensures wanted { (world : World) → F.world files.now ≡ Some world →
+        AnswersInJson (by_workers workers (typed_answer_by over_wanted_rows world metadata.now request.now))
+        (EndsAt world (F.may_fail files.now) (reads world metadata.now request.now))
+        (W.may_fail output.old) result (W.taken output.old) (W.taken output.new) }
+
+    // Over all files.
+    ensures selection { OnOk result ((selection : Selection) × (selected metadata.now request.now ≡ Ok selection)
+        × WroteWithTypes (map spec_types selection.specs) (W.taken output.old) (W.taken output.new)) }
+    ensures text { WritesJson result (W.taken output.old) (W.taken output.new) }
+    ensures refusal { OnRefusal (F.world files.now) (F.may_fail files.now) (W.may_fail output.old) result
+        (W.taken output.old) (W.taken output.new) }
+{
+    if workers == 0 || workers > MOST_WORKERS {
+        return Err(RunFault::Workers);
+    }
+    plans_of_true_summaries();
+    let typed = plan_table(rt, alloc, files, metadata, request, workers, gate)?;
+    write_json(alloc, &typed, output)
+}
+
+/// Writes the plan that a request asks for as JSON, of the table whose metadata is in the file at a path, by so many
+/// workers.
+///
+/// The refusal is `Absent` where there is no such file, `Device` where reading it failed, else as
+/// `run_plan_json_with`'s.
+pub fn plan_file_json<R: Threads + Sync, F: Files + Sync, W: Sink>(
+    rt: &R,
+    alloc: Global,
+    files: &F,
+    path: &str,
+    request: &Request,
+    workers: usize,
+    output: &mut W,
+) -> Result<(), RunFault>
+    // Over files that tell their world, where the summaries of the rows tell the truth: the answer over all rows.
+    ensures plan { (world : World) → F.world files.now ≡ Some world → TellsTheTruthAt world path.now request.now →
+        AnswersInJson (typed_answer_at over_all_rows world path.now request.now workers)
+        (EndsAt world (F.may_fail files.now) (reads_at world path.now request.now))
+        (W.may_fail output.old) result (W.taken output.old) (W.taken output.new) }
+    // Whatever the summaries say: the answer over the wanted rows.
+    ensures wanted { (world : World) → F.world files.now ≡ Some world →
+        AnswersInJson (typed_answer_at over_wanted_rows world path.now request.now workers)
+        (EndsAt world (F.may_fail files.now) (reads_at world path.now request.now))
+        (W.may_fail output.old) result (W.taken output.old) (W.taken output.new) }
+
+    // Over all files.
+    ensures text { WritesJson result (W.taken output.old) (W.taken output.new) }
+    ensures refusal { OnRefusal (F.world files.now) (F.may_fail files.now) (W.may_fail output.old) result
+        (W.taken output.old) (W.taken output.new) }
+{
+    let metadata = read_file(alloc, files, path)?;
+    run_plan_json_with(
+        rt, alloc, files, &metadata, request, workers, &OpenGate, output,
+    )
+}

@@ -1,0 +1,44 @@
+//! Plans beside the types of their partition values.
+
+ghost use Rattle.std.specs.Prelude.{◌≡◌, ◌⊎◌, ℕ, List, OnOk, IfErr, IsErrOf};
+ghost use Rattle.icescan_json.specs.JsonAnswers.{IsJsonOfPlan};
+ghost use Rattle.icescan_print.specs.Written.{Appends, AppendsFront};
+
+use contract_words::Items;
+use crate::plan::{JsonFault, write_typed_plan};
+use crate::types::SpecTypes;
+use ice_state::OwnedPlan;
+use icescan_text::{RunFault, Sink};
+use std::alloc::Global;
+
+/// A plan, and the types by which the partition values of its files are written as JSON.
+#[derive(Debug, Drop)]
+pub struct TypedPlan {
+    /// What is known of the partition specs that it was asked under; of a manifest list alone nothing is.
+    pub types: Items<SpecTypes>,
+    /// The plan.
+    pub plan: OwnedPlan,
+}
+
+/// Writes a plan as JSON and nothing else. It refuses for want of memory, and then nothing was written, or where a
+/// write fails, and then a front of the text was.
+pub(crate) fn write_json<W: Sink>(
+    alloc: Global,
+    typed: &TypedPlan,
+    output: &mut W,
+) -> Result<(), RunFault>
+    ensures all { OnOk result ((text : List ℕ) × IsJsonOfPlan typed.now text
+        × Appends (W.taken output.old) (W.taken output.new) text) }
+    ensures causes { IfErr result (λ e. (e ≡ RunFault.Memory) ⊎ (e ≡ RunFault.Write)) }
+    ensures nothing { IsErrOf result RunFault.Memory → W.taken output.new ≡ W.taken output.old }
+    ensures front { IsErrOf result RunFault.Write → (text : List ℕ) × IsJsonOfPlan typed.now text
+        × AppendsFront (W.taken output.old) (W.taken output.new) text }
+    ensures cause { IsErrOf result RunFault.Write → W.may_fail output.old }
+{
+    let types = typed.types.as_slice();
+    match write_typed_plan(alloc, types, &typed.plan.lines(), output) {
+        Ok(()) => Ok(()),
+        Err(JsonFault::Memory) => Err(RunFault::Memory),
+        Err(JsonFault::Write) => Err(RunFault::Write),
+    }
+}

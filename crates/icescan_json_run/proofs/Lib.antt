@@ -1,4 +1,0 @@
-pub mod Written
-pub mod Asked
-pub mod Listings
-pub mod Tellings
