@@ -1,9 +1,9 @@
 //! What can happen to a table and to scans of it, and what is replied.
 
 use contract_words::Text;
+use ice_catalog_versions::{Change, Ids, PrepareFault, Receipt};
 use ice_filter::Filter;
 use ice_state::{FinishFault, OwnedPlan};
-use ice_catalog_versions::{Change, Ids, PrepareFault, Receipt};
 
 /// What can happen. A scan is named by the number of the `Pin` events before its own; it has 64 workers, from 0 to 63.
 #[derive(Drop)]

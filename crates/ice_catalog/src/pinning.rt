@@ -6,11 +6,11 @@ ghost use Rattle.ice_catalog.specs.Pins.{rows_in, scan_in};
 ghost use Rattle.ice_catalog.specs.declared.pinning.PinFault.TheVariants.{Memory};
 ghost use Rattle.ice_meta.specs.Targets.{described};
 
+use ice_catalog_versions::World;
 use ice_filter::{Filter, FilterFault, bind};
 use ice_manifest::{ListFault, Row, read_list};
 use ice_meta::{MetaFault, Metadata, Target};
 use ice_state::{Scan, ScanFault};
-use ice_catalog_versions::World;
 use std::alloc::{AllocError, Global};
 
 /// Why a version is not scanned.

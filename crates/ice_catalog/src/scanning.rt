@@ -11,9 +11,9 @@ ghost use Rattle.ice_state.specs.Outcomes.{outcome};
 
 use crate::event::Reply;
 use crate::pinning::{PinFault, scan_of};
+use ice_catalog_versions::Version;
 use ice_filter::Filter;
 use ice_state::{FinishFault, Partial, Scan};
-use ice_catalog_versions::Version;
 use std::alloc::{AllocError, Global};
 use std::marker::Model;
 use std::sync::Arc;

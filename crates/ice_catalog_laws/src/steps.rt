@@ -13,9 +13,9 @@ ghost use Rattle.ice_catalog_laws.specs.Playing.{ComesByTakes, IsOfTicket};
 ghost use Rattle.ice_catalog_laws.specs.Workers.{HasManifest, HasState, IsPut, nothing_taken};
 
 use ice_catalog_book::{Book, Conflict};
+use ice_catalog_versions::{Prepared, Receipt, a_commit_is_one_step};
 use ice_desk::{Desk, Files, Gate, Left, PlanFault, Seat};
 use ice_state::{FinishFault, OwnedPlan, Partial, Plan, Scan};
-use ice_catalog_versions::{Prepared, Receipt, a_commit_is_one_step};
 use std::alloc::{AllocError, Global};
 use std::thread::Threads;
 

@@ -1,2 +1,4 @@
 pub mod Records
 pub mod Shown
+pub mod RowsShown
+pub mod RowsGuided

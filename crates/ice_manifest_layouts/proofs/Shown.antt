@@ -22,7 +22,7 @@ use Rattle.ice_manifest_fields.specs.Seen.{fields_seen}
 use Rattle.ice_manifest_layouts.specs.declared.entry.FoundEntry.{FoundEntry}
 use Rattle.ice_manifest_layouts.specs.declared.file.FoundFile.{FoundFile}
 use Rattle.ice_manifest_layouts.specs.Ways.{to_cell, to_cells, to_entries, to_files, entry_fields, file_fields, wanted_ways}
-use Rattle.ice_manifest_layouts.specs.declared.field.FileField.{FileField}
+use Rattle.ice_manifest_layouts.specs.declared.entry_field.FileField.{FileField}
 use Rattle.ice_manifest_layouts.specs.Ways.{file_id, to_file, pair_ids, IsNumberOf}
 use Rattle.ice_manifest_layouts.specs.Seen.{value_read, record_met, entry_seen, IsPlaced, file_of, file_seen, IsFile, tuple_of}
 use Rattle.ice_manifest_layouts.specs.Seen.{tuple_seen, HasTuple, IsGuidedFile}

@@ -15,7 +15,7 @@ use Rattle.ice_manifest_fields.specs.Fields.{at, there, record_of}
 use Rattle.ice_manifest_fields.specs.Seen.{fields_seen}
 use Rattle.ice_manifest_layouts.specs.declared.entry.FoundEntry.{FoundEntry}
 use Rattle.ice_manifest_layouts.specs.declared.file.FoundFile.{FoundFile}
-use Rattle.ice_manifest_layouts.specs.declared.field.FileField.{FileField}
+use Rattle.ice_manifest_layouts.specs.declared.entry_field.FileField.{FileField}
 use Rattle.ice_manifest_layouts.specs.Ways.{file_id, to_file, wanted_ways}
 
 -- what was read; null where nothing could be

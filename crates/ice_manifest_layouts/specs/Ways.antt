@@ -4,10 +4,10 @@ use Rattle.std.specs.Prelude.{◌≡◌, ◌<◌, ℕ, ℤ, pos, List, [], ◌�
 use Rattle.std.specs.Global.{Global}
 use Rattle.avro_file_picked.specs.Placing.{nth_way}
 use Rattle.ice_meta.specs.declared.spec.PartitionField.{PartitionField}
-use Rattle.ice_manifest_layouts.specs.declared.field.EntryField.{EntryField}
-use Rattle.ice_manifest_layouts.specs.declared.field.EntryField.TheVariants as entry
-use Rattle.ice_manifest_layouts.specs.declared.field.FileField.{FileField}
-use Rattle.ice_manifest_layouts.specs.declared.field.FileField.TheVariants as file
+use Rattle.ice_manifest_layouts.specs.declared.entry_field.EntryField.{EntryField}
+use Rattle.ice_manifest_layouts.specs.declared.entry_field.EntryField.TheVariants as entry
+use Rattle.ice_manifest_layouts.specs.declared.entry_field.FileField.{FileField}
+use Rattle.ice_manifest_layouts.specs.declared.entry_field.FileField.TheVariants as file
 
 abbrev pub entry_id : EntryField → ℤ
 entry_id entry.Status = pos 0

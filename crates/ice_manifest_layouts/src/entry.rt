@@ -11,7 +11,7 @@ ghost use Rattle.ice_manifest_fields.specs.Fields.{at};
 ghost use Rattle.ice_manifest_layouts.specs.Ways.{entry_id, wanted_ways};
 ghost use Rattle.ice_manifest_layouts.specs.Seen.{entry_seen, IsPlaced};
 
-use crate::field::EntryField;
+use crate::entry_field::EntryField;
 use avro_file::Object;
 use avro_file_picked::{Found, Layout, Places};
 use ice_meta::PartitionField;

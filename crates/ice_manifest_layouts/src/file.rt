@@ -11,7 +11,7 @@ ghost use Rattle.ice_manifest_layouts.specs.Seen.{IsPlaced, IsFile, HasTuple, fi
 ghost use Rattle.ice_manifest_layouts.specs.Seen.{IsGuidedFile};
 
 use crate::entry::FoundEntry;
-use crate::field::{EntryField, FileField, PARTITION_START};
+use crate::entry_field::{EntryField, FileField, PARTITION_START};
 use avro_file_picked::{Found, GuidedObject};
 use avro_schema::{Field, Schema};
 use ice_manifest_fields::fields_of;

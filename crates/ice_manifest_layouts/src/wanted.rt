@@ -7,7 +7,7 @@ ghost use Rattle.avro_file_picked.specs.Finding.{layout_tree, ways_of};
 ghost use Rattle.avro_file_picked.specs.Placing.{IsLayout};
 ghost use Rattle.ice_manifest_layouts.specs.Ways.{ids_in, to_entries, to_files, to_cells, wanted_ways};
 
-use crate::field::{EntryField, FileField};
+use crate::entry_field::{EntryField, FileField};
 use avro_file::AvroFault;
 use avro_file_picked::Layout;
 use avro_schema::Schema;

@@ -14,9 +14,9 @@ use Rattle.ice_manifest_fields.specs.Naming.{Naming, in_list, told}
 use Rattle.ice_manifest_fields.specs.Schemas.{fields_in}
 use Rattle.ice_manifest_fields.proofs.Joining.{joined, told_ok}
 use Rattle.ice_value.specs.declared.file_bounds.Summary.{Summary}
-use Rattle.ice_manifest_values.specs.declared.row.FoundRow.{FoundRow}
-use Rattle.ice_manifest_values.specs.RowsFound.{row_seen}
-use Rattle.ice_manifest_values.proofs.RowsShown.{row_is}
+use Rattle.ice_manifest_layouts.specs.declared.row.FoundRow.{FoundRow}
+use Rattle.ice_manifest_layouts.specs.RowsFound.{row_seen}
+use Rattle.ice_manifest_layouts.proofs.RowsShown.{row_is}
 use Rattle.ice_manifest_layouts.proofs.Shown.{structure_is}
 use Rattle.ice_manifest_reading.specs.declared.counts.Counts.{Counts}
 use Rattle.ice_manifest_reading.specs.declared.row.ManifestContent.{ManifestContent}

@@ -11,7 +11,7 @@ use Rattle.ice_manifest_fields.specs.Fields.{truth_at, optional_truth, optional_
 use Rattle.ice_manifest_fields.specs.Naming.{in_list, lists_field, told}
 use Rattle.ice_manifest_values.proofs.Itself.{RecordMet, record_met}
 use Rattle.ice_manifest_reading.specs.Lists.{summary_in, summary_of}
-use Rattle.ice_manifest_values.specs.RowsFound.{summary_ids}
+use Rattle.ice_manifest_layouts.specs.RowsFound.{summary_ids}
 use Rattle.ice_manifest_reading.specs.SummaryWays.{summary_ways}
 
 abbrev summary : Bool → Option Bool → Option (List ℕ) → Option (List ℕ) → Summary

@@ -13,8 +13,8 @@ use crate::entry::{EntryView, Live};
 use crate::gather::Gather;
 use crate::keep::Keep;
 use crate::tell::Tell;
-use ice_manifest_layouts::FoundFile;
 use ice_manifest_fields::ManifestFault;
+use ice_manifest_layouts::FoundFile;
 use std::alloc::{AllocError, Global};
 
 /// What is asked of each live entry: whether it is kept, and what is told of it.

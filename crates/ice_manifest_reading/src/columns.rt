@@ -9,8 +9,8 @@ ghost use Rattle.ice_manifest_layouts.specs.Seen.{file_seen, IsFile, IsGuidedFil
 ghost use Rattle.ice_manifest_reading.specs.Behind.{AreMapsIn, AreMapsOf};
 
 use avro_file_picked::GuidedObject;
-use ice_manifest_layouts::{FileField, FoundFile};
 use ice_manifest_fields::ManifestFault;
+use ice_manifest_layouts::{FileField, FoundFile};
 use ice_manifest_values::{FoundMaps, ReadMaps};
 use ice_value::FileBounds;
 use std::alloc::Global;

@@ -9,7 +9,7 @@ ghost use Rattle.avro_file_picked.specs.Placing.{IsLayout};
 ghost use Rattle.ice_manifest_fields.specs.Fields.{at, there};
 ghost use Rattle.ice_manifest_fields.specs.Naming.{in_list, told};
 ghost use Rattle.ice_manifest_fields.specs.Schemas.{fields_in};
-ghost use Rattle.ice_manifest_values.specs.RowsFound.{row_seen, row_ways, IsRow};
+ghost use Rattle.ice_manifest_layouts.specs.RowsFound.{row_seen, row_ways, IsRow};
 ghost use Rattle.ice_manifest_reading.specs.Lists.{rows_of, row_of as row_said, row_content as content_in};
 ghost use Rattle.ice_manifest_reading.specs.Lists.{content_at as content_said, counts_at as counts_said};
 ghost use Rattle.ice_manifest_reading.specs.Lists.{summaries_in};
@@ -24,7 +24,7 @@ use avro_file::{Container, Objects};
 use avro_file_picked::Layout;
 use contract_words::{Items, Text};
 use ice_manifest_fields::{FieldFault, ListFault, check_row_fields, fields_of};
-use ice_manifest_values::{FoundRow, RowField, row_layout};
+use ice_manifest_layouts::{FoundRow, RowField, row_layout};
 use ice_value::Summary;
 use std::alloc::{AllocError, Global};
 

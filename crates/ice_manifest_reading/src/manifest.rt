@@ -48,8 +48,8 @@ use crate::tuple::tuple_at;
 use avro_file::{Container, Objects, objects_take_bytes};
 use avro_file_picked::Layout;
 use contract_words::Items;
-use ice_manifest_layouts::{EntryField, FileField, FoundEntry, FoundFile, entry_layout};
 use ice_manifest_fields::{FieldFault, ManifestFault, fields_of, type_at};
+use ice_manifest_layouts::{EntryField, FileField, FoundEntry, FoundFile, entry_layout};
 use ice_manifest_values::{
     int_asked, ints, long_asked, optional_number, optional_path, path_asked, text, whole,
 };

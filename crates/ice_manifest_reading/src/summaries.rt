@@ -16,7 +16,7 @@ ghost use Rattle.ice_manifest_fields.specs.Fields.{truth_at as truth_must_be, op
 ghost use Rattle.ice_manifest_fields.specs.Fields.{optional_binary as binary_if_there};
 ghost use Rattle.ice_manifest_fields.specs.Naming.{in_list, told};
 ghost use Rattle.ice_manifest_values.specs.InPlace.{Stands, AreAhead};
-ghost use Rattle.ice_manifest_values.specs.RowsFound.{summary_ids};
+ghost use Rattle.ice_manifest_layouts.specs.RowsFound.{summary_ids};
 ghost use Rattle.ice_manifest_reading.specs.Lists.{summary_in as summary_said, summary_of as summary_of_item};
 ghost use Rattle.ice_manifest_reading.specs.SummaryWays.{summary_ways};
 

@@ -22,10 +22,10 @@ use avro_file::Datum;
 use avro_file_picked::Found;
 use avro_schema::{BytesKind, Field, Schema};
 use contract_words::{Items, Text};
-use ice_manifest_layouts::{FileField, FoundFile};
 use ice_manifest_fields::{
     FieldFault, Kind, ManifestFault, branches_of, required, shortest, type_at,
 };
+use ice_manifest_layouts::{FileField, FoundFile};
 use ice_meta::PartitionField;
 use ice_value::Cell;
 use std::alloc::{AllocError, Global};

@@ -12,11 +12,7 @@ use Rattle.avro_file_picked.specs.declared.guide.GuidedObject.{GuidedObject}
 use Rattle.avro_file_picked.specs.Finding.{layout_tree, ways_of, items_type}
 use Rattle.avro_file_picked.specs.Guides.{AreAsked, IsGuideOf, IsGuideFor, IsGuided, GuidesItems, MayGuide}
 use Rattle.ice_manifest_fields.specs.Fields.{there, at}
-use Rattle.ice_manifest_values.specs.declared.row.FoundRow.{FoundRow}
 use Rattle.ice_manifest_values.specs.InPlace.{type_listed}
-use Rattle.ice_manifest_values.specs.declared.row_field.RowField.{RowField}
-use Rattle.ice_manifest_values.specs.declared.row_field.RowField.TheVariants as row
-use Rattle.ice_manifest_values.specs.RowsFound.{row_id, row_seen, row_ways, summary_ids, value_read, IsRow}
 
 pub guide_for : {E : Type 0} (ways : List (List ℤ)) (ids : List ℤ) (t : Tree) (r : Result Guide E)
     → IfOk r (IsGuideOf ways t) → AreAsked ways ids → IfOk r (IsGuideFor ids t)
@@ -42,37 +38,3 @@ guide_fits ids (Some g) met t may is =
     let here : may.0 ≡ t = cc in
     subst (λ (s : Tree). IsGuideFor ids s g.now) here may.2
 guide_fits ids None met t may is = tt
-
--- ---- rows
-
-pub row_asked : (f : RowField) → AreAsked row_ways (row_id f ∷ [])
-row_asked row.Path = (refl, tt)
-row_asked row.Length = (refl, tt)
-row_asked row.SpecId = (refl, tt)
-row_asked row.AddedSnapshotId = (refl, tt)
-row_asked row.AddedFiles = (refl, tt)
-row_asked row.ExistingFiles = (refl, tt)
-row_asked row.DeletedFiles = (refl, tt)
-row_asked row.Partitions = (refl, tt)
-row_asked row.AddedRows = (refl, tt)
-row_asked row.ExistingRows = (refl, tt)
-row_asked row.DeletedRows = (refl, tt)
-row_asked row.SequenceNumber = (refl, tt)
-row_asked row.MinSequenceNumber = (refl, tt)
-row_asked row.Content = (refl, tt)
-
-pub row_guided : (r : FoundRow) (g : GuidedObject) (found : Option (Bor Guide)) (id : ℤ) → IsRow r
-    → ((v : Value) → Shows r.object v → IsGuided (ways_of r.layout.now) (layout_tree r.layout.now) v g)
-    → ((ways : List (List ℤ)) (t : Tree) (v : Value) → IsGuided ways t v g → AreAsked ways (id ∷ [])
-    → GuidesItems ways found (pick (id ∷ []) (t, v))) → AreAsked row_ways (id ∷ [])
-    → MayGuide summary_ids found (at id (row_seen r))
-unfolding row_seen
-row_guided r g found id is shows guides asked =
-    let v : Value = is.2.0 in
-    let read : v ≡ (row_seen r).1 = sym (ap value_read is.2.1.1) in
-    let object_is : (layout_tree r.layout.now, v) ≡ row_seen r =
-    ap (λ (t : Tree). (t, v)) (sym is.1.1) ∙ ap (λ (w : Value). (tree r.object.schema.now, w)) read in
-    let here = subst (λ (ws : List (List ℤ)). IsGuided ws (layout_tree r.layout.now) v g) is.0 (shows v is.2.1) in
-    subst (λ (x : Typed). MayGuide summary_ids found (at id x)) object_is
-    (items_guide_for row_ways summary_ids found (pick (id ∷ []) (layout_tree r.layout.now, v))
-    (guides row_ways (layout_tree r.layout.now) v here asked) (refl, (refl, (refl, (refl, tt)))))

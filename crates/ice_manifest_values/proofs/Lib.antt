@@ -3,7 +3,6 @@ pub mod Others
 pub mod Said
 pub mod Shown
 pub mod Schemas
-pub mod RowsShown
 pub mod SoundMaps
 pub mod Within
 pub mod Coming

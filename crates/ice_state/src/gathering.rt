@@ -5,8 +5,8 @@ ghost use Rattle.ice_state_entries.specs.Kept.{AreKept as AreKeptIn};
 ghost use Rattle.ice_state.specs.Segments.{segment_at};
 
 use crate::segments::Segments;
-use ice_state_entries::EntryNumber;
 use ice_manifest_reading::{EntryView, Gather};
+use ice_state_entries::EntryNumber;
 use std::alloc::{AllocError, Global};
 use std::marker::Model;
 

@@ -8,8 +8,8 @@ ghost use Rattle.ice_manifest_reading.specs.Lending.{lent, HasShortPaths};
 ghost use Rattle.ice_state.specs.Segments.{AreBefore, entry_at, IsKept, Keeps, segment_at, Segmented};
 ghost use Rattle.ice_state.specs.Segments.{StandsBehind};
 
-use ice_state_entries::{Entries, EntryNumber, Room};
 use ice_manifest_reading::LentEntry;
+use ice_state_entries::{Entries, EntryNumber, Room};
 use ice_value::{FileContent, is_same_tuple};
 use std::alloc::{AllocError, Global};
 use std::cmp::Ordering;

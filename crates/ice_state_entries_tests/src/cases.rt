@@ -5,8 +5,8 @@ ghost use Rattle.ice_state_entries.specs.Kept.{AreKept, Keeps};
 
 use crate::files::{Held, manifest, put_entry};
 use crate::stores::{shown, take, take_all};
-use ice_state_entries::{Entries, EntryNumber, Room};
 use ice_manifest_reading::{ManifestContent, ManifestFault};
+use ice_state_entries::{Entries, EntryNumber, Room};
 use ice_value::{Cell, SequenceNumber};
 use std::alloc::{AllocError, Global};
 use std::test::Fail;

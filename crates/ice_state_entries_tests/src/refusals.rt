@@ -4,8 +4,8 @@ ghost use Rattle.std.specs.Prelude.{◌≡◌, IfOk};
 ghost use Rattle.ice_state_entries.specs.Kept.{AreKept, Keeps};
 
 use crate::stores::{put_kept, take_all};
-use ice_state_entries::{Entries, EntryNumber, Room};
 use ice_manifest_reading::ManifestFault;
+use ice_state_entries::{Entries, EntryNumber, Room};
 use std::alloc::{AllocError, Global};
 use std::test::Fail;
 

@@ -8,8 +8,8 @@ ghost use Rattle.std.specs.Prelude.{IfOk};
 ghost use Rattle.ice_state_entries.specs.Kept.{IsKept, AreKept, Keeps};
 
 use crate::files::{Held, manifest, put_entry, row, snapshot_of, spec};
-use ice_state_entries::{Entries, EntryNumber};
 use ice_manifest_reading::{Everything, LentEntry, ManifestContent, ManifestFault, read_kept};
+use ice_state_entries::{Entries, EntryNumber};
 use ice_value::{Cell, SequenceNumber};
 use std::alloc::{AllocError, Global};
 

@@ -4,9 +4,9 @@ ghost use Rattle.std.specs.Thread.{IsSync};
 ghost use Rattle.icescan_audit.specs.Readings.{ReadsRows};
 
 use crate::audit::{Reading, audit_rows};
-use icescan_audit_findings::Basis;
 use ice_desk::Files;
 use ice_manifest_reading::Row;
+use icescan_audit_findings::Basis;
 use icescan_text::RunFault;
 use std::alloc::Global;
 use std::thread::{Threads, join};

@@ -15,8 +15,8 @@ ghost use Rattle.ice_state.specs.Contents.{World};
 ghost use Rattle.icescan_text.specs.Reads.{rows_at};
 ghost use Rattle.ice_value.specs.declared.file_content.FileContent.TheVariants.{EqualityDeletes, PositionDeletes};
 
-use icescan_audit_findings::Flaw;
 use ice_manifest_reading::contents_fit;
+use icescan_audit_findings::Flaw;
 
 /// The audit of a snapshot has no finding that a summary does not cover an entry just where the summaries of all its
 /// rows tell the truth.

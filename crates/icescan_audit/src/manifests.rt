@@ -12,10 +12,10 @@ ghost use Rattle.ice_state.specs.Specs.{spec_of};
 ghost use Rattle.icescan_text.specs.Reads.{MayEnd, as_run};
 
 use contract_words::Items;
-use icescan_audit_findings::{Basis, Finding, LiveFile, audit_manifest};
 use ice_manifest_reading::{ManifestFault, Row};
 use ice_meta::Spec;
 use ice_state::{FinishFault, ScanFault};
+use icescan_audit_findings::{Basis, Finding, LiveFile, audit_manifest};
 use icescan_text::RunFault;
 use std::alloc::Global;
 

@@ -5,8 +5,8 @@ ghost use Rattle.contract_words.specs.Outcome.{Gives};
 ghost use Rattle.icescan_audit.specs.Subjects.{IsOfMetadata, column_ids, subject_in, subject_of, typed_columns};
 
 use contract_words::{Items, Text};
-use icescan_audit_findings::{Basis, TypedColumn};
 use ice_meta::{Metadata, Schema, Target};
+use icescan_audit_findings::{Basis, TypedColumn};
 use icescan_text::RunFault;
 use std::alloc::{AllocError, Global};
 

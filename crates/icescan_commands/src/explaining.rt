@@ -6,12 +6,12 @@ ghost use Rattle.icescan_commands.specs.Runs.{hints, meant, shows_progress};
 ghost use Rattle.icescan_text.specs.Faults.{status_of};
 
 use crate::words::{files_of, run_asked, run_words, status_of_count};
-use icescan_words::{Words, parse_words};
 use icescan_drill::Watch;
 use icescan_hints::{Case, place_of, put_hint};
 use icescan_progress::{Progress, Silent};
 use icescan_requests::Folder;
 use icescan_text::{RunFault, Sink, report};
+use icescan_words::{Words, parse_words};
 use std::alloc::{AllocError, Global};
 use std::io::Read;
 use std::rt::Files;

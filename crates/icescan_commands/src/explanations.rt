@@ -7,11 +7,11 @@ ghost use Rattle.icescan_words.specs.declared.command_line.Words.{Words};
 
 use crate::words::files_of;
 use contract_words::Text;
-use icescan_words::{Source, Words};
 use icescan_explain::explain_file;
 use icescan_progress::{Progress, Watched};
 use icescan_requests::read_bundle;
 use icescan_text::{Request, RunFault, Sink};
+use icescan_words::{Source, Words};
 use std::alloc::Global;
 use std::io::Read;
 use std::rt::Files;

@@ -8,11 +8,11 @@ ghost use Rattle.icescan_requests.specs.ListPlans.{list_reads};
 ghost use Rattle.icescan_requests.specs.Plans.{OnRefusal, reads_at};
 ghost use Rattle.ice_state.specs.Contents.{World};
 
-use icescan_words::Format;
 use ice_desk::Files;
 use icescan_json::{plan_file_json, run_list_plan_json};
 use icescan_requests::{plan_file, run_list_plan};
 use icescan_text::{Request, RunFault, Sink};
+use icescan_words::Format;
 use std::alloc::Global;
 use std::thread::Threads;
 

@@ -9,7 +9,6 @@ mod forms;
 mod words;
 
 pub use explaining::{Terminals, run_program};
-pub use icescan_words::{Format, Lists, Place, Source, Words, parse_words};
 pub use icescan_drill::{Drill, Watch, drill_table, run_drill};
 pub use icescan_json::{plan_file_json, run_list_plan_json};
 pub use icescan_progress::{Cleared, Progress, ProgressLine, Screen, Silent};
@@ -19,4 +18,5 @@ pub use icescan_requests::{
     put_commit, put_files, read_all, run_list_plan, run_plan, run_plan_with, run_show, select,
     show_file,
 };
+pub use icescan_words::{Format, Lists, Place, Source, Words, parse_words};
 pub use words::run_words;

@@ -6,13 +6,13 @@ ghost use Rattle.icescan_drill.specs.Drills.{HasEachFile, IsLost, IsPlanOf, IsTu
 ghost use Rattle.icescan_drill.specs.Drills.{new_file, scan_of_state};
 
 use contract_words::{Items, Text};
+use ice_catalog_versions::{Change, Ids, NewFile, Prepared, Version, World, prepare};
 use ice_desk::take_wanted;
 use ice_filter::Bound;
 use ice_meta::{Metadata, Target};
 use ice_state::{Lines, OwnedPlan, Partial, Scan};
-use icescan_text::{DrillFault, RunFault, read_rows};
 use ice_value::FileContent;
-use ice_catalog_versions::{Change, Ids, NewFile, Prepared, Version, World, prepare};
+use icescan_text::{DrillFault, RunFault, read_rows};
 use std::alloc::{AllocError, Global};
 use uuid::Uuid;
 

@@ -8,8 +8,8 @@ ghost use Rattle.icescan_drill.specs.Drills.{EachSawItsFiles, IsTurn, SawItsFile
 use crate::drilled_table::{find_files, open_table, plan_version, prepare_append};
 use crate::watch::Watch;
 use ice_catalog_book::{Catalog, Seat};
-use icescan_text::{Drill, DrillFault, RunFault};
 use ice_catalog_versions::Version;
+use icescan_text::{Drill, DrillFault, RunFault};
 use std::alloc::{AllocError, Global};
 use std::sync::ledger::{Blank, Ledger};
 use std::sync::{Arc, Wait};

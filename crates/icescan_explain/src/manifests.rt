@@ -18,12 +18,12 @@ ghost use Rattle.icescan_explain.specs.RowsTold.{AreFor, AreToldOf, IsScanFor, M
 ghost use Rattle.icescan_explain.specs.RowsTold.{row_told, rows_told};
 ghost use Rattle.icescan_explain.specs.Told.{paths_kept, paths_of_data, paths_planned};
 
-use crate::reading::read_file_into;
-use contract_words::Items;
-use ice_desk::Files;
 use crate::files::FileTests;
+use crate::reading::read_file_into;
 use crate::tests::{FilterTests, SpecTests, row_verdict};
 use crate::verdict::Verdict;
+use contract_words::Items;
+use ice_desk::Files;
 use ice_filter::Bound;
 use ice_manifest_reading::{ManifestFault, Row};
 use ice_meta::Spec;

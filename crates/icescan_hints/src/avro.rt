@@ -1,7 +1,7 @@
 //! The words of refusals of Avro containers.
 
-use avro_file::AvroFault;
 use crate::sentence::{MEMORY, Sentence};
+use avro_file::AvroFault;
 
 const NOT_AVRO: Sentence = Sentence {
     name: "V1 NotAvro",

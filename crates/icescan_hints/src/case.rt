@@ -1,12 +1,12 @@
 //! What a hint is told from.
 
 use contract_words::Text;
-use icescan_words::{Lists, Place, Source, Words};
 use ice_desk::Files;
 use ice_manifest::Row;
 use ice_meta::{Metadata, Target};
 use icescan_requests::{Request, read_rows};
 use icescan_text::CommitRequest;
+use icescan_words::{Lists, Place, Source, Words};
 use std::alloc::Global;
 
 /// The folder that the files of what is asked for are below.

@@ -1,12 +1,12 @@
 //! What a refused filter asks of which column.
 
+use crate::caret::add_caret;
 use crate::case::Case;
+use crate::hint::{Hint, quoted};
+use crate::nearest::add_none_named;
 use contract_words::Text;
 use ice_desk::Files;
 use ice_filter::{Column, Filter, FilterFault, Leaf, Part, parse};
-use crate::caret::add_caret;
-use crate::hint::{Hint, quoted};
-use crate::nearest::add_none_named;
 use ice_meta::{Metadata, Schema};
 use ice_value::ColumnType;
 use std::alloc::{AllocError, Global};

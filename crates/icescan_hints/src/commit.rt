@@ -1,8 +1,8 @@
 //! The words of refusals of change files and of commits.
 
 use crate::sentence::{MEMORY, Sentence};
-use icescan_text::ChangeFault;
 use ice_catalog_versions::PrepareFault;
+use icescan_text::ChangeFault;
 
 const BAD_CHANGE: Sentence = Sentence {
     name: "C1 BadChange",

@@ -1,13 +1,13 @@
 //! What of a commit is refused.
 
 use crate::case::Case;
+use crate::hint::{Hint, quoted};
 use crate::tables::add_specs;
 use contract_words::{Items, Text};
+use ice_catalog_versions::PrepareFault;
 use ice_desk::Files;
-use crate::hint::{Hint, quoted};
 use icescan_requests::prepare_commit;
 use icescan_text::CommitRequest;
-use ice_catalog_versions::PrepareFault;
 use std::alloc::{AllocError, Global};
 
 /// How many files of a commit are told at most.

@@ -1,7 +1,7 @@
 //! The words of refusals of filters.
 
-use ice_filter::FilterFault;
 use crate::sentence::{MEMORY, Sentence};
+use ice_filter::FilterFault;
 
 const SYNTAX: Sentence = Sentence {
     name: "F1 Syntax",

@@ -1,13 +1,13 @@
 //! What of a manifest list or a manifest is at fault.
 
 use crate::case::Case;
-use contract_words::Text;
-use icescan_words::{Lists, Words};
-use ice_desk::Files;
 use crate::fields::field_name;
 use crate::hint::{Hint, quoted};
+use contract_words::Text;
+use ice_desk::Files;
 use ice_manifest::{EntryView, Keep, ListFault, Live, ManifestFault, Row, read_kept};
 use ice_meta::{Metadata, Spec, Target};
+use icescan_words::{Lists, Words};
 use std::alloc::{AllocError, Global};
 use std::cell::Cell;
 

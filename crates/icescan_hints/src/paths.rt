@@ -1,11 +1,11 @@
 //! Why no file is found at a path.
 
 use crate::case::Case;
-use icescan_words::Place;
-use ice_desk::Files;
 use crate::hint::{Hint, quoted};
+use ice_desk::Files;
 use ice_meta::Metadata;
 use icescan_requests::file_name;
+use icescan_words::Place;
 use std::alloc::{AllocError, Global};
 
 /// The last two segments of a path.

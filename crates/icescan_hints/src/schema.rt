@@ -1,7 +1,7 @@
 //! The words of refusals of Avro schemas.
 
-use avro_schema::SchemaFault;
 use crate::sentence::{MEMORY, Sentence};
+use avro_schema::SchemaFault;
 
 const NOT_JSON: Sentence = Sentence {
     name: "S1 NotJson",

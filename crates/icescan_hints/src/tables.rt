@@ -1,9 +1,9 @@
 //! What of a table a refusal of its metadata is about.
 
 use crate::case::Case;
-use ice_desk::Files;
 use crate::hint::{Hint, quoted};
 use crate::nearest::add_none_named;
+use ice_desk::Files;
 use ice_meta::{MetaFault, Metadata, Table, Target};
 use std::alloc::{AllocError, Global};
 

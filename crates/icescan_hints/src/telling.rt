@@ -5,16 +5,16 @@ ghost use Rattle.icescan_hints.specs.Hints.{AppendsPlain};
 use crate::case::Case;
 use crate::columns::add_filter;
 use crate::commits::{add_change_file, add_commit, add_unwritten};
+use crate::hint::Hint;
 use crate::manifests::{add_list, add_manifest};
 use crate::paths::{add_file_name, add_path};
-use crate::tables::{add_metadata, add_specs};
-use icescan_words::{Lists, Words};
-use ice_desk::Files;
-use crate::hint::Hint;
-use crate::showing::put_lines;
 use crate::run::sentences_of;
+use crate::showing::put_lines;
+use crate::tables::{add_metadata, add_specs};
+use ice_desk::Files;
 use ice_state::{FinishFault, ScanFault};
 use icescan_text::{RunFault, Sink};
+use icescan_words::{Lists, Words};
 use std::alloc::{AllocError, Global};
 
 /// Adds what of the words, the table and its files a fault is about.

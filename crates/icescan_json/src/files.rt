@@ -12,9 +12,9 @@ ghost use Rattle.icescan_json.specs.Texts.{referenced_text};
 use crate::pieces::{put_ids, put_quoted};
 use crate::types::{SpecTypes, types_of};
 use crate::values::put_cells;
-use icescan_print::{Page, Sink, SinkFault};
 use ice_state::PlanFile;
 use ice_value::FileContent;
+use icescan_print::{Page, Sink, SinkFault};
 
 fn content_name(content: FileContent) -> &'static [u8]
     ensures { result.now ≡ content_name content }

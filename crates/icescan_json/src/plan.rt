@@ -14,8 +14,8 @@ use crate::files::{put_data_file, put_delete_file};
 use crate::pieces::{comma_before, put_places};
 use crate::types::{SpecTypes, types_of_specs};
 use ice_meta::Spec;
-use icescan_print::{Page, Sink, SinkFault};
 use ice_state::{Lines, PlacedFiles};
+use icescan_print::{Page, Sink, SinkFault};
 use std::alloc::{AllocError, Global};
 
 /// What keeps a plan's JSON from being written.

@@ -14,9 +14,9 @@ ghost use Rattle.icescan_text.specs.Reads.{MayEnd};
 
 use crate::planning::plan_rows_with;
 use crate::typed::{TypedPlan, write_json};
+use crate::types::types_of_specs;
 use contract_words::Items;
 use ice_desk::{Files, Gate, MOST_WORKERS};
-use crate::types::types_of_specs;
 use icescan_requests::{Selection, plans_of_true_summaries, select};
 use icescan_text::{Request, RunFault, Sink, read_file, read_rows};
 use std::alloc::Global;

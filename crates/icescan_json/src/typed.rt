@@ -4,9 +4,9 @@ ghost use Rattle.std.specs.Prelude.{◌≡◌, ◌⊎◌, ℕ, List, OnOk, IfErr
 ghost use Rattle.icescan_json.specs.JsonAnswers.{IsJsonOfPlan};
 ghost use Rattle.icescan_print.specs.Written.{Appends, AppendsFront};
 
-use contract_words::Items;
 use crate::plan::{JsonFault, write_typed_plan};
 use crate::types::SpecTypes;
+use contract_words::Items;
 use ice_state::OwnedPlan;
 use icescan_text::{RunFault, Sink};
 use std::alloc::Global;

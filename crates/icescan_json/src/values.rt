@@ -13,8 +13,8 @@ use crate::dates::{put_date, put_time, put_timestamp};
 use crate::decimals::{is_decimal, put_decimal_text, unscaled};
 use crate::pieces::{comma_before, put_quoted};
 use crate::quotes::{hex_digit, put_escaped};
-use icescan_print::{Page, Sink, SinkFault};
 use ice_value::{Cell, ColumnType};
+use icescan_print::{Page, Sink, SinkFault};
 use uuid::Uuid;
 
 const MICROSECONDS_PER_DAY: i64 = 86_400_000_000;

@@ -10,11 +10,11 @@ ghost use Rattle.ice_state.specs.Contents.{World as Told};
 ghost use Rattle.icescan_requests.specs.Commits.{IsReadFault, base_files, keep_all, keep_found, manifests_in};
 
 use contract_words::Text;
+use ice_catalog_versions::World;
 use ice_desk::{Files, ReadFault};
 use ice_manifest::{ListFault, Row, read_list};
 use ice_meta::{MetaFault, Metadata, Target};
 use icescan_text::RunFault;
-use ice_catalog_versions::World;
 use std::alloc::{AllocError, Global};
 
 /// The metadata of these bytes, where a commit can be made on it: the current snapshot, if any, is there and has a

@@ -3,12 +3,12 @@
 use avro_file::{AvroFault, CodecName};
 use avro_schema::SchemaFault;
 use contract_words::{Items, Text};
+use ice_catalog_versions::PrepareFault;
 use ice_filter::FilterFault;
 use ice_manifest::{ListFault, ManifestFault};
 use ice_meta::{Member, MetaFault};
 use ice_state::{FinishFault, ScanFault};
 use icescan_text::{ChangeFault, ChangeMember, DrillFault, RunFault, report};
-use ice_catalog_versions::PrepareFault;
 use std::alloc::Global;
 
 /// A fault that names no path, its line behind the program's name, and its status.

@@ -1,7 +1,7 @@
 //! Files and folders that are refused while a commit puts its files.
 
-use icescan_requests::{CommitFolder, Folder, Store, StoreFault, fill_file};
 use ice_catalog_versions::Ids;
+use icescan_requests::{CommitFolder, Folder, Store, StoreFault, fill_file};
 use std::alloc::Allocator;
 use std::cell::Cell;
 use std::fs::{self, Metadata, OpenFile, OpenOptions};

@@ -14,13 +14,13 @@ use crate::drill_fault::DrillFault;
 use avro_file::AvroFault;
 use avro_schema::SchemaFault;
 use contract_words::Text;
+use ice_catalog_versions::PrepareFault;
 use ice_desk::{PlanFault, WantedFault};
 use ice_filter::FilterFault;
 use ice_manifest::{ListFault, ManifestFault};
 use ice_meta::MetaFault;
-use icescan_print::SinkFault;
 use ice_state::{FinishFault, ScanFault};
-use ice_catalog_versions::PrepareFault;
+use icescan_print::SinkFault;
 use std::alloc::{AllocError, AllocFailed};
 use thiserror::Error;
 

@@ -12,14 +12,14 @@ use crate::drill_fault::DrillFault;
 use crate::fault::RunFault;
 use avro_file::AvroFault;
 use avro_schema::SchemaFault;
+use ice_catalog_versions::PrepareFault;
 use ice_filter::FilterFault;
 use ice_manifest::{ListFault, ManifestFault};
 use ice_meta::{Member, MetaFault};
+use ice_state::{FinishFault, ScanFault};
 use icescan_print::{
     Sink, SinkFault, put_named_int, put_named_long, put_named_number, put_named_path, write_all,
 };
-use ice_state::{FinishFault, ScanFault};
-use ice_catalog_versions::PrepareFault;
 
 /// Writes the line of a fault, or the text that says why the words are not understood.
 #[tactic(auto, unfolding(crate::specs::FaultTexts::fault_text))]

@@ -2,8 +2,8 @@
 
 use crate::change::ChangeKind;
 use contract_words::Text;
-use ice_meta::Target;
 use ice_catalog_versions::Ids;
+use ice_meta::Target;
 
 /// What of a table is asked for.
 #[derive(Debug, Drop)]

@@ -5,8 +5,8 @@ ghost use Rattle.icescan_print.specs.PlanTexts.{plan_text};
 ghost use Rattle.icescan_print.specs.Written.{Appends, AppendsFront};
 
 use crate::fault::RunFault;
-use icescan_print::{Page, Sink, count_deletes, put_plan, put_plan_by_workers};
 use ice_state::Lines;
+use icescan_print::{Page, Sink, count_deletes, put_plan, put_plan_by_workers};
 use std::alloc::Global;
 use std::thread::Threads;
 

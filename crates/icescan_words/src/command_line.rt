@@ -9,9 +9,9 @@ use clap::builder::ValueParser;
 use clap::error::ErrorKind;
 use clap::{Arg, ArgAction, ArgGroup, ArgMatches, Command, Error, value_parser};
 use contract_words::Text;
+use ice_catalog_versions::Ids;
 use ice_meta::Target;
 use icescan_text::{ChangeKind, CommitRequest, Drill, Request, RunFault};
-use ice_catalog_versions::Ids;
 use std::alloc::{AllocError, Global};
 use uuid::Uuid;
 

@@ -10,8 +10,8 @@ use crate::change::members::{
     ids_at, int_at, kept_text_at, long_at, referenced_at, text_at, tuple_at,
 };
 use contract_words::Items;
-use ice_value::FileContent;
 use ice_catalog_versions::NewFile;
+use ice_value::FileContent;
 use serde_json::Value;
 use std::alloc::Global;
 

@@ -5,7 +5,7 @@ use Rattle.avro_file.specs.Picking.{Typed}
 use Rattle.ice_manifest_fields.specs.Each.{each}
 use Rattle.ice_manifest_fields.specs.Fields.{at, there, items_of}
 use Rattle.ice_manifest_fields.specs.Naming.{in_list, told}
-use Rattle.ice_manifest_values.specs.RowsFound.{row_seen}
+use Rattle.ice_manifest_layouts.specs.RowsFound.{row_seen}
 use Rattle.ice_manifest_reading.specs.Lists.{summary_of, summaries_in}
 use Rattle.ice_manifest_reading.proofs.FoundRows.{some_read, some_at_fault}
 use Rattle.ice_manifest_reading.proofs.list.partitions_at.Goals as goal

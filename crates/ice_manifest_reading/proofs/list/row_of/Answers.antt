@@ -1,7 +1,7 @@
 use Rattle.std.proofs.Common.{rules, w32, w64}
 use Rattle.std.proofs.lemmas.Int.{to_z-of_z}
 use Rattle.std.proofs.lemmas.Result.{err_from_is_err_and}
-use Rattle.ice_manifest_values.specs.RowsFound.{row_seen}
+use Rattle.ice_manifest_layouts.specs.RowsFound.{row_seen}
 use Rattle.ice_manifest_reading.specs.Gathering.{counts_kept, summaries_kept}
 use Rattle.ice_manifest_reading.proofs.FoundRows.{summaries_at_fault, all_read}
 use Rattle.ice_manifest_reading.proofs.list.row_of.Goals as goal

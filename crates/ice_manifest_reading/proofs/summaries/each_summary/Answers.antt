@@ -9,7 +9,7 @@ use Rattle.ice_manifest_fields.specs.Naming.{in_list, told}
 use Rattle.ice_manifest_fields.proofs.Joining.{told_ok}
 use Rattle.ice_manifest_values.proofs.Coming.{SoFar, none_so_far, more_so_far, fails_so_far, all_so_far}
 use Rattle.ice_manifest_reading.specs.Lists.{summary_of}
-use Rattle.ice_manifest_values.specs.RowsFound.{summary_ids}
+use Rattle.ice_manifest_layouts.specs.RowsFound.{summary_ids}
 use Rattle.ice_manifest_reading.proofs.summaries.each_summary.Goals as goal
 
 pub items-init : goal.items-init

@@ -6,7 +6,7 @@ use Rattle.ice_manifest_fields.specs.Each.{each}
 use Rattle.ice_manifest_fields.specs.Fields.{there, items_of}
 use Rattle.ice_manifest_fields.specs.Naming.{in_list, told}
 use Rattle.avro_schema.specs.View.{tree}
-use Rattle.ice_manifest_values.specs.RowsFound.{summary_ids}
+use Rattle.ice_manifest_layouts.specs.RowsFound.{summary_ids}
 use Rattle.ice_manifest_values.proofs.Guiding.{guide_fits}
 use Rattle.ice_manifest_reading.specs.Lists.{summary_of}
 use Rattle.ice_manifest_reading.proofs.summaries.summaries_in_list.Goals as goal

@@ -2,7 +2,7 @@ use Rattle.std.proofs.Common.{◌≡◌, [], refl, subst}
 use Rattle.avro_schema.specs.declared.schema.Schema.{Schema}
 use Rattle.avro_schema.specs.View.{tree}
 use Rattle.avro_file_picked.specs.Guides.{IsGuideFor}
-use Rattle.ice_manifest_values.specs.RowsFound.{summary_ids}
+use Rattle.ice_manifest_layouts.specs.RowsFound.{summary_ids}
 use Rattle.ice_manifest_fields.specs.Each.{each}
 use Rattle.ice_manifest_reading.proofs.summaries.summaries_unguided.Goals as goal
 

@@ -1,7 +1,7 @@
 use Rattle.std.proofs.Common.{ℤ, List, IfOk, ap, subst, ◌∙◌}
 use Rattle.avro_schema.specs.View.{tree}
 use Rattle.avro_file_picked.specs.Guides.{ids_in, IsGuideOf}
-use Rattle.ice_manifest_values.specs.RowsFound.{summary_ids}
+use Rattle.ice_manifest_layouts.specs.RowsFound.{summary_ids}
 use Rattle.ice_manifest_values.proofs.Guiding.{guide_for}
 use Rattle.ice_manifest_reading.specs.SummaryWays.{summary_ways}
 use Rattle.ice_manifest_reading.proofs.SummariesSaid.{all_asked}

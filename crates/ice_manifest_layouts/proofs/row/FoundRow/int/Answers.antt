@@ -1,15 +1,15 @@
 use Rattle.std.proofs.Common.{◌≡◌, ℤ, to_z, of_z, w32, rules, sym, ap, ◌∙◌}
 use Rattle.std.proofs.lemmas.Int.{to_z-of_z}
 use Rattle.ice_manifest_fields.specs.Fields.{at}
-use Rattle.ice_manifest_values.specs.Met.{number_met}
-use Rattle.ice_manifest_values.proofs.Said.{number_said}
-use Rattle.ice_manifest_values.specs.RowsFound.{row_id, row_seen}
-use Rattle.ice_manifest_values.proofs.row.FoundRow.number.Goals as goal
+use Rattle.ice_manifest_values.specs.Met.{int_met}
+use Rattle.ice_manifest_values.proofs.Said.{int_said}
+use Rattle.ice_manifest_layouts.specs.RowsFound.{row_id, row_seen}
+use Rattle.ice_manifest_layouts.proofs.row.FoundRow.int.Goals as goal
 
 pub returns : goal.returns
 returns c =
     let id : to_z w32 (of_z w32 c.id.result) ≡ c.id.result = to_z-of_z w32 c.id.result (search rules) in
     let seen = row_seen c.args.self.now in
     let met = at (row_id c.args.field) seen in
-    c.number_asked.ensures met c.found.ensures ∙ ap (λ (z : ℤ). number_met z met) (id ∙ c.id.ensures)
-    ∙ sym (number_said (row_id c.args.field) seen)
+    c.int_asked.ensures met c.found.ensures ∙ ap (λ (z : ℤ). int_met z met) (id ∙ c.id.ensures)
+    ∙ sym (int_said (row_id c.args.field) seen)

@@ -7,8 +7,8 @@ use Rattle.avro_schema.specs.Tree.{Tree}
 use Rattle.avro_schema.specs.View.{tree}
 use Rattle.ice_manifest_fields.specs.Schemas.{fields_in, type_at}
 use Rattle.ice_manifest_fields.specs.Seen.{fields_seen}
-use Rattle.ice_manifest_values.specs.RowsFound.{row_id, row_seen}
-use Rattle.ice_manifest_values.proofs.row.FoundRow.lacks.Goals as goal
+use Rattle.ice_manifest_layouts.specs.RowsFound.{row_id, row_seen}
+use Rattle.ice_manifest_layouts.proofs.row.FoundRow.lacks.Goals as goal
 
 none_mapped : {A B : Type 0} (f : A → B) (o : Option A) (b : Bool) → is_some o ≡ not b → b ≡ is_none (option_map f o)
 none_mapped f None true e = refl

@@ -5,13 +5,13 @@ ghost use Rattle.std.specs.Result.{IfErr};
 ghost use Rattle.avro_schema.specs.View.{tree};
 ghost use Rattle.avro_file_picked.specs.Finding.{layout_tree, ways_of};
 ghost use Rattle.avro_file_picked.specs.Placing.{IsLayout};
-ghost use Rattle.ice_manifest_values.specs.RowsFound.{row_id, to_fields, row_ways, ids_in, IsNumberOf};
-ghost use Rattle.ice_manifest_values.specs.RowsFound.{row_ways as wanted_ways};
+ghost use Rattle.ice_manifest_layouts.specs.RowsFound.{row_id, to_fields, row_ways, ids_in, IsNumberOf};
+ghost use Rattle.ice_manifest_layouts.specs.RowsFound.{row_ways as wanted_ways};
 
-use crate::pairs::push_way;
 use avro_file::AvroFault;
 use avro_file_picked::Layout;
 use avro_schema::Schema;
+use ice_manifest_values::push_way;
 use std::alloc::{AllocError, Global};
 
 /// The fields of the summaries of a row's partition fields. No way leads to them from a row: they stand among what is

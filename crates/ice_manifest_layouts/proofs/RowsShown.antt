@@ -9,9 +9,9 @@ use Rattle.avro_file_picked.specs.declared.found.Found.{Found}
 use Rattle.avro_file_picked.specs.Finding.{layout_tree, IsMet}
 use Rattle.avro_file_picked.specs.Placing.{nth_way, way_of}
 use Rattle.ice_manifest_fields.specs.Fields.{at}
-use Rattle.ice_manifest_values.specs.declared.row_field.RowField.{RowField}
-use Rattle.ice_manifest_values.specs.declared.row.FoundRow.{FoundRow}
-use Rattle.ice_manifest_values.specs.RowsFound.{row_id, to_field, value_read, row_seen, IsRow, IsNumberOf}
+use Rattle.ice_manifest_layouts.specs.declared.row_field.RowField.{RowField}
+use Rattle.ice_manifest_layouts.specs.declared.row.FoundRow.{FoundRow}
+use Rattle.ice_manifest_layouts.specs.RowsFound.{row_id, to_field, value_read, row_seen, IsRow, IsNumberOf}
 
 -- what stands at a field's place stands at the field
 pub shown : (r : FoundRow) (found : Option Found) (k : ℕ) (f : RowField) → IsRow r → IsNumberOf f k

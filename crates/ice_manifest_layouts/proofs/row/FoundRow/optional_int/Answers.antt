@@ -3,8 +3,8 @@ use Rattle.std.proofs.lemmas.Int.{to_z-of_z}
 use Rattle.ice_manifest_fields.specs.Fields.{at}
 use Rattle.ice_manifest_values.specs.Met.{optional_int_met}
 use Rattle.ice_manifest_values.proofs.Said.{optional_int_said}
-use Rattle.ice_manifest_values.specs.RowsFound.{row_id, row_seen}
-use Rattle.ice_manifest_values.proofs.row.FoundRow.optional_int.Goals as goal
+use Rattle.ice_manifest_layouts.specs.RowsFound.{row_id, row_seen}
+use Rattle.ice_manifest_layouts.proofs.row.FoundRow.optional_int.Goals as goal
 
 pub returns : goal.returns
 returns c =

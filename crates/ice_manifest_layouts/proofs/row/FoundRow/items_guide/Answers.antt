@@ -4,9 +4,9 @@ use Rattle.avro_schema.specs.Tree.{Tree}
 use Rattle.avro_file.specs.Value.{Value}
 use Rattle.avro_file.specs.Picking.{pick}
 use Rattle.avro_file_picked.specs.Guides.{AreAsked, IsGuided, GuidesItems}
-use Rattle.ice_manifest_values.specs.RowsFound.{row_id}
-use Rattle.ice_manifest_values.proofs.Guiding.{row_guided, row_asked}
-use Rattle.ice_manifest_values.proofs.row.FoundRow.items_guide.Goals as goal
+use Rattle.ice_manifest_layouts.specs.RowsFound.{row_id}
+use Rattle.ice_manifest_layouts.proofs.RowsGuided.{row_guided, row_asked}
+use Rattle.ice_manifest_layouts.proofs.row.FoundRow.items_guide.Goals as goal
 
 pub guided-requires : goal.guided-requires
 guided-requires c = record { layout = c.requires.1.0; schema = c.requires.1.1 }

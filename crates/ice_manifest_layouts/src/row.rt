@@ -7,14 +7,13 @@ ghost use Rattle.ice_manifest_fields.specs.Fields.{number_at, optional_long, opt
 ghost use Rattle.ice_manifest_fields.specs.Schemas.{fields_in, type_at as type_said};
 ghost use Rattle.ice_manifest_fields.specs.Seen.{result_map};
 ghost use Rattle.avro_file_picked.specs.Guides.{MayGuide};
-ghost use Rattle.ice_manifest_values.specs.RowsFound.{row_id, row_seen, summary_ids, IsRow};
+ghost use Rattle.ice_manifest_layouts.specs.RowsFound.{row_id, row_seen, summary_ids, IsRow};
 
-use crate::field::{int_asked, long_asked, number_asked, optional_int, path_asked};
-use crate::leaf::whole;
 use crate::row_field::RowField;
 use avro_file::Object;
 use avro_file_picked::{Found, Guide, Layout, Places};
 use ice_manifest_fields::{FieldFault, fields_of, type_at};
+use ice_manifest_values::{int_asked, long_asked, number_asked, optional_int, path_asked, whole};
 use ice_value::SequenceNumber;
 
 /// An object of a manifest list whose values were placed. It lends the file's bytes and owns nothing.

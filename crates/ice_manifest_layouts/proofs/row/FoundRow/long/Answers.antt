@@ -2,8 +2,8 @@ use Rattle.std.proofs.Common.{◌≡◌, ℤ, to_z, of_z, w32, rules, ap, ◌∙
 use Rattle.std.proofs.lemmas.Int.{to_z-of_z}
 use Rattle.ice_manifest_fields.specs.Fields.{at}
 use Rattle.ice_manifest_values.specs.Met.{long_met}
-use Rattle.ice_manifest_values.specs.RowsFound.{row_id, row_seen}
-use Rattle.ice_manifest_values.proofs.row.FoundRow.long.Goals as goal
+use Rattle.ice_manifest_layouts.specs.RowsFound.{row_id, row_seen}
+use Rattle.ice_manifest_layouts.proofs.row.FoundRow.long.Goals as goal
 
 pub returns : goal.returns
 returns c =

@@ -10,9 +10,9 @@ use Rattle.avro_file.specs.Files.{Shows}
 use Rattle.avro_file.specs.Picking.{Typed}
 use Rattle.avro_file_picked.specs.Finding.{ways_of}
 use Rattle.avro_file_picked.specs.Placing.{ArePlaced, nth_way}
-use Rattle.ice_manifest_values.specs.declared.row_field.RowField.{RowField}
-use Rattle.ice_manifest_values.specs.declared.row_field.RowField.TheVariants as row
-use Rattle.ice_manifest_values.specs.declared.row.FoundRow.{FoundRow}
+use Rattle.ice_manifest_layouts.specs.declared.row_field.RowField.{RowField}
+use Rattle.ice_manifest_layouts.specs.declared.row_field.RowField.TheVariants as row
+use Rattle.ice_manifest_layouts.specs.declared.row.FoundRow.{FoundRow}
 
 abbrev pub row_id : RowField → ℤ
 row_id row.Path = pos 500
