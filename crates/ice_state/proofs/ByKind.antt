@@ -10,9 +10,9 @@ use Rattle.std.proofs.lemmas.List.Sorted.{IsPermutation-trans}
 use Rattle.contract_words.proofs.Sorted.{filter-sorted}
 use Rattle.ice_manifest_reading.specs.declared.entry.Entry.{Entry}
 use Rattle.ice_value.specs.declared.file_content.FileContent.TheVariants.{Data}
-use Rattle.ice_state.specs.declared.by_kind.FilesByKind.{FilesByKind}
-use Rattle.ice_state.specs.declared.indexed.IndexedDeletes.{IndexedDeletes}
-use Rattle.ice_state.specs.declared.segments.FileNumber.{FileNumber}
+use Rattle.ice_state.specs.declared.finish.by_kind.FilesByKind.{FilesByKind}
+use Rattle.ice_state.specs.declared.kept.indexed.IndexedDeletes.{IndexedDeletes}
+use Rattle.ice_state.specs.declared.kept.segments.FileNumber.{FileNumber}
 use Rattle.ice_state.specs.Apart.{ShareNoPath}
 use Rattle.ice_state.specs.ByKind.{AreFilesOf, AreKeptByKind, entries_by_kind, HasFilesOf}
 use Rattle.ice_state.specs.KeptDeletes.{IsIndexOf}

@@ -13,9 +13,9 @@ use Rattle.ice_value.specs.Applying.{DeleteKey}
 use Rattle.ice_deletes.specs.Found.{numbered_deletes}
 use Rattle.ice_deletes.specs.Unions.{renumbered, IsUnion}
 use Rattle.ice_manifest_reading.specs.declared.entry.Entry.{Entry}
-use Rattle.ice_state.specs.declared.indexed.IndexedDeletes.{IndexedDeletes}
-use Rattle.ice_state.specs.declared.segments.FileNumber.{FileNumber}
-use Rattle.ice_state.specs.declared.taken.Taken.{Taken}
+use Rattle.ice_state.specs.declared.kept.indexed.IndexedDeletes.{IndexedDeletes}
+use Rattle.ice_state.specs.declared.kept.segments.FileNumber.{FileNumber}
+use Rattle.ice_state.specs.declared.kept.taken.Taken.{Taken}
 use Rattle.ice_state.specs.Applying.{delete_key_of}
 use Rattle.ice_state.specs.Contents.{Content, is_row_taken}
 use Rattle.ice_state.specs.Joins.{join}

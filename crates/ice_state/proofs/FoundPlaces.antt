@@ -11,7 +11,7 @@ use Rattle.contract_words.proofs.Sorted.{Rises, sorted_rises}
 use Rattle.ice_manifest_reading.specs.declared.entry.Entry.{Entry}
 use Rattle.ice_state_entries.specs.Kept.{no_entry}
 use Rattle.ice_deletes.proofs.Lists.{filter-filter}
-use Rattle.ice_state.specs.declared.segments.FileNumber.{FileNumber}
+use Rattle.ice_state.specs.declared.kept.segments.FileNumber.{FileNumber}
 use Rattle.ice_state.specs.Lines.{AreWithin, entry_at as entry_at_place, entries_at as entries_at_places}
 use Rattle.ice_state.specs.Orders.{IsOrder}
 use Rattle.ice_state.specs.Outcomes.{by_path, path_before, twice}

@@ -14,7 +14,7 @@ use Rattle.ice_deletes.specs.Groups.{is_in}
 use Rattle.ice_deletes.specs.Unions.{renumbered}
 use Rattle.ice_manifest_reading.specs.declared.entry.Entry.{Entry}
 use Rattle.ice_state_entries.specs.Kept.{AreNeighbours, no_entry}
-use Rattle.ice_state.specs.declared.segments.FileNumber.{FileNumber}
+use Rattle.ice_state.specs.declared.kept.segments.FileNumber.{FileNumber}
 use Rattle.ice_state.specs.Applying.{data_key_of}
 use Rattle.ice_state.specs.Parts.{ascending, places_of}
 use Rattle.ice_state.specs.PlaceLists.{LinePlaces}

@@ -11,7 +11,7 @@ use Rattle.contract_words.proofs.Sorted.{sorted_rises, sorted_ties, unique}
 use Rattle.ice_manifest_reading.specs.declared.entry.Entry.{Entry}
 use Rattle.ice_state_entries.specs.declared.entries.EntryNumber.{EntryNumber}
 use Rattle.ice_state_entries.specs.Kept.{Kept, IsKept, AreKept, entry_at as kept_entry, entries_at as kept_at, no_entry}
-use Rattle.ice_state.specs.declared.sorting.Placed.{Placed}
+use Rattle.ice_state.specs.declared.kept.sorting.Placed.{Placed}
 use Rattle.ice_state.specs.Apart.{path_at}
 use Rattle.ice_state.specs.Contents.{Content}
 use Rattle.ice_state.specs.Lines.{entry_at, entries_at, AreWithin}

@@ -4,7 +4,7 @@ use Rattle.std.proofs.Common.{sym, ap, subst, ◌∙◌, ◌+◌, arith, length-
 use Rattle.std.proofs.lemmas.List.{length-take, length-take-le, take-take, take_all, take_at, drop_at}
 use Rattle.std.proofs.lemmas.Slice.{between_is, between_to_end}
 use Rattle.std.specs.List.{slice_get, slice_range}
-use Rattle.ice_state.specs.declared.places.Ends.{Ends}
+use Rattle.ice_state.specs.declared.plan.places.Ends.{Ends}
 use Rattle.ice_state.specs.PlaceLists.{LinePlaces, line_from, lines_from, no_places, RiseWithin, end_of}
 use Rattle.ice_state.specs.PlaceLists.{IsInOrder, GainsInOrder, GainsLine}
 

@@ -9,8 +9,8 @@ use Rattle.ice_deletes.specs.Found.{numbered_deletes}
 use Rattle.ice_deletes.specs.Unions.{renumbered, AreBelow}
 use Rattle.ice_manifest_reading.specs.declared.entry.Entry.{Entry}
 use Rattle.ice_state_entries.specs.Kept.{no_entry}
-use Rattle.ice_state.specs.declared.indexed.IndexedDeletes.{IndexedDeletes}
-use Rattle.ice_state.specs.declared.segments.FileNumber.{FileNumber}
+use Rattle.ice_state.specs.declared.kept.indexed.IndexedDeletes.{IndexedDeletes}
+use Rattle.ice_state.specs.declared.kept.segments.FileNumber.{FileNumber}
 use Rattle.ice_state.specs.Applying.{data_key_of, delete_key_of}
 use Rattle.ice_state.specs.KeptDeletes.{IsIndexOf}
 use Rattle.ice_state.specs.Lines.{AreWithin, entry_at as entry_at_place, entries_at as entries_at_places}

@@ -10,7 +10,7 @@ use Rattle.ice_state.specs.Contents.{Content}
 use Rattle.ice_state.specs.Orders.{run_at, runs_in}
 use Rattle.ice_state.specs.Outcomes.{by_path, entries_in, kept_in}
 use Rattle.ice_state.specs.Readings.{Reading}
-use Rattle.ice_state.specs.declared.taken.Taken.{Taken}
+use Rattle.ice_state.specs.declared.kept.taken.Taken.{Taken}
 use Rattle.ice_state.specs.Segments.{Segmented}
 use Rattle.ice_state.specs.Slots.{HasNumbers, HaveNumbers}
 use Rattle.ice_state.proofs.Orders.{by_path_runs}

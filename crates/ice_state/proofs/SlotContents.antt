@@ -4,9 +4,9 @@ use Rattle.std.proofs.Common.{IfSome, is_some, is_none, replicate, get_or, slice
 use Rattle.ice_manifest_reading.specs.declared.entry.Entry.{Entry}
 use Rattle.ice_state_entries.specs.Kept.{Kept, AreKept, Keeps as KeepsIn, entry_at, entries_at}
 use Rattle.ice_state_entries.specs.declared.entries.EntryNumber.{EntryNumber}
-use Rattle.ice_state.specs.declared.ordered.Ordered.{Ordered}
-use Rattle.ice_state.specs.declared.taken.Taken.{Taken}
-use Rattle.ice_state.specs.declared.taken.Taken.TheVariants as taken
+use Rattle.ice_state.specs.declared.kept.ordered.Ordered.{Ordered}
+use Rattle.ice_state.specs.declared.kept.taken.Taken.{Taken}
+use Rattle.ice_state.specs.declared.kept.taken.Taken.TheVariants as taken
 use Rattle.ice_state.specs.Contents.{is_row_taken}
 use Rattle.ice_state.specs.Orders.{AreOrdered, IsOrder}
 use Rattle.ice_state.specs.Outcomes.{by_path, twice}

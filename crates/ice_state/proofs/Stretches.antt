@@ -5,7 +5,7 @@ use Rattle.std.proofs.lemmas.List.{get_or-map}
 use Rattle.ice_manifest_reading.specs.declared.entry.Entry.{Entry}
 use Rattle.ice_state_entries.specs.Alike.{AreAlike}
 use Rattle.ice_state_entries.specs.Kept.{no_entry}
-use Rattle.ice_state.specs.declared.segments.FileNumber.{FileNumber}
+use Rattle.ice_state.specs.declared.kept.segments.FileNumber.{FileNumber}
 use Rattle.ice_state.specs.Segments.{AreKept, IsKept, Segmented, entry_at, entries_at}
 use Rattle.ice_state.specs.SharedPlaces.{AreBeside}
 use Rattle.ice_state.specs.Stretches.{AreLikeFirst, IsStretch}

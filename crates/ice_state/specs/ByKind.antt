@@ -2,8 +2,8 @@
 use Rattle.std.specs.Prelude.{◌≡◌, ◌++◌, List, [], filter}
 use Rattle.ice_manifest_reading.specs.declared.entry.Entry.{Entry}
 use Rattle.ice_value.specs.declared.file_content.FileContent.TheVariants.{Data}
-use Rattle.ice_state.specs.declared.by_kind.FilesByKind.{FilesByKind}
-use Rattle.ice_state.specs.declared.segments.FileNumber.{FileNumber}
+use Rattle.ice_state.specs.declared.finish.by_kind.FilesByKind.{FilesByKind}
+use Rattle.ice_state.specs.declared.kept.segments.FileNumber.{FileNumber}
 use Rattle.ice_state.specs.Outcomes.{by_path, twice}
 use Rattle.ice_state.specs.Parts.{holds_deletes}
 use Rattle.ice_state.specs.Pruning.{holds}

@@ -2,7 +2,7 @@
 use Rattle.std.specs.Prelude.{◌≡◌, ℕ, ◌<◌, zero, suc, List, [], ◌∷◌, length}
 use Rattle.std.specs.List.{flat_map, AllByRecursion}
 use Rattle.ice_manifest_reading.specs.declared.entry.Entry.{Entry}
-use Rattle.ice_state.specs.declared.lines.Files.{Files}
+use Rattle.ice_state.specs.declared.plan.lines.Files.{Files}
 use Rattle.ice_state.specs.PlaceLists.{LinePlaces}
 use Rattle.ice_state.specs.declared.plan.NumberedPlan.{NumberedPlan}
 use Rattle.ice_state.specs.Segments.{Segmented, AreKept, entries_at as kept_at}

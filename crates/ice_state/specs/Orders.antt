@@ -4,7 +4,7 @@ use Rattle.std.specs.List.{flat_map, range_with_len}
 use Rattle.std.specs.List.Sorted.{IsPermutation}
 use Rattle.ice_manifest_reading.specs.declared.entry.Entry.{Entry}
 use Rattle.ice_state_entries.specs.Kept.{Kept, AreKept, entries_at as kept_at}
-use Rattle.ice_state.specs.declared.ordered.Ordered.{Ordered}
+use Rattle.ice_state.specs.declared.kept.ordered.Ordered.{Ordered}
 use Rattle.ice_state.specs.Contents.{Content}
 use Rattle.ice_state.specs.Lines.{entries_at, AreWithin}
 use Rattle.ice_state.specs.Outcomes.{by_path, entries_in, twice}

@@ -3,7 +3,7 @@ use Rattle.std.specs.Prelude.{◌≡◌, ℕ, ◌<◌, ◌≤◌, List, [], ◌�
 use Rattle.std.specs.List.{slice_range}
 use Rattle.std.specs.List.Sorted.{IsPermutation, IsSorted}
 use Rattle.std.specs.Ordering.{nat_cmp}
-use Rattle.ice_state.specs.declared.places.Ends.{Ends}
+use Rattle.ice_state.specs.declared.plan.places.Ends.{Ends}
 
 -- the places, among the delete files of a plan, of those that apply to a data file
 pub record LinePlaces : Type 0 where

@@ -3,7 +3,7 @@ use Rattle.std.specs.Prelude.{◌≡◌, ℕ, suc, ◌<◌, ◌-◌, true, List,
 use Rattle.std.specs.Cmp.Lexicographic.{slice_cmp}
 use Rattle.std.specs.Ordering.{nat_cmp, is_lt}
 use Rattle.ice_manifest_reading.specs.declared.entry.Entry.{Entry}
-use Rattle.ice_state.specs.declared.row_runs.Run.{Run}
+use Rattle.ice_state.specs.declared.kept.row_runs.Run.{Run}
 use Rattle.ice_state.specs.Apart.{path_at}
 
 -- each path stands before the next one

@@ -3,7 +3,7 @@ use Rattle.std.specs.Prelude.{◌≡◌, ℕ, ◌<◌, ◌++◌, ◌^◌, List, 
 use Rattle.std.specs.List.{AllByRecursion}
 use Rattle.ice_manifest_reading.specs.declared.entry.Entry.{Entry}
 use Rattle.ice_state_entries.specs.Kept.{Kept, nothing_kept, IsKept as IsKeptIn, entry_at as entry_in, Keeps as KeepsIn}
-use Rattle.ice_state.specs.declared.segments.FileNumber.{FileNumber}
+use Rattle.ice_state.specs.declared.kept.segments.FileNumber.{FileNumber}
 
 -- what each segment keeps
 abbrev pub Segmented : Type 0

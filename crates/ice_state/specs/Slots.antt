@@ -2,9 +2,9 @@
 use Rattle.std.specs.Prelude.{◌<◌, List, length, map, Option, option_map, IfSome}
 use Rattle.std.specs.List.{AllByRecursion}
 use Rattle.ice_state_entries.specs.Kept.{entries_at}
-use Rattle.ice_state.specs.declared.ordered.Ordered.{Ordered}
-use Rattle.ice_state.specs.declared.taken.Taken.{Taken}
-use Rattle.ice_state.specs.declared.taken.Taken.TheVariants as taken
+use Rattle.ice_state.specs.declared.kept.ordered.Ordered.{Ordered}
+use Rattle.ice_state.specs.declared.kept.taken.Taken.{Taken}
+use Rattle.ice_state.specs.declared.kept.taken.Taken.TheVariants as taken
 use Rattle.ice_state.specs.Contents.{Content}
 use Rattle.ice_state.specs.Orders.{AreOrdered}
 use Rattle.ice_state.specs.Readings.{Reading, Good, Bad}

@@ -3,7 +3,7 @@ use Rattle.std.specs.Prelude.{ℕ, ◌<◌, ◌≤◌, List, length, slice_index
 use Rattle.ice_manifest_reading.specs.declared.entry.Entry.{Entry}
 use Rattle.ice_state_entries.specs.Alike.{AreAlike}
 use Rattle.ice_state_entries.specs.Kept.{no_entry}
-use Rattle.ice_state.specs.declared.segments.FileNumber.{FileNumber}
+use Rattle.ice_state.specs.declared.kept.segments.FileNumber.{FileNumber}
 use Rattle.ice_state.specs.Segments.{Segmented, entries_at}
 
 -- the entries from one place to another are like the first of them

@@ -19,14 +19,16 @@ ghost use Rattle.ice_state.specs.Snapshots.{plan_of_snapshot};
 
 use crate::fault::FinishFault;
 use crate::finish::plan_or_fault;
-use crate::indexed::{IndexedDeletes, absorbed_deletes, with_absorbed, with_gained, with_taken};
+use crate::kept::indexed::{
+    IndexedDeletes, absorbed_deletes, with_absorbed, with_gained, with_taken,
+};
+use crate::kept::merging::{gained, has_taken_all_of};
+use crate::kept::segments::Segments;
+use crate::kept::slots::{put_all, put_behind, put_row};
+use crate::kept::taken::{Taken, TakenTold, take_manifest};
 use crate::laws::filtering;
-use crate::merging::{gained, has_taken_all_of};
 use crate::plan::{OwnedPlan, Plan};
 use crate::scan::Scan;
-use crate::segments::Segments;
-use crate::slots::{put_all, put_behind, put_row};
-use crate::taken::{Taken, TakenTold, take_manifest};
 use ice_manifest_reading::{ManifestFault, Silent, Tell, read_told};
 use std::alloc::{AllocError, Global};
 use std::marker::Model;

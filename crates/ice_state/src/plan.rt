@@ -3,9 +3,15 @@
 ghost use Rattle.std.specs.Prelude.{◌≡◌};
 ghost use Rattle.ice_state.specs.Lines.{lines_of, IsPlanned};
 
-use crate::lines::{Files, Lines};
-use crate::segments::{FileNumber, Segments};
-use crate::shared_places::SharedPlaces;
+pub mod keep;
+pub mod lines;
+pub mod placed_files;
+pub mod places;
+pub mod shared_places;
+
+use crate::kept::segments::{FileNumber, Segments};
+use crate::plan::lines::{Files, Lines};
+use crate::plan::shared_places::SharedPlaces;
 use std::marker::Model;
 
 /// A plan by the numbers of its entries: the data files, the delete files, and which of these apply to each of those.

@@ -6,8 +6,10 @@ ghost use Rattle.ice_state.specs.Parts.{spec_at, NamesFirst};
 ghost use Rattle.ice_state.specs.Pruning.{pruner_of};
 ghost use Rattle.ice_state.specs.Scans.{by_row_path, without_spec, wanted_rows};
 
+pub mod pruning;
+
 use crate::fault::ScanFault;
-use crate::pruning::{Pruning, SpecFilter};
+use crate::scan::pruning::{Pruning, SpecFilter};
 use ice_filter::Bound;
 use ice_manifest_reading::Row;
 use ice_meta::Spec;

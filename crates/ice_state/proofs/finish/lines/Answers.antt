@@ -4,7 +4,7 @@ use Rattle.std.proofs.lemmas.Grind.{common_steps}
 use Rattle.std.proofs.lemmas.List.{length-map}
 use Rattle.ice_deletes.specs.Unions.{renumbered}
 use Rattle.ice_state.specs.Applying.{data_key_of, delete_key_of}
-use Rattle.ice_state.specs.declared.segments.FileNumber.{FileNumber}
+use Rattle.ice_state.specs.declared.kept.segments.FileNumber.{FileNumber}
 use Rattle.ice_state.specs.Outcomes.{by_path}
 use Rattle.ice_state.specs.Parts.{places_of}
 use Rattle.ice_state.specs.PlaceLists.{AreRanks, LinePlaces, no_places}

@@ -1,7 +1,7 @@
 use Rattle.std.proofs.Common.{◌≡◌, ◌≤◌, ◌∙◌, List, ℕ, ap, filter, map, subst, sym}
 use Rattle.std.specs.List.{enumerate_from}
 use Rattle.ice_manifest_reading.specs.declared.entry.Entry.{Entry}
-use Rattle.ice_state.specs.declared.segments.FileNumber.{FileNumber}
+use Rattle.ice_state.specs.declared.kept.segments.FileNumber.{FileNumber}
 use Rattle.ice_state.specs.Applying.{data_key_of, delete_key_of}
 use Rattle.ice_state.specs.Orders.{IsOrder}
 use Rattle.ice_state.specs.Outcomes.{by_path}

@@ -1,7 +1,7 @@
 use Rattle.std.proofs.Common.{◌≡◌, ◌∙◌, ap, subst, sym, List, Result, Ok, Err, OnOk}
 use Rattle.ice_manifest_reading.specs.declared.entry.Entry.{Entry}
-use Rattle.ice_state.specs.declared.by_kind.FilesByKind.{FilesByKind}
-use Rattle.ice_state.specs.declared.segments.FileNumber.{FileNumber}
+use Rattle.ice_state.specs.declared.finish.by_kind.FilesByKind.{FilesByKind}
+use Rattle.ice_state.specs.declared.kept.segments.FileNumber.{FileNumber}
 use Rattle.ice_state.specs.Apart.{ShareNoPath}
 use Rattle.ice_state.specs.ByKind.{HasFilesOf}
 use Rattle.ice_state.specs.Outcomes.{by_path}

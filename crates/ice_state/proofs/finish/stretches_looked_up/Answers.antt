@@ -3,7 +3,7 @@ use Rattle.std.proofs.lemmas.List.{take_all}
 use Rattle.ice_value.specs.Applying.{DeleteKey}
 use Rattle.ice_manifest_reading.specs.Lending.{lent}
 use Rattle.ice_deletes.specs.Unions.{renumbered}
-use Rattle.ice_state.specs.declared.segments.FileNumber.{FileNumber}
+use Rattle.ice_state.specs.declared.kept.segments.FileNumber.{FileNumber}
 use Rattle.ice_state.specs.Applying.{data_key_of}
 use Rattle.ice_state.specs.Parts.{places_of}
 use Rattle.ice_state.specs.Segments.{entries_at}

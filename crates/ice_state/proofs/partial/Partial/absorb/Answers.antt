@@ -7,8 +7,8 @@ use Rattle.ice_state.proofs.SegmentLists.{keeps_firsts}
 use Rattle.ice_state.proofs.Gains.{join-in_world, length-join, join-known}
 use Rattle.ice_state.proofs.SlotContents.{contents-kept, length-contents}
 use Rattle.std.specs.List.Sorted.{IsPermutation}
-use Rattle.ice_state.specs.declared.indexed.IndexedDeletes.{IndexedDeletes}
-use Rattle.ice_state.specs.declared.taken.Taken.{Taken}
+use Rattle.ice_state.specs.declared.kept.indexed.IndexedDeletes.{IndexedDeletes}
+use Rattle.ice_state.specs.declared.kept.taken.Taken.{Taken}
 use Rattle.ice_state.specs.KeptDeletes.{HasPlaces, IsIndexOf, IsState}
 use Rattle.ice_state.specs.Outcomes.{kept_in}
 use Rattle.ice_state.specs.Parts.{gains}

@@ -1,6 +1,6 @@
 use Rattle.std.proofs.Common.{◌≡◌, ◌∙◌, [], ap, arith, filter, length, replicate, subst, sym, IfSome, List, None, Option}
-use Rattle.ice_state.specs.declared.indexed.IndexedDeletes.{IndexedDeletes}
-use Rattle.ice_state.specs.declared.taken.Taken.{Taken}
+use Rattle.ice_state.specs.declared.kept.indexed.IndexedDeletes.{IndexedDeletes}
+use Rattle.ice_state.specs.declared.kept.taken.Taken.{Taken}
 use Rattle.ice_state.specs.KeptDeletes.{IsIndexOf}
 use Rattle.ice_state.specs.Outcomes.{kept_in}
 use Rattle.ice_state.specs.Parts.{holds_deletes}

@@ -1,7 +1,7 @@
 use Rattle.std.proofs.Common.{◌∙◌, List, Option, ap, sym}
 use Rattle.std.proofs.lemmas.Result.{err_from_is_err_and}
 use Rattle.ice_manifest_reading.specs.declared.row.Row.{Row}
-use Rattle.ice_state.specs.declared.taken.Taken.{Taken}
+use Rattle.ice_state.specs.declared.kept.taken.Taken.{Taken}
 use Rattle.ice_state.specs.Outcomes.{outcome_of}
 use Rattle.ice_state.specs.Slots.{contents}
 use Rattle.ice_state.proofs.Snapshots.{of_snapshot}

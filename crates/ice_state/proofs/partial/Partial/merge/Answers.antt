@@ -8,8 +8,8 @@ use Rattle.ice_state.proofs.Gains.{join-gains, join-in_world, length-gains, leng
 use Rattle.ice_state.proofs.SlotContents.{contents-kept, length-contents}
 use Rattle.ice_state.proofs.DeletesKept.{entries_joined, if_moved, if_places, state_kept}
 use Rattle.std.specs.List.Sorted.{IsPermutation}
-use Rattle.ice_state.specs.declared.indexed.IndexedDeletes.{IndexedDeletes}
-use Rattle.ice_state.specs.declared.taken.Taken.{Taken}
+use Rattle.ice_state.specs.declared.kept.indexed.IndexedDeletes.{IndexedDeletes}
+use Rattle.ice_state.specs.declared.kept.taken.Taken.{Taken}
 use Rattle.ice_state.specs.KeptDeletes.{HasPlaces, IsIndexOf}
 use Rattle.ice_state.specs.Outcomes.{kept_in}
 use Rattle.ice_state.proofs.partial.Partial.merge.Goals as goal

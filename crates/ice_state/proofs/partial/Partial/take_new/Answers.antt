@@ -9,7 +9,7 @@ use Rattle.ice_state.proofs.Contents.{with_row-took}
 use Rattle.ice_state.proofs.SlotContents.{contents-kept, length-contents}
 use Rattle.ice_state.proofs.DeletesKept.{entries_with_row, if_moved, if_places, state_kept}
 use Rattle.std.specs.List.Sorted.{IsPermutation}
-use Rattle.ice_state.specs.declared.indexed.IndexedDeletes.{IndexedDeletes}
+use Rattle.ice_state.specs.declared.kept.indexed.IndexedDeletes.{IndexedDeletes}
 use Rattle.ice_state.specs.KeptDeletes.{IsIndexOf}
 use Rattle.ice_state.specs.Outcomes.{entries_in, kept_in}
 use Rattle.ice_manifest_reading.specs.Telling.{told_of}

@@ -1,0 +1,160 @@
+//! Whether files share no path with others.
+
+ghost use Rattle.std.specs.Prelude.{◌≡◌, ◌<◌, ◌≤◌, IfSome, IsTrue, length};
+ghost use Rattle.ice_state.specs.Apart.{IsBehind, IsGap, IsInFront, IsRun, path_at, ShareNoPath};
+ghost use Rattle.ice_state.specs.Outcomes.{by_path};
+ghost use Rattle.ice_state.specs.Segments.{AreKept, entries_at};
+
+use crate::kept::segments::{FileNumber, Segments};
+
+/// Whether files in order share no path with others. Found from the fewer of them by steps that double, since their
+/// paths often stand together between two of the others.
+pub fn are_apart(entries: &Segments, files: &[FileNumber], others: &[FileNumber]) -> bool
+    requires files { AreKept entries.now files.now }
+    requires others { AreKept entries.now others.now }
+    requires sorted { by_path (entries_at entries.now files.now) ≡ entries_at entries.now files.now }
+    requires sorted_others { by_path (entries_at entries.now others.now) ≡ entries_at entries.now others.now }
+    ensures { IsTrue result → ShareNoPath (entries_at entries.now files.now) (entries_at entries.now others.now) }
+{
+    if files.len() < others.len() {
+        return are_in_gaps(entries, others, files);
+    }
+    are_in_gaps(entries, files, others)
+}
+
+/// Whether none of some paths is one of those of the files, gap by gap.
+fn are_in_gaps(entries: &Segments, files: &[FileNumber], some: &[FileNumber]) -> bool
+    requires files { AreKept entries.now files.now }
+    requires some { AreKept entries.now some.now }
+    requires sorted { by_path (entries_at entries.now files.now) ≡ entries_at entries.now files.now }
+    requires sorted_some { by_path (entries_at entries.now some.now) ≡ entries_at entries.now some.now }
+    ensures { IsTrue result → ShareNoPath (entries_at entries.now files.now) (entries_at entries.now some.now) }
+{
+    let mut first = 0;
+    let mut near = 0;
+    'some: while first < some.len() {
+        let Some(gap) = gap_of(entries, files, entries.path(some[first]), near) else {
+            return false;
+        };
+        first = end_in_gap(entries, files, some, first, gap);
+        near = gap;
+    }
+    true
+}
+
+/// The place of the first file behind a path that none has: the one where it is looked for first, or else one that is
+/// found by steps that double.
+fn gap_of(entries: &Segments, files: &[FileNumber], path: &[u8], near: usize) -> Option<usize>
+    requires files { AreKept entries.now files.now }
+    requires near { near ≤ length files.now }
+    ensures { IfSome result (IsGap (entries_at entries.now files.now) path.now) }
+{
+    if is_gap(entries, files, path, near) {
+        return Some(near);
+    }
+    let end = end_of_steps(entries, files, path, near);
+    let place = bisected(entries, files, path, near, end);
+    if is_gap(entries, files, path, place) {
+        return Some(place);
+    }
+    None
+}
+
+/// Where those of some paths end, from one on that stands in a gap, that stand there too: as far as steps that double
+/// tell.
+fn end_in_gap(
+    entries: &Segments,
+    files: &[FileNumber],
+    some: &[FileNumber],
+    first: usize,
+    gap: usize,
+) -> usize
+    requires files { AreKept entries.now files.now }
+    requires some { AreKept entries.now some.now }
+    requires first { first < length some.now }
+    requires gap { IsGap (entries_at entries.now files.now) (path_at (entries_at entries.now some.now) first) gap }
+    ensures { IsRun (entries_at entries.now files.now) (entries_at entries.now some.now) first gap result }
+{
+    let mut end = first + 1;
+    let mut step = 1;
+    'steps: while step <= some.len() - end
+        && is_in_front(entries, files, entries.path(some[end + step - 1]), gap)
+    {
+        end += step;
+        step = step.saturating_mul(2);
+    }
+    end
+}
+
+/// Whether a path stands between the file before a place and the one there.
+fn is_gap(entries: &Segments, files: &[FileNumber], path: &[u8], place: usize) -> bool
+    requires files { AreKept entries.now files.now }
+    requires place { place ≤ length files.now }
+    ensures { IsTrue result → IsGap (entries_at entries.now files.now) path.now place }
+{
+    is_behind(entries, files, path, place) && is_in_front(entries, files, path, place)
+}
+
+/// Whether a path stands behind the file before a place, if there is one.
+fn is_behind(entries: &Segments, files: &[FileNumber], path: &[u8], place: usize) -> bool
+    requires files { AreKept entries.now files.now }
+    requires place { place ≤ length files.now }
+    ensures { IsTrue result → IsBehind (entries_at entries.now files.now) path.now place }
+{
+    if place == 0 {
+        return true;
+    }
+    entries.path(files[place - 1]).cmp(path).is_lt()
+}
+
+/// Whether a path stands in front of the file at a place, if there is one.
+fn is_in_front(entries: &Segments, files: &[FileNumber], path: &[u8], place: usize) -> bool
+    requires files { AreKept entries.now files.now }
+    requires place { place ≤ length files.now }
+    ensures { IsTrue result → IsInFront (entries_at entries.now files.now) path.now place }
+{
+    if place == files.len() {
+        return true;
+    }
+    path.cmp(entries.path(files[place])).is_lt()
+}
+
+/// A place behind the one where a path is to be found, by steps that double.
+fn end_of_steps(entries: &Segments, files: &[FileNumber], path: &[u8], near: usize) -> usize
+    requires files { AreKept entries.now files.now }
+    requires near { near ≤ length files.now }
+    ensures { (near ≤ result) × (result ≤ length files.now) }
+{
+    let most = files.len() - near;
+    let mut step = 1;
+    'steps: while step < most && entries.path(files[near + step]).cmp(path).is_lt() {
+        step = step.saturating_mul(2);
+    }
+    near + step.min(most)
+}
+
+/// The place from one to another where a path is to be found.
+fn bisected(
+    entries: &Segments,
+    files: &[FileNumber],
+    path: &[u8],
+    first: usize,
+    end: usize,
+) -> usize
+    requires files { AreKept entries.now files.now }
+    requires first { first ≤ end }
+    requires end { end ≤ length files.now }
+    ensures { result ≤ length files.now }
+{
+    let mut low = first;
+    let mut high = end;
+    'places: while low < high {
+        let middle = low + (high - low) / 2;
+        if entries.path(files[middle]).cmp(path).is_lt() {
+            low = middle + 1;
+        } else {
+            high = middle;
+        }
+    }
+    low
+}

@@ -1,0 +1,11 @@
+//! What a state keeps of the manifests that it took: files by numbers, row by row, and the index of delete files.
+
+pub mod gathering;
+pub mod indexed;
+pub mod merging;
+pub mod ordered;
+pub mod row_runs;
+pub mod segments;
+pub mod slots;
+pub mod sorting;
+pub mod taken;

@@ -1,0 +1,79 @@
+//! What a manifest gave.
+
+ghost use Rattle.std.specs.Prelude.{◌≡◌, IfOk};
+ghost use Rattle.ice_manifest_fields.specs.Seen.{result_map};
+ghost use Rattle.ice_manifest_reading.specs.Manifests.{live_of};
+ghost use Rattle.ice_manifest_reading.specs.Telling.{told_of};
+ghost use Rattle.ice_state.specs.Parts.{reading_by};
+ghost use Rattle.ice_state.specs.Refusals.{RanOut};
+ghost use Rattle.ice_state.specs.Segments.{Keeps};
+ghost use Rattle.ice_state.specs.Slots.{given, HasNumbers};
+
+use crate::kept::gathering::Gathering;
+use crate::kept::ordered::Ordered;
+use crate::kept::segments::Segments;
+use crate::scan::pruning::SpecFilter;
+use ice_manifest_reading::{ManifestFault, Row, Tell, read_into_told};
+use std::alloc::{AllocError, Global};
+use std::mem;
+
+/// Few entries take fewer bytes in a manifest: so there is room for most before they are read.
+const ENTRY_BYTES: usize = 32;
+
+/// What a manifest gave: its kept entries, or why it can't be read.
+#[derive(Debug, Drop)]
+pub enum Taken {
+    Good(Ordered),
+    Bad(ManifestFault),
+}
+
+/// What a manifest gave, and what is told of its live entries, kept or not; or why it can't be read.
+#[derive(Drop)]
+pub struct TakenTold<T> {
+    pub taken: Taken,
+    pub told: Result<Vec<T>, ManifestFault>,
+}
+
+/// What a row's manifest with these bytes gives, read by the filter through its spec, and what is told of its live
+/// entries. Its kept entries are put to the last segment as they are read.
+pub fn take_manifest<T: Tell>(
+    alloc: Global,
+    entries: &mut Segments,
+    row: &Row,
+    filter: &SpecFilter<'_>,
+    tell: &T,
+    bytes: &[u8],
+) -> Result<TakenTold<T::Told>, AllocError>
+    ensures keeps { Keeps entries.old entries.new }
+    ensures numbers { IfOk result (λ both. HasNumbers entries.new both.taken) }
+    ensures given { IfOk result (λ both. given entries.new both.taken ≡ reading_by filter.now row.now bytes.now) }
+    ensures told { IfOk result (λ both. result_map (λ told. told.items) both.told
+        ≡ told_of (T.told tell.now) (live_of row.now filter.now.spec bytes.now)) }
+    ensures memory { IfOk result (λ both. RanOut both.told → ⊥) }
+{
+    let segment = entries.begin(alloc, bytes.len() / ENTRY_BYTES)?;
+    let segments = mem::replace(entries, Segments::new(alloc));
+    let mut gathering = Gathering::new(alloc, segments, segment);
+    let told = read_into_told(
+        alloc,
+        row,
+        filter.spec(),
+        filter,
+        tell,
+        bytes,
+        &mut gathering,
+    );
+    let (segments, numbers) = gathering.into_parts();
+    *entries = segments;
+    match told {
+        Ok(told) => Ok(TakenTold {
+            taken: Taken::Good(Ordered::new(alloc, entries.segment(segment), segment, numbers)?),
+            told: Ok(told),
+        }),
+        Err(ManifestFault::Memory) => Err(AllocError),
+        Err(fault) => Ok(TakenTold {
+            taken: Taken::Bad(fault.copy(alloc)?),
+            told: Err(fault),
+        }),
+    }
+}
