@@ -10,12 +10,11 @@ ghost use Rattle.ice_state.specs.Contents.{World};
 ghost use Rattle.icescan_text.specs.Reads.{MayEnd};
 
 use crate::manifests::{audit_bytes, spec_for};
-use crate::reading::read_file_into;
 use contract_words::Items;
 use ice_desk::Files;
 use ice_manifest_reading::Row;
 use icescan_audit_findings::{Basis, Finding, LiveFile, push_delete_findings, push_repeats};
-use icescan_text::RunFault;
+use icescan_text::{RunFault, read_file_into};
 use std::alloc::{AllocError, Global};
 
 /// What was found of a snapshot.

@@ -6,7 +6,6 @@ mod by_workers;
 mod laws;
 mod lines;
 mod manifests;
-mod reading;
 mod running;
 mod subject;
 

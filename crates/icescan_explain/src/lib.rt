@@ -12,7 +12,6 @@ mod laws;
 mod lines;
 mod lone;
 mod manifests;
-mod reading;
 mod running;
 mod tests;
 mod verdict;

@@ -19,7 +19,6 @@ ghost use Rattle.icescan_explain.specs.RowsTold.{row_told, rows_told};
 ghost use Rattle.icescan_explain.specs.Told.{paths_kept, paths_of_data, paths_planned};
 
 use crate::files::FileTests;
-use crate::reading::read_file_into;
 use crate::tests::{FilterTests, SpecTests, row_verdict};
 use crate::verdict::Verdict;
 use contract_words::Items;
@@ -28,7 +27,7 @@ use ice_filter::Bound;
 use ice_manifest_reading::{ManifestFault, Row};
 use ice_meta::Spec;
 use ice_state::{OwnedPlan, Partial, Scan};
-use icescan_text::RunFault;
+use icescan_text::{RunFault, read_file_into};
 use std::alloc::{AllocError, Global};
 
 /// A plan, and what became of each manifest and live file.

@@ -1,6 +1,6 @@
 //! Files that have to be there, and the rows of manifest lists.
 
-ghost use Rattle.std.specs.Prelude.{◌≡◌, ◌≤◌, ℕ, List, ◌∷◌, [], length, Some, None, Ok, IfOk, IfErr, IsErrOf};
+ghost use Rattle.std.specs.Prelude.{◌≡◌, ◌≤◌, ℕ, List, ◌∷◌, [], length, Some, None, Ok, IfOk, IfErr, IsErrOf, OnOk};
 ghost use Rattle.ice_desk.specs.Worlds.{EndsAt, HasAt};
 ghost use Rattle.ice_state.specs.Contents.{World};
 ghost use Rattle.icescan_text.specs.Reads.{IsOfFile, MayEnd, file_in, rows_at};
@@ -32,6 +32,30 @@ pub fn read_file<F: Files>(alloc: Global, files: &F, path: &str) -> Result<Vec<u
 {
     match files.read(alloc, path) {
         Ok(bytes) => Ok(bytes),
+        Err(ReadFault::Absent) => Err(RunFault::Absent(text_of(alloc, path)?)),
+        Err(ReadFault::Device) => Err(RunFault::Device(text_of(alloc, path)?)),
+        Err(ReadFault::Memory) => Err(RunFault::Memory),
+    }
+}
+
+/// Puts the bytes of the file at a path in place of those that `bytes` has: `Absent` where there is none, `Device`
+/// where reading it failed.
+pub fn read_file_into<F: Files>(
+    alloc: Global,
+    files: &F,
+    path: &str,
+    bytes: &mut Vec<u8>,
+) -> Result<(), RunFault>
+    ensures found { (world : World) → F.world files.now ≡ Some world →
+        OnOk result (file_in world path.now ≡ Ok bytes.new.items) }
+    ensures refused { (world : World) → F.world files.now ≡ Some world →
+        IfErr result (MayEnd (file_in world path.now) (EndsAt world (F.may_fail files.now) (path.now ∷ [])) ⊥) }
+    ensures absent { (path : List ℕ) → IsErrOf result (RunFault.Absent path) → HasAt (F.world files.now) path None }
+    ensures device { (path : List ℕ) → IsErrOf result (RunFault.Device path) → F.may_fail files.now path }
+    ensures write { IsErrOf result RunFault.Write → ⊥ }
+{
+    match files.read_into(alloc, path, bytes) {
+        Ok(()) => Ok(()),
         Err(ReadFault::Absent) => Err(RunFault::Absent(text_of(alloc, path)?)),
         Err(ReadFault::Device) => Err(RunFault::Device(text_of(alloc, path)?)),
         Err(ReadFault::Memory) => Err(RunFault::Memory),

@@ -1,5 +1,5 @@
 use Rattle.icescan_text.proofs.Steps.{absent_in, fails_here, found_in}
-use Rattle.icescan_audit.proofs.reading.read_file_into.Goals as goal
+use Rattle.icescan_text.proofs.reading.read_file_into.Goals as goal
 
 pub returns-in-Ok-clause-found : goal.returns-in-Ok-clause-found
 returns-in-Ok-clause-found g c = λ world told. found_in world _ _ (rw told at c.in-Ok.ensures.found)
