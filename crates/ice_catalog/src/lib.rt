@@ -4,14 +4,13 @@
 #![tactic(auto)]
 
 mod event;
-mod ice_catalog_laws;
 mod machine;
+mod machine_laws;
 mod pinning;
 mod scanning;
 
 pub use event::{Event, Reply};
 pub use ice_catalog_book::{Book, Catalog, Conflict, Seat};
-pub use ice_catalog_laws::{pinned_plans, pinned_plans_of_commits, pins_stand_apart};
 pub use ice_catalog_versions::{
     Change, Commit, Ids, NewFile, Opening, PrepareFault, Prepared, Receipt, Version, World,
     a_commit_is_one_step, a_new_uuid_makes_new_names, commits_leave_what_was_there, prepare,
@@ -19,3 +18,4 @@ pub use ice_catalog_versions::{
     what_is_live_after_a_commit,
 };
 pub use machine::run_events;
+pub use machine_laws::{pinned_plans, pinned_plans_of_commits, pins_stand_apart};

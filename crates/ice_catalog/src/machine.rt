@@ -10,7 +10,7 @@ ghost use Rattle.ice_catalog.specs.Machines.{machine_after, replies_to, started}
 ghost use Rattle.ice_catalog.specs.declared.event.Event.{Event};
 
 use crate::event::{Event, Reply};
-use crate::ice_catalog_laws::pinned_plans_of_commits;
+use crate::machine_laws::pinned_plans_of_commits;
 use crate::scanning::Scanning;
 use ice_catalog_book::Book;
 use ice_catalog_versions::{Change, Ids, PrepareFault, Version, prepare};

@@ -1,7 +1,6 @@
 -- The fields that are read of a manifest list's rows, and the objects in which they were found. Apache Iceberg table spec
 -- v2, "Manifest Lists".
-use Rattle.std.specs.Prelude.{◌≡◌, ◌<◌, ℕ, ℤ, pos, List, [], ◌∷◌, ◌++◌, length, map, Result, Ok, Err, Vec}
-use Rattle.std.specs.Global.{Global}
+use Rattle.std.specs.Prelude.{◌≡◌, ◌<◌, ℕ, ℤ, pos, List, [], ◌∷◌, ◌++◌, length, map, Result, Ok, Err}
 use Rattle.avro_schema.specs.View.{tree}
 use Rattle.avro_file_parts.specs.declared.refusal.Refusal.{Refusal}
 use Rattle.avro_file.specs.Value.{Value, nothing}
@@ -49,9 +48,6 @@ summary_ids = pos 509 ∷ pos 518 ∷ pos 510 ∷ pos 511 ∷ []
 
 abbrev pub row_ways : List (List ℤ)
 row_ways = to_fields row_fields ++ summary_ids ∷ []
-
-abbrev pub ids_in : List (Vec ℤ Global) → List (List ℤ)
-ids_in ways = map (λ way. way.items) ways
 
 -- the way to the field stands at this place among all
 abbrev pub IsNumberOf : RowField → ℕ → Type 0

@@ -1,7 +1,6 @@
 -- The ways of field ids to what is read of an entry. Apache Iceberg table spec v2, "Manifests" (manifest_entry and
 -- data_file; the fields of the partition struct have the ids of the spec's partition fields).
-use Rattle.std.specs.Prelude.{◌≡◌, ◌<◌, ℕ, ℤ, pos, List, [], ◌∷◌, ◌++◌, length, map, Vec}
-use Rattle.std.specs.Global.{Global}
+use Rattle.std.specs.Prelude.{◌≡◌, ◌<◌, ℕ, ℤ, pos, List, [], ◌∷◌, ◌++◌, length, map}
 use Rattle.avro_file_picked.specs.Placing.{nth_way}
 use Rattle.ice_meta.specs.declared.spec.PartitionField.{PartitionField}
 use Rattle.ice_manifest_layouts.specs.declared.entry_field.EntryField.{EntryField}
@@ -64,9 +63,6 @@ pair_ids = pos 119 ∷ pos 120 ∷ pos 121 ∷ pos 122 ∷ pos 126 ∷ pos 127 �
 -- all that is read of an entry where the spec has these partition fields
 abbrev pub wanted_ways : List PartitionField → List (List ℤ)
 wanted_ways ps = to_entries entry_fields ++ (to_files file_fields ++ pair_ids ∷ to_cells ps)
-
-abbrev pub ids_in : List (Vec ℤ Global) → List (List ℤ)
-ids_in ways = map (λ way. way.items) ways
 
 -- the way stands at this place among all
 abbrev pub IsNumberOf : List ℤ → ℕ → List PartitionField → Type 0

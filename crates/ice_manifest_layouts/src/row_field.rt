@@ -5,7 +5,8 @@ ghost use Rattle.std.specs.Result.{IfErr};
 ghost use Rattle.avro_schema.specs.View.{tree};
 ghost use Rattle.avro_file_picked.specs.Finding.{layout_tree, ways_of};
 ghost use Rattle.avro_file_picked.specs.Placing.{IsLayout};
-ghost use Rattle.ice_manifest_layouts.specs.RowsFound.{row_id, to_fields, row_ways, ids_in, IsNumberOf};
+ghost use Rattle.avro_file_picked.specs.Guides.{ids_in};
+ghost use Rattle.ice_manifest_layouts.specs.RowsFound.{row_id, to_fields, row_ways, IsNumberOf};
 ghost use Rattle.ice_manifest_layouts.specs.RowsFound.{row_ways as wanted_ways};
 
 use avro_file::AvroFault;

@@ -5,13 +5,15 @@ ghost use Rattle.std.specs.Result.{IfErr};
 ghost use Rattle.avro_schema.specs.View.{tree};
 ghost use Rattle.avro_file_picked.specs.Finding.{layout_tree, ways_of};
 ghost use Rattle.avro_file_picked.specs.Placing.{IsLayout};
-ghost use Rattle.ice_manifest_layouts.specs.Ways.{ids_in, to_entries, to_files, to_cells, wanted_ways};
+ghost use Rattle.avro_file_picked.specs.Guides.{ids_in};
+ghost use Rattle.ice_manifest_layouts.specs.Ways.{to_entries, to_files, to_cells, wanted_ways};
 
 use crate::entry_field::{EntryField, FileField};
 use avro_file::AvroFault;
 use avro_file_picked::Layout;
 use avro_schema::Schema;
 use ice_manifest_fields::{LOWER_BOUNDS, NULL_COUNTS, UPPER_BOUNDS, VALUE_COUNTS};
+use ice_manifest_values::push_way;
 use ice_meta::PartitionField;
 use std::alloc::{AllocError, Global};
 
@@ -27,13 +29,6 @@ const PAIR_IDS: [i32; 8] = [
     UPPER_BOUNDS.key,
     UPPER_BOUNDS.said,
 ];
-
-fn push_way(alloc: Global, ids: &[i32], ways: &mut Vec<Vec<i32>>) -> Result<(), AllocError>
-    ensures { IfOk result (λ _. ids_in ways.new.items ≡ ids_in ways.old.items ++ ids.now ∷ []) }
-{
-    ways.push(Vec::from_slice(alloc, ids)?)?;
-    Ok(())
-}
 
 fn push_entry_way(
     alloc: Global,

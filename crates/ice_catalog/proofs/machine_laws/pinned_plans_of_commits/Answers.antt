@@ -1,6 +1,6 @@
 use Rattle.ice_catalog_versions.proofs.Covered.{stays_covered}
 use Rattle.ice_catalog.proofs.Truths.{tells_the_truth}
-use Rattle.ice_catalog.proofs.ice_catalog_laws.pinned_plans_of_commits.Goals as goal
+use Rattle.ice_catalog.proofs.machine_laws.pinned_plans_of_commits.Goals as goal
 
 pub returns : goal.returns
 returns c = λ m state filter schema rows parts events w grown began leaves reads took.

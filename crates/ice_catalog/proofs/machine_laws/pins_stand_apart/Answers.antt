@@ -1,7 +1,7 @@
 use Rattle.std.proofs.Common.{length}
 use Rattle.ice_catalog.specs.Machines.{pin, pinned_on}
 use Rattle.ice_catalog.proofs.Apart.{after_apart, get_last, stand_apart}
-use Rattle.ice_catalog.proofs.ice_catalog_laws.pins_stand_apart.Goals as goal
+use Rattle.ice_catalog.proofs.machine_laws.pins_stand_apart.Goals as goal
 
 pub returns : goal.returns
 returns c = record {

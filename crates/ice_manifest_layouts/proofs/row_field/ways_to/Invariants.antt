@@ -1,5 +1,6 @@
 use Rattle.std.proofs.Common.{◌≡◌, ◌++◌, drop}
-use Rattle.ice_manifest_layouts.specs.RowsFound.{ids_in, to_fields}
+use Rattle.avro_file_picked.specs.Guides.{ids_in}
+use Rattle.ice_manifest_layouts.specs.RowsFound.{to_fields}
 use Rattle.ice_manifest_layouts.proofs.row_field.ways_to.Given as goal
 
 abbrev pub invariant-fields : goal.invariant-fields

@@ -1,5 +1,6 @@
 use Rattle.std.proofs.Common.{◌≡◌, ◌++◌, drop}
-use Rattle.ice_manifest_layouts.specs.Ways.{ids_in, to_cells}
+use Rattle.avro_file_picked.specs.Guides.{ids_in}
+use Rattle.ice_manifest_layouts.specs.Ways.{to_cells}
 use Rattle.ice_manifest_layouts.proofs.wanted.push_cell_ways.Given as goal
 
 abbrev pub invariant-partition : goal.invariant-partition
