@@ -8,7 +8,7 @@ ghost use Rattle.ice_meta.specs.Targets.{described};
 
 use ice_catalog_versions::World;
 use ice_filter::{Filter, FilterFault, bind};
-use ice_manifest::{ListFault, Row, read_list};
+use ice_manifest_reading::{ListFault, Row, read_list};
 use ice_meta::{MetaFault, Metadata, Target};
 use ice_state::{Scan, ScanFault};
 use std::alloc::{AllocError, Global};

@@ -18,7 +18,7 @@ use crate::refusals::lesser_path;
 use crate::tuples::partitioning_of;
 use crate::world::World;
 use contract_words::Text;
-use ice_manifest::{Entry, ListFault, ManifestFault, Row, read_list, read_manifest};
+use ice_manifest_reading::{Entry, ListFault, ManifestFault, Row, read_list, read_manifest};
 use ice_meta::{Metadata, Target};
 use std::alloc::Global;
 use std::cmp::Ordering;

@@ -6,7 +6,8 @@ ghost use Rattle.ice_catalog_versions.specs.Groups.{spec_ids, is_of_spec, groups
 ghost use Rattle.ice_catalog_versions.specs.Seen.{all_seen};
 
 use crate::change::Change;
-use ice_manifest::{ManifestContent, NewFile};
+use ice_manifest::NewFile;
+use ice_manifest_reading::ManifestContent;
 use std::alloc::{AllocError, Global};
 
 /// The files of one content and one spec, in the order of their change.

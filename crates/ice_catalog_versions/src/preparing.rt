@@ -31,7 +31,7 @@ use crate::tuples::{check_specs, check_tuples, partitionings};
 use crate::version::Version;
 use crate::world::World;
 use contract_words::{Items, Text};
-use ice_manifest::Row;
+use ice_manifest_reading::Row;
 use ice_meta::{Metadata, Spec, Target};
 use std::alloc::{AllocError, Global};
 use std::sync::Arc;

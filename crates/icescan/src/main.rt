@@ -4,7 +4,8 @@
 
 use contract_words::Text;
 use icescan_commands::{Cleared, Progress, ProgressLine, Terminals, run_program};
-use icescan_text::{Output, RunFault, report};
+use icescan_print::Output;
+use icescan_text::{RunFault, report};
 use std::alloc::Global;
 use std::io::IsTerminal;
 use std::process::ExitCode;

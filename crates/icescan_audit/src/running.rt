@@ -18,7 +18,8 @@ use crate::subject::{Subject, select_subject};
 use ice_desk::{Files, MOST_WORKERS};
 use ice_meta::Target;
 use icescan_audit_findings::count_faults;
-use icescan_text::{RunFault, Sink, read_file, read_rows, write_all};
+use icescan_print::{Sink, write_all};
+use icescan_text::{RunFault, read_file, read_rows};
 use std::alloc::Global;
 use std::thread::Threads;
 

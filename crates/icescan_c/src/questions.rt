@@ -5,7 +5,7 @@ ghost use Rattle.contract_words.specs.Outcome.{Gives};
 ghost use Rattle.icescan_c.specs.Making.{answered, scanned};
 
 use contract_words::{Items, Text};
-use ice_manifest::read_list;
+use ice_manifest_reading::read_list;
 use ice_meta::Target;
 use ice_state::Scan;
 use icescan_requests::{Selection, select};

@@ -4,7 +4,7 @@ ghost use Rattle.std.specs.Prelude.{◌≡◌, ◌++◌, OnOk, IfOk};
 ghost use Rattle.icescan_requests.specs.Commits.{bundle_lines, file_line, in_order};
 
 use contract_words::{Items, Text};
-use icescan_text::put_escaped;
+use icescan_print::put_escaped;
 use std::alloc::{AllocError, Global};
 
 /// Puts the line of a file behind a text.

@@ -10,8 +10,9 @@ ghost use Rattle.ice_state.specs.Contents.{World};
 
 use ice_desk::Files;
 use icescan_json::{plan_file_json, run_list_plan_json};
+use icescan_print::Sink;
 use icescan_requests::{plan_file, run_list_plan};
-use icescan_text::{Request, RunFault, Sink};
+use icescan_text::{Request, RunFault};
 use icescan_words::Format;
 use std::alloc::Global;
 use std::thread::Threads;

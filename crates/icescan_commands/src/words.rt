@@ -19,11 +19,12 @@ use contract_words::Text;
 use ice_meta::Target;
 use icescan_audit::audit_file;
 use icescan_drill::{Watch, run_drill};
+use icescan_print::{Sink, write_all};
 use icescan_progress::{Progress, Silent, Watched};
 use icescan_requests::{
     Bundle, CommitFolder, Folder, commit_to, prepare_commit, read_bundle, show_file,
 };
-use icescan_text::{CommitRequest, Drill, Request, RunFault, Sink, report, write_all};
+use icescan_text::{CommitRequest, Drill, Request, RunFault, report};
 use icescan_words::{Format, Lists, Place, Source, Words, parse_words};
 use std::alloc::Global;
 use std::io::Read;

@@ -15,8 +15,8 @@ use crate::counts::{Counts, counts_of};
 use crate::manifests::Explanation;
 use crate::verdict::{Fate, Subject, Verdict};
 use contract_words::Text;
-use icescan_print::{Page, put_named_number};
-use icescan_text::{RunFault, Sink, SinkFault};
+use icescan_print::{Page, Sink, SinkFault, put_named_number};
+use icescan_text::RunFault;
 use itoa::Integer;
 use std::alloc::{AllocError, Global};
 

@@ -14,8 +14,9 @@ use crate::lines::write_explanation;
 use crate::manifests::{Explanation, explain_rows};
 use crate::tests::FilterTests;
 use ice_desk::{Files, MOST_WORKERS};
+use icescan_print::Sink;
 use icescan_requests::{Selection, select};
-use icescan_text::{Request, RunFault, Sink, read_file, read_rows};
+use icescan_text::{Request, RunFault, read_file, read_rows};
 use std::alloc::Global;
 
 /// The plan that a request asks for, and what became of the snapshot's manifests and live files.

@@ -2,10 +2,9 @@
 
 use contract_words::Text;
 use ice_desk::Files;
-use ice_manifest::Row;
+use ice_manifest_reading::Row;
 use ice_meta::{Metadata, Target};
-use icescan_requests::{Request, read_rows};
-use icescan_text::CommitRequest;
+use icescan_text::{CommitRequest, Request, read_rows};
 use icescan_words::{Lists, Place, Source, Words};
 use std::alloc::Global;
 

@@ -5,7 +5,7 @@ use crate::fields::field_name;
 use crate::hint::{Hint, quoted};
 use contract_words::Text;
 use ice_desk::Files;
-use ice_manifest::{EntryView, Keep, ListFault, Live, ManifestFault, Row, read_kept};
+use ice_manifest_reading::{EntryView, Keep, ListFault, Live, ManifestFault, Row, read_kept};
 use ice_meta::{Metadata, Spec, Target};
 use icescan_words::{Lists, Words};
 use std::alloc::{AllocError, Global};

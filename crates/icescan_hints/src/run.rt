@@ -10,7 +10,7 @@ use crate::plan::{of_finish, of_scan};
 use crate::schema::of_schema;
 use crate::sentence::{MEMORY, Sentence};
 use avro_file::AvroFault;
-use ice_manifest::{ListFault, ManifestFault};
+use ice_manifest_reading::{ListFault, ManifestFault};
 use ice_state::FinishFault;
 use icescan_text::RunFault;
 use std::alloc::{AllocError, Global};

@@ -13,7 +13,8 @@ use crate::showing::put_lines;
 use crate::tables::{add_metadata, add_specs};
 use ice_desk::Files;
 use ice_state::{FinishFault, ScanFault};
-use icescan_text::{RunFault, Sink};
+use icescan_print::Sink;
+use icescan_text::RunFault;
 use icescan_words::{Lists, Words};
 use std::alloc::{AllocError, Global};
 

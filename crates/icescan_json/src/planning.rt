@@ -8,7 +8,7 @@ ghost use Rattle.icescan_text.specs.Reads.{MayEnd};
 
 use ice_desk::{Files, Gate, plan_scan, take_wanted};
 use ice_filter::Bound;
-use ice_manifest::Row;
+use ice_manifest_reading::Row;
 use ice_meta::Spec;
 use ice_state::{OwnedPlan, Partial, Scan};
 use icescan_text::RunFault;

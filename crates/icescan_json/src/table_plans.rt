@@ -17,8 +17,9 @@ use crate::typed::{TypedPlan, write_json};
 use crate::types::types_of_specs;
 use contract_words::Items;
 use ice_desk::{Files, Gate, MOST_WORKERS};
+use icescan_print::Sink;
 use icescan_requests::{Selection, plans_of_true_summaries, select};
-use icescan_text::{Request, RunFault, Sink, read_file, read_rows};
+use icescan_text::{Request, RunFault, read_file, read_rows};
 use std::alloc::Global;
 use std::thread::Threads;
 

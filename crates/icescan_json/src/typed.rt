@@ -8,7 +8,8 @@ use crate::plan::{JsonFault, write_typed_plan};
 use crate::types::SpecTypes;
 use contract_words::Items;
 use ice_state::OwnedPlan;
-use icescan_text::{RunFault, Sink};
+use icescan_print::Sink;
+use icescan_text::RunFault;
 use std::alloc::Global;
 
 /// A plan, and the types by which the partition values of its files are written as JSON.

@@ -12,7 +12,7 @@ ghost use Rattle.icescan_requests.specs.Commits.{IsReadFault, base_files, keep_a
 use contract_words::Text;
 use ice_catalog_versions::World;
 use ice_desk::{Files, ReadFault};
-use ice_manifest::{ListFault, Row, read_list};
+use ice_manifest_reading::{ListFault, Row, read_list};
 use ice_meta::{MetaFault, Metadata, Target};
 use icescan_text::RunFault;
 use std::alloc::{AllocError, Global};

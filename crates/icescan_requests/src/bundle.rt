@@ -8,7 +8,8 @@ ghost use Rattle.icescan_requests.specs.Bundles.{added, bundle_of, file_of, firs
 use crate::bundle_text::Front;
 use crate::digits::bytes_from;
 use ice_desk::{Files, ReadFault};
-use icescan_text::{RunFault, unescape};
+use icescan_print::unescape;
+use icescan_text::RunFault;
 use indexmap::IndexMap;
 use std::alloc::Global;
 use std::marker::Model;

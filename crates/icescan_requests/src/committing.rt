@@ -20,10 +20,8 @@ use crate::store::{Store, StoreFault, put_files};
 use contract_words::Text;
 use ice_catalog_versions::{Change, Ids, Prepared, Version, prepare};
 use ice_desk::Files;
-use icescan_text::{
-    CommitRequest, RunFault, Sink, SinkFault, put_named_long, put_named_number, read_change,
-    read_file, write_all,
-};
+use icescan_print::{Sink, SinkFault, put_named_long, put_named_number, write_all};
+use icescan_text::{CommitRequest, RunFault, read_change, read_file};
 use std::alloc::Global;
 
 /// The change that is asked for. The refusal is `Absent` or `Device` for the change file, or `Change`; or `Memory`.

@@ -20,7 +20,6 @@ pub use bundle::Bundle;
 pub use bundle_text::read_bundle;
 pub use committing::{commit_to, commits_are_put, prepare_commit, put_commit};
 pub use folder::{CommitFolder, Folder, file_name, fill_file};
-pub use icescan_text::{CommitRequest, Request, read_rows};
 pub use input::{MOST_READS, read_all};
 pub use list_plans::run_list_plan;
 pub use plans_by_workers::{plan_file, run_plan_with};

@@ -9,10 +9,11 @@ ghost use Rattle.icescan_requests.specs.Plans.{Answers, OnRefusal, WritesAPlan};
 use crate::table_plans::{Listed, plan_rows};
 use ice_desk::Files;
 use ice_filter::Bound;
-use ice_manifest::Row;
+use ice_manifest_reading::Row;
 use ice_meta::Spec;
 use ice_state::laws::{covering_without_fields, filtering, unfiltered};
-use icescan_text::{RunFault, Sink, read_rows};
+use icescan_print::Sink;
+use icescan_text::{RunFault, read_rows};
 use std::alloc::{AllocError, Global};
 
 /// For each row a spec without fields, of the row's spec id.

@@ -15,7 +15,8 @@ use crate::selection::{Selection, select};
 use crate::table_plans::{Listed, plans_of_true_summaries};
 use ice_desk::{Files, Gate, MOST_WORKERS, plan_scan};
 use ice_state::Scan;
-use icescan_text::{Request, RunFault, Sink, read_file, read_rows, write_plan_by_workers};
+use icescan_print::Sink;
+use icescan_text::{Request, RunFault, read_file, read_rows, write_plan_by_workers};
 use std::alloc::Global;
 use std::thread::Threads;
 

@@ -10,7 +10,8 @@ ghost use Rattle.icescan_print.specs.Written.{Appends, AppendsFront};
 
 use ice_desk::Files;
 use ice_meta::{Metadata, Table};
-use icescan_text::{Page, RunFault, Shown, Sink, main_of, put_table, read_file};
+use icescan_print::{Page, Shown, Sink, main_of, put_table};
+use icescan_text::{RunFault, read_file};
 use std::alloc::Global;
 
 /// Writes the text of a table and nothing else. It refuses for want of memory, and then nothing was written, or where a

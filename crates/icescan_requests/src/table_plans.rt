@@ -13,11 +13,12 @@ ghost use Rattle.icescan_requests.specs.declared.selection.Selection.{Selection}
 use crate::selection::{Selection, select};
 use ice_desk::{Files, take_wanted};
 use ice_filter::Bound;
-use ice_manifest::Row;
+use ice_manifest_reading::Row;
 use ice_meta::Spec;
 use ice_state::laws::filtering;
 use ice_state::{Partial, Scan};
-use icescan_text::{Request, RunFault, Sink, read_rows, write_plan};
+use icescan_print::Sink;
+use icescan_text::{Request, RunFault, read_rows, write_plan};
 use std::alloc::Global;
 
 /// The rows of a manifest list, and what is asked of them.

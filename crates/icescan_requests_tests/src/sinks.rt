@@ -1,6 +1,7 @@
 //! Sinks that take little or fail.
 
-use icescan_text::{Output, RunFault, Sink, SinkFault, report, write_all};
+use icescan_print::{Output, Sink, SinkFault, write_all};
+use icescan_text::{RunFault, report};
 use std::alloc::Global;
 
 /// Memory that takes at most so many bytes at a time, and only so many in all.

@@ -17,7 +17,7 @@ use contract_words::Text;
 use ice_catalog_versions::PrepareFault;
 use ice_desk::{PlanFault, WantedFault};
 use ice_filter::FilterFault;
-use ice_manifest::{ListFault, ManifestFault};
+use ice_manifest_reading::{ListFault, ManifestFault};
 use ice_meta::MetaFault;
 use ice_state::{FinishFault, ScanFault};
 use icescan_print::SinkFault;

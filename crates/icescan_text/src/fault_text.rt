@@ -14,7 +14,7 @@ use avro_file::AvroFault;
 use avro_schema::SchemaFault;
 use ice_catalog_versions::PrepareFault;
 use ice_filter::FilterFault;
-use ice_manifest::{ListFault, ManifestFault};
+use ice_manifest_reading::{ListFault, ManifestFault};
 use ice_meta::{Member, MetaFault};
 use ice_state::{FinishFault, ScanFault};
 use icescan_print::{

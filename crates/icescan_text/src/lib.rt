@@ -17,10 +17,6 @@ pub use change::{ChangeFault, ChangeKind, ChangeMember, read_change};
 pub use drill::Drill;
 pub use drill_fault::DrillFault;
 pub use fault::RunFault;
-pub use icescan_print::{
-    Output, Page, Shown, Sink, SinkFault, count_deletes, escaping, main_of, put_escaped,
-    put_named_long, put_named_number, put_table, put_totals, unescape, write_all,
-};
 pub use reading::{read_file, read_file_into, read_rows};
 pub use reporting::report;
 pub use request::{CommitRequest, Request};

@@ -8,7 +8,7 @@ ghost use Rattle.icescan_text.specs.Reads.{IsOfFile, MayEnd, file_in, rows_at};
 use crate::fault::RunFault;
 use contract_words::Text;
 use ice_desk::{Files, ReadFault};
-use ice_manifest::{Row, read_list};
+use ice_manifest_reading::{Row, read_list};
 use std::alloc::{AllocError, Global};
 
 /// A text of its own.

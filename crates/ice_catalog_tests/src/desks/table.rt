@@ -6,7 +6,7 @@ use crate::files::{PATHS, manifest};
 use contract_words::Text;
 use ice_desk::{Files, Gate, ReadFault};
 use ice_filter::Bound;
-use ice_manifest::{Counts, ManifestContent, Row};
+use ice_manifest_reading::{Counts, ManifestContent, Row};
 use ice_meta::Spec;
 use ice_state::Scan;
 use ice_value::SequenceNumber;

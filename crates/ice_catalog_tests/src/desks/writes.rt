@@ -3,7 +3,8 @@
 use crate::desks::table::{Stored, Tally, scan_of_three};
 use ice_desk::plan_scan;
 use ice_state::Lines;
-use icescan_text::{RunFault, Sink, SinkFault, write_plan};
+use icescan_print::{Sink, SinkFault};
+use icescan_text::{RunFault, write_plan};
 use std::alloc::Global;
 
 /// Memory that takes so many bytes and no more. Then it refuses, or takes nothing.
