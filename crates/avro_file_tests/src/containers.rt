@@ -84,25 +84,3 @@ fn gives(alloc: Global, bytes: &[u8], lines: &str) -> bool {
         Err(fault) => is_fault(alloc, &fault, lines),
     }
 }
-
-/// Whether there are so many objects more.
-fn are_skipped(objects: &mut Objects<'_, '_>, count: usize) -> bool {
-    for _ in 0..count {
-        match objects.next() {
-            Ok(Some(object)) => object.skip(),
-            _ => return false,
-        }
-    }
-    true
-}
-
-/// Whether a file gives so many objects and then what looks like this, or is refused with this fault.
-fn gives_behind(alloc: Global, bytes: &[u8], count: usize, look: &str) -> bool {
-    match Container::open(alloc, bytes) {
-        Ok(file) => {
-            let mut objects = file.objects();
-            are_skipped(&mut objects, count) && is_next(alloc, &mut objects, look)
-        }
-        Err(fault) => count == 0 && is_fault(alloc, &fault, look),
-    }
-}

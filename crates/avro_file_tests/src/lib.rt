@@ -10,5 +10,3 @@ mod look;
 mod picked;
 #[cfg(test)]
 mod schemas;
-#[cfg(test)]
-mod windows;

@@ -11,8 +11,6 @@ use avro_file_picked::{Layout, Places};
 use std::alloc::{AllocError, Global};
 use std::test::*;
 
-mod compared;
-mod random;
 mod refusals;
 
 const MARKER: [u8; 16] = [0, 1, 2, 3, 4, 5, 6, 7, 8, 9, 10, 11, 12, 13, 14, 15];
@@ -23,30 +21,6 @@ fn number(count: usize) -> [u8; 2] {
     [(twice % 128) as u8 + 128, (twice / 128) as u8]
 }
 
-/// A block of so many objects with this content.
-fn block(alloc: Global, count: usize, content: &[u8]) -> Result<Vec<u8>, AllocError> {
-    [
-        number(count).as_slice(),
-        number(content.len()).as_slice(),
-        content,
-        MARKER.as_slice(),
-    ]
-    .concat(alloc)
-}
-
-/// A file of these blocks.
-fn file(alloc: Global, schema: &[u8], blocks: &[u8]) -> Result<Vec<u8>, AllocError> {
-    [
-        b"Obj\x01\x02\x16avro.schema".as_slice(),
-        number(schema.len()).as_slice(),
-        schema,
-        [0].as_slice(),
-        MARKER.as_slice(),
-        blocks,
-    ]
-    .concat(alloc)
-}
-
 /// A file of one block of so many objects with this content.
 fn file_of_one(
     alloc: Global,
@@ -54,8 +28,18 @@ fn file_of_one(
     count: usize,
     content: &[u8],
 ) -> Result<Vec<u8>, AllocError> {
-    let block = block(alloc, count, content)?;
-    file(alloc, schema, &block)
+    [
+        b"Obj\x01\x02\x16avro.schema".as_slice(),
+        number(schema.len()).as_slice(),
+        schema,
+        [0].as_slice(),
+        MARKER.as_slice(),
+        number(count).as_slice(),
+        number(content.len()).as_slice(),
+        content,
+        MARKER.as_slice(),
+    ]
+    .concat(alloc)
 }
 
 fn ways_of(alloc: Global, ways: &[&[i32]]) -> Result<Vec<Vec<i32>>, AllocError> {
@@ -221,21 +205,6 @@ Some(Map([(\"k\", Boolean(true))]))]\nend\nend",
         &[&[2, 4], &[6]],
         "[Some(Long(7)), Some(Int(3))]\n[Some(Array([Int(1), Int(2)])), Some(Int(3))]\nend",
     ),
-    // positions of two groups
-    (
-        b"\x02\x82\x00\x02x\x84\x00\x0e\x00\x06\x02\x80\x00\x00\x06",
-        2,
-        &[&[2], &[2, 3], &[2, 4], &[6]],
-        "[Some(Record([String(\"x\"), Union(2, Long(7))])), Some(String(\"x\")), Some(Long(7)), Some(Int(3))]\n\
-[None, None, None, Some(Int(3))]\nend",
-    ),
-    // a map in two blocks is passed
-    (
-        b"\x02\x00\x02\x02k\x01\x01\x06\x02l\x00\x00\x06",
-        1,
-        &[&[6], &[1]],
-        "[Some(Int(3)), Some(Long(1))]\nend",
-    ),
     // the object itself, and no way at all
     (
         b"\x02\x00\x00\x06",
@@ -251,9 +220,6 @@ Some(Map([(\"k\", Boolean(true))]))]\nend\nend",
         &[&[6]],
         "BadUtf8\nBadUtf8",
     ),
-    (b"\x02\x00\x02\x02\xffk\x01\x00\x06", 1, &[&[1]], "BadUtf8"),
-    (b"\x02\x06\x00\x06", 1, &[&[1]], "BadUnion\nBadUnion"),
-    (b"\x02\x00\x02\x02k\x02\x00\x06", 1, &[&[1]], "BadBoolean"),
     (
         b"\x02\x00\x00\x06\x02\x00",
         2,
@@ -276,90 +242,4 @@ fn wanted_values(rt: HostRuntime) {
             "{lines}"
         );
     }
-}
-
-/// A thing that is none of the ways' records: unions of several records, and a union at the top.
-const SEVERAL: &[u8] = b"[{\"type\":\"record\",\"name\":\"p\",\"fields\":[\
-{\"name\":\"a\",\"type\":\"int\",\"field-id\":1}]},\"null\",{\"type\":\"record\",\"name\":\"q\",\"fields\":[\
-{\"name\":\"b\",\"type\":\"boolean\",\"field-id\":2},{\"name\":\"c\",\"type\":\"long\",\"field-id\":1}]}]";
-
-#[test]
-fn several_records(rt: HostRuntime) {
-    let lines = "[Some(Int(5)), None]\n[None, None]\n[Some(Long(-3)), Some(Boolean(true))]\nend";
-    assert!(rt;
-        gives(
-            rt.alloc(),
-            SEVERAL,
-            3,
-            b"\x00\x0a\x02\x04\x01\x05",
-            &[&[1], &[2]],
-            lines
-        )
-    );
-}
-
-/// Sixteen million nulls in a few bytes, which no way leads to, are counted and take no memory.
-const NULLS: &[u8] = b"{\"type\":\"record\",\"name\":\"n\",\"fields\":[\
-{\"name\":\"a\",\"type\":{\"type\":\"array\",\"items\":\"null\"},\"field-id\":1},\
-{\"name\":\"b\",\"type\":\"int\",\"field-id\":2}]}";
-
-#[test]
-fn values_without_bytes(rt: HostRuntime) {
-    let most = b"\x80\x80\x80\x10\x00\x0e";
-    assert!(rt; gives(rt.alloc(), NULLS, 1, most, &[&[2]], "[Some(Int(7))]\nend"));
-    let more = b"\x82\x80\x80\x10\x00\x0e";
-    assert!(rt;
-        gives(
-            rt.alloc(),
-            NULLS,
-            1,
-            more,
-            &[&[2]],
-            "TooManyItems\nTooManyItems"
-        )
-    );
-}
-
-/// Fields that take no bytes before, between and behind others, also in a record, in items, values and a branch.
-const EMPTIES: &[u8] = b"{\"type\":\"record\",\"name\":\"e\",\"fields\":[\
-{\"name\":\"a\",\"type\":\"null\",\"field-id\":1},\
-{\"name\":\"b\",\"type\":{\"type\":\"record\",\"name\":\"r\",\"fields\":[\
-{\"name\":\"c\",\"type\":{\"type\":\"fixed\",\"name\":\"f\",\"size\":0},\"field-id\":3},\
-{\"name\":\"d\",\"type\":\"int\",\"field-id\":4},{\"name\":\"g\",\"type\":\"null\",\"field-id\":5}]},\"field-id\":2},\
-{\"name\":\"h\",\"type\":{\"type\":\"array\",\"items\":\"r\"},\"field-id\":6},\
-{\"name\":\"i\",\"type\":{\"type\":\"map\",\"values\":\"r\"},\"field-id\":7},\
-{\"name\":\"j\",\"type\":[\"null\",\"r\"],\"field-id\":8},{\"name\":\"k\",\"type\":\"null\",\"field-id\":9},\
-{\"name\":\"l\",\"type\":\"int\",\"field-id\":10}]}";
-
-#[test]
-fn fields_without_bytes(rt: HostRuntime) {
-    let content =
-        b"\x02\x04\x04\x06\x00\x02\x02k\x08\x00\x02\x0a\x0c\x8e\x80\x80\x80\x00\x00\x00\x00\x0e";
-    let lines = "[None, Some(Fixed([])), Some(Int(1)), None, \
-Some(Array([Record([Fixed([]), Int(2), Null]), Record([Fixed([]), Int(3), Null])])), \
-Some(Map([(\"k\", Record([Fixed([]), Int(4), Null]))])), Some(Int(5)), None, Some(Int(6)), Some(Fixed([])), None]\n\
-[None, Some(Fixed([])), Some(Int(7)), None, Some(Array([])), Some(Map([])), None, None, Some(Int(7)), None, None]\n\
-end";
-    assert!(rt;
-        gives(
-            rt.alloc(),
-            EMPTIES,
-            2,
-            content,
-            &[
-                &[1],
-                &[2, 3],
-                &[2, 4],
-                &[2, 5],
-                &[6],
-                &[7],
-                &[8, 4],
-                &[9],
-                &[10],
-                &[8, 3],
-                &[8, 5]
-            ],
-            lines
-        )
-    );
 }

@@ -2,7 +2,7 @@
 #![tactic(auto)]
 
 #[cfg(test)]
-mod bounds;
+mod columns;
 #[cfg(test)]
 mod language;
 #[cfg(test)]

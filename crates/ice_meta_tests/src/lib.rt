@@ -1,17 +1,9 @@
-//! Tests of ice_meta: metadata files are read, asked and written, and refused with their first fault.
+//! Tests of ice_meta, of what no clause says: that files of other writers are read and written with ample memory.
 #![tactic(auto)]
 
 #[cfg(test)]
-mod faults;
+mod cases;
 #[cfg(test)]
 mod files;
 #[cfg(test)]
-mod schemas;
-#[cfg(test)]
-mod specs;
-#[cfg(test)]
-mod tables;
-#[cfg(test)]
 mod texts;
-#[cfg(test)]
-mod writing;

@@ -41,11 +41,10 @@ pub enum Held<'a> {
     Values,
 }
 
-/// Puts an added entry of 10 rows and 100 bytes, whose partition value is so many letters and a text.
+/// Puts an added entry of 10 rows and 100 bytes, whose partition value is a text.
 pub fn put_entry(
     bytes: &mut Vec<u8>,
     path: &str,
-    letters: usize,
     value: &str,
     held: Held,
 ) -> Result<(), AllocError> {
@@ -55,11 +54,7 @@ pub fn put_entry(
         Held::Values => b"\x02\x00\x04",
     })?;
     put_run(bytes, path.as_bytes())?;
-    put_number(bytes, letters.saturating_add(value.len()))?;
-    for _ in 0..letters {
-        bytes.push(b'a')?;
-    }
-    bytes.extend_from_slice(value.as_bytes())?;
+    put_run(bytes, value.as_bytes())?;
     bytes.extend_from_slice(b"\x14\xc8\x01")?;
     match held {
         Held::Rows => bytes.extend_from_slice(b"\x00\x00"),

@@ -5,8 +5,6 @@
 #[cfg(test)]
 mod cases;
 #[cfg(test)]
-mod drawn;
-#[cfg(test)]
 mod files;
 #[cfg(test)]
 mod refusals;

@@ -1,7 +1,7 @@
 //! Stores of entries that words stand for, and what they keep, as text.
 //!
 //! `a:v` is a data file `a` with the partition value `v`, `p:v>a` a file of position deletes of `a`, and `e:v=` one of
-//! equality deletes. `a:*9+v` has nine letters before the `v`. A manifest of commit 7 begins with `7|`, of commit 0 with
+//! equality deletes. A manifest of commit 7 begins with `7|`, of commit 0 with
 //! nothing.
 
 ghost use Rattle.std.specs.Prelude.{IfOk};
@@ -21,13 +21,7 @@ fn put_word(bytes: &mut Vec<u8>, word: &str) -> Result<(), AllocError> {
         (None, Some((value, _))) => (value, Held::Values),
         (None, None) => (said, Held::Rows),
     };
-    match value
-        .strip_prefix('*')
-        .and_then(|long| long.split_once('+'))
-    {
-        Some((letters, value)) => put_entry(bytes, path, letters.parse().unwrap_or(0), value, held),
-        None => put_entry(bytes, path, 0, value, held),
-    }
+    put_entry(bytes, path, value, held)
 }
 
 /// The commit of a manifest, and the words of its entries.
@@ -54,7 +48,7 @@ fn manifest_of(alloc: Global, words: &str) -> Result<(ManifestContent, Vec<u8>),
 }
 
 /// Keeps the entries of a manifest.
-pub fn take(
+fn take(
     alloc: Global,
     entries: &mut Entries,
     content: ManifestContent,
@@ -89,16 +83,6 @@ pub fn take_all(
     Ok(all)
 }
 
-/// A text, or how long it is and its last letter.
-fn put_value(text: &mut String, alloc: Global, value: &str) -> Result<(), AllocError> {
-    if value.len() > 99 {
-        let length = value.len();
-        let last = value.as_bytes().last();
-        return text.push_str(&format!(in alloc; "{length} {last:?}")?);
-    }
-    text.push_str(value)
-}
-
 fn put_entry_of(text: &mut String, alloc: Global, entry: &LentEntry) -> Result<(), AllocError> {
     let path = std::str::from_utf8(entry.path).unwrap_or("no text");
     let (commit, position) = (entry.sequence_number.get(), entry.position);
@@ -108,7 +92,7 @@ fn put_entry_of(text: &mut String, alloc: Global, entry: &LentEntry) -> Result<(
     text.push_str(&format!(in alloc; "{position} {path}:")?)?;
     for cell in entry.tuple {
         match cell {
-            Cell::Text(value) => put_value(text, alloc, value.as_str())?,
+            Cell::Text(value) => text.push_str(value.as_str())?,
             _ => text.push_str("no text")?,
         }
     }

@@ -5,7 +5,7 @@ ghost use Rattle.ice_state.specs.Contents.{IsOf};
 use ice_manifest_reading::ManifestFault;
 use ice_state::{FinishFault, OwnedPlan, Partial, PlanFile, PlanFiles, Scan};
 
-pub fn has_paths(files: &PlanFiles<'_>, paths: &[&str]) -> bool {
+fn has_paths(files: &PlanFiles<'_>, paths: &[&str]) -> bool {
     if files.len() != paths.len() {
         return false;
     }
@@ -60,7 +60,7 @@ pub fn is_whole(kept: &OwnedPlan) -> bool {
         && is_by_column_1(&line.equalities())
 }
 
-pub fn is_missing(state: &Partial, scan: &Scan, path: &str) -> bool
+fn is_missing(state: &Partial, scan: &Scan, path: &str) -> bool
     requires { IsOf scan.now state.now }
 {
     match state.finish(scan) {

@@ -15,11 +15,11 @@ use std::alloc::{AllocError, Global};
 const SCHEMA: &[u8] =
     b"Obj\x01\x04\x16avro.schema\xb4\x08{\"type\":\"record\",\"name\":\"manifest_entry\",\"fields\":[{\"name\":\"status\",\"type\":\"int\",\"field-id\":0},{\"name\":\"sequence_number\",\"type\":[\"null\",\"long\"],\"field-id\":3},{\"name\":\"data_file\",\"type\":{\"type\":\"record\",\"name\":\"r2\",\"fields\":[{\"name\":\"content\",\"type\":\"int\",\"field-id\":134},{\"name\":\"file_path\",\"type\":\"string\",\"field-id\":100},{\"name\":\"record_count\",\"type\":\"long\",\"field-id\":103},{\"name\":\"file_size_in_bytes\",\"type\":\"long\",\"field-id\":104},{\"name\":\"equality_ids\",\"type\":[\"null\",{\"type\":\"array\",\"items\":\"int\"}],\"field-id\":135}]},\"field-id\":2}]}";
 
-pub const UNCOMPRESSED: &[u8] = b"\x14avro.codec\x08null\x00";
+const UNCOMPRESSED: &[u8] = b"\x14avro.codec\x08null\x00";
 
 const DEFLATE: &[u8] = b"\x14avro.codec\x0edeflate\x00";
 
-pub const MARKER: &[u8] = b"\x00\x01\x02\x03\x04\x05\x06\x07\x08\x09\x0a\x0b\x0c\x0d\x0e\x0f";
+const MARKER: &[u8] = b"\x00\x01\x02\x03\x04\x05\x06\x07\x08\x09\x0a\x0b\x0c\x0d\x0e\x0f";
 
 /// One data file, `mem://t/a.parquet`.
 const DATA: &[u8] = b"\x022\x02\x00\x00\"mem://t/a.parquet\x14\xc8\x01\x00";
@@ -141,38 +141,20 @@ const NO_COUNTS: Counts = Counts {
     deleted_rows: None,
 };
 
-/// A sequence number; 0 for what is none.
-fn number(number: u64) -> SequenceNumber {
-    match SequenceNumber::new(number) {
-        Some(number) => number,
-        None => SequenceNumber::zero(),
-    }
-}
-
-pub fn text(alloc: Global, text: &str) -> Result<Text, AllocError> {
-    Ok(Text::from_string(String::from_str(alloc, text)?))
-}
-
-/// A row of a data manifest.
-pub fn row(alloc: Global, path: &str, spec: i32, sequence_number: u64) -> Result<Row, AllocError> {
-    let sequence_number = number(sequence_number);
+/// A row of spec 0.
+fn row_of(alloc: Global, sample: &Sample) -> Result<Row, AllocError> {
+    let sequence_number = SequenceNumber::new(sample.2).unwrap_or(SequenceNumber::zero());
     Ok(Row {
-        path: text(alloc, path)?,
+        path: Text::from_string(String::from_str(alloc, sample.0)?),
         length: 100,
-        spec_id: spec,
-        content: ManifestContent::Data,
+        spec_id: 0,
+        content: sample.1,
         sequence_number,
         min_sequence_number: sequence_number,
         added_snapshot_id: 1,
         counts: NO_COUNTS,
         partitions: None,
     })
-}
-
-fn row_of(alloc: Global, sample: &Sample) -> Result<Row, AllocError> {
-    let mut row = row(alloc, sample.0, 0, sample.2)?;
-    row.content = sample.1;
-    Ok(row)
 }
 
 fn rows_of(alloc: Global, samples: &[Sample]) -> Result<Vec<Row>, AllocError> {
@@ -189,11 +171,6 @@ fn specs(alloc: Global) -> Result<Vec<Spec>, AllocError> {
     Ok(specs)
 }
 
-/// A scan without a filter, of a table with spec 0 alone, which has no field.
-pub fn scan_of(alloc: Global, rows: Vec<Row>) -> Result<Scan, ScanFault> {
-    Scan::new(alloc, rows, specs(alloc)?, Bound::always(alloc))
-}
-
 /// A scan, and the bytes of its manifests in the order of their paths.
 #[derive(Drop)]
 pub struct Case {
@@ -201,11 +178,28 @@ pub struct Case {
     pub manifests: Vec<Vec<u8>>,
 }
 
+/// A scan without a filter, of a table with spec 0 alone, which has no field.
 pub fn case_of(alloc: Global, manifests: Manifests) -> Result<Case, ScanFault> {
     let samples = samples(manifests);
-    let scan = scan_of(alloc, rows_of(alloc, samples)?)?;
+    let scan = Scan::new(
+        alloc,
+        rows_of(alloc, samples)?,
+        specs(alloc)?,
+        Bound::always(alloc),
+    )?;
     let manifests = manifests_of(alloc, samples)?;
     Ok(Case { scan, manifests })
+}
+
+/// Takes the manifest at a place of the scan; at none past the last.
+pub fn take(state: &mut Partial, case: &Case, place: usize) -> Result<(), AllocError>
+    requires { IsOf case.now.scan state.old }
+    ensures { IsOf case.now.scan state.new }
+{
+    if place < case.scan.wanted().len() && place < case.manifests.len() {
+        state.take(&case.scan, place, &case.manifests[place])?;
+    }
+    Ok(())
 }
 
 /// The state after taking these rows in this order.
@@ -214,9 +208,7 @@ pub fn state_after(alloc: Global, case: &Case, order: &[usize]) -> Result<Partia
 {
     let mut state = Partial::empty(alloc, &case.scan)?;
     'order: for i in order {
-        if *i < case.scan.wanted().len() && *i < case.manifests.len() {
-            state.take(&case.scan, *i, &case.manifests[*i])?;
-        }
+        take(&mut state, case, *i)?;
     }
     Ok(state)
 }

@@ -7,12 +7,6 @@ mod answers;
 #[cfg(test)]
 mod cases;
 #[cfg(test)]
-mod filters;
-#[cfg(test)]
 mod plans;
 #[cfg(test)]
-mod referenced;
-#[cfg(test)]
 mod refusals;
-#[cfg(test)]
-mod scans;

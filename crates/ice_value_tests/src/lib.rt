@@ -1,24 +1,16 @@
-//! Tests of contract_words, ice_value, ice_transform and ice_deletes: lists and texts, cells and their bounds,
-//! transforms, and which deletes apply.
+//! Tests of contract_words, ice_value, ice_transform and ice_deletes, of what no clause says: that calls succeed where
+//! memory is ample, values that the specification and other programs give, and what a refused growth leaves.
 #![tactic(auto)]
 
 #[cfg(test)]
 mod deletes;
 #[cfg(test)]
-mod formats;
-#[cfg(test)]
 mod literals;
 #[cfg(test)]
 mod merge_refusals;
 #[cfg(test)]
-mod merge_trees;
-#[cfg(test)]
 mod merges;
-#[cfg(test)]
-mod neighbours;
 #[cfg(test)]
 mod transforms;
 #[cfg(test)]
 mod values;
-#[cfg(test)]
-mod words;

@@ -1,7 +1,7 @@
 //! Cells that tables of cases can hold.
 
 use contract_words::{Items, Text};
-use ice_value::{Cell, ColumnType};
+use ice_value::Cell;
 use std::alloc::{AllocError, Global};
 
 /// A cell.
@@ -14,21 +14,13 @@ pub enum Literal {
     Bytes(&'static [u8]),
 }
 
-fn text(alloc: Global, text: &str) -> Result<Cell, AllocError> {
-    Ok(Cell::Text(Text::from_string(String::from_str(alloc, text)?)))
-}
-
-fn bytes(alloc: Global, bytes: &[u8]) -> Result<Cell, AllocError> {
-    Ok(Cell::Bytes(Items::from_vec(bytes.to_vec(alloc)?)))
-}
-
 pub fn cell(alloc: Global, literal: Literal) -> Result<Cell, AllocError> {
     match literal {
         Literal::Null => Ok(Cell::Null),
         Literal::Bool(flag) => Ok(Cell::Bool(flag)),
         Literal::Whole(number) => Ok(Cell::Whole(number)),
-        Literal::Text(characters) => text(alloc, characters),
-        Literal::Bytes(held) => bytes(alloc, held),
+        Literal::Text(text) => Ok(Cell::Text(Text::from_string(String::from_str(alloc, text)?))),
+        Literal::Bytes(bytes) => Ok(Cell::Bytes(Items::from_vec(bytes.to_vec(alloc)?))),
     }
 }
 
@@ -36,8 +28,3 @@ pub fn cell(alloc: Global, literal: Literal) -> Result<Cell, AllocError> {
 pub const UUID: [u8; 16] = [
     0xf7, 0x9c, 0x3e, 0x09, 0x67, 0x7c, 0x4b, 0xbd, 0xa4, 0x79, 0x3f, 0x34, 0x9c, 0xb7, 0x85, 0xe7,
 ];
-
-pub const DECIMAL: ColumnType = ColumnType::Decimal {
-    precision: 9,
-    scale: 2,
-};

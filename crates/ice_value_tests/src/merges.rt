@@ -5,7 +5,6 @@ ghost use Rattle.ice_deletes.specs.Keys.{key_of};
 ghost use Rattle.ice_value_tests.specs.Parts.{files_at, IsPart};
 
 use ice_deletes::{DeleteIndex, Record};
-use ice_value::{Cell, SequenceNumber};
 use std::alloc::{AllocError, AllocFailed, Global};
 
 /// Files, each of which has a place.
@@ -22,7 +21,7 @@ pub struct Part {
 }
 
 /// Why there is no part, or no merged one.
-#[derive(Clone, Copy, Debug, Drop, PartialEq, Eq)]
+#[derive(Debug, Drop)]
 pub enum PartFault {
     Memory,
     /// A place past the last file.
@@ -133,53 +132,5 @@ impl<'f> Table<'f> {
         part.index.merge(&other.index, &to)?;
         part.places = places;
         Ok(())
-    }
-}
-
-/// A data file: its spec, its tuple, its sequence number and its path.
-pub type DataFile<'a> = (i32, &'a [Cell], u64, &'a [u8]);
-
-impl Part {
-    /// Whether one of the numbers is that of the place.
-    fn has(&self, numbers: &[usize], place: usize) -> bool {
-        for number in numbers {
-            if self.places.get(*number) == Some(&place) {
-                return true;
-            }
-        }
-        false
-    }
-
-    /// Whether these numbers stand for the files that those of another part stand for.
-    fn agree(&self, numbers: &[usize], other: &Part, others: &[usize]) -> bool {
-        for number in numbers {
-            match self.places.get(*number) {
-                Some(place) if other.has(others, *place) => {}
-                _ => return false,
-            }
-        }
-        numbers.len() == others.len()
-    }
-
-    /// Whether both find the same files of each group for the data file.
-    fn finds_as(&self, other: &Part, file: &DataFile<'_>) -> bool {
-        let (spec_id, tuple, number, path) = *file;
-        let number = SequenceNumber::new(number).unwrap_or(SequenceNumber::zero());
-        let hits = self.index.for_data(spec_id, tuple, number, path);
-        let others = other.index.for_data(spec_id, tuple, number, path);
-        self.agree(hits.positions, other, others.positions)
-            && self.agree(hits.referenced, other, others.referenced)
-            && self.agree(hits.equalities, other, others.equalities)
-            && self.agree(hits.everywhere, other, others.everywhere)
-    }
-
-    /// Whether both find the same files for each of the data files.
-    pub fn answers_as(&self, other: &Part, files: &[DataFile<'_>]) -> bool {
-        for file in files {
-            if !self.finds_as(other, file) {
-                return false;
-            }
-        }
-        true
     }
 }

@@ -309,22 +309,10 @@ fn are_printed(alloc: Global, faults: &[Told]) -> bool {
 }
 
 #[test]
-fn lines_of_runs(rt: HostRuntime) {
+fn lines_without_a_path(rt: HostRuntime) {
     assert!(rt; are_printed(rt.alloc(), &OF_RUNS));
-}
-
-#[test]
-fn lines_of_metadata(rt: HostRuntime) {
     assert!(rt; are_printed(rt.alloc(), &OF_METADATA));
-}
-
-#[test]
-fn lines_of_filters_and_commits(rt: HostRuntime) {
     assert!(rt; are_printed(rt.alloc(), &OF_FILTERS_AND_COMMITS));
-}
-
-#[test]
-fn lines_of_lists(rt: HostRuntime) {
     assert!(rt; are_printed(rt.alloc(), &OF_LISTS));
 }
 
@@ -349,14 +337,6 @@ fn says(alloc: Global, fault: &RunFault, sentence: &str) -> bool {
 
 #[test]
 fn sentences(rt: HostRuntime) {
-    let list = RunFault::List(ListFault::MissingField(500));
     assert!(rt; says(rt.alloc(), &RunFault::Memory, "memory ran out"));
     assert!(rt; says(rt.alloc(), &RunFault::Input, "standard input can't be read"));
-    assert!(rt;
-        says(
-            rt.alloc(),
-            &list,
-            "the manifest list is refused: MissingField(500)"
-        )
-    );
 }

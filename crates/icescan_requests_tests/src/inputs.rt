@@ -1,8 +1,7 @@
 //! Readers that fail, that a signal interrupts, and whose end comes late.
 
-use ice_desk::{Files, ReadFault};
-use icescan_requests::{read_all, read_bundle};
-use icescan_text::RunFault;
+use ice_desk::ReadFault;
+use icescan_requests::read_all;
 use std::alloc::Global;
 use std::io::{self, ErrorKind, Read};
 
@@ -62,64 +61,6 @@ fn readings(rt: HostRuntime) {
         assert!(rt;
             gives(rt.alloc(), reader, *most, *expected),
             "{failing} {most}"
-        );
-    }
-}
-
-/// How reading a bundle ends.
-#[derive(Clone, Copy)]
-enum Ending {
-    /// With these bytes in the file `a`.
-    File(&'static [u8]),
-    /// At this line.
-    Line(u64),
-    /// At a read that failed.
-    Input,
-}
-
-/// Bundles: the text, which read fails, and how, and how reading ends.
-static BUNDLES: [(&[u8], u64, ErrorKind, Ending); 8] = [
-    (b"a 00\nb 01\n", 0, ErrorKind::Other, Ending::File(b"\x00")),
-    (
-        b"b 01\na 00ff",
-        0,
-        ErrorKind::Other,
-        Ending::File(b"\x00\xff"),
-    ),
-    (b"a 00", 3, ErrorKind::Interrupted, Ending::File(b"\x00")),
-    (b"a 00\n\nb 01\n", 0, ErrorKind::Other, Ending::Line(2)),
-    (b"a 00\na 01", 0, ErrorKind::Other, Ending::Line(2)),
-    (b"a 00\nb 0\n", 0, ErrorKind::Other, Ending::Line(2)),
-    // What follows a line that is none is read too, before that line is told.
-    (b"a\nb 01\n", 8, ErrorKind::ConnectionReset, Ending::Input),
-    (b"a\nb 01\n", 9, ErrorKind::Other, Ending::Line(1)),
-];
-
-fn ends(alloc: Global, mut reader: Faltering, expected: Ending) -> bool {
-    match (read_bundle(alloc, &mut reader), expected) {
-        (Ok(bundle), Ending::File(expected)) => match Files::read(&bundle, alloc, "a") {
-            Ok(bytes) => bytes.as_slice() == expected,
-            Err(_) => false,
-        },
-        (Err(RunFault::Bundle(line)), Ending::Line(expected)) => line == expected,
-        (Err(RunFault::Input), Ending::Input) => true,
-        _ => false,
-    }
-}
-
-#[test]
-fn bundles(rt: HostRuntime) {
-    for (bytes, failing, kind, expected) in &BUNDLES {
-        let reader = Faltering {
-            bytes: *bytes,
-            reads: 0,
-            failing: *failing,
-            kind: *kind,
-        };
-        assert!(rt;
-            ends(rt.alloc(), reader, *expected),
-            "{failing} {}",
-            bytes.len()
         );
     }
 }

@@ -1,5 +1,5 @@
 //! Tests of icescan_text, of the sinks that its lines go to and of icescan_requests: the line and the status of each fault and what
-//! is read of a change file, against texts written by hand; sinks that take little, reads that fail, that a signal
+//! is read of a change file, against texts written by hand; reads that fail, that a signal
 //! interrupts or whose end comes late, and files that refuse to be written or kept.
 #![tactic(auto)]
 

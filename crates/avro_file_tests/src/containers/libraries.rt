@@ -7,8 +7,6 @@ pub struct Sample {
     pub bytes: &'static [u8],
     /// The rows, a line each, and the end.
     pub rows: &'static str,
-    /// Where the file is cut, how many rows come then, and what comes behind them.
-    cuts: &'static [(usize, usize, &'static str)],
 }
 
 /// A list by the library for C.
@@ -58,21 +56,6 @@ Record([String("s3://warehouse/db/plain/metadata/m1-rewritten.avro"), Long(5764)
 Record([String("s3://warehouse/db/plain/metadata/m3-rewritten-deletes.avro"), Long(3758), Int(0), Int(1), Long(5), Long(3), Long(5787346651261761729), Int(0), Int(2), Int(1), Long(0), Long(5), Long(3), Union(1, Array([])), NullBranch(0)])
 Record([String("s3://warehouse/db/plain/metadata/m2.avro"), Long(5100), Int(0), Int(0), Long(2), Long(2), Long(5974787585992374985), Int(9), Int(0), Int(0), Long(900), Long(0), Long(0), Union(1, Array([])), NullBranch(0)])
 end"#,
-    cuts: &[
-        (34, 0, "Truncated(33)"),
-        (42, 0, "Truncated(35)"),
-        (1487, 0, "Truncated(1472)"),
-        (1488, 0, "end"),
-        (1489, 0, "Truncated(1489)"),
-        (1491, 0, "Truncated(1491)"),
-        (1793, 0, "Truncated(1793)"),
-        (1808, 0, "Truncated(1793)"),
-        (1809, 4, "end"),
-        (1812, 4, "Truncated(1812)"),
-        (1878, 4, "Truncated(1812)"),
-        (1879, 4, "Truncated(1879)"),
-        (1894, 4, "Truncated(1879)"),
-    ],
 };
 
 /// A manifest by the library for Go.
@@ -150,16 +133,6 @@ spec\x04[]\"partition-spec-id\x020\x1cformat-version\x022\x00\
 Record([Int(1), NullBranch(0), NullBranch(0), NullBranch(0), Record([Int(2), String("s3://warehouse/db/plain/data/e1-eq-deletes.parquet"), String("PARQUET"), Record([]), Long(2), Long(700), Union(1, LongPairs([(1, 53)])), Union(1, LongPairs([(1, 2)])), Union(1, LongPairs([(1, 0)])), Union(1, LongPairs([])), Union(1, BytesPairs([(1, [0, 0, 0, 0, 0, 0, 0, 0])])), Union(1, BytesPairs([(1, [5, 0, 0, 0, 0, 0, 0, 0])])), NullBranch(0), Union(1, Array([Long(4)])), Union(1, Array([Int(1)])), Union(1, Int(0))])])
 Record([Int(1), Union(1, Long(2283605302977256481)), NullBranch(0), NullBranch(0), Record([Int(1), String("s3://warehouse/db/plain/data/p2-deletes.parquet"), String("PARQUET"), Record([]), Long(3), Long(1500), Union(1, LongPairs([(2147483545, 27917286125), (2147483546, 27917286138)])), Union(1, LongPairs([(2147483545, 3), (2147483546, 3)])), Union(1, LongPairs([(2147483545, 0), (2147483546, 0)])), Union(1, LongPairs([])), Union(1, BytesPairs([(2147483545, [0, 0, 0, 0, 0, 0, 0, 0]), (2147483546, [115, 51, 58, 47, 47, 119, 97, 114, 101, 104, 111, 117, 115, 101, 47, 100, 98, 47, 112, 108, 97, 105, 110, 47, 100, 97, 116, 97, 47, 48, 48, 48])])), Union(1, BytesPairs([(2147483545, [9, 0, 0, 0, 0, 0, 0, 0]), (2147483546, [115, 51, 58, 47, 47, 119, 97, 114, 101, 104, 111, 117, 115, 101, 47, 100, 98, 47, 112, 108, 97, 105, 110, 47, 100, 97, 116, 97, 47, 48, 48, 48, 49])])), NullBranch(0), Union(1, Array([Long(4)])), NullBranch(0), NullBranch(0)])])
 end"#,
-    cuts: &[
-        (18, 0, "Truncated(17)"),
-        (26, 0, "Truncated(19)"),
-        (3735, 0, "Truncated(3720)"),
-        (3736, 0, "end"),
-        (3737, 0, "Truncated(3737)"),
-        (3739, 0, "Truncated(3739)"),
-        (4356, 0, "Truncated(4356)"),
-        (4371, 0, "Truncated(4356)"),
-    ],
 };
 
 /// A list by the library for Java.
@@ -217,21 +190,6 @@ Record([String("s3://warehouse/db/events/metadata/u0-m0.avro"), Long(6697), Int(
 Record([String("s3://warehouse/db/events/metadata/u2-m0.avro"), Long(5774), Int(1), Int(1), Long(3), Long(3), Long(1918045885104987393), Int(4), Int(0), Int(0), Long(102), Long(0), Long(0), Union(1, Array([Record([Boolean(false), Union(1, Boolean(false)), Union(1, Bytes([75, 77, 0, 0])), Union(1, Bytes([77, 77, 0, 0]))])])), NullBranch(0)])
 Record([String("s3://warehouse/db/events/metadata/u2-m1.avro"), Long(4766), Int(0), Int(1), Long(3), Long(3), Long(1918045885104987393), Int(1), Int(0), Int(0), Long(4), Long(0), Long(0), Union(1, Array([])), NullBranch(0)])
 end"#,
-    cuts: &[
-        (18, 0, "Truncated(17)"),
-        (26, 0, "Truncated(19)"),
-        (2192, 0, "Truncated(2177)"),
-        (2193, 0, "end"),
-        (2194, 0, "Truncated(2194)"),
-        (2196, 0, "Truncated(2196)"),
-        (2545, 0, "Truncated(2545)"),
-        (2560, 0, "Truncated(2545)"),
-        (2561, 4, "end"),
-        (2564, 4, "Truncated(2564)"),
-        (2632, 4, "Truncated(2564)"),
-        (2633, 4, "Truncated(2633)"),
-        (2648, 4, "Truncated(2633)"),
-    ],
 };
 
 /// A list by the library for Python.
@@ -281,21 +239,6 @@ Record([String("s3://warehouse/db/plain/metadata/m1-rewritten.avro"), Long(5979)
 Record([String("s3://warehouse/db/plain/metadata/m3-rewritten-deletes.avro"), Long(3982), Int(0), Int(1), Long(5), Long(3), Long(5787346651261761729), Int(0), Int(2), Int(1), Long(0), Long(5), Long(3), Union(1, Array([])), NullBranch(0)])
 Record([String("s3://warehouse/db/plain/metadata/m2.avro"), Long(5318), Int(0), Int(0), Long(2), Long(2), Long(5974787585992374985), Int(9), Int(0), Int(0), Long(900), Long(0), Long(0), Union(1, Array([])), NullBranch(0)])
 end"#,
-    cuts: &[
-        (34, 0, "Truncated(33)"),
-        (42, 0, "Truncated(35)"),
-        (1629, 0, "Truncated(1614)"),
-        (1630, 0, "end"),
-        (1631, 0, "Truncated(1631)"),
-        (1633, 0, "Truncated(1633)"),
-        (1935, 0, "Truncated(1935)"),
-        (1950, 0, "Truncated(1935)"),
-        (1951, 4, "end"),
-        (1954, 4, "Truncated(1954)"),
-        (2020, 4, "Truncated(1954)"),
-        (2021, 4, "Truncated(2021)"),
-        (2036, 4, "Truncated(2021)"),
-    ],
 };
 
 #[test]
@@ -306,23 +249,5 @@ fn files_of_libraries(rt: HostRuntime) {
             "{}",
             sample.rows
         );
-    }
-}
-
-/// At which cut a file does not give what it has to.
-fn wrong_cut(alloc: Global, sample: &Sample) -> Option<usize> {
-    for &(cut, count, last) in sample.cuts {
-        match sample.bytes.get(..cut) {
-            Some(front) if gives_behind(alloc, front, count, last) => {}
-            _ => return Some(cut),
-        }
-    }
-    None
-}
-
-#[test]
-fn files_cut_short(rt: HostRuntime) {
-    for sample in [&C, &GO, &JAVA, &PYTHON] {
-        assert_eq!(rt; wrong_cut(rt.alloc(), sample), None);
     }
 }

@@ -6,9 +6,6 @@ const ARRAY: &[u8] = b"{\"type\":\"array\",\"items\":\"long\"}";
 
 const NULLS: &[u8] = b"{\"type\":\"array\",\"items\":\"null\"}";
 
-const NO_BYTES: &[u8] =
-    b"{\"type\":\"array\",\"items\":{\"type\":\"fixed\",\"name\":\"f\",\"size\":0}}";
-
 const KINDS: &[u8] = b"{\"type\":\"enum\",\"name\":\"e\",\"symbols\":[\"a\",\"b\"]}";
 
 const UNION: &[u8] = b"[\"null\",\"long\"]";
@@ -30,46 +27,15 @@ const VALUES: &[(&[u8], &[u8], &str)] = &[
         b"\xfe\xff\xff\xff\xff\xff\xff\xff\xff\x01",
         "Long(9223372036854775807)",
     ),
-    // longs that do not fit, and one that does not end
-    (
-        b"\"long\"",
-        b"\xff\xff\xff\xff\xff\xff\xff\xff\xff\xff",
-        "BadNumber",
-    ),
-    (
-        b"\"long\"",
-        b"\x80\x80\x80\x80\x80\x80\x80\x80\x80\x80\x00",
-        "BadNumber",
-    ),
-    (
-        b"\"long\"",
-        b"\xfe\xff\xff\xff\xff\xff\xff\xff\xff\x02",
-        "BadNumber",
-    ),
-    (
-        b"\"long\"",
-        b"\xff\xff\xff\xff\xff\xff\xff\xff\xff",
-        "BlockSize",
-    ),
     (b"\"int\"", b"\xff\xff\xff\xff\x0f", "Int(-2147483648)"),
-    (b"\"int\"", b"\x80\x80\x80\x80\x10", "BadNumber"),
     (KINDS, b"\x02", "Enum(1)"),
-    (KINDS, b"\x04", "BadNumber"),
-    (KINDS, b"\x01", "BadNumber"),
     (b"\"boolean\"", b"\x01", "Boolean(true)"),
     (b"\"boolean\"", b"\x02", "BadBoolean"),
     (UNION, b"\x02\x03", "Union(1, Long(-2))"),
     (UNION, b"\x00", "NullBranch(0)"),
     (UNION, b"\x04", "BadUnion"),
-    (UNION, b"\x01", "BadUnion"),
     (b"\"string\"", b"\x04\xc3\xa9", "String(\"é\")"),
     (b"\"string\"", b"\x02\xff", "BadUtf8"),
-    (b"\"string\"", b"\x01", "BadNumber"),
-    (
-        b"\"string\"",
-        b"\xfe\xff\xff\xff\xff\xff\xff\xff\xff\x01",
-        "BlockSize",
-    ),
     (b"\"bytes\"", b"\x02\xff", "Bytes([255])"),
     (
         b"{\"type\":\"fixed\",\"name\":\"f\",\"size\":2}",
@@ -96,47 +62,20 @@ const VALUES: &[(&[u8], &[u8], &str)] = &[
         b"\x02\x02k\x06\x00",
         "Map([(\"k\", Long(3))])",
     ),
-    // too many items: the least count, 16,777,217, and the most that may be
-    (
-        ARRAY,
-        b"\xff\xff\xff\xff\xff\xff\xff\xff\xff\x01",
-        "TooManyItems",
-    ),
-    (ARRAY, b"\x82\x80\x80\x10", "TooManyItems"),
-    (ARRAY, b"\x80\x80\x80\x10", "BlockSize"),
-    // items that take no bytes: none, the most that may be in one block and in two, one more, and a block that is cut
-    (NULLS, b"\x00", "Array([])"),
+    // items that take no bytes: the most that may be, and one more
     (
         NULLS,
         b"\x80\x80\x80\x10\x00",
-        "Repeated(ItemCount { number: 16777216 }, Null)",
-    ),
-    (
-        NULLS,
-        b"\xfe\xff\xff\x0f\x01\x00\x00",
         "Repeated(ItemCount { number: 16777216 }, Null)",
     ),
     (NULLS, b"\xfe\xff\xff\x0f\x04\x00", "TooManyItems"),
-    (NULLS, b"\x80\x80\x80\x10", "BlockSize"),
-    (
-        NO_BYTES,
-        b"\x80\x80\x80\x10\x00",
-        "Repeated(ItemCount { number: 16777216 }, Fixed([]))",
-    ),
 ];
 
-/// Whether a file of this block of one object gives what looks like this.
-fn is_read_as(alloc: Global, schema: &[u8], content: &[u8], look: &str) -> bool {
-    match file(alloc, schema, &[2], content) {
-        Ok(bytes) => gives(alloc, &bytes, look),
-        Err(_) => false,
-    }
-}
-
 #[test]
-fn values(rt: HostRuntime) {
-    for &(schema, content, look) in VALUES {
-        let is_right = is_read_as(rt.alloc(), schema, content, look);
-        assert!(rt; is_right, "{content:?} is no {look}");
+fn values(rt: HostRuntime) -> Result<(), Fail> {
+    for (schema, content, look) in VALUES {
+        let bytes = file(rt.alloc(), schema, &[2], content)?;
+        assert!(rt; gives(rt.alloc(), &bytes, look), "{content:?} is no {look}");
     }
+    Ok(())
 }

@@ -1,4 +1,4 @@
-//! What a refused growth changes: nothing. The test is run with each allocation refused in turn, by `tools/refuse --test`: a
+//! What a refused growth changes: nothing. The test is run with each allocation refused in turn, by `tools/trials/refuse --test`: a
 //! call answers want of memory or what it answers with ample memory, and when it is repeated it has the answer.
 
 ghost use Rattle.std.specs.Prelude.{◌≡◌, IfOk};

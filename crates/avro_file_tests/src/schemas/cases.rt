@@ -1,22 +1,5 @@
 //! Texts of schemas and what they name, ` => ` between them. A line that begins with `#` says what those below it show.
 
-/// Types without parts.
-pub const PLAIN_TYPES: &str = r#""null" => Null
-"boolean" => Boolean
-"int" => Int
-"long" => Long
-"float" => Float
-"double" => Double
-"bytes" => Bytes(Plain)
-"string" => String
-{"type":"null"} => Null
-{"type":"long"} => Long
-{"type":"int","logicalType":"date"} => Int
-{"type":"bytes"} => Bytes(Plain)
-{"type":"bytes","logicalType":"decimal","precision":9,"scale":2} => Bytes(Decimal)
-{"type":"bytes","logicalType":"big-decimal"} => Bytes(Plain)
-{"type":"bytes","logicalType":7} => Bytes(Plain)"#;
-
 /// Types with parts.
 pub const PARTS: &str = r#"{"type":"fixed","name":"f","size":0} => Fixed(0, Plain)
 {"type":"fixed","name":"f","size":2147483647} => Fixed(2147483647, Plain)
@@ -66,54 +49,6 @@ pub const NAMESPACES: &str = r#"# a dotted name ignores the namespace beside it
 [{"type":"fixed","name":"f","size":1},{"type":"f"}] => Union([Fixed(1, Plain), Fixed(1, Plain)])
 # a name that was defined further in
 [{"type":"array","items":{"type":"fixed","name":"f","size":1}},"f"] => Union([Array(Fixed(1, Plain), None, List), Fixed(1, Plain)])"#;
-
-/// What is no type.
-pub const NO_TYPE: &str = r#"null => UnknownType
-true => UnknownType
-1 => UnknownType
-{} => UnknownType
-{"type":null} => UnknownType
-{"type":1} => UnknownType
-{"type":["null"]} => UnknownType
-{"type":{"type":"long"}} => UnknownType
-"array" => UnknownType
-"map" => UnknownType
-"record" => UnknownType
-"enum" => UnknownType
-"fixed" => UnknownType
-["null",["long"]] => UnknownType
-["null",[]] => UnknownType
-["null",1] => UnknownType
-{"type":"array"} => UnknownType
-{"type":"array","items":{}} => UnknownType
-{"type":"map"} => UnknownType
-{"type":"map","values":null} => UnknownType"#;
-
-/// What lacks an attribute, or has one of another kind.
-pub const NO_DEFINITION: &str = r#"{"type":"record","fields":[]} => UnknownType
-{"type":"record","name":"","fields":[]} => UnknownType
-{"type":"record","name":1,"fields":[]} => UnknownType
-{"type":"record","name":"r"} => UnknownType
-{"type":"record","name":"r","fields":{}} => UnknownType
-{"type":"record","name":"r","fields":["long"]} => UnknownType
-{"type":"record","name":"r","fields":[{"type":"long"}]} => UnknownType
-{"type":"record","name":"r","fields":[{"name":"","type":"long"}]} => UnknownType
-{"type":"record","name":"r","fields":[{"name":1,"type":"long"}]} => UnknownType
-{"type":"record","name":"r","fields":[{"name":"a"}]} => UnknownType
-{"type":"enum","symbols":[]} => UnknownType
-{"type":"enum","name":"","symbols":[]} => UnknownType
-{"type":"enum","name":1,"symbols":[]} => UnknownType
-{"type":"enum","name":"e"} => UnknownType
-{"type":"enum","name":"e","symbols":"A"} => UnknownType
-{"type":"enum","name":"e","symbols":["A",1]} => UnknownType
-{"type":"fixed","size":1} => UnknownType
-{"type":"fixed","name":"","size":1} => UnknownType
-{"type":"fixed","name":1,"size":1} => UnknownType
-{"type":"fixed","name":"f"} => UnknownType
-{"type":"fixed","name":"f","size":"1"} => UnknownType
-{"type":"fixed","name":"f","size":-1} => UnknownType
-{"type":"fixed","name":"f","size":1.5} => UnknownType
-{"type":"fixed","name":"f","size":2147483648} => UnknownType"#;
 
 /// The first fault of some.
 pub const FIRST_FAULTS: &str =

@@ -1,11 +1,11 @@
 //! What a refused growth changes of plans: nothing. The test is run with each allocation refused in turn, by
-//! `tools/refuse --test`: a call answers want of memory or what it answers with ample memory, and when it is repeated it
+//! `tools/trials/refuse --test`: a call answers want of memory or what it answers with ample memory, and when it is repeated it
 //! has the answer.
 
 ghost use Rattle.std.specs.Prelude.{◌≤◌, length};
 
 use crate::desks::plans::is_so;
-use crate::desks::table::{Stored, Tally, scan_of_three};
+use crate::desks::table::{Open, Stored, scan_of_three};
 use crate::words::PLAN;
 use ice_desk::{PlanFault, plan_scan};
 use ice_state::{OwnedPlan, Scan};
@@ -38,8 +38,8 @@ fn planned_at_last<R: Threads + Sync>(
 ) -> Result<OwnedPlan, PlanFault>
     requires { length scan.now.wanted ≤ 65536 }
 {
-    match plan_scan(rt, alloc, files, scan, workers, &Tally::new()) {
-        Err(PlanFault::Memory) => plan_scan(rt, alloc, files, scan, workers, &Tally::new()),
+    match plan_scan(rt, alloc, files, scan, workers, &Open) {
+        Err(PlanFault::Memory) => plan_scan(rt, alloc, files, scan, workers, &Open),
         planned => planned,
     }
 }
@@ -51,7 +51,7 @@ fn of_plans_by_workers(rt: HostRuntime) {
     };
     assert!(rt; scan.wanted().len() == 3);
     for (workers, there, words) in CASES {
-        let files = Stored::new(there, 0, 0);
+        let files = Stored { there };
         let planned = planned_at_last(&rt, rt.alloc(), &files, &scan, workers);
         assert!(rt; is_so(&planned, words), "{workers} {words}");
     }

@@ -11,7 +11,6 @@ use ice_meta::Spec;
 use ice_state::Scan;
 use ice_value::SequenceNumber;
 use std::alloc::{AllocError, Global};
-use std::sync::atomic::{AtomicU64, Ordering};
 
 const NO_COUNTS: Counts = Counts {
     added_files: None,
@@ -57,37 +56,10 @@ pub fn scan_of_three(alloc: Global) -> Option<Scan> {
     Scan::new(alloc, rows, specs, Bound::always(alloc)).ok()
 }
 
-/// The files of the manifests, of which the first reads at one path fail.
+/// The files of the manifests, those that are there.
 #[derive(Drop)]
 pub struct Stored {
-    /// Which of the files are there.
-    there: [bool; 3],
-    /// Whose first reads fail.
-    failing: usize,
-    /// How many reads of it fail.
-    fails: u64,
-    /// How often it was tried.
-    tries: AtomicU64,
-    /// How many reads were made.
-    reads: AtomicU64,
-}
-
-impl Stored {
-    /// Files of which so many first reads fail.
-    pub fn new(there: [bool; 3], failing: usize, fails: u64) -> Stored {
-        Stored {
-            there,
-            failing,
-            fails,
-            tries: AtomicU64::new(0),
-            reads: AtomicU64::new(0),
-        }
-    }
-
-    /// How many reads were made.
-    pub fn reads(&self) -> u64 {
-        self.reads.load(Ordering::SeqCst)
-    }
+    pub there: [bool; 3],
 }
 
 /// Which of the manifests this path names.
@@ -114,42 +86,20 @@ impl Files for Stored {
     ghost may_fail = { λ f path. Unit {0} };
 
     fn read(&self, alloc: Global, path: &str) -> Result<Vec<u8>, ReadFault> {
-        self.reads.fetch_add(1, Ordering::SeqCst);
         let Some(which) = number_of(path) else {
             return Err(ReadFault::Absent);
         };
         if which >= self.there.len() || !self.there[which] {
             return Err(ReadFault::Absent);
         }
-        if which == self.failing && self.tries.fetch_add(1, Ordering::SeqCst) < self.fails {
-            return Err(ReadFault::Device);
-        }
         file_of(alloc, which)
     }
 }
 
-/// Lets each read pass, and counts it.
+/// Lets each read pass.
 #[derive(Drop)]
-pub struct Tally {
-    calls: AtomicU64,
-}
+pub struct Open;
 
-impl Tally {
-    /// No read has passed yet.
-    pub fn new() -> Tally {
-        Tally {
-            calls: AtomicU64::new(0),
-        }
-    }
-
-    /// How many reads have passed.
-    pub fn calls(&self) -> u64 {
-        self.calls.load(Ordering::SeqCst)
-    }
-}
-
-impl Gate for Tally {
-    fn before_take(&self, _worker: usize, _i: usize) {
-        self.calls.fetch_add(1, Ordering::SeqCst);
-    }
+impl Gate for Open {
+    fn before_take(&self, _worker: usize, _i: usize) {}
 }

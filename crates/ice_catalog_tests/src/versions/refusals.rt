@@ -1,5 +1,5 @@
 //! What a refused growth changes of a table's plan: nothing. The test is run with each allocation refused in turn, by
-//! `tools/refuse --test`: the plan is refused for want of memory, before anything was written, or it is the one that was
+//! `tools/trials/refuse --test`: the plan is refused for want of memory, before anything was written, or it is the one that was
 //! written by hand; and when it is asked for again it is there.
 
 use super::machine::{METADATA, all_files};

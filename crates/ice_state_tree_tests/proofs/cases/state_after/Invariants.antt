@@ -1,5 +1,0 @@
-use Rattle.ice_state.specs.Contents.{IsOf}
-use Rattle.ice_state_tree_tests.proofs.cases.state_after.Given as goal
-
-abbrev pub invariant-places : goal.invariant-places
-invariant-places l = IsOf l.case.scan l.state
