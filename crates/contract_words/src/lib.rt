@@ -1,5 +1,5 @@
 //! Words that the contracts of every crate use, and the small types that hold lists and texts where contracts compare
-//! them. docs/CONTRACT_WORDS.md explains them.
+//! them. The README of this crate explains them.
 #![tactic(auto)]
 
 mod duplicate;

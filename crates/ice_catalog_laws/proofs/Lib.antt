@@ -1,4 +1,4 @@
-pub mod Calls
+pub mod Stepped
 pub mod Counts
 pub mod Rows
 pub mod Squares

@@ -1,6 +1,10 @@
-//! Laws of what requests are answered: that no file is left out that has a match.
+//! Laws of what requests are answered: that no file is left out that has a match. Nothing builds on this crate.
 #![tactic(auto)]
 
 mod answers;
+mod calls;
 
 pub use answers::{filters_mean_their_texts, what_an_answer_lacks_has_no_match};
+pub use calls::{
+    commit_to, file_verdicts, plan_file_json, run_explain, run_plan_with, write_plan_json,
+};

@@ -3,13 +3,13 @@ use Rattle.std.specs.Prelude.{◌≡◌, ◌⊎◌, ℕ, List, Option, Some, Non
 use Rattle.icescan_text.specs.declared.request.Request.{Request}
 use Rattle.icescan_c.specs.Kept.{Kept}
 use Rattle.icescan_c.specs.Making.{Makes, asked, finished, started}
-use Rattle.icescan_c.specs.Requests.{ReadsTexts}
+use Rattle.icescan_c_requests.specs.Requests.{ReadsTexts}
 use Rattle.icescan_c.specs.States.{TakesOver, TakesRow, untaken}
-use Rattle.icescan_c.specs.Statuses.{status_of}
+use Rattle.icescan_c_requests.specs.Statuses.{status_of}
 use Rattle.icescan_c.specs.declared.held.Held.{Held}
 use Rattle.icescan_c.specs.declared.held.Held.TheVariants as held
-use Rattle.icescan_c.specs.declared.status.Refusal.{Refusal}
-use Rattle.icescan_c.specs.declared.status.Refusal.TheVariants as refusal
+use Rattle.icescan_c_requests.specs.declared.endings.Refusal.{Refusal}
+use Rattle.icescan_c_requests.specs.declared.endings.Refusal.TheVariants as refusal
 
 -- A call works so on what a handle holds. A handle that holds nothing is refused.
 abbrev pub OnHandle : (Held → Result Unit Refusal → Held → Type 0) → Option Held → ℕ → Option Held → Type 0

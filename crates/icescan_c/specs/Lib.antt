@@ -3,6 +3,4 @@ pub mod Handles
 pub mod Kept
 pub mod Making
 pub mod Readings
-pub mod Requests
 pub mod States
-pub mod Statuses

@@ -15,8 +15,8 @@ use Rattle.icescan_text.specs.declared.request.Request.{Request}
 use Rattle.icescan_c.specs.Kept.{Answered, AskedScan, Kept}
 use Rattle.icescan_c.specs.declared.held.Held.{Held}
 use Rattle.icescan_c.specs.declared.held.Held.TheVariants as held
-use Rattle.icescan_c.specs.declared.status.Refusal.{Refusal}
-use Rattle.icescan_c.specs.declared.status.Refusal.TheVariants as refusal
+use Rattle.icescan_c_requests.specs.declared.endings.Refusal.{Refusal}
+use Rattle.icescan_c_requests.specs.declared.endings.Refusal.TheVariants as refusal
 
 -- what a request selects of the table whose metadata these are the bytes of
 unfoldable pub answered : List ℕ → Request → Result Answered RunFault

@@ -3,12 +3,12 @@ use Rattle.std.specs.Prelude.{◌≡◌, ℕ, List, length, slice_get, Option, S
 use Rattle.ice_manifest_reading.specs.declared.entry.Entry.{Entry}
 use Rattle.ice_manifest_reading.specs.declared.row.Row.{Row}
 use Rattle.ice_state.specs.Lines.{OwnedLine}
-use Rattle.icescan_c.specs.Statuses.{status_of}
+use Rattle.icescan_c_requests.specs.Statuses.{status_of}
 use Rattle.icescan_c.specs.declared.held.Held.{Held}
 use Rattle.icescan_c.specs.declared.held.Held.TheVariants as held
 use Rattle.icescan_c.specs.declared.lent.Bytes.{Bytes}
-use Rattle.icescan_c.specs.declared.status.Refusal.{Refusal}
-use Rattle.icescan_c.specs.declared.status.Refusal.TheVariants as refusal
+use Rattle.icescan_c_requests.specs.declared.endings.Refusal.{Refusal}
+use Rattle.icescan_c_requests.specs.declared.endings.Refusal.TheVariants as refusal
 use Rattle.icescan_c.specs.declared.telling.File.{File}
 
 -- ---- what is found

@@ -4,8 +4,8 @@ use Rattle.std.specs.Prelude.{Result, Err, OnOk, OnErr, IsErrOf, IsOk, IsTrue}
 use Rattle.ice_state.specs.Contents.{is_row_taken, took}
 use Rattle.ice_state.specs.Joins.{join}
 use Rattle.icescan_c.specs.Kept.{AreOfOneScan, AskedScan, Kept}
-use Rattle.icescan_c.specs.declared.status.Refusal.{Refusal}
-use Rattle.icescan_c.specs.declared.status.Refusal.TheVariants as refusal
+use Rattle.icescan_c_requests.specs.declared.endings.Refusal.{Refusal}
+use Rattle.icescan_c_requests.specs.declared.endings.Refusal.TheVariants as refusal
 
 -- the state of a scan in which no row is taken
 abbrev pub untaken : AskedScan → Kept

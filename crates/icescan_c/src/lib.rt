@@ -2,7 +2,6 @@
 //! plan out. `include/icescan.h` tells callers in C what each call does, and what is left to them.
 #![tactic(auto)]
 
-mod asking;
 mod handle;
 mod held;
 mod lent;
@@ -12,6 +11,5 @@ mod questions;
 mod scan_calls;
 mod state_calls;
 mod states;
-mod status;
 mod telling;
 mod working;

@@ -5,8 +5,8 @@ ghost use Rattle.icescan_c.specs.Readings.{IsCount, IsDeleteOf, IsFileOfLine, Re
 ghost use Rattle.icescan_c.specs.Readings.{equalities_of, lines_in, positions_of};
 
 use crate::handle::Handle;
-use crate::status::{Refusal, status};
 use crate::telling::File;
+use icescan_c_requests::{Refusal, status};
 use std::alloc::Global;
 
 /// Tells how many data files the plan has.

@@ -4,13 +4,12 @@ ghost use Rattle.std.specs.Prelude.{◌≡◌, [], ◌∷◌, None};
 ghost use Rattle.icescan_c.specs.Calls.{Asks, OnHandle, Selects, Starts};
 ghost use Rattle.icescan_c.specs.Readings.{IsCount, IsOfLength, Reads, at_place, count_of, fault_in, list_in};
 ghost use Rattle.icescan_c.specs.Readings.{path_of, wanted_in};
-ghost use Rattle.icescan_c.specs.Requests.{by_id, by_name};
+ghost use Rattle.icescan_c_requests.specs.Requests.{by_id, by_name};
 
-use crate::asking::{request_by_id, request_by_name};
 use crate::handle::Handle;
 use crate::held::Held;
 use crate::lent::Bytes;
-use crate::status::{Refusal, status};
+use icescan_c_requests::{Refusal, request_by_id, request_by_name, status};
 use icescan_text::Request;
 use std::alloc::Global;
 

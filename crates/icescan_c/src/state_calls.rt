@@ -6,7 +6,7 @@ ghost use Rattle.icescan_c.specs.Calls.{Begins, BeginsOf, Finishes, Merges, Merg
 use crate::handle::Handle;
 use crate::held::Held;
 use crate::states::State;
-use crate::status::{Refusal, status};
+use icescan_c_requests::{Refusal, status};
 use std::alloc::Global;
 
 /// Has a handle hold the state of a scan in which no manifest is taken: `Kind` where what was lent is no scan, or

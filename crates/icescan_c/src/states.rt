@@ -6,8 +6,8 @@ ghost use Rattle.ice_state.specs.Outcomes.{outcome};
 ghost use Rattle.icescan_c.specs.States.{TakesOver, TakesRow, untaken};
 
 use crate::questions::SharedScan;
-use crate::status::Refusal;
 use ice_state::{FinishFault, OwnedPlan, Partial};
+use icescan_c_requests::Refusal;
 use std::alloc::{AllocError, Global};
 use std::marker::Model;
 

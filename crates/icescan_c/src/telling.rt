@@ -4,12 +4,12 @@ ghost use Rattle.std.specs.Prelude.{slice_get};
 ghost use Rattle.icescan_c.specs.Readings.{IsCount, IsDeleteOf, IsFileOf, IsFileOfLine, IsOfLength, Tells};
 ghost use Rattle.icescan_c.specs.Readings.{at_place, count_of, equalities_of, fault_in, lines_in, list_in, or_past};
 ghost use Rattle.icescan_c.specs.Readings.{path_of, positions_of, wanted_in};
-ghost use Rattle.icescan_c.specs.Statuses.{status_of};
+ghost use Rattle.icescan_c_requests.specs.Statuses.{status_of};
 
 use crate::held::Held;
 use crate::lent::{Bytes, Ids};
-use crate::status::Refusal;
 use ice_state::{PlanFile, PlanFiles};
+use icescan_c_requests::Refusal;
 
 /// A data file or a delete file of a plan.
 #[repr(C)]

@@ -7,8 +7,8 @@ ghost use Rattle.icescan_c.specs.Making.{Holds, Makes, asked, finished, started}
 use crate::held::Held;
 use crate::questions::{Answer, SharedScan};
 use crate::states::State;
-use crate::status::Refusal;
 use contract_words::Items;
+use icescan_c_requests::Refusal;
 use icescan_text::{Request, RunFault, report};
 use std::alloc::Global;
 use std::mem::replace;

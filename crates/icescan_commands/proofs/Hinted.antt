@@ -2,7 +2,7 @@
 use Rattle.std.proofs.Common.{◌≡◌, ◌⊎◌, ℕ, Bool, true, false, List, [], ◌∷◌, Option, refl, inl, inr, map, length, codes, arith}
 use Rattle.std.specs.Prelude.{◌==◌, Result}
 use Rattle.std.proofs.lemmas.Bool.Decides.{nat_tests}
-use Rattle.icescan_hints.proofs.Plain.{nothing_plain}
+use Rattle.icescan_progress.proofs.Plain.{nothing_plain}
 use Rattle.icescan_text.specs.declared.fault.RunFault.{RunFault}
 use Rattle.icescan_commands.specs.Answers.{Answer}
 use Rattle.icescan_commands.specs.Runs.{Explained, RanWithHint, RanWithoutHint, Refused, Told, ToldWithHint, meant, run_of}

@@ -1,9 +1,7 @@
 -- The whole program: what it makes of its words and of standard input.
 use Rattle.std.specs.Prelude.{◌≡◌, ◌≢◌, ◌⊎◌, ◌==◌, ℕ, List, length, Option, Some, None, IfSome, Result, Ok, Err, OnOk}
-use Rattle.std.specs.Prelude.{IfOk, IfErr, IsErrOf, if◌then◌else◌, Bool, true, false, not, ◌&&◌, ◌||◌, [], ◌∷◌, codes}
+use Rattle.std.specs.Prelude.{IfOk, IfErr, IsErrOf, if◌then◌else◌, Bool, true, false, [], ◌∷◌, codes}
 use Rattle.std.specs.Prelude.{option_map}
-use Rattle.std.specs.List.{list_any}
-use Rattle.std.specs.Str.{bytes_eq}
 use Rattle.contract_words.specs.Outcome.{◌>>=◌}
 use Rattle.icescan_audit_findings.specs.Telling.{faults}
 use Rattle.icescan_audit.specs.Audits.{audit_at}
@@ -24,7 +22,7 @@ use Rattle.icescan_text.specs.FaultTexts.{fault_text}
 use Rattle.icescan_print.specs.PlanTexts.{plan_text}
 use Rattle.icescan_requests.specs.Shows.{shown_at}
 use Rattle.icescan_print.specs.Written.{Appends, AppendsFront}
-use Rattle.icescan_hints.specs.Hints.{AppendsPlain}
+use Rattle.icescan_progress.specs.Hints.{AppendsPlain}
 use Rattle.ice_state.specs.Contents.{World}
 use Rattle.icescan_words.specs.CommandLines.{ReadAs}
 use Rattle.icescan_words.specs.declared.answer_format.Format.{Format}
@@ -196,22 +194,6 @@ abbrev pub meant : Bool → List (List ℕ) → List (List ℕ)
 meant true [] = codes "--help" ∷ []
 meant true (word ∷ words) = word ∷ words
 meant false words = words
-
--- whether a word is this one
-abbrev pub has_word : List ℕ → List (List ℕ) → Bool
-has_word wanted words = list_any (λ word. bytes_eq word wanted) words
-
--- whether a word is `--explain`
-abbrev pub asks_hints : List (List ℕ) → Bool
-asks_hints words = has_word (codes "--explain") words
-
--- whether what is read is shown: on a terminal, unless a word is `--quiet`
-abbrev pub shows_progress : Bool → List (List ℕ) → Bool
-shows_progress errors_is_terminal words = errors_is_terminal && not (has_word (codes "--quiet") words)
-
--- whether faults have hints
-abbrev pub hints : Bool → List (List ℕ) → Bool
-hints errors_is_terminal words = errors_is_terminal || asks_hints words
 
 -- a fault was told, and then a text without control characters was written
 pub record ToldWithHint (write_may_fail : Type 0) (errors errors' : Option (List ℕ)) (fault : RunFault) : Type 0 where

@@ -1,15 +1,15 @@
 //! The program where a user reads what it writes: a hint stands behind the line of a fault, and what is read is shown.
 
 ghost use Rattle.std.specs.Prelude.{◌≡◌, ◌∷◌, [], true, false, map, string_bytes, codes, IfOk};
-ghost use Rattle.icescan_commands.specs.Runs.{RanWithHint, RanWithoutHint, ToldWithHint, asks_hints, has_word};
-ghost use Rattle.icescan_commands.specs.Runs.{hints, meant, shows_progress};
+ghost use Rattle.icescan_commands.specs.Runs.{RanWithHint, RanWithoutHint, ToldWithHint, meant};
+ghost use Rattle.icescan_progress.specs.Asked.{hints, shows_progress};
 ghost use Rattle.icescan_text.specs.Faults.{status_of};
 
 use crate::words::{files_of, run_asked, run_words, status_of_count};
 use icescan_drill::Watch;
 use icescan_hints::{Case, place_of, put_hint};
 use icescan_print::Sink;
-use icescan_progress::{Progress, Silent};
+use icescan_progress::{Progress, Silent, Terminals, shows_hints, shows_progress};
 use icescan_requests::Folder;
 use icescan_text::{RunFault, report};
 use icescan_words::{Words, parse_words};
@@ -19,45 +19,10 @@ use std::rt::Files;
 use std::sync::Wait;
 use std::thread::Threads;
 
-/// Which of the program's ends are terminals.
-#[derive(Clone, Copy, Debug)]
-pub struct Terminals {
-    pub input: bool,
-    pub errors: bool,
-}
-
-/// Whether one of the words is this one.
-fn has_word(words: &[String], wanted: &str) -> bool
-    ensures { result ≡ has_word wanted.now (map string_bytes words.now) }
-{
-    words.iter().any(|word| word.as_str() == wanted)
-}
-
-/// Whether one of the words is `--explain`.
-fn asks_hints(words: &[String]) -> bool
-    ensures { result ≡ asks_hints (map string_bytes words.now) }
-{
-    has_word(words, "--explain")
-}
-
-/// Whether what is read is shown: where standard error is a terminal, and no word is `--quiet`.
-fn shows_progress(terminals: Terminals, words: &[String]) -> bool
-    ensures { result ≡ shows_progress terminals.errors (map string_bytes words.now) }
-{
-    terminals.errors && !has_word(words, "--quiet")
-}
-
 /// The files of what is asked for, where they are below a folder.
 fn folder_of<'a, H: Files>(host: &'a H, asked: &'a Words) -> Option<Folder<'a, H>> {
     let place = place_of(asked)?;
     Some(files_of(host, place))
-}
-
-/// Whether a hint stands behind the line of a fault.
-fn shows_hints(terminals: Terminals, words: &[String]) -> bool
-    ensures { result ≡ hints terminals.errors (map string_bytes words.now) }
-{
-    terminals.errors || asks_hints(words)
 }
 
 /// Writes the line of a fault and its hint, and gives the status that the program ends with.

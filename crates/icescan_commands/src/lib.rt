@@ -8,10 +8,10 @@ mod explanations;
 mod forms;
 mod words;
 
-pub use explaining::{Terminals, run_program};
+pub use explaining::run_program;
 pub use icescan_drill::{Drill, Watch, drill_table, run_drill};
 pub use icescan_json::{plan_file_json, run_list_plan_json};
-pub use icescan_progress::{Cleared, Progress, ProgressLine, Screen, Silent};
+pub use icescan_progress::{Cleared, Progress, ProgressLine, Screen, Silent, Terminals};
 pub use icescan_requests::{
     Bundle, CommitFolder, Folder, Selection, Store, StoreFault, commit_to, commits_are_put,
     file_name, fill_file, plan_file, plans_of_true_summaries, prepare_commit, put_commit,

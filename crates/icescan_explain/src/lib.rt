@@ -1,4 +1,5 @@
-//! Why a filter leaves out manifests and files of a table: the first leaf of it that alone says no.
+//! Explanations of plans: what became of each manifest and each live file of a snapshot, line by line, and which
+//! predicate of the filter left it out, the first that does so alone.
 #![tactic(auto)]
 
 mod applied;

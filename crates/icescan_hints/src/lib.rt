@@ -21,7 +21,6 @@ mod plan;
 mod run;
 mod schema;
 mod sentence;
-mod showing;
 mod tables;
 mod telling;
 
@@ -32,5 +31,4 @@ pub use hint::{Hint, quoted, quoted_list};
 pub use nearest::add_none_named;
 pub use run::sentences_of;
 pub use sentence::{MEMORY, Sentence};
-pub use showing::put_lines;
 pub use telling::put_hint;

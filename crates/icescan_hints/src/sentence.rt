@@ -1,6 +1,6 @@
 //! What a refusal says.
 
-/// What a refusal says, in the words of docs/REFUSALS.md, with which `tools/refusals` compares them. Lines are short
+/// What a refusal says, in the words of docs/REFUSALS.md, with which `tools/trials/refusals.py` compares them. Lines are short
 /// enough for a terminal.
 #[derive(Clone, Copy)]
 pub struct Sentence {

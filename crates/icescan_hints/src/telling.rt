@@ -1,6 +1,6 @@
 //! A fault's hint, from the fault and what was asked for.
 
-ghost use Rattle.icescan_hints.specs.Hints.{AppendsPlain};
+ghost use Rattle.icescan_progress.specs.Hints.{AppendsPlain};
 
 use crate::case::Case;
 use crate::columns::add_filter;
@@ -9,11 +9,11 @@ use crate::hint::Hint;
 use crate::manifests::{add_list, add_manifest};
 use crate::paths::{add_file_name, add_path};
 use crate::run::sentences_of;
-use crate::showing::put_lines;
 use crate::tables::{add_metadata, add_specs};
 use ice_desk::Files;
 use ice_state::{FinishFault, ScanFault};
 use icescan_print::Sink;
+use icescan_progress::put_lines;
 use icescan_text::RunFault;
 use icescan_words::{Lists, Words};
 use std::alloc::{AllocError, Global};

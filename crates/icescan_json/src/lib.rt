@@ -1,4 +1,5 @@
-//! A plan as the JSON with which an Iceberg REST catalog answers a scan that was planned.
+//! Plans as the JSON with which an Iceberg REST catalog answers a scan that was planned: of manifest lists and of
+//! tables, over any files.
 #![tactic(auto)]
 
 mod answers;

@@ -38,7 +38,7 @@
 //!   that is never met, as that program computed it from the files too
 //! - plans as JSON: of `id = 42`, with the delete files that its explanation keeps, and of lists, as that program made them;
 //!   a refusal is that of the text
-//! - refusals with `--explain`, over `data/hints`, which `tools/refusals.py make` writes: below each line what it is
+//! - refusals with `--explain`, over `data/hints`, which `tools/trials/refusals.py make` writes: below each line what it is
 //!   about and what to do
 #![tactic(auto)]
 

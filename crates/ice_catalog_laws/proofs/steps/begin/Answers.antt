@@ -1,4 +1,4 @@
-use Rattle.ice_catalog_laws.proofs.Calls.{begun_state, if_ok}
+use Rattle.ice_catalog_laws.proofs.Stepped.{begun_state, if_ok}
 use Rattle.ice_catalog_laws.proofs.steps.begin.Goals as goal
 
 pub returns : goal.returns

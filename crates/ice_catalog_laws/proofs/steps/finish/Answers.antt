@@ -1,4 +1,4 @@
-use Rattle.ice_catalog_laws.proofs.Calls.{finish_fault, finish_plan}
+use Rattle.ice_catalog_laws.proofs.Stepped.{finish_fault, finish_plan}
 use Rattle.ice_catalog_laws.proofs.steps.finish.Goals as goal
 
 pub returns : goal.returns

@@ -1,4 +1,4 @@
-use Rattle.ice_catalog_laws.proofs.Calls.{merge_call, on_ok}
+use Rattle.ice_catalog_laws.proofs.Stepped.{merge_call, on_ok}
 use Rattle.ice_catalog_laws.proofs.steps.merge.Goals as goal
 
 pub returns : goal.returns

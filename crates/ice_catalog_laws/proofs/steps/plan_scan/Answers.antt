@@ -1,4 +1,4 @@
-use Rattle.ice_catalog_laws.proofs.Calls.{plan_call}
+use Rattle.ice_catalog_laws.proofs.Stepped.{plan_call}
 use Rattle.ice_catalog_laws.proofs.steps.plan_scan.Goals as goal
 use Rattle.ice_catalog.specs.Machines.{world_of}
 

@@ -1,6 +1,6 @@
 use Rattle.std.proofs.Common.{◌∙◌, ap, sym}
 use Rattle.ice_catalog_versions.specs.Histories.{state_of}
-use Rattle.ice_catalog_laws.proofs.Calls.{swap_call}
+use Rattle.ice_catalog_laws.proofs.Stepped.{swap_call}
 use Rattle.ice_catalog_laws.proofs.steps.swap_in.Goals as goal
 
 pub returns : goal.returns

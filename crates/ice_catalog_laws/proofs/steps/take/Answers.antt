@@ -1,4 +1,4 @@
-use Rattle.ice_catalog_laws.proofs.Calls.{on_ok, take_call}
+use Rattle.ice_catalog_laws.proofs.Stepped.{on_ok, take_call}
 use Rattle.ice_catalog_laws.proofs.steps.take.Goals as goal
 
 pub returns : goal.returns

@@ -1,5 +1,5 @@
 use Rattle.ice_catalog.specs.Machines.{world_of}
-use Rattle.ice_catalog_laws.proofs.Calls.{if_ok}
+use Rattle.ice_catalog_laws.proofs.Stepped.{if_ok}
 use Rattle.ice_catalog_laws.proofs.Turns.{comes_from_nothing}
 use Rattle.ice_catalog_laws.proofs.steps.take_by_workers.Goals as goal
 
