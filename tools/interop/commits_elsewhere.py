@@ -1,8 +1,9 @@
 #!/usr/bin/python3
 """commits_elsewhere.py PROGRAM..: the files of commits, read by python3-avro and by avrocat.
 
-PROGRAM is the built icescan, or words that run it; `tools/commits_elsewhere.py crates/icescan/out/icescan`. It wants
-Debian's python3-avro and avro-bin. Three tables are made in new folders and committed to by `append` and `row-delta`:
+PROGRAM is the built icescan, or words that run it; `tools/interop/commits_elsewhere.py crates/icescan/out/icescan`. It
+wants Debian's python3-avro and avro-bin. Three tables are made in new folders and committed to by `append` and
+`row-delta`:
 
 - kinds: a spec without fields, and one with a field of each type that has bounds; two commits;
 - specs: a spec with a uuid, one with two names that Avro would have alike, and one with a name with blanks and one that

@@ -13,6 +13,8 @@ SIZES = [(1, 1), (3, 4), (64, 2)]
 
 
 def main():
+    if len(sys.argv) < 2 or sys.argv[1].startswith("--"):
+        sys.exit(__doc__)
     program = sys.argv[1]
     runs = int(sys.argv[2]) if len(sys.argv) > 2 else 50
     for threads, commits in SIZES:

@@ -20,7 +20,7 @@ import sys
 import tempfile
 import zlib
 
-TOP = os.path.dirname(os.path.dirname(os.path.abspath(__file__)))
+TOP = os.path.dirname(os.path.dirname(os.path.dirname(os.path.abspath(__file__))))
 SYNC = bytes(range(16))
 UUID = "f79c3e09-677c-4bbd-a479-3f349cb785e7"
 

@@ -26,7 +26,7 @@ import time
 import traceback
 
 HERE = os.path.dirname(os.path.abspath(__file__))
-TOP = os.path.join(HERE, "..")
+TOP = os.path.join(HERE, "..", "..")
 MEGABYTE = 1 << 20
 MOST_VALUES = 100000
 SHARED = "/dev/shm" if os.path.isdir("/dev/shm") else None

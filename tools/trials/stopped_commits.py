@@ -2,8 +2,8 @@
 """stopped_commits.py [--rounds N] [--same-words] PROGRAM: commits that are killed, commits to a disk that fails or
 loses its power, and two commits at once.
 
-PROGRAM is the built icescan; `tools/stopped_commits.py crates/icescan/out/icescan`. A small table is made in a new
-folder, and a row delta to it is made again and again:
+PROGRAM is the built icescan; `tools/trials/stopped_commits.py crates/icescan/out/icescan`. A small table is made in a
+new folder, and a row delta to it is made again and again:
 
 - with the power lost behind each call of the system: of what was not synced any part may be there;
 - killed at each call of the system that has to do with a file, from the first that reads the table on;

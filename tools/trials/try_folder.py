@@ -9,7 +9,7 @@ import subprocess
 import sys
 import tempfile
 
-TOP = os.path.join(os.path.dirname(os.path.abspath(__file__)), "..", "examples", "plain-java")
+TOP = os.path.join(os.path.dirname(os.path.abspath(__file__)), "..", "..", "examples", "plain-java")
 LIST = "s3://warehouse/db/plain/metadata/snap-5787346651261761729-1-2833c2eb-01d6-02bb-4299-f66acae4221d.avro"
 
 

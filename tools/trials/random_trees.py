@@ -17,7 +17,7 @@ import threading
 from ctypes import byref, c_size_t
 
 HERE = os.path.dirname(os.path.abspath(__file__))
-spec = importlib.util.spec_from_file_location("engine", os.path.join(HERE, "..", "examples", "engine.py"))
+spec = importlib.util.spec_from_file_location("engine", os.path.join(HERE, "..", "..", "examples", "engine.py"))
 engine = importlib.util.module_from_spec(spec)
 spec.loader.exec_module(engine)
 
@@ -116,6 +116,8 @@ def run(scan, draw, whole):
 
 
 def main():
+    if len(sys.argv) < 5 or sys.argv[1].startswith("--"):
+        sys.exit(__doc__)
     path, folder, prefix, metadata, *rest = sys.argv[1:]
     text, runs, seed = rest[0] if rest else "", int(rest[1]) if rest[1:] else 200, int(rest[2]) if rest[2:] else 1
 

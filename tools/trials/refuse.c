@@ -1,14 +1,30 @@
-/* Loaded before the C library: the allocation numbered REFUSE (from 1) is refused, and said on the file REFUSED.
-   Threads count together. */
+/* Loaded before the C library: the allocation numbered REFUSE (from 1) is refused, and its number is written to the
+   file REFUSED. Where REFUSE is 0 none is refused, and the file has in the end how many there were. Threads count
+   together. */
 #define _GNU_SOURCE
 #include <dlfcn.h>
 #include <errno.h>
 #include <fcntl.h>
 #include <stddef.h>
+#include <stdio.h>
 #include <stdlib.h>
 #include <unistd.h>
 
 static long turn, wanted = -1;
+
+static void tell(long number) {
+  char text[24];
+  const char *path = getenv("REFUSED");
+  int file = path ? open(path, O_WRONLY | O_CREAT | O_TRUNC, 0600) : -1;
+  if (file < 0) return;
+  int size = snprintf(text, sizeof text, "%ld", number);
+  if (write(file, text, size) != size) abort();
+  close(file);
+}
+
+__attribute__((destructor)) static void tell_all(void) {
+  if (wanted == 0) tell(turn);
+}
 
 static int is_refused(void) {
   if (wanted < 0) {
@@ -16,9 +32,7 @@ static int is_refused(void) {
     wanted = text ? atol(text) : 0;
   }
   if (__atomic_add_fetch(&turn, 1, __ATOMIC_RELAXED) != wanted) return 0;
-  const char *path = getenv("REFUSED");
-  int file = path ? open(path, O_WRONLY | O_CREAT | O_TRUNC, 0600) : -1;
-  if (file >= 0) close(file);
+  tell(wanted);
   errno = ENOMEM;
   return 1;
 }

@@ -15,10 +15,11 @@ import os
 import subprocess
 import sys
 
-from bundle import escaped
-
 HERE = os.path.dirname(os.path.abspath(__file__))
-EXAMPLES = [(os.path.join(HERE, "..", "examples", name, "table"), "s3://warehouse/db/" + table)
+sys.path.insert(0, os.path.dirname(HERE))
+from bundle import escaped  # noqa: E402
+
+EXAMPLES = [(os.path.join(HERE, "..", "..", "examples", name, "table"), "s3://warehouse/db/" + table)
             for name, table in (("events-java", "events"), ("plain-java", "plain"))]
 FILTERS = ["false", "id = 42", "id < 0", "ts < 0", "code is null", "(cat = 'books' or code in (7, 9))", "id in (5, 219, 100000)",
            "(ts >= 1709856000000000 and ts < 1709942400000000)", "none = 1", "id ="]

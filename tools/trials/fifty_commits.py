@@ -116,6 +116,8 @@ def check_refusal(table, run, status, line, added):
 
 
 def main():
+    if len(sys.argv) < 2 or sys.argv[1].startswith("--"):
+        sys.exit(__doc__)
     program = sys.argv[1:]
     folder = tempfile.mkdtemp()
     try:

@@ -74,6 +74,8 @@ def run(program, words, folder, pause, ends):
 
 
 def main():
+    if len(sys.argv) < 2 or sys.argv[1].startswith("--"):
+        sys.exit(__doc__)
     program = os.path.abspath(sys.argv[1])
     bad = 0
     plan, audit = ["plan"], ["audit"]
