@@ -2,4 +2,4 @@ pub mod Answering
 pub mod Committed
 pub mod Hinted
 pub mod Refusals
-pub mod ExplainedLaws
+pub mod Opened

@@ -12,11 +12,12 @@ returns-in-Ok-run_asked g c =
       c.in-Ok.ensures,
       ran.0,
       ran.1,
-      inl (
-        record { written = ran.2.written; silent = refl },
-        (c.in-Ok-run_asked.count, ran.3, c.status_of_count.ensures),
-        w.drilled,
-      ),
+      inl (record {
+        written = ran.2.written;
+        silent = refl;
+        ends = (c.in-Ok-run_asked.count, ran.3, c.status_of_count.ensures);
+        drilled = w.drilled;
+      }),
     )
 
 pub returns-in-Ok : goal.returns-in-Ok

@@ -3,10 +3,11 @@ use Rattle.std.specs.Prelude.{option_map}
 use Rattle.std.proofs.lemmas.Result.{err_from_is_err_and}
 use Rattle.icescan_requests.specs.Commits.{committed_text}
 use Rattle.icescan_commands.specs.Answers.{as_answer}
+use Rattle.icescan_commands.specs.Sources.{failing_bundle}
 use Rattle.icescan_words.specs.declared.command_line.Source.TheVariants as source
 use Rattle.icescan_commands.proofs.Committed.{no_files}
 use Rattle.icescan_commands.proofs.Refusals.{is_left, left_of, no_bundle_ran, untold_ran}
-use Rattle.icescan_commands.proofs.words.commit.Goals as goal
+use Rattle.icescan_commands.proofs.arms.commit.Goals as goal
 
 pub returns-in_err-bundle-in-Bundle : goal.returns-in_err-bundle-in-Bundle
 returns-in_err-bundle-in-Bundle g c =
@@ -34,6 +35,6 @@ returns-in-Folder g c =
     rw asked (
       left_of left,
       is_left left,
-      untold_ran (g.W.Sink.may_fail c.args.output.now) c.commit_to.result _ _
+      untold_ran (failing_bundle (g.W.Sink.may_fail c.args.output.now)) c.commit_to.result _ _
           c.commit_to.ensures.nothing,
     )
