@@ -20,6 +20,7 @@ hinted given asked text left r = record {
   status_is = r.status_is;
   nothing = r.nothing;
   front = r.front;
+  stored = r.stored;
   told = plainly given.tell_may_fail given.errors left.errors r.fault r.told;
 }
 

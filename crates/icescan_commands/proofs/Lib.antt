@@ -3,3 +3,4 @@ pub mod Committed
 pub mod Hinted
 pub mod Refusals
 pub mod Opened
+pub mod Stored

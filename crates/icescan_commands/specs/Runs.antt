@@ -10,6 +10,7 @@ use Rattle.icescan_commands.specs.Answers.{Answer, WroteAnswer, WroteAnswerFront
 use Rattle.icescan_json.specs.JsonAnswers.{typed_answer_at, typed_list_answer}
 use Rattle.icescan_commands.specs.Sources.{Below, Failing, MayFailBelow, failing_bundle, failing_over, failing_place}
 use Rattle.icescan_commands.specs.Sources.{failing_unread, over, world_at}
+use Rattle.icescan_commands.specs.Storing.{IsStoredBy, MayFailToPut, Stored}
 use Rattle.icescan_explain.specs.Explanations.{explained_at}
 use Rattle.icescan_explain.specs.Texts.{explanation_text}
 use Rattle.icescan_explain.specs.declared.manifests.Explanation.{Explanation}
@@ -199,20 +200,26 @@ pub record Told (write_may_fail : Type 0) (errors errors' : Option (List ℕ)) (
   pub front : AppendsFront errors errors' (fault_text fault)
   pub all : (write_may_fail → ⊥) → Appends errors errors' (fault_text fault)
 
--- What a run is given: the files below folders, where they are reported, and where reading them may fail; what standard
--- input has left, where that is known; what its output and its errors took, and whether a write of either may fail.
+-- What a run is given: the files below folders, where they are reported, and where reading them may fail; the files that
+-- stores below folders have, and where putting one may fail; what standard input has left, where that is known; what its
+-- output and its errors took, and whether a write of either may fail.
 pub record Given : Type 1 where
   pub below : Below
   pub read_may_fail : MayFailBelow
+  pub stored : Stored
+  pub put_may_fail : MayFailToPut
   pub input : Option (List ℕ)
   pub output : Option (List ℕ)
   pub write_may_fail : Type 0
   pub errors : Option (List ℕ)
   pub tell_may_fail : Type 0
 
--- what it leaves: its status, and what its output and its errors took
+-- what it leaves: its status, the files that stores below folders have, and those of the folder that was entered last;
+-- what its output and its errors took
 pub record Left : Type 0 where
   pub status : ℕ
+  pub stored : Stored
+  pub files : Option (List File)
   pub output : Option (List ℕ)
   pub errors : Option (List ℕ)
 
@@ -225,12 +232,18 @@ abbrev pub IsCause : Given → Result Words RunFault → List ℕ → RunFault �
 IsCause given asked text fault = IfSome (known_of given asked text)
     (λ read. MayRefuse read (failing_run given.below given.read_may_fail asked given.write_may_fail) fault)
 
+-- what became of the files of stores
+abbrev pub StoredAs : Given → Result Words RunFault → Result Unit RunFault → Left → Type 0
+StoredAs given asked result left = IsStoredBy asked given.below given.read_may_fail given.stored given.put_may_fail
+    given.write_may_fail result left.stored left.files given.output left.output
+
 -- the program ended without a fault: it wrote the answer to its output, and nothing else
 pub record Wrote (given : Given) (asked : Result Words RunFault) (text : List ℕ) (left : Left) : Type 0 where
   pub written : IfSome (known_of given asked text) (λ read. WroteAnswer read given.output left.output)
   pub silent : left.errors ≡ given.errors
   pub ends : EndsWith given.below asked text left.status
   pub drilled : IsOfDrill asked given.output left.output
+  pub stored : StoredAs given asked (Ok tt) left
 
 -- The program ended with a fault: it told it, and wrote nothing else but after a failed write, and then a front of the
 -- answer.
@@ -241,6 +254,7 @@ pub record Refused (given : Given) (asked : Result Words RunFault) (text : List 
   pub nothing : fault ≢ run.Write → left.output ≡ given.output
   pub front : fault ≡ run.Write
       → IfSome (known_of given asked text) (λ read. WroteAnswerFront read given.output left.output)
+  pub stored : StoredAs given asked (Err fault) left
   pub told : Told given.tell_may_fail given.errors left.errors fault
 
 -- ---- at a terminal
@@ -265,6 +279,7 @@ pub record Explained (given : Given) (asked : Result Words RunFault) (text : Lis
   pub nothing : fault ≢ run.Write → left.output ≡ given.output
   pub front : fault ≡ run.Write
       → IfSome (known_of given asked text) (λ read. WroteAnswerFront read given.output left.output)
+  pub stored : StoredAs given asked (Err fault) left
   pub told : ToldWithHint given.tell_may_fail given.errors left.errors fault
 
 -- what `run_words` says of a run by its words

@@ -5,6 +5,7 @@ ghost use Rattle.icescan_audit.specs.Audits.{audit_at, audit_reads_at};
 ghost use Rattle.icescan_commands.specs.Answers.{as_answer, plain};
 ghost use Rattle.icescan_commands.specs.Runs.{IsCount, Ran, answer_to, ended, failing_of, list_in};
 ghost use Rattle.icescan_commands.specs.Sources.{failing_bundle, failing_unread};
+ghost use Rattle.icescan_commands.specs.Storing.{IsStored};
 ghost use Rattle.icescan_drill.specs.Drills.{WroteDrill};
 ghost use Rattle.icescan_requests.specs.Bundles.{IsInput, bundle_of};
 ghost use Rattle.icescan_requests.specs.Commits.{committed_text};
@@ -213,11 +214,14 @@ pub fn commit<H, S: Folders, P: Progress, K: Stores, R: Read, W: Sink>(
     output: &mut W,
 ) -> Result<(), RunFault>
     requires { P.may_be_told system.now.progress.now ≡ true }
-    ensures { (text : List ℕ) × IsInput (R.remaining input.old) text ×
+    ensures ran { (text : List ℕ) × IsInput (R.remaining input.old) text ×
         Ran (answer_to (S.below system.now.folders.now) (Words.Commit source.now request.now) text)
         (failing_of (S.below system.now.folders.now) (S.may_fail system.now.folders.now)
         (Words.Commit source.now request.now) (W.may_fail output.old))
         result (W.taken output.old) (W.taken output.new) }
+    ensures stored { IsStored (Words.Commit source.now request.now) (S.below system.now.folders.now)
+        (S.may_fail system.now.folders.now) (K.below stores.old) (K.below_may_fail stores.old) (W.may_fail output.old)
+        result (K.below stores.new) (K.files stores.new) (W.taken output.old) (W.taken output.new) }
 {
     match source {
         Source::Bundle => {

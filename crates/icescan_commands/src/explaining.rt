@@ -62,13 +62,21 @@ where
     ensures { RanWithHint (record {
       below = S.below system.now.folders.now;
       read_may_fail = S.may_fail system.now.folders.now;
+      stored = K.below stores.old;
+      put_may_fail = K.below_may_fail stores.old;
       input = R.remaining input.old;
       output = W.taken output.old;
       write_may_fail = W.may_fail output.old;
       errors = E.taken errors.old;
       tell_may_fail = E.may_fail errors.old;
     }) (map string_bytes words.now)
-        (record { status = result; output = W.taken output.new; errors = E.taken errors.new }) }
+        (record {
+          status = result;
+          stored = K.below stores.new;
+          files = K.files stores.new;
+          output = W.taken output.new;
+          errors = E.taken errors.new;
+        }) }
 {
     match parse_words(system.alloc, words) {
         Ok(asked) => match run_asked(system, &asked, stores, input, output) {
@@ -111,13 +119,21 @@ where
     ensures { RanWithHint (record {
       below = S.below system.now.folders.now;
       read_may_fail = S.may_fail system.now.folders.now;
+      stored = K.below stores.old;
+      put_may_fail = K.below_may_fail stores.old;
       input = R.remaining input.old;
       output = W.taken output.old;
       write_may_fail = W.may_fail output.old;
       errors = E.taken errors.old;
       tell_may_fail = E.may_fail errors.old;
     }) (map string_bytes words.now)
-        (record { status = result; output = W.taken output.new; errors = E.taken errors.new }) }
+        (record {
+          status = result;
+          stored = K.below stores.new;
+          files = K.files stores.new;
+          output = W.taken output.new;
+          errors = E.taken errors.new;
+        }) }
 {
     if shows_progress(terminals, words) {
         run_explained(system, words, stores, input, output, errors)
@@ -155,13 +171,21 @@ where
     ensures { RanWithoutHint (record {
       below = S.below system.now.folders.now;
       read_may_fail = S.may_fail system.now.folders.now;
+      stored = K.below stores.old;
+      put_may_fail = K.below_may_fail stores.old;
       input = R.remaining input.old;
       output = W.taken output.old;
       write_may_fail = W.may_fail output.old;
       errors = E.taken errors.old;
       tell_may_fail = E.may_fail errors.old;
     }) (codes "--help" ∷ [])
-        (record { status = result; output = W.taken output.new; errors = E.taken errors.new }) }
+        (record {
+          status = result;
+          stored = K.below stores.new;
+          files = K.files stores.new;
+          output = W.taken output.new;
+          errors = E.taken errors.new;
+        }) }
 {
     match help_words(system.alloc) {
         Ok(words) => run_words(system, &words, stores, input, output, errors),
@@ -193,24 +217,40 @@ where
         RanWithoutHint (record {
           below = S.below system.now.folders.now;
           read_may_fail = S.may_fail system.now.folders.now;
+          stored = K.below stores.old;
+          put_may_fail = K.below_may_fail stores.old;
           input = R.remaining input.old;
           output = W.taken output.old;
           write_may_fail = W.may_fail output.old;
           errors = E.taken errors.old;
           tell_may_fail = E.may_fail errors.old;
         }) (meant terminals.input (map string_bytes words.now))
-        (record { status = result; output = W.taken output.new; errors = E.taken errors.new }) }
+        (record {
+          status = result;
+          stored = K.below stores.new;
+          files = K.files stores.new;
+          output = W.taken output.new;
+          errors = E.taken errors.new;
+        }) }
     // In any case: that, but that a text without control characters may stand after the line of a fault.
     ensures run { RanWithHint (record {
       below = S.below system.now.folders.now;
       read_may_fail = S.may_fail system.now.folders.now;
+      stored = K.below stores.old;
+      put_may_fail = K.below_may_fail stores.old;
       input = R.remaining input.old;
       output = W.taken output.old;
       write_may_fail = W.may_fail output.old;
       errors = E.taken errors.old;
       tell_may_fail = E.may_fail errors.old;
     }) (meant terminals.input (map string_bytes words.now))
-        (record { status = result; output = W.taken output.new; errors = E.taken errors.new }) }
+        (record {
+          status = result;
+          stored = K.below stores.new;
+          files = K.files stores.new;
+          output = W.taken output.new;
+          errors = E.taken errors.new;
+        }) }
 {
     let silent = silently(system, &Silent);
     if terminals.input && words.is_empty() {

@@ -4,6 +4,7 @@ ghost use Rattle.std.specs.Prelude.{◌≡◌, ◌⊎◌, ℕ, List, Option, Res
 ghost use Rattle.icescan_requests.specs.Bundles.{IsInput};
 ghost use Rattle.icescan_commands.specs.Runs.{IsCount, IsCountOf, IsOfDrill, Ran, RanWithoutHint, answer_to, ended};
 ghost use Rattle.icescan_commands.specs.Runs.{failing_of, failing_run, run_of, status_of_count};
+ghost use Rattle.icescan_commands.specs.Storing.{IsStored, IsStoredBy};
 ghost use Rattle.icescan_words.specs.CommandLines.{ReadAs};
 ghost use Rattle.icescan_words.specs.declared.command_line.Words.{Words};
 ghost use Rattle.icescan_text.specs.declared.fault.RunFault.{RunFault};
@@ -48,6 +49,9 @@ where
         (W.may_fail output.old)) (ended result) (W.taken output.old) (W.taken output.new)
         × IfOk result (IsCount (S.below system.now.folders.now) asked.now text) }
     ensures drilled { OnOk result (IsOfDrill (Ok asked.now) (W.taken output.old) (W.taken output.new)) }
+    ensures stored { IsStored asked.now (S.below system.now.folders.now)
+        (S.may_fail system.now.folders.now) (K.below stores.old) (K.below_may_fail stores.old) (W.may_fail output.old)
+        (ended result) (K.below stores.new) (K.files stores.new) (W.taken output.old) (W.taken output.new) }
 {
     match asked {
         Words::ListPlan(lists, format) => {
@@ -98,6 +102,9 @@ where
     requires { P.may_be_told system.now.progress.now ≡ true }
     ensures { (asked : Result Words RunFault) × ReadAs (map string_bytes words.now) asked ×
         OnOk result (IsOfDrill asked (W.taken output.old) (W.taken output.new)) ×
+        IsStoredBy asked (S.below system.now.folders.now)
+        (S.may_fail system.now.folders.now) (K.below stores.old) (K.below_may_fail stores.old) (W.may_fail output.old)
+        (ended result) (K.below stores.new) (K.files stores.new) (W.taken output.old) (W.taken output.new) ×
         (text : List ℕ) × IsInput (R.remaining input.old) text ×
         Ran (run_of (S.below system.now.folders.now) asked text)
         (failing_run (S.below system.now.folders.now) (S.may_fail system.now.folders.now) asked
@@ -137,13 +144,21 @@ where
     ensures run { RanWithoutHint (record {
       below = S.below system.now.folders.now;
       read_may_fail = S.may_fail system.now.folders.now;
+      stored = K.below stores.old;
+      put_may_fail = K.below_may_fail stores.old;
       input = R.remaining input.old;
       output = W.taken output.old;
       write_may_fail = W.may_fail output.old;
       errors = E.taken errors.old;
       tell_may_fail = E.may_fail errors.old;
     }) (map string_bytes words.now)
-        (record { status = result; output = W.taken output.new; errors = E.taken errors.new }) }
+        (record {
+          status = result;
+          stored = K.below stores.new;
+          files = K.files stores.new;
+          output = W.taken output.new;
+          errors = E.taken errors.new;
+        }) }
 {
     match run(system, words, stores, input, output) {
         Ok(count) => status_of_count(count),

@@ -21,6 +21,7 @@ returns-in-Err g c =
         status_is = c.report.ensures.status;
         nothing = λ _. refl;
         front = λ is. absurd cc;
+        stored = refl;
         told = record { front = c.report.ensures.front; all = c.report.ensures.all };
       }),
     )
