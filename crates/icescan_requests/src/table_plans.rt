@@ -118,14 +118,14 @@ pub fn plan_table_at<R: Threads + Sync, F: Files + Sync>(
     // Over files that tell their world.
     ensures found { (world : World) → F.world files.now ≡ Some world →
         IfOk result (λ planned. answer_at over_wanted_rows world path.now request.now workers ≡ Ok planned.plan) }
-    ensures selection { (world : World) → F.world files.now ≡ Some world →
-        IfOk result (λ planned. (metadata : List ℕ) × (file_in world path.now ≡ Ok metadata)
-        × AreSelected metadata request.now planned.specs) }
     ensures refused { (world : World) → F.world files.now ≡ Some world →
         IfErr result (MayEnd (answer_at over_wanted_rows world path.now request.now workers)
         (EndsAt world (F.may_fail files.now) (reads_at world path.now request.now)) ⊥) }
 
     // Over all files.
+    ensures selection { IfOk result (λ planned. (metadata : List ℕ)
+        × ((world : World) → F.world files.now ≡ Some world → file_in world path.now ≡ Ok metadata)
+        × AreSelected metadata request.now planned.specs) }
     ensures absent { (path : List ℕ) → IsErrOf result (RunFault.Absent path) → HasAt (F.world files.now) path None }
     ensures device { (path : List ℕ) → IsErrOf result (RunFault.Device path) → F.may_fail files.now path }
     ensures write { IsErrOf result RunFault.Write → ⊥ }

@@ -126,6 +126,8 @@ pub fn plan_file<R: Threads + Sync, F: Files + Sync, W: Sink>(
         (W.may_fail output.old) result (W.taken output.old) (W.taken output.new) }
 
     // Over all files.
+    ensures selection { OnOk result ((metadata : List ℕ) × (selection : Selection)
+        × (selected metadata request.now ≡ Ok selection)) }
     ensures text { WritesAPlan result (W.taken output.old) (W.taken output.new) }
     ensures refusal { OnRefusal (F.world files.now) (F.may_fail files.now) (W.may_fail output.old) result
         (W.taken output.old) (W.taken output.new) }

@@ -13,7 +13,7 @@ pub returns-clause-found : goal.returns-clause-found
 returns-clause-found g c =
     let typed = c.in_ok-of.ensures in
     λ world told.
-    let asked = c.in_ok-planned.ensures.selection world told in
+    let asked = c.in_ok-planned.ensures.selection in
     typed_found_at world c.args.path.now c.args.request.now c.args.workers c.args.workers.invariant.0
-    c.args.workers.invariant.1 asked.0 asked.1 c.in_ok-planned.planned.specs c.in_ok-of.field-0 asked.2
+    c.args.workers.invariant.1 asked.0 (asked.1 world told) c.in_ok-planned.planned.specs c.in_ok-of.field-0 asked.2
     (rw typed.plan (c.in_ok-planned.ensures.found world told)) typed.types

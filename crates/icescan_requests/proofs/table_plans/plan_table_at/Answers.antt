@@ -31,6 +31,5 @@ returns-clause-refused g c =
 
 pub returns-clause-selection : goal.returns-clause-selection
 returns-clause-selection g c =
-    λ world told.
-    let has = c.in_ok-metadata.ensures.found world told ∙ ap Ok (sym c.deref.ensures.value) in
+    let has = λ world told. c.in_ok-metadata.ensures.found world told ∙ ap Ok (sym c.deref.ensures.value) in
     IfOk-weaker c.plan_table.result _ _ (λ planned asked. (c.deref.result.now, has, asked)) c.plan_table.ensures.selection

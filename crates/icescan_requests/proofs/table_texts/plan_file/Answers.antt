@@ -1,6 +1,6 @@
 use Rattle.std.proofs.Common.{◌≡◌, ◌∙◌, ap, sym}
 use Rattle.std.specs.Prelude.{Err}
-use Rattle.std.proofs.lemmas.Result.{err_from_is_err_and}
+use Rattle.std.proofs.lemmas.Result.{err_from_is_err_and, on_ok_weaker}
 use Rattle.icescan_text.specs.declared.fault.RunFault.TheVariants as run
 use Rattle.icescan_text.proofs.Workers.{in_range}
 use Rattle.icescan_requests.specs.Plans.{over_all_rows, over_wanted_rows}
@@ -100,3 +100,8 @@ returns-clause-text g c =
     let wrote = c.write_plan_by_workers.ensures in
     writes_plan c.in_ok-planned.planned.plan c.write_plan_by_workers.result _ _ (rw c.lines.ensures at wrote.all)
     (rw c.lines.ensures at wrote.front)
+
+pub returns-clause-selection : goal.returns-clause-selection
+returns-clause-selection g c =
+    let read = c.in_ok-planned.ensures.selection in
+    on_ok_weaker c.write_plan_by_workers.result (λ _. (read.0, read.2, read.3)) c.write_plan_by_workers.ensures.all
