@@ -58,9 +58,9 @@ fn typed_table_at<R: Threads + Sync, F: Files + Sync>(
     workers: Workers,
 ) -> Result<TypedPlan, RunFault>
     ensures found { (world : World) → F.world files.now ≡ Some world →
-        IfOk result (λ typed. typed_answer_at over_wanted_rows world path.now request.now workers ≡ Ok typed) }
+        IfOk result (λ typed. typed_answer_at over_wanted_rows world path.now request.now workers.count ≡ Ok typed) }
     ensures refused { (world : World) → F.world files.now ≡ Some world →
-        IfErr result (MayEnd (typed_answer_at over_wanted_rows world path.now request.now workers)
+        IfErr result (MayEnd (typed_answer_at over_wanted_rows world path.now request.now workers.count)
         (EndsAt world (F.may_fail files.now) (reads_at world path.now request.now)) ⊥) }
     ensures absent { (path : List ℕ) → IsErrOf result (RunFault.Absent path) → HasAt (F.world files.now) path None }
     ensures device { (path : List ℕ) → IsErrOf result (RunFault.Device path) → F.may_fail files.now path }

@@ -117,9 +117,9 @@ pub fn plan_table_at<R: Threads + Sync, F: Files + Sync>(
 ) -> Result<TablePlan, RunFault>
     // Over files that tell their world.
     ensures found { (world : World) → F.world files.now ≡ Some world →
-        IfOk result (λ planned. answer_at over_wanted_rows world path.now request.now workers ≡ Ok planned.plan) }
+        IfOk result (λ planned. answer_at over_wanted_rows world path.now request.now workers.count ≡ Ok planned.plan) }
     ensures refused { (world : World) → F.world files.now ≡ Some world →
-        IfErr result (MayEnd (answer_at over_wanted_rows world path.now request.now workers)
+        IfErr result (MayEnd (answer_at over_wanted_rows world path.now request.now workers.count)
         (EndsAt world (F.may_fail files.now) (reads_at world path.now request.now)) ⊥) }
 
     // Over all files.

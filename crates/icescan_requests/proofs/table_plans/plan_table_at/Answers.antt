@@ -8,8 +8,8 @@ pub returns-in_err-metadata-clause-refused : goal.returns-in_err-metadata-clause
 returns-in_err-metadata-clause-refused g c =
     let p = err_from_is_err_and c.from_residual.result c.from_residual.ensures.1 in
     λ world told. rw (p.1, p.2)
-    (no_metadata (g.F.Files.may_fail c.args.files.now) world c.args.path.now c.args.request.now c.args.workers
-    c.args.workers.invariant.0 c.args.workers.invariant.1 c.in_err-metadata.field-0.0
+    (no_metadata (g.F.Files.may_fail c.args.files.now) world c.args.path.now c.args.request.now c.args.workers.count
+    c.args.workers.some c.args.workers.few c.in_err-metadata.field-0.0
     (c.in_err-metadata.ensures.refused world told))
 
 pub returns-clause-found : goal.returns-clause-found
@@ -17,7 +17,7 @@ returns-clause-found g c =
     λ world told.
     let has = c.in_ok-metadata.ensures.found world told ∙ ap Ok (sym c.deref.ensures.value) in
     let behind = answer_behind (g.F.Files.may_fail c.args.files.now) world c.args.path.now c.args.request.now
-    c.args.workers c.args.workers.invariant.0 c.args.workers.invariant.1 c.deref.result.now has in
+    c.args.workers.count c.args.workers.some c.args.workers.few c.deref.result.now has in
     IfOk-weaker c.plan_table.result _ _ (λ planned is. behind ∙ is) (c.plan_table.ensures.found world told)
 
 pub returns-clause-refused : goal.returns-clause-refused
@@ -26,10 +26,13 @@ returns-clause-refused g c =
     let has = c.in_ok-metadata.ensures.found world told ∙ ap Ok (sym c.deref.ensures.value) in
     IfErr-weaker c.plan_table.result _ _
     (no_plan_behind (g.F.Files.may_fail c.args.files.now) world c.args.path.now c.args.request.now
-    c.args.workers c.args.workers.invariant.0 c.args.workers.invariant.1 c.deref.result.now has)
+    c.args.workers.count c.args.workers.some c.args.workers.few c.deref.result.now has)
     (c.plan_table.ensures.refused world told)
 
 pub returns-clause-selection : goal.returns-clause-selection
 returns-clause-selection g c =
-    let has = λ world told. c.in_ok-metadata.ensures.found world told ∙ ap Ok (sym c.deref.ensures.value) in
-    IfOk-weaker c.plan_table.result _ _ (λ planned asked. (c.deref.result.now, has, asked)) c.plan_table.ensures.selection
+    IfOk-weaker c.plan_table.result _ _ (λ planned asked. (
+      c.deref.result.now,
+      (λ world told. c.in_ok-metadata.ensures.found world told ∙ ap Ok (sym c.deref.ensures.value)),
+      asked,
+    )) c.plan_table.ensures.selection
