@@ -23,3 +23,8 @@ returns-clause-found g c =
     λ world told.
     answer_there (g.F.Files.may_fail c.args.files.now) world c.args.metadata.now c.args.request.now
     c.in_ok-selected.selected (c.in_ok-selected.ensures.found world told) ∙ c.in_ok-plan.ensures.found world told
+
+pub returns-clause-selection : goal.returns-clause-selection
+returns-clause-selection g c =
+    let asked = c.in_ok-selected.ensures.selection in
+    (asked.0, asked.1, c.in_ok-specs.ensures ∙ (c.as_slice.ensures ∙ asked.2))
