@@ -14,7 +14,7 @@ as_explanation (Ok x) = Ok (explanation_text x)
 as_explanation (Err fault) = Err fault
 
 -- the explanation of the plan that is asked of a table in a bundle, by so many workers, or the first fault: of the
--- bundle, of the file with the metadata, of the number of workers, of the plan
+-- bundle, of the number of workers, of the file with the metadata, of the plan
 unfoldable pub explained : List ℕ → Request → ℕ → List ℕ → Result Explanation RunFault
 explained path request workers input = do
   files ← bundle_of input

@@ -73,14 +73,14 @@ plan_in format.Text world path request workers =
 plan_in format.Json world path request workers = as_json (typed_answer_at over_wanted_rows world path request workers)
 
 -- the plan that is asked of a table in a bundle, in a form and by so many workers, or the first fault: of the bundle,
--- of the file with the metadata, of the number of workers, of the plan
+-- of the number of workers, of the file with the metadata, of the plan
 unfoldable pub planned : Format → List ℕ → Request → ℕ → List ℕ → Result Answer RunFault
 planned form path request workers input = do
   files ← bundle_of input
   plan_in form (λ path. bytes_at files path) path request workers
 
 -- the audit of a snapshot of the table whose metadata is at a path of a bundle, by so many workers, or the first fault:
--- of the bundle, of the file with the metadata, of the number of workers, of the audit
+-- of the bundle, of the number of workers, of the file with the metadata, of the audit
 unfoldable pub audited : List ℕ → Target → ℕ → List ℕ → Result Audit RunFault
 audited path target workers input = do
   files ← bundle_of input
