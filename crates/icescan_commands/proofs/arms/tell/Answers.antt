@@ -1,6 +1,6 @@
 use Rattle.std.proofs.lemmas.Result.{err_from_is_err_and}
 use Rattle.icescan_commands.proofs.Answering.{text_failed, text_ran}
-use Rattle.icescan_commands.proofs.words.tell.Goals as goal
+use Rattle.icescan_commands.proofs.arms.tell.Goals as goal
 
 pub returns-in_err-write_all : goal.returns-in_err-write_all
 returns-in_err-write_all g c =

@@ -5,10 +5,11 @@ use Rattle.ice_state.specs.Contents.{World}
 use Rattle.icescan_requests.specs.Bundles.{bytes_at}
 use Rattle.icescan_requests.specs.Commits.{committed_text}
 use Rattle.icescan_commands.specs.Answers.{as_answer}
+use Rattle.icescan_commands.specs.Sources.{failing_bundle}
 use Rattle.icescan_commands.proofs.Committed.{commit_ran, failed_ran, wrote_ran}
 use Rattle.icescan_commands.proofs.Refusals.{memory_ran}
 use Rattle.icescan_requests.proofs.Stored.{added_is, text_is}
-use Rattle.icescan_commands.proofs.words.print_commit.Goals as goal
+use Rattle.icescan_commands.proofs.arms.print_commit.Goals as goal
 
 pub returns-in_err-prepared : goal.returns-in_err-prepared
 returns-in_err-prepared g c = λ text is.
@@ -21,14 +22,14 @@ returns-in_err-prepared g c = λ text is.
 pub returns-in_err-metadata : goal.returns-in_err-metadata
 returns-in_err-metadata g c = λ text is.
     let p = err_from_is_err_and c.from_residual-in_err-metadata.result c.from_residual-in_err-metadata.ensures.1 in
-    rw (p.1, p.2) (memory_ran (option_map as_answer (committed_text c.args.request.now text)) (g.W.Sink.may_fail c.args.output.now)
-    _)
+    rw (p.1, p.2) (memory_ran (option_map as_answer (committed_text c.args.request.now text))
+    (failing_bundle (g.W.Sink.may_fail c.args.output.now)) _)
 
 pub returns-in_err-lines : goal.returns-in_err-lines
 returns-in_err-lines g c = λ text is.
     let p = err_from_is_err_and c.from_residual-in_err-lines.result c.from_residual-in_err-lines.ensures.1 in
-    rw (p.1, p.2) (memory_ran (option_map as_answer (committed_text c.args.request.now text)) (g.W.Sink.may_fail c.args.output.now)
-    _)
+    rw (p.1, p.2) (memory_ran (option_map as_answer (committed_text c.args.request.now text))
+    (failing_bundle (g.W.Sink.may_fail c.args.output.now)) _)
 
 pub returns-in_err-write_all : goal.returns-in_err-write_all
 returns-in_err-write_all g c = λ text is.
