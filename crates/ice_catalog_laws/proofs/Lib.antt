@@ -4,4 +4,3 @@ pub mod Rows
 pub mod Squares
 pub mod Trees
 pub mod Turns
-pub mod Asked
