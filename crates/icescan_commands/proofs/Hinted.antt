@@ -5,7 +5,7 @@ use Rattle.std.proofs.lemmas.Bool.Decides.{nat_tests}
 use Rattle.icescan_progress.proofs.Plain.{nothing_plain}
 use Rattle.icescan_text.specs.declared.fault.RunFault.{RunFault}
 use Rattle.icescan_commands.specs.Runs.{Explained, Given, Left, RanWithHint, RanWithoutHint, Refused, Told, ToldWithHint}
-use Rattle.icescan_commands.specs.Runs.{Wrote, meant}
+use Rattle.icescan_commands.specs.Runs.{meant}
 use Rattle.icescan_words.specs.declared.command_line.Words.{Words}
 
 -- a fault that is told without a hint

@@ -1,6 +1,6 @@
 -- What a command gives whose files were opened: those of a bundle, or those below a folder.
-use Rattle.std.proofs.Common.{◌≡◌, ◌≢◌, ◌⊎◌, ◌×◌, ℕ, List, [], ◌∷◌, Option, Some, None, refl, subst, sym, inl, inr}
-use Rattle.std.specs.Prelude.{Result, Ok, Err, IfErr, IfOk, IfSome, is_some, option_map}
+use Rattle.std.proofs.Common.{◌≡◌, ◌≢◌, ℕ, List, [], ◌∷◌, Option, Some, None, refl, subst, sym, inl, inr, ◌∙◌}
+use Rattle.std.specs.Prelude.{Result, Ok, Err, IfErr, IfOk, IfSome, option_map}
 use Rattle.contract_words.specs.Outcome.{◌>>=◌}
 use Rattle.ice_desk.specs.Worlds.{EndsAt}
 use Rattle.ice_state.specs.Contents.{World}

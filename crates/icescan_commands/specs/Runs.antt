@@ -65,10 +65,8 @@ list_plan_in format.Json world list = as_json (typed_list_answer world list)
 -- the plan of a list, in a form: of a bundle that of the list that is asked for or of its first file, or the first fault
 -- of the bundle; of a folder that of the list at a path
 abbrev pub list_planned : Below → Lists → Format → List ℕ → Option (Result Answer RunFault)
-list_planned below (lists.Bundle list) form input = Some (do
-  files ← bundle_of input
-  path ← list_in files list
-  list_plan_in form (λ path. bytes_at files path) path)
+list_planned below (lists.Bundle list) form input = Some (bundle_of input >>= λ files.
+    list_in files list >>= λ path. list_plan_in form (λ path. bytes_at files path) path)
 list_planned below (lists.Folder place list) form input =
     option_map (λ world. list_plan_in form world list) (world_at below place)
 

@@ -1,7 +1,6 @@
 //! The commands, each as one call over the files of its table.
 
-ghost use Rattle.std.specs.Prelude.{◌≡◌, ℕ, List, Option, Some, None, Ok, Err, IfOk, IfErr, OnOk, option_map, true};
-ghost use Rattle.icescan_audit.specs.Audits.{audit_at, audit_reads_at};
+ghost use Rattle.std.specs.Prelude.{◌≡◌, ℕ, List, Some, None, Ok, Err, IfOk, IfErr, OnOk, option_map, true};
 ghost use Rattle.icescan_commands.specs.Answers.{as_answer, plain};
 ghost use Rattle.icescan_commands.specs.Runs.{IsCount, Ran, answer_to, ended, failing_of, list_in};
 ghost use Rattle.icescan_commands.specs.Sources.{failing_bundle, failing_unread};
@@ -27,7 +26,7 @@ use icescan_requests::{
     Bundle, Folders, Stores, commit_to, prepare_commit, read_bundle, show_file,
 };
 use icescan_text::{CommitRequest, Drill, Request, RunFault};
-use icescan_words::{Format, Lists, Source};
+use icescan_words::{Format, Lists, Source, Words};
 use std::alloc::Global;
 use std::io::Read;
 use std::sync::Wait;
