@@ -9,10 +9,11 @@ pub same_words : (xs ys : List (Bor (List ℕ))) → pointwise (λ a b. pointwis
 same_words [] [] h = refl
 same_words [] (y ∷ ys) h = cc
 same_words (x ∷ xs) [] h = cc
-same_words (x ∷ xs) (y ∷ ys) h = go (pointwise nat_eq x.now y.now) refl h
+same_words (x ∷ xs) (y ∷ ys) h = go (pointwise nat_eq x.now y.now) refl h (same_words xs ys)
   where
     go : (t : Bool) → pointwise nat_eq x.now y.now ≡ t
         → (t && pointwise (λ a b. pointwise nat_eq a.now b.now) xs ys) ≡ true
+        → (pointwise (λ a b. pointwise nat_eq a.now b.now) xs ys ≡ true → map (λ s. s.now) xs ≡ map (λ s. s.now) ys)
         → map (λ s. s.now) (x ∷ xs) ≡ map (λ s. s.now) (y ∷ ys)
-    go true e k = rw (same_text x.now y.now (sym e), same_words xs ys k)
-    go false e k = cc
+    go true e k rest = rw (same_text x.now y.now (sym e), rest k)
+    go false e k rest = cc

@@ -107,6 +107,17 @@ abbrev pub name_of : ChangeKind → List ℕ
 name_of kind.Append = codes "append"
 name_of kind.RowDelta = codes "row-delta"
 
+-- the name of a command
+abbrev pub command_name : Command → List ℕ
+command_name (command.ListPlan lists form) = codes "list-plan"
+command_name (command.Plan from request form workers path) = codes "plan"
+command_name (command.Commit from request) = name_of request.kind
+command_name (command.Show from path) = codes "show"
+command_name (command.Audit from of workers path) = codes "audit"
+command_name (command.Explain from request workers path) = codes "explain"
+command_name (command.Drill drill) = codes "drill"
+command_name (command.Text text) = codes "help"
+
 module _ (words : List (List ℕ)) where
   -- the plain words are this name and this path
   abbrev pub Names : List ℕ → List ℕ → Type 0

@@ -5,8 +5,8 @@ ghost use Rattle.std.specs.Prelude.{option_and_then, option_map, string_bytes};
 ghost use Rattle.std.specs.List.{after_first, before_first, list_any, starts_with};
 ghost use Rattle.uuid.specs.Text.{parsed};
 ghost use Rattle.icescan_words.specs.Heard.{AsksFor, HasCommit, HasDrill, HasFormat, HasRequest, HasSource, HasTarget};
-ghost use Rattle.icescan_words.specs.Heard.{HasWorkers, asks_help, format_by, is_equals, name_of, option_in, option_items};
-ghost use Rattle.icescan_words.specs.Heard.{list_of, plain_words, signed, source_of, takes_next, unsigned};
+ghost use Rattle.icescan_words.specs.Heard.{HasWorkers, asks_help, is_equals, list_of, name_of, option_in, option_items};
+ghost use Rattle.icescan_words.specs.Heard.{plain_words, signed, source_of, takes_next, unsigned};
 ghost use Rattle.icescan_words.specs.declared.command.Source.TheVariants as source;
 
 use crate::answer_format::{Format, format_by};
@@ -207,7 +207,8 @@ fn has_target(words: &[String], target: &Target) -> bool
 
 /// Whether the words have this filter, or none.
 fn has_filter(words: &[String], filter: Option<&Text>) -> bool
-    ensures { IsTrue result → option_in (map string_bytes words.now) (codes "--filter") ≡ option_map (λ t. t.now) filter.entry }
+    ensures { IsTrue result
+        → option_in (map string_bytes words.now) (codes "--filter") ≡ option_map (λ t. t.now) filter.entry }
 {
     let value = option_in(words, "--filter");
     match filter {
@@ -242,27 +243,17 @@ fn has_workers(words: &[String], workers: usize) -> bool
     }
 }
 
-/// The name of the command that commits this.
-fn name_of(kind: ChangeKind) -> &'static str
-    ensures { result.now ≡ name_of kind }
-{
-    match kind {
-        ChangeKind::Append => "append",
-        ChangeKind::RowDelta => "row-delta",
-    }
-}
-
 /// Whether the plain words are the name of a commit's command and its two paths.
 fn has_paths(plain: &[&str], request: &CommitRequest) -> bool
     ensures { IsTrue result → map (λ s. s.now) plain.now
         ≡ name_of request.now.kind ∷ request.now.metadata ∷ request.now.change ∷ [] }
 {
-    let wanted = [
-        name_of(request.kind),
-        request.metadata.as_str(),
-        request.change.as_str(),
-    ];
-    are_words(plain, &wanted)
+    let metadata = request.metadata.as_str();
+    let change = request.change.as_str();
+    match request.kind {
+        ChangeKind::Append => are_words(plain, &["append", metadata, change]),
+        ChangeKind::RowDelta => are_words(plain, &["row-delta", metadata, change]),
+    }
 }
 
 /// Whether the words ask for this commit.

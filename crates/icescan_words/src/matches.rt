@@ -1,10 +1,12 @@
 //! The command that the parser's matches ask for: each field is what the parser found for its option.
 
 ghost use Rattle.std.specs.Prelude.{◌≡◌, IfErr, IfOk, None, Some, codes, option_and_then};
-ghost use Rattle.clap.specs.Words.{first_value, found_of};
+ghost use Rattle.clap.specs.Words.{subcommand_name_of};
 ghost use Rattle.uuid.specs.Text.{parsed};
 ghost use Rattle.icescan_words.specs.CommandLines.{IsWordsFault};
-ghost use Rattle.icescan_words.specs.Heard.{IsSource, IsTarget, format_by, list_of, name_of, signed, source_of, unsigned, workers_by};
+ghost use Rattle.icescan_words.specs.Heard.{IsSource, IsTarget, command_name, format_by, list_of, name_of};
+ghost use Rattle.icescan_words.specs.Heard.{signed, source_of, unsigned, workers_by};
+ghost use Rattle.icescan_words.specs.Matched.{value_at};
 
 use crate::answer_format::{Format, format_by};
 use crate::command::{Command, Lists, Place, Source};
@@ -25,7 +27,7 @@ fn text_of(alloc: Global, text: &str) -> Result<Text, AllocError>
 
 /// The text of this name, where it is given.
 fn text_at(alloc: Global, matches: &ArgMatches<'_>, name: &str) -> Result<Option<Text>, AllocError>
-    ensures { IfOk result (λ text. text ≡ first_value (found_of matches.now) name.now) }
+    ensures { IfOk result (λ text. text ≡ value_at matches.now name.now) }
 {
     match matches.get_str(name) {
         Some(text) => Ok(Some(text_of(alloc, text)?)),
@@ -39,7 +41,7 @@ pub fn misread(alloc: Global) -> RunFault
 {
     match text_of(
         alloc,
-        "error: the words were not read as they stand\n\nFor more information, try '--help'.\n",
+        "error: the words were not understood as they stand, which is a fault of icescan\n",
     ) {
         Ok(text) => RunFault::Words(text),
         Err(_) => RunFault::Memory,
@@ -48,7 +50,7 @@ pub fn misread(alloc: Global) -> RunFault
 
 /// The text of an option or a word that is required, so that it is there.
 fn required_text(alloc: Global, matches: &ArgMatches<'_>, name: &str) -> Result<Text, RunFault>
-    ensures found { IfOk result (λ text. first_value (found_of matches.now) name.now ≡ Some text) }
+    ensures found { IfOk result (λ text. value_at matches.now name.now ≡ Some text) }
     ensures causes { IfErr result IsWordsFault }
 {
     match matches.get_str(name) {
@@ -70,7 +72,7 @@ fn signed_of(alloc: Global, text: &str) -> Result<i64, RunFault>
 
 /// The number of an option that is required.
 fn required_signed(alloc: Global, matches: &ArgMatches<'_>, name: &str) -> Result<i64, RunFault>
-    ensures found { IfOk result (λ number. signed (first_value (found_of matches.now) name.now) ≡ Some number) }
+    ensures found { IfOk result (λ number. signed (value_at matches.now name.now) ≡ Some number) }
     ensures causes { IfErr result IsWordsFault }
 {
     match matches.get_str(name) {
@@ -81,7 +83,7 @@ fn required_signed(alloc: Global, matches: &ArgMatches<'_>, name: &str) -> Resul
 
 /// The number of an option that is required.
 fn required_unsigned(alloc: Global, matches: &ArgMatches<'_>, name: &str) -> Result<u64, RunFault>
-    ensures found { IfOk result (λ number. unsigned (first_value (found_of matches.now) name.now) ≡ Some number) }
+    ensures found { IfOk result (λ number. unsigned (value_at matches.now name.now) ≡ Some number) }
     ensures causes { IfErr result IsWordsFault }
 {
     let Some(text) = matches.get_str(name) else {
@@ -95,8 +97,8 @@ fn required_unsigned(alloc: Global, matches: &ArgMatches<'_>, name: &str) -> Res
 
 /// Where the files come from.
 fn source_of(alloc: Global, matches: &ArgMatches<'_>) -> Result<Source, AllocError>
-    ensures { IfOk result (λ source. IsSource (first_value (found_of matches.now) (codes "dir"))
-        (first_value (found_of matches.now) (codes "prefix")) source) }
+    ensures { IfOk result (λ source. IsSource (value_at matches.now (codes "dir"))
+        (value_at matches.now (codes "prefix")) source) }
 {
     let (Some(folder), Some(prefix)) = (matches.get_str("dir"), matches.get_str("prefix")) else {
         return Ok(Source::Bundle);
@@ -109,9 +111,9 @@ fn source_of(alloc: Global, matches: &ArgMatches<'_>) -> Result<Source, AllocErr
 
 /// Where the manifest list is.
 fn lists_of(alloc: Global, matches: &ArgMatches<'_>) -> Result<Lists, RunFault>
-    ensures source { IfOk result (λ lists. IsSource (first_value (found_of matches.now) (codes "dir"))
-        (first_value (found_of matches.now) (codes "prefix")) (source_of lists)) }
-    ensures list { IfOk result (λ lists. list_of lists ≡ first_value (found_of matches.now) (codes "list")) }
+    ensures source { IfOk result (λ lists. IsSource (value_at matches.now (codes "dir"))
+        (value_at matches.now (codes "prefix")) (source_of lists)) }
+    ensures list { IfOk result (λ lists. list_of lists ≡ value_at matches.now (codes "list")) }
     ensures causes { IfErr result IsWordsFault }
 {
     match source_of(alloc, matches)? {
@@ -122,8 +124,8 @@ fn lists_of(alloc: Global, matches: &ArgMatches<'_>) -> Result<Lists, RunFault>
 
 /// The snapshot that is asked for.
 fn target_of(alloc: Global, matches: &ArgMatches<'_>) -> Result<Target, RunFault>
-    ensures found { IfOk result (λ target. IsTarget (first_value (found_of matches.now) (codes "ref"))
-        (first_value (found_of matches.now) (codes "snapshot")) target) }
+    ensures found { IfOk result (λ target. IsTarget (value_at matches.now (codes "ref"))
+        (value_at matches.now (codes "snapshot")) target) }
     ensures causes { IfErr result IsWordsFault }
 {
     if let Some(name) = matches.get_str("ref") {
@@ -137,9 +139,9 @@ fn target_of(alloc: Global, matches: &ArgMatches<'_>) -> Result<Target, RunFault
 
 /// What is asked of a table.
 fn request_of(alloc: Global, matches: &ArgMatches<'_>) -> Result<Request, RunFault>
-    ensures target { IfOk result (λ request. IsTarget (first_value (found_of matches.now) (codes "ref"))
-        (first_value (found_of matches.now) (codes "snapshot")) request.target) }
-    ensures filter { IfOk result (λ request. request.filter ≡ first_value (found_of matches.now) (codes "filter")) }
+    ensures target { IfOk result (λ request. IsTarget (value_at matches.now (codes "ref"))
+        (value_at matches.now (codes "snapshot")) request.target) }
+    ensures filter { IfOk result (λ request. request.filter ≡ value_at matches.now (codes "filter")) }
     ensures causes { IfErr result IsWordsFault }
 {
     Ok(Request {
@@ -150,14 +152,14 @@ fn request_of(alloc: Global, matches: &ArgMatches<'_>) -> Result<Request, RunFau
 
 /// The form that is asked for.
 fn format_of(matches: &ArgMatches<'_>) -> Format
-    ensures { result ≡ format_by (first_value (found_of matches.now) (codes "format")) }
+    ensures { result ≡ format_by (value_at matches.now (codes "format")) }
 {
     format_by(matches.get_str("format"))
 }
 
 /// How many workers are asked for.
 fn workers_of(alloc: Global, matches: &ArgMatches<'_>) -> Result<usize, RunFault>
-    ensures found { IfOk result (λ workers. workers ≡ workers_by (first_value (found_of matches.now) (codes "workers"))) }
+    ensures found { IfOk result (λ workers. workers ≡ workers_by (value_at matches.now (codes "workers"))) }
     ensures causes { IfErr result IsWordsFault }
 {
     let Some(text) = matches.get_str("workers") else {
@@ -171,10 +173,8 @@ fn workers_of(alloc: Global, matches: &ArgMatches<'_>) -> Result<usize, RunFault
 
 /// The drill that is asked for.
 fn drill_of(alloc: Global, matches: &ArgMatches<'_>) -> Result<Drill, RunFault>
-    ensures threads { IfOk result (λ drill. unsigned (first_value (found_of matches.now) (codes "threads"))
-        ≡ Some drill.threads) }
-    ensures commits { IfOk result (λ drill. unsigned (first_value (found_of matches.now) (codes "commits"))
-        ≡ Some drill.commits) }
+    ensures threads { IfOk result (λ drill. unsigned (value_at matches.now (codes "threads")) ≡ Some drill.threads) }
+    ensures commits { IfOk result (λ drill. unsigned (value_at matches.now (codes "commits")) ≡ Some drill.commits) }
     ensures causes { IfErr result IsWordsFault }
 {
     let threads = required_unsigned(alloc, matches, "threads")?;
@@ -202,12 +202,9 @@ fn no_uuid(alloc: Global, word: &str) -> RunFault
 
 /// The names that the commit takes, and its time.
 fn ids_of(alloc: Global, matches: &ArgMatches<'_>) -> Result<Ids, RunFault>
-    ensures snapshot { IfOk result (λ ids. signed (first_value (found_of matches.now) (codes "snapshot-id"))
-        ≡ Some ids.snapshot) }
-    ensures uuid { IfOk result (λ ids. option_and_then parsed (first_value (found_of matches.now) (codes "uuid"))
-        ≡ Some ids.uuid) }
-    ensures now_ms { IfOk result (λ ids. signed (first_value (found_of matches.now) (codes "now-ms"))
-        ≡ Some ids.now_ms) }
+    ensures snapshot { IfOk result (λ ids. signed (value_at matches.now (codes "snapshot-id")) ≡ Some ids.snapshot) }
+    ensures uuid { IfOk result (λ ids. option_and_then parsed (value_at matches.now (codes "uuid")) ≡ Some ids.uuid) }
+    ensures now_ms { IfOk result (λ ids. signed (value_at matches.now (codes "now-ms")) ≡ Some ids.now_ms) }
     ensures causes { IfErr result IsWordsFault }
 {
     let Some(word) = matches.get_str("uuid") else {
@@ -230,11 +227,9 @@ fn commit_of(
     kind: ChangeKind,
 ) -> Result<CommitRequest, RunFault>
     ensures kind { IfOk result (λ request. request.kind ≡ kind) }
-    ensures metadata { IfOk result (λ request. first_value (found_of matches.now) (codes "metadata")
-        ≡ Some request.metadata) }
-    ensures change { IfOk result (λ request. first_value (found_of matches.now) (codes "change")
-        ≡ Some request.change) }
-    ensures out { IfOk result (λ request. first_value (found_of matches.now) (codes "out") ≡ Some request.out) }
+    ensures metadata { IfOk result (λ request. value_at matches.now (codes "metadata") ≡ Some request.metadata) }
+    ensures change { IfOk result (λ request. value_at matches.now (codes "change") ≡ Some request.change) }
+    ensures out { IfOk result (λ request. value_at matches.now (codes "out") ≡ Some request.out) }
     ensures causes { IfErr result IsWordsFault }
 {
     Ok(CommitRequest {
@@ -248,7 +243,8 @@ fn commit_of(
 
 /// The plan that is asked for.
 fn plan_command(alloc: Global, matches: &ArgMatches<'_>) -> Result<Command, RunFault>
-    ensures { IfErr result IsWordsFault }
+    ensures name { IfOk result (λ command. command_name command ≡ codes "plan") }
+    ensures causes { IfErr result IsWordsFault }
 {
     Ok(Command::Plan(
         source_of(alloc, matches)?,
@@ -261,7 +257,8 @@ fn plan_command(alloc: Global, matches: &ArgMatches<'_>) -> Result<Command, RunF
 
 /// The text of metadata that is asked for.
 fn show_command(alloc: Global, matches: &ArgMatches<'_>) -> Result<Command, RunFault>
-    ensures { IfErr result IsWordsFault }
+    ensures name { IfOk result (λ command. command_name command ≡ codes "show") }
+    ensures causes { IfErr result IsWordsFault }
 {
     Ok(Command::Show(
         source_of(alloc, matches)?,
@@ -271,7 +268,8 @@ fn show_command(alloc: Global, matches: &ArgMatches<'_>) -> Result<Command, RunF
 
 /// The audit that is asked for.
 fn audit_command(alloc: Global, matches: &ArgMatches<'_>) -> Result<Command, RunFault>
-    ensures { IfErr result IsWordsFault }
+    ensures name { IfOk result (λ command. command_name command ≡ codes "audit") }
+    ensures causes { IfErr result IsWordsFault }
 {
     Ok(Command::Audit(
         source_of(alloc, matches)?,
@@ -283,7 +281,8 @@ fn audit_command(alloc: Global, matches: &ArgMatches<'_>) -> Result<Command, Run
 
 /// The explanation that is asked for.
 fn explain_command(alloc: Global, matches: &ArgMatches<'_>) -> Result<Command, RunFault>
-    ensures { IfErr result IsWordsFault }
+    ensures name { IfOk result (λ command. command_name command ≡ codes "explain") }
+    ensures causes { IfErr result IsWordsFault }
 {
     Ok(Command::Explain(
         source_of(alloc, matches)?,
@@ -299,21 +298,24 @@ fn commit_command(
     matches: &ArgMatches<'_>,
     kind: ChangeKind,
 ) -> Result<Command, RunFault>
-    ensures { IfErr result IsWordsFault }
+    ensures name { IfOk result (λ command. command_name command ≡ name_of kind) }
+    ensures causes { IfErr result IsWordsFault }
 {
     Ok(Command::Commit(source_of(alloc, matches)?, commit_of(alloc, matches, kind)?))
 }
 
 /// The plan of a manifest list that is asked for.
 fn list_plan_command(alloc: Global, matches: &ArgMatches<'_>) -> Result<Command, RunFault>
-    ensures { IfErr result IsWordsFault }
+    ensures name { IfOk result (λ command. command_name command ≡ codes "list-plan") }
+    ensures causes { IfErr result IsWordsFault }
 {
     Ok(Command::ListPlan(lists_of(alloc, matches)?, format_of(matches)))
 }
 
 /// What the words were found to ask for.
 fn command_of(alloc: Global, matches: &ArgMatches<'_>) -> Result<Command, RunFault>
-    ensures { IfErr result IsWordsFault }
+    ensures name { IfOk result (λ command. subcommand_name_of matches.now ≡ Some (command_name command)) }
+    ensures causes { IfErr result IsWordsFault }
 {
     let Some((command, matches)) = matches.subcommand() else {
         return Err(misread(alloc));
