@@ -18,6 +18,7 @@ use Rattle.ice_meta.specs.declared.metadata.Target.TheVariants as target
 use Rattle.icescan_text.specs.declared.change.ChangeKind.{ChangeKind}
 use Rattle.icescan_text.specs.declared.change.ChangeKind.TheVariants as kind
 use Rattle.icescan_text.specs.declared.request.CommitRequest.{CommitRequest}
+use Rattle.ice_catalog_versions.specs.declared.change.Ids.{Ids}
 use Rattle.icescan_text.specs.declared.request.Request.{Request}
 use Rattle.icescan_text.specs.declared.drill.Drill.{Drill}
 
@@ -138,11 +139,14 @@ module _ (words : List (List ℕ)) where
   abbrev pub HasWorkers : ℕ → Type 0
   HasWorkers workers = workers ≡ workers_by (option_in words (codes "--workers"))
 
+  pub record HasIds (ids : Ids) : Type 0 where
+    pub snapshot : signed (option_in words (codes "--snapshot-id")) ≡ Some ids.snapshot
+    pub uuid : option_and_then parsed (option_in words (codes "--uuid")) ≡ Some ids.uuid
+    pub now_ms : signed (option_in words (codes "--now-ms")) ≡ Some ids.now_ms
+
   pub record HasCommit (request : CommitRequest) : Type 0 where
     pub plain : plain_words words ≡ name_of request.kind ∷ request.metadata ∷ request.change ∷ []
-    pub snapshot : signed (option_in words (codes "--snapshot-id")) ≡ Some request.ids.snapshot
-    pub uuid : option_and_then parsed (option_in words (codes "--uuid")) ≡ Some request.ids.uuid
-    pub now_ms : signed (option_in words (codes "--now-ms")) ≡ Some request.ids.now_ms
+    pub ids : HasIds request.ids
     pub out : option_in words (codes "--out") ≡ Some request.out
 
   pub record HasDrill (drill : Drill) : Type 0 where

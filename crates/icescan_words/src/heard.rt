@@ -4,14 +4,15 @@ ghost use Rattle.std.specs.Prelude.{◌≡◌, ◌∷◌, [], IfOk, IsTrue, None
 ghost use Rattle.std.specs.Prelude.{option_and_then, option_map, string_bytes};
 ghost use Rattle.std.specs.List.{after_first, before_first, list_any, starts_with};
 ghost use Rattle.uuid.specs.Text.{parsed};
-ghost use Rattle.icescan_words.specs.Heard.{AsksFor, HasCommit, HasDrill, HasFormat, HasRequest, HasSource, HasTarget};
-ghost use Rattle.icescan_words.specs.Heard.{HasWorkers, asks_help, is_equals, list_of, name_of, option_in, option_items};
+ghost use Rattle.icescan_words.specs.Heard.{AsksFor, HasCommit, HasDrill, HasFormat, HasIds, HasRequest, HasSource};
+ghost use Rattle.icescan_words.specs.Heard.{HasTarget, HasWorkers, asks_help, is_equals, list_of, name_of, option_in, option_items};
 ghost use Rattle.icescan_words.specs.Heard.{plain_words, signed, source_of, takes_next, unsigned};
 ghost use Rattle.icescan_words.specs.declared.command.Source.TheVariants as source;
 
 use crate::answer_format::{Format, format_by};
 use crate::command::{Command, Lists, Place, Source};
 use contract_words::Text;
+use ice_catalog_versions::Ids;
 use ice_meta::Target;
 use icescan_text::{ChangeKind, CommitRequest, Drill, Request};
 use std::alloc::{AllocError, Global};
@@ -256,15 +257,22 @@ fn has_paths(plain: &[&str], request: &CommitRequest) -> bool
     }
 }
 
+/// Whether the words give a commit these names and this time.
+fn has_ids(words: &[String], ids: &Ids) -> bool
+    ensures { IsTrue result → HasIds (map string_bytes words.now) ids.now }
+{
+    is_signed(option_in(words, "--snapshot-id"), ids.snapshot)
+        && is_uuid(option_in(words, "--uuid"), &ids.uuid)
+        && is_signed(option_in(words, "--now-ms"), ids.now_ms)
+}
+
 /// Whether the words ask for this commit.
 fn has_commit(words: &[String], plain: &[&str], request: &CommitRequest) -> bool
     requires { map (λ s. s.now) plain.now ≡ plain_words (map string_bytes words.now) }
     ensures { IsTrue result → HasCommit (map string_bytes words.now) request.now }
 {
     has_paths(plain, request)
-        && is_signed(option_in(words, "--snapshot-id"), request.ids.snapshot)
-        && is_uuid(option_in(words, "--uuid"), &request.ids.uuid)
-        && is_signed(option_in(words, "--now-ms"), request.ids.now_ms)
+        && has_ids(words, &request.ids)
         && is_text(option_in(words, "--out"), request.out.as_str())
 }
 
