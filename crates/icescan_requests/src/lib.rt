@@ -19,7 +19,7 @@ mod table_plans;
 pub use bundle::Bundle;
 pub use bundle_text::read_bundle;
 pub use committing::{commit_to, commits_are_put, prepare_commit, put_commit};
-pub use folder::{CommitFolder, Folder, file_name, fill_file};
+pub use folder::{CommitFolder, Disk, DiskFolder, Folder, HostDisk, file_name};
 pub use input::{MOST_READS, read_all};
 pub use list_plans::run_list_plan;
 pub use plans_by_workers::{plan_file, run_plan_with};
