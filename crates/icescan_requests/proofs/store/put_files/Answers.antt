@@ -25,10 +25,10 @@ files-preserved g c =
     let placed = rw (c.as_str.ensures, c.as_slice.ensures) at c.in_ok-create_new.ensures.placed in
     let at_names : Extends mid end (IsPlacedAt names f.0 f.1) =
     extends_as mid end (IsPlacedAt names' f.0 f.1) (IsPlacedAt names f.0 f.1) placed
-        (λ m p. placed_at_as names names' c.files.invariant.4 f.0 f.1 m p) in
+    (λ m p. placed_at_as names names' c.files.invariant.4 f.0 f.1 m p) in
     let all : Extends before end (ArePlaced names (front ++ f ∷ [])) =
     extends_then before mid end (ArePlaced names front) (IsPlacedAt names f.0 f.1) (ArePlaced names (front ++ f ∷ []))
-        c.files.invariant.3 at_names (λ m n p q. placed_last names front f m n p q) in (
+    c.files.invariant.3 at_names (λ m n p q. placed_last names front f m n p q) in (
       subst (λ l. PutsAll old new l) next (puts_next old _ new _ f c.files.invariant.0 puts),
       subst (λ l. WereFree old l) next (free_next old _ _ f c.files.invariant.0 c.files.invariant.1 lacks),
       λ may. c.files.invariant.2 (c.in_ok-create_new.ensures.still may),
