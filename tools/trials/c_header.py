@@ -3,9 +3,10 @@
 
 It is made from the sources of `crates/icescan_c` and `crates/icescan_c_lent`, and declares each exported function once
 more, with the types that its parameters have there: a compiler refuses two declarations that differ. Of each struct
-that crosses to C it asserts the size, and of each field its type and its place. It uses every function that the header
-declares, so that the linker refuses one that the library lacks, and ends with status 0. The names of functions and of
-their parameters are compared here, by their order: the status is 1 where they differ.
+that crosses to C it asserts the size, of each field its type and its place, and of each status of the library's own its
+number. It uses every function that the header declares, so that the linker refuses one that the library lacks, and ends
+with status 0. The names of functions and of their parameters are compared here, by their order: the status is 1 where
+they differ.
 
 `tools/trials/try_c` compiles, links and runs it.
 """
@@ -16,6 +17,7 @@ import sys
 
 TOP = os.path.dirname(os.path.dirname(os.path.dirname(os.path.abspath(__file__))))
 SOURCES = sorted(glob.glob(f"{TOP}/crates/icescan_c/src/*.rt") + glob.glob(f"{TOP}/crates/icescan_c_lent/src/*.rt"))
+ENDINGS = f"{TOP}/crates/icescan_c_requests/src/endings.rt"
 HEADER = f"{TOP}/include/icescan.h"
 
 STRUCTS = {"Handle": "icescan_handle", "Bytes": "icescan_bytes", "Ids": "icescan_ids", "File": "icescan_file"}
@@ -27,6 +29,7 @@ FIELDS = {("Handle", "at"): ("held", "void *")}
 EXPORT = re.compile(r'#\[unsafe\(no_mangle\)\]\s*pub extern "C" fn (\w+)\((.*?)\)(?: -> (\w+))?\s', re.S)
 STRUCT = re.compile(r"#\[repr\(C\)\]\s*(?:#\[derive\([^)]*\)\]\s*)?pub struct (\w+) \{(.*?)\n\}", re.S)
 FIELD = re.compile(r"^\s*(?:pub )?(\w+): ([^,{}]+),$", re.M)
+STATUS = re.compile(r"Err\(Refusal::(\w+)\) => (\d+),")
 DECLARED = re.compile(r"^(?:uint32_t|void) (icescan_\w+)\(([^)]*)\);", re.M)
 
 
@@ -74,6 +77,13 @@ def twin_of(name, fields):
         yield f'_Static_assert(_Generic((({c} *)0)->{field}, {kind}: 1, default: 0), "type of {c}.{field}");'
 
 
+def statuses():
+    with open(ENDINGS) as it:
+        for name, number in STATUS.findall(it.read()):
+            c = "ICESCAN" + re.sub("([A-Z])", r"_\1", name).upper()
+            yield f'_Static_assert({c} == {number}, "number of {c}");'
+
+
 def program():
     source, header = "\n".join(open(path).read() for path in SOURCES), open(HEADER).read()
     exported, declared, structs = EXPORT.findall(source), DECLARED.findall(header), STRUCT.findall(source)
@@ -84,7 +94,7 @@ def program():
     lines += [f"#undef {name}" for name in re.findall(r"^#define (icescan_\w+) icescan_\w+_asked$", header, re.M)]
     for name, fields in structs:
         lines += twin_of(name, FIELD.findall(fields))
-    lines += [declared_again(*it) for it in exported]
+    lines += [*statuses(), *(declared_again(*it) for it in exported)]
     lines += ["typedef void (*call)(void);", "int main(void) {"]
     lines += [f"    call calls[] = {{{', '.join(f'(call){name}' for name, _ in declared)}}};"]
     lines += ["    for (size_t i = 0; i < sizeof calls / sizeof *calls; i++)", "        if (!calls[i])"]
