@@ -9,8 +9,8 @@ use Rattle.icescan_text.proofs.Steps.{never_fails}
 use Rattle.icescan_text.specs.Reads.{MayEnd}
 use Rattle.icescan_text.specs.declared.fault.RunFault.{RunFault}
 use Rattle.icescan_text.specs.declared.fault.RunFault.TheVariants as run
-use Rattle.icescan_words.specs.declared.command_line.Source.{Source}
-use Rattle.icescan_words.specs.declared.command_line.Source.TheVariants as source
+use Rattle.icescan_words.specs.declared.command.Source.{Source}
+use Rattle.icescan_words.specs.declared.command.Source.TheVariants as source
 use Rattle.icescan_commands.specs.Answers.{Answer, GivesAnswer}
 use Rattle.icescan_commands.specs.Runs.{MayRefuse, Ran}
 use Rattle.icescan_commands.specs.Sources.{AreOf, Below, Failing, IsNoBundle, MayFailBelow, failing_bundle, failing_over}
