@@ -21,6 +21,6 @@ pub use icescan_requests::{
     run_plan, run_plan_with, run_show, select, show_file,
 };
 pub use icescan_text::{CommitRequest, Request};
-pub use icescan_words::{Format, Lists, Place, Source, Words, parse_words};
+pub use icescan_words::{Command, Format, Lists, Place, Source, parse_words};
 pub use system::System;
 pub use words::run_words;
