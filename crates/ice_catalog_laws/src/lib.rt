@@ -4,7 +4,6 @@
 #![tactic(auto)]
 
 mod laws;
-mod public_calls;
 pub mod steps;
 
 pub use laws::{
@@ -12,4 +11,3 @@ pub use laws::{
     a_take_is_taken, a_tree_is_played, a_tree_takes_its_rows, commits_are_counted,
     finishing_tells_the_outcome,
 };
-pub use public_calls::{open, prepare, run_events};

@@ -3,6 +3,7 @@
 //! lock hands out, and that a refused growth changes no answer. A case is a line of a table.
 #![tactic(auto)]
 
+mod calls;
 #[cfg(test)]
 mod desks;
 #[cfg(test)]
@@ -11,3 +12,5 @@ mod files;
 mod versions;
 #[cfg(test)]
 mod words;
+
+pub use calls::{open, prepare, run_events};

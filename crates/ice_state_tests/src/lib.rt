@@ -4,9 +4,12 @@
 
 #[cfg(test)]
 mod answers;
+mod calls;
 #[cfg(test)]
 mod cases;
 #[cfg(test)]
 mod plans;
 #[cfg(test)]
 mod refusals;
+
+pub use calls::{lacks_deletes, new};

@@ -5,6 +5,4 @@ mod answers;
 mod calls;
 
 pub use answers::{filters_mean_their_texts, what_an_answer_lacks_has_no_match};
-pub use calls::{
-    commit_to, file_verdicts, plan_file_json, run_explain, run_plan_with, write_plan_json,
-};
+pub use calls::{file_verdict, plan_file_json, run_plan_with};
