@@ -3,7 +3,9 @@
 #![tactic(auto)]
 
 use contract_words::Text;
-use icescan_commands::{Cleared, Progress, ProgressLine, Terminals, run_program};
+use icescan_commands::{
+    Cleared, HostFolders, HostStores, Progress, ProgressLine, System, Terminals, run_program,
+};
 use icescan_print::Output;
 use icescan_text::{RunFault, report};
 use std::alloc::Global;
@@ -30,12 +32,17 @@ fn main(rt: HostRuntime) -> ExitCode {
                 input: rt.stdin().is_terminal(),
                 errors: rt.stderr().is_terminal(),
             };
+            let system = System {
+                host: &rt,
+                alloc: rt.alloc(),
+                folders: &HostFolders::new(&rt),
+                progress: &line,
+            };
             run_program(
-                &rt,
-                rt.alloc(),
+                &system,
                 terminals,
                 &words,
-                &line,
+                &mut HostStores::new(&rt),
                 &mut rt.stdin(),
                 &mut output,
                 &mut errors,

@@ -22,7 +22,7 @@ use Rattle.ice_state.specs.Snapshots.{live, live_or_none}
 use Rattle.ice_state.specs.Specs.{spec_of}
 use Rattle.icescan_text.specs.Reads.{as_run, file_in, rows_at}
 use Rattle.icescan_text.specs.declared.fault.RunFault.{RunFault}
-use Rattle.icescan_text.proofs.Steps.{bytes_in}
+use Rattle.icescan_text.proofs.Steps.{bytes_in, step}
 use Rattle.icescan_audit.specs.Audits.{all_known, audit_of, joined, nothing, of_manifest, or_unknown, row_audit}
 use Rattle.icescan_audit.specs.Audits.{rows_audit, spec_for, whole}
 use Rattle.icescan_audit.specs.Premises.{HasTrueSummaries, HasTrueSummariesAt}
@@ -30,7 +30,6 @@ use Rattle.icescan_audit.specs.Subjects.{subject_of}
 use Rattle.icescan_audit.specs.declared.audit.Audit.{Audit}
 use Rattle.icescan_audit.specs.declared.audit.Reading.{Reading}
 use Rattle.icescan_audit.specs.declared.subject.Subject.{Subject}
-use Rattle.icescan_audit.proofs.Steps.{steps}
 use Rattle.icescan_audit_findings.proofs.Telltale.{told_of_covered, told_of_manifest}
 use Rattle.icescan_audit_findings.proofs.Told.{no_delete_findings, no_repeats, none_of_all, none_of_both, uncovered_are_faults}
 use Rattle.icescan_audit_findings.specs.Telling.{faults, uncovered}
@@ -61,9 +60,9 @@ pub row_of : (world : World) (basis : Basis) (row : Row) (audit : Reading) → r
     → IsRowOf world basis row audit
 unfolding row_audit
 row_of world basis row audit h =
-    let one = steps (spec_for basis.specs row) _ audit h in
-    let two = steps (file_in world row.path) _ audit one.2 in
-    let three = steps (as_run (of_manifest row.path) (live_of row one.0 two.0)) _ audit two.2 in
+    let one = step (spec_for basis.specs row) _ audit h in
+    let two = step (file_in world row.path) _ audit one.2 in
+    let three = step (as_run (of_manifest row.path) (live_of row one.0 two.0)) _ audit two.2 in
     let here : record {
       manifests = 1;
       entries = length three.0;
@@ -118,8 +117,8 @@ pub rows_parts : (world : World) (basis : Basis) (row : Row) (rows : List Row) (
     × (audit.findings ≡ a.findings ++ b.findings) × (audit.live ≡ a.live ++ b.live)
 unfolding rows_audit
 rows_parts world basis row rows audit h =
-    let one = steps (row_audit world basis row) _ audit h in
-    let two = steps (rows_audit world basis rows) _ audit one.2 in
+    let one = step (row_audit world basis row) _ audit h in
+    let two = step (rows_audit world basis rows) _ audit one.2 in
     let here : joined one.0 two.0 ≡ audit = cc two.2 in (
       one.0,
       two.0,
@@ -163,10 +162,10 @@ pub parts_of : (world : World) (metadata : List ℕ) (target : Target) (audit : 
     → audit_of world metadata target ≡ Ok audit → IsAuditOf world metadata target audit
 unfolding audit_of
 parts_of world metadata target audit h =
-    let one = steps (subject_of metadata target) _ audit h in
-    let two = steps (rows_at world one.0.list) _ audit one.2 in
-    let three = steps (all_known one.0.basis.specs two.0) _ audit two.2 in
-    let four = steps (rows_audit world (among two.0 one.0.basis) two.0) _ audit three.2 in
+    let one = step (subject_of metadata target) _ audit h in
+    let two = step (rows_at world one.0.list) _ audit one.2 in
+    let three = step (all_known one.0.basis.specs two.0) _ audit two.2 in
+    let four = step (rows_audit world (among two.0 one.0.basis) two.0) _ audit three.2 in
     record {
       subject = one.0;
       rows = two.0;

@@ -9,14 +9,14 @@ use Rattle.ice_desk.specs.Wanted.{paths_of}
 use Rattle.ice_desk.specs.Worlds.{EndsAt}
 use Rattle.ice_manifest_reading.specs.declared.row.Row.{Row}
 use Rattle.ice_state.specs.Contents.{World}
-use Rattle.icescan_text.proofs.Steps.{first_ends}
+use Rattle.icescan_text.proofs.Steps.{first_ends, step}
 use Rattle.icescan_text.specs.Reads.{MayEnd}
 use Rattle.icescan_text.specs.declared.fault.RunFault.{RunFault}
 use Rattle.icescan_audit.specs.AnyFiles.{IsReadOf}
 use Rattle.icescan_audit.specs.Audits.{joined, nothing, row_audit, rows_audit}
 use Rattle.icescan_audit.specs.Readings.{ReadsRows}
 use Rattle.icescan_audit.specs.declared.audit.Reading.{Reading}
-use Rattle.icescan_audit.proofs.Steps.{join_nothing, later_row_ends, steps}
+use Rattle.icescan_audit.proofs.Steps.{join_nothing, later_row_ends}
 
 joined_more : (a b c : Reading) → joined a (joined b c) ≡ joined (joined a b) c
 joined_more a b c = simp (add_assoc, append_assoc)
@@ -71,8 +71,8 @@ module _ (world : World) (basis : Basis) where
     unfolding rows_audit
     others_refuse [] ys read e is h = h
     others_refuse (row ∷ xs) ys read e is h =
-        let one = steps (row_audit world basis row) _ read is in
-        let two = steps (rows_audit world basis xs) _ read one.2 in
+        let one = step (row_audit world basis row) _ read is in
+        let two = step (rows_audit world basis xs) _ read one.2 in
         later_row_ends f world basis row (xs ++ ys) one.0 e one.1 (others_refuse xs ys two.0 e two.1 h)
 
 -- ---- over any files

@@ -4,7 +4,6 @@ use Rattle.std.proofs.Common.{Option, Some, None, arith, add_assoc, append_assoc
 use Rattle.std.proofs.Common.{add-one, add-zero, drop, drop-cons, get_or}
 use Rattle.std.proofs.Math.ListN.{drop_of_length-le}
 use Rattle.std.proofs.lemmas.List.{append-nil}
-use Rattle.std.proofs.lemmas.Bool.{le-leb, lt-leb}
 use Rattle.std.specs.Prelude.{Result, Ok, Err}
 use Rattle.contract_words.specs.Outcome.{◌>>=◌}
 use Rattle.icescan_audit_findings.specs.declared.basis.Basis.{Basis}
@@ -26,11 +25,12 @@ use Rattle.ice_meta.specs.declared.spec.Spec.{Spec}
 use Rattle.ice_state.specs.Contents.{World}
 use Rattle.ice_state.specs.declared.fault.ScanFault.TheVariants as scan
 use Rattle.ice_state.specs.Specs.{spec_of}
-use Rattle.icescan_text.proofs.Steps.{fails_later, first_ends, only_first, then_ends}
+use Rattle.icescan_text.proofs.Steps.{fails_later, first_ends, more_reads, only_first, step, then_ends}
+use Rattle.icescan_text.proofs.Workers.{enough, not_enough}
 use Rattle.icescan_text.specs.Reads.{MayEnd, as_run, file_in, rows_at, rows_in}
 use Rattle.icescan_text.specs.declared.fault.RunFault.{RunFault}
 use Rattle.icescan_text.specs.declared.fault.RunFault.TheVariants as run
-use Rattle.icescan_audit.specs.Audits.{all_known, audit_at, audit_of, audit_reads, audit_reads_at, by_workers, joined}
+use Rattle.icescan_audit.specs.Audits.{all_known, audit_at, audit_of, audit_reads, audit_reads_at, joined}
 use Rattle.icescan_audit.specs.Audits.{manifests_of, nothing, of_manifest, reads_behind}
 use Rattle.icescan_audit.specs.Audits.{or_unknown, reads_of, row_audit, rows_audit, spec_for, whole}
 use Rattle.icescan_audit.specs.Subjects.{IsOfMetadata, subject_of}
@@ -53,16 +53,6 @@ manifest_ends read r w path manifest.BadContent h = ap (as_run (of_manifest path
 manifest_ends read r w path manifest.BadStatus h = ap (as_run (of_manifest path)) (h (λ m. cc))
 manifest_ends read r w path manifest.NoSequence h = ap (as_run (of_manifest path)) (h (λ m. cc))
 manifest_ends read r w path (manifest.FloatPartition id) h = ap (as_run (of_manifest path)) (h (λ m. cc))
-
--- what was read first, and then
-pub steps : {A B : Type 0} (r : Result A RunFault) (f : A → Result B RunFault) (y : B) → (r >>= f) ≡ Ok y
-    → (x : A) × (r ≡ Ok x) × (f x ≡ Ok y)
-steps (Ok x) f y h = (x, refl, h)
-steps (Err e) f y h = absurd cc
-
-pub same : {A : Type 0} (r : Result A RunFault) → (r >>= λ a. Ok a) ≡ r
-same (Ok x) = refl
-same (Err e) = refl
 
 unknown_ends : (r : List ℕ → Type 0) (w : Type 0) (row : Row) (o : Option Spec) (e : RunFault)
     → or_unknown row o ≡ Err e → MayEnd (or_unknown row o) r w e
@@ -114,8 +104,8 @@ row_bytes : (world : World) (basis : Basis) (row : Row) (read : Reading) → row
     → (bytes : List ℕ) × (file_in world row.path ≡ Ok bytes)
 unfolding row_audit
 row_bytes world basis row read h =
-    let one = steps (spec_for basis.specs row) _ read h in
-    let two = steps (file_in world row.path) _ read one.2 in
+    let one = step (spec_for basis.specs row) _ read h in
+    let two = step (file_in world row.path) _ read one.2 in
     (two.0, two.1)
 
 module _ (f : List ℕ → Type 0) (world : World) (basis : Basis) (row : Row) (rows : List Row) where
@@ -211,7 +201,7 @@ metadata_is_no_write e own read is failed =
 list_there : (world : World) (path : List ℕ) (rows : List Row) → rows_at world path ≡ Ok rows → (bytes : List ℕ)
     × (file_in world path ≡ Ok bytes)
 unfolding rows_at
-list_there world path rows h = let one = steps (file_in world path) rows_in rows h in (one.0, one.1)
+list_there world path rows h = let one = step (file_in world path) rows_in rows h in (one.0, one.1)
 
 known_step : (r : List ℕ → Type 0) (w : Type 0) (row : Row) (o : Option Spec) (rest : Result Unit RunFault)
     (e : RunFault)
@@ -293,74 +283,43 @@ module _ (f : List ℕ → Type 0) (world : World) (metadata : List ℕ) (target
           → audit_of world metadata target ≡ Ok (whole read)
       audit_there read h = audit_is ∙ ap (λ (found : Result Reading RunFault). found >>= λ r. Ok (whole r)) h
 
--- ---- what is written
-
--- a write may fail
-pub may_write : {A : Type 0} (r : List ℕ → Type 0) (w : Type 0) (read : Result A RunFault) (e : RunFault)
-    → MayEnd read r ⊥ e → MayEnd read r w e
-may_write r w read e h = subst (λ x. MayEnd x r w e) (same read) (first_ends r w r read (λ a. Ok a) e (λ p m. m) h)
-
 -- ---- the metadata in a file
-
--- more reads may fail
-more_reads : {A : Type 0} (read : Result A RunFault) (r s : List ℕ → Type 0) (w : Type 0) (e : RunFault)
-    → ((path : List ℕ) → r path → s path) → MayEnd read r w e → MayEnd read s w e
-more_reads read r s w run.Memory more h = tt
-more_reads read r s w (run.Device path) more h = more path h
-more_reads read r s w run.Write more h = h
-more_reads read r s w run.Input more h = h
-more_reads read r s w (run.Words t) more h = h
-more_reads read r s w (run.Bundle n) more h = h
-more_reads read r s w (run.Absent path) more h = h
-more_reads read r s w (run.List f) more h = h
-more_reads read r s w (run.Scan f) more h = h
-more_reads read r s w (run.Finish f) more h = h
-more_reads read r s w (run.Metadata f) more h = h
-more_reads read r s w (run.Filter f) more h = h
-more_reads read r s w (run.Drill f) more h = h
-more_reads read r s w (run.Change f) more h = h
-more_reads read r s w (run.Prepare f) more h = h
-more_reads read r s w (run.Conflict path) more h = h
-more_reads read r s w run.Workers more h = h
-
-enough : (workers : ℕ) (read : Result Audit RunFault) → 0 < workers → workers ≤ 64 → by_workers workers read ≡ read
-enough workers read some few = rw (le-leb 1 workers (omega arith), le-leb workers 64 few) refl
-
-no_crew : (workers : ℕ) (read : Result Audit RunFault) → (workers ≡ 0) ⊎ (64 < workers)
-    → by_workers workers read ≡ Err run.Workers
-no_crew workers read (inl h) = rw (lt-leb 1 workers (omega (arith, h))) refl
-no_crew workers read (inr h) = rw (le-leb 1 workers (omega arith), lt-leb workers 64 h) refl
 
 module _ (f : List ℕ → Type 0) (world : World) (path : List ℕ) (target : Target) (workers : ℕ) where
   abbrev at_reads : List ℕ → Type 0
   at_reads = EndsAt world f (audit_reads_at world path target)
 
-  pub no_metadata : (w : Type 0) (e : RunFault) → MayEnd (file_in world path) (EndsAt world f (path ∷ [])) ⊥ e
+  pub no_workers : (w : Type 0) (e : RunFault) → (e ≡ run.Workers) × ((workers ≡ 0) ⊎ (64 < workers))
       → MayEnd (audit_at world path target workers) at_reads w e
-  unfolding audit_at audit_reads_at
-  no_metadata w e h = first_ends at_reads w (EndsAt world f (path ∷ [])) (file_in world path) _ e
-      (λ p m. only_first world f path (reads_behind world target (file_in world path)) p m) h
+  unfolding audit_at
+  no_workers w e h = subst (λ x. MayEnd (audit_at world path target workers) at_reads w x) (sym h.0)
+      (not_enough workers _ h.1)
 
-  module _ (metadata : List ℕ) (has : file_in world path ≡ Ok metadata) where
-    behind : audit_at world path target workers ≡ by_workers workers (audit_of world metadata target)
+  module _ (some : 0 < workers) (few : workers ≤ 64) where
+    audit_in : audit_at world path target workers ≡ (file_in world path >>= λ metadata. audit_of world metadata target)
     unfolding audit_at
-    behind = rw has refl
+    audit_in = enough workers _ some few
 
-    pub no_workers : (workers ≡ 0) ⊎ (64 < workers) → audit_at world path target workers ≡ Err run.Workers
-    no_workers out = behind ∙ no_crew workers (audit_of world metadata target) out
-
-    pub audit_behind : 0 < workers → workers ≤ 64 → audit_at world path target workers ≡ audit_of world metadata target
-    audit_behind some few = behind ∙ enough workers (audit_of world metadata target) some few
-
-    reads_of_audit : (p : List ℕ) → EndsAt world f (audit_reads world metadata target) p → at_reads p
-    unfolding audit_reads_at
-    reads_of_audit p h =
-        subst (λ found. EndsAt world f (path ∷ reads_behind world target found) p) (sym has)
-        (fails_later world f path metadata (audit_reads world metadata target) p has h)
-
-    pub ends_behind : (some : 0 < workers) (few : workers ≤ 64) (w : Type 0) (e : RunFault)
-        → MayEnd (audit_of world metadata target) (EndsAt world f (audit_reads world metadata target)) w e
+    pub no_metadata : (w : Type 0) (e : RunFault) → MayEnd (file_in world path) (EndsAt world f (path ∷ [])) ⊥ e
         → MayEnd (audit_at world path target workers) at_reads w e
-    ends_behind some few w e h = subst (λ x. MayEnd x at_reads w e) (sym (audit_behind some few))
-        (more_reads (audit_of world metadata target) (EndsAt world f (audit_reads world metadata target)) at_reads w e
-        reads_of_audit h)
+    unfolding audit_reads_at
+    no_metadata w e h = subst (λ x. MayEnd x at_reads w e) (sym audit_in)
+        (first_ends at_reads w (EndsAt world f (path ∷ [])) (file_in world path) _ e
+        (λ p m. only_first world f path (reads_behind world target (file_in world path)) p m) h)
+
+    module _ (metadata : List ℕ) (has : file_in world path ≡ Ok metadata) where
+      pub audit_behind : audit_at world path target workers ≡ audit_of world metadata target
+      audit_behind = audit_in ∙ rw has refl
+
+      reads_of_audit : (p : List ℕ) → EndsAt world f (audit_reads world metadata target) p → at_reads p
+      unfolding audit_reads_at
+      reads_of_audit p h =
+          subst (λ found. EndsAt world f (path ∷ reads_behind world target found) p) (sym has)
+          (fails_later world f path metadata (audit_reads world metadata target) p has h)
+
+      pub ends_behind : (w : Type 0) (e : RunFault)
+          → MayEnd (audit_of world metadata target) (EndsAt world f (audit_reads world metadata target)) w e
+          → MayEnd (audit_at world path target workers) at_reads w e
+      ends_behind w e h = subst (λ x. MayEnd x at_reads w e) (sym audit_behind)
+          (more_reads (audit_of world metadata target) (EndsAt world f (audit_reads world metadata target)) at_reads w e
+          reads_of_audit h)

@@ -1,6 +1,5 @@
 -- Audits of a snapshot: every manifest is read, also those that no filter wants.
 use Rattle.std.specs.Prelude.{ℕ, ◌+◌, List, [], ◌∷◌, ◌++◌, length, Option, Some, None, Result, Ok, Err}
-use Rattle.std.specs.Prelude.{◌&&◌, nat_le, if◌then◌else◌}
 use Rattle.contract_words.specs.Outcome.{◌>>=◌}
 use Rattle.icescan_audit_findings.specs.declared.basis.Basis.{Basis}
 use Rattle.icescan_audit_findings.specs.Bases.{among}
@@ -20,6 +19,7 @@ use Rattle.ice_state.specs.Specs.{spec_of}
 use Rattle.ice_state.specs.declared.fault.FinishFault.TheVariants as finish
 use Rattle.ice_state.specs.declared.fault.ScanFault.TheVariants as scan
 use Rattle.icescan_text.specs.Reads.{as_run, file_in, rows_at}
+use Rattle.icescan_text.specs.Workers.{by_workers}
 use Rattle.icescan_text.specs.declared.fault.RunFault.{RunFault}
 use Rattle.icescan_text.specs.declared.fault.RunFault.TheVariants as run
 use Rattle.icescan_audit.specs.declared.audit.Audit.{Audit}
@@ -111,15 +111,11 @@ audit_reads world metadata target = reads_of world (subject_of metadata target)
 
 -- ---- the metadata in a file
 
--- what is audited by so many workers: there have to be from 1 to 64, and before that is settled nothing else is
-abbrev pub by_workers : ℕ → Result Audit RunFault → Result Audit RunFault
-by_workers workers read = if nat_le 1 workers && nat_le workers 64 then read else Err run.Workers
-
--- the audit of a snapshot of the table whose metadata is in the file at a path
+-- the audit of a snapshot of the table whose metadata is in the file at a path, by so many workers; their number comes
+-- before all else
 unfoldable pub audit_at : World → List ℕ → Target → ℕ → Result Audit RunFault
-audit_at world path target workers = do
-  metadata ← file_in world path
-  by_workers workers (audit_of world metadata target)
+audit_at world path target workers =
+    by_workers workers (file_in world path >>= λ metadata. audit_of world metadata target)
 
 abbrev pub reads_behind : World → Target → Result (List ℕ) RunFault → List (List ℕ)
 reads_behind world target (Ok metadata) = audit_reads world metadata target

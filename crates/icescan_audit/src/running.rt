@@ -1,6 +1,6 @@
 //! Audits that are asked for, over any files.
 
-ghost use Rattle.std.specs.Prelude.{◌≡◌, ◌≢◌, ℕ, List, Some, Ok, IfOk, IfErr, IsErrOf};
+ghost use Rattle.std.specs.Prelude.{◌≡◌, ◌≢◌, ◌⊎◌, ◌<◌, ℕ, List, Some, Ok, IfOk, IfErr, IsErrOf};
 ghost use Rattle.icescan_audit.specs.AnyFiles.{IsAnAudit, MayStop, WritesAnAudit};
 ghost use Rattle.icescan_audit.specs.Audits.{audit_at, audit_of, audit_reads, audit_reads_at};
 ghost use Rattle.icescan_audit.specs.Premises.{HasTrueSummaries, HasTrueSummariesAt};
@@ -15,11 +15,11 @@ use crate::laws::audits_tell_of_summaries;
 use crate::lines::audit_lines;
 use crate::manifests::check_specs;
 use crate::subject::{Subject, select_subject};
-use ice_desk::{Files, MOST_WORKERS};
+use ice_desk::Files;
 use ice_meta::Target;
 use icescan_audit_findings::count_faults;
 use icescan_print::{Sink, write_all};
-use icescan_text::{RunFault, read_file, read_rows};
+use icescan_text::{RunFault, Workers, read_file, read_rows};
 use std::alloc::Global;
 use std::thread::Threads;
 
@@ -100,8 +100,8 @@ pub fn run_audit<R: Threads + Sync, F: Files + Sync, W: Sink>(
 /// Audits a snapshot of the table whose metadata is in the file at a path, and gives the number of findings that are
 /// faults, by so many workers.
 ///
-/// The refusal is `Absent` where there is no such file, `Device` where reading it failed; then `Workers` where there
-/// are to be none, or more than 64; else as `run_audit`'s.
+/// The refusal is `Workers` where there are to be none, or more than 64; it comes before all others, and nothing is read.
+/// Then it is `Absent` where there is no such file, `Device` where reading it failed, else as `run_audit`'s.
 pub fn audit_file<R: Threads + Sync, F: Files + Sync, W: Sink>(
     rt: &R,
     alloc: Global,
@@ -111,6 +111,8 @@ pub fn audit_file<R: Threads + Sync, F: Files + Sync, W: Sink>(
     workers: usize,
     output: &mut W,
 ) -> Result<usize, RunFault>
+    ensures workers { (workers ≡ 0) ⊎ (64 < workers) → IsErrOf result RunFault.Workers }
+
     // Over files that tell their world.
     ensures written { (world : World) → F.world files.now ≡ Some world →
         IfOk result (λ count. WroteAudit (audit_at world path.now target.now workers) count (W.taken output.old)
@@ -129,9 +131,7 @@ pub fn audit_file<R: Threads + Sync, F: Files + Sync, W: Sink>(
         WritesAnAudit metadata target.now result (W.taken output.old) (W.taken output.new) }
     ensures refusal { IfErr result (MayStop (F.world files.now) (F.may_fail files.now) (W.may_fail output.old)) }
 {
+    let workers = Workers::of(workers)?;
     let metadata = read_file(alloc, files, path)?;
-    if workers == 0 || workers > MOST_WORKERS {
-        return Err(RunFault::Workers);
-    }
-    run_audit(rt, alloc, files, &metadata, target, workers, output)
+    run_audit(rt, alloc, files, &metadata, target, workers.count(), output)
 }

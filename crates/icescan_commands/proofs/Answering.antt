@@ -1,6 +1,11 @@
 -- What is written of texts and plans, as answers.
-use Rattle.std.proofs.Common.{◌≡◌, ℕ, List, Option, Some, refl, ap, ◌∙◌}
-use Rattle.std.specs.Prelude.{Result, Ok, Err}
+use Rattle.std.proofs.Common.{◌≡◌, ◌≢◌, ℕ, List, Option, Some, refl, ap, ◌∙◌}
+use Rattle.std.specs.Prelude.{Result, Ok, Err, IfErr, IfOk, IsErrOf, OnOk}
+use Rattle.icescan_audit.specs.Texts.{WroteAudit, WroteAuditFront, audit_text}
+use Rattle.icescan_audit.specs.declared.audit.Audit.{Audit}
+use Rattle.icescan_explain.specs.Texts.{explanation_text}
+use Rattle.icescan_explain.specs.Writing.{WroteExplanation, WroteExplanationFront}
+use Rattle.icescan_explain.specs.declared.manifests.Explanation.{Explanation}
 use Rattle.icescan_json.specs.JsonAnswers.{AnswersInJson}
 use Rattle.icescan_json.specs.declared.typed.TypedPlan.{TypedPlan}
 use Rattle.icescan_print.specs.PlanTexts.{plan_text}
@@ -12,20 +17,21 @@ use Rattle.icescan_text.specs.Reads.{MayEnd}
 use Rattle.icescan_text.specs.declared.fault.RunFault.{RunFault}
 use Rattle.icescan_text.specs.declared.fault.RunFault.TheVariants as run
 use Rattle.icescan_commands.specs.Answers.{GivesAnswer, WroteAnswer, WroteAnswerFront, as_answer, as_json, json, plain}
-use Rattle.icescan_commands.specs.Runs.{Ran, as_text}
+use Rattle.icescan_commands.specs.Runs.{Ran, as_audit, as_explanation, as_text, ended}
+use Rattle.icescan_commands.specs.Sources.{failing_unread}
 
 -- a text that is written is an answer
-pub text_told : (read : Result (List ℕ) RunFault) (o o' : Option (List ℕ)) → WroteText read o o'
+text_told : (read : Result (List ℕ) RunFault) (o o' : Option (List ℕ)) → WroteText read o o'
     → WroteAnswer (as_answer read) o o'
 text_told read o o' w = (plain w.0, ap as_answer w.1, w.0, refl, w.2)
 
-pub front_told : (read : Result (List ℕ) RunFault) (o o' : Option (List ℕ)) → WroteFront read o o'
+front_told : (read : Result (List ℕ) RunFault) (o o' : Option (List ℕ)) → WroteFront read o o'
     → WroteAnswerFront (as_answer read) o o'
 front_told read o o' w = (plain w.0, ap as_answer w.1, w.0, refl, w.2)
 
 -- a text alone
 pub text_ran : (text : List ℕ) (w : Type 0) (o o' : Option (List ℕ)) → Appends o o' text
-    → Ran (Some (Ok (plain text))) w (Ok tt) o o'
+    → Ran (Some (Ok (plain text))) (failing_unread w) (Ok tt) o o'
 text_ran text w o o' all = record {
   written = (plain text, refl, text, refl, all);
   refused = tt;
@@ -34,7 +40,7 @@ text_ran text w o o' all = record {
 }
 
 pub text_failed : (text : List ℕ) (w : Type 0) (o o' : Option (List ℕ)) → w → AppendsFront o o' text
-    → Ran (Some (Ok (plain text))) w (Err run.Write) o o'
+    → Ran (Some (Ok (plain text))) (failing_unread w) (Err run.Write) o o'
 text_failed text w o o' may front = record {
   written = tt;
   refused = may;
@@ -90,3 +96,51 @@ gives_json read r w (Err e) o o' h = record {
   refused = ends_as as_json read r w e (λ f. refl) h.refused;
   front = λ is. let v = h.front is in (json v.0, ap as_json v.1, v.2, v.3, v.4);
 }
+
+pub gives_shown : (read : Result (List ℕ) RunFault) (r : List ℕ → Type 0) (w : Type 0) (result : Result Unit RunFault)
+    (o o' : Option (List ℕ)) → OnOk result (WroteText read o o') → IfErr result (MayEnd read r w)
+    → (IsErrOf result run.Write → WroteFront read o o') → GivesAnswer (as_answer read) r w result o o'
+gives_shown read r w (Ok x) o o' all refused front =
+    record { written = text_told read o o' all; refused = tt; front = λ is. absurd cc }
+gives_shown read r w (Err e) o o' all refused front = record {
+  written = tt;
+  refused = ends_as as_answer read r w e (λ f. refl) refused;
+  front = λ is. front_told read o o' (front is);
+}
+
+pub gives_explained : (read : Result Explanation RunFault) (r : List ℕ → Type 0) (w : Type 0)
+    (result : Result Unit RunFault) (o o' : Option (List ℕ)) → OnOk result (WroteExplanation read o o')
+    → IfErr result (MayEnd read r w) → (IsErrOf result run.Write → WroteExplanationFront read o o')
+    → GivesAnswer (as_answer (as_explanation read)) r w result o o'
+gives_explained read r w (Ok x) o o' all refused front = record {
+  written = text_told (as_explanation read) o o' (explanation_text all.0, ap as_explanation all.1, all.2);
+  refused = tt;
+  front = λ is. absurd cc;
+}
+gives_explained read r w (Err e) o o' all refused front = record {
+  written = tt;
+  refused = ends_as (λ x. as_answer (as_explanation x)) read r w e (λ f. refl) refused;
+  front = λ is. let v = front is in
+      front_told (as_explanation read) o o' (explanation_text v.0, ap as_explanation v.1, v.2);
+}
+
+pub gives_audited : (read : Result Audit RunFault) (r : List ℕ → Type 0) (w : Type 0) (result : Result ℕ RunFault)
+    (o o' : Option (List ℕ)) → IfOk result (λ count. WroteAudit read count o o') → IfErr result (MayEnd read r w)
+    → (IsErrOf result run.Write → WroteAuditFront read o o')
+    → GivesAnswer (as_answer (as_audit read)) r w (ended result) o o'
+gives_audited read r w (Ok count) o o' all refused front = record {
+  written = text_told (as_audit read) o o' (audit_text all.0, ap as_audit all.1, all.3);
+  refused = tt;
+  front = λ is. absurd cc;
+}
+gives_audited read r w (Err e) o o' all refused front = record {
+  written = tt;
+  refused = ends_as (λ x. as_answer (as_audit x)) read r w e (λ f. refl) refused;
+  front = λ is. let failed : e ≡ run.Write = cc in
+      let v = front (ap Err failed) in front_told (as_audit read) o o' (audit_text v.0, ap as_audit v.1, v.2);
+}
+
+pub still_nothing : (result : Result ℕ RunFault) (o o' : Option (List ℕ))
+    → IfErr result (λ fault. fault ≢ run.Write → o' ≡ o) → IfErr (ended result) (λ fault. fault ≢ run.Write → o' ≡ o)
+still_nothing (Ok count) o o' h = tt
+still_nothing (Err e) o o' h = h

@@ -1,6 +1,6 @@
 -- What is written of a commit in a bundle.
-use Rattle.std.proofs.Common.{◌≡◌, ◌≢◌, ◌⊎◌, ℕ, List, Bool, true, false, Option, Some, None, refl, sym, ap, subst, ◌∙◌}
-use Rattle.std.proofs.Common.{inl, inr}
+use Rattle.std.proofs.Common.{◌≡◌, ℕ, List, Bool, true, false, Option, Some, None, refl, sym, ap, subst, ◌∙◌}
+use Rattle.std.proofs.Common.{inl}
 use Rattle.std.specs.Prelude.{Result, Ok, Err, IfSome, if◌then◌else◌, option_map}
 use Rattle.serde_json.specs.Written.{compact_text, has_float}
 use Rattle.icescan_requests.specs.Bundles.{File, bundle_of, bytes_at}
@@ -9,47 +9,23 @@ use Rattle.icescan_requests.specs.Commits.{told_text}
 use Rattle.icescan_text.specs.Reads.{MayEnd}
 use Rattle.icescan_commands.specs.Answers.{Answer, WroteAnswer, as_answer, plain}
 use Rattle.icescan_commands.specs.Runs.{MayRefuse, Ran}
+use Rattle.icescan_commands.specs.Sources.{Failing, failing_bundle}
 use Rattle.icescan_print.specs.Written.{Appends, AppendsFront}
 use Rattle.icescan_text.specs.declared.request.CommitRequest.{CommitRequest}
 use Rattle.icescan_text.specs.declared.fault.RunFault.{RunFault}
 use Rattle.icescan_text.specs.declared.fault.RunFault.TheVariants as run
-use Rattle.icescan_commands.proofs.Refusals.{memory_ran}
 
 -- ---- refusals
 
--- the fault is want of memory, or that of the answer and no failed write
-abbrev Refuses : Option (Result Answer RunFault) → RunFault → Type 0
-Refuses known e = (e ≡ run.Memory) ⊎ ((known ≡ Some (Err e)) × (e ≢ run.Write))
+-- the fault of the answer, or of memory
+cause_of : (known : Option (Result Answer RunFault)) (failing : Failing) (e : RunFault) → known ≡ Some (Err e)
+    → MayRefuse (Err e) failing e → IfSome known (λ read. MayRefuse read failing e)
+cause_of known failing e is h = subst (λ k. IfSome k (λ read. MayRefuse read failing e)) (sym is) h
 
-its_fault : (w : Type 0) (e : RunFault) → e ≢ run.Write → MayRefuse (Err e) w e
-its_fault w run.Input other = tt
-its_fault w run.Memory other = tt
-its_fault w run.Write other = absurd (other refl)
-its_fault w (run.Words t) other = refl
-its_fault w (run.Bundle n) other = refl
-its_fault w (run.Absent path) other = refl
-its_fault w (run.Device path) other = refl
-its_fault w (run.List f) other = refl
-its_fault w (run.Scan f) other = refl
-its_fault w (run.Finish f) other = refl
-its_fault w (run.Metadata f) other = refl
-its_fault w (run.Filter f) other = refl
-its_fault w (run.Drill f) other = refl
-its_fault w (run.Change f) other = refl
-its_fault w (run.Prepare f) other = refl
-its_fault w (run.Conflict path) other = refl
-its_fault w run.Workers other = refl
-
-refused_ran : (known : Option (Result Answer RunFault)) (w : Type 0) (o : Option (List ℕ)) (e : RunFault)
-    → Refuses known e
-    → Ran known w (Err e) o o
-refused_ran known w o e (inl h) = subst (λ f. Ran known w (Err f) o o) (sym h) (memory_ran known w o)
-refused_ran known w o e (inr h) = subst (λ k. Ran k w (Err e) o o) (sym h.0) (record {
-  written = tt;
-  refused = its_fault w e h.1;
-  nothing = λ _. refl;
-  front = λ is. let failed : e ≡ run.Write = cc in absurd (h.1 failed);
-})
+any_cause : (known : Option (Result Answer RunFault)) (failing : Failing)
+    → IfSome known (λ read. MayRefuse read failing run.Memory)
+any_cause None failing = tt
+any_cause (Some read) failing = tt
 
 module _ (request : CommitRequest) (text : List ℕ) where
   abbrev known : Option (Result Answer RunFault)
@@ -67,31 +43,37 @@ module _ (request : CommitRequest) (text : List ℕ) where
     unfolding committed_text
     told_is = rw is refl
 
-    refused_commit : (e : RunFault) → read ≡ Err e → e ≢ run.Write → Refuses known e
-    refused_commit e h other = inr (ap (option_map as_answer) (told_is ∙ ap (told_text request.out) h), other)
+    refused_commit : (e : RunFault) → read ≡ Err e → known ≡ Some (Err e)
+    refused_commit e h = ap (option_map as_answer) (told_is ∙ ap (told_text request.out) h)
 
-    commit_refuses : (e : RunFault) → MayEnd read (λ path. ⊥) ⊥ e → Refuses known e
-    commit_refuses run.Memory h = inl refl
-    commit_refuses run.Write h = absurd h
-    commit_refuses (run.Device path) h = absurd h
-    commit_refuses run.Input h = refused_commit run.Input h (λ m. absurd cc)
-    commit_refuses (run.Words t) h = refused_commit (run.Words t) h (λ m. absurd cc)
-    commit_refuses (run.Bundle n) h = refused_commit (run.Bundle n) h (λ m. absurd cc)
-    commit_refuses (run.Absent path) h = refused_commit (run.Absent path) h (λ m. absurd cc)
-    commit_refuses (run.List f) h = refused_commit (run.List f) h (λ m. absurd cc)
-    commit_refuses (run.Scan f) h = refused_commit (run.Scan f) h (λ m. absurd cc)
-    commit_refuses (run.Finish f) h = refused_commit (run.Finish f) h (λ m. absurd cc)
-    commit_refuses (run.Metadata f) h = refused_commit (run.Metadata f) h (λ m. absurd cc)
-    commit_refuses (run.Filter f) h = refused_commit (run.Filter f) h (λ m. absurd cc)
-    commit_refuses (run.Drill f) h = refused_commit (run.Drill f) h (λ m. absurd cc)
-    commit_refuses (run.Change f) h = refused_commit (run.Change f) h (λ m. absurd cc)
-    commit_refuses (run.Prepare f) h = refused_commit (run.Prepare f) h (λ m. absurd cc)
-    commit_refuses (run.Conflict path) h = refused_commit (run.Conflict path) h (λ m. absurd cc)
-    commit_refuses run.Workers h = refused_commit run.Workers h (λ m. absurd cc)
+    commit_refuses : (w : Type 0) (e : RunFault) → MayEnd read (λ path. ⊥) ⊥ e
+        → IfSome known (λ r. MayRefuse r (failing_bundle w) e)
+    commit_refuses w run.Memory h = any_cause known (failing_bundle w)
+    commit_refuses w run.Write h = absurd h
+    commit_refuses w (run.Device path) h = absurd h
+    commit_refuses w run.Input h = cause_of known (failing_bundle w) run.Input (refused_commit run.Input h) (inl tt)
+    commit_refuses w (run.Words t) h = cause_of known (failing_bundle w) (run.Words t) (refused_commit (run.Words t) h) refl
+    commit_refuses w (run.Bundle n) h = cause_of known (failing_bundle w) (run.Bundle n) (refused_commit (run.Bundle n) h) refl
+    commit_refuses w (run.Absent path) h = cause_of known (failing_bundle w) (run.Absent path) (refused_commit (run.Absent path) h) refl
+    commit_refuses w (run.List f) h = cause_of known (failing_bundle w) (run.List f) (refused_commit (run.List f) h) refl
+    commit_refuses w (run.Scan f) h = cause_of known (failing_bundle w) (run.Scan f) (refused_commit (run.Scan f) h) refl
+    commit_refuses w (run.Finish f) h = cause_of known (failing_bundle w) (run.Finish f) (refused_commit (run.Finish f) h) refl
+    commit_refuses w (run.Metadata f) h = cause_of known (failing_bundle w) (run.Metadata f) (refused_commit (run.Metadata f) h) refl
+    commit_refuses w (run.Filter f) h = cause_of known (failing_bundle w) (run.Filter f) (refused_commit (run.Filter f) h) refl
+    commit_refuses w (run.Drill f) h = cause_of known (failing_bundle w) (run.Drill f) (refused_commit (run.Drill f) h) refl
+    commit_refuses w (run.Change f) h = cause_of known (failing_bundle w) (run.Change f) (refused_commit (run.Change f) h) refl
+    commit_refuses w (run.Prepare f) h = cause_of known (failing_bundle w) (run.Prepare f) (refused_commit (run.Prepare f) h) refl
+    commit_refuses w (run.Conflict path) h = cause_of known (failing_bundle w) (run.Conflict path) (refused_commit (run.Conflict path) h) refl
+    commit_refuses w run.Workers h = cause_of known (failing_bundle w) run.Workers (refused_commit run.Workers h) refl
 
     pub commit_ran : (w : Type 0) (o : Option (List ℕ)) (e : RunFault) → MayEnd read (λ path. ⊥) ⊥ e
-        → Ran known w (Err e) o o
-    commit_ran w o e h = refused_ran known w o e (commit_refuses e h)
+        → Ran known (failing_bundle w) (Err e) o o
+    commit_ran w o e h = record {
+      written = tt;
+      refused = commit_refuses w e h;
+      nothing = λ _. refl;
+      front = λ is. let failed : e ≡ run.Write = cc in absurd (subst (λ f. MayEnd read (λ path. ⊥) ⊥ f) failed h);
+    }
 
     -- ---- the text
 
@@ -123,7 +105,7 @@ module _ (request : CommitRequest) (text : List ℕ) where
       wrote None o o' h all = tt
       wrote (Some r) o o' h all = (plain lines, h, lines, refl, all)
 
-      pub wrote_ran : (w : Type 0) (o o' : Option (List ℕ)) → Appends o o' lines → Ran known w (Ok tt) o o'
+      pub wrote_ran : (w : Type 0) (o o' : Option (List ℕ)) → Appends o o' lines → Ran known (failing_bundle w) (Ok tt) o o'
       wrote_ran w o o' all = record {
         written = wrote known o o' text_is all;
         refused = tt;
@@ -133,7 +115,7 @@ module _ (request : CommitRequest) (text : List ℕ) where
 
       failed : (k : Option (Result Answer RunFault)) (w : Type 0) (o o' : Option (List ℕ))
           → IfSome k (λ r. r ≡ Ok (plain lines)) → w
-          → AppendsFront o o' lines → Ran k w (Err run.Write) o o'
+          → AppendsFront o o' lines → Ran k (failing_bundle w) (Err run.Write) o o'
       failed None w o o' h may front = record {
         written = tt;
         refused = tt;
@@ -148,5 +130,5 @@ module _ (request : CommitRequest) (text : List ℕ) where
       }
 
       pub failed_ran : (w : Type 0) (o o' : Option (List ℕ)) → w → AppendsFront o o' lines
-          → Ran known w (Err run.Write) o o'
+          → Ran known (failing_bundle w) (Err run.Write) o o'
       failed_ran w o o' may front = failed known w o o' text_is may front

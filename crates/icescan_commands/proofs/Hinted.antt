@@ -4,35 +4,35 @@ use Rattle.std.specs.Prelude.{◌==◌, Result}
 use Rattle.std.proofs.lemmas.Bool.Decides.{nat_tests}
 use Rattle.icescan_progress.proofs.Plain.{nothing_plain}
 use Rattle.icescan_text.specs.declared.fault.RunFault.{RunFault}
-use Rattle.icescan_commands.specs.Answers.{Answer}
-use Rattle.icescan_commands.specs.Runs.{Explained, RanWithHint, RanWithoutHint, Refused, Told, ToldWithHint, meant, run_of}
+use Rattle.icescan_commands.specs.Runs.{Explained, Given, Left, RanWithHint, RanWithoutHint, Refused, Told, ToldWithHint}
+use Rattle.icescan_commands.specs.Runs.{Wrote, meant}
+use Rattle.icescan_words.specs.declared.command_line.Words.{Words}
 
 -- a fault that is told without a hint
 pub plainly : (w : Type 0) (e e' : Option (List ℕ)) (fault : RunFault) → Told w e e' fault → ToldWithHint w e e' fault
 plainly w e e' fault told = record { between = e'; line = told; hint = nothing_plain e' }
 
-hinted : (known : Option (Result Answer RunFault)) (w t : Type 0) (status : ℕ) (o o' e e' : Option (List ℕ))
-    → Refused known w t status o o' e e' → Explained known w t status o o' e e'
-hinted known w t status o o' e e' r = record {
+hinted : (given : Given) (asked : Result Words RunFault) (text : List ℕ) (left : Left) → Refused given asked text left
+    → Explained given asked text left
+hinted given asked text left r = record {
   fault = r.fault;
   cause = r.cause;
   status_is = r.status_is;
   nothing = r.nothing;
   front = r.front;
-  told = plainly t e e' r.fault r.told;
+  stored = r.stored;
+  told = plainly given.tell_may_fail given.errors left.errors r.fault r.told;
 }
 
-or_hinted : {A : Type 0} (known : Option (Result Answer RunFault)) (w t : Type 0) (status : ℕ)
-    (o o' e e' : Option (List ℕ)) → A ⊎ Refused known w t status o o' e e' → A ⊎ Explained known w t status o o' e e'
-or_hinted known w t status o o' e e' (inl a) = inl a
-or_hinted known w t status o o' e e' (inr r) = inr (hinted known w t status o o' e e' r)
+or_hinted : {A : Type 0} (given : Given) (asked : Result Words RunFault) (text : List ℕ) (left : Left)
+    → A ⊎ Refused given asked text left → A ⊎ Explained given asked text left
+or_hinted given asked text left (inl a) = inl a
+or_hinted given asked text left (inr r) = inr (hinted given asked text left r)
 
 -- no hint is a hint without lines
-pub with_hint : (texts : List (List ℕ)) (left : Option (List ℕ)) (w t : Type 0) (status : ℕ)
-    (o o' e e' : Option (List ℕ)) → RanWithoutHint texts left w t status o o' e e'
-    → RanWithHint texts left w t status o o' e e'
-with_hint texts left w t status o o' e e' r =
-    (r.0, r.1, r.2, r.3, or_hinted (run_of r.0 r.2) w t status o o' e e' r.4)
+pub with_hint : (given : Given) (texts : List (List ℕ)) (left : Left) → RanWithoutHint given texts left
+    → RanWithHint given texts left
+with_hint given texts left r = (r.0, r.1, r.2, r.3, or_hinted given r.0 r.2 left r.4)
 
 -- no words on a terminal are those of the help
 pub meant_help : {X : Type 0} (f : X → List ℕ) (input none : Bool) (words : List X) → input ≡ true

@@ -2,4 +2,5 @@ pub mod Answering
 pub mod Committed
 pub mod Hinted
 pub mod Refusals
-pub mod ExplainedLaws
+pub mod Opened
+pub mod Stored

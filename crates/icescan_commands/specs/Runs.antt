@@ -1,22 +1,26 @@
 -- The whole program: what it makes of its words and of standard input.
 use Rattle.std.specs.Prelude.{◌≡◌, ◌≢◌, ◌⊎◌, ◌==◌, ℕ, List, length, Option, Some, None, IfSome, Result, Ok, Err, OnOk}
-use Rattle.std.specs.Prelude.{IfOk, IfErr, IsErrOf, if◌then◌else◌, Bool, true, false, [], ◌∷◌, codes}
-use Rattle.std.specs.Prelude.{option_map}
+use Rattle.std.specs.Prelude.{IfOk, IfErr, IsErrOf, if◌then◌else◌, Bool, true, false, [], ◌∷◌, codes, option_map}
 use Rattle.contract_words.specs.Outcome.{◌>>=◌}
 use Rattle.icescan_audit_findings.specs.Telling.{faults}
-use Rattle.icescan_audit.specs.Audits.{audit_at}
+use Rattle.icescan_audit.specs.Audits.{audit_at, audit_reads_at}
 use Rattle.icescan_audit.specs.Texts.{audit_text}
 use Rattle.icescan_audit.specs.declared.audit.Audit.{Audit}
 use Rattle.icescan_commands.specs.Answers.{Answer, WroteAnswer, WroteAnswerFront, as_answer, as_json, plain}
 use Rattle.icescan_json.specs.JsonAnswers.{typed_answer_at, typed_list_answer}
-use Rattle.icescan_commands.specs.Explained.{explained_text}
+use Rattle.icescan_commands.specs.Sources.{Below, Failing, MayFailBelow, failing_bundle, failing_over, failing_place}
+use Rattle.icescan_commands.specs.Sources.{failing_unread, over, world_at}
+use Rattle.icescan_commands.specs.Storing.{IsStoredBy, MayFailToPut, Stored}
+use Rattle.icescan_explain.specs.Explanations.{explained_at}
+use Rattle.icescan_explain.specs.Texts.{explanation_text}
+use Rattle.icescan_explain.specs.declared.manifests.Explanation.{Explanation}
 use Rattle.ice_meta.specs.declared.metadata.Target.{Target}
 use Rattle.ice_state.specs.Lines.{OwnedLine}
 use Rattle.icescan_requests.specs.Bundles.{File, IsInput, bundle_of, bytes_at, first_path}
 use Rattle.icescan_drill.specs.Drills.{WroteDrill}
 use Rattle.icescan_requests.specs.Commits.{committed_text}
-use Rattle.icescan_requests.specs.ListPlans.{list_answer}
-use Rattle.icescan_requests.specs.Plans.{answer_at, over_wanted_rows}
+use Rattle.icescan_requests.specs.ListPlans.{list_answer, list_reads}
+use Rattle.icescan_requests.specs.Plans.{answer_at, over_wanted_rows, reads_at}
 use Rattle.icescan_text.specs.Faults.{status_of}
 use Rattle.icescan_text.specs.FaultTexts.{fault_text}
 use Rattle.icescan_print.specs.PlanTexts.{plan_text}
@@ -27,12 +31,15 @@ use Rattle.ice_state.specs.Contents.{World}
 use Rattle.icescan_words.specs.CommandLines.{ReadAs}
 use Rattle.icescan_words.specs.declared.answer_format.Format.{Format}
 use Rattle.icescan_words.specs.declared.answer_format.Format.TheVariants as format
+use Rattle.icescan_words.specs.declared.command_line.Lists.{Lists}
 use Rattle.icescan_words.specs.declared.command_line.Lists.TheVariants as lists
+use Rattle.icescan_words.specs.declared.command_line.Source.{Source}
 use Rattle.icescan_words.specs.declared.command_line.Source.TheVariants as source
 use Rattle.icescan_words.specs.declared.command_line.Words.{Words}
 use Rattle.icescan_words.specs.declared.command_line.Words.TheVariants as words
 use Rattle.icescan_text.specs.declared.fault.RunFault.{RunFault}
 use Rattle.icescan_text.specs.declared.fault.RunFault.TheVariants as run
+use Rattle.icescan_text.specs.declared.request.CommitRequest.{CommitRequest}
 use Rattle.icescan_text.specs.declared.request.Request.{Request}
 
 -- the list is the bundle's first file
@@ -55,16 +62,15 @@ abbrev pub list_plan_in : Format → World → List ℕ → Result Answer RunFau
 list_plan_in format.Text world list = as_answer (as_text (list_answer world list))
 list_plan_in format.Json world list = as_json (typed_list_answer world list)
 
--- the plan of a list in a bundle, in a form, or the first fault: of the bundle, of the list
-unfoldable pub list_planned : Format → Option (List ℕ) → List ℕ → Result Answer RunFault
-list_planned form list input = do
+-- the plan of a list, in a form: of a bundle that of the list that is asked for or of its first file, or the first fault
+-- of the bundle; of a folder that of the list at a path
+abbrev pub list_planned : Below → Lists → Format → List ℕ → Option (Result Answer RunFault)
+list_planned below (lists.Bundle list) form input = Some (do
   files ← bundle_of input
   path ← list_in files list
-  list_plan_in form (λ path. bytes_at files path) path
-
--- the text of the metadata at a path of a bundle, or the first fault: of the bundle, of the file, of what it says
-unfoldable pub shown_text : List ℕ → List ℕ → Result (List ℕ) RunFault
-shown_text path input = bundle_of input >>= λ files. shown_at (λ path. bytes_at files path) path
+  list_plan_in form (λ path. bytes_at files path) path)
+list_planned below (lists.Folder place list) form input =
+    option_map (λ world. list_plan_in form world list) (world_at below place)
 
 -- the plan that is asked of the table whose metadata is at a path, by so many workers, in a form
 abbrev pub plan_in : Format → World → List ℕ → Request → ℕ → Result Answer RunFault
@@ -72,120 +78,184 @@ plan_in format.Text world path request workers =
     as_answer (as_text (answer_at over_wanted_rows world path request workers))
 plan_in format.Json world path request workers = as_json (typed_answer_at over_wanted_rows world path request workers)
 
--- the plan that is asked of a table in a bundle, in a form and by so many workers, or the first fault: of the bundle,
--- of the file with the metadata, of the number of workers, of the plan
-unfoldable pub planned : Format → List ℕ → Request → ℕ → List ℕ → Result Answer RunFault
-planned form path request workers input = do
-  files ← bundle_of input
-  plan_in form (λ path. bytes_at files path) path request workers
-
--- the audit of a snapshot of the table whose metadata is at a path of a bundle, by so many workers, or the first fault:
--- of the bundle, of the file with the metadata, of the number of workers, of the audit
-unfoldable pub audited : List ℕ → Target → ℕ → List ℕ → Result Audit RunFault
-audited path target workers input = do
-  files ← bundle_of input
-  audit_at (λ path. bytes_at files path) path target workers
-
--- the text of an audit
+-- the text of an audit, and of an explanation
 abbrev pub as_audit : Result Audit RunFault → Result (List ℕ) RunFault
 as_audit (Ok audit) = Ok (audit_text audit)
 as_audit (Err fault) = Err fault
 
-abbrev pub audited_text : List ℕ → Target → ℕ → List ℕ → Result (List ℕ) RunFault
-audited_text path target workers input = as_audit (audited path target workers input)
+abbrev pub as_explanation : Result Explanation RunFault → Result (List ℕ) RunFault
+as_explanation (Ok x) = Ok (explanation_text x)
+as_explanation (Err fault) = Err fault
 
--- What a command asks for, or the first fault, where its files are told: those of a bundle are what standard input had,
--- those of a folder are not told.
-abbrev pub answer_to : Words → List ℕ → Option (Result Answer RunFault)
-answer_to (words.ListPlan (lists.Bundle list) form) input = Some (list_planned form list input)
-answer_to (words.ListPlan (lists.Folder place list) form) input = None
-answer_to (words.Plan source.Bundle request form workers path) input = Some (planned form path request workers input)
-answer_to (words.Plan (source.Folder place) request form workers path) input = None
-answer_to (words.Commit source.Bundle request) input = option_map as_answer (committed_text request input)
-answer_to (words.Commit (source.Folder place) request) input = None
-answer_to (words.Show source.Bundle path) input = Some (as_answer (shown_text path input))
-answer_to (words.Show (source.Folder place) path) input = None
-answer_to (words.Audit source.Bundle target workers path) input =
-    Some (as_answer (audited_text path target workers input))
-answer_to (words.Audit (source.Folder place) target workers path) input = None
-answer_to (words.Explain source.Bundle request workers path) input =
-    Some (as_answer (explained_text path request workers input))
-answer_to (words.Explain (source.Folder place) request workers path) input = None
-answer_to (words.Drill asked) input = None
-answer_to (words.Text text) input = Some (Ok (plain text))
+-- the text of the metadata at a path, that of an audit, and that of an explained plan
+abbrev pub show_in : World → List ℕ → Result Answer RunFault
+show_in world path = as_answer (shown_at world path)
+
+abbrev pub audit_in : World → List ℕ → Target → ℕ → Result Answer RunFault
+audit_in world path target workers = as_answer (as_audit (audit_at world path target workers))
+
+abbrev pub explain_in : World → List ℕ → Request → ℕ → Result Answer RunFault
+explain_in world path request workers = as_answer (as_explanation (explained_at world path request workers))
+
+-- the text of a commit to a table in a bundle, where it is told; of a commit to a folder `commitment` says more
+abbrev pub commit_told : Source → CommitRequest → List ℕ → Option (Result Answer RunFault)
+commit_told source.Bundle request input = option_map as_answer (committed_text request input)
+commit_told (source.Folder place) request input = None
+
+-- What a command asks for, or the first fault, where its files are known: those of a bundle are what standard input
+-- had, those of a folder what the folder reports.
+abbrev pub answer_to : Below → Words → List ℕ → Option (Result Answer RunFault)
+answer_to below (words.ListPlan lists form) input = list_planned below lists form input
+answer_to below (words.Plan source request form workers path) input =
+    over below source (λ world. plan_in form world path request workers) input
+answer_to below (words.Commit source request) input = commit_told source request input
+answer_to below (words.Show source path) input = over below source (λ world. show_in world path) input
+answer_to below (words.Audit source target workers path) input =
+    over below source (λ world. audit_in world path target workers) input
+answer_to below (words.Explain source request workers path) input =
+    over below source (λ world. explain_in world path request workers) input
+answer_to below (words.Drill asked) input = None
+answer_to below (words.Text text) input = Some (Ok (plain text))
+
+-- what may fail of the plan of a list, beside its answer
+abbrev pub failing_list : Below → MayFailBelow → Lists → Type 0 → Failing
+failing_list below may_fail (lists.Bundle list) write = failing_bundle write
+failing_list below may_fail (lists.Folder place list) write =
+    failing_place below may_fail place (λ world. list_reads world list) write
+
+-- What may fail of a command, beside its answer: of one over a folder the paths stand here that it reads, in turn.
+abbrev pub failing_of : Below → MayFailBelow → Words → Type 0 → Failing
+failing_of below may_fail (words.ListPlan lists form) write = failing_list below may_fail lists write
+failing_of below may_fail (words.Plan source request form workers path) write =
+    failing_over below may_fail source (λ world. reads_at world path request) write
+failing_of below may_fail (words.Commit source request) write = failing_bundle write
+failing_of below may_fail (words.Show source path) write =
+    failing_over below may_fail source (λ world. path ∷ []) write
+failing_of below may_fail (words.Audit source target workers path) write =
+    failing_over below may_fail source (λ world. audit_reads_at world path target) write
+failing_of below may_fail (words.Explain source request workers path) write =
+    failing_over below may_fail source (λ world. reads_at world path request) write
+failing_of below may_fail (words.Drill asked) write = failing_unread write
+failing_of below may_fail (words.Text text) write = failing_unread write
 
 -- a drill reads nothing; what it wrote is that of a table with all its commits
 abbrev pub IsOfDrill : Result Words RunFault → Option (List ℕ) → Option (List ℕ) → Type 0
 IsOfDrill (Ok (words.Drill asked)) output output' = WroteDrill asked output output'
 IsOfDrill _ output output' = Unit {0}
 
-abbrev pub run_of : Result Words RunFault → List ℕ → Option (Result Answer RunFault)
-run_of (Ok asked) input = answer_to asked input
-run_of (Err fault) input = Some (Err fault)
+abbrev pub run_of : Below → Result Words RunFault → List ℕ → Option (Result Answer RunFault)
+run_of below (Ok asked) input = answer_to below asked input
+run_of below (Err fault) input = Some (Err fault)
 
--- the number of findings that are faults of which a command tells: an audit of its own, where its files are told; any
+abbrev pub failing_run : Below → MayFailBelow → Result Words RunFault → Type 0 → Failing
+failing_run below may_fail (Ok asked) write = failing_of below may_fail asked write
+failing_run below may_fail (Err fault) write = failing_unread write
+
+-- the number of findings that are faults of which a command tells: an audit of its own, where its files are known; any
 -- other of none
-abbrev pub IsCount : Words → List ℕ → ℕ → Type 0
-IsCount (words.Audit source.Bundle target workers path) input count =
-    IfOk (audited path target workers input) (λ (audit : Audit). count ≡ length (faults audit.findings))
-IsCount (words.Audit (source.Folder place) target workers path) input count = Unit {0}
-IsCount _ input count = count ≡ 0
+abbrev pub IsCount : Below → Words → List ℕ → ℕ → Type 0
+IsCount below (words.Audit source target workers path) input count =
+    IfSome (over below source (λ world. audit_at world path target workers) input)
+    (λ (read : Result Audit RunFault). IfOk read (λ (audit : Audit). count ≡ length (faults audit.findings)))
+IsCount below _ input count = count ≡ 0
 
-abbrev pub IsCountOf : Result Words RunFault → List ℕ → ℕ → Type 0
-IsCountOf (Ok asked) input count = IsCount asked input count
-IsCountOf (Err fault) input count = count ≡ 0
+abbrev pub IsCountOf : Below → Result Words RunFault → List ℕ → ℕ → Type 0
+IsCountOf below (Ok asked) input count = IsCount below asked input count
+IsCountOf below (Err fault) input count = count ≡ 0
 
 -- 1 where there are faults
 abbrev pub status_of_count : ℕ → ℕ
 status_of_count count = if count == 0 then 0 else 1
 
 -- the status that the program ends with that wrote what the words ask for
-abbrev pub EndsWith : Result Words RunFault → List ℕ → ℕ → Type 0
-EndsWith asked input status = (count : ℕ) × IsCountOf asked input count × (status ≡ status_of_count count)
+abbrev pub EndsWith : Below → Result Words RunFault → List ℕ → ℕ → Type 0
+EndsWith below asked input status =
+    (count : ℕ) × IsCountOf below asked input count × (status ≡ status_of_count count)
 
 -- whether a run ended with a fault, whatever it gives else
 abbrev pub ended : {A : Type 0} → Result A RunFault → Result Unit RunFault
 ended (Ok x) = Ok tt
 ended (Err fault) = Err fault
 
--- Why the program ends with a fault: standard input can't be read, memory ran out, a write failed that may fail, or the
--- fault is that of the words and the input.
-abbrev pub MayRefuse : Result Answer RunFault → Type 0 → RunFault → Type 0
-MayRefuse read write_may_fail run.Input = Unit {0}
-MayRefuse read write_may_fail run.Memory = Unit {0}
-MayRefuse read write_may_fail run.Write = write_may_fail
-MayRefuse read write_may_fail fault = read ≡ Err fault
+-- Why the program ends with a fault: memory ran out, standard input, a file or a write failed that may fail, or the
+-- fault is that of the words and the files.
+abbrev pub MayRefuse : Result Answer RunFault → Failing → RunFault → Type 0
+MayRefuse read failing run.Input = failing.input ⊎ (read ≡ Err run.Input)
+MayRefuse read failing run.Memory = Unit {0}
+MayRefuse read failing run.Write = failing.write
+MayRefuse read failing (run.Device path) = failing.read path
+MayRefuse read failing fault = read ≡ Err fault
 
 -- What a run gives: the answer is written, or there is a fault, and nothing was written but after a failed write. Where
 -- the answer is known, it is that one, and so is the fault.
-pub record Ran (known : Option (Result Answer RunFault)) (write_may_fail : Type 0) (result : Result Unit RunFault)
+pub record Ran (known : Option (Result Answer RunFault)) (failing : Failing) (result : Result Unit RunFault)
     (output output' : Option (List ℕ)) : Type 0 where
   pub written : OnOk result (IfSome known (λ read. WroteAnswer read output output'))
-  pub refused : IfErr result (λ fault. IfSome known (λ read. MayRefuse read write_may_fail fault))
+  pub refused : IfErr result (λ fault. IfSome known (λ read. MayRefuse read failing fault))
   pub nothing : IfErr result (λ fault. fault ≢ run.Write → output' ≡ output)
   pub front : IsErrOf result run.Write → IfSome known (λ read. WroteAnswerFront read output output')
-
--- the program ended without a fault: it wrote the answer to its output
-pub record Answered (known : Option (Result Answer RunFault))
-    (output output' errors errors' : Option (List ℕ)) : Type 0 where
-  pub written : IfSome known (λ read. WroteAnswer read output output')
-  pub silent : errors' ≡ errors
 
 -- a fault was told: its whole line was written where no write of it may fail, else a front of it
 pub record Told (write_may_fail : Type 0) (errors errors' : Option (List ℕ)) (fault : RunFault) : Type 0 where
   pub front : AppendsFront errors errors' (fault_text fault)
   pub all : (write_may_fail → ⊥) → Appends errors errors' (fault_text fault)
 
+-- What a run is given: the files below folders, where they are reported, and where reading them may fail; the files that
+-- stores below folders have, and where putting one may fail; what standard input has left, where that is known; what its
+-- output and its errors took, and whether a write of either may fail.
+pub record Given : Type 1 where
+  pub below : Below
+  pub read_may_fail : MayFailBelow
+  pub stored : Stored
+  pub put_may_fail : MayFailToPut
+  pub input : Option (List ℕ)
+  pub output : Option (List ℕ)
+  pub write_may_fail : Type 0
+  pub errors : Option (List ℕ)
+  pub tell_may_fail : Type 0
+
+-- what it leaves: its status, the files that stores below folders have, and those of the folder that was entered last;
+-- what its output and its errors took
+pub record Left : Type 0 where
+  pub status : ℕ
+  pub stored : Stored
+  pub files : Option (List File)
+  pub output : Option (List ℕ)
+  pub errors : Option (List ℕ)
+
+-- the answer of what the words ask for, where it is known
+abbrev pub known_of : Given → Result Words RunFault → List ℕ → Option (Result Answer RunFault)
+known_of given asked text = run_of given.below asked text
+
+-- why the program ends with a fault, where its answer is known
+abbrev pub IsCause : Given → Result Words RunFault → List ℕ → RunFault → Type 0
+IsCause given asked text fault = IfSome (known_of given asked text)
+    (λ read. MayRefuse read (failing_run given.below given.read_may_fail asked given.write_may_fail) fault)
+
+-- what became of the files of stores
+abbrev pub StoredAs : Given → Result Words RunFault → Result Unit RunFault → Left → Type 0
+StoredAs given asked result left = IsStoredBy asked given.below given.read_may_fail given.stored given.put_may_fail
+    given.write_may_fail result left.stored left.files given.output left.output
+
+-- the program ended without a fault: it wrote the answer to its output, and nothing else
+pub record Wrote (given : Given) (asked : Result Words RunFault) (text : List ℕ) (left : Left) : Type 0 where
+  pub written : IfSome (known_of given asked text) (λ read. WroteAnswer read given.output left.output)
+  pub silent : left.errors ≡ given.errors
+  pub ends : EndsWith given.below asked text left.status
+  pub drilled : IsOfDrill asked given.output left.output
+  pub stored : StoredAs given asked (Ok tt) left
+
 -- The program ended with a fault: it told it, and wrote nothing else but after a failed write, and then a front of the
--- answer. The types say whether a write of the output, and one of the fault, may fail.
-pub record Refused (known : Option (Result Answer RunFault)) (write_may_fail tell_may_fail : Type 0) (status : ℕ)
-    (output output' errors errors' : Option (List ℕ)) : Type 0 where
+-- answer.
+pub record Refused (given : Given) (asked : Result Words RunFault) (text : List ℕ) (left : Left) : Type 0 where
   pub fault : RunFault
-  pub cause : IfSome known (λ read. MayRefuse read write_may_fail fault)
-  pub status_is : status ≡ status_of fault
-  pub nothing : fault ≢ run.Write → output' ≡ output
-  pub front : fault ≡ run.Write → IfSome known (λ read. WroteAnswerFront read output output')
-  pub told : Told tell_may_fail errors errors' fault
+  pub cause : IsCause given asked text fault
+  pub status_is : left.status ≡ status_of fault
+  pub nothing : fault ≢ run.Write → left.output ≡ given.output
+  pub front : fault ≡ run.Write
+      → IfSome (known_of given asked text) (λ read. WroteAnswerFront read given.output left.output)
+  pub stored : StoredAs given asked (Err fault) left
+  pub told : Told given.tell_may_fail given.errors left.errors fault
 
 -- ---- at a terminal
 
@@ -202,30 +272,22 @@ pub record ToldWithHint (write_may_fail : Type 0) (errors errors' : Option (List
   pub hint : AppendsPlain between errors'
 
 -- the program ended with a fault, as in `Refused`, and told it with a hint
-pub record Explained (known : Option (Result Answer RunFault)) (write_may_fail tell_may_fail : Type 0) (status : ℕ)
-    (output output' errors errors' : Option (List ℕ)) : Type 0 where
+pub record Explained (given : Given) (asked : Result Words RunFault) (text : List ℕ) (left : Left) : Type 0 where
   pub fault : RunFault
-  pub cause : IfSome known (λ read. MayRefuse read write_may_fail fault)
-  pub status_is : status ≡ status_of fault
-  pub nothing : fault ≢ run.Write → output' ≡ output
-  pub front : fault ≡ run.Write → IfSome known (λ read. WroteAnswerFront read output output')
-  pub told : ToldWithHint tell_may_fail errors errors' fault
+  pub cause : IsCause given asked text fault
+  pub status_is : left.status ≡ status_of fault
+  pub nothing : fault ≢ run.Write → left.output ≡ given.output
+  pub front : fault ≡ run.Write
+      → IfSome (known_of given asked text) (λ read. WroteAnswerFront read given.output left.output)
+  pub stored : StoredAs given asked (Err fault) left
+  pub told : ToldWithHint given.tell_may_fail given.errors left.errors fault
 
--- what `run_words` says of a run by its words, by what standard input had left where that is told, by whether a write
--- of the output and one of a fault may fail, and by its status and what stood and stands written at both ends
-abbrev pub RanWithoutHint : List (List ℕ) → Option (List ℕ) → Type 0 → Type 0 → ℕ → Option (List ℕ) → Option (List ℕ)
-    → Option (List ℕ) → Option (List ℕ) → Type 0
-RanWithoutHint texts left write_may_fail tell_may_fail status output output' errors errors' =
-    (asked : Result Words RunFault) × ReadAs texts asked × (text : List ℕ) × IsInput left text ×
-    ((Answered (run_of asked text) output output' errors errors' × EndsWith asked text status
-    × IsOfDrill asked output output')
-    ⊎ Refused (run_of asked text) write_may_fail tell_may_fail status output output' errors errors')
+-- what `run_words` says of a run by its words
+abbrev pub RanWithoutHint : Given → List (List ℕ) → Left → Type 0
+RanWithoutHint given texts left = (asked : Result Words RunFault) × ReadAs texts asked
+    × (text : List ℕ) × IsInput given.input text × (Wrote given asked text left ⊎ Refused given asked text left)
 
--- the same, but that a hint may stand behind the line of a fault
-abbrev pub RanWithHint : List (List ℕ) → Option (List ℕ) → Type 0 → Type 0 → ℕ → Option (List ℕ) → Option (List ℕ)
-    → Option (List ℕ) → Option (List ℕ) → Type 0
-RanWithHint texts left write_may_fail tell_may_fail status output output' errors errors' =
-    (asked : Result Words RunFault) × ReadAs texts asked × (text : List ℕ) × IsInput left text ×
-    ((Answered (run_of asked text) output output' errors errors' × EndsWith asked text status
-    × IsOfDrill asked output output')
-    ⊎ Explained (run_of asked text) write_may_fail tell_may_fail status output output' errors errors')
+-- the same, but that a hint may stand after the line of a fault
+abbrev pub RanWithHint : Given → List (List ℕ) → Left → Type 0
+RanWithHint given texts left = (asked : Result Words RunFault) × ReadAs texts asked
+    × (text : List ℕ) × IsInput given.input text × (Wrote given asked text left ⊎ Explained given asked text left)

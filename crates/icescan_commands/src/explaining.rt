@@ -5,29 +5,30 @@ ghost use Rattle.icescan_commands.specs.Runs.{RanWithHint, RanWithoutHint, ToldW
 ghost use Rattle.icescan_progress.specs.Asked.{hints, shows_progress};
 ghost use Rattle.icescan_text.specs.Faults.{status_of};
 
-use crate::words::{files_of, run_asked, run_words, status_of_count};
+use crate::system::System;
+use crate::table_files::files_below;
+use crate::words::{run_asked, run_words, status_of_count};
 use icescan_drill::Watch;
 use icescan_hints::{Case, place_of, put_hint};
 use icescan_print::Sink;
 use icescan_progress::{Progress, Silent, Terminals, shows_hints, shows_progress};
-use icescan_requests::Folder;
+use icescan_requests::{Below, Folders, Stores};
 use icescan_text::{RunFault, report};
 use icescan_words::{Words, parse_words};
 use std::alloc::{AllocError, Global};
 use std::io::Read;
-use std::rt::Files;
 use std::sync::Wait;
 use std::thread::Threads;
 
 /// The files of what is asked for, where they are below a folder.
-fn folder_of<'a, H: Files>(host: &'a H, asked: &'a Words) -> Option<Folder<'a, H>> {
+fn folder_of<'a, S: Folders>(folders: &'a S, asked: &'a Words) -> Option<Below<'a, S>> {
     let place = place_of(asked)?;
-    Some(files_of(host, place))
+    Some(files_below(folders, place))
 }
 
 /// Writes the line of a fault and its hint, and gives the status that the program ends with.
-fn explain<H: Files, E: Sink>(
-    host: &H,
+fn explain<S: Folders, E: Sink>(
+    folders: &S,
     alloc: Global,
     asked: &Words,
     fault: &RunFault,
@@ -37,7 +38,7 @@ fn explain<H: Files, E: Sink>(
     ensures told { ToldWithHint (E.may_fail errors.old) (E.taken errors.old) (E.taken errors.new) fault.now }
 {
     let status = report(fault, errors);
-    let files = folder_of(host, asked);
+    let files = folder_of(folders, asked);
     let case = Case {
         asked,
         files: files.as_ref(),
@@ -46,55 +47,105 @@ fn explain<H: Files, E: Sink>(
     status
 }
 
-/// Runs the program as `run_words` does, and writes a hint behind the line of a fault of what the words ask for.
-fn run_explained<H, P: Progress + Sync, R: Read, W: Sink, E: Sink>(
-    host: &H,
-    alloc: Global,
+/// Runs the program as `run_words` does, and writes a hint after the line of a fault of what the words ask for.
+fn run_explained<H, S: Folders + Sync, P: Progress + Sync, K: Stores, R: Read, W: Sink, E: Sink>(
+    system: &System<'_, H, S, P>,
     words: &[String],
-    progress: &P,
+    stores: &mut K,
     input: &mut R,
     output: &mut W,
     errors: &mut E,
 ) -> u8
 where
-    H: Files<File: Send, Dir: Send> + Threads + Wait + Watch + Sync,
-    requires { P.may_be_told progress.now ≡ true }
-    ensures { RanWithHint (map string_bytes words.now) (R.remaining input.old) (W.may_fail output.old)
-        (E.may_fail errors.old) result (W.taken output.old) (W.taken output.new) (E.taken errors.old)
-        (E.taken errors.new) }
+    H: Threads + Wait + Watch + Sync,
+    requires { P.may_be_told system.now.progress.now ≡ true }
+    ensures { RanWithHint (record {
+      below = S.below system.now.folders.now;
+      read_may_fail = S.may_fail system.now.folders.now;
+      stored = K.below stores.old;
+      put_may_fail = K.below_may_fail stores.old;
+      input = R.remaining input.old;
+      output = W.taken output.old;
+      write_may_fail = W.may_fail output.old;
+      errors = E.taken errors.old;
+      tell_may_fail = E.may_fail errors.old;
+    }) (map string_bytes words.now)
+        (record {
+          status = result;
+          stored = K.below stores.new;
+          files = K.files stores.new;
+          output = W.taken output.new;
+          errors = E.taken errors.new;
+        }) }
 {
-    match parse_words(alloc, words) {
-        Ok(asked) => match run_asked(host, alloc, &asked, progress, input, output) {
+    match parse_words(system.alloc, words) {
+        Ok(asked) => match run_asked(system, &asked, stores, input, output) {
             Ok(count) => status_of_count(count),
-            Err(fault) => explain(host, alloc, &asked, &fault, errors),
+            Err(fault) => explain(system.folders, system.alloc, &asked, &fault, errors),
         },
         Err(fault) => report(&fault, errors),
     }
 }
 
-/// The same, and `progress` is told what is read where that is shown.
-fn run_shown<H, P: Progress + Sync, R: Read, W: Sink, E: Sink>(
-    host: &H,
-    alloc: Global,
+/// What a run works with that shows nothing of what it reads.
+fn silently<'a, H, S, P>(
+    system: &System<'a, H, S, P>,
+    silent: &'a Silent,
+) -> System<'a, H, S, Silent>
+    ensures { result.folders.now ≡ system.now.folders.now }
+{
+    System {
+        host: system.host,
+        alloc: system.alloc,
+        folders: system.folders,
+        progress: silent,
+    }
+}
+
+/// The same, and what is read is shown where the words and the terminals ask for that.
+fn run_shown<H, S: Folders + Sync, P: Progress + Sync, K: Stores, R: Read, W: Sink, E: Sink>(
+    system: &System<'_, H, S, P>,
     terminals: Terminals,
     words: &[String],
-    progress: &P,
+    stores: &mut K,
     input: &mut R,
     output: &mut W,
     errors: &mut E,
 ) -> u8
 where
-    H: Files<File: Send, Dir: Send> + Threads + Wait + Watch + Sync,
+    H: Threads + Wait + Watch + Sync,
     requires { shows_progress terminals.errors (map string_bytes words.now) ≡ true →
-        P.may_be_told progress.now ≡ true }
-    ensures { RanWithHint (map string_bytes words.now) (R.remaining input.old) (W.may_fail output.old)
-        (E.may_fail errors.old) result (W.taken output.old) (W.taken output.new) (E.taken errors.old)
-        (E.taken errors.new) }
+        P.may_be_told system.now.progress.now ≡ true }
+    ensures { RanWithHint (record {
+      below = S.below system.now.folders.now;
+      read_may_fail = S.may_fail system.now.folders.now;
+      stored = K.below stores.old;
+      put_may_fail = K.below_may_fail stores.old;
+      input = R.remaining input.old;
+      output = W.taken output.old;
+      write_may_fail = W.may_fail output.old;
+      errors = E.taken errors.old;
+      tell_may_fail = E.may_fail errors.old;
+    }) (map string_bytes words.now)
+        (record {
+          status = result;
+          stored = K.below stores.new;
+          files = K.files stores.new;
+          output = W.taken output.new;
+          errors = E.taken errors.new;
+        }) }
 {
     if shows_progress(terminals, words) {
-        run_explained(host, alloc, words, progress, input, output, errors)
+        run_explained(system, words, stores, input, output, errors)
     } else {
-        run_explained(host, alloc, words, &Silent, input, output, errors)
+        run_explained(
+            &silently(system, &Silent),
+            words,
+            stores,
+            input,
+            output,
+            errors,
+        )
     }
 }
 
@@ -108,62 +159,105 @@ fn help_words(alloc: Global) -> Result<Vec<String>, AllocError>
 }
 
 /// Shows the help.
-fn run_help<H, R: Read, W: Sink, E: Sink>(
-    host: &H,
-    alloc: Global,
+fn run_help<H, S: Folders + Sync, K: Stores, R: Read, W: Sink, E: Sink>(
+    system: &System<'_, H, S, Silent>,
+    stores: &mut K,
     input: &mut R,
     output: &mut W,
     errors: &mut E,
 ) -> u8
 where
-    H: Files<File: Send, Dir: Send> + Threads + Wait + Watch + Sync,
-    ensures { RanWithoutHint (codes "--help" ∷ []) (R.remaining input.old) (W.may_fail output.old)
-        (E.may_fail errors.old) result (W.taken output.old) (W.taken output.new) (E.taken errors.old)
-        (E.taken errors.new) }
+    H: Threads + Wait + Watch + Sync,
+    ensures { RanWithoutHint (record {
+      below = S.below system.now.folders.now;
+      read_may_fail = S.may_fail system.now.folders.now;
+      stored = K.below stores.old;
+      put_may_fail = K.below_may_fail stores.old;
+      input = R.remaining input.old;
+      output = W.taken output.old;
+      write_may_fail = W.may_fail output.old;
+      errors = E.taken errors.old;
+      tell_may_fail = E.may_fail errors.old;
+    }) (codes "--help" ∷ [])
+        (record {
+          status = result;
+          stored = K.below stores.new;
+          files = K.files stores.new;
+          output = W.taken output.new;
+          errors = E.taken errors.new;
+        }) }
 {
-    match help_words(alloc) {
-        Ok(words) => run_words(host, alloc, &words, input, output, errors),
+    match help_words(system.alloc) {
+        Ok(words) => run_words(system, &words, stores, input, output, errors),
         Err(_) => report(&RunFault::Memory, errors),
     }
 }
 
 /// Runs the program as `run_words` does. Where standard input is a terminal, no words are read as `--help`. Where
-/// standard error is a terminal, or a word is `--explain`, a hint stands behind the line of a fault: lines that say
+/// standard error is a terminal, or a word is `--explain`, a hint stands after the line of a fault: lines that say
 /// what the fault is about and what to do, in which no control character of the table's stands. Where standard error is
-/// a terminal and no word is `--quiet`, `progress` is told of each file that is read below a folder; what is written to
-/// `output` and `errors` is the same.
-pub fn run_program<H, P: Progress + Sync, R: Read, W: Sink, E: Sink>(
-    host: &H,
-    alloc: Global,
+/// a terminal and no word is `--quiet`, the system's `progress` is told of each file that is read below a folder; what
+/// is written to `output` and `errors` is the same.
+pub fn run_program<H, S: Folders + Sync, P: Progress + Sync, K: Stores, R: Read, W: Sink, E: Sink>(
+    system: &System<'_, H, S, P>,
     terminals: Terminals,
     words: &[String],
-    progress: &P,
+    stores: &mut K,
     input: &mut R,
     output: &mut W,
     errors: &mut E,
 ) -> u8
 where
-    H: Files<File: Send, Dir: Send> + Threads + Wait + Watch + Sync,
+    H: Threads + Wait + Watch + Sync,
     // No other run tells `progress` of reads.
     requires { shows_progress terminals.errors (map string_bytes words.now) ≡ true →
-        P.may_be_told progress.now ≡ true }
+        P.may_be_told system.now.progress.now ≡ true }
     // No hint is asked for: what `run_words` says of the words that are meant.
     ensures line { hints terminals.errors (map string_bytes words.now) ≡ false →
-        RanWithoutHint (meant terminals.input (map string_bytes words.now)) (R.remaining input.old)
-        (W.may_fail output.old) (E.may_fail errors.old) result (W.taken output.old) (W.taken output.new)
-        (E.taken errors.old) (E.taken errors.new) }
-    // In any case: that, but that a text without control characters may stand behind the line of a fault.
-    ensures run { RanWithHint (meant terminals.input (map string_bytes words.now)) (R.remaining input.old)
-        (W.may_fail output.old) (E.may_fail errors.old) result (W.taken output.old) (W.taken output.new)
-        (E.taken errors.old) (E.taken errors.new) }
+        RanWithoutHint (record {
+          below = S.below system.now.folders.now;
+          read_may_fail = S.may_fail system.now.folders.now;
+          stored = K.below stores.old;
+          put_may_fail = K.below_may_fail stores.old;
+          input = R.remaining input.old;
+          output = W.taken output.old;
+          write_may_fail = W.may_fail output.old;
+          errors = E.taken errors.old;
+          tell_may_fail = E.may_fail errors.old;
+        }) (meant terminals.input (map string_bytes words.now))
+        (record {
+          status = result;
+          stored = K.below stores.new;
+          files = K.files stores.new;
+          output = W.taken output.new;
+          errors = E.taken errors.new;
+        }) }
+    // In any case: that, but that a text without control characters may stand after the line of a fault.
+    ensures run { RanWithHint (record {
+      below = S.below system.now.folders.now;
+      read_may_fail = S.may_fail system.now.folders.now;
+      stored = K.below stores.old;
+      put_may_fail = K.below_may_fail stores.old;
+      input = R.remaining input.old;
+      output = W.taken output.old;
+      write_may_fail = W.may_fail output.old;
+      errors = E.taken errors.old;
+      tell_may_fail = E.may_fail errors.old;
+    }) (meant terminals.input (map string_bytes words.now))
+        (record {
+          status = result;
+          stored = K.below stores.new;
+          files = K.files stores.new;
+          output = W.taken output.new;
+          errors = E.taken errors.new;
+        }) }
 {
+    let silent = silently(system, &Silent);
     if terminals.input && words.is_empty() {
-        run_help(host, alloc, input, output, errors)
+        run_help(&silent, stores, input, output, errors)
     } else if shows_hints(terminals, words) {
-        run_shown(
-            host, alloc, terminals, words, progress, input, output, errors,
-        )
+        run_shown(system, terminals, words, stores, input, output, errors)
     } else {
-        run_words(host, alloc, words, input, output, errors)
+        run_words(&silent, words, stores, input, output, errors)
     }
 }

@@ -8,6 +8,7 @@ ghost use Rattle.icescan_requests.specs.ListPlans.{list_reads};
 ghost use Rattle.icescan_requests.specs.Plans.{OnRefusal, reads_at};
 ghost use Rattle.ice_state.specs.Contents.{World};
 
+use crate::system::System;
 use ice_desk::Files;
 use icescan_json::{plan_file_json, run_list_plan_json};
 use icescan_print::Sink;
@@ -39,9 +40,8 @@ pub fn write_list_plan<F: Files, W: Sink>(
 }
 
 /// Writes the plan that is asked of the table whose metadata is at a path, by so many workers.
-pub fn write_plan<H: Threads + Sync, F: Files + Sync, W: Sink>(
-    host: &H,
-    alloc: Global,
+pub fn write_plan<H: Threads + Sync, S, P, F: Files + Sync, W: Sink>(
+    system: &System<'_, H, S, P>,
     files: &F,
     path: &str,
     request: &Request,
@@ -56,6 +56,8 @@ pub fn write_plan<H: Threads + Sync, F: Files + Sync, W: Sink>(
     ensures refusal { OnRefusal (F.world files.now) (F.may_fail files.now) (W.may_fail output.old) result
         (W.taken output.old) (W.taken output.new) }
 {
+    let host = system.host;
+    let alloc = system.alloc;
     match format {
         Format::Text => plan_file(host, alloc, files, path, request, workers, output),
         Format::Json => plan_file_json(host, alloc, files, path, request, workers, output),

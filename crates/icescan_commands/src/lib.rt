@@ -2,10 +2,12 @@
 //! words of a command line, which `icescan_words` reads.
 #![tactic(auto)]
 
+mod arms;
 mod commit_lines;
 mod explaining;
-mod explanations;
 mod forms;
+mod system;
+mod table_files;
 mod words;
 
 pub use explaining::run_program;
@@ -13,10 +15,12 @@ pub use icescan_drill::{Drill, Watch, drill_table, run_drill};
 pub use icescan_json::{plan_file_json, run_list_plan_json};
 pub use icescan_progress::{Cleared, Progress, ProgressLine, Screen, Silent, Terminals};
 pub use icescan_requests::{
-    Bundle, CommitFolder, Folder, Selection, Store, StoreFault, commit_to, commits_are_put,
-    file_name, fill_file, plan_file, plans_of_true_summaries, prepare_commit, put_commit,
-    put_files, read_all, run_list_plan, run_plan, run_plan_with, run_show, select, show_file,
+    Bundle, CommitFolder, Folder, Folders, HostFolders, HostStores, Selection, Store, StoreFault,
+    Stores, commit_to, commits_are_put, file_name, fill_file, plan_file, plans_of_true_summaries,
+    prepare_commit, put_commit, put_files, read_all, run_list_plan, run_plan, run_plan_with,
+    run_show, select, show_file,
 };
 pub use icescan_text::{CommitRequest, Request};
 pub use icescan_words::{Format, Lists, Place, Source, Words, parse_words};
+pub use system::System;
 pub use words::run_words;

@@ -14,9 +14,8 @@ use Rattle.ice_state.specs.Contents.{World, add}
 use Rattle.icescan_text.specs.Reads.{MayEnd, all_present, file_in}
 use Rattle.icescan_text.specs.declared.fault.RunFault.{RunFault}
 use Rattle.icescan_text.specs.declared.fault.RunFault.TheVariants as run
-use Rattle.icescan_text.proofs.Steps.{fails_later, first_ends, only_first, then_ends}
+use Rattle.icescan_text.proofs.Steps.{fails_later, first_ends, more_reads, only_first, then_ends}
 use Rattle.ice_desk.proofs.Taking.{filled, filled_more}
-use Rattle.icescan_requests.proofs.Plans.{more_reads}
 use Rattle.icescan_explain.specs.declared.tests.FilterTests.{FilterTests}
 use Rattle.icescan_explain.specs.Asking.{tests_of}
 use Rattle.icescan_explain.specs.Fates.{file_verdict, is_kept, row_fate, row_verdict}

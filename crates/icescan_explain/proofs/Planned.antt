@@ -17,6 +17,7 @@ use Rattle.ice_state.specs.Contents.{World, content, every_row}
 use Rattle.ice_state.specs.Lines.{OwnedLine}
 use Rattle.ice_state.specs.Outcomes.{outcome}
 use Rattle.ice_state.specs.Scans.{by_row_path, scan_of}
+use Rattle.icescan_text.proofs.Steps.{step}
 use Rattle.icescan_text.specs.Faults.{of_finish, of_scan}
 use Rattle.icescan_text.specs.Reads.{all_present, as_run, rows_at}
 use Rattle.icescan_text.specs.declared.fault.RunFault.{RunFault}
@@ -73,11 +74,6 @@ alike world metadata request = steps_alike (selected metadata request) _ _ (λ s
     steps_alike (rows_at world selection.list) _ _ (λ rows. rows_alike world selection request rows))
 
 -- ---- the files that are told as kept
-
-step : {A B : Type 0} (r : Result A RunFault) (next : A → Result B RunFault) (y : B) → (r >>= next) ≡ Ok y
-    → (x : A) × (r ≡ Ok x) × (next x ≡ Ok y)
-step (Ok x) next y h = (x, refl, h)
-step (Err e) next y h = absurd cc
 
 of_part : {A E : Type 0} (of : E → RunFault) (r : Result A E) (x : A) → as_run of r ≡ Ok x → r ≡ Ok x
 of_part of (Ok y) x h = cc

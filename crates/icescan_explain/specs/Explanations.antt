@@ -4,12 +4,13 @@ use Rattle.contract_words.specs.Outcome.{◌>>=◌}
 use Rattle.icescan_explain.specs.Asking.{ice_filter_tests}
 use Rattle.icescan_explain.specs.declared.tests.FilterTests.{FilterTests}
 use Rattle.ice_manifest_reading.specs.declared.row.Row.{Row}
-use Rattle.icescan_requests.specs.Plans.{by_workers, over_wanted_rows, rows_plan}
+use Rattle.icescan_requests.specs.Plans.{over_wanted_rows, rows_plan}
 use Rattle.icescan_requests.specs.Selections.{selected}
 use Rattle.icescan_requests.specs.declared.selection.Selection.{Selection}
 use Rattle.ice_state.specs.Contents.{World}
 use Rattle.ice_state.specs.Scans.{by_row_path}
 use Rattle.icescan_text.specs.Reads.{file_in, rows_at}
+use Rattle.icescan_text.specs.Workers.{by_workers}
 use Rattle.icescan_text.specs.declared.fault.RunFault.{RunFault}
 use Rattle.icescan_text.specs.declared.request.Request.{Request}
 use Rattle.icescan_explain.specs.Columns.{columns_in}
@@ -34,8 +35,7 @@ explained world metadata request = do
   rows ← rows_at world selection.list
   rows_explained world selection request rows
 
--- the same of the metadata in the file at a path, by so many workers
+-- the same of the metadata in the file at a path, by so many workers; their number comes before all else
 unfoldable pub explained_at : World → List ℕ → Request → ℕ → Result Explanation RunFault
-explained_at world path request workers = do
-  metadata ← file_in world path
-  by_workers workers (explained world metadata request)
+explained_at world path request workers =
+    by_workers workers (file_in world path >>= λ metadata. explained world metadata request)

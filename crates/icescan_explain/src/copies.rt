@@ -1,10 +1,9 @@
-//! Copies of filters and partition specs.
+//! Copies of filters.
 
 ghost use Rattle.std.specs.Prelude.{◌≡◌, IfOk};
 
 use contract_words::{Duplicate, Items};
 use ice_filter::{Bound, BoundLeaf, Part, Parts};
-use ice_meta::{PartitionField, Spec};
 use ice_project::FieldTest;
 use std::alloc::{AllocError, Global};
 
@@ -64,33 +63,5 @@ pub fn copied_filter(alloc: Global, filter: &Bound) -> Result<Bound, AllocError>
     let parts = copied_parts(alloc, filter.parts.as_slice())?;
     Ok(Bound {
         parts: Parts::from_items(parts),
-    })
-}
-
-/// The same field.
-fn copied_field(alloc: Global, field: &PartitionField) -> Result<PartitionField, AllocError>
-    ensures { IfOk result (λ copied. copied ≡ field.now) }
-{
-    Ok(PartitionField {
-        source_id: field.source_id,
-        field_id: field.field_id,
-        name: field.name.copy(alloc)?,
-        transform: field.transform.copy(alloc)?,
-        source_type: field.source_type,
-    })
-}
-
-/// The same spec.
-pub fn copied_spec(alloc: Global, spec: &Spec) -> Result<Spec, AllocError>
-    ensures { IfOk result (λ copied. copied ≡ spec.now) }
-{
-    let of_spec = spec.fields.as_slice();
-    let mut fields = Items::new(alloc);
-    'fields: for field in of_spec {
-        fields.push(copied_field(alloc, field)?)?;
-    }
-    Ok(Spec {
-        id: spec.id,
-        fields,
     })
 }

@@ -23,10 +23,9 @@ use crate::tests::{FilterTests, SpecTests, row_verdict};
 use crate::verdict::Verdict;
 use contract_words::Items;
 use ice_desk::Files;
-use ice_filter::Bound;
 use ice_manifest_reading::{ManifestFault, Row};
-use ice_meta::Spec;
 use ice_state::{OwnedPlan, Partial, Scan};
+use icescan_requests::SelectedRows;
 use icescan_text::{RunFault, read_file_into};
 use std::alloc::{AllocError, Global};
 
@@ -236,33 +235,30 @@ fn tell_rows<F: Files>(
     Ok(verdicts)
 }
 
-/// The plan of a manifest list's rows, and what became of their manifests. The tests are those of the filter and the
-/// specs.
+/// The plan of these rows, and what became of their manifests. The tests are those of the filter and the specs.
 pub fn explain_rows<F: Files>(
     alloc: Global,
     files: &F,
     tests: &FilterTests,
-    rows: Vec<Row>,
-    specs: Vec<Spec>,
-    filter: Bound,
+    selected: SelectedRows,
 ) -> Result<Explanation, RunFault>
-    requires { AreFor tests.now specs.items filter.parts }
+    requires { AreFor tests.now selected.specs selected.filter.parts }
     ensures planned { (world : World) → F.world files.now ≡ Some world →
-        IfOk result (λ x. rows_plan over_wanted_rows world specs.items filter.parts rows.items ≡ Ok x.plan) }
+        IfOk result (λ x. rows_plan over_wanted_rows world selected.specs selected.filter.parts selected.rows ≡ Ok x.plan) }
     ensures told { (world : World) → F.world files.now ≡ Some world →
-        IfOk result (λ x. x.verdicts ≡ rows_told tests.now world (by_row_path rows.items)) }
+        IfOk result (λ x. x.verdicts ≡ rows_told tests.now world (by_row_path selected.rows)) }
     ensures refused { (world : World) → F.world files.now ≡ Some world →
-        IfErr result (MayEnd (rows_plan over_wanted_rows world specs.items filter.parts rows.items)
-        (EndsAt world (F.may_fail files.now) (manifests specs.items filter.parts rows.items)) ⊥) }
-    ensures read { IfOk result (λ x. AreToldOf tests.now (by_row_path rows.items) x.verdicts) }
+        IfErr result (MayEnd (rows_plan over_wanted_rows world selected.specs selected.filter.parts selected.rows)
+        (EndsAt world (F.may_fail files.now) (manifests selected.specs selected.filter.parts selected.rows)) ⊥) }
+    ensures read { IfOk result (λ x. AreToldOf tests.now (by_row_path selected.rows) x.verdicts) }
     ensures kept { IfOk result (λ x. IsPermutation (paths_kept x.verdicts) (paths_planned x.plan)) }
     ensures absent { (path : List ℕ) → IsErrOf result (RunFault.Absent path) → HasAt (F.world files.now) path None }
     ensures device { (path : List ℕ) → IsErrOf result (RunFault.Device path) → F.may_fail files.now path }
     ensures write { IsErrOf result RunFault.Write → ⊥ }
 {
-    let mut sorted = copied_rows(alloc, &rows)?;
+    let mut sorted = copied_rows(alloc, selected.rows.as_slice())?;
     sort_by_path(&mut sorted)?;
-    let scan = Scan::new(alloc, rows, specs, filter)?;
+    let scan = selected.into_scan(alloc)?;
     let mut state = Partial::empty(alloc, &scan)?;
     let verdicts = tell_rows(alloc, files, tests, &scan, &sorted, &mut state)?;
     let plan = state.into_plan(&scan)?;

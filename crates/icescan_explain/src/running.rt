@@ -1,6 +1,6 @@
 //! Explanations that are asked for, over any files.
 
-ghost use Rattle.std.specs.Prelude.{◌≡◌, ℕ, List, Some, None, Ok, IfErr, IfOk, IsErrOf, OnOk};
+ghost use Rattle.std.specs.Prelude.{◌≡◌, ◌⊎◌, ◌<◌, ℕ, List, Some, None, Ok, IfErr, IfOk, IsErrOf, OnOk};
 ghost use Rattle.ice_desk.specs.Worlds.{EndsAt, HasAt};
 ghost use Rattle.icescan_explain.specs.AnyFiles.{IsAnExplanation, WritesAnExplanation};
 ghost use Rattle.icescan_explain.specs.Explanations.{explained, explained_at};
@@ -13,10 +13,10 @@ use crate::columns::columns_in;
 use crate::lines::write_explanation;
 use crate::manifests::{Explanation, explain_rows};
 use crate::tests::FilterTests;
-use ice_desk::{Files, MOST_WORKERS};
+use ice_desk::Files;
 use icescan_print::Sink;
-use icescan_requests::{Selection, select};
-use icescan_text::{Request, RunFault, read_file, read_rows};
+use icescan_requests::select_rows;
+use icescan_text::{Request, RunFault, Workers, read_file};
 use std::alloc::Global;
 
 /// The plan that a request asks for, and what became of the snapshot's manifests and live files.
@@ -36,15 +36,11 @@ fn explain_table<F: Files>(
     ensures device { (path : List ℕ) → IsErrOf result (RunFault.Device path) → F.may_fail files.now path }
     ensures write { IsErrOf result RunFault.Write → ⊥ }
 {
-    let Selection {
-        list,
-        specs,
-        filter,
-    } = select(alloc, metadata, request)?;
-    let rows = read_rows(alloc, files, list.as_str())?;
+    let selected = select_rows(alloc, files, metadata, request)?;
     let columns = columns_in(alloc, &request.filter)?;
-    let tests = FilterTests::new(alloc, specs.as_slice(), &filter, &columns)?;
-    explain_rows(alloc, files, &tests, rows, specs.into_vec(), filter)
+    let specs = selected.specs.as_slice();
+    let tests = FilterTests::new(alloc, specs, &selected.filter, &columns)?;
+    explain_rows(alloc, files, &tests, selected)
 }
 
 /// Explains the plan that a request asks for, of the table whose metadata these are the bytes of: writes a line for
@@ -84,8 +80,8 @@ pub fn run_explain<F: Files, W: Sink>(
 /// Explains the plan that a request asks for, of the table whose metadata is in the file at a path. All is read by one
 /// worker, whatever the number of workers.
 ///
-/// The refusal is `Absent` where there is no such file, `Device` where reading it failed; then `Workers` where there
-/// are to be none, or more than 64; else as `run_explain`'s.
+/// The refusal is `Workers` where there are to be none, or more than 64; it comes before all others, and nothing is read.
+/// Then it is `Absent` where there is no such file, `Device` where reading it failed, else as `run_explain`'s.
 pub fn explain_file<F: Files, W: Sink>(
     alloc: Global,
     files: &F,
@@ -94,6 +90,8 @@ pub fn explain_file<F: Files, W: Sink>(
     workers: usize,
     output: &mut W,
 ) -> Result<(), RunFault>
+    ensures workers { (workers ≡ 0) ⊎ (64 < workers) → IsErrOf result RunFault.Workers }
+
     // Over files that tell their world.
     ensures written { (world : World) → F.world files.now ≡ Some world →
         OnOk result (WroteExplanation (explained_at world path.now request.now workers) (W.taken output.old)
@@ -111,9 +109,7 @@ pub fn explain_file<F: Files, W: Sink>(
     ensures refusal { OnRefusal (F.world files.now) (F.may_fail files.now) (W.may_fail output.old) result
         (W.taken output.old) (W.taken output.new) }
 {
+    Workers::of(workers)?;
     let metadata = read_file(alloc, files, path)?;
-    if workers == 0 || workers > MOST_WORKERS {
-        return Err(RunFault::Workers);
-    }
     run_explain(alloc, files, &metadata, request, output)
 }

@@ -6,7 +6,7 @@ ghost use Rattle.icescan_explain.specs.Asking.{ice_filter_tests, spec_tests, tes
 ghost use Rattle.icescan_explain.specs.Fates.{row_fate, row_verdict};
 
 use crate::blame::{blamed_by_row, row_allows};
-use crate::copies::{copied_filter, copied_spec};
+use crate::copies::copied_filter;
 use crate::lone::{LoneLeaf, LoneTest, lone_leaves, lone_tests};
 use crate::verdict::{Fate, Subject, Verdict};
 use contract_words::{Items, Text};
@@ -14,6 +14,7 @@ use ice_filter::Bound;
 use ice_manifest_reading::Row;
 use ice_meta::Spec;
 use ice_project::{PartFilter, project};
+use icescan_requests::copied_spec;
 use std::alloc::{AllocError, Global};
 
 /// A filter through one partition spec.

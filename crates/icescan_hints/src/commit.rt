@@ -8,8 +8,9 @@ const BAD_CHANGE: Sentence = Sentence {
     name: "C1 BadChange",
     wrong: "the first member at fault, in the order `data`, `deletes`, and then file by file `path`,
 `format`, `spec-id`, `partition`, `record-count`, `file-size`, `content`, `equality-ids`,
-`referenced-data-file`: it is not there, or of another kind or range; `deletes` also where an
-append has some; `-` where the file is not the text of a JSON object",
+`referenced-data-file`: it is not there, or of another kind or range; `format` also where it is
+none of `avro`, `orc` and `parquet`, in letters of either case; `deletes` also where an append has
+some; `-` where the file is not the text of a JSON object",
     advice: Some("`icescan row-delta --help` shows a change file; delete files go by `row-delta`"),
 };
 

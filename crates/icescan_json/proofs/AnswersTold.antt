@@ -9,12 +9,13 @@ use Rattle.icescan_json.specs.Told.{HasFittingNumbers, paths_of, told}
 use Rattle.icescan_json.specs.Types.{spec_types}
 use Rattle.icescan_json.specs.declared.types.SpecTypes.{SpecTypes}
 use Rattle.icescan_requests.specs.ListPlans.{list_answer}
-use Rattle.icescan_requests.specs.Plans.{Ending, answer_at, answer_by, by_workers}
+use Rattle.icescan_requests.specs.Plans.{Ending, answer_at, answer_by}
 use Rattle.icescan_requests.specs.Selections.{selected}
 use Rattle.ice_state.specs.Contents.{World}
 use Rattle.ice_state.specs.Lines.{OwnedLine}
 use Rattle.ice_state.specs.PlacedFiles.{ArePlaced, PlanPlaces, plan_of}
 use Rattle.icescan_text.specs.Reads.{file_in}
+use Rattle.icescan_text.specs.Workers.{by_workers}
 use Rattle.icescan_text.specs.declared.fault.RunFault.{RunFault}
 use Rattle.icescan_text.specs.declared.fault.RunFault.TheVariants as run
 use Rattle.icescan_text.specs.declared.request.Request.{Request}
@@ -34,7 +35,7 @@ behind_first : {A : Type 0} (first : Result A RunFault) (next : A → Result (Li
 behind_first (Ok a) next put same = beside (next a) (put a) (same a)
 behind_first (Err e) next put same = refl
 
-of_metadata : (ending : Ending) (world : World) (metadata : List ℕ) (request : Request)
+pub of_metadata : (ending : Ending) (world : World) (metadata : List ℕ) (request : Request)
     → plan_answered (typed_answer_by ending world metadata request) ≡ answer_by ending world metadata request
 unfolding typed_answer_by answer_by
 of_metadata ending world metadata request = behind_first (selected metadata request) _
@@ -46,18 +47,17 @@ of_crew : (enough : Bool) (typed : Result TypedPlan RunFault) (plan : Result (Li
 of_crew true typed plan same = same
 of_crew false typed plan same = refl
 
-of_file : (ending : Ending) (world : World) (request : Request) (workers : ℕ) (found : Result (List ℕ) RunFault)
-    → plan_answered (found >>= λ metadata. by_workers workers (typed_answer_by ending world metadata request))
-    ≡ (found >>= λ metadata. by_workers workers (answer_by ending world metadata request))
-of_file ending world request workers (Ok metadata) = of_crew (nat_le 1 workers && nat_le workers 64)
-    (typed_answer_by ending world metadata request) (answer_by ending world metadata request)
-    (of_metadata ending world metadata request)
-of_file ending world request workers (Err e) = refl
+of_file : (ending : Ending) (world : World) (request : Request) (found : Result (List ℕ) RunFault)
+    → plan_answered (found >>= λ metadata. typed_answer_by ending world metadata request)
+    ≡ (found >>= λ metadata. answer_by ending world metadata request)
+of_file ending world request (Ok metadata) = of_metadata ending world metadata request
+of_file ending world request (Err e) = refl
 
 pub same_at : (ending : Ending) (world : World) (path : List ℕ) (request : Request) (workers : ℕ)
     → plan_answered (typed_answer_at ending world path request workers) ≡ answer_at ending world path request workers
 unfolding typed_answer_at answer_at
-same_at ending world path request workers = of_file ending world request workers (file_in world path)
+same_at ending world path request workers = of_crew (nat_le 1 workers && nat_le workers 64) _ _
+    (of_file ending world request (file_in world path))
 
 pub same_list : (world : World) (list : List ℕ) → plan_answered (typed_list_answer world list) ≡ list_answer world list
 unfolding typed_list_answer

@@ -1,30 +1,22 @@
 -- What is written of an answer in JSON, and why it may end.
-use Rattle.std.proofs.Common.{◌≡◌, ◌≢◌, ◌⊎◌, ◌<◌, ◌≤◌, ◌∙◌, inl, inr, ℕ, List, Option, refl, sym, ap, subst}
+use Rattle.std.proofs.Common.{◌≡◌, ◌≢◌, ◌⊎◌, ◌<◌, ◌≤◌, ◌∙◌, inl, inr, ℕ, List, Option, sym, ap, subst}
 use Rattle.std.specs.Prelude.{Result, Ok, Err, OnOk, IfErr, IsErrOf}
-use Rattle.std.proofs.lemmas.Result.{IfErr-weaker, on_ok_weaker}
-use Rattle.contract_words.specs.Outcome.{◌>>=◌}
+use Rattle.std.proofs.lemmas.Result.{on_ok_weaker}
 use Rattle.icescan_json.specs.Texts.{IsJsonOf}
 use Rattle.icescan_json.specs.declared.types.SpecTypes.{SpecTypes}
 use Rattle.icescan_print.specs.Written.{Appends, AppendsFront}
-use Rattle.icescan_requests.proofs.Crews.{enough}
-use Rattle.icescan_requests.proofs.Plans.{more_reads}
-use Rattle.icescan_requests.specs.Plans.{by_workers}
+use Rattle.icescan_requests.specs.Plans.{Ending}
+use Rattle.ice_state.specs.Contents.{World}
 use Rattle.ice_state.specs.Lines.{OwnedLine}
 use Rattle.icescan_text.specs.Reads.{MayEnd}
 use Rattle.icescan_text.specs.declared.fault.RunFault.{RunFault}
 use Rattle.icescan_text.specs.declared.fault.RunFault.TheVariants as run
-use Rattle.icescan_text.proofs.Steps.{first_ends}
-use Rattle.icescan_json.specs.JsonAnswers.{AnswersInJson, IsJsonOfPlan, WritesJson}
+use Rattle.icescan_text.specs.declared.request.Request.{Request}
+use Rattle.icescan_text.specs.Workers.{by_workers}
+use Rattle.icescan_text.proofs.Steps.{may_write}
+use Rattle.icescan_text.proofs.Workers.{enough, not_enough}
+use Rattle.icescan_json.specs.JsonAnswers.{AnswersInJson, IsJsonOfPlan, WritesJson, typed_answer_at}
 use Rattle.icescan_json.specs.declared.typed.TypedPlan.{TypedPlan}
-
--- a write may fail
-pub may_write : {A : Type 0} (r : List ℕ → Type 0) (w : Type 0) (read : Result A RunFault) (e : RunFault)
-    → MayEnd read r ⊥ e → MayEnd read r w e
-may_write r w read e h = subst (λ x. MayEnd x r w e) (same read) (first_ends r w r read (λ a. Ok a) e (λ p m. m) h)
-  where
-    same : {A : Type 0} (x : Result A RunFault) → (x >>= λ a. Ok a) ≡ x
-    same (Ok a) = refl
-    same (Err e) = refl
 
 -- a refusal that comes before the first write
 pub refused_json : (answer : Result TypedPlan RunFault) (r : List ℕ → Type 0) (w : Type 0) (e : RunFault)
@@ -64,18 +56,6 @@ module _ (typed : TypedPlan) (result : Result Unit RunFault) (w : Type 0) (o o' 
     front = λ failed. let f = front failed in (typed, f.0, f.1, f.2);
   }
 
--- the same answer, and more reads that may fail
-pub json_as : (answer other : Result TypedPlan RunFault) (r s : List ℕ → Type 0) (w : Type 0)
-    (result : Result Unit RunFault) (o o' : Option (List ℕ)) → other ≡ answer → ((path : List ℕ) → r path → s path)
-    → AnswersInJson answer r w result o o' → AnswersInJson other s w result o o'
-json_as answer other r s w result o o' same more h =
-    subst (λ a. AnswersInJson a s w result o o') (sym same)
-    (record {
-      written = h.written;
-      refused = IfErr-weaker result _ _ (λ e m. more_reads answer r s w e more m) h.refused;
-      front = h.front;
-    })
-
 -- the same by so many workers, of which there are enough
 pub refused_by_workers : (answer other : Result TypedPlan RunFault) (workers : ℕ) (r : List ℕ → Type 0) (w : Type 0)
     (e : RunFault) (o o' : Option (List ℕ)) → 0 < workers → workers ≤ 64 → other ≡ answer → MayEnd answer r ⊥ e
@@ -83,6 +63,21 @@ pub refused_by_workers : (answer other : Result TypedPlan RunFault) (workers : �
 refused_by_workers answer other workers r w e o o' some few same h not_write =
     subst (λ a. AnswersInJson a r w (Err e) o o') (sym (enough workers other some few ∙ same))
     (refused_json answer r w e o o' h not_write)
+
+-- a number of workers that there may not be
+pub no_workers : (workers : ℕ) (read : Result TypedPlan RunFault) (r : List ℕ → Type 0) (w : Type 0) (e : RunFault)
+    (o o' : Option (List ℕ)) → (e ≡ run.Workers) × ((workers ≡ 0) ⊎ (64 < workers))
+    → AnswersInJson (by_workers workers read) r w (Err e) o o'
+no_workers workers read r w e o o' h =
+    subst (λ x. AnswersInJson (by_workers workers read) r w (Err x) o o') (sym h.0)
+    (refused_json (by_workers workers read) r w run.Workers o o' (not_enough workers read h.1) (λ is. absurd cc))
+
+pub no_workers_at : (ending : Ending) (world : World) (path : List ℕ) (request : Request) (workers : ℕ)
+    (r : List ℕ → Type 0) (w : Type 0) (e : RunFault) (o o' : Option (List ℕ))
+    → (e ≡ run.Workers) × ((workers ≡ 0) ⊎ (64 < workers))
+    → AnswersInJson (typed_answer_at ending world path request workers) r w (Err e) o o'
+unfolding typed_answer_at
+no_workers_at ending world path request workers r w e o o' h = no_workers workers _ r w e o o' h
 
 -- the same types, the same JSON
 pub typed_json : {types known : List SpecTypes} {plan : List OwnedLine} {text : List ℕ} → types ≡ known

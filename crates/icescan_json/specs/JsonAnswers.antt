@@ -11,11 +11,12 @@ use Rattle.icescan_json.specs.declared.types.SpecTypes.{SpecTypes}
 use Rattle.icescan_json.specs.declared.typed.TypedPlan.{TypedPlan}
 use Rattle.icescan_print.specs.Written.{Appends, AppendsFront}
 use Rattle.icescan_requests.specs.ListPlans.{list_answer}
-use Rattle.icescan_requests.specs.Plans.{Ending, answer_by, by_workers}
+use Rattle.icescan_requests.specs.Plans.{Ending, answer_by}
 use Rattle.icescan_requests.specs.Selections.{selected}
 use Rattle.ice_state.specs.Contents.{World}
 use Rattle.ice_state.specs.Lines.{OwnedLine}
 use Rattle.icescan_text.specs.Reads.{MayEnd, file_in}
+use Rattle.icescan_text.specs.Workers.{by_workers}
 use Rattle.icescan_text.specs.declared.fault.RunFault.{RunFault}
 use Rattle.icescan_text.specs.declared.fault.RunFault.TheVariants as run
 use Rattle.icescan_text.specs.declared.request.Request.{Request}
@@ -29,11 +30,10 @@ typed_answer_by ending world metadata request = do
   plan ← answer_by ending world metadata request
   Ok (record { types = map spec_types selection.specs; plan = plan })
 
--- the same of the metadata in the file at a path, by so many workers
+-- the same of the metadata in the file at a path, by so many workers; their number comes before all else
 unfoldable pub typed_answer_at : Ending → World → List ℕ → Request → ℕ → Result TypedPlan RunFault
-typed_answer_at ending world path request workers = do
-  metadata ← file_in world path
-  by_workers workers (typed_answer_by ending world metadata request)
+typed_answer_at ending world path request workers =
+    by_workers workers (file_in world path >>= λ metadata. typed_answer_by ending world metadata request)
 
 -- the plan of the manifest list at a path, of which no types are known, or its first refusal
 unfoldable pub typed_list_answer : World → List ℕ → Result TypedPlan RunFault

@@ -10,7 +10,6 @@ mod laws;
 mod list_plans;
 mod pieces;
 mod plan;
-mod planning;
 mod quotes;
 mod table_plans;
 mod typed;

@@ -1,48 +1,37 @@
 //! The plan of a table's snapshot as JSON.
 
-ghost use Rattle.std.specs.Prelude.{◌≡◌, ◌⊎◌, ◌<◌, ◌≤◌, ◌↔◌, ℕ, List, Some, None, Ok, OnOk, IfOk, IfErr, IsErrOf, map};
+ghost use Rattle.std.specs.Prelude.{◌≡◌, ◌⊎◌, ◌<◌, ◌↔◌, ℕ, List, Some, None, Ok, OnOk, IfOk, IfErr, IsErrOf, map};
 ghost use Rattle.ice_desk.specs.Worlds.{EndsAt, HasAt};
 ghost use Rattle.icescan_json.specs.Types.{spec_types};
 ghost use Rattle.icescan_json.specs.JsonAnswers.{AnswersInJson, WritesJson, WroteWithTypes};
 ghost use Rattle.icescan_json.specs.JsonAnswers.{typed_answer_at, typed_answer_by};
-ghost use Rattle.icescan_requests.specs.Plans.{OnRefusal, TellsTheTruth, TellsTheTruthAt, by_workers};
+ghost use Rattle.icescan_requests.specs.Plans.{OnRefusal, TellsTheTruth, TellsTheTruthAt};
 ghost use Rattle.icescan_requests.specs.Plans.{over_all_rows, over_wanted_rows, reads, reads_at};
 ghost use Rattle.icescan_requests.specs.Selections.{selected};
 ghost use Rattle.icescan_requests.specs.declared.selection.Selection.{Selection};
 ghost use Rattle.ice_state.specs.Contents.{World};
 ghost use Rattle.icescan_text.specs.Reads.{MayEnd};
+ghost use Rattle.icescan_text.specs.Workers.{by_workers};
 
-use crate::planning::plan_rows_with;
 use crate::typed::{TypedPlan, write_json};
-use crate::types::types_of_specs;
-use contract_words::Items;
-use ice_desk::{Files, Gate, MOST_WORKERS};
+use ice_desk::{Files, Gate};
 use icescan_print::Sink;
-use icescan_requests::{Selection, plans_of_true_summaries, select};
-use icescan_text::{Request, RunFault, read_file, read_rows};
+use icescan_requests::{plan_table, plan_table_at, plans_of_true_summaries};
+use icescan_text::{Request, RunFault, Workers};
 use std::alloc::Global;
 use std::thread::Threads;
 
-/// A gate at which no worker is held up, and that nobody watches.
-#[derive(Drop)]
-struct OpenGate;
-
-impl Gate for OpenGate {
-    fn before_take(&self, _worker: usize, _i: usize) {}
-}
-
 /// The plan that a request asks for, of the table whose metadata these are the bytes of, by so many workers; and the
 /// types of the partition values of the table's specs.
-fn plan_table<R: Threads + Sync, F: Files + Sync, G: Gate + Sync>(
+fn typed_table<R: Threads + Sync, F: Files + Sync, G: Gate + Sync>(
     rt: &R,
     alloc: Global,
     files: &F,
     metadata: &[u8],
     request: &Request,
-    workers: usize,
+    workers: Workers,
     gate: &G,
 ) -> Result<TypedPlan, RunFault>
-    requires { (0 < workers) × (workers ≤ 64) }
     ensures found { (world : World) → F.world files.now ≡ Some world →
         IfOk result (λ typed. typed_answer_by over_wanted_rows world metadata.now request.now ≡ Ok typed) }
     ensures refused { (world : World) → F.world files.now ≡ Some world →
@@ -55,19 +44,31 @@ fn plan_table<R: Threads + Sync, F: Files + Sync, G: Gate + Sync>(
     ensures write { IsErrOf result RunFault.Write → ⊥ }
     ensures workers { IsErrOf result RunFault.Workers → ⊥ }
 {
-    let Selection {
-        list,
-        specs,
-        filter,
-    } = select(alloc, metadata, request)?;
-    let rows = read_rows(alloc, files, list.as_str())?;
-    let specs = specs.into_vec();
-    let types = types_of_specs(alloc, &specs)?;
-    let plan = plan_rows_with(rt, alloc, files, rows, specs, filter, workers, gate)?;
-    Ok(TypedPlan {
-        types: Items::from_vec(types),
-        plan,
-    })
+    let planned = plan_table(rt, alloc, files, metadata, request, workers, gate)?;
+    Ok(TypedPlan::of(alloc, planned)?)
+}
+
+/// The same of the table whose metadata is in the file at a path.
+fn typed_table_at<R: Threads + Sync, F: Files + Sync>(
+    rt: &R,
+    alloc: Global,
+    files: &F,
+    path: &str,
+    request: &Request,
+    workers: Workers,
+) -> Result<TypedPlan, RunFault>
+    ensures found { (world : World) → F.world files.now ≡ Some world →
+        IfOk result (λ typed. typed_answer_at over_wanted_rows world path.now request.now workers.count ≡ Ok typed) }
+    ensures refused { (world : World) → F.world files.now ≡ Some world →
+        IfErr result (MayEnd (typed_answer_at over_wanted_rows world path.now request.now workers.count)
+        (EndsAt world (F.may_fail files.now) (reads_at world path.now request.now)) ⊥) }
+    ensures absent { (path : List ℕ) → IsErrOf result (RunFault.Absent path) → HasAt (F.world files.now) path None }
+    ensures device { (path : List ℕ) → IsErrOf result (RunFault.Device path) → F.may_fail files.now path }
+    ensures write { IsErrOf result RunFault.Write → ⊥ }
+    ensures workers { IsErrOf result RunFault.Workers → ⊥ }
+{
+    let planned = plan_table_at(rt, alloc, files, path, request, workers)?;
+    Ok(TypedPlan::of(alloc, planned)?)
 }
 
 /// Writes the plan that a request asks for as JSON, in one line: the answer of an Iceberg REST catalog to a scan that
@@ -107,19 +108,17 @@ pub fn run_plan_json_with<R: Threads + Sync, F: Files + Sync, G: Gate + Sync, W:
     ensures refusal { OnRefusal (F.world files.now) (F.may_fail files.now) (W.may_fail output.old) result
         (W.taken output.old) (W.taken output.new) }
 {
-    if workers == 0 || workers > MOST_WORKERS {
-        return Err(RunFault::Workers);
-    }
+    let workers = Workers::of(workers)?;
     plans_of_true_summaries();
-    let typed = plan_table(rt, alloc, files, metadata, request, workers, gate)?;
+    let typed = typed_table(rt, alloc, files, metadata, request, workers, gate)?;
     write_json(alloc, &typed, output)
 }
 
 /// Writes the plan that a request asks for as JSON, of the table whose metadata is in the file at a path, by so many
 /// workers.
 ///
-/// The refusal is `Absent` where there is no such file, `Device` where reading it failed, else as
-/// `run_plan_json_with`'s.
+/// The refusals and their order are those of `icescan_requests::plan_file`: `Workers` comes before all others, and then
+/// nothing is read. After any refusal but `Write` nothing was written, and after that one a front of the text was.
 pub fn plan_file_json<R: Threads + Sync, F: Files + Sync, W: Sink>(
     rt: &R,
     alloc: Global,
@@ -129,6 +128,8 @@ pub fn plan_file_json<R: Threads + Sync, F: Files + Sync, W: Sink>(
     workers: usize,
     output: &mut W,
 ) -> Result<(), RunFault>
+    ensures workers { IsErrOf result RunFault.Workers ↔ ((workers ≡ 0) ⊎ (64 < workers)) }
+
     // Over files that tell their world, where the summaries of the rows tell the truth: the answer over all rows.
     ensures plan { (world : World) → F.world files.now ≡ Some world → TellsTheTruthAt world path.now request.now →
         AnswersInJson (typed_answer_at over_all_rows world path.now request.now workers)
@@ -145,8 +146,8 @@ pub fn plan_file_json<R: Threads + Sync, F: Files + Sync, W: Sink>(
     ensures refusal { OnRefusal (F.world files.now) (F.may_fail files.now) (W.may_fail output.old) result
         (W.taken output.old) (W.taken output.new) }
 {
-    let metadata = read_file(alloc, files, path)?;
-    run_plan_json_with(
-        rt, alloc, files, &metadata, request, workers, &OpenGate, output,
-    )
+    let workers = Workers::of(workers)?;
+    plans_of_true_summaries();
+    let typed = typed_table_at(rt, alloc, files, path, request, workers)?;
+    write_json(alloc, &typed, output)
 }

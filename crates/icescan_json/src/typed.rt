@@ -1,16 +1,18 @@
 //! Plans beside the types of their partition values.
 
-ghost use Rattle.std.specs.Prelude.{◌≡◌, ◌⊎◌, ℕ, List, OnOk, IfErr, IsErrOf};
+ghost use Rattle.std.specs.Prelude.{◌≡◌, ◌⊎◌, ℕ, List, OnOk, IfOk, IfErr, IsErrOf, map};
 ghost use Rattle.icescan_json.specs.JsonAnswers.{IsJsonOfPlan};
+ghost use Rattle.icescan_json.specs.Types.{spec_types};
 ghost use Rattle.icescan_print.specs.Written.{Appends, AppendsFront};
 
 use crate::plan::{JsonFault, write_typed_plan};
-use crate::types::SpecTypes;
+use crate::types::{SpecTypes, types_of_specs};
 use contract_words::Items;
 use ice_state::OwnedPlan;
 use icescan_print::Sink;
+use icescan_requests::TablePlan;
 use icescan_text::RunFault;
-use std::alloc::Global;
+use std::alloc::{AllocError, Global};
 
 /// A plan, and the types by which the partition values of its files are written as JSON.
 #[derive(Debug, Drop)]
@@ -19,6 +21,20 @@ pub struct TypedPlan {
     pub types: Items<SpecTypes>,
     /// The plan.
     pub plan: OwnedPlan,
+}
+
+impl TypedPlan {
+    /// The plan of a table, with the types of its specs.
+    pub(crate) fn of(alloc: Global, planned: TablePlan) -> Result<TypedPlan, AllocError>
+        ensures types { IfOk result (λ typed. typed.types ≡ map spec_types planned.specs) }
+        ensures plan { IfOk result (λ typed. typed.plan ≡ planned.plan) }
+    {
+        let types = types_of_specs(alloc, planned.specs.as_slice())?;
+        Ok(TypedPlan {
+            types: Items::from_vec(types),
+            plan: planned.plan,
+        })
+    }
 }
 
 /// Writes a plan as JSON and nothing else. It refuses for want of memory, and then nothing was written, or where a

@@ -1,8 +1,7 @@
--- The plan by workers: how many there may be, how many manifests are wanted at most, and why the plan may end the run.
+-- The plan by workers: how many manifests are wanted at most, and why the plan may end the run.
 use Rattle.std.proofs.Common.{◌≡◌, ◌≢◌, ◌⊎◌, inl, inr, ℕ, suc, ◌<◌, ◌≤◌, true, false, cond, List, [], ◌∷◌, filter}
 use Rattle.std.proofs.Common.{length, arith, refl, sym, ap, subst, ◌∙◌}
 use Rattle.std.specs.Prelude.{Result, Ok, Err}
-use Rattle.std.proofs.lemmas.Bool.{le-leb, lt-leb}
 use Rattle.std.proofs.lemmas.List.Sums.{count_by-le-length, length-filter}
 use Rattle.contract_words.specs.Sorting.{put}
 use Rattle.ice_desk.specs.declared.fault.PlanFault.{PlanFault}
@@ -25,28 +24,9 @@ use Rattle.icescan_text.specs.declared.fault.RunFault.{RunFault}
 use Rattle.icescan_text.specs.declared.fault.RunFault.TheVariants as run
 use Rattle.icescan_text.specs.Faults.{of_plan, of_wanted}
 use Rattle.icescan_text.specs.Reads.{MayEnd}
-use Rattle.icescan_requests.specs.Plans.{by_workers, manifests, over_wanted_rows, rows_plan}
+use Rattle.icescan_requests.specs.Plans.{manifests, over_wanted_rows, rows_plan}
 use Rattle.icescan_requests.proofs.Plans.{finish_is_no_write, no_plan, not_taken}
 use Rattle.icescan_text.proofs.Steps.{each_present, untaken_all}
-
--- ---- how many workers
-
-pub enough : {A : Type 0} (workers : ℕ) (read : Result A RunFault) → 0 < workers → workers ≤ 64
-    → by_workers workers read ≡ read
-enough workers read some few = rw (le-leb 1 workers (omega arith), le-leb workers 64 few) refl
-
-pub none : {A : Type 0} (workers : ℕ) (read : Result A RunFault) → workers ≡ 0 → by_workers workers read
-    ≡ Err run.Workers
-none workers read h = rw (lt-leb 1 workers (omega (arith, h))) refl
-
-pub too_many : {A : Type 0} (workers : ℕ) (read : Result A RunFault) → 64 < workers → by_workers workers read
-    ≡ Err run.Workers
-too_many workers read h = rw (le-leb 1 workers (omega arith), lt-leb workers 64 h) refl
-
--- as many workers are neither none nor too many
-pub in_range : (workers : ℕ) → 0 < workers → workers ≤ 64 → (workers ≡ 0) ⊎ (64 < workers) → ⊥
-in_range workers some few (inl h) = absurd (omega (arith, h))
-in_range workers some few (inr h) = absurd (omega arith)
 
 -- ---- how many manifests
 

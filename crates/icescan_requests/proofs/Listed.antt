@@ -21,7 +21,7 @@ use Rattle.icescan_text.specs.Reads.{MayEnd, all_present, as_run, rows_at}
 use Rattle.icescan_requests.specs.ListPlans.{list_answer, list_reads, list_scan, plan_in, scan_at, specs_of, wanted_of}
 use Rattle.icescan_requests.specs.Plans.{manifests, over_all_rows, over_wanted_rows, rows_plan}
 use Rattle.icescan_requests.proofs.Plans.{list_there, same_plan}
-use Rattle.icescan_text.proofs.Steps.{fails_later, first_ends, only_first}
+use Rattle.icescan_text.proofs.Steps.{fails_later, first_ends, more_reads, only_first}
 
 -- specs without fields
 pub are_without_fields : (rows : List Row) → AllByRecursion (λ spec. spec.fields ≡ []) (specs_of rows)
@@ -56,11 +56,11 @@ module _ (opens : (parts : List (Part BoundLeaf)) (specs : List Spec) → IsOpen
       ∙ by_scan world rows (scan_of rows (specs_of rows) []) refl
 
 module _ (f : List ℕ → Type 0) (world : World) (path : List ℕ) where
-  pub no_listed_rows : (w : Type 0) (e : RunFault) → MayEnd (rows_at world path) (EndsAt world f (path ∷ [])) ⊥ e
-      → MayEnd (list_answer world path) (EndsAt world f (list_reads world path)) w e
+  pub no_listed_rows : (e : RunFault) → MayEnd (rows_at world path) (EndsAt world f (path ∷ [])) ⊥ e
+      → MayEnd (list_answer world path) (EndsAt world f (list_reads world path)) ⊥ e
   unfolding list_answer list_reads
-  no_listed_rows w e h =
-      first_ends (EndsAt world f (list_reads world path)) w (EndsAt world f (path ∷ [])) (rows_at world path) _ e
+  no_listed_rows e h =
+      first_ends (EndsAt world f (list_reads world path)) ⊥ (EndsAt world f (path ∷ [])) (rows_at world path) _ e
       (λ p m. only_first world f path (wanted_of (scan_at world path)) p m) h
 
   module _ (rows : List Row) (has : rows_at world path ≡ Ok rows) where
@@ -72,10 +72,19 @@ module _ (f : List ℕ → Type 0) (world : World) (path : List ℕ) where
     unfolding scan_at
     scan_there = rw has refl
 
-    pub listed_reads : (p : List ℕ) → EndsAt world f (manifests (specs_of rows) [] rows) p
+    listed_reads : (p : List ℕ) → EndsAt world f (manifests (specs_of rows) [] rows) p
         → EndsAt world f (list_reads world path) p
     unfolding list_reads manifests list_scan
     listed_reads p h =
         let bytes = list_there world path rows has in
         fails_later world f path bytes.0 (wanted_of (scan_at world path)) p bytes.1
         (subst (λ s. EndsAt world f (wanted_of s) p) (sym scan_there) h)
+
+    pub no_listed_plan : rows_plan over_wanted_rows world (specs_of rows) [] rows ≡ listed world rows → (e : RunFault)
+        → MayEnd (rows_plan over_wanted_rows world (specs_of rows) [] rows)
+        (EndsAt world f (manifests (specs_of rows) [] rows)) ⊥ e
+        → MayEnd (list_answer world path) (EndsAt world f (list_reads world path)) ⊥ e
+    no_listed_plan same e h =
+        subst (λ a. MayEnd a (EndsAt world f (list_reads world path)) ⊥ e) (same ∙ sym listed_there)
+        (more_reads (rows_plan over_wanted_rows world (specs_of rows) [] rows)
+        (EndsAt world f (manifests (specs_of rows) [] rows)) (EndsAt world f (list_reads world path)) ⊥ e listed_reads h)

@@ -1,8 +1,8 @@
 -- The steps of a plan under a filter, why each of them may end the run, and when the wanted rows have the whole plan.
 use Rattle.std.proofs.Common.{◌≡◌, ◌≢◌, ◌⊎◌, inl, inr, ℕ, List, [], ◌∷◌, length, replicate, refl, sym, ap, subst, ◌∙◌}
 use Rattle.std.proofs.Common.{Option, None}
-use Rattle.std.specs.Prelude.{Result, Ok, Err, IfErr, IsErrOf}
-use Rattle.std.proofs.lemmas.Result.{IfErr-weaker}
+use Rattle.std.specs.Prelude.{Result, Ok, Err, OnOk, IfErr, IsErrOf, ◌<◌, ◌≤◌}
+use Rattle.std.proofs.lemmas.Result.{IfErr-weaker, on_ok_weaker}
 use Rattle.contract_words.specs.Outcome.{◌>>=◌}
 use Rattle.ice_desk.specs.declared.fault.WantedFault.{WantedFault}
 use Rattle.ice_desk.specs.declared.fault.WantedFault.TheVariants as wanted
@@ -27,16 +27,21 @@ use Rattle.ice_state.proofs.Snapshots.{of_snapshot}
 use Rattle.icescan_text.specs.declared.fault.RunFault.{RunFault}
 use Rattle.icescan_text.specs.declared.fault.RunFault.TheVariants as run
 use Rattle.icescan_text.specs.declared.request.Request.{Request}
+use Rattle.icescan_print.specs.PlanTexts.{plan_text}
+use Rattle.icescan_print.specs.Written.{Appends, AppendsFront}
+use Rattle.icescan_requests.specs.declared.selected_rows.SelectedRows.{SelectedRows}
 use Rattle.icescan_requests.specs.declared.selection.Selection.{Selection}
 use Rattle.icescan_text.specs.Faults.{of_finish, of_scan, of_wanted}
 use Rattle.icescan_text.specs.Reads.{MayEnd, all_present, as_run, file_in, rows_at, rows_in}
 use Rattle.icescan_requests.specs.ListPlans.{wanted_of}
-use Rattle.icescan_requests.specs.Plans.{Answers, Ending, TellsTheTruth, answer_at, answer_by, by_workers, manifests}
-use Rattle.icescan_requests.specs.Plans.{manifests_of, over_all_rows, over_wanted_rows, reads, reads_at, reads_behind}
-use Rattle.icescan_requests.specs.Plans.{reads_of, rows_plan, scan_in}
+use Rattle.icescan_requests.specs.Plans.{Answers, Ending, TellsTheTruth, TellsTheTruthAt, WritesAPlan, answer_at}
+use Rattle.icescan_requests.specs.Plans.{answer_by, manifests, manifests_of, over_all_rows, over_wanted_rows, reads}
+use Rattle.icescan_requests.specs.Plans.{reads_at, reads_behind, reads_of, rows_plan, scan_in, selected_rows}
 use Rattle.icescan_requests.specs.Selections.{IsOfRequest, selected}
-use Rattle.icescan_text.proofs.Steps.{fails_later, finish_ends, first_ends, has_each, only_first, scan_ends, stops_end}
-use Rattle.icescan_text.proofs.Steps.{then_ends, untaken_all}
+use Rattle.icescan_text.specs.Workers.{by_workers}
+use Rattle.icescan_text.proofs.Steps.{fails_later, finish_ends, first_ends, has_each, may_write, more_reads, only_first}
+use Rattle.icescan_text.proofs.Steps.{same_next, scan_ends, step, stops_end, then_ends, two_end, untaken_all}
+use Rattle.icescan_text.proofs.Workers.{enough, not_enough}
 
 -- a refusal of the request itself comes before any read
 pub request_ends : {A : Type 0} (read : Result A RunFault) (r : List ℕ → Type 0) (w : Type 0) (e : RunFault)
@@ -58,27 +63,6 @@ request_ends read r w (run.Change f) is h = absurd is
 request_ends read r w (run.Prepare f) is h = absurd is
 request_ends read r w (run.Conflict path) is h = absurd is
 request_ends read r w run.Workers is h = absurd is
-
--- more reads may fail
-pub more_reads : {A : Type 0} (read : Result A RunFault) (r s : List ℕ → Type 0) (w : Type 0) (e : RunFault)
-    → ((path : List ℕ) → r path → s path) → MayEnd read r w e → MayEnd read s w e
-more_reads read r s w run.Memory more h = tt
-more_reads read r s w (run.Device path) more h = more path h
-more_reads read r s w run.Write more h = h
-more_reads read r s w run.Input more h = h
-more_reads read r s w (run.Words t) more h = h
-more_reads read r s w (run.Bundle n) more h = h
-more_reads read r s w (run.Absent path) more h = h
-more_reads read r s w (run.List f) more h = h
-more_reads read r s w (run.Scan f) more h = h
-more_reads read r s w (run.Finish f) more h = h
-more_reads read r s w (run.Metadata f) more h = h
-more_reads read r s w (run.Filter f) more h = h
-more_reads read r s w (run.Drill f) more h = h
-more_reads read r s w (run.Change f) more h = h
-more_reads read r s w (run.Prepare f) more h = h
-more_reads read r s w (run.Conflict path) more h = h
-more_reads read r s w run.Workers more h = h
 
 -- the same answer, and more reads that may fail
 pub answers_as : (read other : Result (List OwnedLine) RunFault) (r s : List ℕ → Type 0) (w : Type 0)
@@ -159,75 +143,145 @@ module _ (f : List ℕ → Type 0) (w : Type 0) (world : World) (specs : List Sp
           ≡ Ok lines
       plan_there lines h = plan_is ∙ ap (as_run of_finish) h
 
+-- ---- the rows that a request selects
+
+module _ (f : List ℕ → Type 0) (world : World) (metadata : List ℕ) (request : Request) where
+  abbrev stops_at : List ℕ → Type 0
+  stops_at = EndsAt world f (reads world metadata request)
+
+  pub not_asked : (e : RunFault) → IsOfRequest e → (e ≢ run.Memory → selected metadata request ≡ Err e)
+      → MayEnd (selected_rows world metadata request) stops_at ⊥ e
+  unfolding selected_rows
+  not_asked e own h =
+      first_ends stops_at ⊥ (λ _. ⊥) (selected metadata request) _ e (λ p m. absurd m)
+      (request_ends (selected metadata request) (λ _. ⊥) ⊥ e own h)
+
+  module _ (selection : Selection) (is : selected metadata request ≡ Ok selection) where
+    reads_are : reads world metadata request ≡ selection.list ∷ manifests_of selection (rows_at world selection.list)
+    unfolding reads
+    reads_are = ap (reads_of world) is
+
+    reads_list : (p : List ℕ) → EndsAt world f (selection.list ∷ []) p → stops_at p
+    reads_list p h =
+        subst (λ paths. EndsAt world f paths p) (sym reads_are)
+        (only_first world f selection.list (manifests_of selection (rows_at world selection.list)) p h)
+
+    pub no_list : (e : RunFault) → MayEnd (rows_at world selection.list) (EndsAt world f (selection.list ∷ [])) ⊥ e
+        → MayEnd (selected_rows world metadata request) stops_at ⊥ e
+    unfolding selected_rows
+    no_list e h =
+        then_ends stops_at ⊥ (selected metadata request) _ selection e is
+        (first_ends stops_at ⊥ (EndsAt world f (selection.list ∷ [])) (rows_at world selection.list) _ e reads_list h)
+
+    module _ (rows : List Row) (has : rows_at world selection.list ≡ Ok rows) where
+      pub rows_selected : selected_rows world metadata request
+          ≡ Ok (record { rows = rows; specs = selection.specs; filter = selection.filter })
+      unfolding selected_rows
+      rows_selected = rw (is, has) refl
+
+      pub reads_manifests : (p : List ℕ) → EndsAt world f (manifests selection.specs selection.filter.parts rows) p
+          → stops_at p
+      reads_manifests p h =
+          let bytes = list_there world selection.list rows has in
+          let later = fails_later world f selection.list bytes.0 (manifests selection.specs selection.filter.parts rows)
+          p bytes.1 h in
+          subst (λ paths. EndsAt world f paths p) (sym reads_are)
+          (subst (λ found. EndsAt world f (selection.list ∷ manifests_of selection found) p) (sym has) later)
+
+-- the selection and the rows that were found
+pub record AreFound (world : World) (metadata : List ℕ) (request : Request) (found : SelectedRows) : Type 0 where
+  pub selection : Selection
+  pub asked : selected metadata request ≡ Ok selection
+  pub rows : List Row
+  pub listed : rows_at world selection.list ≡ Ok rows
+  pub is : ◌≡◌ {A = SelectedRows} (record { rows = rows; specs = selection.specs; filter = selection.filter }) found
+
+pub are_found : (world : World) (metadata : List ℕ) (request : Request) (found : SelectedRows)
+    → selected_rows world metadata request ≡ Ok found → AreFound world metadata request found
+unfolding selected_rows
+are_found world metadata request found h =
+    let one = step (selected metadata request) _ found h in
+    let two = step (rows_at world one.0.list) _ found one.2 in
+    record { selection = one.0; asked = one.1; rows = two.0; listed = two.1; is = cc two.2 }
+
 -- ---- the plan that a request asks for
 
-module _ (f : List ℕ → Type 0) (world : World) (metadata : List ℕ) (request : Request) (selection : Selection)
-    (is : selected metadata request ≡ Ok selection) where
-  reads_are : reads world metadata request ≡ selection.list ∷ manifests_of selection (rows_at world selection.list)
-  unfolding reads
-  reads_are = ap (reads_of world) is
+-- where the selected rows are not found, there is no plan
+pub no_rows_found : (f : List ℕ → Type 0) (world : World) (metadata : List ℕ) (request : Request) (e : RunFault)
+    → MayEnd (selected_rows world metadata request) (EndsAt world f (reads world metadata request)) ⊥ e
+    → MayEnd (answer_by over_wanted_rows world metadata request) (EndsAt world f (reads world metadata request)) ⊥ e
+unfolding answer_by selected_rows
+no_rows_found f world metadata request e h =
+    two_end (EndsAt world f (reads world metadata request)) (selected metadata request) (λ s. rows_at world s.list)
+    (λ s rows. record { rows = rows; specs = s.specs; filter = s.filter })
+    (λ s rows. rows_plan over_wanted_rows world s.specs s.filter.parts rows) e h
 
-  reads_list : (p : List ℕ) → EndsAt world f (selection.list ∷ []) p → EndsAt world f (reads world metadata request) p
-  reads_list p h =
-      subst (λ paths. EndsAt world f paths p) (sym reads_are)
-      (only_first world f selection.list (manifests_of selection (rows_at world selection.list)) p h)
-
-  pub no_list : (w : Type 0) (e : RunFault)
-      → MayEnd (rows_at world selection.list) (EndsAt world f (selection.list ∷ [])) ⊥ e
-      → MayEnd (answer_by over_wanted_rows world metadata request) (EndsAt world f (reads world metadata request)) w e
+module _ (f : List ℕ → Type 0) (world : World) (metadata : List ℕ) (request : Request) (found : SelectedRows)
+    (has : selected_rows world metadata request ≡ Ok found) where
+  pub answer_there : answer_by over_wanted_rows world metadata request
+      ≡ rows_plan over_wanted_rows world found.specs found.filter.parts found.rows
   unfolding answer_by
-  no_list w e h =
-      then_ends (EndsAt world f (reads world metadata request)) w (selected metadata request) _ selection e is
-      (first_ends (EndsAt world f (reads world metadata request)) w (EndsAt world f (selection.list ∷ []))
-      (rows_at world selection.list) _ e reads_list h)
+  answer_there =
+      let there = are_found world metadata request found has in
+      subst (λ (s : SelectedRows). answer_by over_wanted_rows world metadata request
+      ≡ rows_plan over_wanted_rows world s.specs s.filter.parts s.rows) there.is (rw (there.asked, there.listed) refl)
 
-  module _ (rows : List Row) (has : rows_at world selection.list ≡ Ok rows) where
-    pub answer_there : answer_by over_wanted_rows world metadata request
-        ≡ rows_plan over_wanted_rows world selection.specs selection.filter.parts rows
-    unfolding answer_by
-    answer_there = rw (is, has) refl
+  pub reads_selected : (p : List ℕ) → EndsAt world f (manifests found.specs found.filter.parts found.rows) p
+      → EndsAt world f (reads world metadata request) p
+  reads_selected =
+      let there = are_found world metadata request found has in
+      subst (λ (s : SelectedRows). (p : List ℕ) → EndsAt world f (manifests s.specs s.filter.parts s.rows) p
+      → EndsAt world f (reads world metadata request) p) there.is
+      (reads_manifests f world metadata request there.selection there.asked there.rows there.listed)
 
-    pub reads_manifests : (p : List ℕ) → EndsAt world f (manifests selection.specs selection.filter.parts rows) p
-        → EndsAt world f (reads world metadata request) p
-    reads_manifests p h =
-        let bytes = list_there world selection.list rows has in
-        let later = fails_later world f selection.list bytes.0 (manifests selection.specs selection.filter.parts rows) p
-        bytes.1 h in
-        subst (λ paths. EndsAt world f paths p) (sym reads_are)
-        (subst (λ found. EndsAt world f (selection.list ∷ manifests_of selection found) p) (sym has) later)
-
-pub not_asked : (f : List ℕ → Type 0) (w : Type 0) (world : World) (metadata : List ℕ) (request : Request)
-    (e : RunFault) → IsOfRequest e → (e ≢ run.Memory → selected metadata request ≡ Err e)
-    → MayEnd (answer_by over_wanted_rows world metadata request) (EndsAt world f (reads world metadata request)) w e
-unfolding answer_by
-not_asked f w world metadata request e own h =
-    first_ends (EndsAt world f (reads world metadata request)) w (λ _. ⊥) (selected metadata request) _ e
-    (λ p m. absurd m)
-    (request_ends (selected metadata request) (λ _. ⊥) ⊥ e own h)
+  pub no_plan_found : (e : RunFault)
+      → MayEnd (rows_plan over_wanted_rows world found.specs found.filter.parts found.rows)
+      (EndsAt world f (manifests found.specs found.filter.parts found.rows)) ⊥ e
+      → MayEnd (answer_by over_wanted_rows world metadata request) (EndsAt world f (reads world metadata request)) ⊥ e
+  no_plan_found e h =
+      subst (λ a. MayEnd a (EndsAt world f (reads world metadata request)) ⊥ e) (sym answer_there)
+      (more_reads (rows_plan over_wanted_rows world found.specs found.filter.parts found.rows)
+      (EndsAt world f (manifests found.specs found.filter.parts found.rows))
+      (EndsAt world f (reads world metadata request)) ⊥ e reads_selected h)
 
 -- ---- the metadata of a file
 
-module _ (f : List ℕ → Type 0) (world : World) (path : List ℕ) (request : Request) (workers : ℕ) where
-  pub no_metadata : (ending : Ending) (w : Type 0) (e : RunFault)
-      → MayEnd (file_in world path) (EndsAt world f (path ∷ [])) ⊥ e
-      → MayEnd (answer_at ending world path request workers) (EndsAt world f (reads_at world path request)) w e
-  unfolding answer_at reads_at
-  no_metadata ending w e h =
-      first_ends (EndsAt world f (reads_at world path request)) w (EndsAt world f (path ∷ [])) (file_in world path) _ e
-      (λ p m. only_first world f path (reads_behind world request (file_in world path)) p m) h
+module _ (f : List ℕ → Type 0) (world : World) (path : List ℕ) (request : Request) (workers : ℕ) (some : 0 < workers)
+    (few : workers ≤ 64) where
+  abbrev stops_in_file : List ℕ → Type 0
+  stops_in_file = EndsAt world f (reads_at world path request)
+
+  answer_in : answer_at over_wanted_rows world path request workers
+      ≡ (file_in world path >>= λ metadata. answer_by over_wanted_rows world metadata request)
+  unfolding answer_at
+  answer_in = enough workers _ some few
+
+  pub no_metadata : (e : RunFault) → MayEnd (file_in world path) (EndsAt world f (path ∷ [])) ⊥ e
+      → MayEnd (answer_at over_wanted_rows world path request workers) stops_in_file ⊥ e
+  unfolding reads_at
+  no_metadata e h =
+      subst (λ a. MayEnd a stops_in_file ⊥ e) (sym answer_in)
+      (first_ends stops_in_file ⊥ (EndsAt world f (path ∷ [])) (file_in world path) _ e
+      (λ p m. only_first world f path (reads_behind world request (file_in world path)) p m) h)
 
   module _ (metadata : List ℕ) (has : file_in world path ≡ Ok metadata) where
-    pub answer_behind : (ending : Ending) → answer_at ending world path request workers
-        ≡ by_workers workers (answer_by ending world metadata request)
-    unfolding answer_at
-    answer_behind ending = rw has refl
+    pub answer_behind : answer_at over_wanted_rows world path request workers
+        ≡ answer_by over_wanted_rows world metadata request
+    answer_behind = answer_in ∙ rw has refl
 
-    pub reads_of_plan : (p : List ℕ) → EndsAt world f (reads world metadata request) p
-        → EndsAt world f (reads_at world path request) p
+    reads_of_plan : (p : List ℕ) → EndsAt world f (reads world metadata request) p → stops_in_file p
     unfolding reads_at
     reads_of_plan p h =
         subst (λ found. EndsAt world f (path ∷ reads_behind world request found) p) (sym has)
         (fails_later world f path metadata (reads world metadata request) p has h)
+
+    pub no_plan_behind : (e : RunFault)
+        → MayEnd (answer_by over_wanted_rows world metadata request) (EndsAt world f (reads world metadata request)) ⊥ e
+        → MayEnd (answer_at over_wanted_rows world path request workers) stops_in_file ⊥ e
+    no_plan_behind e h =
+        subst (λ a. MayEnd a stops_in_file ⊥ e) (sym answer_behind)
+        (more_reads (answer_by over_wanted_rows world metadata request) (EndsAt world f (reads world metadata request))
+        stops_in_file ⊥ e reads_of_plan h)
 
 -- ---- the plan of the wanted rows is that of all rows
 
@@ -284,6 +338,18 @@ module _ (opens : (parts : List (Part BoundLeaf)) (specs : List Spec) → IsOpen
     unfolding answer_by
     same_answer world metadata request truth = by_selection world (selected metadata request) truth
 
+-- the same of the metadata in a file
+pub same_answer_at : ((world : World) (metadata : List ℕ) (request : Request) → TellsTheTruth world metadata request
+    → answer_by over_wanted_rows world metadata request ≡ answer_by over_all_rows world metadata request)
+    → (world : World) (path : List ℕ) (request : Request) (workers : ℕ) → TellsTheTruthAt world path request
+    → answer_at over_all_rows world path request workers ≡ answer_at over_wanted_rows world path request workers
+unfolding answer_at
+same_answer_at same world path request workers truth =
+    ap (λ read. by_workers workers read) (same_next (file_in world path)
+    (λ metadata. answer_by over_all_rows world metadata request)
+    (λ metadata. answer_by over_wanted_rows world metadata request)
+    (λ metadata has. sym (same world metadata request (truth metadata has))))
+
 -- ---- no refusal of these is a failed write
 
 pub scan_is_no_write : (e : ScanFault) → of_scan e ≢ run.Write
@@ -304,6 +370,34 @@ finish_is_no_write (finish.PathTwice path) h = absurd cc
 pub request_is_no_write : (e : RunFault) → IsOfRequest e → e ≢ run.Write
 request_is_no_write e own is = subst IsOfRequest is own
 
+-- ---- what is written
+
+-- a refusal before the first write
+pub refused_plan : (read : Result (List OwnedLine) RunFault) (r : List ℕ → Type 0) (w : Type 0) (e : RunFault)
+    (o o' : Option (List ℕ)) → MayEnd read r ⊥ e → (e ≢ run.Write) → Answers read r w (Err e) o o'
+refused_plan read r w e o o' h not_write = refused_answers read r w e o o' (may_write r w read e h) not_write
+
+-- a number of workers that there may not be
+pub no_workers : (workers : ℕ) (read : Result (List OwnedLine) RunFault) (r : List ℕ → Type 0) (w : Type 0) (e : RunFault)
+    (o o' : Option (List ℕ)) → (e ≡ run.Workers) × ((workers ≡ 0) ⊎ (64 < workers))
+    → Answers (by_workers workers read) r w (Err e) o o'
+no_workers workers read r w e o o' h =
+    subst (λ x. Answers (by_workers workers read) r w (Err x) o o') (sym h.0)
+    (refused_plan (by_workers workers read) r w run.Workers o o' (not_enough workers read h.1) (λ is. absurd cc))
+
+pub no_workers_at : (ending : Ending) (world : World) (path : List ℕ) (request : Request) (workers : ℕ)
+    (r : List ℕ → Type 0) (w : Type 0) (e : RunFault) (o o' : Option (List ℕ))
+    → (e ≡ run.Workers) × ((workers ≡ 0) ⊎ (64 < workers))
+    → Answers (answer_at ending world path request workers) r w (Err e) o o'
+unfolding answer_at
+no_workers_at ending world path request workers r w e o o' h = no_workers workers _ r w e o o' h
+
+pub writes_whoever_works : (result : Result Unit RunFault) → IfErr result (λ e. (e ≡ run.Memory) ⊎ (e ≡ run.Write))
+    → IsErrOf result run.Workers → ⊥
+writes_whoever_works (Ok u) causes is = absurd cc
+writes_whoever_works (Err e) (inl memory) is = absurd cc
+writes_whoever_works (Err e) (inr write) is = absurd cc
+
 -- writing ends for want of memory, or where it may fail
 pub write_ends : (result : Result Unit RunFault) (read : Result (List OwnedLine) RunFault) (r : List ℕ → Type 0)
     (w : Type 0) → IfErr result (λ e. (e ≡ run.Memory) ⊎ (e ≡ run.Write)) → (IsErrOf result run.Write → w)
@@ -311,3 +405,26 @@ pub write_ends : (result : Result Unit RunFault) (read : Result (List OwnedLine)
 write_ends (Ok u) read r w causes fails = tt
 write_ends (Err e) read r w (inl is) fails = subst (MayEnd read r w) (sym is) tt
 write_ends (Err e) read r w (inr is) fails = subst (MayEnd read r w) (sym is) (fails (ap Err is))
+
+-- what writing the text of a plan gives
+module _ (plan : List OwnedLine) (result : Result Unit RunFault) (o o' : Option (List ℕ))
+    (all : OnOk result (Appends o o' (plan_text plan)))
+    (front : IsErrOf result run.Write → AppendsFront o o' (plan_text plan)) where
+  pub written_plan : (read : Result (List OwnedLine) RunFault) (r : List ℕ → Type 0) (w : Type 0) → read ≡ Ok plan
+      → IfErr result (λ e. (e ≡ run.Memory) ⊎ (e ≡ run.Write)) → (IsErrOf result run.Write → w)
+      → Answers read r w result o o'
+  written_plan read r w is causes fails = record {
+    written = on_ok_weaker result (λ text. (plan, is, text)) all;
+    refused = write_ends result read r w causes fails;
+    front = λ failed. (plan, is, front failed);
+  }
+
+  pub writes_plan : WritesAPlan result o o'
+  writes_plan = record {
+    all = on_ok_weaker result (λ text. (plan, text)) all;
+    front = λ failed. (plan, front failed);
+  }
+
+pub writes_no_plan : (e : RunFault) (o o' : Option (List ℕ)) → (e ≢ run.Write) → WritesAPlan (Err e) o o'
+writes_no_plan e o o' not_write =
+    record { all = tt; front = λ is. let q : e ≡ run.Write = cc in absurd (not_write q) }

@@ -7,12 +7,11 @@ use Rattle.ice_meta.specs.declared.fault.MetaFault.TheVariants as meta
 use Rattle.ice_meta.specs.Targets.{Described, metadata_of}
 use Rattle.ice_state.specs.Contents.{World}
 use Rattle.icescan_text.specs.declared.fault.RunFault.{RunFault}
-use Rattle.icescan_text.specs.declared.fault.RunFault.TheVariants as run
 use Rattle.icescan_text.specs.Faults.{of_meta}
 use Rattle.icescan_text.specs.Reads.{MayEnd, as_run, file_in}
 use Rattle.icescan_requests.specs.Shows.{show_of, shown_at}
 use Rattle.icescan_print.specs.TableTexts.{table_text}
-use Rattle.icescan_text.proofs.Steps.{first_ends}
+use Rattle.icescan_text.proofs.Steps.{first_ends, more_reads}
 
 abbrev text_in : Result Described MetaFault → Result (List ℕ) RunFault
 text_in read = as_run of_meta read >>= λ metadata. Ok (table_text metadata.table)
@@ -43,26 +42,6 @@ module _ (r : List ℕ → Type 0) (w : Type 0) where
   unfolding show_of
   refused bytes f h = ends (metadata_of bytes) f h
 
-  -- no read fails once the metadata was read
-  pub any_reads : {A : Type 0} (read : Result A RunFault) (e : RunFault) → MayEnd read (λ _. ⊥) w e → MayEnd read r w e
-  any_reads read run.Memory h = tt
-  any_reads read (run.Device path) h = absurd h
-  any_reads read run.Write h = h
-  any_reads read run.Input h = h
-  any_reads read (run.Words t) h = h
-  any_reads read (run.Bundle n) h = h
-  any_reads read (run.Absent path) h = h
-  any_reads read (run.List f) h = h
-  any_reads read (run.Scan f) h = h
-  any_reads read (run.Finish f) h = h
-  any_reads read (run.Metadata f) h = h
-  any_reads read (run.Filter f) h = h
-  any_reads read (run.Drill f) h = h
-  any_reads read (run.Change f) h = h
-  any_reads read (run.Prepare f) h = h
-  any_reads read (run.Conflict path) h = h
-  any_reads read run.Workers h = h
-
 module _ (world : World) (path : List ℕ) where
   pub file_ends : (r : List ℕ → Type 0) (w : Type 0) (e : RunFault) → MayEnd (file_in world path) r ⊥ e
       → MayEnd (shown_at world path) r w e
@@ -76,4 +55,5 @@ module _ (world : World) (path : List ℕ) where
 
     pub bytes_end : (r : List ℕ → Type 0) (w : Type 0) (e : RunFault) → MayEnd (show_of bytes) (λ _. ⊥) w e
         → MayEnd (shown_at world path) r w e
-    bytes_end r w e h = subst (λ read. MayEnd read r w e) (sym shown_there) (any_reads r w (show_of bytes) e h)
+    bytes_end r w e h = subst (λ read. MayEnd read r w e) (sym shown_there)
+        (more_reads (show_of bytes) (λ _. ⊥) r w e (λ p m. absurd m) h)

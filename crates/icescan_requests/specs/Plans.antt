@@ -1,6 +1,5 @@
 -- The plan of a table's snapshot under a filter: Apache Iceberg table spec, version 2, "Scan Planning".
-use Rattle.std.specs.Prelude.{◌≡◌, ◌≢◌, ℕ, List, [], ◌∷◌, Option, None, Result, Ok, Err, OnOk, IfErr, IsErrOf, nat_le}
-use Rattle.std.specs.Prelude.{◌&&◌, if◌then◌else◌}
+use Rattle.std.specs.Prelude.{◌≡◌, ◌≢◌, ℕ, List, [], ◌∷◌, Option, None, Result, Ok, Err, OnOk, IfErr, IsErrOf}
 use Rattle.contract_words.specs.Outcome.{◌>>=◌}
 use Rattle.ice_desk.specs.Worlds.{HasAt}
 use Rattle.ice_filter.specs.declared.bound.BoundLeaf.{BoundLeaf}
@@ -17,6 +16,7 @@ use Rattle.ice_state.specs.Snapshots.{plan_of_snapshot}
 use Rattle.ice_state.specs.declared.fault.FinishFault.{FinishFault}
 use Rattle.icescan_text.specs.Faults.{of_finish, of_scan}
 use Rattle.icescan_text.specs.Reads.{MayEnd, all_present, as_run, file_in, rows_at}
+use Rattle.icescan_text.specs.Workers.{by_workers}
 use Rattle.icescan_requests.specs.ListPlans.{wanted_of}
 use Rattle.icescan_print.specs.PlanTexts.{plan_text}
 use Rattle.icescan_requests.specs.Selections.{selected}
@@ -24,6 +24,7 @@ use Rattle.icescan_print.specs.Written.{Appends, AppendsFront}
 use Rattle.icescan_text.specs.declared.fault.RunFault.{RunFault}
 use Rattle.icescan_text.specs.declared.fault.RunFault.TheVariants as run
 use Rattle.icescan_text.specs.declared.request.Request.{Request}
+use Rattle.icescan_requests.specs.declared.selected_rows.SelectedRows.{SelectedRows}
 use Rattle.icescan_requests.specs.declared.selection.Selection.{Selection}
 
 -- ---- the plan of a list's rows
@@ -58,6 +59,14 @@ manifests specs filter rows = wanted_of (scan_in specs filter rows)
 
 -- ---- the plan that a request asks for
 
+-- The rows of the manifest list that a request selects, with what is asked of them, or the first refusal: what the
+-- request asks can't be asked of the metadata, there is no manifest list, or it can't be read.
+unfoldable pub selected_rows : World → List ℕ → Request → Result SelectedRows RunFault
+selected_rows world metadata request = do
+  selection ← selected metadata request
+  rows ← rows_at world selection.list
+  Ok (record { rows = rows; specs = selection.specs; filter = selection.filter })
+
 -- The plan, or the first refusal: what the request asks can't be asked of the metadata, there is no manifest list, it
 -- can't be read, or its rows have no plan.
 unfoldable pub answer_by : Ending → World → List ℕ → Request → Result (List OwnedLine) RunFault
@@ -73,10 +82,6 @@ answer = answer_by over_all_rows
 -- the same over the wanted rows alone
 abbrev pub wanted_answer : World → List ℕ → Request → Result (List OwnedLine) RunFault
 wanted_answer = answer_by over_wanted_rows
-
--- what is planned by so many workers: there have to be from 1 to 64, and before that is settled nothing else is
-abbrev pub by_workers : {A : Type 0} → ℕ → Result A RunFault → Result A RunFault
-by_workers workers read = if nat_le 1 workers && nat_le workers 64 then read else Err run.Workers
 
 -- the summaries of all rows of the snapshot tell the truth; then both are the same
 abbrev pub TellsTheTruth : World → List ℕ → Request → Type 0
@@ -97,11 +102,10 @@ reads_of world (Err fault) = []
 unfoldable pub reads : World → List ℕ → Request → List (List ℕ)
 reads world metadata request = reads_of world (selected metadata request)
 
--- the same of the metadata in the file at a path, by so many workers
+-- the same of the metadata in the file at a path, by so many workers; their number comes before all else
 unfoldable pub answer_at : Ending → World → List ℕ → Request → ℕ → Result (List OwnedLine) RunFault
-answer_at ending world path request workers = do
-  metadata ← file_in world path
-  by_workers workers (answer_by ending world metadata request)
+answer_at ending world path request workers =
+    by_workers workers (file_in world path >>= λ metadata. answer_by ending world metadata request)
 
 -- the summaries of all rows of its snapshot tell the truth, where there is such a file
 abbrev pub TellsTheTruthAt : World → List ℕ → Request → Type 0

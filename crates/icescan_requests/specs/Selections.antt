@@ -1,6 +1,6 @@
 -- What a request selects of a table: Apache Iceberg table spec, version 2, "Snapshot References", "Partition Specs" and
 -- "Scan Planning".
-use Rattle.std.specs.Prelude.{ℕ, List, [], Option, Some, None, Result, Ok}
+use Rattle.std.specs.Prelude.{◌≡◌, ℕ, List, [], Option, Some, None, Result, Ok}
 use Rattle.contract_words.specs.Outcome.{◌>>=◌}
 use Rattle.ice_filter.specs.Binding.{bound_parts}
 use Rattle.ice_filter.specs.Parsing.{mapped, parsed}
@@ -10,6 +10,7 @@ use Rattle.ice_filter.specs.declared.leaf.Leaf.{Leaf}
 use Rattle.ice_filter.specs.declared.parts.Part.{Part}
 use Rattle.ice_meta.specs.declared.metadata.Target.{Target}
 use Rattle.ice_meta.specs.declared.schema.Schema.{Schema}
+use Rattle.ice_meta.specs.declared.spec.Spec.{Spec}
 use Rattle.ice_meta.specs.declared.table.Table.{Table}
 use Rattle.ice_meta.specs.Targets.{bound_specs, list_of, metadata_of}
 use Rattle.icescan_text.specs.Faults.{of_filter, of_meta}
@@ -45,6 +46,11 @@ selected metadata request = do
   described ← as_run of_meta (metadata_of metadata)
   parts ← as_run of_filter (parts_in request.filter)
   selected_by described.table request.target parts
+
+-- these are the specs of what a request selects
+abbrev pub AreSelected : List ℕ → Request → List Spec → Type 0
+AreSelected metadata request specs =
+    (selection : Selection) × (selected metadata request ≡ Ok selection) × (specs ≡ selection.specs)
 
 -- the faults of a request and its metadata
 abbrev pub IsOfRequest : RunFault → Type 0

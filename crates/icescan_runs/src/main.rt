@@ -32,7 +32,8 @@
 //! - an append under three specs, whose manifests, list and metadata are printed byte by byte: names of partition
 //!   fields as Avro spells them, or by id where two would be alike; no summaries where a uuid stands; a uuid with
 //!   hyphens
-//! - audits: of `data/audits`, each table with the finding that it is named after; of the tables from before. What is
+//! - audits: of `data/audits`, each table with the finding that it is named after; of the tables from before; of
+//!   `data/together`, which has the files of `data/audits/together` below a folder and ends with status 1. What is
 //!   expected was computed by a program in another language, from what the tables were written with
 //! - explanations of plans of tables from before: with what is expected of `id = 42`, of filters of several leaves, of one
 //!   that is never met, as that program computed it from the files too
@@ -42,7 +43,7 @@
 //!   about and what to do
 #![tactic(auto)]
 
-use icescan_commands::{Silent, Terminals, Watch, run_program};
+use icescan_commands::{HostFolders, HostStores, Silent, System, Terminals, Watch, run_program};
 use std::alloc::{AllocError, Global};
 use std::fs;
 use std::io::{self, Write};
@@ -89,12 +90,17 @@ where
         input: false,
         errors: false,
     };
-    let status = run_program(
+    let system = System {
         host,
         alloc,
+        folders: &HostFolders::new(host),
+        progress: &Silent,
+    };
+    let status = run_program(
+        &system,
         terminals,
         &words,
-        &Silent,
+        &mut HostStores::new(host),
         &mut input,
         &mut output,
         &mut errors,

@@ -72,6 +72,68 @@ module _ (r : List ℕ → Type 0) (w : Type 0) where
       ≡ Ok x → MayEnd (next x) r w e → MayEnd (read >>= next) r w e
   then_ends read next x e is h = subst (λ s. MayEnd (s >>= next) r w e) (sym is) h
 
+-- more reads may fail
+pub more_reads : {A : Type 0} (read : Result A RunFault) (r s : List ℕ → Type 0) (w : Type 0) (e : RunFault)
+    → ((path : List ℕ) → r path → s path) → MayEnd read r w e → MayEnd read s w e
+more_reads read r s w run.Memory more h = tt
+more_reads read r s w (run.Device path) more h = more path h
+more_reads read r s w run.Write more h = h
+more_reads read r s w run.Input more h = h
+more_reads read r s w (run.Words t) more h = h
+more_reads read r s w (run.Bundle n) more h = h
+more_reads read r s w (run.Absent path) more h = h
+more_reads read r s w (run.List f) more h = h
+more_reads read r s w (run.Scan f) more h = h
+more_reads read r s w (run.Finish f) more h = h
+more_reads read r s w (run.Metadata f) more h = h
+more_reads read r s w (run.Filter f) more h = h
+more_reads read r s w (run.Drill f) more h = h
+more_reads read r s w (run.Change f) more h = h
+more_reads read r s w (run.Prepare f) more h = h
+more_reads read r s w (run.Conflict path) more h = h
+more_reads read r s w run.Workers more h = h
+
+same_read : {A : Type 0} (x : Result A RunFault) → (x >>= λ a. Ok a) ≡ x
+same_read (Ok a) = refl
+same_read (Err e) = refl
+
+-- a write may fail
+pub may_write : {A : Type 0} (r : List ℕ → Type 0) (w : Type 0) (read : Result A RunFault) (e : RunFault)
+    → MayEnd read r ⊥ e → MayEnd read r w e
+may_write r w read e h = subst (λ x. MayEnd x r w e) (same_read read) (first_ends r w r read (λ a. Ok a) e (λ p m. m) h)
+
+-- what ends a step, of whose value something is kept, ends it before that
+pub ends_before : {A B : Type 0} (r : List ℕ → Type 0) (read : Result A RunFault) (keep : A → B) (e : RunFault)
+    → MayEnd (read >>= λ a. Ok (keep a)) r ⊥ e → MayEnd read r ⊥ e
+ends_before {A} {B} r (Ok a) keep e h = first_ends r ⊥ {A = B} r (Ok (keep a)) (λ _. Ok a) e (λ p m. m) h
+ends_before {A} {B} r (Err x) keep e h = first_ends r ⊥ {A = B} r (Err x) (λ _. Err x) e (λ p m. m) h
+
+-- what ends two steps, of whose values something is made, ends them before that
+pub two_end : {A B C D : Type 0} (r : List ℕ → Type 0) (first : Result A RunFault) (second : A → Result B RunFault)
+    (make : A → B → C) (next : A → B → Result D RunFault) (e : RunFault)
+    → MayEnd (first >>= λ a. second a >>= λ b. Ok (make a b)) r ⊥ e
+    → MayEnd (first >>= λ a. second a >>= λ b. next a b) r ⊥ e
+two_end {C = C} {D = D} r (Err x) second make next e h =
+    first_ends r ⊥ {A = C} {B = D} r (Err x) (λ _. Err x) e (λ p m. m) h
+two_end {C = C} {D = D} r (Ok a) second make next e h = second_ends (second a) h
+  where
+    second_ends : (found : Result B RunFault) → MayEnd (found >>= λ b. Ok (make a b)) r ⊥ e
+        → MayEnd (found >>= λ b. next a b) r ⊥ e
+    second_ends (Err x) h = first_ends r ⊥ {A = C} {B = D} r (Err x) (λ _. Err x) e (λ p m. m) h
+    second_ends (Ok b) h = first_ends r ⊥ {A = C} {B = D} r (Ok (make a b)) (λ _. next a b) e (λ p m. m) h
+
+-- a step that gave a value, and what followed it
+pub step : {A B : Type 0} (first : Result A RunFault) (next : A → Result B RunFault) (y : B) → (first >>= next) ≡ Ok y
+    → (x : A) × (first ≡ Ok x) × (next x ≡ Ok y)
+step (Ok x) next y h = (x, refl, h)
+step (Err e) next y h = absurd cc
+
+-- what follows a step need only be the same where the step gave a value
+pub same_next : {A B : Type 0} (first : Result A RunFault) (a b : A → Result B RunFault)
+    → ((x : A) → first ≡ Ok x → a x ≡ b x) → (first >>= a) ≡ (first >>= b)
+same_next (Ok x) a b h = h x refl
+same_next (Err e) a b h = refl
+
 -- a file that is there
 pub found_in : (world : World) (path bytes : List ℕ) → world path ≡ Some bytes → file_in world path ≡ Ok bytes
 unfolding file_in

@@ -18,6 +18,7 @@ use Rattle.ice_value.specs.declared.cell.Cell.{Cell}
 use Rattle.ice_value.specs.declared.cell.Cell.TheVariants as cell
 use Rattle.ice_value.specs.declared.file_content.FileContent.{FileContent}
 use Rattle.ice_value.specs.declared.file_content.FileContent.TheVariants as content
+use Rattle.ice_value.specs.Formats.{format_named}
 use Rattle.ice_manifest.specs.declared.new_file.NewFile.{NewFile}
 use Rattle.ice_meta.specs.Members.{if_int, if_objects, not_null}
 use Rattle.ice_catalog_versions.specs.declared.change.Change.{Change}
@@ -68,6 +69,10 @@ as_int d = option_and_then if_int (as_long d)
 abbrev pub as_objects : Data → Option Items
 as_objects d = option_and_then if_objects (as_array d)
 
+-- the name of a file format, as it is written: readers refuse a table whose files are in any other
+abbrev pub as_format : Data → Option (List ℕ)
+as_format d = option_and_then (λ text. option_map (λ format. text) (format_named text)) (as_str d)
+
 -- the bytes of a text of hexadecimal digits
 abbrev pub as_bytes : Data → Option (List ℕ)
 as_bytes d = option_and_then (λ digits. result_ok (decode_of digits)) (as_str d)
@@ -99,7 +104,7 @@ tuple_in d = needed as_array member.Partition d >>= each (λ item. asked member.
 unfoldable pub file_of : Data → Result NewFile ChangeFault
 file_of d = do
   path ← needed as_str member.Path d
-  format ← needed as_str member.Format d
+  format ← needed as_format member.Format d
   spec_id ← needed as_int member.SpecId d
   tuple ← tuple_in d
   record_count ← needed as_long member.RecordCount d

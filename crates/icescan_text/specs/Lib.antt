@@ -2,3 +2,4 @@ pub mod Changes
 pub mod FaultTexts
 pub mod Faults
 pub mod Reads
+pub mod Workers

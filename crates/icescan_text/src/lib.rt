@@ -1,5 +1,5 @@
-//! What is asked of tables, and why the program ends without an answer, with the line and the status that tell it;
-//! reading files that have to be there; writing a plan; and change files. The texts of plans and tables, and the sinks
+//! What is asked of tables, by how many workers, and why the program ends without an answer, with the line and the
+//! status that tell it; reading files that have to be there; writing a plan; and change files. The texts of plans and tables, and the sinks
 //! that they go to, are in `icescan_print`.
 #![tactic(auto)]
 
@@ -11,6 +11,7 @@ mod fault_text;
 mod reading;
 mod reporting;
 mod request;
+mod workers;
 mod write;
 
 pub use change::{ChangeFault, ChangeKind, ChangeMember, read_change};
@@ -20,4 +21,5 @@ pub use fault::RunFault;
 pub use reading::{read_file, read_file_into, read_rows};
 pub use reporting::report;
 pub use request::{CommitRequest, Request};
+pub use workers::Workers;
 pub use write::{write_plan, write_plan_by_workers};

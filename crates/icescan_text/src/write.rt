@@ -1,10 +1,11 @@
 //! Writing a plan.
 
-ghost use Rattle.std.specs.Prelude.{◌≡◌, ◌⊎◌, ◌<◌, ◌≤◌, OnOk, IfErr, IsErrOf};
+ghost use Rattle.std.specs.Prelude.{◌≡◌, ◌⊎◌, OnOk, IfErr, IsErrOf};
 ghost use Rattle.icescan_print.specs.PlanTexts.{plan_text};
 ghost use Rattle.icescan_print.specs.Written.{Appends, AppendsFront};
 
 use crate::fault::RunFault;
+use crate::workers::Workers;
 use ice_state::Lines;
 use icescan_print::{Page, Sink, count_deletes, put_plan, put_plan_by_workers};
 use std::alloc::Global;
@@ -30,16 +31,15 @@ pub fn write_plan<S: Sink>(alloc: Global, lines: &Lines<'_>, sink: &mut S) -> Re
 /// How many lines of a plan a worker makes the text of at a time.
 const LINES_AT_A_TIME: usize = 8_192;
 
-/// The same as `write_plan`, the text of ranges of lines made by so many workers, from 1 to 64, each in a thread of its
-/// own where one can be started.
+/// The same as `write_plan`, the text of ranges of lines made by so many workers, each in a thread of its own where one
+/// can be started.
 pub fn write_plan_by_workers<R: Threads + Sync, S: Sink>(
     rt: &R,
     alloc: Global,
     lines: &Lines<'_>,
-    workers: usize,
+    workers: Workers,
     sink: &mut S,
 ) -> Result<(), RunFault>
-    requires { (0 < workers) × (workers ≤ 64) }
     ensures all { OnOk result (Appends (S.taken sink.old) (S.taken sink.new) (plan_text lines.now)) }
     ensures causes { IfErr result (λ e. (e ≡ RunFault.Memory) ⊎ (e ≡ RunFault.Write)) }
     ensures nothing { IsErrOf result RunFault.Memory → S.taken sink.new ≡ S.taken sink.old }
@@ -56,7 +56,7 @@ pub fn write_plan_by_workers<R: Threads + Sync, S: Sink>(
         sink,
         lines,
         deletes,
-        workers,
+        workers.count(),
         LINES_AT_A_TIME,
     )?;
     page.flush(sink)?;

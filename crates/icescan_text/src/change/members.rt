@@ -5,14 +5,14 @@ ghost use Rattle.contract_words.specs.Outcome.{Gives};
 ghost use Rattle.serde_json.specs.Find.{as_str, get};
 ghost use Rattle.serde_json.specs.View.{items_view, view};
 ghost use Rattle.ice_meta.specs.Members.{all_objects, if_int};
-ghost use Rattle.icescan_text.specs.Changes.{as_bytes, as_cell, as_int, as_long, as_objects, asked, each, ids_in, ids_of};
+ghost use Rattle.icescan_text.specs.Changes.{as_bytes, as_cell, as_format, as_int, as_long, as_objects, asked, each, ids_in, ids_of};
 ghost use Rattle.icescan_text.specs.Changes.{needed, referenced_in, there, tuple_in};
 ghost use Rattle.ice_value.specs.declared.cell.Cell.TheVariants as cell;
 
 use crate::change::fault::{ChangeFault, ChangeMember};
 use contract_words::{Items, Text};
 use hex::FromHexError;
-use ice_value::Cell;
+use ice_value::{Cell, FileFormat};
 use serde_json::Value;
 use std::alloc::{AllocError, Global};
 
@@ -84,6 +84,17 @@ pub fn kept_text_at(alloc: Global, json: &Value, member: ChangeMember) -> Result
     ensures { Gives ChangeFault.Memory (λ text. text) result (needed as_str member (view json.now)) }
 {
     Ok(kept(alloc, text_at(json, member)?)?)
+}
+
+/// The name of a file format, kept as it is written. Readers refuse a table whose files are in any other.
+pub fn format_at(alloc: Global, json: &Value) -> Result<Text, ChangeFault>
+    ensures { Gives ChangeFault.Memory (λ text. text) result (needed as_format ChangeMember.Format (view json.now)) }
+{
+    let name = text_at(json, ChangeMember::Format)?;
+    match FileFormat::parse(name) {
+        Some(_) => Ok(kept(alloc, name)?),
+        None => Err(ChangeFault::Bad(ChangeMember::Format)),
+    }
 }
 
 fn all_objects(items: &Vec<Value>) -> bool

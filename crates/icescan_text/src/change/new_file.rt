@@ -7,7 +7,7 @@ ghost use Rattle.icescan_text.specs.Changes.{as_delete_content, content_in, data
 
 use crate::change::fault::{ChangeFault, ChangeMember};
 use crate::change::members::{
-    ids_at, int_at, kept_text_at, long_at, referenced_at, text_at, tuple_at,
+    format_at, ids_at, int_at, kept_text_at, long_at, referenced_at, text_at, tuple_at,
 };
 use contract_words::Items;
 use ice_catalog_versions::NewFile;
@@ -23,7 +23,7 @@ fn file_from(alloc: Global, json: &Value) -> Result<NewFile, ChangeFault>
     Ok(NewFile {
         content: FileContent::Data,
         path: kept_text_at(alloc, json, ChangeMember::Path)?,
-        format: kept_text_at(alloc, json, ChangeMember::Format)?,
+        format: format_at(alloc, json)?,
         spec_id: int_at(json, ChangeMember::SpecId)?,
         tuple: tuple_at(alloc, json)?,
         record_count: long_at(json, ChangeMember::RecordCount)?,

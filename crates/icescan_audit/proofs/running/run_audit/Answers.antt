@@ -7,7 +7,7 @@ use Rattle.icescan_audit_findings.specs.Telling.{faults}
 use Rattle.icescan_audit.specs.Audits.{audit_of, audit_reads}
 use Rattle.icescan_audit.proofs.AnyFiles.{writes_stop}
 use Rattle.icescan_audit.proofs.Premise.{none_at_zero}
-use Rattle.icescan_audit.proofs.Steps.{may_write}
+use Rattle.icescan_text.proofs.Steps.{may_write}
 use Rattle.icescan_audit.proofs.running.run_audit.Goals as goal
 
 pub returns-in_err-audit-clause-refused : goal.returns-in_err-audit-clause-refused

@@ -12,11 +12,13 @@ returns-in-Ok-run_asked g c =
       c.in-Ok.ensures,
       ran.0,
       ran.1,
-      inl (
-        record { written = ran.2.written; silent = refl },
-        (c.in-Ok-run_asked.count, ran.3, c.status_of_count.ensures),
-        w.drilled,
-      ),
+      inl (record {
+        written = ran.2.written;
+        silent = refl;
+        ends = (c.in-Ok-run_asked.count, ran.3, c.status_of_count.ensures);
+        drilled = w.drilled;
+        stored = w.stored;
+      }),
     )
 
 pub returns-in-Ok : goal.returns-in-Ok
@@ -32,6 +34,7 @@ returns-in-Ok g c =
         status_is = c.explain.ensures.status;
         nothing = ran.2.nothing;
         front = λ is. ran.2.front (ap Err is);
+        stored = c.in-Err-run_asked.ensures.stored;
         told = c.explain.ensures.told;
       }),
     )
@@ -52,6 +55,7 @@ returns g c =
         status_is = c.report.ensures.status;
         nothing = λ _. refl;
         front = λ is. ran.front (ap Err is);
+        stored = refl;
         told = plainly _ _ _ fault (record { front = c.report.ensures.front; all = c.report.ensures.all });
       }),
     )

@@ -1,16 +1,12 @@
-use Rattle.std.proofs.Common.{subst, refl, inl, inr, ap, ◌∙◌, map, string_bytes}
+use Rattle.std.proofs.Common.{refl, inl, inr}
 use Rattle.std.specs.Prelude.{Err}
 use Rattle.icescan_text.specs.declared.fault.RunFault.TheVariants as run
-use Rattle.icescan_commands.specs.Runs.{RanWithoutHint}
 use Rattle.icescan_commands.proofs.Refusals.{is_left, left_of}
 use Rattle.icescan_commands.proofs.explaining.run_help.Goals as goal
 
 pub returns-in-Ok : goal.returns-in-Ok
 returns-in-Ok g c =
-    subst (λ texts. RanWithoutHint texts (g.R.Read.remaining c.args.input.now)
-    (g.W.Sink.may_fail c.args.output.now) (g.E.Sink.may_fail c.args.errors.now) c.run_words.result
-    (g.W.Sink.taken c.args.output.now) (g.W.Sink.taken c.run_words.new.output) (g.E.Sink.taken c.args.errors.now)
-    (g.E.Sink.taken c.run_words.new.errors)) (ap (map string_bytes) c.deref.ensures.value ∙ c.in-Ok.ensures) c.run_words.ensures.run
+    rw (c.deref.ensures.value, c.in-Ok.ensures) at c.run_words.ensures.run
 
 pub returns-in-Err : goal.returns-in-Err
 returns-in-Err g c =
@@ -25,6 +21,7 @@ returns-in-Err g c =
         status_is = c.report.ensures.status;
         nothing = λ _. refl;
         front = λ is. absurd cc;
+        stored = refl;
         told = record { front = c.report.ensures.front; all = c.report.ensures.all };
       }),
     )

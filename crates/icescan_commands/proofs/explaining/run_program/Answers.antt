@@ -1,5 +1,5 @@
-use Rattle.std.proofs.Common.{◌≡◌, map, string_bytes, subst, sym}
-use Rattle.icescan_commands.specs.Runs.{RanWithHint, RanWithoutHint, meant}
+use Rattle.std.proofs.Common.{◌≡◌, map, string_bytes}
+use Rattle.icescan_commands.specs.Runs.{meant}
 use Rattle.icescan_commands.proofs.Hinted.{meant_help, meant_piped, meant_words, with_hint}
 use Rattle.icescan_commands.proofs.explaining.run_program.Goals as goal
 use Rattle.icescan_commands.proofs.explaining.run_program.Goals.{else-terminals-via-then-terminals+else-is_empty, else-terminals-via-else-terminals}
@@ -8,19 +8,15 @@ pub returns-then-is_empty-clause-line : goal.returns-then-is_empty-clause-line
 returns-then-is_empty-clause-line g c =
     let helped = meant_help string_bytes c.args.terminals.input c.is_empty.result c.args.words.now c.if-terminals.true
     c.is_empty.ensures c.if-is_empty.true in
-    λ _. subst (λ texts. RanWithoutHint texts (g.R.Read.remaining c.args.input.now)
-    (g.W.Sink.may_fail c.args.output.now) (g.E.Sink.may_fail c.args.errors.now) c.run_help.result
-    (g.W.Sink.taken c.args.output.now) (g.W.Sink.taken c.run_help.new.output) (g.E.Sink.taken c.args.errors.now)
-    (g.E.Sink.taken c.run_help.new.errors)) (sym helped) c.run_help.ensures
+    let ran = rw c.silently-silent.ensures at c.run_help.ensures in
+    λ _. rw helped ran
 
 pub returns-then-is_empty-clause-run : goal.returns-then-is_empty-clause-run
 returns-then-is_empty-clause-run g c =
     let helped = meant_help string_bytes c.args.terminals.input c.is_empty.result c.args.words.now c.if-terminals.true
     c.is_empty.ensures c.if-is_empty.true in
-    subst (λ texts. RanWithHint texts (g.R.Read.remaining c.args.input.now)
-    (g.W.Sink.may_fail c.args.output.now) (g.E.Sink.may_fail c.args.errors.now) c.run_help.result
-    (g.W.Sink.taken c.args.output.now) (g.W.Sink.taken c.run_help.new.output) (g.E.Sink.taken c.args.errors.now)
-    (g.E.Sink.taken c.run_help.new.errors)) (sym helped) (with_hint _ _ _ _ _ _ _ _ _ c.run_help.ensures)
+    let ran = rw c.silently-silent.ensures at c.run_help.ensures in
+    rw helped (with_hint _ _ _ ran)
 
 pub returns-then-shows_hints-clause-run : goal.returns-then-shows_hints-clause-run
 returns-then-shows_hints-clause-run g c =
@@ -31,10 +27,7 @@ returns-then-shows_hints-clause-run g c =
           meant_words string_bytes input w.is_empty.result words w.is_empty.ensures w.if-is_empty.false
       | else-terminals-via-else-terminals w ↦ meant_piped string_bytes input words w.if-terminals.false
     ] in
-    subst (λ texts. RanWithHint texts (g.R.Read.remaining c.args.input.now)
-    (g.W.Sink.may_fail c.args.output.now) (g.E.Sink.may_fail c.args.errors.now) c.run_shown.result
-    (g.W.Sink.taken c.args.output.now) (g.W.Sink.taken c.run_shown.new.output) (g.E.Sink.taken c.args.errors.now)
-    (g.E.Sink.taken c.run_shown.new.errors)) (sym same) c.run_shown.ensures
+    rw same c.run_shown.ensures
 
 pub returns-else-shows_hints-clause-line : goal.returns-else-shows_hints-clause-line
 returns-else-shows_hints-clause-line g c =
@@ -45,10 +38,8 @@ returns-else-shows_hints-clause-line g c =
           meant_words string_bytes input w.is_empty.result words w.is_empty.ensures w.if-is_empty.false
       | else-terminals-via-else-terminals w ↦ meant_piped string_bytes input words w.if-terminals.false
     ] in
-    λ _. subst (λ texts. RanWithoutHint texts (g.R.Read.remaining c.args.input.now)
-    (g.W.Sink.may_fail c.args.output.now) (g.E.Sink.may_fail c.args.errors.now) c.run_words.result
-    (g.W.Sink.taken c.args.output.now) (g.W.Sink.taken c.run_words.new.output) (g.E.Sink.taken c.args.errors.now)
-    (g.E.Sink.taken c.run_words.new.errors)) (sym same) c.run_words.ensures.run
+    let ran = rw c.silently-silent.ensures at c.run_words.ensures.run in
+    λ _. rw same ran
 
 pub returns-else-shows_hints-clause-run : goal.returns-else-shows_hints-clause-run
 returns-else-shows_hints-clause-run g c =
@@ -59,7 +50,5 @@ returns-else-shows_hints-clause-run g c =
           meant_words string_bytes input w.is_empty.result words w.is_empty.ensures w.if-is_empty.false
       | else-terminals-via-else-terminals w ↦ meant_piped string_bytes input words w.if-terminals.false
     ] in
-    subst (λ texts. RanWithHint texts (g.R.Read.remaining c.args.input.now)
-    (g.W.Sink.may_fail c.args.output.now) (g.E.Sink.may_fail c.args.errors.now) c.run_words.result
-    (g.W.Sink.taken c.args.output.now) (g.W.Sink.taken c.run_words.new.output) (g.E.Sink.taken c.args.errors.now)
-    (g.E.Sink.taken c.run_words.new.errors)) (sym same) (with_hint _ _ _ _ _ _ _ _ _ c.run_words.ensures.run)
+    let ran = rw c.silently-silent.ensures at c.run_words.ensures.run in
+    rw same (with_hint _ _ _ ran)

@@ -1,3 +1,4 @@
+use Rattle.std.proofs.Common.{refl}
 use Rattle.std.specs.Prelude.{Ok, Err}
 use Rattle.std.proofs.lemmas.Result.{err_from_is_err_and}
 use Rattle.icescan_commands.proofs.Refusals.{is_left, left_of, words_ran}
@@ -11,6 +12,7 @@ returns-in_err-asked g c =
       Err c.in_err-asked.field-0.0,
       c.in_err-asked.ensures,
       tt,
+      refl,
       left_of left,
       is_left left,
       words_ran
@@ -23,6 +25,7 @@ returns g c = let w = c.run_asked.ensures in (
   Ok c.in_ok-asked.asked,
   c.in_ok-asked.ensures,
   w.drilled,
+  w.stored,
   w.ran.0,
   w.ran.1,
   w.ran.2,

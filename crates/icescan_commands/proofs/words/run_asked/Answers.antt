@@ -10,7 +10,7 @@ returns-in-ListPlan-clause-ran g c =
     rw asked (
       told.0,
       told.1,
-      ran_as _ (g.W.Sink.may_fail c.args.output.now) c.list_plan.result c.no_findings.result _ _
+      ran_as _ _ c.list_plan.result c.no_findings.result _ _
           c.no_findings.ensures.same told.2,
       c.no_findings.ensures.none,
     )
@@ -23,7 +23,7 @@ returns-in-Plan-clause-ran g c =
     rw asked (
       told.0,
       told.1,
-      ran_as _ (g.W.Sink.may_fail c.args.output.now) c.plan.result c.no_findings-in-Plan.result _ _
+      ran_as _ _ c.plan.result c.no_findings-in-Plan.result _ _
           c.no_findings-in-Plan.ensures.same told.2,
       c.no_findings-in-Plan.ensures.none,
     )
@@ -35,7 +35,7 @@ returns-in-Commit-clause-ran g c =
     rw asked (
       told.0,
       told.1,
-      ran_as _ (g.W.Sink.may_fail c.args.output.now) c.commit.result c.no_findings-in-Commit.result _ _
+      ran_as _ _ c.commit.result c.no_findings-in-Commit.result _ _
           c.no_findings-in-Commit.ensures.same told.2,
       c.no_findings-in-Commit.ensures.none,
     )
@@ -47,7 +47,7 @@ returns-in-Show-clause-ran g c =
     rw asked (
       told.0,
       told.1,
-      ran_as _ (g.W.Sink.may_fail c.args.output.now) c.show.result c.no_findings-in-Show.result _ _
+      ran_as _ _ c.show.result c.no_findings-in-Show.result _ _
           c.no_findings-in-Show.ensures.same told.2,
       c.no_findings-in-Show.ensures.none,
     )
@@ -60,7 +60,7 @@ returns-in-Explain-clause-ran g c =
     rw asked (
       told.0,
       told.1,
-      ran_as _ (g.W.Sink.may_fail c.args.output.now) c.explain.result c.no_findings-in-Explain.result _ _
+      ran_as _ _ c.explain.result c.no_findings-in-Explain.result _ _
           c.no_findings-in-Explain.ensures.same told.2,
       c.no_findings-in-Explain.ensures.none,
     )
@@ -73,7 +73,7 @@ returns-in-Drill-clause-ran g c =
     rw asked (
       left_of left,
       is_left left,
-      ran_as _ (g.W.Sink.may_fail c.args.output.now) c.drill.result none.result _ _ none.ensures.same
+      ran_as _ _ c.drill.result none.result _ _ none.ensures.same
           c.drill.ensures.ran,
       none.ensures.none,
     )
@@ -92,6 +92,6 @@ returns-in-Text-clause-ran g c =
     rw asked (
       left_of left,
       is_left left,
-      ran_as _ (g.W.Sink.may_fail c.args.output.now) c.tell.result none.result _ _ none.ensures.same c.tell.ensures,
+      ran_as _ _ c.tell.result none.result _ _ none.ensures.same c.tell.ensures,
       none.ensures.none,
     )

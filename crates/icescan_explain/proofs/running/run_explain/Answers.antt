@@ -5,7 +5,8 @@ use Rattle.std.proofs.lemmas.Result.{err_from_is_err_and}
 use Rattle.ice_desk.specs.Worlds.{EndsAt}
 use Rattle.icescan_explain.specs.Explanations.{explained}
 use Rattle.icescan_requests.specs.Plans.{reads}
-use Rattle.icescan_explain.proofs.Telling.{may_write, no_text}
+use Rattle.icescan_text.proofs.Steps.{may_write}
+use Rattle.icescan_explain.proofs.Telling.{no_text}
 use Rattle.icescan_explain.proofs.running.run_explain.Goals as goal
 
 pub returns-in_err-explanation-clause-refused : goal.returns-in_err-explanation-clause-refused

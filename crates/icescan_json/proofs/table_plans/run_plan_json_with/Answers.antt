@@ -1,45 +1,68 @@
-use Rattle.std.proofs.Common.{◌≡◌, ◌<◌, ◌≤◌, ◌∙◌, ap, arith, refl}
+use Rattle.std.proofs.Common.{◌≡◌, ◌∙◌, ap, refl, sym}
 use Rattle.std.specs.Prelude.{Err}
 use Rattle.std.proofs.lemmas.Result.{err_from_is_err_and, on_ok_weaker}
-use Rattle.icescan_requests.proofs.Crews.{enough, in_range}
+use Rattle.icescan_text.proofs.Workers.{enough, in_range}
 use Rattle.icescan_text.specs.declared.fault.RunFault.TheVariants as run
 use Rattle.icescan_json.proofs.Asked.{same_typed}
 use Rattle.ice_desk.specs.Worlds.{EndsAt}
+use Rattle.icescan_requests.proofs.Plans.{writes_whoever_works}
 use Rattle.icescan_requests.specs.Plans.{over_all_rows, over_wanted_rows, reads}
 use Rattle.icescan_json.specs.JsonAnswers.{typed_answer_by}
-use Rattle.icescan_json.proofs.Written.{refused_by_workers, refused_writes_none, typed_json, writes_json, written_json}
+use Rattle.icescan_json.proofs.Written.{no_workers, refused_by_workers, refused_writes_none, typed_json, writes_json}
+use Rattle.icescan_json.proofs.Written.{written_json}
 use Rattle.icescan_json.proofs.table_plans.run_plan_json_with.Goals as goal
+
+pub returns-in_err-workers-clause-workers : goal.returns-in_err-workers-clause-workers
+returns-in_err-workers-clause-workers g c =
+    let p = err_from_is_err_and c.from_residual.result c.from_residual.ensures.1 in
+    let refused = c.in_err-workers.ensures.refused in
+    rw (p.1, p.2) (λ is. refused.1, λ out. ap Err refused.0)
+
+pub returns-in_err-workers-clause-wanted : goal.returns-in_err-workers-clause-wanted
+returns-in_err-workers-clause-wanted g c =
+    let p = err_from_is_err_and c.from_residual.result c.from_residual.ensures.1 in
+    λ world told. rw (p.1, p.2)
+    (no_workers c.args.workers _ _ (g.W.Sink.may_fail c.args.output.now) _ _ _ c.in_err-workers.ensures.refused)
+
+pub returns-in_err-workers-clause-plan : goal.returns-in_err-workers-clause-plan
+returns-in_err-workers-clause-plan g c =
+    let p = err_from_is_err_and c.from_residual.result c.from_residual.ensures.1 in
+    λ world told truth. rw (p.1, p.2)
+    (no_workers c.args.workers _ _ (g.W.Sink.may_fail c.args.output.now) _ _ _ c.in_err-workers.ensures.refused)
+
+pub returns-in_err-workers-clause-text : goal.returns-in_err-workers-clause-text
+returns-in_err-workers-clause-text g c =
+    let p = err_from_is_err_and c.from_residual.result c.from_residual.ensures.1 in
+    let refused = c.in_err-workers.ensures.refused in
+    rw (p.1, p.2) (refused_writes_none _ _ _ (λ is. let no : run.Workers ≡ run.Write = sym refused.0 ∙ is in absurd cc))
 
 pub returns-in_err-typed-clause-workers : goal.returns-in_err-typed-clause-workers
 returns-in_err-typed-clause-workers g c =
-    let p = err_from_is_err_and c.from_residual.result c.from_residual.ensures.1 in
-    let some : 0 < c.args.workers = omega (arith, c.if-workers-eq0.false) in
-    let few : c.args.workers ≤ 64 = omega (arith, c.if-workers-gt-MOST_WORKERS.false) in
+    let p = err_from_is_err_and c.from_residual-in_err-typed.result c.from_residual-in_err-typed.ensures.1 in
+    let given = c.in_ok-workers.ensures.given in
     rw (p.1, p.2) (
       λ is. let q : c.in_err-typed.field-0.0 ≡ run.Workers = cc in absurd (c.in_err-typed.ensures.workers (ap Err q)),
-      λ out. absurd (in_range c.args.workers some few out),
+      λ out. absurd (in_range c.args.workers given.1 given.2 out),
     )
 
 pub returns-in_err-typed-clause-wanted : goal.returns-in_err-typed-clause-wanted
 returns-in_err-typed-clause-wanted g c =
-    let p = err_from_is_err_and c.from_residual.result c.from_residual.ensures.1 in
+    let p = err_from_is_err_and c.from_residual-in_err-typed.result c.from_residual-in_err-typed.ensures.1 in
     let w = g.W.Sink.may_fail c.args.output.now in
-    let some : 0 < c.args.workers = omega (arith, c.if-workers-eq0.false) in
-    let few : c.args.workers ≤ 64 = omega (arith, c.if-workers-gt-MOST_WORKERS.false) in
+    let given = c.in_ok-workers.ensures.given in
     λ world told.
     rw (p.1, p.2) (refused_by_workers
     (typed_answer_by over_wanted_rows world c.args.metadata.now c.args.request.now)
     (typed_answer_by over_wanted_rows world c.args.metadata.now c.args.request.now) c.args.workers
     (EndsAt world (g.F.Files.may_fail c.args.files.now) (reads world c.args.metadata.now c.args.request.now))
-    w c.in_err-typed.field-0.0 _ _ some few refl
+    w c.in_err-typed.field-0.0 _ _ given.1 given.2 refl
     (c.in_err-typed.ensures.refused world told) (λ is. c.in_err-typed.ensures.write (ap Err is)))
 
 pub returns-in_err-typed-clause-plan : goal.returns-in_err-typed-clause-plan
 returns-in_err-typed-clause-plan g c =
-    let p = err_from_is_err_and c.from_residual.result c.from_residual.ensures.1 in
+    let p = err_from_is_err_and c.from_residual-in_err-typed.result c.from_residual-in_err-typed.ensures.1 in
     let w = g.W.Sink.may_fail c.args.output.now in
-    let some : 0 < c.args.workers = omega (arith, c.if-workers-eq0.false) in
-    let few : c.args.workers ≤ 64 = omega (arith, c.if-workers-gt-MOST_WORKERS.false) in
+    let given = c.in_ok-workers.ensures.given in
     λ world told truth.
     let same = same_typed world c.args.metadata.now c.args.request.now
     (c.plans_of_true_summaries.ensures world c.args.metadata.now c.args.request.now truth) in
@@ -47,35 +70,33 @@ returns-in_err-typed-clause-plan g c =
     (typed_answer_by over_wanted_rows world c.args.metadata.now c.args.request.now)
     (typed_answer_by over_all_rows world c.args.metadata.now c.args.request.now) c.args.workers
     (EndsAt world (g.F.Files.may_fail c.args.files.now) (reads world c.args.metadata.now c.args.request.now))
-    w c.in_err-typed.field-0.0 _ _ some few same
+    w c.in_err-typed.field-0.0 _ _ given.1 given.2 same
     (c.in_err-typed.ensures.refused world told) (λ is. c.in_err-typed.ensures.write (ap Err is)))
 
 pub returns-in_err-typed-clause-text : goal.returns-in_err-typed-clause-text
 returns-in_err-typed-clause-text g c =
-    let p = err_from_is_err_and c.from_residual.result c.from_residual.ensures.1 in
+    let p = err_from_is_err_and c.from_residual-in_err-typed.result c.from_residual-in_err-typed.ensures.1 in
     rw (p.1, p.2) (refused_writes_none _ _ _ (λ is. c.in_err-typed.ensures.write (ap Err is)))
 
 pub returns-clause-wanted : goal.returns-clause-wanted
 returns-clause-wanted g c =
     let w = g.W.Sink.may_fail c.args.output.now in
-    let some : 0 < c.args.workers = omega (arith, c.if-workers-eq0.false) in
-    let few : c.args.workers ≤ 64 = omega (arith, c.if-workers-gt-MOST_WORKERS.false) in
+    let given = c.in_ok-workers.ensures.given in
     let wrote = c.write_json.ensures in
     λ world told.
     written_json c.in_ok-typed.typed c.write_json.result w _ _ wrote.all wrote.front _ _
-    (enough c.args.workers _ some few ∙ c.in_ok-typed.ensures.found world told) wrote.causes wrote.cause
+    (enough c.args.workers _ given.1 given.2 ∙ c.in_ok-typed.ensures.found world told) wrote.causes wrote.cause
 
 pub returns-clause-plan : goal.returns-clause-plan
 returns-clause-plan g c =
     let w = g.W.Sink.may_fail c.args.output.now in
-    let some : 0 < c.args.workers = omega (arith, c.if-workers-eq0.false) in
-    let few : c.args.workers ≤ 64 = omega (arith, c.if-workers-gt-MOST_WORKERS.false) in
+    let given = c.in_ok-workers.ensures.given in
     let wrote = c.write_json.ensures in
     λ world told truth.
     let same = same_typed world c.args.metadata.now c.args.request.now
     (c.plans_of_true_summaries.ensures world c.args.metadata.now c.args.request.now truth) in
     written_json c.in_ok-typed.typed c.write_json.result w _ _ wrote.all wrote.front _ _
-    (enough c.args.workers _ some few ∙ (same ∙ c.in_ok-typed.ensures.found world told)) wrote.causes wrote.cause
+    (enough c.args.workers _ given.1 given.2 ∙ (same ∙ c.in_ok-typed.ensures.found world told)) wrote.causes wrote.cause
 
 pub returns-clause-text : goal.returns-clause-text
 returns-clause-text g c =
@@ -88,3 +109,10 @@ returns-clause-selection g c =
     let asked = c.in_ok-typed.ensures.typed in
     on_ok_weaker c.write_json.result
     (λ wrote. (asked.0, asked.1, (typed.plan, wrote.0, typed_json asked.2 wrote.1, wrote.2))) c.write_json.ensures.all
+
+pub returns-clause-workers : goal.returns-clause-workers
+returns-clause-workers g c =
+    let given = c.in_ok-workers.ensures.given in (
+      λ is. absurd (writes_whoever_works c.write_json.result c.write_json.ensures.causes is),
+      λ out. absurd (in_range c.args.workers given.1 given.2 out),
+    )

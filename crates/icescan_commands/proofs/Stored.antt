@@ -1,0 +1,51 @@
+-- Commits to tables in folders.
+use Rattle.std.proofs.Common.{◌≡◌, ◌⊎◌, ℕ, List, Option, Some, None, refl, inl, inr}
+use Rattle.std.specs.Prelude.{Result, IfSome}
+use Rattle.ice_state.specs.Contents.{World}
+use Rattle.icescan_requests.specs.Bundles.{File}
+use Rattle.icescan_requests.specs.Commits.{Commitment, IsPut, MayEndCommit, MayNotPut, MayNotTell}
+use Rattle.icescan_requests.specs.Stores.{StopsAt}
+use Rattle.icescan_requests.specs.declared.store.StoreFault.TheVariants as store
+use Rattle.icescan_text.specs.declared.fault.RunFault.{RunFault}
+use Rattle.icescan_text.specs.declared.fault.RunFault.TheVariants as run
+
+-- what is so of a world that is told
+pub if_told : (P : World → Type 0) (k : Option World) → ((v : World) → k ≡ Some v → P v) → IfSome k P
+if_told P None h = tt
+if_told P (Some v) h = h v refl
+
+-- a store that fails no more than another
+module _ (read : Result Commitment RunFault) (at : List ℕ → Type 0) (out : List ℕ) (o n : Option (List File))
+    (s t w : Type 0) (more : s → t) where
+  not_put : (c : Commitment) → MayNotPut c out o n s run.Write → MayNotPut c out o n t run.Write
+  not_put c (inl fails) = inl (more fails)
+  not_put c (inr stops) = inr (record {
+    count = stops.count;
+    file = stops.file;
+    next = stops.next;
+    puts = stops.puts;
+    cause = stops.cause;
+  })
+
+  not_told : (c : Commitment) → MayNotTell c out o n s w → MayNotTell c out o n t w
+  not_told c (inl h) = inl (not_put c h)
+  not_told c (inr h) = inr h
+
+  pub ends_commit : (e : RunFault) → MayEndCommit read at out o n s w e → MayEndCommit read at out o n t w e
+  ends_commit run.Write h = (h.0, h.1, not_told h.0 h.2)
+  ends_commit (run.Conflict path) h = h
+  ends_commit run.Memory h = h
+  ends_commit (run.Device path) h = h
+  ends_commit run.Input h = h
+  ends_commit (run.Words text) h = h
+  ends_commit (run.Bundle n) h = h
+  ends_commit (run.Absent path) h = h
+  ends_commit (run.List f) h = h
+  ends_commit (run.Scan f) h = h
+  ends_commit (run.Finish f) h = h
+  ends_commit (run.Metadata f) h = h
+  ends_commit (run.Filter f) h = h
+  ends_commit (run.Drill f) h = h
+  ends_commit (run.Change f) h = h
+  ends_commit (run.Prepare f) h = h
+  ends_commit run.Workers h = h

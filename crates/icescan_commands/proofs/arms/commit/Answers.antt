@@ -1,0 +1,66 @@
+use Rattle.std.proofs.Common.{◌≡◌, rules}
+use Rattle.std.specs.Prelude.{option_map}
+use Rattle.std.proofs.lemmas.Result.{err_from_is_err_and}
+use Rattle.icescan_requests.specs.Commits.{committed_text}
+use Rattle.icescan_commands.specs.Answers.{as_answer}
+use Rattle.icescan_commands.specs.Sources.{failing_bundle}
+use Rattle.icescan_words.specs.declared.command_line.Source.TheVariants as source
+use Rattle.icescan_commands.proofs.Committed.{no_files}
+use Rattle.icescan_commands.proofs.Refusals.{is_left, left_of, no_bundle_ran, untold_ran}
+use Rattle.icescan_commands.proofs.Stored.{ends_commit, if_told}
+use Rattle.icescan_commands.specs.Storing.{Commits}
+use Rattle.icescan_commands.proofs.arms.commit.Goals as goal
+
+pub returns-in_err-bundle-in-Bundle-clause-ran : goal.returns-in_err-bundle-in-Bundle-clause-ran
+returns-in_err-bundle-in-Bundle-clause-ran g c =
+    let p = err_from_is_err_and c.from_residual.result c.from_residual.ensures.1 in
+    let asked : c.args.source.now ≡ source.Bundle = search rules in
+    let no = c.in_err-bundle-in-Bundle.ensures.refused in
+    rw (p.1, p.2, asked) (
+      no.0,
+      no.1,
+      no_bundle_ran (option_map as_answer (committed_text c.args.request.now no.0)) no.0
+          (g.W.Sink.may_fail c.args.output.now) _ (no_files c.args.request.now no.0)
+          c.in_err-bundle-in-Bundle.field-0.0 no.2,
+    )
+
+pub returns-in_ok-bundle-in-Bundle-clause-ran : goal.returns-in_ok-bundle-in-Bundle-clause-ran
+returns-in_ok-bundle-in-Bundle-clause-ran g c =
+    let asked : c.args.source.now ≡ source.Bundle = search rules in
+    let found = c.in_ok-bundle-in-Bundle.ensures.found in
+    rw asked (found.0, found.1, c.print_commit.ensures found.0 found.2)
+
+pub returns-in_err-bundle-in-Bundle-clause-stored : goal.returns-in_err-bundle-in-Bundle-clause-stored
+returns-in_err-bundle-in-Bundle-clause-stored g c =
+    let asked : c.args.source.now ≡ source.Bundle = search rules in rw asked refl
+
+pub returns-in_ok-bundle-in-Bundle-clause-stored : goal.returns-in_ok-bundle-in-Bundle-clause-stored
+returns-in_ok-bundle-in-Bundle-clause-stored g c =
+    let asked : c.args.source.now ≡ source.Bundle = search rules in rw asked refl
+
+pub returns-in-Folder-clause-ran : goal.returns-in-Folder-clause-ran
+returns-in-Folder-clause-ran g c =
+    let left = g.R.Read.remaining c.args.input.now in
+    let asked : c.args.source.now ≡ source.Folder c.in-Folder.place = search rules in
+    rw asked (
+      left_of left,
+      is_left left,
+      untold_ran (failing_bundle (g.W.Sink.may_fail c.args.output.now)) c.commit_to.result _ _
+          c.commit_to.ensures.nothing,
+    )
+
+pub returns-in-Folder-clause-stored : goal.returns-in-Folder-clause-stored
+returns-in-Folder-clause-stored g c =
+    let place = c.in-Folder.place in
+    let asked : c.args.source.now ≡ source.Folder place = search rules in
+    let is = c.watched_files-files.ensures in
+    let request = c.args.request.now in
+    let ran = c.commit_to in
+    rw asked (if_told (λ world. Commits world _ request _ _ ran.result _ _ _ _) _ (λ world told.
+    let known = rw (is.0, is.1, is.2) told in
+    record {
+      made = rw c.enter.ensures.entered at ran.ensures.made world known;
+      refused = ?;
+      unchanged = λ fault none. rw c.enter.ensures.entered at ran.ensures.unchanged world fault known none;
+      left = λ commit there. rw c.enter.ensures.entered at ran.ensures.left world commit known there;
+    }))

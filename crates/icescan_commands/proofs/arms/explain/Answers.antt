@@ -1,0 +1,34 @@
+use Rattle.std.proofs.lemmas.Result.{err_from_is_err_and}
+use Rattle.icescan_explain.specs.Explanations.{explained_at}
+use Rattle.icescan_requests.specs.Plans.{reads_at}
+use Rattle.icescan_commands.specs.Runs.{explain_in}
+use Rattle.icescan_commands.proofs.Answering.{gives_explained}
+use Rattle.icescan_commands.proofs.Opened.{opened_ran, unopened_ran}
+use Rattle.icescan_commands.proofs.arms.explain.Goals as goal
+
+pub returns-in_err-files : goal.returns-in_err-files
+returns-in_err-files g c =
+    let p = err_from_is_err_and c.from_residual.result c.from_residual.ensures.1 in
+    let no = c.in_err-files.ensures.refused in
+    let path = c.args.table.path.now in
+    rw (p.1, p.2) (
+      no.0,
+      no.1,
+      unopened_ran (g.S.Folders.below c.args.system.now.folders.now)
+          (g.S.Folders.may_fail c.args.system.now.folders.now) no.0 (λ world. explain_in world path c.args.request.now c.args.workers)
+          (λ world. reads_at world path c.args.request.now) c.args.table.source.now (g.W.Sink.may_fail c.args.output.now) _
+          c.in_err-files.field-0.0 no.2,
+    )
+
+pub returns : goal.returns
+returns g c =
+    let opened = c.in_ok-files.ensures.opened in
+    let path = c.as_str.result.now in
+    let ran = c.explain_file in
+    let told = opened_ran (g.S.Folders.below c.args.system.now.folders.now)
+    (g.S.Folders.may_fail c.args.system.now.folders.now) opened.0 c.args.table.source.now _ _ opened.2
+    (λ world. explain_in world path c.args.request.now c.args.workers) (λ world. reads_at world path c.args.request.now) (g.W.Sink.may_fail c.args.output.now)
+    ran.result _ _ (λ v told. gives_explained (explained_at v path c.args.request.now c.args.workers) _ _ ran.result _ _
+    (ran.ensures.written v told) (ran.ensures.refused v told) (ran.ensures.front v told))
+    ran.ensures.refusal.nothing in
+    (opened.0, opened.1, rw c.as_str.ensures at told)

@@ -1,6 +1,0 @@
-use Rattle.icescan_commands.proofs.Refusals.{untold_ran}
-use Rattle.icescan_commands.proofs.words.drill.Goals as goal
-
-pub returns-clause-ran : goal.returns-clause-ran
-returns-clause-ran g c = untold_ran (g.W.Sink.may_fail c.args.output.now) c.run_drill.result _ _
-    c.run_drill.ensures.nothing

@@ -1,0 +1,16 @@
+-- The files of a table: those of a bundle, or those below a folder.
+use Rattle.std.specs.Prelude.{ℕ, List, Option, Some}
+use Rattle.ice_state.specs.Contents.{World}
+use Rattle.icescan_commands.specs.declared.table_files.TableFiles.{TableFiles}
+use Rattle.icescan_commands.specs.declared.table_files.TableFiles.TheVariants as table
+use Rattle.icescan_requests.specs.Bundles.{bytes_at}
+
+-- a bundle has its bytes at each path; a folder's files have what they report
+abbrev pub world_of : {F : Type 0} → (F → Option World) → TableFiles F → Option World
+world_of below (table.Bundle files) = Some (λ path. bytes_at files path)
+world_of below (table.Folder files) = below files
+
+-- a bundle is read without a fault
+abbrev pub may_fail_of : {F : Type 0} → (F → List ℕ → Type 0) → TableFiles F → List ℕ → Type 0
+may_fail_of below (table.Bundle files) path = ⊥
+may_fail_of below (table.Folder files) path = below files path

@@ -1,0 +1,264 @@
+//! The commands, each as one call over the files of its table.
+
+ghost use Rattle.std.specs.Prelude.{◌≡◌, ℕ, List, Option, Some, None, Ok, Err, IfOk, IfErr, OnOk, option_map, true};
+ghost use Rattle.icescan_audit.specs.Audits.{audit_at, audit_reads_at};
+ghost use Rattle.icescan_commands.specs.Answers.{as_answer, plain};
+ghost use Rattle.icescan_commands.specs.Runs.{IsCount, Ran, answer_to, ended, failing_of, list_in};
+ghost use Rattle.icescan_commands.specs.Sources.{failing_bundle, failing_unread};
+ghost use Rattle.icescan_commands.specs.Storing.{IsStored};
+ghost use Rattle.icescan_drill.specs.Drills.{WroteDrill};
+ghost use Rattle.icescan_requests.specs.Bundles.{IsInput, bundle_of};
+ghost use Rattle.icescan_requests.specs.Commits.{committed_text};
+ghost use Rattle.icescan_text.specs.declared.fault.RunFault.{RunFault};
+ghost use Rattle.icescan_words.specs.declared.command_line.Words.{Words};
+
+use crate::commit_lines::commit_lines;
+use crate::forms::{write_list_plan, write_plan};
+use crate::system::System;
+use crate::table_files::{open_files, watched_files};
+use contract_words::Text;
+use ice_meta::Target;
+use icescan_audit::audit_file;
+use icescan_drill::{Watch, run_drill};
+use icescan_explain::explain_file;
+use icescan_print::{Sink, write_all};
+use icescan_progress::Progress;
+use icescan_requests::{
+    Bundle, Folders, Stores, commit_to, prepare_commit, read_bundle, show_file,
+};
+use icescan_text::{CommitRequest, Drill, Request, RunFault};
+use icescan_words::{Format, Lists, Source};
+use std::alloc::Global;
+use std::io::Read;
+use std::sync::Wait;
+use std::thread::Threads;
+
+/// A table: its metadata is at a path of the files of a source.
+#[derive(Clone, Copy)]
+pub struct TableAt<'a> {
+    pub source: &'a Source,
+    pub path: &'a Text,
+}
+
+/// The path of the list: the one that is asked for, else the bundle's first.
+fn list_in<'a>(bundle: &'a Bundle, list: &'a Option<Text>) -> Result<&'a str, RunFault>
+    ensures ok { IfOk result (λ path. list_in bundle.now list.now ≡ Ok path.now) }
+    ensures err { IfErr result (λ e. list_in bundle.now list.now ≡ Err e) }
+{
+    if let Some(list) = list {
+        return Ok(list.as_str());
+    }
+    bundle.first_path().ok_or(RunFault::Bundle(1))
+}
+
+/// Writes the plan of a manifest list, in a form.
+pub fn list_plan<H, S: Folders, P: Progress, R: Read, W: Sink>(
+    system: &System<'_, H, S, P>,
+    lists: &Lists,
+    format: Format,
+    input: &mut R,
+    output: &mut W,
+) -> Result<(), RunFault>
+    requires { P.may_be_told system.now.progress.now ≡ true }
+    ensures { (text : List ℕ) × IsInput (R.remaining input.old) text ×
+        Ran (answer_to (S.below system.now.folders.now) (Words.ListPlan lists.now format) text)
+        (failing_of (S.below system.now.folders.now) (S.may_fail system.now.folders.now)
+        (Words.ListPlan lists.now format) (W.may_fail output.old))
+        result (W.taken output.old) (W.taken output.new) }
+{
+    match lists {
+        Lists::Bundle(list) => {
+            let bundle = read_bundle(system.alloc, input)?;
+            let path = list_in(&bundle, list)?;
+            write_list_plan(system.alloc, &bundle, path, format, output)
+        }
+        Lists::Folder(place, list) => {
+            let files = watched_files(system, place);
+            write_list_plan(system.alloc, &files, list.as_str(), format, output)
+        }
+    }
+}
+
+/// Writes the plan that is asked of a table, in a form and by so many workers.
+pub fn plan<H: Threads + Sync, S: Folders + Sync, P: Progress + Sync, R: Read, W: Sink>(
+    system: &System<'_, H, S, P>,
+    table: TableAt<'_>,
+    request: &Request,
+    format: Format,
+    workers: usize,
+    input: &mut R,
+    output: &mut W,
+) -> Result<(), RunFault>
+    requires { P.may_be_told system.now.progress.now ≡ true }
+    ensures { (text : List ℕ) × IsInput (R.remaining input.old) text ×
+        Ran (answer_to (S.below system.now.folders.now)
+        (Words.Plan table.source.now request.now format workers table.path.now) text)
+        (failing_of (S.below system.now.folders.now) (S.may_fail system.now.folders.now)
+        (Words.Plan table.source.now request.now format workers table.path.now) (W.may_fail output.old))
+        result (W.taken output.old) (W.taken output.new) }
+{
+    let files = open_files(system, table.source, input)?;
+    write_plan(
+        system,
+        &files,
+        table.path.as_str(),
+        request,
+        format,
+        workers,
+        output,
+    )
+}
+
+/// Writes the text of a table's metadata.
+pub fn show<H, S: Folders, P: Progress, R: Read, W: Sink>(
+    system: &System<'_, H, S, P>,
+    table: TableAt<'_>,
+    input: &mut R,
+    output: &mut W,
+) -> Result<(), RunFault>
+    requires { P.may_be_told system.now.progress.now ≡ true }
+    ensures { (text : List ℕ) × IsInput (R.remaining input.old) text ×
+        Ran (answer_to (S.below system.now.folders.now) (Words.Show table.source.now table.path.now) text)
+        (failing_of (S.below system.now.folders.now) (S.may_fail system.now.folders.now)
+        (Words.Show table.source.now table.path.now) (W.may_fail output.old))
+        result (W.taken output.old) (W.taken output.new) }
+{
+    let files = open_files(system, table.source, input)?;
+    show_file(system.alloc, &files, table.path.as_str(), output)
+}
+
+/// Writes the audit of a snapshot of a table, by so many workers, and gives the number of findings that are faults.
+pub fn audit<H: Threads + Sync, S: Folders + Sync, P: Progress + Sync, R: Read, W: Sink>(
+    system: &System<'_, H, S, P>,
+    table: TableAt<'_>,
+    target: &Target,
+    workers: usize,
+    input: &mut R,
+    output: &mut W,
+) -> Result<usize, RunFault>
+    requires { P.may_be_told system.now.progress.now ≡ true }
+    ensures { (text : List ℕ) × IsInput (R.remaining input.old) text ×
+        Ran (answer_to (S.below system.now.folders.now)
+        (Words.Audit table.source.now target.now workers table.path.now) text)
+        (failing_of (S.below system.now.folders.now) (S.may_fail system.now.folders.now)
+        (Words.Audit table.source.now target.now workers table.path.now) (W.may_fail output.old))
+        (ended result) (W.taken output.old) (W.taken output.new)
+        × IfOk result (IsCount (S.below system.now.folders.now)
+        (Words.Audit table.source.now target.now workers table.path.now) text) }
+{
+    let files = open_files(system, table.source, input)?;
+    audit_file(
+        system.host,
+        system.alloc,
+        &files,
+        table.path.as_str(),
+        target,
+        workers,
+        output,
+    )
+}
+
+/// Writes the plan that is asked of a table, by so many workers, with what became of each manifest and each live file.
+pub fn explain<H, S: Folders, P: Progress, R: Read, W: Sink>(
+    system: &System<'_, H, S, P>,
+    table: TableAt<'_>,
+    request: &Request,
+    workers: usize,
+    input: &mut R,
+    output: &mut W,
+) -> Result<(), RunFault>
+    requires { P.may_be_told system.now.progress.now ≡ true }
+    ensures { (text : List ℕ) × IsInput (R.remaining input.old) text ×
+        Ran (answer_to (S.below system.now.folders.now)
+        (Words.Explain table.source.now request.now workers table.path.now) text)
+        (failing_of (S.below system.now.folders.now) (S.may_fail system.now.folders.now)
+        (Words.Explain table.source.now request.now workers table.path.now) (W.may_fail output.old))
+        result (W.taken output.old) (W.taken output.new) }
+{
+    let files = open_files(system, table.source, input)?;
+    explain_file(
+        system.alloc,
+        &files,
+        table.path.as_str(),
+        request,
+        workers,
+        output,
+    )
+}
+
+/// Writes the files of a commit to a table in a bundle, as lines of a bundle.
+fn print_commit<W: Sink>(
+    alloc: Global,
+    bundle: &Bundle,
+    request: &CommitRequest,
+    output: &mut W,
+) -> Result<(), RunFault>
+    ensures { (text : List ℕ) → bundle_of text ≡ Ok bundle.now →
+        Ran (option_map as_answer (committed_text request.now text)) (failing_bundle (W.may_fail output.old)) result
+        (W.taken output.old) (W.taken output.new) }
+{
+    let prepared = prepare_commit(alloc, bundle, request)?;
+    let metadata = prepared.version().metadata().write(alloc)?;
+    let lines = commit_lines(alloc, prepared.files(), &request.out, &metadata)?;
+    write_all(output, &lines)?;
+    Ok(())
+}
+
+/// Makes a commit to a table in a folder and reports it, or writes its files as lines of a bundle.
+pub fn commit<H, S: Folders, P: Progress, K: Stores, R: Read, W: Sink>(
+    system: &System<'_, H, S, P>,
+    source: &Source,
+    request: &CommitRequest,
+    stores: &mut K,
+    input: &mut R,
+    output: &mut W,
+) -> Result<(), RunFault>
+    requires { P.may_be_told system.now.progress.now ≡ true }
+    ensures ran { (text : List ℕ) × IsInput (R.remaining input.old) text ×
+        Ran (answer_to (S.below system.now.folders.now) (Words.Commit source.now request.now) text)
+        (failing_of (S.below system.now.folders.now) (S.may_fail system.now.folders.now)
+        (Words.Commit source.now request.now) (W.may_fail output.old))
+        result (W.taken output.old) (W.taken output.new) }
+    ensures stored { IsStored (Words.Commit source.now request.now) (S.below system.now.folders.now)
+        (S.may_fail system.now.folders.now) (K.below stores.old) (K.below_may_fail stores.old) (W.may_fail output.old)
+        result (K.below stores.new) (K.files stores.new) (W.taken output.old) (W.taken output.new) }
+{
+    match source {
+        Source::Bundle => {
+            let bundle = read_bundle(system.alloc, input)?;
+            print_commit(system.alloc, &bundle, request, output)
+        }
+        Source::Folder(place) => {
+            let files = watched_files(system, place);
+            stores.enter(
+                system.alloc,
+                place.folder.as_str(),
+                place.prefix.as_str(),
+                &request.ids,
+            );
+            commit_to(system.alloc, &files, request, stores, output)
+        }
+    }
+}
+
+/// Writes a text.
+pub fn tell<W: Sink>(text: &Text, output: &mut W) -> Result<(), RunFault>
+    ensures { Ran (Some (Ok (plain text.now))) (failing_unread (W.may_fail output.old)) result (W.taken output.old)
+        (W.taken output.new) }
+{
+    write_all(output, text.as_bytes())?;
+    Ok(())
+}
+
+/// Drills, and writes what is told of the table.
+pub fn drill<H: Threads + Wait + Watch + Sync, W: Sink>(
+    host: &H,
+    alloc: Global,
+    drill: Drill,
+    output: &mut W,
+) -> Result<(), RunFault>
+    ensures ran { Ran None (failing_unread (W.may_fail output.old)) result (W.taken output.old) (W.taken output.new) }
+    ensures drilled { OnOk result (WroteDrill drill (W.taken output.old) (W.taken output.new)) }
+{
+    run_drill(host, alloc, drill, output)
+}

@@ -1,5 +1,0 @@
-use Rattle.std.proofs.Common.{◌≡◌, take}
-use Rattle.icescan_explain.proofs.copies.copied_spec.Given as goal
-
-abbrev pub invariant-fields : goal.invariant-fields
-invariant-fields l = l.fields ≡ take l.field-index l.of_spec

@@ -1,6 +1,0 @@
-use Rattle.std.proofs.Common.{◌≡◌, map, take}
-use Rattle.ice_meta.specs.Partitioning.{without_fields}
-use Rattle.icescan_json.proofs.list_plans.specs_of.Given as goal
-
-abbrev pub invariant-rows : goal.invariant-rows
-invariant-rows l = l.specs.items ≡ map (λ row. without_fields row.spec_id) (take l.row-index l.rows)

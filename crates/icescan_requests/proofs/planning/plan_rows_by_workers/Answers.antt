@@ -1,0 +1,38 @@
+use Rattle.std.proofs.Common.{ap}
+use Rattle.std.specs.Prelude.{Err}
+use Rattle.std.proofs.lemmas.Result.{err_from_is_err_and}
+use Rattle.icescan_requests.proofs.Crews.{few_wanted, not_planned}
+use Rattle.icescan_requests.proofs.Plans.{no_scan, plan_there}
+use Rattle.icescan_text.proofs.Steps.{each_present}
+use Rattle.icescan_text.proofs.Workers.{in_range}
+use Rattle.icescan_requests.proofs.planning.plan_rows_by_workers.Goals as goal
+
+pub returns-in_err-scan-clause-refused : goal.returns-in_err-scan-clause-refused
+returns-in_err-scan-clause-refused g c =
+    let p = err_from_is_err_and c.from_residual.result c.from_residual.ensures.1 in
+    λ world told. rw (p.1, p.2)
+    (no_scan (g.F.Files.may_fail c.args.files.now) ⊥ world c.args.selected.specs c.args.selected.filter.parts c.args.selected.rows
+    c.in_err-scan.field-0.0 c.in_err-scan.ensures)
+
+pub plan_scan-requires-after_bounds : goal.plan_scan-requires-after_bounds
+plan_scan-requires-after_bounds g c κs within = few_wanted c.args.selected.rows c.args.selected.specs c.args.selected.filter.parts
+    c.in_ok-scan.scan c.in_ok-scan.ensures c.requires
+
+pub returns-in_err-plan-clause-refused : goal.returns-in_err-plan-clause-refused
+returns-in_err-plan-clause-refused g c =
+    let p = err_from_is_err_and c.from_residual-in_err-plan.result c.from_residual-in_err-plan.ensures.1 in
+    let ran = c.in_err-plan.ensures in
+    λ world told.
+    rw (p.1, p.2)
+    (not_planned (g.F.Files.may_fail c.args.files.now) ⊥ world c.args.selected.specs c.args.selected.filter.parts c.args.selected.rows
+    c.in_ok-scan.scan c.in_ok-scan.ensures c.in_err-plan.field-0.0
+    (λ none. in_range c.count.result c.count.ensures.some c.count.ensures.few (ran.workers.0 (ap Err none)))
+    (ran.refused world told) (ran.present world told) (ran.outcome world told))
+
+pub returns-clause-found : goal.returns-clause-found
+returns-clause-found g c =
+    let scan = c.in_ok-scan.scan in
+    λ world told.
+    let present = each_present world scan.wanted (c.in_ok-plan.ensures.present world told) in
+    plan_there (g.F.Files.may_fail c.args.files.now) ⊥ world c.args.selected.specs c.args.selected.filter.parts c.args.selected.rows
+    scan c.in_ok-scan.ensures present c.in_ok-plan.plan (c.in_ok-plan.ensures.outcome world told)

@@ -1,0 +1,68 @@
+//! The plans of the rows of manifest lists.
+
+ghost use Rattle.std.specs.Prelude.{◌≡◌, ◌≤◌, ℕ, List, Some, None, Ok, IfOk, IfErr, IsErrOf, length};
+ghost use Rattle.ice_desk.specs.Worlds.{EndsAt, HasAt};
+ghost use Rattle.ice_state.specs.Contents.{World};
+ghost use Rattle.icescan_requests.specs.Plans.{manifests, over_wanted_rows, rows_plan};
+ghost use Rattle.icescan_text.specs.Reads.{MayEnd};
+
+use crate::selected_rows::SelectedRows;
+use ice_desk::{Files, Gate, plan_scan, take_wanted};
+use ice_state::{OwnedPlan, Partial};
+use icescan_text::{RunFault, Workers};
+use std::alloc::Global;
+use std::thread::Threads;
+
+/// A gate at which no worker is held up, and that nobody watches.
+#[derive(Drop)]
+pub struct OpenGate;
+
+impl Gate for OpenGate {
+    fn before_take(&self, _worker: usize, _i: usize) {}
+}
+
+/// The plan of these rows. Their manifests are read one after the other, in the order of their paths.
+pub fn plan_rows<F: Files>(
+    alloc: Global,
+    files: &F,
+    selected: SelectedRows,
+) -> Result<OwnedPlan, RunFault>
+    ensures found { (world : World) → F.world files.now ≡ Some world →
+        IfOk result (λ plan. rows_plan over_wanted_rows world selected.specs selected.filter.parts selected.rows ≡ Ok plan) }
+    ensures refused { (world : World) → F.world files.now ≡ Some world →
+        IfErr result (MayEnd (rows_plan over_wanted_rows world selected.specs selected.filter.parts selected.rows)
+        (EndsAt world (F.may_fail files.now) (manifests selected.specs selected.filter.parts selected.rows)) ⊥) }
+    ensures absent { (path : List ℕ) → IsErrOf result (RunFault.Absent path) → HasAt (F.world files.now) path None }
+    ensures device { (path : List ℕ) → IsErrOf result (RunFault.Device path) → F.may_fail files.now path }
+    ensures write { IsErrOf result RunFault.Write → ⊥ }
+{
+    let scan = selected.into_scan(alloc)?;
+    let mut state = Partial::empty(alloc, &scan)?;
+    take_wanted(alloc, files, &scan, &mut state)?;
+    Ok(state.into_plan(&scan)?)
+}
+
+/// The same by so many workers, each in a thread of its own where one can be started. `gate` is told of each of their
+/// reads.
+pub fn plan_rows_by_workers<R: Threads + Sync, F: Files + Sync, G: Gate + Sync>(
+    rt: &R,
+    alloc: Global,
+    files: &F,
+    selected: SelectedRows,
+    workers: Workers,
+    gate: &G,
+) -> Result<OwnedPlan, RunFault>
+    requires { length selected.rows ≤ 65536 }
+    ensures found { (world : World) → F.world files.now ≡ Some world →
+        IfOk result (λ plan. rows_plan over_wanted_rows world selected.specs selected.filter.parts selected.rows ≡ Ok plan) }
+    ensures refused { (world : World) → F.world files.now ≡ Some world →
+        IfErr result (MayEnd (rows_plan over_wanted_rows world selected.specs selected.filter.parts selected.rows)
+        (EndsAt world (F.may_fail files.now) (manifests selected.specs selected.filter.parts selected.rows)) ⊥) }
+    ensures absent { (path : List ℕ) → IsErrOf result (RunFault.Absent path) → HasAt (F.world files.now) path None }
+    ensures device { (path : List ℕ) → IsErrOf result (RunFault.Device path) → F.may_fail files.now path }
+    ensures write { IsErrOf result RunFault.Write → ⊥ }
+    ensures workers { IsErrOf result RunFault.Workers → ⊥ }
+{
+    let scan = selected.into_scan(alloc)?;
+    Ok(plan_scan(rt, alloc, files, &scan, workers.count(), gate)?)
+}
