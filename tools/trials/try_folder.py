@@ -1,10 +1,12 @@
 #!/usr/bin/env python3
 """try_folder.py PROGRAM: runs `PROGRAM list-plan` over real folders, and over words, and says what was not as it should be.
 
-The folders have segments `..`, links in a circle, a folder in a file's place, and a file that may not be read; the table of
-`examples/plain-java` is planned as well, and compared with its expected plan.
+The folders have segments `.` and `..`, links in a circle, links to files, a folder, a pipe and a socket in a file's place,
+a device at the end of a link, a file that may not be read, and one below a folder that may not be entered; the table of
+`examples/plain-java` is planned as well, and compared with its expected plan. A run that waits for a pipe has failed.
 """
 import os
+import socket
 import subprocess
 import sys
 import tempfile
@@ -21,7 +23,10 @@ def as_nobody():
 
 
 def run(program, words):
-    done = subprocess.run([program, *words], stdin=subprocess.DEVNULL, capture_output=True, preexec_fn=as_nobody, timeout=60)
+    try:
+        done = subprocess.run([program, *words], stdin=subprocess.DEVNULL, capture_output=True, preexec_fn=as_nobody, timeout=10)
+    except subprocess.TimeoutExpired:
+        return "no end within 10 seconds"
     return done.returncode, done.stdout.decode(), done.stderr.decode()
 
 
@@ -35,12 +40,26 @@ def make(folder):
         with open(os.path.join(folder, place), "wb") as file:
             file.write(b"no container")
     os.chmod(os.path.join(folder, "t", "secret"), 0)
+    os.mkfifo(os.path.join(folder, "t", "pipe"), 0o666)
+    os.chmod(os.path.join(folder, "t", "pipe"), 0o666)
+    socket.socket(socket.AF_UNIX).bind(os.path.join(folder, "t", "socket"))
+    for name, to in [("device", "/dev/zero"), ("to-pipe", "pipe"), ("to-list", "list"), ("to-none", "none")]:
+        os.symlink(to, os.path.join(folder, "t", name))
+    os.mkdir(os.path.join(folder, "t", "shut"))
+    with open(os.path.join(folder, "t", "shut", "list"), "wb") as file:
+        file.write(b"no container")
+    os.chmod(os.path.join(folder, "t", "shut"), 0)
 
 
 # a path, the status and the line
 PATHS = [
     ("mem://t/list", 1, "N1 Avro V1 NotAvro"),
     ("mem://t//list", 1, "N1 Avro V1 NotAvro"),
+    ("mem://t/to-list", 1, "N1 Avro V1 NotAvro"),
+    ("mem://t/./list", 3, "P2 Absent mem://t/./list"),
+    ("mem://t/s/./list", 3, "P2 Absent mem://t/s/./list"),
+    ("mem://t/.", 3, "P2 Absent mem://t/."),
+    ("mem://t/.list", 3, "P2 Absent mem://t/.list"),
     ("mem://t/s/../list", 3, "P2 Absent mem://t/s/../list"),
     ("mem://t/../list", 3, "P2 Absent mem://t/../list"),
     ("mem://t/..", 3, "P2 Absent mem://t/.."),
@@ -53,6 +72,13 @@ PATHS = [
     ("mem://t/a", 3, "P3 Device mem://t/a"),
     ("mem://t/list/x", 3, "P3 Device mem://t/list/x"),
     ("mem://t/secret", 3, "P3 Device mem://t/secret"),
+    ("mem://t/shut/list", 3, "P3 Device mem://t/shut/list"),
+    ("mem://t/shut/none", 3, "P3 Device mem://t/shut/none"),
+    ("mem://t/to-none", 3, "P2 Absent mem://t/to-none"),
+    ("mem://t/pipe", 3, "P3 Device mem://t/pipe"),
+    ("mem://t/to-pipe", 3, "P3 Device mem://t/to-pipe"),
+    ("mem://t/socket", 3, "P3 Device mem://t/socket"),
+    ("mem://t/device", 3, "P3 Device mem://t/device"),
 ]
 
 # words that are refused with status 2 and a text on standard error

@@ -1,12 +1,13 @@
 -- What calls read of what a handle holds.
-use Rattle.std.specs.Prelude.{◌≡◌, ℕ, List, length, slice_get, Option, Some, None, Result, Ok, Err}
+use Rattle.std.specs.Prelude.{◌≡◌, ℕ, ℤ, List, length, slice_get, Option, Some, None, Result, Ok, Err}
 use Rattle.ice_manifest_reading.specs.declared.entry.Entry.{Entry}
 use Rattle.ice_manifest_reading.specs.declared.row.Row.{Row}
 use Rattle.ice_state.specs.Lines.{OwnedLine}
 use Rattle.icescan_c_requests.specs.Statuses.{status_of}
 use Rattle.icescan_c.specs.declared.held.Held.{Held}
 use Rattle.icescan_c.specs.declared.held.Held.TheVariants as held
-use Rattle.icescan_c.specs.declared.lent.Bytes.{Bytes}
+use Rattle.icescan_c_lent.specs.declared.lent.Bytes.{Bytes}
+use Rattle.icescan_c_lent.specs.declared.lent.Ids.{Ids}
 use Rattle.icescan_c_requests.specs.declared.endings.Refusal.{Refusal}
 use Rattle.icescan_c_requests.specs.declared.endings.Refusal.TheVariants as refusal
 use Rattle.icescan_c.specs.declared.telling.File.{File}
@@ -61,14 +62,18 @@ equalities_of (Err refused) = Err refused
 abbrev pub IsCount : ℕ → ℕ → Type 0
 IsCount told counted = told ≡ counted
 
--- as many bytes are lent
-abbrev pub IsOfLength : Bytes → List ℕ → Type 0
-IsOfLength lent bytes = lent.len ≡ length bytes
+-- these bytes lie where the pointer points, and are as many as is told
+abbrev pub AreLent : Bytes → List ℕ → Type 0
+AreLent lent bytes = (lent.bytes ≡ Some bytes) × (lent.len ≡ length bytes)
 
--- the numbers of a file, and how long what is lent of it is
+-- the same of ids
+abbrev pub AreIdsLent : Ids → List ℤ → Type 0
+AreIdsLent lent ids = (lent.ids ≡ Some ids) × (lent.len ≡ length ids)
+
+-- the path, the ids and the numbers of a file
 pub record IsFileOf (entry : Entry) (positions equalities : ℕ) (file : File) : Type 0 where
-  pub path : IsOfLength file.path entry.file.path
-  pub ids : file.equality_ids.len ≡ length entry.file.equality_ids
+  pub path : AreLent file.path entry.file.path
+  pub ids : AreIdsLent file.equality_ids entry.file.equality_ids
   pub sequence : file.sequence_number ≡ entry.sequence_number
   pub rows : file.record_count ≡ entry.file.record_count
   pub size : file.file_size ≡ entry.file.file_size

@@ -4,7 +4,6 @@
 
 mod handle;
 mod held;
-mod lent;
 mod loose;
 mod plan_calls;
 mod questions;

@@ -2,13 +2,13 @@
 
 ghost use Rattle.std.specs.Prelude.{◌≡◌, [], ◌∷◌, None};
 ghost use Rattle.icescan_c.specs.Calls.{Asks, OnHandle, Selects, Starts};
-ghost use Rattle.icescan_c.specs.Readings.{IsCount, IsOfLength, Reads, at_place, count_of, fault_in, list_in};
+ghost use Rattle.icescan_c.specs.Readings.{AreLent, IsCount, Reads, at_place, count_of, fault_in, list_in};
 ghost use Rattle.icescan_c.specs.Readings.{path_of, wanted_in};
 ghost use Rattle.icescan_c_requests.specs.Requests.{by_id, by_name};
 
 use crate::handle::Handle;
 use crate::held::Held;
-use crate::lent::Bytes;
+use icescan_c_lent::Bytes;
 use icescan_c_requests::{Refusal, request_by_id, request_by_name, status};
 use icescan_text::Request;
 use std::alloc::Global;
@@ -68,7 +68,7 @@ pub extern "C" fn icescan_scan_new_at(
 /// Lends the path of the manifest list that the scan has to be started with.
 #[unsafe(no_mangle)]
 pub extern "C" fn icescan_scan_list(alloc: Global, scan: &mut Handle, path: &mut Bytes) -> u32
-    ensures told { Reads IsOfLength list_in scan.old.held path.old result path.new }
+    ensures told { Reads AreLent list_in scan.old.held path.old result path.new }
     ensures unchanged { scan.new.held ≡ scan.old.held }
 {
     let Some(held) = scan.take(alloc) else {
@@ -114,7 +114,7 @@ pub extern "C" fn icescan_scan_wanted(
     i: usize,
     path: &mut Bytes,
 ) -> u32
-    ensures told { Reads IsOfLength (λ held. path_of (at_place (wanted_in held) i)) scan.old.held path.old result
+    ensures told { Reads AreLent (λ held. path_of (at_place (wanted_in held) i)) scan.old.held path.old result
         path.new }
     ensures unchanged { scan.new.held ≡ scan.old.held }
 {
@@ -129,7 +129,7 @@ pub extern "C" fn icescan_scan_wanted(
 /// Lends the line that tells why a call answered that what was handed in is refused.
 #[unsafe(no_mangle)]
 pub extern "C" fn icescan_fault(alloc: Global, handle: &mut Handle, line: &mut Bytes) -> u32
-    ensures told { Reads IsOfLength fault_in handle.old.held line.old result line.new }
+    ensures told { Reads AreLent fault_in handle.old.held line.old result line.new }
     ensures unchanged { handle.new.held ≡ handle.old.held }
 {
     let Some(held) = handle.take(alloc) else {

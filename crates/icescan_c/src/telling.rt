@@ -1,14 +1,14 @@
 //! Telling what a handle holds.
 
 ghost use Rattle.std.specs.Prelude.{slice_get};
-ghost use Rattle.icescan_c.specs.Readings.{IsCount, IsDeleteOf, IsFileOf, IsFileOfLine, IsOfLength, Tells};
+ghost use Rattle.icescan_c.specs.Readings.{AreLent, IsCount, IsDeleteOf, IsFileOf, IsFileOfLine, Tells};
 ghost use Rattle.icescan_c.specs.Readings.{at_place, count_of, equalities_of, fault_in, lines_in, list_in, or_past};
 ghost use Rattle.icescan_c.specs.Readings.{path_of, positions_of, wanted_in};
 ghost use Rattle.icescan_c_requests.specs.Statuses.{status_of};
 
 use crate::held::Held;
-use crate::lent::{Bytes, Ids};
 use ice_state::{PlanFile, PlanFiles};
+use icescan_c_lent::{Bytes, Ids};
 use icescan_c_requests::Refusal;
 
 /// A data file or a delete file of a plan.
@@ -54,7 +54,7 @@ impl File {
 impl Held {
     /// Lends the line of a fault.
     pub fn lend_fault(&self, line: &mut Bytes) -> Result<(), Refusal>
-        ensures { Tells IsOfLength (fault_in self.now) line.old (status_of result) line.new }
+        ensures { Tells AreLent (fault_in self.now) line.old (status_of result) line.new }
     {
         match self {
             Held::Fault(text) => {
@@ -67,7 +67,7 @@ impl Held {
 
     /// Lends the path of the manifest list of what was selected.
     pub fn lend_list(&self, path: &mut Bytes) -> Result<(), Refusal>
-        ensures { Tells IsOfLength (list_in self.now) path.old (status_of result) path.new }
+        ensures { Tells AreLent (list_in self.now) path.old (status_of result) path.new }
     {
         match self {
             Held::Selection(answer) => {
@@ -93,7 +93,7 @@ impl Held {
 
     /// Lends the path of a manifest that a scan wants.
     pub fn lend_wanted(&self, i: usize, path: &mut Bytes) -> Result<(), Refusal>
-        ensures { Tells IsOfLength (path_of (at_place (wanted_in self.now) i)) path.old (status_of result)
+        ensures { Tells AreLent (path_of (at_place (wanted_in self.now) i)) path.old (status_of result)
             path.new }
     {
         match self {

@@ -5,14 +5,14 @@ use Rattle.std.proofs.lemmas.Bool.Decides.{nat_tests}
 use Rattle.icescan_progress.proofs.Plain.{nothing_plain}
 use Rattle.icescan_text.specs.declared.fault.RunFault.{RunFault}
 use Rattle.icescan_commands.specs.Runs.{Explained, Given, Left, RanWithHint, RanWithoutHint, Refused, Told, ToldWithHint}
-use Rattle.icescan_commands.specs.Runs.{Wrote, meant}
-use Rattle.icescan_words.specs.declared.command_line.Words.{Words}
+use Rattle.icescan_commands.specs.Runs.{meant}
+use Rattle.icescan_words.specs.declared.command.Command.{Command}
 
 -- a fault that is told without a hint
 pub plainly : (w : Type 0) (e e' : Option (List ℕ)) (fault : RunFault) → Told w e e' fault → ToldWithHint w e e' fault
 plainly w e e' fault told = record { between = e'; line = told; hint = nothing_plain e' }
 
-hinted : (given : Given) (asked : Result Words RunFault) (text : List ℕ) (left : Left) → Refused given asked text left
+hinted : (given : Given) (asked : Result Command RunFault) (text : List ℕ) (left : Left) → Refused given asked text left
     → Explained given asked text left
 hinted given asked text left r = record {
   fault = r.fault;
@@ -24,7 +24,7 @@ hinted given asked text left r = record {
   told = plainly given.tell_may_fail given.errors left.errors r.fault r.told;
 }
 
-or_hinted : {A : Type 0} (given : Given) (asked : Result Words RunFault) (text : List ℕ) (left : Left)
+or_hinted : {A : Type 0} (given : Given) (asked : Result Command RunFault) (text : List ℕ) (left : Left)
     → A ⊎ Refused given asked text left → A ⊎ Explained given asked text left
 or_hinted given asked text left (inl a) = inl a
 or_hinted given asked text left (inr r) = inr (hinted given asked text left r)

@@ -1,6 +1,6 @@
 -- What a command gives whose files were opened: those of a bundle, or those below a folder.
-use Rattle.std.proofs.Common.{◌≡◌, ◌≢◌, ◌⊎◌, ◌×◌, ℕ, List, [], ◌∷◌, Option, Some, None, refl, subst, sym, inl, inr}
-use Rattle.std.specs.Prelude.{Result, Ok, Err, IfErr, IfOk, IfSome, is_some, option_map}
+use Rattle.std.proofs.Common.{◌≡◌, ◌≢◌, ℕ, List, [], ◌∷◌, Option, Some, None, refl, subst, sym, inl, inr, ◌∙◌}
+use Rattle.std.specs.Prelude.{Result, Ok, Err, IfErr, IfOk, IfSome, option_map}
 use Rattle.contract_words.specs.Outcome.{◌>>=◌}
 use Rattle.ice_desk.specs.Worlds.{EndsAt}
 use Rattle.ice_state.specs.Contents.{World}
@@ -9,8 +9,8 @@ use Rattle.icescan_text.proofs.Steps.{never_fails}
 use Rattle.icescan_text.specs.Reads.{MayEnd}
 use Rattle.icescan_text.specs.declared.fault.RunFault.{RunFault}
 use Rattle.icescan_text.specs.declared.fault.RunFault.TheVariants as run
-use Rattle.icescan_words.specs.declared.command_line.Source.{Source}
-use Rattle.icescan_words.specs.declared.command_line.Source.TheVariants as source
+use Rattle.icescan_words.specs.declared.command.Source.{Source}
+use Rattle.icescan_words.specs.declared.command.Source.TheVariants as source
 use Rattle.icescan_commands.specs.Answers.{Answer, GivesAnswer}
 use Rattle.icescan_commands.specs.Runs.{MayRefuse, Ran}
 use Rattle.icescan_commands.specs.Sources.{AreOf, Below, Failing, IsNoBundle, MayFailBelow, failing_bundle, failing_over}

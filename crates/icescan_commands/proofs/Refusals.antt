@@ -1,7 +1,7 @@
 -- Why the program refuses its words and its input.
 use Rattle.std.proofs.Common.{◌≡◌, ◌≢◌, ℕ, ◌+◌, Bool, true, false, List, [], ◌∷◌, refl, sym, ap, subst, ◌∙◌, inl}
 use Rattle.std.proofs.Common.{inr, Option, Some, None, is_some}
-use Rattle.std.specs.Prelude.{Result, Ok, Err, IfErr, IfOk, IfSome, IsErrOf, OnOk, if◌then◌else◌}
+use Rattle.std.specs.Prelude.{Result, Ok, Err, IfErr, IfSome, OnOk, if◌then◌else◌}
 use Rattle.contract_words.specs.Outcome.{◌>>=◌}
 use Rattle.icescan_text.specs.declared.fault.RunFault.{RunFault}
 use Rattle.icescan_text.specs.declared.fault.RunFault.TheVariants as run
@@ -11,7 +11,7 @@ use Rattle.icescan_commands.specs.Runs.{MayRefuse, Ran, ended, list_in, list_pla
 use Rattle.icescan_commands.specs.Sources.{Below, Failing, failing_bundle, failing_unread}
 use Rattle.icescan_words.specs.CommandLines.{IsWordsFault}
 use Rattle.icescan_words.specs.declared.answer_format.Format.{Format}
-use Rattle.icescan_words.specs.declared.command_line.Lists.TheVariants as lists
+use Rattle.icescan_words.specs.declared.command.Lists.TheVariants as lists
 
 -- a bundle is refused for a line of it
 there : (n : ℕ) (b : Bool) (files : List File) (e : RunFault)

@@ -1,11 +1,9 @@
 -- Commits to tables in folders.
-use Rattle.std.proofs.Common.{◌≡◌, ◌⊎◌, ℕ, List, Option, Some, None, refl, inl, inr}
+use Rattle.std.proofs.Common.{◌≡◌, ℕ, List, Option, Some, None, refl, inl, inr}
 use Rattle.std.specs.Prelude.{Result, IfSome}
 use Rattle.ice_state.specs.Contents.{World}
 use Rattle.icescan_requests.specs.Bundles.{File}
-use Rattle.icescan_requests.specs.Commits.{Commitment, IsPut, MayEndCommit, MayNotPut, MayNotTell}
-use Rattle.icescan_requests.specs.Stores.{StopsAt}
-use Rattle.icescan_requests.specs.declared.store.StoreFault.TheVariants as store
+use Rattle.icescan_requests.specs.Commits.{Commitment, MayEndCommit, MayNotPut, MayNotTell}
 use Rattle.icescan_text.specs.declared.fault.RunFault.{RunFault}
 use Rattle.icescan_text.specs.declared.fault.RunFault.TheVariants as run
 

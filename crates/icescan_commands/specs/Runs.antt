@@ -31,12 +31,12 @@ use Rattle.ice_state.specs.Contents.{World}
 use Rattle.icescan_words.specs.CommandLines.{ReadAs}
 use Rattle.icescan_words.specs.declared.answer_format.Format.{Format}
 use Rattle.icescan_words.specs.declared.answer_format.Format.TheVariants as format
-use Rattle.icescan_words.specs.declared.command_line.Lists.{Lists}
-use Rattle.icescan_words.specs.declared.command_line.Lists.TheVariants as lists
-use Rattle.icescan_words.specs.declared.command_line.Source.{Source}
-use Rattle.icescan_words.specs.declared.command_line.Source.TheVariants as source
-use Rattle.icescan_words.specs.declared.command_line.Words.{Words}
-use Rattle.icescan_words.specs.declared.command_line.Words.TheVariants as words
+use Rattle.icescan_words.specs.declared.command.Lists.{Lists}
+use Rattle.icescan_words.specs.declared.command.Lists.TheVariants as lists
+use Rattle.icescan_words.specs.declared.command.Source.{Source}
+use Rattle.icescan_words.specs.declared.command.Source.TheVariants as source
+use Rattle.icescan_words.specs.declared.command.Command.{Command}
+use Rattle.icescan_words.specs.declared.command.Command.TheVariants as command
 use Rattle.icescan_text.specs.declared.fault.RunFault.{RunFault}
 use Rattle.icescan_text.specs.declared.fault.RunFault.TheVariants as run
 use Rattle.icescan_text.specs.declared.request.CommitRequest.{CommitRequest}
@@ -65,10 +65,8 @@ list_plan_in format.Json world list = as_json (typed_list_answer world list)
 -- the plan of a list, in a form: of a bundle that of the list that is asked for or of its first file, or the first fault
 -- of the bundle; of a folder that of the list at a path
 abbrev pub list_planned : Below → Lists → Format → List ℕ → Option (Result Answer RunFault)
-list_planned below (lists.Bundle list) form input = Some (do
-  files ← bundle_of input
-  path ← list_in files list
-  list_plan_in form (λ path. bytes_at files path) path)
+list_planned below (lists.Bundle list) form input = Some (bundle_of input >>= λ files.
+    list_in files list >>= λ path. list_plan_in form (λ path. bytes_at files path) path)
 list_planned below (lists.Folder place list) form input =
     option_map (λ world. list_plan_in form world list) (world_at below place)
 
@@ -104,18 +102,18 @@ commit_told (source.Folder place) request input = None
 
 -- What a command asks for, or the first fault, where its files are known: those of a bundle are what standard input
 -- had, those of a folder what the folder reports.
-abbrev pub answer_to : Below → Words → List ℕ → Option (Result Answer RunFault)
-answer_to below (words.ListPlan lists form) input = list_planned below lists form input
-answer_to below (words.Plan source request form workers path) input =
+abbrev pub answer_to : Below → Command → List ℕ → Option (Result Answer RunFault)
+answer_to below (command.ListPlan lists form) input = list_planned below lists form input
+answer_to below (command.Plan source request form workers path) input =
     over below source (λ world. plan_in form world path request workers) input
-answer_to below (words.Commit source request) input = commit_told source request input
-answer_to below (words.Show source path) input = over below source (λ world. show_in world path) input
-answer_to below (words.Audit source target workers path) input =
+answer_to below (command.Commit source request) input = commit_told source request input
+answer_to below (command.Show source path) input = over below source (λ world. show_in world path) input
+answer_to below (command.Audit source target workers path) input =
     over below source (λ world. audit_in world path target workers) input
-answer_to below (words.Explain source request workers path) input =
+answer_to below (command.Explain source request workers path) input =
     over below source (λ world. explain_in world path request workers) input
-answer_to below (words.Drill asked) input = None
-answer_to below (words.Text text) input = Some (Ok (plain text))
+answer_to below (command.Drill asked) input = None
+answer_to below (command.Text text) input = Some (Ok (plain text))
 
 -- what may fail of the plan of a list, beside its answer
 abbrev pub failing_list : Below → MayFailBelow → Lists → Type 0 → Failing
@@ -124,42 +122,42 @@ failing_list below may_fail (lists.Folder place list) write =
     failing_place below may_fail place (λ world. list_reads world list) write
 
 -- What may fail of a command, beside its answer: of one over a folder the paths stand here that it reads, in turn.
-abbrev pub failing_of : Below → MayFailBelow → Words → Type 0 → Failing
-failing_of below may_fail (words.ListPlan lists form) write = failing_list below may_fail lists write
-failing_of below may_fail (words.Plan source request form workers path) write =
+abbrev pub failing_of : Below → MayFailBelow → Command → Type 0 → Failing
+failing_of below may_fail (command.ListPlan lists form) write = failing_list below may_fail lists write
+failing_of below may_fail (command.Plan source request form workers path) write =
     failing_over below may_fail source (λ world. reads_at world path request) write
-failing_of below may_fail (words.Commit source request) write = failing_bundle write
-failing_of below may_fail (words.Show source path) write =
+failing_of below may_fail (command.Commit source request) write = failing_bundle write
+failing_of below may_fail (command.Show source path) write =
     failing_over below may_fail source (λ world. path ∷ []) write
-failing_of below may_fail (words.Audit source target workers path) write =
+failing_of below may_fail (command.Audit source target workers path) write =
     failing_over below may_fail source (λ world. audit_reads_at world path target) write
-failing_of below may_fail (words.Explain source request workers path) write =
+failing_of below may_fail (command.Explain source request workers path) write =
     failing_over below may_fail source (λ world. reads_at world path request) write
-failing_of below may_fail (words.Drill asked) write = failing_unread write
-failing_of below may_fail (words.Text text) write = failing_unread write
+failing_of below may_fail (command.Drill asked) write = failing_unread write
+failing_of below may_fail (command.Text text) write = failing_unread write
 
 -- a drill reads nothing; what it wrote is that of a table with all its commits
-abbrev pub IsOfDrill : Result Words RunFault → Option (List ℕ) → Option (List ℕ) → Type 0
-IsOfDrill (Ok (words.Drill asked)) output output' = WroteDrill asked output output'
+abbrev pub IsOfDrill : Result Command RunFault → Option (List ℕ) → Option (List ℕ) → Type 0
+IsOfDrill (Ok (command.Drill asked)) output output' = WroteDrill asked output output'
 IsOfDrill _ output output' = Unit {0}
 
-abbrev pub run_of : Below → Result Words RunFault → List ℕ → Option (Result Answer RunFault)
+abbrev pub run_of : Below → Result Command RunFault → List ℕ → Option (Result Answer RunFault)
 run_of below (Ok asked) input = answer_to below asked input
 run_of below (Err fault) input = Some (Err fault)
 
-abbrev pub failing_run : Below → MayFailBelow → Result Words RunFault → Type 0 → Failing
+abbrev pub failing_run : Below → MayFailBelow → Result Command RunFault → Type 0 → Failing
 failing_run below may_fail (Ok asked) write = failing_of below may_fail asked write
 failing_run below may_fail (Err fault) write = failing_unread write
 
 -- the number of findings that are faults of which a command tells: an audit of its own, where its files are known; any
 -- other of none
-abbrev pub IsCount : Below → Words → List ℕ → ℕ → Type 0
-IsCount below (words.Audit source target workers path) input count =
+abbrev pub IsCount : Below → Command → List ℕ → ℕ → Type 0
+IsCount below (command.Audit source target workers path) input count =
     IfSome (over below source (λ world. audit_at world path target workers) input)
     (λ (read : Result Audit RunFault). IfOk read (λ (audit : Audit). count ≡ length (faults audit.findings)))
 IsCount below _ input count = count ≡ 0
 
-abbrev pub IsCountOf : Below → Result Words RunFault → List ℕ → ℕ → Type 0
+abbrev pub IsCountOf : Below → Result Command RunFault → List ℕ → ℕ → Type 0
 IsCountOf below (Ok asked) input count = IsCount below asked input count
 IsCountOf below (Err fault) input count = count ≡ 0
 
@@ -168,7 +166,7 @@ abbrev pub status_of_count : ℕ → ℕ
 status_of_count count = if count == 0 then 0 else 1
 
 -- the status that the program ends with that wrote what the words ask for
-abbrev pub EndsWith : Below → Result Words RunFault → List ℕ → ℕ → Type 0
+abbrev pub EndsWith : Below → Result Command RunFault → List ℕ → ℕ → Type 0
 EndsWith below asked input status =
     (count : ℕ) × IsCountOf below asked input count × (status ≡ status_of_count count)
 
@@ -224,21 +222,21 @@ pub record Left : Type 0 where
   pub errors : Option (List ℕ)
 
 -- the answer of what the words ask for, where it is known
-abbrev pub known_of : Given → Result Words RunFault → List ℕ → Option (Result Answer RunFault)
+abbrev pub known_of : Given → Result Command RunFault → List ℕ → Option (Result Answer RunFault)
 known_of given asked text = run_of given.below asked text
 
 -- why the program ends with a fault, where its answer is known
-abbrev pub IsCause : Given → Result Words RunFault → List ℕ → RunFault → Type 0
+abbrev pub IsCause : Given → Result Command RunFault → List ℕ → RunFault → Type 0
 IsCause given asked text fault = IfSome (known_of given asked text)
     (λ read. MayRefuse read (failing_run given.below given.read_may_fail asked given.write_may_fail) fault)
 
 -- what became of the files of stores
-abbrev pub StoredAs : Given → Result Words RunFault → Result Unit RunFault → Left → Type 0
+abbrev pub StoredAs : Given → Result Command RunFault → Result Unit RunFault → Left → Type 0
 StoredAs given asked result left = IsStoredBy asked given.below given.read_may_fail given.stored given.put_may_fail
     given.write_may_fail result left.stored left.files given.output left.output
 
 -- the program ended without a fault: it wrote the answer to its output, and nothing else
-pub record Wrote (given : Given) (asked : Result Words RunFault) (text : List ℕ) (left : Left) : Type 0 where
+pub record Wrote (given : Given) (asked : Result Command RunFault) (text : List ℕ) (left : Left) : Type 0 where
   pub written : IfSome (known_of given asked text) (λ read. WroteAnswer read given.output left.output)
   pub silent : left.errors ≡ given.errors
   pub ends : EndsWith given.below asked text left.status
@@ -247,7 +245,7 @@ pub record Wrote (given : Given) (asked : Result Words RunFault) (text : List �
 
 -- The program ended with a fault: it told it, and wrote nothing else but after a failed write, and then a front of the
 -- answer.
-pub record Refused (given : Given) (asked : Result Words RunFault) (text : List ℕ) (left : Left) : Type 0 where
+pub record Refused (given : Given) (asked : Result Command RunFault) (text : List ℕ) (left : Left) : Type 0 where
   pub fault : RunFault
   pub cause : IsCause given asked text fault
   pub status_is : left.status ≡ status_of fault
@@ -272,7 +270,7 @@ pub record ToldWithHint (write_may_fail : Type 0) (errors errors' : Option (List
   pub hint : AppendsPlain between errors'
 
 -- the program ended with a fault, as in `Refused`, and told it with a hint
-pub record Explained (given : Given) (asked : Result Words RunFault) (text : List ℕ) (left : Left) : Type 0 where
+pub record Explained (given : Given) (asked : Result Command RunFault) (text : List ℕ) (left : Left) : Type 0 where
   pub fault : RunFault
   pub cause : IsCause given asked text fault
   pub status_is : left.status ≡ status_of fault
@@ -284,10 +282,10 @@ pub record Explained (given : Given) (asked : Result Words RunFault) (text : Lis
 
 -- what `run_words` says of a run by its words
 abbrev pub RanWithoutHint : Given → List (List ℕ) → Left → Type 0
-RanWithoutHint given texts left = (asked : Result Words RunFault) × ReadAs texts asked
+RanWithoutHint given texts left = (asked : Result Command RunFault) × ReadAs texts asked
     × (text : List ℕ) × IsInput given.input text × (Wrote given asked text left ⊎ Refused given asked text left)
 
 -- the same, but that a hint may stand after the line of a fault
 abbrev pub RanWithHint : Given → List (List ℕ) → Left → Type 0
-RanWithHint given texts left = (asked : Result Words RunFault) × ReadAs texts asked
+RanWithHint given texts left = (asked : Result Command RunFault) × ReadAs texts asked
     × (text : List ℕ) × IsInput given.input text × (Wrote given asked text left ⊎ Explained given asked text left)

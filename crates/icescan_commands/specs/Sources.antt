@@ -6,9 +6,9 @@ use Rattle.ice_desk.specs.Worlds.{EndsAt}
 use Rattle.ice_state.specs.Contents.{World}
 use Rattle.icescan_requests.specs.Bundles.{File, NoBundle, bundle_of, bytes_at}
 use Rattle.icescan_text.specs.declared.fault.RunFault.{RunFault}
-use Rattle.icescan_words.specs.declared.command_line.Place.{Place}
-use Rattle.icescan_words.specs.declared.command_line.Source.{Source}
-use Rattle.icescan_words.specs.declared.command_line.Source.TheVariants as source
+use Rattle.icescan_words.specs.declared.command.Place.{Place}
+use Rattle.icescan_words.specs.declared.command.Source.{Source}
+use Rattle.icescan_words.specs.declared.command.Source.TheVariants as source
 
 -- the files below each folder, by the prefix that it stands for, where they are reported
 abbrev pub Below : Type 0

@@ -5,9 +5,9 @@ use Rattle.icescan_requests.specs.Bundles.{File}
 use Rattle.icescan_requests.specs.Commits.{Commitment, IsLeft, Made, MayEndCommit, commitment}
 use Rattle.icescan_text.specs.declared.fault.RunFault.{RunFault}
 use Rattle.icescan_text.specs.declared.request.CommitRequest.{CommitRequest}
-use Rattle.icescan_words.specs.declared.command_line.Source.TheVariants as source
-use Rattle.icescan_words.specs.declared.command_line.Words.{Words}
-use Rattle.icescan_words.specs.declared.command_line.Words.TheVariants as words
+use Rattle.icescan_words.specs.declared.command.Source.TheVariants as source
+use Rattle.icescan_words.specs.declared.command.Command.{Command}
+use Rattle.icescan_words.specs.declared.command.Command.TheVariants as command
 use Rattle.icescan_commands.specs.Sources.{Below, MayFailBelow, world_at}
 
 -- the files that the store below each folder has, by the prefix that it stands for, where they are reported
@@ -32,18 +32,18 @@ pub record Commits (world : World) (read_may_fail : List ℕ → Type 0) (reques
 
 -- What a command does with stores, where the files that it reads are reported: a commit to a table in a folder puts its
 -- files below it; no other command puts a file.
-abbrev pub IsStored : Words → Below → MayFailBelow → Stored → MayFailToPut → Type 0 → Result Unit RunFault → Stored
+abbrev pub IsStored : Command → Below → MayFailBelow → Stored → MayFailToPut → Type 0 → Result Unit RunFault → Stored
     → Option (List File) → Option (List ℕ) → Option (List ℕ) → Type 0
-IsStored (words.Commit (source.Folder place) request) below may_fail stored put_may_fail write_may_fail result stored'
+IsStored (command.Commit (source.Folder place) request) below may_fail stored put_may_fail write_may_fail result stored'
     files' output output' = IfSome (world_at below place) (λ world. Commits world
     (may_fail place.folder place.prefix) request (put_may_fail place.folder place.prefix) write_may_fail result
     (stored place.folder place.prefix) files' output output')
-IsStored (words.Commit source.Bundle request) below may_fail stored put_may_fail write_may_fail result stored'
+IsStored (command.Commit source.Bundle request) below may_fail stored put_may_fail write_may_fail result stored'
     files' output output' = stored' ≡ stored
 IsStored _ below may_fail stored put_may_fail write_may_fail result stored' files' output output' = stored' ≡ stored
 
 -- the same of words that were read, or refused
-abbrev pub IsStoredBy : Result Words RunFault → Below → MayFailBelow → Stored → MayFailToPut → Type 0
+abbrev pub IsStoredBy : Result Command RunFault → Below → MayFailBelow → Stored → MayFailToPut → Type 0
     → Result Unit RunFault → Stored → Option (List File) → Option (List ℕ) → Option (List ℕ) → Type 0
 IsStoredBy (Ok asked) below may_fail stored put_may_fail write_may_fail result stored' files' output output' =
     IsStored asked below may_fail stored put_may_fail write_may_fail result stored' files' output output'

@@ -1,7 +1,6 @@
 //! The commands, each as one call over the files of its table.
 
-ghost use Rattle.std.specs.Prelude.{◌≡◌, ℕ, List, Option, Some, None, Ok, Err, IfOk, IfErr, OnOk, option_map, true};
-ghost use Rattle.icescan_audit.specs.Audits.{audit_at, audit_reads_at};
+ghost use Rattle.std.specs.Prelude.{◌≡◌, ℕ, List, Some, None, Ok, Err, IfOk, IfErr, OnOk, option_map, true};
 ghost use Rattle.icescan_commands.specs.Answers.{as_answer, plain};
 ghost use Rattle.icescan_commands.specs.Runs.{IsCount, Ran, answer_to, ended, failing_of, list_in};
 ghost use Rattle.icescan_commands.specs.Sources.{failing_bundle, failing_unread};
@@ -10,7 +9,7 @@ ghost use Rattle.icescan_drill.specs.Drills.{WroteDrill};
 ghost use Rattle.icescan_requests.specs.Bundles.{IsInput, bundle_of};
 ghost use Rattle.icescan_requests.specs.Commits.{committed_text};
 ghost use Rattle.icescan_text.specs.declared.fault.RunFault.{RunFault};
-ghost use Rattle.icescan_words.specs.declared.command_line.Words.{Words};
+ghost use Rattle.icescan_words.specs.declared.command.Command.{Command};
 
 use crate::commit_lines::commit_lines;
 use crate::forms::{write_list_plan, write_plan};
@@ -27,7 +26,7 @@ use icescan_requests::{
     Bundle, Folders, Stores, commit_to, prepare_commit, read_bundle, show_file,
 };
 use icescan_text::{CommitRequest, Drill, Request, RunFault};
-use icescan_words::{Format, Lists, Source};
+use icescan_words::{Command, Format, Lists, Source};
 use std::alloc::Global;
 use std::io::Read;
 use std::sync::Wait;
@@ -61,9 +60,9 @@ pub fn list_plan<H, S: Folders, P: Progress, R: Read, W: Sink>(
 ) -> Result<(), RunFault>
     requires { P.may_be_told system.now.progress.now ≡ true }
     ensures { (text : List ℕ) × IsInput (R.remaining input.old) text ×
-        Ran (answer_to (S.below system.now.folders.now) (Words.ListPlan lists.now format) text)
+        Ran (answer_to (S.below system.now.folders.now) (Command.ListPlan lists.now format) text)
         (failing_of (S.below system.now.folders.now) (S.may_fail system.now.folders.now)
-        (Words.ListPlan lists.now format) (W.may_fail output.old))
+        (Command.ListPlan lists.now format) (W.may_fail output.old))
         result (W.taken output.old) (W.taken output.new) }
 {
     match lists {
@@ -92,9 +91,9 @@ pub fn plan<H: Threads + Sync, S: Folders + Sync, P: Progress + Sync, R: Read, W
     requires { P.may_be_told system.now.progress.now ≡ true }
     ensures { (text : List ℕ) × IsInput (R.remaining input.old) text ×
         Ran (answer_to (S.below system.now.folders.now)
-        (Words.Plan table.source.now request.now format workers table.path.now) text)
+        (Command.Plan table.source.now request.now format workers table.path.now) text)
         (failing_of (S.below system.now.folders.now) (S.may_fail system.now.folders.now)
-        (Words.Plan table.source.now request.now format workers table.path.now) (W.may_fail output.old))
+        (Command.Plan table.source.now request.now format workers table.path.now) (W.may_fail output.old))
         result (W.taken output.old) (W.taken output.new) }
 {
     let files = open_files(system, table.source, input)?;
@@ -118,9 +117,9 @@ pub fn show<H, S: Folders, P: Progress, R: Read, W: Sink>(
 ) -> Result<(), RunFault>
     requires { P.may_be_told system.now.progress.now ≡ true }
     ensures { (text : List ℕ) × IsInput (R.remaining input.old) text ×
-        Ran (answer_to (S.below system.now.folders.now) (Words.Show table.source.now table.path.now) text)
+        Ran (answer_to (S.below system.now.folders.now) (Command.Show table.source.now table.path.now) text)
         (failing_of (S.below system.now.folders.now) (S.may_fail system.now.folders.now)
-        (Words.Show table.source.now table.path.now) (W.may_fail output.old))
+        (Command.Show table.source.now table.path.now) (W.may_fail output.old))
         result (W.taken output.old) (W.taken output.new) }
 {
     let files = open_files(system, table.source, input)?;
@@ -139,12 +138,12 @@ pub fn audit<H: Threads + Sync, S: Folders + Sync, P: Progress + Sync, R: Read, 
     requires { P.may_be_told system.now.progress.now ≡ true }
     ensures { (text : List ℕ) × IsInput (R.remaining input.old) text ×
         Ran (answer_to (S.below system.now.folders.now)
-        (Words.Audit table.source.now target.now workers table.path.now) text)
+        (Command.Audit table.source.now target.now workers table.path.now) text)
         (failing_of (S.below system.now.folders.now) (S.may_fail system.now.folders.now)
-        (Words.Audit table.source.now target.now workers table.path.now) (W.may_fail output.old))
+        (Command.Audit table.source.now target.now workers table.path.now) (W.may_fail output.old))
         (ended result) (W.taken output.old) (W.taken output.new)
         × IfOk result (IsCount (S.below system.now.folders.now)
-        (Words.Audit table.source.now target.now workers table.path.now) text) }
+        (Command.Audit table.source.now target.now workers table.path.now) text) }
 {
     let files = open_files(system, table.source, input)?;
     audit_file(
@@ -170,9 +169,9 @@ pub fn explain<H, S: Folders, P: Progress, R: Read, W: Sink>(
     requires { P.may_be_told system.now.progress.now ≡ true }
     ensures { (text : List ℕ) × IsInput (R.remaining input.old) text ×
         Ran (answer_to (S.below system.now.folders.now)
-        (Words.Explain table.source.now request.now workers table.path.now) text)
+        (Command.Explain table.source.now request.now workers table.path.now) text)
         (failing_of (S.below system.now.folders.now) (S.may_fail system.now.folders.now)
-        (Words.Explain table.source.now request.now workers table.path.now) (W.may_fail output.old))
+        (Command.Explain table.source.now request.now workers table.path.now) (W.may_fail output.old))
         result (W.taken output.old) (W.taken output.new) }
 {
     let files = open_files(system, table.source, input)?;
@@ -215,11 +214,11 @@ pub fn commit<H, S: Folders, P: Progress, K: Stores, R: Read, W: Sink>(
 ) -> Result<(), RunFault>
     requires { P.may_be_told system.now.progress.now ≡ true }
     ensures ran { (text : List ℕ) × IsInput (R.remaining input.old) text ×
-        Ran (answer_to (S.below system.now.folders.now) (Words.Commit source.now request.now) text)
+        Ran (answer_to (S.below system.now.folders.now) (Command.Commit source.now request.now) text)
         (failing_of (S.below system.now.folders.now) (S.may_fail system.now.folders.now)
-        (Words.Commit source.now request.now) (W.may_fail output.old))
+        (Command.Commit source.now request.now) (W.may_fail output.old))
         result (W.taken output.old) (W.taken output.new) }
-    ensures stored { IsStored (Words.Commit source.now request.now) (S.below system.now.folders.now)
+    ensures stored { IsStored (Command.Commit source.now request.now) (S.below system.now.folders.now)
         (S.may_fail system.now.folders.now) (K.below stores.old) (K.below_may_fail stores.old) (W.may_fail output.old)
         result (K.below stores.new) (K.files stores.new) (W.taken output.old) (W.taken output.new) }
 {

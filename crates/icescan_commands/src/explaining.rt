@@ -14,14 +14,14 @@ use icescan_print::Sink;
 use icescan_progress::{Progress, Silent, Terminals, shows_hints, shows_progress};
 use icescan_requests::{Below, Folders, Stores};
 use icescan_text::{RunFault, report};
-use icescan_words::{Words, parse_words};
+use icescan_words::{Command, parse_words};
 use std::alloc::{AllocError, Global};
 use std::io::Read;
 use std::sync::Wait;
 use std::thread::Threads;
 
 /// The files of what is asked for, where they are below a folder.
-fn folder_of<'a, S: Folders>(folders: &'a S, asked: &'a Words) -> Option<Below<'a, S>> {
+fn folder_of<'a, S: Folders>(folders: &'a S, asked: &'a Command) -> Option<Below<'a, S>> {
     let place = place_of(asked)?;
     Some(files_below(folders, place))
 }
@@ -30,7 +30,7 @@ fn folder_of<'a, S: Folders>(folders: &'a S, asked: &'a Words) -> Option<Below<'
 fn explain<S: Folders, E: Sink>(
     folders: &S,
     alloc: Global,
-    asked: &Words,
+    asked: &Command,
     fault: &RunFault,
     errors: &mut E,
 ) -> u8

@@ -15,12 +15,12 @@ pub use icescan_drill::{Drill, Watch, drill_table, run_drill};
 pub use icescan_json::{plan_file_json, run_list_plan_json};
 pub use icescan_progress::{Cleared, Progress, ProgressLine, Screen, Silent, Terminals};
 pub use icescan_requests::{
-    Bundle, CommitFolder, Folder, Folders, HostFolders, HostStores, Selection, Store, StoreFault,
-    Stores, commit_to, commits_are_put, file_name, fill_file, plan_file, plans_of_true_summaries,
-    prepare_commit, put_commit, put_files, read_all, run_list_plan, run_plan, run_plan_with,
-    run_show, select, show_file,
+    Bundle, CommitFolder, Disk, DiskFolder, Folder, Folders, HostFolders, HostStores, Selection,
+    Store, StoreFault, Stores, commit_to, commits_are_put, file_name, plan_file,
+    plans_of_true_summaries, prepare_commit, put_commit, put_files, read_all, run_list_plan,
+    run_plan, run_plan_with, run_show, select, show_file,
 };
 pub use icescan_text::{CommitRequest, Request};
-pub use icescan_words::{Format, Lists, Place, Source, Words, parse_words};
+pub use icescan_words::{Command, Format, Lists, Place, Source, parse_words};
 pub use system::System;
 pub use words::run_words;

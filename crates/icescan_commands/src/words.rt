@@ -6,7 +6,7 @@ ghost use Rattle.icescan_commands.specs.Runs.{IsCount, IsCountOf, IsOfDrill, Ran
 ghost use Rattle.icescan_commands.specs.Runs.{failing_of, failing_run, run_of, status_of_count};
 ghost use Rattle.icescan_commands.specs.Storing.{IsStored, IsStoredBy};
 ghost use Rattle.icescan_words.specs.CommandLines.{ReadAs};
-ghost use Rattle.icescan_words.specs.declared.command_line.Words.{Words};
+ghost use Rattle.icescan_words.specs.declared.command.Command.{Command};
 ghost use Rattle.icescan_text.specs.declared.fault.RunFault.{RunFault};
 
 use crate::arms::{TableAt, audit, commit, drill, explain, list_plan, plan, show, tell};
@@ -16,7 +16,7 @@ use icescan_print::Sink;
 use icescan_progress::Progress;
 use icescan_requests::{Folders, Stores};
 use icescan_text::{RunFault, report};
-use icescan_words::{Words, parse_words};
+use icescan_words::{Command, parse_words};
 use std::io::Read;
 use std::sync::Wait;
 use std::thread::Threads;
@@ -35,7 +35,7 @@ fn no_findings(answer: Result<(), RunFault>) -> Result<usize, RunFault>
 /// Writes what is asked for, and gives the number of faults of a table of which that tells.
 pub fn run_asked<H, S: Folders + Sync, P: Progress + Sync, K: Stores, R: Read, W: Sink>(
     system: &System<'_, H, S, P>,
-    asked: &Words,
+    asked: &Command,
     stores: &mut K,
     input: &mut R,
     output: &mut W,
@@ -54,23 +54,23 @@ where
         (ended result) (K.below stores.new) (K.files stores.new) (W.taken output.old) (W.taken output.new) }
 {
     match asked {
-        Words::ListPlan(lists, format) => {
+        Command::ListPlan(lists, format) => {
             no_findings(list_plan(system, lists, *format, input, output))
         }
-        Words::Plan(source, request, format, workers, path) => {
+        Command::Plan(source, request, format, workers, path) => {
             let table = TableAt { source, path };
             no_findings(plan(system, table, request, *format, *workers, input, output))
         }
-        Words::Commit(source, request) => {
+        Command::Commit(source, request) => {
             no_findings(commit(system, source, request, stores, input, output))
         }
-        Words::Show(source, path) => no_findings(show(
+        Command::Show(source, path) => no_findings(show(
             system,
             TableAt { source, path },
             input,
             output,
         )),
-        Words::Audit(source, target, workers, path) => {
+        Command::Audit(source, target, workers, path) => {
             audit(
                 system,
                 TableAt { source, path },
@@ -80,12 +80,12 @@ where
                 output,
             )
         }
-        Words::Explain(source, request, workers, path) => {
+        Command::Explain(source, request, workers, path) => {
             let table = TableAt { source, path };
             no_findings(explain(system, table, request, *workers, input, output))
         }
-        Words::Drill(asked) => no_findings(drill(system.host, system.alloc, *asked, output)),
-        Words::Text(text) => no_findings(tell(text, output)),
+        Command::Drill(asked) => no_findings(drill(system.host, system.alloc, *asked, output)),
+        Command::Text(text) => no_findings(tell(text, output)),
     }
 }
 
@@ -100,7 +100,7 @@ fn run<H, S: Folders + Sync, P: Progress + Sync, K: Stores, R: Read, W: Sink>(
 where
     H: Threads + Wait + Watch + Sync,
     requires { P.may_be_told system.now.progress.now ≡ true }
-    ensures { (asked : Result Words RunFault) × ReadAs (map string_bytes words.now) asked ×
+    ensures { (asked : Result Command RunFault) × ReadAs (map string_bytes words.now) asked ×
         OnOk result (IsOfDrill asked (W.taken output.old) (W.taken output.new)) ×
         IsStoredBy asked (S.below system.now.folders.now)
         (S.may_fail system.now.folders.now) (K.below stores.old) (K.below_may_fail stores.old) (W.may_fail output.old)

@@ -5,18 +5,18 @@ use ice_desk::Files;
 use ice_manifest_reading::Row;
 use ice_meta::{Metadata, Target};
 use icescan_text::{CommitRequest, Request, read_rows};
-use icescan_words::{Lists, Place, Source, Words};
+use icescan_words::{Command, Lists, Place, Source};
 use std::alloc::Global;
 
 /// The folder that the files of what is asked for are below.
-pub fn place_of(asked: &Words) -> Option<&Place> {
+pub fn place_of(asked: &Command) -> Option<&Place> {
     match asked {
-        Words::ListPlan(Lists::Folder(place, _), _) => Some(place),
-        Words::Plan(Source::Folder(place), _, _, _, _) => Some(place),
-        Words::Commit(Source::Folder(place), _) => Some(place),
-        Words::Show(Source::Folder(place), _) => Some(place),
-        Words::Audit(Source::Folder(place), _, _, _) => Some(place),
-        Words::Explain(Source::Folder(place), _, _, _) => Some(place),
+        Command::ListPlan(Lists::Folder(place, _), _) => Some(place),
+        Command::Plan(Source::Folder(place), _, _, _, _) => Some(place),
+        Command::Commit(Source::Folder(place), _) => Some(place),
+        Command::Show(Source::Folder(place), _) => Some(place),
+        Command::Audit(Source::Folder(place), _, _, _) => Some(place),
+        Command::Explain(Source::Folder(place), _, _, _) => Some(place),
         _ => None,
     }
 }
@@ -24,7 +24,7 @@ pub fn place_of(asked: &Words) -> Option<&Place> {
 /// What was asked for, and the files that it was asked of, where they can be read once more.
 #[derive(Drop)]
 pub struct Case<'a, F> {
-    pub asked: &'a Words,
+    pub asked: &'a Command,
     pub files: Option<&'a F>,
 }
 
@@ -37,11 +37,11 @@ impl<'a, F: Files> Case<'a, F> {
     /// The path of the table's metadata.
     pub fn metadata_path(&self) -> Option<&'a str> {
         match self.asked {
-            Words::Plan(_, _, _, _, path)
-            | Words::Show(_, path)
-            | Words::Audit(_, _, _, path)
-            | Words::Explain(_, _, _, path) => Some(path.as_str()),
-            Words::Commit(_, request) => Some(request.metadata.as_str()),
+            Command::Plan(_, _, _, _, path)
+            | Command::Show(_, path)
+            | Command::Audit(_, _, _, path)
+            | Command::Explain(_, _, _, path) => Some(path.as_str()),
+            Command::Commit(_, request) => Some(request.metadata.as_str()),
             _ => None,
         }
     }
@@ -49,7 +49,9 @@ impl<'a, F: Files> Case<'a, F> {
     /// The plan that is asked of the table.
     pub fn request(&self) -> Option<&'a Request> {
         match self.asked {
-            Words::Plan(_, request, _, _, _) | Words::Explain(_, request, _, _) => Some(request),
+            Command::Plan(_, request, _, _, _) | Command::Explain(_, request, _, _) => Some(
+                request,
+            ),
             _ => None,
         }
     }
@@ -57,10 +59,10 @@ impl<'a, F: Files> Case<'a, F> {
     /// The snapshot that is asked for.
     pub fn target(&self) -> Option<&'a Target> {
         match self.asked {
-            Words::Plan(_, request, _, _, _) | Words::Explain(_, request, _, _) => {
+            Command::Plan(_, request, _, _, _) | Command::Explain(_, request, _, _) => {
                 Some(&request.target)
             }
-            Words::Audit(_, target, _, _) => Some(target),
+            Command::Audit(_, target, _, _) => Some(target),
             _ => None,
         }
     }
@@ -68,7 +70,7 @@ impl<'a, F: Files> Case<'a, F> {
     /// The commit that is asked for.
     pub fn commit(&self) -> Option<&'a CommitRequest> {
         match self.asked {
-            Words::Commit(_, request) => Some(request),
+            Command::Commit(_, request) => Some(request),
             _ => None,
         }
     }

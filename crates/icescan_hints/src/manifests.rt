@@ -7,7 +7,7 @@ use contract_words::Text;
 use ice_desk::Files;
 use ice_manifest_reading::{EntryView, Keep, ListFault, Live, ManifestFault, Row, read_kept};
 use ice_meta::{Metadata, Spec, Target};
-use icescan_words::{Lists, Words};
+use icescan_words::{Command, Lists};
 use std::alloc::{AllocError, Global};
 use std::cell::Cell;
 
@@ -50,8 +50,8 @@ fn listed<'a>(metadata: &'a Option<Metadata>, target: &Target) -> Option<&'a str
 /// The manifest list that is read.
 fn list_of<'a, F: Files>(case: &Case<'a, F>, metadata: &'a Option<Metadata>) -> Option<&'a str> {
     match case.asked {
-        Words::ListPlan(Lists::Folder(_, list), _) => Some(list.as_str()),
-        Words::ListPlan(Lists::Bundle(list), _) => Some(list.as_ref()?.as_str()),
+        Command::ListPlan(Lists::Folder(_, list), _) => Some(list.as_str()),
+        Command::ListPlan(Lists::Bundle(list), _) => Some(list.as_ref()?.as_str()),
         _ => listed(metadata, case.target()?),
     }
 }

@@ -108,7 +108,7 @@ pub fn add_file_name(
         }
         None if path.starts_with(prefix) => hint.here(
             alloc,
-            format!(in alloc; "the path has a segment `..` behind the prefix")?,
+            format!(in alloc; "the path has a segment `.` or `..` behind the prefix")?,
         ),
         None => {
             let path = quoted(alloc, path)?;

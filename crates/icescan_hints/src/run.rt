@@ -25,7 +25,7 @@ earlier line has the path; or the bundle is empty",
 const ABSENT: Sentence = Sentence {
     name: "P2 Absent",
     wrong: "a file that the table names is not in the bundle, or not below the folder; or its path does not
-begin with the prefix, or has a segment `..` behind it",
+begin with the prefix, or has a segment `.` or `..` behind it",
     advice: Some(
         "look whether the prefix is that of the table's paths, and whether the file was deleted by an
 expiry; plan a newer snapshot",
@@ -34,8 +34,8 @@ expiry; plan a newer snapshot",
 
 const DEVICE: Sentence = Sentence {
     name: "P3 Device",
-    wrong: "the file may be there, and reading it failed: a folder, links in a circle, no right to read it,
-no end within 16,777,216 reads; `-` is standard input",
+    wrong: "the file may be there, and reading it failed: a folder, a pipe or a device, links in a circle, no
+right to read it, no end within 16,777,216 reads; `-` is standard input",
     advice: Some("look at its rights and at the disk; try again"),
 };
 

@@ -15,7 +15,7 @@ use ice_state::{FinishFault, ScanFault};
 use icescan_print::Sink;
 use icescan_progress::put_lines;
 use icescan_text::RunFault;
-use icescan_words::{Lists, Words};
+use icescan_words::{Command, Lists};
 use std::alloc::{AllocError, Global};
 
 /// Adds what of the words, the table and its files a fault is about.
@@ -66,7 +66,7 @@ fn add_bundle<F: Files>(
     case: &Case<'_, F>,
 ) -> Result<(), AllocError> {
     match case.asked {
-        Words::ListPlan(Lists::Bundle(None), _) => hint.here(
+        Command::ListPlan(Lists::Bundle(None), _) => hint.here(
             alloc,
             format!(in alloc;
                 "`list-plan --bundle`, and no word at all, read a bundle; `icescan --help` shows the commands"
@@ -83,9 +83,9 @@ fn add_workers<F: Files>(
     case: &Case<'_, F>,
 ) -> Result<(), AllocError> {
     match case.asked {
-        Words::Plan(_, _, _, workers, _)
-        | Words::Audit(_, _, workers, _)
-        | Words::Explain(_, _, workers, _) => {
+        Command::Plan(_, _, _, workers, _)
+        | Command::Audit(_, _, workers, _)
+        | Command::Explain(_, _, workers, _) => {
             hint.here(alloc, format!(in alloc; "`--workers` is {workers}")?)
         }
         _ => Ok(()),

@@ -5,6 +5,7 @@ pub mod Inputs
 pub mod Lines
 pub mod Listed
 pub mod Lookups
+pub mod Placed
 pub mod Plans
 pub mod Segments
 pub mod Shows

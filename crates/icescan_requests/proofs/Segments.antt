@@ -2,12 +2,10 @@
 use Rattle.std.proofs.Common.{◌≡◌, ◌≢◌, ℕ, ◌+◌, ◌<◌, ◌≤◌, ◌==◌, ◌||◌, Bool, true, false, List, [], ◌∷◌, length, take}
 use Rattle.std.proofs.Common.{drop, refl, sym, ap, ◌∙◌, Some, None, arith, position, not, cond, nat_lt, add-one}
 use Rattle.std.proofs.Common.{one-add}
-use Rattle.std.specs.Prelude.{codes}
-use Rattle.std.specs.List.{position_or_len}
-use Rattle.std.specs.Str.{bytes_eq}
+use Rattle.std.specs.List.{list_any, position_or_len}
 use borrow.Author.Tests.{eqb-true, ltb-true, ltb-false}
 use Rattle.icescan_requests.specs.Bundles.{before_line}
-use Rattle.icescan_requests.specs.Folders.{any_up, climbs, segments, without_slash}
+use Rattle.icescan_requests.specs.Folders.{has_dots, is_dots, segments, without_slash}
 
 abbrev is_slash : ℕ → Bool
 is_slash b = b == 47
@@ -61,27 +59,23 @@ segments_missing : (xs : List ℕ) → None ≡ position (λ b. b == 47) xs → 
 segments_missing xs h = one_segment xs (missing (position_or_len is_slash xs) (length xs)
     (nat_lt (position_or_len is_slash xs) (length xs)) refl h)
 
-pub climbs_found : (xs : List ℕ) (at : ℕ) → Some at ≡ position (λ b. b == 47) xs
-    → climbs xs ≡ (bytes_eq (take at xs) (codes "..") || climbs (drop (at + 1) xs))
-unfolding climbs
-climbs_found xs at h = ap any_up (segments_found xs at h)
+pub dots_found : (xs : List ℕ) (at : ℕ) → Some at ≡ position (λ b. b == 47) xs
+    → has_dots xs ≡ (is_dots (take at xs) || has_dots (drop (at + 1) xs))
+unfolding has_dots
+dots_found xs at h = ap (list_any is_dots) (segments_found xs at h)
 
 or_false : (b : Bool) → (b || false) ≡ b
 or_false true = refl
 or_false false = refl
 
-pub climbs_last : (xs : List ℕ) → None ≡ position (λ b. b == 47) xs → climbs xs ≡ bytes_eq xs (codes "..")
-unfolding climbs
-climbs_last xs h = ap any_up (segments_missing xs h) ∙ or_false (bytes_eq xs (codes ".."))
+pub dots_last : (xs : List ℕ) → None ≡ position (λ b. b == 47) xs → has_dots xs ≡ is_dots xs
+unfolding has_dots
+dots_last xs h = ap (list_any is_dots) (segments_missing xs h) ∙ or_false (is_dots xs)
 
--- the first segment is compared with a text that is `..`
-pub climbs_then : (xs : List ℕ) (at : ℕ) (up : List ℕ) (b : Bool) → up ≡ codes ".."
-    → Some at ≡ position (λ b. b == 47) xs → b ≡ bytes_eq (take at xs) up → climbs xs ≡ (b || climbs (drop (at + 1) xs))
-climbs_then xs at up b is h same = climbs_found xs at h ∙ rw (same, is) refl
-
-pub climbs_else : (xs up : List ℕ) (b : Bool) → up ≡ codes ".." → None ≡ position (λ b. b == 47) xs → b ≡ bytes_eq xs up
-    → b ≡ climbs xs
-climbs_else xs up b is h same = rw (same, is) (sym (climbs_last xs h))
+-- the first segment is looked at
+pub dots_then : (xs : List ℕ) (at : ℕ) (b : Bool) → Some at ≡ position (λ b. b == 47) xs → b ≡ is_dots (take at xs)
+    → has_dots xs ≡ (b || has_dots (drop (at + 1) xs))
+dots_then xs at b h same = dots_found xs at h ∙ ap (λ d. d || has_dots (drop (at + 1) xs)) (sym same)
 
 slash_or : (b : ℕ) (rest : List ℕ) (t : Bool) → (b == 47) ≡ t → ((more : List ℕ) → b ∷ rest ≢ 47 ∷ more)
     → cond t rest (b ∷ rest) ≡ b ∷ rest

@@ -1,5 +1,5 @@
 -- The files of a folder: which of a table's paths name one, by which name it is opened, and how a new one is put.
-use Rattle.std.specs.Prelude.{◌≡◌, ◌⊎◌, ℕ, Bool, false, ◌==◌, List, [], ◌∷◌, ◌++◌, codes, Option, Some, None}
+use Rattle.std.specs.Prelude.{◌≡◌, ◌⊎◌, ℕ, Bool, false, ◌==◌, ◌||◌, List, [], ◌∷◌, ◌++◌, codes, Option, Some, None}
 use Rattle.std.specs.Prelude.{Result, Ok, Err, if◌then◌else◌}
 use Rattle.std.specs.Fmt.{decimal}
 use Rattle.std.specs.List.{list_any}
@@ -16,23 +16,23 @@ abbrev pub segments : List ℕ → List (List ℕ)
 segments [] = [] ∷ []
 segments (b ∷ bs) = if b == 47 then [] ∷ segments bs else before_line b (segments bs)
 
--- whether one of these leads out of a folder
-abbrev pub any_up : List (List ℕ) → Bool
-any_up parts = list_any (λ part. bytes_eq part (codes "..")) parts
+-- whether a segment is `.` or `..`, which name a folder and the one above it
+abbrev pub is_dots : List ℕ → Bool
+is_dots segment = bytes_eq segment (codes ".") || bytes_eq segment (codes "..")
 
-unfoldable pub climbs : List ℕ → Bool
-climbs path = any_up (segments path)
+unfoldable pub has_dots : List ℕ → Bool
+has_dots path = list_any is_dots (segments path)
 
 abbrev pub without_slash : List ℕ → List ℕ
 without_slash [] = []
 without_slash (b ∷ rest) = if b == 47 then rest else b ∷ rest
 
--- A path is inside: it begins with the prefix, and no part of what stands behind it is `..`. The rest is that, without
--- a slash at its front.
+-- A path is inside: it begins with the prefix, and no segment of what stands behind it is `.` or `..`. The rest is that,
+-- without a slash at its front.
 pub record Inside (prefix path rest : List ℕ) : Type 0 where
   pub behind : List ℕ
   pub begins : path ≡ prefix ++ behind
-  pub stays : climbs behind ≡ false
+  pub stays : has_dots behind ≡ false
   pub rest_is : rest ≡ without_slash behind
 
 -- the name that a path's file has in a folder; a path that is not inside has none

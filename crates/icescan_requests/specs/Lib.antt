@@ -1,5 +1,6 @@
 pub mod Bundles
 pub mod Commits
+pub mod Disks
 pub mod Folders
 pub mod ListPlans
 pub mod Plans

@@ -1,22 +1,26 @@
 //! Files below a folder, by the paths that a table gives them.
 
-ghost use Rattle.std.specs.Prelude.{◌≡◌, ◌≢◌, ◌++◌, ◌∷◌, ℕ, List, Option, Some, option_map, string_bytes, IfOk, IfErr};
+ghost use Rattle.std.specs.Prelude.{◌≡◌, ◌≢◌, ◌↔◌, ◌++◌, ◌∷◌, ℕ, List, Option, Some, option_map, string_bytes, IfOk, IfErr, IsOk};
 ghost use Rattle.std.specs.Prelude.{MatchOption};
-ghost use Rattle.icescan_requests.specs.Folders.{Inside, IsNamed, climbs};
+ghost use Rattle.std.specs.Fs.{IsFile, file_type};
+ghost use Rattle.std.specs.IoError.{error_kind};
+ghost use Rattle.icescan_requests.specs.Folders.{Inside, IsNamed, has_dots, is_dots};
 
+mod disk;
 mod placing;
 
 use crate::bundle::find_byte;
 use crate::input::{MOST_READS, read_all_into};
+pub use disk::{Disk, HostDisk};
 use ice_desk::{Files, ReadFault};
-pub use placing::{CommitFolder, fill_file};
+pub use placing::{CommitFolder, DiskFolder};
 use std::alloc::{AllocError, Global};
-use std::fs;
+use std::fs::{self, Metadata};
 use std::io::{self, ErrorKind};
 
 /// Files below a folder. A path that begins with the prefix is the file that its rest names below the folder; any other
-/// path, and one with a segment `..` behind the prefix, is absent, and nothing is opened. What lies below a folder may
-/// change from one read to the next, so it tells no world.
+/// path, and one with a segment `.` or `..` behind the prefix, is absent, and nothing is opened. What is no regular file
+/// is not opened either. What lies below a folder may change from one read to the next, so it tells no world.
 #[derive(Drop)]
 pub struct Folder<'a, H> {
     host: &'a H,
@@ -37,18 +41,25 @@ impl<'a, H: std::rt::Files> Folder<'a, H> {
     }
 }
 
-/// Whether a segment of a path is `..`.
-fn climbs(path: &[u8]) -> bool
-    ensures { result ≡ climbs path.now }
+/// Whether a segment is `.` or `..`.
+fn is_dots(segment: &[u8]) -> bool
+    ensures { result ≡ is_dots segment.now }
+{
+    segment == b".".as_slice() || segment == b"..".as_slice()
+}
+
+/// Whether a segment of a path is `.` or `..`.
+fn has_dots(path: &[u8]) -> bool
+    ensures { result ≡ has_dots path.now }
 {
     let mut left = path;
     'left: while let Some(at) = find_byte(left, b'/') {
-        if &left[..at] == b"..".as_slice() {
+        if is_dots(&left[..at]) {
             return true;
         }
         left = &left[at + 1..];
     }
-    left == b"..".as_slice()
+    is_dots(left)
 }
 
 /// What stands behind the prefix in a path, without a slash at its front; none where the path is not inside.
@@ -57,7 +68,7 @@ fn rest_of<'a>(prefix: &str, path: &'a str) -> Option<&'a str>
         (λ rest. Inside prefix.now path.now rest.now) }
 {
     let behind = path.strip_prefix(prefix)?;
-    if climbs(behind.as_bytes()) {
+    if has_dots(behind.as_bytes()) {
         return None;
     }
     match behind.strip_prefix('/') {
@@ -67,7 +78,7 @@ fn rest_of<'a>(prefix: &str, path: &'a str) -> Option<&'a str>
 }
 
 /// The name by which the file at a path is opened. A path that does not begin with the prefix, or that has a segment
-/// `..` behind it, has none.
+/// `.` or `..` behind it, has none.
 pub fn file_name(
     alloc: Global,
     folder: &str,
@@ -85,12 +96,39 @@ pub fn file_name(
     Ok(Some(name))
 }
 
-/// Why a file was not opened.
-fn open_fault(e: &io::Error) -> ReadFault {
+/// Why a file was not opened. Only one that the system says is not found is absent.
+fn open_fault(e: &io::Error) -> ReadFault
+    ensures absent { (result ≡ ReadFault.Absent) ↔ (error_kind e.now ≡ ErrorKind.NotFound) }
+    ensures memory { (result ≡ ReadFault.Memory) ↔ (error_kind e.now ≡ ErrorKind.OutOfMemory) }
+{
     match e.kind() {
         ErrorKind::NotFound => ReadFault::Absent,
         ErrorKind::OutOfMemory => ReadFault::Memory,
         _ => ReadFault::Device,
+    }
+}
+
+/// Refuses what is no regular file.
+fn need_regular(found: &Metadata) -> Result<(), ReadFault>
+    ensures regular { IsOk result ↔ IsFile (file_type found.now) }
+    ensures device { IfErr result (λ fault. fault ≡ ReadFault.Device) }
+{
+    if found.is_file() {
+        Ok(())
+    } else {
+        Err(ReadFault::Device)
+    }
+}
+
+/// Opens a regular file. What is none is not opened: a pipe, say, would wait for its writer.
+fn open_regular<H: std::rt::Files>(host: &H, name: &str) -> Result<H::File, ReadFault> {
+    match fs::metadata(host, name) {
+        Ok(found) => need_regular(&found)?,
+        Err(e) => return Err(open_fault(&e)),
+    }
+    match fs::open(host, name) {
+        Ok(file) => Ok(file),
+        Err(e) => Err(open_fault(&e)),
     }
 }
 
@@ -114,9 +152,7 @@ impl<H: std::rt::Files> Files for Folder<'_, H> {
         let Some(name) = name else {
             return Err(ReadFault::Absent);
         };
-        match fs::open(self.host, name.as_str()) {
-            Ok(mut file) => read_all_into(alloc, &mut file, MOST_READS, bytes),
-            Err(e) => Err(open_fault(&e)),
-        }
+        let mut file = open_regular(self.host, name.as_str())?;
+        read_all_into(alloc, &mut file, MOST_READS, bytes)
     }
 }

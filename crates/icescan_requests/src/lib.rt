@@ -24,7 +24,7 @@ pub use bundle::Bundle;
 pub use bundle_text::read_bundle;
 pub use committing::{commit_to, commits_are_put, prepare_commit, put_commit};
 pub use copies::copied_spec;
-pub use folder::{CommitFolder, Folder, file_name, fill_file};
+pub use folder::{CommitFolder, Disk, DiskFolder, Folder, HostDisk, file_name};
 pub use folders::{Below, Folders, HostFolders, HostStores, Stores};
 pub use input::{MOST_READS, read_all};
 pub use list_plans::{plan_list, run_list_plan};

@@ -1,7 +1,7 @@
 //! Files and folders that are refused while a commit puts its files.
 
 use ice_catalog_versions::Ids;
-use icescan_requests::{CommitFolder, Folder, Store, StoreFault, fill_file};
+use icescan_requests::{CommitFolder, Folder, Store, StoreFault};
 use std::alloc::Allocator;
 use std::cell::Cell;
 use std::fs::{self, Metadata, OpenFile, OpenOptions};
@@ -74,10 +74,12 @@ impl OpenFile for Refusing<'_> {
     }
 }
 
-/// A host whose one folder refuses to be opened, to be synced or to link a file, with what is known of a new file and
-/// of the one at its place. It counts the names that it has.
+/// A host whose new files refuse to be written or kept, and whose one folder refuses to be opened, to be synced or to
+/// link a file, with what is known of a new file and of the one at its place. It counts the names that it has.
 #[derive(Drop)]
 struct Host<'a> {
+    written: Option<ErrorKind>,
+    kept: Option<ErrorKind>,
     opened: Option<ErrorKind>,
     synced: Option<ErrorKind>,
     linked: Option<ErrorKind>,
@@ -92,17 +94,19 @@ impl<'a> Files for Host<'a> {
     type Dir = Refusing<'a>;
 
     fn open_file(&self, how: &OpenOptions, _path: &str) -> io::Result<Refusing<'a>> {
-        let (kept, known) = if how.asks_create_new() {
+        if how.asks_create_new() {
             self.names.set(self.names.get().saturating_add(1));
-            (None, self.known)
-        } else {
-            answer(self.opened)?;
-            (self.synced, None)
-        };
+            return Ok(Refusing {
+                written: self.written,
+                kept: self.kept,
+                known: self.known,
+            });
+        }
+        answer(self.opened)?;
         Ok(Refusing {
             written: None,
-            kept,
-            known,
+            kept: self.synced,
+            known: None,
         })
     }
 
@@ -150,22 +154,6 @@ impl<'a> Files for Host<'a> {
     }
 }
 
-#[test]
-fn files_that_refuse(rt: HostRuntime) {
-    let (full, broken) = (Some(ErrorKind::StorageFull), Some(ErrorKind::Other));
-    for (written, kept) in [(None, None), (full, None), (None, broken), (full, broken)] {
-        let filled = fill_file(
-            &mut Refusing {
-                written,
-                kept,
-                known: None,
-            },
-            b"bytes",
-        );
-        assert_eq!(rt; filled.err().map(|e| e.kind()), written.or(kept));
-    }
-}
-
 /// How a file is put in the folder of a host, and how many names the host has then.
 fn puts(rt: &HostRuntime, host: &Host<'_>) -> (Result<(), StoreFault>, u32) {
     let ids = Ids {
@@ -176,6 +164,34 @@ fn puts(rt: &HostRuntime, host: &Host<'_>) -> (Result<(), StoreFault>, u32) {
     let mut folder = CommitFolder::new(Folder::new(host, "table", "mem://t"), &ids);
     let put = folder.create_new(rt.alloc(), "mem://t/metadata/m", b"bytes");
     (put, host.names.get())
+}
+
+/// A host that refuses nothing, and knows no file.
+fn host<'a>() -> Host<'a> {
+    Host {
+        written: None,
+        kept: None,
+        opened: None,
+        synced: None,
+        linked: None,
+        known: None,
+        found: None,
+        names: Cell::new(0),
+    }
+}
+
+/// A file that is not whole, or may not last, gets no name, whatever the system says of it.
+#[test]
+fn files_that_refuse(rt: HostRuntime) {
+    let (full, broken) = (Some(ErrorKind::StorageFull), Some(ErrorKind::AlreadyExists));
+    for (written, kept) in [(full, None), (None, broken), (broken, full)] {
+        let host = Host {
+            written,
+            kept,
+            ..host()
+        };
+        assert_eq!(rt; puts(&rt, &host), (Err(StoreFault::Failed), 0));
+    }
 }
 
 /// A folder that can't be synced refuses a file, which stays, unless there is no such sync.
@@ -194,10 +210,7 @@ fn folders_that_refuse(rt: HostRuntime) {
         let host = Host {
             opened,
             synced,
-            linked: None,
-            known: None,
-            found: None,
-            names: Cell::new(0),
+            ..host()
         };
         assert_eq!(rt; puts(&rt, &host), (wanted, 1));
     }
@@ -217,12 +230,10 @@ fn links_that_refuse(rt: HostRuntime) -> io::Result<()> {
         (Some(&untold), Some(&untold), there),
     ] {
         let host = Host {
-            opened: None,
-            synced: None,
             linked: Some(ErrorKind::AlreadyExists),
             known,
             found,
-            names: Cell::new(0),
+            ..host()
         };
         assert_eq!(rt; puts(&rt, &host), (wanted, 0));
     }

@@ -1,10 +1,11 @@
 -- What the words of a command line are read as.
-use Rattle.std.specs.Prelude.{◌≡◌, ◌⊎◌, ℕ, Bool, true, false, ◌&&◌, List, [], ◌∷◌, codes, None, Result, Ok, IfErr}
+use Rattle.std.specs.Prelude.{◌≡◌, ◌⊎◌, ℕ, Bool, true, false, ◌&&◌, List, [], ◌∷◌, codes, None, Result, Ok, IfErr, IfOk}
 use Rattle.std.specs.Str.{bytes_eq}
+use Rattle.icescan_words.specs.Heard.{AsksFor}
 use Rattle.icescan_words.specs.declared.answer_format.Format.TheVariants as format
-use Rattle.icescan_words.specs.declared.command_line.Lists.TheVariants as lists
-use Rattle.icescan_words.specs.declared.command_line.Words.{Words}
-use Rattle.icescan_words.specs.declared.command_line.Words.TheVariants as words
+use Rattle.icescan_words.specs.declared.command.Lists.TheVariants as lists
+use Rattle.icescan_words.specs.declared.command.Command.{Command}
+use Rattle.icescan_words.specs.declared.command.Command.TheVariants as command
 use Rattle.icescan_text.specs.declared.fault.RunFault.{RunFault}
 use Rattle.icescan_text.specs.declared.fault.RunFault.TheVariants as run
 
@@ -15,14 +16,15 @@ asks_first_list (command ∷ []) = false
 asks_first_list (command ∷ way ∷ []) = bytes_eq command (codes "list-plan") && bytes_eq way (codes "--bundle")
 asks_first_list (command ∷ way ∷ word ∷ words) = false
 
-abbrev pub first_list : Words
-first_list = words.ListPlan (lists.Bundle None) format.Text
+abbrev pub first_list : Command
+first_list = command.ListPlan (lists.Bundle None) format.Text
 
 -- why words are refused
 abbrev pub IsWordsFault : RunFault → Type 0
 IsWordsFault fault = (fault ≡ run.Memory) ⊎ ((text : List ℕ) × (fault ≡ run.Words text))
 
--- what the words were read as: any of the program's commands, or a refusal of the words
-pub record ReadAs (texts : List (List ℕ)) (asked : Result Words RunFault) : Type 0 where
+-- what the words were read as: the command that they ask for, or a refusal of the words
+pub record ReadAs (texts : List (List ℕ)) (asked : Result Command RunFault) : Type 0 where
   pub first : asks_first_list texts ≡ true → asked ≡ Ok first_list
+  pub heard : asks_first_list texts ≡ false → IfOk asked (AsksFor texts)
   pub causes : IfErr asked IsWordsFault

@@ -1,11 +1,14 @@
 //! The form in which a plan is printed.
 
+ghost use Rattle.std.specs.Prelude.{◌≡◌, option_map};
+ghost use Rattle.icescan_words.specs.Heard.{format_by};
+
 use clap::builder::ValueParser;
-use clap::{Arg, ArgMatches, Command};
+use clap::{Arg, Command};
 use std::alloc::{AllocError, Global};
 
 /// The form in which a plan is printed.
-#[derive(Clone, Copy, Debug)]
+#[derive(Clone, Copy, Debug, PartialEq, Eq)]
 pub enum Format {
     /// Lines of text.
     Text,
@@ -25,9 +28,11 @@ pub fn with_format<'a>(alloc: Global, command: Command<'a>) -> Result<Command<'a
     command.arg(format)
 }
 
-/// The form that is asked for.
-pub fn format_of(matches: &ArgMatches<'_>) -> Format {
-    match matches.get_str("format") {
+/// The form that the value of `--format` names.
+pub fn format_by(value: Option<&str>) -> Format
+    ensures { result ≡ format_by (option_map (λ s. s.now) value.entry) }
+{
+    match value {
         Some("json") => Format::Json,
         _ => Format::Text,
     }

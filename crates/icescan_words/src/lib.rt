@@ -1,9 +1,15 @@
-//! The words on the command line, and what they ask for.
+//! The words on the command line, and the command that they ask for.
 #![tactic(auto)]
 
 mod answer_format;
+mod command;
 mod command_line;
 mod explain_command;
+mod heard;
+mod help_texts;
+mod matches;
+mod parsing;
 
 pub use answer_format::Format;
-pub use command_line::{Lists, Place, Source, Words, parse_words};
+pub use command::{Command, Lists, Place, Source};
+pub use parsing::parse_words;

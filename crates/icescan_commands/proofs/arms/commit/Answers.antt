@@ -4,7 +4,7 @@ use Rattle.std.proofs.lemmas.Result.{err_from_is_err_and}
 use Rattle.icescan_requests.specs.Commits.{committed_text}
 use Rattle.icescan_commands.specs.Answers.{as_answer}
 use Rattle.icescan_commands.specs.Sources.{failing_bundle}
-use Rattle.icescan_words.specs.declared.command_line.Source.TheVariants as source
+use Rattle.icescan_words.specs.declared.command.Source.TheVariants as source
 use Rattle.icescan_commands.proofs.Committed.{no_files}
 use Rattle.icescan_commands.proofs.Refusals.{is_left, left_of, no_bundle_ran, untold_ran}
 use Rattle.icescan_commands.proofs.Stored.{ends_commit, if_told}

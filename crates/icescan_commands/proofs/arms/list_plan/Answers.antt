@@ -7,7 +7,7 @@ use Rattle.icescan_requests.specs.ListPlans.{list_reads}
 use Rattle.icescan_text.proofs.Steps.{never_fails}
 use Rattle.icescan_commands.specs.Runs.{Ran, list_plan_in}
 use Rattle.icescan_commands.specs.Sources.{failing_bundle}
-use Rattle.icescan_words.specs.declared.command_line.Lists.TheVariants as lists
+use Rattle.icescan_words.specs.declared.command.Lists.TheVariants as lists
 use Rattle.icescan_commands.proofs.Opened.{folder_ran, gives_ran}
 use Rattle.icescan_commands.proofs.Refusals.{is_left, left_of, list_ran, no_bundle_ran, no_plan, plan_from}
 use Rattle.icescan_commands.proofs.arms.list_plan.Goals as goal

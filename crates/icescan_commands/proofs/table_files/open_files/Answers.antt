@@ -1,5 +1,5 @@
 use Rattle.std.proofs.Common.{◌≡◌, refl, rules}
-use Rattle.icescan_words.specs.declared.command_line.Source.TheVariants as source
+use Rattle.icescan_words.specs.declared.command.Source.TheVariants as source
 use Rattle.icescan_commands.proofs.Refusals.{is_left, left_of}
 use Rattle.icescan_commands.proofs.table_files.open_files.Goals as goal
 

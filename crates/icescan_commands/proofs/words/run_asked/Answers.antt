@@ -1,11 +1,11 @@
 use Rattle.std.proofs.Common.{rules, ◌≡◌}
-use Rattle.icescan_words.specs.declared.command_line.Words.TheVariants as words
+use Rattle.icescan_words.specs.declared.command.Command.TheVariants as command
 use Rattle.icescan_commands.proofs.Refusals.{is_left, left_of, on_ok_as, ran_as}
 use Rattle.icescan_commands.proofs.words.run_asked.Goals as goal
 
 pub returns-in-ListPlan-clause-ran : goal.returns-in-ListPlan-clause-ran
 returns-in-ListPlan-clause-ran g c =
-    let asked : c.args.asked.now ≡ words.ListPlan c.in-ListPlan.lists c.in-ListPlan.format = search rules in
+    let asked : c.args.asked.now ≡ command.ListPlan c.in-ListPlan.lists c.in-ListPlan.format = search rules in
     let told = c.list_plan.ensures in
     rw asked (
       told.0,
@@ -17,7 +17,7 @@ returns-in-ListPlan-clause-ran g c =
 
 pub returns-in-Plan-clause-ran : goal.returns-in-Plan-clause-ran
 returns-in-Plan-clause-ran g c =
-    let asked : c.args.asked.now ≡ words.Plan c.in-Plan.source c.in-Plan.request c.in-Plan.format c.in-Plan.workers
+    let asked : c.args.asked.now ≡ command.Plan c.in-Plan.source c.in-Plan.request c.in-Plan.format c.in-Plan.workers
     c.in-Plan.path = search rules in
     let told = c.plan.ensures in
     rw asked (
@@ -30,7 +30,7 @@ returns-in-Plan-clause-ran g c =
 
 pub returns-in-Commit-clause-ran : goal.returns-in-Commit-clause-ran
 returns-in-Commit-clause-ran g c =
-    let asked : c.args.asked.now ≡ words.Commit c.in-Commit.source c.in-Commit.request = search rules in
+    let asked : c.args.asked.now ≡ command.Commit c.in-Commit.source c.in-Commit.request = search rules in
     let told = c.commit.ensures in
     rw asked (
       told.0,
@@ -42,7 +42,7 @@ returns-in-Commit-clause-ran g c =
 
 pub returns-in-Show-clause-ran : goal.returns-in-Show-clause-ran
 returns-in-Show-clause-ran g c =
-    let asked : c.args.asked.now ≡ words.Show c.in-Show.source c.in-Show.path = search rules in
+    let asked : c.args.asked.now ≡ command.Show c.in-Show.source c.in-Show.path = search rules in
     let told = c.show.ensures in
     rw asked (
       told.0,
@@ -54,7 +54,7 @@ returns-in-Show-clause-ran g c =
 
 pub returns-in-Explain-clause-ran : goal.returns-in-Explain-clause-ran
 returns-in-Explain-clause-ran g c =
-    let asked : c.args.asked.now ≡ words.Explain c.in-Explain.source c.in-Explain.request c.in-Explain.workers
+    let asked : c.args.asked.now ≡ command.Explain c.in-Explain.source c.in-Explain.request c.in-Explain.workers
     c.in-Explain.path = search rules in
     let told = c.explain.ensures in
     rw asked (
@@ -68,7 +68,7 @@ returns-in-Explain-clause-ran g c =
 pub returns-in-Drill-clause-ran : goal.returns-in-Drill-clause-ran
 returns-in-Drill-clause-ran g c =
     let left = g.R.Read.remaining c.args.input.now in
-    let asked : c.args.asked.now ≡ words.Drill c.in-Drill.asked = search rules in
+    let asked : c.args.asked.now ≡ command.Drill c.in-Drill.asked = search rules in
     let none = c.no_findings-in-Drill in
     rw asked (
       left_of left,
@@ -80,14 +80,14 @@ returns-in-Drill-clause-ran g c =
 
 pub returns-in-Drill-clause-drilled : goal.returns-in-Drill-clause-drilled
 returns-in-Drill-clause-drilled g c =
-    let asked : c.args.asked.now ≡ words.Drill c.in-Drill.asked = search rules in
+    let asked : c.args.asked.now ≡ command.Drill c.in-Drill.asked = search rules in
     let none = c.no_findings-in-Drill in
     rw asked (on_ok_as _ c.drill.result none.result none.ensures.same c.drill.ensures.drilled)
 
 pub returns-in-Text-clause-ran : goal.returns-in-Text-clause-ran
 returns-in-Text-clause-ran g c =
     let left = g.R.Read.remaining c.args.input.now in
-    let asked : c.args.asked.now ≡ words.Text c.in-Text.text = search rules in
+    let asked : c.args.asked.now ≡ command.Text c.in-Text.text = search rules in
     let none = c.no_findings-in-Text in
     rw asked (
       left_of left,

@@ -1,6 +1,6 @@
 use Rattle.std.proofs.Common.{rules, sym, arith, ◌≡◌, ◌++◌, false, None}
 use Rattle.std.proofs.lemmas.Str.Pattern.{strip_prefix_char}
-use Rattle.icescan_requests.specs.Folders.{climbs}
+use Rattle.icescan_requests.specs.Folders.{has_dots}
 use Rattle.icescan_requests.proofs.Segments.{no_slash}
 use Rattle.icescan_requests.proofs.folder.rest_of.Goals as goal
 
@@ -8,7 +8,7 @@ pub returns-in-None : goal.returns-in-None
 returns-in-None c =
     let behind = c.in_ok-behind.behind.now in
     let begins : c.args.path.now ≡ c.args.prefix.now ++ behind = search rules in
-    let stays : climbs behind ≡ false = search rules in
+    let stays : has_dots behind ≡ false = search rules in
     record {
       behind = behind;
       begins = begins;

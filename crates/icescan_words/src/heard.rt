@@ -1,0 +1,356 @@
+//! Whether a command is the one that the words ask for, found without the parser.
+
+ghost use Rattle.std.specs.Prelude.{◌≡◌, ◌∷◌, [], IfOk, IsTrue, None, Some, codes, if◌then◌else◌, map, nat_eq};
+ghost use Rattle.std.specs.Prelude.{option_and_then, option_map, string_bytes};
+ghost use Rattle.std.specs.List.{after_first, before_first, list_any, starts_with};
+ghost use Rattle.uuid.specs.Text.{parsed};
+ghost use Rattle.icescan_words.specs.Heard.{AsksFor, HasCommit, HasDrill, HasFormat, HasIds, HasRequest, HasSource};
+ghost use Rattle.icescan_words.specs.Heard.{HasTarget, HasWorkers, asks_help, is_equals, list_of, name_of, option_in};
+ghost use Rattle.icescan_words.specs.Heard.{option_items, plain_words, signed, source_of, takes_next, unsigned};
+ghost use Rattle.icescan_words.specs.declared.command.Source.TheVariants as source;
+
+use crate::answer_format::{Format, format_by};
+use crate::command::{Command, Lists, Place, Source};
+use contract_words::Text;
+use ice_catalog_versions::Ids;
+use ice_meta::Target;
+use icescan_text::{ChangeKind, CommitRequest, Drill, Request};
+use std::alloc::{AllocError, Global};
+use uuid::Uuid;
+
+/// What stands before the first `=` of a word, and what stands after it if there is one.
+fn parts_of(word: &str) -> (&str, Option<&str>)
+    ensures front { result.0.now ≡ before_first is_equals word.now }
+    ensures value { option_map (λ s. s.now) result.1
+        ≡ (if list_any is_equals word.now then Some (after_first is_equals word.now) else None) }
+{
+    match word.split_once('=') {
+        Some((front, value)) => (front, Some(value)),
+        None => (word, None),
+    }
+}
+
+/// The value that the words give the option of this name.
+fn option_in<'a>(words: &'a [String], name: &str) -> Option<&'a str>
+    ensures { option_map (λ s. s.now) result ≡ option_in (map string_bytes words.now) name.now }
+{
+    for i in 0..words.len() {
+        let word = words[i].as_str();
+        if word == "--" {
+            return None;
+        }
+        let (front, value) = parts_of(word);
+        if front == name {
+            return match value {
+                Some(_) => value,
+                None => words.get(i + 1).map(String::as_str),
+            };
+        }
+    }
+    None
+}
+
+/// Whether the word after this option is its value.
+fn takes_next(word: &str) -> bool
+    ensures { result ≡ takes_next word.now }
+{
+    let (_, value) = parts_of(word);
+    !(value.is_some() || word == "--bundle" || word == "--quiet" || word == "--explain")
+}
+
+/// Whether a word begins with two hyphens, as an option does.
+fn is_option(word: &str) -> bool
+    ensures { result ≡ starts_with nat_eq word.now (codes "--") }
+{
+    word.starts_with("--")
+}
+
+/// The words that are no options and no values of options.
+fn plain_words<'a>(alloc: Global, words: &'a [String]) -> Result<Vec<&'a str>, AllocError>
+    ensures { IfOk result (λ plain. map (λ s. s.now) plain.items ≡ plain_words (map string_bytes words.now)) }
+{
+    let mut plain = Vec::new(alloc);
+    let mut is_value = false;
+    let mut is_path = false;
+    for word in words {
+        let word = word.as_str();
+        if is_path {
+            plain.push(word)?;
+        } else if is_value {
+            is_value = false;
+        } else if word == "--" {
+            is_path = true;
+        } else if is_option(word) {
+            is_value = takes_next(word);
+        } else {
+            plain.push(word)?;
+        }
+    }
+    Ok(plain)
+}
+
+/// Whether a word asks for help or for the version.
+fn asks_help(word: &str) -> bool
+    ensures { result ≡ asks_help word.now }
+{
+    word == "help"
+        || word == "--help"
+        || word == "--version"
+        || word.starts_with("-h")
+        || word.starts_with("-V")
+}
+
+/// Whether one of the words asks for help or for the version.
+fn any_asks_help(words: &[String]) -> bool
+    ensures { result ≡ list_any asks_help (map string_bytes words.now) }
+{
+    for word in words {
+        if asks_help(word.as_str()) {
+            return true;
+        }
+    }
+    false
+}
+
+/// Whether a value is this text.
+fn is_text(value: Option<&str>, text: &str) -> bool
+    ensures { IsTrue result → option_map (λ s. s.now) value.entry ≡ Some text.now }
+{
+    match value {
+        Some(word) => word == text,
+        None => false,
+    }
+}
+
+/// Whether a value writes this number.
+fn is_signed(value: Option<&str>, number: i64) -> bool
+    ensures { IsTrue result → signed (option_map (λ s. s.now) value.entry) ≡ Some number }
+{
+    let Some(text) = value else {
+        return false;
+    };
+    match text.parse::<i64>() {
+        Ok(read) => read == number,
+        Err(_) => false,
+    }
+}
+
+/// Whether a value writes this number.
+fn is_unsigned(value: Option<&str>, number: u64) -> bool
+    ensures { IsTrue result → unsigned (option_map (λ s. s.now) value.entry) ≡ Some number }
+{
+    let Some(text) = value else {
+        return false;
+    };
+    match text.parse::<u64>() {
+        Ok(read) => read == number,
+        Err(_) => false,
+    }
+}
+
+/// Whether a value is the text of this UUID.
+fn is_uuid(value: Option<&str>, uuid: &Uuid) -> bool
+    ensures { IsTrue result → option_and_then parsed (option_map (λ s. s.now) value.entry) ≡ Some uuid.now }
+{
+    let Some(text) = value else {
+        return false;
+    };
+    match Uuid::parse_str(text) {
+        Ok(read) => read == *uuid,
+        Err(_) => false,
+    }
+}
+
+/// Whether the plain words are these.
+fn are_words(plain: &[&str], wanted: &[&str]) -> bool
+    ensures { IsTrue result → map (λ s. s.now) plain.now ≡ map (λ s. s.now) wanted.now }
+{
+    plain == wanted
+}
+
+/// Whether the words name no folder.
+fn is_bundle(words: &[String]) -> bool
+    ensures { IsTrue result → HasSource (map string_bytes words.now) source.Bundle }
+{
+    option_in(words, "--dir").is_none() || option_in(words, "--prefix").is_none()
+}
+
+/// Whether the words name this folder.
+fn is_place(words: &[String], place: &Place) -> bool
+    ensures { IsTrue result → HasSource (map string_bytes words.now) (source.Folder place.now) }
+{
+    is_text(option_in(words, "--dir"), place.folder.as_str())
+        && is_text(option_in(words, "--prefix"), place.prefix.as_str())
+}
+
+/// Whether the words say that the files are there.
+fn has_source(words: &[String], source: &Source) -> bool
+    ensures { IsTrue result → HasSource (map string_bytes words.now) source.now }
+{
+    match source {
+        Source::Bundle => is_bundle(words),
+        Source::Folder(place) => is_place(words, place),
+    }
+}
+
+/// Whether the words name this snapshot.
+fn has_target(words: &[String], target: &Target) -> bool
+    ensures { IsTrue result → HasTarget (map string_bytes words.now) target.now }
+{
+    let name = option_in(words, "--ref");
+    let id = option_in(words, "--snapshot");
+    match target {
+        Target::Main => name.is_none() && id.is_none(),
+        Target::Ref(wanted) => is_text(name, wanted.as_str()),
+        Target::Snapshot(wanted) => name.is_none() && is_signed(id, *wanted),
+    }
+}
+
+/// Whether the words have this filter, or none.
+fn has_filter(words: &[String], filter: Option<&Text>) -> bool
+    ensures { IsTrue result
+        → option_in (map string_bytes words.now) (codes "--filter") ≡ option_map (λ t. t.now) filter.entry }
+{
+    let value = option_in(words, "--filter");
+    match filter {
+        Some(wanted) => is_text(value, wanted.as_str()),
+        None => value.is_none(),
+    }
+}
+
+/// Whether the words ask this of a table.
+fn has_request(words: &[String], request: &Request) -> bool
+    ensures { IsTrue result → HasRequest (map string_bytes words.now) request.now }
+{
+    has_filter(words, request.filter.as_ref()) && has_target(words, &request.target)
+}
+
+/// Whether the words name this form.
+fn has_format(words: &[String], format: Format) -> bool
+    ensures { IsTrue result → HasFormat (map string_bytes words.now) format }
+{
+    format == format_by(option_in(words, "--format"))
+}
+
+/// Whether the words ask for so many workers.
+fn has_workers(words: &[String], workers: usize) -> bool
+    ensures { IsTrue result → HasWorkers (map string_bytes words.now) workers }
+{
+    let value = option_in(words, "--workers");
+    if value.is_none() {
+        workers == 1
+    } else {
+        is_unsigned(value, workers as u64)
+    }
+}
+
+/// Whether the plain words are the name of a commit's command and its two paths.
+fn has_paths(plain: &[&str], request: &CommitRequest) -> bool
+    ensures { IsTrue result → map (λ s. s.now) plain.now
+        ≡ name_of request.now.kind ∷ request.now.metadata ∷ request.now.change ∷ [] }
+{
+    let metadata = request.metadata.as_str();
+    let change = request.change.as_str();
+    match request.kind {
+        ChangeKind::Append => are_words(plain, &["append", metadata, change]),
+        ChangeKind::RowDelta => are_words(plain, &["row-delta", metadata, change]),
+    }
+}
+
+/// Whether the words give a commit these names and this time.
+fn has_ids(words: &[String], ids: &Ids) -> bool
+    ensures { IsTrue result → HasIds (map string_bytes words.now) ids.now }
+{
+    is_signed(option_in(words, "--snapshot-id"), ids.snapshot)
+        && is_uuid(option_in(words, "--uuid"), &ids.uuid)
+        && is_signed(option_in(words, "--now-ms"), ids.now_ms)
+}
+
+/// Whether the words ask for this commit.
+fn has_commit(words: &[String], plain: &[&str], request: &CommitRequest) -> bool
+    requires { map (λ s. s.now) plain.now ≡ plain_words (map string_bytes words.now) }
+    ensures { IsTrue result → HasCommit (map string_bytes words.now) request.now }
+{
+    has_paths(plain, request)
+        && has_ids(words, &request.ids)
+        && is_text(option_in(words, "--out"), request.out.as_str())
+}
+
+/// Whether the words ask for this drill.
+fn has_drill(words: &[String], plain: &[&str], drill: Drill) -> bool
+    requires { map (λ s. s.now) plain.now ≡ plain_words (map string_bytes words.now) }
+    ensures { IsTrue result → HasDrill (map string_bytes words.now) drill }
+{
+    are_words(plain, &["drill"])
+        && is_unsigned(option_in(words, "--threads"), drill.threads())
+        && is_unsigned(option_in(words, "--commits"), drill.commits())
+}
+
+/// Whether the plain words are `list-plan` and the path of this list, if it has one.
+fn names_list(plain: &[&str], lists: &Lists) -> bool
+    ensures { IsTrue result → map (λ s. s.now) plain.now ≡ codes "list-plan" ∷ option_items (list_of lists.now) }
+{
+    match lists {
+        Lists::Bundle(None) => are_words(plain, &["list-plan"]),
+        Lists::Bundle(Some(list)) | Lists::Folder(_, list) => {
+            are_words(plain, &["list-plan", list.as_str()])
+        }
+    }
+}
+
+/// Whether the words say that the manifest list is there.
+fn has_lists(words: &[String], lists: &Lists) -> bool
+    ensures { IsTrue result → HasSource (map string_bytes words.now) (source_of lists.now) }
+{
+    match lists {
+        Lists::Bundle(_) => is_bundle(words),
+        Lists::Folder(place, _) => is_place(words, place),
+    }
+}
+
+/// Whether the words, of which the plain ones are given, ask for this command.
+fn asks_with(words: &[String], plain: &[&str], command: &Command) -> bool
+    requires { map (λ s. s.now) plain.now ≡ plain_words (map string_bytes words.now) }
+    ensures { IsTrue result → AsksFor (map string_bytes words.now) command.now }
+{
+    match command {
+        Command::ListPlan(lists, format) => {
+            names_list(plain, lists) && has_lists(words, lists) && has_format(words, *format)
+        }
+        Command::Plan(source, request, format, workers, path) => {
+            are_words(plain, &["plan", path.as_str()])
+                && has_source(words, source)
+                && has_request(words, request)
+                && has_format(words, *format)
+                && has_workers(words, *workers)
+        }
+        Command::Commit(source, request) => {
+            has_commit(words, plain, request) && has_source(words, source)
+        }
+        Command::Show(source, path) => {
+            are_words(plain, &["show", path.as_str()]) && has_source(words, source)
+        }
+        Command::Audit(source, target, workers, path) => {
+            are_words(plain, &["audit", path.as_str()])
+                && has_source(words, source)
+                && has_target(words, target)
+                && has_workers(words, *workers)
+        }
+        Command::Explain(source, request, workers, path) => {
+            are_words(plain, &["explain", path.as_str()])
+                && has_source(words, source)
+                && has_request(words, request)
+                && has_workers(words, *workers)
+        }
+        Command::Drill(drill) => has_drill(words, plain, *drill),
+        Command::Text(_) => any_asks_help(words),
+    }
+}
+
+/// Whether the words ask for this command.
+pub fn asks_for(alloc: Global, words: &[String], command: &Command) -> Result<bool, AllocError>
+    ensures { IfOk result (λ asked. IsTrue asked → AsksFor (map string_bytes words.now) command.now) }
+{
+    let plain = plain_words(alloc, words)?;
+    Ok(asks_with(words, &plain, command))
+}
