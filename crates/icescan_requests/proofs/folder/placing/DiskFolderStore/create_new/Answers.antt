@@ -17,8 +17,9 @@ returns-in-Ok-Some-clause-unplaced g c =
     let end = g.D.Disk.events c.place_new.new.disk in
     let own = IsAsideOf ids name in
     let names = names_below folder prefix ids in
+    let found = rw c.in-Ok-Some.field-0-is at c.in-Ok-Some.ensures in
     let named : IsNamed folder prefix path (Some name) =
-    subst (λ n. IsNamed folder prefix path (Some n)) (sym c.as_str.ensures.value) c.in-Ok-Some.ensures in
+    subst (λ n. IsNamed folder prefix path (Some n)) (sym c.as_str.ensures.value) found in
     let all : (fault : StoreFault) → Extends before end (NotPlaced own name bytes fault)
     → Extends before end (NotPlacedAt names path bytes fault) =
     λ fault h. extends_as before end (NotPlaced own name bytes fault) (NotPlacedAt names path bytes fault) h
