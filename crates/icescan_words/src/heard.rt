@@ -5,8 +5,8 @@ ghost use Rattle.std.specs.Prelude.{option_and_then, option_map, string_bytes};
 ghost use Rattle.std.specs.List.{after_first, before_first, list_any, starts_with};
 ghost use Rattle.uuid.specs.Text.{parsed};
 ghost use Rattle.icescan_words.specs.Heard.{AsksFor, HasCommit, HasDrill, HasFormat, HasIds, HasRequest, HasSource};
-ghost use Rattle.icescan_words.specs.Heard.{HasTarget, HasWorkers, Names, asks_help, is_equals, list_of, name_of, option_in};
-ghost use Rattle.icescan_words.specs.Heard.{option_items, plain_words, signed, source_of, takes_next, unsigned};
+ghost use Rattle.icescan_words.specs.Heard.{HasTarget, HasWorkers, Names, asks_help, is_equals, list_of, name_of};
+ghost use Rattle.icescan_words.specs.Heard.{option_in, option_items, plain_words, signed, source_of, takes_next, unsigned};
 ghost use Rattle.icescan_words.specs.declared.command.Source.TheVariants as source;
 
 use crate::answer_format::{Format, format_by};
