@@ -4,7 +4,7 @@ use Rattle.std.proofs.lemmas.Result.{err_from_is_err_and}
 use Rattle.icescan_requests.proofs.Crews.{few_wanted, not_planned}
 use Rattle.icescan_requests.proofs.Plans.{no_scan, plan_there}
 use Rattle.icescan_text.proofs.Steps.{each_present}
-use Rattle.icescan_text.proofs.Workers.{in_range}
+use Rattle.icescan_text.proofs.Enough.{in_range}
 use Rattle.icescan_requests.proofs.planning.plan_rows_by_workers.Goals as goal
 
 pub returns-in_err-scan-clause-refused : goal.returns-in_err-scan-clause-refused

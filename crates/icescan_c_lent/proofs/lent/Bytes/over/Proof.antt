@@ -1,7 +1,6 @@
 -- `over` takes a slice apart: where it begins, how long it is, and what it lends. Assumes `Logic`.
-use Rattle.std.proofs.Common.{ℕ, ◌<◌, ◌^◌, List, [], ◌∷◌, length, refl, w64}
+use Rattle.std.proofs.Common.{ℕ, ◌<◌, ◌^◌, [], ◌∷◌, length, refl}
 use mir.Syntax.{named}
-use mir.Val.{vint}
 use base.Logic.{id⊢}
 use base.Fml.{Lft, ftrue, flft}
 use types.Kit.{‵, ◌⊛◌, ◌$◌, ◌∵◌, !, qed, move, keep, drop, use1, split, join, fsplit, fjoin, feq_i, fpack, suffices, frame, done}
