@@ -1,6 +1,6 @@
 -- The steps of an explanation, what it tells, and why each step may end it.
 use Rattle.std.proofs.Common.{◌≡◌, ◌⊎◌, inl, inr, ℕ, ◌<◌, ◌≤◌, List, [], ◌∷◌, refl, sym, subst, ◌∙◌}
-use Rattle.std.specs.Prelude.{Result, Ok, Err}
+use Rattle.std.specs.Prelude.{Result, Ok}
 use Rattle.contract_words.specs.Outcome.{◌>>=◌}
 use Rattle.ice_desk.specs.Worlds.{EndsAt}
 use Rattle.icescan_explain.specs.Asking.{ice_filter_tests}
