@@ -1,8 +1,9 @@
 #!/usr/bin/env python3
-"""try_folder.py PROGRAM: runs `PROGRAM list-plan` over real folders, and over words, and says what was not as it should be.
+"""try_folder.py PROGRAM: runs `PROGRAM list-plan` over real folders, and over words, and says what was not as it should
+be.
 
-The folders have segments `.` and `..`, links in a circle, links to files, a folder, a pipe and a socket in a file's place,
-a device at the end of a link, a file that may not be read, and one below a folder that may not be entered; the table of
+The folders have segments `.` and `..`, links in a circle, links to files, a folder, a pipe and a socket in a file's
+place, a device at the end of a link, a file that may not be read, and one below a folder that may not be entered; the table of
 `examples/plain-java` is planned as well, and compared with its expected plan. A run that waits for a pipe has failed.
 """
 import os
