@@ -31,7 +31,7 @@ returns-in-Plan-clause-ran g c =
 pub returns-in-Commit-clause-ran : goal.returns-in-Commit-clause-ran
 returns-in-Commit-clause-ran g c =
     let asked : c.args.asked.now ≡ command.Commit c.in-Commit.source c.in-Commit.request = search rules in
-    let told = c.commit.ensures in
+    let told = c.commit.ensures.ran in
     rw asked (
       told.0,
       told.1,
