@@ -104,4 +104,4 @@ returns-clause-text g c =
 pub returns-clause-selection : goal.returns-clause-selection
 returns-clause-selection g c =
     let read = c.in_ok-planned.ensures.selection in
-    on_ok_weaker c.write_plan_by_workers.result (λ _. (read.0, read.2, read.3)) c.write_plan_by_workers.ensures.all
+    on_ok_weaker c.write_plan_by_workers.result (λ _. (read.0, read.2.0, read.2.1)) c.write_plan_by_workers.ensures.all
