@@ -51,20 +51,34 @@ module _ (request : CommitRequest) (text : List ℕ) where
     commit_refuses w run.Memory h = any_cause known (failing_bundle w)
     commit_refuses w run.Write h = absurd h
     commit_refuses w (run.Device path) h = absurd h
-    commit_refuses w run.Input h = cause_of known (failing_bundle w) run.Input (refused_commit run.Input h) (inl tt)
-    commit_refuses w (run.Words t) h = cause_of known (failing_bundle w) (run.Words t) (refused_commit (run.Words t) h) refl
-    commit_refuses w (run.Bundle n) h = cause_of known (failing_bundle w) (run.Bundle n) (refused_commit (run.Bundle n) h) refl
-    commit_refuses w (run.Absent path) h = cause_of known (failing_bundle w) (run.Absent path) (refused_commit (run.Absent path) h) refl
-    commit_refuses w (run.List f) h = cause_of known (failing_bundle w) (run.List f) (refused_commit (run.List f) h) refl
-    commit_refuses w (run.Scan f) h = cause_of known (failing_bundle w) (run.Scan f) (refused_commit (run.Scan f) h) refl
-    commit_refuses w (run.Finish f) h = cause_of known (failing_bundle w) (run.Finish f) (refused_commit (run.Finish f) h) refl
-    commit_refuses w (run.Metadata f) h = cause_of known (failing_bundle w) (run.Metadata f) (refused_commit (run.Metadata f) h) refl
-    commit_refuses w (run.Filter f) h = cause_of known (failing_bundle w) (run.Filter f) (refused_commit (run.Filter f) h) refl
-    commit_refuses w (run.Drill f) h = cause_of known (failing_bundle w) (run.Drill f) (refused_commit (run.Drill f) h) refl
-    commit_refuses w (run.Change f) h = cause_of known (failing_bundle w) (run.Change f) (refused_commit (run.Change f) h) refl
-    commit_refuses w (run.Prepare f) h = cause_of known (failing_bundle w) (run.Prepare f) (refused_commit (run.Prepare f) h) refl
-    commit_refuses w (run.Conflict path) h = cause_of known (failing_bundle w) (run.Conflict path) (refused_commit (run.Conflict path) h) refl
-    commit_refuses w run.Workers h = cause_of known (failing_bundle w) run.Workers (refused_commit run.Workers h) refl
+    commit_refuses w run.Input h =
+        cause_of known (failing_bundle w) run.Input (refused_commit run.Input h) (inl tt)
+    commit_refuses w (run.Words t) h =
+        cause_of known (failing_bundle w) (run.Words t) (refused_commit (run.Words t) h) refl
+    commit_refuses w (run.Bundle n) h =
+        cause_of known (failing_bundle w) (run.Bundle n) (refused_commit (run.Bundle n) h) refl
+    commit_refuses w (run.Absent path) h =
+        cause_of known (failing_bundle w) (run.Absent path) (refused_commit (run.Absent path) h) refl
+    commit_refuses w (run.List f) h =
+        cause_of known (failing_bundle w) (run.List f) (refused_commit (run.List f) h) refl
+    commit_refuses w (run.Scan f) h =
+        cause_of known (failing_bundle w) (run.Scan f) (refused_commit (run.Scan f) h) refl
+    commit_refuses w (run.Finish f) h =
+        cause_of known (failing_bundle w) (run.Finish f) (refused_commit (run.Finish f) h) refl
+    commit_refuses w (run.Metadata f) h =
+        cause_of known (failing_bundle w) (run.Metadata f) (refused_commit (run.Metadata f) h) refl
+    commit_refuses w (run.Filter f) h =
+        cause_of known (failing_bundle w) (run.Filter f) (refused_commit (run.Filter f) h) refl
+    commit_refuses w (run.Drill f) h =
+        cause_of known (failing_bundle w) (run.Drill f) (refused_commit (run.Drill f) h) refl
+    commit_refuses w (run.Change f) h =
+        cause_of known (failing_bundle w) (run.Change f) (refused_commit (run.Change f) h) refl
+    commit_refuses w (run.Prepare f) h =
+        cause_of known (failing_bundle w) (run.Prepare f) (refused_commit (run.Prepare f) h) refl
+    commit_refuses w (run.Conflict path) h =
+        cause_of known (failing_bundle w) (run.Conflict path) (refused_commit (run.Conflict path) h) refl
+    commit_refuses w run.Workers h =
+        cause_of known (failing_bundle w) run.Workers (refused_commit run.Workers h) refl
 
     pub commit_ran : (w : Type 0) (o : Option (List ℕ)) (e : RunFault) → MayEnd read (λ path. ⊥) ⊥ e
         → Ran known (failing_bundle w) (Err e) o o
@@ -105,7 +119,8 @@ module _ (request : CommitRequest) (text : List ℕ) where
       wrote None o o' h all = tt
       wrote (Some r) o o' h all = (plain lines, h, lines, refl, all)
 
-      pub wrote_ran : (w : Type 0) (o o' : Option (List ℕ)) → Appends o o' lines → Ran known (failing_bundle w) (Ok tt) o o'
+      pub wrote_ran : (w : Type 0) (o o' : Option (List ℕ)) → Appends o o' lines
+          → Ran known (failing_bundle w) (Ok tt) o o'
       wrote_ran w o o' all = record {
         written = wrote known o o' text_is all;
         refused = tt;

@@ -4,8 +4,8 @@ use Rattle.std.specs.Prelude.{◌==◌, Result}
 use Rattle.std.proofs.lemmas.Bool.Decides.{nat_tests}
 use Rattle.icescan_progress.proofs.Plain.{nothing_plain}
 use Rattle.icescan_text.specs.declared.fault.RunFault.{RunFault}
-use Rattle.icescan_commands.specs.Runs.{Explained, Given, Left, RanWithHint, RanWithoutHint, Refused, Told, ToldWithHint}
-use Rattle.icescan_commands.specs.Runs.{meant}
+use Rattle.icescan_commands.specs.Runs.{Explained, Given, Left, RanWithHint, RanWithoutHint, Refused, Told}
+use Rattle.icescan_commands.specs.Runs.{ToldWithHint, meant}
 use Rattle.icescan_words.specs.declared.command.Command.{Command}
 
 -- a fault that is told without a hint

@@ -13,8 +13,8 @@ use Rattle.icescan_words.specs.declared.command.Source.{Source}
 use Rattle.icescan_words.specs.declared.command.Source.TheVariants as source
 use Rattle.icescan_commands.specs.Answers.{Answer, GivesAnswer}
 use Rattle.icescan_commands.specs.Runs.{MayRefuse, Ran}
-use Rattle.icescan_commands.specs.Sources.{AreOf, Below, Failing, IsNoBundle, MayFailBelow, failing_bundle, failing_over}
-use Rattle.icescan_commands.specs.Sources.{over, world_at}
+use Rattle.icescan_commands.specs.Sources.{AreOf, Below, Failing, IsNoBundle, MayFailBelow, failing_bundle}
+use Rattle.icescan_commands.specs.Sources.{failing_over, over, world_at}
 use Rattle.icescan_commands.proofs.Refusals.{no_bundle_ran, untold_ran}
 
 -- why a call ends, as why a run does
@@ -71,7 +71,8 @@ module _ (known : Option World) (world : Option World) (is : world ≡ known) wh
       write = w;
     }
 
-    by_known : (k : Option World) → ((v : World) → k ≡ Some v → GivesAnswer (asked v) (EndsAt v at (reads v)) w result o o')
+    by_known : (k : Option World)
+        → ((v : World) → k ≡ Some v → GivesAnswer (asked v) (EndsAt v at (reads v)) w result o o')
         → IfErr result (λ fault. fault ≢ run.Write → o' ≡ o)
         → Ran (option_map asked k) (failing_known k) result o o'
     by_known None gives nothing = untold_ran (failing_known None) result o o' nothing

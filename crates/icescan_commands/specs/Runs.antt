@@ -62,8 +62,8 @@ abbrev pub list_plan_in : Format → World → List ℕ → Result Answer RunFau
 list_plan_in format.Text world list = as_answer (as_text (list_answer world list))
 list_plan_in format.Json world list = as_json (typed_list_answer world list)
 
--- the plan of a list, in a form: of a bundle that of the list that is asked for or of its first file, or the first fault
--- of the bundle; of a folder that of the list at a path
+-- the plan of a list, in a form: of a bundle that of the list that is asked for or of its first file, or the first
+-- fault of the bundle; of a folder that of the list at a path
 abbrev pub list_planned : Below → Lists → Format → List ℕ → Option (Result Answer RunFault)
 list_planned below (lists.Bundle list) form input = Some (bundle_of input >>= λ files.
     list_in files list >>= λ path. list_plan_in form (λ path. bytes_at files path) path)
@@ -198,9 +198,9 @@ pub record Told (write_may_fail : Type 0) (errors errors' : Option (List ℕ)) (
   pub front : AppendsFront errors errors' (fault_text fault)
   pub all : (write_may_fail → ⊥) → Appends errors errors' (fault_text fault)
 
--- What a run is given: the files below folders, where they are reported, and where reading them may fail; the files that
--- stores below folders have, and where putting one may fail; what standard input has left, where that is known; what its
--- output and its errors took, and whether a write of either may fail.
+-- What a run is given: the files below folders, where they are reported, and where reading them may fail; the files
+-- that stores below folders have, and where putting one may fail; what standard input has left, where that is known;
+-- what its output and its errors took, and whether a write of either may fail.
 pub record Given : Type 1 where
   pub below : Below
   pub read_may_fail : MayFailBelow

@@ -19,8 +19,10 @@ returns-in_err-files g c =
       no.0,
       no.1,
       unopened_ran (g.S.Folders.below c.args.system.now.folders.now)
-          (g.S.Folders.may_fail c.args.system.now.folders.now) no.0 (λ world. audit_in world path c.args.target.now c.args.workers)
-          (λ world. audit_reads_at world path c.args.target.now) c.args.table.now.source.now (g.W.Sink.may_fail c.args.output.now) _
+          (g.S.Folders.may_fail c.args.system.now.folders.now) no.0
+          (λ world. audit_in world path c.args.target.now c.args.workers)
+          (λ world. audit_reads_at world path c.args.target.now) c.args.table.now.source.now
+          (g.W.Sink.may_fail c.args.output.now) _
           c.in_err-files.field-0.0 no.2,
       tt,
     )

@@ -13,8 +13,10 @@ returns-in_err-files g c =
       no.0,
       no.1,
       unopened_ran (g.S.Folders.below c.args.system.now.folders.now)
-          (g.S.Folders.may_fail c.args.system.now.folders.now) no.0 (λ world. plan_in c.args.format world path c.args.request.now c.args.workers)
-          (λ world. reads_at world path c.args.request.now) c.args.table.now.source.now (g.W.Sink.may_fail c.args.output.now) _
+          (g.S.Folders.may_fail c.args.system.now.folders.now) no.0
+          (λ world. plan_in c.args.format world path c.args.request.now c.args.workers)
+          (λ world. reads_at world path c.args.request.now) c.args.table.now.source.now
+          (g.W.Sink.may_fail c.args.output.now) _
           c.in_err-files.field-0.0 no.2,
     )
 
@@ -25,6 +27,7 @@ returns g c =
     let ran = c.write_plan in
     let told = opened_ran (g.S.Folders.below c.args.system.now.folders.now)
     (g.S.Folders.may_fail c.args.system.now.folders.now) opened.0 c.args.table.now.source.now _ _ opened.2
-    (λ world. plan_in c.args.format world path c.args.request.now c.args.workers) (λ world. reads_at world path c.args.request.now) (g.W.Sink.may_fail c.args.output.now)
+    (λ world. plan_in c.args.format world path c.args.request.now c.args.workers)
+    (λ world. reads_at world path c.args.request.now) (g.W.Sink.may_fail c.args.output.now)
     ran.result _ _ (λ v told. ran.ensures.answers v told) ran.ensures.refusal.nothing in
     (opened.0, opened.1, rw c.as_str.ensures at told)

@@ -31,7 +31,7 @@ returns-in-Plan-clause-ran g c =
 pub returns-in-Commit-clause-ran : goal.returns-in-Commit-clause-ran
 returns-in-Commit-clause-ran g c =
     let asked : c.args.asked.now ≡ command.Commit c.in-Commit.source c.in-Commit.request = search rules in
-    let told = c.commit.ensures in
+    let told = c.commit.ensures.ran in
     rw asked (
       told.0,
       told.1,
@@ -103,7 +103,8 @@ returns-in-ListPlan-clause-stored g c =
 
 pub returns-in-Plan-clause-stored : goal.returns-in-Plan-clause-stored
 returns-in-Plan-clause-stored g c =
-    let asked : c.args.asked.now ≡ command.Plan c.in-Plan.source c.in-Plan.request c.in-Plan.format c.in-Plan.workers c.in-Plan.path = search rules in
+    let asked : c.args.asked.now ≡ command.Plan c.in-Plan.source c.in-Plan.request c.in-Plan.format c.in-Plan.workers
+    c.in-Plan.path = search rules in
     rw asked refl
 
 pub returns-in-Show-clause-stored : goal.returns-in-Show-clause-stored
@@ -113,7 +114,8 @@ returns-in-Show-clause-stored g c =
 
 pub returns-in-Explain-clause-stored : goal.returns-in-Explain-clause-stored
 returns-in-Explain-clause-stored g c =
-    let asked : c.args.asked.now ≡ command.Explain c.in-Explain.source c.in-Explain.request c.in-Explain.workers c.in-Explain.path = search rules in
+    let asked : c.args.asked.now ≡ command.Explain c.in-Explain.source c.in-Explain.request c.in-Explain.workers
+    c.in-Explain.path = search rules in
     rw asked refl
 
 pub returns-in-Drill-clause-stored : goal.returns-in-Drill-clause-stored
@@ -128,7 +130,8 @@ returns-in-Text-clause-stored g c =
 
 pub returns-in-Audit-clause-stored : goal.returns-in-Audit-clause-stored
 returns-in-Audit-clause-stored g c =
-    let asked : c.args.asked.now ≡ command.Audit c.in-Audit.source c.in-Audit.target c.in-Audit.workers c.in-Audit.path = search rules in
+    let asked : c.args.asked.now ≡ command.Audit c.in-Audit.source c.in-Audit.target c.in-Audit.workers
+    c.in-Audit.path = search rules in
     rw asked refl
 
 pub returns-in-Commit-clause-stored : goal.returns-in-Commit-clause-stored
@@ -138,5 +141,6 @@ returns-in-Commit-clause-stored g c =
 
 pub returns-in-Audit-clause-ran : goal.returns-in-Audit-clause-ran
 returns-in-Audit-clause-ran g c =
-    let asked : c.args.asked.now ≡ command.Audit c.in-Audit.source c.in-Audit.target c.in-Audit.workers c.in-Audit.path = search rules in
+    let asked : c.args.asked.now ≡ command.Audit c.in-Audit.source c.in-Audit.target c.in-Audit.workers
+    c.in-Audit.path = search rules in
     rw asked c.audit.ensures
