@@ -2,6 +2,7 @@
 //! were written by hand, and what a refused growth leaves.
 #![tactic(auto)]
 
+mod calls;
 #[cfg(test)]
 mod cases;
 #[cfg(test)]
@@ -10,3 +11,5 @@ mod files;
 mod refusals;
 #[cfg(test)]
 mod stores;
+
+pub use calls::{add, add_kept};

@@ -26,7 +26,7 @@ use Rattle.ice_state.specs.Contents.{World}
 use Rattle.ice_state.specs.declared.fault.ScanFault.TheVariants as scan
 use Rattle.ice_state.specs.Specs.{spec_of}
 use Rattle.icescan_text.proofs.Steps.{fails_later, first_ends, more_reads, only_first, step, then_ends}
-use Rattle.icescan_text.proofs.Workers.{enough, not_enough}
+use Rattle.icescan_text.proofs.Enough.{enough, not_enough}
 use Rattle.icescan_text.specs.Reads.{MayEnd, as_run, file_in, rows_at, rows_in}
 use Rattle.icescan_text.specs.declared.fault.RunFault.{RunFault}
 use Rattle.icescan_text.specs.declared.fault.RunFault.TheVariants as run

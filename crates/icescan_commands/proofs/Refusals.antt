@@ -141,6 +141,11 @@ pub untold_ran : (failing : Failing) (r : Result Unit RunFault) (o o' : Option (
 untold_ran failing (Ok x) o o' h = record { written = tt; refused = tt; nothing = tt; front = λ is. tt }
 untold_ran failing (Err e) o o' h = record { written = tt; refused = tt; nothing = h; front = λ is. tt }
 
+-- an answer that is the same
+pub known_ran : (known told : Option (Result Answer RunFault)) (failing : Failing) (r : Result Unit RunFault)
+    (o o' : Option (List ℕ)) → known ≡ told → Ran told failing r o o' → Ran known failing r o o'
+known_ran known told failing r o o' is h = subst (λ k. Ran k failing r o o') (sym is) h
+
 -- ---- a number of findings
 
 -- a command that tells of no findings ran as it ran

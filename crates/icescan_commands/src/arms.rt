@@ -81,7 +81,7 @@ pub fn list_plan<H, S: Folders, P: Progress, R: Read, W: Sink>(
 /// Writes the plan that is asked of a table, in a form and by so many workers.
 pub fn plan<H: Threads + Sync, S: Folders + Sync, P: Progress + Sync, R: Read, W: Sink>(
     system: &System<'_, H, S, P>,
-    table: TableAt<'_>,
+    table: &TableAt<'_>,
     request: &Request,
     format: Format,
     workers: usize,
@@ -91,9 +91,9 @@ pub fn plan<H: Threads + Sync, S: Folders + Sync, P: Progress + Sync, R: Read, W
     requires { P.may_be_told system.now.progress.now ≡ true }
     ensures { (text : List ℕ) × IsInput (R.remaining input.old) text ×
         Ran (answer_to (S.below system.now.folders.now)
-        (Command.Plan table.source.now request.now format workers table.path.now) text)
+        (Command.Plan table.now.source.now request.now format workers table.now.path.now) text)
         (failing_of (S.below system.now.folders.now) (S.may_fail system.now.folders.now)
-        (Command.Plan table.source.now request.now format workers table.path.now) (W.may_fail output.old))
+        (Command.Plan table.now.source.now request.now format workers table.now.path.now) (W.may_fail output.old))
         result (W.taken output.old) (W.taken output.new) }
 {
     let files = open_files(system, table.source, input)?;
@@ -111,15 +111,15 @@ pub fn plan<H: Threads + Sync, S: Folders + Sync, P: Progress + Sync, R: Read, W
 /// Writes the text of a table's metadata.
 pub fn show<H, S: Folders, P: Progress, R: Read, W: Sink>(
     system: &System<'_, H, S, P>,
-    table: TableAt<'_>,
+    table: &TableAt<'_>,
     input: &mut R,
     output: &mut W,
 ) -> Result<(), RunFault>
     requires { P.may_be_told system.now.progress.now ≡ true }
     ensures { (text : List ℕ) × IsInput (R.remaining input.old) text ×
-        Ran (answer_to (S.below system.now.folders.now) (Command.Show table.source.now table.path.now) text)
+        Ran (answer_to (S.below system.now.folders.now) (Command.Show table.now.source.now table.now.path.now) text)
         (failing_of (S.below system.now.folders.now) (S.may_fail system.now.folders.now)
-        (Command.Show table.source.now table.path.now) (W.may_fail output.old))
+        (Command.Show table.now.source.now table.now.path.now) (W.may_fail output.old))
         result (W.taken output.old) (W.taken output.new) }
 {
     let files = open_files(system, table.source, input)?;
@@ -129,7 +129,7 @@ pub fn show<H, S: Folders, P: Progress, R: Read, W: Sink>(
 /// Writes the audit of a snapshot of a table, by so many workers, and gives the number of findings that are faults.
 pub fn audit<H: Threads + Sync, S: Folders + Sync, P: Progress + Sync, R: Read, W: Sink>(
     system: &System<'_, H, S, P>,
-    table: TableAt<'_>,
+    table: &TableAt<'_>,
     target: &Target,
     workers: usize,
     input: &mut R,
@@ -138,12 +138,12 @@ pub fn audit<H: Threads + Sync, S: Folders + Sync, P: Progress + Sync, R: Read, 
     requires { P.may_be_told system.now.progress.now ≡ true }
     ensures { (text : List ℕ) × IsInput (R.remaining input.old) text ×
         Ran (answer_to (S.below system.now.folders.now)
-        (Command.Audit table.source.now target.now workers table.path.now) text)
+        (Command.Audit table.now.source.now target.now workers table.now.path.now) text)
         (failing_of (S.below system.now.folders.now) (S.may_fail system.now.folders.now)
-        (Command.Audit table.source.now target.now workers table.path.now) (W.may_fail output.old))
+        (Command.Audit table.now.source.now target.now workers table.now.path.now) (W.may_fail output.old))
         (ended result) (W.taken output.old) (W.taken output.new)
         × IfOk result (IsCount (S.below system.now.folders.now)
-        (Command.Audit table.source.now target.now workers table.path.now) text) }
+        (Command.Audit table.now.source.now target.now workers table.now.path.now) text) }
 {
     let files = open_files(system, table.source, input)?;
     audit_file(
@@ -160,7 +160,7 @@ pub fn audit<H: Threads + Sync, S: Folders + Sync, P: Progress + Sync, R: Read, 
 /// Writes the plan that is asked of a table, by so many workers, with what became of each manifest and each live file.
 pub fn explain<H, S: Folders, P: Progress, R: Read, W: Sink>(
     system: &System<'_, H, S, P>,
-    table: TableAt<'_>,
+    table: &TableAt<'_>,
     request: &Request,
     workers: usize,
     input: &mut R,
@@ -169,9 +169,9 @@ pub fn explain<H, S: Folders, P: Progress, R: Read, W: Sink>(
     requires { P.may_be_told system.now.progress.now ≡ true }
     ensures { (text : List ℕ) × IsInput (R.remaining input.old) text ×
         Ran (answer_to (S.below system.now.folders.now)
-        (Command.Explain table.source.now request.now workers table.path.now) text)
+        (Command.Explain table.now.source.now request.now workers table.now.path.now) text)
         (failing_of (S.below system.now.folders.now) (S.may_fail system.now.folders.now)
-        (Command.Explain table.source.now request.now workers table.path.now) (W.may_fail output.old))
+        (Command.Explain table.now.source.now request.now workers table.now.path.now) (W.may_fail output.old))
         result (W.taken output.old) (W.taken output.new) }
 {
     let files = open_files(system, table.source, input)?;

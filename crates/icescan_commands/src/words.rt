@@ -58,30 +58,22 @@ where
             no_findings(list_plan(system, lists, *format, input, output))
         }
         Command::Plan(source, request, format, workers, path) => {
-            let table = TableAt { source, path };
+            let table = &TableAt { source, path };
             no_findings(plan(system, table, request, *format, *workers, input, output))
         }
         Command::Commit(source, request) => {
             no_findings(commit(system, source, request, stores, input, output))
         }
-        Command::Show(source, path) => no_findings(show(
-            system,
-            TableAt { source, path },
-            input,
-            output,
-        )),
+        Command::Show(source, path) => {
+            let table = &TableAt { source, path };
+            no_findings(show(system, table, input, output))
+        }
         Command::Audit(source, target, workers, path) => {
-            audit(
-                system,
-                TableAt { source, path },
-                target,
-                *workers,
-                input,
-                output,
-            )
+            let table = &TableAt { source, path };
+            audit(system, table, target, *workers, input, output)
         }
         Command::Explain(source, request, workers, path) => {
-            let table = TableAt { source, path };
+            let table = &TableAt { source, path };
             no_findings(explain(system, table, request, *workers, input, output))
         }
         Command::Drill(asked) => no_findings(drill(system.host, system.alloc, *asked, output)),

@@ -21,7 +21,7 @@ use Rattle.icescan_text.specs.declared.fault.RunFault.{RunFault}
 use Rattle.icescan_text.specs.declared.fault.RunFault.TheVariants as run
 use Rattle.icescan_text.specs.declared.request.Request.{Request}
 use Rattle.icescan_text.proofs.Steps.{fails_later, first_ends, more_reads, only_first, two_end}
-use Rattle.icescan_text.proofs.Workers.{enough, not_enough}
+use Rattle.icescan_text.proofs.Enough.{enough, not_enough}
 
 -- an explanation of selected rows by its plan
 abbrev explains : World → Request → SelectedRows → List OwnedLine → Explanation

@@ -4,7 +4,7 @@ use crate::case::Case;
 use crate::hint::{Hint, quoted};
 use crate::tables::add_specs;
 use contract_words::{Items, Text};
-use ice_catalog_versions::PrepareFault;
+use ice_catalog_versions::{PrepareFault, Prepared};
 use ice_desk::Files;
 use icescan_requests::prepare_commit;
 use icescan_text::CommitRequest;
@@ -38,7 +38,28 @@ fn add_files<F: Files>(
     Ok(())
 }
 
-/// Adds which files of a commit that could not be put stand at their places.
+/// Adds that a commit was made, where its metadata stands at its place.
+fn add_made<F: Files>(
+    hint: &mut Hint,
+    alloc: Global,
+    case: &Case<'_, F>,
+    out: &Text,
+    prepared: &Prepared,
+) -> Result<(), AllocError> {
+    let metadata = prepared.version().metadata().write(alloc)?;
+    match case.read(alloc, out.as_str()) {
+        Some(found) if found.as_slice() == metadata.as_slice() => {
+            let name = quoted(alloc, out.as_str())?;
+            hint.here(
+                alloc,
+                format!(in alloc; "the commit was made: its metadata stands at {name}")?,
+            )
+        }
+        _ => Ok(()),
+    }
+}
+
+/// Adds which files of a commit that could not be put or told stand at their places, and whether it was made.
 pub fn add_unwritten<F: Files>(
     hint: &mut Hint,
     alloc: Global,
@@ -48,7 +69,10 @@ pub fn add_unwritten<F: Files>(
         return hint.here(alloc, format!(in alloc; "standard output")?);
     };
     match prepare_commit(alloc, files, request) {
-        Ok(prepared) => add_files(hint, alloc, case, prepared.files()),
+        Ok(prepared) => {
+            add_files(hint, alloc, case, prepared.files())?;
+            add_made(hint, alloc, case, &request.out, &prepared)
+        }
         Err(_) => Ok(()),
     }
 }

@@ -16,7 +16,7 @@ use Rattle.icescan_text.specs.Workers.{by_workers}
 use Rattle.icescan_text.specs.declared.fault.RunFault.{RunFault}
 use Rattle.icescan_text.specs.declared.request.Request.{Request}
 use Rattle.icescan_text.proofs.Steps.{ends_before, same_next}
-use Rattle.icescan_text.proofs.Workers.{enough}
+use Rattle.icescan_text.proofs.Enough.{enough}
 use Rattle.icescan_json.specs.JsonAnswers.{typed_answer_at, typed_answer_by}
 use Rattle.icescan_json.specs.declared.typed.TypedPlan.{TypedPlan}
 use Rattle.icescan_json.proofs.AnswersTold.{of_metadata, same_at}

@@ -14,7 +14,7 @@ use Rattle.icescan_text.specs.declared.fault.RunFault.TheVariants as run
 use Rattle.icescan_text.specs.declared.request.Request.{Request}
 use Rattle.icescan_text.specs.Workers.{by_workers}
 use Rattle.icescan_text.proofs.Steps.{may_write}
-use Rattle.icescan_text.proofs.Workers.{enough, not_enough}
+use Rattle.icescan_text.proofs.Enough.{enough, not_enough}
 use Rattle.icescan_json.specs.JsonAnswers.{AnswersInJson, IsJsonOfPlan, WritesJson, typed_answer_at}
 use Rattle.icescan_json.specs.declared.typed.TypedPlan.{TypedPlan}
 

@@ -2,9 +2,11 @@ pub mod Bases
 pub mod Commits
 pub mod Crews
 pub mod Inputs
+pub mod LastSlash
 pub mod Lines
 pub mod Listed
 pub mod Lookups
+pub mod OnDisk
 pub mod Placed
 pub mod Plans
 pub mod Segments

@@ -11,7 +11,7 @@ use Rattle.std.proofs.lemmas.List.Elements.{Contains-append_left, Contains-appen
 use Rattle.std.proofs.lemmas.List.Folds.{list_any-append}
 use Rattle.ice_catalog_versions.specs.States.{Added}
 use Rattle.icescan_requests.specs.Disks.{ArePlaced, Event, Extends, IsFolderKept, IsFolderLost, IsFolderOf, IsMade, IsPlaced}
-use Rattle.icescan_requests.specs.Disks.{IsPlacedAt, IsPut, IsTaken, IsWholeAt, Names, NotLinked, NotMade, NotPlaced}
+use Rattle.icescan_requests.specs.Disks.{IsPlacedAt, IsPutAt, IsTaken, IsWholeAt, Names, NotLinked, NotMade, NotPlaced}
 use Rattle.icescan_requests.specs.Disks.{NotPlacedAt, NothingLinked, StopsPlacing, Tells, event_of, links}
 use Rattle.icescan_requests.specs.Disks.Call.{Compare, Create, Link, Remove}
 use Rattle.icescan_requests.specs.Disks.Event.{Done, Refused}
@@ -61,15 +61,15 @@ taken_then (e ∷ m) n h k = (h.0, taken_then m n h.1 k)
 
 -- ---- a file that is made, or not
 
-module _ (fault : StoreFault) (is : (fault ≡ store.Failed) ⊎ (fault ≡ store.Memory)) where
-  pub not_made : (m : List Event) → NothingLinked m → NotMade fault m
-  not_made m h = elim is [ inl e ↦ subst (λ f. NotMade f m) (sym e) h | inr e ↦ subst (λ f. NotMade f m) (sym e) h ]
+pub not_made : (fault : StoreFault) (m : List Event) → (fault ≡ store.Failed) ⊎ (fault ≡ store.Memory)
+    → NothingLinked m → NotMade fault m
+not_made fault m (inl e) h = subst (λ f. NotMade f m) (sym e) h
+not_made fault m (inr e) h = subst (λ f. NotMade f m) (sym e) h
 
-  pub not_linked : (aside name : List ℕ) (m : List Event) → NothingLinked m → NotLinked aside name fault m
-  not_linked aside name m h = elim is [
-    inl e ↦ subst (λ f. NotLinked aside name f m) (sym e) h
-  | inr e ↦ subst (λ f. NotLinked aside name f m) (sym e) h
-  ]
+pub not_linked : (aside name : List ℕ) (fault : StoreFault) (m : List Event)
+    → (fault ≡ store.Failed) ⊎ (fault ≡ store.Memory) → NothingLinked m → NotLinked aside name fault m
+not_linked aside name fault m (inl e) h = subst (λ f. NotLinked aside name f m) (sym e) h
+not_linked aside name fault m (inr e) h = subst (λ f. NotLinked aside name f m) (sym e) h
 
 -- the name of this file was free
 pub made_after : (own : List ℕ → Type 0) (aside : List ℕ) (m n : List Event) → own aside → AllByRecursion IsTaken m
@@ -126,7 +126,7 @@ made_not_placed own aside name bytes store.Memory m n made not =
 pub extends_put : (a b c d e : Option (List Event)) (own : List ℕ → Type 0) (name bytes aside aside' folder : List ℕ)
     (removed : Result (Unit {0}) Error) (IsSynced : List ℕ → List Event → Type 0) → Extends a b (IsMade own aside)
     → Extends b c (IsWholeAt aside name bytes) → Tells c d (event_of (Remove aside') removed) → aside' ≡ aside
-    → IsFolderOf name folder → Extends d e (IsSynced folder) → Extends a e (IsPut own name bytes IsSynced)
+    → IsFolderOf name folder → Extends d e (IsSynced folder) → Extends a e (IsPutAt own name bytes IsSynced)
 extends_put a b c d e own name bytes aside aside' folder removed IsSynced made whole told same is_folder synced =
     let told' : Tells c d (event_of (Remove aside) removed) =
     subst (λ x. Tells c d (event_of (Remove x) removed)) same told in
@@ -140,18 +140,18 @@ extends_put a b c d e own name bytes aside aside' folder removed IsSynced made w
     let rest : Extends b e IsRest =
     extends_then b c e _ _ _ whole last (λ m n p q. (m, q.0, p, q.1, ap (λ x. m ++ x) q.2)) in
     extends_then a b e _ _ _ made rest (λ m n p q. record {
-        aside = aside;
-        made = m;
-        is_made = p;
-        whole = q.0;
-        is_whole = q.2;
-        removed = removed;
-        folder = folder;
-        is_folder = is_folder;
-        sync = q.1;
-        is_synced = q.3;
-        in_order = ap (λ x. m ++ x) q.4;
-      })
+      aside = aside;
+      made = m;
+      is_made = p;
+      whole = q.0;
+      is_whole = q.2;
+      removed = removed;
+      folder = folder;
+      is_folder = is_folder;
+      sync = q.1;
+      is_synced = q.3;
+      in_order = ap (λ x. m ++ x) q.4;
+    })
 
 -- the name is another file's
 pub occupied : (aside name : List ℕ) (kind : ErrorKind) (same : Bool) → kind ≡ AlreadyExists → same ≡ false
@@ -184,17 +184,17 @@ refused_with (Err fault) P Q p f = f fault p
 
 module _ (own named : List ℕ → Type 0) (is : (aside : List ℕ) → own aside → named aside) where
   pub put_as : (name bytes : List ℕ) (IsSynced : List ℕ → List Event → Type 0) (m : List Event)
-      → IsPut own name bytes IsSynced m → IsPut named name bytes IsSynced m
+      → IsPutAt own name bytes IsSynced m → IsPutAt named name bytes IsSynced m
   put_as name bytes IsSynced m p =
       record {
         aside = p.aside;
         made = p.made;
         is_made = record {
-            is_own = is p.aside p.is_made.is_own;
-            tries = p.is_made.tries;
-            were_taken = p.is_made.were_taken;
-            in_order = p.is_made.in_order;
-          };
+          is_own = is p.aside p.is_made.is_own;
+          tries = p.is_made.tries;
+          were_taken = p.is_made.were_taken;
+          in_order = p.is_made.in_order;
+        };
         whole = p.whole;
         is_whole = p.is_whole;
         removed = p.removed;

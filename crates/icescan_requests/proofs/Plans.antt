@@ -41,7 +41,7 @@ use Rattle.icescan_requests.specs.Selections.{IsOfRequest, selected}
 use Rattle.icescan_text.specs.Workers.{by_workers}
 use Rattle.icescan_text.proofs.Steps.{fails_later, finish_ends, first_ends, has_each, may_write, more_reads, only_first}
 use Rattle.icescan_text.proofs.Steps.{same_next, scan_ends, step, stops_end, then_ends, two_end, untaken_all}
-use Rattle.icescan_text.proofs.Workers.{enough, not_enough}
+use Rattle.icescan_text.proofs.Enough.{enough, not_enough}
 
 -- a refusal of the request itself comes before any read
 pub request_ends : {A : Type 0} (read : Result A RunFault) (r : List ℕ → Type 0) (w : Type 0) (e : RunFault)

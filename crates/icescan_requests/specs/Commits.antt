@@ -30,6 +30,8 @@ use Rattle.icescan_print.specs.Escaping.{escaped}
 use Rattle.icescan_text.specs.Faults.{of_change, of_meta, of_prepare}
 use Rattle.icescan_text.specs.Reads.{MayEnd, as_run, file_in}
 use Rattle.icescan_print.specs.Pieces.{named_number, named_signed}
+use Rattle.icescan_requests.specs.Disks.{ArePlaced, Event, Names, NotPlacedAt, StopsPlacing}
+use Rattle.icescan_requests.specs.declared.store.StoreFault.{StoreFault}
 use Rattle.icescan_requests.specs.Stores.{MayHave, PutsAll, PutsFront, StopsAt, WereFree}
 use Rattle.icescan_print.specs.Written.{Appends, AppendsFront}
 use Rattle.icescan_text.specs.declared.request.CommitRequest.{CommitRequest}
@@ -231,6 +233,31 @@ pub record OnCommitRefusal (world : Option World) (may_fail_at : List ℕ → Ty
 pub record TellsACommit (id : ℤ) (result : Result Unit RunFault) (output output' : Option (List ℕ)) : Type 0 where
   pub all : OnOk result ((number : ℕ) × Appends output output' (receipt_text id number))
   pub front : IsErrOf result run.Write → (number : ℕ) × AppendsFront output output' (receipt_text id number)
+
+-- ---- what a commit does on a disk
+
+-- Each file that it adds was placed, in their order, and then the metadata that names them.
+abbrev pub IsCommitPlaced : Names → Commitment → List ℕ → List Event → Type 0
+IsCommitPlaced names c out events =
+    (bytes : List ℕ) × IsTextOf c.metadata bytes × ArePlaced names (in_order c.added out bytes) events
+
+-- They were placed up to one that was not, which is the metadata or a file before it.
+abbrev pub StopsCommit : Names → Commitment → List ℕ → StoreFault → List Event → Type 0
+StopsCommit names c out fault events =
+    (bytes : List ℕ) × IsTextOf c.metadata bytes × StopsPlacing names (in_order c.added out bytes) fault events
+
+-- All files but the metadata were placed, and something else has its name.
+abbrev pub IsBeaten : Names → Commitment → List ℕ → List Event → Type 0
+IsBeaten names c out events =
+    (bytes : List ℕ) × IsTextOf c.metadata bytes × (front : List Event) × (last : List Event) ×
+    ArePlaced names c.added front × NotPlacedAt names out bytes store.There last × (events ≡ front ++ last)
+
+-- what was done for a commit that is refused
+abbrev pub NotCommitted : Names → Commitment → List ℕ → RunFault → List Event → Type 0
+NotCommitted names c out (run.Conflict path) events = IsBeaten names c out events
+NotCommitted names c out run.Write events = (fault : StoreFault) × StopsCommit names c out fault events
+NotCommitted names c out run.Memory events = (events ≡ []) ⊎ StopsCommit names c out store.Memory events
+NotCommitted names c out fault events = ⊥
 
 -- ---- the text of a commit in a bundle
 

@@ -95,7 +95,7 @@ IsFolderOf name folder = ((last : List ℕ) × HasNoSlash last × (name ≡ fold
 
 -- A file was put at a name: it was made under a name of one's own, filled with these bytes and brought to the disk; then
 -- it got its name; the name of one's own was taken away, whatever was answered; at last its folder was synced.
-pub record IsPut (own : List ℕ → Type 0) (name bytes : List ℕ) (IsSynced : List ℕ → List Event → Type 0)
+pub record IsPutAt (own : List ℕ → Type 0) (name bytes : List ℕ) (IsSynced : List ℕ → List Event → Type 0)
     (events : List Event) : Type 0 where
   pub aside : List ℕ
   pub made : List Event
@@ -111,7 +111,7 @@ pub record IsPut (own : List ℕ → Type 0) (name bytes : List ℕ) (IsSynced :
 
 -- it was put, and its name is on the disk too
 abbrev pub IsPlaced : (List ℕ → Type 0) → List ℕ → List ℕ → List Event → Type 0
-IsPlaced own name bytes events = IsPut own name bytes IsFolderKept events
+IsPlaced own name bytes events = IsPutAt own name bytes IsFolderKept events
 
 -- a file got a name by this
 abbrev pub links : Event → Bool
@@ -142,7 +142,7 @@ NotLinked aside name fault events = NothingLinked events
 abbrev pub NotPlaced : (List ℕ → Type 0) → List ℕ → List ℕ → StoreFault → List Event → Type 0
 NotPlaced own name bytes store.There events =
     NothingLinked events × ((aside : List ℕ) × own aside × IsOccupied aside name events)
-NotPlaced own name bytes store.Failed events = NothingLinked events ⊎ IsPut own name bytes IsFolderLost events
+NotPlaced own name bytes store.Failed events = NothingLinked events ⊎ IsPutAt own name bytes IsFolderLost events
 NotPlaced own name bytes store.Memory events = NothingLinked events
 
 -- a name of the commit's own for a file that is not whole yet, in the folder that its name is in

@@ -7,7 +7,8 @@ ghost use Rattle.ice_desk.specs.Worlds.{HasAt};
 ghost use Rattle.ice_state.specs.Contents.{World};
 ghost use Rattle.icescan_requests.specs.Commits.{Commitment, IsLeft, IsOfPreparing, IsOfPutting, IsPut, Made, MayEndCommit, MayNotPut};
 ghost use Rattle.icescan_requests.specs.Commits.{MayFailToPut, OnCommitRefusal, Stopped, TellsACommit};
-ghost use Rattle.icescan_requests.specs.Commits.{Writes};
+ghost use Rattle.icescan_requests.specs.Commits.{IsCommitPlaced, NotCommitted, Writes};
+ghost use Rattle.icescan_requests.specs.Disks.{Extends};
 ghost use Rattle.icescan_requests.specs.Commits.{change_asked, commitment, commitment_from, receipt_text};
 ghost use Rattle.icescan_requests.specs.Bundles.{File};
 ghost use Rattle.icescan_text.specs.Reads.{MayEnd};
@@ -118,6 +119,14 @@ pub fn put_commit<S: Store>(
     ensures conflict { (path : List ℕ) → IsErrOf result (RunFault.Conflict path) →
         (path ≡ out.now) × MayHave (S.files store.new) out.now }
     ensures write { IsErrOf result RunFault.Write → MayFailToPut (S.files store.new) (S.may_fail store.old) }
+
+    // What is done on the disk, in which order: the metadata comes last, and only when all else was placed.
+    ensures placed { (c : Commitment) → Writes prepared.now c →
+        OnOk result (Extends (S.events store.old) (S.events store.new)
+        (IsCommitPlaced (S.names store.old) c out.now)) }
+    ensures unplaced { (c : Commitment) → Writes prepared.now c →
+        IfErr result (λ fault. Extends (S.events store.old) (S.events store.new)
+        (NotCommitted (S.names store.old) c out.now fault)) }
 {
     let place = out.copy(alloc)?;
     let metadata = prepared.version().metadata().write(alloc)?;

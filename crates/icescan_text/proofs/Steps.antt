@@ -115,7 +115,7 @@ pub two_end : {A B C D : Type 0} (r : List ℕ → Type 0) (first : Result A Run
     → MayEnd (first >>= λ a. second a >>= λ b. next a b) r ⊥ e
 two_end {C = C} {D = D} r (Err x) second make next e h =
     first_ends r ⊥ {A = C} {B = D} r (Err x) (λ _. Err x) e (λ p m. m) h
-two_end {C = C} {D = D} r (Ok a) second make next e h = second_ends (second a) h
+two_end {B = B} {C = C} {D = D} r (Ok a) second make next e h = second_ends (second a) h
   where
     second_ends : (found : Result B RunFault) → MayEnd (found >>= λ b. Ok (make a b)) r ⊥ e
         → MayEnd (found >>= λ b. next a b) r ⊥ e

@@ -5,8 +5,8 @@ ghost use Rattle.std.specs.Prelude.{option_and_then, option_map, string_bytes};
 ghost use Rattle.std.specs.List.{after_first, before_first, list_any, starts_with};
 ghost use Rattle.uuid.specs.Text.{parsed};
 ghost use Rattle.icescan_words.specs.Heard.{AsksFor, HasCommit, HasDrill, HasFormat, HasIds, HasRequest, HasSource};
-ghost use Rattle.icescan_words.specs.Heard.{HasTarget, HasWorkers, asks_help, is_equals, list_of, name_of, option_in};
-ghost use Rattle.icescan_words.specs.Heard.{option_items, plain_words, signed, source_of, takes_next, unsigned};
+ghost use Rattle.icescan_words.specs.Heard.{HasTarget, HasWorkers, Names, asks_help, is_equals, list_of, name_of};
+ghost use Rattle.icescan_words.specs.Heard.{option_in, option_items, plain_words, signed, source_of, takes_next, unsigned};
 ghost use Rattle.icescan_words.specs.declared.command.Source.TheVariants as source;
 
 use crate::answer_format::{Format, format_by};
@@ -161,6 +161,35 @@ fn is_uuid(value: Option<&str>, uuid: &Uuid) -> bool
     }
 }
 
+/// Whether the words give the option of this name this text.
+fn has_text(words: &[String], name: &str, text: &str) -> bool
+    ensures { IsTrue result → option_in (map string_bytes words.now) name.now ≡ Some text.now }
+{
+    is_text(option_in(words, name), text)
+}
+
+/// Whether the words give the option of this name this number.
+fn has_signed(words: &[String], name: &str, number: i64) -> bool
+    ensures { IsTrue result → signed (option_in (map string_bytes words.now) name.now) ≡ Some number }
+{
+    is_signed(option_in(words, name), number)
+}
+
+/// Whether the words give the option of this name this number.
+fn has_unsigned(words: &[String], name: &str, number: u64) -> bool
+    ensures { IsTrue result → unsigned (option_in (map string_bytes words.now) name.now) ≡ Some number }
+{
+    is_unsigned(option_in(words, name), number)
+}
+
+/// Whether the words give this UUID.
+fn has_uuid(words: &[String], uuid: &Uuid) -> bool
+    ensures { IsTrue result
+        → option_and_then parsed (option_in (map string_bytes words.now) (codes "--uuid")) ≡ Some uuid.now }
+{
+    is_uuid(option_in(words, "--uuid"), uuid)
+}
+
 /// Whether the plain words are these.
 fn are_words(plain: &[&str], wanted: &[&str]) -> bool
     ensures { IsTrue result → map (λ s. s.now) plain.now ≡ map (λ s. s.now) wanted.now }
@@ -179,8 +208,8 @@ fn is_bundle(words: &[String]) -> bool
 fn is_place(words: &[String], place: &Place) -> bool
     ensures { IsTrue result → HasSource (map string_bytes words.now) (source.Folder place.now) }
 {
-    is_text(option_in(words, "--dir"), place.folder.as_str())
-        && is_text(option_in(words, "--prefix"), place.prefix.as_str())
+    has_text(words, "--dir", place.folder.as_str())
+        && has_text(words, "--prefix", place.prefix.as_str())
 }
 
 /// Whether the words say that the files are there.
@@ -261,9 +290,9 @@ fn has_paths(plain: &[&str], request: &CommitRequest) -> bool
 fn has_ids(words: &[String], ids: &Ids) -> bool
     ensures { IsTrue result → HasIds (map string_bytes words.now) ids.now }
 {
-    is_signed(option_in(words, "--snapshot-id"), ids.snapshot)
-        && is_uuid(option_in(words, "--uuid"), &ids.uuid)
-        && is_signed(option_in(words, "--now-ms"), ids.now_ms)
+    has_signed(words, "--snapshot-id", ids.snapshot)
+        && has_uuid(words, &ids.uuid)
+        && has_signed(words, "--now-ms", ids.now_ms)
 }
 
 /// Whether the words ask for this commit.
@@ -273,7 +302,7 @@ fn has_commit(words: &[String], plain: &[&str], request: &CommitRequest) -> bool
 {
     has_paths(plain, request)
         && has_ids(words, &request.ids)
-        && is_text(option_in(words, "--out"), request.out.as_str())
+        && has_text(words, "--out", request.out.as_str())
 }
 
 /// Whether the words ask for this drill.
@@ -282,8 +311,8 @@ fn has_drill(words: &[String], plain: &[&str], drill: Drill) -> bool
     ensures { IsTrue result → HasDrill (map string_bytes words.now) drill }
 {
     are_words(plain, &["drill"])
-        && is_unsigned(option_in(words, "--threads"), drill.threads())
-        && is_unsigned(option_in(words, "--commits"), drill.commits())
+        && has_unsigned(words, "--threads", drill.threads())
+        && has_unsigned(words, "--commits", drill.commits())
 }
 
 /// Whether the plain words are `list-plan` and the path of this list, if it has one.
@@ -308,6 +337,49 @@ fn has_lists(words: &[String], lists: &Lists) -> bool
     }
 }
 
+/// Whether the words ask for the plan of this manifest list, in whatever form.
+fn is_list(words: &[String], plain: &[&str], lists: &Lists) -> bool
+    requires { map (λ s. s.now) plain.now ≡ plain_words (map string_bytes words.now) }
+    ensures { IsTrue result
+        → (plain_words (map string_bytes words.now) ≡ codes "list-plan" ∷ option_items (list_of lists.now))
+        × HasSource (map string_bytes words.now) (source_of lists.now) }
+{
+    names_list(plain, lists) && has_lists(words, lists)
+}
+
+/// Whether the words name this command, its one path and where its files are.
+fn is_about(words: &[String], plain: &[&str], name: &str, source: &Source, path: &str) -> bool
+    requires { map (λ s. s.now) plain.now ≡ plain_words (map string_bytes words.now) }
+    ensures { IsTrue result → Names (map string_bytes words.now) name.now path.now
+        × HasSource (map string_bytes words.now) source.now }
+{
+    are_words(plain, &[name, path]) && has_source(words, source)
+}
+
+/// Whether the words ask this of a table, by so many workers.
+fn has_scan(words: &[String], request: &Request, workers: usize) -> bool
+    ensures { IsTrue result → HasRequest (map string_bytes words.now) request.now
+        × HasWorkers (map string_bytes words.now) workers }
+{
+    has_request(words, request) && has_workers(words, workers)
+}
+
+/// Whether the words ask this of a table, in this form and by so many workers.
+fn has_plan(words: &[String], request: &Request, format: Format, workers: usize) -> bool
+    ensures { IsTrue result → HasRequest (map string_bytes words.now) request.now
+        × HasFormat (map string_bytes words.now) format × HasWorkers (map string_bytes words.now) workers }
+{
+    has_format(words, format) && has_scan(words, request, workers)
+}
+
+/// Whether the words ask for this snapshot, by so many workers.
+fn has_audit(words: &[String], target: &Target, workers: usize) -> bool
+    ensures { IsTrue result → HasTarget (map string_bytes words.now) target.now
+        × HasWorkers (map string_bytes words.now) workers }
+{
+    has_target(words, target) && has_workers(words, workers)
+}
+
 /// Whether the words, of which the plain ones are given, ask for this command.
 fn asks_with(words: &[String], plain: &[&str], command: &Command) -> bool
     requires { map (λ s. s.now) plain.now ≡ plain_words (map string_bytes words.now) }
@@ -315,32 +387,23 @@ fn asks_with(words: &[String], plain: &[&str], command: &Command) -> bool
 {
     match command {
         Command::ListPlan(lists, format) => {
-            names_list(plain, lists) && has_lists(words, lists) && has_format(words, *format)
+            is_list(words, plain, lists) && has_format(words, *format)
         }
         Command::Plan(source, request, format, workers, path) => {
-            are_words(plain, &["plan", path.as_str()])
-                && has_source(words, source)
-                && has_request(words, request)
-                && has_format(words, *format)
-                && has_workers(words, *workers)
+            is_about(words, plain, "plan", source, path.as_str())
+                && has_plan(words, request, *format, *workers)
         }
         Command::Commit(source, request) => {
             has_commit(words, plain, request) && has_source(words, source)
         }
-        Command::Show(source, path) => {
-            are_words(plain, &["show", path.as_str()]) && has_source(words, source)
-        }
+        Command::Show(source, path) => is_about(words, plain, "show", source, path.as_str()),
         Command::Audit(source, target, workers, path) => {
-            are_words(plain, &["audit", path.as_str()])
-                && has_source(words, source)
-                && has_target(words, target)
-                && has_workers(words, *workers)
+            is_about(words, plain, "audit", source, path.as_str())
+                && has_audit(words, target, *workers)
         }
         Command::Explain(source, request, workers, path) => {
-            are_words(plain, &["explain", path.as_str()])
-                && has_source(words, source)
-                && has_request(words, request)
-                && has_workers(words, *workers)
+            is_about(words, plain, "explain", source, path.as_str())
+                && has_scan(words, request, *workers)
         }
         Command::Drill(drill) => has_drill(words, plain, *drill),
         Command::Text(_) => any_asks_help(words),

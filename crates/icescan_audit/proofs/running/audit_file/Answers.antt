@@ -2,7 +2,7 @@ use Rattle.std.proofs.Common.{◌≡◌, ◌∙◌, ap, sym}
 use Rattle.std.specs.Prelude.{Err, Ok, []}
 use Rattle.std.proofs.lemmas.Result.{err_from_is_err_and, IfErr-weaker, IfOk-weaker}
 use Rattle.icescan_text.specs.declared.fault.RunFault.TheVariants as run
-use Rattle.icescan_text.proofs.Workers.{in_range}
+use Rattle.icescan_text.proofs.Enough.{in_range}
 use Rattle.icescan_audit.proofs.AnyFiles.{read_stops, writes_stop}
 use Rattle.icescan_audit.proofs.Premise.{true_at}
 use Rattle.icescan_audit.proofs.Steps.{audit_behind, ends_behind, no_metadata, no_workers}

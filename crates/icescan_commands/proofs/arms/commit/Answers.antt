@@ -1,4 +1,4 @@
-use Rattle.std.proofs.Common.{◌≡◌, rules}
+use Rattle.std.proofs.Common.{◌≡◌, refl, rules}
 use Rattle.std.specs.Prelude.{option_map}
 use Rattle.std.proofs.lemmas.Result.{err_from_is_err_and}
 use Rattle.icescan_requests.specs.Commits.{committed_text}
@@ -7,8 +7,7 @@ use Rattle.icescan_commands.specs.Sources.{failing_bundle}
 use Rattle.icescan_words.specs.declared.command.Source.TheVariants as source
 use Rattle.icescan_commands.proofs.Committed.{no_files}
 use Rattle.icescan_commands.proofs.Refusals.{is_left, left_of, no_bundle_ran, untold_ran}
-use Rattle.icescan_commands.proofs.Stored.{ends_commit, if_told}
-use Rattle.icescan_commands.specs.Storing.{Commits}
+use Rattle.icescan_commands.proofs.Stored.{commits, if_told}
 use Rattle.icescan_commands.proofs.arms.commit.Goals as goal
 
 pub returns-in_err-bundle-in-Bundle-clause-ran : goal.returns-in_err-bundle-in-Bundle-clause-ran
@@ -51,16 +50,13 @@ returns-in-Folder-clause-ran g c =
 
 pub returns-in-Folder-clause-stored : goal.returns-in-Folder-clause-stored
 returns-in-Folder-clause-stored g c =
-    let place = c.in-Folder.place in
-    let asked : c.args.source.now ≡ source.Folder place = search rules in
+    let asked : c.args.source.now ≡ source.Folder c.in-Folder.place = search rules in
     let is = c.watched_files-files.ensures in
-    let request = c.args.request.now in
     let ran = c.commit_to in
-    rw asked (if_told (λ world. Commits world _ request _ _ ran.result _ _ _ _) _ (λ world told.
-    let known = rw (is.0, is.1, is.2) told in
-    record {
-      made = rw c.enter.ensures.entered at ran.ensures.made world known;
-      refused = ?;
-      unchanged = λ fault none. rw c.enter.ensures.entered at ran.ensures.unchanged world fault known none;
-      left = λ commit there. rw c.enter.ensures.entered at ran.ensures.left world commit known there;
-    }))
+    rw asked (if_told _ _ (λ world told.
+    let here = commits world _ c.args.request.now _ _ (g.W.Sink.may_fail c.args.output.now) c.enter.ensures.cause
+    ran.result _ _ _ _ (ran.ensures.made world (rw (is.0, is.1, is.2) told))
+    (ran.ensures.refused world (rw (is.0, is.1, is.2) told))
+    (λ fault none. ran.ensures.unchanged world fault (rw (is.0, is.1, is.2) told) none)
+    (λ commit there. ran.ensures.left world commit (rw (is.0, is.1, is.2) told) there) in
+    rw (is.0, is.1, is.2, c.enter.ensures.entered, c.as_str.ensures, c.as_str-in-Folder.ensures) at here))

@@ -1,15 +1,14 @@
-use Rattle.std.proofs.Common.{◌≡◌, Some, refl, subst, sym, rules}
+use Rattle.std.proofs.Common.{◌≡◌, refl, rules}
 use Rattle.std.proofs.lemmas.Result.{err_from_is_err_and}
-use Rattle.ice_desk.specs.Worlds.{EndsAt}
 use Rattle.ice_state.specs.Contents.{World}
 use Rattle.icescan_requests.specs.Bundles.{bytes_at}
 use Rattle.icescan_requests.specs.ListPlans.{list_reads}
 use Rattle.icescan_text.proofs.Steps.{never_fails}
-use Rattle.icescan_commands.specs.Runs.{Ran, list_plan_in}
+use Rattle.icescan_commands.specs.Runs.{list_plan_in}
 use Rattle.icescan_commands.specs.Sources.{failing_bundle}
 use Rattle.icescan_words.specs.declared.command.Lists.TheVariants as lists
 use Rattle.icescan_commands.proofs.Opened.{folder_ran, gives_ran}
-use Rattle.icescan_commands.proofs.Refusals.{is_left, left_of, list_ran, no_bundle_ran, no_plan, plan_from}
+use Rattle.icescan_commands.proofs.Refusals.{is_left, known_ran, left_of, list_ran, no_bundle_ran, no_plan, plan_from}
 use Rattle.icescan_commands.proofs.arms.list_plan.Goals as goal
 
 pub returns-in_err-bundle-in-Bundle : goal.returns-in_err-bundle-in-Bundle
@@ -58,8 +57,8 @@ returns-in_ok-path-in-Bundle g c =
     rw asked (
       found.0,
       found.1,
-      subst (λ k. Ran k failing c.write_list_plan.result _ _)
-          (sym (plan_from below found.0 bundle found.2 form list path c.in_ok-path-in-Bundle.ensures.ok)) ran,
+      known_ran _ _ failing c.write_list_plan.result _ _
+          (plan_from below found.0 bundle found.2 form list path c.in_ok-path-in-Bundle.ensures.ok) ran,
     )
 
 pub returns-in-Folder : goal.returns-in-Folder
@@ -67,12 +66,14 @@ returns-in-Folder g c =
     let left = g.R.Read.remaining c.args.input.now in
     let place = c.in-Folder.place in
     let asked : c.args.lists.now ≡ lists.Folder place c.in-Folder.list = search rules in
-    let is = c.files-in-Folder.ensures in
+    let is = c.watched_files-files.ensures in
+    let files = c.watched_files-files.result.files in
     let form = c.args.format in
     let list = c.as_str.result.now in
     let ran = c.write_list_plan-in-Folder in
-    let told = folder_ran (g.S.Folders.below c.args.system.now.folders.now place.folder place.prefix) _
-    (rw (is.0, is.1, is.2) refl) _
+    let told = folder_ran (g.S.Folders.below c.args.system.now.folders.now place.folder place.prefix)
+    (g.S.Folders.below files.folders.now files.folder.now files.prefix.now) (rw (is.0, is.1, is.2) refl)
+    (g.S.Folders.may_fail files.folders.now files.folder.now files.prefix.now)
     (g.S.Folders.may_fail c.args.system.now.folders.now place.folder place.prefix)
     (λ path h. rw (is.0, is.1, is.2) at h) (λ world. list_plan_in form world list) (λ world. list_reads world list)
     (g.W.Sink.may_fail c.args.output.now) ran.result _ _ (λ v told. ran.ensures.answers v told)

@@ -8,13 +8,13 @@ pub returns-in_err-files : goal.returns-in_err-files
 returns-in_err-files g c =
     let p = err_from_is_err_and c.from_residual.result c.from_residual.ensures.1 in
     let no = c.in_err-files.ensures.refused in
-    let path = c.args.table.path.now in
+    let path = c.args.table.now.path.now in
     rw (p.1, p.2) (
       no.0,
       no.1,
       unopened_ran (g.S.Folders.below c.args.system.now.folders.now)
           (g.S.Folders.may_fail c.args.system.now.folders.now) no.0 (λ world. plan_in c.args.format world path c.args.request.now c.args.workers)
-          (λ world. reads_at world path c.args.request.now) c.args.table.source.now (g.W.Sink.may_fail c.args.output.now) _
+          (λ world. reads_at world path c.args.request.now) c.args.table.now.source.now (g.W.Sink.may_fail c.args.output.now) _
           c.in_err-files.field-0.0 no.2,
     )
 
@@ -24,7 +24,7 @@ returns g c =
     let path = c.as_str.result.now in
     let ran = c.write_plan in
     let told = opened_ran (g.S.Folders.below c.args.system.now.folders.now)
-    (g.S.Folders.may_fail c.args.system.now.folders.now) opened.0 c.args.table.source.now _ _ opened.2
+    (g.S.Folders.may_fail c.args.system.now.folders.now) opened.0 c.args.table.now.source.now _ _ opened.2
     (λ world. plan_in c.args.format world path c.args.request.now c.args.workers) (λ world. reads_at world path c.args.request.now) (g.W.Sink.may_fail c.args.output.now)
     ran.result _ _ (λ v told. ran.ensures.answers v told) ran.ensures.refusal.nothing in
     (opened.0, opened.1, rw c.as_str.ensures at told)

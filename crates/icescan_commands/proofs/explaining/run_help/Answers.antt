@@ -12,7 +12,7 @@ pub returns-in-Err : goal.returns-in-Err
 returns-in-Err g c =
     let left = g.R.Read.remaining c.args.input.now in (
       Err run.Memory,
-      record { first = λ is. absurd cc; causes = inl refl },
+      record { first = λ is. absurd cc; heard = λ is. tt; causes = inl refl },
       left_of left,
       is_left left,
       inr (record {

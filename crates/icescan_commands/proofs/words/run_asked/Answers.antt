@@ -1,4 +1,4 @@
-use Rattle.std.proofs.Common.{rules, ◌≡◌}
+use Rattle.std.proofs.Common.{refl, rules, ◌≡◌}
 use Rattle.icescan_words.specs.declared.command.Command.TheVariants as command
 use Rattle.icescan_commands.proofs.Refusals.{is_left, left_of, on_ok_as, ran_as}
 use Rattle.icescan_commands.proofs.words.run_asked.Goals as goal
@@ -95,3 +95,48 @@ returns-in-Text-clause-ran g c =
       ran_as _ _ c.tell.result none.result _ _ none.ensures.same c.tell.ensures,
       none.ensures.none,
     )
+
+pub returns-in-ListPlan-clause-stored : goal.returns-in-ListPlan-clause-stored
+returns-in-ListPlan-clause-stored g c =
+    let asked : c.args.asked.now ≡ command.ListPlan c.in-ListPlan.lists c.in-ListPlan.format = search rules in
+    rw asked refl
+
+pub returns-in-Plan-clause-stored : goal.returns-in-Plan-clause-stored
+returns-in-Plan-clause-stored g c =
+    let asked : c.args.asked.now ≡ command.Plan c.in-Plan.source c.in-Plan.request c.in-Plan.format c.in-Plan.workers c.in-Plan.path = search rules in
+    rw asked refl
+
+pub returns-in-Show-clause-stored : goal.returns-in-Show-clause-stored
+returns-in-Show-clause-stored g c =
+    let asked : c.args.asked.now ≡ command.Show c.in-Show.source c.in-Show.path = search rules in
+    rw asked refl
+
+pub returns-in-Explain-clause-stored : goal.returns-in-Explain-clause-stored
+returns-in-Explain-clause-stored g c =
+    let asked : c.args.asked.now ≡ command.Explain c.in-Explain.source c.in-Explain.request c.in-Explain.workers c.in-Explain.path = search rules in
+    rw asked refl
+
+pub returns-in-Drill-clause-stored : goal.returns-in-Drill-clause-stored
+returns-in-Drill-clause-stored g c =
+    let asked : c.args.asked.now ≡ command.Drill c.in-Drill.asked = search rules in
+    rw asked refl
+
+pub returns-in-Text-clause-stored : goal.returns-in-Text-clause-stored
+returns-in-Text-clause-stored g c =
+    let asked : c.args.asked.now ≡ command.Text c.in-Text.text = search rules in
+    rw asked refl
+
+pub returns-in-Audit-clause-stored : goal.returns-in-Audit-clause-stored
+returns-in-Audit-clause-stored g c =
+    let asked : c.args.asked.now ≡ command.Audit c.in-Audit.source c.in-Audit.target c.in-Audit.workers c.in-Audit.path = search rules in
+    rw asked refl
+
+pub returns-in-Commit-clause-stored : goal.returns-in-Commit-clause-stored
+returns-in-Commit-clause-stored g c =
+    let asked : c.args.asked.now ≡ command.Commit c.in-Commit.source c.in-Commit.request = search rules in
+    rw (asked, c.no_findings-in-Commit.ensures.same) c.commit.ensures.stored
+
+pub returns-in-Audit-clause-ran : goal.returns-in-Audit-clause-ran
+returns-in-Audit-clause-ran g c =
+    let asked : c.args.asked.now ≡ command.Audit c.in-Audit.source c.in-Audit.target c.in-Audit.workers c.in-Audit.path = search rules in
+    rw asked c.audit.ensures

@@ -4,35 +4,41 @@ use Rattle.icescan_commands.proofs.words.run_words.Goals as goal
 
 pub returns-in-Ok : goal.returns-in-Ok
 returns-in-Ok g c =
-    let w = c.in-Ok.ensures in (
-      w.0,
-      w.1,
-      w.4,
-      w.5,
-      inl (record {
-        written = w.6.written;
-        silent = refl;
-        ends = (c.in-Ok.count, w.7, c.status_of_count.ensures);
-        drilled = w.2;
-        stored = w.3;
-      }),
-    )
+    let w = c.in-Ok.ensures in
+    record {
+      run = (
+        w.0,
+        w.1,
+        w.4,
+        w.5,
+        inl (record {
+          written = w.6.written;
+          silent = refl;
+          ends = (c.in-Ok.count, w.7, c.status_of_count.ensures);
+          drilled = w.2;
+          stored = w.3;
+        }),
+      );
+    }
 
 pub returns-in-Err : goal.returns-in-Err
 returns-in-Err g c =
     let w = c.in-Err.ensures in
-    let ran = w.6 in (
-      w.0,
-      w.1,
-      w.4,
-      w.5,
-      inr (record {
-        fault = c.in-Err.fault;
-        cause = ran.refused;
-        status_is = c.report.ensures.status;
-        nothing = ran.nothing;
-        front = λ is. ran.front (ap Err is);
-        stored = w.3;
-        told = record { front = c.report.ensures.front; all = c.report.ensures.all };
-      }),
-    )
+    let ran = w.6 in
+    record {
+      run = (
+        w.0,
+        w.1,
+        w.4,
+        w.5,
+        inr (record {
+          fault = c.in-Err.fault;
+          cause = ran.refused;
+          status_is = c.report.ensures.status;
+          nothing = ran.nothing;
+          front = λ is. ran.front (ap Err is);
+          stored = w.3;
+          told = record { front = c.report.ensures.front; all = c.report.ensures.all };
+        }),
+      );
+    }

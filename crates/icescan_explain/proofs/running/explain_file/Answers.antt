@@ -2,7 +2,7 @@ use Rattle.std.proofs.Common.{◌≡◌, ◌∙◌, ap, sym}
 use Rattle.std.specs.Prelude.{Err, Ok, []}
 use Rattle.icescan_text.specs.declared.fault.RunFault.TheVariants as run
 use Rattle.std.proofs.lemmas.Result.{err_from_is_err_and, IfErr-weaker, IfOk-weaker}
-use Rattle.icescan_text.proofs.Workers.{in_range}
+use Rattle.icescan_text.proofs.Enough.{in_range}
 use Rattle.icescan_explain.proofs.Telling.{ends_behind, explained_behind, no_metadata, no_workers}
 use Rattle.icescan_explain.proofs.running.explain_file.Goals as goal
 

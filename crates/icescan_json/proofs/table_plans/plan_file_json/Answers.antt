@@ -4,7 +4,7 @@ use Rattle.std.proofs.lemmas.Result.{err_from_is_err_and}
 use Rattle.ice_desk.specs.Worlds.{EndsAt}
 use Rattle.icescan_text.specs.Reads.{MayEnd}
 use Rattle.icescan_text.specs.declared.fault.RunFault.TheVariants as run
-use Rattle.icescan_text.proofs.Workers.{in_range}
+use Rattle.icescan_text.proofs.Enough.{in_range}
 use Rattle.icescan_requests.proofs.Plans.{writes_whoever_works}
 use Rattle.icescan_requests.specs.Plans.{over_all_rows, over_wanted_rows, reads_at}
 use Rattle.icescan_json.proofs.Asked.{same_typed_at}

@@ -1,7 +1,7 @@
 use Rattle.std.proofs.Common.{◌≡◌, ◌∙◌, ap, refl, sym}
 use Rattle.std.specs.Prelude.{Err}
 use Rattle.std.proofs.lemmas.Result.{err_from_is_err_and, on_ok_weaker}
-use Rattle.icescan_text.proofs.Workers.{enough, in_range}
+use Rattle.icescan_text.proofs.Enough.{enough, in_range}
 use Rattle.icescan_text.specs.declared.fault.RunFault.TheVariants as run
 use Rattle.icescan_json.proofs.Asked.{same_typed}
 use Rattle.ice_desk.specs.Worlds.{EndsAt}

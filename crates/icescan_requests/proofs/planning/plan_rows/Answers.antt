@@ -21,9 +21,9 @@ returns-in_err-take_wanted-clause-refused g c =
     (not_taken (g.F.Files.may_fail c.args.files.now) ⊥ world c.args.selected.specs c.args.selected.filter.parts c.args.selected.rows
     c.in_ok-scan.scan c.in_ok-scan.ensures c.in_err-take_wanted.field-0.0 stopped)
 
-pub returns-in_err-plan-clause-refused : goal.returns-in_err-plan-clause-refused
-returns-in_err-plan-clause-refused g c =
-    let p = err_from_is_err_and c.from_residual-in_err-plan.result c.from_residual-in_err-plan.ensures.1 in
+pub returns-in_err-into_plan-clause-refused : goal.returns-in_err-into_plan-clause-refused
+returns-in_err-into_plan-clause-refused g c =
+    let p = err_from_is_err_and c.from_residual-in_err-into_plan.result c.from_residual-in_err-into_plan.ensures.1 in
     let scan = c.in_ok-scan.scan in
     λ world told.
     let present = each_present world scan.wanted
@@ -31,10 +31,10 @@ returns-in_err-plan-clause-refused g c =
     at (c.in_ok-take_wanted.ensures.present world told)) in
     let taken = c.in_ok-take_wanted.ensures.taken world (no_row scan) told
     (nothing_taken world scan c.in_ok-state.state (c.in_ok-state.ensures.world world)) in
-    let fault = rw taken.is at c.in_err-plan.ensures.outcome in
+    let fault = rw taken.is at c.in_err-into_plan.ensures.outcome in
     rw (p.1, p.2)
     (no_plan (g.F.Files.may_fail c.args.files.now) ⊥ world c.args.selected.specs c.args.selected.filter.parts c.args.selected.rows scan
-    c.in_ok-scan.ensures present c.in_err-plan.field-0.0 fault)
+    c.in_ok-scan.ensures present c.in_err-into_plan.field-0.0 fault)
 
 pub returns-clause-found : goal.returns-clause-found
 returns-clause-found g c =
@@ -46,4 +46,4 @@ returns-clause-found g c =
     let taken = c.in_ok-take_wanted.ensures.taken world (no_row scan) told
     (nothing_taken world scan c.in_ok-state.state (c.in_ok-state.ensures.world world)) in
     plan_there (g.F.Files.may_fail c.args.files.now) ⊥ world c.args.selected.specs c.args.selected.filter.parts c.args.selected.rows
-    scan c.in_ok-scan.ensures present c.in_ok-plan.plan (rw taken.is at c.in_ok-plan.ensures.outcome)
+    scan c.in_ok-scan.ensures present c.in_ok-into_plan.field-0 (rw taken.is at c.in_ok-into_plan.ensures.outcome)

@@ -1,5 +1,6 @@
 use Rattle.std.proofs.Common.{◌∷◌, [], ◌++◌, Some, ap, subst, sym, take, ◌∙◌}
 use Rattle.std.proofs.lemmas.Option.{slice_get-get_or}
+use Rattle.std.proofs.lemmas.Result.{err_from_is_err_and}
 use Rattle.icescan_requests.specs.Disks.{ArePlaced, Extends, IsPlacedAt, NotPlacedAt, StopsPlacing}
 use Rattle.icescan_requests.specs.Stores.{PutsAll, WereFree}
 use Rattle.icescan_requests.proofs.Placed.{extends_as, extends_then, not_placed_at_as, parted, placed_at_as}
@@ -35,3 +36,25 @@ files-preserved g c =
       subst (λ l. Extends before end (ArePlaced names l)) next all,
       λ path name aside h. c.files.invariant.4 path name aside (c.in_ok-create_new.ensures.named path name aside h),
     )
+
+pub returns-in_err-create_new-clause-unplaced : goal.returns-in_err-create_new-clause-unplaced
+returns-in_err-create_new-clause-unplaced g c =
+    let p = err_from_is_err_and c.from_residual.result c.from_residual.ensures.1 in
+    let fault = c.in_err-create_new.field-0.0 in
+    let before = g.S.Store.events c.args.store.now in
+    let mid = g.S.Store.events c.files.store in
+    let end = g.S.Store.events c.create_new.new.self in
+    let names = g.S.Store.names c.args.store.now in
+    let names' = g.S.Store.names c.files.store in
+    let files = c.args.files.now in
+    let front = take c.files.file-index files in
+    let f = c.file-item.result in
+    let at = slice_get-get_or files c.files.file-index _ c.files-test.true ∙ ap Some (sym c.file-item.is) in
+    let parts = parted files c.files.file-index f at in
+    let last = rw (c.as_str.ensures, c.as_slice.ensures) at c.in_err-create_new.ensures.unplaced in
+    let stops : Extends before end (StopsPlacing names files fault) =
+    extends_then before mid end (ArePlaced names front) (NotPlacedAt names' f.0 f.1 fault)
+    (StopsPlacing names files fault) c.files.invariant.3 last (λ m n h k.
+    subst (λ l. StopsPlacing names l fault (m ++ n)) parts.1 (stops_next names front f parts.0 fault m n h
+    (not_placed_at_as names names' c.files.invariant.4 f.0 f.1 fault n k))) in
+    rw (p.1, p.2) stops

@@ -2,7 +2,7 @@ use Rattle.std.proofs.Common.{◌≡◌, ◌∙◌, ap, sym}
 use Rattle.std.specs.Prelude.{Err}
 use Rattle.std.proofs.lemmas.Result.{err_from_is_err_and, on_ok_weaker}
 use Rattle.icescan_text.specs.declared.fault.RunFault.TheVariants as run
-use Rattle.icescan_text.proofs.Workers.{in_range}
+use Rattle.icescan_text.proofs.Enough.{in_range}
 use Rattle.icescan_requests.specs.Plans.{over_all_rows, over_wanted_rows}
 use Rattle.icescan_requests.proofs.Plans.{answers_as, no_workers_at, refused_plan, same_answer_at, writes_no_plan}
 use Rattle.icescan_requests.proofs.Plans.{writes_plan, writes_whoever_works, written_plan}
@@ -104,4 +104,4 @@ returns-clause-text g c =
 pub returns-clause-selection : goal.returns-clause-selection
 returns-clause-selection g c =
     let read = c.in_ok-planned.ensures.selection in
-    on_ok_weaker c.write_plan_by_workers.result (λ _. (read.0, read.2, read.3)) c.write_plan_by_workers.ensures.all
+    on_ok_weaker c.write_plan_by_workers.result (λ _. (read.0, read.2.0, read.2.1)) c.write_plan_by_workers.ensures.all

@@ -2,7 +2,7 @@ use Rattle.std.proofs.Common.{◌≡◌, ◌∙◌, ap, sym}
 use Rattle.std.specs.Prelude.{Err}
 use Rattle.std.proofs.lemmas.Result.{err_from_is_err_and}
 use Rattle.icescan_text.specs.declared.fault.RunFault.TheVariants as run
-use Rattle.icescan_text.proofs.Workers.{enough, in_range}
+use Rattle.icescan_text.proofs.Enough.{enough, in_range}
 use Rattle.icescan_requests.proofs.Plans.{answers_as, no_workers, refused_plan, writes_no_plan, writes_plan}
 use Rattle.icescan_requests.proofs.Plans.{writes_whoever_works, written_plan}
 use Rattle.icescan_requests.proofs.table_texts.run_plan_with.Goals as goal

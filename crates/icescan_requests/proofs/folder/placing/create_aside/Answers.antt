@@ -16,7 +16,7 @@ pub returns-in-Ok-create_new-clause-made : goal.returns-in-Ok-create_new-clause-
 returns-in-Ok-create_new-clause-made g c =
     let named = c.in-Ok-create_new.ensures.named in
     let own : IsAsideOf c.args.ids.now c.args.name.now (g.D.Disk.made_as c.in-Ok-create_new.file) =
-    (c.folder.result.now, c.folder.ensures, (c.loop-number.number, named ∙ c.in-Ok.ensures)) in
+    (c.folder_of-folder.result.now, c.folder_of-folder.ensures, (c.loop-number.number, named ∙ c.in-Ok.ensures)) in
     extends_then _ _ _ _ _ _ c.loop-number.invariant
     (extends_by _ _ _ (λ n. n ≡ Done (Create _) ∷ []) c.in-Ok-create_new.ensures.told refl)
     (λ m n p q. made_after _ _ m n own p (q ∙ ap (λ a. Done (Create a) ∷ []) (sym named)))
@@ -25,4 +25,4 @@ pub returns-in-Err-2-clause-not : goal.returns-in-Err-2-clause-not
 returns-in-Err-2-clause-not g c =
     extends_then _ _ _ _ _ _ c.loop-number.invariant
     (extends_by _ _ _ NothingLinked c.in-Err-2.ensures.told refl)
-    (λ m n p q. not_made _ c.call_fault.ensures _ (nothing_then m n (tries_link_nothing m p) q))
+    (λ m n p q. not_made _ _ c.call_fault.ensures (nothing_then m n (tries_link_nothing m p) q))

@@ -1,5 +1,5 @@
 use Rattle.std.proofs.Common.{inr}
-use Rattle.icescan_requests.specs.Disks.{Extends, IsAsideOf, IsFolderKept, IsFolderLost, IsMade, IsPlaced, IsPut}
+use Rattle.icescan_requests.specs.Disks.{Extends, IsAsideOf, IsFolderKept, IsFolderLost, IsMade, IsPlaced, IsPutAt}
 use Rattle.icescan_requests.specs.Disks.{NothingLinked, NotLinked, NotPlaced}
 use Rattle.icescan_requests.specs.declared.store.StoreFault.{StoreFault}
 use Rattle.icescan_requests.specs.declared.store.StoreFault.TheVariants as store
@@ -7,9 +7,6 @@ use Rattle.icescan_requests.proofs.Placed.{done_with, extends_as, extends_by, ex
 use Rattle.icescan_requests.proofs.Placed.{made_not_placed, not_linked_before, not_made_is_not_placed}
 use Rattle.icescan_requests.proofs.Placed.{removing_links_nothing}
 use Rattle.icescan_requests.proofs.folder.placing.place_new.Goals as goal
-
-pub returns-in_err-file-clause-not : goal.returns-in_err-file-clause-not
-returns-in_err-file-clause-not g c = ?
 
 pub returns-in-Ok-clause-placed : goal.returns-in-Ok-clause-placed
 returns-in-Ok-clause-placed g c =
@@ -35,7 +32,7 @@ returns-in-Ok-clause-not g c =
     let own = IsAsideOf c.args.ids.now name in
     let folder = c.folder_of.result.now in
     let fails : Extends removed end (IsFolderLost folder) → Extends before end (NotPlaced own name bytes store.Failed) =
-    λ lost. extends_as before end (IsPut own name bytes IsFolderLost) (NotPlaced own name bytes store.Failed)
+    λ lost. extends_as before end (IsPutAt own name bytes IsFolderLost) (NotPlaced own name bytes store.Failed)
     (extends_put before _ _ removed end own name bytes _ _ folder _ IsFolderLost c.in_ok-file.ensures.made
     c.in-Ok.ensures.linked c.remove.ensures c.in-Ok.ensures.same c.folder_of.ensures lost)
     (λ m p. inr p) in
