@@ -167,7 +167,7 @@ fn puts(rt: &HostRuntime, host: &Host<'_>) -> (Result<(), StoreFault>, u32) {
 }
 
 /// A host that refuses nothing, and knows no file.
-fn host<'a>() -> Host<'a> {
+fn willing_host<'a>() -> Host<'a> {
     Host {
         written: None,
         kept: None,
@@ -188,7 +188,7 @@ fn files_that_refuse(rt: HostRuntime) {
         let host = Host {
             written,
             kept,
-            ..host()
+            ..willing_host()
         };
         assert_eq!(rt; puts(&rt, &host), (Err(StoreFault::Failed), 0));
     }
@@ -210,7 +210,7 @@ fn folders_that_refuse(rt: HostRuntime) {
         let host = Host {
             opened,
             synced,
-            ..host()
+            ..willing_host()
         };
         assert_eq!(rt; puts(&rt, &host), (wanted, 1));
     }
@@ -233,7 +233,7 @@ fn links_that_refuse(rt: HostRuntime) -> io::Result<()> {
             linked: Some(ErrorKind::AlreadyExists),
             known,
             found,
-            ..host()
+            ..willing_host()
         };
         assert_eq!(rt; puts(&rt, &host), (wanted, 0));
     }
