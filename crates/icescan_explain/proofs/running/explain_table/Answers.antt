@@ -9,7 +9,7 @@ use Rattle.icescan_explain.proofs.Telling.{explained_there, no_plan, no_rows_fou
 use Rattle.icescan_explain.proofs.running.explain_table.Goals as goal
 
 pub explain_rows-requires : goal.explain_rows-requires
-explain_rows-requires g c = (c.deref.result.now, rw c.as_slice.ensures at c.in_ok-tests.ensures)
+explain_rows-requires g c = (c.deref.result.now, rw c.as_slice-specs.ensures at c.in_ok-tests.ensures)
 
 pub returns-in_err-selected-clause-refused : goal.returns-in_err-selected-clause-refused
 returns-in_err-selected-clause-refused g c =
