@@ -3,7 +3,7 @@
 
 ghost use Rattle.std.specs.Prelude.{◌≡◌, IfOk, length, vec_len};
 ghost use Rattle.contract_words.specs.Outcome.{Gives};
-ghost use Rattle.ice_catalog_versions.specs.Histories.{opened};
+ghost use Rattle.ice_catalog_versions.specs.Histories.{opened, prepared_on};
 
 use ice_catalog::{Event, Reply};
 use ice_catalog_versions::{Change, Ids, PrepareFault, Prepared, Version, World};
@@ -17,14 +17,15 @@ pub fn open(alloc: Global, bytes: &[u8], world: World) -> Result<Version, MetaFa
     Version::open(alloc, bytes, world)
 }
 
-/// What is prepared is the commit of this change under these ids.
+/// A commit of this change on a version, or the first reason for which it is refused.
 pub fn prepare(
     alloc: Global,
     base: &Version,
     change: &Change,
     ids: Ids,
 ) -> Result<Prepared, PrepareFault>
-    ensures { IfOk result (λ p. p.commit ≡ record { change = change.now; ids = ids }) }
+    ensures { Gives PrepareFault.Memory (λ p. p) result
+        (prepared_on base.now (record { change = change.now; ids = ids })) }
 {
     ice_catalog_versions::prepare(alloc, base, change, ids)
 }
