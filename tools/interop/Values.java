@@ -10,8 +10,7 @@ import org.apache.avro.generic.*;
 
 /**
  * Writes a table's manifest list and its one manifest to a folder, by Avro's Java library: a data file with a partition
- * value of each type, each the value of which the table format's specification shows the JSON ("JSON single-value
- * serialization").
+ * value of each of twelve types. Their JSON is expected in crates/icescan_runs/stdout.
  */
 public class Values {
     static final long MICROS =
