@@ -5,24 +5,25 @@ use Rattle.std.specs.List.Sorted.{IsPermutation}
 use Rattle.std.specs.Str.{bytes_eq}
 use Rattle.std.proofs.lemmas.List.{map-append}
 use Rattle.std.proofs.lemmas.List.Elements.{filter-append}
-use Rattle.std.proofs.lemmas.List.Sorted.{IsPermutation-append, IsPermutation-cons, IsPermutation-refl, IsPermutation-sym}
+use Rattle.std.proofs.lemmas.List.Sorted.{IsPermutation-append, IsPermutation-cons, IsPermutation-refl}
+use Rattle.std.proofs.lemmas.List.Sorted.{IsPermutation-sym}
 use Rattle.std.proofs.lemmas.List.Sorted.{IsPermutation-trans}
 use Rattle.contract_words.proofs.Sorted.{filter-sorted}
 use Rattle.ice_manifest_reading.specs.declared.entry.Entry.{Entry}
 use Rattle.ice_value.specs.declared.file_content.FileContent.TheVariants.{Data}
 use Rattle.ice_state.specs.declared.finish.by_kind.FilesByKind.{FilesByKind}
-use Rattle.ice_state.specs.declared.kept.indexed.IndexedDeletes.{IndexedDeletes}
+use Rattle.ice_state.specs.declared.kept.deletes.KeptDeletes.{KeptDeletes}
 use Rattle.ice_state.specs.declared.kept.segments.FileNumber.{FileNumber}
 use Rattle.ice_state.specs.Apart.{ShareNoPath}
 use Rattle.ice_state.specs.ByKind.{AreFilesOf, AreKeptByKind, entries_by_kind, HasFilesOf}
-use Rattle.ice_state.specs.KeptDeletes.{IsIndexOf}
+use Rattle.ice_state.specs.KeptDeletes.{AreDeletesOf}
 use Rattle.ice_state.specs.Outcomes.{by_path, path_before, twice}
 use Rattle.ice_state.specs.Parts.{holds_deletes}
 use Rattle.ice_state.specs.Pruning.{holds}
 use Rattle.ice_state.specs.Segments.{AreKept, IsKept, Segmented, entry_at, entries_at}
 use Rattle.ice_state.specs.Shares.{count_at}
 use Rattle.ice_state.proofs.PathsOnce.{by_path_moves}
-use Rattle.ice_state.proofs.DeletesKept.{no_more}
+use Rattle.ice_state.proofs.DeletesKept.{index_of_all, no_more}
 use Rattle.ice_state.proofs.Permuted.{filter_moved, fronts}
 use Rattle.ice_state.proofs.Rising.{few_if_once, once_if_few}
 use Rattle.ice_state.proofs.Sharing.{count-by_path, order}
@@ -101,10 +102,11 @@ all_data kept xs files none are no_deletes = record {
   all_deletes = ap (entries_at kept) no_deletes ∙ sym none;
 }
 
--- the delete files of entries, where their index has none
-pub none_indexed : (kept : Segmented) (xs ys : List Entry) (deletes : IndexedDeletes) → IsIndexOf kept xs deletes
-    → deletes.files.items ≡ [] → IsPermutation xs ys → deletes_of ys ≡ []
-none_indexed kept xs ys deletes is none same =
+-- the delete files of entries, where none are kept
+pub no_deletes : (kept : Segmented) (xs ys : List Entry) (deletes : KeptDeletes) → AreDeletesOf kept xs deletes
+    → deletes.indexed.files.items ≡ [] → deletes.waiting.items ≡ [] → IsPermutation xs ys → deletes_of ys ≡ []
+no_deletes kept xs ys deletes are none none_wait same =
+    let is = index_of_all kept xs deletes none_wait are in
     let here : IsPermutation (deletes_of xs) [] =
     subst (λ (ns : List FileNumber). IsPermutation (deletes_of xs) (entries_at kept ns)) none is.all in
     no_more (deletes_of ys) (IsPermutation-trans (deletes_of ys) (deletes_of xs) []

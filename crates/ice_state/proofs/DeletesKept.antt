@@ -1,25 +1,29 @@
--- The index that a state keeps of its delete files, as rows come.
+-- The delete files that a state keeps, and their index, as rows come.
 use Rattle.std.proofs.Common.{◌≡◌, ◌<◌, ℕ, zero, suc, false, List, [], ◌∷◌, ◌++◌, length, map, filter, refl, sym}
-use Rattle.std.proofs.Common.{ap, subst, ◌∙◌, arith, append_assoc, replicate, get_or, slice_set, Option, Some, None, IfSome}
+use Rattle.std.proofs.Common.{ap, subst, ◌∙◌, arith, append_assoc, replicate, get_or, slice_set, Option, Some, None}
+use Rattle.std.proofs.Common.{IfSome}
 use Rattle.std.proofs.Common.{◌≤◌, ◌+◌, Result, Ok, Err, IfOk}
 use Rattle.std.specs.Result.{result_ok}
 use Rattle.std.specs.List.{range_with_len}
 use Rattle.std.specs.List.Sorted.{IsPermutation}
 use Rattle.std.proofs.lemmas.List.{map-append, append-nil}
 use Rattle.std.proofs.lemmas.List.Elements.{filter-append}
-use Rattle.std.proofs.lemmas.List.Sorted.{IsPermutation-refl, IsPermutation-trans, IsPermutation-sym, length_permutation}
-use Rattle.std.proofs.lemmas.List.Sorted.{IsPermutation-append, IsPermutation-append_right, IsPermutation-append_comm}
+use Rattle.std.proofs.lemmas.List.Sorted.{IsPermutation-refl, IsPermutation-trans, IsPermutation-sym}
+use Rattle.std.proofs.lemmas.List.Sorted.{length_permutation}
+use Rattle.std.proofs.lemmas.List.Sorted.{IsPermutation-append, IsPermutation-append_left, IsPermutation-append_right}
+use Rattle.std.proofs.lemmas.List.Sorted.{IsPermutation-append_comm}
 use Rattle.ice_value.specs.Applying.{DeleteKey}
 use Rattle.ice_deletes.specs.Found.{numbered_deletes}
 use Rattle.ice_deletes.specs.Unions.{renumbered, IsUnion}
 use Rattle.ice_manifest_reading.specs.declared.entry.Entry.{Entry}
+use Rattle.ice_state.specs.declared.kept.deletes.KeptDeletes.{KeptDeletes}
 use Rattle.ice_state.specs.declared.kept.indexed.IndexedDeletes.{IndexedDeletes}
 use Rattle.ice_state.specs.declared.kept.segments.FileNumber.{FileNumber}
 use Rattle.ice_state.specs.declared.kept.taken.Taken.{Taken}
 use Rattle.ice_state.specs.Applying.{delete_key_of}
 use Rattle.ice_state.specs.Contents.{Content, is_row_taken}
 use Rattle.ice_state.specs.Joins.{join}
-use Rattle.ice_state.specs.KeptDeletes.{HasPlaces, IsIndexOf, IsState}
+use Rattle.ice_state.specs.KeptDeletes.{AreDeletes, AreDeletesOf, HasPlaces, IsIndexOf, IsState}
 use Rattle.ice_state.specs.Outcomes.{entries_in, kept_in}
 use Rattle.ice_state.specs.Parts.{with_row, gains, AreApart, holds_deletes}
 use Rattle.ice_state.specs.Readings.{Reading}
@@ -203,31 +207,145 @@ module _ (kept : Segmented) (xs ys : List Entry) (d e : IndexedDeletes) (first :
             (index_of_both ks ls d.index e.index both.index to first.index rest.index range union);
       }
 
--- ---- an index that may have been dropped
+-- ---- delete files of which some wait
 
-pub if_kept : (old new : Segmented) (xs : List Entry) (d : Option IndexedDeletes) → Keeps old new
-    → IfSome d (IsIndexOf old xs) → IfSome d (IsIndexOf new xs)
-if_kept old new xs None keeps is = tt
-if_kept old new xs (Some d) keeps is = index_kept old new xs d keeps is
+pub deletes_kept : (old new : Segmented) (xs : List Entry) (d : KeptDeletes) → Keeps old new → AreDeletesOf old xs d
+    → AreDeletesOf new xs d
+deletes_kept old new xs d keeps are = record {
+  first = are.first;
+  others = are.others;
+  parts = are.parts;
+  index = index_kept old new are.first d.indexed keeps are.index;
+  files = files_kept old new keeps d.waiting.items are.files;
+  waiting = subst (λ (es : List Entry). IsPermutation (filter holds_deletes are.others) es)
+      (sym (entries_same old new keeps d.waiting.items are.files)) are.waiting;
+}
 
-pub if_moved : (kept : Segmented) (xs ys : List Entry) (d : Option IndexedDeletes) → IsPermutation xs ys
-    → IfSome d (IsIndexOf kept xs) → IfSome d (IsIndexOf kept ys)
-if_moved kept xs ys None same is = tt
-if_moved kept xs ys (Some d) same is = index_moved kept xs ys d same is
+pub deletes_moved : (kept : Segmented) (xs ys : List Entry) (d : KeptDeletes) → IsPermutation xs ys
+    → AreDeletesOf kept xs d → AreDeletesOf kept ys d
+deletes_moved kept xs ys d same are = record {
+  first = are.first;
+  others = are.others;
+  parts = IsPermutation-trans (are.first ++ are.others) xs ys are.parts same;
+  index = are.index;
+  files = are.files;
+  waiting = are.waiting;
+}
 
-pub if_places : (kept : Segmented) (xs : List Entry) (d : Option IndexedDeletes) → IfSome d (IsIndexOf kept xs)
-    → IfSome d HasPlaces
-if_places kept xs None is = tt
-if_places kept xs (Some d) is = has_places kept xs d is
+module _ (kept : Segmented) (xs : List Entry) (d : KeptDeletes) where
+  -- none waits
+  pub deletes_of_index : d.waiting.items ≡ [] → IsIndexOf kept xs d.indexed → AreDeletesOf kept xs d
+  deletes_of_index none is = record {
+    first = xs;
+    others = [];
+    parts = subst (λ (ys : List Entry). IsPermutation ys xs) (sym (append-nil xs)) (IsPermutation-refl xs);
+    index = is;
+    files = subst (AreKept kept) (sym none) tt;
+    waiting = subst (λ (ns : List FileNumber). IsPermutation [] (entries_at kept ns)) (sym none) (IsPermutation-refl []);
+  }
+
+  -- all wait
+  pub deletes_of_files : IsIndexOf kept [] d.indexed → AreKept kept d.waiting.items
+      → IsPermutation (filter holds_deletes xs) (entries_at kept d.waiting.items) → AreDeletesOf kept xs d
+  deletes_of_files is files same = record {
+    first = [];
+    others = xs;
+    parts = IsPermutation-refl xs;
+    index = is;
+    files = files;
+    waiting = same;
+  }
+
+  module _ (none : d.waiting.items ≡ []) (are : AreDeletesOf kept xs d) where
+    none_wait : filter holds_deletes are.others ≡ []
+    none_wait =
+        let P : List FileNumber → Type 0 = λ ns. IsPermutation (filter holds_deletes are.others) (entries_at kept ns) in
+        no_more (filter holds_deletes are.others) (subst P none are.waiting)
+
+    -- the index is that of all
+    pub index_of_all : IsIndexOf kept xs d.indexed
+    index_of_all =
+        let all : filter holds_deletes (are.first ++ are.others) ≡ filter holds_deletes are.first =
+        filter-append holds_deletes are.first are.others
+        ∙ ap (λ (zs : List Entry). filter holds_deletes are.first ++ zs) none_wait
+        ∙ append-nil (filter holds_deletes are.first) in
+        index_moved kept (are.first ++ are.others) xs d.indexed are.parts (record {
+          files = are.index.files;
+          all = subst (λ (zs : List Entry). IsPermutation zs (entries_at kept d.indexed.files.items)) (sym all)
+              are.index.all;
+          index = are.index.index;
+        })
+
+-- further files that wait
+pub deletes_with : (kept : Segmented) (xs ys : List Entry) (d e : KeptDeletes) (files : List FileNumber)
+    → e.indexed ≡ d.indexed → e.waiting.items ≡ d.waiting.items ++ files → AreDeletesOf kept xs d → AreKept kept files
+    → IsPermutation (filter holds_deletes ys) (entries_at kept files) → AreDeletesOf kept (xs ++ ys) e
+deletes_with kept xs ys d e files same joined are these more =
+    let both = filter holds_deletes are.others ++ filter holds_deletes ys in
+    let entries : entries_at kept e.waiting.items ≡ entries_at kept d.waiting.items ++ entries_at kept files =
+    ap (entries_at kept) joined ∙ map-append (entry_at kept) d.waiting.items files in
+    record {
+      first = are.first;
+      others = are.others ++ ys;
+      parts = subst (λ (zs : List Entry). IsPermutation zs (xs ++ ys)) (append_assoc are.first are.others ys)
+          (IsPermutation-append_left ys (are.first ++ are.others) xs are.parts);
+      index = subst (λ (i : IndexedDeletes). IsIndexOf kept are.first i) (sym same) are.index;
+      files = subst (AreKept kept) (sym joined) (files_both kept d.waiting.items files are.files these);
+      waiting =
+          subst (λ (zs : List Entry). IsPermutation zs (entries_at kept e.waiting.items))
+          (sym (filter-append holds_deletes are.others ys))
+          (subst (λ (es : List Entry). IsPermutation both es) (sym entries)
+          (IsPermutation-append (filter holds_deletes are.others) (entries_at kept d.waiting.items)
+          (filter holds_deletes ys) (entries_at kept files) are.waiting more));
+    }
+
+-- the same where they were pushed to those that wait
+pub deletes_pushed : (kept : Segmented) (xs ys : List Entry) (d e : KeptDeletes) → e.indexed ≡ d.indexed
+    → AreKept kept e.waiting.items
+    → entries_at kept e.waiting.items ≡ entries_at kept d.waiting.items ++ filter holds_deletes ys
+    → AreDeletesOf kept xs d → AreDeletesOf kept (xs ++ ys) e
+deletes_pushed kept xs ys d e same files pushed are = record {
+  first = are.first;
+  others = are.others ++ ys;
+  parts = subst (λ (zs : List Entry). IsPermutation zs (xs ++ ys)) (append_assoc are.first are.others ys)
+      (IsPermutation-append_left ys (are.first ++ are.others) xs are.parts);
+  index = subst (λ (i : IndexedDeletes). IsIndexOf kept are.first i) (sym same) are.index;
+  files = files;
+  waiting =
+      subst (λ (zs : List Entry). IsPermutation zs (entries_at kept e.waiting.items))
+      (sym (filter-append holds_deletes are.others ys))
+      (subst (λ (es : List Entry). IsPermutation (filter holds_deletes are.others ++ filter holds_deletes ys) es)
+      (sym pushed)
+      (IsPermutation-append_left (filter holds_deletes ys) (filter holds_deletes are.others)
+      (entries_at kept d.waiting.items) are.waiting));
+}
+
+-- ---- delete files that may have been dropped
+
+pub if_kept : (old new : Segmented) (xs : List Entry) (d : Option KeptDeletes) → Keeps old new
+    → IfSome d (AreDeletesOf old xs) → IfSome d (AreDeletesOf new xs)
+if_kept old new xs None keeps are = tt
+if_kept old new xs (Some d) keeps are = deletes_kept old new xs d keeps are
+
+pub if_moved : (kept : Segmented) (xs ys : List Entry) (d : Option KeptDeletes) → IsPermutation xs ys
+    → IfSome d (AreDeletesOf kept xs) → IfSome d (AreDeletesOf kept ys)
+if_moved kept xs ys None same are = tt
+if_moved kept xs ys (Some d) same are = deletes_moved kept xs ys d same are
+
+pub if_some_of : (kept : Segmented) (xs : List Entry) (d : Option KeptDeletes) → IfSome d (AreDeletesOf kept xs)
+    → IfSome d (AreDeletes kept)
+if_some_of kept xs None are = tt
+if_some_of kept xs (Some d) are = (xs, are)
 
 -- a state whose entries stay where they are
-pub state_kept : (old new : Segmented) (slots : List (Option Taken)) (d : Option IndexedDeletes) → Keeps old new
+pub state_kept : (old new : Segmented) (slots : List (Option Taken)) (d : Option KeptDeletes) → Keeps old new
     → IsState old slots d → IsState new slots d
 state_kept old new slots d keeps is = record {
   numbers = have-kept old new keeps slots is.numbers;
-  index =
-      subst (λ (c : Content). IfSome d (IsIndexOf new (kept_in c))) (sym (contents-kept old new keeps slots is.numbers))
-      (if_kept old new (kept_in (contents old slots)) d keeps is.index);
+  all_deletes =
+      subst (λ (c : Content). IfSome d (AreDeletesOf new (kept_in c)))
+      (sym (contents-kept old new keeps slots is.numbers))
+      (if_kept old new (kept_in (contents old slots)) d keeps is.all_deletes);
 }
 
 -- files whose numbers were made those of so many segments further on
@@ -284,3 +402,12 @@ kept_at_place kept (n ∷ ns) (suc i) d all low = kept_at_place kept ns i d all.
 pub some_if_ok : {T E : Type 0} (r : Result T E) (P : T → Type 0) → IfOk r P → IfSome (result_ok r) P
 some_if_ok (Ok x) P h = h
 some_if_ok (Err e) P h = tt
+
+-- what `ok` leaves of a result
+pub if_ok : {T E : Type 0} (r : Result T E) (x : T) {o : Option T} → o ≡ result_ok r → o ≡ Some x → (P : T → Type 0)
+    → IfOk r P → P x
+if_ok r x value was P h = subst (λ o. IfSome o P) was (subst (λ o. IfSome o P) (sym value) (some_if_ok r P h))
+
+pub if_some_ok : {T E : Type 0} (r : Result T E) {o : Option T} → o ≡ result_ok r → (P : T → Type 0) → IfOk r P
+    → IfSome o P
+if_some_ok r value P h = subst (λ o. IfSome o P) (sym value) (some_if_ok r P h)

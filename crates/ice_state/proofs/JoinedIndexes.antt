@@ -1,12 +1,14 @@
 -- An index that takes in another one, whose numbers go on behind its own.
 use Rattle.std.proofs.Common.{◌≡◌, ◌≢◌, ◌<◌, ◌≤◌, ◌+◌, ℕ, suc, Bool, true, false, not, List, [], ◌∷◌, ◌++◌, length}
-use Rattle.std.proofs.Common.{map, filter, cond, get_or, slice_index, refl, sym, ap, subst, ◌∙◌, arith, add-zero, inl, inr}
+use Rattle.std.proofs.Common.{map, filter, cond, get_or, slice_index, refl, sym, ap, subst, ◌∙◌, arith, add-zero, inl}
+use Rattle.std.proofs.Common.{inr}
 use Rattle.std.specs.List.{AllPairs, AllByRecursion, enumerate_from, range_with_len}
 use Rattle.std.specs.List.Sorted.{IsPermutation}
 use Rattle.std.proofs.lemmas.List.Elements.{All-contains, All-from_recursion, filter-append, Contains-append_left}
 use Rattle.std.proofs.lemmas.List.Elements.{Contains-append_right, Contains-append_cases}
 use Rattle.std.proofs.lemmas.List.FromFn.{get_or-range_with_len, length-range_with_len}
-use Rattle.std.proofs.lemmas.List.Sorted.{IsPermutation-refl, IsPermutation-trans, IsPermutation-map, IsPermutation-append}
+use Rattle.std.proofs.lemmas.List.Sorted.{IsPermutation-refl, IsPermutation-trans, IsPermutation-map}
+use Rattle.std.proofs.lemmas.List.Sorted.{IsPermutation-append}
 use Rattle.ice_value.specs.Applying.{DeleteKey}
 use Rattle.ice_value.specs.declared.file_content.FileContent.TheVariants.{Data}
 use Rattle.ice_deletes.specs.Found.{holds, numbered_deletes}

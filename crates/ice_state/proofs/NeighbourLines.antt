@@ -1,5 +1,6 @@
 -- The same delete files apply to neighbours, where none names a data file.
-use Rattle.std.proofs.Common.{◌≡◌, ◌<◌, ◌&&◌, ◌||◌, ◌∙◌, ◌++◌, ◌-◌, ℕ, ℤ, zero, suc, Bool, true, false, List, [], ◌∷◌, filter, map, cond}
+use Rattle.std.proofs.Common.{◌≡◌, ◌<◌, ◌&&◌, ◌||◌, ◌∙◌, ◌++◌, ◌-◌, ℕ, ℤ, zero, suc, Bool, true, false, List, [], ◌∷◌}
+use Rattle.std.proofs.Common.{filter, map, cond}
 use Rattle.std.proofs.Common.{refl, sym, ap, arith, Option, Some, None, is_some, length, get_or, take, replicate}
 use Rattle.std.proofs.Common.{◌+◌, ◌≤◌, add-zero, append_assoc}
 use Rattle.std.proofs.lemmas.List.{append-nil}

@@ -1,5 +1,6 @@
 -- Entries in whatever order have the same paths by path, and where no two share one, they are sorted alike.
-use Rattle.std.proofs.Common.{◌≡◌, ◌≤◌, ◌∙◌, ℕ, Bool, true, false, not, List, [], ◌∷◌, refl, sym, ap, subst, arith, length}
+use Rattle.std.proofs.Common.{◌≡◌, ◌≤◌, ◌∙◌, ℕ, Bool, true, false, not, List, [], ◌∷◌, refl, sym, ap, subst, arith}
+use Rattle.std.proofs.Common.{length}
 use Rattle.std.proofs.Common.{cond, filter, is_lt, map, replicate}
 use Rattle.std.specs.List.{AllByRecursion}
 use Rattle.std.specs.List.Sorted.{IsPermutation, ties}

@@ -1,6 +1,7 @@
 -- Slots and their content.
 use Rattle.std.proofs.Common.{◌≡◌, ℕ, zero, suc, List, [], ◌∷◌, ◌++◌, refl, ap, ◌∙◌, Option, Some, None, option_map}
-use Rattle.std.proofs.Common.{IfSome, is_some, is_none, replicate, get_or, slice_set, length, ◌<◌, sym, arith, subst, ◌+◌, ◌^◌}
+use Rattle.std.proofs.Common.{IfSome, is_some, is_none, replicate, get_or, slice_set, length, ◌<◌, sym, arith, subst}
+use Rattle.std.proofs.Common.{◌+◌, ◌^◌}
 use Rattle.ice_manifest_reading.specs.declared.entry.Entry.{Entry}
 use Rattle.ice_state_entries.specs.Kept.{Kept, AreKept, Keeps as KeepsIn, entry_at, entries_at}
 use Rattle.ice_state_entries.specs.declared.entries.EntryNumber.{EntryNumber}

@@ -1,5 +1,6 @@
 -- Files at places, and stretches of them that are alike.
-use Rattle.std.proofs.Common.{◌≡◌, ◌<◌, ◌+◌, ◌++◌, ℕ, zero, suc, List, [], ◌∷◌, sym, ap, refl, subst, arith, length, get_or}
+use Rattle.std.proofs.Common.{◌≡◌, ◌<◌, ◌+◌, ◌++◌, ℕ, zero, suc, List, [], ◌∷◌, sym, ap, refl, subst, arith, length}
+use Rattle.std.proofs.Common.{get_or}
 use Rattle.std.proofs.Common.{◌⊎◌, inl, inr}
 use Rattle.std.proofs.lemmas.List.{get_or-map}
 use Rattle.ice_manifest_reading.specs.declared.entry.Entry.{Entry}

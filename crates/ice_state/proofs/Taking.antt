@@ -1,5 +1,6 @@
 -- Taking the manifest of a row.
-use Rattle.std.proofs.Common.{◌≡◌, ◌∙◌, ℕ, zero, suc, true, [], ◌∷◌, List, Option, Some, None, Result, Ok, Err, refl, ap}
+use Rattle.std.proofs.Common.{◌≡◌, ◌∙◌, ℕ, zero, suc, true, [], ◌∷◌, List, Option, Some, None, Result, Ok, Err, refl}
+use Rattle.std.proofs.Common.{ap}
 use Rattle.std.proofs.Common.{get_or, slice_get}
 use Rattle.ice_meta.specs.declared.spec.Spec.{Spec}
 use Rattle.ice_manifest_reading.specs.declared.row.Row.{Row}

@@ -1,4 +1,5 @@
--- How a state keeps what its manifests gave: by a segment and the numbers of entries there. No public contract cites these words.
+-- How a state keeps what its manifests gave: by a segment and the numbers of entries there. No public contract cites
+-- these words.
 use Rattle.std.specs.Prelude.{◌<◌, List, length, map, Option, option_map, IfSome}
 use Rattle.std.specs.List.{AllByRecursion}
 use Rattle.ice_state_entries.specs.Kept.{entries_at}

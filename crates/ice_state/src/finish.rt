@@ -11,7 +11,7 @@ ghost use Rattle.ice_manifest_reading.specs.declared.entry.Entry.{Entry};
 ghost use Rattle.ice_deletes.specs.Groups.{is_in};
 ghost use Rattle.ice_deletes.specs.declared.group.Group.TheVariants.{Referenced};
 ghost use Rattle.ice_state.specs.Applying.{data_key_of, delete_key_of};
-ghost use Rattle.ice_state.specs.KeptDeletes.{IsIndexed, IsIndexOf, IsState};
+ghost use Rattle.ice_state.specs.KeptDeletes.{AreDeletesOf, IsIndexed, IsIndexOf, IsState};
 ghost use Rattle.ice_state.specs.Lines.{lines_of, IsPlanned};
 ghost use Rattle.ice_state.specs.ByKind.{AreInOrder, AreKeptByKind, entries_by_kind, HasFilesOf, IsInOrder};
 ghost use Rattle.ice_state.specs.Orders.{IsOrder};
@@ -37,6 +37,7 @@ use crate::finish::deletes::push_places;
 use crate::finish::file_places::places_among;
 use crate::finish::in_order::{sort_by_path, sorted_by_path};
 use crate::finish::ranks::ranks;
+use crate::kept::deletes::KeptDeletes;
 use crate::kept::indexed::IndexedDeletes;
 use crate::kept::ordered::{order_of_files, rows_by_first_path};
 use crate::kept::row_runs::rows_rise;
@@ -296,21 +297,24 @@ fn indexed_anew(
     IndexedDeletes::build(alloc, entries, delete_files.to_vec(alloc)?)
 }
 
-/// A line for each data file. Where the index of the delete files was dropped, it is built anew.
+/// A line for each data file. Where the delete files were dropped, or some wait to be indexed, their index is built
+/// anew.
 fn planned(
     alloc: Global,
     entries: &Segments,
-    deletes: &Option<IndexedDeletes>,
+    deletes: &Option<KeptDeletes>,
     files: FilesByKind,
 ) -> Result<NumberedPlan, AllocError>
-    requires { (xs : List Entry) × IsInOrder entries.now xs files × IfSome deletes.now (IsIndexOf entries.now xs) }
+    requires { (xs : List Entry) × IsInOrder entries.now xs files × IfSome deletes.now (AreDeletesOf entries.now xs) }
     ensures planned { IfOk result (IsPlanned entries.now) }
     ensures lines { (xs : List Entry) → HasFilesOf entries.now xs files →
         IfOk result (λ plan. lines_of entries.now plan ≡ plan_over xs xs) }
 {
     match deletes {
-        Some(deletes) => planned_by(alloc, entries, deletes, files),
-        None => {
+        Some(deletes) if deletes.waiting.is_empty() => {
+            planned_by(alloc, entries, &deletes.indexed, files)
+        }
+        _ => {
             let deletes = indexed_anew(alloc, entries, &files.delete_files)?;
             planned_by(alloc, entries, &deletes, files)
         }
@@ -323,7 +327,7 @@ fn files_by_path(
     alloc: Global,
     entries: &Segments,
     slots: &[Option<Taken>],
-    deletes: &Option<IndexedDeletes>,
+    deletes: &Option<KeptDeletes>,
 ) -> Result<FilesByKind, FinishFault>
     requires { IsState entries.now slots.now deletes.now }
     ensures { (xs : List Entry) × IsPermutation (kept_in (contents entries.now slots.now)) xs
@@ -343,7 +347,7 @@ pub fn plan_or_fault(
     rows: &[Row],
     entries: &Segments,
     slots: &[Option<Taken>],
-    deletes: &Option<IndexedDeletes>,
+    deletes: &Option<KeptDeletes>,
 ) -> Result<NumberedPlan, FinishFault>
     requires each { length rows.now ≡ length slots.now }
     requires kept { IsState entries.now slots.now deletes.now }

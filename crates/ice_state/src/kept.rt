@@ -1,5 +1,6 @@
 //! What a state keeps of the manifests that it took: files by numbers, row by row, and the index of delete files.
 
+pub mod deletes;
 pub mod gathering;
 pub mod indexed;
 pub mod merging;

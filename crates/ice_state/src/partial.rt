@@ -19,8 +19,9 @@ ghost use Rattle.ice_state.specs.Snapshots.{plan_of_snapshot};
 
 use crate::fault::FinishFault;
 use crate::finish::plan_or_fault;
-use crate::kept::indexed::{
-    IndexedDeletes, absorbed_deletes, with_absorbed, with_gained, with_taken,
+use crate::kept::deletes::{
+    KeptDeletes, absorbed_behind, absorbed_deletes, with_absorbed, with_gained, with_index_of_all,
+    with_taken,
 };
 use crate::kept::merging::{gained, has_taken_all_of};
 use crate::kept::segments::Segments;
@@ -38,8 +39,8 @@ use std::marker::Model;
 pub struct Partial {
     entries: Segments,
     slots: Vec<Option<Taken>>,
-    /// The delete files of the taken rows, indexed; none where they were dropped for want of memory.
-    deletes: Option<IndexedDeletes>,
+    /// The delete files of the taken rows; none where they were dropped for want of memory.
+    deletes: Option<KeptDeletes>,
     alloc: Global,
 }
 
@@ -68,7 +69,7 @@ impl Partial {
             slots.push(None)?;
         }
         let entries = Segments::new(alloc);
-        let deletes = IndexedDeletes::build(alloc, &entries, Vec::new(alloc)).ok();
+        let deletes = KeptDeletes::of_files(alloc, &entries, Vec::new(alloc)).ok();
         Ok(Partial {
             entries,
             slots,
@@ -111,9 +112,9 @@ impl Partial {
         Ok(())
     }
 
-    /// Takes the manifest of the wanted row `i` as `take` does, and gives what is told of each of its live entries, kept
-    /// or not, in the order of their positions. A row that was taken before is only told. Where memory is refused, the
-    /// state is as it was. Any other fault is the manifest's, which is taken and kept as bad.
+    /// Takes the manifest of the wanted row `i` as `take` does, and gives what is told of each of its live entries,
+    /// kept or not, in the order of their positions. A row that was taken before is only told. Where memory is refused,
+    /// the state is as it was. Any other fault is the manifest's, which is taken and kept as bad.
     pub fn take_told<T: Tell>(
         &mut self,
         scan: &Scan,
@@ -148,8 +149,8 @@ impl Partial {
         self.take_new(scan, i, bytes, tell)?
     }
 
-    /// Takes the manifest of a wanted row that was not taken, and gives what is told of its live entries, or why it can't
-    /// be read. A refusal, for want of memory, leaves the state as it was.
+    /// Takes the manifest of a wanted row that was not taken, and gives what is told of its live entries, or why it
+    /// can't be read. A refusal, for want of memory, leaves the state as it was.
     fn take_new<T: Tell>(
         &mut self,
         scan: &Scan,
@@ -246,7 +247,12 @@ impl Partial {
             deletes,
         );
         let before = self.entries.append(other.entries)?;
-        self.deletes = with_absorbed(self.alloc, self.deletes.take(), absorbed, before);
+        self.deletes = with_absorbed(
+            self.alloc,
+            self.deletes.take(),
+            &self.entries,
+            absorbed_behind(absorbed, before),
+        );
         put_behind(&mut self.slots, other.slots, before);
         Ok(())
     }
@@ -294,12 +300,13 @@ impl Partial {
             (plan_of_snapshot (pruner_of scan.now.filter specs) world specs rows) }
     {
         filtering();
+        let deletes = with_index_of_all(self.alloc, self.deletes, &self.entries);
         let numbered = plan_or_fault(
             self.alloc,
             scan.wanted(),
             &self.entries,
             &self.slots,
-            &self.deletes,
+            &deletes,
         )?;
         Ok(OwnedPlan {
             entries: self.entries,

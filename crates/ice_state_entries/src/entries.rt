@@ -224,8 +224,8 @@ impl Entries {
         self.shared.content(self.table.record(number))
     }
 
-    /// Whether the files of two entries are alike: they hold the same and are of one spec, with the same partition values
-    /// and the same sequence number.
+    /// Whether the files of two entries are alike: they hold the same and are of one spec, with the same partition
+    /// values and the same sequence number.
     pub fn are_alike(&self, a: EntryNumber, b: EntryNumber) -> bool
         requires first { IsKept self.now a }
         requires second { IsKept self.now b }

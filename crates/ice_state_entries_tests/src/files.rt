@@ -85,15 +85,6 @@ fn text(alloc: Global, text: &str) -> Result<Text, AllocError> {
     Ok(Text::from_string(String::from_str(alloc, text)?))
 }
 
-const NO_COUNTS: Counts = Counts {
-    added_files: None,
-    existing_files: None,
-    deleted_files: None,
-    added_rows: None,
-    existing_rows: None,
-    deleted_rows: None,
-};
-
 /// The id of the snapshot of a commit.
 pub fn snapshot_of(commit: SequenceNumber) -> i64 {
     (commit.get() as i64).wrapping_add(5)
@@ -114,7 +105,7 @@ pub fn row(
         sequence_number: commit,
         min_sequence_number: SequenceNumber::zero(),
         added_snapshot_id: snapshot_of(commit),
-        counts: NO_COUNTS,
+        counts: Counts::none(),
         partitions: None,
     })
 }

@@ -132,15 +132,6 @@ fn manifests_of(alloc: Global, samples: &[Sample]) -> Result<Vec<Vec<u8>>, Alloc
     Ok(manifests)
 }
 
-const NO_COUNTS: Counts = Counts {
-    added_files: None,
-    existing_files: None,
-    deleted_files: None,
-    added_rows: None,
-    existing_rows: None,
-    deleted_rows: None,
-};
-
 /// A row of spec 0.
 fn row_of(alloc: Global, sample: &Sample) -> Result<Row, AllocError> {
     let sequence_number = SequenceNumber::new(sample.2).unwrap_or(SequenceNumber::zero());
@@ -152,7 +143,7 @@ fn row_of(alloc: Global, sample: &Sample) -> Result<Row, AllocError> {
         sequence_number,
         min_sequence_number: sequence_number,
         added_snapshot_id: 1,
-        counts: NO_COUNTS,
+        counts: Counts::none(),
         partitions: None,
     })
 }

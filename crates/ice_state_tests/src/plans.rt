@@ -2,8 +2,8 @@
 
 use crate::answers::{Stop, has_plan, stops};
 use crate::cases::{Case, Manifests, case_of, merged, state_after};
-use ice_state::{FinishFault, ScanFault};
-use std::alloc::Global;
+use ice_state::{FinishFault, Partial, ScanFault};
+use std::alloc::{AllocError, Global};
 use std::test::Fail;
 
 /// What the one state takes, and what the other.
@@ -64,5 +64,26 @@ fn names_missing_then_bad_then_shared(rt: HostRuntime) -> Result<(), Fail> {
     for taking in &TAKINGS {
         assert!(rt; is_stopped(rt.alloc(), taking)?, "{:?}", taking.1);
     }
+    Ok(())
+}
+
+/// How many delete files the index of a state has.
+fn count_indexed(alloc: Global, state: &Partial) -> Result<usize, AllocError> {
+    let text = format!(in alloc; "{state:?}")?;
+    Ok(text.matches("Delete {").count())
+}
+
+/// A state that took the second manifest of three, after the third came: by a take, merged and absorbed. The index has
+/// the two delete files of the one and that of the other.
+#[test]
+fn keeps_the_index_of_delete_files(rt: HostRuntime) -> Result<(), Fail> {
+    let case = case_of(rt.alloc(), Manifests::DataAndDeletes)?;
+    let taken = state_after(rt.alloc(), &case, &[2, 1])?;
+    assert!(rt; count_indexed(rt.alloc(), &taken)? == 3);
+    let both = merged(rt.alloc(), &case, &[2], &[1])?;
+    assert!(rt; count_indexed(rt.alloc(), &both)? == 3);
+    let mut state = state_after(rt.alloc(), &case, &[1])?;
+    state.absorb(state_after(rt.alloc(), &case, &[2])?)?;
+    assert!(rt; count_indexed(rt.alloc(), &state)? == 3);
     Ok(())
 }

@@ -12,7 +12,7 @@ ghost use Rattle.ice_state.specs.Outcomes.{by_path, entries_in as entries_given}
 ghost use Rattle.ice_state.specs.Segments.{AreKept, entries_at, entry_at, IsKept, segment_at, Segmented};
 ghost use Rattle.ice_state.specs.Slots.{contents, given, HasNumbers, HaveNumbers, IsIn};
 
-use crate::kept::indexed::IndexedDeletes;
+use crate::kept::deletes::KeptDeletes;
 use crate::kept::ordered::Ordered;
 use crate::kept::segments::{FileNumber, Segments};
 use crate::kept::taken::Taken;
@@ -185,13 +185,13 @@ fn kinds_of_rows(
     Ok(files)
 }
 
-/// The files of all kept entries by what they hold: row by row, those of each row by path. Where the index tells of no
-/// delete files, all hold data.
+/// The files of all kept entries by what they hold: row by row, those of each row by path. Where there are no delete
+/// files, all hold data.
 pub fn gathered(
     alloc: Global,
     entries: &Segments,
     slots: &[Option<Taken>],
-    deletes: &Option<IndexedDeletes>,
+    deletes: &Option<KeptDeletes>,
     rows: &[u32],
 ) -> Result<FilesByKind, AllocError>
     requires state { IsState entries.now slots.now deletes.now }
@@ -199,11 +199,11 @@ pub fn gathered(
     ensures { IfOk result (HasFilesOf entries.now (runs_at (contents entries.now slots.now) rows.now)) }
 {
     match deletes {
-        Some(deletes) if deletes.files.is_empty() => Ok(FilesByKind {
+        Some(deletes) if deletes.is_empty() => Ok(FilesByKind {
             data_files: files_of_rows(alloc, entries, slots, rows)?,
             delete_files: Vec::new(alloc),
         }),
-        Some(deletes) => kinds_of_rows(alloc, entries, slots, rows, deletes.files.len()),
+        Some(deletes) => kinds_of_rows(alloc, entries, slots, rows, deletes.count()),
         None => kinds_of_rows(alloc, entries, slots, rows, 0),
     }
 }

@@ -1,4 +1,4 @@
-//! The delete files of a state's taken rows, indexed as they come.
+//! Delete files that are indexed, and those of manifests.
 
 ghost use Rattle.std.specs.Prelude.{◌≡◌, ◌++◌, filter, length, IfOk, IfSome, List, OnOk, option_map, Some};
 ghost use Rattle.std.specs.List.Sorted.{IsPermutation};
@@ -12,7 +12,6 @@ ghost use Rattle.ice_state.specs.Slots.{contents, given, HasNumbers, HaveNumbers
 
 use crate::finish::deletes::records;
 use crate::finish::ranks::places_from;
-use crate::kept::merging::are_apart;
 use crate::kept::ordered::Ordered;
 use crate::kept::segments::{FileNumber, Segments};
 use crate::kept::taken::Taken;
@@ -84,7 +83,7 @@ impl IndexedDeletes {
 }
 
 /// Makes the files' numbers those of so many segments further on.
-fn put_files_behind(files: &mut Vec<FileNumber>, before: u32)
+pub fn put_files_behind(files: &mut Vec<FileNumber>, before: u32)
     ensures many { length files.new.items ≡ length files.old.items }
     ensures kept { (firsts kept : Segmented) → AreBefore before firsts kept → AreKept kept files.old.items →
         AreKept (firsts ++ kept) files.new.items }
@@ -120,7 +119,7 @@ fn push_deletes(
 }
 
 /// Puts the delete files of what a manifest gave last.
-fn push_taken(
+pub fn push_taken(
     found: &mut Vec<FileNumber>,
     entries: &Segments,
     taken: &Taken,
@@ -184,98 +183,20 @@ fn by_number(files: Vec<FileNumber>) -> Vec<FileNumber>
     files
 }
 
-/// The same, indexed by their numbers, so that each is found again by its own.
-fn indexed_gains(
+/// The same by their numbers, so that each is found again by its own.
+pub fn files_by_number(
     alloc: Global,
     slots: &[Option<Taken>],
     entries: &Segments,
     other: &[Option<Taken>],
-) -> Result<IndexedDeletes, AllocError>
+) -> Result<Vec<FileNumber>, AllocError>
     requires same { length slots.now ≡ length other.now }
     requires numbers { HaveNumbers entries.now other.now }
-    ensures places { IfOk result HasPlaces }
-    ensures index { (kept : Segmented) → IfOk result (IsIndexOf entries.now
-        (kept_in (gains (contents kept slots.now) (contents entries.now other.now)))) }
+    ensures kept { IfOk result (λ files. AreKept entries.now files.items) }
+    ensures all { (kept : Segmented) → IfOk result (λ files.
+        IsPermutation (filter holds_deletes (kept_in (gains (contents kept slots.now) (contents entries.now other.now))))
+        (entries_at entries.now files.items)) }
 {
     let files = gained_files(alloc, slots, entries, other)?;
-    IndexedDeletes::build(alloc, entries, by_number(files))
-}
-
-/// The delete files and those of a manifest, indexed; none where they were dropped, or memory is refused.
-pub fn with_taken(
-    alloc: Global,
-    deletes: Option<IndexedDeletes>,
-    entries: &Segments,
-    taken: &Taken,
-) -> Option<IndexedDeletes>
-    requires numbers { HasNumbers entries.now taken.now }
-    requires places { IfSome deletes HasPlaces }
-    ensures { (xs : List Entry) → IfSome deletes (IsIndexOf entries.now xs) →
-        IfSome result (IsIndexOf entries.now (xs ++ entries_given (Some (given entries.now taken.now)))) }
-{
-    let deletes = deletes?;
-    let mut files = Vec::new(alloc);
-    push_taken(&mut files, entries, taken).ok()?;
-    let more = IndexedDeletes::build(alloc, entries, files).ok()?;
-    deletes.with(alloc, more).ok()
-}
-
-/// The delete files and those of the gained rows, indexed; none where they were dropped, or memory is refused.
-pub fn with_gained(
-    alloc: Global,
-    deletes: Option<IndexedDeletes>,
-    slots: &[Option<Taken>],
-    entries: &Segments,
-    gained: &[Option<Taken>],
-) -> Option<IndexedDeletes>
-    requires same { length slots.now ≡ length gained.now }
-    requires numbers { HaveNumbers entries.now gained.now }
-    requires places { IfSome deletes HasPlaces }
-    ensures { (kept : Segmented) (xs : List Entry) → IfSome deletes (IsIndexOf entries.now xs) →
-        IfSome result (IsIndexOf entries.now
-        (xs ++ kept_in (gains (contents kept slots.now) (contents entries.now gained.now)))) }
-{
-    let deletes = deletes?;
-    let more = indexed_gains(alloc, slots, entries, gained).ok()?;
-    deletes.with(alloc, more).ok()
-}
-
-/// The delete files of the rows that another state gains these slots, indexed: all of its own where it took no row that
-/// is taken here. None where memory is refused.
-pub fn absorbed_deletes(
-    alloc: Global,
-    slots: &[Option<Taken>],
-    entries: &Segments,
-    other: &[Option<Taken>],
-    deletes: Option<IndexedDeletes>,
-) -> Option<IndexedDeletes>
-    requires same { length slots.now ≡ length other.now }
-    requires numbers { HaveNumbers entries.now other.now }
-    requires deletes { IfSome deletes (IsIndexOf entries.now (kept_in (contents entries.now other.now))) }
-    ensures { (kept : Segmented) → IfSome result (IsIndexOf entries.now
-        (kept_in (gains (contents kept slots.now) (contents entries.now other.now)))) }
-{
-    if are_apart(slots, other) {
-        return deletes;
-    }
-    indexed_gains(alloc, slots, entries, other).ok()
-}
-
-/// The delete files and those of another state, whose own segments so many stand before; none where either were dropped,
-/// or memory is refused.
-pub fn with_absorbed(
-    alloc: Global,
-    deletes: Option<IndexedDeletes>,
-    absorbed: Option<IndexedDeletes>,
-    before: u32,
-) -> Option<IndexedDeletes>
-    requires places { IfSome deletes HasPlaces }
-    requires others { IfSome absorbed HasPlaces }
-    ensures { (firsts kept : Segmented) (xs ys : List Entry) → AreBefore before firsts kept →
-        IfSome deletes (IsIndexOf (firsts ++ kept) xs) → IfSome absorbed (IsIndexOf kept ys) →
-        IfSome result (IsIndexOf (firsts ++ kept) (xs ++ ys)) }
-{
-    let deletes = deletes?;
-    let absorbed = absorbed?.behind(before);
-    deletes.with(alloc, absorbed).ok()
+    Ok(by_number(files))
 }

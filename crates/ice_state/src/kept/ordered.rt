@@ -52,8 +52,8 @@ impl Ordered {
     }
 }
 
-/// The places of entries in the order of their paths, and whether these rise. More entries than can be numbered count as
-/// want of memory.
+/// The places of entries in the order of their paths, and whether these rise. More entries than can be numbered count
+/// as want of memory.
 fn places_in_order(
     alloc: Global,
     entries: &Entries,

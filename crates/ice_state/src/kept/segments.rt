@@ -52,8 +52,8 @@ impl FileNumber {
 /// stays in a processor's cache, where a path is soon looked up, and there are few segments still.
 const FULL: usize = 49_152;
 
-/// For how many entries a further segment has room from the start, and a first one at most, so that it seldom grows: what
-/// grows is made anew, and leaves holes in memory.
+/// For how many entries a further segment has room from the start, and a first one at most, so that it seldom grows:
+/// what grows is made anew, and leaves holes in memory.
 const ROOM: usize = 65_536;
 
 /// A segment that keeps nothing yet, with room for so many entries.
@@ -141,8 +141,8 @@ impl Segments {
         self.segment(number.segment).content(number.number)
     }
 
-    /// Whether the files of two entries are alike: they hold the same and are of one spec, with the same partition values
-    /// and the same sequence number.
+    /// Whether the files of two entries are alike: they hold the same and are of one spec, with the same partition
+    /// values and the same sequence number.
     pub(crate) fn are_alike(&self, a: FileNumber, b: FileNumber) -> bool
         requires first { IsKept self.now a }
         requires second { IsKept self.now b }

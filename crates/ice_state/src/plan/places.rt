@@ -133,8 +133,8 @@ fn start_of(ends: &[Ends], i: usize) -> u32
     if i == 0 { 0 } else { ends[i - 1].equalities }
 }
 
-/// Appends the places of the numbers of both lists, the lower ones first, and gives where they end. A refusal leaves what
-/// stood there before, and maybe more behind it.
+/// Appends the places of the numbers of both lists, the lower ones first, and gives where they end. A refusal leaves
+/// what stood there before, and maybe more behind it.
 fn append_in_order(
     places: &mut Vec<u32>,
     ranks: &[u32],

@@ -75,8 +75,8 @@ impl SharedPlaces {
     }
 
     /// Puts a line last: each of its parts has the places, by the ranks, of the numbers of two lists, in whatever order
-    /// they come, the lower ones first. A refusal, for want of memory, leaves the lines as they were; so does one of more
-    /// lists or places than 4 bytes can number.
+    /// they come, the lower ones first. A refusal, for want of memory, leaves the lines as they were; so does one of
+    /// more lists or places than 4 bytes can number.
     pub(crate) fn push(
         &mut self,
         ranks: &[u32],

@@ -56,7 +56,7 @@ planned-requires c =
       if_moved kept all (by_path found.0) c.args.deletes.now
           (subst (λ (ys : List Entry). IsPermutation all ys)
           (sym (sorted_alike (goal.at.planned-requires c).In_ok-files)) (by_path_moves all))
-          c.requires.kept.index,
+          c.requires.kept.all_deletes,
     )
 
 pub returns-clause-outcome : goal.returns-clause-outcome

@@ -1,4 +1,5 @@
-use Rattle.std.proofs.Common.{◌≡◌, ◌∙◌, ◌+◌, ◌++◌, ◌∷◌, [], List, append-nil, append_assoc, ap, arith, get_or, subst, sym, take}
+use Rattle.std.proofs.Common.{◌≡◌, ◌∙◌, ◌+◌, ◌++◌, ◌∷◌, [], List, append-nil, append_assoc, ap, arith, get_or, subst}
+use Rattle.std.proofs.Common.{sym, take}
 use Rattle.std.proofs.lemmas.List.{map-append, take_all, take_more}
 use Rattle.ice_state_entries.specs.declared.entries.EntryNumber.TheVariants.{Record}
 use Rattle.ice_manifest_reading.specs.declared.entry.Entry.{Entry}

@@ -1,4 +1,5 @@
-use Rattle.std.proofs.Common.{◌∙◌, ◌<◌, ◌≡◌, ◌&&◌, true, false, is_some, refl, sym, arith, add-one, drop, length, option_map}
+use Rattle.std.proofs.Common.{◌∙◌, ◌<◌, ◌≡◌, ◌&&◌, true, false, is_some, refl, sym, arith, add-one, drop, length}
+use Rattle.std.proofs.Common.{option_map}
 use Rattle.ice_state.specs.Slots.{contents, given}
 use Rattle.ice_state.proofs.Gains.{apart-step, apart-end, both_at}
 use Rattle.ice_state.proofs.SlotContents.{at-contents, is-some-given, length-contents}

@@ -1,4 +1,5 @@
-use Rattle.std.proofs.Common.{◌∙◌, ◌<◌, ◌≡◌, ◌++◌, [], ◌∷◌, suc, Option, ap, sym, subst, arith, add-one, append_assoc, drop}
+use Rattle.std.proofs.Common.{◌∙◌, ◌<◌, ◌≡◌, ◌++◌, [], ◌∷◌, suc, Option, ap, sym, subst, arith, add-one, append_assoc}
+use Rattle.std.proofs.Common.{drop}
 use Rattle.std.proofs.Common.{length, option_map}
 use Rattle.ice_state.specs.Contents.{Content}
 use Rattle.ice_state.specs.Parts.{gain_of, gains}

@@ -1,4 +1,5 @@
-use Rattle.std.proofs.Common.{◌≡◌, ◌<◌, ◌∙◌, ◌+◌, ◌-◌, ◌++◌, [], List, Option, ℕ, ap, append-nil, arith, get_or, is_lt, length, option_map, refl, subst, sym, take, true}
+use Rattle.std.proofs.Common.{◌≡◌, ◌<◌, ◌∙◌, ◌+◌, ◌-◌, ◌++◌, [], List, Option, ℕ, ap, append-nil, arith, get_or, is_lt}
+use Rattle.std.proofs.Common.{length, option_map, refl, subst, sym, take, true}
 use Rattle.std.specs.Cmp.Lexicographic.{slice_cmp}
 use Rattle.std.specs.Ordering.{nat_cmp}
 use Rattle.std.proofs.lemmas.List.{take_all}

@@ -1,4 +1,5 @@
 use Rattle.std.proofs.Common.{◌∙◌, ◌≡◌, ◌++◌, ap, sym, subst, arith, length, true, false, List, Option, IfSome}
+use Rattle.ice_manifest_reading.specs.declared.entry.Entry.{Entry}
 use Rattle.ice_state.specs.Contents.{Content}
 use Rattle.ice_state.specs.Joins.{join, TookAllOf}
 use Rattle.ice_state.specs.Segments.{AreBefore, Segmented}
@@ -7,13 +8,14 @@ use Rattle.ice_state.proofs.SegmentLists.{keeps_firsts}
 use Rattle.ice_state.proofs.Gains.{join-in_world, length-join, join-known}
 use Rattle.ice_state.proofs.SlotContents.{contents-kept, length-contents}
 use Rattle.std.specs.List.Sorted.{IsPermutation}
-use Rattle.ice_state.specs.declared.kept.indexed.IndexedDeletes.{IndexedDeletes}
+use Rattle.ice_state.specs.declared.kept.deletes.KeptDeletes.{KeptDeletes}
 use Rattle.ice_state.specs.declared.kept.taken.Taken.{Taken}
-use Rattle.ice_state.specs.KeptDeletes.{HasPlaces, IsIndexOf, IsState}
+use Rattle.ice_state.specs.KeptDeletes.{AreDeletes, AreDeletesOf, IsState}
 use Rattle.ice_state.specs.Outcomes.{kept_in}
 use Rattle.ice_state.specs.Parts.{gains}
-use Rattle.ice_state.proofs.DeletesKept.{entries_joined, if_moved, if_places, state_kept}
+use Rattle.ice_state.proofs.DeletesKept.{entries_joined, if_moved, if_some_of, state_kept}
 use Rattle.ice_state.proofs.partial.Partial.absorb.Goals as goal
+use Rattle.ice_state.proofs.partial.Partial.absorb.Goals.{In_ok-before}
 
 pub returns-then-has_taken_all_of-clause-ok : goal.returns-then-has_taken_all_of-clause-ok
 returns-then-has_taken_all_of-clause-ok c =
@@ -62,28 +64,39 @@ absorbed_deletes-absorbed-requires c =
     let alike : length slots ≡ length other =
     sym (length-contents mine slots) ∙ ap length c.self.view_is ∙ c.requires ∙ sym (ap length c.other.view_is)
     ∙ length-contents others other in
-    let Indexed = λ (ss : List (Option Taken)). IfSome c.other.inside.deletes (IsIndexOf others
+    let Indexed = λ (ss : List (Option Taken)). IfSome c.other.inside.deletes (AreDeletesOf others
     (kept_in (contents others ss))) in
     record {
       same =
           ap (λ (ss : List (Option Taken)). length ss) c.deref-3.ensures.value ∙ alike
           ∙ sym (ap (λ (ss : List (Option Taken)). length ss) c.deref-4.ensures.value);
       numbers = subst (HaveNumbers others) (sym c.deref-4.ensures.value) c.other.invariant.numbers;
-      deletes = subst Indexed (sym c.deref-4.ensures.value) c.other.invariant.index;
+      deletes = subst Indexed (sym c.deref-4.ensures.value) c.other.invariant.all_deletes;
     }
+
+-- the segments of both, and the other's delete files behind
+are : (c : In_ok-before) → AreBefore c.in_ok-before.before c.self.inside.entries c.other.inside.entries
+are c = record { counted = c.in_ok-before.ensures.before; few = c.in_ok-before.ensures.few }
 
 pub with_absorbed-requires : goal.with_absorbed-requires
 with_absorbed-requires c =
     let mine = c.self.inside.entries in
     let others = c.other.inside.entries in
+    let slots = c.self.inside.slots.items in
     let gained = kept_in (gains (contents mine c.deref-3.result.now) (contents others c.deref-4.result.now)) in
-    let Places = λ (d : Option IndexedDeletes). IfSome d HasPlaces in
+    let Are = λ (es : Segmented) (d : Option KeptDeletes). IfSome d (AreDeletes es) in
+    let all = sym c.in_ok-before.ensures.ok in
+    let state = state_kept mine (mine ++ others) slots c.self.inside.deletes (keeps_firsts mine others) c.self.invariant in
+    let behind = c.absorbed_behind.ensures mine others gained (are (goal.at.with_absorbed-requires c).In_ok-before)
+    (c.absorbed_deletes-absorbed.ensures mine) in
     record {
-      places =
-          subst Places (sym c.take.ensures.value)
-          (if_places mine (kept_in (contents mine c.self.inside.slots.items)) c.self.inside.deletes
-          c.self.invariant.index);
-      others = if_places others gained c.absorbed_deletes-absorbed.result (c.absorbed_deletes-absorbed.ensures mine);
+      deletes =
+          subst (λ (es : Segmented). Are es c.take.result) all
+          (subst (Are (mine ++ others)) (sym c.take.ensures.value)
+          (if_some_of (mine ++ others) (kept_in (contents (mine ++ others) slots)) c.self.inside.deletes state.all_deletes));
+      absorbed =
+          subst (λ (es : Segmented). Are es c.absorbed_behind.result) all
+          (if_some_of (mine ++ others) gained c.absorbed_behind.result behind);
     }
 
 pub invariant_of-self-2 : goal.invariant_of-self-2
@@ -93,30 +106,33 @@ invariant_of-self-2 c =
     let all = kept ++ others in
     let slots = c.self.inside.slots.items in
     let other = c.other.inside.slots.items in
-    let are : AreBefore c.in_ok-before.before kept others =
-    record { counted = c.in_ok-before.ensures.before; few = c.in_ok-before.ensures.few } in
+    let before_own = are (goal.at.invariant_of-self-2 c).In_ok-before in
     let before = contents all slots in
     let gained = contents others other in
     let state = state_kept kept all slots c.self.inside.deletes (keeps_firsts kept others) c.self.invariant in
-    let was : IfSome c.take.result (IsIndexOf all (kept_in before)) =
-    subst (λ (d : Option IndexedDeletes). IfSome d (IsIndexOf all (kept_in before))) (sym c.take.ensures.value)
-    state.index in
+    let was : IfSome c.take.result (AreDeletesOf all (kept_in before)) =
+    subst (λ (d : Option KeptDeletes). IfSome d (AreDeletesOf all (kept_in before))) (sym c.take.ensures.value)
+    state.all_deletes in
     let alike : length before ≡ length gained =
     length-contents all slots ∙ sym (length-contents kept slots) ∙ ap length c.self.view_is ∙ c.requires
     ∙ sym (ap length c.other.view_is) in
     let same = entries_joined before gained alike in
-    let More = λ (cs ds : Content). IfSome c.absorbed_deletes-absorbed.result (IsIndexOf others (kept_in (gains cs ds))) in
+    let More = λ (cs ds : Content). IfSome c.absorbed_deletes-absorbed.result (AreDeletesOf others (kept_in (gains cs ds))) in
     let more : More before gained =
     subst (λ (ss : List (Option Taken)). More (contents all ss) gained) c.deref-3.ensures.value
     (subst (λ (ss : List (Option Taken)). More (contents all c.deref-3.result.now) (contents others ss))
     c.deref-4.ensures.value (c.absorbed_deletes-absorbed.ensures all)) in
-    let joined = c.with_absorbed.ensures kept others (kept_in before) (kept_in (gains before gained)) are was more in
+    let behind = c.absorbed_behind.ensures kept others (kept_in (gains before gained)) before_own more in
+    let With = λ (es : Segmented). (xs ys : List Entry) → IfSome c.take.result (AreDeletesOf es xs)
+    → IfSome c.absorbed_behind.result (AreDeletesOf es ys) → IfSome c.with_absorbed.result (AreDeletesOf es (xs ++ ys)) in
+    let joined = subst With c.in_ok-before.ensures.ok c.with_absorbed.ensures (kept_in before) (kept_in (gains before gained))
+    was behind in
     let moved = subst (λ (cs : Content). IsPermutation (kept_in before ++ kept_in (gains before gained)) (kept_in cs))
-    (sym (c.put_behind.ensures.rows kept others are c.other.invariant.numbers)) same in
+    (sym (c.put_behind.ensures.rows kept others before_own c.other.invariant.numbers)) same in
     subst (λ (es : Segmented). IsState es c.put_behind.new.slots.items c.with_absorbed.result)
     (sym c.in_ok-before.ensures.ok) (record {
-      numbers = c.put_behind.ensures.numbers kept others are c.other.invariant.numbers state.numbers;
-      index = if_moved all (kept_in before ++ kept_in (gains before gained))
+      numbers = c.put_behind.ensures.numbers kept others before_own c.other.invariant.numbers state.numbers;
+      all_deletes = if_moved all (kept_in before ++ kept_in (gains before gained))
           (kept_in (contents all c.put_behind.new.slots.items)) c.with_absorbed.result moved joined;
     })
 

@@ -1,15 +1,22 @@
-use Rattle.std.proofs.Common.{◌≡◌, ◌∙◌, [], ap, arith, filter, length, replicate, subst, sym, IfSome, List, None, Option}
-use Rattle.ice_state.specs.declared.kept.indexed.IndexedDeletes.{IndexedDeletes}
+use Rattle.std.proofs.Common.{◌≡◌, ◌∙◌, [], ap, arith, filter, length, replicate, subst, sym, IfSome, List, None}
+use Rattle.std.proofs.Common.{Option}
+use Rattle.std.specs.List.Sorted.{IsPermutation}
+use Rattle.std.proofs.lemmas.List.Sorted.{IsPermutation-refl}
+use Rattle.ice_manifest_reading.specs.declared.entry.Entry.{Entry}
+use Rattle.ice_state.specs.declared.kept.deletes.KeptDeletes.{KeptDeletes}
 use Rattle.ice_state.specs.declared.kept.taken.Taken.{Taken}
-use Rattle.ice_state.specs.KeptDeletes.{IsIndexOf}
+use Rattle.ice_state.specs.KeptDeletes.{AreDeletesOf}
 use Rattle.ice_state.specs.Outcomes.{kept_in}
 use Rattle.ice_state.specs.Parts.{holds_deletes}
-use Rattle.ice_state.specs.Segments.{entries_at}
+use Rattle.ice_state.specs.Segments.{AreKept, entries_at}
 use Rattle.ice_state.specs.Slots.{contents, HaveNumbers}
 use Rattle.ice_state.proofs.Contents.{none-content}
 use Rattle.ice_state.proofs.DeletesKept.{none_kept, some_if_ok}
 use Rattle.ice_state.proofs.SlotContents.{none-contents, none-numbers}
 use Rattle.ice_state.proofs.partial.Partial.empty.Goals as goal
+
+pub of_files-requires : goal.of_files-requires
+of_files-requires c = subst (AreKept c.new-entries.result) (sym c.new.ensures.items) tt
 
 pub invariant_of-result : goal.invariant_of-result
 invariant_of-result c =
@@ -18,13 +25,15 @@ invariant_of-result c =
     let nothing : xs ≡ [] =
     ap (λ (ss : List (Option Taken)). kept_in (contents entries ss)) c.loop.invariant
     ∙ ap kept_in (none-contents entries c.loop.counter) ∙ none_kept c.loop.counter in
-    let files : entries_at entries c.new.result.items ≡ filter holds_deletes xs =
+    let none : entries_at entries c.new.result.items ≡ filter holds_deletes xs =
     ap (entries_at entries) c.new.ensures.items ∙ ap (filter holds_deletes) (sym nothing) in
+    let files = subst (λ (es : List Entry). IsPermutation es (entries_at entries c.new.result.items)) none
+    (IsPermutation-refl (entries_at entries c.new.result.items)) in
     record {
       numbers = subst (HaveNumbers entries) (sym c.loop.invariant) (none-numbers entries c.loop.counter);
-      index =
-          subst (λ (d : Option IndexedDeletes). IfSome d (IsIndexOf entries xs)) (sym c.ok-deletes.ensures.value)
-          (some_if_ok c.build.result (IsIndexOf entries xs) (c.build.ensures.index xs files));
+      all_deletes =
+          subst (λ (d : Option KeptDeletes). IfSome d (AreDeletesOf entries xs)) (sym c.ok-deletes.ensures.value)
+          (some_if_ok c.of_files.result (AreDeletesOf entries xs) (c.of_files.ensures xs files));
     }
 
 pub returns-clause-none : goal.returns-clause-none

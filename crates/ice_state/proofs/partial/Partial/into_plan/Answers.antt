@@ -2,10 +2,16 @@ use Rattle.std.proofs.Common.{◌∙◌, List, Option, ap, sym}
 use Rattle.std.proofs.lemmas.Result.{err_from_is_err_and}
 use Rattle.ice_manifest_reading.specs.declared.row.Row.{Row}
 use Rattle.ice_state.specs.declared.kept.taken.Taken.{Taken}
-use Rattle.ice_state.specs.Outcomes.{outcome_of}
+use Rattle.ice_state.specs.Outcomes.{kept_in, outcome_of}
 use Rattle.ice_state.specs.Slots.{contents}
+use Rattle.ice_state.proofs.DeletesKept.{if_some_of}
 use Rattle.ice_state.proofs.Snapshots.{of_snapshot}
 use Rattle.ice_state.proofs.partial.Partial.into_plan.Goals as goal
+
+pub with_index_of_all-deletes-requires : goal.with_index_of_all-deletes-requires
+with_index_of_all-deletes-requires c =
+    let kept = c.self.inside.entries in
+    if_some_of kept (kept_in (contents kept c.self.inside.slots.items)) c.self.inside.deletes c.self.invariant.all_deletes
 
 pub returns-in_err-numbered-clause-snapshot : goal.returns-in_err-numbered-clause-snapshot
 returns-in_err-numbered-clause-snapshot c =

@@ -6,11 +6,11 @@ use Rattle.ice_state.specs.Parts.{gains}
 use Rattle.ice_state.specs.Slots.{contents, HaveNumbers}
 use Rattle.ice_state.proofs.Gains.{join-gains, join-in_world, length-gains, length-gains_same, length-join, join-known}
 use Rattle.ice_state.proofs.SlotContents.{contents-kept, length-contents}
-use Rattle.ice_state.proofs.DeletesKept.{entries_joined, if_moved, if_places, state_kept}
+use Rattle.ice_state.proofs.DeletesKept.{entries_joined, if_moved, if_some_of, state_kept}
 use Rattle.std.specs.List.Sorted.{IsPermutation}
-use Rattle.ice_state.specs.declared.kept.indexed.IndexedDeletes.{IndexedDeletes}
+use Rattle.ice_state.specs.declared.kept.deletes.KeptDeletes.{KeptDeletes}
 use Rattle.ice_state.specs.declared.kept.taken.Taken.{Taken}
-use Rattle.ice_state.specs.KeptDeletes.{HasPlaces, IsIndexOf}
+use Rattle.ice_state.specs.KeptDeletes.{AreDeletes, AreDeletesOf}
 use Rattle.ice_state.specs.Outcomes.{kept_in}
 use Rattle.ice_state.proofs.partial.Partial.merge.Goals as goal
 
@@ -95,16 +95,16 @@ with_gained-requires c =
       ap (λ (ss : List (Option Taken)). length ss) c.deref-3.ensures.value,
     )) in
     let Have = λ (ss : List (Option Taken)). HaveNumbers c.gained.new.entries ss in
-    let Places = λ (d : Option IndexedDeletes). IfSome d HasPlaces in
+    let new = c.gained.new.entries in
+    let state = state_kept c.self.inside.entries new slots c.self.inside.deletes c.gained.ensures.keeps c.self.invariant in
     record {
       same =
           ap (λ (ss : List (Option Taken)). length ss) c.deref-5.ensures.value ∙ sym many
           ∙ sym (ap (λ (ss : List (Option Taken)). length ss) c.deref-6.ensures.value);
       numbers = subst Have (sym c.deref-6.ensures.value) c.in_ok-gained.ensures.numbers;
-      places =
-          subst Places (sym c.take.ensures.value)
-          (if_places c.self.inside.entries (kept_in (contents c.self.inside.entries slots)) c.self.inside.deletes
-          c.self.invariant.index);
+      deletes =
+          subst (λ (d : Option KeptDeletes). IfSome d (AreDeletes new)) (sym c.take.ensures.value)
+          (if_some_of new (kept_in (contents new slots)) c.self.inside.deletes state.all_deletes);
     }
 
 pub invariant_of-self-2 : goal.invariant_of-self-2
@@ -115,9 +115,9 @@ invariant_of-self-2 c =
     let before = contents new slots in
     let state = state_kept c.self.inside.entries new slots c.self.inside.deletes c.gained.ensures.keeps
     c.self.invariant in
-    let was : IfSome c.take.result (IsIndexOf new (kept_in before)) =
-    subst (λ (d : Option IndexedDeletes). IfSome d (IsIndexOf new (kept_in before))) (sym c.take.ensures.value)
-    state.index in
+    let was : IfSome c.take.result (AreDeletesOf new (kept_in before)) =
+    subst (λ (d : Option KeptDeletes). IfSome d (AreDeletesOf new (kept_in before))) (sym c.take.ensures.value)
+    state.all_deletes in
     let many : length gained ≡ length slots =
     (let kept = c.self.inside.entries in
     let others = c.other.inside.entries in
@@ -139,7 +139,7 @@ invariant_of-self-2 c =
     let alike : length before ≡ length (contents new gained) =
     length-contents new slots ∙ sym many ∙ sym (length-contents new gained) in
     let same = entries_joined before (contents new gained) alike in
-    let With = λ (cs ds : Content). IfSome c.with_gained.result (IsIndexOf new (kept_in before ++ kept_in (gains cs ds))) in
+    let With = λ (cs ds : Content). IfSome c.with_gained.result (AreDeletesOf new (kept_in before ++ kept_in (gains cs ds))) in
     let more : With before (contents new gained) =
     subst (λ (ss : List (Option Taken)). With (contents new ss) (contents new gained)) c.deref-5.ensures.value
     (subst (λ (ss : List (Option Taken)). With (contents new c.deref-5.result.now) (contents new ss)) c.deref-6.ensures.value
@@ -148,7 +148,7 @@ invariant_of-self-2 c =
     (kept_in cs)) (sym (c.put_all.ensures.rows new)) same in
     record {
       numbers = c.put_all.ensures.numbers new state.numbers c.in_ok-gained.ensures.numbers;
-      index = if_moved new (kept_in before ++ kept_in (gains before (contents new gained)))
+      all_deletes = if_moved new (kept_in before ++ kept_in (gains before (contents new gained)))
           (kept_in (contents new c.put_all.new.slots.items)) c.with_gained.result moved more;
     }
 

@@ -1,4 +1,5 @@
-use Rattle.std.proofs.Common.{◌∙◌, ◌≡◌, ◌<◌, ◌++◌, ap, subst, sym, length, get_or, List, Option, Some, IfSome, arith, false}
+use Rattle.std.proofs.Common.{◌∙◌, ◌≡◌, ◌<◌, ◌++◌, ap, subst, sym, length, get_or, List, Option, Some, IfSome, arith}
+use Rattle.std.proofs.Common.{false}
 use Rattle.std.proofs.lemmas.Result.{err_from_is_err_and}
 use Rattle.ice_manifest_reading.specs.declared.row.Row.{Row}
 use Rattle.ice_state.specs.Contents.{Content, is_row_taken}
@@ -7,10 +8,10 @@ use Rattle.ice_state.specs.Readings.{Reading}
 use Rattle.ice_state.specs.Slots.{contents, given}
 use Rattle.ice_state.proofs.Contents.{with_row-took}
 use Rattle.ice_state.proofs.SlotContents.{contents-kept, length-contents}
-use Rattle.ice_state.proofs.DeletesKept.{entries_with_row, if_moved, if_places, state_kept}
+use Rattle.ice_state.proofs.DeletesKept.{entries_with_row, if_moved, if_some_of, state_kept}
 use Rattle.std.specs.List.Sorted.{IsPermutation}
-use Rattle.ice_state.specs.declared.kept.indexed.IndexedDeletes.{IndexedDeletes}
-use Rattle.ice_state.specs.KeptDeletes.{IsIndexOf}
+use Rattle.ice_state.specs.declared.kept.deletes.KeptDeletes.{KeptDeletes}
+use Rattle.ice_state.specs.KeptDeletes.{AreDeletes, AreDeletesOf}
 use Rattle.ice_state.specs.Outcomes.{entries_in, kept_in}
 use Rattle.ice_manifest_reading.specs.Telling.{told_of}
 use Rattle.ice_state.proofs.Taking.{manifest_is}
@@ -28,12 +29,15 @@ returns-in_err-taken-clause-err g c =
 
 pub with_taken-requires : goal.with_taken-requires
 with_taken-requires g c =
-    let old = c.self.inside.entries in
+    let new = c.take_manifest.new.entries in
     let slots = c.self.inside.slots.items in
+    let state = state_kept c.self.inside.entries new slots c.self.inside.deletes c.take_manifest.ensures.keeps
+    c.self.invariant in
     record {
       numbers = c.in_ok-taken.ensures.numbers;
-      places = rw c.take.ensures.value (if_places old (kept_in (contents old slots)) c.self.inside.deletes
-          c.self.invariant.index);
+      deletes =
+          subst (λ (d : Option KeptDeletes). IfSome d (AreDeletes new)) (sym c.take.ensures.value)
+          (if_some_of new (kept_in (contents new slots)) c.self.inside.deletes state.all_deletes);
     }
 
 pub invariant_of-self-2 : goal.invariant_of-self-2
@@ -48,9 +52,9 @@ invariant_of-self-2 g c =
     ap (λ (s : Content). is_row_taken s c.args.i)
     (contents-kept c.self.inside.entries new c.take_manifest.ensures.keeps slots c.self.invariant.numbers
     ∙ c.self.view_is) ∙ c.requires.new in
-    let was : IfSome c.take.result (IsIndexOf new (kept_in before)) =
-    subst (λ (d : Option IndexedDeletes). IfSome d (IsIndexOf new (kept_in before))) (sym c.take.ensures.value)
-    state.index in
+    let was : IfSome c.take.result (AreDeletesOf new (kept_in before)) =
+    subst (λ (d : Option KeptDeletes). IfSome d (AreDeletesOf new (kept_in before))) (sym c.take.ensures.value)
+    state.all_deletes in
     let of : length c.args.self.now ≡ length c.args.scan.now.wanted = c.requires.of_scan in
     let low : c.args.i < length before =
     omega (
@@ -65,7 +69,7 @@ invariant_of-self-2 g c =
     (sym (c.put_row.ensures.row new)) (entries_with_row before c.args.i taken low free) in
     record {
       numbers = c.put_row.ensures.numbers new state.numbers c.in_ok-taken.ensures.numbers;
-      index = if_moved new (kept_in before ++ entries_in (Some taken)) (kept_in (contents new c.put_row.new.slots.items))
+      all_deletes = if_moved new (kept_in before ++ entries_in (Some taken)) (kept_in (contents new c.put_row.new.slots.items))
           c.with_taken.result same (c.with_taken.ensures (kept_in before) was);
     }
 
