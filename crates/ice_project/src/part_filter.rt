@@ -15,6 +15,7 @@ use crate::tuples::may;
 use contract_words::Items;
 use ice_filter::{LeafTest, Parts, Test};
 use ice_value::{Cell, ColumnType};
+use shared_value::Shared;
 
 /// A test of one of the values of a partition tuple.
 #[derive(Debug, PartialEq, Drop)]
@@ -23,8 +24,8 @@ pub struct FieldTest {
     pub position: usize,
     /// The type of the value.
     pub value_type: ColumnType,
-    /// What is asked of it.
-    pub test: Test,
+    /// What is asked of it. That of fields of identity is one.
+    pub test: Shared<Test>,
 }
 
 impl FieldTest {
@@ -33,7 +34,7 @@ impl FieldTest {
         ensures { result ≡ field_test_met tuple.now self.now }
     {
         match tuple.get(self.position) {
-            Some(cell) => may(&self.test, cell),
+            Some(cell) => may(self.test.get(), cell),
             None => true,
         }
     }

@@ -1,31 +1,74 @@
 //! The projection of a filter.
 
-ghost use Rattle.std.specs.Prelude.{◌≡◌, IfOk};
+ghost use Rattle.std.specs.Prelude.{◌≡◌, IfOk, IfSome};
 ghost use Rattle.ice_filter.specs.Trees.{map_part, map_leaves};
-ghost use Rattle.ice_project.specs.Projection.{leaf_test, leaf_tests, projection, typed_test};
+ghost use Rattle.ice_project.specs.Projection.{leaf_test, leaf_tests, projected_test, projection, typed_test};
 
 use crate::field::{Field, read_fields};
 use crate::part_filter::{FieldTest, PartFilter};
 use crate::table::project_test;
-use contract_words::Items;
+use contract_words::{Duplicate, Items};
 use ice_filter::{Bound, BoundLeaf, Part, Parts, Test, filters_over_other_leaves};
 use ice_meta::Spec;
 use ice_transform::Transform;
 use ice_value::ColumnType;
+use shared_value::Shared;
 use std::alloc::{AllocError, Global};
 
-/// The projection through a transform over the type of its column.
+/// The leaf's own test, which is copied where it is asked for first.
+fn own_test(
+    alloc: Global,
+    leaf: &BoundLeaf,
+    copied: &mut Option<Shared<Test>>,
+) -> Result<Shared<Test>, AllocError>
+    requires { IfSome copied.old (λ test. test ≡ leaf.now.test) }
+    ensures test { IfOk result (λ test. test ≡ leaf.now.test) }
+    ensures copied { IfSome copied.new (λ test. test ≡ leaf.now.test) }
+{
+    if let Some(test) = copied {
+        return test.share();
+    }
+    let test = Shared::new(alloc, leaf.test.copy(alloc)?)?;
+    *copied = Some(test.share()?);
+    Ok(test)
+}
+
+/// The projection of the leaf's test through a transform. Through identity it is the test itself.
+fn test_through(
+    alloc: Global,
+    transform: &Transform,
+    source: &ColumnType,
+    leaf: &BoundLeaf,
+    copied: &mut Option<Shared<Test>>,
+) -> Result<Option<Shared<Test>>, AllocError>
+    requires { IfSome copied.old (λ test. test ≡ leaf.now.test) }
+    ensures test { IfOk result (λ found. found ≡ projected_test transform.now source.now leaf.now.test) }
+    ensures copied { IfSome copied.new (λ test. test ≡ leaf.now.test) }
+{
+    if matches!(transform, Transform::Identity) {
+        return Ok(Some(own_test(alloc, leaf, copied)?));
+    }
+    match project_test(alloc, transform, source, &leaf.test)? {
+        Some(test) => Ok(Some(Shared::new(alloc, test)?)),
+        None => Ok(None),
+    }
+}
+
+/// The leaf's projection through a transform over the type of its column.
 fn typed_test(
     alloc: Global,
     position: usize,
     transform: &Transform,
     source: &ColumnType,
-    test: &Test,
+    leaf: &BoundLeaf,
+    copied: &mut Option<Shared<Test>>,
 ) -> Result<Option<FieldTest>, AllocError>
-    ensures { IfOk result (λ found. found ≡ typed_test position transform.now source.now test.now) }
+    requires { IfSome copied.old (λ test. test ≡ leaf.now.test) }
+    ensures test { IfOk result (λ found. found ≡ typed_test position transform.now source.now leaf.now.test) }
+    ensures copied { IfSome copied.new (λ test. test ≡ leaf.now.test) }
 {
     match transform.result_type(source) {
-        Some(value_type) => match project_test(alloc, transform, source, test)? {
+        Some(value_type) => match test_through(alloc, transform, source, leaf, copied)? {
             Some(test) => Ok(Some(FieldTest {
                 position,
                 value_type,
@@ -43,19 +86,22 @@ fn leaf_test(
     position: usize,
     field: &Field,
     leaf: &BoundLeaf,
+    copied: &mut Option<Shared<Test>>,
 ) -> Result<Option<FieldTest>, AllocError>
-    ensures { IfOk result (λ found. found ≡ leaf_test position field.now leaf.now) }
+    requires { IfSome copied.old (λ test. test ≡ leaf.now.test) }
+    ensures test { IfOk result (λ found. found ≡ leaf_test position field.now leaf.now) }
+    ensures copied { IfSome copied.new (λ test. test ≡ leaf.now.test) }
 {
     if field.source_id != leaf.column {
         return Ok(None);
     }
     match field.source_type {
-        Some(source) => typed_test(alloc, position, &field.transform, &source, &leaf.test),
+        Some(source) => typed_test(alloc, position, &field.transform, &source, leaf, copied),
         None => Ok(None),
     }
 }
 
-/// The leaf's projection through all fields.
+/// The leaf's projection through all fields. Those of identity share one test.
 fn leaf_tests(
     alloc: Global,
     fields: &[Field],
@@ -64,8 +110,9 @@ fn leaf_tests(
     ensures { IfOk result (λ found. found ≡ leaf_tests 0 fields.now leaf.now) }
 {
     let mut found = Items::new(alloc);
+    let mut copied = None;
     'fields: for (position, field) in fields.iter().enumerate() {
-        if let Some(test) = leaf_test(alloc, position, field, leaf)? {
+        if let Some(test) = leaf_test(alloc, position, field, leaf, &mut copied)? {
             found.push(test)?;
         }
     }
@@ -105,7 +152,7 @@ fn project_parts(
 }
 
 /// The filter over partition values that every file with a row that meets the filter meets. The transforms are read and
-/// applied here, once a spec.
+/// applied here.
 pub fn project(alloc: Global, filter: &Bound, spec: &Spec) -> Result<PartFilter, AllocError>
     ensures { IfOk result (λ part. part ≡ projection filter.now.parts spec.now) }
 {

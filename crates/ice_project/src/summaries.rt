@@ -23,7 +23,7 @@ impl FieldTest {
     fn is_allowed_by(&self, summary: &Summary) -> bool
         ensures { result ≡ summary_allows self.now summary.now }
     {
-        if matches!(self.test, Test::IsNull) {
+        if matches!(self.test.get(), Test::IsNull) {
             summary.contains_null()
         } else {
             let limits = Limits {
@@ -31,7 +31,7 @@ impl FieldTest {
                 low: summary.lower(),
                 high: summary.upper(),
             };
-            limits.may_meet(&self.test)
+            limits.may_meet(self.test.get())
         }
     }
 
