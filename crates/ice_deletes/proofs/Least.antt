@@ -1,6 +1,7 @@
 -- Numbers from a least one on.
 use Rattle.std.proofs.Common.{◌≡◌, ℕ, ◌<◌, ◌≤◌, ◌==◌, Bool, true, not, List, [], ◌∷◌, ◌++◌, length, filter}
-use Rattle.std.proofs.Common.{refl, sym, ap, ◌∙◌, ◌+◌, ◌⊎◌, inl, inr, arith, cond, get_or, nat_le, eqb-true, slice_index}
+use Rattle.std.proofs.Common.{refl, sym, ap, ◌∙◌, ◌+◌, ◌⊎◌, inl, inr, arith, cond, get_or, nat_le, eqb-true}
+use Rattle.std.proofs.Common.{slice_index}
 use Rattle.std.specs.List.{All, AllByRecursion, list_any}
 use Rattle.std.specs.List.Sorted.{IsPermutation}
 use Rattle.std.proofs.lemmas.Bool.{le-leb}

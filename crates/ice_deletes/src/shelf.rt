@@ -128,8 +128,8 @@ impl Shelf {
             .partition_point(|delete| delete.is_up_to(group, key))
     }
 
-    /// A number of first ones of which the last, and so each, stands before that place, or at it with a smaller sequence
-    /// number. It is looked for from the end in steps that double, since of many at a place mostly few apply.
+    /// A number of first ones of which the last, and so each, stands before that place, or at it with a smaller
+    /// sequence number. It is looked for from the end in steps that double, since of many at a place mostly few apply.
     fn near_start(&self, end: usize, key: &SearchKey) -> usize
         requires { end ≤ length self.now.deletes.items }
         ensures within { result ≤ end }

@@ -51,8 +51,8 @@ const MICROSECONDS_PER_HOUR: i64 = 3_600_000_000;
 
 impl Transform {
     /// The transform that a partition spec names so: `identity`, `bucket[N]`, `truncate[W]`, `year`, `month`, `day`,
-    /// `hour` or `void`, with N and W in decimal digits from 1 to 2147483647. Any other text is kept as `Unknown`, which
-    /// takes memory.
+    /// `hour` or `void`, with N and W in decimal digits from 1 to 2147483647. Any other text is kept as `Unknown`,
+    /// which takes memory.
     pub fn parse(alloc: Global, text: &str) -> Result<Transform, AllocError>
         ensures named { IfOk result (λ transform. IsNamed transform text.now) }
         ensures memory { IfErr result (λ _. is_name text.now ≡ false) }

@@ -2,6 +2,8 @@
 //! memory is ample, values that the specification and other programs give, and what a refused growth leaves.
 #![tactic(auto)]
 
+mod applying;
+mod calls;
 #[cfg(test)]
 mod deletes;
 #[cfg(test)]
@@ -14,3 +16,6 @@ mod merges;
 mod transforms;
 #[cfg(test)]
 mod values;
+
+pub use applying::{equalities, everywhere, positions};
+pub use calls::{apply, compare_bound, merge, order_of_cells, sequence_number, write_bound};

@@ -7,7 +7,8 @@ use Rattle.path_arena.specs.declared.index.Node.{Node}
 use Rattle.path_arena.specs.declared.index.Link.{Link}
 use Rattle.path_arena.specs.declared.index.Link.TheVariants.{Top, Below}
 use Rattle.path_arena.specs.Hashing.{hash_of}
-use Rattle.path_arena.specs.Trees.{hashes_of, no_node, Trees, turns_right, bucket, top_link, side, link_below, onward, walk, led_to}
+use Rattle.path_arena.specs.Trees.{hashes_of, no_node, Trees, turns_right, bucket, top_link, side, link_below, onward}
+use Rattle.path_arena.specs.Trees.{walk, led_to}
 use Rattle.path_arena.specs.Trees.{Reaches, LieOnWalks, KeepsLinks, Stands, Takes, EndsAt, IsIndex}
 
 pub length-hashes : (ns : List Node) → length (hashes_of ns) ≡ length ns

@@ -35,7 +35,8 @@ coded_trees =
     code_by (List ℕ × (List Node × ℕ)) (coded× (coded_list coded_ℕ) (coded× (coded_list coded_node) coded_ℕ))
     (λ t. (t.tops, (t.nodes, t.ids))) (λ p. record { tops = p.0; nodes = p.1.0; ids = p.1.1 }) (λ _. refl)
 
--- the bits that a string's walk asks for, by its depth: those of the hash from the highest on, of the length, and its own
+-- the bits that a string's walk asks for, by its depth: those of the hash from the highest on, of the length, and its
+-- own
 unfoldable pub turns_right : List ℕ → ℕ → Bool
 turns_right s depth =
     if nat_lt depth 32 then bit_at (hash_of s) (31 - depth) == 1

@@ -2,6 +2,7 @@
 //! what a refused growth leaves.
 #![tactic(auto)]
 
+mod calls;
 #[cfg(test)]
 mod held;
 #[cfg(test)]
@@ -10,3 +11,5 @@ mod interns;
 mod refusals;
 #[cfg(test)]
 mod threads;
+
+pub use calls::{intern, reserve};
