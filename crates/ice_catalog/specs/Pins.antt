@@ -23,7 +23,7 @@ use Rattle.ice_catalog_versions.specs.States.{State}
 use Rattle.ice_catalog.specs.declared.pinning.PinFault.{PinFault}
 use Rattle.ice_catalog.specs.declared.pinning.PinFault.TheVariants.{Refused, Memory}
 
--- whatever the fault is, there is no scan; only want of memory is told apart
+-- whatever the fault is, there is no scan; only a lack of memory is told apart
 abbrev pub of_meta : MetaFault → PinFault
 of_meta meta.Memory = Memory
 of_meta fault = Refused

@@ -1,6 +1,6 @@
 //! Scans that stay pinned to their version while commits go on, and by its own name all that a table's versions and
-//! their book are: what versions are and how commits are prepared on them is in `ice_catalog_versions`, how commits replace the
-//! newest version, by one thread or by many, in `ice_catalog_book`.
+//! their book are: what versions are and how commits are prepared on them is in `ice_catalog_versions`, how commits
+//! replace the newest version, by one thread or by many, in `ice_catalog_book`.
 #![tactic(auto)]
 
 mod event;

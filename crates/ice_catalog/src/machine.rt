@@ -162,7 +162,7 @@ fn finish(scan: &Option<Scanning>, worker: usize) -> Result<Reply, AllocError>
 }
 
 /// Runs events in order on a table that is at this version, and answers the reply to each. The version itself never
-/// changes. It is refused for want of memory alone. At each event every commit until then had left what it met and
+/// changes. It is refused when out of memory alone. At each event every commit until then had left what it met and
 /// added its own, wherever the names of its files were new. So a worker that took all wanted rows of its scan finishes
 /// with the plan of the version that the scan was pinned to, whatever was committed in between, where the summaries of
 /// the opening's rows are true and the names of each commit's files were new: no premise speaks of what was written.

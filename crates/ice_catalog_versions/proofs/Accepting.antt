@@ -15,7 +15,8 @@ use Rattle.ice_catalog_versions.specs.declared.fault.PrepareFault.TheVariants as
 use Rattle.ice_catalog_versions.specs.Adding.{CanWrite, snapshot_of}
 use Rattle.ice_catalog_versions.specs.Bases.{base_rows, table_specs}
 use Rattle.ice_catalog_versions.specs.Groups.{groups_of, groups}
-use Rattle.ice_catalog_versions.specs.Refusals.{all_files, spec_id_of, paths_where, is_bad, is_unknown, is_wrong, refusal}
+use Rattle.ice_catalog_versions.specs.Refusals.{all_files, spec_id_of, paths_where, is_bad, is_unknown, is_wrong}
+use Rattle.ice_catalog_versions.specs.Refusals.{refusal}
 use Rattle.ice_catalog_versions.specs.States.{State}
 use Rattle.ice_catalog_versions.proofs.Leasts.{unmapped, no_path, no_id, both_empty, none_passes, unnamed}
 use Rattle.ice_catalog_versions.proofs.Reasons.{none_stand}

@@ -28,7 +28,8 @@ use Rattle.ice_catalog_versions.specs.Applying.{apply, unless}
 use Rattle.ice_catalog_versions.specs.Bases.{base_rows, live_at, rows_at, spec_in, table_specs}
 use Rattle.ice_catalog_versions.specs.Covered.{CoversFiles, EmptyIsCovered, HasCoveredRows, KeepsCovering, StaysCovered}
 use Rattle.ice_catalog_versions.specs.Histories.{History, after, replay, start, state_of, step}
-use Rattle.ice_catalog_versions.specs.Live.{AddInTurn, HasBaseAndChange, added_entries, added_row, entries_at, new_manifests}
+use Rattle.ice_catalog_versions.specs.Live.{AddInTurn, HasBaseAndChange, added_entries, added_row, entries_at}
+use Rattle.ice_catalog_versions.specs.Live.{new_manifests}
 use Rattle.ice_catalog_versions.specs.Refusals.{refusal}
 use Rattle.ice_catalog_versions.specs.States.{State}
 use Rattle.ice_catalog_versions.specs.Staying.{AreNewTo}

@@ -42,9 +42,12 @@ use Rattle.ice_catalog_versions.specs.Groups.{groups}
 use Rattle.ice_catalog_versions.specs.LeastFaults.{Fit, IsBad, IsBadList, IsBadManifest, IsEarlier, IsNamedUnknown}
 use Rattle.ice_catalog_versions.specs.LeastFaults.{IsSnapshotTaken, IsTaken, IsTwice, IsUnknown, IsWrong, OneIs}
 use Rattle.ice_catalog_versions.specs.Live.{entries_at, listed_rows, new_manifests, rows_after}
-use Rattle.ice_catalog_versions.specs.Refusals.{all_files, bad_path, empty, first_twice, is_among, is_bad, is_good, is_unknown}
-use Rattle.ice_catalog_versions.specs.Refusals.{is_wrong, least_id, least_path, live_among, out_of_order, path_before, path_of}
-use Rattle.ice_catalog_versions.specs.Refusals.{paths_where, sequence_end, snapshot_taken, sorted_paths, spec_id_of, too_many}
+use Rattle.ice_catalog_versions.specs.Refusals.{all_files, bad_path, empty, first_twice, is_among, is_bad, is_good}
+use Rattle.ice_catalog_versions.specs.Refusals.{is_unknown}
+use Rattle.ice_catalog_versions.specs.Refusals.{is_wrong, least_id, least_path, live_among, out_of_order, path_before}
+use Rattle.ice_catalog_versions.specs.Refusals.{path_of}
+use Rattle.ice_catalog_versions.specs.Refusals.{paths_where, sequence_end, snapshot_taken, sorted_paths, spec_id_of}
+use Rattle.ice_catalog_versions.specs.Refusals.{too_many}
 use Rattle.ice_catalog_versions.specs.Refusals.{unreadable}
 use Rattle.ice_catalog_versions.specs.States.{State}
 use Rattle.ice_catalog_versions.specs.Tuples.{allowed_of, allows, fit, fits_spec}

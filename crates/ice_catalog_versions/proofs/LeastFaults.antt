@@ -16,14 +16,17 @@ use Rattle.ice_catalog_versions.specs.declared.fault.PrepareFault.{PrepareFault}
 use Rattle.ice_catalog_versions.specs.declared.fault.PrepareFault.TheVariants as fault
 use Rattle.ice_catalog_versions.specs.Bases.{table_specs}
 use Rattle.ice_catalog_versions.specs.Histories.{History, Step, prepared_on, state_of}
-use Rattle.ice_catalog_versions.specs.LeastFaults.{HasFault, IsBefore, IsLeast, NamesLess, PreparesWhereNoneIsThere, rank}
+use Rattle.ice_catalog_versions.specs.LeastFaults.{HasFault, IsBefore, IsLeast, NamesLess, PreparesWhereNoneIsThere}
+use Rattle.ice_catalog_versions.specs.LeastFaults.{rank}
 use Rattle.ice_catalog_versions.specs.LeastFaults.{TellsTheLeast}
 use Rattle.ice_catalog_versions.specs.Refusals.{bad_file, base_bad, empty, first_reason, no_such_spec, out_of_order}
 use Rattle.ice_catalog_versions.specs.Refusals.{path_before, path_taken, path_twice, reasons, refusal, sequence_end}
 use Rattle.ice_catalog_versions.specs.Refusals.{snapshot_taken, sorted_paths, too_many_rows, wrong_tuple}
 use Rattle.ice_catalog_versions.specs.States.{State}
-use Rattle.ice_catalog_versions.proofs.FaultKinds.{Finds, IsPathBefore, a_snapshot, an_end, bad_finds, base_finds, double_finds}
-use Rattle.ice_catalog_versions.proofs.FaultKinds.{earlier, few, many, no_end, no_snapshot, none_empty, not_earlier, some_empty}
+use Rattle.ice_catalog_versions.proofs.FaultKinds.{Finds, IsPathBefore, a_snapshot, an_end, bad_finds, base_finds}
+use Rattle.ice_catalog_versions.proofs.FaultKinds.{double_finds}
+use Rattle.ice_catalog_versions.proofs.FaultKinds.{earlier, few, many, no_end, no_snapshot, none_empty, not_earlier}
+use Rattle.ice_catalog_versions.proofs.FaultKinds.{some_empty}
 use Rattle.ice_catalog_versions.proofs.FaultKinds.{taken_finds, unknown_finds, wrong_finds}
 use Rattle.ice_catalog_versions.proofs.LiveAfter.{some_is}
 use Rattle.ice_catalog_versions.proofs.Replays.{prepared_done, prepared_refused}

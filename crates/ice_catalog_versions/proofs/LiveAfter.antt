@@ -29,10 +29,12 @@ use Rattle.ice_state.proofs.Elements.{all_at, filtered, refiltered}
 use Rattle.ice_catalog_versions.specs.declared.change.Change.{Change}
 use Rattle.ice_catalog_versions.specs.declared.change.Commit.{Commit}
 use Rattle.ice_catalog_versions.specs.declared.change.Ids.{Ids}
-use Rattle.ice_catalog_versions.specs.Adding.{NewManifest, group_spec, heading_of, manifest_of, manifests_from, spec_or_none}
+use Rattle.ice_catalog_versions.specs.Adding.{NewManifest, group_spec, heading_of, manifest_of, manifests_from}
+use Rattle.ice_catalog_versions.specs.Adding.{spec_or_none}
 use Rattle.ice_catalog_versions.specs.Bases.{base_rows, live_at, spec_in, table_specs}
 use Rattle.ice_catalog_versions.specs.Groups.{Group, group_of, groups, groups_of, id_before, is_of_spec, spec_ids}
-use Rattle.ice_catalog_versions.specs.Live.{HasBaseAndChange, added_entries, added_row, entries_at, new_manifests, rows_after}
+use Rattle.ice_catalog_versions.specs.Live.{HasBaseAndChange, added_entries, added_row, entries_at, new_manifests}
+use Rattle.ice_catalog_versions.specs.Live.{rows_after}
 use Rattle.ice_catalog_versions.specs.LiveAfter.{AddsItsFiles, EachIsLive, IsEntryOf, IsLive, IsOfChange, JoinsFiles}
 use Rattle.ice_catalog_versions.specs.LiveAfter.{JoinsManifests, StandsAt, new_live}
 use Rattle.ice_catalog_versions.specs.Refusals.{all_files}

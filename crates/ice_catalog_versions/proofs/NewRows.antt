@@ -17,7 +17,8 @@ use Rattle.ice_state.specs.Specs.{spec_of}
 use Rattle.ice_catalog_versions.specs.declared.change.Commit.{Commit}
 use Rattle.ice_catalog_versions.specs.declared.change.Ids.{Ids}
 use Rattle.ice_catalog_versions.specs.declared.fault.PrepareFault.TheVariants as fault
-use Rattle.ice_catalog_versions.specs.Adding.{NewManifest, heading_of, manifest_of, manifests_from, next_sequence, spec_or_none}
+use Rattle.ice_catalog_versions.specs.Adding.{NewManifest, heading_of, manifest_of, manifests_from, next_sequence}
+use Rattle.ice_catalog_versions.specs.Adding.{spec_or_none}
 use Rattle.ice_catalog_versions.specs.Adding.{types_of}
 use Rattle.ice_catalog_versions.specs.Bases.{spec_in, table_specs}
 use Rattle.ice_catalog_versions.specs.Covered.{CoversFiles, NewRowsCover}
@@ -28,7 +29,8 @@ use Rattle.ice_catalog_versions.specs.Tuples.{fits_spec}
 use Rattle.ice_catalog_versions.proofs.Leasts.{no_path, none_passes, unmapped, unnamed}
 use Rattle.ice_catalog_versions.proofs.Reasons.{none_stand}
 use Rattle.ice_catalog_versions.proofs.NewSummaries.{told}
-use Rattle.ice_catalog_versions.proofs.Writable.{all_append, all_filter, all_here, all_map, all_split, all_weaker, not_true}
+use Rattle.ice_catalog_versions.proofs.Writable.{all_append, all_filter, all_here, all_map, all_split, all_weaker}
+use Rattle.ice_catalog_versions.proofs.Writable.{not_true}
 
 -- ---- the files of a group fit its spec
 

@@ -35,7 +35,8 @@ use Rattle.ice_catalog_versions.specs.declared.tuples.Allowed.TheVariants.{Null,
 use Rattle.ice_catalog_versions.specs.Adding.{CanWrite, schema_text, types_of, heading_of, spec_or_none}
 use Rattle.ice_catalog_versions.specs.Bases.{table_specs, spec_in}
 use Rattle.ice_catalog_versions.specs.Groups.{id_before, spec_ids, is_of_spec, group_of, groups_of}
-use Rattle.ice_catalog_versions.specs.Refusals.{is_count, is_for, are_ids, may_name, is_good, is_bad, spec_id_of, is_unknown}
+use Rattle.ice_catalog_versions.specs.Refusals.{is_count, is_for, are_ids, may_name, is_good, is_bad, spec_id_of}
+use Rattle.ice_catalog_versions.specs.Refusals.{is_unknown}
 use Rattle.ice_catalog_versions.specs.Refusals.{is_wrong}
 use Rattle.ice_catalog_versions.specs.Tuples.{allowed_of, allowed_of_type, allows, fit, fits_spec, written_type}
 

@@ -9,7 +9,8 @@ ghost use Rattle.ice_catalog_versions.specs.declared.fault.PrepareFault.TheVaria
 ghost use Rattle.ice_catalog_versions.specs.Bases.{table_specs, current_list, rows_at, base_rows, manifest_at, live_in};
 ghost use Rattle.ice_catalog_versions.specs.Outcome.{Refuses};
 ghost use Rattle.ice_catalog_versions.specs.Partitionings.{specs_of};
-ghost use Rattle.ice_catalog_versions.specs.Refusals.{AreSorted, is_among, lesser_path, least_path, live_among, unreadable};
+ghost use Rattle.ice_catalog_versions.specs.Refusals.{AreSorted, is_among, lesser_path, least_path, live_among};
+ghost use Rattle.ice_catalog_versions.specs.Refusals.{unreadable};
 ghost use Rattle.ice_catalog_versions.specs.Refusals.{base_bad, path_taken};
 
 use crate::fault::PrepareFault;

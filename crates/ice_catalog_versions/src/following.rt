@@ -45,7 +45,7 @@ pub fn next_metadata(
     };
     match metadata.with_snapshot(alloc, &added) {
         Ok(next) => Ok(next),
-        // A table that can have the snapshot refuses it for want of memory alone.
+        // A table that can have the snapshot refuses it when out of memory alone.
         Err(_) => Err(AllocError),
     }
 }

@@ -3,8 +3,10 @@
 ghost use Rattle.std.specs.Prelude.{◌≡◌, ◌+◌, ◌++◌, length, fold, map, OnOk, IfOk};
 ghost use Rattle.std.specs.Option.{option_copied};
 ghost use Rattle.ice_catalog_versions.specs.Outcome.{Refuses};
-ghost use Rattle.ice_catalog_versions.specs.Refusals.{AreSorted, empty, snapshot_taken, sequence_end, first_twice, path_before};
-ghost use Rattle.ice_catalog_versions.specs.Refusals.{path_of, all_files, sorted_paths, path_twice, is_count, is_for, are_ids};
+ghost use Rattle.ice_catalog_versions.specs.Refusals.{AreSorted, empty, snapshot_taken, sequence_end, first_twice};
+ghost use Rattle.ice_catalog_versions.specs.Refusals.{path_before};
+ghost use Rattle.ice_catalog_versions.specs.Refusals.{path_of, all_files, sorted_paths, path_twice, is_count, is_for};
+ghost use Rattle.ice_catalog_versions.specs.Refusals.{are_ids};
 ghost use Rattle.ice_catalog_versions.specs.Refusals.{is_good, is_bad, lesser_path, paths_where, bad_file, too_many};
 ghost use Rattle.ice_catalog_versions.specs.Refusals.{may_name, out_of_order};
 ghost use Rattle.ice_meta.specs.Logs.{newest_time};

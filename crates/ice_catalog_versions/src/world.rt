@@ -36,12 +36,14 @@ impl Model for World {
     ghost invariant = { λ w. T (map.is_sorted (slice_cmp nat_cmp) (pairs (λ a. arc_value a) w.files.entries)) };
 }
 
-/// The files can be read, and a read fails for want of memory alone.
+/// The files can be read, and a read fails when out of memory alone.
 impl Files for World {
-    ghost use Rattle.std.specs.Prelude.{Some};
+    ghost use Rattle.std.specs.Prelude.{◌≡◌, Some};
     ghost use Rattle.std.specs.FinMap as map;
 
     ghost world = { λ w. Some (λ path. map.get w path) };
+
+    ghost gives = { λ w path found. map.get w path ≡ found };
 
     ghost may_fail = { λ w path. ⊥ };
 
@@ -64,7 +66,7 @@ impl World {
         }
     }
 
-    /// Gives a path these bytes, whatever it had before. A refusal, for want of memory, leaves the files as they were.
+    /// Gives a path these bytes, whatever it had before. A refusal, out of memory, leaves the files as they were.
     pub fn put(&mut self, path: &str, bytes: Vec<u8>) -> Result<(), AllocError>
         ensures ok { OnOk result (self.new ≡ map.insert self.old path.now bytes.items) }
         ensures err { OnErr result (self.new ≡ self.old) }

@@ -26,8 +26,8 @@ pub record IsContentOf (world : World) (scan : Scanned) (c : Content) (ts : List
   pub flags : length ts ≡ length scan.wanted
   pub is : c ≡ content world scan ts
 
--- why reading these paths in turn ends: at the first that is not there, at one whose read may fail, or for want of
--- memory
+-- why reading these paths in turn ends: at the first that is not there, at one whose read may fail, or when out
+-- of memory
 abbrev pub MayStop : World → (List ℕ → Type 0) → List (List ℕ) → WantedFault → Type 0
 MayStop world may_fail paths (Absent path) = EndsAtAbsent world paths path
 MayStop world may_fail paths (Device path) = EndsAt world may_fail paths path

@@ -13,6 +13,7 @@ ghost use Rattle.ice_state.specs.Pruning.{pruner_of};
 ghost use Rattle.ice_state.specs.Scans.{IsScanOf, Scanned};
 ghost use Rattle.ice_state.specs.Snapshots.{plan_of_snapshot};
 ghost use Rattle.ice_state.specs.declared.fault.FinishFault.TheVariants as finish;
+ghost use Rattle.ice_desk.specs.Given.{IsGiven};
 ghost use Rattle.ice_desk.specs.Left.{all_left, failed, left_by_both};
 ghost use Rattle.ice_desk.specs.Plans.{AreReady, AreServed, GivesPlan, IfFinished, MayStopPlan};
 ghost use Rattle.ice_desk.specs.Wanted.{IsContentOf, paths_of, untaken};
@@ -58,6 +59,7 @@ fn work_one<F: Files, G: Gate>(
     ensures count { IfOk result (λ crew. vec_len crew.seats ≡ vec_len seats) }
     ensures served { IfOk result (λ crew.
         AreServed (F.world files.now) (F.may_fail files.now) desk.now scan.now crew.seats.items crew.state crew.left) }
+    ensures given { IfOk result (λ crew. IsGiven (F.gives files.now) scan.now crew.state) }
 {
     let mut state = Partial::empty(alloc, scan)?;
     let left = work(
@@ -122,6 +124,7 @@ fn work_all<R: Threads + Sync, F: Files + Sync, G: Gate + Sync>(
     ensures count { IfOk result (λ crew. vec_len crew.seats ≡ vec_len seats) }
     ensures served { IfOk result (λ crew.
         AreServed (F.world files.now) (F.may_fail files.now) desk.now scan.now crew.seats.items crew.state crew.left) }
+    ensures given { IfOk result (λ crew. IsGiven (F.gives files.now) scan.now crew.state) }
 {
     if seats.len() == 1 {
         return work_one(alloc, files, scan, desk, seats, first, gate);
@@ -135,14 +138,14 @@ fn work_all<R: Threads + Sync, F: Files + Sync, G: Gate + Sync>(
                 (0 < vec_len seats) × (first + vec_len seats ≤ 64) × AreReady desk.now scan.now seats.items }
             ensures { IfOk result (λ crew. (vec_len crew.seats ≡ vec_len seats) ×
                 AreServed (F.world files.entry.now) (F.may_fail files.entry.now) desk.entry.now scan.entry.now
-                crew.seats.items crew.state crew.left) }
+                crew.seats.items crew.state crew.left × IsGiven (F.gives files.entry.now) scan.entry.now crew.state) }
         { work_all(rt, alloc, files, scan, desk, seats, first, gate) },
         || -> Result<Crew, AllocError>
             requires { IsSync R.row × IsSync F.row × IsSync G.row ×
                 (0 < vec_len right) × (first + half + vec_len right ≤ 64) × AreReady desk.now scan.now right.items }
             ensures { IfOk result (λ crew. (vec_len crew.seats ≡ vec_len right) ×
                 AreServed (F.world files.entry.now) (F.may_fail files.entry.now) desk.entry.now scan.entry.now
-                crew.seats.items crew.state crew.left) }
+                crew.seats.items crew.state crew.left × IsGiven (F.gives files.entry.now) scan.entry.now crew.state) }
         { work_all(rt, alloc, files, scan, desk, right, first + half, gate) },
     );
     both(left?, right?)
@@ -171,6 +174,8 @@ pub fn take_by_workers<R: Threads + Sync, F: Files + Sync, G: Gate + Sync>(
     // A ticket counts as absent, or as a failed read, only where a manifest's file is not there, or its read may fail.
     ensures absent { IfOk result (λ r. 0 < r.1.absent → (i : ℕ) × Lacks (F.world files.now) scan.now i) }
     ensures device { IfOk result (λ r. 0 < r.1.device → (i : ℕ) × MayFailAt (F.may_fail files.now) scan.now i) }
+    // Over all files: what they took is read from bytes that reads of these files gave.
+    ensures given { IfOk result (λ r. IsGiven (F.gives files.now) scan.now r.0) }
 {
     let (desk, seats) = Desk::new(alloc, scan.wanted().len(), ROUNDS, workers)?;
     let Crew { seats, state, left } = work_all(rt, alloc, files, scan, &desk, seats, 0, gate)?;
@@ -215,10 +220,14 @@ pub fn plan_scan<R: Threads + Sync, F: Files + Sync, G: Gate + Sync>(
     // Over all files.
     ensures taken { IfFinished result ((state : Content) × IsOf scan.now state × (untaken state scan.now.wanted ≡ [])
         × GivesPlan (λ plan. plan) result (outcome scan.now state)) }
+    // And each manifest of that state is read from bytes that a read of its path gave.
+    ensures given { IfFinished result ((state : Content) × IsOf scan.now state × (untaken state scan.now.wanted ≡ [])
+        × IsGiven (F.gives files.now) scan.now state × GivesPlan (λ plan. plan) result (outcome scan.now state)) }
     ensures missing { (path : List ℕ) → IsErrOf result (PlanFault.Finish (finish.Missing path)) → ⊥ }
     ensures memory { IsErrOf result (PlanFault.Finish finish.Memory) → ⊥ }
     ensures absent { (path : List ℕ) → IsErrOf result (PlanFault.Absent path) → HasAt (F.world files.now) path None }
     ensures device { (path : List ℕ) → IsErrOf result (PlanFault.Device path) → F.may_fail files.now path }
+    ensures none_given { (path : List ℕ) → IsErrOf result (PlanFault.Absent path) → F.gives files.now path None }
 {
     if workers == 0 || workers > MOST_WORKERS {
         return Err(PlanFault::Workers);

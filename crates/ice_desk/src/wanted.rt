@@ -1,6 +1,7 @@
 //! Taking the manifests that a scan wants.
 
 ghost use Rattle.std.specs.Prelude.{◌≡◌, ◌<◌, ℕ, Bool, List, [], ◌∷◌, Some, None, length, IfOk, IfErr, OnOk, IsErrOf};
+ghost use Rattle.ice_desk.specs.Given.{IsGiven};
 ghost use Rattle.ice_desk.specs.Wanted.{IsContentOf, MayStop, reads_of, untaken};
 ghost use Rattle.ice_desk.specs.Worlds.{HasAt};
 ghost use Rattle.ice_state.specs.Contents.{World, HasEach, IsOf, every_row, is_row_taken, took};
@@ -30,6 +31,8 @@ fn read_file<F: Files>(
         IfErr result (MayStop world (F.may_fail files.now) (path.now ∷ [])) }
     ensures absent { (path : List ℕ) → IsErrOf result (WantedFault.Absent path) → HasAt (F.world files.now) path None }
     ensures device { (path : List ℕ) → IsErrOf result (WantedFault.Device path) → F.may_fail files.now path }
+    ensures given { OnOk result (F.gives files.now path.now (Some bytes.new.items)) }
+    ensures none_given { (path : List ℕ) → IsErrOf result (WantedFault.Absent path) → F.gives files.now path None }
 {
     match files.read_into(alloc, path, bytes) {
         Ok(()) => Ok(()),
@@ -65,6 +68,9 @@ pub fn take_wanted<F: Files>(
     ensures whole { OnOk result (untaken state.new scan.now.wanted ≡ []) }
     ensures absent { (path : List ℕ) → IsErrOf result (WantedFault.Absent path) → HasAt (F.world files.now) path None }
     ensures device { (path : List ℕ) → IsErrOf result (WantedFault.Device path) → F.may_fail files.now path }
+    // What it takes is read from bytes that reads of these files gave.
+    ensures given { IsGiven (F.gives files.now) scan.now state.old → IsGiven (F.gives files.now) scan.now state.new }
+    ensures none_given { (path : List ℕ) → IsErrOf result (WantedFault.Absent path) → F.gives files.now path None }
 {
     let mut bytes = Vec::new(alloc);
     for (i, row) in scan.wanted().iter().enumerate() {

@@ -2,6 +2,7 @@
 
 ghost use Rattle.std.specs.Prelude.{◌≡◌, ◌<◌, ◌^◌, IsTrue, length};
 ghost use Rattle.ice_state.specs.Contents.{IsOf};
+ghost use Rattle.ice_desk.specs.Given.{IsGiven};
 ghost use Rattle.ice_desk.specs.Left.{all_left};
 ghost use Rattle.ice_desk.specs.Seats.{IsSeatOf, had_done};
 ghost use Rattle.ice_desk.specs.Works.{Serves, Worked};
@@ -18,7 +19,8 @@ pub trait Gate {
     fn before_take(&self, worker: usize, i: usize);
 }
 
-/// Reads and takes a manifest, and marks it then; unless it was marked before. `bytes` is the room that it is read into.
+/// Reads and takes a manifest, and marks it then; unless it was marked before. `bytes` is the room that it is read
+/// into.
 fn serve<F: Files, G: Gate>(
     alloc: Global,
     files: &F,
@@ -39,6 +41,7 @@ fn serve<F: Files, G: Gate>(
     ensures state { IsOf scan.now state.new }
     ensures served { Serves (F.world files.now) (F.may_fail files.now) scan.now i seat.old seat.new state.old state.new
         result }
+    ensures given { IsGiven (F.gives files.now) scan.now state.old → IsGiven (F.gives files.now) scan.now state.new }
 {
     if desk.look(seat, i) {
         return Served::Marked;
@@ -80,6 +83,8 @@ pub fn work<F: Files, G: Gate>(
     ensures small { all_left result < 2 ^ 32 }
     ensures worked { Worked (F.world files.now) (F.may_fail files.now) desk.now scan.now seat.old seat.new state.old
         state.new result }
+    // What it takes is read from bytes that reads of these files gave.
+    ensures given { IsGiven (F.gives files.now) scan.now state.old → IsGiven (F.gives files.now) scan.now state.new }
 {
     let mut left = Left::none();
     let mut bytes = Vec::new(alloc);

@@ -1,7 +1,8 @@
 //! Public calls once more, each under the one clause that its wrong implementation turns, so that the gate can try that
 //! implementation cheaply.
 
-ghost use Rattle.std.specs.Prelude.{◌≡◌, IfOk};
+ghost use Rattle.std.specs.Prelude.{◌≡◌, IfOk, OnOk};
+ghost use Rattle.icescan_requests.specs.GivenPlans.{IsPlanOfGivenAt, WrotePlanThat};
 ghost use Rattle.icescan_requests.specs.Plans.{WritesAPlan};
 ghost use Rattle.icescan_json.specs.JsonAnswers.{WritesJson};
 ghost use Rattle.icescan_explain.specs.Fates.{file_verdict};
@@ -28,6 +29,22 @@ pub fn run_plan_with<R: Threads + Sync, F: Files + Sync, G: Gate + Sync, W: Sink
     ensures { WritesAPlan result (W.taken output.old) (W.taken output.new) }
 {
     icescan_requests::run_plan_with(rt, alloc, files, metadata, request, workers, gate, output)
+}
+
+/// Writes the text of the plan of bytes that reads gave.
+pub fn plan_file<R: Threads + Sync, F: Files + Sync, W: Sink>(
+    rt: &R,
+    alloc: Global,
+    files: &F,
+    path: &str,
+    request: &Request,
+    workers: usize,
+    output: &mut W,
+) -> Result<(), RunFault>
+    ensures { OnOk result (WrotePlanThat (IsPlanOfGivenAt (F.gives files.now) path.now request.now)
+        (W.taken output.old) (W.taken output.new)) }
+{
+    icescan_requests::plan_file(rt, alloc, files, path, request, workers, output)
 }
 
 /// Writes the JSON of a plan.

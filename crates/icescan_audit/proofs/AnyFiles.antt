@@ -6,6 +6,7 @@ use Rattle.contract_words.specs.Outcome.{◌>>=◌}
 use Rattle.icescan_audit_findings.specs.declared.basis.Basis.{Basis}
 use Rattle.icescan_audit_findings.specs.declared.finding.Finding.{Finding}
 use Rattle.icescan_audit_findings.specs.declared.repeats.LiveFile.{LiveFile}
+use Rattle.ice_desk.specs.Given.{Giving}
 use Rattle.ice_desk.specs.Worlds.{HasAt}
 use Rattle.ice_manifest_fields.specs.declared.fault.ManifestFault.{ManifestFault}
 use Rattle.ice_manifest_fields.specs.declared.fault.ManifestFault.TheVariants as manifest
@@ -17,9 +18,12 @@ use Rattle.ice_state.specs.declared.fault.ScanFault.TheVariants as scan
 use Rattle.icescan_text.specs.Reads.{MayEnd, as_run, file_in}
 use Rattle.icescan_text.specs.declared.fault.RunFault.{RunFault}
 use Rattle.icescan_text.specs.declared.fault.RunFault.TheVariants as run
-use Rattle.icescan_audit.specs.AnyFiles.{IsReadOf, IsReadOfRow, MayStop}
+use Rattle.ice_meta.specs.declared.metadata.Target.{Target}
+use Rattle.icescan_audit_findings.specs.Bases.{among}
+use Rattle.icescan_audit.specs.AnyFiles.{IsAnAudit, IsReadOf, IsReadOfRow, MayStop}
 use Rattle.icescan_audit.specs.Audits.{all_known, joined, nothing, of_manifest, or_unknown}
 use Rattle.icescan_audit.specs.Subjects.{IsOfMetadata}
+use Rattle.icescan_audit.specs.declared.audit.Audit.{Audit}
 use Rattle.icescan_audit.specs.declared.audit.Reading.{Reading}
 use Rattle.icescan_audit.proofs.Steps.{nothing_joined}
 
@@ -30,21 +34,48 @@ pub given : (path bytes : List ℕ) → file_in (λ p. Some bytes) path ≡ Ok b
 unfolding file_in
 given path bytes = refl
 
-pub read_more : (basis : Basis) (row : Row) (rows : List Row) (a b : Reading) → IsReadOfRow basis row a
-    → IsReadOf basis rows b → IsReadOf basis (row ∷ rows) (joined a b)
-read_more basis row rows a b first others = (a, b, first, others, refl)
+pub read_more : (gives : Giving) (basis : Basis) (row : Row) (rows : List Row) (a b : Reading) → IsReadOfRow gives basis row a
+    → IsReadOf gives basis rows b → IsReadOf gives basis (row ∷ rows) (joined a b)
+read_more gives basis row rows a b first others = (a, b, first, others, refl)
 
 -- behind the last row nothing is left to read
-pub read_end : (basis : Basis) (rows : List Row) (i n m : ℕ) (fs : List Finding) (ls : List LiveFile)
+pub read_end : (gives : Giving) (basis : Basis) (rows : List Row) (i n m : ℕ) (fs : List Finding) (ls : List LiveFile)
     → length rows ≤ i → i ≡ n
-    → ((left : Reading) → IsReadOf basis (drop i rows) left
-    → IsReadOf basis rows (joined (record { manifests = i; entries = m; findings = fs; live = ls }) left))
-    → IsReadOf basis rows (record { manifests = n; entries = m; findings = fs; live = ls })
-read_end basis rows i n m fs ls past is h =
+    → ((left : Reading) → IsReadOf gives basis (drop i rows) left
+    → IsReadOf gives basis rows (joined (record { manifests = i; entries = m; findings = fs; live = ls }) left))
+    → IsReadOf gives basis rows (record { manifests = n; entries = m; findings = fs; live = ls })
+read_end gives basis rows i n m fs ls past is h =
     let none : drop i rows ≡ [] = drop_of_length-le rows past in
-    let last = h nothing (subst (λ rs. IsReadOf basis rs nothing) (sym none) refl) in
-    subst (λ k. IsReadOf basis rows (record { manifests = k; entries = m; findings = fs; live = ls })) is
-    (subst (IsReadOf basis rows) (nothing_joined i m fs ls) last)
+    let last = h nothing (subst (λ rs. IsReadOf gives basis rs nothing) (sym none) refl) in
+    subst (λ k. IsReadOf gives basis rows (record { manifests = k; entries = m; findings = fs; live = ls })) is
+    (subst (IsReadOf gives basis rows) (nothing_joined i m fs ls) last)
+
+-- reads that may give more
+module _ (gives more : Giving) (wider : (path : List ℕ) (found : Option (List ℕ)) → gives path found → more path found)
+  where
+    more_read : (basis : Basis) (rows : List Row) (read : Reading) → IsReadOf gives basis rows read
+        → IsReadOf more basis rows read
+    more_read basis [] read h = h
+    more_read basis (row ∷ rows) read h = (
+      h.0,
+      h.1,
+      (h.2.0, wider row.path _ h.2.1, h.2.2),
+      more_read basis rows h.1 h.3,
+      h.4,
+    )
+
+    pub more_audits : (metadata : List ℕ) (target : Target) (audit : Audit) → IsAnAudit gives metadata target audit
+        → IsAnAudit more metadata target audit
+    more_audits metadata target audit h = record {
+      subject = h.subject;
+      rows = h.rows;
+      read = h.read;
+      asked = h.asked;
+      listed = (h.listed.0, wider h.subject.list _ h.listed.1, h.listed.2);
+      known = h.known;
+      manifests = more_read (among h.rows h.subject.basis) h.rows h.read h.manifests;
+      is = h.is;
+    }
 
 -- ---- why a step may end the run
 

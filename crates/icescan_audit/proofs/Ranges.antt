@@ -5,6 +5,7 @@ use Rattle.std.proofs.lemmas.List.{length-append}
 use Rattle.std.specs.Prelude.{Result, Ok, Err}
 use Rattle.contract_words.specs.Outcome.{◌>>=◌}
 use Rattle.icescan_audit_findings.specs.declared.basis.Basis.{Basis}
+use Rattle.ice_desk.specs.Given.{Giving}
 use Rattle.ice_desk.specs.Wanted.{paths_of}
 use Rattle.ice_desk.specs.Worlds.{EndsAt}
 use Rattle.ice_manifest_reading.specs.declared.row.Row.{Row}
@@ -77,53 +78,53 @@ module _ (world : World) (basis : Basis) where
 
 -- ---- over any files
 
-both_read : (basis : Basis) (xs ys : List Row) (a b : Reading) → IsReadOf basis xs a → IsReadOf basis ys b
-    → IsReadOf basis (xs ++ ys) (joined a b)
-both_read basis [] ys a b none has =
-    subst (IsReadOf basis ys) (sym (join_nothing b) ∙ ap (λ (x : Reading). joined x b) (sym none)) has
-both_read basis (row ∷ xs) ys a b (first, others, one, rest, is) has = (
+both_read : (gives : Giving) (basis : Basis) (xs ys : List Row) (a b : Reading) → IsReadOf gives basis xs a → IsReadOf gives basis ys b
+    → IsReadOf gives basis (xs ++ ys) (joined a b)
+both_read gives basis [] ys a b none has =
+    subst (IsReadOf gives basis ys) (sym (join_nothing b) ∙ ap (λ (x : Reading). joined x b) (sym none)) has
+both_read gives basis (row ∷ xs) ys a b (first, others, one, rest, is) has = (
   first,
   joined others b,
   one,
-  both_read basis xs ys others b rest has,
+  both_read gives basis xs ys others b rest has,
   ap (λ (x : Reading). joined x b) is ∙ sym (joined_more first others b),
 )
 
 -- ---- the answers for both
 
-module _ (told : Option World) (f : List ℕ → Type 0) (basis : Basis) (rows xs ys : List Row) (whole : rows ≡ xs ++ ys)
-  where
-    pub refused_first : (e : RunFault) → ReadsRows told f basis xs (Err e) → ReadsRows told f basis rows (Err e)
-    refused_first e r = subst (λ rs. ReadsRows told f basis rs (Err e)) (sym whole) (record {
-      found = λ world is. tt;
-      refused = λ world is. first_refuses world basis f xs ys e (r.refused world is);
-      write = r.write;
-      read = tt;
-      stops = r.stops;
-      few = tt;
-    })
+module _ (told : Option World) (f : List ℕ → Type 0) (gives : Giving) (basis : Basis) (rows xs ys : List Row)
+    (whole : rows ≡ xs ++ ys) where
+  pub refused_first : (e : RunFault) → ReadsRows told f gives basis xs (Err e) → ReadsRows told f gives basis rows (Err e)
+  refused_first e r = subst (λ rs. ReadsRows told f gives basis rs (Err e)) (sym whole) (record {
+    found = λ world is. tt;
+    refused = λ world is. first_refuses world basis f xs ys e (r.refused world is);
+    write = r.write;
+    read = tt;
+    stops = r.stops;
+    few = tt;
+  })
 
-    pub refused_behind : (a : Reading) (e : RunFault) → ReadsRows told f basis xs (Ok a)
-        → ReadsRows told f basis ys (Err e) → ReadsRows told f basis rows (Err e)
-    refused_behind a e first r = subst (λ rs. ReadsRows told f basis rs (Err e)) (sym whole) (record {
-      found = λ world is. tt;
-      refused = λ world is. others_refuse world basis f xs ys a e (first.found world is) (r.refused world is);
-      write = r.write;
-      read = tt;
-      stops = r.stops;
-      few = tt;
-    })
+  pub refused_behind : (a : Reading) (e : RunFault) → ReadsRows told f gives basis xs (Ok a)
+      → ReadsRows told f gives basis ys (Err e) → ReadsRows told f gives basis rows (Err e)
+  refused_behind a e first r = subst (λ rs. ReadsRows told f gives basis rs (Err e)) (sym whole) (record {
+    found = λ world is. tt;
+    refused = λ world is. others_refuse world basis f xs ys a e (first.found world is) (r.refused world is);
+    write = r.write;
+    read = tt;
+    stops = r.stops;
+    few = tt;
+  })
 
-    pub reads_both : (a b : Reading) → ReadsRows told f basis xs (Ok a) → ReadsRows told f basis ys (Ok b)
-        → ReadsRows told f basis rows (Ok (joined a b))
-    reads_both a b first others = subst (λ rs. ReadsRows told f basis rs (Ok (joined a b))) (sym whole) (record {
-      found = λ world is. both_audited world basis xs ys a b (first.found world is) (others.found world is);
-      refused = λ world is. tt;
-      write = λ is. absurd cc;
-      read = both_read basis xs ys a b first.read others.read;
-      stops = tt;
-      few = (
-        omega (arith, length-append xs ys, first.few.0, others.few.0),
-        omega (arith, length-append xs ys, first.few.1, others.few.1),
-      );
-    })
+  pub reads_both : (a b : Reading) → ReadsRows told f gives basis xs (Ok a) → ReadsRows told f gives basis ys (Ok b)
+      → ReadsRows told f gives basis rows (Ok (joined a b))
+  reads_both a b first others = subst (λ rs. ReadsRows told f gives basis rs (Ok (joined a b))) (sym whole) (record {
+    found = λ world is. both_audited world basis xs ys a b (first.found world is) (others.found world is);
+    refused = λ world is. tt;
+    write = λ is. absurd cc;
+    read = both_read gives basis xs ys a b first.read others.read;
+    stops = tt;
+    few = (
+      omega (arith, length-append xs ys, first.few.0, others.few.0),
+      omega (arith, length-append xs ys, first.few.1, others.few.1),
+    );
+  })

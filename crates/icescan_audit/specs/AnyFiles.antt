@@ -3,11 +3,13 @@ use Rattle.std.specs.Prelude.{◌≡◌, ℕ, List, [], ◌∷◌, length, Optio
 use Rattle.icescan_audit_findings.specs.Bases.{among}
 use Rattle.icescan_audit_findings.specs.Telling.{faults}
 use Rattle.icescan_audit_findings.specs.declared.basis.Basis.{Basis}
+use Rattle.ice_desk.specs.Given.{Giving}
 use Rattle.ice_desk.specs.Worlds.{HasAt}
 use Rattle.ice_manifest_reading.specs.declared.row.Row.{Row}
 use Rattle.ice_meta.specs.declared.metadata.Target.{Target}
 use Rattle.icescan_print.specs.Written.{Appends, AppendsFront}
 use Rattle.ice_state.specs.Contents.{World}
+use Rattle.icescan_text.specs.Reads.{AreRowsGiven}
 use Rattle.icescan_text.specs.declared.fault.RunFault.{RunFault}
 use Rattle.icescan_text.specs.declared.fault.RunFault.TheVariants as run
 use Rattle.icescan_audit.specs.Audits.{all_known, joined, nothing, row_audit, whole}
@@ -17,33 +19,39 @@ use Rattle.icescan_audit.specs.declared.audit.Audit.{Audit}
 use Rattle.icescan_audit.specs.declared.audit.Reading.{Reading}
 use Rattle.icescan_audit.specs.declared.subject.Subject.{Subject}
 
--- this was read of a row's manifest, which had some bytes
-abbrev pub IsReadOfRow : Basis → Row → Reading → Type 0
-IsReadOfRow basis row read = (bytes : List ℕ) × (row_audit (λ path. Some bytes) basis row ≡ Ok read)
+-- this was read of a row's manifest, of bytes that a read of its path gave
+abbrev pub IsReadOfRow : Giving → Basis → Row → Reading → Type 0
+IsReadOfRow gives basis row read = (bytes : List ℕ) × gives row.path (Some bytes)
+    × (row_audit (λ path. Some bytes) basis row ≡ Ok read)
 
 -- this was read of the manifests of these rows, one after the other
-abbrev pub IsReadOf : Basis → List Row → Reading → Type 0
-IsReadOf basis [] read = read ≡ nothing
-IsReadOf basis (row ∷ rows) read = (first : Reading) × (others : Reading) × IsReadOfRow basis row first
-    × IsReadOf basis rows others × (read ≡ joined first others)
+abbrev pub IsReadOf : Giving → Basis → List Row → Reading → Type 0
+IsReadOf gives basis [] read = read ≡ nothing
+IsReadOf gives basis (row ∷ rows) read = (first : Reading) × (others : Reading) × IsReadOfRow gives basis row first
+    × IsReadOf gives basis rows others × (read ≡ joined first others)
 
--- An audit of a snapshot of the table whose metadata these are the bytes of: some rows were read, whose specs the table
--- has, and of each row's manifest some bytes.
-pub record IsAnAudit (metadata : List ℕ) (target : Target) (audit : Audit) : Type 0 where
+-- An audit of a snapshot of the table whose metadata these are the bytes of: a read gave the manifest list, whose rows'
+-- specs the table has, and of each row's manifest a read gave the bytes.
+pub record IsAnAudit (gives : Giving) (metadata : List ℕ) (target : Target) (audit : Audit) : Type 0 where
   pub subject : Subject
   pub rows : List Row
   pub read : Reading
   pub asked : subject_of metadata target ≡ Ok subject
+  pub listed : AreRowsGiven gives subject.list rows
   pub known : all_known subject.basis.specs rows ≡ Ok tt
-  pub manifests : IsReadOf (among rows subject.basis) rows read
+  pub manifests : IsReadOf gives (among rows subject.basis) rows read
   pub is : audit ≡ whole read
 
+-- what was written is the text of such an audit, which has so many faults
+abbrev pub WroteAnAudit : Giving → List ℕ → Target → ℕ → Option (List ℕ) → Option (List ℕ) → Type 0
+WroteAnAudit gives metadata target count output output' = (audit : Audit) × IsAnAudit gives metadata target audit
+    × (count ≡ length (faults audit.findings)) × Appends output output' (audit_text audit)
+
 -- What was written: the text of an audit, which has so many faults, and after a failed write a front of such a text.
-pub record WritesAnAudit (metadata : List ℕ) (target : Target) (result : Result ℕ RunFault)
+pub record WritesAnAudit (gives : Giving) (metadata : List ℕ) (target : Target) (result : Result ℕ RunFault)
     (output output' : Option (List ℕ)) : Type 0 where
-  pub all : IfOk result (λ count. (audit : Audit) × IsAnAudit metadata target audit × (count ≡ length (faults audit.findings))
-      × Appends output output' (audit_text audit))
-  pub front : IsErrOf result run.Write → (audit : Audit) × IsAnAudit metadata target audit
+  pub all : IfOk result (λ count. WroteAnAudit gives metadata target count output output')
+  pub front : IsErrOf result run.Write → (audit : Audit) × IsAnAudit gives metadata target audit
       × AppendsFront output output' (audit_text audit)
 
 -- What a refusal tells: a file that is called absent is not there, a read failed at a path where it may, and a write

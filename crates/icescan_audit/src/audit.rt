@@ -103,7 +103,7 @@ fn audit_row<F: Files>(
         IfErr result (MayEnd (row_audit world basis.now row.now)
         (EndsAt world (F.may_fail files.now) (row.now.path ∷ [])) ⊥) }
     ensures write { IsErrOf result RunFault.Write → ⊥ }
-    ensures read { IfOk result (λ entries. (read : Reading) × IsReadOfRow basis.now row.now read
+    ensures read { IfOk result (λ entries. (read : Reading) × IsReadOfRow (F.gives files.now) basis.now row.now read
         × (read.manifests ≡ 1) × (read.entries ≡ entries) × (findings.new ≡ findings.old ++ read.findings)
         × (live.new.items ≡ live.old.items ++ read.live)) }
     ensures stops { IfErr result (MayStop (F.world files.now) (F.may_fail files.now) ⊥) }
@@ -122,7 +122,7 @@ pub fn audit_rows<F: Files>(
     basis: &Basis,
     rows: &[Row],
 ) -> Result<Reading, RunFault>
-    ensures { ReadsRows (F.world files.now) (F.may_fail files.now) basis.now rows.now result }
+    ensures { ReadsRows (F.world files.now) (F.may_fail files.now) (F.gives files.now) basis.now rows.now result }
 {
     let mut findings = Items::new(alloc);
     let mut live = Vec::new(alloc);

@@ -22,7 +22,7 @@ pub fn audit_rows_by_workers<R: Threads + Sync, F: Files + Sync>(
     rows: &[Row],
     workers: usize,
 ) -> Result<Reading, RunFault>
-    ensures { ReadsRows (F.world files.now) (F.may_fail files.now) basis.now rows.now result }
+    ensures { ReadsRows (F.world files.now) (F.may_fail files.now) (F.gives files.now) basis.now rows.now result }
 {
     let workers = workers.min(rows.len());
     if workers < 2 {
@@ -36,13 +36,13 @@ pub fn audit_rows_by_workers<R: Threads + Sync, F: Files + Sync>(
         rt,
         || -> Result<Reading, RunFault>
             requires { IsSync R.row × IsSync F.row }
-            ensures { ReadsRows (F.world files.entry.now) (F.may_fail files.entry.now) basis.entry.now front.entry.now
-                result }
+            ensures { ReadsRows (F.world files.entry.now) (F.may_fail files.entry.now) (F.gives files.entry.now)
+                basis.entry.now front.entry.now result }
         { audit_rows_by_workers(rt, alloc, files, basis, front, half) },
         || -> Result<Reading, RunFault>
             requires { IsSync R.row × IsSync F.row }
-            ensures { ReadsRows (F.world files.entry.now) (F.may_fail files.entry.now) basis.entry.now back.entry.now
-                result }
+            ensures { ReadsRows (F.world files.entry.now) (F.may_fail files.entry.now) (F.gives files.entry.now)
+                basis.entry.now back.entry.now result }
         { audit_rows_by_workers(rt, alloc, files, basis, back, other_half) },
     );
     Ok(first?.joined(others?)?)

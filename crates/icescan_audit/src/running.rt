@@ -1,7 +1,7 @@
 //! Audits that are asked for, over any files.
 
 ghost use Rattle.std.specs.Prelude.{◌≡◌, ◌≢◌, ◌⊎◌, ◌<◌, ℕ, List, Some, Ok, IfOk, IfErr, IsErrOf};
-ghost use Rattle.icescan_audit.specs.AnyFiles.{IsAnAudit, MayStop, WritesAnAudit};
+ghost use Rattle.icescan_audit.specs.AnyFiles.{IsAnAudit, MayStop, WritesAnAudit, WroteAnAudit};
 ghost use Rattle.icescan_audit.specs.Audits.{audit_at, audit_of, audit_reads, audit_reads_at};
 ghost use Rattle.icescan_audit.specs.Premises.{HasTrueSummaries, HasTrueSummariesAt};
 ghost use Rattle.icescan_audit.specs.Texts.{WroteAudit, WroteAuditFront};
@@ -38,7 +38,7 @@ fn audit_table<R: Threads + Sync, F: Files + Sync>(
         IfErr result (MayEnd (audit_of world metadata.now target.now)
         (EndsAt world (F.may_fail files.now) (audit_reads world metadata.now target.now)) ⊥) }
     ensures write { IsErrOf result RunFault.Write → ⊥ }
-    ensures read { IfOk result (IsAnAudit metadata.now target.now) }
+    ensures read { IfOk result (IsAnAudit (F.gives files.now) metadata.now target.now) }
     ensures stops { IfErr result (MayStop (F.world files.now) (F.may_fail files.now) ⊥) }
 {
     let subject = select_subject(alloc, metadata, target)?;
@@ -87,7 +87,8 @@ pub fn run_audit<R: Threads + Sync, F: Files + Sync, W: Sink>(
 
     // Over all files.
     ensures nothing { IfErr result (λ fault. fault ≢ RunFault.Write → W.taken output.new ≡ W.taken output.old) }
-    ensures text { WritesAnAudit metadata.now target.now result (W.taken output.old) (W.taken output.new) }
+    ensures text { WritesAnAudit (F.gives files.now) metadata.now target.now result (W.taken output.old)
+        (W.taken output.new) }
     ensures refusal { IfErr result (MayStop (F.world files.now) (F.may_fail files.now) (W.may_fail output.old)) }
 {
     audits_tell_of_summaries();
@@ -128,7 +129,10 @@ pub fn audit_file<R: Threads + Sync, F: Files + Sync, W: Sink>(
     // Over all files.
     ensures nothing { IfErr result (λ fault. fault ≢ RunFault.Write → W.taken output.new ≡ W.taken output.old) }
     ensures text { (metadata : List ℕ) ×
-        WritesAnAudit metadata target.now result (W.taken output.old) (W.taken output.new) }
+        WritesAnAudit (F.gives files.now) metadata target.now result (W.taken output.old) (W.taken output.new) }
+    // And a read gave that metadata.
+    ensures given { IfOk result (λ count. (metadata : List ℕ) × F.gives files.now path.now (Some metadata)
+        × WroteAnAudit (F.gives files.now) metadata target.now count (W.taken output.old) (W.taken output.new)) }
     ensures refusal { IfErr result (MayStop (F.world files.now) (F.may_fail files.now) (W.may_fail output.old)) }
 {
     let workers = Workers::of(workers)?;

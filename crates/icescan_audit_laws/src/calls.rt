@@ -60,7 +60,7 @@ pub fn audit_file<R: Threads + Sync, F: Files + Sync, W: Sink>(
     output: &mut W,
 ) -> Result<usize, RunFault>
     ensures { (metadata : List ℕ) ×
-        WritesAnAudit metadata target.now result (W.taken output.old) (W.taken output.new) }
+        WritesAnAudit (F.gives files.now) metadata target.now result (W.taken output.old) (W.taken output.new) }
 {
     icescan_audit::audit_file(rt, alloc, files, path, target, workers, output)
 }

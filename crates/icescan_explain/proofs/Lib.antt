@@ -13,3 +13,4 @@ pub mod Telling
 pub mod Planned
 pub mod FilesRead
 pub mod Rows
+pub mod MoreGiven

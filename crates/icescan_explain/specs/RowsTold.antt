@@ -2,6 +2,7 @@
 use Rattle.std.specs.Prelude.{◌≡◌, ◌⊎◌, ℕ, Bool, true, false, List, [], ◌∷◌, ◌++◌, map, Option, Some, None}
 use Rattle.std.specs.Prelude.{option_map, Ok, if◌then◌else◌}
 use Rattle.std.specs.List.{flat_map}
+use Rattle.ice_desk.specs.Given.{Giving}
 use Rattle.ice_desk.specs.Worlds.{EndsAt}
 use Rattle.icescan_explain.specs.Asking.{ice_filter_tests, tests_of}
 use Rattle.icescan_explain.specs.Fates.{file_verdict, is_kept, row_fate, row_verdict}
@@ -66,12 +67,13 @@ MayEndRow tests world may_fail row fault = (fault ≡ run.Memory) ⊎ ((is_wante
 
 -- ---- over any files
 
--- this is told of a row, whose manifest had some bytes
-abbrev pub IsToldOf : FilterTests → Row → List Verdict → Type 0
-IsToldOf tests row told = (bytes : List ℕ) × (told ≡ row_told tests (λ path. Some bytes) row)
+-- this is told of a row, of bytes that a read of its path gave where its manifest is read
+abbrev pub IsToldOf : Giving → FilterTests → Row → List Verdict → Type 0
+IsToldOf gives tests row told = (bytes : List ℕ) × (is_wanted tests row ≡ true → gives row.path (Some bytes))
+    × (told ≡ row_told tests (λ path. Some bytes) row)
 
 -- this is told of rows, one after the other
-abbrev pub AreToldOf : FilterTests → List Row → List Verdict → Type 0
-AreToldOf tests [] told = told ≡ []
-AreToldOf tests (row ∷ rows) told = (first : List Verdict) × (others : List Verdict) × IsToldOf tests row first
-    × AreToldOf tests rows others × (told ≡ first ++ others)
+abbrev pub AreToldOf : Giving → FilterTests → List Row → List Verdict → Type 0
+AreToldOf gives tests [] told = told ≡ []
+AreToldOf gives tests (row ∷ rows) told = (first : List Verdict) × (others : List Verdict)
+    × IsToldOf gives tests row first × AreToldOf gives tests rows others × (told ≡ first ++ others)

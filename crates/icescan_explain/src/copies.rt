@@ -18,14 +18,14 @@ pub fn copied_leaf(alloc: Global, leaf: &BoundLeaf) -> Result<BoundLeaf, AllocEr
     })
 }
 
-/// The same test.
-pub fn copied_field_test(alloc: Global, test: &FieldTest) -> Result<FieldTest, AllocError>
+/// The same test, which is not copied.
+pub fn copied_field_test(test: &FieldTest) -> Result<FieldTest, AllocError>
     ensures { IfOk result (λ copied. copied ≡ test.now) }
 {
     Ok(FieldTest {
         position: test.position,
         value_type: test.value_type,
-        test: test.test.copy(alloc)?,
+        test: test.test.share()?,
     })
 }
 

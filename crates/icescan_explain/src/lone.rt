@@ -53,7 +53,7 @@ fn only_test(alloc: Global, fields: usize, test: &FieldTest) -> Result<PartFilte
     ensures { IfOk result (λ part. part ≡ only_test fields test.now) }
 {
     let mut tests = Items::new(alloc);
-    tests.push(copied_field_test(alloc, test)?)?;
+    tests.push(copied_field_test(test)?)?;
     let mut parts = Items::new(alloc);
     parts.push(Part::Leaf(tests))?;
     Ok(PartFilter {

@@ -3,10 +3,12 @@
 ghost use Rattle.std.specs.Prelude.{◌≡◌, ◌++◌, ◌∷◌, ◌+◌, ◌<◌, ◌^◌, ℕ, Bool, List, [], Some, None, Ok, IfErr, IfOk};
 ghost use Rattle.std.specs.Prelude.{IsErrOf, OnOk, filter, if◌then◌else◌, length, map, replicate, slice_get, true};
 ghost use Rattle.std.specs.List.Sorted.{IsPermutation};
-ghost use Rattle.ice_desk.specs.Wanted.{paths_of};
+ghost use Rattle.ice_desk.specs.Given.{IsGiven};
+ghost use Rattle.ice_desk.specs.Wanted.{paths_of, untaken};
 ghost use Rattle.ice_desk.specs.Worlds.{EndsAt, HasAt};
 ghost use Rattle.icescan_explain.specs.Fates.{file_verdict};
 ghost use Rattle.ice_manifest_reading.specs.Manifests.{live_of};
+ghost use Rattle.icescan_requests.specs.GivenPlans.{IsRowsPlanOfGiven};
 ghost use Rattle.icescan_requests.specs.Plans.{manifests, over_wanted_rows, rows_plan};
 ghost use Rattle.ice_state.specs.Contents.{World, IsOf, add, content, every_row, no_row, took};
 ghost use Rattle.ice_state.specs.Outcomes.{kept_in};
@@ -114,12 +116,15 @@ fn read_wanted<F: Files>(
     ensures refused { (world : World) → F.world files.now ≡ Some world →
         IfErr result (MayEnd (file_in world row.now.path)
         (EndsAt world (F.may_fail files.now) (row.now.path ∷ [])) ⊥) }
-    ensures read { OnOk result ((bytes : List ℕ) × (state.new ≡ took scan.now state.old at bytes)
+    ensures read { OnOk result ((bytes : List ℕ) × F.gives files.now row.now.path (Some bytes)
+        × (state.new ≡ took scan.now state.old at bytes)
         × (verdicts.new.items ≡ verdicts.old.items
         ++ map (file_verdict tests.now of_spec.now) (lives_at (λ path. Some bytes) of_spec.now row.now))) }
     ensures absent { (path : List ℕ) → IsErrOf result (RunFault.Absent path) → HasAt (F.world files.now) path None }
     ensures device { (path : List ℕ) → IsErrOf result (RunFault.Device path) → F.may_fail files.now path }
     ensures write { IsErrOf result RunFault.Write → ⊥ }
+    ensures given { IsGiven (F.gives files.now) scan.now state.old →
+        OnOk result (IsGiven (F.gives files.now) scan.now state.new) }
 {
     read_file_into(alloc, files, row.path.as_str(), bytes)?;
     take_files(
@@ -164,11 +169,14 @@ fn tell_row<F: Files>(
     ensures refused { (world : World) → F.world files.now ≡ Some world →
         IfErr result (MayEndRow tests.now world (F.may_fail files.now) row.now) }
     ensures read { OnOk result ((bytes : List ℕ)
+        × (is_wanted tests.now row.now ≡ true → F.gives files.now row.now.path (Some bytes))
         × (state.new ≡ (if is_wanted tests.now row.now then took scan.now state.old next bytes else state.old))
         × (verdicts.new.items ≡ verdicts.old.items ++ row_told tests.now (λ path. Some bytes) row.now)) }
     ensures absent { (path : List ℕ) → IsErrOf result (RunFault.Absent path) → HasAt (F.world files.now) path None }
     ensures device { (path : List ℕ) → IsErrOf result (RunFault.Device path) → F.may_fail files.now path }
     ensures write { IsErrOf result RunFault.Write → ⊥ }
+    ensures given { IsGiven (F.gives files.now) scan.now state.old →
+        OnOk result (IsGiven (F.gives files.now) scan.now state.new) }
 {
     let Some(of_spec) = tests.of_row(row) else {
         return Ok(next);
@@ -209,12 +217,15 @@ fn tell_rows<F: Files>(
     ensures refused { (world : World) → F.world files.now ≡ Some world →
         IfErr result (MayEnd (all_present world scan.now.wanted)
         (EndsAt world (F.may_fail files.now) (paths_of scan.now.wanted)) ⊥) }
-    ensures read { IfOk result (λ verdicts. AreToldOf tests.now rows.now verdicts.items) }
+    ensures read { IfOk result (λ verdicts. AreToldOf (F.gives files.now) tests.now rows.now verdicts.items) }
     ensures kept { state.old ≡ replicate (length scan.now.wanted) None →
         IfOk result (λ verdicts. paths_kept verdicts.items ≡ paths_of_data (kept_in state.new)) }
     ensures absent { (path : List ℕ) → IsErrOf result (RunFault.Absent path) → HasAt (F.world files.now) path None }
     ensures device { (path : List ℕ) → IsErrOf result (RunFault.Device path) → F.may_fail files.now path }
     ensures write { IsErrOf result RunFault.Write → ⊥ }
+    ensures given { IsGiven (F.gives files.now) scan.now state.old →
+        OnOk result (IsGiven (F.gives files.now) scan.now state.new) }
+    ensures whole { OnOk result (untaken state.new scan.now.wanted ≡ []) }
 {
     let mut verdicts = Vec::new(alloc);
     let mut bytes = Vec::new(alloc);
@@ -250,11 +261,13 @@ pub fn explain_rows<F: Files>(
     ensures refused { (world : World) → F.world files.now ≡ Some world →
         IfErr result (MayEnd (rows_plan over_wanted_rows world selected.specs selected.filter.parts selected.rows)
         (EndsAt world (F.may_fail files.now) (manifests selected.specs selected.filter.parts selected.rows)) ⊥) }
-    ensures read { IfOk result (λ x. AreToldOf tests.now (by_row_path selected.rows) x.verdicts) }
+    ensures read { IfOk result (λ x. AreToldOf (F.gives files.now) tests.now (by_row_path selected.rows) x.verdicts) }
     ensures kept { IfOk result (λ x. IsPermutation (paths_kept x.verdicts) (paths_planned x.plan)) }
     ensures absent { (path : List ℕ) → IsErrOf result (RunFault.Absent path) → HasAt (F.world files.now) path None }
     ensures device { (path : List ℕ) → IsErrOf result (RunFault.Device path) → F.may_fail files.now path }
     ensures write { IsErrOf result RunFault.Write → ⊥ }
+    ensures given { IfOk result (λ x. IsRowsPlanOfGiven (F.gives files.now) selected.specs selected.filter.parts
+        selected.rows x.plan) }
 {
     let mut sorted = copied_rows(alloc, selected.rows.as_slice())?;
     sort_by_path(&mut sorted)?;

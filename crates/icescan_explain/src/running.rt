@@ -2,7 +2,7 @@
 
 ghost use Rattle.std.specs.Prelude.{◌≡◌, ◌⊎◌, ◌<◌, ℕ, List, Some, None, Ok, IfErr, IfOk, IsErrOf, OnOk};
 ghost use Rattle.ice_desk.specs.Worlds.{EndsAt, HasAt};
-ghost use Rattle.icescan_explain.specs.AnyFiles.{IsAnExplanation, WritesAnExplanation};
+ghost use Rattle.icescan_explain.specs.AnyFiles.{IsAnExplanation, WritesAnExplanation, WroteAnExplanation};
 ghost use Rattle.icescan_explain.specs.Explanations.{explained, explained_at};
 ghost use Rattle.icescan_explain.specs.Writing.{WroteExplanation, WroteExplanationFront};
 ghost use Rattle.icescan_requests.specs.Plans.{OnRefusal, reads, reads_at};
@@ -31,7 +31,7 @@ fn explain_table<F: Files>(
     ensures refused { (world : World) → F.world files.now ≡ Some world →
         IfErr result (MayEnd (explained world metadata.now request.now)
         (EndsAt world (F.may_fail files.now) (reads world metadata.now request.now)) ⊥) }
-    ensures read { IfOk result (IsAnExplanation metadata.now request.now) }
+    ensures read { IfOk result (IsAnExplanation (F.gives files.now) metadata.now request.now) }
     ensures absent { (path : List ℕ) → IsErrOf result (RunFault.Absent path) → HasAt (F.world files.now) path None }
     ensures device { (path : List ℕ) → IsErrOf result (RunFault.Device path) → F.may_fail files.now path }
     ensures write { IsErrOf result RunFault.Write → ⊥ }
@@ -68,7 +68,8 @@ pub fn run_explain<F: Files, W: Sink>(
         WroteExplanationFront (explained world metadata.now request.now) (W.taken output.old) (W.taken output.new) }
 
     // Over all files.
-    ensures text { WritesAnExplanation metadata.now request.now result (W.taken output.old) (W.taken output.new) }
+    ensures text { WritesAnExplanation (F.gives files.now) metadata.now request.now result (W.taken output.old)
+        (W.taken output.new) }
     ensures refusal { OnRefusal (F.world files.now) (F.may_fail files.now) (W.may_fail output.old) result
         (W.taken output.old) (W.taken output.new) }
 {
@@ -105,7 +106,10 @@ pub fn explain_file<F: Files, W: Sink>(
 
     // Over all files.
     ensures text { (metadata : List ℕ) ×
-        WritesAnExplanation metadata request.now result (W.taken output.old) (W.taken output.new) }
+        WritesAnExplanation (F.gives files.now) metadata request.now result (W.taken output.old) (W.taken output.new) }
+    // And a read gave that metadata.
+    ensures given { OnOk result ((metadata : List ℕ) × F.gives files.now path.now (Some metadata)
+        × WroteAnExplanation (F.gives files.now) metadata request.now (W.taken output.old) (W.taken output.new)) }
     ensures refusal { OnRefusal (F.world files.now) (F.may_fail files.now) (W.may_fail output.old) result
         (W.taken output.old) (W.taken output.new) }
 {

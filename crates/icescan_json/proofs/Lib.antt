@@ -6,6 +6,7 @@ pub mod Objects
 pub mod ReadBack
 pub mod Fitting
 pub mod Tellings
+pub mod TellingsWhole
 pub mod Lists
 pub mod Tasks
 pub mod Points

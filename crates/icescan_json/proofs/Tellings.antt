@@ -65,7 +65,7 @@ kind_path types x content.PositionDeletes = named_has_path types x (format_name 
 delete_path : (types : List SpecTypes) (x : Entry) → path_in (by_key (delete_json types x)) ≡ Some (path_of x)
 delete_path types x = kind_path types x x.file.content
 
-abbrev deletes_of : List SpecTypes → List Entry → Items
+abbrev pub deletes_of : List SpecTypes → List Entry → Items
 deletes_of types ds = items_by_key (items_of (map (delete_json types) ds))
 
 -- the path at a reference
@@ -75,7 +75,7 @@ named types [] n l = absurd (omega arith)
 named types (d ∷ ds) zero l = (d, refl, delete_path types d)
 named types (d ∷ ds) (suc n) l = named types ds n (omega arith)
 
-abbrev numbers_of : List ℕ → Items
+abbrev pub numbers_of : List ℕ → Items
 numbers_of ns = items_by_key (items_of (map (λ i. number (unsigned i)) ns))
 
 all_named : (types : List SpecTypes) (ds : List Entry) (ns : List ℕ) → AreWithin (length ds) ns
@@ -85,12 +85,12 @@ all_named types ds (n ∷ ns) h =
     let found = named types ds n h.0 in
     rw (found.2, all_named types ds ns h.1, found.1) refl
 
-within_both : (k : ℕ) (ps es : List ℕ) → AreWithin k ps → AreWithin k es → AreWithin k (ps ++ es)
+pub within_both : (k : ℕ) (ps es : List ℕ) → AreWithin k ps → AreWithin k es → AreWithin k (ps ++ es)
 within_both k [] es a b = b
 within_both k (p ∷ ps) es a b = (a.0, within_both k ps es a.1 b)
 
 -- the references of a task
-referred : (types : List SpecTypes) (x : Entry) (places : LinePlaces) → items_in (get (codes "delete-file-references")
+pub referred : (types : List SpecTypes) (x : Entry) (places : LinePlaces) → items_in (get (codes "delete-file-references")
     (by_key (task_json types x places))) ≡ numbers_of (places.positions ++ places.equalities)
 unfolding task_json
 referred types x places = go (places.positions ++ places.equalities) where
@@ -99,7 +99,7 @@ referred types x places = go (places.positions ++ places.equalities) where
   go [] = refl
   go (n ∷ ns) = refl
 
-task_file : (types : List SpecTypes) (x : Entry) (places : LinePlaces) → get (codes "data-file")
+pub task_file : (types : List SpecTypes) (x : Entry) (places : LinePlaces) → get (codes "data-file")
     (by_key (task_json types x places)) ≡ Some (by_key (data_json types x))
 unfolding task_json
 task_file types x places = go (places.positions ++ places.equalities) where

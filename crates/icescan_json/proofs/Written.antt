@@ -15,7 +15,8 @@ use Rattle.icescan_text.specs.declared.request.Request.{Request}
 use Rattle.icescan_text.specs.Workers.{by_workers}
 use Rattle.icescan_text.proofs.Steps.{may_write}
 use Rattle.icescan_text.proofs.Enough.{enough, not_enough}
-use Rattle.icescan_json.specs.JsonAnswers.{AnswersInJson, IsJsonOfPlan, WritesJson, typed_answer_at}
+use Rattle.icescan_json.specs.JsonAnswers.{AnswersInJson, IsJsonOfPlan, WritesJson, WroteJsonThat}
+use Rattle.icescan_json.specs.JsonAnswers.{typed_answer_at}
 use Rattle.icescan_json.specs.declared.typed.TypedPlan.{TypedPlan}
 
 -- a refusal that comes before the first write
@@ -55,6 +56,12 @@ module _ (typed : TypedPlan) (result : Result Unit RunFault) (w : Type 0) (o o' 
     all = on_ok_weaker result (λ t. (typed, t.0, t.1, t.2)) all;
     front = λ failed. let f = front failed in (typed, f.0, f.1, f.2);
   }
+
+-- a JSON of a plan that is so
+pub json_that : (so : TypedPlan → Type 0) (typed : TypedPlan) (result : Result Unit RunFault) (o o' : Option (List ℕ))
+    → so typed → OnOk result ((text : List ℕ) × IsJsonOfPlan typed text × Appends o o' text)
+    → OnOk result (WroteJsonThat so o o')
+json_that so typed result o o' is all = on_ok_weaker result (λ t. (typed, is, t.0, t.1, t.2)) all
 
 -- the same by so many workers, of which there are enough
 pub refused_by_workers : (answer other : Result TypedPlan RunFault) (workers : ℕ) (r : List ℕ → Type 0) (w : Type 0)

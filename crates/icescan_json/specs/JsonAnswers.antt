@@ -10,9 +10,12 @@ use Rattle.icescan_json.specs.Types.{spec_types}
 use Rattle.icescan_json.specs.declared.types.SpecTypes.{SpecTypes}
 use Rattle.icescan_json.specs.declared.typed.TypedPlan.{TypedPlan}
 use Rattle.icescan_print.specs.Written.{Appends, AppendsFront}
+use Rattle.ice_desk.specs.Given.{Giving}
+use Rattle.icescan_requests.specs.GivenPlans.{IsListPlanOfGiven, IsPlanOfGiven}
 use Rattle.icescan_requests.specs.ListPlans.{list_answer}
 use Rattle.icescan_requests.specs.Plans.{Ending, answer_by}
 use Rattle.icescan_requests.specs.Selections.{selected}
+use Rattle.icescan_requests.specs.declared.selection.Selection.{Selection}
 use Rattle.ice_state.specs.Contents.{World}
 use Rattle.ice_state.specs.Lines.{OwnedLine}
 use Rattle.icescan_text.specs.Reads.{MayEnd, file_in}
@@ -45,6 +48,22 @@ typed_list_answer world list = do
 abbrev pub plan_answered : Result TypedPlan RunFault → Result (List OwnedLine) RunFault
 plan_answered answer = answer >>= λ typed. Ok typed.plan
 
+-- the plan that a request asks for, of bytes that reads gave, with the types of the table's specs
+pub record IsTypedOfGiven (gives : Giving) (metadata : List ℕ) (request : Request) (typed : TypedPlan) : Type 0 where
+  pub planned : IsPlanOfGiven gives metadata request typed.plan
+  pub selection : Selection
+  pub asked : selected metadata request ≡ Ok selection
+  pub types_are : typed.types ≡ map spec_types selection.specs
+
+-- the same of the metadata that a read of a path gave
+abbrev pub IsTypedOfGivenAt : Giving → List ℕ → Request → TypedPlan → Type 0
+IsTypedOfGivenAt gives path request typed = (metadata : List ℕ) × gives path (Some metadata)
+    × IsTypedOfGiven gives metadata request typed
+
+-- the plan of the manifest list at a path, of bytes that reads gave; no types are known
+abbrev pub IsTypedListOfGiven : Giving → List ℕ → TypedPlan → Type 0
+IsTypedListOfGiven gives list typed = IsListPlanOfGiven gives list typed.plan × (typed.types ≡ [])
+
 -- ---- what is written
 
 abbrev pub IsJsonOfPlan : TypedPlan → List ℕ → Type 0
@@ -66,6 +85,11 @@ pub record AnswersInJson (answer : Result TypedPlan RunFault) (may_fail_at : Lis
   pub written : OnOk result (WroteJson answer output output')
   pub refused : IfErr result (MayEnd answer may_fail_at write_may_fail)
   pub front : IsErrOf result run.Write → WroteJsonFront answer output output'
+
+-- what was written is a JSON of a plan that is so
+abbrev pub WroteJsonThat : (TypedPlan → Type 0) → Option (List ℕ) → Option (List ℕ) → Type 0
+WroteJsonThat so output output' = (typed : TypedPlan) × so typed × (text : List ℕ) × IsJsonOfPlan typed text
+    × Appends output output' text
 
 -- a JSON of some plan by these types
 abbrev pub WroteWithTypes : List SpecTypes → Option (List ℕ) → Option (List ℕ) → Type 0

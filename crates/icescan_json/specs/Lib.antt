@@ -4,6 +4,7 @@ pub mod Values
 pub mod Types
 pub mod PlanJson
 pub mod Told
+pub mod ToldWhole
 pub mod Pieces
 pub mod Texts
 pub mod JsonAnswers

@@ -1,8 +1,9 @@
 //! The plan of a manifest list as JSON.
 
-ghost use Rattle.std.specs.Prelude.{◌≡◌, Some};
+ghost use Rattle.std.specs.Prelude.{◌≡◌, Some, OnOk};
 ghost use Rattle.ice_desk.specs.Worlds.{EndsAt};
-ghost use Rattle.icescan_json.specs.JsonAnswers.{AnswersInJson, WritesJson, typed_list_answer};
+ghost use Rattle.icescan_json.specs.JsonAnswers.{AnswersInJson, IsTypedListOfGiven, WritesJson, WroteJsonThat};
+ghost use Rattle.icescan_json.specs.JsonAnswers.{typed_list_answer};
 ghost use Rattle.icescan_requests.specs.ListPlans.{list_reads};
 ghost use Rattle.icescan_requests.specs.Plans.{OnRefusal};
 ghost use Rattle.ice_state.specs.Contents.{World};
@@ -37,6 +38,9 @@ pub fn run_list_plan_json<F: Files, W: Sink>(
     ensures text { WritesJson result (W.taken output.old) (W.taken output.new) }
     ensures refusal { OnRefusal (F.world files.now) (F.may_fail files.now) (W.may_fail output.old) result
         (W.taken output.old) (W.taken output.new) }
+    // What is written is the plan of bytes that reads gave.
+    ensures given { OnOk result (WroteJsonThat (IsTypedListOfGiven (F.gives files.now) list.now) (W.taken output.old)
+        (W.taken output.new)) }
 {
     let typed = TypedPlan {
         types: Items::new(alloc),

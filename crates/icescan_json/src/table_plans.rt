@@ -3,7 +3,8 @@
 ghost use Rattle.std.specs.Prelude.{◌≡◌, ◌⊎◌, ◌<◌, ◌↔◌, ℕ, List, Some, None, Ok, OnOk, IfOk, IfErr, IsErrOf, map};
 ghost use Rattle.ice_desk.specs.Worlds.{EndsAt, HasAt};
 ghost use Rattle.icescan_json.specs.Types.{spec_types};
-ghost use Rattle.icescan_json.specs.JsonAnswers.{AnswersInJson, WritesJson, WroteWithTypes};
+ghost use Rattle.icescan_json.specs.JsonAnswers.{AnswersInJson, IsTypedOfGiven, IsTypedOfGivenAt};
+ghost use Rattle.icescan_json.specs.JsonAnswers.{WritesJson, WroteJsonThat, WroteWithTypes};
 ghost use Rattle.icescan_json.specs.JsonAnswers.{typed_answer_at, typed_answer_by};
 ghost use Rattle.icescan_requests.specs.Plans.{OnRefusal, TellsTheTruth, TellsTheTruthAt};
 ghost use Rattle.icescan_requests.specs.Plans.{over_all_rows, over_wanted_rows, reads, reads_at};
@@ -43,6 +44,7 @@ fn typed_table<R: Threads + Sync, F: Files + Sync, G: Gate + Sync>(
     ensures device { (path : List ℕ) → IsErrOf result (RunFault.Device path) → F.may_fail files.now path }
     ensures write { IsErrOf result RunFault.Write → ⊥ }
     ensures workers { IsErrOf result RunFault.Workers → ⊥ }
+    ensures given { IfOk result (IsTypedOfGiven (F.gives files.now) metadata.now request.now) }
 {
     let planned = plan_table(rt, alloc, files, metadata, request, workers, gate)?;
     Ok(TypedPlan::of(alloc, planned)?)
@@ -66,6 +68,7 @@ fn typed_table_at<R: Threads + Sync, F: Files + Sync>(
     ensures device { (path : List ℕ) → IsErrOf result (RunFault.Device path) → F.may_fail files.now path }
     ensures write { IsErrOf result RunFault.Write → ⊥ }
     ensures workers { IsErrOf result RunFault.Workers → ⊥ }
+    ensures given { IfOk result (IsTypedOfGivenAt (F.gives files.now) path.now request.now) }
 {
     let planned = plan_table_at(rt, alloc, files, path, request, workers)?;
     Ok(TypedPlan::of(alloc, planned)?)
@@ -107,6 +110,9 @@ pub fn run_plan_json_with<R: Threads + Sync, F: Files + Sync, G: Gate + Sync, W:
     ensures text { WritesJson result (W.taken output.old) (W.taken output.new) }
     ensures refusal { OnRefusal (F.world files.now) (F.may_fail files.now) (W.may_fail output.old) result
         (W.taken output.old) (W.taken output.new) }
+    // What is written is the plan of bytes that reads gave.
+    ensures given { OnOk result (WroteJsonThat (IsTypedOfGiven (F.gives files.now) metadata.now request.now)
+        (W.taken output.old) (W.taken output.new)) }
 {
     let workers = Workers::of(workers)?;
     plans_of_true_summaries();
@@ -145,6 +151,9 @@ pub fn plan_file_json<R: Threads + Sync, F: Files + Sync, W: Sink>(
     ensures text { WritesJson result (W.taken output.old) (W.taken output.new) }
     ensures refusal { OnRefusal (F.world files.now) (F.may_fail files.now) (W.may_fail output.old) result
         (W.taken output.old) (W.taken output.new) }
+    // What is written is the plan of bytes that reads gave.
+    ensures given { OnOk result (WroteJsonThat (IsTypedOfGivenAt (F.gives files.now) path.now request.now)
+        (W.taken output.old) (W.taken output.new)) }
 {
     let workers = Workers::of(workers)?;
     plans_of_true_summaries();

@@ -1,5 +1,6 @@
 -- The calls by which a disk has new files, as they follow one another.
-use Rattle.std.proofs.Common.{◌≡◌, ◌⊎◌, ℕ, zero, suc, Bool, true, false, ◌||◌, List, [], ◌∷◌, ◌++◌, take, drop, Option, Some, None}
+use Rattle.std.proofs.Common.{◌≡◌, ◌⊎◌, ℕ, zero, suc, Bool, true, false, ◌||◌, List, [], ◌∷◌, ◌++◌, take, drop, Option}
+use Rattle.std.proofs.Common.{Some, None}
 use Rattle.std.proofs.Common.{inl, inr, refl, sym, ap, subst, ◌∙◌, append_assoc, lit<}
 use Rattle.std.specs.Prelude.{Result, Ok, Err, IfErr, OnErr, OnOk, slice_get}
 use Rattle.std.specs.List.{AllByRecursion, list_any}
@@ -10,7 +11,8 @@ use Rattle.std.proofs.lemmas.List.{append-nil}
 use Rattle.std.proofs.lemmas.List.Elements.{Contains-append_left, Contains-append_right}
 use Rattle.std.proofs.lemmas.List.Folds.{list_any-append}
 use Rattle.ice_catalog_versions.specs.States.{Added}
-use Rattle.icescan_requests.specs.Disks.{ArePlaced, Event, Extends, IsFolderKept, IsFolderLost, IsFolderOf, IsMade, IsPlaced}
+use Rattle.icescan_requests.specs.Disks.{ArePlaced, Event, Extends, IsFolderKept, IsFolderLost, IsFolderOf, IsMade}
+use Rattle.icescan_requests.specs.Disks.{IsPlaced}
 use Rattle.icescan_requests.specs.Disks.{IsPlacedAt, IsPutAt, IsTaken, IsWholeAt, Names, NotLinked, NotMade, NotPlaced}
 use Rattle.icescan_requests.specs.Disks.{NotPlacedAt, NothingLinked, StopsPlacing, Tells, event_of, links}
 use Rattle.icescan_requests.specs.Disks.Call.{Compare, Create, Link, Remove}

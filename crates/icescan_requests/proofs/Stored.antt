@@ -11,7 +11,8 @@ use Rattle.ice_meta.specs.Targets.{Described, metadata_of}
 use Rattle.serde_json.specs.Written.{compact_text, has_float}
 use Rattle.icescan_requests.specs.Bundles.{File, bytes_at}
 use Rattle.icescan_requests.specs.Commits.{Commitment, IsTextOf, MayNotPut, Writes}
-use Rattle.icescan_requests.specs.Stores.{MayHave, MayLack, Puts, PutsAll, PutsFront, StopsAt, WereFree, each_free, file_of}
+use Rattle.icescan_requests.specs.Stores.{MayHave, MayLack, Puts, PutsAll, PutsFront, StopsAt, WereFree, each_free}
+use Rattle.icescan_requests.specs.Stores.{file_of}
 use Rattle.icescan_requests.specs.declared.store.StoreFault.TheVariants as store
 use Rattle.icescan_text.specs.declared.fault.RunFault.{RunFault}
 use Rattle.icescan_text.specs.declared.fault.RunFault.TheVariants as run

@@ -65,7 +65,8 @@ pub record IsMade (own : List ℕ → Type 0) (aside : List ℕ) (events : List 
 abbrev pub filled : List ℕ → List ℕ → List Event
 filled aside bytes = Done (Append aside bytes) ∷ Done (SyncFile aside) ∷ []
 
--- It got its name. Over a network a link that was made may be asked for once more: then the name is found to be its own.
+-- It got its name. Over a network a link that was made may be asked for once more: then the name is found to be its
+-- own.
 abbrev pub IsLinked : List ℕ → List ℕ → List Event → Type 0
 IsLinked aside name events = (events ≡ Done (Link aside name) ∷ [])
     ⊎ (events ≡ Refused AlreadyExists (Link aside name) ∷ Done (Compare aside name true) ∷ [])
@@ -93,8 +94,8 @@ abbrev pub IsFolderOf : List ℕ → List ℕ → Type 0
 IsFolderOf name folder = ((last : List ℕ) × HasNoSlash last × (name ≡ folder ++ 47 ∷ last))
     ⊎ (HasNoSlash name × (folder ≡ codes "."))
 
--- A file was put at a name: it was made under a name of one's own, filled with these bytes and brought to the disk; then
--- it got its name; the name of one's own was taken away, whatever was answered; at last its folder was synced.
+-- A file was put at a name: it was made under a name of one's own, filled with these bytes and brought to the disk;
+-- then it got its name; the name of one's own was taken away, whatever was answered; at last its folder was synced.
 pub record IsPutAt (own : List ℕ → Type 0) (name bytes : List ℕ) (IsSynced : List ℕ → List Event → Type 0)
     (events : List Event) : Type 0 where
   pub aside : List ℕ
@@ -137,8 +138,8 @@ abbrev pub NotLinked : List ℕ → List ℕ → StoreFault → List Event → T
 NotLinked aside name store.There events = NothingLinked events × IsOccupied aside name events
 NotLinked aside name fault events = NothingLinked events
 
--- What was done for a file that is not placed. It did not get its name; or it did, whole and synced, and then the sync of
--- its folder failed, which is `Failed`.
+-- What was done for a file that is not placed. It did not get its name; or it did, whole and synced, and then the sync
+-- of its folder failed, which is `Failed`.
 abbrev pub NotPlaced : (List ℕ → Type 0) → List ℕ → List ℕ → StoreFault → List Event → Type 0
 NotPlaced own name bytes store.There events =
     NothingLinked events × ((aside : List ℕ) × own aside × IsOccupied aside name events)

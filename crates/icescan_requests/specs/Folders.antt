@@ -27,8 +27,8 @@ abbrev pub without_slash : List ℕ → List ℕ
 without_slash [] = []
 without_slash (b ∷ rest) = if b == 47 then rest else b ∷ rest
 
--- A path is inside: it begins with the prefix, and no segment of what stands behind it is `.` or `..`. The rest is that,
--- without a slash at its front.
+-- A path is inside: it begins with the prefix, and no segment of what stands behind it is `.` or `..`. The rest is
+-- that, without a slash at its front.
 pub record Inside (prefix path rest : List ℕ) : Type 0 where
   pub behind : List ℕ
   pub begins : path ≡ prefix ++ behind

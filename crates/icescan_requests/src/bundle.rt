@@ -152,10 +152,12 @@ fn copy_into(found: &[u8], bytes: &mut Vec<u8>) -> Result<(), ReadFault>
 }
 
 impl Files for Bundle {
-    ghost use Rattle.std.specs.Prelude.{Some};
+    ghost use Rattle.std.specs.Prelude.{◌≡◌, Some};
     ghost use Rattle.icescan_requests.specs.Bundles.{bytes_at};
 
     ghost world = { λ files. Some (λ path. bytes_at files path) };
+
+    ghost gives = { λ files path found. bytes_at files path ≡ found };
 
     ghost may_fail = { λ files path. ⊥ };
 

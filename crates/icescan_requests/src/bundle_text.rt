@@ -1,6 +1,7 @@
 //! Reading a bundle line by line, so that the digits of one line are held at a time, and not those of all.
 
-ghost use Rattle.std.specs.Prelude.{◌≡◌, ◌≢◌, ◌+◌, ◌*◌, ◌<◌, ◌≤◌, ◌^◌, ◌++◌, ◌∷◌, [], ℕ, List, Ok, Err, None, length, take};
+ghost use Rattle.std.specs.Prelude.{◌≡◌, ◌≢◌, ◌+◌, ◌*◌, ◌<◌, ◌≤◌, ◌^◌, ◌++◌, ◌∷◌, [], ℕ, List, Ok, Err, None, length};
+ghost use Rattle.std.specs.Prelude.{take};
 ghost use Rattle.std.specs.Prelude.{IfOk, IfErr, IfSome, OnOk, vec_len};
 ghost use Rattle.std.specs.List.{All};
 ghost use Rattle.std.specs.Io.KnownBytes.{Consumes, IsAtEnd};
@@ -167,7 +168,8 @@ fn read_lines<R: Read>(alloc: Global, reader: &mut R, room: &mut [u8]) -> Result
 }
 
 /// The files of the bundle that a reader has left, which is read to its end. The refusal is `Input` where a read fails
-/// or the end does not come in 16,777,216 reads of at most 65,536 bytes; else `Bundle` with the first line that is none.
+/// or the end does not come in 16,777,216 reads of at most 65,536 bytes; else `Bundle` with the first line that is
+/// none.
 pub fn read_bundle<R: Read>(alloc: Global, reader: &mut R) -> Result<Bundle, RunFault>
     ensures found { IfOk result (λ bundle. (text : List ℕ) × IsInput (R.remaining reader.old) text ×
         (bundle_of text ≡ Ok bundle)) }

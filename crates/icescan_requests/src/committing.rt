@@ -5,7 +5,8 @@ ghost use Rattle.std.specs.Prelude.{◌≡◌, ◌≢◌, ℕ, List, Option, Som
 ghost use Rattle.std.specs.Prelude.{IsErrOf};
 ghost use Rattle.ice_desk.specs.Worlds.{HasAt};
 ghost use Rattle.ice_state.specs.Contents.{World};
-ghost use Rattle.icescan_requests.specs.Commits.{Commitment, IsLeft, IsOfPreparing, IsOfPutting, IsPut, Made, MayEndCommit, MayNotPut};
+ghost use Rattle.icescan_requests.specs.Commits.{Commitment, IsLeft, IsOfPreparing, IsOfPutting, IsPut, Made};
+ghost use Rattle.icescan_requests.specs.Commits.{MayEndCommit, MayNotPut};
 ghost use Rattle.icescan_requests.specs.Commits.{MayFailToPut, OnCommitRefusal, Stopped, TellsACommit};
 ghost use Rattle.icescan_requests.specs.Commits.{IsCommitPlaced, NotCommitted, Writes};
 ghost use Rattle.icescan_requests.specs.Disks.{Extends};

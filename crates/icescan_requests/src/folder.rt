@@ -1,6 +1,7 @@
 //! Files below a folder, by the paths that a table gives them.
 
-ghost use Rattle.std.specs.Prelude.{◌≡◌, ◌≢◌, ◌↔◌, ◌++◌, ◌∷◌, ℕ, List, Option, Some, option_map, string_bytes, IfOk, IfErr, IsOk};
+ghost use Rattle.std.specs.Prelude.{◌≡◌, ◌≢◌, ◌↔◌, ◌++◌, ◌∷◌, ℕ, List, Option, Some, option_map, string_bytes, IfOk};
+ghost use Rattle.std.specs.Prelude.{IfErr, IsOk};
 ghost use Rattle.std.specs.Prelude.{MatchOption};
 ghost use Rattle.std.specs.Fs.{IsFile, file_type};
 ghost use Rattle.std.specs.IoError.{error_kind};
@@ -19,8 +20,8 @@ use std::fs::{self, Metadata};
 use std::io::{self, ErrorKind};
 
 /// Files below a folder. A path that begins with the prefix is the file that its rest names below the folder; any other
-/// path, and one with a segment `.` or `..` behind the prefix, is absent, and nothing is opened. What is no regular file
-/// is not opened either. What lies below a folder may change from one read to the next, so it tells no world.
+/// path, and one with a segment `.` or `..` behind the prefix, is absent, and nothing is opened. What is no regular
+/// file is not opened either. What lies below a folder may change from one read to the next, so it tells no world.
 #[derive(Drop)]
 pub struct Folder<'a, H> {
     host: &'a H,
@@ -136,6 +137,8 @@ impl<H: std::rt::Files> Files for Folder<'_, H> {
     ghost use Rattle.std.specs.Prelude.{None};
 
     ghost world = { λ _. None };
+
+    ghost gives = { λ _ _ _. Unit {0} };
 
     ghost may_fail = { λ _ _. Unit {0} };
 

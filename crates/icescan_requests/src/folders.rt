@@ -19,6 +19,10 @@ pub trait Folders {
     /// from one read to the next.
     ghost below: { Self → List ℕ → List ℕ → Option World };
 
+    /// What a read of the file at a path below a folder with a prefix may give: its bytes, or that there is none. Where
+    /// files change from one read to the next, it may give more than one.
+    ghost gives: { Self → List ℕ → List ℕ → List ℕ → Option (List ℕ) → Type 0 };
+
     /// A read of the file at a path below a folder with a prefix may fail.
     ghost may_fail: { Self → List ℕ → List ℕ → List ℕ → Type 0 };
 
@@ -34,7 +38,9 @@ pub trait Folders {
     ) -> Result<(), ReadFault>
         ensures found { OnOk result (HasAt (below self.now folder.now prefix.now) path.now (Some bytes.new.items)) }
         ensures absent { IsErrOf result ReadFault.Absent → HasAt (below self.now folder.now prefix.now) path.now None }
-        ensures device { IsErrOf result ReadFault.Device → may_fail self.now folder.now prefix.now path.now };
+        ensures device { IsErrOf result ReadFault.Device → may_fail self.now folder.now prefix.now path.now }
+        ensures given { OnOk result (gives self.now folder.now prefix.now path.now (Some bytes.new.items)) }
+        ensures none_given { IsErrOf result ReadFault.Absent → gives self.now folder.now prefix.now path.now None };
 }
 
 /// The files below one folder.
@@ -61,6 +67,8 @@ impl<'a, D: Folders> Below<'a, D> {
 
 impl<D: Folders> Files for Below<'_, D> {
     ghost world = { λ files. D.below files.folders.now files.folder.now files.prefix.now };
+
+    ghost gives = { λ files. D.gives files.folders.now files.folder.now files.prefix.now };
 
     ghost may_fail = { λ files. D.may_fail files.folders.now files.folder.now files.prefix.now };
 
@@ -91,6 +99,8 @@ impl<'a, H: std::rt::Files> HostFolders<'a, H> {
 
 impl<H: std::rt::Files> Folders for HostFolders<'_, H> {
     ghost below = { λ _ _ _. None };
+
+    ghost gives = { λ _ _ _ _ _. Unit {0} };
 
     ghost may_fail = { λ _ _ _ _. Unit {0} };
 

@@ -1,8 +1,9 @@
 //! The plan of a manifest list.
 
-ghost use Rattle.std.specs.Prelude.{◌≡◌, ℕ, List, Some, None, Ok, IfOk, IfErr, IsErrOf};
+ghost use Rattle.std.specs.Prelude.{◌≡◌, ℕ, List, Some, None, Ok, IfOk, IfErr, IsErrOf, OnOk};
 ghost use Rattle.ice_desk.specs.Worlds.{EndsAt, HasAt};
 ghost use Rattle.ice_state.specs.Contents.{World};
+ghost use Rattle.icescan_requests.specs.GivenPlans.{IsListPlanOfGiven, WrotePlanThat};
 ghost use Rattle.icescan_requests.specs.ListPlans.{list_answer, list_reads, specs_of};
 ghost use Rattle.icescan_requests.specs.Plans.{Answers, OnRefusal, WritesAPlan};
 ghost use Rattle.icescan_text.specs.Reads.{MayEnd};
@@ -48,6 +49,8 @@ pub fn plan_list<F: Files>(alloc: Global, files: &F, list: &str) -> Result<Owned
     ensures absent { (path : List ℕ) → IsErrOf result (RunFault.Absent path) → HasAt (F.world files.now) path None }
     ensures device { (path : List ℕ) → IsErrOf result (RunFault.Device path) → F.may_fail files.now path }
     ensures write { IsErrOf result RunFault.Write → ⊥ }
+    // The plan of bytes that reads gave.
+    ensures given { IfOk result (IsListPlanOfGiven (F.gives files.now) list.now) }
 {
     let rows = read_rows(alloc, files, list)?;
     let selected = SelectedRows {
@@ -85,6 +88,9 @@ pub fn run_list_plan<F: Files, W: Sink>(
     ensures text { WritesAPlan result (W.taken output.old) (W.taken output.new) }
     ensures refusal { OnRefusal (F.world files.now) (F.may_fail files.now) (W.may_fail output.old) result
         (W.taken output.old) (W.taken output.new) }
+    // What is written is the plan of bytes that reads gave.
+    ensures given { OnOk result (WrotePlanThat (IsListPlanOfGiven (F.gives files.now) list.now) (W.taken output.old)
+        (W.taken output.new)) }
 {
     let plan = plan_list(alloc, files, list)?;
     write_plan(alloc, &plan.lines(), output)

@@ -3,6 +3,7 @@
 ghost use Rattle.std.specs.Prelude.{◌≡◌, ◌≤◌, ℕ, List, Some, None, Ok, IfOk, IfErr, IsErrOf, length};
 ghost use Rattle.ice_desk.specs.Worlds.{EndsAt, HasAt};
 ghost use Rattle.ice_state.specs.Contents.{World};
+ghost use Rattle.icescan_requests.specs.GivenPlans.{IsRowsPlanOfGiven};
 ghost use Rattle.icescan_requests.specs.Plans.{manifests, over_wanted_rows, rows_plan};
 ghost use Rattle.icescan_text.specs.Reads.{MayEnd};
 
@@ -28,13 +29,17 @@ pub fn plan_rows<F: Files>(
     selected: SelectedRows,
 ) -> Result<OwnedPlan, RunFault>
     ensures found { (world : World) → F.world files.now ≡ Some world →
-        IfOk result (λ plan. rows_plan over_wanted_rows world selected.specs selected.filter.parts selected.rows ≡ Ok plan) }
+        IfOk result (λ plan.
+        rows_plan over_wanted_rows world selected.specs selected.filter.parts selected.rows ≡ Ok plan) }
     ensures refused { (world : World) → F.world files.now ≡ Some world →
         IfErr result (MayEnd (rows_plan over_wanted_rows world selected.specs selected.filter.parts selected.rows)
         (EndsAt world (F.may_fail files.now) (manifests selected.specs selected.filter.parts selected.rows)) ⊥) }
     ensures absent { (path : List ℕ) → IsErrOf result (RunFault.Absent path) → HasAt (F.world files.now) path None }
     ensures device { (path : List ℕ) → IsErrOf result (RunFault.Device path) → F.may_fail files.now path }
     ensures write { IsErrOf result RunFault.Write → ⊥ }
+    // Over all files: the plan of bytes that reads gave.
+    ensures given { IfOk result (λ plan. IsRowsPlanOfGiven (F.gives files.now) selected.specs selected.filter.parts
+        selected.rows plan) }
 {
     let scan = selected.into_scan(alloc)?;
     let mut state = Partial::empty(alloc, &scan)?;
@@ -54,7 +59,8 @@ pub fn plan_rows_by_workers<R: Threads + Sync, F: Files + Sync, G: Gate + Sync>(
 ) -> Result<OwnedPlan, RunFault>
     requires { length selected.rows ≤ 65536 }
     ensures found { (world : World) → F.world files.now ≡ Some world →
-        IfOk result (λ plan. rows_plan over_wanted_rows world selected.specs selected.filter.parts selected.rows ≡ Ok plan) }
+        IfOk result (λ plan.
+        rows_plan over_wanted_rows world selected.specs selected.filter.parts selected.rows ≡ Ok plan) }
     ensures refused { (world : World) → F.world files.now ≡ Some world →
         IfErr result (MayEnd (rows_plan over_wanted_rows world selected.specs selected.filter.parts selected.rows)
         (EndsAt world (F.may_fail files.now) (manifests selected.specs selected.filter.parts selected.rows)) ⊥) }
@@ -62,6 +68,9 @@ pub fn plan_rows_by_workers<R: Threads + Sync, F: Files + Sync, G: Gate + Sync>(
     ensures device { (path : List ℕ) → IsErrOf result (RunFault.Device path) → F.may_fail files.now path }
     ensures write { IsErrOf result RunFault.Write → ⊥ }
     ensures workers { IsErrOf result RunFault.Workers → ⊥ }
+    // Over all files: the plan of bytes that reads gave.
+    ensures given { IfOk result (λ plan. IsRowsPlanOfGiven (F.gives files.now) selected.specs selected.filter.parts
+        selected.rows plan) }
 {
     let scan = selected.into_scan(alloc)?;
     Ok(plan_scan(rt, alloc, files, &scan, workers.count(), gate)?)

@@ -5,6 +5,7 @@ ghost use Rattle.contract_words.specs.Outcome.{Gives};
 ghost use Rattle.ice_desk.specs.Worlds.{EndsAt, HasAt};
 ghost use Rattle.ice_state.specs.Contents.{World};
 ghost use Rattle.ice_state.specs.Scans.{scan_of};
+ghost use Rattle.icescan_requests.specs.GivenPlans.{AreSelectedOfGiven};
 ghost use Rattle.icescan_requests.specs.Plans.{reads, selected_rows};
 ghost use Rattle.icescan_requests.specs.Selections.{selected};
 ghost use Rattle.icescan_requests.specs.declared.selection.Selection.{Selection};
@@ -62,13 +63,14 @@ pub fn select_rows<F: Files>(
         (EndsAt world (F.may_fail files.now) (reads world metadata.now request.now)) ⊥) }
 
     // Over all files.
-    ensures selection { IfOk result (λ found. (selection : Selection) × (selected metadata.now request.now ≡ Ok selection)
-        × (found.specs ≡ selection.specs) × (found.filter ≡ selection.filter)) }
+    ensures selection { IfOk result (λ found. (selection : Selection)
+        × (selected metadata.now request.now ≡ Ok selection) × (found.specs ≡ selection.specs) × (found.filter ≡ selection.filter)) }
     ensures few { IfOk result (λ found. length found.rows ≤ 65536) }
     ensures absent { (path : List ℕ) → IsErrOf result (RunFault.Absent path) → HasAt (F.world files.now) path None }
     ensures device { (path : List ℕ) → IsErrOf result (RunFault.Device path) → F.may_fail files.now path }
     ensures write { IsErrOf result RunFault.Write → ⊥ }
     ensures workers { IsErrOf result RunFault.Workers → ⊥ }
+    ensures given { IfOk result (AreSelectedOfGiven (F.gives files.now) metadata.now request.now) }
 {
     let Selection {
         list,

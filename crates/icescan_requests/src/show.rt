@@ -1,6 +1,6 @@
 //! The text of a table's metadata, from the metadata's bytes.
 
-ghost use Rattle.std.specs.Prelude.{◌≡◌, ◌≢◌, ◌⊎◌, ◌∷◌, [], Some, OnOk, IfErr, IsErrOf};
+ghost use Rattle.std.specs.Prelude.{◌≡◌, ◌≢◌, ◌⊎◌, ◌∷◌, [], ℕ, List, Some, OnOk, IfErr, IsErrOf};
 ghost use Rattle.ice_desk.specs.Worlds.{EndsAt};
 ghost use Rattle.ice_state.specs.Contents.{World};
 ghost use Rattle.icescan_text.specs.Reads.{MayEnd};
@@ -14,7 +14,7 @@ use icescan_print::{Page, Shown, Sink, main_of, put_table};
 use icescan_text::{RunFault, read_file};
 use std::alloc::Global;
 
-/// Writes the text of a table and nothing else. It refuses for want of memory, and then nothing was written, or where a
+/// Writes the text of a table and nothing else. It refuses when out of memory, and then nothing was written, or where a
 /// write fails, and then a front of the text was.
 fn write_table<S: Sink>(alloc: Global, table: &Table, sink: &mut S) -> Result<(), RunFault>
     ensures all { OnOk result (Appends (S.taken sink.old) (S.taken sink.new) (table_text table.now)) }
@@ -67,6 +67,9 @@ pub fn show_file<F: Files, W: Sink>(
 
     // Over all files.
     ensures nothing { IfErr result (λ fault. fault ≢ RunFault.Write → W.taken output.new ≡ W.taken output.old) }
+    // What is written is the text of bytes that a read gave.
+    ensures given { OnOk result ((metadata : List ℕ) × F.gives files.now path.now (Some metadata)
+        × WroteText (show_of metadata) (W.taken output.old) (W.taken output.new)) }
 {
     let bytes = read_file(alloc, files, path)?;
     run_show(alloc, &bytes, output)

@@ -3,6 +3,7 @@
 ghost use Rattle.std.specs.Prelude.{◌≡◌, ℕ, List, Some, None, Ok, OnOk, IfOk, IfErr, IsErrOf};
 ghost use Rattle.ice_desk.specs.Worlds.{EndsAt, HasAt};
 ghost use Rattle.ice_state.specs.Contents.{World};
+ghost use Rattle.icescan_requests.specs.GivenPlans.{IsPlanOfGiven};
 ghost use Rattle.icescan_requests.specs.Plans.{TellsTheTruth, answer, answer_at, over_wanted_rows, reads, reads_at};
 ghost use Rattle.icescan_requests.specs.Plans.{wanted_answer};
 ghost use Rattle.icescan_requests.specs.Selections.{AreSelected, selected};
@@ -39,8 +40,8 @@ pub fn plans_of_true_summaries()
     filtering();
 }
 
-/// The plan that a request asks for, of the table whose metadata these are the bytes of. The manifests are read one after
-/// the other.
+/// The plan that a request asks for, of the table whose metadata these are the bytes of. The manifests are read one
+/// after the other.
 ///
 /// A live data file that the plan lacks, honest about its rows, has no row that meets the filter: the crate
 /// `icescan_answer_laws` says so of `answer` and of `wanted_answer`, which this gives.
@@ -69,6 +70,8 @@ pub fn plan_table_alone<F: Files>(
     ensures absent { (path : List ℕ) → IsErrOf result (RunFault.Absent path) → HasAt (F.world files.now) path None }
     ensures device { (path : List ℕ) → IsErrOf result (RunFault.Device path) → F.may_fail files.now path }
     ensures write { IsErrOf result RunFault.Write → ⊥ }
+    // The plan of bytes that reads gave.
+    ensures given { IfOk result (IsPlanOfGiven (F.gives files.now) metadata.now request.now) }
 {
     let selected = select_rows(alloc, files, metadata, request)?;
     plan_rows(alloc, files, selected)
@@ -98,6 +101,8 @@ pub fn plan_table<R: Threads + Sync, F: Files + Sync, G: Gate + Sync>(
     ensures device { (path : List ℕ) → IsErrOf result (RunFault.Device path) → F.may_fail files.now path }
     ensures write { IsErrOf result RunFault.Write → ⊥ }
     ensures workers { IsErrOf result RunFault.Workers → ⊥ }
+    // The plan of bytes that reads gave.
+    ensures given { IfOk result (λ planned. IsPlanOfGiven (F.gives files.now) metadata.now request.now planned.plan) }
 {
     let selected = select_rows(alloc, files, metadata, request)?;
     let specs = copied_specs(alloc, selected.specs.as_slice())?;
@@ -130,6 +135,10 @@ pub fn plan_table_at<R: Threads + Sync, F: Files + Sync>(
     ensures device { (path : List ℕ) → IsErrOf result (RunFault.Device path) → F.may_fail files.now path }
     ensures write { IsErrOf result RunFault.Write → ⊥ }
     ensures workers { IsErrOf result RunFault.Workers → ⊥ }
+    // The plan of bytes that reads gave, and the specs of that metadata.
+    ensures given { IfOk result (λ planned. (metadata : List ℕ) × F.gives files.now path.now (Some metadata)
+        × IsPlanOfGiven (F.gives files.now) metadata request.now planned.plan
+        × AreSelected metadata request.now planned.specs) }
 {
     let metadata = read_file(alloc, files, path)?;
     plan_table(rt, alloc, files, &metadata, request, workers, &OpenGate)

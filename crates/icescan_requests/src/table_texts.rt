@@ -3,6 +3,7 @@
 ghost use Rattle.std.specs.Prelude.{◌≡◌, ◌⊎◌, ◌<◌, ◌↔◌, ℕ, List, Some, Ok, OnOk, IsErrOf};
 ghost use Rattle.ice_desk.specs.Worlds.{EndsAt};
 ghost use Rattle.ice_state.specs.Contents.{World};
+ghost use Rattle.icescan_requests.specs.GivenPlans.{IsPlanOfGiven, IsPlanOfGivenAt, WrotePlanThat};
 ghost use Rattle.icescan_requests.specs.Plans.{Answers, OnRefusal, WritesAPlan, TellsTheTruth, TellsTheTruthAt, answer};
 ghost use Rattle.icescan_requests.specs.Plans.{answer_at, over_all_rows, over_wanted_rows, reads, reads_at};
 ghost use Rattle.icescan_requests.specs.Plans.{wanted_answer};
@@ -52,6 +53,9 @@ pub fn run_plan<F: Files, W: Sink>(
     ensures text { WritesAPlan result (W.taken output.old) (W.taken output.new) }
     ensures refusal { OnRefusal (F.world files.now) (F.may_fail files.now) (W.may_fail output.old) result
         (W.taken output.old) (W.taken output.new) }
+    // What is written is the plan of bytes that reads gave.
+    ensures given { OnOk result (WrotePlanThat (IsPlanOfGiven (F.gives files.now) metadata.now request.now)
+        (W.taken output.old) (W.taken output.new)) }
 {
     plans_of_true_summaries();
     let plan = plan_table_alone(alloc, files, metadata, request)?;
@@ -92,6 +96,9 @@ pub fn run_plan_with<R: Threads + Sync, F: Files + Sync, G: Gate + Sync, W: Sink
     ensures text { WritesAPlan result (W.taken output.old) (W.taken output.new) }
     ensures refusal { OnRefusal (F.world files.now) (F.may_fail files.now) (W.may_fail output.old) result
         (W.taken output.old) (W.taken output.new) }
+    // What is written is the plan of bytes that reads gave.
+    ensures given { OnOk result (WrotePlanThat (IsPlanOfGiven (F.gives files.now) metadata.now request.now)
+        (W.taken output.old) (W.taken output.new)) }
 {
     let workers = Workers::of(workers)?;
     plans_of_true_summaries();
@@ -101,8 +108,8 @@ pub fn run_plan_with<R: Threads + Sync, F: Files + Sync, G: Gate + Sync, W: Sink
 
 /// Writes the plan that a request asks for, of the table whose metadata is in the file at a path, by so many workers.
 ///
-/// The refusal is `Workers` where there are to be none, or more than 64; it comes before all others, and nothing is read.
-/// Then it is `Absent` where there is no such file, `Device` where reading it failed, else as `run_plan`'s.
+/// The refusal is `Workers` where there are to be none, or more than 64; it comes before all others, and nothing is
+/// read. Then it is `Absent` where there is no such file, `Device` where reading it failed, else as `run_plan`'s.
 pub fn plan_file<R: Threads + Sync, F: Files + Sync, W: Sink>(
     rt: &R,
     alloc: Global,
@@ -131,6 +138,9 @@ pub fn plan_file<R: Threads + Sync, F: Files + Sync, W: Sink>(
     ensures text { WritesAPlan result (W.taken output.old) (W.taken output.new) }
     ensures refusal { OnRefusal (F.world files.now) (F.may_fail files.now) (W.may_fail output.old) result
         (W.taken output.old) (W.taken output.new) }
+    // What is written is the plan of bytes that reads gave.
+    ensures given { OnOk result (WrotePlanThat (IsPlanOfGivenAt (F.gives files.now) path.now request.now)
+        (W.taken output.old) (W.taken output.new)) }
 {
     let workers = Workers::of(workers)?;
     plans_of_true_summaries();

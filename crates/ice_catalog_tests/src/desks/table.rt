@@ -12,15 +12,6 @@ use ice_state::Scan;
 use ice_value::SequenceNumber;
 use std::alloc::{AllocError, Global};
 
-const NO_COUNTS: Counts = Counts {
-    added_files: None,
-    existing_files: None,
-    deleted_files: None,
-    added_rows: None,
-    existing_rows: None,
-    deleted_rows: None,
-};
-
 /// The row of a manifest.
 fn row(alloc: Global, which: usize) -> Result<Row, AllocError> {
     let (path, content, number) = match which {
@@ -40,7 +31,7 @@ fn row(alloc: Global, which: usize) -> Result<Row, AllocError> {
         sequence_number,
         min_sequence_number: sequence_number,
         added_snapshot_id: 1,
-        counts: NO_COUNTS,
+        counts: Counts::none(),
         partitions: None,
     })
 }
@@ -82,6 +73,8 @@ pub fn file_of(alloc: Global, which: usize) -> Result<Vec<u8>, ReadFault> {
 
 impl Files for Stored {
     ghost world = { λ f. None };
+
+    ghost gives = { λ f path found. Unit {0} };
 
     ghost may_fail = { λ f path. Unit {0} };
 

@@ -73,6 +73,8 @@ impl Gate for TwoAtOnce {
 impl Files for TwoAtOnce {
     ghost world = { λ f. None };
 
+    ghost gives = { λ f path found. Unit {0} };
+
     ghost may_fail = { λ f path. Unit {0} };
 
     fn read(&self, alloc: Global, path: &str) -> Result<Vec<u8>, ReadFault> {

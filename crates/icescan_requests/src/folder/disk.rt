@@ -28,7 +28,8 @@ pub trait Disk {
     /// Writes all of these bytes at the end of a file.
     fn append(&mut self, file: &mut Self::File, bytes: &[u8]) -> io::Result<()>
         ensures same { made_as file.new ≡ made_as file.old }
-        ensures told { Tells (events self.old) (events self.new) (event_of (Append (made_as file.old) bytes.now) result) };
+        ensures told { Tells (events self.old) (events self.new)
+            (event_of (Append (made_as file.old) bytes.now) result) };
 
     /// Brings a file to the disk.
     fn sync_file(&mut self, file: &Self::File) -> io::Result<()>

@@ -2,7 +2,8 @@
 
 ghost use Rattle.std.specs.Prelude.{◌≡◌, ◌⊎◌, ◌↔◌, ℕ, List, IfOk, IfErr, IsTrue, OnOk, OnErr, string_bytes};
 ghost use Rattle.icescan_requests.specs.Folders.{HasNoSync, aside_name};
-ghost use Rattle.icescan_requests.specs.Disks.{Event, Extends, IsAsideOf, IsFolderKept, IsFolderLost, IsFolderOf, IsLinked};
+ghost use Rattle.icescan_requests.specs.Disks.{Event, Extends, IsAsideOf, IsFolderKept, IsFolderLost, IsFolderOf};
+ghost use Rattle.icescan_requests.specs.Disks.{IsLinked};
 ghost use Rattle.icescan_requests.specs.Disks.{IsMade, IsPlaced, IsWholeAt, NotLinked, NotMade, NotPlaced, filled};
 ghost use Rattle.icescan_requests.specs.Disks.{IsPlacedAt, NotPlacedAt, names_below};
 

@@ -4,7 +4,8 @@ use Rattle.ice_state.specs.Joins.{either}
 use Rattle.std.proofs.lemmas.List.{length-set}
 use Rattle.std.proofs.lemmas.List.Elements.{All-set}
 use Rattle.ice_catalog.specs.Taken.{IsStateOf, IsTaken, rows_of, set_of, sets_of}
-use Rattle.ice_catalog.proofs.Taken.{merge_itself, merge_none, set_read, set_read_apart, sets_put, state_read, taken_put}
+use Rattle.ice_catalog.proofs.Taken.{merge_itself, merge_none, set_read, set_read_apart, sets_put, state_read}
+use Rattle.ice_catalog.proofs.Taken.{taken_put}
 use Rattle.ice_catalog.proofs.scanning.merge_states.Goals as goal
 use Rattle.ice_catalog.proofs.scanning.merge_states.Goals.{in-Some+in_ok-joined-in-Some, in-None}
 

@@ -3,7 +3,8 @@ use Rattle.std.specs.List.{AllByRecursion}
 use Rattle.ice_meta.specs.Targets.{Described, described}
 use Rattle.ice_catalog_versions.specs.declared.change.Commit.{Commit}
 use Rattle.ice_manifest_reading.specs.declared.row.Row.{Row}
-use Rattle.ice_catalog_versions.specs.Adding.{CanWrite, files_over, added, manifests_from, next, next_rows, next_sequence}
+use Rattle.ice_catalog_versions.specs.Adding.{CanWrite, files_over, added, manifests_from, next, next_rows}
+use Rattle.ice_catalog_versions.specs.Adding.{next_sequence}
 use Rattle.ice_catalog_versions.specs.Groups.{Group, groups}
 use Rattle.ice_catalog_versions.specs.Live.{AreReadBack, IsReadBack}
 use Rattle.ice_catalog_versions.specs.Seen.{all_seen}

@@ -1,7 +1,10 @@
-use Rattle.std.proofs.Common.{◌≡◌, ◌+◌, arith, vec_len}
+use Rattle.std.proofs.Common.{◌≡◌, ◌+◌, arith, subst, sym, vec_len}
 use Rattle.std.proofs.lemmas.Grind.{common_steps}
 use Rattle.std.proofs.lemmas.Result.{IfOk-weaker}
+use Rattle.ice_state.specs.Joins.{join}
+use Rattle.ice_desk.specs.Given.{IsGiven}
 use Rattle.ice_desk.proofs.Crews.{served_both}
+use Rattle.ice_desk.proofs.Given.{join_given}
 use Rattle.ice_desk.proofs.plan.+fn-work_all-join+arg2+fn-work_all-join+arg3+work_all.Goals as goal
 
 pub returns-clause-served : goal.returns-clause-served
@@ -28,3 +31,14 @@ returns-clause-count g t c =
       c.in_ok-right.ensures.len,
       c.in_ok-right.ensures.tail_len,
     )) c.both.ensures.count
+
+pub returns-clause-given : goal.returns-clause-given
+returns-clause-given g t c =
+    let scan = c.args.scan.now in
+    let gives = g.F.Files.gives c.args.files.now in
+    let first = rw c.in_ok-left.was at c.join-left.ensures.first in
+    let second = rw c.in_ok-right-2.was at c.join-left.ensures.second in
+    IfOk-weaker c.both.result (λ crew. crew.state ≡ join c.in_ok-left.field-0.state c.in_ok-right-2.field-0.state)
+    (λ crew. IsGiven gives scan crew.state)
+    (λ crew h. subst (IsGiven gives scan) (sym h) (join_given gives scan scan.wanted _ _ first.2 second.2))
+    c.both.ensures.state

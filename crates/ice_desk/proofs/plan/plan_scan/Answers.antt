@@ -81,3 +81,24 @@ returns-clause-taken g c = (
   c.in_ok-take_wanted.ensures.whole,
   c.in_ok-plan.ensures.outcome,
 )
+
+pub returns-in_err-plan-clause-given : goal.returns-in_err-plan-clause-given
+returns-in_err-plan-clause-given g c =
+    let p = err_from_is_err_and c.from_residual-in_err-plan.result c.from_residual-in_err-plan.ensures.1 in
+    rw (p.1, p.2) (finished_by (List OwnedLine) c.in_err-plan.field-0.0 _ (
+      c.take_wanted.new.state,
+      c.in_ok-take_wanted.ensures.of_scan,
+      c.in_ok-take_wanted.ensures.whole,
+      c.in_ok-take_wanted.ensures.given c.in_ok-state.ensures.given,
+      gives_fault (λ (lines : List OwnedLine).
+          lines) c.in_err-plan.field-0.0 _ c.in_err-plan.ensures.outcome,
+    ))
+
+pub returns-clause-given : goal.returns-clause-given
+returns-clause-given g c = (
+  c.take_wanted.new.state,
+  c.in_ok-take_wanted.ensures.of_scan,
+  c.in_ok-take_wanted.ensures.whole,
+  c.in_ok-take_wanted.ensures.given c.in_ok-state.ensures.given,
+  c.in_ok-plan.ensures.outcome,
+)

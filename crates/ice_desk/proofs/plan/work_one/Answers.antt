@@ -1,5 +1,7 @@
-use Rattle.std.proofs.Common.{arith}
+use Rattle.std.proofs.Common.{arith, length, subst, sym}
+use Rattle.ice_desk.specs.Given.{IsGiven}
 use Rattle.ice_desk.proofs.Crews.{one_served}
+use Rattle.ice_desk.proofs.Given.{none_given}
 use Rattle.ice_desk.proofs.plan.work_one.Goals as goal
 
 pub returns-clause-served : goal.returns-clause-served
@@ -10,3 +12,9 @@ returns-clause-served g c =
     (omega (arith, c.args.seats.ok, c.requires.one)) c.index_mut.ensures.value c.requires.ready.1
     c.in_ok-state.ensures.world c.work-left.ensures.seat c.work-left.ensures.done c.work-left.ensures.small
     c.work-left.ensures.worked
+
+pub returns-clause-given : goal.returns-clause-given
+returns-clause-given g c =
+    let scan = c.args.scan.now in
+    c.work-left.ensures.given (subst (IsGiven (g.F.Files.gives c.args.files.now) scan) (sym c.in_ok-state.ensures.none)
+    (none_given (g.F.Files.gives c.args.files.now) scan scan.wanted (length scan.wanted)))

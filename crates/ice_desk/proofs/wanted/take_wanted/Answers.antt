@@ -1,5 +1,9 @@
-use Rattle.std.proofs.Common.{⊎_elim, ◌≡◌, ◌<◌, ◌≤◌, true, false, arith, add-one, ap, drop, length, refl, suc, sym, ◌∙◌}
+use Rattle.std.proofs.Common.{⊎_elim, ◌≡◌, ◌<◌, ◌≤◌, true, false, arith, add-one, ap, drop, length, refl, subst, suc}
+use Rattle.std.proofs.Common.{sym}
+use Rattle.std.proofs.Common.{◌∙◌}
 use Rattle.ice_state.specs.Contents.{is_row_taken, took}
+use Rattle.ice_desk.specs.Given.{IsGiven}
+use Rattle.ice_desk.proofs.Given.{took_given}
 use Rattle.ice_desk.proofs.Taking.{again, begins, behind_more, below_or_at, ends, goes_on, has_bytes, has_next}
 use Rattle.ice_desk.proofs.Taking.{none_untaken, reads_next, same_taken, skips, stops_later, taken_before, taken_here}
 use Rattle.ice_desk.proofs.Taking.{took_behind}
@@ -13,6 +17,7 @@ loop-i-init g c = record {
   taken = λ world ts told h. begins world c.args.scan.now c.args.state.now ts h;
   present = λ world told h. h;
   ahead = λ world told e h. h;
+  given = λ h. h;
 }
 
 pub loop-i-preserved-then-is_taken : goal.loop-i-preserved-then-is_taken
@@ -32,6 +37,7 @@ loop-i-preserved-then-is_taken g c =
           (again world scan c.loop-i.state ts i t (kept.taken world ts told h)));
       present = λ world told h. kept.present world told (rw next (rw add-one at h));
       ahead = λ world told e h. kept.ahead world told e (rw next (rw add-one at h));
+      given = kept.given;
     }
 
 pub loop-i-preserved : goal.loop-i-preserved
@@ -66,6 +72,9 @@ loop-i-preserved g c =
           let found = rw (told, c.as_str.ensures, ← c.as_slice.ensures.value) at c.in_ok-read_file.ensures.found in
           kept.ahead world told e (rw next (stops_later world (g.F.Files.may_fail c.args.files.now) row.path
           c.as_slice.result.now _ e found (rw add-one at h)));
+      given = λ h. subst (IsGiven (g.F.Files.gives c.args.files.now) scan) (sym c.in_ok-take.ensures.ok)
+          (took_given (g.F.Files.gives c.args.files.now) scan c.loop-i.state scan.wanted i row c.as_slice.result.now l
+          here (rw (c.as_str.ensures, ← c.as_slice.ensures.value) at c.in_ok-read_file.ensures.given) (kept.given h));
     }
 
 pub returns-clause-taken : goal.returns-clause-taken

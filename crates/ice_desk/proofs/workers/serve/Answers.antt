@@ -1,6 +1,8 @@
-use Rattle.std.proofs.Common.{◌∙◌, ◌<◌, None, ap, arith, length, refl}
+use Rattle.std.proofs.Common.{◌∙◌, ◌<◌, None, ap, arith, length, refl, subst, sym}
+use Rattle.ice_desk.specs.Given.{IsGiven}
 use Rattle.ice_desk.specs.Tickets.{marking}
 use Rattle.ice_desk.specs.Worlds.{HasAt}
+use Rattle.ice_desk.proofs.Given.{took_given}
 use Rattle.ice_desk.proofs.Taking.{has_bytes}
 use Rattle.ice_desk.proofs.Works.{add_length, path_at}
 use Rattle.ice_desk.proofs.workers.serve.Goals as goal
@@ -42,3 +44,13 @@ returns-in-Err-Device-clause-served g c =
       path_at (g.F.Files.may_fail c.args.files.now) c.args.scan.now.wanted c.args.i c.index-wanted-i.result inside here
           found,
     )
+
+pub returns-in-Ok-take-clause-given : goal.returns-in-Ok-take-clause-given
+returns-in-Ok-take-clause-given g c =
+    let scan = c.args.scan.now in
+    let inside : c.args.i < length scan.wanted = omega (arith, c.requires.manifest, c.requires.desk) in
+    let here = rw c.wanted.ensures at c.index-wanted-i.is in
+    let found = rw (c.as_str.ensures, ← c.as_slice.ensures.value) at c.in-Ok.ensures.given in
+    λ h. subst (IsGiven (g.F.Files.gives c.args.files.now) scan) (sym c.in-Ok-take.ensures.ok)
+    (took_given (g.F.Files.gives c.args.files.now) scan c.args.state.now scan.wanted c.args.i c.index-wanted-i.result
+    c.as_slice.result.now inside here found h)

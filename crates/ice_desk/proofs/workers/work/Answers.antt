@@ -11,6 +11,7 @@ loop-i-init g c = record {
   worked = subst (Worked (g.F.Files.world c.args.files.now) (g.F.Files.may_fail c.args.files.now) c.args.desk.now
       c.args.scan.now c.args.seat.now c.args.seat.now c.args.state.now c.args.state.now)
       (sym c.none-left.ensures) (began _ _ _ _ _ _ c.requires.state);
+  given = λ h. h;
 }
 
 pub loop-i-preserved : goal.loop-i-preserved
@@ -36,6 +37,7 @@ loop-i-preserved g c =
       worked = subst (Worked (g.F.Files.world c.args.files.now) (g.F.Files.may_fail c.args.files.now) c.args.desk.now
           c.args.scan.now c.args.seat.now c.serve-served.new.seat c.args.state.now c.serve-served.new.state)
           (sym c.count.ensures) one;
+      given = λ h. c.serve-served.ensures.given (c.loop-i.invariant.given h);
     }
 
 pub returns-clause-worked : goal.returns-clause-worked

@@ -78,4 +78,5 @@ returns-clause-read g c =
     let bytes = c.as_slice-2.result.now in
     let is = row_there (g.F.Files.may_fail c.args.files.now) (λ path. Some bytes) c.args.basis.now row
     c.in_ok-spec.spec.now known bytes (given row.path bytes) found.0 found.1 in
-    (_, (bytes, is), refl, sym found.2, found.3, found.4)
+    let read = rw (c.as_str.ensures, ← c.as_slice-2.ensures.value) at c.in_ok-read_file_into.ensures.given in
+    (_, (bytes, read, is), refl, sym found.2, found.3, found.4)

@@ -18,12 +18,13 @@ rows-init g c = record {
       (h ∙ ap Ok (sym (join_nothing left)));
   ends = λ world told e h. h;
   read = λ left h. rw (c.new-findings.ensures, c.new-live.ensures.items)
-      (subst (IsReadOf c.args.basis.now c.args.rows.now) (sym (join_nothing left)) h);
+      (subst (IsReadOf (g.F.Files.gives c.args.files.now) c.args.basis.now c.args.rows.now) (sym (join_nothing left)) h);
   few = omega arith;
 }
 
 pub rows-preserved : goal.rows-preserved
 rows-preserved g c =
+    let gives = g.F.Files.gives c.args.files.now in
     let rows = c.args.rows.now in
     let basis = c.args.basis.now in
     let f = g.F.Files.may_fail c.args.files.now in
@@ -45,10 +46,10 @@ rows-preserved g c =
           (later_row_ends f world basis row (drop (i + 1) rows) here.0 e here.1 h));
       read = λ left h.
           let here = c.in_ok-entries.ensures.read in
-          let more = read_more basis row (drop (i + 1) rows) here.0 left here.1 h in
+          let more = read_more gives basis row (drop (i + 1) rows) here.0 left here.1 h in
           let all = kept.read (joined here.0 left)
-          (subst (λ rs. IsReadOf basis rs (joined here.0 left)) (sym step) more) in
-          subst (IsReadOf basis rows)
+          (subst (λ rs. IsReadOf gives basis rs (joined here.0 left)) (sym step) more) in
+          subst (IsReadOf gives basis rows)
           (joins i c.rows.entries _ c.rows.findings c.audit_row.new.findings c.rows.live.items
           c.audit_row.new.live.items here.0 left here.2 here.3 here.4 here.5) all;
       few = omega (arith, kept.few);
@@ -79,6 +80,7 @@ returns-in_err-entries g c =
 
 pub returns : goal.returns
 returns g c =
+    let gives = g.F.Files.gives c.args.files.now in
     let rows = c.args.rows.now in
     let basis = c.args.basis.now in
     let i = c.rows.row-index in
@@ -91,7 +93,7 @@ returns g c =
           all (kept.found world told);
       refused = λ world told. tt;
       write = λ is. absurd cc;
-      read = read_end basis rows i (length rows) c.rows.entries c.rows.findings c.rows.live.items low all kept.read;
+      read = read_end gives basis rows i (length rows) c.rows.entries c.rows.findings c.rows.live.items low all kept.read;
       stops = tt;
       few = (refl, omega (arith, kept.few, all));
     })

@@ -26,8 +26,8 @@ invariant-rows g l = record {
       → MayEnd (rows_audit world l.basis (drop l.row-index l.rows))
       (EndsAt world (g.F.Files.may_fail l.files) (paths_of (drop l.row-index l.rows))) ⊥ e
       → MayEnd (rows_audit world l.basis l.rows) (EndsAt world (g.F.Files.may_fail l.files) (paths_of l.rows)) ⊥ e;
-  read : (left : Reading) → IsReadOf l.basis (drop l.row-index l.rows) left
-      → IsReadOf l.basis l.rows (joined (record {
+  read : (left : Reading) → IsReadOf (g.F.Files.gives l.files) l.basis (drop l.row-index l.rows) left
+      → IsReadOf (g.F.Files.gives l.files) l.basis l.rows (joined (record {
         manifests = l.row-index;
         entries = l.entries;
         findings = l.findings;

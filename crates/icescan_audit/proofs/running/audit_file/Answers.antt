@@ -1,4 +1,4 @@
-use Rattle.std.proofs.Common.{◌≡◌, ◌∙◌, ap, sym}
+use Rattle.std.proofs.Common.{◌≡◌, ◌∙◌, ap, sym, List, ℕ, Some, subst}
 use Rattle.std.specs.Prelude.{Err, Ok, []}
 use Rattle.std.proofs.lemmas.Result.{err_from_is_err_and, IfErr-weaker, IfOk-weaker}
 use Rattle.icescan_text.specs.declared.fault.RunFault.TheVariants as run
@@ -115,3 +115,9 @@ returns-in_err-metadata-clause-refusal g c =
 
 pub returns-clause-text : goal.returns-clause-text
 returns-clause-text g c = (c.deref.result.now, c.run_audit.ensures.text)
+
+pub returns-clause-given : goal.returns-clause-given
+returns-clause-given g c =
+    let read = subst (λ (bytes : List ℕ). g.F.Files.gives c.args.files.now c.args.path.now (Some bytes))
+    (sym c.deref.ensures.value) c.in_ok-metadata.ensures.given in
+    IfOk-weaker c.run_audit.result _ _ (λ count w. (c.deref.result.now, read, w)) c.run_audit.ensures.text.all

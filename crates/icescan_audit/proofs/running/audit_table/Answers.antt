@@ -94,6 +94,7 @@ returns-clause-read g c = record {
   rows = c.in_ok-rows.rows.items;
   read = c.in_ok-read.read;
   asked = c.in_ok-subject.ensures.gives;
+  listed = rw c.as_str.ensures at c.in_ok-rows.ensures.given;
   known = sym (rw (c.as_slice.ensures, c.deref.ensures.value) at c.in_ok-check_specs.ensures.known);
   manifests = rw (c.among-basis.ensures, c.deref-2.ensures.value, c.deref-3.ensures.value) at c.in_ok-read.ensures.read;
   is = c.in_ok-whole.ensures;

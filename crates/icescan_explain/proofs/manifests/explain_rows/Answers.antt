@@ -1,5 +1,7 @@
-use Rattle.std.proofs.Common.{◌≡◌, ◌∙◌, ap, filter, sym}
+use Rattle.std.proofs.Common.{◌≡◌, ◌∙◌, ap, filter, length, subst, sym}
 use Rattle.std.proofs.lemmas.Result.{err_from_is_err_and}
+use Rattle.ice_desk.proofs.Given.{none_given}
+use Rattle.ice_desk.specs.Given.{IsGiven}
 use Rattle.icescan_requests.proofs.Plans.{no_plan, no_scan, plan_there}
 use Rattle.ice_state.specs.Scans.{by_row_path}
 use Rattle.icescan_explain.specs.RowsTold.{is_wanted, rows_told}
@@ -69,3 +71,18 @@ returns-clause-kept g c =
     let kept = c.in_ok-verdicts.ensures.kept c.in_ok-state.ensures.none in
     rw (c.from_vec.ensures, kept)
     (planned_are c.in_ok-scan.scan c.tell_rows.new.state c.in_ok-plan.plan c.in_ok-plan.ensures.outcome)
+
+pub returns-clause-given : goal.returns-clause-given
+returns-clause-given g c =
+    let scan = c.in_ok-scan.scan in
+    let gives = g.F.Files.gives c.args.files.now in
+    record {
+      scan = scan;
+      scan_is = c.in_ok-scan.ensures;
+      content = c.tell_rows.new.state;
+      of_scan = c.in_ok-verdicts.ensures.of_scan;
+      whole = c.in_ok-verdicts.ensures.whole;
+      given = c.in_ok-verdicts.ensures.given (subst (IsGiven gives scan) (sym c.in_ok-state.ensures.none)
+          (none_given gives scan scan.wanted (length scan.wanted)));
+      is = c.in_ok-plan.ensures.outcome;
+    }

@@ -1,10 +1,12 @@
-use Rattle.std.proofs.Common.{◌++◌, ◌∙◌, List, ap, map, sym}
+use Rattle.std.proofs.Common.{◌++◌, ◌∙◌, List, ap, map, subst, sym}
 use Rattle.std.specs.Prelude.{Ok}
 use Rattle.std.proofs.lemmas.Result.{err_from_is_err_and}
+use Rattle.ice_desk.specs.Given.{IsGiven}
 use Rattle.icescan_explain.specs.Fates.{file_verdict}
 use Rattle.ice_manifest_reading.specs.declared.entry.Live.{Live}
 use Rattle.ice_state.proofs.Contents.{took-in_world}
 use Rattle.icescan_explain.proofs.FilesRead.{has_bytes, lives_there}
+use Rattle.icescan_explain.proofs.MoreGiven.{took_row}
 use Rattle.icescan_explain.proofs.manifests.read_wanted.Goals as goal
 
 pub returns-in_err-read_file_into-clause-refused : goal.returns-in_err-read_file_into-clause-refused
@@ -33,4 +35,18 @@ returns-clause-there g c = λ world told.
     (c.read_file_into.new.bytes.items, rw c.as_str.ensures at (c.in_ok-read_file_into.ensures.found world told))
 
 pub returns-clause-read : goal.returns-clause-read
-returns-clause-read g c = (c.as_slice.result.now, c.in_ok-take_files.ensures.taken, c.in_ok-take_files.ensures.told)
+returns-clause-read g c = (
+  c.as_slice.result.now,
+  rw (c.as_str.ensures, ← c.as_slice.ensures.value) at c.in_ok-read_file_into.ensures.given,
+  c.in_ok-take_files.ensures.taken,
+  c.in_ok-take_files.ensures.told,
+)
+
+pub returns-clause-given : goal.returns-clause-given
+returns-clause-given g c =
+    let gives = g.F.Files.gives c.args.files.now in
+    let scan = c.args.scan.now in
+    let read = rw (c.as_str.ensures, ← c.as_slice.ensures.value) at c.in_ok-read_file_into.ensures.given in
+    λ h. subst (IsGiven gives scan) (sym c.in_ok-take_files.ensures.taken)
+    (took_row gives scan c.args.state.now scan.wanted c.args.at c.args.row.now c.as_slice.result.now c.requires.row
+    read h)

@@ -4,7 +4,7 @@ use Rattle.std.proofs.Math.Seq.{take-length}
 use Rattle.std.proofs.lemmas.List.{append_assoc}
 use Rattle.std.proofs.lemmas.Option.{slice_get-get_or, slice_get_within}
 use Rattle.std.proofs.lemmas.Result.{err_from_is_err_and}
-use Rattle.ice_desk.proofs.Taking.{filled_none}
+use Rattle.ice_desk.proofs.Taking.{filled_none, none_untaken}
 use Rattle.icescan_explain.specs.declared.verdict.Verdict.{Verdict}
 use Rattle.ice_manifest_fields.proofs.Steps.{end_of, step_of}
 use Rattle.ice_manifest_reading.specs.declared.row.Row.{Row}
@@ -16,6 +16,7 @@ use Rattle.icescan_explain.specs.Told.{paths_of_data}
 use Rattle.icescan_explain.proofs.AnyKept.{kept_more, none_in, none_more, untaken}
 use Rattle.icescan_explain.proofs.Ends.{all_taken, ends_here, ends_later, flags, is_next, no_later, none_present}
 use Rattle.icescan_explain.proofs.Ends.{present_later, rest_more, set_more, starts, told_more}
+use Rattle.icescan_explain.proofs.MoreGiven.{none_after, taken_so_far}
 use Rattle.icescan_explain.proofs.manifests.tell_rows.Goals as goal
 
 pub rows-init : goal.rows-init
@@ -34,6 +35,8 @@ rows-init g c =
       none_taken = λ none. none ∙ ap untaken all;
       kept = λ for none. rw c.new-verdicts.ensures.items
           (ap paths_of_data (sym (ap kept_in none ∙ none_in (length wanted))));
+      given = λ h. h;
+      so_far = λ j l. absurd (omega (arith, l));
     }
 
 pub tell_row-requires-clause-row : goal.tell_row-requires-clause-row
@@ -46,6 +49,7 @@ tell_row-requires-clause-row g c =
 pub rows-preserved : goal.rows-preserved
 rows-preserved g c =
     let f = g.F.Files.may_fail c.args.files.now in
+    let gives = g.F.Files.gives c.args.files.now in
     let tests = c.args.tests.now in
     let scan = c.args.scan.now in
     let wanted = scan.wanted in
@@ -76,15 +80,18 @@ rows-preserved g c =
           (present_later f world tests wanted next row start (here.there world told) (rw here.next at h));
       read = λ left h.
           let first = row_told tests (λ path. Some read.0) row in
-          let all = kept.read (first ++ left) (subst (λ (rs : List Row). AreToldOf tests rs (first ++ left)) (sym step)
-          (first, left, (read.0, refl), h, refl)) in
-          subst (AreToldOf tests rows) (sym (append_assoc c.rows.verdicts.items first left)
-          ∙ ap (λ (vs : List Verdict). vs ++ left) (sym read.2)) all;
-      none_taken = λ none. rw (here.next, read.1)
+          let all = kept.read (first ++ left) (subst (λ (rs : List Row). AreToldOf gives tests rs (first ++ left))
+          (sym step) (first, left, (read.0, read.1, refl), h, refl)) in
+          subst (AreToldOf gives tests rows) (sym (append_assoc c.rows.verdicts.items first left)
+          ∙ ap (λ (vs : List Verdict). vs ++ left) (sym read.3)) all;
+      none_taken = λ none. rw (here.next, read.2)
           (none_more scan row read.0 next c.rows.state (is_wanted tests row) at (kept.none_taken none));
-      kept = λ for none. rw (read.1, read.2)
+      kept = λ for none. rw (read.2, read.3)
           (kept_more tests scan row read.0 next c.rows.verdicts.items c.rows.state for at (kept.none_taken none)
           (kept.kept for none));
+      given = λ h. here.given (kept.given h);
+      so_far = rw (here.next, read.2) (taken_so_far scan c.rows.state next read.0 (is_wanted tests row) kept.of_scan
+          (λ e. slice_get_within wanted next row (at e)) kept.so_far);
     }
 
 pub returns-in_err-next-clause-refused : goal.returns-in_err-next-clause-refused
@@ -127,9 +134,18 @@ pub returns-clause-read : goal.returns-clause-read
 returns-clause-read g c =
     let rows = c.args.rows.now in
     let tests = c.args.tests.now in
+    let gives = g.F.Files.gives c.args.files.now in
     let none : drop c.rows.row-index rows ≡ [] = end_of rows c.rows.row-index c.rows-test.false in
-    subst (AreToldOf tests rows) (append-nil c.rows.verdicts.items)
-    (c.rows.invariant.read [] (subst (λ (rs : List Row). AreToldOf tests rs []) (sym none) refl))
+    subst (AreToldOf gives tests rows) (append-nil c.rows.verdicts.items)
+    (c.rows.invariant.read [] (subst (λ (rs : List Row). AreToldOf gives tests rs []) (sym none) refl))
+
+pub returns-clause-whole : goal.returns-clause-whole
+returns-clause-whole g c =
+    let wanted = c.args.scan.now.wanted in
+    let none : drop c.rows.next wanted ≡ [] = rw (end_of c.args.rows.now c.rows.row-index c.rows-test.false)
+    at c.rows.invariant.rest in
+    none_untaken c.rows.state wanted c.rows.invariant.of_scan
+    (λ j l. c.rows.invariant.so_far j (omega (arith, l, none_after wanted c.rows.next none)))
 
 pub returns-clause-kept : goal.returns-clause-kept
 returns-clause-kept g c = λ none. c.rows.invariant.kept c.requires.by none

@@ -1,9 +1,10 @@
-use Rattle.std.proofs.Common.{◌≡◌, ◌≤◌, ◌-◌, ◌++◌, List, drop, filter, length, take}
+use Rattle.std.proofs.Common.{◌≡◌, ◌<◌, ◌≤◌, ◌-◌, ◌++◌, ℕ, true, List, drop, filter, length, take}
 use Rattle.std.specs.Prelude.{Some, Ok}
 use Rattle.ice_desk.proofs.Taking.{filled}
+use Rattle.ice_desk.specs.Given.{IsGiven}
 use Rattle.ice_desk.specs.Wanted.{paths_of}
 use Rattle.ice_desk.specs.Worlds.{EndsAt}
-use Rattle.ice_state.specs.Contents.{IsOf, World, content, no_row}
+use Rattle.ice_state.specs.Contents.{IsOf, World, content, is_row_taken, no_row}
 use Rattle.icescan_text.specs.Reads.{MayEnd, all_present}
 use Rattle.icescan_text.specs.declared.fault.RunFault.{RunFault}
 use Rattle.ice_state.specs.Outcomes.{kept_in}
@@ -30,10 +31,12 @@ invariant-rows g l = record {
       (EndsAt world (g.F.Files.may_fail l.files) (paths_of l.scan.wanted)) ⊥ e;
   present : (world : World) → g.F.Files.world l.files ≡ Some world
       → all_present world (drop l.next l.scan.wanted) ≡ Ok tt → all_present world l.scan.wanted ≡ Ok tt;
-  read : (left : List Verdict) → AreToldOf l.tests (drop l.row-index l.rows) left
-      → AreToldOf l.tests l.rows (l.verdicts.items ++ left);
+  read : (left : List Verdict) → AreToldOf (g.F.Files.gives l.files) l.tests (drop l.row-index l.rows) left
+      → AreToldOf (g.F.Files.gives l.files) l.tests l.rows (l.verdicts.items ++ left);
   none_taken : l.fn.state ≡ untaken (length l.scan.wanted)
       → drop l.next l.state ≡ untaken (length l.scan.wanted - l.next);
   kept : IsScanFor l.tests l.scan → l.fn.state ≡ untaken (length l.scan.wanted)
       → paths_kept l.verdicts.items ≡ paths_of_data (kept_in l.state);
+  given : IsGiven (g.F.Files.gives l.files) l.scan l.fn.state → IsGiven (g.F.Files.gives l.files) l.scan l.state;
+  so_far : (j : ℕ) → j < l.next → is_row_taken l.state j ≡ true;
 }

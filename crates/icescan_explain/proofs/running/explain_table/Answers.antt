@@ -1,6 +1,9 @@
-use Rattle.std.proofs.Common.{◌≡◌, ◌∙◌, ap, rules, sym}
+use Rattle.std.proofs.Common.{◌≡◌, ◌∙◌, List, ap, rules, sym}
 use Rattle.std.specs.Prelude.{Ok}
 use Rattle.std.proofs.lemmas.Result.{err_from_is_err_and, IfErr-weaker}
+use Rattle.ice_filter.specs.declared.bound.Bound.{Bound}
+use Rattle.ice_meta.specs.declared.spec.Spec.{Spec}
+use Rattle.icescan_requests.proofs.GivenPlans.{ok_both, planned_as_selected}
 use Rattle.icescan_explain.specs.Asking.{ice_filter_tests}
 use Rattle.icescan_explain.specs.Columns.{columns_in}
 use Rattle.icescan_explain.specs.Explanations.{tests_for}
@@ -39,14 +42,23 @@ returns-clause-refused g c =
 
 pub returns-clause-read : goal.returns-clause-read
 returns-clause-read g c =
-    let asked = c.in_ok-selected.ensures.selection in
-    let tests : c.in_ok-tests.tests ≡ tests_for asked.0 c.args.request.now = search rules in
+    let gives = g.F.Files.gives c.args.files.now in
+    let found = c.in_ok-selected.selected in
+    let asked = c.in_ok-selected.ensures.given in
+    let columns = columns_in c.args.request.now.filter in
+    let found_tests : c.in_ok-tests.tests ≡ ice_filter_tests found.specs found.filter.parts columns = search rules in
+    let tests : c.in_ok-tests.tests ≡ tests_for asked.selection c.args.request.now = found_tests
+    ∙ ap (λ (specs : List Spec). ice_filter_tests specs found.filter.parts columns) asked.specs_are
+    ∙ ap (λ (filter : Bound). ice_filter_tests asked.selection.specs filter.parts columns) asked.filter_is in
     both_ok c.explain_rows.result _ _ _
-    (λ x told kept. record {
-      selection = asked.0;
-      rows = c.in_ok-selected.selected.rows;
-      asked = asked.1;
+    (λ x told both. record {
+      selection = asked.selection;
+      rows = found.rows;
+      asked = asked.asked;
+      listed = asked.listed;
+      planned = planned_as_selected gives c.args.metadata.now c.args.request.now found x.plan asked both.1;
       told = told;
-      kept = kept;
+      kept = both.0;
     })
-    (rw tests at c.explain_rows.ensures.read) c.explain_rows.ensures.kept
+    (rw tests at c.explain_rows.ensures.read)
+    (ok_both c.explain_rows.result _ _ c.explain_rows.ensures.kept c.explain_rows.ensures.given)

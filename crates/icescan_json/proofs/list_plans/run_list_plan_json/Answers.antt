@@ -2,7 +2,7 @@ use Rattle.std.proofs.Common.{ap}
 use Rattle.std.specs.Prelude.{Err}
 use Rattle.std.proofs.lemmas.Result.{err_from_is_err_and}
 use Rattle.icescan_json.proofs.Listings.{plan_listed, refused_listed}
-use Rattle.icescan_json.proofs.Written.{refused_json, refused_writes_none, writes_json, written_json}
+use Rattle.icescan_json.proofs.Written.{json_that, refused_json, refused_writes_none, writes_json, written_json}
 use Rattle.icescan_json.proofs.list_plans.run_list_plan_json.Goals as goal
 
 pub returns-in_err-plan_list-clause-answers : goal.returns-in_err-plan_list-clause-answers
@@ -30,3 +30,7 @@ pub returns-clause-text : goal.returns-clause-text
 returns-clause-text g c =
     let wrote = c.write_json.ensures in
     writes_json _ c.write_json.result (g.W.Sink.may_fail c.args.output.now) _ _ wrote.all wrote.front
+
+pub returns-clause-given : goal.returns-clause-given
+returns-clause-given g c =
+    json_that _ _ c.write_json.result _ _ (c.in_ok-plan_list.ensures.given, c.new.ensures) c.write_json.ensures.all

@@ -8,7 +8,7 @@ use Rattle.icescan_text.proofs.Enough.{in_range}
 use Rattle.icescan_requests.proofs.Plans.{writes_whoever_works}
 use Rattle.icescan_requests.specs.Plans.{over_all_rows, over_wanted_rows, reads_at}
 use Rattle.icescan_json.proofs.Asked.{same_typed_at}
-use Rattle.icescan_json.proofs.Written.{no_workers_at, refused_json, refused_writes_none, writes_json, written_json}
+use Rattle.icescan_json.proofs.Written.{json_that, no_workers_at, refused_json, refused_writes_none, writes_json, written_json}
 use Rattle.icescan_json.proofs.table_plans.plan_file_json.Goals as goal
 
 pub returns-in_err-workers-clause-workers : goal.returns-in_err-workers-clause-workers
@@ -100,3 +100,7 @@ pub returns-clause-text : goal.returns-clause-text
 returns-clause-text g c =
     let wrote = c.write_json.ensures in
     writes_json c.in_ok-typed.typed c.write_json.result (g.W.Sink.may_fail c.args.output.now) _ _ wrote.all wrote.front
+
+pub returns-clause-given : goal.returns-clause-given
+returns-clause-given g c =
+    json_that _ c.in_ok-typed.typed c.write_json.result _ _ c.in_ok-typed.ensures.given c.write_json.ensures.all

@@ -8,7 +8,7 @@ use Rattle.ice_desk.specs.Worlds.{EndsAt}
 use Rattle.icescan_requests.proofs.Plans.{writes_whoever_works}
 use Rattle.icescan_requests.specs.Plans.{over_all_rows, over_wanted_rows, reads}
 use Rattle.icescan_json.specs.JsonAnswers.{typed_answer_by}
-use Rattle.icescan_json.proofs.Written.{no_workers, refused_by_workers, refused_writes_none, typed_json, writes_json}
+use Rattle.icescan_json.proofs.Written.{json_that, no_workers, refused_by_workers, refused_writes_none, typed_json, writes_json}
 use Rattle.icescan_json.proofs.Written.{written_json}
 use Rattle.icescan_json.proofs.table_plans.run_plan_json_with.Goals as goal
 
@@ -116,3 +116,7 @@ returns-clause-workers g c =
       λ is. absurd (writes_whoever_works c.write_json.result c.write_json.ensures.causes is),
       λ out. absurd (in_range c.args.workers given.1 given.2 out),
     )
+
+pub returns-clause-given : goal.returns-clause-given
+returns-clause-given g c =
+    json_that _ c.in_ok-typed.typed c.write_json.result _ _ c.in_ok-typed.ensures.given c.write_json.ensures.all

@@ -1,7 +1,8 @@
 use Rattle.std.proofs.lemmas.Result.{err_from_is_err_and}
-use Rattle.std.proofs.Common.{◌∙◌, ap}
+use Rattle.std.proofs.Common.{◌∙◌, ap, subst, sym}
 use Rattle.icescan_json.specs.Types.{spec_types}
 use Rattle.std.specs.Prelude.{map}
+use Rattle.icescan_requests.specs.GivenPlans.{IsPlanOfGiven}
 use Rattle.icescan_requests.specs.Plans.{over_wanted_rows}
 use Rattle.icescan_json.proofs.Asked.{refused_typed, typed_found}
 use Rattle.icescan_json.proofs.table_plans.typed_table.Goals as goal
@@ -25,3 +26,14 @@ pub returns-clause-typed : goal.returns-clause-typed
 returns-clause-typed g c =
     let asked = c.in_ok-planned.ensures.selection in
     (asked.0, asked.1, c.in_ok-of.ensures.types ∙ ap (map spec_types) asked.2)
+
+pub returns-clause-given : goal.returns-clause-given
+returns-clause-given g c =
+    let asked = c.in_ok-planned.ensures.selection in
+    record {
+      planned = subst (IsPlanOfGiven (g.F.Files.gives c.args.files.now) c.args.metadata.now c.args.request.now)
+          (sym c.in_ok-of.ensures.plan) c.in_ok-planned.ensures.given;
+      selection = asked.0;
+      asked = asked.1;
+      types_are = c.in_ok-of.ensures.types ∙ ap (map spec_types) asked.2;
+    }

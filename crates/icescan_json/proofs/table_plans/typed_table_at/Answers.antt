@@ -1,4 +1,7 @@
+use Rattle.std.proofs.Common.{◌∙◌, ap, map, subst, sym}
 use Rattle.std.proofs.lemmas.Result.{err_from_is_err_and}
+use Rattle.icescan_json.specs.Types.{spec_types}
+use Rattle.icescan_requests.specs.GivenPlans.{IsPlanOfGiven}
 use Rattle.icescan_json.proofs.Asked.{refused_typed_at, typed_found_at}
 use Rattle.icescan_json.proofs.table_plans.typed_table_at.Goals as goal
 
@@ -17,3 +20,18 @@ returns-clause-found g c =
     typed_found_at world c.args.path.now c.args.request.now c.args.workers.count c.args.workers.some
     c.args.workers.few asked.0 (asked.1 world told) c.in_ok-planned.planned.specs c.in_ok-of.field-0 asked.2
     (rw typed.plan (c.in_ok-planned.ensures.found world told)) typed.types
+
+pub returns-clause-given : goal.returns-clause-given
+returns-clause-given g c =
+    let read = c.in_ok-planned.ensures.given in
+    let asked = read.3 in (
+      read.0,
+      read.1,
+      record {
+        planned = subst (IsPlanOfGiven (g.F.Files.gives c.args.files.now) read.0 c.args.request.now)
+            (sym c.in_ok-of.ensures.plan) read.2;
+        selection = asked.0;
+        asked = asked.1;
+        types_are = c.in_ok-of.ensures.types ∙ ap (map spec_types) asked.2;
+      },
+    )

@@ -6,7 +6,8 @@ use Rattle.std.proofs.lemmas.Result.{err_from_is_err_and}
 use Rattle.std.specs.Io.KnownBytes.{Consumes}
 use Rattle.std.specs.Prelude.{IfSome}
 use Rattle.icescan_requests.specs.Bundles.{bundle_of}
-use Rattle.icescan_requests.proofs.Inputs.{bundle_found, bundle_refused, input_ends, input_goes_on, input_is, refused_text}
+use Rattle.icescan_requests.proofs.Inputs.{bundle_found, bundle_refused, input_ends, input_goes_on, input_is}
+use Rattle.icescan_requests.proofs.Inputs.{refused_text}
 use Rattle.icescan_requests.proofs.bundle_text.read_lines.Goals as goal
 
 pub returns-in_err-count-clause-refused : goal.returns-in_err-count-clause-refused

@@ -2,7 +2,8 @@ use Rattle.std.proofs.Common.{◌≡◌, subst, sym}
 use Rattle.std.proofs.lemmas.Result.{err_from_is_err_and}
 use Rattle.icescan_text.specs.declared.fault.RunFault.TheVariants as run
 use Rattle.icescan_text.specs.Faults.{of_prepare}
-use Rattle.icescan_requests.proofs.Commits.{IsOfReading, bad_metadata, fault_prepares, not_prepared, prepare_reads_nothing}
+use Rattle.icescan_requests.proofs.Commits.{IsOfReading, bad_metadata, fault_prepares, not_prepared}
+use Rattle.icescan_requests.proofs.Commits.{prepare_reads_nothing}
 use Rattle.icescan_requests.proofs.Commits.{prepared}
 use Rattle.icescan_requests.proofs.committing.prepare_from.Goals as goal
 

@@ -33,3 +33,13 @@ returns-clause-refused g c =
     at (c.plan_rows.ensures.refused world told) in
     IfErr-weaker c.plan_rows.result _ _
     (no_listed_plan (g.F.Files.may_fail c.args.files.now) world c.args.list.now rows has same) ran
+
+pub returns-clause-given : goal.returns-clause-given
+returns-clause-given g c =
+    let ran = rw (c.in_ok-specs_of.ensures, c.deref.ensures.value, c.from_vec.ensures, c.always.ensures.parts)
+    at c.plan_rows.ensures.given in
+    IfOk-weaker c.plan_rows.result _ _ (λ plan is. record {
+      rows = c.in_ok-rows.rows.items;
+      listed = c.in_ok-rows.ensures.given;
+      planned = is;
+    }) ran

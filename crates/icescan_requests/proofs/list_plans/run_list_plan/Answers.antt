@@ -1,6 +1,7 @@
 use Rattle.std.proofs.Common.{ap}
 use Rattle.std.specs.Prelude.{Err}
 use Rattle.std.proofs.lemmas.Result.{err_from_is_err_and}
+use Rattle.icescan_requests.proofs.GivenPlans.{wrote_that}
 use Rattle.icescan_requests.proofs.Plans.{refused_plan, writes_no_plan, writes_plan, written_plan}
 use Rattle.icescan_requests.proofs.list_plans.run_list_plan.Goals as goal
 
@@ -29,3 +30,7 @@ returns-clause-text g c =
     let wrote = c.write_plan.ensures in
     writes_plan c.in_ok-plan.plan c.write_plan.result _ _ (rw c.lines.ensures at wrote.all)
     (rw c.lines.ensures at wrote.front)
+
+pub returns-clause-given : goal.returns-clause-given
+returns-clause-given g c = wrote_that _ c.in_ok-plan.plan c.write_plan.result _ _ c.in_ok-plan.ensures.given
+    (rw c.lines.ensures at c.write_plan.ensures.all)

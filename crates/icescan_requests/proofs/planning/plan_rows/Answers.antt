@@ -1,4 +1,7 @@
+use Rattle.std.proofs.Common.{length, subst, sym}
 use Rattle.std.proofs.lemmas.Result.{err_from_is_err_and}
+use Rattle.ice_desk.proofs.Given.{none_given}
+use Rattle.ice_desk.specs.Given.{IsGiven}
 use Rattle.ice_state.specs.Contents.{no_row}
 use Rattle.icescan_requests.proofs.Plans.{no_plan, no_scan, not_taken, plan_there}
 use Rattle.icescan_text.proofs.Steps.{each_present, nothing_taken, untaken_all}
@@ -47,3 +50,18 @@ returns-clause-found g c =
     (nothing_taken world scan c.in_ok-state.state (c.in_ok-state.ensures.world world)) in
     plan_there (g.F.Files.may_fail c.args.files.now) ⊥ world c.args.selected.specs c.args.selected.filter.parts c.args.selected.rows
     scan c.in_ok-scan.ensures present c.in_ok-into_plan.field-0 (rw taken.is at c.in_ok-into_plan.ensures.outcome)
+
+pub returns-clause-given : goal.returns-clause-given
+returns-clause-given g c =
+    let scan = c.in_ok-scan.scan in
+    let gives = g.F.Files.gives c.args.files.now in
+    record {
+      scan = scan;
+      scan_is = c.in_ok-scan.ensures;
+      content = c.take_wanted.new.state;
+      of_scan = c.in_ok-take_wanted.ensures.of_scan;
+      whole = c.in_ok-take_wanted.ensures.whole;
+      given = c.in_ok-take_wanted.ensures.given (subst (IsGiven gives scan) (sym c.in_ok-state.ensures.none)
+          (none_given gives scan scan.wanted (length scan.wanted)));
+      is = c.in_ok-into_plan.ensures.outcome;
+    }

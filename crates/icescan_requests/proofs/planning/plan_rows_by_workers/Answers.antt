@@ -36,3 +36,16 @@ returns-clause-found g c =
     let present = each_present world scan.wanted (c.in_ok-plan_scan.ensures.present world told) in
     plan_there (g.F.Files.may_fail c.args.files.now) ⊥ world c.args.selected.specs c.args.selected.filter.parts c.args.selected.rows
     scan c.in_ok-scan.ensures present c.in_ok-plan_scan.field-0 (c.in_ok-plan_scan.ensures.outcome world told)
+
+pub returns-clause-given : goal.returns-clause-given
+returns-clause-given g c =
+    let ran = c.in_ok-plan_scan.ensures.given in
+    record {
+      scan = c.in_ok-scan.scan;
+      scan_is = c.in_ok-scan.ensures;
+      content = ran.0;
+      of_scan = ran.1;
+      whole = ran.2;
+      given = ran.3;
+      is = ran.4;
+    }

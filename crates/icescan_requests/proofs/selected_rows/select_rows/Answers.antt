@@ -1,4 +1,4 @@
-use Rattle.std.proofs.Common.{◌≡◌, ap, rules}
+use Rattle.std.proofs.Common.{◌≡◌, ap, refl, rules}
 use Rattle.std.specs.Prelude.{Err}
 use Rattle.std.proofs.lemmas.Result.{err_from_is_err_and}
 use Rattle.icescan_requests.proofs.Plans.{no_list, not_asked, request_is_no_write, rows_selected}
@@ -36,3 +36,16 @@ returns-clause-found g c =
     rw c.from_vec.ensures
     (rows_selected (g.F.Files.may_fail c.args.files.now) world c.args.metadata.now c.args.request.now selection
     c.in_ok-list.ensures.gives c.in_ok-rows.rows.items has)
+
+pub returns-clause-given : goal.returns-clause-given
+returns-clause-given g c =
+    let selection = c.in_ok-list.field-0 in
+    let list : c.as_str.result.now ≡ selection.list = search rules in
+    let listed = rw list at c.in_ok-rows.ensures.given in
+    record {
+      selection = selection;
+      asked = c.in_ok-list.ensures.gives;
+      listed = rw c.from_vec.ensures listed;
+      specs_are = refl;
+      filter_is = refl;
+    }

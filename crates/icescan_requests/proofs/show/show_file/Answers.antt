@@ -1,4 +1,4 @@
-use Rattle.std.proofs.Common.{ap, sym, ◌∙◌}
+use Rattle.std.proofs.Common.{ap, sym, ◌∙◌, List, ℕ, Some, subst}
 use Rattle.std.specs.Prelude.{Ok}
 use Rattle.std.proofs.lemmas.Result.{err_from_is_err_and, IfOk-weaker, IfErr-weaker}
 use Rattle.icescan_requests.proofs.Shows.{bytes_end, file_ends, shown_there}
@@ -31,3 +31,9 @@ returns-clause-front g c =
     let same = shown_there world c.args.path.now c.deref.result.now has in
     let w = c.run_show.ensures.front failed in
     (w.0, same ∙ w.1, w.2)
+
+pub returns-clause-given : goal.returns-clause-given
+returns-clause-given g c =
+    let read = subst (λ (bytes : List ℕ). g.F.Files.gives c.args.files.now c.args.path.now (Some bytes))
+    (sym c.deref.ensures.value) c.in_ok-bytes.ensures.given in
+    IfOk-weaker c.run_show.result _ _ (λ _ w. (c.deref.result.now, read, w)) c.run_show.ensures.written

@@ -1,5 +1,6 @@
 use Rattle.std.proofs.Common.{◌∙◌}
 use Rattle.std.proofs.lemmas.Result.{err_from_is_err_and}
+use Rattle.icescan_requests.proofs.GivenPlans.{plan_of_selected}
 use Rattle.icescan_requests.proofs.Plans.{answer_there, no_plan_found, no_rows_found}
 use Rattle.icescan_requests.proofs.table_plans.plan_table.Goals as goal
 
@@ -28,3 +29,8 @@ pub returns-clause-selection : goal.returns-clause-selection
 returns-clause-selection g c =
     let asked = c.in_ok-selected.ensures.selection in
     (asked.0, asked.1, c.in_ok-specs.ensures ∙ (c.as_slice.ensures ∙ asked.2))
+
+pub returns-clause-given : goal.returns-clause-given
+returns-clause-given g c =
+    plan_of_selected (g.F.Files.gives c.args.files.now) c.args.metadata.now c.args.request.now
+    c.in_ok-selected.selected c.in_ok-plan.plan c.in_ok-selected.ensures.given c.in_ok-plan.ensures.given

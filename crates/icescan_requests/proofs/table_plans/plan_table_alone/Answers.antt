@@ -1,5 +1,6 @@
 use Rattle.std.proofs.Common.{◌∙◌}
 use Rattle.std.proofs.lemmas.Result.{err_from_is_err_and, IfErr-weaker, IfOk-weaker}
+use Rattle.icescan_requests.proofs.GivenPlans.{plan_of_selected}
 use Rattle.icescan_requests.proofs.Plans.{answer_there, no_plan_found, no_rows_found}
 use Rattle.icescan_requests.proofs.table_plans.plan_table_alone.Goals as goal
 
@@ -23,3 +24,9 @@ returns-clause-refused g c =
     IfErr-weaker c.plan_rows.result _ _
     (no_plan_found (g.F.Files.may_fail c.args.files.now) world c.args.metadata.now c.args.request.now
     c.in_ok-selected.selected (c.in_ok-selected.ensures.found world told)) (c.plan_rows.ensures.refused world told)
+
+pub returns-clause-given : goal.returns-clause-given
+returns-clause-given g c =
+    IfOk-weaker c.plan_rows.result _ _ (λ plan planned. plan_of_selected (g.F.Files.gives c.args.files.now)
+    c.args.metadata.now c.args.request.now c.in_ok-selected.selected plan c.in_ok-selected.ensures.given planned)
+    c.plan_rows.ensures.given

@@ -1,6 +1,7 @@
-use Rattle.std.proofs.Common.{◌∙◌, ap, sym}
+use Rattle.std.proofs.Common.{◌∙◌, ap, sym, List, ℕ, Some, subst}
 use Rattle.std.specs.Prelude.{Ok}
 use Rattle.std.proofs.lemmas.Result.{err_from_is_err_and, IfErr-weaker, IfOk-weaker}
+use Rattle.icescan_requests.proofs.GivenPlans.{ok_both}
 use Rattle.icescan_requests.proofs.Plans.{answer_behind, no_metadata, no_plan_behind}
 use Rattle.icescan_requests.proofs.table_plans.plan_table_at.Goals as goal
 
@@ -36,3 +37,10 @@ returns-clause-selection g c =
       (λ world told. c.in_ok-metadata.ensures.found world told ∙ ap Ok (sym c.deref.ensures.value)),
       asked,
     )) c.plan_table.ensures.selection
+
+pub returns-clause-given : goal.returns-clause-given
+returns-clause-given g c =
+    let read = subst (λ (bytes : List ℕ). g.F.Files.gives c.args.files.now c.args.path.now (Some bytes))
+    (sym c.deref.ensures.value) c.in_ok-metadata.ensures.given in
+    IfOk-weaker c.plan_table.result _ _ (λ planned is. (c.deref.result.now, read, is.0, is.1))
+    (ok_both c.plan_table.result _ _ c.plan_table.ensures.given c.plan_table.ensures.selection)

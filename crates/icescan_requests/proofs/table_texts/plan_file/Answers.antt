@@ -4,6 +4,8 @@ use Rattle.std.proofs.lemmas.Result.{err_from_is_err_and, on_ok_weaker}
 use Rattle.icescan_text.specs.declared.fault.RunFault.TheVariants as run
 use Rattle.icescan_text.proofs.Enough.{in_range}
 use Rattle.icescan_requests.specs.Plans.{over_all_rows, over_wanted_rows}
+use Rattle.icescan_requests.proofs.GivenPlans.{wrote_that}
+use Rattle.icescan_requests.specs.GivenPlans.{IsPlanOfGivenAt}
 use Rattle.icescan_requests.proofs.Plans.{answers_as, no_workers_at, refused_plan, same_answer_at, writes_no_plan}
 use Rattle.icescan_requests.proofs.Plans.{writes_plan, writes_whoever_works, written_plan}
 use Rattle.icescan_requests.proofs.table_texts.plan_file.Goals as goal
@@ -105,3 +107,10 @@ pub returns-clause-selection : goal.returns-clause-selection
 returns-clause-selection g c =
     let read = c.in_ok-planned.ensures.selection in
     on_ok_weaker c.write_plan_by_workers.result (λ _. (read.0, read.2.0, read.2.1)) c.write_plan_by_workers.ensures.all
+
+pub returns-clause-given : goal.returns-clause-given
+returns-clause-given g c =
+    let read = c.in_ok-planned.ensures.given in
+    wrote_that (IsPlanOfGivenAt (g.F.Files.gives c.args.files.now) c.args.path.now c.args.request.now)
+    c.in_ok-planned.planned.plan c.write_plan_by_workers.result _ _
+    (record { metadata = read.0; read = read.1; planned = read.2 }) (rw c.lines.ensures at c.write_plan_by_workers.ensures.all)

@@ -3,6 +3,7 @@ use Rattle.std.specs.Prelude.{Err}
 use Rattle.std.proofs.lemmas.Result.{err_from_is_err_and}
 use Rattle.icescan_text.specs.declared.fault.RunFault.TheVariants as run
 use Rattle.icescan_text.proofs.Enough.{enough, in_range}
+use Rattle.icescan_requests.proofs.GivenPlans.{wrote_that}
 use Rattle.icescan_requests.proofs.Plans.{answers_as, no_workers, refused_plan, writes_no_plan, writes_plan}
 use Rattle.icescan_requests.proofs.Plans.{writes_whoever_works, written_plan}
 use Rattle.icescan_requests.proofs.table_texts.run_plan_with.Goals as goal
@@ -97,3 +98,7 @@ returns-clause-text g c =
     let wrote = c.write_plan_by_workers.ensures in
     writes_plan c.in_ok-planned.planned.plan c.write_plan_by_workers.result _ _ (rw c.lines.ensures at wrote.all)
     (rw c.lines.ensures at wrote.front)
+
+pub returns-clause-given : goal.returns-clause-given
+returns-clause-given g c = wrote_that _ c.in_ok-planned.planned.plan c.write_plan_by_workers.result _ _ c.in_ok-planned.ensures.given
+    (rw c.lines.ensures at c.write_plan_by_workers.ensures.all)

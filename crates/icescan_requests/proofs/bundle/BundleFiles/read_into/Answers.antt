@@ -20,3 +20,9 @@ returns-in-None-clause-absent c = λ _. rw (
   ←
       c.in-None.ensures.value,
 ) refl
+
+pub returns-in-Some-clause-given : goal.returns-in-Some-clause-given
+returns-in-Some-clause-given c = returns-in-Some-clause-found c
+
+pub returns-in-None-clause-none_given : goal.returns-in-None-clause-none_given
+returns-in-None-clause-none_given c = returns-in-None-clause-absent c

@@ -1,0 +1,12 @@
+use Rattle.std.proofs.Common.{ap, ◌∙◌, option_and_then}
+use Rattle.icescan_json.specs.PlanJson.{plan_json}
+use Rattle.icescan_json.specs.ToldWhole.{told_whole}
+use Rattle.icescan_json.proofs.ReadBack.{reads_back}
+use Rattle.icescan_json.proofs.Fitting.{plan_fits}
+use Rattle.icescan_json.proofs.TellingsWhole.{whole_told}
+use Rattle.icescan_json.proofs.laws.json_tells_all.Goals as goal
+
+pub returns : goal.returns
+returns c = λ types p fitting placed.
+    let fits = plan_fits types p fitting placed in
+    ap (option_and_then told_whole) (reads_back (plan_json types p) fits.0 fits.1) ∙ whole_told types p placed
