@@ -6,10 +6,12 @@ use Rattle.icescan_audit_findings.specs.Telling.{faults}
 use Rattle.icescan_audit.specs.Audits.{audit_at, audit_reads_at}
 use Rattle.icescan_audit.specs.Texts.{audit_text}
 use Rattle.icescan_audit.specs.declared.audit.Audit.{Audit}
+use Rattle.icescan_columns.specs.Columns.{columns_at}
 use Rattle.icescan_commands.specs.Answers.{Answer, WroteAnswer, WroteAnswerFront, as_answer, as_json, plain}
 use Rattle.icescan_json.specs.JsonAnswers.{typed_answer_at, typed_list_answer}
 use Rattle.icescan_commands.specs.Sources.{Below, Failing, MayFailBelow, failing_bundle, failing_over, failing_place}
 use Rattle.icescan_commands.specs.Sources.{failing_unread, over, world_at}
+use Rattle.icescan_commands.specs.Reading.{GivingBelow, WroteOfGivenBy}
 use Rattle.icescan_commands.specs.Storing.{IsStoredBy, MayFailToPut, Stored}
 use Rattle.icescan_explain.specs.Explanations.{explained_at}
 use Rattle.icescan_explain.specs.Texts.{explanation_text}
@@ -85,9 +87,13 @@ abbrev pub as_explanation : Result Explanation RunFault → Result (List ℕ) Ru
 as_explanation (Ok x) = Ok (explanation_text x)
 as_explanation (Err fault) = Err fault
 
--- the text of the metadata at a path, that of an audit, and that of an explained plan
+-- the text of the metadata at a path, that of the columns that a filter names, that of an audit, and that of an
+-- explained plan
 abbrev pub show_in : World → List ℕ → Result Answer RunFault
 show_in world path = as_answer (shown_at world path)
+
+abbrev pub columns_told : World → List ℕ → Target → Result Answer RunFault
+columns_told world path target = as_answer (columns_at world path target)
 
 abbrev pub audit_in : World → List ℕ → Target → ℕ → Result Answer RunFault
 audit_in world path target workers = as_answer (as_audit (audit_at world path target workers))
@@ -108,6 +114,8 @@ answer_to below (command.Plan source request form workers path) input =
     over below source (λ world. plan_in form world path request workers) input
 answer_to below (command.Commit source request) input = commit_told source request input
 answer_to below (command.Show source path) input = over below source (λ world. show_in world path) input
+answer_to below (command.Columns source target path) input =
+    over below source (λ world. columns_told world path target) input
 answer_to below (command.Audit source target workers path) input =
     over below source (λ world. audit_in world path target workers) input
 answer_to below (command.Explain source request workers path) input =
@@ -128,6 +136,8 @@ failing_of below may_fail (command.Plan source request form workers path) write 
     failing_over below may_fail source (λ world. reads_at world path request) write
 failing_of below may_fail (command.Commit source request) write = failing_bundle write
 failing_of below may_fail (command.Show source path) write =
+    failing_over below may_fail source (λ world. path ∷ []) write
+failing_of below may_fail (command.Columns source target path) write =
     failing_over below may_fail source (λ world. path ∷ []) write
 failing_of below may_fail (command.Audit source target workers path) write =
     failing_over below may_fail source (λ world. audit_reads_at world path target) write
@@ -198,11 +208,12 @@ pub record Told (write_may_fail : Type 0) (errors errors' : Option (List ℕ)) (
   pub front : AppendsFront errors errors' (fault_text fault)
   pub all : (write_may_fail → ⊥) → Appends errors errors' (fault_text fault)
 
--- What a run is given: the files below folders, where they are reported, and where reading them may fail; the files
--- that stores below folders have, and where putting one may fail; what standard input has left, where that is known;
--- what its output and its errors took, and whether a write of either may fail.
+-- What a run is given: the files below folders, where they are reported, what reads of them may give, and where reading
+-- them may fail; the files that stores below folders have, and where putting one may fail; what standard input has left,
+-- where that is known; what its output and its errors took, and whether a write of either may fail.
 pub record Given : Type 1 where
   pub below : Below
+  pub gives : GivingBelow
   pub read_may_fail : MayFailBelow
   pub stored : Stored
   pub put_may_fail : MayFailToPut
@@ -241,6 +252,9 @@ pub record Wrote (given : Given) (asked : Result Command RunFault) (text : List 
   pub silent : left.errors ≡ given.errors
   pub ends : EndsWith given.below asked text left.status
   pub drilled : IsOfDrill asked given.output left.output
+  -- whatever folders report
+  pub of_given : (count : ℕ) × (left.status ≡ status_of_count count)
+      × WroteOfGivenBy given.gives asked count given.output left.output
   pub stored : StoredAs given asked (Ok tt) left
 
 -- The program ended with a fault: it told it, and wrote nothing else but after a failed write, and then a front of the

@@ -2,6 +2,7 @@
 
 ghost use Rattle.std.specs.Prelude.{◌≡◌, ℕ, List, Some, None, Ok, Err, IfOk, IfErr, OnOk, option_map, true};
 ghost use Rattle.icescan_commands.specs.Answers.{as_answer, plain};
+ghost use Rattle.icescan_commands.specs.Reading.{WroteOfGiven};
 ghost use Rattle.icescan_commands.specs.Runs.{IsCount, Ran, answer_to, ended, failing_of, list_in};
 ghost use Rattle.icescan_commands.specs.Sources.{failing_bundle, failing_unread};
 ghost use Rattle.icescan_commands.specs.Storing.{IsStored};
@@ -18,6 +19,7 @@ use crate::table_files::{open_files, watched_files};
 use contract_words::Text;
 use ice_meta::Target;
 use icescan_audit::audit_file;
+use icescan_columns::columns_file;
 use icescan_drill::{Watch, run_drill};
 use icescan_explain::explain_file;
 use icescan_print::{Sink, write_all};
@@ -59,11 +61,13 @@ pub fn list_plan<H, S: Folders, P: Progress, R: Read, W: Sink>(
     output: &mut W,
 ) -> Result<(), RunFault>
     requires { P.may_be_told system.now.progress.now ≡ true }
-    ensures { (text : List ℕ) × IsInput (R.remaining input.old) text ×
+    ensures ran { (text : List ℕ) × IsInput (R.remaining input.old) text ×
         Ran (answer_to (S.below system.now.folders.now) (Command.ListPlan lists.now format) text)
         (failing_of (S.below system.now.folders.now) (S.may_fail system.now.folders.now)
         (Command.ListPlan lists.now format) (W.may_fail output.old))
         result (W.taken output.old) (W.taken output.new) }
+    ensures given { OnOk result (WroteOfGiven (S.gives system.now.folders.now) (Command.ListPlan lists.now format) 0
+        (W.taken output.old) (W.taken output.new)) }
 {
     match lists {
         Lists::Bundle(list) => {
@@ -89,12 +93,14 @@ pub fn plan<H: Threads + Sync, S: Folders + Sync, P: Progress + Sync, R: Read, W
     output: &mut W,
 ) -> Result<(), RunFault>
     requires { P.may_be_told system.now.progress.now ≡ true }
-    ensures { (text : List ℕ) × IsInput (R.remaining input.old) text ×
+    ensures ran { (text : List ℕ) × IsInput (R.remaining input.old) text ×
         Ran (answer_to (S.below system.now.folders.now)
         (Command.Plan table.now.source.now request.now format workers table.now.path.now) text)
         (failing_of (S.below system.now.folders.now) (S.may_fail system.now.folders.now)
         (Command.Plan table.now.source.now request.now format workers table.now.path.now) (W.may_fail output.old))
         result (W.taken output.old) (W.taken output.new) }
+    ensures given { OnOk result (WroteOfGiven (S.gives system.now.folders.now) (Command.Plan table.now.source.now request.now
+        format workers table.now.path.now) 0 (W.taken output.old) (W.taken output.new)) }
 {
     let files = open_files(system, table.source, input)?;
     write_plan(
@@ -116,14 +122,36 @@ pub fn show<H, S: Folders, P: Progress, R: Read, W: Sink>(
     output: &mut W,
 ) -> Result<(), RunFault>
     requires { P.may_be_told system.now.progress.now ≡ true }
-    ensures { (text : List ℕ) × IsInput (R.remaining input.old) text ×
+    ensures ran { (text : List ℕ) × IsInput (R.remaining input.old) text ×
         Ran (answer_to (S.below system.now.folders.now) (Command.Show table.now.source.now table.now.path.now) text)
         (failing_of (S.below system.now.folders.now) (S.may_fail system.now.folders.now)
         (Command.Show table.now.source.now table.now.path.now) (W.may_fail output.old))
         result (W.taken output.old) (W.taken output.new) }
+    ensures given { OnOk result (WroteOfGiven (S.gives system.now.folders.now)
+        (Command.Show table.now.source.now table.now.path.now) 0 (W.taken output.old) (W.taken output.new)) }
 {
     let files = open_files(system, table.source, input)?;
     show_file(system.alloc, &files, table.path.as_str(), output)
+}
+
+/// Writes the columns that a filter of a snapshot of a table names.
+pub fn columns<H, S: Folders, P: Progress, R: Read, W: Sink>(
+    system: &System<'_, H, S, P>,
+    table: &TableAt<'_>,
+    target: &Target,
+    input: &mut R,
+    output: &mut W,
+) -> Result<(), RunFault>
+    requires { P.may_be_told system.now.progress.now ≡ true }
+    ensures { (text : List ℕ) × IsInput (R.remaining input.old) text ×
+        Ran (answer_to (S.below system.now.folders.now)
+        (Command.Columns table.now.source.now target.now table.now.path.now) text)
+        (failing_of (S.below system.now.folders.now) (S.may_fail system.now.folders.now)
+        (Command.Columns table.now.source.now target.now table.now.path.now) (W.may_fail output.old))
+        result (W.taken output.old) (W.taken output.new) }
+{
+    let files = open_files(system, table.source, input)?;
+    columns_file(system.alloc, &files, table.path.as_str(), target, output)
 }
 
 /// Writes the audit of a snapshot of a table, by so many workers, and gives the number of findings that are faults.
@@ -136,7 +164,7 @@ pub fn audit<H: Threads + Sync, S: Folders + Sync, P: Progress + Sync, R: Read, 
     output: &mut W,
 ) -> Result<usize, RunFault>
     requires { P.may_be_told system.now.progress.now ≡ true }
-    ensures { (text : List ℕ) × IsInput (R.remaining input.old) text ×
+    ensures ran { (text : List ℕ) × IsInput (R.remaining input.old) text ×
         Ran (answer_to (S.below system.now.folders.now)
         (Command.Audit table.now.source.now target.now workers table.now.path.now) text)
         (failing_of (S.below system.now.folders.now) (S.may_fail system.now.folders.now)
@@ -144,6 +172,9 @@ pub fn audit<H: Threads + Sync, S: Folders + Sync, P: Progress + Sync, R: Read, 
         (ended result) (W.taken output.old) (W.taken output.new)
         × IfOk result (IsCount (S.below system.now.folders.now)
         (Command.Audit table.now.source.now target.now workers table.now.path.now) text) }
+    ensures given { IfOk result (λ count. WroteOfGiven (S.gives system.now.folders.now)
+        (Command.Audit table.now.source.now target.now workers table.now.path.now) count (W.taken output.old)
+        (W.taken output.new)) }
 {
     let files = open_files(system, table.source, input)?;
     audit_file(
@@ -167,12 +198,15 @@ pub fn explain<H, S: Folders, P: Progress, R: Read, W: Sink>(
     output: &mut W,
 ) -> Result<(), RunFault>
     requires { P.may_be_told system.now.progress.now ≡ true }
-    ensures { (text : List ℕ) × IsInput (R.remaining input.old) text ×
+    ensures ran { (text : List ℕ) × IsInput (R.remaining input.old) text ×
         Ran (answer_to (S.below system.now.folders.now)
         (Command.Explain table.now.source.now request.now workers table.now.path.now) text)
         (failing_of (S.below system.now.folders.now) (S.may_fail system.now.folders.now)
         (Command.Explain table.now.source.now request.now workers table.now.path.now) (W.may_fail output.old))
         result (W.taken output.old) (W.taken output.new) }
+    ensures given { OnOk result (WroteOfGiven (S.gives system.now.folders.now)
+        (Command.Explain table.now.source.now request.now workers table.now.path.now) 0 (W.taken output.old)
+        (W.taken output.new)) }
 {
     let files = open_files(system, table.source, input)?;
     explain_file(

@@ -61,6 +61,7 @@ where
     requires { P.may_be_told system.now.progress.now ≡ true }
     ensures { RanWithHint (record {
       below = S.below system.now.folders.now;
+      gives = S.gives system.now.folders.now;
       read_may_fail = S.may_fail system.now.folders.now;
       stored = K.below stores.old;
       put_may_fail = K.below_may_fail stores.old;
@@ -118,6 +119,7 @@ where
         P.may_be_told system.now.progress.now ≡ true }
     ensures { RanWithHint (record {
       below = S.below system.now.folders.now;
+      gives = S.gives system.now.folders.now;
       read_may_fail = S.may_fail system.now.folders.now;
       stored = K.below stores.old;
       put_may_fail = K.below_may_fail stores.old;
@@ -170,6 +172,7 @@ where
     H: Threads + Wait + Watch + Sync,
     ensures { RanWithoutHint (record {
       below = S.below system.now.folders.now;
+      gives = S.gives system.now.folders.now;
       read_may_fail = S.may_fail system.now.folders.now;
       stored = K.below stores.old;
       put_may_fail = K.below_may_fail stores.old;
@@ -216,6 +219,7 @@ where
     ensures line { hints terminals.errors (map string_bytes words.now) ≡ false →
         RanWithoutHint (record {
           below = S.below system.now.folders.now;
+          gives = S.gives system.now.folders.now;
           read_may_fail = S.may_fail system.now.folders.now;
           stored = K.below stores.old;
           put_may_fail = K.below_may_fail stores.old;
@@ -235,6 +239,7 @@ where
     // In any case: that, but that a text without control characters may stand after the line of a fault.
     ensures run { RanWithHint (record {
       below = S.below system.now.folders.now;
+      gives = S.gives system.now.folders.now;
       read_may_fail = S.may_fail system.now.folders.now;
       stored = K.below stores.old;
       put_may_fail = K.below_may_fail stores.old;

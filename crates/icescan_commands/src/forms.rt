@@ -1,7 +1,8 @@
 //! Plans in the form that is asked for.
 
-ghost use Rattle.std.specs.Prelude.{◌≡◌, Some};
+ghost use Rattle.std.specs.Prelude.{◌≡◌, Some, OnOk};
 ghost use Rattle.icescan_commands.specs.Answers.{GivesAnswer};
+ghost use Rattle.icescan_commands.specs.Reading.{WroteListPlan, WrotePlanAt};
 ghost use Rattle.icescan_commands.specs.Runs.{list_plan_in, plan_in};
 ghost use Rattle.ice_desk.specs.Worlds.{EndsAt};
 ghost use Rattle.icescan_requests.specs.ListPlans.{list_reads};
@@ -32,6 +33,9 @@ pub fn write_list_plan<F: Files, W: Sink>(
         (W.may_fail output.old) result (W.taken output.old) (W.taken output.new) }
     ensures refusal { OnRefusal (F.world files.now) (F.may_fail files.now) (W.may_fail output.old) result
         (W.taken output.old) (W.taken output.new) }
+    // Over all files: what is written is made of bytes that reads gave.
+    ensures given { OnOk result (WroteListPlan (F.gives files.now) list.now format (W.taken output.old)
+        (W.taken output.new)) }
 {
     match format {
         Format::Text => run_list_plan(alloc, files, list, output),
@@ -55,6 +59,9 @@ pub fn write_plan<H: Threads + Sync, S, P, F: Files + Sync, W: Sink>(
         (W.may_fail output.old) result (W.taken output.old) (W.taken output.new) }
     ensures refusal { OnRefusal (F.world files.now) (F.may_fail files.now) (W.may_fail output.old) result
         (W.taken output.old) (W.taken output.new) }
+    // Over all files: what is written is made of bytes that reads gave.
+    ensures given { OnOk result (WrotePlanAt (F.gives files.now) path.now request.now format (W.taken output.old)
+        (W.taken output.new)) }
 {
     let host = system.host;
     let alloc = system.alloc;

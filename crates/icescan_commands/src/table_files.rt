@@ -1,6 +1,7 @@
 //! The files of a table.
 
 ghost use Rattle.std.specs.Prelude.{◌≡◌, ℕ, List, IfErr, IfOk, true};
+ghost use Rattle.icescan_commands.specs.Reading.{AreGivenBelow};
 ghost use Rattle.icescan_commands.specs.Sources.{AreOf, IsNoBundle};
 ghost use Rattle.icescan_requests.specs.Bundles.{IsInput};
 
@@ -23,9 +24,11 @@ pub enum TableFiles<F> {
 }
 
 impl<F: Files> Files for TableFiles<F> {
-    ghost use Rattle.icescan_commands.specs.TablesFiles.{may_fail_of, world_of};
+    ghost use Rattle.icescan_commands.specs.TablesFiles.{gives_of, may_fail_of, world_of};
 
     ghost world = { λ files. world_of F.world files };
+
+    ghost gives = { λ files. gives_of F.gives files };
 
     ghost may_fail = { λ files. may_fail_of F.may_fail files };
 
@@ -77,6 +80,8 @@ pub fn open_files<'a, H, S: Folders, P: Progress, R: Read>(
         (⟦<TableFiles<Watched<'a, Below<'a, S>, P>> as Files>⟧.may_fail files)) }
     ensures refused { IfErr result (λ fault. (text : List ℕ) × IsInput (R.remaining input.old) text ×
         IsNoBundle source.now text fault) }
+    ensures given { IfOk result (λ files. AreGivenBelow (S.gives system.now.folders.now) source.now
+        (⟦<TableFiles<Watched<'a, Below<'a, S>, P>> as Files>⟧.gives files)) }
 {
     match source {
         Source::Bundle => Ok(TableFiles::Bundle(read_bundle(system.alloc, input)?)),

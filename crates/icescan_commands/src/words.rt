@@ -2,6 +2,7 @@
 
 ghost use Rattle.std.specs.Prelude.{◌≡◌, ◌⊎◌, ℕ, List, Option, Result, Ok, map, string_bytes, IfOk, OnOk, true};
 ghost use Rattle.icescan_requests.specs.Bundles.{IsInput};
+ghost use Rattle.icescan_commands.specs.Reading.{WroteOfGiven, WroteOfGivenBy};
 ghost use Rattle.icescan_commands.specs.Runs.{IsCount, IsCountOf, IsOfDrill, Ran, RanWithoutHint, answer_to, ended};
 ghost use Rattle.icescan_commands.specs.Runs.{failing_of, failing_run, run_of, status_of_count};
 ghost use Rattle.icescan_commands.specs.Storing.{IsStored, IsStoredBy};
@@ -9,7 +10,7 @@ ghost use Rattle.icescan_words.specs.CommandLines.{ReadAs};
 ghost use Rattle.icescan_words.specs.declared.command.Command.{Command};
 ghost use Rattle.icescan_text.specs.declared.fault.RunFault.{RunFault};
 
-use crate::arms::{TableAt, audit, commit, drill, explain, list_plan, plan, show, tell};
+use crate::arms::{TableAt, audit, columns, commit, drill, explain, list_plan, plan, show, tell};
 use crate::system::System;
 use icescan_drill::Watch;
 use icescan_print::Sink;
@@ -52,6 +53,8 @@ where
     ensures stored { IsStored asked.now (S.below system.now.folders.now)
         (S.may_fail system.now.folders.now) (K.below stores.old) (K.below_may_fail stores.old) (W.may_fail output.old)
         (ended result) (K.below stores.new) (K.files stores.new) (W.taken output.old) (W.taken output.new) }
+    ensures given { IfOk result (λ count. WroteOfGiven (S.gives system.now.folders.now) asked.now count
+        (W.taken output.old) (W.taken output.new)) }
 {
     match asked {
         Command::ListPlan(lists, format) => {
@@ -67,6 +70,10 @@ where
         Command::Show(source, path) => {
             let table = &TableAt { source, path };
             no_findings(show(system, table, input, output))
+        }
+        Command::Columns(source, target, path) => {
+            let table = &TableAt { source, path };
+            no_findings(columns(system, table, target, input, output))
         }
         Command::Audit(source, target, workers, path) => {
             let table = &TableAt { source, path };
@@ -97,6 +104,8 @@ where
         IsStoredBy asked (S.below system.now.folders.now)
         (S.may_fail system.now.folders.now) (K.below stores.old) (K.below_may_fail stores.old) (W.may_fail output.old)
         (ended result) (K.below stores.new) (K.files stores.new) (W.taken output.old) (W.taken output.new) ×
+        IfOk result (λ count. WroteOfGivenBy (S.gives system.now.folders.now) asked count (W.taken output.old)
+        (W.taken output.new)) ×
         (text : List ℕ) × IsInput (R.remaining input.old) text ×
         Ran (run_of (S.below system.now.folders.now) asked text)
         (failing_run (S.below system.now.folders.now) (S.may_fail system.now.folders.now) asked
@@ -135,6 +144,7 @@ where
     // or memory, reading or writing failed.
     ensures run { RanWithoutHint (record {
       below = S.below system.now.folders.now;
+      gives = S.gives system.now.folders.now;
       read_may_fail = S.may_fail system.now.folders.now;
       stored = K.below stores.old;
       put_may_fail = K.below_may_fail stores.old;

@@ -15,6 +15,7 @@ pub fn place_of(asked: &Command) -> Option<&Place> {
         Command::Plan(Source::Folder(place), _, _, _, _) => Some(place),
         Command::Commit(Source::Folder(place), _) => Some(place),
         Command::Show(Source::Folder(place), _) => Some(place),
+        Command::Columns(Source::Folder(place), _, _) => Some(place),
         Command::Audit(Source::Folder(place), _, _, _) => Some(place),
         Command::Explain(Source::Folder(place), _, _, _) => Some(place),
         _ => None,
@@ -39,6 +40,7 @@ impl<'a, F: Files> Case<'a, F> {
         match self.asked {
             Command::Plan(_, _, _, _, path)
             | Command::Show(_, path)
+            | Command::Columns(_, _, path)
             | Command::Audit(_, _, _, path)
             | Command::Explain(_, _, _, path) => Some(path.as_str()),
             Command::Commit(_, request) => Some(request.metadata.as_str()),
@@ -62,7 +64,7 @@ impl<'a, F: Files> Case<'a, F> {
             Command::Plan(_, request, _, _, _) | Command::Explain(_, request, _, _) => {
                 Some(&request.target)
             }
-            Command::Audit(_, target, _, _) => Some(target),
+            Command::Columns(_, target, _) | Command::Audit(_, target, _, _) => Some(target),
             _ => None,
         }
     }

@@ -1,5 +1,6 @@
 -- Lemmas on the texts of ranges of a plan's lines.
-use Rattle.std.proofs.Common.{◌≡◌, ◌≤◌, ◌<◌, ◌+◌, ◌-◌, ◌*◌, add-one, ℕ, zero, suc, List, [], ◌∷◌, ◌++◌, arith, length, take, drop, slice_get}
+use Rattle.std.proofs.Common.{◌≡◌, ◌≤◌, ◌<◌, ◌+◌, ◌-◌, ◌*◌, add-one, ℕ, zero, suc, List, [], ◌∷◌, ◌++◌, arith, length}
+use Rattle.std.proofs.Common.{take, drop, slice_get}
 use Rattle.std.proofs.Common.{Option, get_or, subst, Some, refl, sym, ap, ◌∙◌, append_assoc, min, ◌⊎◌, inl, inr}
 use Rattle.std.proofs.lemmas.Bool.{cases_lt}
 use Rattle.std.specs.List.{flat_map}

@@ -1,6 +1,7 @@
 //! The text of a plan's lines, made by many threads at once and handed on in order.
 
-ghost use Rattle.std.specs.Prelude.{◌≡◌, ◌<◌, ◌≤◌, ◌*◌, ◌+◌, ◌^◌, ℕ, List, Some, IfOk, OnOk, IfSome, length, sum_by, vec_len};
+ghost use Rattle.std.specs.Prelude.{◌≡◌, ◌<◌, ◌≤◌, ◌*◌, ◌+◌, ◌^◌, ℕ, List, Some, IfOk, OnOk, IfSome, length, sum_by};
+ghost use Rattle.std.specs.Prelude.{vec_len};
 ghost use Rattle.std.specs.List.{flat_map};
 ghost use Rattle.std.specs.Thread.{IsSync};
 ghost use Rattle.icescan_print.specs.PlanTexts.{deletes_of, line_text, plan_text};
@@ -14,8 +15,8 @@ use ice_state::Lines;
 use std::alloc::{AllocError, Global};
 use std::thread::{Threads, join_mut};
 
-/// How many bytes of a text are made ahead at most, by each thread. All have to be there to be taken; of them Linux gives
-/// only those that are written to.
+/// How many bytes of a text are made ahead at most, by each thread. All have to be there to be taken; of them Linux
+/// gives only those that are written to.
 const MOST_AHEAD: usize = 8_388_608;
 
 /// Takes nothing: what is on its way there stays on its page, as far as that has room.
@@ -51,8 +52,8 @@ impl Draft {
         })
     }
 
-    /// With the text of so many of a plan's lines from a place on in the place of the one before. It is not whole where it
-    /// is too long to be made ahead.
+    /// With the text of so many of a plan's lines from a place on in the place of the one before. It is not whole where
+    /// it is too long to be made ahead.
     fn with_text(mut self, lines: &Lines<'_>, first: usize, count: usize) -> Draft
         ensures { IsDraftOf (Some result) (range_text lines.now first count) }
     {
@@ -63,8 +64,8 @@ impl Draft {
     }
 }
 
-/// Makes the text of so many of a plan's lines from a place on in a draft. It is taken out for as long: drafts lie side by
-/// side in memory, and threads that write to them there would slow one another.
+/// Makes the text of so many of a plan's lines from a place on in a draft. It is taken out for as long: drafts lie side
+/// by side in memory, and threads that write to them there would slow one another.
 fn make_text(draft: &mut Option<Draft>, lines: &Lines<'_>, first: usize, count: usize)
     ensures { IsDraftOf draft.new (range_text lines.now first count) }
 {
@@ -94,8 +95,9 @@ fn drafts_of(alloc: Global, ranges: usize) -> Result<Vec<Option<Draft>>, AllocEr
     Ok(drafts)
 }
 
-/// Makes the texts of ranges of a plan's lines from a place on, each of so many lines and in a thread of its own. This one
-/// only starts them and waits: a thread that was started often has to wait for the one that started it, while this works.
+/// Makes the texts of ranges of a plan's lines from a place on, each of so many lines and in a thread of its own. This
+/// one only starts them and waits: a thread that was started often has to wait for the one that started it, while this
+/// works.
 #[cycle(texts)]
 fn make_texts<R: Threads + Sync>(
     rt: &R,
@@ -227,9 +229,9 @@ fn put_lines_by_workers<R: Threads + Sync, S: Sink>(
     put_lines(page, sink, lines)
 }
 
-/// The same as `put_plan`, the text of the lines made by so many threads at once, from 1 to 64, each of so many lines at
-/// a time, from 1 to 65,536. At most 8 MB a thread are made before they are sent, for which room is taken at the start;
-/// a longer text is sent as it is made, and so are all where there is no such room.
+/// The same as `put_plan`, the text of the lines made by so many threads at once, from 1 to 64, each of so many lines
+/// at a time, from 1 to 65,536. At most 8 MB a thread are made before they are sent, for which room is taken at the
+/// start; a longer text is sent as it is made, and so are all where there is no such room.
 #[tactic(auto, unfolding(crate::specs::PlanTexts::plan_text))]
 pub fn put_plan_by_workers<R: Threads + Sync, S: Sink>(
     rt: &R,

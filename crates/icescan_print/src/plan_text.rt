@@ -3,7 +3,8 @@
 ghost use Rattle.std.specs.Prelude.{◌≡◌, ◌∷◌, sum_by};
 ghost use Rattle.std.specs.List.{flat_map};
 ghost use Rattle.std.specs.Fmt.{signed_decimal};
-ghost use Rattle.icescan_print.specs.PlanTexts.{totals_text, ids_text, numbered_path, size_text, file_text, position_text};
+ghost use Rattle.icescan_print.specs.PlanTexts.{totals_text, ids_text, numbered_path, size_text, file_text};
+ghost use Rattle.icescan_print.specs.PlanTexts.{position_text};
 ghost use Rattle.icescan_print.specs.PlanTexts.{equality_text};
 ghost use Rattle.icescan_print.specs.PlanTexts.{totals_text, line_text, deletes_of, plan_text};
 ghost use Rattle.icescan_print.specs.Ranges.{range_text};

@@ -3,7 +3,8 @@
 ghost use Rattle.std.specs.Prelude.{◌≡◌, ◌++◌, ℕ, List, codes};
 ghost use Rattle.std.specs.Cmp.{IsTotalOrder};
 ghost use Rattle.std.specs.declared.cmp.Ordering.{Ordering};
-ghost use Rattle.icescan_print.specs.TableTexts.{counted_line, named_id, named_text, change_text, origin_text, kind_name};
+ghost use Rattle.icescan_print.specs.TableTexts.{counted_line, named_id, named_text, change_text, origin_text};
+ghost use Rattle.icescan_print.specs.TableTexts.{kind_name};
 ghost use Rattle.icescan_print.specs.Written.{Sent};
 
 use crate::page::Page;

@@ -30,8 +30,8 @@ impl Progress for Silent {
     fn clear(&self) {}
 }
 
-/// Files of which each read is told. They tell the world of the files themselves, and a read of them may fail where one
-/// of those may.
+/// Files of which each read is told. They tell the world of the files themselves, and a read of them gives what one
+/// of those may give, and may fail where that may.
 #[derive(Drop)]
 pub struct Watched<'a, F, P: Progress> {
     files: F,
@@ -51,6 +51,8 @@ impl<'a, F: Files, P: Progress> Watched<'a, F, P> {
 
 impl<F: Files, P: Progress> Files for Watched<'_, F, P> {
     ghost world = { λ watched. F.world watched.files };
+
+    ghost gives = { λ watched. F.gives watched.files };
 
     ghost may_fail = { λ watched. F.may_fail watched.files };
 

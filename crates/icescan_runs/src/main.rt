@@ -32,6 +32,9 @@
 //! - an append under three specs, whose manifests, list and metadata are printed byte by byte: names of partition
 //!   fields as Avro spells them, or by id where two would be alike; no summaries where a uuid stands; a uuid with
 //!   hyphens
+//! - a row delta with partition values of each type and both kinds of deletes, whose manifests and list are those that
+//!   Avro's Java library wrote (`tools/interop/manifests_by_java.py`), byte by byte, and its plan as JSON; a decimal is
+//!   refused
 //! - audits: of `data/audits`, each table with the finding that it is named after; of the tables from before; of
 //!   `data/together`, which has the files of `data/audits/together` below a folder and ends with status 1. What is
 //!   expected was computed by a program in another language, from what the tables were written with
@@ -39,6 +42,8 @@
 //!   that is never met, as that program computed it from the files too
 //! - plans as JSON: of `id = 42`, with the delete files that its explanation keeps, and of lists, as that program made them;
 //!   a refusal is that of the text
+//! - columns that a filter names, of `data/events` and of `data/columns`, a table without snapshots whose columns have
+//!   names and types of each form
 //! - refusals with `--explain`, over `data/hints`, which `tools/trials/refusals.py make` writes: below each line what it is
 //!   about and what to do
 #![tactic(auto)]

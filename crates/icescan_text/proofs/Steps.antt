@@ -233,6 +233,11 @@ module _ (world : World) (f : List ℕ → Type 0) where
   stops_end rows (wanted.Device path) h = h
   stops_end rows wanted.Memory h = tt
 
+-- the rows that a list's bytes have
+pub rows_read : (bytes : List ℕ) (rows : List Row) → rows_of bytes ≡ Ok rows → rows_in bytes ≡ Ok rows
+unfolding rows_in
+rows_read bytes rows is = ap (as_run of_list) is
+
 -- the rows of a list
 module _ (f : List ℕ → Type 0) (world : World) (path : List ℕ) where
   pub no_file : (e : RunFault) → MayEnd (file_in world path) (EndsAt world f (path ∷ [])) ⊥ e

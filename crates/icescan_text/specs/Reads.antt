@@ -1,6 +1,7 @@
 -- What is read of a table's files, and what a run makes of the faults of its parts.
 use Rattle.std.specs.Prelude.{◌≡◌, ℕ, List, [], ◌∷◌, Option, Some, None, Result, Ok, Err}
 use Rattle.contract_words.specs.Outcome.{◌>>=◌}
+use Rattle.ice_desk.specs.Given.{Giving}
 use Rattle.ice_manifest_reading.specs.declared.row.Row.{Row}
 use Rattle.ice_manifest_reading.specs.Lists.{rows_of}
 use Rattle.ice_meta.specs.declared.fault.Member.TheVariants as member
@@ -43,6 +44,10 @@ rows_in bytes = as_run of_list (rows_of bytes)
 -- the rows of the manifest list at a path
 unfoldable pub rows_at : World → List ℕ → Result (List Row) RunFault
 rows_at world list = file_in world list >>= rows_in
+
+-- the rows of the manifest list that a read of its path gave
+abbrev pub AreRowsGiven : Giving → List ℕ → List Row → Type 0
+AreRowsGiven gives list rows = (bytes : List ℕ) × gives list (Some bytes) × (rows_in bytes ≡ Ok rows)
 
 -- the manifests of these rows are there, or the first that is absent
 unfoldable pub all_present : World → List Row → Result Unit RunFault

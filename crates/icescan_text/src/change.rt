@@ -3,7 +3,8 @@
 ghost use Rattle.std.specs.Prelude.{◌≡◌};
 ghost use Rattle.contract_words.specs.Outcome.{Gives};
 ghost use Rattle.serde_json.specs.View.{items_view, view};
-ghost use Rattle.icescan_text.specs.Changes.{allowed, change_in, change_of, data_file_of, delete_file_of, each, json_of};
+ghost use Rattle.icescan_text.specs.Changes.{allowed, change_in, change_of, data_file_of, delete_file_of, each};
+ghost use Rattle.icescan_text.specs.Changes.{json_of};
 ghost use Rattle.icescan_text.specs.Changes.{text_json};
 
 mod fault;

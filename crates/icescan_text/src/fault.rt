@@ -1,10 +1,12 @@
 //! Why the program ends without an answer.
 
 ghost use Rattle.std.specs.Prelude.{◌≡◌};
-ghost use Rattle.icescan_text.specs.Faults.{of_list, of_scan, of_finish, of_wanted, of_plan, of_meta, of_filter, of_change};
+ghost use Rattle.icescan_text.specs.Faults.{of_list, of_scan, of_finish, of_wanted, of_plan, of_meta, of_filter};
+ghost use Rattle.icescan_text.specs.Faults.{of_change};
 ghost use Rattle.icescan_text.specs.Faults.{of_prepare};
 ghost use Rattle.icescan_text.specs.Faults.{filter_status, change_status, refused_status, status_of};
-ghost use Rattle.icescan_text.specs.Faults.{meta_wants_memory, schema_wants_memory, avro_wants_memory, list_wants_memory};
+ghost use Rattle.icescan_text.specs.Faults.{meta_wants_memory, schema_wants_memory, avro_wants_memory};
+ghost use Rattle.icescan_text.specs.Faults.{list_wants_memory};
 ghost use Rattle.icescan_text.specs.Faults.{manifest_wants_memory, scan_wants_memory, finish_wants_memory};
 ghost use Rattle.icescan_text.specs.Faults.{prepare_wants_memory};
 ghost use Rattle.icescan_text.specs.declared.fault.RunFault.TheVariants as run;

@@ -2,7 +2,8 @@
 
 ghost use Rattle.std.specs.Prelude.{◌++◌};
 ghost use Rattle.ice_meta.specs.Members.{member_name};
-ghost use Rattle.icescan_text.specs.FaultTexts.{schema_text, avro_text, list_text, manifest_text, scan_text, finish_text};
+ghost use Rattle.icescan_text.specs.FaultTexts.{schema_text, avro_text, list_text, manifest_text, scan_text};
+ghost use Rattle.icescan_text.specs.FaultTexts.{finish_text};
 ghost use Rattle.icescan_text.specs.FaultTexts.{meta_text, filter_text, change_text, prepare_text, drill_fault_text};
 ghost use Rattle.icescan_text.specs.FaultTexts.{run_text, line_text, fault_text};
 ghost use Rattle.icescan_print.specs.Written.{Wrote};

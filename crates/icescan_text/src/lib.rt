@@ -1,6 +1,6 @@
 //! What is asked of tables, by how many workers, and why the program ends without an answer, with the line and the
-//! status that tell it; reading files that have to be there; writing a plan; and change files. The texts of plans and tables, and the sinks
-//! that they go to, are in `icescan_print`.
+//! status that tell it; reading files that have to be there; writing a plan; and change files. The texts of plans and
+//! tables, and the sinks that they go to, are in `icescan_print`.
 #![tactic(auto)]
 
 mod change;
@@ -18,6 +18,7 @@ pub use change::{ChangeFault, ChangeKind, ChangeMember, read_change};
 pub use drill::Drill;
 pub use drill_fault::DrillFault;
 pub use fault::RunFault;
+pub use fault_text::put_fault;
 pub use reading::{read_file, read_file_into, read_rows};
 pub use reporting::report;
 pub use request::{CommitRequest, Request};

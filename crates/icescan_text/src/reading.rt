@@ -3,7 +3,7 @@
 ghost use Rattle.std.specs.Prelude.{◌≡◌, ◌≤◌, ℕ, List, ◌∷◌, [], length, Some, None, Ok, IfOk, IfErr, IsErrOf, OnOk};
 ghost use Rattle.ice_desk.specs.Worlds.{EndsAt, HasAt};
 ghost use Rattle.ice_state.specs.Contents.{World};
-ghost use Rattle.icescan_text.specs.Reads.{IsOfFile, MayEnd, file_in, rows_at};
+ghost use Rattle.icescan_text.specs.Reads.{AreRowsGiven, IsOfFile, MayEnd, file_in, rows_at};
 
 use crate::fault::RunFault;
 use contract_words::Text;
@@ -29,6 +29,8 @@ pub fn read_file<F: Files>(alloc: Global, files: &F, path: &str) -> Result<Vec<u
     ensures causes { IfErr result IsOfFile }
     ensures write { IsErrOf result RunFault.Write → ⊥ }
     ensures workers { IsErrOf result RunFault.Workers → ⊥ }
+    ensures given { IfOk result (λ bytes. F.gives files.now path.now (Some bytes.items)) }
+    ensures none_given { (path : List ℕ) → IsErrOf result (RunFault.Absent path) → F.gives files.now path None }
 {
     match files.read(alloc, path) {
         Ok(bytes) => Ok(bytes),
@@ -53,6 +55,8 @@ pub fn read_file_into<F: Files>(
     ensures absent { (path : List ℕ) → IsErrOf result (RunFault.Absent path) → HasAt (F.world files.now) path None }
     ensures device { (path : List ℕ) → IsErrOf result (RunFault.Device path) → F.may_fail files.now path }
     ensures write { IsErrOf result RunFault.Write → ⊥ }
+    ensures given { OnOk result (F.gives files.now path.now (Some bytes.new.items)) }
+    ensures none_given { (path : List ℕ) → IsErrOf result (RunFault.Absent path) → F.gives files.now path None }
 {
     match files.read_into(alloc, path, bytes) {
         Ok(()) => Ok(()),
@@ -73,6 +77,8 @@ pub fn read_rows<F: Files>(alloc: Global, files: &F, list: &str) -> Result<Vec<R
     ensures write { IsErrOf result RunFault.Write → ⊥ }
     ensures few { IfOk result (λ rows. length rows.items ≤ 65536) }
     ensures workers { IsErrOf result RunFault.Workers → ⊥ }
+    ensures given { IfOk result (λ rows. AreRowsGiven (F.gives files.now) list.now rows.items) }
+    ensures none_given { (path : List ℕ) → IsErrOf result (RunFault.Absent path) → F.gives files.now path None }
 {
     let bytes = read_file(alloc, files, list)?;
     Ok(read_list(alloc, &bytes)?)

@@ -10,7 +10,7 @@ use crate::fault_text::put_fault;
 use icescan_print::Sink;
 
 /// Writes the line of a fault, and gives the status that the program ends with. A write that fails is ignored: then a
-/// front of the line was written. It takes no memory, so that want of memory is told too.
+/// front of the line was written. It takes no memory, so that a lack of memory is told too.
 pub fn report<E: Sink>(fault: &RunFault, errors: &mut E) -> u8
     ensures status { result ≡ status_of fault.now }
     ensures front { AppendsFront (E.taken errors.old) (E.taken errors.new) (fault_text fault.now) }

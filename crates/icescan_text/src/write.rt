@@ -11,7 +11,7 @@ use icescan_print::{Page, Sink, count_deletes, put_plan, put_plan_by_workers};
 use std::alloc::Global;
 use std::thread::Threads;
 
-/// Writes the text of a plan and nothing else. It refuses for want of memory, and then nothing was written, or where a
+/// Writes the text of a plan and nothing else. It refuses when out of memory, and then nothing was written, or where a
 /// write fails, and then a front of the text was.
 pub fn write_plan<S: Sink>(alloc: Global, lines: &Lines<'_>, sink: &mut S) -> Result<(), RunFault>
     ensures all { OnOk result (Appends (S.taken sink.old) (S.taken sink.new) (plan_text lines.now)) }

@@ -114,6 +114,7 @@ command_name (command.ListPlan lists form) = codes "list-plan"
 command_name (command.Plan from request form workers path) = codes "plan"
 command_name (command.Commit from request) = name_of request.kind
 command_name (command.Show from path) = codes "show"
+command_name (command.Columns from of path) = codes "columns"
 command_name (command.Audit from of workers path) = codes "audit"
 command_name (command.Explain from request workers path) = codes "explain"
 command_name (command.Drill drill) = codes "drill"
@@ -164,6 +165,7 @@ module _ (words : List (List ℕ)) where
       Names (codes "plan") path × HasSource from × HasRequest request × HasFormat form × HasWorkers workers
   AsksFor (command.Commit from request) = HasCommit request × HasSource from
   AsksFor (command.Show from path) = Names (codes "show") path × HasSource from
+  AsksFor (command.Columns from of path) = Names (codes "columns") path × HasSource from × HasTarget of
   AsksFor (command.Audit from of workers path) =
       Names (codes "audit") path × HasSource from × HasTarget of × HasWorkers workers
   AsksFor (command.Explain from request workers path) =

@@ -41,6 +41,8 @@ pub enum Command {
     Commit(Source, CommitRequest),
     /// The text of the metadata at this path.
     Show(Source, Text),
+    /// The columns that a filter of this snapshot names, of the table whose metadata is at this path.
+    Columns(Source, Target, Text),
     /// The audit, by so many workers, of this snapshot of the table whose metadata is at this path.
     Audit(Source, Target, usize, Text),
     /// The plan, by so many workers, that is asked of the table whose metadata is at this path, explained.

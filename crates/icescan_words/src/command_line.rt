@@ -1,6 +1,7 @@
 //! The command line: its commands, options and help.
 
 use crate::answer_format::with_format;
+use crate::columns_command::columns_command;
 use crate::explain_command::explain_command;
 use crate::help_texts::{
     ABOUT, APPEND_EXAMPLE, AUDIT_EXAMPLE, DRILL_EXAMPLE, LIST_EXAMPLE, PLAN_EXAMPLE,
@@ -65,7 +66,7 @@ fn list_plan_command<'a>(alloc: Global) -> Result<Command<'a>, AllocError> {
 }
 
 /// The options that name a snapshot, at most one of the two ways, with what they are for.
-fn with_target<'a>(
+pub fn with_target<'a>(
     alloc: Global,
     command: Command<'a>,
     by_name: &'a str,
@@ -290,6 +291,7 @@ pub fn program<'a>(alloc: Global) -> Result<Command<'a>, AllocError> {
         .subcommand(append_command(alloc)?)?
         .subcommand(row_delta_command(alloc)?)?
         .subcommand(show_command(alloc)?)?
+        .subcommand(columns_command(alloc)?)?
         .subcommand(audit_command(alloc)?)?
         .subcommand(explain_command(alloc)?)?
         .subcommand(drill_command(alloc)?)

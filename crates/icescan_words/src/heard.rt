@@ -6,7 +6,8 @@ ghost use Rattle.std.specs.List.{after_first, before_first, list_any, starts_wit
 ghost use Rattle.uuid.specs.Text.{parsed};
 ghost use Rattle.icescan_words.specs.Heard.{AsksFor, HasCommit, HasDrill, HasFormat, HasIds, HasRequest, HasSource};
 ghost use Rattle.icescan_words.specs.Heard.{HasTarget, HasWorkers, Names, asks_help, is_equals, list_of, name_of};
-ghost use Rattle.icescan_words.specs.Heard.{option_in, option_items, plain_words, signed, source_of, takes_next, unsigned};
+ghost use Rattle.icescan_words.specs.Heard.{option_in, option_items, plain_words, signed, source_of, takes_next};
+ghost use Rattle.icescan_words.specs.Heard.{unsigned};
 ghost use Rattle.icescan_words.specs.declared.command.Source.TheVariants as source;
 
 use crate::answer_format::{Format, format_by};
@@ -397,6 +398,9 @@ fn asks_with(words: &[String], plain: &[&str], command: &Command) -> bool
             has_commit(words, plain, request) && has_source(words, source)
         }
         Command::Show(source, path) => is_about(words, plain, "show", source, path.as_str()),
+        Command::Columns(source, target, path) => {
+            is_about(words, plain, "columns", source, path.as_str()) && has_target(words, target)
+        }
         Command::Audit(source, target, workers, path) => {
             is_about(words, plain, "audit", source, path.as_str())
                 && has_audit(words, target, *workers)

@@ -2,6 +2,7 @@
 #![tactic(auto)]
 
 mod answer_format;
+mod columns_command;
 mod command;
 mod command_line;
 mod explain_command;

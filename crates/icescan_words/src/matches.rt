@@ -266,6 +266,18 @@ fn show_command(alloc: Global, matches: &ArgMatches<'_>) -> Result<Command, RunF
     ))
 }
 
+/// The columns that are asked for.
+fn columns_command(alloc: Global, matches: &ArgMatches<'_>) -> Result<Command, RunFault>
+    ensures name { IfOk result (λ command. command_name command ≡ codes "columns") }
+    ensures causes { IfErr result IsWordsFault }
+{
+    Ok(Command::Columns(
+        source_of(alloc, matches)?,
+        target_of(alloc, matches)?,
+        required_text(alloc, matches, "metadata")?,
+    ))
+}
+
 /// The audit that is asked for.
 fn audit_command(alloc: Global, matches: &ArgMatches<'_>) -> Result<Command, RunFault>
     ensures name { IfOk result (λ command. command_name command ≡ codes "audit") }
@@ -324,6 +336,7 @@ fn command_of(alloc: Global, matches: &ArgMatches<'_>) -> Result<Command, RunFau
         "plan" => plan_command(alloc, matches),
         "list-plan" => list_plan_command(alloc, matches),
         "show" => show_command(alloc, matches),
+        "columns" => columns_command(alloc, matches),
         "audit" => audit_command(alloc, matches),
         "explain" => explain_command(alloc, matches),
         "append" => commit_command(alloc, matches, ChangeKind::Append),

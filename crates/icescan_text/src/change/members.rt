@@ -5,7 +5,8 @@ ghost use Rattle.contract_words.specs.Outcome.{Gives};
 ghost use Rattle.serde_json.specs.Find.{as_str, get};
 ghost use Rattle.serde_json.specs.View.{items_view, view};
 ghost use Rattle.ice_meta.specs.Members.{all_objects, if_int};
-ghost use Rattle.icescan_text.specs.Changes.{as_bytes, as_cell, as_format, as_int, as_long, as_objects, asked, each, ids_in, ids_of};
+ghost use Rattle.icescan_text.specs.Changes.{as_bytes, as_cell, as_format, as_int, as_long, as_objects, asked, each};
+ghost use Rattle.icescan_text.specs.Changes.{ids_in, ids_of};
 ghost use Rattle.icescan_text.specs.Changes.{needed, referenced_in, there, tuple_in};
 ghost use Rattle.ice_value.specs.declared.cell.Cell.TheVariants as cell;
 

@@ -8,10 +8,11 @@ use Rattle.icescan_text.specs.declared.fault.RunFault.{RunFault}
 use Rattle.icescan_commands.specs.Runs.{audit_in, ended}
 use Rattle.icescan_commands.proofs.Answering.{gives_audited, still_nothing}
 use Rattle.icescan_commands.proofs.Opened.{opened_count, opened_ran, unopened_ran}
+use Rattle.icescan_commands.proofs.Reading.{audit_below}
 use Rattle.icescan_commands.proofs.arms.audit.Goals as goal
 
-pub returns-in_err-files : goal.returns-in_err-files
-returns-in_err-files g c =
+pub returns-in_err-files-clause-ran : goal.returns-in_err-files-clause-ran
+returns-in_err-files-clause-ran g c =
     let p = err_from_is_err_and c.from_residual.result c.from_residual.ensures.1 in
     let no = c.in_err-files.ensures.refused in
     let path = c.args.table.now.path.now in
@@ -27,8 +28,8 @@ returns-in_err-files g c =
       tt,
     )
 
-pub returns : goal.returns
-returns g c =
+pub returns-clause-ran : goal.returns-clause-ran
+returns-clause-ran g c =
     let below = g.S.Folders.below c.args.system.now.folders.now in
     let may_fail = g.S.Folders.may_fail c.args.system.now.folders.now in
     let opened = c.in_ok-files.ensures.opened in
@@ -48,3 +49,11 @@ returns g c =
     (λ count w. subst (λ read. IfOk read (λ (audit : Audit). count ≡ length (faults audit.findings))) (sym w.1) w.2)
     (ran.ensures.written v told)) in
     (opened.0, opened.1, rw c.as_str.ensures at told, rw c.as_str.ensures at counted)
+
+pub returns-clause-given : goal.returns-clause-given
+returns-clause-given g c =
+    let path = c.as_str.result.now in
+    let wrote = audit_below (g.S.Folders.gives c.args.system.now.folders.now) c.args.table.now.source.now _
+    c.in_ok-files.ensures.given path c.args.target.now c.args.workers c.audit_file.result _ _
+    c.audit_file.ensures.given in
+    rw c.as_str.ensures at wrote

@@ -4,10 +4,11 @@ use Rattle.icescan_requests.specs.Plans.{reads_at}
 use Rattle.icescan_commands.specs.Runs.{explain_in}
 use Rattle.icescan_commands.proofs.Answering.{gives_explained}
 use Rattle.icescan_commands.proofs.Opened.{opened_ran, unopened_ran}
+use Rattle.icescan_commands.proofs.Reading.{explain_below}
 use Rattle.icescan_commands.proofs.arms.explain.Goals as goal
 
-pub returns-in_err-files : goal.returns-in_err-files
-returns-in_err-files g c =
+pub returns-in_err-files-clause-ran : goal.returns-in_err-files-clause-ran
+returns-in_err-files-clause-ran g c =
     let p = err_from_is_err_and c.from_residual.result c.from_residual.ensures.1 in
     let no = c.in_err-files.ensures.refused in
     let path = c.args.table.now.path.now in
@@ -22,8 +23,8 @@ returns-in_err-files g c =
           c.in_err-files.field-0.0 no.2,
     )
 
-pub returns : goal.returns
-returns g c =
+pub returns-clause-ran : goal.returns-clause-ran
+returns-clause-ran g c =
     let opened = c.in_ok-files.ensures.opened in
     let path = c.as_str.result.now in
     let ran = c.explain_file in
@@ -35,3 +36,11 @@ returns g c =
     (ran.ensures.written v told) (ran.ensures.refused v told) (ran.ensures.front v told))
     ran.ensures.refusal.nothing in
     (opened.0, opened.1, rw c.as_str.ensures at told)
+
+pub returns-clause-given : goal.returns-clause-given
+returns-clause-given g c =
+    let path = c.as_str.result.now in
+    let wrote = explain_below (g.S.Folders.gives c.args.system.now.folders.now) c.args.table.now.source.now _
+    c.in_ok-files.ensures.given path c.args.request.now c.args.workers c.explain_file.result _ _
+    c.explain_file.ensures.given in
+    rw c.as_str.ensures at wrote

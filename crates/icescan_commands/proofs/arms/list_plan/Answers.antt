@@ -9,10 +9,11 @@ use Rattle.icescan_commands.specs.Sources.{failing_bundle}
 use Rattle.icescan_words.specs.declared.command.Lists.TheVariants as lists
 use Rattle.icescan_commands.proofs.Opened.{folder_ran, gives_ran}
 use Rattle.icescan_commands.proofs.Refusals.{is_left, known_ran, left_of, list_ran, no_bundle_ran, no_plan, plan_from}
+use Rattle.icescan_commands.proofs.Reading.{any_ok}
 use Rattle.icescan_commands.proofs.arms.list_plan.Goals as goal
 
-pub returns-in_err-bundle-in-Bundle : goal.returns-in_err-bundle-in-Bundle
-returns-in_err-bundle-in-Bundle g c =
+pub returns-in_err-bundle-in-Bundle-clause-ran : goal.returns-in_err-bundle-in-Bundle-clause-ran
+returns-in_err-bundle-in-Bundle-clause-ran g c =
     let p = err_from_is_err_and c.from_residual.result c.from_residual.ensures.1 in
     let list = c.in-Bundle.list in
     let asked : c.args.lists.now ≡ lists.Bundle list = search rules in
@@ -25,8 +26,8 @@ returns-in_err-bundle-in-Bundle g c =
           c.in_err-bundle-in-Bundle.field-0.0 no.2,
     )
 
-pub returns-in_err-path-in-Bundle : goal.returns-in_err-path-in-Bundle
-returns-in_err-path-in-Bundle g c =
+pub returns-in_err-path-in-Bundle-clause-ran : goal.returns-in_err-path-in-Bundle-clause-ran
+returns-in_err-path-in-Bundle-clause-ran g c =
     let p = err_from_is_err_and c.from_residual-in_err-path-in-Bundle.result
     c.from_residual-in_err-path-in-Bundle.ensures.1 in
     let list = c.in-Bundle.list in
@@ -40,8 +41,8 @@ returns-in_err-path-in-Bundle g c =
           (g.W.Sink.may_fail c.args.output.now) _ c.in_err-path-in-Bundle.field-0.0 c.in_err-path-in-Bundle.ensures.err,
     )
 
-pub returns-in_ok-path-in-Bundle : goal.returns-in_ok-path-in-Bundle
-returns-in_ok-path-in-Bundle g c =
+pub returns-in_ok-path-in-Bundle-clause-ran : goal.returns-in_ok-path-in-Bundle-clause-ran
+returns-in_ok-path-in-Bundle-clause-ran g c =
     let list = c.in-Bundle.list in
     let asked : c.args.lists.now ≡ lists.Bundle list = search rules in
     let found = c.in_ok-bundle-in-Bundle.ensures.found in
@@ -61,8 +62,8 @@ returns-in_ok-path-in-Bundle g c =
           (plan_from below found.0 bundle found.2 form list path c.in_ok-path-in-Bundle.ensures.ok) ran,
     )
 
-pub returns-in-Folder : goal.returns-in-Folder
-returns-in-Folder g c =
+pub returns-in-Folder-clause-ran : goal.returns-in-Folder-clause-ran
+returns-in-Folder-clause-ran g c =
     let left = g.R.Read.remaining c.args.input.now in
     let place = c.in-Folder.place in
     let asked : c.args.lists.now ≡ lists.Folder place c.in-Folder.list = search rules in
@@ -79,3 +80,14 @@ returns-in-Folder g c =
     (g.W.Sink.may_fail c.args.output.now) ran.result _ _ (λ v told. ran.ensures.answers v told)
     ran.ensures.refusal.nothing in
     rw asked (left_of left, is_left left, rw c.as_str.ensures at told)
+
+pub returns-in_ok-path-in-Bundle-clause-given : goal.returns-in_ok-path-in-Bundle-clause-given
+returns-in_ok-path-in-Bundle-clause-given g c =
+    let asked : c.args.lists.now ≡ lists.Bundle c.in-Bundle.list = search rules in
+    rw asked (any_ok c.write_list_plan.result)
+
+pub returns-in-Folder-clause-given : goal.returns-in-Folder-clause-given
+returns-in-Folder-clause-given g c =
+    let asked : c.args.lists.now ≡ lists.Folder c.in-Folder.place c.in-Folder.list = search rules in
+    let is = c.watched_files-files.ensures in
+    rw asked (rw (is.0, is.1, is.2, c.as_str.ensures) at c.write_list_plan-in-Folder.ensures.given)

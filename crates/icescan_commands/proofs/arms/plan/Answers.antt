@@ -2,10 +2,11 @@ use Rattle.std.proofs.lemmas.Result.{err_from_is_err_and}
 use Rattle.icescan_requests.specs.Plans.{reads_at}
 use Rattle.icescan_commands.specs.Runs.{plan_in}
 use Rattle.icescan_commands.proofs.Opened.{opened_ran, unopened_ran}
+use Rattle.icescan_commands.proofs.Reading.{plan_below}
 use Rattle.icescan_commands.proofs.arms.plan.Goals as goal
 
-pub returns-in_err-files : goal.returns-in_err-files
-returns-in_err-files g c =
+pub returns-in_err-files-clause-ran : goal.returns-in_err-files-clause-ran
+returns-in_err-files-clause-ran g c =
     let p = err_from_is_err_and c.from_residual.result c.from_residual.ensures.1 in
     let no = c.in_err-files.ensures.refused in
     let path = c.args.table.now.path.now in
@@ -20,8 +21,8 @@ returns-in_err-files g c =
           c.in_err-files.field-0.0 no.2,
     )
 
-pub returns : goal.returns
-returns g c =
+pub returns-clause-ran : goal.returns-clause-ran
+returns-clause-ran g c =
     let opened = c.in_ok-files.ensures.opened in
     let path = c.as_str.result.now in
     let ran = c.write_plan in
@@ -31,3 +32,11 @@ returns g c =
     (λ world. reads_at world path c.args.request.now) (g.W.Sink.may_fail c.args.output.now)
     ran.result _ _ (λ v told. ran.ensures.answers v told) ran.ensures.refusal.nothing in
     (opened.0, opened.1, rw c.as_str.ensures at told)
+
+pub returns-clause-given : goal.returns-clause-given
+returns-clause-given g c =
+    let path = c.as_str.result.now in
+    let wrote = plan_below (g.S.Folders.gives c.args.system.now.folders.now) c.args.table.now.source.now _
+    c.in_ok-files.ensures.given path c.args.request.now c.args.format c.args.workers c.write_plan.result _ _
+    c.write_plan.ensures.given in
+    rw c.as_str.ensures at wrote

@@ -17,6 +17,7 @@ returns-in-Ok-run_asked g c =
         silent = refl;
         ends = (c.in-Ok-run_asked.count, ran.3, c.status_of_count.ensures);
         drilled = w.drilled;
+        of_given = (c.in-Ok-run_asked.count, c.status_of_count.ensures, w.given);
         stored = w.stored;
       }),
     )

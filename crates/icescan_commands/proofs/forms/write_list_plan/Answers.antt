@@ -12,3 +12,11 @@ pub returns-in-Json-clause-answers : goal.returns-in-Json-clause-answers
 returns-in-Json-clause-answers g c =
     let asked : c.args.format ≡ format.Json = search rules in
     rw asked (λ world told. gives_json _ _ _ _ _ _ (c.run_list_plan_json.ensures.answers world told))
+
+pub returns-in-Text-clause-given : goal.returns-in-Text-clause-given
+returns-in-Text-clause-given g c =
+    let asked : c.args.format ≡ format.Text = search rules in rw asked c.run_list_plan.ensures.given
+
+pub returns-in-Json-clause-given : goal.returns-in-Json-clause-given
+returns-in-Json-clause-given g c =
+    let asked : c.args.format ≡ format.Json = search rules in rw asked c.run_list_plan_json.ensures.given

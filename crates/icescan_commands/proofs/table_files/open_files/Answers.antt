@@ -30,3 +30,13 @@ returns-in-Folder-clause-opened g c =
             let same : c.in-Folder.place ≡ place = cc in rw (is.0, is.1, is.2, same) (refl, λ path h. h);
       },
     )
+
+pub returns-in_ok-read_bundle-in-Bundle-clause-given : goal.returns-in_ok-read_bundle-in-Bundle-clause-given
+returns-in_ok-read_bundle-in-Bundle-clause-given g c =
+    let asked : c.args.source.now ≡ source.Bundle = search rules in rw asked tt
+
+pub returns-in-Folder-clause-given : goal.returns-in-Folder-clause-given
+returns-in-Folder-clause-given g c =
+    let asked : c.args.source.now ≡ source.Folder c.in-Folder.place = search rules in
+    let is = c.watched_files.ensures in
+    rw asked (λ path found h. rw (is.0, is.1, is.2) at h)

@@ -13,6 +13,7 @@ returns-in_err-asked g c =
       c.in_err-asked.ensures,
       tt,
       refl,
+      tt,
       left_of left,
       is_left left,
       words_ran
@@ -26,6 +27,7 @@ returns g c = let w = c.run_asked.ensures in (
   c.in_ok-asked.ensures,
   w.drilled,
   w.stored,
+  w.given,
   w.ran.0,
   w.ran.1,
   w.ran.2,

@@ -1,12 +1,13 @@
 use Rattle.std.proofs.Common.{refl, rules, ◌≡◌}
 use Rattle.icescan_words.specs.declared.command.Command.TheVariants as command
 use Rattle.icescan_commands.proofs.Refusals.{is_left, left_of, on_ok_as, ran_as}
+use Rattle.icescan_commands.proofs.Reading.{any_count, counted_as}
 use Rattle.icescan_commands.proofs.words.run_asked.Goals as goal
 
 pub returns-in-ListPlan-clause-ran : goal.returns-in-ListPlan-clause-ran
 returns-in-ListPlan-clause-ran g c =
     let asked : c.args.asked.now ≡ command.ListPlan c.in-ListPlan.lists c.in-ListPlan.format = search rules in
-    let told = c.list_plan.ensures in
+    let told = c.list_plan.ensures.ran in
     rw asked (
       told.0,
       told.1,
@@ -19,7 +20,7 @@ pub returns-in-Plan-clause-ran : goal.returns-in-Plan-clause-ran
 returns-in-Plan-clause-ran g c =
     let asked : c.args.asked.now ≡ command.Plan c.in-Plan.source c.in-Plan.request c.in-Plan.format c.in-Plan.workers
     c.in-Plan.path = search rules in
-    let told = c.plan.ensures in
+    let told = c.plan.ensures.ran in
     rw asked (
       told.0,
       told.1,
@@ -43,7 +44,7 @@ returns-in-Commit-clause-ran g c =
 pub returns-in-Show-clause-ran : goal.returns-in-Show-clause-ran
 returns-in-Show-clause-ran g c =
     let asked : c.args.asked.now ≡ command.Show c.in-Show.source c.in-Show.path = search rules in
-    let told = c.show.ensures in
+    let told = c.show.ensures.ran in
     rw asked (
       told.0,
       told.1,
@@ -52,11 +53,24 @@ returns-in-Show-clause-ran g c =
       c.no_findings-in-Show.ensures.none,
     )
 
+pub returns-in-Columns-clause-ran : goal.returns-in-Columns-clause-ran
+returns-in-Columns-clause-ran g c =
+    let asked : c.args.asked.now ≡ command.Columns c.in-Columns.source c.in-Columns.target c.in-Columns.path
+    = search rules in
+    let told = c.columns.ensures in
+    rw asked (
+      told.0,
+      told.1,
+      ran_as _ _ c.columns.result c.no_findings-in-Columns.result _ _
+          c.no_findings-in-Columns.ensures.same told.2,
+      c.no_findings-in-Columns.ensures.none,
+    )
+
 pub returns-in-Explain-clause-ran : goal.returns-in-Explain-clause-ran
 returns-in-Explain-clause-ran g c =
     let asked : c.args.asked.now ≡ command.Explain c.in-Explain.source c.in-Explain.request c.in-Explain.workers
     c.in-Explain.path = search rules in
-    let told = c.explain.ensures in
+    let told = c.explain.ensures.ran in
     rw asked (
       told.0,
       told.1,
@@ -112,6 +126,12 @@ returns-in-Show-clause-stored g c =
     let asked : c.args.asked.now ≡ command.Show c.in-Show.source c.in-Show.path = search rules in
     rw asked refl
 
+pub returns-in-Columns-clause-stored : goal.returns-in-Columns-clause-stored
+returns-in-Columns-clause-stored g c =
+    let asked : c.args.asked.now ≡ command.Columns c.in-Columns.source c.in-Columns.target c.in-Columns.path
+    = search rules in
+    rw asked refl
+
 pub returns-in-Explain-clause-stored : goal.returns-in-Explain-clause-stored
 returns-in-Explain-clause-stored g c =
     let asked : c.args.asked.now ≡ command.Explain c.in-Explain.source c.in-Explain.request c.in-Explain.workers
@@ -143,4 +163,44 @@ pub returns-in-Audit-clause-ran : goal.returns-in-Audit-clause-ran
 returns-in-Audit-clause-ran g c =
     let asked : c.args.asked.now ≡ command.Audit c.in-Audit.source c.in-Audit.target c.in-Audit.workers
     c.in-Audit.path = search rules in
-    rw asked c.audit.ensures
+    rw asked (c.audit.ensures.ran)
+
+pub returns-in-ListPlan-clause-given : goal.returns-in-ListPlan-clause-given
+returns-in-ListPlan-clause-given g c =
+    let asked : c.args.asked.now ≡ command.ListPlan c.in-ListPlan.lists c.in-ListPlan.format = search rules in
+    rw asked (counted_as _ c.list_plan.result c.no_findings.result c.no_findings.ensures.same c.no_findings.ensures.none c.list_plan.ensures.given)
+
+pub returns-in-Plan-clause-given : goal.returns-in-Plan-clause-given
+returns-in-Plan-clause-given g c =
+    let asked : c.args.asked.now ≡ command.Plan c.in-Plan.source c.in-Plan.request c.in-Plan.format c.in-Plan.workers c.in-Plan.path = search rules in
+    rw asked (counted_as _ c.plan.result c.no_findings-in-Plan.result c.no_findings-in-Plan.ensures.same c.no_findings-in-Plan.ensures.none c.plan.ensures.given)
+
+pub returns-in-Show-clause-given : goal.returns-in-Show-clause-given
+returns-in-Show-clause-given g c =
+    let asked : c.args.asked.now ≡ command.Show c.in-Show.source c.in-Show.path = search rules in
+    rw asked (counted_as _ c.show.result c.no_findings-in-Show.result c.no_findings-in-Show.ensures.same c.no_findings-in-Show.ensures.none c.show.ensures.given)
+
+pub returns-in-Explain-clause-given : goal.returns-in-Explain-clause-given
+returns-in-Explain-clause-given g c =
+    let asked : c.args.asked.now ≡ command.Explain c.in-Explain.source c.in-Explain.request c.in-Explain.workers c.in-Explain.path = search rules in
+    rw asked (counted_as _ c.explain.result c.no_findings-in-Explain.result c.no_findings-in-Explain.ensures.same c.no_findings-in-Explain.ensures.none c.explain.ensures.given)
+
+pub returns-in-Audit-clause-given : goal.returns-in-Audit-clause-given
+returns-in-Audit-clause-given g c =
+    let asked : c.args.asked.now ≡ command.Audit c.in-Audit.source c.in-Audit.target c.in-Audit.workers c.in-Audit.path = search rules in
+    rw asked (c.audit.ensures.given)
+
+pub returns-in-Commit-clause-given : goal.returns-in-Commit-clause-given
+returns-in-Commit-clause-given g c =
+    let asked : c.args.asked.now ≡ command.Commit c.in-Commit.source c.in-Commit.request = search rules in
+    rw asked (any_count c.no_findings-in-Commit.result)
+
+pub returns-in-Drill-clause-given : goal.returns-in-Drill-clause-given
+returns-in-Drill-clause-given g c =
+    let asked : c.args.asked.now ≡ command.Drill c.in-Drill.asked = search rules in
+    rw asked (any_count c.no_findings-in-Drill.result)
+
+pub returns-in-Text-clause-given : goal.returns-in-Text-clause-given
+returns-in-Text-clause-given g c =
+    let asked : c.args.asked.now ≡ command.Text c.in-Text.text = search rules in
+    rw asked (any_count c.no_findings-in-Text.result)

@@ -9,14 +9,15 @@ returns-in-Ok g c =
       run = (
         w.0,
         w.1,
-        w.4,
         w.5,
+        w.6,
         inl (record {
-          written = w.6.written;
+          written = w.7.written;
           silent = refl;
-          ends = (c.in-Ok.count, w.7, c.status_of_count.ensures);
+          ends = (c.in-Ok.count, w.8, c.status_of_count.ensures);
           drilled = w.2;
           stored = w.3;
+          of_given = (c.in-Ok.count, c.status_of_count.ensures, w.4);
         }),
       );
     }
@@ -24,13 +25,13 @@ returns-in-Ok g c =
 pub returns-in-Err : goal.returns-in-Err
 returns-in-Err g c =
     let w = c.in-Err.ensures in
-    let ran = w.6 in
+    let ran = w.7 in
     record {
       run = (
         w.0,
         w.1,
-        w.4,
         w.5,
+        w.6,
         inr (record {
           fault = c.in-Err.fault;
           cause = ran.refused;

@@ -1,6 +1,7 @@
 use Rattle.icescan_print.proofs.RangeTexts.{draft_at, range_part, range_step}
 use Rattle.icescan_print.proofs.Sends.{sent_less, sent_more}
-use Rattle.icescan_print.proofs.by_workers.put_texts.Goals.{in-Some+in_ok-put-in-Some, in-None+in_ok-put_some_lines-in-None}
+use Rattle.icescan_print.proofs.by_workers.put_texts.Goals.{in-Some+in_ok-put-in-Some}
+use Rattle.icescan_print.proofs.by_workers.put_texts.Goals.{in-None+in_ok-put_some_lines-in-None}
 use Rattle.icescan_print.proofs.by_workers.put_texts.Goals as goal
 
 pub returns-in_err-put-in-Some : goal.returns-in_err-put-in-Some

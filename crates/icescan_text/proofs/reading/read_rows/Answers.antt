@@ -1,7 +1,7 @@
-use Rattle.std.proofs.Common.{ap, sym, ◌∙◌}
+use Rattle.std.proofs.Common.{ap, sym, ◌∙◌, List, ℕ, Some, subst}
 use Rattle.std.specs.Prelude.{Ok}
 use Rattle.std.proofs.lemmas.Result.{err_from_is_err_and}
-use Rattle.icescan_text.proofs.Steps.{no_file, no_rows, rows_there}
+use Rattle.icescan_text.proofs.Steps.{no_file, no_rows, rows_read, rows_there}
 use Rattle.icescan_text.proofs.reading.read_rows.Goals as goal
 
 pub returns-in_err-bytes-clause-refused : goal.returns-in_err-bytes-clause-refused
@@ -25,3 +25,11 @@ returns-clause-found g c =
     let has = c.in_ok-bytes.ensures.found world told ∙ ap Ok (sym c.deref.ensures.value) in
     rows_there (g.F.Files.may_fail c.args.files.now) world c.args.list.now c.deref.result.now _ has
     c.in_ok-read_list.ensures.exact
+
+pub returns-clause-given : goal.returns-clause-given
+returns-clause-given g c = (
+  c.deref.result.now,
+  subst (λ (bytes : List ℕ). g.F.Files.gives c.args.files.now c.args.list.now (Some bytes))
+      (sym c.deref.ensures.value) c.in_ok-bytes.ensures.given,
+  rows_read c.deref.result.now _ c.in_ok-read_list.ensures.exact,
+)

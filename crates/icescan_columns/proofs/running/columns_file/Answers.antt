@@ -1,0 +1,33 @@
+use Rattle.std.proofs.Common.{ap, sym, ◌∙◌}
+use Rattle.std.specs.Prelude.{Ok}
+use Rattle.std.proofs.lemmas.Result.{err_from_is_err_and, IfErr-weaker, on_ok_weaker}
+use Rattle.icescan_columns.proofs.Reading.{bytes_end, columns_there, file_ends}
+use Rattle.icescan_columns.proofs.running.columns_file.Goals as goal
+
+pub returns-in_err-metadata-clause-refused : goal.returns-in_err-metadata-clause-refused
+returns-in_err-metadata-clause-refused g c =
+    let p = err_from_is_err_and c.from_residual.result c.from_residual.ensures.1 in
+    λ world told. rw (p.1, p.2) (file_ends world c.args.path.now c.args.target.now _
+    (g.W.Sink.may_fail c.args.output.now) c.in_err-metadata.field-0.0 (c.in_err-metadata.ensures.refused world told))
+
+pub returns-clause-written : goal.returns-clause-written
+returns-clause-written g c =
+    λ world told.
+    let has = c.in_ok-metadata.ensures.found world told ∙ ap Ok (sym c.deref.ensures.value) in
+    let same = columns_there world c.args.path.now c.args.target.now c.deref.result.now has in
+    on_ok_weaker c.run_columns.result (λ w. (w.0, same ∙ w.1, w.2)) c.run_columns.ensures.written
+
+pub returns-clause-refused : goal.returns-clause-refused
+returns-clause-refused g c =
+    λ world told.
+    let has = c.in_ok-metadata.ensures.found world told ∙ ap Ok (sym c.deref.ensures.value) in
+    IfErr-weaker c.run_columns.result _ _ (λ e h. bytes_end world c.args.path.now c.args.target.now c.deref.result.now
+    has _ (g.W.Sink.may_fail c.args.output.now) e h) c.run_columns.ensures.refused
+
+pub returns-clause-front : goal.returns-clause-front
+returns-clause-front g c =
+    λ world told failed.
+    let has = c.in_ok-metadata.ensures.found world told ∙ ap Ok (sym c.deref.ensures.value) in
+    let same = columns_there world c.args.path.now c.args.target.now c.deref.result.now has in
+    let w = c.run_columns.ensures.front failed in
+    (w.0, same ∙ w.1, w.2)

@@ -1,0 +1,118 @@
+-- What was written of bytes that reads below a folder gave.
+use Rattle.std.proofs.Common.{◌≡◌, ℕ, List, Option, Some, subst, sym}
+use Rattle.std.specs.Prelude.{Result, Ok, Err, IfOk, OnOk}
+use Rattle.std.proofs.lemmas.Result.{IfOk-weaker, on_ok_weaker}
+use Rattle.ice_desk.specs.Given.{Giving}
+use Rattle.ice_meta.specs.declared.metadata.Target.{Target}
+use Rattle.icescan_audit.proofs.AnyFiles.{more_audits}
+use Rattle.icescan_explain.proofs.MoreGiven.{more_explanations}
+use Rattle.icescan_requests.proofs.GivenPlans.{more_plans}
+use Rattle.icescan_text.specs.declared.fault.RunFault.{RunFault}
+use Rattle.icescan_text.specs.declared.request.Request.{Request}
+use Rattle.icescan_words.specs.declared.answer_format.Format.{Format}
+use Rattle.icescan_words.specs.declared.answer_format.Format.TheVariants as format
+use Rattle.icescan_words.specs.declared.command.Command.TheVariants as command
+use Rattle.icescan_words.specs.declared.command.Source.{Source}
+use Rattle.icescan_words.specs.declared.command.Source.TheVariants as source
+use Rattle.icescan_commands.specs.Reading.{AreGivenBelow, GivingBelow, WroteAudited, WroteExplained, WroteOfGiven}
+use Rattle.icescan_commands.specs.Reading.{WrotePlanAt, WroteShown}
+use Rattle.icescan_commands.specs.Runs.{ended}
+
+-- nothing is said
+pub any_ok : {A : Type 0} (r : Result A RunFault) → OnOk r (Unit {0})
+any_ok (Ok x) = tt
+any_ok (Err e) = tt
+
+pub any_count : {A : Type 0} (r : Result A RunFault) → IfOk r (λ n. Unit {0})
+any_count (Ok x) = tt
+any_count (Err e) = tt
+
+-- a command that tells of no findings
+pub counted_as : (P : ℕ → Type 0) (r : Result Unit RunFault) (counted : Result ℕ RunFault) → ended counted ≡ r
+    → IfOk counted (λ n. n ≡ 0) → OnOk r (P 0) → IfOk counted P
+counted_as P r (Ok n) is none h =
+    let at : OnOk (ended (Ok n)) (P 0) = subst (λ (x : Result Unit RunFault). OnOk x (P 0)) (sym is) h in
+    subst P (sym none) at
+counted_as P r (Err e) is none h = tt
+
+-- a plan of what files gave is one of what reads below their folder gave
+plan_more : (gives more : Giving) → ((path : List ℕ) (found : Option (List ℕ)) → gives path found → more path found)
+    → (path : List ℕ) (request : Request) (form : Format) (o o' : Option (List ℕ))
+    → WrotePlanAt gives path request form o o' → WrotePlanAt more path request form o o'
+plan_more gives more wider path request format.Text o o' w = (
+  w.0,
+  record {
+    metadata = w.1.metadata;
+    read = wider path _ w.1.read;
+    planned = more_plans gives more wider w.1.metadata request w.0 w.1.planned;
+  },
+  w.2,
+)
+plan_more gives more wider path request format.Json o o' w =
+    let typed = w.1 in (
+      w.0,
+      (
+        typed.0,
+        wider path _ typed.1,
+        record {
+          planned = more_plans gives more wider typed.0 request w.0.plan typed.2.planned;
+          selection = typed.2.selection;
+          asked = typed.2.asked;
+          types_are = typed.2.types_are;
+        },
+      ),
+      w.2,
+      w.3,
+      w.4,
+    )
+
+audit_more : (gives more : Giving) → ((path : List ℕ) (found : Option (List ℕ)) → gives path found → more path found)
+    → (path : List ℕ) (target : Target) (count : ℕ) (o o' : Option (List ℕ))
+    → WroteAudited gives path target count o o' → WroteAudited more path target count o o'
+audit_more gives more wider path target count o o' (metadata, read, (audit, is, counted, wrote)) = (
+  metadata,
+  wider path _ read,
+  (audit, more_audits gives more wider metadata target audit is, counted, wrote),
+)
+
+explain_more : (gives more : Giving) → ((path : List ℕ) (found : Option (List ℕ)) → gives path found → more path found)
+    → (path : List ℕ) (request : Request) (o o' : Option (List ℕ)) → WroteExplained gives path request o o'
+    → WroteExplained more path request o o'
+explain_more gives more wider path request o o' (metadata, read, (x, is, wrote)) = (
+  metadata,
+  wider path _ read,
+  (x, more_explanations gives more wider metadata request x is, wrote),
+)
+
+module _ (below : GivingBelow) where
+  pub plan_below : (from : Source) (gives : Giving) → AreGivenBelow below from gives → (path : List ℕ)
+      (request : Request) (form : Format) (workers : ℕ) (result : Result Unit RunFault) (o o' : Option (List ℕ))
+      → OnOk result (WrotePlanAt gives path request form o o')
+      → OnOk result (WroteOfGiven below (command.Plan from request form workers path) 0 o o')
+  plan_below source.Bundle gives wider path request form workers result o o' wrote = any_ok result
+  plan_below (source.Folder place) gives wider path request form workers result o o' wrote =
+      on_ok_weaker result (plan_more gives (below place.folder place.prefix) wider path request form o o') wrote
+
+  pub show_below : (from : Source) (gives : Giving) → AreGivenBelow below from gives → (path : List ℕ)
+      (result : Result Unit RunFault) (o o' : Option (List ℕ)) → OnOk result (WroteShown gives path o o')
+      → OnOk result (WroteOfGiven below (command.Show from path) 0 o o')
+  show_below source.Bundle gives wider path result o o' wrote = any_ok result
+  show_below (source.Folder place) gives wider path result o o' wrote =
+      on_ok_weaker result (λ w. (w.0, wider path _ w.1, w.2)) wrote
+
+  pub audit_below : (from : Source) (gives : Giving) → AreGivenBelow below from gives → (path : List ℕ)
+      (target : Target) (workers : ℕ) (result : Result ℕ RunFault) (o o' : Option (List ℕ))
+      → IfOk result (λ count. WroteAudited gives path target count o o')
+      → IfOk result (λ count. WroteOfGiven below (command.Audit from target workers path) count o o')
+  audit_below source.Bundle gives wider path target workers result o o' wrote = any_count result
+  audit_below (source.Folder place) gives wider path target workers result o o' wrote =
+      IfOk-weaker result _ _
+      (λ count w. audit_more gives (below place.folder place.prefix) wider path target count o o' w) wrote
+
+  pub explain_below : (from : Source) (gives : Giving) → AreGivenBelow below from gives → (path : List ℕ)
+      (request : Request) (workers : ℕ) (result : Result Unit RunFault) (o o' : Option (List ℕ))
+      → OnOk result (WroteExplained gives path request o o')
+      → OnOk result (WroteOfGiven below (command.Explain from request workers path) 0 o o')
+  explain_below source.Bundle gives wider path request workers result o o' wrote = any_ok result
+  explain_below (source.Folder place) gives wider path request workers result o o' wrote =
+      on_ok_weaker result (explain_more gives (below place.folder place.prefix) wider path request o o') wrote

@@ -1,0 +1,33 @@
+use Rattle.std.proofs.Common.{[], ◌∷◌}
+use Rattle.std.proofs.lemmas.Result.{err_from_is_err_and}
+use Rattle.icescan_columns.specs.Columns.{columns_at}
+use Rattle.icescan_commands.specs.Runs.{columns_told}
+use Rattle.icescan_commands.proofs.Answering.{gives_shown}
+use Rattle.icescan_commands.proofs.Opened.{opened_ran, unopened_ran}
+use Rattle.icescan_commands.proofs.arms.columns.Goals as goal
+
+pub returns-in_err-files : goal.returns-in_err-files
+returns-in_err-files g c =
+    let p = err_from_is_err_and c.from_residual.result c.from_residual.ensures.1 in
+    let no = c.in_err-files.ensures.refused in
+    let path = c.args.table.now.path.now in
+    rw (p.1, p.2) (
+      no.0,
+      no.1,
+      unopened_ran (g.S.Folders.below c.args.system.now.folders.now)
+          (g.S.Folders.may_fail c.args.system.now.folders.now) no.0 (λ world. columns_told world path c.args.target.now)
+          (λ world. path ∷ []) c.args.table.now.source.now (g.W.Sink.may_fail c.args.output.now) _
+          c.in_err-files.field-0.0 no.2,
+    )
+
+pub returns : goal.returns
+returns g c =
+    let opened = c.in_ok-files.ensures.opened in
+    let path = c.as_str.result.now in
+    let ran = c.columns_file in
+    let told = opened_ran (g.S.Folders.below c.args.system.now.folders.now)
+    (g.S.Folders.may_fail c.args.system.now.folders.now) opened.0 c.args.table.now.source.now _ _ opened.2
+    (λ world. columns_told world path c.args.target.now) (λ world. path ∷ []) (g.W.Sink.may_fail c.args.output.now)
+    ran.result _ _ (λ v told. gives_shown (columns_at v path c.args.target.now) _ _ ran.result _ _ (ran.ensures.written v told)
+    (ran.ensures.refused v told) (ran.ensures.front v told)) ran.ensures.nothing in
+    (opened.0, opened.1, rw c.as_str.ensures at told)

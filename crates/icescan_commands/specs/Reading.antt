@@ -1,0 +1,80 @@
+-- What a command over a folder wrote, by what reads below the folder gave: also where files change from one read to the
+-- next.
+use Rattle.std.specs.Prelude.{ℕ, List, Option, Some, Result, Ok, Err}
+use Rattle.ice_desk.specs.Given.{Giving}
+use Rattle.ice_meta.specs.declared.metadata.Target.{Target}
+use Rattle.icescan_audit.specs.AnyFiles.{WroteAnAudit}
+use Rattle.icescan_explain.specs.AnyFiles.{WroteAnExplanation}
+use Rattle.icescan_json.specs.JsonAnswers.{IsTypedListOfGiven, IsTypedOfGivenAt, WroteJsonThat}
+use Rattle.icescan_requests.specs.GivenPlans.{IsListPlanOfGiven, IsPlanOfGivenAt, WrotePlanThat}
+use Rattle.icescan_requests.specs.Shows.{WroteText, show_of}
+use Rattle.icescan_text.specs.declared.fault.RunFault.{RunFault}
+use Rattle.icescan_text.specs.declared.request.Request.{Request}
+use Rattle.icescan_words.specs.declared.answer_format.Format.{Format}
+use Rattle.icescan_words.specs.declared.answer_format.Format.TheVariants as format
+use Rattle.icescan_words.specs.declared.command.Command.{Command}
+use Rattle.icescan_words.specs.declared.command.Command.TheVariants as command
+use Rattle.icescan_words.specs.declared.command.Lists.TheVariants as lists
+use Rattle.icescan_words.specs.declared.command.Place.{Place}
+use Rattle.icescan_words.specs.declared.command.Source.{Source}
+use Rattle.icescan_words.specs.declared.command.Source.TheVariants as source
+
+-- what reads of the files below each folder may give, by the prefix that it stands for
+abbrev pub GivingBelow : Type 1
+GivingBelow = List ℕ → List ℕ → Giving
+
+abbrev pub given_at : GivingBelow → Place → Giving
+given_at gives place = gives place.folder place.prefix
+
+-- the files of a source give no more than reads below its folder
+abbrev pub AreGivenBelow : GivingBelow → Source → Giving → Type 0
+AreGivenBelow below source.Bundle gives = Unit {0}
+AreGivenBelow below (source.Folder place) gives =
+    (path : List ℕ) (found : Option (List ℕ)) → gives path found → given_at below place path found
+
+-- the plan of a manifest list, in a form
+abbrev pub WroteListPlan : Giving → List ℕ → Format → Option (List ℕ) → Option (List ℕ) → Type 0
+WroteListPlan gives list format.Text output output' = WrotePlanThat (IsListPlanOfGiven gives list) output output'
+WroteListPlan gives list format.Json output output' = WroteJsonThat (IsTypedListOfGiven gives list) output output'
+
+-- the plan that is asked of the table whose metadata is at a path, in a form
+abbrev pub WrotePlanAt : Giving → List ℕ → Request → Format → Option (List ℕ) → Option (List ℕ) → Type 0
+WrotePlanAt gives path request format.Text output output' =
+    WrotePlanThat (IsPlanOfGivenAt gives path request) output output'
+WrotePlanAt gives path request format.Json output output' =
+    WroteJsonThat (IsTypedOfGivenAt gives path request) output output'
+
+-- the text of the metadata at a path
+abbrev pub WroteShown : Giving → List ℕ → Option (List ℕ) → Option (List ℕ) → Type 0
+WroteShown gives path output output' = (metadata : List ℕ) × gives path (Some metadata)
+    × WroteText (show_of metadata) output output'
+
+-- the audit of a snapshot of the table whose metadata is at a path, with so many faults
+abbrev pub WroteAudited : Giving → List ℕ → Target → ℕ → Option (List ℕ) → Option (List ℕ) → Type 0
+WroteAudited gives path target count output output' = (metadata : List ℕ) × gives path (Some metadata)
+    × WroteAnAudit gives metadata target count output output'
+
+-- the plan that is asked of the table whose metadata is at a path, explained
+abbrev pub WroteExplained : Giving → List ℕ → Request → Option (List ℕ) → Option (List ℕ) → Type 0
+WroteExplained gives path request output output' = (metadata : List ℕ) × gives path (Some metadata)
+    × WroteAnExplanation gives metadata request output output'
+
+-- What a command wrote that ended without a fault and told of so many faults of a table: over a folder, of bytes that
+-- reads below it gave. Of a commit `IsStored` says more.
+abbrev pub WroteOfGiven : GivingBelow → Command → ℕ → Option (List ℕ) → Option (List ℕ) → Type 0
+WroteOfGiven below (command.ListPlan (lists.Folder place list) form) count output output' =
+    WroteListPlan (given_at below place) list form output output'
+WroteOfGiven below (command.Plan (source.Folder place) request form workers path) count output output' =
+    WrotePlanAt (given_at below place) path request form output output'
+WroteOfGiven below (command.Show (source.Folder place) path) count output output' =
+    WroteShown (given_at below place) path output output'
+WroteOfGiven below (command.Audit (source.Folder place) target workers path) count output output' =
+    WroteAudited (given_at below place) path target count output output'
+WroteOfGiven below (command.Explain (source.Folder place) request workers path) count output output' =
+    WroteExplained (given_at below place) path request output output'
+WroteOfGiven below _ count output output' = Unit {0}
+
+-- the same of words that were read
+abbrev pub WroteOfGivenBy : GivingBelow → Result Command RunFault → ℕ → Option (List ℕ) → Option (List ℕ) → Type 0
+WroteOfGivenBy below (Ok asked) count output output' = WroteOfGiven below asked count output output'
+WroteOfGivenBy below (Err fault) count output output' = Unit {0}
