@@ -1,20 +1,67 @@
 #!/usr/bin/env python3
-"""uncompress.py FOLDER COPY: a copy of a table's metadata folder whose manifest lists and manifests are not compressed.
+"""icescan-uncompress FOLDER COPY: a copy of a table's metadata folder in which nothing is compressed.
 
-FOLDER is copied to COPY, which must not be there. Each Avro container of codec `deflate` below it is written anew with codec
-`null`: the same objects, bytes and blocks, the same metadata but the codec. A container of codec `null` and every other file are
-copied as they are. A container of another codec is copied as it is and named on standard error, and the status is then 1.
-Lengths that a manifest list says of its manifests are those of the compressed files; icescan does not use them.
+FOLDER is a metadata folder, and is copied to COPY, which must not be there; or it is a table's folder, and then its folder
+`metadata` is copied to COPY/metadata. Each Avro container below it is written anew with codec `null`: the same objects, bytes
+and blocks, the same metadata but the codec. Codecs are `deflate`, `bzip2` and `xz`, `snappy` where Python has the library
+snappy or cramjam (Debian: python3-snappy), and `zstandard` where it has zstandard (Debian: python3-zstandard) or is 3.14.
+Metadata that is compressed by gzip is written as its text, with a name that has no `.gz`, and both names are told. Every other
+file is copied as it is. A container that can't be uncompressed is copied as it is and named on standard error, and the status
+is then 1. Lengths that a manifest list says of its manifests are those of the compressed files; icescan does not use them.
 """
+import bz2
+import gzip
+import lzma
 import os
 import sys
 import zlib
 
 MAGIC = b"Obj\x01"
+GZIP = b"\x1f\x8b"
 
 
 class NotAvro(Exception):
     """The file is not a whole Avro container."""
+
+
+class NoLibrary(Exception):
+    """This Python has no library for the codec."""
+
+
+def unsnapped(block):
+    """A block of codec snappy: four bytes at its end are a checksum of the bytes that it stands for."""
+    try:
+        from snappy import uncompress
+    except ImportError:
+        try:
+            from cramjam.snappy import decompress_raw as uncompress
+        except ImportError:
+            raise NoLibrary from None
+    plain = bytes(uncompress(block[:-4]))
+    if zlib.crc32(plain) != int.from_bytes(block[-4:], "big"):
+        raise NotAvro
+    return plain
+
+
+def unzstandard(block):
+    try:
+        from zstandard import ZstdDecompressor
+    except ImportError:
+        try:
+            from compression.zstd import decompress
+        except ImportError:
+            raise NoLibrary from None
+        return decompress(block)
+    return ZstdDecompressor().decompressobj().decompress(block)
+
+
+CODECS = {
+    b"deflate": lambda block: zlib.decompress(block, -15),
+    b"bzip2": bz2.decompress,
+    b"xz": lzma.decompress,
+    b"snappy": unsnapped,
+    b"zstandard": unzstandard,
+}
 
 
 def read_number(data, at):
@@ -71,12 +118,12 @@ def read_header(data):
 
 
 def uncompressed(data):
-    """The container with codec null, or the codec's name where it is neither null nor deflate."""
+    """The container with codec null, and the codec's name where it is none that is undone."""
     metadata, marker, at = read_header(data)
     codec = metadata.get(b"avro.codec", b"null")
     if codec == b"null":
         return data, None
-    if codec != b"deflate":
+    if codec not in CODECS:
         return data, codec
     metadata[b"avro.codec"] = b"null"
     out = [MAGIC, written_number(len(metadata))]
@@ -88,27 +135,41 @@ def uncompressed(data):
         if data[at:at + 16] != marker:
             raise NotAvro
         at += 16
-        out += [written_number(count), written_run(zlib.decompress(block, -15)), marker]
+        out += [written_number(count), written_run(CODECS[codec](block)), marker]
     return b"".join(out), None
 
 
 def copied(data, path):
-    """What a file's copy holds; a container that stays compressed is named."""
-    if not data.startswith(MAGIC):
-        return data, True
+    """What a file's copy holds, and whether it is without compression; what stays compressed is named."""
     try:
+        if data.startswith(GZIP):
+            return gzip.decompress(data), True
+        if not data.startswith(MAGIC):
+            return data, True
         plain, codec = uncompressed(data)
-    except (NotAvro, zlib.error):
-        plain, codec = data, b"which can't be read"
-    if codec is not None:
-        print(f"{path}: left as it is, codec {codec.decode(errors='replace')}", file=sys.stderr)
-    return plain, codec is None
+        why = codec and f"of codec {codec.decode(errors='replace')}"
+    except NoLibrary:
+        plain, why = data, f"this Python has no library for codec {read_header(data)[0][b'avro.codec'].decode()}"
+    except Exception as e:  # the libraries have errors of their own
+        plain, why = data, f"can't be read ({type(e).__name__})"
+    if why:
+        print(f"{path}: left as it is, {why}", file=sys.stderr)
+    return plain, why is None
+
+
+def copied_name(name, data):
+    """The name of a copy: that of metadata that was compressed has no `.gz`."""
+    return name.replace(".gz", "") if data.startswith(GZIP) and ".metadata.json" in name else name
 
 
 def main():
     if len(sys.argv) != 3:
-        sys.exit(__doc__.split("\n", 1)[0])
+        sys.exit(__doc__.strip())
     folder, copy = sys.argv[1:]
+    if not os.path.isdir(folder):
+        sys.exit(f"{folder} is no folder")
+    if os.path.isdir(os.path.join(folder, "metadata")):
+        folder, copy = os.path.join(folder, "metadata"), os.path.join(copy, "metadata")
     if os.path.exists(copy):
         sys.exit(f"{copy} is there already")
     done = True
@@ -117,9 +178,17 @@ def main():
         os.makedirs(target)
         for name in sorted(names):
             with open(os.path.join(root, name), "rb") as file:
-                plain, well = copied(file.read(), os.path.join(root, name))
+                data = file.read()
+            plain, well = copied(data, os.path.join(root, name))
             done = well and done
-            with open(os.path.join(target, name), "xb") as file:
+            other = copied_name(name, data) if well else name
+            if other != name and other in names:
+                print(f"{os.path.join(root, name)}: not copied, {other} is there too", file=sys.stderr)
+                done = False
+                continue
+            if other != name:
+                print(f"{os.path.join(root, name)}: its text is {os.path.normpath(os.path.join(target, other))}")
+            with open(os.path.join(target, other), "xb") as file:
                 file.write(plain)
     sys.exit(0 if done else 1)
 

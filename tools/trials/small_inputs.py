@@ -1,0 +1,326 @@
+#!/usr/bin/env python3
+"""small_inputs.py PROGRAM [NAME..]: commands on inputs below 1 MB whose parts multiply, within limits of memory and time.
+
+Each case makes a table in a folder, in which two parts are as large as the size lets them be: literals and partition
+fields, a long name and many files, columns and entries. Then it runs a command on it by one worker and by four. No run may
+take more than 100 MB or 5 seconds of processor time, end by want of memory, or have another status than the case wants.
+
+Prints each run, those that are over marked, and a last line that counts. NAME..: these cases alone. MEGABYTES and SECONDS
+in the environment are other limits.
+"""
+import json
+import os
+import resource
+import subprocess
+import sys
+import tempfile
+
+MOST_INPUT = 1 << 20
+MEGABYTES = int(os.environ.get("MEGABYTES", "100"))
+SECONDS = float(os.environ.get("SECONDS", "5"))
+SYNC = bytes(range(16))
+UUID = "f79c3e09-677c-4bbd-a479-3f349cb785e7"
+
+
+# ---- Avro
+
+
+def number(n):
+    n = n * 2 if n >= 0 else -n * 2 - 1
+    out = bytearray()
+    while n > 127:
+        out.append(n & 127 | 128)
+        n >>= 7
+    out.append(n)
+    return bytes(out)
+
+
+def text(t):
+    t = t if isinstance(t, bytes) else t.encode()
+    return number(len(t)) + t
+
+
+def container(schema, objects):
+    schema = json.dumps(schema, separators=(",", ":"))
+    body = b"".join(objects)
+    return b"".join([b"Obj\x01", number(1), text("avro.schema"), text(schema), number(0), SYNC,
+                     number(len(objects)), number(len(body)), body, SYNC])
+
+
+def field(name, kind, ident):
+    return {"name": name, "type": kind, "field-id": ident}
+
+
+def record(name, fields):
+    return {"type": "record", "name": name, "fields": fields}
+
+
+ROW = [field("p", "string", 500), field("l", "long", 501), field("s", "int", 502), field("c", "int", 517),
+       field("q", "long", 515), field("m", "long", 516), field("a", "long", 503)]
+FILE = [field("c", "int", 134), field("p", "string", 100), field("f", "string", 101), field("r", "long", 103),
+        field("b", "long", 104)]
+MAPS = {"value_counts": (109, 119, 120, "long"), "null_value_counts": (110, 121, 122, "long"),
+        "lower_bounds": (125, 126, 127, "bytes"), "upper_bounds": (128, 129, 130, "bytes")}
+
+
+def row(path, spec=0, content=0):
+    return text(path) + number(1) + number(spec) + number(content) + number(1) * 2 + number(5)
+
+
+def entry(path, more=b"", content=0):
+    """A live entry; `more` is what stands behind the fields that all have."""
+    return number(1) + number(0) * 2 + number(content) + text(path) + b"\x00" + number(1) * 2 + more
+
+
+def entry_schema(more=()):
+    return record("e", [field("t", "int", 0), field("i", ["null", "long"], 1), field("n", ["null", "long"], 3),
+                        field("d", record("f", FILE + list(more)), 2)])
+
+
+def partition(kinds):
+    return field("partition", record("p", [field(f"n{i}", ["null", kind], 1000 + i) for i, kind in enumerate(kinds)]), 102)
+
+
+def map_of(name):
+    ident, key, value, kind = MAPS[name]
+    pair = record(f"k{key}", [field("key", "int", key), field("value", kind, value)])
+    return field(name, {"type": "array", "items": pair, "logicalType": "map"}, ident)
+
+
+def pairs(values):
+    """A map of columns, in the order in which the pairs are given."""
+    if not values:
+        return number(0)
+    both = [number(key) + (text(value) if isinstance(value, bytes) else number(value)) for key, value in values]
+    return number(len(both)) + b"".join(both) + number(0)
+
+
+# ---- metadata
+
+
+def table(columns, specs, **changes):
+    whole = {
+        "format-version": 2, "table-uuid": UUID, "location": "mem://t", "last-sequence-number": 4, "last-updated-ms": 50,
+        "last-column-id": 100000, "current-schema-id": 0, "default-spec-id": 0, "last-partition-id": 9999,
+        "schemas": [{"type": "struct", "schema-id": 0, "fields": [
+            {"id": i, "name": n, "required": False, "type": t} for i, n, t in columns]}],
+        "partition-specs": [{"spec-id": at, "fields": fields} for at, fields in enumerate(specs)],
+        "current-snapshot-id": 5,
+        "snapshots": [{"snapshot-id": 5, "sequence-number": 4, "timestamp-ms": 50, "schema-id": 0, "manifest-list": "mem://t/l"}]}
+    whole.update(changes)
+    return json.dumps(whole, separators=(",", ":")).encode()
+
+
+def partition_field(at, source, transform, name=None):
+    return {"source-id": source, "field-id": 1000 + at, "name": name or f"n{at}", "transform": transform}
+
+
+def in_lists(column, literals):
+    """`in` lists with so many literals, no more than a thousand in each."""
+    return " or ".join(f"{column} in ({','.join(literals[at:at + 1000])})" for at in range(0, len(literals), 1000))
+
+
+class Case:
+    def __init__(self, files, words, status=0, commands=("plan", "explain")):
+        self.files, self.words, self.status, self.commands = files, words, status, commands
+
+
+def of_table(metadata, rows, manifests):
+    return {"t": metadata, "l": container(record("m", ROW), rows), **manifests}
+
+
+# ---- the cases
+
+
+def through_specs(specs, fields, literals, transform, kind="long"):
+    """Each of these specs is that of a manifest, and each of its fields one of the filter's column."""
+    values = [str(n) for n in range(10000, 10000 + literals)]
+    if kind == "string":
+        values = ["'" + f"{n:06}" + "x" * 94 + "'" for n in range(literals)]
+    metadata = table([(1, "c", kind)], [[partition_field(at, 1, transform(spec * fields + at)) for at in range(fields)]
+                                        for spec in range(specs)])
+    result = {"long": "int", "string": "string"}[kind] if "bucket" not in transform(1) else "int"
+    one = container(entry_schema([partition([result] * fields)]), [entry("mem://t/f", number(0) * fields)])
+    rows = [row("mem://t/" + "/" * spec + "m", spec) for spec in range(min(specs, 100))]
+    return Case(of_table(metadata, rows, {"m": one}), ["--filter", in_lists("c", values)], commands=("plan",))
+
+
+def identities():
+    return through_specs(100, 64, 12000, lambda at: "identity")
+
+
+def identities_of_50_specs():
+    return through_specs(50, 64, 6000, lambda at: "identity")
+
+
+def buckets():
+    return through_specs(100, 64, 12000, lambda at: f"bucket[{at + 1}]")
+
+
+def cut_texts():
+    return through_specs(50, 64, 1000, lambda at: f"truncate[{90 + at % 10}]", "string")
+
+
+def specs_of_one_field():
+    return through_specs(5000, 1, 12000, lambda at: f"bucket[{at + 1}]")
+
+
+def long_field_name():
+    name = "n" * 400000
+    metadata = table([(1, "c", "int")], [[partition_field(0, 1, "identity", name)]])
+    files = [entry(f"mem://t/{at}", number(1) + number(1)) for at in range(2000)]
+    return Case(of_table(metadata, [row("mem://t/m")], {"m": container(entry_schema([partition(["int"])]), files)}),
+                ["--filter", "c = 2"])
+
+
+def long_names_of_leaves():
+    name = "n" * 400000
+    metadata = table([(1, "c", "int")], [[partition_field(0, 1, "identity", name)]])
+    files = [entry(f"mem://t/{at}", number(1) + number(1)) for at in range(100)]
+    words = " and ".join(f"c < {at}" for at in range(2, 1002))
+    return Case(of_table(metadata, [row("mem://t/m")], {"m": container(entry_schema([partition(["int"])]), files)}),
+                ["--filter", words])
+
+
+def long_manifest_path():
+    path = "m" + "/" * 3800 + "m"
+    files = [entry(str(at)) for at in range(20000)]
+    rows = [text("mem://t/" + path) + number(1) + number(0) * 2 + number(9) * 2 + number(5)]
+    return Case(of_table(table([(1, "c", "int")], [[]]), rows, {"m/m": container(entry_schema(), files)}), [], 1, ("audit",))
+
+
+def long_file_path():
+    fields = 60
+    metadata = table([(1, "c", "int")], [[partition_field(at, 1, "identity") for at in range(fields)]])
+    summary = record("s", [field("n", "boolean", 509), field("lo", ["null", "bytes"], 510), field("hi", ["null", "bytes"], 511)])
+    rows = container(record("m", ROW + [field("ps", {"type": "array", "items": summary}, 507)]),
+                     [row("mem://t/m") + number(fields) + b"\x00\x00\x00" * fields + number(0)])
+    files = [entry("f" * 40000 + str(at), number(0) * fields) for at in range(20)]
+    manifest = container(entry_schema([partition(["int"] * fields)]), files)
+    return Case({"t": metadata, "l": rows, "m": manifest}, [], 1, ("audit",))
+
+
+def columns_and_entries(entries, maps=(), more=b""):
+    columns = [(at, "c", "int") for at in range(1, 10001)]
+    files = [entry(f"{at:x}", more) for at in range(entries)]
+    manifest = container(entry_schema([map_of(name) for name in maps]), files)
+    return Case(of_table(table(columns, [[]]), [row("mem://t/m")], {"m": manifest}), [], 0, ("audit",))
+
+
+def entries_without_maps():
+    return columns_and_entries(35000)
+
+
+def entries_with_one_bound():
+    low, high = (5).to_bytes(4, "little"), (7).to_bytes(4, "little")
+    return columns_and_entries(15500, ("lower_bounds", "upper_bounds"), pairs([(9000, low)]) + pairs([(9000, high)]))
+
+
+def entries_with_turned_bounds():
+    both = pairs([(9000, b""), (5, b"")])
+    return columns_and_entries(16000, ("upper_bounds",), both)
+
+
+def entries_with_an_excess():
+    case = columns_and_entries(16000, ("value_counts", "null_value_counts"), pairs([(9000, 1)]) + pairs([(9000, 2)]))
+    case.status = 1
+    return case
+
+
+def missing_columns():
+    ids = field("equality_ids", {"type": "array", "items": "int"}, 135)
+    columns = [(at, "c", "int") for at in range(1, 10001)]
+    lacking = number(100) + b"".join(number(20000 + at) for at in range(100)) + number(0)
+    files = [entry(f"{at:x}", lacking, 2) for at in range(1200)]
+    manifest = container(entry_schema([ids]), files)
+    rows = [row("mem://t/m", 0, 1)]
+    return Case(of_table(table(columns, [[]]), rows, {"m": manifest}), [], 1, ("audit",))
+
+
+def many_predicates():
+    maps = ("lower_bounds", "upper_bounds")
+    bound = pairs([(1, (5).to_bytes(4, "little"))])
+    files = [entry(f"{at:x}", bound * 2) for at in range(25000)]
+    manifest = container(entry_schema([map_of(name) for name in maps]), files)
+    words = " or ".join(f"c = {at}" for at in range(1000, 1999)) + " or c < 10"
+    return Case(of_table(table([(1, "c", "int")], [[]]), [row("mem://t/m")], {"m": manifest}), ["--filter", words])
+
+
+def small_objects():
+    metadata = table([(1, "c", "int")], [[]], **{"properties": {}})
+    metadata = metadata[:-1] + b',"x":[' + b",".join([b"{}"] * 300000) + b"]}"
+    manifest = container(entry_schema(), [entry("mem://t/f")])
+    return Case(of_table(metadata, [row("mem://t/m")], {"m": manifest}), [], 0, ("plan", "append", "show", "audit"))
+
+
+def small_members():
+    metadata = table([(1, "c", "int")], [[]])
+    metadata = metadata[:-1] + b',"x":[' + b",".join([b'{"a":0}'] * 110000) + b"]}"
+    manifest = container(entry_schema(), [entry("mem://t/f")])
+    return Case(of_table(metadata, [row("mem://t/m")], {"m": manifest}), [], 0, ("plan", "append", "show", "audit"))
+
+
+CASES = [identities_of_50_specs, identities, buckets, cut_texts, specs_of_one_field, long_field_name, long_names_of_leaves,
+         long_manifest_path, long_file_path, entries_without_maps, entries_with_one_bound, entries_with_turned_bounds,
+         entries_with_an_excess, missing_columns, many_predicates, small_objects, small_members]
+
+CHANGE = {"data": [{"path": "mem://t/new", "format": "parquet", "spec-id": 0, "partition": [], "record-count": 1,
+                    "file-size": 1}], "deletes": []}
+
+
+def made(folder, case):
+    """Writes the case's files, and gives their size and that of the words."""
+    for name, data in case.files.items():
+        os.makedirs(os.path.dirname(os.path.join(folder, name)), exist_ok=True)
+        with open(os.path.join(folder, name), "wb") as out:
+            out.write(data)
+    os.makedirs(os.path.join(folder, "metadata"))
+    with open(os.path.join(folder, "change"), "w") as out:
+        json.dump(CHANGE, out)
+    return sum(map(len, case.files.values())) + sum(map(len, case.words))
+
+
+def words_of(command, folder, case, workers):
+    place = ["--dir", folder, "--prefix", "mem://t"]
+    if command == "append":
+        out = f"mem://t/out{workers}.json"
+        return [command, *place, "--snapshot-id", "7", "--uuid", UUID, "--now-ms", "99", "--out", out, "mem://t/t", "mem://t/change"]
+    by = [] if command == "show" else ["--workers", str(workers)]
+    return [command, *place, *by, *case.words, "mem://t/t"]
+
+
+def limited():
+    resource.setrlimit(resource.RLIMIT_AS, (4 << 30, 4 << 30))
+    resource.setrlimit(resource.RLIMIT_CPU, (60, 60))
+
+
+def run(program, words):
+    """Status, megabytes at the peak and seconds of processor time."""
+    child = subprocess.Popen([program, *words], stdout=subprocess.DEVNULL, stderr=subprocess.DEVNULL, preexec_fn=limited)
+    _, status, used = os.wait4(child.pid, 0)
+    child.returncode = os.waitstatus_to_exitcode(status)
+    return child.returncode, used.ru_maxrss / 1024, used.ru_utime + used.ru_stime
+
+
+def main():
+    program, names = sys.argv[1], sys.argv[2:]
+    runs = over = 0
+    for make in CASES:
+        if names and make.__name__ not in names:
+            continue
+        case = make()
+        with tempfile.TemporaryDirectory() as folder:
+            size = made(folder, case)
+            assert size < MOST_INPUT, (make.__name__, size)
+            for command in case.commands:
+                for workers in (1,) if command in ("append", "show") else (1, 4):
+                    status, megabytes, seconds = run(program, words_of(command, folder, case, workers))
+                    bad = status != case.status or megabytes > MEGABYTES or seconds > SECONDS
+                    runs, over = runs + 1, over + bad
+                    print(f"{'OVER ' if bad else '     '}{make.__name__} {command} by {workers}: {size / 1e6:.2f} MB of input, "
+                          f"{megabytes:.0f} MB, {seconds:.2f} s, status {status}", flush=True)
+    print(f"{runs} runs, {over} over")
+    sys.exit(1 if over else 0)
+
+
+main()
