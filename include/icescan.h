@@ -177,7 +177,7 @@ uint32_t icescan_plan_position(icescan_handle *plan, size_t i, size_t j, icescan
 uint32_t icescan_plan_equality(icescan_handle *plan, size_t i, size_t j, icescan_file *file);
 
 /* Lends the line that a handle holds after a call on it that answered ICESCAN_TABLE or ICESCAN_ASKED, with the line
- * feed at its end; a front of it where memory ran out. It is the line that the program `icescan` writes then. */
+ * feed at its end; no bytes where memory ran out for it. It is the line that the program `icescan` writes then. */
 uint32_t icescan_fault(icescan_handle *handle, icescan_bytes *line);
 
 /* Lets go what a handle holds. A handle that holds nothing, as one that was freed, may be freed again. */

@@ -14,7 +14,8 @@ use Rattle.avro_schema.specs.Tree.{Tree, structure, array, map, union, Fields, f
 use Rattle.avro_schema.specs.Tree.{branch}
 use Rattle.avro_schema.specs.View.{tree}
 use Rattle.avro_file.specs.Value.{Value}
-use Rattle.avro_file.specs.Reading.{values_at, block_then, blocks_at, entry_at, datum_at, fields_at, branch_at, chosen_by}
+use Rattle.avro_file.specs.Reading.{values_at, block_then, blocks_at, entry_at, datum_at, fields_at, branch_at}
+use Rattle.avro_file.specs.Reading.{chosen_by}
 use Rattle.avro_file.specs.Spelling.{takes_bytes}
 use Rattle.avro_file.specs.Blocks.{inside, refused, max_items, object_at}
 use Rattle.avro_file.proofs.Steps.{ok_is}

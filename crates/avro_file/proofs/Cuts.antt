@@ -9,7 +9,8 @@ use Rattle.contract_words.specs.Outcome.{◌>>=◌}
 use Rattle.avro_file_parts.specs.declared.refusal.Refusal.{Refusal}
 use Rattle.avro_file_parts.specs.declared.refusal.Refusal.TheVariants.{Short, BadNumber, BadUtf8, TooManyItems, BadSync}
 use Rattle.avro_file_parts.specs.Number.{groups_at, from_start, number_at, long_at, signed_of}
-use Rattle.avro_file_parts.specs.Parts.{Position, Read, run_at, run_of, bytes_at, string_at, counted, magnitude, count_at}
+use Rattle.avro_file_parts.specs.Parts.{Position, Read, run_at, run_of, bytes_at, string_at, counted, magnitude}
+use Rattle.avro_file_parts.specs.Parts.{count_at}
 use Rattle.avro_file.specs.Reading.{values_at, block_then, blocks_at}
 use Rattle.avro_file.specs.Header.{Property, Wanted, none_wanted, wanted_with, property_at, properties_at, wanted_at}
 use Rattle.avro_file.specs.Header.{metadata_at, FileHeader, header_at, IsProperty}

@@ -1,6 +1,7 @@
 -- What the steps of writing a value leave.
 use Rattle.std.proofs.Common.{◌≡◌, ℕ, zero, suc, ◌+◌, ◌-◌, ◌*◌, ◌/◌, ◌%◌, ◌^◌, ◌<◌, ◌≤◌, pos, ℤ, List, [], ◌∷◌, ◌++◌}
-use Rattle.std.proofs.Common.{length, get_or, drop, replicate, refl, sym, ap, ◌∙◌, append_assoc, add-one, map, drop-cons, arith, rules}
+use Rattle.std.proofs.Common.{length, get_or, drop, replicate, refl, sym, ap, ◌∙◌, append_assoc, add-one, map}
+use Rattle.std.proofs.Common.{drop-cons, arith, rules}
 use Rattle.std.proofs.Common.{Vec, Box, Global}
 use Rattle.std.proofs.lemmas.List.{append-nil, length-replicate}
 use Rattle.std.proofs.lemmas.Bool.{lt-ltb, le-ltb}

@@ -1,5 +1,6 @@
 -- Arrays of values that take no bytes.
-use Rattle.std.proofs.Common.{◌≡◌, ℕ, zero, suc, Option, ℤ, List, ◌∷◌, ◌++◌, ◌+◌, length, map, replicate, Ok, Err, refl, sym, ap}
+use Rattle.std.proofs.Common.{◌≡◌, ℕ, zero, suc, Option, ℤ, List, ◌∷◌, ◌++◌, ◌+◌, length, map, replicate, Ok, Err, refl}
+use Rattle.std.proofs.Common.{sym, ap}
 use Rattle.std.proofs.Common.{◌∙◌}
 use Rattle.std.proofs.lemmas.List.{map-append, replicate-append-replicate}
 use Rattle.contract_words.specs.Outcome.{◌>>=◌}

@@ -13,7 +13,8 @@ use Rattle.avro_file_parts.specs.declared.refusal.Refusal.{Refusal}
 use Rattle.avro_file_parts.specs.declared.refusal.Refusal.TheVariants as refusal
 use Rattle.avro_file.specs.declared.fault.AvroFault.TheVariants as fault
 use Rattle.avro_file_parts.specs.Number.{IsLong, signed_of, groups_at, from_start, number_at, long_at}
-use Rattle.avro_file_parts.specs.Parts.{Position, Read, run_at, run_of, bytes_at, string_at, magnitude, counted, count_at}
+use Rattle.avro_file_parts.specs.Parts.{Position, Read, run_at, run_of, bytes_at, string_at, magnitude, counted}
+use Rattle.avro_file_parts.specs.Parts.{count_at}
 use Rattle.avro_file.specs.Reading.{values_at, block_then, blocks_at}
 use Rattle.avro_file.specs.Blocks.{fault_of, refused}
 use Rattle.avro_file.specs.Header.{Property, property_at, properties_at, metadata_at, header_at, IsProperty}

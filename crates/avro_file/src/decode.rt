@@ -1,6 +1,7 @@
 //! Values of every schema.
 
-ghost use Rattle.std.specs.Prelude.{◌≡◌, ◌≤◌, ℕ, ℤ, Option, suc, List, length, Ok, IfOk, map, MatchOption, pos, ◌<ℤ◌, false};
+ghost use Rattle.std.specs.Prelude.{◌≡◌, ◌≤◌, ℕ, ℤ, Option, suc, List, length, Ok, IfOk, map, MatchOption, pos, ◌<ℤ◌};
+ghost use Rattle.std.specs.Prelude.{false};
 ghost use Rattle.contract_words.specs.Outcome.{Gives};
 ghost use Rattle.avro_file_parts.specs.Exact.{IsRead};
 ghost use Rattle.avro_schema.specs.declared.schema.ArrayKind.{ArrayKind};

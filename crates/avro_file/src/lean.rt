@@ -10,7 +10,8 @@ use std::alloc::{AllocError, Global};
 use std::sync::Arc;
 
 /// A schema whose values end where those of the given one do, or meet the same fault there. Its records lack the fields
-/// that take no bytes, however many they are, so that each step over a value passes some bytes. `Err` is want of memory.
+/// that take no bytes, however many they are, so that each step over a value passes some bytes. `Err` is want of
+/// memory.
 #[cycle(lean)]
 pub fn lean_schema(alloc: Global, schema: &Schema) -> Result<Schema, AllocError>
     ensures { IfOk result (λ lean. EndAlike (tree lean) (tree schema.now)) }

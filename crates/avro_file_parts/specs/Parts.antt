@@ -6,7 +6,8 @@ use Rattle.std.specs.Prelude.{false, Result, Ok, Err, nat_lt, if◌then◌else�
 use Rattle.std.specs.Str.{is_utf8}
 use Rattle.contract_words.specs.Outcome.{◌>>=◌}
 use Rattle.avro_file_parts.specs.declared.refusal.Refusal.{Refusal}
-use Rattle.avro_file_parts.specs.declared.refusal.Refusal.TheVariants.{Short, BadNumber, BadUtf8, BadBoolean, TooManyItems}
+use Rattle.avro_file_parts.specs.declared.refusal.Refusal.TheVariants.{Short, BadNumber, BadUtf8, BadBoolean}
+use Rattle.avro_file_parts.specs.declared.refusal.Refusal.TheVariants.{TooManyItems}
 use Rattle.avro_file_parts.specs.Number.{long_at, int_at}
 
 -- where a reader stands: the bytes to come, and how many items may still come in arrays and maps

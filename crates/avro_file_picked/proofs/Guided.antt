@@ -1,6 +1,7 @@
 -- Guides of types, and where ways lead by them.
 use Rattle.std.proofs.Common.{◌≡◌, ◌≤◌, ◌<◌, ◌+◌, ℕ, zero, suc, ℤ, Bool, true, false, ◌||◌, cond, List, [], ◌∷◌, ◌++◌}
-use Rattle.std.proofs.Common.{length, get_or, drop, map, IfOk, Option, Some, None, Result, Ok, Err, refl, sym, ap, subst, ◌∙◌}
+use Rattle.std.proofs.Common.{length, get_or, drop, map, IfOk, Option, Some, None, Result, Ok, Err, refl, sym, ap}
+use Rattle.std.proofs.Common.{subst, ◌∙◌}
 use Rattle.std.proofs.Common.{add-one, drop-cons, arith, rules, Vec, Global}
 use Rattle.std.proofs.Math.ListN.{drop_of_length-le}
 use Rattle.std.proofs.lemmas.List.{append-nil}
@@ -31,8 +32,10 @@ use Rattle.avro_file.proofs.Views.{field_trees, branch_trees}
 use Rattle.avro_file.proofs.Behind.{behind_ok, behind_err, empty_value}
 use Rattle.avro_file_picked.specs.declared.guide.Guide.{Guide, out-Guide, the_lemmas}
 use Rattle.avro_file_picked.specs.Finding.{fields_in, is_structure, branches_in, items_in, items_type}
-use Rattle.avro_file_picked.specs.Guides.{Guided, guided, Guides, no_guides, guide, guides_of, seen, all_seen, is_on, asks}
-use Rattle.avro_file_picked.specs.Guides.{ids_in, AreAsked, kept, as_fields, inner, type_guided, id_guided, IsGuide, AreParts}
+use Rattle.avro_file_picked.specs.Guides.{Guided, guided, Guides, no_guides, guide, guides_of, seen, all_seen, is_on}
+use Rattle.avro_file_picked.specs.Guides.{asks}
+use Rattle.avro_file_picked.specs.Guides.{ids_in, AreAsked, kept, as_fields, inner, type_guided, id_guided, IsGuide}
+use Rattle.avro_file_picked.specs.Guides.{AreParts}
 use Rattle.avro_file_picked.specs.Guides.{GuidesTo, HasItems, GuidesItems}
 use Rattle.avro_file_picked.specs.Placing.{nth_way}
 use Rattle.avro_file_picked.proofs.Values.{First, first_read, stands}

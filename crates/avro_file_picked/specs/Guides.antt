@@ -5,7 +5,8 @@ use Rattle.std.specs.Prelude.{if◌then◌else◌}
 use Rattle.std.specs.Global.{Global}
 use Rattle.std.specs.Ordering.{int_eq}
 use Rattle.std.specs.Option.{option_eq}
-use Rattle.avro_schema.specs.Tree.{Tree, structure, array, union, Fields, no_fields, field, Branches, no_branches, branch}
+use Rattle.avro_schema.specs.Tree.{Tree, structure, array, union, Fields, no_fields, field, Branches, no_branches}
+use Rattle.avro_schema.specs.Tree.{branch}
 use Rattle.avro_schema.specs.View.{tree}
 use Rattle.avro_file_parts.specs.declared.place.Place.{Place}
 use Rattle.avro_file_parts.specs.declared.refusal.Refusal.{Refusal}

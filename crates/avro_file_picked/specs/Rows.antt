@@ -1,6 +1,7 @@
 -- A type as the row of the types that are read one after the other, and where each of their values begins.
 -- Avro 1.11.1 specification, 'Records': the values of the fields, one after the other, with nothing between them.
-use Rattle.std.specs.Prelude.{◌≡◌, ◌≤◌, ℕ, zero, suc, ℤ, List, [], ◌∷◌, ◌++◌, length, drop, map, Option, Some, None, Ok, IfSome, Vec}
+use Rattle.std.specs.Prelude.{◌≡◌, ◌≤◌, ℕ, zero, suc, ℤ, List, [], ◌∷◌, ◌++◌, length, drop, map, Option, Some, None, Ok}
+use Rattle.std.specs.Prelude.{IfSome, Vec}
 use Rattle.std.specs.Global.{Global}
 use Rattle.std.specs.Prelude.{nat_lt, if◌then◌else◌}
 use Rattle.avro_schema.specs.Tree.{Tree, null, fixed, structure, Fields, no_fields, field}

@@ -13,8 +13,10 @@ ghost use Rattle.avro_file.specs.Reading.{datum_at, fields_at};
 ghost use Rattle.avro_file.specs.Blocks.{StandsAt};
 ghost use Rattle.avro_file.specs.Picking.{pick, field_value, unless_absent};
 ghost use Rattle.avro_file_picked.specs.Finding.{IsMet, within};
-ghost use Rattle.avro_file_picked.specs.Guides.{ids_in, is_on as is_id_on, asks as is_asked, kept, as_fields, guided, seen};
-ghost use Rattle.avro_file_picked.specs.Guides.{IsGuideOf, all_seen, id_guided, type_guided, IsGuide, AreParts, AreAsked};
+ghost use Rattle.avro_file_picked.specs.Guides.{ids_in, is_on as is_id_on, asks as is_asked, kept, as_fields, guided};
+ghost use Rattle.avro_file_picked.specs.Guides.{seen};
+ghost use Rattle.avro_file_picked.specs.Guides.{IsGuideOf, all_seen, id_guided, type_guided, IsGuide, AreParts};
+ghost use Rattle.avro_file_picked.specs.Guides.{AreAsked};
 ghost use Rattle.avro_file_picked.specs.Guides.{GuidesTo, HasItems, GuidesItems, IsGuided};
 
 use crate::found::{Found, MAX_ITEMS, branches_of, is_null, is_record, items_of};

@@ -1,5 +1,6 @@
 -- What is found of an object and of its file.
-use Rattle.std.proofs.Common.{◌≡◌, ◌+◌, ◌<◌, ℕ, zero, suc, ℤ, pos, List, [], ◌∷◌, ◌++◌, length, get_or, map, Bool, true, is_some, Option, Some, None}
+use Rattle.std.proofs.Common.{◌≡◌, ◌+◌, ◌<◌, ℕ, zero, suc, ℤ, pos, List, [], ◌∷◌, ◌++◌, length, get_or, map, Bool, true}
+use Rattle.std.proofs.Common.{is_some, Option, Some, None}
 use Rattle.std.proofs.Common.{Result, Ok, refl, sym, ap, subst, ◌∙◌, arith, IfSome}
 use Rattle.std.proofs.lemmas.List.{length-map}
 use Rattle.avro_schema.specs.Tree.{Tree, null, boolean, int, long, float, double, symbols, octets, string, fixed}
@@ -21,10 +22,12 @@ use Rattle.ice_manifest_fields.specs.Schemas.{fields_in}
 use Rattle.ice_manifest_fields.specs.Seen.{fields_seen}
 use Rattle.ice_manifest_layouts.specs.declared.entry.FoundEntry.{FoundEntry}
 use Rattle.ice_manifest_layouts.specs.declared.file.FoundFile.{FoundFile}
-use Rattle.ice_manifest_layouts.specs.Ways.{to_cell, to_cells, to_entries, to_files, entry_fields, file_fields, wanted_ways}
+use Rattle.ice_manifest_layouts.specs.Ways.{to_cell, to_cells, to_entries, to_files, entry_fields, file_fields}
+use Rattle.ice_manifest_layouts.specs.Ways.{wanted_ways}
 use Rattle.ice_manifest_layouts.specs.declared.entry_field.FileField.{FileField}
 use Rattle.ice_manifest_layouts.specs.Ways.{file_id, to_file, pair_ids, IsNumberOf}
-use Rattle.ice_manifest_layouts.specs.Seen.{value_read, record_met, entry_seen, IsPlaced, file_of, file_seen, IsFile, tuple_of}
+use Rattle.ice_manifest_layouts.specs.Seen.{value_read, record_met, entry_seen, IsPlaced, file_of, file_seen, IsFile}
+use Rattle.ice_manifest_layouts.specs.Seen.{tuple_of}
 use Rattle.ice_manifest_layouts.specs.Seen.{tuple_seen, HasTuple, IsGuidedFile}
 use Rattle.ice_manifest_layouts.proofs.Records.{picked_onward}
 

@@ -1,5 +1,5 @@
--- The fields that are read of a manifest list's rows, and the objects in which they were found. Apache Iceberg table spec
--- v2, "Manifest Lists".
+-- The fields that are read of a manifest list's rows, and the objects in which they were found. Apache Iceberg table
+-- spec v2, "Manifest Lists".
 use Rattle.std.specs.Prelude.{◌≡◌, ◌<◌, ℕ, ℤ, pos, List, [], ◌∷◌, ◌++◌, length, map, Result, Ok, Err}
 use Rattle.avro_schema.specs.View.{tree}
 use Rattle.avro_file_parts.specs.declared.refusal.Refusal.{Refusal}

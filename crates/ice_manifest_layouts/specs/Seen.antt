@@ -59,8 +59,8 @@ tuple_seen f = record_met (tuple_of f)
 abbrev pub HasTuple : FoundFile → Type 0
 HasTuple f = (y : Typed) × (tuple_of f ≡ Some y)
 
--- The file's entry stands there, and the guide is of its type and keeps all that is wanted of it. Each field of the file
--- is what the way leads to from the entry.
+-- The file's entry stands there, and the guide is of its type and keeps all that is wanted of it. Each field of the
+-- file is what the way leads to from the entry.
 abbrev pub IsGuidedFile : FoundFile → GuidedObject → Type 0
 IsGuidedFile f guided = (t : Tree) × (v : Value) × IsGuided (wanted_ways f.entry.now.partition.now) t v guided
     × ((field : FileField) → pick (to_file field) (t, v) ≡ at (file_id field) (file_seen f))

@@ -1,5 +1,5 @@
-//! Which ways of field ids are read of a manifest list's rows and of a manifest's entries, and the fields that were found
-//! along them in the bytes of the file's objects.
+//! Which ways of field ids are read of a manifest list's rows and of a manifest's entries, and the fields that were
+//! found along them in the bytes of the file's objects.
 #![tactic(auto)]
 
 mod entry;

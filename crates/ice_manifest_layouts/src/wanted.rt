@@ -17,8 +17,8 @@ use ice_manifest_values::push_way;
 use ice_meta::PartitionField;
 use std::alloc::{AllocError, Global};
 
-/// The fields of the pairs of a file's maps. No way leads to them from an entry: they stand among what is wanted so that
-/// a guide of the entry, where the layout has one, keeps them in the pairs.
+/// The fields of the pairs of a file's maps. No way leads to them from an entry: they stand among what is wanted so
+/// that a guide of the entry, where the layout has one, keeps them in the pairs.
 const PAIR_IDS: [i32; 8] = [
     VALUE_COUNTS.key,
     VALUE_COUNTS.said,

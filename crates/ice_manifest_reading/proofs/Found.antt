@@ -1,5 +1,6 @@
 -- Entries as they are found in the objects of a manifest.
-use Rattle.std.proofs.Common.{◌≡◌, ℕ, ◌+◌, ℤ, pos, Bool, true, List, Option, Some, Result, Ok, Err, refl, sym, ap, subst}
+use Rattle.std.proofs.Common.{◌≡◌, ℕ, ◌+◌, ℤ, pos, Bool, true, List, Option, Some, Result, Ok, Err, refl, sym, ap}
+use Rattle.std.proofs.Common.{subst}
 use Rattle.std.proofs.Common.{◌∙◌, ◌++◌}
 use Rattle.std.proofs.lemmas.List.{append-nil}
 use Rattle.contract_words.specs.Outcome.{◌>>=◌}
@@ -8,7 +9,8 @@ use Rattle.ice_manifest_fields.specs.Fields.{asked, record_at}
 use Rattle.ice_manifest_fields.specs.Naming.{in_manifest, told}
 use Rattle.ice_manifest_reading.specs.declared.data_file.DataFile.{DataFile}
 use Rattle.ice_manifest_reading.specs.declared.status.Status.{Status}
-use Rattle.ice_manifest_reading.specs.Manifests.{sequence_at, file_sequence_at, snapshot_at, live_at, file_of as said_file}
+use Rattle.ice_manifest_reading.specs.Manifests.{sequence_at, file_sequence_at, snapshot_at, live_at}
+use Rattle.ice_manifest_reading.specs.Manifests.{file_of as said_file}
 use Rattle.avro_schema.specs.Tree.{Tree, structure}
 use Rattle.avro_schema.specs.View.{tree}
 use Rattle.avro_file.specs.declared.object.Object.{Object}

@@ -1,5 +1,6 @@
 -- Rows as they are found in the objects of a manifest list.
-use Rattle.std.proofs.Common.{◌≡◌, ℕ, ℤ, pos, true, List, ◌∷◌, [], ◌++◌, Option, Some, Result, Ok, Err, refl, sym, ap, subst, ◌∙◌}
+use Rattle.std.proofs.Common.{◌≡◌, ℕ, ℤ, pos, true, List, ◌∷◌, [], ◌++◌, Option, Some, Result, Ok, Err, refl, sym, ap}
+use Rattle.std.proofs.Common.{subst, ◌∙◌}
 use Rattle.avro_schema.specs.Tree.{Tree, structure}
 use Rattle.avro_schema.specs.View.{tree}
 use Rattle.avro_file.specs.Ahead.{Ahead}

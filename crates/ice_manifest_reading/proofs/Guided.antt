@@ -2,7 +2,8 @@
 use Rattle.std.proofs.Common.{IfSome, Option, Some, None, refl}
 use Rattle.avro_file_picked.specs.declared.guide.GuidedObject.{GuidedObject}
 use Rattle.ice_manifest_values.specs.Met.{LeadsToMaps}
-use Rattle.ice_manifest_layouts.specs.declared.entry_field.FileField.TheVariants.{ValueCounts, NullCounts, LowerBounds, UpperBounds}
+use Rattle.ice_manifest_layouts.specs.declared.entry_field.FileField.TheVariants.{ValueCounts, NullCounts, LowerBounds}
+use Rattle.ice_manifest_layouts.specs.declared.entry_field.FileField.TheVariants.{UpperBounds}
 use Rattle.ice_manifest_layouts.specs.declared.file.FoundFile.{FoundFile}
 use Rattle.ice_manifest_layouts.specs.Seen.{IsGuidedFile}
 use Rattle.ice_manifest_layouts.specs.Ways.{wanted_ways}

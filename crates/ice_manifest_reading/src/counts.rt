@@ -20,7 +20,7 @@ pub struct Counts {
 
 impl Counts {
     /// None of them.
-    pub(crate) fn none() -> Counts
+    pub fn none() -> Counts
         ensures { result ≡ no_counts }
     {
         Counts {
@@ -37,17 +37,7 @@ impl Counts {
     fn are_none(&self) -> bool
         ensures { result ≡ true → self.now ≡ no_counts }
     {
-        match self {
-            Counts {
-                added_files: None,
-                existing_files: None,
-                deleted_files: None,
-                added_rows: None,
-                existing_rows: None,
-                deleted_rows: None,
-            } => true,
-            _ => false,
-        }
+        *self == Counts::none()
     }
 
     /// The counts in memory of their own, which they take only where the writer said one of them.

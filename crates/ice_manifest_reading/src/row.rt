@@ -118,8 +118,8 @@ fn same_summaries(a: &Option<Box<Items<Summary>>>, b: &Option<Box<Items<Summary>
     }
 }
 
-/// A row as it is gathered. It lends its path from the file, and its counts and summaries take memory only where the list
-/// says them, since a list may have millions of rows of a few bytes.
+/// A row as it is gathered. It lends its path from the file, and its counts and summaries take memory only where the
+/// list says them, since a list may have millions of rows of a few bytes.
 #[derive(Drop)]
 pub(crate) struct LentRow<'d> {
     pub(crate) path: &'d str,

@@ -14,7 +14,8 @@ use Rattle.avro_file_picked.specs.declared.found.Found.{Found}
 use Rattle.avro_file_picked.specs.Finding.{IsMet}
 use Rattle.avro_file_picked.specs.Picked.{value_met}
 use Rattle.ice_manifest_fields.specs.Fields.{there, whole_of, truth_of, text_of, binary_of}
-use Rattle.ice_manifest_values.proofs.Leaves.{Makes, stands_seen, boolean_stands, int_stands, long_stands, string_stands}
+use Rattle.ice_manifest_values.proofs.Leaves.{Makes, stands_seen, boolean_stands, int_stands, long_stands}
+use Rattle.ice_manifest_values.proofs.Leaves.{string_stands}
 use Rattle.ice_manifest_values.proofs.Leaves.{octets_stand}
 
 -- how a leaf of the type is read

@@ -1,6 +1,5 @@
--- What was met where a way of field ids leads, as the field that it is: what a manifest list's row or a manifest's entry
--- must have there, or may.
--- Apache Iceberg table spec v2, 'Manifests' and 'Column Projection'.
+-- What was met where a way of field ids leads, as the field that it is: what a manifest list's row or a manifest's
+-- entry must have there, or may. Apache Iceberg table spec v2, 'Manifests' and 'Column Projection'.
 use Rattle.std.specs.Prelude.{◌≡◌, ◌≢◌, ℕ, ℤ, pos, List, [], ◌∷◌, Option, Some, None, Result, Ok, Err}
 use Rattle.contract_words.specs.Outcome.{◌>>=◌}
 use Rattle.avro_schema.specs.Tree.{Tree}

@@ -1,5 +1,5 @@
 -- What is made of the bytes that C hands in.
-use Rattle.std.specs.Prelude.{◌≡◌, ◌≤◌, ℕ, List, length, take, Result, Ok, Err}
+use Rattle.std.specs.Prelude.{◌≡◌, ◌⊎◌, ℕ, List, [], Result, Ok, Err}
 use Rattle.contract_words.specs.Outcome.{Gives, ◌>>=◌}
 use Rattle.ice_manifest_reading.specs.Lists.{rows_of}
 use Rattle.icescan_requests.specs.Selections.{selected}
@@ -47,9 +47,9 @@ finished kept = do
   plan ← as_run of_finish (outcome kept.scan kept.content)
   Ok (held.Plan plan)
 
--- the line of a fault is held, or a front of it where memory ran out
+-- the line of a fault is held, or no bytes where memory ran out for it
 abbrev pub IsLineOf : RunFault → Held → Type 0
-IsLineOf fault after = (n : ℕ) × (n ≤ length (fault_text fault)) × (after ≡ held.Fault (take n (fault_text fault)))
+IsLineOf fault after = (after ≡ held.Fault (fault_text fault)) ⊎ (after ≡ held.Fault [])
 
 -- what was made is held, or the line of the fault, with whose status the call ends
 abbrev pub Holds : Result Held RunFault → Result Unit Refusal → Held → Type 0

@@ -18,6 +18,6 @@ pub enum Held {
     State(State),
     /// A plan.
     Plan(OwnedPlan),
-    /// The line that tells why there is none of these, or a front of it where memory ran out.
+    /// The line that tells why there is none of these; no bytes where memory ran out for it.
     Fault(Items<u8>),
 }

@@ -8,8 +8,8 @@ use crate::held::Held;
 use crate::questions::{Answer, SharedScan};
 use crate::states::State;
 use contract_words::Items;
-use icescan_c_requests::Refusal;
-use icescan_text::{Request, RunFault, report};
+use icescan_c_requests::{Refusal, fault_line};
+use icescan_text::{Request, RunFault};
 use std::alloc::Global;
 use std::mem::replace;
 
@@ -38,7 +38,7 @@ fn finished(state: State) -> Result<Held, RunFault>
 }
 
 impl Held {
-    /// Holds what was made, or the line of the fault.
+    /// Holds what was made, or the line of the fault; no bytes where memory ran out for the line.
     fn hold(&mut self, alloc: Global, made: Result<Held, RunFault>) -> Result<(), Refusal>
         ensures { Holds made result self.new }
     {
@@ -48,10 +48,11 @@ impl Held {
                 Ok(())
             }
             Err(fault) => {
-                let mut line = Vec::new(alloc);
-                let status = report(&fault, &mut line);
-                *self = Held::Fault(Items::from_vec(line));
-                Err(Refusal::Fault(status))
+                *self = Held::Fault(match fault_line(alloc, &fault) {
+                    Ok(line) => line,
+                    Err(_) => Items::from_vec(Vec::new(alloc)),
+                });
+                Err(Refusal::Fault(fault.status()))
             }
         }
     }

@@ -3,6 +3,8 @@
 
 mod asking;
 mod endings;
+mod lines;
 
 pub use asking::{request_by_id, request_by_name};
 pub use endings::{Refusal, status};
+pub use lines::fault_line;

@@ -178,15 +178,6 @@ impl Tell for Positions {
     }
 }
 
-const NO_COUNTS: Counts = Counts {
-    added_files: None,
-    existing_files: None,
-    deleted_files: None,
-    added_rows: None,
-    existing_rows: None,
-    deleted_rows: None,
-};
-
 fn content_of(content: &str) -> ManifestContent {
     match content {
         "data" | "seen" | "told" | "counts" => ManifestContent::Data,
@@ -210,7 +201,7 @@ fn row_of(alloc: Global, source: &str) -> Result<Row, AllocError> {
         sequence_number: number_of(number),
         min_sequence_number: SequenceNumber::zero(),
         added_snapshot_id: 1,
-        counts: NO_COUNTS,
+        counts: Counts::none(),
         partitions: None,
     })
 }

@@ -1,7 +1,8 @@
 use Rattle.std.proofs.Common.{◌≡◌, ℕ, ◌+◌, ◌*◌, ◌^◌, [], Ok, ap, ◌∙◌, arith}
 use Rattle.std.proofs.lemmas.List.{nil_from_length}
 use Rattle.avro_file_parts.specs.Number.{groups_at}
-use Rattle.avro_file_parts.proofs.Groups.{goes_on, ends_small, ends_short, ends_large, place_small, times_small, place_grows}
+use Rattle.avro_file_parts.proofs.Groups.{goes_on, ends_small, ends_short, ends_large, place_small, times_small}
+use Rattle.avro_file_parts.proofs.Groups.{place_grows}
 use Rattle.avro_file_parts.proofs.Groups.{low_stays, tenth_place, times_one}
 use Rattle.avro_file_parts.proofs.number.longer_unsigned_of.Goals as goal
 

@@ -11,7 +11,8 @@ use Rattle.avro_file.proofs.Behind.{behind_ok, behind_err}
 use Rattle.avro_file_picked.specs.Picked.{value_met}
 use Rattle.avro_file_picked.specs.Finding.{LeadsTo}
 use Rattle.avro_file_picked.proofs.Values.{fewer_left}
-use Rattle.avro_file_picked.proofs.Ways.{leads_more, null_at_end, present_at_end, onward_first, passed_field, found_field}
+use Rattle.avro_file_picked.proofs.Ways.{leads_more, null_at_end, present_at_end, onward_first, passed_field}
+use Rattle.avro_file_picked.proofs.Ways.{found_field}
 use Rattle.avro_file_picked.proofs.Ways.{no_field, chosen_read, number_fails, negative_fails, past_fails}
 use Rattle.avro_file_picked.proofs.Ways.{leads_chosen, leads_into, not_both, one_end}
 use Rattle.avro_file_picked.proofs.found.+way.Goals as goal

@@ -1,4 +1,5 @@
-use Rattle.std.proofs.Common.{◌≡◌, ◌≤◌, ◌<◌, ◌+◌, ◌∷◌, [], Ok, None, Some, Option, true, false, length, drop, get_or, pos, sym}
+use Rattle.std.proofs.Common.{◌≡◌, ◌≤◌, ◌<◌, ◌+◌, ◌∷◌, [], Ok, None, Some, Option, true, false, length, drop, get_or}
+use Rattle.std.proofs.Common.{pos, sym}
 use Rattle.std.proofs.Common.{refl, ap, subst, arith, rules, w32}
 use mir.Val.{to_z, of_z}
 use Rattle.std.proofs.lemmas.List.{nil_from_length}
@@ -19,8 +20,10 @@ use Rattle.avro_file_picked.specs.Guides.{seen, all_seen, kept, type_guided, id_
 use Rattle.avro_file_picked.proofs.Values.{fewer_left}
 use Rattle.avro_file_picked.proofs.Ways.{pick_itself, null_at_end, present_at_end, chosen_read, number_fails}
 use Rattle.avro_file_picked.proofs.Ways.{negative_fails, past_fails, met_chosen, met_into}
-use Rattle.avro_file_picked.proofs.Guided.{type_is, id_is, branch_parts, field_parts, no_structure, parts_many, nth_part}
-use Rattle.avro_file_picked.proofs.Guided.{kept_read, led_begun, front_led, led_on, led_to, led_nowhere, passed_to, passing_reads}
+use Rattle.avro_file_picked.proofs.Guided.{type_is, id_is, branch_parts, field_parts, no_structure, parts_many}
+use Rattle.avro_file_picked.proofs.Guided.{nth_part}
+use Rattle.avro_file_picked.proofs.Guided.{kept_read, led_begun, front_led, led_on, led_to, led_nowhere, passed_to}
+use Rattle.avro_file_picked.proofs.Guided.{passing_reads}
 use Rattle.avro_file_picked.proofs.Guided.{guides_settle, guides_more}
 use Rattle.avro_file_picked.proofs.guide.+guided.Goals as goal
 

@@ -3,7 +3,8 @@ use mir.Val.{to_z, of_z}
 use Rattle.std.proofs.lemmas.Int.{to_z-of_z}
 use Rattle.avro_schema.specs.View.{tree}
 use Rattle.avro_file.proofs.Views.{field_trees}
-use Rattle.avro_file_picked.proofs.Rows.{lens_on, reached_first, reached_next, reached_none, reached_there, reached_nowhere}
+use Rattle.avro_file_picked.proofs.Rows.{lens_on, reached_first, reached_next, reached_none, reached_there}
+use Rattle.avro_file_picked.proofs.Rows.{reached_nowhere}
 use Rattle.avro_file_picked.proofs.Rows.{reached_at, lead_within, lead_here}
 use Rattle.avro_file_picked.proofs.row.+lead.Goals as goal
 

@@ -9,7 +9,8 @@ use Rattle.ice_manifest_fields.proofs.Joining.{joined}
 use Rattle.ice_manifest_reading.proofs.Reading.{fewer}
 use Rattle.ice_manifest_reading.proofs.Collected.{none_given, given_end, behind_is}
 use Rattle.ice_manifest_reading.proofs.Found.{shown_next, entry_given, entry_at_fault}
-use Rattle.ice_manifest_reading.proofs.Counting.{all_to_come, none_are_within, entry_tallied, more_are_within, none_tallied}
+use Rattle.ice_manifest_reading.proofs.Counting.{all_to_come, none_are_within, entry_tallied, more_are_within}
+use Rattle.ice_manifest_reading.proofs.Counting.{none_tallied}
 use Rattle.ice_manifest_reading.proofs.manifest.all_entries.Goals as goal
 
 pub objects-init : goal.objects-init

@@ -2,7 +2,8 @@ use Rattle.std.proofs.Common.{◌≡◌, ◌≤◌, ◌+◌, arith, refl}
 use Rattle.avro_schema.specs.View.{tree}
 use Rattle.avro_file_parts.specs.Place.{position_of}
 use Rattle.ice_manifest_values.proofs.Coming.{block_ahead, none_ahead, never_fails, counted_off}
-use Rattle.ice_manifest_values.proofs.items.ItemsAhead.at_item.Goals.{in_default-via-in-Ok+else-count-gt0, in_default-via-in_default}
+use Rattle.ice_manifest_values.proofs.items.ItemsAhead.at_item.Goals.{in_default-via-in-Ok+else-count-gt0}
+use Rattle.ice_manifest_values.proofs.items.ItemsAhead.at_item.Goals.{in_default-via-in_default}
 use Rattle.ice_manifest_values.proofs.items.ItemsAhead.at_item.Goals as goal
 
 pub returns-in-Ok-clause-no_more : goal.returns-in-Ok-clause-no_more
