@@ -11,7 +11,7 @@ ghost use Rattle.avro_file.specs.Files.{HasHeader, HoldsFile, Next, Shows, ahead
 ghost use Rattle.avro_file.specs.Files.{reader_of, tree_of, type_of};
 ghost use Rattle.avro_file.specs.Holding.{AreWithinLimits};
 ghost use Rattle.avro_file.specs.Value.{Value};
-ghost use Rattle.avro_file_picked.specs.Finding.{NextPicked, layout_tree, ways_of};
+ghost use Rattle.avro_file_picked.specs.Finding.{NextPicked, layout_tree, field_paths_of};
 
 use avro_file::{AvroFault, Container, Datum, Object, Objects};
 use avro_file_picked::Layout;
@@ -39,14 +39,14 @@ pub fn next<'s, 'a>(objects: &mut Objects<'s, 'a>) -> Result<Option<Object<'s, '
     objects.next()
 }
 
-/// What the next object has where each way leads.
+/// What the next object has where each field path leads.
 pub fn next_with<'a>(
     alloc: Global,
     layout: &Layout<'_>,
     objects: &mut Objects<'_, 'a>,
 ) -> Result<Option<Vec<Option<Datum<'a>>>>, AvroFault>
     requires { layout_tree layout.now ≡ type_of objects.old }
-    ensures next { NextPicked (layout_tree layout.now) (ways_of layout.now) (ahead objects.old) result
+    ensures next { NextPicked (layout_tree layout.now) (field_paths_of layout.now) (ahead objects.old) result
         (ahead objects.new) }
     ensures schema { type_of objects.new ≡ type_of objects.old }
 {

@@ -1,5 +1,5 @@
 pub mod Values
-pub mod Ways
+pub mod FieldPaths
 pub mod Picks
 pub mod Rows
 pub mod Placed

@@ -1,4 +1,4 @@
--- Places of values, and where ways lead.
+-- Places of values, and where field paths lead.
 use Rattle.std.proofs.Common.{◌≡◌, ◌≤◌, ◌<◌, ◌-◌, ℕ, zero, suc, ℤ, List, [], ◌∷◌, ◌++◌, length, take, drop, get_or}
 use Rattle.std.proofs.Common.{map, Option, Some, None, IfSome, Ok, refl, sym, ap, subst, ◌∙◌, arith, Vec, Global}
 use Rattle.std.proofs.Math.Seq.{take_all}
@@ -17,9 +17,9 @@ use Rattle.avro_file_picked.specs.declared.row.Lead.{Lead}
 use Rattle.avro_file_picked.specs.declared.row.Step.{Step}
 use Rattle.avro_file_picked.specs.Finding.{IsMet}
 use Rattle.avro_file_picked.specs.Rows.{row, trees_of, AreAlike, Stand, place_at, IsLedTo, IsLead, AreLeads}
-use Rattle.avro_file_picked.specs.Placing.{nth_way}
+use Rattle.avro_file_picked.specs.Placing.{nth_field_path}
 use Rattle.avro_file_picked.proofs.Values.{stood}
-use Rattle.avro_file_picked.proofs.Ways.{one_end}
+use Rattle.avro_file_picked.proofs.FieldPaths.{one_end}
 use Rattle.avro_file_picked.proofs.Rows.{joined, stand_alike, alike_many}
 use Rattle.avro_file.proofs.Behind.{behind_ok}
 
@@ -45,41 +45,45 @@ place_behind (a ∷ places) end (suc k) le = place_behind places end k (omega ar
 
 -- ---- the lists of a layout
 
-pub leads_on : (t : Tree) (ways : List (Vec ℤ Global)) (leads : List (Option Lead)) (way : Vec ℤ Global)
-    (lead : Option Lead) → AreLeads t ways leads → IsLead t way.items lead
-    → IfSome lead (λ l. l.passed ≤ length way.items) → AreLeads t (ways ++ way ∷ []) (leads ++ lead ∷ [])
-leads_on t [] [] way lead h is fits = (is, fits, tt)
-leads_on t [] (l ∷ leads) way lead h is fits = absurd h
-leads_on t (w ∷ ways) [] way lead h is fits = absurd h
-leads_on t (w ∷ ways) (l ∷ leads) way lead h is fits = (h.0, h.1, leads_on t ways leads way lead h.2 is fits)
+pub leads_on : (t : Tree) (field_paths : List (Vec ℤ Global)) (leads : List (Option Lead)) (field_path : Vec ℤ Global)
+    (lead : Option Lead) → AreLeads t field_paths leads → IsLead t field_path.items lead
+    → IfSome lead (λ l. l.passed ≤ length field_path.items)
+    → AreLeads t (field_paths ++ field_path ∷ []) (leads ++ lead ∷ [])
+leads_on t [] [] field_path lead h is fits = (is, fits, tt)
+leads_on t [] (l ∷ leads) field_path lead h is fits = absurd h
+leads_on t (w ∷ field_paths) [] field_path lead h is fits = absurd h
+leads_on t (w ∷ field_paths) (l ∷ leads) field_path lead h is fits =
+    (h.0, h.1, leads_on t field_paths leads field_path lead h.2 is fits)
 
-pub leads_many : (t : Tree) (ways : List (Vec ℤ Global)) (leads : List (Option Lead)) → AreLeads t ways leads
-    → length ways ≡ length leads
+pub leads_many : (t : Tree) (field_paths : List (Vec ℤ Global)) (leads : List (Option Lead))
+    → AreLeads t field_paths leads
+    → length field_paths ≡ length leads
 leads_many t [] [] h = refl
 leads_many t [] (l ∷ leads) h = absurd h
-leads_many t (w ∷ ways) [] h = absurd h
-leads_many t (w ∷ ways) (l ∷ leads) h = ap suc (leads_many t ways leads h.2)
+leads_many t (w ∷ field_paths) [] h = absurd h
+leads_many t (w ∷ field_paths) (l ∷ leads) h = ap suc (leads_many t field_paths leads h.2)
 
 abbrev ids_of : List (Vec ℤ Global) → List (List ℤ)
-ids_of ways = map (λ way. way.items) ways
+ids_of field_paths = map (λ field_path. field_path.items) field_paths
 
-pub nth_lead : (t : Tree) (ways : List (Vec ℤ Global)) (leads : List (Option Lead)) (k : ℕ) (e : Option Lead)
-    → AreLeads t ways leads → k < length ways → IsLead t (nth_way (ids_of ways) k) (get_or leads k e)
-    × IfSome (get_or leads k e) (λ l. l.passed ≤ length (nth_way (ids_of ways) k))
+pub nth_lead : (t : Tree) (field_paths : List (Vec ℤ Global)) (leads : List (Option Lead)) (k : ℕ) (e : Option Lead)
+    → AreLeads t field_paths leads → k < length field_paths
+    → IsLead t (nth_field_path (ids_of field_paths) k) (get_or leads k e)
+    × IfSome (get_or leads k e) (λ l. l.passed ≤ length (nth_field_path (ids_of field_paths) k))
 nth_lead t [] leads k e h lt = absurd (omega arith)
-nth_lead t (w ∷ ways) [] k e h lt = absurd h
-nth_lead t (w ∷ ways) (l ∷ leads) zero e h lt = (h.0, h.1)
-nth_lead t (w ∷ ways) (l ∷ leads) (suc k) e h lt = nth_lead t ways leads k e h.2 (omega arith)
+nth_lead t (w ∷ field_paths) [] k e h lt = absurd h
+nth_lead t (w ∷ field_paths) (l ∷ leads) zero e h lt = (h.0, h.1)
+nth_lead t (w ∷ field_paths) (l ∷ leads) (suc k) e h lt = nth_lead t field_paths leads k e h.2 (omega arith)
 
-pub ways_many : (ways : List (Vec ℤ Global)) → length (ids_of ways) ≡ length ways
-ways_many [] = refl
-ways_many (w ∷ ways) = ap suc (ways_many ways)
+pub field_paths_many : (field_paths : List (Vec ℤ Global)) → length (ids_of field_paths) ≡ length field_paths
+field_paths_many [] = refl
+field_paths_many (w ∷ field_paths) = ap suc (field_paths_many field_paths)
 
-pub nth_is : (ways : List (Vec ℤ Global)) (k : ℕ) (d : Vec ℤ Global) → k < length ways
-    → nth_way (map (λ way. way.items) ways) k ≡ (get_or ways k d).items
+pub nth_is : (field_paths : List (Vec ℤ Global)) (k : ℕ) (d : Vec ℤ Global) → k < length field_paths
+    → nth_field_path (map (λ field_path. field_path.items) field_paths) k ≡ (get_or field_paths k d).items
 nth_is [] k d lt = absurd (omega arith)
-nth_is (w ∷ ways) zero d lt = refl
-nth_is (w ∷ ways) (suc k) d lt = nth_is ways k d (omega arith)
+nth_is (w ∷ field_paths) zero d lt = refl
+nth_is (w ∷ field_paths) (suc k) d lt = nth_is field_paths k d (omega arith)
 
 many : (steps : List Step) → length (trees_of steps) ≡ length steps
 many [] = refl
@@ -107,10 +111,10 @@ pub to_the_end : {A : Type 0} (n : ℕ) (xs : List A) → take (length xs - n) (
 to_the_end n xs = take_all (length xs - n) (drop n xs) (omega (arith, length-drop n xs))
 
 -- what is led to from the object's places
-pub led_to : (t : Tree) (way : List ℤ) (lead : Option Lead) (places bytes : List ℕ) (end left : ℕ) (v : Value)
-    → IsLead t way lead → Stand (row t) places bytes 0 max_items end left → StandsAt t bytes v
-    → IsLedTo lead way places end bytes (pick way (t, v))
-led_to t way lead places bytes end left v is stand there =
+pub led_to : (t : Tree) (field_path : List ℤ) (lead : Option Lead) (places bytes : List ℕ) (end left : ℕ) (v : Value)
+    → IsLead t field_path lead → Stand (row t) places bytes 0 max_items end left → StandsAt t bytes v
+    → IsLedTo lead field_path places end bytes (pick field_path (t, v))
+led_to t field_path lead places bytes end left v is stand there =
     let read = stood t bytes v there in
     let e = joined t places bytes 0 max_items end left (omega arith) stand in
     let w = behind_ok (datum_at t (standing bytes 0 max_items)) (standing bytes end left) e.1 in
@@ -127,20 +131,21 @@ ends_there t ts places bytes end alike h = (
       (stand_alike ts (row t) places bytes 0 max_items end h.0 alike h.1),
 )
 
-pub found_there : (t : Tree) (way there : List ℤ) (lead : Lead) (places bytes block : List ℕ) (end left start : ℕ)
-    (v : Value) (r : Option Found) → IsLead t way (Some lead) → Stand (row t) places bytes 0 max_items end left
-    → StandsAt t bytes v → there ≡ way → block ≡ bytes → start ≡ place_at places end lead.step
+pub found_there : (t : Tree) (field_path there : List ℤ) (lead : Lead) (places bytes block : List ℕ)
+    (end left start : ℕ)
+    (v : Value) (r : Option Found) → IsLead t field_path (Some lead) → Stand (row t) places bytes 0 max_items end left
+    → StandsAt t bytes v → there ≡ field_path → block ≡ bytes → start ≡ place_at places end lead.step
     → ((x : Value) → StandsAt (tree lead.schema.now) (drop start block) x
-    → IsMet r (pick (drop lead.passed there) (tree lead.schema.now, x))) → IsMet r (pick way (t, v))
-found_there t way there lead places bytes block end left start v r is stand here same alike place on =
-    let led = led_to t way (Some lead) places bytes end left v is stand here in
+    → IsMet r (pick (drop lead.passed there) (tree lead.schema.now, x))) → IsMet r (pick field_path (t, v))
+found_there t field_path there lead places bytes block end left start v r is stand here same alike place on =
+    let led = led_to t field_path (Some lead) places bytes end left v is stand here in
     let stands : StandsAt (tree lead.schema.now) (drop start block) led.0 =
     subst (λ (xs : List ℕ). StandsAt (tree lead.schema.now) xs led.0) (sym (ap (λ (b : List ℕ). drop start b) alike
     ∙ ap (λ (n : ℕ). drop n bytes) place)) led.2 in
     subst (λ (m : Picked). IsMet r m) (sym led.3) (subst (λ (w : List ℤ). IsMet r (pick (drop lead.passed w)
     (tree lead.schema.now, led.0))) same (on led.0 stands))
 
-pub some_fits : (lead : Option Lead) (way there : List ℤ) (most : ℕ) → way ≡ there
-    → IfSome lead (λ l. (l.step ≤ most) × (l.passed ≤ length way)) → IfSome lead (λ l. l.passed ≤ length there)
-some_fits (Some l) way there most is h = omega (arith, h.1, ap length is)
-some_fits None way there most is h = h
+pub some_fits : (lead : Option Lead) (field_path there : List ℤ) (most : ℕ) → field_path ≡ there
+    → IfSome lead (λ l. (l.step ≤ most) × (l.passed ≤ length field_path)) → IfSome lead (λ l. l.passed ≤ length there)
+some_fits (Some l) field_path there most is h = omega (arith, h.1, ap length is)
+some_fits None field_path there most is h = h

@@ -38,7 +38,7 @@ use Rattle.avro_file_picked.specs.Picked.{value_met}
 use Rattle.avro_file_picked.specs.Finding.{is_structure, fields_in, branches_in}
 use Rattle.avro_file_picked.specs.Rows.{row, row_of, trees_of, AreAlike, Stand, place_at, IsLedTo, IsLead, IsLeadBelow}
 use Rattle.avro_file_picked.proofs.Values.{first_read, structure_taken, fewer_left, stands}
-use Rattle.avro_file_picked.proofs.Ways.{one_end, next_field, union_of_branches}
+use Rattle.avro_file_picked.proofs.FieldPaths.{one_end, next_field, union_of_branches}
 
 -- one more value behind those that stand
 pub stand_on : (ts : List Tree) (places : List ℕ) (t : Tree) (bytes : List ℕ) (at left mid next end after : ℕ)
@@ -411,30 +411,30 @@ reached_next id fs vs own t rest places bytes end after count len r is other =
     }
 
 pub reached_none : (id : ℤ) (fs : Fields) (vs : List Value) (rest : List Field) (i : ℕ) (places bytes : List ℕ)
-    (end after count : ℕ) (way : List ℤ) → length rest ≤ i
+    (end after count : ℕ) (field_path : List ℤ) → length rest ≤ i
     → Reached id fs vs (field_trees (drop i rest)) places bytes end after count
-    → value_met (unless_absent (pick way) (field_value id fs (values_of vs))) ≡ None
-reached_none id fs vs rest i places bytes end after count way le r =
+    → value_met (unless_absent (pick field_path) (field_value id fs (values_of vs))) ≡ None
+reached_none id fs vs rest i places bytes end after count field_path le r =
     let k : drop i rest ≡ [] = drop_of_length-le rest le in
-    ap (λ (o : Option Typed). value_met (unless_absent (pick way) o)) (r.same
+    ap (λ (o : Option Typed). value_met (unless_absent (pick field_path) o)) (r.same
     ∙ ap (λ (l : List Field). field_value id (field_trees l) (values_of r.values)) k)
 
 abbrev behind_lead : Lead → ℕ → Lead
 behind_lead lead count = record { schema = lead.schema; step = count + lead.step; passed = lead.passed + 1 }
 
--- the first field is the one, and the way goes on in its row
+-- the first field is the one, and the field path goes on in its row
 pub reached_there : (id : ℤ) (fs : Fields) (vs : List Value) (own : Option ℤ) (t : Tree) (rest : Fields)
-    (places bytes : List ℕ) (end after count : ℕ) (way : List ℤ) (lead : Lead)
+    (places bytes : List ℕ) (end after count : ℕ) (field_path : List ℤ) (lead : Lead)
     → Reached id fs vs (field own t rest) places bytes end after count → option_eq int_eq own (Some id) ≡ true
-    → IsLead t way (Some lead) → lead.step ≤ length (row t)
-    → IsLedTo (Some (behind_lead lead count)) (id ∷ way) places end bytes
-    (unless_absent (pick way) (field_value id fs (values_of vs)))
-reached_there id fs vs own t rest places bytes end after count way lead r same leads le =
+    → IsLead t field_path (Some lead) → lead.step ≤ length (row t)
+    → IsLedTo (Some (behind_lead lead count)) (id ∷ field_path) places end bytes
+    (unless_absent (pick field_path) (field_value id fs (values_of vs)))
+reached_there id fs vs own t rest places bytes end after count field_path lead r same leads le =
     let f = front_taken own t rest r.back bytes r.mid r.next end after r.values r.inside r.stand r.read in
     let led = leads bytes r.mid r.next f.past f.left f.here f.first r.inside r.few f.stand f.read in
     let there : field_value id fs (values_of vs) ≡ Some (t, f.first) = r.same
     ∙ chosen_field id own t rest f.first f.firsts r.values f.is ∙ rw same refl in
-    let met = ap (unless_absent (pick way)) there in
+    let met = ap (unless_absent (pick field_path)) there in
     let close : lead.step ≤ length f.here = omega (
       arith,
       le,
@@ -447,8 +447,8 @@ reached_there id fs vs own t rest places bytes end after count way lead r same l
     ∙ place_past r.front r.back end lead.step ∙ ap (λ (l : List ℕ). place_at l end lead.step) f.parts
     ∙ place_cut f.here f.others f.past end lead.step (first_place (row_of rest) f.others bytes f.past f.left end after
     f.more) close in
-    let ids : drop (lead.passed + 1) (id ∷ way) ≡ drop lead.passed way =
-    ap (λ (n : ℕ). drop n (id ∷ way)) (add-one lead.passed) in (
+    let ids : drop (lead.passed + 1) (id ∷ field_path) ≡ drop lead.passed field_path =
+    ap (λ (n : ℕ). drop n (id ∷ field_path)) (add-one lead.passed) in (
       led.0,
       rw place led.1,
       rw place led.2,
@@ -456,15 +456,15 @@ reached_there id fs vs own t rest places bytes end after count way lead r same l
     )
 
 pub reached_nowhere : (id : ℤ) (fs : Fields) (vs : List Value) (own : Option ℤ) (t : Tree) (rest : Fields)
-    (places bytes : List ℕ) (end after count : ℕ) (way : List ℤ)
+    (places bytes : List ℕ) (end after count : ℕ) (field_path : List ℤ)
     → Reached id fs vs (field own t rest) places bytes end after count → option_eq int_eq own (Some id) ≡ true
-    → IsLead t way None → value_met (unless_absent (pick way) (field_value id fs (values_of vs))) ≡ None
-reached_nowhere id fs vs own t rest places bytes end after count way r same leads =
+    → IsLead t field_path None → value_met (unless_absent (pick field_path) (field_value id fs (values_of vs))) ≡ None
+reached_nowhere id fs vs own t rest places bytes end after count field_path r same leads =
     let f = front_taken own t rest r.back bytes r.mid r.next end after r.values r.inside r.stand r.read in
     let led = leads bytes r.mid r.next f.past f.left f.here f.first r.inside r.few f.stand f.read in
     let there : field_value id fs (values_of vs) ≡ Some (t, f.first) = r.same
     ∙ chosen_field id own t rest f.first f.firsts r.values f.is ∙ rw same refl in
-    ap (λ (o : Option Typed). value_met (unless_absent (pick way) o)) there ∙ led
+    ap (λ (o : Option Typed). value_met (unless_absent (pick field_path) o)) there ∙ led
 
 pub lead_within : (t : Tree) (fs : Fields) (id : ℤ) (ids : List ℤ) (lead : Option Lead) → is_structure t ≡ true
     → fs ≡ fields_in t → IsLeadBelow fs id ids lead → IsLead t (id ∷ ids) lead
@@ -487,9 +487,9 @@ lead_within (structure gs) fs id ids lead is same below = λ bytes at left end a
     inside few stand taken.1 in
     subst (λ (w : Value). IsLedTo lead (id ∷ ids) places end bytes (pick (id ∷ ids) (structure gs, w))) (sym taken.2) led
 
-pub lead_here : (schema : Bor Schema) (way : List ℤ)
-    → IsLead (tree schema.now) way (Some (record { schema = schema; step = 0; passed = 0 }))
-lead_here schema way = λ bytes at left end after places v inside few stand read.
+pub lead_here : (schema : Bor Schema) (field_path : List ℤ)
+    → IsLead (tree schema.now) field_path (Some (record { schema = schema; step = 0; passed = 0 }))
+lead_here schema field_path = λ bytes at left end after places v inside few stand read.
     let place = first_place (row (tree schema.now)) places bytes at left end after stand in
     let stood = stands (tree schema.now) (standing bytes at left) v (standing bytes end after) few read in
     (v, rw place inside, rw place stood, refl)

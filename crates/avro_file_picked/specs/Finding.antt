@@ -38,7 +38,7 @@ IsMet None met = value_met met ≡ None
 abbrev pub ReadsAt : Tree → Place → ℕ → Value → Type 0
 ReadsAt s place left v = (place.left ≤ left) × (after : Position) × (datum_at s (position_of place) ≡ Ok (v, after))
 
--- ---- types on the way
+-- ---- types on the field path
 
 -- the fields of a record; any other type has none
 abbrev pub fields_in : Tree → Fields
@@ -70,7 +70,7 @@ abbrev pub has_null_only : Tree → Bool
 has_null_only null = true
 has_null_only t = false
 
--- where the way leads from a value that is no union's, or that a union chose
+-- where the field path leads from a value that is no union's, or that a union chose
 abbrev pub within : List ℤ → Typed → Picked
 within [] x = unless_null present x
 within (id ∷ ids) x = unless_null (λ y. unless_absent (pick ids) (field_with id y)) x
@@ -86,17 +86,18 @@ LeadsTo left met (Err e) = ⊥
 abbrev pub layout_tree : Layout → Tree
 layout_tree l = tree l.schema.now
 
-abbrev pub ways_of : Layout → List (List ℤ)
-ways_of l = map (λ way. way.items) l.ways.items
+abbrev pub field_paths_of : Layout → List (List ℤ)
+field_paths_of l = map (λ field_path. field_path.items) l.field_paths.items
 
 -- what was picked, without where it lies in memory
 abbrev pub seen : Vec (Option Datum) Global → List (Option Value)
 seen found = map (option_map view) found.items
 
--- these are what stands where the ways lead
+-- these are what stands where the field paths lead
 abbrev pub ArePicked : Tree → List (List ℤ) → Vec (Option Datum) Global → Value → Type 0
-ArePicked s ways found v = seen found ≡ all_picked s v ways
+ArePicked s field_paths found v = seen found ≡ all_picked s v field_paths
 
--- what next gives, seen along the ways; or memory lacks, and nothing was passed
+-- what next gives, seen along the field paths; or memory lacks, and nothing was passed
 abbrev pub NextPicked : Tree → List (List ℤ) → Ahead → Result (Option (Vec (Option Datum) Global)) AvroFault → Ahead → Type 0
-NextPicked s ways old result new = Next (ArePicked s ways) old result new ⊎ ((result ≡ Err Memory) × (new ≡ old))
+NextPicked s field_paths old result new = Next (ArePicked s field_paths) old result new ⊎
+    ((result ≡ Err Memory) × (new ≡ old))

@@ -1,4 +1,4 @@
--- Types as ways of field ids go through them.
+-- Types as field paths go through them.
 use Rattle.std.specs.Prelude.{◌≡◌, ℕ, ℤ, List, [], ◌∷◌, map, Bool, true, false, ◌||◌, Option, Some, None, Vec}
 use Rattle.std.specs.Prelude.{Result, Ok, Err}
 use Rattle.std.specs.Prelude.{if◌then◌else◌}
@@ -46,30 +46,31 @@ seen = fold-Guide Guided guide_step
 abbrev pub all_seen : List Guide → Guides
 all_seen gs = guides_of (map seen gs)
 
--- ---- what ways ask for
+-- ---- what field paths ask for
 
 abbrev pub ids_in : List (Vec ℤ Global) → List (List ℤ)
-ids_in ways = map (λ way. way.items) ways
+ids_in field_paths = map (λ field_path. field_path.items) field_paths
 
--- the id is on the way
+-- the id is on the field path
 abbrev pub is_on : List ℤ → Option ℤ → Bool
 is_on [] id = false
-is_on (passed ∷ way) id = option_eq int_eq id (Some passed) || is_on way id
+is_on (passed ∷ field_path) id = option_eq int_eq id (Some passed) || is_on field_path id
 
--- the id is on one of the ways
+-- the id is on one of the field paths
 abbrev pub asks : List (List ℤ) → Option ℤ → Bool
 asks [] id = false
-asks (way ∷ ways) id = is_on way id || asks ways id
+asks (field_path ∷ field_paths) id = is_on field_path id || asks field_paths id
 
--- each id of the way is one that the ways ask for
+-- each id of the field path is one that the field paths ask for
 abbrev pub AreAsked : List (List ℤ) → List ℤ → Type 0
-AreAsked ways [] = Unit {0}
-AreAsked ways (id ∷ way) = (asks ways (Some id) ≡ true) × AreAsked ways way
+AreAsked field_paths [] = Unit {0}
+AreAsked field_paths (id ∷ field_path) = (asks field_paths (Some id) ≡ true) × AreAsked field_paths field_path
 
--- the fields that take bytes or that a way asks for
+-- the fields that take bytes or that a field path asks for
 abbrev pub kept : List (List ℤ) → Fields → Fields
-kept ways no_fields = no_fields
-kept ways (field id t fs) = if takes_bytes t || asks ways id then field id t (kept ways fs) else kept ways fs
+kept field_paths no_fields = no_fields
+kept field_paths (field id t fs) = if takes_bytes t || asks field_paths id then field id t
+    (kept field_paths fs) else kept field_paths fs
 
 -- ---- guides of types
 
@@ -78,12 +79,13 @@ abbrev pub as_fields : Branches → Fields
 as_fields no_branches = no_fields
 as_fields (branch t bs) = field None t (as_fields bs)
 
--- what ways may go through: of a record the fields that are kept, of a union its branches, and of an array its items
+-- what field paths may go through: of a record the fields that are kept, of a union its branches, and of an array its
+-- items
 abbrev pub inner : List (List ℤ) → Tree → Fields
-inner ways (structure fs) = kept ways fs
-inner ways (union bs) = as_fields bs
-inner ways (array t id kind) = field None t no_fields
-inner ways t = no_fields
+inner field_paths (structure fs) = kept field_paths fs
+inner field_paths (union bs) = as_fields bs
+inner field_paths (array t id kind) = field None t no_fields
+inner field_paths t = no_fields
 
 abbrev pub type_guided : Guided → Tree
 type_guided (guided id t passing parts) = t
@@ -92,46 +94,47 @@ abbrev pub id_guided : Guided → Option ℤ
 id_guided (guided id t passing parts) = id
 
 abbrev mutual
-  -- values are passed by a type that ends alike, and ways go on through the parts
+  -- values are passed by a type that ends alike, and field paths go on through the parts
   pub IsGuide : List (List ℤ) → Guided → Type 0
-  IsGuide ways (guided id t passing parts) = EndAlike passing t × AreParts ways parts (inner ways t)
+  IsGuide field_paths (guided id t passing parts) = EndAlike passing t
+      × AreParts field_paths parts (inner field_paths t)
 
   pub AreParts : List (List ℤ) → Guides → Fields → Type 0
-  AreParts ways no_guides no_fields = Unit {0}
-  AreParts ways (guide g gs) (field id t fs) = (id_guided g ≡ id) × (type_guided g ≡ t) × IsGuide ways g
-      × AreParts ways gs fs
-  AreParts ways gs fs = ⊥
+  AreParts field_paths no_guides no_fields = Unit {0}
+  AreParts field_paths (guide g gs) (field id t fs) = (id_guided g ≡ id) × (type_guided g ≡ t) × IsGuide field_paths g
+      × AreParts field_paths gs fs
+  AreParts field_paths gs fs = ⊥
 
 -- a guide of this type
 abbrev pub IsGuideOf : List (List ℤ) → Tree → Guide → Type 0
-IsGuideOf ways t g = (type_guided (seen g) ≡ t) × IsGuide ways (seen g)
+IsGuideOf field_paths t g = (type_guided (seen g) ≡ t) × IsGuide field_paths (seen g)
 
 -- ---- what guides find
 
 -- reading never fails there, and leads to what is met, by a guide of its type
 abbrev pub GuidesTo : List (List ℤ) → ℕ → Picked → Result (Option (Bor Guide × Place)) Refusal → Type 0
-GuidesTo ways left met (Ok (Some x)) = (v : Value) × ReadsAt (type_guided (seen x.0.now)) x.1 left v
-    × (met ≡ present (type_guided (seen x.0.now), v)) × IsGuide ways (seen x.0.now)
-GuidesTo ways left met (Ok None) = value_met met ≡ None
-GuidesTo ways left met (Err e) = ⊥
+GuidesTo field_paths left met (Ok (Some x)) = (v : Value) × ReadsAt (type_guided (seen x.0.now)) x.1 left v
+    × (met ≡ present (type_guided (seen x.0.now), v)) × IsGuide field_paths (seen x.0.now)
+GuidesTo field_paths left met (Ok None) = value_met met ≡ None
+GuidesTo field_paths left met (Err e) = ⊥
 
 -- this guide is of the type of the items, if the type is an array
 abbrev pub HasItems : List (List ℤ) → Tree → Option (Bor Guide) → Type 0
-HasItems ways t (Some g) = (items_in t ≡ Some (type_guided (seen g.now))) × IsGuide ways (seen g.now)
-HasItems ways t None = items_in t ≡ None
+HasItems field_paths t (Some g) = (items_in t ≡ Some (type_guided (seen g.now))) × IsGuide field_paths (seen g.now)
+HasItems field_paths t None = items_in t ≡ None
 
 -- this guide is of the type of the items of the list that was met, if one was
 abbrev pub GuidesItems : List (List ℤ) → Option (Bor Guide) → Picked → Type 0
-GuidesItems ways (Some g) met = (t : Tree) × (items_type met ≡ Some t) × IsGuideOf ways t g.now
-GuidesItems ways None met = items_type met ≡ None
+GuidesItems field_paths (Some g) met = (t : Tree) × (items_type met ≡ Some t) × IsGuideOf field_paths t g.now
+GuidesItems field_paths None met = items_type met ≡ None
 
 -- the value of this type stands there, and the guide is of that type
 abbrev pub IsGuided : List (List ℤ) → Tree → Value → GuidedObject → Type 0
-IsGuided ways t v o = IsGuideOf ways t o.guide.now × StandsAt t o.bytes.now v
+IsGuided field_paths t v o = IsGuideOf field_paths t o.guide.now × StandsAt t o.bytes.now v
 
 -- a guide of this type, by which these ids are found
 abbrev pub IsGuideFor : List ℤ → Tree → Guide → Type 0
-IsGuideFor ids t g = (ways : List (List ℤ)) × IsGuideOf ways t g × AreAsked ways ids
+IsGuideFor ids t g = (field_paths : List (List ℤ)) × IsGuideOf field_paths t g × AreAsked field_paths ids
 
 -- the guide, if there is one, is of the type of the items of the list that was met, and these ids are found by it
 abbrev pub MayGuide : List ℤ → Option (Bor Guide) → Picked → Type 0

@@ -1,4 +1,4 @@
--- What stands where ways of field ids lead, in an object that a file holds.
+-- What stands where field paths lead, in an object that a file holds.
 -- Apache Iceberg table spec v2, 'Column Projection': fields are found by their ids.
 use Rattle.std.specs.Prelude.{ℤ, List, map, Option, Some, None}
 use Rattle.avro_schema.specs.Tree.{Tree}
@@ -11,10 +11,11 @@ value_met absent = None
 value_met null_met = None
 value_met (present x) = Some x.1
 
--- what stands where the way leads from an object of this type, through records and the branches that unions chose
+-- what stands where the field path leads from an object of this type, through records and the branches that unions
+-- chose
 abbrev pub picked : Tree → Value → List ℤ → Option Value
-picked s v way = value_met (pick way (s, v))
+picked s v field_path = value_met (pick field_path (s, v))
 
--- the same for each way
+-- the same for each field path
 abbrev pub all_picked : Tree → Value → List (List ℤ) → List (Option Value)
-all_picked s v ways = map (picked s v) ways
+all_picked s v field_paths = map (picked s v) field_paths

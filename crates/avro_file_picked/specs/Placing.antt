@@ -8,24 +8,25 @@ use Rattle.avro_file.specs.Blocks.{max_items}
 use Rattle.avro_file_picked.specs.declared.layout.Layout.{Layout}
 use Rattle.avro_file_picked.specs.declared.places.Places.{Places}
 use Rattle.avro_file_picked.specs.Rows.{row, trees_of, AreAlike, Stand, AreLeads}
-use Rattle.avro_file_picked.specs.Finding.{layout_tree, ways_of}
+use Rattle.avro_file_picked.specs.Finding.{layout_tree, field_paths_of}
 use Rattle.avro_file_picked.specs.Guides.{IsGuideOf}
 
--- the k-th way
-abbrev pub nth_way : List (List ℤ) → ℕ → List ℤ
-nth_way [] k = []
-nth_way (way ∷ ways) zero = way
-nth_way (way ∷ ways) (suc k) = nth_way ways k
+-- the k-th field path
+abbrev pub nth_field_path : List (List ℤ) → ℕ → List ℤ
+nth_field_path [] k = []
+nth_field_path (field_path ∷ field_paths) zero = field_path
+nth_field_path (field_path ∷ field_paths) (suc k) = nth_field_path field_paths k
 
-abbrev pub way_of : Layout → ℕ → List ℤ
-way_of l k = nth_way (ways_of l) k
+abbrev pub field_path_of : Layout → ℕ → List ℤ
+field_path_of l k = nth_field_path (field_paths_of l) k
 
--- Its steps end as the row of its type does, in which its leads go where its ways do. The type that it passes objects
+-- Its steps end as the row of its type does, in which its leads go where its field paths do. The type that it passes
+-- objects
 -- by ends as its own, and its guide is one of its type.
 abbrev pub IsLayout : Layout → Type 0
 IsLayout l = AreAlike (trees_of l.steps.items) (row (layout_tree l))
-    × AreLeads (layout_tree l) l.ways.items l.leads.items × EndAlike (tree l.passing) (layout_tree l)
-    × IfSome l.guide (IsGuideOf (ways_of l) (layout_tree l))
+    × AreLeads (layout_tree l) l.field_paths.items l.leads.items × EndAlike (tree l.passing) (layout_tree l)
+    × IfSome l.guide (IsGuideOf (field_paths_of l) (layout_tree l))
 
 -- a list with a place for each value
 abbrev pub FitsLayout : Layout → Places → Type 0

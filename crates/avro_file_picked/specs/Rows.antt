@@ -53,28 +53,30 @@ place_at (a ∷ places) end (suc k) = place_at places end k
 
 -- the value of this type that begins at a place of a row, and from which picking goes on as from the whole
 abbrev pub IsLedTo : Option Lead → List ℤ → List ℕ → ℕ → List ℕ → Picked → Type 0
-IsLedTo None way places end bytes met = value_met met ≡ None
-IsLedTo (Some lead) way places end bytes met = (v : Value) × (place_at places end lead.step ≤ length bytes)
+IsLedTo None field_path places end bytes met = value_met met ≡ None
+IsLedTo (Some lead) field_path places end bytes met = (v : Value) × (place_at places end lead.step ≤ length bytes)
     × StandsAt (tree lead.schema.now) (drop (place_at places end lead.step) bytes) v
-    × (met ≡ pick (drop lead.passed way) (tree lead.schema.now, v))
+    × (met ≡ pick (drop lead.passed field_path) (tree lead.schema.now, v))
 
--- where the way leads in each row that is read of this type
+-- where the field path leads in each row that is read of this type
 abbrev pub IsLead : Tree → List ℤ → Option Lead → Type 0
-IsLead t way lead = (bytes : List ℕ) (at left end after : ℕ) (places : List ℕ) (v : Value) → at ≤ length bytes
+IsLead t field_path lead = (bytes : List ℕ) (at left end after : ℕ) (places : List ℕ) (v : Value) → at ≤ length bytes
     → left ≤ max_items → Stand (row t) places bytes at left end after
     → datum_at t (standing bytes at left) ≡ Ok (v, standing bytes end after)
-    → IsLedTo lead way places end bytes (pick way (t, v))
+    → IsLedTo lead field_path places end bytes (pick field_path (t, v))
 
--- where the way leads below the field with this id, in each row of the fields that is read
+-- where the field path leads below the field with this id, in each row of the fields that is read
 abbrev pub IsLeadBelow : Fields → ℤ → List ℤ → Option Lead → Type 0
-IsLeadBelow fs id way lead = (bytes : List ℕ) (at left end after : ℕ) (places : List ℕ) (vs : List Value)
+IsLeadBelow fs id field_path lead = (bytes : List ℕ) (at left end after : ℕ) (places : List ℕ) (vs : List Value)
     → at ≤ length bytes → left ≤ max_items → Stand (row_of fs) places bytes at left end after
     → fields_at fs (standing bytes at left) ≡ Ok (vs, standing bytes end after)
-    → IsLedTo lead (id ∷ way) places end bytes (unless_absent (pick way) (field_value id fs (values_of vs)))
+    → IsLedTo lead (id ∷ field_path) places end bytes
+    (unless_absent (pick field_path) (field_value id fs (values_of vs)))
 
--- where each way leads
+-- where each field path leads
 abbrev pub AreLeads : Tree → List (Vec ℤ Global) → List (Option Lead) → Type 0
 AreLeads t [] [] = Unit {0}
-AreLeads t (way ∷ ways) (lead ∷ leads) = IsLead t way.items lead × IfSome lead (λ l. l.passed ≤ length way.items)
-    × AreLeads t ways leads
-AreLeads t ways leads = ⊥
+AreLeads t (field_path ∷ field_paths) (lead ∷ leads) = IsLead t field_path.items lead
+    × IfSome lead (λ l. l.passed ≤ length field_path.items)
+    × AreLeads t field_paths leads
+AreLeads t field_paths leads = ⊥

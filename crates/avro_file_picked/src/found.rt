@@ -1,4 +1,4 @@
-//! Where a value stands to which a way of field ids leads.
+//! Where a value stands to which a field path leads.
 
 ghost use Rattle.std.specs.Prelude.{◌≡◌, ◌<◌, List, [], length, drop, pos, Ok, IfOk, IfSome, option_map};
 ghost use Rattle.avro_file_parts.specs.Number.{long_at};
@@ -34,25 +34,25 @@ impl<'s, 'a> Found<'s, 'a> {
     ghost use Rattle.avro_file_picked.specs.Finding.{Shows};
     ghost use Rattle.avro_file.specs.Files.{Shows as ShowsObject};
 
-    /// What stands where the way of field ids leads from the object; none where a field on it is absent, or a null is
+    /// What stands where the field path leads from the object; none where a field on it is absent, or a null is
     /// met. Nothing is built. Of a union it is the value of the branch that was chosen, with that branch's type.
-    pub fn on_way(object: Object<'s, 'a>, way: &[i32]) -> Option<Found<'s, 'a>>
+    pub fn on_field_path(object: Object<'s, 'a>, field_path: &[i32]) -> Option<Found<'s, 'a>>
         ensures { (v : Value) → ShowsObject object.entry v →
-            IsMet result (pick way.now (tree object.entry.schema.now, v)) }
+            IsMet result (pick field_path.now (tree object.entry.schema.now, v)) }
     {
-        found_on_way(object.schema(), way, object.bytes())
+        found_on_field_path(object.schema(), field_path, object.bytes())
     }
 
     /// The same as a tree, which is built now.
-    pub fn datum_on_way(
+    pub fn datum_on_field_path(
         alloc: Global,
         object: Object<'s, 'a>,
-        way: &[i32],
+        field_path: &[i32],
     ) -> Result<Option<Datum<'a>>, AllocError>
         ensures { (v : Value) → ShowsObject object.entry v →
-            IfOk result (λ datum. option_map view datum ≡ picked (tree object.entry.schema.now) v way.now) }
+            IfOk result (λ datum. option_map view datum ≡ picked (tree object.entry.schema.now) v field_path.now) }
     {
-        match Found::on_way(object, way) {
+        match Found::on_field_path(object, field_path) {
             Some(found) => Ok(Some(found.datum(alloc)?)),
             None => Ok(None),
         }
@@ -88,20 +88,20 @@ impl<'s, 'a> Found<'s, 'a> {
     }
 }
 
-/// What stands where the way leads from the value of the schema at the front of the bytes, which was checked.
+/// What stands where the field path leads from the value of the schema at the front of the bytes, which was checked.
 #[inline(never)]
-pub fn found_on_way<'s, 'a>(
+pub fn found_on_field_path<'s, 'a>(
     schema: &'s Schema,
-    way: &[i32],
+    field_path: &[i32],
     bytes: &'a [u8],
 ) -> Option<Found<'s, 'a>>
-    ensures { (v : Value) → StandsAt (tree schema.now) bytes.now v → IsMet result (pick way.now (tree schema.now, v)) }
+    ensures { (v : Value) → StandsAt (tree schema.now) bytes.now v → IsMet result (pick field_path.now (tree schema.now, v)) }
 {
     let place = Place {
         bytes,
         left: MAX_ITEMS,
     };
-    match place_on_way(schema, way, place) {
+    match place_on_field_path(schema, field_path, place) {
         Ok(Some((schema, place))) => Some(Found {
             schema,
             bytes: place.bytes,
@@ -200,22 +200,22 @@ pub fn found_here<'s, 'a>(schema: &'s Schema, bytes: &'a [u8]) -> Option<Found<'
             &branches[position],
             &bytes[1..],
         ),
-        _ => found_on_way(schema, &[], bytes),
+        _ => found_on_field_path(schema, &[], bytes),
     }
 }
 
-/// The type and the place of what stands where the way leads from a value of the schema at the place.
-#[cycle(way)]
-fn place_on_way<'s, 'a>(
+/// The type and the place of what stands where the field path leads from a value of the schema at the place.
+#[cycle(field_path)]
+fn place_on_field_path<'s, 'a>(
     schema: &'s Schema,
-    way: &[i32],
+    field_path: &[i32],
     place: Place<'a>,
 ) -> Result<Option<(&'s Schema, Place<'a>)>, Refusal>
     ensures { (v : Value) (after : Position) → datum_at (tree schema.now) (position_of place.entry) ≡ Ok (v, after) →
-        LeadsTo place.entry.left (pick way.now (tree schema.now, v)) result }
+        LeadsTo place.entry.left (pick field_path.now (tree schema.now, v)) result }
 {
     let Some(branches) = branches_of(schema) else {
-        return place_within(schema, way, place);
+        return place_within(schema, field_path, place);
     };
     let (position, rest) = long_of(place.bytes)?;
     let Some(position) = natural(position) else {
@@ -228,20 +228,20 @@ fn place_on_way<'s, 'a>(
         bytes: rest,
         left: place.left,
     };
-    place_within(&branches[position], way, place)
+    place_within(&branches[position], field_path, place)
 }
 
 /// The same from the branch that a union chose, or from a value that is no union's.
-#[cycle(way)]
+#[cycle(field_path)]
 fn place_within<'s, 'a>(
     schema: &'s Schema,
-    way: &[i32],
+    field_path: &[i32],
     place: Place<'a>,
 ) -> Result<Option<(&'s Schema, Place<'a>)>, Refusal>
     ensures { (v : Value) (after : Position) → datum_at (tree schema.now) (position_of place.entry) ≡ Ok (v, after) →
-        LeadsTo place.entry.left (within way.now (tree schema.now, v)) result }
+        LeadsTo place.entry.left (within field_path.now (tree schema.now, v)) result }
 {
-    match way.split_first() {
+    match field_path.split_first() {
         Some((id, rest)) => place_below(fields_of(schema), *id, rest, place),
         None if is_null(schema) => Ok(None),
         None => Ok(Some((schema, place))),
@@ -249,22 +249,22 @@ fn place_within<'s, 'a>(
 }
 
 /// The same from the field with this id on, where the fields are those of a record at the place.
-#[cycle(way)]
+#[cycle(field_path)]
 fn place_below<'s, 'a>(
     fields: &'s [Field],
     id: i32,
-    way: &[i32],
+    field_path: &[i32],
     place: Place<'a>,
 ) -> Result<Option<(&'s Schema, Place<'a>)>, Refusal>
     ensures { (vs : List Value) (after : Position) →
         fields_at (field_trees (parts fields.now)) (position_of place.entry) ≡ Ok (vs, after) →
         LeadsTo place.entry.left
-        (unless_absent (pick way.now) (field_value id (field_trees (parts fields.now)) (values_of vs))) result }
+        (unless_absent (pick field_path.now) (field_value id (field_trees (parts fields.now)) (values_of vs))) result }
 {
     let mut here = place;
     'fields: for field in fields {
         if field.id == Some(id) {
-            return place_on_way(&field.schema, way, here);
+            return place_on_field_path(&field.schema, field_path, here);
         }
         here = end_of(&field.schema, here)?;
     }

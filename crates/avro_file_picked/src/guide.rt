@@ -1,4 +1,4 @@
-//! A type as ways go through it, for objects that have unions on the ways.
+//! A type as field paths go through it, for objects that have unions on the field paths.
 
 ghost use Rattle.std.specs.Prelude.{◌≡◌, ◌||◌, ℤ, List, None, Some, IfOk};
 ghost use Rattle.avro_schema.specs.Tree.{Tree, Fields, no_fields, field};
@@ -25,11 +25,11 @@ use avro_file_parts::{Place, Refusal, long_of};
 use avro_schema::{Field, Schema};
 use std::alloc::{AllocError, Global};
 
-/// A type as ways of field ids go through it, with the id of the field that has it.
+/// A type as field paths go through it, with the id of the field that has it.
 ///
-/// Where a way goes on behind a union, it is walked anew in each object. By the type alone such a walk would pass all
+/// Where a field path goes on behind a union, it is walked anew in each object. By the type alone such a walk would pass all
 /// fields that stand before the wanted one, and those of each item in them, also where they take no bytes: thousands
-/// of steps for one byte. By a guide each step passes a byte, or a field that one of the ways asks for.
+/// of steps for one byte. By a guide each step passes a byte, or a field that one of the field paths asks for.
 #[derive(Debug, Drop)]
 pub struct Guide<'s> {
     id: Option<i32>,
@@ -37,7 +37,7 @@ pub struct Guide<'s> {
     /// Its values end where those of the type do.
     passing: Schema,
     /// Of a union its branches, and of an array its items. Of a record its fields, but for those that take no bytes and
-    /// that no way asks for.
+    /// that no field path asks for.
     parts: Vec<Guide<'s>>,
 }
 
@@ -48,11 +48,11 @@ pub struct GuidedObject<'e, 's, 'a> {
     pub(crate) bytes: &'a [u8],
 }
 
-/// Whether the id is on the way.
-fn is_on(way: &[i32], id: i32) -> bool
-    ensures { result ≡ is_id_on way.now (Some id) }
+/// Whether the id is on the field path.
+fn is_on(field_path: &[i32], id: i32) -> bool
+    ensures { result ≡ is_id_on field_path.now (Some id) }
 {
-    'way: for passed in way {
+    'field_path: for passed in field_path {
         if id == *passed {
             return true;
         }
@@ -60,27 +60,27 @@ fn is_on(way: &[i32], id: i32) -> bool
     false
 }
 
-/// Whether the id is on one of the ways.
-fn asks(ways: &[Vec<i32>], id: i32) -> bool
-    ensures { result ≡ is_asked (ids_in ways.now) (Some id) }
+/// Whether the id is on one of the field paths.
+fn asks(field_paths: &[Vec<i32>], id: i32) -> bool
+    ensures { result ≡ is_asked (ids_in field_paths.now) (Some id) }
 {
-    'ways: for way in ways {
-        if is_on(way, id) {
+    'field_paths: for field_path in field_paths {
+        if is_on(field_path, id) {
             return true;
         }
     }
     false
 }
 
-/// Whether a field with this id, if it has one, takes bytes or is one that a way asks for.
-fn is_kept(field: &Field, ways: &[Vec<i32>]) -> bool
-    ensures { result ≡ (takes_some (tree field.now.schema) || is_asked (ids_in ways.now) field.now.id) }
+/// Whether a field with this id, if it has one, takes bytes or is one that a field path asks for.
+fn is_kept(field: &Field, field_paths: &[Vec<i32>]) -> bool
+    ensures { result ≡ (takes_some (tree field.now.schema) || is_asked (ids_in field_paths.now) field.now.id) }
 {
     if takes_bytes(&field.schema) {
         return true;
     }
     match field.id {
-        Some(id) => asks(ways, id),
+        Some(id) => asks(field_paths, id),
         None => false,
     }
 }
@@ -104,29 +104,29 @@ fn with_parts<'s>(
     })
 }
 
-/// The guide of a type for these ways.
+/// The guide of a type for these field paths.
 #[cycle(guide)]
 pub fn guide_of<'s>(
     alloc: Global,
     id: Option<i32>,
     schema: &'s Schema,
-    ways: &[Vec<i32>],
+    field_paths: &[Vec<i32>],
 ) -> Result<Guide<'s>, AllocError>
     ensures id { IfOk result (λ guide. id_guided (seen guide) ≡ id) }
     ensures schema { IfOk result (λ guide. type_guided (seen guide) ≡ tree schema.now) }
-    ensures guide { IfOk result (λ guide. IsGuide (ids_in ways.now) (seen guide)) }
+    ensures guide { IfOk result (λ guide. IsGuide (ids_in field_paths.now) (seen guide)) }
 {
     match schema {
         Schema::Record(fields) => {
-            let parts = field_guides(alloc, fields, ways)?;
+            let parts = field_guides(alloc, fields, field_paths)?;
             with_parts(alloc, id, schema, parts)
         }
         Schema::Union(branches) => {
-            let parts = branch_guides(alloc, branches, ways)?;
+            let parts = branch_guides(alloc, branches, field_paths)?;
             with_parts(alloc, id, schema, parts)
         }
         Schema::Array(items, _, _) => {
-            let parts = item_guides(alloc, items, ways)?;
+            let parts = item_guides(alloc, items, field_paths)?;
             with_parts(alloc, id, schema, parts)
         }
         Schema::Null
@@ -143,20 +143,20 @@ pub fn guide_of<'s>(
     }
 }
 
-/// The guides of the fields that take bytes or that a way asks for.
+/// The guides of the fields that take bytes or that a field path asks for.
 #[cycle(guide)]
 fn field_guides<'s>(
     alloc: Global,
     fields: &'s [Field],
-    ways: &[Vec<i32>],
+    field_paths: &[Vec<i32>],
 ) -> Result<Vec<Guide<'s>>, AllocError>
-    ensures { IfOk result (λ guides. AreParts (ids_in ways.now) (all_seen guides.items)
-        (kept (ids_in ways.now) (field_trees (field_parts fields.now)))) }
+    ensures { IfOk result (λ guides. AreParts (ids_in field_paths.now) (all_seen guides.items)
+        (kept (ids_in field_paths.now) (field_trees (field_parts fields.now)))) }
 {
     let mut guides = Vec::new(alloc);
     'fields: for field in fields {
-        if is_kept(field, ways) {
-            guides.push(guide_of(alloc, field.id, &field.schema, ways)?)?;
+        if is_kept(field, field_paths) {
+            guides.push(guide_of(alloc, field.id, &field.schema, field_paths)?)?;
         }
     }
     Ok(guides)
@@ -167,14 +167,14 @@ fn field_guides<'s>(
 fn branch_guides<'s>(
     alloc: Global,
     branches: &'s [Schema],
-    ways: &[Vec<i32>],
+    field_paths: &[Vec<i32>],
 ) -> Result<Vec<Guide<'s>>, AllocError>
-    ensures { IfOk result (λ guides. AreParts (ids_in ways.now) (all_seen guides.items)
+    ensures { IfOk result (λ guides. AreParts (ids_in field_paths.now) (all_seen guides.items)
         (as_fields (branch_trees (trees branches.now)))) }
 {
     let mut guides = Vec::new(alloc);
     'branches: for branch in branches {
-        guides.push(guide_of(alloc, None, branch, ways)?)?;
+        guides.push(guide_of(alloc, None, branch, field_paths)?)?;
     }
     Ok(guides)
 }
@@ -184,29 +184,29 @@ fn branch_guides<'s>(
 fn item_guides<'s>(
     alloc: Global,
     items: &'s Schema,
-    ways: &[Vec<i32>],
+    field_paths: &[Vec<i32>],
 ) -> Result<Vec<Guide<'s>>, AllocError>
-    ensures { IfOk result (λ guides. AreParts (ids_in ways.now) (all_seen guides.items)
+    ensures { IfOk result (λ guides. AreParts (ids_in field_paths.now) (all_seen guides.items)
         (field None (tree items.now) no_fields)) }
 {
     let mut guides = Vec::with_capacity(alloc, 1)?;
-    guides.push(guide_of(alloc, None, items, ways)?)?;
+    guides.push(guide_of(alloc, None, items, field_paths)?)?;
     Ok(guides)
 }
 
-/// The guide and the place of what stands where the way leads from a value of the guide's type at the place.
+/// The guide and the place of what stands where the field path leads from a value of the guide's type at the place.
 #[cycle(guided)]
 fn place_by<'e, 's, 'a>(
     guide: &'e Guide<'s>,
-    way: &[i32],
+    field_path: &[i32],
     place: Place<'a>,
 ) -> Result<Option<(&'e Guide<'s>, Place<'a>)>, Refusal>
-    ensures { (ways : List (List ℤ)) (v : Value) (after : Position) → IsGuide ways (seen guide.now)
-        → AreAsked ways way.now → datum_at (type_guided (seen guide.now)) (position_of place.entry) ≡ Ok (v, after)
-        → GuidesTo ways place.entry.left (pick way.now (type_guided (seen guide.now), v)) result }
+    ensures { (field_paths : List (List ℤ)) (v : Value) (after : Position) → IsGuide field_paths (seen guide.now)
+        → AreAsked field_paths field_path.now → datum_at (type_guided (seen guide.now)) (position_of place.entry) ≡ Ok (v, after)
+        → GuidesTo field_paths place.entry.left (pick field_path.now (type_guided (seen guide.now), v)) result }
 {
     let Some(_) = branches_of(guide.schema) else {
-        return place_inside(guide, way, place);
+        return place_inside(guide, field_path, place);
     };
     let (position, rest) = long_of(place.bytes)?;
     let Some(position) = natural(position) else {
@@ -219,21 +219,21 @@ fn place_by<'e, 's, 'a>(
         bytes: rest,
         left: place.left,
     };
-    place_inside(&guide.parts[position], way, place)
+    place_inside(&guide.parts[position], field_path, place)
 }
 
 /// The same from the branch that a union chose, or from a value that is no union's.
 #[cycle(guided)]
 fn place_inside<'e, 's, 'a>(
     guide: &'e Guide<'s>,
-    way: &[i32],
+    field_path: &[i32],
     place: Place<'a>,
 ) -> Result<Option<(&'e Guide<'s>, Place<'a>)>, Refusal>
-    ensures { (ways : List (List ℤ)) (v : Value) (after : Position) → IsGuide ways (seen guide.now)
-        → AreAsked ways way.now → datum_at (type_guided (seen guide.now)) (position_of place.entry) ≡ Ok (v, after)
-        → GuidesTo ways place.entry.left (within way.now (type_guided (seen guide.now), v)) result }
+    ensures { (field_paths : List (List ℤ)) (v : Value) (after : Position) → IsGuide field_paths (seen guide.now)
+        → AreAsked field_paths field_path.now → datum_at (type_guided (seen guide.now)) (position_of place.entry) ≡ Ok (v, after)
+        → GuidesTo field_paths place.entry.left (within field_path.now (type_guided (seen guide.now), v)) result }
 {
-    match way.split_first() {
+    match field_path.split_first() {
         Some((id, rest)) => if is_record(guide.schema) {
             place_past(&guide.parts, *id, rest, place)
         } else {
@@ -249,18 +249,18 @@ fn place_inside<'e, 's, 'a>(
 fn place_past<'e, 's, 'a>(
     guides: &'e [Guide<'s>],
     id: i32,
-    way: &[i32],
+    field_path: &[i32],
     place: Place<'a>,
 ) -> Result<Option<(&'e Guide<'s>, Place<'a>)>, Refusal>
-    ensures { (ways : List (List ℤ)) (fs : Fields) (vs : List Value) (after : Position)
-        → AreParts ways (all_seen guides.now) fs → AreAsked ways way.now
+    ensures { (field_paths : List (List ℤ)) (fs : Fields) (vs : List Value) (after : Position)
+        → AreParts field_paths (all_seen guides.now) fs → AreAsked field_paths field_path.now
         → fields_at fs (position_of place.entry) ≡ Ok (vs, after)
-        → GuidesTo ways place.entry.left (unless_absent (pick way.now) (field_value id fs (values_of vs))) result }
+        → GuidesTo field_paths place.entry.left (unless_absent (pick field_path.now) (field_value id fs (values_of vs))) result }
 {
     let mut here = place;
     'guides: for guide in guides {
         if guide.id == Some(id) {
-            return place_by(guide, way, here);
+            return place_by(guide, field_path, here);
         }
         here = end_of(&guide.passing, here)?;
     }
@@ -268,38 +268,38 @@ fn place_past<'e, 's, 'a>(
 }
 
 impl<'s> Guide<'s> {
-    /// The guide of a type for ways of field ids, which each begin at its values.
+    /// The guide of a type for field paths, which each begin at its values.
     pub fn new(
         alloc: Global,
         schema: &'s Schema,
-        ways: &[Vec<i32>],
+        field_paths: &[Vec<i32>],
     ) -> Result<Guide<'s>, AllocError>
-        ensures { IfOk result (IsGuideOf (ids_in ways.now) (tree schema.now)) }
+        ensures { IfOk result (IsGuideOf (ids_in field_paths.now) (tree schema.now)) }
     {
-        guide_of(alloc, None, schema, ways)
+        guide_of(alloc, None, schema, field_paths)
     }
 
     /// A schema whose values end where those of the type do, or meet the same fault there.
     pub fn passing(&self) -> &Schema
-        ensures { (ways : List (List ℤ)) (t : Tree) → IsGuideOf ways t self.now → EndAlike (tree result.now) t }
+        ensures { (field_paths : List (List ℤ)) (t : Tree) → IsGuideOf field_paths t self.now → EndAlike (tree result.now) t }
     {
         &self.passing
     }
 
-    /// What stands where one of the ways leads from the value at the front of the bytes, which was checked; none where
+    /// What stands where one of the field paths leads from the value at the front of the bytes, which was checked; none where
     /// a field on it is absent, or a null is met.
-    pub fn found<'a>(&self, way: &[i32], bytes: &'a [u8]) -> Option<Found<'s, 'a>>
-        ensures { (ways : List (List ℤ)) (t : Tree) (v : Value) → IsGuideOf ways t self.now → AreAsked ways way.now
-            → StandsAt t bytes.now v → IsMet result (pick way.now (t, v)) }
+    pub fn found<'a>(&self, field_path: &[i32], bytes: &'a [u8]) -> Option<Found<'s, 'a>>
+        ensures { (field_paths : List (List ℤ)) (t : Tree) (v : Value) → IsGuideOf field_paths t self.now → AreAsked field_paths field_path.now
+            → StandsAt t bytes.now v → IsMet result (pick field_path.now (t, v)) }
     {
-        found_by(self, way, bytes)
+        found_by(self, field_path, bytes)
     }
 }
 
 /// The guide of the items, where the type is an array.
 fn items_part<'e, 's>(guide: &'e Guide<'s>) -> Option<&'e Guide<'s>>
-    ensures { (ways : List (List ℤ)) → IsGuide ways (seen guide.now) →
-        HasItems ways (type_guided (seen guide.now)) result }
+    ensures { (field_paths : List (List ℤ)) → IsGuide field_paths (seen guide.now) →
+        HasItems field_paths (type_guided (seen guide.now)) result }
 {
     match items_of(guide.schema) {
         Some(_) => guide.parts.first(),
@@ -308,17 +308,17 @@ fn items_part<'e, 's>(guide: &'e Guide<'s>) -> Option<&'e Guide<'s>>
 }
 
 impl<'e, 's, 'a> GuidedObject<'e, 's, 'a> {
-    /// The guide of the items of the list that stands where one of the ways leads from the object; none where no list
+    /// The guide of the items of the list that stands where one of the field paths leads from the object; none where no list
     /// stands there.
-    pub fn items_guide(&self, way: &[i32]) -> Option<&'e Guide<'s>>
-        ensures { (ways : List (List ℤ)) (t : Tree) (v : Value) → IsGuided ways t v self.now → AreAsked ways way.now
-            → GuidesItems ways result (pick way.now (t, v)) }
+    pub fn items_guide(&self, field_path: &[i32]) -> Option<&'e Guide<'s>>
+        ensures { (field_paths : List (List ℤ)) (t : Tree) (v : Value) → IsGuided field_paths t v self.now → AreAsked field_paths field_path.now
+            → GuidesItems field_paths result (pick field_path.now (t, v)) }
     {
         let place = Place {
             bytes: self.bytes,
             left: MAX_ITEMS,
         };
-        match place_by(self.guide, way, place) {
+        match place_by(self.guide, field_path, place) {
             Ok(Some((list, _))) => items_part(list),
             Ok(None) => None,
             // It was checked, so that reading does not fail.
@@ -327,18 +327,22 @@ impl<'e, 's, 'a> GuidedObject<'e, 's, 'a> {
     }
 }
 
-/// What stands where the way leads from the value of the guide's type at the front of the bytes, which was checked.
+/// What stands where the field path leads from the value of the guide's type at the front of the bytes, which was checked.
 #[inline(never)]
-pub fn found_by<'s, 'a>(guide: &Guide<'s>, way: &[i32], bytes: &'a [u8]) -> Option<Found<'s, 'a>>
-    ensures { (ways : List (List ℤ)) (v : Value) → IsGuide ways (seen guide.now) → AreAsked ways way.now
+pub fn found_by<'s, 'a>(
+    guide: &Guide<'s>,
+    field_path: &[i32],
+    bytes: &'a [u8],
+) -> Option<Found<'s, 'a>>
+    ensures { (field_paths : List (List ℤ)) (v : Value) → IsGuide field_paths (seen guide.now) → AreAsked field_paths field_path.now
         → StandsAt (type_guided (seen guide.now)) bytes.now v
-        → IsMet result (pick way.now (type_guided (seen guide.now), v)) }
+        → IsMet result (pick field_path.now (type_guided (seen guide.now), v)) }
 {
     let place = Place {
         bytes,
         left: MAX_ITEMS,
     };
-    match place_by(guide, way, place) {
+    match place_by(guide, field_path, place) {
         Ok(Some((guide, place))) => Some(Found {
             schema: guide.schema,
             bytes: place.bytes,

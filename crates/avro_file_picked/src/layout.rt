@@ -8,7 +8,7 @@ ghost use Rattle.avro_file_picked.specs.Finding.{IsMet};
 ghost use Rattle.avro_file_picked.specs.Guides.{ids_in, IsGuideOf};
 ghost use Rattle.avro_schema.specs.View.{tree};
 
-use crate::found::{Found, branches_of, fields_of, found_here, found_on_way, items_of};
+use crate::found::{Found, branches_of, fields_of, found_here, found_on_field_path, items_of};
 use crate::guide::{Guide, GuidedObject, found_by, guide_of};
 use crate::places::Places;
 use crate::row::{Lead, Step, lead_of, row_end, steps_of};
@@ -16,18 +16,18 @@ use avro_file::{AvroFault, Datum, Object, Objects, lean_schema};
 use avro_schema::Schema;
 use std::alloc::{AllocError, Global};
 
-/// Ways of field ids from the objects of a type to the values that are wanted of each.
+/// Field paths from the objects of a type to the values that are wanted of each.
 #[derive(Debug, Drop)]
 pub struct Layout<'s> {
     schema: &'s Schema,
     /// Its values end where those of the type do.
     passing: Schema,
-    ways: Vec<Vec<i32>>,
+    field_paths: Vec<Vec<i32>>,
     /// The row of the type.
     steps: Vec<Step>,
-    /// Where each way leads in it.
+    /// Where each field path leads in it.
     leads: Vec<Option<Lead<'s>>>,
-    /// What ways are walked by that go on behind a union, and the items of lists; none where none of them needs it.
+    /// What field paths are walked by that go on behind a union, and the items of lists; none where none of them needs it.
     guide: Option<Guide<'s>>,
 }
 
@@ -63,12 +63,12 @@ fn may_have_long_items(schema: &Schema) -> bool {
     }
 }
 
-/// Whether a way goes on behind the value to which it leads in the row, or leads to a list whose items are walked by a
-/// guide. It tells nothing but how ways are walked.
-fn any_is_guided(ways: &[Vec<i32>], leads: &[Option<Lead>]) -> bool {
-    'ways: for (way, lead) in ways.iter().zip(leads) {
+/// Whether a field path goes on behind the value to which it leads in the row, or leads to a list whose items are walked by a
+/// guide. It tells nothing but how field paths are walked.
+fn any_is_guided(field_paths: &[Vec<i32>], leads: &[Option<Lead>]) -> bool {
+    'field_paths: for (field_path, lead) in field_paths.iter().zip(leads) {
         match lead {
-            Some(lead) if lead.passed < way.len() || may_have_long_items(lead.schema) =>
+            Some(lead) if lead.passed < field_path.len() || may_have_long_items(lead.schema) =>
                 return true,
             _ => {}
         }
@@ -76,19 +76,19 @@ fn any_is_guided(ways: &[Vec<i32>], leads: &[Option<Lead>]) -> bool {
     false
 }
 
-/// The guide of a type for these ways; none where none of them needs one.
+/// The guide of a type for these field paths; none where none of them needs one.
 fn guide_behind<'s>(
     alloc: Global,
     schema: &'s Schema,
-    ways: &[Vec<i32>],
+    field_paths: &[Vec<i32>],
     leads: &[Option<Lead<'s>>],
 ) -> Result<Option<Guide<'s>>, AllocError>
-    ensures { IfOk result (λ some. IfSome some (λ guide. IsGuideOf (ids_in ways.now) (tree schema.now) guide)) }
+    ensures { IfOk result (λ some. IfSome some (λ guide. IsGuideOf (ids_in field_paths.now) (tree schema.now) guide)) }
 {
-    if !any_is_guided(ways, leads) {
+    if !any_is_guided(field_paths, leads) {
         return Ok(None);
     }
-    Ok(Some(guide_of(alloc, None, schema, ways)?))
+    Ok(Some(guide_of(alloc, None, schema, field_paths)?))
 }
 
 impl<'s> Layout<'s> {
@@ -96,42 +96,42 @@ impl<'s> Layout<'s> {
     ghost use Rattle.avro_file.specs.Files.{ahead, type_of, Shows};
     ghost use Rattle.std.specs.Prelude.{◌<◌};
     ghost use Rattle.avro_file.specs.Files.{Next};
-    ghost use Rattle.avro_file_picked.specs.Finding.{layout_tree, ways_of, ArePicked, NextPicked};
-    ghost use Rattle.avro_file_picked.specs.Placing.{way_of, IsLayout, FitsLayout, ArePlaced};
+    ghost use Rattle.avro_file_picked.specs.Finding.{layout_tree, field_paths_of, ArePicked, NextPicked};
+    ghost use Rattle.avro_file_picked.specs.Placing.{field_path_of, IsLayout, FitsLayout, ArePlaced};
     ghost use Rattle.avro_file_picked.specs.Guides.{IsGuided};
 
-    /// The layout of a type for ways of field ids, which each begin at the object and go through records and through
+    /// The layout of a type for field paths, which each begin at the object and go through records and through
     /// the branches that unions choose; `[]` is the object itself. `Memory` is its only refusal.
     pub fn new(
         alloc: Global,
         schema: &'s Schema,
-        ways: &[Vec<i32>],
+        field_paths: &[Vec<i32>],
     ) -> Result<Layout<'s>, AvroFault>
         ensures schema { IfOk result (λ layout. layout_tree layout ≡ tree schema.now) }
-        ensures ways { IfOk result (λ layout. ways_of layout ≡ map (λ way. way.items) ways.now) }
+        ensures field_paths { IfOk result (λ layout. field_paths_of layout ≡ map (λ field_path. field_path.items) field_paths.now) }
         ensures leads { IfOk result IsLayout }
         ensures memory { IfErr result (λ e. e ≡ AvroFault.Memory) }
     {
         let steps = steps_of(alloc, schema)?;
-        let mut kept = Vec::with_capacity(alloc, ways.len())?;
-        let mut leads = Vec::with_capacity(alloc, ways.len())?;
-        'ways: for way in ways {
-            leads.push(lead_of(schema, way))?;
-            kept.push(Vec::from_slice(alloc, way)?)?;
+        let mut kept = Vec::with_capacity(alloc, field_paths.len())?;
+        let mut leads = Vec::with_capacity(alloc, field_paths.len())?;
+        'field_paths: for field_path in field_paths {
+            leads.push(lead_of(schema, field_path))?;
+            kept.push(Vec::from_slice(alloc, field_path)?)?;
         }
         let passing = lean_schema(alloc, schema)?;
-        let guide = guide_behind(alloc, schema, ways, &leads)?;
+        let guide = guide_behind(alloc, schema, field_paths, &leads)?;
         Ok(Layout {
             schema,
             passing,
-            ways: kept,
+            field_paths: kept,
             steps,
             leads,
             guide,
         })
     }
 
-    /// What stands where each way leads from the object.
+    /// What stands where each field path leads from the object.
     fn picked<'a>(
         &self,
         alloc: Global,
@@ -139,16 +139,16 @@ impl<'s> Layout<'s> {
     ) -> Result<Vec<Option<Datum<'a>>>, AllocError>
         requires { layout_tree self.now ≡ tree object.schema.now }
         ensures { (v : Value) → Shows object.entry v →
-            IfOk result (λ found. ArePicked (layout_tree self.now) (ways_of self.now) found v) }
+            IfOk result (λ found. ArePicked (layout_tree self.now) (field_paths_of self.now) found v) }
     {
-        let mut found = Vec::with_capacity(alloc, self.ways.len())?;
-        'ways: for way in &self.ways {
-            found.push(Found::datum_on_way(alloc, object, way)?)?;
+        let mut found = Vec::with_capacity(alloc, self.field_paths.len())?;
+        'field_paths: for field_path in &self.field_paths {
+            found.push(Found::datum_on_field_path(alloc, object, field_path)?)?;
         }
         Ok(found)
     }
 
-    /// What the next object has where each way leads: the values, none where a field on the way is absent or a null is
+    /// What the next object has where each field path leads: the values, none where a field on the field path is absent or a null is
     /// met; or none at all at the end of the file. No other value is built.
     ///
     /// Faults and what follows are those of `Objects::next`. Where memory lacks, nothing is passed, and a further call
@@ -159,7 +159,7 @@ impl<'s> Layout<'s> {
         objects: &mut Objects<'_, 'a>,
     ) -> Result<Option<Vec<Option<Datum<'a>>>>, AvroFault>
         requires { layout_tree self.now ≡ type_of objects.old }
-        ensures next { NextPicked (layout_tree self.now) (ways_of self.now) (ahead objects.old) result
+        ensures next { NextPicked (layout_tree self.now) (field_paths_of self.now) (ahead objects.old) result
             (ahead objects.new) }
         ensures schema { type_of objects.new ≡ type_of objects.old }
     {
@@ -207,13 +207,13 @@ impl<'s> Layout<'s> {
         }
     }
 
-    /// An object and the guide of its type for the layout's ways; none where no guide was made, since all of them are
+    /// An object and the guide of its type for the layout's field paths; none where no guide was made, since all of them are
     /// walked in few steps without.
     pub fn guided<'a>(&self, object: Object<'s, 'a>) -> Option<GuidedObject<'_, 's, 'a>>
         requires layout { IsLayout self.now }
         requires schema { tree object.schema.now ≡ layout_tree self.now }
         ensures { (v : Value) → Shows object.entry v →
-            IfSome result (λ guided. IsGuided (ways_of self.now) (layout_tree self.now) v guided) }
+            IfSome result (λ guided. IsGuided (field_paths_of self.now) (layout_tree self.now) v guided) }
     {
         match &self.guide {
             Some(guide) => Some(GuidedObject {
@@ -224,51 +224,55 @@ impl<'s> Layout<'s> {
         }
     }
 
-    /// What stands where the way of this number leads from an object whose values were placed; none where a field on
+    /// What stands where the field path of this number leads from an object whose values were placed; none where a field on
     /// it is absent, or a null is met. It has the type of the branch that a union chose.
     pub fn found<'a>(
         &self,
         object: Object<'s, 'a>,
         places: &Places,
-        way: usize,
+        field_path: usize,
     ) -> Option<Found<'s, 'a>>
-        requires way { way < length (ways_of self.now) }
+        requires field_path { field_path < length (field_paths_of self.now) }
         requires placed { ArePlaced self.now object places.now }
         ensures { (v : Value) → Shows object.entry v →
-            IsMet result (pick (way_of self.now way) (layout_tree self.now, v)) }
+            IsMet result (pick (field_path_of self.now field_path) (layout_tree self.now, v)) }
     {
         let Some(end) = places.end else {
-            return Found::on_way(object, &self.ways[way]);
+            return Found::on_field_path(object, &self.field_paths[field_path]);
         };
-        let Some(lead) = self.leads[way] else {
+        let Some(lead) = self.leads[field_path] else {
             return None;
         };
-        let way = &self.ways[way];
+        let field_path = &self.field_paths[field_path];
         match &self.guide {
-            Some(guide) if lead.passed < way.len() => found_by(guide, way, object.bytes()),
+            Some(guide) if lead.passed < field_path.len() => found_by(
+                guide,
+                field_path,
+                object.bytes(),
+            ),
             _ => {
                 let start = places.start_of(lead.step, end);
-                found_at(lead, way, object.bytes(), start)
+                found_at(lead, field_path, object.bytes(), start)
             }
         }
     }
 }
 
-/// What stands where the way leads on from a lead, whose value begins at the start. Most ways end at their leads.
+/// What stands where the field path leads on from a lead, whose value begins at the start. Most field paths end at their leads.
 #[inline(always)]
 fn found_at<'s, 'a>(
     lead: Lead<'s>,
-    way: &[i32],
+    field_path: &[i32],
     bytes: &'a [u8],
     start: usize,
 ) -> Option<Found<'s, 'a>>
-    requires passed { lead.passed ≤ length way.now }
+    requires passed { lead.passed ≤ length field_path.now }
     requires start { start ≤ length bytes.now }
     ensures { (v : Value) → StandsAt (tree lead.entry.schema.now) (drop start bytes.now) v →
-        IsMet result (pick (drop lead.entry.passed way.now) (tree lead.entry.schema.now, v)) }
+        IsMet result (pick (drop lead.entry.passed field_path.now) (tree lead.entry.schema.now, v)) }
 {
-    if lead.passed == way.len() {
+    if lead.passed == field_path.len() {
         return found_here(lead.schema, &bytes[start..]);
     }
-    found_on_way(lead.schema, &way[lead.passed..], &bytes[start..])
+    found_on_field_path(lead.schema, &field_path[lead.passed..], &bytes[start..])
 }

@@ -20,7 +20,7 @@ pub struct Step {
     pub schema: Schema,
 }
 
-/// Where a way leads in a row: to the value of this type that begins at a step's place. So many of its ids are passed
+/// Where a field path leads in a row: to the value of this type that begins at a step's place. So many of its ids are passed
 /// then.
 #[derive(Clone, Copy, Debug)]
 pub struct Lead<'s> {
@@ -212,21 +212,21 @@ pub fn row_end(steps: &[Step], bytes: &[u8], starts: &mut [usize]) -> Option<usi
     Some(here)
 }
 
-/// Where the way leads in the row of a type, through records alone: it stops at a union with the ids that are left.
+/// Where the field path leads in the row of a type, through records alone: it stops at a union with the ids that are left.
 /// None where a record has no such field.
 #[cycle(lead)]
-pub fn lead_of<'s>(schema: &'s Schema, way: &[i32]) -> Option<Lead<'s>>
+pub fn lead_of<'s>(schema: &'s Schema, field_path: &[i32]) -> Option<Lead<'s>>
     requires { length (row (tree schema.now)) < 2 ^ 63 }
-    ensures lead { IsLead (tree schema.now) way.now result }
+    ensures lead { IsLead (tree schema.now) field_path.now result }
     ensures within { IfSome result (λ lead. (lead.step ≤ length (row (tree schema.now)))
-        × (lead.passed ≤ length way.now)) }
+        × (lead.passed ≤ length field_path.now)) }
 {
     let here = Lead {
         schema,
         step: 0,
         passed: 0,
     };
-    match way.split_first() {
+    match field_path.split_first() {
         Some((id, rest)) if is_record(schema) => lead_below(fields_of(schema), *id, rest),
         _ => Some(here),
     }
@@ -234,16 +234,16 @@ pub fn lead_of<'s>(schema: &'s Schema, way: &[i32]) -> Option<Lead<'s>>
 
 /// The same below the field with this id, in the rows of a record's fields.
 #[cycle(lead)]
-fn lead_below<'s>(fields: &'s [Field], id: i32, way: &[i32]) -> Option<Lead<'s>>
+fn lead_below<'s>(fields: &'s [Field], id: i32, field_path: &[i32]) -> Option<Lead<'s>>
     requires { length (row_of (field_trees (parts fields.now))) < 2 ^ 63 }
-    ensures lead { IsLeadBelow (field_trees (parts fields.now)) id way.now result }
+    ensures lead { IsLeadBelow (field_trees (parts fields.now)) id field_path.now result }
     ensures within { IfSome result (λ lead. (lead.step ≤ length (row_of (field_trees (parts fields.now))))
-        × (lead.passed ≤ length way.now + 1)) }
+        × (lead.passed ≤ length field_path.now + 1)) }
 {
     let mut count = 0;
     'fields: for field in fields {
         if field.id == Some(id) {
-            let lead = lead_of(&field.schema, way)?;
+            let lead = lead_of(&field.schema, field_path)?;
             return Some(Lead {
                 schema: lead.schema,
                 step: count + lead.step,

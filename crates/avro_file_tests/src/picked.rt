@@ -1,8 +1,8 @@
-//! Wanted values alone: what stands where ways of field ids lead, beside what the whole objects are.
+//! Wanted values alone: what stands where field paths lead, beside what the whole objects are.
 
 ghost use Rattle.std.specs.Prelude.{◌≡◌, ◌≤◌, length};
 ghost use Rattle.avro_file.specs.Files.{type_of};
-ghost use Rattle.avro_file_picked.specs.Finding.{layout_tree, ways_of};
+ghost use Rattle.avro_file_picked.specs.Finding.{layout_tree, field_paths_of};
 ghost use Rattle.avro_file_picked.specs.Placing.{IsLayout, FitsLayout, ArePlaced};
 
 use crate::look::looks;
@@ -42,15 +42,15 @@ fn file_of_one(
     .concat(alloc)
 }
 
-fn ways_of(alloc: Global, ways: &[&[i32]]) -> Result<Vec<Vec<i32>>, AllocError> {
-    let mut kept = Vec::with_capacity(alloc, ways.len())?;
-    for way in ways {
-        kept.push(Vec::from_slice(alloc, way)?)?;
+fn field_paths_of(alloc: Global, field_paths: &[&[i32]]) -> Result<Vec<Vec<i32>>, AllocError> {
+    let mut kept = Vec::with_capacity(alloc, field_paths.len())?;
+    for field_path in field_paths {
+        kept.push(Vec::from_slice(alloc, field_path)?)?;
     }
     Ok(kept)
 }
 
-/// What the next object has on the ways, and what it is; or what it is refused with.
+/// What the next object has on the field paths, and what it is; or what it is refused with.
 type Next<'a> = Result<Option<Vec<Option<Datum<'a>>>>, AvroFault>;
 
 /// Whether a call gives values that look like this, or this fault, or the `end`.
@@ -74,7 +74,7 @@ fn are_next(alloc: Global, objects: &mut Objects<'_, '_>, layout: &Layout<'_>, l
     true
 }
 
-/// What stands on each way from an object whose values were placed.
+/// What stands on each field path from an object whose values were placed.
 fn all_found<'s, 'a>(
     alloc: Global,
     layout: &Layout<'s>,
@@ -82,12 +82,12 @@ fn all_found<'s, 'a>(
     places: &Places,
     count: usize,
 ) -> Result<Vec<Option<Datum<'a>>>, AvroFault>
-    requires ways { count ≤ length (ways_of layout.now) }
+    requires field_paths { count ≤ length (field_paths_of layout.now) }
     requires placed { ArePlaced layout.now object places.now }
 {
     let mut all = Vec::with_capacity(alloc, count)?;
-    for way in 0..count {
-        match layout.found(object, places, way) {
+    for field_path in 0..count {
+        match layout.found(object, places, field_path) {
             Some(found) => all.push(Some(found.datum(alloc)?))?,
             None => all.push(None)?,
         }
@@ -105,7 +105,7 @@ fn next_found<'s, 'a>(
 ) -> Next<'a>
     requires schema { layout_tree layout.now ≡ type_of objects.old }
     requires fits { FitsLayout layout.now places.old }
-    requires ways { count ≤ length (ways_of layout.now) }
+    requires field_paths { count ≤ length (field_paths_of layout.now) }
     ensures schema { type_of objects.new ≡ type_of objects.old }
     ensures fits { FitsLayout layout.now places.new }
 {
@@ -125,7 +125,7 @@ fn are_found<'s, 'a>(
 ) -> bool
     requires schema { layout_tree layout.now ≡ type_of objects.old }
     requires leads { IsLayout layout.now }
-    requires ways { count ≤ length (ways_of layout.now) }
+    requires field_paths { count ≤ length (field_paths_of layout.now) }
 {
     let Ok(mut places) = layout.places(alloc) else {
         return false;
@@ -139,29 +139,35 @@ fn are_found<'s, 'a>(
     true
 }
 
-/// Whether a file of that content gives, along the ways, what looks like these lines.
+/// Whether a file of that content gives, along the field paths, what looks like these lines.
 fn gives(
     alloc: Global,
     schema: &[u8],
     count: usize,
     content: &[u8],
-    ways: &[&[i32]],
+    field_paths: &[&[i32]],
     lines: &str,
 ) -> bool {
-    let (Ok(bytes), Ok(ways)) = (
+    let (Ok(bytes), Ok(field_paths)) = (
         file_of_one(alloc, schema, count, content),
-        ways_of(alloc, ways),
+        field_paths_of(alloc, field_paths),
     ) else {
         return false;
     };
     let Ok(container) = Container::open(alloc, &bytes) else {
         return false;
     };
-    let Ok(layout) = Layout::new(alloc, container.schema(), &ways) else {
+    let Ok(layout) = Layout::new(alloc, container.schema(), &field_paths) else {
         return false;
     };
     are_next(alloc, &mut container.objects(), &layout, lines)
-        && are_found(alloc, &mut container.objects(), &layout, ways.len(), lines)
+        && are_found(
+            alloc,
+            &mut container.objects(),
+            &layout,
+            field_paths.len(),
+            lines,
+        )
 }
 
 /// A long, a record that may be null, and a map.
@@ -173,9 +179,9 @@ const ENTRY: &[u8] = b"{\"type\":\"record\",\"name\":\"e\",\"fields\":[\
 {\"name\":\"m\",\"type\":{\"type\":\"map\",\"values\":\"boolean\"},\"field-id\":5},\
 {\"name\":\"z\",\"type\":\"int\",\"field-id\":6}]}";
 
-/// The content of a block, how many objects it has, ways, and what comes along them.
+/// The content of a block, how many objects it has, field paths, and what comes along them.
 const ENTRIES: &[(&[u8], usize, &[&[i32]], &str)] = &[
-    // each field, and no field that is not on a way
+    // each field, and no field that is not on a field path
     (
         b"\x02\x02\x02x\x02\x04\x02\x04\x00\x02\x02k\x01\x00\x06",
         1,
@@ -183,7 +189,7 @@ const ENTRIES: &[(&[u8], usize, &[&[i32]], &str)] = &[
         "[Some(Int(3)), Some(String(\"x\")), Some(Array([Int(1), Int(2)])), Some(Long(1)), \
 Some(Map([(\"k\", Boolean(true))]))]\nend\nend",
     ),
-    // a null on the way, and one at its end; the way of the record itself
+    // a null on the field path, and one at its end; the field path of the record itself
     (
         b"\x02\x00\x00\x06\x04\x02\x02y\x00\x00\x08",
         2,
@@ -191,7 +197,7 @@ Some(Map([(\"k\", Boolean(true))]))]\nend\nend",
         "[None, None, None, Some(Int(3))]\n\
 [Some(Record([String(\"y\"), NullBranch(0)])), Some(String(\"y\")), None, Some(Int(4))]\nend",
     ),
-    // ways that lead nowhere: no such id, an id of a field further in, a way on from a number
+    // field paths that lead nowhere: no such id, an id of a field further in, a field path on from a number
     (
         b"\x02\x00\x00\x06",
         1,
@@ -213,7 +219,7 @@ Some(Map([(\"k\", Boolean(true))]))]\nend\nend",
         "[Some(Record([Long(1), NullBranch(0), Map([]), Int(3)]))]\nend",
     ),
     (b"\x02\x00\x00\x06", 1, &[], "[]\nend"),
-    // faults of fields that no way leads to, at the object and from then on
+    // faults of fields that no field path leads to, at the object and from then on
     (
         b"\x02\x02\x02\xff\x00\x00\x06",
         1,
@@ -236,9 +242,9 @@ Some(Map([(\"k\", Boolean(true))]))]\nend\nend",
 
 #[test]
 fn wanted_values(rt: HostRuntime) {
-    for (content, count, ways, lines) in ENTRIES {
+    for (content, count, field_paths, lines) in ENTRIES {
         assert!(rt;
-            gives(rt.alloc(), ENTRY, *count, content, ways, lines),
+            gives(rt.alloc(), ENTRY, *count, content, field_paths, lines),
             "{lines}"
         );
     }

@@ -6,8 +6,8 @@ use Rattle.std.specs.List.{AllByRecursion}
 use Rattle.std.specs.Option.{option_and_then, unwrap_or}
 use Rattle.std.specs.Result.{result_ok}
 use Rattle.contract_words.specs.Outcome.{◌>>=◌}
-use Rattle.ice_filter.specs.declared.bound.BoundLeaf.{BoundLeaf}
-use Rattle.ice_filter.specs.declared.leaf.Leaf.{Leaf}
+use Rattle.ice_filter.specs.declared.bound.BoundPredicate.{BoundPredicate}
+use Rattle.ice_filter.specs.declared.predicate.Predicate.{Predicate}
 use Rattle.ice_filter.specs.declared.parts.Part.{Part}
 use Rattle.ice_meta.specs.declared.fault.MetaFault.{MetaFault}
 use Rattle.ice_meta.specs.declared.metadata.Target.TheVariants.{Main}
@@ -45,8 +45,8 @@ rows_read state rows h = of_path (list_of Main state.metadata.table) h where
   of_path (Ok path) h = of_bytes (get state.world path) h
   of_path (Err f) h = absurd cc
 
-pub tells_the_truth : (state : State) (filter : List (Part Leaf)) (schema : Schema) (rows : List Row)
-    (parts : List (Part BoundLeaf)) → Reads state filter schema rows parts → HasCoveredRows state
+pub tells_the_truth : (state : State) (filter : List (Part Predicate)) (schema : Schema) (rows : List Row)
+    (parts : List (Part BoundPredicate)) → Reads state filter schema rows parts → HasCoveredRows state
     → TellsTheTruth state schema rows
 unfolding table_specs
 tells_the_truth state filter schema rows parts reads covered =

@@ -8,8 +8,8 @@ use Rattle.std.specs.Option.{option_and_then}
 use Rattle.std.specs.Result.{result_ok}
 use Rattle.std.proofs.lemmas.List.Elements.{All-replicate, All-set}
 use Rattle.std.proofs.lemmas.Option.{get_or_from_slice_get, slice_get_within}
-use Rattle.ice_filter.specs.declared.bound.BoundLeaf.{BoundLeaf}
-use Rattle.ice_filter.specs.declared.leaf.Leaf.{Leaf}
+use Rattle.ice_filter.specs.declared.bound.BoundPredicate.{BoundPredicate}
+use Rattle.ice_filter.specs.declared.predicate.Predicate.{Predicate}
 use Rattle.ice_filter.specs.declared.parts.Part.{Part}
 use Rattle.ice_manifest_reading.specs.declared.row.Row.{Row}
 use Rattle.ice_meta.specs.declared.schema.Schema.{Schema}
@@ -170,8 +170,8 @@ stays k (e ∷ es) =
 
 -- ---- what is pinned
 
-pub scans : (state : State) (filter : List (Part Leaf)) (schema : Schema) (rows : List Row)
-    (parts : List (Part BoundLeaf)) → Reads state filter schema rows parts
+pub scans : (state : State) (filter : List (Part Predicate)) (schema : Schema) (rows : List Row)
+    (parts : List (Part BoundPredicate)) → Reads state filter schema rows parts
     → scan_in state filter ≡ as_pin of_scan (scan_of_rows rows (specs_of state schema) parts)
 unfolding scan_in
 scans state filter schema rows parts reads = rw (reads.listed, reads.current, reads.bound) refl
@@ -180,10 +180,11 @@ same_some : {A : Type 0} (x y : A) → Some x ≡ Some y → x ≡ y
 same_some x y e = cc
 
 -- what the law of filters says
-module _ (opens : (parts : List (Part BoundLeaf)) (specs : _) → IsOpen specs (pruner_of parts specs))
-    (sound : (parts : List (Part BoundLeaf)) (specs : _) → HasSoundSummaries specs (pruner_of parts specs)) where
-  module _ (h : History) (state : State) (filter : List (Part Leaf)) (schema : Schema) (rows : List Row)
-      (parts : List (Part BoundLeaf)) (leaves : state_of h ≡ Some state) (reads : Reads state filter schema rows parts)
+module _ (opens : (parts : List (Part BoundPredicate)) (specs : _) → IsOpen specs (pruner_of parts specs))
+    (sound : (parts : List (Part BoundPredicate)) (specs : _) → HasSoundSummaries specs (pruner_of parts specs)) where
+  module _ (h : History) (state : State) (filter : List (Part Predicate)) (schema : Schema) (rows : List Row)
+      (parts : List (Part BoundPredicate)) (leaves : state_of h ≡ Some state)
+          (reads : Reads state filter schema rows parts)
       (truth : TellsTheTruth state schema rows) where
     found : (r : Result Scanned ScanFault) → scan_of_rows rows (specs_of state schema) parts ≡ r
         → pinned_on h filter ≡ option_map (begun h) (result_ok (as_pin of_scan r))
@@ -206,7 +207,8 @@ module _ (opens : (parts : List (Part BoundLeaf)) (specs : _) → IsOpen specs (
         of_snapshot opens sound (world_of p.history) p.scan rows specs (content (world_of p.history) p.scan
         (every_row p.scan)) of told has refl
         ∙ (ap (λ (s : Scanned). plan_of_snapshot (pruner_of s.filter specs) (world_of p.history) specs rows) keeps.1
-        ∙ (ap (λ (ps : List (Part BoundLeaf)). plan_of_snapshot (pruner_of ps specs) (world_of p.history) specs rows)
+        ∙ (ap (λ (ps : List (Part BoundPredicate)). plan_of_snapshot (pruner_of ps specs)
+        (world_of p.history) specs rows)
         own.0
         ∙ ap (λ (v : World). plan_of_snapshot (pruner_of parts specs) v specs rows) files))
 
@@ -225,8 +227,8 @@ module _ (opens : (parts : List (Part BoundLeaf)) (specs : _) → IsOpen specs (
         p.workers w (every_row p.scan) keeps.2 took) in
         ap finished (plan scan p made keeps has)
 
-  pub whole : (m : Machine) (state : State) (filter : List (Part Leaf)) (schema : Schema) (rows : List Row)
-      (parts : List (Part BoundLeaf)) (es : List Event) (w : ℕ) →
+  pub whole : (m : Machine) (state : State) (filter : List (Part Predicate)) (schema : Schema) (rows : List Row)
+      (parts : List (Part BoundPredicate)) (es : List Event) (w : ℕ) →
       state_of m.history ≡ Some state → Reads state filter schema rows parts → TellsTheTruth state schema rows
       → TookEvery (machine_after (pin m filter).1 es) (length m.pins) w →
       (event (machine_after (pin m filter).1 es) (on.Finish (length m.pins) w)).0 ≡ plan_reply state schema rows parts

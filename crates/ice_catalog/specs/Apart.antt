@@ -2,8 +2,8 @@
 use Rattle.std.specs.Prelude.{◌≡◌, ◌==◌, ℕ, Bool, false, cond, List, [], ◌∷◌, ◌++◌, length, Option, Some, Ok, slice_get}
 use Rattle.std.specs.FinMap.{get}
 use Rattle.ice_filter.specs.Binding.{bound_parts}
-use Rattle.ice_filter.specs.declared.bound.BoundLeaf.{BoundLeaf}
-use Rattle.ice_filter.specs.declared.leaf.Leaf.{Leaf}
+use Rattle.ice_filter.specs.declared.bound.BoundPredicate.{BoundPredicate}
+use Rattle.ice_filter.specs.declared.predicate.Predicate.{Predicate}
 use Rattle.ice_filter.specs.declared.parts.Part.{Part}
 use Rattle.ice_manifest_reading.specs.declared.row.Row.{Row}
 use Rattle.ice_meta.specs.Targets.{bound_specs, schema_for}
@@ -62,8 +62,8 @@ replies_of_pin k (e ∷ es) (r ∷ rs) = cond (is_of k e) (r ∷ replies_of_pin 
 -- ---- what a pinned scan reads
 
 -- a version's current snapshot has these rows, and its current schema makes these parts of the filter
-pub record Reads (state : State) (filter : List (Part Leaf)) (schema : Schema) (rows : List Row)
-    (parts : List (Part BoundLeaf)) : Type 0 where
+pub record Reads (state : State) (filter : List (Part Predicate)) (schema : Schema) (rows : List Row)
+    (parts : List (Part BoundPredicate)) : Type 0 where
   pub listed : rows_in state ≡ Ok rows
   pub current : schema_for Main state.metadata.table ≡ Some schema
   pub bound : bound_parts schema filter ≡ Ok parts
@@ -77,7 +77,7 @@ abbrev pub TellsTheTruth : State → Schema → List Row → Type 0
 TellsTheTruth state schema rows = AreCovered (get state.world) (specs_of state schema) rows
 
 -- the plan of the snapshot, over all its rows
-abbrev pub plan_reply : State → Schema → List Row → List (Part BoundLeaf) → Reply
+abbrev pub plan_reply : State → Schema → List Row → List (Part BoundPredicate) → Reply
 plan_reply state schema rows parts =
     let specs = specs_of state schema in
     finished (plan_of_snapshot (pruner_of parts specs) (get state.world) specs rows)
@@ -94,8 +94,8 @@ TookEvery m k w = (p : PinnedScan) × (slice_get m.pins k ≡ Some (Some p))
 -- of each commit until then were new.
 abbrev pub TellsPinnedPlans : History → List Event → List Reply → Type 0
 TellsPinnedPlans h events replies =
-    (before between rest : List Event) (filter : List (Part Leaf)) (w : ℕ)
-    (state : State) (schema : Schema) (rows : List Row) (parts : List (Part BoundLeaf)) →
+    (before between rest : List Event) (filter : List (Part Predicate)) (w : ℕ)
+    (state : State) (schema : Schema) (rows : List Row) (parts : List (Part BoundPredicate)) →
     let m = machine_after (started h) before in
     events ≡ before ++ on.Pin filter ∷ between ++ on.Finish (length m.pins) w ∷ rest
     → BeganCovered m.history → state_of m.history ≡ Some state → Reads state filter schema rows parts

@@ -6,7 +6,7 @@ use Rattle.std.specs.Prelude.{Ok, Err, Option, Some, None}
 use Rattle.std.specs.FinMap.{get}
 use Rattle.std.specs.Option.{option_map, option_and_then, unwrap_or}
 use Rattle.std.specs.Result.{result_ok}
-use Rattle.ice_filter.specs.declared.leaf.Leaf.{Leaf}
+use Rattle.ice_filter.specs.declared.predicate.Predicate.{Predicate}
 use Rattle.ice_filter.specs.declared.parts.Part.{Part}
 use Rattle.ice_manifest_reading.specs.declared.row.Row.{Row}
 use Rattle.ice_state.specs.Contents.{World, add, content, no_row}
@@ -44,14 +44,14 @@ world_of h = world_in (state_of h)
 
 -- the scan of a version under a filter: nothing where there is no current snapshot, where its list is absent or
 -- refused, or where binding the filter or the scan is refused
-abbrev pub scan_of : History → List (Part Leaf) → Option Scanned
+abbrev pub scan_of : History → List (Part Predicate) → Option Scanned
 scan_of h filter = option_and_then (λ state. result_ok (scan_in state filter)) (state_of h)
 
 -- with 64 workers that took no row
 abbrev pub begun : History → Scanned → PinnedScan
 begun h scan = record { history = h; scan = scan; workers = replicate 64 (no_row scan) }
 
-abbrev pub pinned_on : History → List (Part Leaf) → Option PinnedScan
+abbrev pub pinned_on : History → List (Part Predicate) → Option PinnedScan
 pinned_on h filter = option_map (begun h) (scan_of h filter)
 
 abbrev pub with_worker : PinnedScan → ℕ → List Bool → PinnedScan
@@ -107,7 +107,7 @@ abbrev pub pinned : ℕ → Option PinnedScan → Reply
 pinned k None = reply.Unpinned k
 pinned k (Some p) = reply.Pinned k
 
-abbrev pub pin : Machine → List (Part Leaf) → Reply × Machine
+abbrev pub pin : Machine → List (Part Predicate) → Reply × Machine
 pin m filter =
     let found = pinned_on m.history filter in
     (pinned (length m.pins) found, record { history = m.history; pins = m.pins ++ found ∷ [] })

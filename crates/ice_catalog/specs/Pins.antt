@@ -6,7 +6,7 @@ use Rattle.contract_words.specs.Outcome.{◌>>=◌}
 use Rattle.ice_filter.specs.Binding.{bound_parts}
 use Rattle.ice_filter.specs.declared.fault.FilterFault.{FilterFault}
 use Rattle.ice_filter.specs.declared.fault.FilterFault.TheVariants as filter
-use Rattle.ice_filter.specs.declared.leaf.Leaf.{Leaf}
+use Rattle.ice_filter.specs.declared.predicate.Predicate.{Predicate}
 use Rattle.ice_filter.specs.declared.parts.Part.{Part}
 use Rattle.ice_manifest_reading.specs.Lists.{rows_of}
 use Rattle.ice_manifest_fields.specs.declared.fault.ListFault.{ListFault}
@@ -58,7 +58,7 @@ rows_in state = do
   as_pin of_list (rows_of bytes)
 
 -- the scan of these rows under a filter of the current schema's columns
-unfoldable pub scan_in : State → List (Part Leaf) → Result Scanned PinFault
+unfoldable pub scan_in : State → List (Part Predicate) → Result Scanned PinFault
 scan_in state parts = do
   rows ← rows_in state
   schema ← there (schema_for Main state.metadata.table)

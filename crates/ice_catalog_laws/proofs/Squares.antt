@@ -12,7 +12,7 @@ use Rattle.ice_catalog.specs.declared.event.Event.{Event}
 use Rattle.ice_catalog.specs.declared.event.Event.TheVariants as on
 use Rattle.ice_catalog.specs.declared.event.Reply.{Reply}
 use Rattle.ice_catalog.specs.declared.event.Reply.TheVariants as reply
-use Rattle.ice_filter.specs.declared.leaf.Leaf.{Leaf}
+use Rattle.ice_filter.specs.declared.predicate.Predicate.{Predicate}
 use Rattle.ice_filter.specs.declared.parts.Part.{Part}
 use Rattle.ice_manifest_reading.specs.declared.row.Row.{Row}
 use Rattle.ice_state.proofs.Contents.{none-content, took-content}
@@ -255,7 +255,7 @@ finish_outcome m k w p c has =
 
 -- ---- pins
 
-module _ (m : Machine) (filter : List (Part Leaf)) where
+module _ (m : Machine) (filter : List (Part Predicate)) where
   abbrev pinned_as : Option Scanned → Reply × Machine
   pinned_as o = (
     pinned (length m.pins) (option_map (begun m.history) o),
@@ -360,6 +360,7 @@ pub merged_where : (m : Machine) (k into from : ℕ)
     → ((event m (on.Merge k into from)).0 ≡ reply.Merged ↔ CanMerge m k into from)
 merged_where m k into from = (can_merge m k into from (slice_get m.pins k) refl, merged_there m k into from)
 
-pub pinned_where : (m : Machine) (filter : List (Part Leaf)) (k : ℕ) → ((event m (on.Pin filter)).0 ≡ reply.Pinned k
+pub pinned_where : (m : Machine) (filter : List (Part Predicate)) (k : ℕ)
+    → ((event m (on.Pin filter)).0 ≡ reply.Pinned k
     ↔ ((k ≡ length m.pins) × ((scan : Scanned) × (scan_of m.history filter ≡ Some scan))))
 pinned_where m filter k = (pinned_by m filter k (scan_of m.history filter) refl, pinned_there m filter k)

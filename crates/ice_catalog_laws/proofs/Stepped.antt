@@ -15,7 +15,7 @@ use Rattle.ice_catalog.specs.declared.event.Reply.TheVariants as reply
 use Rattle.ice_desk.specs.Plans.{GivesPlan}
 use Rattle.ice_desk.specs.declared.fault.PlanFault.{PlanFault}
 use Rattle.ice_desk.specs.declared.fault.PlanFault.TheVariants as plan
-use Rattle.ice_filter.specs.declared.leaf.Leaf.{Leaf}
+use Rattle.ice_filter.specs.declared.predicate.Predicate.{Predicate}
 use Rattle.ice_filter.specs.declared.parts.Part.{Part}
 use Rattle.ice_state.specs.Contents.{Content, content, every_row, took}
 use Rattle.ice_state.specs.Joins.{join}
@@ -55,7 +55,7 @@ get_replicate zero w x near = absurd (omega (arith, near))
 get_replicate (suc n) zero x near = refl
 get_replicate (suc n) (suc w) x near = get_replicate n w x (omega (arith, near))
 
-pub begun_state : (m : Machine) (filter : List (Part Leaf)) (scan : Scanned) (w : ℕ) (c : Content)
+pub begun_state : (m : Machine) (filter : List (Part Predicate)) (scan : Scanned) (w : ℕ) (c : Content)
     → scan_of m.history filter ≡ Some scan → w < 64 → c ≡ nothing_taken scan
     → (p : PinnedScan) × (p.scan ≡ scan) × HasState (event m (on.Pin filter)).1 (length m.pins) w p c
 begun_state m filter scan w c is near none =

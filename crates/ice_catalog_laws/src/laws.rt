@@ -8,7 +8,7 @@ ghost use Rattle.ice_catalog.specs.Machines.{scan_of, world_of};
 ghost use Rattle.ice_catalog.specs.declared.event.Event.{Event};
 ghost use Rattle.ice_catalog.specs.declared.event.Event.TheVariants.{Finish, Merge, Pin, Take};
 ghost use Rattle.ice_catalog.specs.declared.event.Reply.TheVariants.{Absent, Committed, Merged, NoSuch, Pinned, Taken};
-ghost use Rattle.ice_filter.specs.declared.leaf.Leaf.{Leaf};
+ghost use Rattle.ice_filter.specs.declared.predicate.Predicate.{Predicate};
 ghost use Rattle.ice_filter.specs.declared.parts.Part.{Part};
 ghost use Rattle.ice_state.specs.Contents.{Content, took};
 ghost use Rattle.ice_state.specs.Joins.{join};
@@ -53,10 +53,10 @@ pub fn finishing_tells_the_outcome()
 /// A `Pin` is replied `Pinned` exactly where there is a scan of the newest version, with the number of the pins before
 /// it. Then there is this scan, of whose 64 workers none took anything, and nothing else is changed.
 pub fn a_scan_begins_with_nothing_taken()
-    ensures pinned { (m : Machine) (filter : List (Part Leaf)) (k : ℕ) →
+    ensures pinned { (m : Machine) (filter : List (Part Predicate)) (k : ℕ) →
         ((event m (Pin filter)).0 ≡ Pinned k
         ↔ ((k ≡ length m.pins) × ((scan : Scanned) × (scan_of m.history filter ≡ Some scan)))) }
-    ensures state { (m : Machine) (filter : List (Part Leaf)) (scan : Scanned) →
+    ensures state { (m : Machine) (filter : List (Part Predicate)) (scan : Scanned) →
         scan_of m.history filter ≡ Some scan → Begins m (event m (Pin filter)).1 scan }
 {}
 

@@ -5,7 +5,7 @@ ghost use Rattle.ice_catalog.specs.Machines.{Machine, PinnedScan, event, scan_of
 ghost use Rattle.ice_catalog.specs.declared.event.Event.TheVariants.{Commit, Finish, Merge, Pin, Take};
 ghost use Rattle.ice_catalog.specs.declared.event.Reply.TheVariants.{Merged, Planned, Taken, Unfinished};
 ghost use Rattle.ice_desk.specs.Seats.{IsSeatOf, hand_of};
-ghost use Rattle.ice_filter.specs.declared.leaf.Leaf.{Leaf};
+ghost use Rattle.ice_filter.specs.declared.predicate.Predicate.{Predicate};
 ghost use Rattle.ice_filter.specs.declared.parts.Part.{Part};
 ghost use Rattle.ice_state.specs.Contents.{IsOf, content, every_row, is_row_taken};
 ghost use Rattle.ice_catalog_laws.specs.Calls.{GoesOnFrom, IsOfReply, reply_to};
@@ -21,7 +21,7 @@ use std::thread::Threads;
 
 /// The empty state of a scan is what each of the 64 workers has where the scan is pinned.
 pub fn begin(alloc: Global, scan: &Scan) -> Result<Partial, AllocError>
-    ensures { (m : Machine) (filter : List (Part Leaf)) (w : ℕ) → scan_of m.history filter ≡ Some scan.now → w < 64 →
+    ensures { (m : Machine) (filter : List (Part Predicate)) (w : ℕ) → scan_of m.history filter ≡ Some scan.now → w < 64 →
         IfOk result (λ state. (p : PinnedScan) × (p.scan ≡ scan.now)
         × HasState (event m (Pin filter)).1 (length m.pins) w p state) }
 {

@@ -10,30 +10,31 @@ use Rattle.ice_value.specs.declared.column_type.ColumnType.{ColumnType}
 use Rattle.ice_meta.specs.declared.schema.Schema.{Schema}
 use Rattle.ice_meta.specs.declared.schema.Column as meta
 use Rattle.ice_meta.specs.Columns.{column_on}
-use Rattle.ice_filter.specs.declared.bound.BoundLeaf.{BoundLeaf}
+use Rattle.ice_filter.specs.declared.bound.BoundPredicate.{BoundPredicate}
 use Rattle.ice_filter.specs.declared.bound.Test.{Test}
 use Rattle.ice_filter.specs.declared.bound.Test.TheVariants as test
 use Rattle.ice_filter.specs.declared.fault.FilterFault.{FilterFault}
 use Rattle.ice_filter.specs.declared.fault.FilterFault.TheVariants.{NoSuchColumn, NotComparable, WrongLiteral}
-use Rattle.ice_filter.specs.declared.leaf.Leaf.{Leaf}
-use Rattle.ice_filter.specs.declared.leaf.Choices.{Choices}
-use Rattle.ice_filter.specs.declared.leaf.Literal.{Literal}
-use Rattle.ice_filter.specs.declared.leaf.Literal.TheVariants as literal
-use Rattle.ice_filter.specs.declared.leaf.Question.{Question}
-use Rattle.ice_filter.specs.declared.leaf.Question.TheVariants as question
+use Rattle.ice_filter.specs.declared.predicate.Predicate.{Predicate}
+use Rattle.ice_filter.specs.declared.predicate.Choices.{Choices}
+use Rattle.ice_filter.specs.declared.predicate.Literal.{Literal}
+use Rattle.ice_filter.specs.declared.predicate.Literal.TheVariants as literal
+use Rattle.ice_filter.specs.declared.predicate.Question.{Question}
+use Rattle.ice_filter.specs.declared.predicate.Question.TheVariants as question
 use Rattle.ice_filter.specs.declared.token.Comparison.{Comparison}
 use Rattle.ice_filter.specs.declared.token.Comparison.TheVariants as comparison
 use Rattle.ice_filter.specs.declared.parts.Part.{Part}
 use Rattle.ice_filter.specs.declared.parts.Part.TheVariants as part
-use Rattle.ice_filter.specs.Rows.{Row, is_null, equals, holds, leaf_holds, row_meets}
+use Rattle.ice_filter.specs.Rows.{Row, is_null, equals, holds, predicate_holds, row_meets}
 use Rattle.ice_filter.specs.Trees.{meaning, tree_of, operands_after, operands_after_part, is_one_filter, is_filter}
 use Rattle.ice_filter.specs.Truths.{judge_part, judge_parts, top}
 use Rattle.ice_filter.specs.Binding.{cell_of, cells_of, with_cell, compared_to, among, starts, test_of, path, or_fault}
-use Rattle.ice_filter.specs.Binding.{may_ask, asked, bound_leaf, bound_part, bound_parts, is_so, is_literal, passes}
-use Rattle.ice_filter.specs.Binding.{answers, leaf_meets}
+use Rattle.ice_filter.specs.Binding.{may_ask, asked, bound_predicate, bound_part, bound_parts, is_so, is_literal,
+    passes}
+use Rattle.ice_filter.specs.Binding.{answers, predicate_meets}
 use Rattle.ice_filter.proofs.Stacks.{judged_tree}
 
--- ---- a leaf
+-- ---- a predicate
 
 or_false : (b : Bool) → (b || false) ≡ b
 or_false true = refl
@@ -102,52 +103,55 @@ typed q t r false e = absurd cc
 abbrev Says : Row → ℤ → Option ColumnType → Question → Bool
 Says row id type q = passes (λ t. answers t q (row id)) type
 
-asked_test : (row : Row) (id : ℤ) (t : ColumnType) (q : Question) (b : BoundLeaf) (o : Option Test) → test_of t q ≡ o
+asked_test : (row : Row) (id : ℤ) (t : ColumnType) (q : Question) (b : BoundPredicate) (o : Option Test)
+    → test_of t q ≡ o
     → (or_fault WrongLiteral o >>= λ test. Ok (record { column = id; column_type = t; test = test })) ≡ Ok b
-    → leaf_holds row b ≡ answers t q (row id)
+    → predicate_holds row b ≡ answers t q (row id)
 asked_test row id t q b None f e = absurd cc
 asked_test row id t q b (Some x) f e =
     let same : record { column = id; column_type = t; test = x } ≡ b = cc in
     rw (← same) (test_means t q x (row id) f)
 
-asked_type : (row : Row) (id : ℤ) (q : Question) (b : BoundLeaf) (t : ColumnType) (may : Bool)
+asked_type : (row : Row) (id : ℤ) (q : Question) (b : BoundPredicate) (t : ColumnType) (may : Bool)
     → (or_fault NotComparable (cond may (Some t) None) >>= λ u. or_fault WrongLiteral (test_of u q) >>= λ test. Ok
-    (record { column = id; column_type = u; test = test })) ≡ Ok b → leaf_holds row b ≡ answers t q (row id)
+    (record { column = id; column_type = u; test = test })) ≡ Ok b → predicate_holds row b ≡ answers t q (row id)
 asked_type row id q b t false e = absurd cc
 asked_type row id q b t true e = asked_test row id t q b (test_of t q) refl e
 
-asked_means : (row : Row) (id : ℤ) (type : Option ColumnType) (q : Question) (b : BoundLeaf) → asked id type q ≡ Ok b
-    → leaf_holds row b ≡ Says row id type q
+asked_means : (row : Row) (id : ℤ) (type : Option ColumnType) (q : Question) (b : BoundPredicate)
+    → asked id type q ≡ Ok b
+    → predicate_holds row b ≡ Says row id type q
 unfolding asked
 asked_means row id None q b e = absurd cc
 asked_means row id (Some t) q b e = asked_type row id q b t (may_ask t q) e
 
-column_means : (row : Row) (l : Leaf) (b : BoundLeaf) (o : Option meta.Column)
+column_means : (row : Row) (l : Predicate) (b : BoundPredicate) (o : Option meta.Column)
     → (or_fault NoSuchColumn o >>= λ column. asked column.id column.column_type l.question) ≡ Ok b
-    → leaf_holds row b ≡ passes (λ (column : meta.Column). Says row column.id column.column_type l.question) o
+    → predicate_holds row b ≡ passes (λ (column : meta.Column). Says row column.id column.column_type l.question) o
 column_means row l b None e = absurd cc
 column_means row l b (Some column) e = asked_means row column.id column.column_type l.question b e
 
-leaf_means : (schema : Schema) (row : Row) (l : Leaf) (b : BoundLeaf) → bound_leaf schema l ≡ Ok b
-    → leaf_holds row b ≡ leaf_meets schema row l
-unfolding bound_leaf
-leaf_means schema row l b e = column_means row l b (column_on (path l.column) schema) e
+predicate_means : (schema : Schema) (row : Row) (l : Predicate) (b : BoundPredicate) → bound_predicate schema l ≡ Ok b
+    → predicate_holds row b ≡ predicate_meets schema row l
+unfolding bound_predicate
+predicate_means schema row l b e = column_means row l b (column_on (path l.column) schema) e
 
 -- ---- a filter
 
 -- a part over ids counts and says what the part over names does
-record Same (schema : Schema) (row : Row) (p : Part Leaf) (q : Part BoundLeaf) : Type 0 where
+record Same (schema : Schema) (row : Row) (p : Part Predicate) (q : Part BoundPredicate) : Type 0 where
   counts : (n : ℕ) → operands_after_part n q ≡ operands_after_part n p
-  says : (bs : List Bool) → judge_part (leaf_holds row) bs q ≡ judge_part (leaf_meets schema row) bs p
+  says : (bs : List Bool) → judge_part (predicate_holds row) bs q ≡ judge_part (predicate_meets schema row) bs p
 
-leaf_same : (schema : Schema) (row : Row) (l : Leaf) (q : Part BoundLeaf) (r : Result BoundLeaf FilterFault)
-    → bound_leaf schema l ≡ r → (r >>= λ b. Ok (part.Leaf b)) ≡ Ok q → Same schema row (part.Leaf l) q
-leaf_same schema row l q (Err f) g e = absurd cc
-leaf_same schema row l q (Ok b) g e =
-    let same : part.Leaf b ≡ q = cc in
-    rw (← same) (record { counts = λ n. refl; says = λ bs. ap (λ x. x ∷ bs) (leaf_means schema row l b g) })
+predicate_same : (schema : Schema) (row : Row) (l : Predicate) (q : Part BoundPredicate)
+    (r : Result BoundPredicate FilterFault)
+    → bound_predicate schema l ≡ r → (r >>= λ b. Ok (part.Predicate b)) ≡ Ok q → Same schema row (part.Predicate l) q
+predicate_same schema row l q (Err f) g e = absurd cc
+predicate_same schema row l q (Ok b) g e =
+    let same : part.Predicate b ≡ q = cc in
+    rw (← same) (record { counts = λ n. refl; says = λ bs. ap (λ x. x ∷ bs) (predicate_means schema row l b g) })
 
-part_same : (schema : Schema) (row : Row) (p : Part Leaf) (q : Part BoundLeaf) → bound_part schema p ≡ Ok q
+part_same : (schema : Schema) (row : Row) (p : Part Predicate) (q : Part BoundPredicate) → bound_part schema p ≡ Ok q
     → Same schema row p q
 unfolding bound_part
 part_same schema row part.True q e = let same : part.True ≡ q = cc in rw (← same) (record {
@@ -158,7 +162,7 @@ part_same schema row part.False q e = let same : part.False ≡ q = cc in rw (�
   counts = λ n. refl;
   says = λ bs. refl;
 })
-part_same schema row (part.Leaf l) q e = leaf_same schema row l q (bound_leaf schema l) refl e
+part_same schema row (part.Predicate l) q e = predicate_same schema row l q (bound_predicate schema l) refl e
 part_same schema row part.And q e = let same : part.And ≡ q = cc in rw (← same) (record {
   counts = λ n. refl;
   says = λ bs. refl;
@@ -168,26 +172,30 @@ part_same schema row part.Or q e = let same : part.Or ≡ q = cc in rw (← same
   says = λ bs. refl;
 })
 
-record AllSame (schema : Schema) (row : Row) (ps : List (Part Leaf)) (qs : List (Part BoundLeaf)) : Type 0 where
+record AllSame (schema : Schema) (row : Row) (ps : List (Part Predicate))
+    (qs : List (Part BoundPredicate)) : Type 0 where
   counts : (n : ℕ) → operands_after n qs ≡ operands_after n ps
-  says : (bs : List Bool) → judge_parts (leaf_holds row) bs qs ≡ judge_parts (leaf_meets schema row) bs ps
+  says : (bs : List Bool) → judge_parts (predicate_holds row) bs qs ≡ judge_parts (predicate_meets schema row) bs ps
 
 each_then : (o : Option ℕ) (g h : ℕ → Option ℕ) → ((m : ℕ) → g m ≡ h m) → option_and_then g o ≡ option_and_then h o
 each_then None g h e = refl
 each_then (Some m) g h e = e m
 
-more_same : (schema : Schema) (row : Row) (p : Part Leaf) (q : Part BoundLeaf) (ps : List (Part Leaf))
-    (qs : List (Part BoundLeaf)) → Same schema row p q → AllSame schema row ps qs → AllSame schema row (p ∷ ps) (q ∷ qs)
+more_same : (schema : Schema) (row : Row) (p : Part Predicate) (q : Part BoundPredicate) (ps : List (Part Predicate))
+    (qs : List (Part BoundPredicate)) → Same schema row p q → AllSame schema row ps qs
+        → AllSame schema row (p ∷ ps) (q ∷ qs)
 more_same schema row p q ps qs h k = record {
   counts = λ n. ap (λ o. option_and_then (λ m. operands_after m qs) o) (h.counts n) ∙ each_then
       (operands_after_part n p) (λ m. operands_after m qs) (λ m. operands_after m ps) k.counts;
-  says = λ bs. ap (λ cs. judge_parts (leaf_holds row) cs qs) (h.says bs) ∙ k.says (judge_part (leaf_meets schema row) bs
+  says = λ bs. ap (λ cs. judge_parts (predicate_holds row) cs qs) (h.says bs)
+      ∙ k.says (judge_part (predicate_meets schema row) bs
       p);
 }
 
-rest_same : (schema : Schema) (row : Row) (p : Part Leaf) (ps : List (Part Leaf)) (out : List (Part BoundLeaf))
-    → ((qs : List (Part BoundLeaf)) → bound_parts schema ps ≡ Ok qs → AllSame schema row ps qs)
-    → (r : Result (Part BoundLeaf) FilterFault) (s : Result (List (Part BoundLeaf)) FilterFault)
+rest_same : (schema : Schema) (row : Row) (p : Part Predicate) (ps : List (Part Predicate))
+    (out : List (Part BoundPredicate))
+    → ((qs : List (Part BoundPredicate)) → bound_parts schema ps ≡ Ok qs → AllSame schema row ps qs)
+    → (r : Result (Part BoundPredicate) FilterFault) (s : Result (List (Part BoundPredicate)) FilterFault)
     → bound_part schema p ≡ r → bound_parts schema ps ≡ s → (r >>= λ q. s >>= λ qs. Ok (q ∷ qs)) ≡ Ok out
     → AllSame schema row (p ∷ ps) out
 rest_same schema row p ps out later (Err f) s g h e = absurd cc
@@ -196,7 +204,7 @@ rest_same schema row p ps out later (Ok q) (Ok qs) g h e =
     let same : q ∷ qs ≡ out = cc in
     rw (← same) (more_same schema row p q ps qs (part_same schema row p q g) (later qs h))
 
-all_same : (schema : Schema) (row : Row) (ps : List (Part Leaf)) (qs : List (Part BoundLeaf))
+all_same : (schema : Schema) (row : Row) (ps : List (Part Predicate)) (qs : List (Part BoundPredicate))
     → bound_parts schema ps ≡ Ok qs → AllSame schema row ps qs
 unfolding bound_parts
 all_same schema row [] qs e = let same : [] ≡ qs = cc in rw (← same) (record { counts = λ n. refl; says = λ bs. refl })
@@ -204,13 +212,14 @@ all_same schema row (p ∷ ps) qs e = rest_same schema row p ps qs (λ rs f. all
     (bound_part schema p) (bound_parts schema ps) refl refl e
 
 -- the bound filter says on the row what the filter does
-pub bound_means : (schema : Schema) (ps : List (Part Leaf)) (qs : List (Part BoundLeaf)) → bound_parts schema ps ≡ Ok qs
-    → (row : Row) → row_meets qs row ≡ meaning (leaf_meets schema row) (tree_of ps)
+pub bound_means : (schema : Schema) (ps : List (Part Predicate)) (qs : List (Part BoundPredicate))
+    → bound_parts schema ps ≡ Ok qs
+    → (row : Row) → row_meets qs row ≡ meaning (predicate_meets schema row) (tree_of ps)
 bound_means schema ps qs e row =
-    sym (judged_tree (leaf_holds row) qs) ∙ ap top ((all_same schema row ps qs e).says []) ∙ judged_tree
-    (leaf_meets schema row) ps
+    sym (judged_tree (predicate_holds row) qs) ∙ ap top ((all_same schema row ps qs e).says []) ∙ judged_tree
+    (predicate_meets schema row) ps
 
 -- and it is a filter
-pub bound_filter : (schema : Schema) (ps : List (Part Leaf)) (qs : List (Part BoundLeaf))
+pub bound_filter : (schema : Schema) (ps : List (Part Predicate)) (qs : List (Part BoundPredicate))
     → bound_parts schema ps ≡ Ok qs → is_filter ps ≡ true → is_filter qs ≡ true
 bound_filter schema ps qs e h = ap is_one_filter ((all_same schema (λ id. Null) ps qs e).counts 0) ∙ h

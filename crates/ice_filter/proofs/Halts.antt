@@ -8,25 +8,27 @@ use Rattle.ice_filter.specs.declared.fault.FilterFault.TheVariants.{Syntax, TooB
 use Rattle.ice_filter.specs.declared.token.Token.{Token}
 use Rattle.ice_filter.specs.declared.token.Token.TheVariants as token
 use Rattle.ice_filter.specs.declared.token.Comparison.{Comparison}
-use Rattle.ice_filter.specs.declared.leaf.Leaf.{Leaf}
-use Rattle.ice_filter.specs.declared.leaf.Column.{Column}
-use Rattle.ice_filter.specs.declared.leaf.Choices.{Choices}
-use Rattle.ice_filter.specs.declared.leaf.Question.{Question}
-use Rattle.ice_filter.specs.declared.leaf.Question.TheVariants as question
-use Rattle.ice_filter.specs.declared.leaf.Literal.TheVariants as literal
-use Rattle.ice_filter.specs.declared.leaf.Partial.{Partial}
-use Rattle.ice_filter.specs.declared.leaf.Partial.TheVariants as partial
+use Rattle.ice_filter.specs.declared.predicate.Predicate.{Predicate}
+use Rattle.ice_filter.specs.declared.predicate.Column.{Column}
+use Rattle.ice_filter.specs.declared.predicate.Choices.{Choices}
+use Rattle.ice_filter.specs.declared.predicate.Question.{Question}
+use Rattle.ice_filter.specs.declared.predicate.Question.TheVariants as question
+use Rattle.ice_filter.specs.declared.predicate.Literal.TheVariants as literal
+use Rattle.ice_filter.specs.declared.predicate.Partial.{Partial}
+use Rattle.ice_filter.specs.declared.predicate.Partial.TheVariants as partial
 use Rattle.ice_filter.specs.declared.parser.Pending.{Pending}
 use Rattle.ice_filter.specs.declared.parser.Place.{Place}
 use Rattle.ice_filter.specs.declared.parser.Place.TheVariants.{Wants, After, Inside}
-use Rattle.ice_filter.specs.Grammar.{Written, truth, leaf, group, both, either, Says, leaves_in, IsShort, IsShallow}
+use Rattle.ice_filter.specs.Grammar.{Written, truth, predicate, group, both, either, Says, predicates_in, IsShort,
+    IsShallow}
 use Rattle.ice_filter.specs.Grammar.{IsWithin, Limits, Begins, BeginsWithin, IsInLimits, EndsEarly, Reads, words}
 use Rattle.ice_filter.specs.Parsing.{State, literal_of, behind_column, behind_dot, compared, behind_not, behind_in}
 use Rattle.ice_filter.specs.Parsing.{chosen, behind_listed, chosen_too, behind_is, behind_is_not, behind_starts, begun}
-use Rattle.ice_filter.specs.Parsing.{leaf_step, joined, joined_and, opened, began, held, at_unit, closed, after_unit}
+use Rattle.ice_filter.specs.Parsing.{predicate_step, joined, joined_and, opened, began, held, at_unit, closed,
+    after_unit}
 use Rattle.ice_filter.specs.Parsing.{moved, step, step_at, ended, finish, outcome, start, none}
 use Rattle.ice_filter.specs.Parsing as parsing
-use Rattle.ice_filter.specs.Rebuilding.{Reading, top, put, read_tokens, place_tokens, Placed, leaves_of, Good}
+use Rattle.ice_filter.specs.Rebuilding.{Reading, top, put, read_tokens, place_tokens, Placed, predicates_of, Good}
 use Rattle.ice_filter.proofs.Complete.{Walks, Behind, ends, join, filter_walk}
 use Rattle.ice_filter.proofs.Sound.{StepAdds, step_adds, starts_good, finish_says}
 use Rattle.ice_filter.proofs.Steps.{IsUp, IsMore, Told, IsPlaceWithin, step_told}
@@ -52,7 +54,7 @@ ok_told m n at other s q t up h e = let x : Told m n at other t (Ok q) (step put
     rw e at (told m n at other s t up h) in x
 
 same_limits : (m : Limits) → IsUp m m
-same_limits m = record { leaves = omega arith; groups = omega arith; literals = omega arith }
+same_limits m = record { predicates = omega arith; groups = omega arith; literals = omega arith }
 
 ok_is : (x y : Reading) (r : Result Reading FilterFault) → r ≡ Ok x → r ≡ Ok y → x ≡ y
 ok_is x y r e f = cc
@@ -101,56 +103,57 @@ step_on m s p t h e = further m s p (t ∷ []) (p, h, refl) e
 
 -- all that is open is closed
 closes : (m : Limits) (p : Pending) (ps : List Pending) (ts : List Written) (n : ℕ)
-    → Ends m (record { place = After; now = p; outer = ps; read = ts; leaves = n })
+    → Ends m (record { place = After; now = p; outer = ps; read = ts; predicates = n })
 unfolding step step_at after_unit closed
-closes m p [] ts n = ([], record { place = After; now = p; outer = []; read = ts; leaves = n }, (refl, (refl, refl)))
+closes m p [] ts n = ([], record { place = After; now = p; outer = []; read = ts; predicates = n },
+    (refl, (refl, refl)))
 closes m p (q ∷ ps) ts n =
-    step_on m (record { place = After; now = p; outer = q ∷ ps; read = ts; leaves = n }) (record {
+    step_on m (record { place = After; now = p; outer = q ∷ ps; read = ts; predicates = n }) (record {
       place = After;
       now = q;
       outer = ps;
       read = put (joined put p ts) parsing.group;
-      leaves = n;
+      predicates = n;
     }) token.Close (λ at. refl)
     (closes m q ps (put (joined put p ts) parsing.group) n)
 
 abbrev In : Reading → Partial → Reading
 In s p = record s { place = Inside p }
 
-ends_with : (m : Limits) (s : Reading) (l : Leaf)
-    → Ends m (record s { place = After; read = put s.read (parsing.leaf l) })
-ends_with m s l = closes m s.now s.outer (put s.read (parsing.leaf l)) s.leaves
+ends_with : (m : Limits) (s : Reading) (l : Predicate)
+    → Ends m (record s { place = After; read = put s.read (parsing.predicate l) })
+ends_with m s l = closes m s.now s.outer (put s.read (parsing.predicate l)) s.predicates
 
 null_ends : (m : Limits) (s : Reading) (c : Column) → Ends m (In s (partial.Is c))
-unfolding step step_at leaf_step behind_is moved held
+unfolding step step_at predicate_step behind_is moved held
 null_ends m s c = step_on m (In s (partial.Is c)) (record s {
   place = After;
-  read = put s.read (parsing.leaf (record { column = c; question = question.Missing }));
+  read = put s.read (parsing.predicate (record { column = c; question = question.Missing }));
 }) token.Null (λ at. refl)
     (ends_with m s (record { column = c; question = question.Missing }))
 
 not_null_ends : (m : Limits) (s : Reading) (c : Column) → Ends m (In s (partial.IsNot c))
-unfolding step step_at leaf_step behind_is_not moved held
+unfolding step step_at predicate_step behind_is_not moved held
 not_null_ends m s c = step_on m (In s (partial.IsNot c)) (record s {
   place = After;
-  read = put s.read (parsing.leaf (record { column = c; question = question.Present }));
+  read = put s.read (parsing.predicate (record { column = c; question = question.Present }));
 }) token.Null (λ at. refl)
     (ends_with m s (record { column = c; question = question.Present }))
 
 column_ends : (m : Limits) (s : Reading) (c : Column) → Ends m (In s (partial.Column c))
-unfolding step step_at leaf_step behind_column moved
+unfolding step step_at predicate_step behind_column moved
 column_ends m s c = step_on m (In s (partial.Column c)) (In s (partial.Is c)) token.Is (λ at. refl) (null_ends m s c)
 
 dot_ends : (m : Limits) (s : Reading) (c : Column) → Ends m (In s (partial.Dot c))
-unfolding step step_at leaf_step behind_dot moved
+unfolding step step_at predicate_step behind_dot moved
 dot_ends m s c = step_on m (In s (partial.Dot c)) (In s (partial.Column (record c { more = c.more ++ [] ∷ [] })))
     (token.Name []) (λ at. refl) (column_ends m s (record c { more = c.more ++ [] ∷ [] }))
 
 sign_ends : (m : Limits) (s : Reading) (c : Column) (sign : Comparison) → Ends m (In s (partial.Sign c sign))
-unfolding step step_at leaf_step compared moved held literal_of
+unfolding step step_at predicate_step compared moved held literal_of
 sign_ends m s c sign = step_on m (In s (partial.Sign c sign)) (record s {
   place = After;
-  read = put s.read (parsing.leaf (record { column = c; question = question.Compare sign (literal.Truth true) }));
+  read = put s.read (parsing.predicate (record { column = c; question = question.Compare sign (literal.Truth true) }));
 })
     (token.Truth true) (λ at. refl) (ends_with m s (record {
       column = c;
@@ -159,10 +162,10 @@ sign_ends m s c sign = step_on m (In s (partial.Sign c sign)) (record s {
     }))
 
 listed_ends : (m : Limits) (s : Reading) (c : Column) (b : Bool) (ls : Choices) → Ends m (In s (partial.Listed c b ls))
-unfolding step step_at leaf_step behind_listed moved held
+unfolding step step_at predicate_step behind_listed moved held
 listed_ends m s c b ls = step_on m (In s (partial.Listed c b ls)) (record s {
   place = After;
-  read = put s.read (parsing.leaf (record { column = c; question = question.Among b ls }));
+  read = put s.read (parsing.predicate (record { column = c; question = question.Among b ls }));
 }) token.Close (λ at. refl)
     (ends_with m s (record { column = c; question = question.Among b ls }))
 
@@ -170,31 +173,31 @@ one_choice : Choices
 one_choice = record { first = literal.Truth true; more = [] }
 
 open_ends : (m : Limits) (s : Reading) (c : Column) (b : Bool) → Ends m (In s (partial.Open c b))
-unfolding step step_at leaf_step chosen moved literal_of one_choice
+unfolding step step_at predicate_step chosen moved literal_of one_choice
 open_ends m s c b = step_on m (In s (partial.Open c b)) (In s (partial.Listed c b one_choice)) (token.Truth true)
     (λ at. refl) (listed_ends m s c b one_choice)
 
 in_ends : (m : Limits) (s : Reading) (c : Column) (b : Bool) → Ends m (In s (partial.In c b))
-unfolding step step_at leaf_step behind_in moved
+unfolding step step_at predicate_step behind_in moved
 in_ends m s c b = step_on m (In s (partial.In c b)) (In s (partial.Open c b)) token.Open (λ at. refl)
     (open_ends m s c b)
 
 not_ends : (m : Limits) (s : Reading) (c : Column) → Ends m (In s (partial.Not c))
-unfolding step step_at leaf_step behind_not moved
+unfolding step step_at predicate_step behind_not moved
 not_ends m s c = step_on m (In s (partial.Not c)) (In s (partial.In c true)) token.In (λ at. refl) (in_ends m s c true)
 
 comma_ends : (m : Limits) (s : Reading) (c : Column) (b : Bool) (ls : Choices)
     → nat_lt (length ls.more + 1) m.literals ≡ true → Ends m (In s (partial.Comma c b ls))
-unfolding step step_at leaf_step chosen_too moved literal_of
+unfolding step step_at predicate_step chosen_too moved literal_of
 comma_ends m s c b ls e = step_on m (In s (partial.Comma c b ls))
     (In s (partial.Listed c b (record ls { more = ls.more ++ literal.Truth true ∷ [] }))) (token.Truth true)
     (λ at. rw e refl) (listed_ends m s c b (record ls { more = ls.more ++ literal.Truth true ∷ [] }))
 
 with_ends : (m : Limits) (s : Reading) (c : Column) → Ends m (In s (partial.With c))
-unfolding step step_at leaf_step begun moved held literal_of
+unfolding step step_at predicate_step begun moved held literal_of
 with_ends m s c = step_on m (In s (partial.With c)) (record s {
   place = After;
-  read = put s.read (parsing.leaf (record { column = c; question = question.Begins (literal.Truth true) }));
+  read = put s.read (parsing.predicate (record { column = c; question = question.Begins (literal.Truth true) }));
 })
     (token.Truth true) (λ at. refl) (ends_with m s (record {
       column = c;
@@ -202,7 +205,7 @@ with_ends m s c = step_on m (In s (partial.With c)) (record s {
     }))
 
 starts_ends : (m : Limits) (s : Reading) (c : Column) → Ends m (In s (partial.Starts c))
-unfolding step step_at leaf_step behind_starts moved
+unfolding step step_at predicate_step behind_starts moved
 starts_ends m s c = step_on m (In s (partial.Starts c)) (In s (partial.With c)) token.With (λ at. refl)
     (with_ends m s c)
 
@@ -217,11 +220,11 @@ wants_ends m s = step_on m (record s { place = Wants }) (record s {
   place = After;
   read = put s.read (parsing.truth true);
 }) (token.Truth true) (λ at. refl)
-    (closes m s.now s.outer (put s.read (parsing.truth true)) s.leaves)
+    (closes m s.now s.outer (put s.read (parsing.truth true)) s.predicates)
 
 ends_at : (m : Limits) (s : Reading) (place : Place) → HasRoom m place → Ends m (record s { place = place })
 ends_at m s Wants h = wants_ends m s
-ends_at m s After h = closes m s.now s.outer s.read s.leaves
+ends_at m s After h = closes m s.now s.outer s.read s.predicates
 ends_at m s (Inside (partial.Column c)) h = column_ends m s c
 ends_at m s (Inside (partial.Dot c)) h = dot_ends m s c
 ends_at m s (Inside (partial.Sign c sign)) h = sign_ends m s c sign
@@ -252,7 +255,7 @@ comma_begins m s c b ls p some h true e = inl (begins_within m s some h (rw p e)
 comma_begins m s c b ls p some h false e =
     let before : Reading = record s { place = Inside (partial.Listed c b ls) } in
     let placed : Placed m.literals h.g (Inside (partial.Comma c b ls)) s.now s.outer s.read = rw p at h.placed in
-    let counted : 1 + leaves_of s.read ≡ s.leaves = rw p at h.counted in
+    let counted : 1 + predicates_of s.read ≡ s.predicates = rw p at h.counted in
     let good : Good m before = record {
       g = h.g;
       open_left = h.open_left;
@@ -276,7 +279,7 @@ begins_at m s _ p some h = inl (begins_within m s some h (rw p tt))
 -- limits that let the filter in, not smaller than others
 height : Written → ℕ
 height (truth b) = 0
-height (leaf l) = 0
+height (predicate l) = 0
 height (group t) = height t + 1
 height (both s t) = height s + height t
 height (either s t) = height s + height t
@@ -287,7 +290,7 @@ longest_list _ = 0
 
 longest : Written → ℕ
 longest (truth b) = 0
-longest (leaf l) = longest_list l.question
+longest (predicate l) = longest_list l.question
 longest (group t) = longest t
 longest (both s t) = longest s + longest t
 longest (either s t) = longest s + longest t
@@ -298,7 +301,7 @@ short_more _ k l le h = tt
 
 pub shallow_more : (t : Written) (d e k l : ℕ) → d ≤ e → k ≤ l → IsShallow d k t → IsShallow e l t
 shallow_more (truth b) d e k l le lo h = tt
-shallow_more (leaf x) d e k l le lo h = short_more x.question k l lo h
+shallow_more (predicate x) d e k l le lo h = short_more x.question k l lo h
 shallow_more (group t) d e k l le lo h = (
   omega (arith, h.0),
   shallow_more t (d - 1) (e - 1) k l (omega (arith, le)) lo
@@ -315,7 +318,7 @@ short_list _ = tt
 shallow_enough : (t : Written) → IsShallow (height t) (longest t) t
 unfolding height longest
 shallow_enough (truth b) = tt
-shallow_enough (leaf x) = short_list x.question
+shallow_enough (predicate x) = short_list x.question
 shallow_enough (group t) = let e : height t + 1 - 1 ≡ height t = omega arith in (omega arith, rw e (shallow_enough t))
 shallow_enough (both s t) = (
   shallow_more s (height s) (height s + height t) (longest s) (longest s + longest t)
@@ -331,11 +334,12 @@ shallow_enough (either s t) = (
 )
 
 pub roomy : Limits → Written → Limits
-roomy m t = record { leaves = m.leaves + leaves_in t; groups = m.groups + height t; literals = m.literals + longest t }
+roomy m t = record { predicates = m.predicates + predicates_in t; groups = m.groups + height t; literals =
+    m.literals + longest t }
 
 pub roomy_up : (m : Limits) (t : Written) → IsUp m (roomy m t)
 unfolding roomy
-roomy_up m t = record { leaves = omega arith; groups = omega arith; literals = omega arith }
+roomy_up m t = record { predicates = omega arith; groups = omega arith; literals = omega arith }
 
 pub roomy_within : (m : Limits) (t : Written) → IsWithin (roomy m t) t
 unfolding roomy
@@ -347,11 +351,11 @@ roomy_within m t = record {
 
 -- a filter's walk goes through the state to which its front leads
 passes : (m : Limits) (s : Reading) (front rest : List Token) (t : Written) → Walks m (start []) front s
-    → Says (front ++ rest) t → IsWithin m t → Walks m s rest (Behind (ends t none []) [] (leaves_in t))
+    → Says (front ++ rest) t → IsWithin m t → Walks m s rest (Behind (ends t none []) [] (predicates_in t))
 passes m s front rest t w says within =
-    let all : Walks m (start []) (front ++ rest) (Behind (ends t none []) [] (leaves_in t)) = rw says.spelled
+    let all : Walks m (start []) (front ++ rest) (Behind (ends t none []) [] (predicates_in t)) = rw says.spelled
     (filter_walk m t says.stands within) in
-    apart m front rest (start []) s (Behind (ends t none []) [] (leaves_in t)) w all
+    apart m front rest (start []) s (Behind (ends t none []) [] (predicates_in t)) w all
 
 no_step : (m : Limits) (at : ℕ) (s q : Reading) (t : Token) (e : FilterFault) → step put m at s t ≡ Err e
     → step put m at s t ≡ Ok q → ⊥
@@ -375,7 +379,8 @@ misplaced m at a s t some h w e b =
       stands = b.2.stands;
       spelled = sym (append_assoc (read_tokens s) (t ∷ []) b.0) ∙ b.2.spelled;
     } in
-    let walk : Walks n s (t ∷ b.0) (Behind (ends b.1 none []) [] (leaves_in b.1)) = passes n s (read_tokens s) (t ∷ b.0)
+    let walk : Walks n s (t ∷ b.0) (Behind (ends b.1 none []) [] (predicates_in b.1)) = passes n s (read_tokens s)
+        (t ∷ b.0)
     b.1 (walk_up m n (read_tokens s) (start []) s some up (starts_good m) w) says (roomy_within m b.1) in
     let x : Told m n at at t (Err (Syntax a)) (step put n at s t) = rw e at (told m n at at s t up h) in
     no_step n at s walk.0 t (Syntax at) x.1 (walk.1 at)
@@ -404,7 +409,8 @@ over m at s t some h w e (inl b) =
       stands = b.2.0.stands;
       spelled = sym (append_assoc (read_tokens s) (t ∷ []) b.0) ∙ b.2.0.spelled;
     } in
-    let walk : Walks m s (t ∷ b.0) (Behind (ends b.1 none []) [] (leaves_in b.1)) = passes m s (read_tokens s) (t ∷ b.0)
+    let walk : Walks m s (t ∷ b.0) (Behind (ends b.1 none []) [] (predicates_in b.1)) = passes m s (read_tokens s)
+        (t ∷ b.0)
     b.1 w says b.2.1 in
     no_step m at s walk.0 t TooBig e (walk.1 at)
 over m at s t some h w e (inr b) =
@@ -413,13 +419,13 @@ over m at s t some h w e (inr b) =
 
 -- limits with room for one more of each
 abbrev bigger : Limits → Limits
-bigger m = record { leaves = m.leaves + 1; groups = m.groups + 1; literals = m.literals + 1 }
+bigger m = record { predicates = m.predicates + 1; groups = m.groups + 1; literals = m.literals + 1 }
 
 bigger_up : (m : Limits) → IsUp m (bigger m)
-bigger_up m = record { leaves = omega arith; groups = omega arith; literals = omega arith }
+bigger_up m = record { predicates = omega arith; groups = omega arith; literals = omega arith }
 
 bigger_more : (m : Limits) → IsMore m (bigger m)
-bigger_more m = record { leaves = omega arith; groups = omega arith; literals = omega arith }
+bigger_more m = record { predicates = omega arith; groups = omega arith; literals = omega arith }
 
 up_good : (m n : Limits) (s : Reading) → 0 < m.literals → 0 < n.literals → IsUp m n → Good m s
     → Walks m (start []) (read_tokens s) s → Good n s
@@ -494,7 +500,7 @@ unfinished m fs s some h open_still = record {
         spelled = append-nil (read_tokens s) ∙
             h.read ∙ says.spelled;
       } in
-      let same : s ≡ Behind (ends t none []) [] (leaves_in t) = passes n s (read_tokens s) [] t
+      let same : s ≡ Behind (ends t none []) [] (predicates_in t) = passes n s (read_tokens s) [] t
       (walk_up m n (read_tokens s) (start []) s some (roomy_up m t) (starts_good m) h.walk) k (roomy_within m t) in
       open_still (ap (λ (x : Reading). x.place) same) (ap (λ (x : Reading). x.outer) same);
 }

@@ -6,11 +6,11 @@ use Rattle.std.proofs.Common.{◌≡◌, ℕ, ◌+◌, ◌<◌, ◌≤◌, Resul
 use Rattle.std.proofs.Common.{None, Some, refl, sym, ◌∙◌, ap, append_assoc, add-one, drop-cons}
 use Rattle.ice_value.specs.declared.cell.Cell.{Cell}
 use Rattle.ice_value.specs.declared.column_type.ColumnType.{ColumnType}
-use Rattle.ice_filter.specs.declared.leaf.Literal.{Literal}
+use Rattle.ice_filter.specs.declared.predicate.Literal.{Literal}
 use Rattle.ice_meta.specs.declared.schema.Schema.{Schema}
-use Rattle.ice_filter.specs.declared.bound.BoundLeaf.{BoundLeaf}
+use Rattle.ice_filter.specs.declared.bound.BoundPredicate.{BoundPredicate}
 use Rattle.ice_filter.specs.declared.fault.FilterFault.{FilterFault}
-use Rattle.ice_filter.specs.declared.leaf.Leaf.{Leaf}
+use Rattle.ice_filter.specs.declared.predicate.Predicate.{Predicate}
 use Rattle.ice_filter.specs.declared.parts.Part.{Part}
 use Rattle.ice_filter.specs.Binding.{cell_of, cells_of, with_cell, bound_part, bound_parts}
 
@@ -53,35 +53,39 @@ pub cells_end : (t : ColumnType) (ls : List Literal) (i : ℕ) (front : List Cel
 cells_end t ls i front le = rw (end_of ls i le) (ap Some (append-nil front))
 
 -- the parts so far, with those that follow
-abbrev pub prefixed : List (Part BoundLeaf) → Result (List (Part BoundLeaf)) FilterFault
-    → Result (List (Part BoundLeaf)) FilterFault
+abbrev pub prefixed : List (Part BoundPredicate) → Result (List (Part BoundPredicate)) FilterFault
+    → Result (List (Part BoundPredicate)) FilterFault
 prefixed front (Ok xs) = Ok (front ++ xs)
 prefixed front (Err e) = Err e
 
-pub prefixed_nil : (r : Result (List (Part BoundLeaf)) FilterFault) → prefixed [] r ≡ r
+pub prefixed_nil : (r : Result (List (Part BoundPredicate)) FilterFault) → prefixed [] r ≡ r
 prefixed_nil (Ok qs) = refl
 prefixed_nil (Err e) = refl
 
-prefixed_more : (front : List (Part BoundLeaf)) (q : Part BoundLeaf) (r : Result (List (Part BoundLeaf)) FilterFault)
+prefixed_more : (front : List (Part BoundPredicate)) (q : Part BoundPredicate)
+    (r : Result (List (Part BoundPredicate)) FilterFault)
     → prefixed front (r >>= λ qs. Ok (q ∷ qs)) ≡ prefixed (front ++ q ∷ []) r
 prefixed_more front q (Ok qs) = ap Ok (sym (append_assoc front (q ∷ []) qs))
 prefixed_more front q (Err e) = refl
 
-pub part_here : (schema : Schema) (ps : List (Part Leaf)) (i : ℕ) (p : Part Leaf) (front : List (Part BoundLeaf))
-    (q : Part BoundLeaf) → i < length ps → p ≡ get_or ps i p → bound_part schema p ≡ Ok q
+pub part_here : (schema : Schema) (ps : List (Part Predicate)) (i : ℕ) (p : Part Predicate)
+    (front : List (Part BoundPredicate))
+    (q : Part BoundPredicate) → i < length ps → p ≡ get_or ps i p → bound_part schema p ≡ Ok q
     → prefixed front (bound_parts schema (drop i ps)) ≡ prefixed (front ++ q ∷ [])
     (bound_parts schema (drop (i + 1) ps))
 unfolding bound_parts
 part_here schema ps i p front q lt is e = rw (step_of ps i p lt is, e)
     (prefixed_more front q (bound_parts schema (drop (i + 1) ps)))
 
-pub part_fails : (schema : Schema) (ps : List (Part Leaf)) (i : ℕ) (p : Part Leaf) (front : List (Part BoundLeaf))
+pub part_fails : (schema : Schema) (ps : List (Part Predicate)) (i : ℕ) (p : Part Predicate)
+    (front : List (Part BoundPredicate))
     (f : FilterFault) → i < length ps → p ≡ get_or ps i p → bound_part schema p ≡ Err f
     → prefixed front (bound_parts schema (drop i ps)) ≡ Err f
 unfolding bound_parts
 part_fails schema ps i p front f lt is e = rw (step_of ps i p lt is, e) refl
 
-pub parts_end : (schema : Schema) (ps : List (Part Leaf)) (i : ℕ) (front : List (Part BoundLeaf)) → length ps ≤ i
+pub parts_end : (schema : Schema) (ps : List (Part Predicate)) (i : ℕ) (front : List (Part BoundPredicate))
+    → length ps ≤ i
     → prefixed front (bound_parts schema (drop i ps)) ≡ Ok front
 unfolding bound_parts
 parts_end schema ps i front le = rw (end_of ps i le) (ap Ok (append-nil front))

@@ -2,7 +2,7 @@
 use Rattle.std.proofs.Common.{◌≡◌, ℕ, suc, ◌<◌, Bool, true, false, List, [], ◌∷◌, ◌++◌, length, get_or, map, refl, ap}
 use Rattle.std.proofs.Common.{◌∙◌, ◌≢◌, ◌==◌, append_assoc, Result, Ok, Err, OnOk, arith}
 use Rattle.std.proofs.lemmas.Bool.{eq-eqb, eqb-true}
-use Rattle.ice_filter.specs.declared.leaf.Leaf.{Leaf}
+use Rattle.ice_filter.specs.declared.predicate.Predicate.{Predicate}
 use Rattle.ice_filter.specs.declared.parts.Part as parts
 use Rattle.ice_filter.specs.declared.parts.Part.TheVariants.{True, False, And, Or}
 use Rattle.ice_filter.specs.declared.parts.Part.TheVariants as part
@@ -11,31 +11,32 @@ use Rattle.ice_filter.specs.Pieces.{put, put_all, top, rest}
 use Rattle.ice_filter.specs.Texts.{shown, is_either, is_operator, doubled}
 use Rattle.ice_filter.specs.Trees.{Tree, read_part, read_parts, tree_of, top as top_tree, rest as rest_trees}
 
-abbrev pub piece_of : Tree Leaf → Piece
+abbrev pub piece_of : Tree Predicate → Piece
 piece_of t = record { text = shown t; either = is_either t; operator = is_operator t }
 
-map_top : (ts : List (Tree Leaf)) → top (map piece_of ts) ≡ piece_of (top_tree ts)
+map_top : (ts : List (Tree Predicate)) → top (map piece_of ts) ≡ piece_of (top_tree ts)
 map_top [] = refl
 map_top (t ∷ ts) = refl
 
-map_rest : (ts : List (Tree Leaf)) → rest (map piece_of ts) ≡ map piece_of (rest_trees ts)
+map_rest : (ts : List (Tree Predicate)) → rest (map piece_of ts) ≡ map piece_of (rest_trees ts)
 map_rest [] = refl
 map_rest (t ∷ ts) = refl
 
-put_part : (ts : List (Tree Leaf)) (p : parts.Part Leaf) → put (map piece_of ts) p ≡ map piece_of (read_part ts p)
+put_part : (ts : List (Tree Predicate)) (p : parts.Part Predicate)
+    → put (map piece_of ts) p ≡ map piece_of (read_part ts p)
 put_part ts True = refl
 put_part ts False = refl
-put_part ts (part.Leaf l) = refl
+put_part ts (part.Predicate l) = refl
 put_part ts And = rw (map_rest ts, map_rest (rest_trees ts), map_top ts, map_top (rest_trees ts)) refl
 put_part ts Or = rw (map_rest ts, map_rest (rest_trees ts), map_top ts, map_top (rest_trees ts)) refl
 
-put_parts : (ts : List (Tree Leaf)) (ps : List (parts.Part Leaf))
+put_parts : (ts : List (Tree Predicate)) (ps : List (parts.Part Predicate))
     → put_all (map piece_of ts) ps ≡ map piece_of (read_parts ts ps)
 put_parts ts [] = refl
 put_parts ts (p ∷ ps) = ap (λ qs. put_all qs ps) (put_part ts p) ∙ put_parts (read_part ts p) ps
 
 -- the last text is the filter's
-pub pieced : (ps : List (parts.Part Leaf)) → top (put_all [] ps) ≡ piece_of (tree_of ps)
+pub pieced : (ps : List (parts.Part Predicate)) → top (put_all [] ps) ≡ piece_of (tree_of ps)
 pieced ps = ap top (put_parts [] ps) ∙ map_top (read_parts [] ps)
 
 -- ---- quotes

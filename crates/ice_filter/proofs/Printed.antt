@@ -3,25 +3,26 @@ use Rattle.std.proofs.Common.{◌≡◌, ℕ, ◌-◌, ◌<◌, Bool, true, fals
 use Rattle.std.proofs.Common.{subst, ◌∙◌, arith}
 use Rattle.std.proofs.lemmas.List.{append-nil}
 use Rattle.std.specs.Prelude.{codes}
-use Rattle.ice_filter.specs.declared.leaf.Leaf.{Leaf}
-use Rattle.ice_filter.specs.declared.leaf.Column.{Column}
-use Rattle.ice_filter.specs.declared.leaf.Choices.{Choices}
-use Rattle.ice_filter.specs.declared.leaf.Literal.{Literal}
-use Rattle.ice_filter.specs.declared.leaf.Question.{Question}
-use Rattle.ice_filter.specs.declared.leaf.Question.TheVariants as question
+use Rattle.ice_filter.specs.declared.predicate.Predicate.{Predicate}
+use Rattle.ice_filter.specs.declared.predicate.Column.{Column}
+use Rattle.ice_filter.specs.declared.predicate.Choices.{Choices}
+use Rattle.ice_filter.specs.declared.predicate.Literal.{Literal}
+use Rattle.ice_filter.specs.declared.predicate.Question.{Question}
+use Rattle.ice_filter.specs.declared.predicate.Question.TheVariants as question
 use Rattle.ice_filter.specs.declared.token.Token.{Token}
 use Rattle.ice_filter.specs.declared.token.Token.TheVariants as token
 use Rattle.ice_filter.specs.declared.token.Comparison.{Comparison}
 use Rattle.ice_filter.specs.declared.token.Comparison.TheVariants as sign
-use Rattle.ice_filter.specs.Grammar.{Written, truth, leaf, group, both, either, bare, unit, conj, filter, Level, Stands}
-use Rattle.ice_filter.specs.Grammar.{Says, Reads, tokens_in, leaf_tokens, column_tokens, question_tokens}
-use Rattle.ice_filter.specs.Grammar.{choices_tokens, literal_token, dotted, listed, leaves_in, IsShallow, IsWithin}
+use Rattle.ice_filter.specs.Grammar.{Written, truth, predicate, group, both, either, bare, unit, conj, filter, Level,
+    Stands}
+use Rattle.ice_filter.specs.Grammar.{Says, Reads, tokens_in, predicate_tokens, column_tokens, question_tokens}
+use Rattle.ice_filter.specs.Grammar.{choices_tokens, literal_token, dotted, listed, predicates_in, IsShallow, IsWithin}
 use Rattle.ice_filter.specs.Grammar.{Limits, limits, words}
 use Rattle.ice_filter.specs.Lexing.{run_from, word_of, front_at, mark_at, tokens_of}
 use Rattle.ice_filter.specs.Parsing.{filter_of}
 use Rattle.ice_filter.specs.Texts.{name_text, dotted_text, column_text, literal_text, listed_text, choices_text}
-use Rattle.ice_filter.specs.Texts.{sign_text, question_text, leaf_text, enclosed, is_either, is_operator, shown}
-use Rattle.ice_filter.specs.Trees.{Tree, truth as always, leaf as single, both as all_of, either as one_of}
+use Rattle.ice_filter.specs.Texts.{sign_text, question_text, predicate_text, enclosed, is_either, is_operator, shown}
+use Rattle.ice_filter.specs.Trees.{Tree, truth as always, predicate as single, both as all_of, either as one_of}
 use Rattle.ice_filter.proofs.Halts.{shallow_more}
 use Rattle.ice_filter.proofs.Lexed.{lexed, words_lexed, end, blank, close, comma, dot, after, Lexes, LexesAlways}
 use Rattle.ice_filter.proofs.Lexed.{IsStop, lexes_more, lexes_behind, lexes_always}
@@ -175,8 +176,8 @@ question_stop question.Missing = stop_blank (codes "is null")
 question_stop question.Present = stop_blank (codes "is not null")
 question_stop (question.Begins l) = stop_blank (codes "starts with " ++ literal_text l)
 
-leaf_lexed : (l : Leaf) → AllRead (leaf_tokens l) → Lexes (leaf_text l) (leaf_tokens l)
-leaf_lexed l h =
+predicate_lexed : (l : Predicate) → AllRead (predicate_tokens l) → Lexes (predicate_text l) (predicate_tokens l)
+predicate_lexed l h =
     lexes_more (column_text l.column) (question_text l.question) (column_tokens l.column) (question_tokens l.question)
     (column_lexed l.column (all_front (column_tokens l.column) (question_tokens l.question) h))
     (question_stop l.question)
@@ -189,31 +190,31 @@ grouped true w = group w
 grouped false w = w
 
 -- a filter with the parentheses that it needs
-abbrev written : Tree Leaf → Written
+abbrev written : Tree Predicate → Written
 written (always b) = truth b
-written (single l) = leaf l
+written (single l) = predicate l
 written (all_of s t) = both (grouped (is_either s) (written s)) (grouped (is_operator t) (written t))
 written (one_of s t) = either (written s) (grouped (is_either t) (written t))
 
--- each leaf is one of some text
-abbrev LeavesRead : Tree Leaf → Type 0
-LeavesRead (always b) = Unit {0}
-LeavesRead (single l) = AllRead (leaf_tokens l)
-LeavesRead (all_of s t) = LeavesRead s × LeavesRead t
-LeavesRead (one_of s t) = LeavesRead s × LeavesRead t
+-- each predicate is one of some text
+abbrev PredicatesRead : Tree Predicate → Type 0
+PredicatesRead (always b) = Unit {0}
+PredicatesRead (single l) = AllRead (predicate_tokens l)
+PredicatesRead (all_of s t) = PredicatesRead s × PredicatesRead t
+PredicatesRead (one_of s t) = PredicatesRead s × PredicatesRead t
 
-leaves_read : (w : Written) → AllRead (tokens_in w) → LeavesRead (bare w)
-leaves_read (truth b) h = tt
-leaves_read (leaf l) h = h
-leaves_read (group w) h = leaves_read w (all_front (tokens_in w) (token.Close ∷ []) h.1)
-leaves_read (both v w) h = (
-  leaves_read v (all_front (tokens_in v) (token.And ∷ tokens_in w) h),
-  leaves_read w
+predicates_read : (w : Written) → AllRead (tokens_in w) → PredicatesRead (bare w)
+predicates_read (truth b) h = tt
+predicates_read (predicate l) h = h
+predicates_read (group w) h = predicates_read w (all_front (tokens_in w) (token.Close ∷ []) h.1)
+predicates_read (both v w) h = (
+  predicates_read v (all_front (tokens_in v) (token.And ∷ tokens_in w) h),
+  predicates_read w
       (all_back (tokens_in v) (token.And ∷ tokens_in w) h).1,
 )
-leaves_read (either v w) h = (
-  leaves_read v (all_front (tokens_in v) (token.Or ∷ tokens_in w) h),
-  leaves_read w
+predicates_read (either v w) h = (
+  predicates_read v (all_front (tokens_in v) (token.Or ∷ tokens_in w) h),
+  predicates_read w
       (all_back (tokens_in v) (token.Or ∷ tokens_in w) h).1,
 )
 
@@ -235,9 +236,9 @@ enclosed_lexed true text w h = lexes_behind (codes "(") (text ++ codes ")") (tok
     (tokens_in w ++ token.Close ∷ []) open_always (closed_lexed text (tokens_in w) h)
 enclosed_lexed false text w h = h
 
-shown_lexed : (f : Tree Leaf) → LeavesRead f → Lexes (shown f) (tokens_in (written f))
+shown_lexed : (f : Tree Predicate) → PredicatesRead f → Lexes (shown f) (tokens_in (written f))
 shown_lexed (always b) h = truth_lexed b
-shown_lexed (single l) h = leaf_lexed l h
+shown_lexed (single l) h = predicate_lexed l h
 shown_lexed (all_of s t) h =
     let v = grouped (is_either s) (written s) in
     let w = grouped (is_operator t) (written t) in
@@ -255,7 +256,7 @@ shown_lexed (one_of s t) h =
     (lexes_behind (codes " or ") (enclosed (is_either t) (shown t)) (token.Or ∷ []) (tokens_in w) or_always
     (enclosed_lexed (is_either t) (shown t) (written t) (shown_lexed t h.1)))
 
-shown_words : (f : Tree Leaf) → LeavesRead f → words (tokens_of (shown f)) ≡ tokens_in (written f)
+shown_words : (f : Tree Predicate) → PredicatesRead f → words (tokens_of (shown f)) ≡ tokens_in (written f)
 unfolding lexed
 shown_words f h =
     let whole : lexed 0 (shown f) ≡ tokens_in (written f) = rw (
@@ -267,19 +268,19 @@ shown_words f h =
 
 -- ---- the grammar
 
-conj_stands : (f : Tree Leaf) → Stands filter (written f) → Stands conj (grouped (is_either f) (written f))
+conj_stands : (f : Tree Predicate) → Stands filter (written f) → Stands conj (grouped (is_either f) (written f))
 conj_stands (always b) h = tt
 conj_stands (single l) h = tt
 conj_stands (all_of s t) h = h
 conj_stands (one_of s t) h = h
 
-unit_stands : (f : Tree Leaf) → Stands filter (written f) → Stands unit (grouped (is_operator f) (written f))
+unit_stands : (f : Tree Predicate) → Stands filter (written f) → Stands unit (grouped (is_operator f) (written f))
 unit_stands (always b) h = tt
 unit_stands (single l) h = tt
 unit_stands (all_of s t) h = h
 unit_stands (one_of s t) h = h
 
-stands : (f : Tree Leaf) → Stands filter (written f)
+stands : (f : Tree Predicate) → Stands filter (written f)
 stands (always b) = tt
 stands (single l) = tt
 stands (all_of s t) = (conj_stands s (stands s), unit_stands t (stands t))
@@ -289,7 +290,7 @@ bare_grouped : (b : Bool) (w : Written) → bare (grouped b w) ≡ bare w
 bare_grouped true w = refl
 bare_grouped false w = refl
 
-bare_written : (f : Tree Leaf) → bare (written f) ≡ f
+bare_written : (f : Tree Predicate) → bare (written f) ≡ f
 bare_written (always b) = refl
 bare_written (single l) = refl
 bare_written (all_of s t) = rw (
@@ -302,27 +303,28 @@ bare_written (one_of s t) = rw (bare_grouped (is_either t) (written t), bare_wri
 
 -- ---- the limits
 
-leaves_grouped : (b : Bool) (w : Written) → leaves_in (grouped b w) ≡ leaves_in w
-leaves_grouped true w = refl
-leaves_grouped false w = refl
+predicates_grouped : (b : Bool) (w : Written) → predicates_in (grouped b w) ≡ predicates_in w
+predicates_grouped true w = refl
+predicates_grouped false w = refl
 
-same_leaves : (w : Written) → leaves_in (written (bare w)) ≡ leaves_in w
-same_leaves (truth b) = refl
-same_leaves (leaf l) = refl
-same_leaves (group w) = same_leaves w
-same_leaves (both v w) =
+same_predicates : (w : Written) → predicates_in (written (bare w)) ≡ predicates_in w
+same_predicates (truth b) = refl
+same_predicates (predicate l) = refl
+same_predicates (group w) = same_predicates w
+same_predicates (both v w) =
     rw (
-      leaves_grouped (is_either (bare v)) (written (bare v)),
-      leaves_grouped (is_operator (bare w))
+      predicates_grouped (is_either (bare v)) (written (bare v)),
+      predicates_grouped (is_operator (bare w))
           (written (bare w)),
-      same_leaves v,
-      same_leaves w,
+      same_predicates v,
+      same_predicates w,
     ) refl
-same_leaves (either v w) = rw (leaves_grouped (is_either (bare w)) (written (bare w)), same_leaves v, same_leaves w)
+same_predicates (either v w) = rw
+    (predicates_grouped (is_either (bare w)) (written (bare w)), same_predicates v, same_predicates w)
     refl
 
 -- whether a filter needs parentheses there
-abbrev needs : Level → Tree Leaf → Bool
+abbrev needs : Level → Tree Predicate → Bool
 needs unit f = is_operator f
 needs conj f = is_either f
 needs filter f = false
@@ -337,9 +339,9 @@ as_shallow : (l : Level) (deep most : ℕ) (w : Written) → Stands l w → IsSh
 as_shallow unit deep most (truth b) s h = tt
 as_shallow conj deep most (truth b) s h = tt
 as_shallow filter deep most (truth b) s h = tt
-as_shallow unit deep most (leaf x) s h = h
-as_shallow conj deep most (leaf x) s h = h
-as_shallow filter deep most (leaf x) s h = h
+as_shallow unit deep most (predicate x) s h = h
+as_shallow conj deep most (predicate x) s h = h
+as_shallow filter deep most (predicate x) s h = h
 as_shallow l deep most (group w) s h = shallow_grouped (needs l (bare w)) deep most (written (bare w)) h.0
     (as_shallow filter (deep - 1) most w s h.1)
 as_shallow unit deep most (both v w) s h = absurd s
@@ -355,7 +357,7 @@ as_shallow filter deep most (either v w) s h = (
 
 within : (m : Limits) (w : Written) → Stands filter w → IsWithin m w → IsWithin m (written (bare w))
 within m w s h = record {
-  few = rw (same_leaves w) h.few;
+  few = rw (same_predicates w) h.few;
   shallow = as_shallow filter m.groups m.literals w s h.shallow;
 }
 
@@ -368,7 +370,7 @@ says m n w s h read = (
   (
     record {
       stands = stands (bare w);
-      spelled = shown_words (bare w) (leaves_read w read);
+      spelled = shown_words (bare w) (predicates_read w read);
     },
     within m w s h,
     sym (bare_written (bare w)),
@@ -378,16 +380,16 @@ says m n w s h read = (
 read_tokens : (text : List ℕ) (w : Written) → words (tokens_of text) ≡ tokens_in w → AllRead (tokens_in w)
 read_tokens text w e = subst AllRead (sym (words_lexed 0 0 text) ∙ e) (lexed_read 0 text)
 
-reads_bare : (text : List ℕ) (f : Tree Leaf) (w : Written) → Says (words (tokens_of text)) w → IsWithin limits w
+reads_bare : (text : List ℕ) (f : Tree Predicate) (w : Written) → Says (words (tokens_of text)) w → IsWithin limits w
     → f ≡ bare w → Reads limits (length (shown f)) (tokens_of (shown f)) (Ok f)
-reads_bare text f w h k e = subst (λ (g : Tree Leaf). Reads limits (length (shown g)) (tokens_of (shown g)) (Ok g))
+reads_bare text f w h k e = subst (λ (g : Tree Predicate). Reads limits (length (shown g)) (tokens_of (shown g)) (Ok g))
     (sym e) (says limits (length (shown (bare w))) w h.stands k (read_tokens text w h.spelled))
 
-reads_shown : (text : List ℕ) (f : Tree Leaf) → Reads limits (length text) (tokens_of text) (Ok f)
+reads_shown : (text : List ℕ) (f : Tree Predicate) → Reads limits (length text) (tokens_of text) (Ok f)
     → Reads limits (length (shown f)) (tokens_of (shown f)) (Ok f)
 reads_shown text f r = reads_bare text f r.0 r.1.0 r.1.1 r.1.2
 
-pub shown_read : (text : List ℕ) (f : Tree Leaf) → filter_of text ≡ Ok f → filter_of (shown f) ≡ Ok f
+pub shown_read : (text : List ℕ) (f : Tree Predicate) → filter_of text ≡ Ok f → filter_of (shown f) ≡ Ok f
 shown_read text f e =
     one_reading limits (length (shown f)) (tokens_of (shown f)) (filter_of (shown f)) (Ok f) (text_reads (shown f))
     (reads_shown text f (rw e at (text_reads text)))

@@ -8,8 +8,8 @@ use Rattle.ice_filter.specs.declared.fault.FilterFault.{FilterFault}
 use Rattle.ice_filter.specs.declared.fault.FilterFault.TheVariants.{TooBig}
 use Rattle.ice_filter.specs.declared.token.Token.{Token}
 use Rattle.ice_filter.specs.declared.token.Token.TheVariants as token
-use Rattle.ice_filter.specs.declared.leaf.Leaf.{Leaf}
-use Rattle.ice_filter.specs.declared.leaf.Progress.TheVariants as progress
+use Rattle.ice_filter.specs.declared.predicate.Predicate.{Predicate}
+use Rattle.ice_filter.specs.declared.predicate.Progress.TheVariants as progress
 use Rattle.ice_filter.specs.declared.parts.Part.{Part}
 use Rattle.ice_filter.specs.declared.parts.Part.TheVariants as part
 use Rattle.ice_filter.specs.declared.parser.Pending.{Pending}
@@ -21,7 +21,8 @@ use Rattle.ice_filter.specs.Trees.{operands_after_operand, operands_after_operat
 use Rattle.ice_filter.specs.Trees as trees
 use Rattle.ice_filter.specs.Lexing.{tokens_of}
 use Rattle.ice_filter.specs.Parsing.{Act, State, Read, joined, joined_and, opened, began, held, anded, ored, at_unit}
-use Rattle.ice_filter.specs.Parsing.{closed, after_unit, moved, leaf_step, step, step_at, ended, finish, outcome, start}
+use Rattle.ice_filter.specs.Parsing.{closed, after_unit, moved, predicate_step, step, step_at, ended, finish, outcome,
+    start}
 use Rattle.ice_filter.specs.Parsing.{none, add_part, parsed, mapped, filter_of}
 use Rattle.ice_filter.specs.Parsing as parsing
 use Rattle.ice_filter.specs.Rebuilding.{put}
@@ -35,7 +36,7 @@ abbrev pub Commutes : {R S : Type 0} → (R → Act → R) → (S → Act → S)
 Commutes {R} add plus h = (r : R) (a : Act) → h (add r a) ≡ plus (h r) a
 
 abbrev pub shown : {R S : Type 0} → (R → S) → State R → State S
-shown h s = record { place = s.place; now = s.now; outer = s.outer; read = h s.read; leaves = s.leaves }
+shown h s = record { place = s.place; now = s.now; outer = s.outer; read = h s.read; predicates = s.predicates }
 
 chosen_same : {R S : Type 0} (h : R → S) (b : Bool) (x y : R) (z w : S) → h x ≡ z → h y ≡ w
     → h (cond b x y) ≡ cond b z w
@@ -73,7 +74,7 @@ unit_same : {R S : Type 0} (add : R → Act → R) (plus : S → Act → S) (h :
 unfolding at_unit opened began
 unit_same add plus h c m at s token.Open = limited_same h (nat_lt (length s.outer) m.groups) _
 unit_same add plus h c m at s (token.Truth b) = held_same add plus h c s (parsing.truth b)
-unit_same add plus h c m at s (token.Name n) = limited_same h (nat_lt s.leaves m.leaves) _
+unit_same add plus h c m at s (token.Name n) = limited_same h (nat_lt s.predicates m.predicates) _
 unit_same add plus h c m at s _ = refl
 
 closed_same : {R S : Type 0} (add : R → Act → R) (plus : S → Act → S) (h : R → S) → Commutes add plus h
@@ -98,7 +99,7 @@ moved_same : {R S : Type 0} (add : R → Act → R) (plus : S → Act → S) (h 
     → (s : State R) (r : Read) → mapped (shown h) (moved add s r) ≡ moved plus (shown h s) r
 unfolding moved
 moved_same add plus h c s (Ok (progress.Going p)) = refl
-moved_same add plus h c s (Ok (progress.Done l)) = held_same add plus h c s (parsing.leaf l)
+moved_same add plus h c s (Ok (progress.Done l)) = held_same add plus h c s (parsing.predicate l)
 moved_same add plus h c s (Err e) = refl
 
 step_same : {R S : Type 0} (add : R → Act → R) (plus : S → Act → S) (h : R → S) → Commutes add plus h
@@ -108,7 +109,7 @@ unfolding step_at
 step_same add plus h c m at s Wants t = unit_same add plus h c m at s t
 step_same add plus h c m at s After t = after_same add plus h c at s t
 step_same add plus h c m at s (Inside p) t = moved_same add plus h c (record s { place = Wants })
-    (leaf_step m.literals at p t)
+    (predicate_step m.literals at p t)
 
 ended_same : {R S : Type 0} (add : R → Act → R) (plus : S → Act → S) (h : R → S) → Commutes add plus h
     → (end : ℕ) (s : State R) (place : Place) (ps : List Pending)
@@ -137,9 +138,9 @@ outcome_same add plus h c m end (t ∷ ts) s =
 
 -- ---- filters without their parentheses
 
-add_tree : List (Tree Leaf) → Act → List (Tree Leaf)
+add_tree : List (Tree Predicate) → Act → List (Tree Predicate)
 add_tree ts (parsing.truth b) = trees.truth b ∷ ts
-add_tree ts (parsing.leaf l) = trees.leaf l ∷ ts
+add_tree ts (parsing.predicate l) = trees.predicate l ∷ ts
 add_tree ts parsing.group = ts
 add_tree ts parsing.both = trees.both (trees.top (trees.rest ts)) (trees.top ts) ∷ trees.rest (trees.rest ts)
 add_tree ts parsing.either = trees.either (trees.top (trees.rest ts)) (trees.top ts) ∷ trees.rest (trees.rest ts)
@@ -155,14 +156,14 @@ bare_below (t ∷ ts) = refl
 bares : Commutes put add_tree (map bare)
 unfolding add_tree
 bares ts (parsing.truth b) = refl
-bares ts (parsing.leaf l) = refl
+bares ts (parsing.predicate l) = refl
 bares [] parsing.group = refl
 bares (t ∷ ts) parsing.group = refl
 bares ts parsing.both = rw (bare_top (written.below ts), bare_top ts, bare_below (written.below ts), bare_below ts) refl
 bares ts parsing.either = rw (bare_top (written.below ts), bare_top ts, bare_below (written.below ts), bare_below ts)
     refl
 
-add_snoc : (ts : List (Tree Leaf)) (ps : List (Part Leaf)) (p : Part Leaf)
+add_snoc : (ts : List (Tree Predicate)) (ps : List (Part Predicate)) (p : Part Predicate)
     → read_parts ts (ps ++ p ∷ []) ≡ read_part (read_parts ts ps) p
 add_snoc ts [] p = refl
 add_snoc ts (q ∷ ps) p = add_snoc (read_part ts q) ps p
@@ -171,14 +172,14 @@ parts_shown : Commutes add_part add_tree (read_parts [])
 unfolding add_tree
 parts_shown ps (parsing.truth true) = add_snoc [] ps part.True
 parts_shown ps (parsing.truth false) = add_snoc [] ps part.False
-parts_shown ps (parsing.leaf l) = add_snoc [] ps (part.Leaf l)
+parts_shown ps (parsing.predicate l) = add_snoc [] ps (part.Predicate l)
 parts_shown ps parsing.group = refl
 parts_shown ps parsing.both = add_snoc [] ps part.And
 parts_shown ps parsing.either = add_snoc [] ps part.Or
 
 -- both ways of reading show the same
 tree_reads : (m : Limits) (end : ℕ) (ts : List (ℕ × Token)) (r : Result (List Written) FilterFault)
-    (q : Result (List (Part Leaf)) FilterFault) → mapped (map bare) r ≡ mapped (read_parts []) q
+    (q : Result (List (Part Predicate)) FilterFault) → mapped (map bare) r ≡ mapped (read_parts []) q
     → ReadsWritten m end ts r → Reads m end ts (mapped tree_of q)
 tree_reads m end ts (Ok ws) (Ok ps) e h =
     let same : map bare ws ≡ read_parts [] ps = cc in
@@ -214,7 +215,7 @@ operands_at After = 1
 operands_at _ = 0
 
 -- as many operands wait as the open filters have
-record Counted (s : State (List (Part Leaf))) : Type 0 where
+record Counted (s : State (List (Part Predicate))) : Type 0 where
   counted : operands_after 0 s.read ≡ Some (operands_at s.place + (pending_in s.now + pending_around s.outer))
   deep : length s.outer ≤ 32
 
@@ -227,14 +228,14 @@ ends_some : (o : Option ℕ) → option_and_then (λ m. Some m) o ≡ o
 ends_some None = refl
 ends_some (Some n) = refl
 
-after_snoc : (n : ℕ) (ps : List (Part Leaf)) (p : Part Leaf)
+after_snoc : (n : ℕ) (ps : List (Part Predicate)) (p : Part Predicate)
     → operands_after n (ps ++ p ∷ []) ≡ option_and_then (λ k. operands_after_part k p) (operands_after n ps)
 after_snoc n [] p = ends_some (operands_after_part n p)
 after_snoc n (q ∷ ps) p = then_snoc (operands_after_part n q) (λ m. operands_after m ps) (λ k. operands_after_part k p)
     (λ m. operands_after m (ps ++ p ∷ [])) (λ m. after_snoc m ps p)
 
 -- operands before and behind a part
-after_part : (ps : List (Part Leaf)) (p : Part Leaf) (n : ℕ) → operands_after 0 ps ≡ Some n
+after_part : (ps : List (Part Predicate)) (p : Part Predicate) (n : ℕ) → operands_after 0 ps ≡ Some n
     → operands_after 0 (ps ++ p ∷ []) ≡ operands_after_part n p
 after_part ps p n e = after_snoc 0 ps p ∙ ap (option_and_then (λ k. operands_after_part k p)) e
 
@@ -262,7 +263,7 @@ few_around [] = omega arith
 few_around (p ∷ ps) = omega (arith, few_pending p, few_around ps)
 
 -- an operand's part
-operand_part : (s : State (List (Part Leaf))) (p : Part Leaf)
+operand_part : (s : State (List (Part Predicate))) (p : Part Predicate)
     → ((n : ℕ) → operands_after_part n p ≡ operands_after_operand n) → length s.outer ≤ 32
     → operands_after 0 s.read ≡ Some (pending_in s.now + pending_around s.outer)
     → operands_after 0 (s.read ++ p ∷ []) ≡ Some (1 + (pending_in s.now + pending_around s.outer))
@@ -276,7 +277,7 @@ operand_part s p is deep e =
     )) (omega arith)
 
 -- the operands of `and`, of `or` are one
-and_counted : (e b : Bool) (ps : List (Part Leaf)) (n : ℕ) → operands_after 0 ps ≡ Some (1 + ((one e + one b) + n))
+and_counted : (e b : Bool) (ps : List (Part Predicate)) (n : ℕ) → operands_after 0 ps ≡ Some (1 + ((one e + one b) + n))
     → operands_after 0 (joined_and add_part (record { either = e; both = b }) ps) ≡ Some (1 + ((one e + 0) + n))
 unfolding joined_and one
 and_counted e false ps n h = h
@@ -284,7 +285,7 @@ and_counted e true ps n h =
     after_part ps part.And (1 + ((one e + 1) + n)) h ∙ operator_added (1 + ((one e + 1) + n)) (1 + ((one e + 0) + n))
     (one e + n) (omega arith) (omega arith)
 
-or_counted : (e b : Bool) (ps : List (Part Leaf)) (n : ℕ) → operands_after 0 ps ≡ Some (1 + ((one e + one b) + n))
+or_counted : (e b : Bool) (ps : List (Part Predicate)) (n : ℕ) → operands_after 0 ps ≡ Some (1 + ((one e + one b) + n))
     → operands_after 0 (joined add_part (record { either = e; both = b }) ps) ≡ Some (1 + n)
 unfolding joined one
 or_counted false b ps n h = and_counted false b ps n h ∙ ap Some (omega arith)
@@ -294,11 +295,11 @@ or_counted true b ps n h =
     after_part js part.Or (1 + ((1 + 0) + n)) k ∙ operator_added (1 + ((1 + 0) + n)) (1 + n) n (omega arith)
     (omega arith)
 
-CountedAfter : Result (State (List (Part Leaf))) FilterFault → Type 0
+CountedAfter : Result (State (List (Part Predicate))) FilterFault → Type 0
 CountedAfter (Ok q) = Counted q
 CountedAfter (Err e) = Unit {0}
 
-counted_if : (q : State (List (Part Leaf))) (b : Bool) → (b ≡ true → Counted q)
+counted_if : (q : State (List (Part Predicate))) (b : Bool) → (b ≡ true → Counted q)
     → CountedAfter (cond b (Ok q) (Err TooBig))
 unfolding CountedAfter
 counted_if q true h = h refl
@@ -307,12 +308,13 @@ counted_if q false h = tt
 less_of : (a n : ℕ) → nat_lt a n ≡ true → a < n
 less_of a n e = search (rules, e)
 
-unit_counted : (m : Limits) (at : ℕ) (s : State (List (Part Leaf))) (t : Token) → m.groups ≤ 32 → length s.outer ≤ 32
+unit_counted : (m : Limits) (at : ℕ) (s : State (List (Part Predicate))) (t : Token) → m.groups ≤ 32
+    → length s.outer ≤ 32
     → operands_after 0 s.read ≡ Some (pending_in s.now + pending_around s.outer)
     → CountedAfter (at_unit add_part m at s t)
 unfolding at_unit opened began held CountedAfter pending_around operands_at one pending_in
 unit_counted m at s token.Open most deep h =
-    counted_if (record { place = Wants; now = none; outer = s.now ∷ s.outer; read = s.read; leaves = s.leaves })
+    counted_if (record { place = Wants; now = none; outer = s.now ∷ s.outer; read = s.read; predicates = s.predicates })
     (nat_lt (length s.outer) m.groups)
     (λ e. record {
       counted = h ∙ ap Some (omega arith);
@@ -327,10 +329,10 @@ unit_counted m at s (token.Truth false) most deep h = record {
   deep = deep;
 }
 unit_counted m at s (token.Name x) most deep h =
-    counted_if _ (nat_lt s.leaves m.leaves) (λ e. record { counted = h ∙ ap Some (omega arith); deep = deep })
+    counted_if _ (nat_lt s.predicates m.predicates) (λ e. record { counted = h ∙ ap Some (omega arith); deep = deep })
 unit_counted m at s _ most deep h = tt
 
-closed_counted : (at : ℕ) (s : State (List (Part Leaf))) (ps : List Pending) → length ps ≤ 32
+closed_counted : (at : ℕ) (s : State (List (Part Predicate))) (ps : List Pending) → length ps ≤ 32
     → operands_after 0 s.read ≡ Some (1 + (pending_in s.now + pending_around ps))
     → CountedAfter (closed add_part at s ps)
 unfolding closed CountedAfter pending_around operands_at pending_in
@@ -341,7 +343,7 @@ closed_counted at s (p ∷ ps) deep h = record {
   deep = omega (arith, deep);
 }
 
-after_counted : (at : ℕ) (s : State (List (Part Leaf))) (t : Token) → length s.outer ≤ 32
+after_counted : (at : ℕ) (s : State (List (Part Predicate))) (t : Token) → length s.outer ≤ 32
     → operands_after 0 s.read ≡ Some (1 + (pending_in s.now + pending_around s.outer))
     → CountedAfter (after_unit add_part at s t)
 unfolding after_unit anded ored CountedAfter operands_at pending_in one
@@ -358,26 +360,28 @@ after_counted at s token.Or deep h = record {
 after_counted at s token.Close deep h = closed_counted at s s.outer deep h
 after_counted at s _ deep h = tt
 
-moved_counted : (s : State (List (Part Leaf))) (r : Read) → length s.outer ≤ 32
+moved_counted : (s : State (List (Part Predicate))) (r : Read) → length s.outer ≤ 32
     → operands_after 0 s.read ≡ Some (pending_in s.now + pending_around s.outer) → CountedAfter (moved add_part s r)
 unfolding moved held CountedAfter operands_at
 moved_counted s (Ok (progress.Going p)) deep h = record { counted = h ∙ ap Some (omega arith); deep = deep }
 moved_counted s (Ok (progress.Done l)) deep h = record {
-  counted = operand_part s (part.Leaf l) (λ n. refl) deep h;
+  counted = operand_part s (part.Predicate l) (λ n. refl) deep h;
   deep = deep;
 }
 moved_counted s (Err e) deep h = tt
 
-step_counted : (m : Limits) (at : ℕ) (s : State (List (Part Leaf))) (place : Place) (t : Token) → m.groups ≤ 32
+step_counted : (m : Limits) (at : ℕ) (s : State (List (Part Predicate))) (place : Place) (t : Token) → m.groups ≤ 32
     → length s.outer ≤ 32 → operands_after 0 s.read ≡ Some (operands_at place + (pending_in s.now + pending_around
     s.outer)) → CountedAfter (step_at add_part m at s place t)
 unfolding step_at operands_at
 step_counted m at s Wants t most deep h = unit_counted m at s t most deep (h ∙ ap Some (omega arith))
 step_counted m at s After t most deep h = after_counted at s t deep h
-step_counted m at s (Inside p) t most deep h = moved_counted (record s { place = Wants }) (leaf_step m.literals at p t)
+step_counted m at s (Inside p) t most deep h = moved_counted (record s { place = Wants })
+    (predicate_step m.literals at p t)
     deep (h ∙ ap Some (omega arith))
 
-ended_counted : (end : ℕ) (s : State (List (Part Leaf))) (place : Place) (ps : List Pending) (out : List (Part Leaf))
+ended_counted : (end : ℕ) (s : State (List (Part Predicate))) (place : Place) (ps : List Pending)
+    (out : List (Part Predicate))
     → operands_after 0 s.read ≡ Some (operands_at place + (pending_in s.now + pending_around ps))
     → ended add_part end s place ps ≡ Ok out → is_filter out ≡ true
 unfolding ended operands_at pending_around pending_in
@@ -391,11 +395,11 @@ ended_counted end s Wants ps out h e = absurd cc
 ended_counted end s (Inside l) ps out h e = absurd cc
 
 Filters : Limits → ℕ → List (ℕ × Token) → Type 0
-Filters m end ts = (s : State (List (Part Leaf))) (out : List (Part Leaf)) → Counted s
+Filters m end ts = (s : State (List (Part Predicate))) (out : List (Part Predicate)) → Counted s
     → outcome add_part m end s ts ≡ Ok out → is_filter out ≡ true
 
-next_filter : (m : Limits) (end : ℕ) (ts : List (ℕ × Token)) (r : Result (State (List (Part Leaf))) FilterFault)
-    (out : List (Part Leaf)) → Filters m end ts → CountedAfter r
+next_filter : (m : Limits) (end : ℕ) (ts : List (ℕ × Token)) (r : Result (State (List (Part Predicate))) FilterFault)
+    (out : List (Part Predicate)) → Filters m end ts → CountedAfter r
     → (r >>= λ next. outcome add_part m end next ts) ≡ Ok out → is_filter out ≡ true
 unfolding Filters CountedAfter
 next_filter m end ts (Ok q) out later h e = later q out h e
@@ -408,7 +412,7 @@ are_filters m end most (x ∷ ts) s out h e = next_filter m end ts (step_at add_
     (are_filters m end most ts) (step_counted m x.0 s s.place x.1 most h.deep h.counted) e
 
 -- what is read is a filter
-pub parsed_filter : (text : List ℕ) (out : List (Part Leaf)) → parsed text ≡ Ok out → is_filter out ≡ true
+pub parsed_filter : (text : List ℕ) (out : List (Part Predicate)) → parsed text ≡ Ok out → is_filter out ≡ true
 unfolding Filters operands_at pending_around pending_in one
 parsed_filter text out e = are_filters limits (length text) (omega arith) (tokens_of text) (start []) out
     (record { counted = refl; deep = omega arith }) e

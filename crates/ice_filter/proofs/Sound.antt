@@ -9,35 +9,36 @@ use Rattle.ice_filter.specs.declared.fault.FilterFault.TheVariants.{TooBig}
 use Rattle.ice_filter.specs.declared.token.Token.{Token}
 use Rattle.ice_filter.specs.declared.token.Token.TheVariants as token
 use Rattle.ice_filter.specs.declared.token.Comparison.{Comparison}
-use Rattle.ice_filter.specs.declared.leaf.Column.{Column}
-use Rattle.ice_filter.specs.declared.leaf.Choices.{Choices}
-use Rattle.ice_filter.specs.declared.leaf.Literal.{Literal}
-use Rattle.ice_filter.specs.declared.leaf.Literal.TheVariants as literal
-use Rattle.ice_filter.specs.declared.leaf.Partial.{Partial}
-use Rattle.ice_filter.specs.declared.leaf.Partial.TheVariants as partial
-use Rattle.ice_filter.specs.declared.leaf.Progress.TheVariants as progress
+use Rattle.ice_filter.specs.declared.predicate.Column.{Column}
+use Rattle.ice_filter.specs.declared.predicate.Choices.{Choices}
+use Rattle.ice_filter.specs.declared.predicate.Literal.{Literal}
+use Rattle.ice_filter.specs.declared.predicate.Literal.TheVariants as literal
+use Rattle.ice_filter.specs.declared.predicate.Partial.{Partial}
+use Rattle.ice_filter.specs.declared.predicate.Partial.TheVariants as partial
+use Rattle.ice_filter.specs.declared.predicate.Progress.TheVariants as progress
 use Rattle.ice_filter.specs.declared.parser.Pending.{Pending}
 use Rattle.ice_filter.specs.declared.parser.Place.{Place}
 use Rattle.ice_filter.specs.declared.parser.Place.TheVariants.{Wants, After, Inside}
-use Rattle.ice_filter.specs.Grammar.{Written, truth, leaf, group, both, either, Limits, Level, unit, conj, filter}
-use Rattle.ice_filter.specs.Grammar.{IsShort, IsWithin, leaves_in, tokens_in, leaf_tokens, column_tokens}
+use Rattle.ice_filter.specs.Grammar.{Written, truth, predicate, group, both, either, Limits, Level, unit, conj, filter}
+use Rattle.ice_filter.specs.Grammar.{IsShort, IsWithin, predicates_in, tokens_in, predicate_tokens, column_tokens}
 use Rattle.ice_filter.specs.Grammar.{choices_tokens, literal_token, in_tokens, dotted, listed, Says}
 use Rattle.ice_filter.specs.Rebuilding.{Reading, top, below, put, partial_tokens, past, rest, operand, front, outside}
 use Rattle.ice_filter.specs.Rebuilding.{fronts, read_tokens, place_tokens, Fits, FrontsFit, IsShortSoFar, HasTop}
-use Rattle.ice_filter.specs.Rebuilding.{Placed, leaves_at, leaves_of, Good}
+use Rattle.ice_filter.specs.Rebuilding.{Placed, predicates_at, predicates_of, Good}
 use Rattle.ice_filter.specs.Parsing.{State, Read, literal_of, behind_column, behind_dot, compared, behind_not}
 use Rattle.ice_filter.specs.Parsing.{behind_in, chosen, behind_listed, chosen_too, behind_is, behind_is_not}
-use Rattle.ice_filter.specs.Parsing.{behind_starts, begun, leaf_step, joined, joined_and, opened, began, held, anded}
+use Rattle.ice_filter.specs.Parsing.{behind_starts, begun, predicate_step, joined, joined_and, opened, began, held,
+    anded}
 use Rattle.ice_filter.specs.Parsing.{ored, at_unit, closed, after_unit, moved, step, step_at, ended, finish, outcome}
 use Rattle.ice_filter.specs.Parsing.{start, none, Act}
 use Rattle.ice_filter.specs.Parsing as parsing
 
--- ---- a leaf
+-- ---- a predicate
 
--- the tokens of what a token made of a leaf are those before, and the token
+-- the tokens of what a token made of a predicate are those before, and the token
 abbrev pub Adds : List Token → Token → Read → Type 0
 Adds before t (Ok (progress.Going p)) = partial_tokens p ≡ before ++ t ∷ []
-Adds before t (Ok (progress.Done l)) = leaf_tokens l ≡ before ++ t ∷ []
+Adds before t (Ok (progress.Done l)) = predicate_tokens l ≡ before ++ t ∷ []
 Adds before t (Err e) = Unit {0}
 
 is_literal : (t : Token) (l : Literal) → literal_of t ≡ Some l → literal_token l ≡ t
@@ -141,22 +142,22 @@ begun_adds at c t None h = tt
 begun_adds at c t (Some l) h = rw (h l refl) (sym (append_assoc (column_tokens c) (token.Starts ∷ token.With ∷ [])
     (t ∷ [])))
 
-pub leaf_adds : (most at : ℕ) (p : Partial) (t : Token) → Adds (partial_tokens p) t (leaf_step most at p t)
-unfolding leaf_step
-leaf_adds most at (partial.Column c) t = column_adds at c t
-leaf_adds most at (partial.Dot c) t = dot_adds at c t
-leaf_adds most at (partial.Sign c sign) t = compared_adds at c sign t (literal_of t) (is_literal t)
-leaf_adds most at (partial.Not c) t = not_adds at c t
-leaf_adds most at (partial.In c n) t = in_adds at c n t
-leaf_adds most at (partial.Open c n) t = chosen_adds at c n t (literal_of t) (is_literal t)
-leaf_adds most at (partial.Listed c n ls) t = listed_adds at c n ls t
-leaf_adds most at (partial.Comma c n ls) t = chosen_too_adds most at c n ls t (literal_of t) (is_literal t)
-leaf_adds most at (partial.Is c) t = is_adds at c t
-leaf_adds most at (partial.IsNot c) t = is_not_adds at c t
-leaf_adds most at (partial.Starts c) t = starts_adds at c t
-leaf_adds most at (partial.With c) t = begun_adds at c t (literal_of t) (is_literal t)
+pub predicate_adds : (most at : ℕ) (p : Partial) (t : Token) → Adds (partial_tokens p) t (predicate_step most at p t)
+unfolding predicate_step
+predicate_adds most at (partial.Column c) t = column_adds at c t
+predicate_adds most at (partial.Dot c) t = dot_adds at c t
+predicate_adds most at (partial.Sign c sign) t = compared_adds at c sign t (literal_of t) (is_literal t)
+predicate_adds most at (partial.Not c) t = not_adds at c t
+predicate_adds most at (partial.In c n) t = in_adds at c n t
+predicate_adds most at (partial.Open c n) t = chosen_adds at c n t (literal_of t) (is_literal t)
+predicate_adds most at (partial.Listed c n ls) t = listed_adds at c n ls t
+predicate_adds most at (partial.Comma c n ls) t = chosen_too_adds most at c n ls t (literal_of t) (is_literal t)
+predicate_adds most at (partial.Is c) t = is_adds at c t
+predicate_adds most at (partial.IsNot c) t = is_not_adds at c t
+predicate_adds most at (partial.Starts c) t = starts_adds at c t
+predicate_adds most at (partial.With c) t = begun_adds at c t (literal_of t) (is_literal t)
 
--- ---- the lists of a leaf
+-- ---- the lists of a predicate
 
 abbrev IsShortAfter : ℕ → Read → Type 0
 IsShortAfter most (Ok (progress.Going p)) = IsShortSoFar most p
@@ -241,34 +242,34 @@ unfolding begun
 begun_short most at c None = tt
 begun_short most at c (Some l) = tt
 
-leaf_short : (most at : ℕ) (p : Partial) (t : Token) → 0 < most → IsShortSoFar most p
-    → IsShortAfter most (leaf_step most at p t)
-unfolding leaf_step
-leaf_short most at (partial.Column c) t some h = column_short most at c t
-leaf_short most at (partial.Dot c) t some h = dot_short most at c t
-leaf_short most at (partial.Sign c sign) t some h = compared_short most at c sign (literal_of t)
-leaf_short most at (partial.Not c) t some h = not_short most at c t
-leaf_short most at (partial.In c n) t some h = in_short most at c n t
-leaf_short most at (partial.Open c n) t some h = chosen_short most at c n (literal_of t) some
-leaf_short most at (partial.Listed c n ls) t some h = listed_short most at c n ls t h
-leaf_short most at (partial.Comma c n ls) t some h = chosen_too_short most at c n ls (literal_of t)
-leaf_short most at (partial.Is c) t some h = is_short most at c t
-leaf_short most at (partial.IsNot c) t some h = is_not_short most at c t
-leaf_short most at (partial.Starts c) t some h = starts_short most at c t
-leaf_short most at (partial.With c) t some h = begun_short most at c (literal_of t)
+predicate_short : (most at : ℕ) (p : Partial) (t : Token) → 0 < most → IsShortSoFar most p
+    → IsShortAfter most (predicate_step most at p t)
+unfolding predicate_step
+predicate_short most at (partial.Column c) t some h = column_short most at c t
+predicate_short most at (partial.Dot c) t some h = dot_short most at c t
+predicate_short most at (partial.Sign c sign) t some h = compared_short most at c sign (literal_of t)
+predicate_short most at (partial.Not c) t some h = not_short most at c t
+predicate_short most at (partial.In c n) t some h = in_short most at c n t
+predicate_short most at (partial.Open c n) t some h = chosen_short most at c n (literal_of t) some
+predicate_short most at (partial.Listed c n ls) t some h = listed_short most at c n ls t h
+predicate_short most at (partial.Comma c n ls) t some h = chosen_too_short most at c n ls (literal_of t)
+predicate_short most at (partial.Is c) t some h = is_short most at c t
+predicate_short most at (partial.IsNot c) t some h = is_not_short most at c t
+predicate_short most at (partial.Starts c) t some h = starts_short most at c t
+predicate_short most at (partial.With c) t some h = begun_short most at c (literal_of t)
 
 -- ---- a filter
 
 as_conj : (most g : ℕ) (t : Written) → Fits most g unit t → Fits most g conj t
 as_conj most g (truth b) h = h
-as_conj most g (leaf l) h = h
+as_conj most g (predicate l) h = h
 as_conj most g (group t) h = h
 as_conj most g (both s t) h = absurd h.0
 as_conj most g (either s t) h = absurd h.0
 
 as_filter : (most g : ℕ) (t : Written) → Fits most g conj t → Fits most g filter t
 as_filter most g (truth b) h = h
-as_filter most g (leaf l) h = h
+as_filter most g (predicate l) h = h
 as_filter most g (group t) h = h
 as_filter most g (both s t) h = h
 as_filter most g (either s t) h = absurd h.0
@@ -287,7 +288,7 @@ less : (a n : ℕ) → nat_lt a n ≡ true → a < n
 less a n e = search (rules, e)
 
 open_adds : (m : Limits) (s : Reading) (g : ℕ) → g + length s.outer ≡ m.groups
-    → FrontsFit m.literals g s.now s.outer s.read → leaves_of s.read ≡ s.leaves → s.leaves ≤ m.leaves
+    → FrontsFit m.literals g s.now s.outer s.read → predicates_of s.read ≡ s.predicates → s.predicates ≤ m.predicates
     → StepAdds m (fronts s.now s.outer s.read) token.Open (opened m s)
 unfolding opened
 open_adds m s g room h k few =
@@ -296,7 +297,7 @@ open_adds m s g room h k few =
       now = none;
       outer = s.now ∷ s.outer;
       read = s.read;
-      leaves = s.leaves;
+      predicates = s.predicates;
     }) (nat_lt (length s.outer) m.groups)
     (λ e. let lt : length s.outer < m.groups = less (length s.outer) m.groups e in
     let back : g - 1 + 1 ≡ g = omega (arith, lt, room) in (
@@ -311,18 +312,18 @@ open_adds m s g room h k few =
     ))
 
 begin_adds : (m : Limits) (s : Reading) (n : List ℕ) (g : ℕ) → g + length s.outer ≡ m.groups
-    → FrontsFit m.literals g s.now s.outer s.read → leaves_of s.read ≡ s.leaves
+    → FrontsFit m.literals g s.now s.outer s.read → predicates_of s.read ≡ s.predicates
     → StepAdds m (fronts s.now s.outer s.read) (token.Name n) (began m s n)
 unfolding began
 begin_adds m s n g room h k =
     allowed m (fronts s.now s.outer s.read) (token.Name n)
-    (record s { place = Inside (partial.Column (record { first = n; more = [] })); leaves = s.leaves + 1 })
-    (nat_lt s.leaves m.leaves)
-    (λ e. let lt : s.leaves < m.leaves = less s.leaves m.leaves e in
+    (record s { place = Inside (partial.Column (record { first = n; more = [] })); predicates = s.predicates + 1 })
+    (nat_lt s.predicates m.predicates)
+    (λ e. let lt : s.predicates < m.predicates = less s.predicates m.predicates e in
     (refl, record { g = g; open_left = room; placed = (h, tt); counted = omega (arith, k); few = omega (arith, lt) }))
 
 unit_adds : (m : Limits) (at : ℕ) (s : Reading) (t : Token) (g : ℕ) → g + length s.outer ≡ m.groups
-    → FrontsFit m.literals g s.now s.outer s.read → leaves_of s.read ≡ s.leaves → s.leaves ≤ m.leaves
+    → FrontsFit m.literals g s.now s.outer s.read → predicates_of s.read ≡ s.predicates → s.predicates ≤ m.predicates
     → StepAdds m (fronts s.now s.outer s.read) t (at_unit put m at s t)
 unfolding at_unit held
 unit_adds m at s token.Open g room h k few = open_adds m s g room h k few
@@ -359,29 +360,30 @@ or_ends most g true b ps ts h k =
     let r = and_ends most g true b ps ts h k in
     ((simp (append_assoc, append-nil)) ∙ r.0, (r.1.0, (tt, tt)), ((r.1.1.0.0, r.2.0), (r.1.1.0.1, r.2.1)))
 
-both_leaves : (b : Bool) (ts : List Written) → leaves_of (cond b (put ts parsing.both) ts) ≡ leaves_of ts
-both_leaves false ts = refl
-both_leaves true [] = refl
-both_leaves true (t ∷ []) = omega arith
-both_leaves true (t ∷ u ∷ ts) = omega arith
+both_predicates : (b : Bool) (ts : List Written) → predicates_of (cond b (put ts parsing.both) ts) ≡ predicates_of ts
+both_predicates false ts = refl
+both_predicates true [] = refl
+both_predicates true (t ∷ []) = omega arith
+both_predicates true (t ∷ u ∷ ts) = omega arith
 
-either_leaves : (b : Bool) (ts : List Written) → leaves_of (cond b (put ts parsing.either) ts) ≡ leaves_of ts
-either_leaves false ts = refl
-either_leaves true [] = refl
-either_leaves true (t ∷ []) = omega arith
-either_leaves true (t ∷ u ∷ ts) = omega arith
+either_predicates : (b : Bool) (ts : List Written)
+    → predicates_of (cond b (put ts parsing.either) ts) ≡ predicates_of ts
+either_predicates false ts = refl
+either_predicates true [] = refl
+either_predicates true (t ∷ []) = omega arith
+either_predicates true (t ∷ u ∷ ts) = omega arith
 
-and_leaves : (p : Pending) (ts : List Written) → leaves_of (joined_and put p ts) ≡ leaves_of ts
+and_predicates : (p : Pending) (ts : List Written) → predicates_of (joined_and put p ts) ≡ predicates_of ts
 unfolding joined_and
-and_leaves p ts = both_leaves p.both ts
+and_predicates p ts = both_predicates p.both ts
 
-or_leaves : (p : Pending) (ts : List Written) → leaves_of (joined put p ts) ≡ leaves_of ts
+or_predicates : (p : Pending) (ts : List Written) → predicates_of (joined put p ts) ≡ predicates_of ts
 unfolding joined
-or_leaves p ts = either_leaves p.either (joined_and put p ts) ∙ and_leaves p ts
+or_predicates p ts = either_predicates p.either (joined_and put p ts) ∙ and_predicates p ts
 
-top_leaves : (ts : List Written) → leaves_in (top ts) + leaves_of (below ts) ≡ leaves_of ts
-top_leaves [] = refl
-top_leaves (t ∷ ts) = refl
+top_predicates : (ts : List Written) → predicates_in (top ts) + predicates_of (below ts) ≡ predicates_of ts
+top_predicates [] = refl
+top_predicates (t ∷ ts) = refl
 
 regroup_close : (o f t : List Token) → (o ++ f) ++ (token.Open ∷ (t ++ token.Close ∷ []))
     ≡ ((((o ++ f) ++ token.Open ∷ []) ++ []) ++ t) ++ token.Close ∷ []
@@ -411,13 +413,14 @@ grouped (t ∷ ts) h = refl
 
 closed_adds : (m : Limits) (at : ℕ) (s : Reading) (g : ℕ) (ps : List Pending) → g + length ps ≡ m.groups
     → Ends m.literals g s.now none ps s.read (joined put s.now s.read) filter → HasTop s.read
-    → leaves_of s.read ≡ s.leaves → s.leaves ≤ m.leaves
+    → predicates_of s.read ≡ s.predicates → s.predicates ≤ m.predicates
     → StepAdds m (fronts s.now ps (below s.read) ++ tokens_in (top s.read)) token.Close (closed put at s ps)
 unfolding closed
 closed_adds m at s g [] room h has k few = tt
 closed_adds m at s g (p ∷ ps) room h has k few =
     let js = joined put s.now s.read in
-    let same : leaves_in (top js) + leaves_of (below js) ≡ s.leaves = top_leaves js ∙ or_leaves s.now s.read ∙ k in
+    let same : predicates_in (top js) + predicates_of (below js) ≡ s.predicates = top_predicates js
+        ∙ or_predicates s.now s.read ∙ k in
     let e : g + 1 - 1 ≡ g = omega arith in
     rw (grouped js (or_top s.now s.read has)) (
       regroup_close (outside ps (rest p (below js))) (front p (below js)) (tokens_in (top js)) ∙ ap
@@ -433,13 +436,13 @@ closed_adds m at s g (p ∷ ps) room h has k few =
 
 after_adds : (m : Limits) (at : ℕ) (s : Reading) (t : Token) (g : ℕ) → g + length s.outer ≡ m.groups
     → FrontsFit m.literals g s.now s.outer (below s.read) → Fits m.literals g unit (top s.read) → HasTop s.read
-    → leaves_of s.read ≡ s.leaves → s.leaves ≤ m.leaves
+    → predicates_of s.read ≡ s.predicates → s.predicates ≤ m.predicates
     → StepAdds m (fronts s.now s.outer (below s.read) ++ tokens_in (top s.read)) t (after_unit put at s t)
 unfolding after_unit anded ored
 after_adds m at s token.And g room h k has c few =
     let r = and_ends m.literals g s.now.either s.now.both s.outer s.read h k in
     let js = joined_and put s.now s.read in
-    let same : leaves_of js ≡ s.leaves = and_leaves s.now s.read ∙ c in (
+    let same : predicates_of js ≡ s.predicates = and_predicates s.now s.read ∙ c in (
       regroup_and (outside s.outer (past s.now.either (below js))) (operand s.now.either (below js) token.Or)
           (tokens_in (top js)) ∙ ap (λ (x : List Token). x ++ token.And ∷ []) r.0,
       record {
@@ -453,7 +456,7 @@ after_adds m at s token.And g room h k has c few =
 after_adds m at s token.Or g room h k has c few =
     let r = or_ends m.literals g s.now.either s.now.both s.outer s.read h k in
     let js = joined put s.now s.read in
-    let same : leaves_of js ≡ s.leaves = or_leaves s.now s.read ∙ c in (
+    let same : predicates_of js ≡ s.predicates = or_predicates s.now s.read ∙ c in (
       regroup_or (outside s.outer (below js)) (tokens_in (top js)) ∙ ap (λ (x : List Token). x ++ token.Or ∷ []) r.0,
       record {
         g = g;
@@ -468,8 +471,9 @@ after_adds m at s token.Close g room h k has c few = closed_adds m at s g s.oute
 after_adds m at s _ g room h k has c few = tt
 
 inside_adds : (m : Limits) (s : Reading) (before : List Token) (t : Token) (r : Read) (g : ℕ)
-    → g + length s.outer ≡ m.groups → FrontsFit m.literals g s.now s.outer s.read → 1 + leaves_of s.read ≡ s.leaves
-    → s.leaves ≤ m.leaves → Adds before t r → IsShortAfter m.literals r
+    → g + length s.outer ≡ m.groups → FrontsFit m.literals g s.now s.outer s.read
+    → 1 + predicates_of s.read ≡ s.predicates
+    → s.predicates ≤ m.predicates → Adds before t r → IsShortAfter m.literals r
     → StepAdds m (fronts s.now s.outer s.read ++ before) t (moved put s r)
 unfolding moved held
 inside_adds m s before t (Ok (progress.Going p)) g room h c few k short = (
@@ -496,14 +500,14 @@ inside_adds m s before t (Err e) g room h c few k short = tt
 
 at_adds : (m : Limits) (at : ℕ) (s : Reading) (place : Place) (t : Token) (g : ℕ) → 0 < m.literals
     → g + length s.outer ≡ m.groups → Placed m.literals g place s.now s.outer s.read
-    → leaves_at place + leaves_of s.read ≡ s.leaves → s.leaves ≤ m.leaves
+    → predicates_at place + predicates_of s.read ≡ s.predicates → s.predicates ≤ m.predicates
     → StepAdds m (place_tokens place s.now s.outer s.read) t (step_at put m at s place t)
 unfolding step_at
 at_adds m at s Wants t g some room h c few = unit_adds m at s t g room h (omega (arith, c)) few
 at_adds m at s After t g some room h c few = after_adds m at s t g room h.0 h.1 h.2 (omega (arith, c)) few
 at_adds m at s (Inside p) t g some room h c few =
-    inside_adds m (record s { place = Wants }) (partial_tokens p) t (leaf_step m.literals at p t) g room h.0 c few
-    (leaf_adds m.literals at p t) (leaf_short m.literals at p t some h.1)
+    inside_adds m (record s { place = Wants }) (partial_tokens p) t (predicate_step m.literals at p t) g room h.0 c few
+    (predicate_adds m.literals at p t) (predicate_short m.literals at p t some h.1)
 
 pub step_adds : (m : Limits) (at : ℕ) (s : Reading) (t : Token) → 0 < m.literals → Good m s
     → StepAdds m (read_tokens s) t (step put m at s t)
@@ -528,10 +532,10 @@ finish_says m s p o h =
     let r = or_ends m.literals h.g s.now.either s.now.both [] s.read at.0 at.1 in
     let all : h.g ≡ m.groups = let l : h.g + length s.outer ≡ m.groups = h.open_left in let k : h.g + 0 ≡ m.groups =
     rw o at l in omega (arith, k) in
-    let c : 0 + leaves_of s.read ≡ s.leaves = rw p at h.counted in
+    let c : 0 + predicates_of s.read ≡ s.predicates = rw p at h.counted in
     let told : place_tokens After s.now [] s.read ≡ read_tokens s = rw (p, o) refl in
-    let same : leaves_in (top js) + leaves_of (below js) ≡ leaves_of s.read =
-    top_leaves js ∙ or_leaves s.now s.read in (
+    let same : predicates_in (top js) + predicates_of (below js) ≡ predicates_of s.read =
+    top_predicates js ∙ or_predicates s.now s.read in (
       record { stands = r.2.0; spelled = sym told ∙ sym r.0 },
       record {
         few = omega (arith, same, c, h.few);

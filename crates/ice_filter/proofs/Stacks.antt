@@ -3,7 +3,7 @@ use Rattle.std.proofs.Common.{◌≡◌, ℕ, zero, suc, ◌+◌, ◌<◌, ◌�
 use Rattle.std.proofs.Common.{arith, ◌∙◌}
 use Rattle.std.proofs.lemmas.List.{get_or-set_same, get_or-set_other}
 use Rattle.ice_filter.specs.declared.parts.Part.{Part}
-use Rattle.ice_filter.specs.declared.parts.Part.TheVariants.{True, False, Leaf, And, Or}
+use Rattle.ice_filter.specs.declared.parts.Part.TheVariants.{True, False, Predicate, And, Or}
 use Rattle.ice_filter.specs.Trees.{Tree, meaning, top, rest, read_part, read_parts, tree_of}
 use Rattle.ice_filter.specs.Truths.{last_of, judge_part, judge_parts, top as top_truth, rest as rest_truths}
 
@@ -40,7 +40,7 @@ judged_part : {L : Type 0} (met : L → Bool) (ts : List (Tree L)) (p : Part L)
     → judge_part met (map (meaning met) ts) p ≡ map (meaning met) (read_part ts p)
 judged_part met ts True = refl
 judged_part met ts False = refl
-judged_part met ts (Leaf l) = refl
+judged_part met ts (Predicate l) = refl
 judged_part met ts And = rw (map_rest met ts, map_rest met (rest ts), map_top met ts, map_top met (rest ts)) refl
 judged_part met ts Or = rw (map_rest met ts, map_rest met (rest ts), map_top met ts, map_top met (rest ts)) refl
 

@@ -6,13 +6,13 @@ use Rattle.ice_filter.specs.declared.fault.FilterFault.TheVariants.{Syntax, TooB
 use Rattle.ice_filter.specs.declared.token.Token.{Token}
 use Rattle.ice_filter.specs.declared.token.Token.TheVariants as token
 use Rattle.ice_filter.specs.declared.token.Comparison.{Comparison}
-use Rattle.ice_filter.specs.declared.leaf.Column.{Column}
-use Rattle.ice_filter.specs.declared.leaf.Choices.{Choices}
-use Rattle.ice_filter.specs.declared.leaf.Literal.{Literal}
-use Rattle.ice_filter.specs.declared.leaf.Partial.{Partial}
-use Rattle.ice_filter.specs.declared.leaf.Partial.TheVariants as partial
-use Rattle.ice_filter.specs.declared.leaf.Progress.{Progress}
-use Rattle.ice_filter.specs.declared.leaf.Progress.TheVariants as progress
+use Rattle.ice_filter.specs.declared.predicate.Column.{Column}
+use Rattle.ice_filter.specs.declared.predicate.Choices.{Choices}
+use Rattle.ice_filter.specs.declared.predicate.Literal.{Literal}
+use Rattle.ice_filter.specs.declared.predicate.Partial.{Partial}
+use Rattle.ice_filter.specs.declared.predicate.Partial.TheVariants as partial
+use Rattle.ice_filter.specs.declared.predicate.Progress.{Progress}
+use Rattle.ice_filter.specs.declared.predicate.Progress.TheVariants as progress
 use Rattle.ice_filter.specs.declared.parser.Pending.{Pending}
 use Rattle.ice_filter.specs.declared.parser.Place.{Place}
 use Rattle.ice_filter.specs.declared.parser.Place.TheVariants.{Wants, After, Inside}
@@ -20,18 +20,19 @@ use Rattle.ice_filter.specs.Grammar.{Limits}
 use Rattle.ice_filter.specs.Rebuilding.{Reading, put}
 use Rattle.ice_filter.specs.Parsing.{Act, State, Read, literal_of, behind_column, behind_dot, compared, behind_not}
 use Rattle.ice_filter.specs.Parsing.{behind_in, chosen, behind_listed, chosen_too, behind_is, behind_is_not}
-use Rattle.ice_filter.specs.Parsing.{behind_starts, begun, leaf_step, opened, began, held, anded, ored, at_unit, closed}
+use Rattle.ice_filter.specs.Parsing.{behind_starts, begun, predicate_step, opened, began, held, anded, ored, at_unit,
+    closed}
 use Rattle.ice_filter.specs.Parsing.{after_unit, moved, step, step_at, none}
 use Rattle.ice_filter.specs.Parsing as parsing
 
 -- the second limits are not smaller, larger
 pub record IsUp (m n : Limits) : Type 0 where
-  pub leaves : m.leaves ≤ n.leaves
+  pub predicates : m.predicates ≤ n.predicates
   pub groups : m.groups ≤ n.groups
   pub literals : m.literals ≤ n.literals
 
 pub record IsMore (m n : Limits) : Type 0 where
-  pub leaves : m.leaves < n.leaves
+  pub predicates : m.predicates < n.predicates
   pub groups : m.groups < n.groups
   pub literals : m.literals < n.literals
 
@@ -158,26 +159,27 @@ chosen_too_told m n at other c b ls t (Some l) up e short =
     (length ls.more + 1) m.literals n.literals (no_comma t l e) up.literals (λ x. x.literals) (omega (arith, short))
     (nat_lt (length ls.more + 1) m.literals) refl
 
-leaf_told : (m n : Limits) (at other : ℕ) (p : Partial) (t : Token) → IsUp m n → IsListWithin m.literals p
-    → Told m n at other t (leaf_step m.literals at p t) (leaf_step n.literals other p t)
-unfolding leaf_step
-leaf_told m n at other (partial.Column c) t up h = column_told m n at other c t
-leaf_told m n at other (partial.Dot c) t up h = dot_told m n at other c t
-leaf_told m n at other (partial.Sign c sign) t up h = compared_told m n at other c sign t (literal_of t)
-leaf_told m n at other (partial.Not c) t up h = not_told m n at other c t
-leaf_told m n at other (partial.In c b) t up h = in_told m n at other c b t
-leaf_told m n at other (partial.Open c b) t up h = chosen_told m n at other c b t (literal_of t)
-leaf_told m n at other (partial.Listed c b ls) t up h = listed_told m n at other c b ls t
-leaf_told m n at other (partial.Comma c b ls) t up h = chosen_too_told m n at other c b ls t (literal_of t) up refl h
-leaf_told m n at other (partial.Is c) t up h = is_told m n at other c t
-leaf_told m n at other (partial.IsNot c) t up h = is_not_told m n at other c t
-leaf_told m n at other (partial.Starts c) t up h = starts_told m n at other c t
-leaf_told m n at other (partial.With c) t up h = begun_told m n at other c t (literal_of t)
+predicate_told : (m n : Limits) (at other : ℕ) (p : Partial) (t : Token) → IsUp m n → IsListWithin m.literals p
+    → Told m n at other t (predicate_step m.literals at p t) (predicate_step n.literals other p t)
+unfolding predicate_step
+predicate_told m n at other (partial.Column c) t up h = column_told m n at other c t
+predicate_told m n at other (partial.Dot c) t up h = dot_told m n at other c t
+predicate_told m n at other (partial.Sign c sign) t up h = compared_told m n at other c sign t (literal_of t)
+predicate_told m n at other (partial.Not c) t up h = not_told m n at other c t
+predicate_told m n at other (partial.In c b) t up h = in_told m n at other c b t
+predicate_told m n at other (partial.Open c b) t up h = chosen_told m n at other c b t (literal_of t)
+predicate_told m n at other (partial.Listed c b ls) t up h = listed_told m n at other c b ls t
+predicate_told m n at other (partial.Comma c b ls) t up h = chosen_too_told m n at other c b ls t
+    (literal_of t) up refl h
+predicate_told m n at other (partial.Is c) t up h = is_told m n at other c t
+predicate_told m n at other (partial.IsNot c) t up h = is_not_told m n at other c t
+predicate_told m n at other (partial.Starts c) t up h = starts_told m n at other c t
+predicate_told m n at other (partial.With c) t up h = begun_told m n at other c t (literal_of t)
 
 moved_ok : (s : Reading) (q : Read) (x : Progress) → q ≡ Ok x → (z : Reading) × (moved put s q ≡ Ok z)
 unfolding moved held
 moved_ok s q (progress.Going p) e = (record s { place = Inside p }, rw e refl)
-moved_ok s q (progress.Done l) e = (record s { place = After; read = put s.read (parsing.leaf l) }, rw e refl)
+moved_ok s q (progress.Done l) e = (record s { place = After; read = put s.read (parsing.predicate l) }, rw e refl)
 
 moved_told : (m n : Limits) (at other : ℕ) (t : Token) (s : Reading) (r q : Read) → Told m n at other t r q
     → Told m n at other t (moved put s r) (moved put s q)
@@ -195,7 +197,7 @@ name_no_comma : (n : List ℕ) → token.Name n ≢ token.Comma
 name_no_comma n e = absurd cc
 
 unit_told : (m n : Limits) (at other : ℕ) (s : Reading) (t : Token) → IsUp m n → length s.outer ≤ m.groups
-    → s.leaves ≤ m.leaves → Told m n at other t (at_unit put m at s t) (at_unit put n other s t)
+    → s.predicates ≤ m.predicates → Told m n at other t (at_unit put m at s t) (at_unit put n other s t)
 unfolding at_unit opened began held
 unit_told m n at other s token.Open up deep few =
     limited m n at other token.Open (record {
@@ -203,16 +205,16 @@ unit_told m n at other s token.Open up deep few =
       now = none;
       outer = s.now ∷ s.outer;
       read = s.read;
-      leaves = s.leaves;
+      predicates = s.predicates;
     }) (length s.outer) m.groups n.groups open_no_comma up.groups (λ x. x.groups) deep
     (nat_lt (length s.outer) m.groups) refl
 unit_told m n at other s (token.Truth b) up deep few = refl
 unit_told m n at other s (token.Name x) up deep few =
     limited m n at other (token.Name x) (record s {
       place = Inside (partial.Column (record { first = x; more = [] }));
-      leaves = s.leaves + 1;
-    }) s.leaves m.leaves n.leaves (name_no_comma x) up.leaves (λ y. y.leaves) few
-    (nat_lt s.leaves m.leaves) refl
+      predicates = s.predicates + 1;
+    }) s.predicates m.predicates n.predicates (name_no_comma x) up.predicates (λ y. y.predicates) few
+    (nat_lt s.predicates m.predicates) refl
 unit_told m n at other s _ up deep few = (refl, refl)
 
 closed_told : (m n : Limits) (at other : ℕ) (s : Reading) (ps : List Pending)
@@ -234,16 +236,16 @@ IsPlaceWithin most (Inside p) = IsListWithin most p
 IsPlaceWithin most _ = Unit {0}
 
 at_told : (m n : Limits) (at other : ℕ) (s : Reading) (place : Place) (t : Token) → IsUp m n → length s.outer ≤ m.groups
-    → s.leaves ≤ m.leaves → IsPlaceWithin m.literals place
+    → s.predicates ≤ m.predicates → IsPlaceWithin m.literals place
     → Told m n at other t (step_at put m at s place t) (step_at put n other s place t)
 unfolding step_at
 at_told m n at other s Wants t up deep few h = unit_told m n at other s t up deep few
 at_told m n at other s After t up deep few h = after_told m n at other s t
 at_told m n at other s (Inside p) t up deep few h = moved_told m n at other t (record s { place = Wants })
-    (leaf_step m.literals at p t) (leaf_step n.literals other p t) (leaf_told m n at other p t up h)
+    (predicate_step m.literals at p t) (predicate_step n.literals other p t) (predicate_told m n at other p t up h)
 
 pub step_told : (m n : Limits) (at other : ℕ) (s : Reading) (t : Token) → IsUp m n → length s.outer ≤ m.groups
-    → s.leaves ≤ m.leaves → IsPlaceWithin m.literals s.place
+    → s.predicates ≤ m.predicates → IsPlaceWithin m.literals s.place
     → Told m n at other t (step put m at s t) (step put n other s t)
 unfolding step
 step_told m n at other s t up deep few h = at_told m n at other s s.place t up deep few h

@@ -7,10 +7,10 @@ use Rattle.ice_filter.specs.declared.fault.FilterFault.TheVariants.{Syntax, TooB
 use Rattle.ice_filter.specs.declared.fault.FilterFault.TheVariants.{NotComparable, Memory}
 use Rattle.ice_filter.specs.declared.token.Token.{Token}
 use Rattle.ice_filter.specs.declared.token.Token.TheVariants as token
-use Rattle.ice_filter.specs.declared.leaf.Leaf.{Leaf}
+use Rattle.ice_filter.specs.declared.predicate.Predicate.{Predicate}
 use Rattle.ice_filter.specs.Trees.{Tree}
-use Rattle.ice_filter.specs.Grammar.{Written, truth, leaf, group, both, either, unit, conj, filter, Stands, Says}
-use Rattle.ice_filter.specs.Grammar.{tokens_in, leaves_in, bare, IsWithin, Limits, limits, Begins, BeginsWithin}
+use Rattle.ice_filter.specs.Grammar.{Written, truth, predicate, group, both, either, unit, conj, filter, Stands, Says}
+use Rattle.ice_filter.specs.Grammar.{tokens_in, predicates_in, bare, IsWithin, Limits, limits, Begins, BeginsWithin}
 use Rattle.ice_filter.specs.Grammar.{IsInLimits, IsMisplaced, PassesLimit, Reads, words}
 use Rattle.ice_filter.specs.Parsing.{finish, start, none}
 use Rattle.ice_filter.specs.Rebuilding.{Reading, put}
@@ -25,7 +25,7 @@ same_end p q t u e f g = let same : finish put 0 p ≡ finish put 0 q = ap (λ x
 
 within_both : (m : Limits) (t u : Written) → IsWithin m t → IsUp m (roomy m u) → IsWithin (roomy m u) t
 within_both m t u h up = record {
-  few = omega (arith, h.few, up.leaves);
+  few = omega (arith, h.few, up.predicates);
   shallow = shallow_more t m.groups
       (roomy m u).groups m.literals (roomy m u).literals up.groups up.literals h.shallow;
 }
@@ -34,20 +34,22 @@ pub one_filter : (ts : List Token) (t u : Written) → Says ts t → Says ts u �
 one_filter ts t u h k =
     let m : Limits = roomy limits t in
     let n : Limits = roomy m u in
-    let wt : Walks n (start []) (tokens_in t) (Behind (ends t none []) [] (leaves_in t)) = filter_walk n t h.stands
+    let wt : Walks n (start []) (tokens_in t) (Behind (ends t none []) [] (predicates_in t)) = filter_walk n t h.stands
     (within_both m t u (roomy_within limits t) (roomy_up m u)) in
-    let wu : Walks n (start []) (tokens_in u) (Behind (ends u none []) [] (leaves_in u)) = filter_walk n u k.stands
+    let wu : Walks n (start []) (tokens_in u) (Behind (ends u none []) [] (predicates_in u)) = filter_walk n u k.stands
     (roomy_within m u) in
-    let vt : Walks n (start []) ts (Behind (ends t none []) [] (leaves_in t)) = rw h.spelled wt in
-    let vu : Walks n (start []) (ts ++ []) (Behind (ends u none []) [] (leaves_in u)) = rw (append-nil ts, k.spelled)
+    let vt : Walks n (start []) ts (Behind (ends t none []) [] (predicates_in t)) = rw h.spelled wt in
+    let vu : Walks n (start []) (ts ++ []) (Behind (ends u none []) [] (predicates_in u)) = rw
+        (append-nil ts, k.spelled)
     wu in
-    same_end (Behind (ends t none []) [] (leaves_in t)) (Behind (ends u none []) [] (leaves_in u)) t u
-    (apart n ts [] (start []) (Behind (ends t none []) [] (leaves_in t)) (Behind (ends u none []) [] (leaves_in u))
+    same_end (Behind (ends t none []) [] (predicates_in t)) (Behind (ends u none []) [] (predicates_in u)) t u
+    (apart n ts [] (start []) (Behind (ends t none []) [] (predicates_in t))
+        (Behind (ends u none []) [] (predicates_in u))
     vt vu) (filter_ends 0 t) (filter_ends 0 u)
 
 stands_up : (t : Written) → Stands unit t → Stands conj t × Stands filter t
 stands_up (truth b) h = (h, h)
-stands_up (leaf l) h = (h, h)
+stands_up (predicate l) h = (h, h)
 stands_up (group t) h = (h, h)
 stands_up (both s t) h = absurd h
 stands_up (either s t) h = absurd h
@@ -156,7 +158,7 @@ says_begins ts t h = ([], t, record { stands = h.stands; spelled = append-nil ts
 says_within : (m : Limits) (ts : List Token) (t : Written) → Says ts t → IsWithin m t → IsInLimits m ts
 says_within m ts t h w = inl ([], t, (record { stands = h.stands; spelled = append-nil ts ∙ h.spelled }, w))
 
-pub one_reading : (m : Limits) (end : ℕ) (ts : List (ℕ × Token)) (r q : Result (Tree Leaf) FilterFault)
+pub one_reading : (m : Limits) (end : ℕ) (ts : List (ℕ × Token)) (r q : Result (Tree Predicate) FilterFault)
     → Reads m end ts r → Reads m end ts q → r ≡ q
 one_reading m end ts (Ok f) (Ok g) h k = let e : h.0 ≡ k.0 = one_filter (words ts) h.0 k.0 h.1.0 k.1.0 in
     ap Ok (h.1.2 ∙ ap bare e ∙ sym k.1.2)

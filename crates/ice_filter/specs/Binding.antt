@@ -18,17 +18,17 @@ use Rattle.ice_value.specs.Cells.{order}
 use Rattle.ice_meta.specs.declared.schema.Schema.{Schema}
 use Rattle.ice_meta.specs.declared.schema.Column as meta
 use Rattle.ice_meta.specs.Columns.{column_on}
-use Rattle.ice_filter.specs.declared.bound.BoundLeaf.{BoundLeaf}
+use Rattle.ice_filter.specs.declared.bound.BoundPredicate.{BoundPredicate}
 use Rattle.ice_filter.specs.declared.bound.Test.{Test}
 use Rattle.ice_filter.specs.declared.bound.Test.TheVariants as test
 use Rattle.ice_filter.specs.declared.fault.FilterFault.{FilterFault}
 use Rattle.ice_filter.specs.declared.fault.FilterFault.TheVariants.{NoSuchColumn, NotComparable, WrongLiteral}
-use Rattle.ice_filter.specs.declared.leaf.Leaf.{Leaf}
-use Rattle.ice_filter.specs.declared.leaf.Column.{Column}
-use Rattle.ice_filter.specs.declared.leaf.Literal.{Literal}
-use Rattle.ice_filter.specs.declared.leaf.Literal.TheVariants as literal
-use Rattle.ice_filter.specs.declared.leaf.Question.{Question}
-use Rattle.ice_filter.specs.declared.leaf.Question.TheVariants as question
+use Rattle.ice_filter.specs.declared.predicate.Predicate.{Predicate}
+use Rattle.ice_filter.specs.declared.predicate.Column.{Column}
+use Rattle.ice_filter.specs.declared.predicate.Literal.{Literal}
+use Rattle.ice_filter.specs.declared.predicate.Literal.TheVariants as literal
+use Rattle.ice_filter.specs.declared.predicate.Question.{Question}
+use Rattle.ice_filter.specs.declared.predicate.Question.TheVariants as question
 use Rattle.ice_filter.specs.declared.token.Comparison.{Comparison}
 use Rattle.ice_filter.specs.declared.token.Comparison.TheVariants as comparison
 use Rattle.ice_filter.specs.declared.parts.Part.{Part}
@@ -128,26 +128,26 @@ type_for q None = None
 type_for q (Some t) = if may_ask t q then Some t else None
 
 -- the test of a column of this id and type: it may be asked so, and takes the literals, in this order
-unfoldable pub asked : ℤ → Option ColumnType → Question → Result BoundLeaf FilterFault
+unfoldable pub asked : ℤ → Option ColumnType → Question → Result BoundPredicate FilterFault
 asked id type q =
     or_fault NotComparable (type_for q type) >>= λ t.
     or_fault WrongLiteral (test_of t q) >>= λ test.
     Ok (record { column = id; column_type = t; test = test })
 
--- the leaf over its column's id: first of all there is such a column
-unfoldable pub bound_leaf : Schema → Leaf → Result BoundLeaf FilterFault
-bound_leaf schema l = or_fault NoSuchColumn (column_on (path l.column) schema) >>=
+-- the predicate over its column's id: first of all there is such a column
+unfoldable pub bound_predicate : Schema → Predicate → Result BoundPredicate FilterFault
+bound_predicate schema l = or_fault NoSuchColumn (column_on (path l.column) schema) >>=
     λ column. asked column.id column.column_type l.question
 
-unfoldable pub bound_part : Schema → Part Leaf → Result (Part BoundLeaf) FilterFault
+unfoldable pub bound_part : Schema → Part Predicate → Result (Part BoundPredicate) FilterFault
 bound_part schema part.True = Ok part.True
 bound_part schema part.False = Ok part.False
-bound_part schema (part.Leaf l) = bound_leaf schema l >>= λ b. Ok (part.Leaf b)
+bound_part schema (part.Predicate l) = bound_predicate schema l >>= λ b. Ok (part.Predicate b)
 bound_part schema part.And = Ok part.And
 bound_part schema part.Or = Ok part.Or
 
--- the filter's parts over the ids of columns, or what is wrong with its first leaf at fault
-unfoldable pub bound_parts : Schema → List (Part Leaf) → Result (List (Part BoundLeaf)) FilterFault
+-- the filter's parts over the ids of columns, or what is wrong with its first predicate at fault
+unfoldable pub bound_parts : Schema → List (Part Predicate) → Result (List (Part BoundPredicate)) FilterFault
 bound_parts schema [] = Ok []
 bound_parts schema (p ∷ ps) = bound_part schema p >>= λ q. bound_parts schema ps >>= λ qs. Ok (q ∷ qs)
 
@@ -180,8 +180,8 @@ answers t question.Present c = not (is_null c)
 answers t (question.Begins (literal.Text s)) c = begins c s
 answers t (question.Begins l) c = false
 
--- the row meets the leaf: what is asked is so of the cell of the column to which its names lead
-abbrev pub leaf_meets : Schema → Row → Leaf → Bool
-leaf_meets schema row l =
+-- the row meets the predicate: what is asked is so of the cell of the column to which its names lead
+abbrev pub predicate_meets : Schema → Row → Predicate → Bool
+predicate_meets schema row l =
     passes (λ (column : meta.Column). passes (λ t. answers t l.question (row column.id)) column.column_type)
     (column_on (path l.column) schema)

@@ -5,27 +5,27 @@ use Rattle.ice_filter.specs.declared.fault.FilterFault.{FilterFault}
 use Rattle.ice_filter.specs.declared.fault.FilterFault.TheVariants.{Syntax, TooBig}
 use Rattle.ice_filter.specs.declared.token.Token.{Token}
 use Rattle.ice_filter.specs.declared.token.Token.TheVariants as token
-use Rattle.ice_filter.specs.declared.leaf.Leaf.{Leaf}
-use Rattle.ice_filter.specs.declared.leaf.Column.{Column}
-use Rattle.ice_filter.specs.declared.leaf.Choices.{Choices}
-use Rattle.ice_filter.specs.declared.leaf.Literal.{Literal}
-use Rattle.ice_filter.specs.declared.leaf.Literal.TheVariants as literal
-use Rattle.ice_filter.specs.declared.leaf.Question.{Question}
-use Rattle.ice_filter.specs.declared.leaf.Question.TheVariants as question
-use Rattle.ice_filter.specs.Trees.{Tree, truth as always, leaf as single, both as all_of, either as one_of}
+use Rattle.ice_filter.specs.declared.predicate.Predicate.{Predicate}
+use Rattle.ice_filter.specs.declared.predicate.Column.{Column}
+use Rattle.ice_filter.specs.declared.predicate.Choices.{Choices}
+use Rattle.ice_filter.specs.declared.predicate.Literal.{Literal}
+use Rattle.ice_filter.specs.declared.predicate.Literal.TheVariants as literal
+use Rattle.ice_filter.specs.declared.predicate.Question.{Question}
+use Rattle.ice_filter.specs.declared.predicate.Question.TheVariants as question
+use Rattle.ice_filter.specs.Trees.{Tree, truth as always, predicate as single, both as all_of, either as one_of}
 
 -- A filter as it is written, with its parentheses. `and` and `or` take the left operand first.
 pub data Written : Type 0 where
   truth : Bool → Written
-  leaf : Leaf → Written
+  predicate : Predicate → Written
   group : Written → Written
   both : Written → Written → Written
   either : Written → Written → Written
 
 -- the filter without its parentheses
-abbrev pub bare : Written → Tree Leaf
+abbrev pub bare : Written → Tree Predicate
 bare (truth b) = always b
-bare (leaf l) = single l
+bare (predicate l) = single l
 bare (group w) = bare w
 bare (both v w) = all_of (bare v) (bare w)
 bare (either v w) = one_of (bare v) (bare w)
@@ -62,13 +62,13 @@ question_tokens question.Missing = token.Is ∷ token.Null ∷ []
 question_tokens question.Present = token.Is ∷ token.Not ∷ token.Null ∷ []
 question_tokens (question.Begins l) = token.Starts ∷ token.With ∷ literal_token l ∷ []
 
-abbrev pub leaf_tokens : Leaf → List Token
-leaf_tokens l = column_tokens l.column ++ question_tokens l.question
+abbrev pub predicate_tokens : Predicate → List Token
+predicate_tokens l = column_tokens l.column ++ question_tokens l.question
 
 -- the tokens of a filter
 abbrev pub tokens_in : Written → List Token
 tokens_in (truth b) = token.Truth b ∷ []
-tokens_in (leaf l) = leaf_tokens l
+tokens_in (predicate l) = predicate_tokens l
 tokens_in (group t) = token.Open ∷ (tokens_in t ++ token.Close ∷ [])
 tokens_in (both s t) = tokens_in s ++ token.And ∷ tokens_in t
 tokens_in (either s t) = tokens_in s ++ token.Or ∷ tokens_in t
@@ -79,10 +79,10 @@ pub data Level : Type 0 where
   conj : Level
   filter : Level
 
--- filter = conj {"or" conj}; conj = unit {"and" unit}; unit = "(" filter ")" | "true" | "false" | leaf
+-- filter = conj {"or" conj}; conj = unit {"and" unit}; unit = "(" filter ")" | "true" | "false" | predicate
 abbrev pub Stands : Level → Written → Type 0
 Stands l (truth b) = Unit {0}
-Stands l (leaf x) = Unit {0}
+Stands l (predicate x) = Unit {0}
 Stands l (group t) = Stands filter t
 Stands unit (both s t) = ⊥
 Stands conj (both s t) = Stands conj s × Stands unit t
@@ -96,21 +96,21 @@ pub record Says (tokens : List Token) (t : Written) : Type 0 where
   pub stands : Stands filter t
   pub spelled : tokens ≡ tokens_in t
 
--- How much a filter may have: leaves, parentheses that are open at once, literals in one list.
+-- How much a filter may have: predicates, parentheses that are open at once, literals in one list.
 pub record Limits : Type 0 where
-  pub leaves : ℕ
+  pub predicates : ℕ
   pub groups : ℕ
   pub literals : ℕ
 
 abbrev pub limits : Limits
-limits = record { leaves = 1000; groups = 32; literals = 1000 }
+limits = record { predicates = 1000; groups = 32; literals = 1000 }
 
-abbrev pub leaves_in : Written → ℕ
-leaves_in (truth b) = 0
-leaves_in (leaf l) = 1
-leaves_in (group t) = leaves_in t
-leaves_in (both s t) = leaves_in s + leaves_in t
-leaves_in (either s t) = leaves_in s + leaves_in t
+abbrev pub predicates_in : Written → ℕ
+predicates_in (truth b) = 0
+predicates_in (predicate l) = 1
+predicates_in (group t) = predicates_in t
+predicates_in (both s t) = predicates_in s + predicates_in t
+predicates_in (either s t) = predicates_in s + predicates_in t
 
 abbrev pub IsShort : ℕ → Question → Type 0
 IsShort most (question.Among negated c) = length c.more < most
@@ -119,14 +119,14 @@ IsShort most _ = Unit {0}
 -- so many parentheses may be open at once, and so many literals stand in one list
 abbrev pub IsShallow : ℕ → ℕ → Written → Type 0
 IsShallow deep most (truth b) = Unit {0}
-IsShallow deep most (leaf l) = IsShort most l.question
+IsShallow deep most (predicate l) = IsShort most l.question
 IsShallow deep most (group t) = (0 < deep) × IsShallow (deep - 1) most t
 IsShallow deep most (both s t) = IsShallow deep most s × IsShallow deep most t
 IsShallow deep most (either s t) = IsShallow deep most s × IsShallow deep most t
 
 -- the filter is within the limits
 pub record IsWithin (m : Limits) (t : Written) : Type 0 where
-  pub few : leaves_in t ≤ m.leaves
+  pub few : predicates_in t ≤ m.predicates
   pub shallow : IsShallow m.groups m.literals t
 
 -- the tokens begin a filter
@@ -137,7 +137,8 @@ Begins front = (rest : List Token) × (t : Written) × Says (front ++ rest) t
 abbrev pub BeginsWithin : Limits → List Token → Type 0
 BeginsWithin m front = (rest : List Token) × (t : Written) × (Says (front ++ rest) t × IsWithin m t)
 
--- no leaf, parenthesis or literal of the tokens passes a limit; a comma that asks for one literal too many does not yet
+-- no predicate, parenthesis or literal of the tokens passes a limit; a comma that asks for one literal too many does
+-- not yet
 abbrev pub IsInLimits : Limits → List Token → Type 0
 IsInLimits m front = BeginsWithin m front ⊎
     ((before : List Token) × ((front ≡ before ++ token.Comma ∷ []) × BeginsWithin m before))
@@ -163,7 +164,7 @@ pub record EndsEarly (m : Limits) (tokens : List (ℕ × Token)) : Type 0 where
   pub begins : Begins (words tokens)
   pub unfinished : (t : Written) → Says (words tokens) t → ⊥
 
--- a leaf, parenthesis or literal is the first over its limit, and the tokens up to it begin a filter
+-- a predicate, parenthesis or literal is the first over its limit, and the tokens up to it begin a filter
 pub record PassesLimit (m : Limits) (tokens : List (ℕ × Token)) : Type 0 where
   pub front : List (ℕ × Token)
   pub at : ℕ
@@ -176,7 +177,7 @@ pub record PassesLimit (m : Limits) (tokens : List (ℕ × Token)) : Type 0 wher
 
 -- What a text of this length with these tokens is: the filter that they say, without its parentheses; or the offset of
 -- the token that cannot stand, the length where they end too early; or too big.
-abbrev pub Reads : Limits → ℕ → List (ℕ × Token) → Result (Tree Leaf) FilterFault → Type 0
+abbrev pub Reads : Limits → ℕ → List (ℕ × Token) → Result (Tree Predicate) FilterFault → Type 0
 Reads m end tokens (Ok f) = (t : Written) × (Says (words tokens) t × IsWithin m t × (f ≡ bare t))
 Reads m end tokens (Err (Syntax at)) = IsMisplaced m tokens at ⊎ ((at ≡ end) × EndsEarly m tokens)
 Reads m end tokens (Err TooBig) = PassesLimit m tokens

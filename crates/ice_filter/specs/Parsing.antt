@@ -7,16 +7,16 @@ use Rattle.ice_filter.specs.declared.fault.FilterFault.TheVariants.{Syntax, TooB
 use Rattle.ice_filter.specs.declared.token.Token.{Token}
 use Rattle.ice_filter.specs.declared.token.Token.TheVariants as token
 use Rattle.ice_filter.specs.declared.token.Comparison.{Comparison}
-use Rattle.ice_filter.specs.declared.leaf.Leaf.{Leaf}
-use Rattle.ice_filter.specs.declared.leaf.Column.{Column}
-use Rattle.ice_filter.specs.declared.leaf.Choices.{Choices}
-use Rattle.ice_filter.specs.declared.leaf.Literal.{Literal}
-use Rattle.ice_filter.specs.declared.leaf.Literal.TheVariants as literal
-use Rattle.ice_filter.specs.declared.leaf.Question.TheVariants as question
-use Rattle.ice_filter.specs.declared.leaf.Partial.{Partial}
-use Rattle.ice_filter.specs.declared.leaf.Partial.TheVariants as partial
-use Rattle.ice_filter.specs.declared.leaf.Progress.{Progress}
-use Rattle.ice_filter.specs.declared.leaf.Progress.TheVariants as progress
+use Rattle.ice_filter.specs.declared.predicate.Predicate.{Predicate}
+use Rattle.ice_filter.specs.declared.predicate.Column.{Column}
+use Rattle.ice_filter.specs.declared.predicate.Choices.{Choices}
+use Rattle.ice_filter.specs.declared.predicate.Literal.{Literal}
+use Rattle.ice_filter.specs.declared.predicate.Literal.TheVariants as literal
+use Rattle.ice_filter.specs.declared.predicate.Question.TheVariants as question
+use Rattle.ice_filter.specs.declared.predicate.Partial.{Partial}
+use Rattle.ice_filter.specs.declared.predicate.Partial.TheVariants as partial
+use Rattle.ice_filter.specs.declared.predicate.Progress.{Progress}
+use Rattle.ice_filter.specs.declared.predicate.Progress.TheVariants as progress
 use Rattle.ice_filter.specs.declared.parts.Part.{Part}
 use Rattle.ice_filter.specs.declared.parts.Part.TheVariants as part
 use Rattle.ice_filter.specs.declared.parser.Pending.{Pending}
@@ -26,7 +26,7 @@ use Rattle.ice_filter.specs.Trees.{Tree, tree_of, truth_part}
 use Rattle.ice_filter.specs.Grammar.{Limits, limits, Reads}
 use Rattle.ice_filter.specs.Lexing.{tokens_of}
 
--- ---- a leaf
+-- ---- a predicate
 
 abbrev pub Read : Type 0
 Read = Result Progress FilterFault
@@ -100,40 +100,42 @@ unfoldable pub begun : ℕ → Column → Option Literal → Read
 begun at c None = Err (Syntax at)
 begun at c (Some l) = Ok (progress.Done (record { column = c; question = question.Begins l }))
 
--- what a token makes of a leaf that isn't whole
-unfoldable pub leaf_step : ℕ → ℕ → Partial → Token → Read
-leaf_step most at (partial.Column c) t = behind_column at c t
-leaf_step most at (partial.Dot c) t = behind_dot at c t
-leaf_step most at (partial.Sign c sign) t = compared at c sign (literal_of t)
-leaf_step most at (partial.Not c) t = behind_not at c t
-leaf_step most at (partial.In c negated) t = behind_in at c negated t
-leaf_step most at (partial.Open c negated) t = chosen at c negated (literal_of t)
-leaf_step most at (partial.Listed c negated ls) t = behind_listed at c negated ls t
-leaf_step most at (partial.Comma c negated ls) t = chosen_too most at c negated ls (literal_of t)
-leaf_step most at (partial.Is c) t = behind_is at c t
-leaf_step most at (partial.IsNot c) t = behind_is_not at c t
-leaf_step most at (partial.Starts c) t = behind_starts at c t
-leaf_step most at (partial.With c) t = begun at c (literal_of t)
+-- what a token makes of a predicate that isn't whole
+unfoldable pub predicate_step : ℕ → ℕ → Partial → Token → Read
+predicate_step most at (partial.Column c) t = behind_column at c t
+predicate_step most at (partial.Dot c) t = behind_dot at c t
+predicate_step most at (partial.Sign c sign) t = compared at c sign (literal_of t)
+predicate_step most at (partial.Not c) t = behind_not at c t
+predicate_step most at (partial.In c negated) t = behind_in at c negated t
+predicate_step most at (partial.Open c negated) t = chosen at c negated (literal_of t)
+predicate_step most at (partial.Listed c negated ls) t = behind_listed at c negated ls t
+predicate_step most at (partial.Comma c negated ls) t = chosen_too most at c negated ls (literal_of t)
+predicate_step most at (partial.Is c) t = behind_is at c t
+predicate_step most at (partial.IsNot c) t = behind_is_not at c t
+predicate_step most at (partial.Starts c) t = behind_starts at c t
+predicate_step most at (partial.With c) t = begun at c (literal_of t)
 
 -- ---- a filter
 
--- What is read of a filter, operands before their operator: true or false, a leaf, that parentheses stand round the
+-- What is read of a filter, operands before their operator: true or false, a predicate, that parentheses stand round
+-- the
 -- operand before, `and` of the two before, `or` of the two before.
 pub data Act : Type 0 where
   truth : Bool → Act
-  leaf : Leaf → Act
+  predicate : Predicate → Act
   group : Act
   both : Act
   either : Act
 
 -- What was read so far: where the reading stands; whether the innermost open filter has an operand of `or` and of `and`
--- before this place; the same of those around it, the innermost first; what was made of it; how many leaves were begun.
+-- before this place; the same of those around it, the innermost first; what was made of it; how many predicates were
+-- begun.
 pub record State (R : Type 0) : Type 0 where
   pub place : Place
   pub now : Pending
   pub outer : List Pending
   pub read : R
-  pub leaves : ℕ
+  pub predicates : ℕ
 
 abbrev pub none : Pending
 none = record { either = false; both = false }
@@ -148,12 +150,13 @@ joined add p r = if p.either then add (joined_and add p r) either else joined_an
 
 unfoldable pub opened : {R : Type 0} → Limits → State R → Result (State R) FilterFault
 opened m s = if nat_lt (length s.outer) m.groups
-    then Ok (record { place = Wants; now = none; outer = s.now ∷ s.outer; read = s.read; leaves = s.leaves })
+    then Ok (record { place = Wants; now = none; outer = s.now ∷ s.outer; read = s.read; predicates = s.predicates })
     else Err TooBig
 
 unfoldable pub began : {R : Type 0} → Limits → State R → List ℕ → Result (State R) FilterFault
-began m s n = if nat_lt s.leaves m.leaves
-    then Ok (record s { place = Inside (partial.Column (record { first = n; more = [] })); leaves = s.leaves + 1 })
+began m s n = if nat_lt s.predicates m.predicates
+    then Ok (record s { place = Inside
+        (partial.Column (record { first = n; more = [] })); predicates = s.predicates + 1 })
     else Err TooBig
 
 -- a whole operand
@@ -169,7 +172,8 @@ at_unit add m at s _ = Err (Syntax at)
 unfoldable pub closed : {R : Type 0} → (R → Act → R) → ℕ → State R → List Pending → Result (State R) FilterFault
 closed add at s [] = Err (Syntax at)
 closed add at s (p ∷ ps) =
-    Ok (record { place = After; now = p; outer = ps; read = add (joined add s.now s.read) group; leaves = s.leaves })
+    Ok (record { place = After; now = p; outer = ps; read = add
+        (joined add s.now s.read) group; predicates = s.predicates })
 
 -- an operand of `and`, of `or`
 unfoldable pub anded : {R : Type 0} → (R → Act → R) → State R → Result (State R) FilterFault
@@ -194,14 +198,14 @@ after_unit add at s _ = Err (Syntax at)
 
 unfoldable pub moved : {R : Type 0} → (R → Act → R) → State R → Read → Result (State R) FilterFault
 moved add s (Ok (progress.Going p)) = Ok (record s { place = Inside p })
-moved add s (Ok (progress.Done l)) = held add s (leaf l)
+moved add s (Ok (progress.Done l)) = held add s (predicate l)
 moved add s (Err e) = Err e
 
 unfoldable pub step_at : {R : Type 0} → (R → Act → R) → Limits → ℕ → State R → Place → Token →
     Result (State R) FilterFault
 step_at add m at s Wants t = at_unit add m at s t
 step_at add m at s After t = after_unit add at s t
-step_at add m at s (Inside p) t = moved add (record s { place = Wants }) (leaf_step m.literals at p t)
+step_at add m at s (Inside p) t = moved add (record s { place = Wants }) (predicate_step m.literals at p t)
 
 -- what the token at an offset makes of a state
 unfoldable pub step : {R : Type 0} → (R → Act → R) → Limits → ℕ → State R → Token → Result (State R) FilterFault
@@ -221,18 +225,18 @@ outcome add m end s [] = finish add end s
 outcome add m end s (t ∷ ts) = step add m t.0 s t.1 >>= λ next. outcome add m end next ts
 
 abbrev pub start : {R : Type 0} → R → State R
-start empty = record { place = Wants; now = none; outer = []; read = empty; leaves = 0 }
+start empty = record { place = Wants; now = none; outer = []; read = empty; predicates = 0 }
 
 -- the parts of a filter, without its parentheses
-abbrev pub add_part : List (Part Leaf) → Act → List (Part Leaf)
+abbrev pub add_part : List (Part Predicate) → Act → List (Part Predicate)
 add_part ps (truth b) = ps ++ truth_part b ∷ []
-add_part ps (leaf l) = ps ++ part.Leaf l ∷ []
+add_part ps (predicate l) = ps ++ part.Predicate l ∷ []
 add_part ps group = ps
 add_part ps both = ps ++ part.And ∷ []
 add_part ps either = ps ++ part.Or ∷ []
 
 -- the parts of the filter of a text, or the first fault
-abbrev pub parsed : List ℕ → Result (List (Part Leaf)) FilterFault
+abbrev pub parsed : List ℕ → Result (List (Part Predicate)) FilterFault
 parsed text = outcome add_part limits (length text) (start []) (tokens_of text)
 
 -- the same fault, or what f makes of the value
@@ -241,9 +245,9 @@ mapped f (Ok x) = Ok (f x)
 mapped f (Err e) = Err e
 
 -- the filter of a text, or the first fault
-abbrev pub filter_of : List ℕ → Result (Tree Leaf) FilterFault
+abbrev pub filter_of : List ℕ → Result (Tree Predicate) FilterFault
 filter_of text = mapped tree_of (parsed text)
 
 -- what a text is, in the words of the grammar
-abbrev pub IsReadAs : List ℕ → Result (Tree Leaf) FilterFault → Type 0
+abbrev pub IsReadAs : List ℕ → Result (Tree Predicate) FilterFault → Type 0
 IsReadAs text r = Reads limits (length text) (tokens_of text) r

@@ -2,13 +2,14 @@
 use Rattle.std.specs.Prelude.{◌≡◌, ℕ, ◌+◌, ◌<◌, ◌≤◌, length, Bool, true, false, cond, List, [], ◌∷◌, ◌++◌}
 use Rattle.ice_filter.specs.declared.token.Token.{Token}
 use Rattle.ice_filter.specs.declared.token.Token.TheVariants as token
-use Rattle.ice_filter.specs.declared.leaf.Partial.{Partial}
-use Rattle.ice_filter.specs.declared.leaf.Partial.TheVariants as partial
+use Rattle.ice_filter.specs.declared.predicate.Partial.{Partial}
+use Rattle.ice_filter.specs.declared.predicate.Partial.TheVariants as partial
 use Rattle.ice_filter.specs.declared.parser.Pending.{Pending}
 use Rattle.ice_filter.specs.declared.parser.Place.{Place}
 use Rattle.ice_filter.specs.declared.parser.Place.TheVariants.{Wants, After, Inside}
-use Rattle.ice_filter.specs.Grammar.{Written, truth, leaf, group, both, either, Level, unit, conj, filter, Stands}
-use Rattle.ice_filter.specs.Grammar.{IsShallow, leaves_in, Limits, tokens_in, column_tokens, choices_tokens, in_tokens}
+use Rattle.ice_filter.specs.Grammar.{Written, truth, predicate, group, both, either, Level, unit, conj, filter, Stands}
+use Rattle.ice_filter.specs.Grammar.{IsShallow, predicates_in, Limits, tokens_in, column_tokens, choices_tokens,
+    in_tokens}
 use Rattle.ice_filter.specs.Parsing.{State, Act}
 use Rattle.ice_filter.specs.Parsing as parsing
 
@@ -23,7 +24,7 @@ below (t ∷ ts) = ts
 -- the operands after one more part, the last one first
 abbrev pub put : List Written → Act → List Written
 put ts (parsing.truth b) = truth b ∷ ts
-put ts (parsing.leaf l) = leaf l ∷ ts
+put ts (parsing.predicate l) = predicate l ∷ ts
 put [] parsing.group = []
 put (t ∷ ts) parsing.group = group t ∷ ts
 put ts parsing.both = both (top (below ts)) (top ts) ∷ below (below ts)
@@ -101,7 +102,7 @@ AroundFits most g (q ∷ qs) ts = AroundFits most (g + 1) qs (rest q ts) × Oper
 abbrev pub FrontsFit : ℕ → ℕ → Pending → List Pending → List Written → Type 0
 FrontsFit most g p ps ts = AroundFits most g ps (rest p ts) × OperandsFit most g p ts
 
--- the list of a leaf that isn't whole has no more literals than it may
+-- the list of a predicate that isn't whole has no more literals than it may
 abbrev pub IsShortSoFar : ℕ → Partial → Type 0
 IsShortSoFar most (partial.Listed c negated ls) = length ls.more < most
 IsShortSoFar most (partial.Comma c negated ls) = length ls.more < most
@@ -117,18 +118,18 @@ Placed most g Wants p ps ts = FrontsFit most g p ps ts
 Placed most g After p ps ts = FrontsFit most g p ps (below ts) × Fits most g unit (top ts) × HasTop ts
 Placed most g (Inside l) p ps ts = FrontsFit most g p ps ts × IsShortSoFar most l
 
-abbrev pub leaves_at : Place → ℕ
-leaves_at (Inside l) = 1
-leaves_at _ = 0
+abbrev pub predicates_at : Place → ℕ
+predicates_at (Inside l) = 1
+predicates_at _ = 0
 
-abbrev pub leaves_of : List Written → ℕ
-leaves_of [] = 0
-leaves_of (t ∷ ts) = leaves_in t + leaves_of ts
+abbrev pub predicates_of : List Written → ℕ
+predicates_of [] = 0
+predicates_of (t ∷ ts) = predicates_in t + predicates_of ts
 
 -- A state that reading within the limits may lead to; g more parentheses may be opened.
 pub record Good (m : Limits) (s : Reading) : Type 0 where
   pub g : ℕ
   pub open_left : g + length s.outer ≡ m.groups
   pub placed : Placed m.literals g s.place s.now s.outer s.read
-  pub counted : leaves_at s.place + leaves_of s.read ≡ s.leaves
-  pub few : s.leaves ≤ m.leaves
+  pub counted : predicates_at s.place + predicates_of s.read ≡ s.predicates
+  pub few : s.predicates ≤ m.predicates

@@ -9,7 +9,7 @@ use Rattle.ice_filter.specs.declared.parts.Part.{Part}
 use Rattle.ice_filter.specs.declared.bound.Test.{Test}
 use Rattle.ice_filter.specs.declared.bound.Test.TheVariants.{Less, AtMost, More, AtLeast, Among, NotAmong, IsNull}
 use Rattle.ice_filter.specs.declared.bound.Test.TheVariants.{IsPresent, StartsWith}
-use Rattle.ice_filter.specs.declared.bound.BoundLeaf.{BoundLeaf}
+use Rattle.ice_filter.specs.declared.bound.BoundPredicate.{BoundPredicate}
 use Rattle.ice_filter.specs.Trees.{tree_of, meaning}
 
 -- A row gives each column's id its cell; of a column that the row hasn't the cell is null.
@@ -41,10 +41,10 @@ holds IsNull c = is_null c
 holds IsPresent c = not (is_null c)
 holds (StartsWith s) c = begins c s
 
--- the leaf's test on the row's cell
-abbrev pub leaf_holds : Row → BoundLeaf → Bool
-leaf_holds row l = holds l.test (row l.column)
+-- the predicate's test on the row's cell
+abbrev pub predicate_holds : Row → BoundPredicate → Bool
+predicate_holds row l = holds l.test (row l.column)
 
 -- the row meets the filter
-abbrev pub row_meets : List (Part BoundLeaf) → Row → Bool
-row_meets filter row = meaning (leaf_holds row) (tree_of filter)
+abbrev pub row_meets : List (Part BoundPredicate) → Row → Bool
+row_meets filter row = meaning (predicate_holds row) (tree_of filter)

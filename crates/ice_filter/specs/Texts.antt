@@ -5,17 +5,17 @@ use Rattle.std.specs.Prelude.{if◌then◌else◌}
 use Rattle.std.specs.Fmt.{signed_decimal}
 use Rattle.std.specs.Str.{bytes_eq}
 use Rattle.hex.specs.Hex.{encode_lower}
-use Rattle.ice_filter.specs.declared.leaf.Leaf.{Leaf}
-use Rattle.ice_filter.specs.declared.leaf.Column.{Column}
-use Rattle.ice_filter.specs.declared.leaf.Choices.{Choices}
-use Rattle.ice_filter.specs.declared.leaf.Literal.{Literal}
-use Rattle.ice_filter.specs.declared.leaf.Literal.TheVariants as literal
-use Rattle.ice_filter.specs.declared.leaf.Question.{Question}
-use Rattle.ice_filter.specs.declared.leaf.Question.TheVariants as question
+use Rattle.ice_filter.specs.declared.predicate.Predicate.{Predicate}
+use Rattle.ice_filter.specs.declared.predicate.Column.{Column}
+use Rattle.ice_filter.specs.declared.predicate.Choices.{Choices}
+use Rattle.ice_filter.specs.declared.predicate.Literal.{Literal}
+use Rattle.ice_filter.specs.declared.predicate.Literal.TheVariants as literal
+use Rattle.ice_filter.specs.declared.predicate.Question.{Question}
+use Rattle.ice_filter.specs.declared.predicate.Question.TheVariants as question
 use Rattle.ice_filter.specs.declared.token.Comparison.{Comparison}
 use Rattle.ice_filter.specs.declared.token.Comparison.TheVariants.{Less, AtMost, Greater, AtLeast, Equal, NotEqual}
 use Rattle.ice_filter.specs.Lexing.{is_letter, is_name_byte, run_from}
-use Rattle.ice_filter.specs.Trees.{Tree, truth, leaf, both, either}
+use Rattle.ice_filter.specs.Trees.{Tree, truth, predicate, both, either}
 
 -- each quote twice
 unfoldable pub doubled : ℕ → List ℕ → List ℕ
@@ -86,26 +86,26 @@ question_text question.Missing = codes " is null"
 question_text question.Present = codes " is not null"
 question_text (question.Begins l) = codes " starts with " ++ literal_text l
 
-abbrev pub leaf_text : Leaf → List ℕ
-leaf_text l = column_text l.column ++ question_text l.question
+abbrev pub predicate_text : Predicate → List ℕ
+predicate_text l = column_text l.column ++ question_text l.question
 
 -- with parentheses or without
 abbrev pub enclosed : Bool → List ℕ → List ℕ
 enclosed true text = codes "(" ++ (text ++ codes ")")
 enclosed false text = text
 
-abbrev pub is_either : Tree Leaf → Bool
+abbrev pub is_either : Tree Predicate → Bool
 is_either (either s t) = true
 is_either _ = false
 
-abbrev pub is_operator : Tree Leaf → Bool
+abbrev pub is_operator : Tree Predicate → Bool
 is_operator (both s t) = true
 is_operator (either s t) = true
 is_operator _ = false
 
 -- The filter's text. `or` is enclosed as an operand of `and`, and an operator as its own second operand.
-abbrev pub shown : Tree Leaf → List ℕ
+abbrev pub shown : Tree Predicate → List ℕ
 shown (truth b) = truth_text b
-shown (leaf l) = leaf_text l
+shown (predicate l) = predicate_text l
 shown (both s t) = enclosed (is_either s) (shown s) ++ (codes " and " ++ enclosed (is_operator t) (shown t))
 shown (either s t) = shown s ++ (codes " or " ++ enclosed (is_either t) (shown t))

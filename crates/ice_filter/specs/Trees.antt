@@ -1,21 +1,21 @@
--- Filters over leaves of some type, and what they mean once each leaf is true or false.
+-- Filters over predicates of some type, and what they mean once each predicate is true or false.
 use Rattle.std.specs.Prelude.{ℕ, suc, ◌+◌, Bool, true, false, ◌&&◌, ◌||◌, List, [], ◌∷◌, ◌++◌, Option, None, Some}
 use Rattle.std.specs.Prelude.{if◌then◌else◌, nat_lt, map}
 use Rattle.std.specs.Option.{option_and_then}
 use Rattle.ice_filter.specs.declared.parts.Part.{Part}
-use Rattle.ice_filter.specs.declared.parts.Part.TheVariants.{True, False, Leaf, And, Or}
+use Rattle.ice_filter.specs.declared.parts.Part.TheVariants.{True, False, Predicate, And, Or}
 
 -- A filter. `and` and `or` have the left operand first.
 pub data Tree (L : Type 0) : Type 0 where
   truth : Bool → Tree L
-  leaf : L → Tree L
+  predicate : L → Tree L
   both : Tree L → Tree L → Tree L
   either : Tree L → Tree L → Tree L
 
--- whether the filter is met, where met says it of each leaf
+-- whether the filter is met, where met says it of each predicate
 abbrev pub meaning : {L : Type 0} → (L → Bool) → Tree L → Bool
 meaning met (truth b) = b
-meaning met (leaf l) = met l
+meaning met (predicate l) = met l
 meaning met (both s t) = meaning met s && meaning met t
 meaning met (either s t) = meaning met s || meaning met t
 
@@ -26,7 +26,7 @@ truth_part false = False
 
 abbrev pub parts_of : {L : Type 0} → Tree L → List (Part L)
 parts_of (truth b) = truth_part b ∷ []
-parts_of (leaf l) = Leaf l ∷ []
+parts_of (predicate l) = Predicate l ∷ []
 parts_of (both s t) = parts_of s ++ (parts_of t ++ And ∷ [])
 parts_of (either s t) = parts_of s ++ (parts_of t ++ Or ∷ [])
 
@@ -43,7 +43,7 @@ rest (t ∷ ts) = ts
 abbrev pub read_part : {L : Type 0} → List (Tree L) → Part L → List (Tree L)
 read_part ts True = truth true ∷ ts
 read_part ts False = truth false ∷ ts
-read_part ts (Leaf l) = leaf l ∷ ts
+read_part ts (Predicate l) = predicate l ∷ ts
 read_part ts And = both (top (rest ts)) (top ts) ∷ rest (rest ts)
 read_part ts Or = either (top (rest ts)) (top ts) ∷ rest (rest ts)
 
@@ -55,16 +55,16 @@ read_parts ts (p ∷ ps) = read_parts (read_part ts p) ps
 abbrev pub tree_of : {L : Type 0} → List (Part L) → Tree L
 tree_of parts = top (read_parts [] parts)
 
--- the same filter over other leaves
+-- the same filter over other predicates
 abbrev pub map_part : {L M : Type 0} → (L → M) → Part L → Part M
 map_part f True = True
 map_part f False = False
-map_part f (Leaf l) = Leaf (f l)
+map_part f (Predicate l) = Predicate (f l)
 map_part f And = And
 map_part f Or = Or
 
-abbrev pub map_leaves : {L M : Type 0} → (L → M) → List (Part L) → List (Part M)
-map_leaves f parts = map (map_part f) parts
+abbrev pub map_predicates : {L M : Type 0} → (L → M) → List (Part L) → List (Part M)
+map_predicates f parts = map (map_part f) parts
 
 -- A filter with at most 32 open parentheses has at most two operands in each of the 33 that wait for the next one, and
 -- the next one.
@@ -82,7 +82,7 @@ operands_after_operator _ = None
 abbrev pub operands_after_part : {L : Type 0} → ℕ → Part L → Option ℕ
 operands_after_part n True = operands_after_operand n
 operands_after_part n False = operands_after_operand n
-operands_after_part n (Leaf l) = operands_after_operand n
+operands_after_part n (Predicate l) = operands_after_operand n
 operands_after_part n And = operands_after_operator n
 operands_after_part n Or = operands_after_operator n
 

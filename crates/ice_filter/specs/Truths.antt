@@ -1,7 +1,7 @@
 -- A filter's parts read with truth values in place of filters.
 use Rattle.std.specs.Prelude.{ℕ, zero, suc, Bool, true, false, ◌&&◌, ◌||◌, List, [], ◌∷◌, get_or}
 use Rattle.ice_filter.specs.declared.parts.Part.{Part}
-use Rattle.ice_filter.specs.declared.parts.Part.TheVariants.{True, False, Leaf, And, Or}
+use Rattle.ice_filter.specs.declared.parts.Part.TheVariants.{True, False, Predicate, And, Or}
 
 -- the first n values, the last one first
 abbrev pub last_of : ℕ → List Bool → List Bool
@@ -20,7 +20,7 @@ rest (b ∷ bs) = bs
 abbrev pub judge_part : {L : Type 0} → (L → Bool) → List Bool → Part L → List Bool
 judge_part met bs True = true ∷ bs
 judge_part met bs False = false ∷ bs
-judge_part met bs (Leaf l) = met l ∷ bs
+judge_part met bs (Predicate l) = met l ∷ bs
 judge_part met bs And = (top (rest bs) && top bs) ∷ rest (rest bs)
 judge_part met bs Or = (top (rest bs) || top bs) ∷ rest (rest bs)
 

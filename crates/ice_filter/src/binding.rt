@@ -8,16 +8,16 @@ ghost use Rattle.ice_value.specs.Bounds.{fits_int};
 ghost use Rattle.ice_value.specs.declared.cell.Cell.{Cell};
 ghost use Rattle.ice_value.specs.declared.column_type.ColumnType.{ColumnType};
 ghost use Rattle.ice_filter.specs.Binding.{cell_of, cells_of, is_order, is_comparable, is_uuid, is_string, may_ask};
-ghost use Rattle.ice_filter.specs.Binding.{compared_to, among, starts, test_of, path, type_for, asked, bound_leaf};
-ghost use Rattle.ice_filter.specs.Binding.{bound_part, bound_parts, leaf_meets};
+ghost use Rattle.ice_filter.specs.Binding.{compared_to, among, starts, test_of, path, type_for, asked, bound_predicate};
+ghost use Rattle.ice_filter.specs.Binding.{bound_part, bound_parts, predicate_meets};
 ghost use Rattle.ice_filter.specs.Rows.{Row, row_meets};
 ghost use Rattle.ice_filter.specs.Trees.{tree_of, meaning};
 
-use crate::bound::{Bound, BoundLeaf, Test};
+use crate::bound::{Bound, BoundPredicate, Test};
 use crate::fault::FilterFault;
 use crate::filter::Filter;
-use crate::leaf::{Choices, Column, Leaf, Literal, Question};
 use crate::parts::{Part, Parts};
+use crate::predicate::{Choices, Column, Literal, Predicate, Question};
 use crate::token::Comparison;
 use contract_words::{Duplicate, Items, Text};
 use ice_meta::Schema;
@@ -300,12 +300,12 @@ fn ask(
     column: i32,
     column_type: Option<ColumnType>,
     question: &Question,
-) -> Result<BoundLeaf, FilterFault>
-    ensures { Gives FilterFault.Memory (λ leaf. leaf) result (asked column column_type question.now) }
+) -> Result<BoundPredicate, FilterFault>
+    ensures { Gives FilterFault.Memory (λ predicate. predicate) result (asked column column_type question.now) }
 {
     match type_for(question, column_type) {
         Some(column_type) => match test_of(alloc, column_type, question)? {
-            Some(test) => Ok(BoundLeaf {
+            Some(test) => Ok(BoundPredicate {
                 column,
                 column_type,
                 test,
@@ -316,14 +316,18 @@ fn ask(
     }
 }
 
-/// The leaf over its column's id.
-#[tactic(auto, unfolding(crate::specs::Binding::bound_leaf))]
-fn bind_leaf(alloc: Global, leaf: &Leaf, schema: &Schema) -> Result<BoundLeaf, FilterFault>
-    ensures { Gives FilterFault.Memory (λ leaf. leaf) result (bound_leaf schema.now leaf.now) }
+/// The predicate over its column's id.
+#[tactic(auto, unfolding(crate::specs::Binding::bound_predicate))]
+fn bind_predicate(
+    alloc: Global,
+    predicate: &Predicate,
+    schema: &Schema,
+) -> Result<BoundPredicate, FilterFault>
+    ensures { Gives FilterFault.Memory (λ predicate. predicate) result (bound_predicate schema.now predicate.now) }
 {
-    let names = path_of(alloc, &leaf.column)?;
+    let names = path_of(alloc, &predicate.column)?;
     match schema.column(names.as_slice()) {
-        Some(column) => ask(alloc, column.id, column.column_type, &leaf.question),
+        Some(column) => ask(alloc, column.id, column.column_type, &predicate.question),
         None => Err(FilterFault::NoSuchColumn),
     }
 }
@@ -332,16 +336,16 @@ fn bind_leaf(alloc: Global, leaf: &Leaf, schema: &Schema) -> Result<BoundLeaf, F
 #[tactic(auto, unfolding(crate::specs::Binding::bound_part))]
 fn bind_part(
     alloc: Global,
-    part: &Part<Leaf>,
+    part: &Part<Predicate>,
     schema: &Schema,
-) -> Result<Part<BoundLeaf>, FilterFault>
+) -> Result<Part<BoundPredicate>, FilterFault>
     ensures { Gives FilterFault.Memory (λ part. part) result (bound_part schema.now part.now) }
 {
     match part {
         Part::True => Ok(Part::True),
         Part::False => Ok(Part::False),
-        Part::Leaf(leaf) => match bind_leaf(alloc, leaf, schema) {
-            Ok(bound) => Ok(Part::Leaf(bound)),
+        Part::Predicate(predicate) => match bind_predicate(alloc, predicate, schema) {
+            Ok(bound) => Ok(Part::Predicate(bound)),
             Err(fault) => Err(fault),
         },
         Part::And => Ok(Part::And),
@@ -352,9 +356,9 @@ fn bind_part(
 /// The parts over the ids of columns.
 fn bind_parts(
     alloc: Global,
-    parts: &[Part<Leaf>],
+    parts: &[Part<Predicate>],
     schema: &Schema,
-) -> Result<Items<Part<BoundLeaf>>, FilterFault>
+) -> Result<Items<Part<BoundPredicate>>, FilterFault>
     ensures { Gives FilterFault.Memory (λ parts. parts) result (bound_parts schema.now parts.now) }
 {
     let mut bound = Items::new(alloc);
@@ -365,11 +369,11 @@ fn bind_parts(
 }
 
 /// The filter over the columns of a schema: each of its names is the name of a column, may be asked what is asked, and
-/// takes the literals, or the first leaf for which this is not so is refused.
+/// takes the literals, or the first predicate for which this is not so is refused.
 pub fn bind(alloc: Global, filter: &Filter, schema: &Schema) -> Result<Bound, FilterFault>
     ensures exact { Gives FilterFault.Memory (λ b. b.parts) result (bound_parts schema.now filter.now) }
     ensures meaning { IfOk result (λ b. (row : Row) → row_meets b.parts row ≡
-        meaning (leaf_meets schema.now row) (tree_of filter.now)) }
+        meaning (predicate_meets schema.now row) (tree_of filter.now)) }
 {
     let parts = bind_parts(alloc, filter.parts().as_slice(), schema)?;
     Ok(Bound {

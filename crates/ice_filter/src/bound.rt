@@ -1,4 +1,4 @@
-//! Filters whose leaves name columns by id.
+//! Filters whose predicates name columns by id.
 
 ghost use Rattle.std.specs.Prelude.{◌≡◌, [], true};
 ghost use Rattle.ice_filter.specs.Rows.{Row, row_meets};
@@ -49,7 +49,7 @@ impl Duplicate for Test {
 
 /// A test of a column.
 #[derive(Debug, PartialEq, Drop)]
-pub struct BoundLeaf {
+pub struct BoundPredicate {
     /// The column's id.
     pub column: i32,
     /// The type of its values.
@@ -62,7 +62,7 @@ pub struct BoundLeaf {
 #[derive(Debug, Drop)]
 pub struct Bound {
     /// The filter, part by part.
-    pub parts: Parts<BoundLeaf>,
+    pub parts: Parts<BoundPredicate>,
 }
 
 impl Bound {

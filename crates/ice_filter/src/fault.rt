@@ -16,7 +16,7 @@ pub enum FilterFault {
     WrongLiteral,
     /// The column cannot be compared so.
     NotComparable,
-    /// More than 1,000 leaves, 32 open parentheses or 1,000 literals in a list.
+    /// More than 1,000 predicates, 32 open parentheses or 1,000 literals in a list.
     TooBig,
     /// No memory was left.
     Memory,

@@ -4,9 +4,9 @@ ghost use Rattle.std.specs.Prelude.{◌≡◌, IfOk, true};
 ghost use Rattle.ice_filter.specs.Texts.{shown};
 ghost use Rattle.ice_filter.specs.Trees.{tree_of, is_filter};
 
-use crate::leaf::Leaf;
 use crate::parts::{Part, Parts};
 use crate::phrase::Phrase;
+use crate::predicate::Predicate;
 use crate::text::shown;
 use contract_words::Items;
 use std::alloc::{AllocError, Global};
@@ -17,18 +17,18 @@ use std::marker::Model;
 /// Contracts see its parts, and the filter that it is by `tree_of`.
 #[derive(Drop)]
 pub struct Filter {
-    parts: Parts<Leaf>,
+    parts: Parts<Predicate>,
     text: Phrase,
 }
 
 impl Model for Filter {
     ghost use Rattle.std.specs.Prelude.{◌≡◌, List};
-    ghost use Rattle.ice_filter.specs.declared.leaf.Leaf.{Leaf};
+    ghost use Rattle.ice_filter.specs.declared.predicate.Predicate.{Predicate};
     ghost use Rattle.ice_filter.specs.declared.parts.Part.{Part};
     ghost use Rattle.ice_filter.specs.Texts.{shown};
     ghost use Rattle.ice_filter.specs.Trees.{tree_of};
 
-    ghost Value = { List (Part Leaf) };
+    ghost Value = { List (Part Predicate) };
 
     ghost view = { λ f. f.parts };
 
@@ -37,7 +37,7 @@ impl Model for Filter {
 
 impl Filter {
     /// The filter of these parts.
-    pub fn from_items(alloc: Global, parts: Items<Part<Leaf>>) -> Result<Filter, AllocError>
+    pub fn from_items(alloc: Global, parts: Items<Part<Predicate>>) -> Result<Filter, AllocError>
         requires { is_filter parts ≡ true }
         ensures { IfOk result (λ filter. filter ≡ parts) }
     {
@@ -49,7 +49,7 @@ impl Filter {
     }
 
     /// The filter, part by part.
-    pub fn parts(&self) -> &Parts<Leaf>
+    pub fn parts(&self) -> &Parts<Predicate>
         ensures { result.now ≡ self.now }
     {
         &self.parts

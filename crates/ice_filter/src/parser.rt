@@ -3,7 +3,7 @@
 ghost use Rattle.std.specs.Prelude.{◌≡◌, [], ◌∷◌, ◌++◌, length, reverse, Ok, IfOk};
 ghost use Rattle.contract_words.specs.Outcome.{Gives};
 ghost use Rattle.ice_filter.specs.Automaton.{state_of};
-ghost use Rattle.ice_filter.specs.declared.leaf.Partial.{Partial};
+ghost use Rattle.ice_filter.specs.declared.predicate.Partial.{Partial};
 ghost use Rattle.ice_filter.specs.Grammar.{limits};
 ghost use Rattle.ice_filter.specs.Parsing.{add_part, joined, joined_and, opened, began, held, anded, ored, moved};
 ghost use Rattle.ice_filter.specs.Parsing.{at_unit, after_unit, closed, step, finish, outcome, parsed, filter_of};
@@ -14,9 +14,9 @@ ghost use Rattle.ice_filter.specs.Parsing as parsing;
 
 use crate::fault::FilterFault;
 use crate::filter::Filter;
-use crate::leaf::{Column, Leaf, Partial, Progress, leaf_step};
 use crate::lexer::{behind, is_separator, token_at};
 use crate::parts::Part;
+use crate::predicate::{Column, Partial, Predicate, Progress, predicate_step};
 use crate::token::Token;
 use contract_words::{Items, Text};
 use std::alloc::{AllocError, Global};
@@ -35,7 +35,7 @@ pub enum Place {
     Wants,
     /// Behind an operand.
     After,
-    /// In a leaf.
+    /// In a predicate.
     Inside(Partial),
 }
 
@@ -48,13 +48,13 @@ pub struct Parser {
     /// Of those around it, the outermost first.
     pub outer: Vec<Pending>,
     /// The operands and operators so far.
-    pub parts: Items<Part<Leaf>>,
-    /// How many leaves were begun.
-    pub leaves: usize,
+    pub parts: Items<Part<Predicate>>,
+    /// How many predicates were begun.
+    pub predicates: usize,
 }
 
-/// The most leaves that a filter may have.
-const MOST_LEAVES: usize = 1000;
+/// The most predicates that a filter may have.
+const MOST_PREDICATES: usize = 1000;
 
 /// The most parentheses that may be open at once.
 const MOST_OPEN: usize = 32;
@@ -74,7 +74,7 @@ impl Parser {
             now: NONE,
             outer: Vec::new(alloc),
             parts: Items::new(alloc),
-            leaves: 0,
+            predicates: 0,
         }
     }
 
@@ -117,17 +117,17 @@ impl Parser {
         Ok(())
     }
 
-    /// Begins a leaf.
+    /// Begins a predicate.
     #[tactic(auto, unfolding(crate::specs::Parsing::began))]
     fn begin(&mut self, alloc: Global, first: Text) -> Result<(), FilterFault>
         ensures { Gives FilterFault.Memory (λ _. state_of self.new) result (began limits (state_of self.old) first) }
     {
-        if self.leaves >= MOST_LEAVES {
+        if self.predicates >= MOST_PREDICATES {
             return Err(FilterFault::TooBig);
         }
         let more = Items::new(alloc);
         self.place = Place::Inside(Partial::Column(Column { first, more }));
-        self.leaves += 1;
+        self.predicates += 1;
         Ok(())
     }
 
@@ -143,13 +143,13 @@ impl Parser {
         Ok(())
     }
 
-    /// Takes a leaf.
+    /// Takes a predicate.
     #[tactic(auto, unfolding(crate::specs::Parsing::held))]
-    fn hold_leaf(&mut self, leaf: Leaf) -> Result<(), FilterFault>
+    fn hold_predicate(&mut self, predicate: Predicate) -> Result<(), FilterFault>
         ensures { Gives FilterFault.Memory (λ _. state_of self.new) result
-            (held add_part (state_of self.old) (parsing.leaf leaf)) }
+            (held add_part (state_of self.old) (parsing.predicate predicate)) }
     {
-        self.parts.push(Part::Leaf(leaf))?;
+        self.parts.push(Part::Predicate(predicate))?;
         self.place = Place::After;
         Ok(())
     }
@@ -224,7 +224,7 @@ impl Parser {
         }
     }
 
-    /// What was made of a leaf.
+    /// What was made of a predicate.
     #[tactic(auto, unfolding(crate::specs::Parsing::moved))]
     fn go_on(&mut self, progress: Progress) -> Result<(), FilterFault>
         ensures { Gives FilterFault.Memory (λ _. state_of self.new) result
@@ -235,20 +235,20 @@ impl Parser {
                 self.place = Place::Inside(partial);
                 Ok(())
             }
-            Progress::Done(leaf) => self.hold_leaf(leaf),
+            Progress::Done(predicate) => self.hold_predicate(predicate),
         }
     }
 
-    /// What the token at the offset makes of a leaf that is not whole.
+    /// What the token at the offset makes of a predicate that is not whole.
     #[tactic(auto, unfolding(crate::specs::Parsing::moved))]
     fn inside(&mut self, alloc: Global, at: usize, token: Token) -> Result<(), FilterFault>
         ensures { (p : Partial) → self.old.place ≡ Place.Inside p →
             Gives FilterFault.Memory (λ _. state_of self.new) result
             (moved add_part (record (state_of self.old) { place = Place.Wants })
-            (parsing.leaf_step limits.literals at p token)) }
+            (parsing.predicate_step limits.literals at p token)) }
     {
         match std::mem::replace(&mut self.place, Place::Wants) {
-            Place::Inside(partial) => match leaf_step(alloc, at, partial, token) {
+            Place::Inside(partial) => match predicate_step(alloc, at, partial, token) {
                 Ok(progress) => self.go_on(progress),
                 Err(fault) => Err(fault),
             },
@@ -306,7 +306,7 @@ impl Parser {
     }
 
     /// What was read.
-    fn into_parts(self) -> Items<Part<Leaf>>
+    fn into_parts(self) -> Items<Part<Predicate>>
         ensures { result ≡ self.parts }
     {
         let Parser { parts, .. } = self;
@@ -315,7 +315,7 @@ impl Parser {
 }
 
 /// The filter of a text. `Syntax` gives the offset, in bytes, of the first token that cannot stand where it stands, or
-/// the text's length where it ends too early; `TooBig` comes with the first leaf, parenthesis or literal over its
+/// the text's length where it ends too early; `TooBig` comes with the first predicate, parenthesis or literal over its
 /// limit.
 pub fn parse(alloc: Global, text: &str) -> Result<Filter, FilterFault>
     ensures exact { Gives FilterFault.Memory (λ f. tree_of f) result (filter_of text.now) }

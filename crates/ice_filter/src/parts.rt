@@ -9,29 +9,29 @@ use contract_words::Items;
 use std::alloc::Global;
 use std::marker::Model;
 
-/// A part of a filter over leaves of type `L`.
+/// A part of a filter over predicates of type `L`.
 #[derive(Debug, PartialEq, Drop)]
 pub enum Part<L> {
     /// A filter that is always met.
     True,
     /// A filter that is never met.
     False,
-    /// A filter that is met where the leaf is.
-    Leaf(L),
+    /// A filter that is met where the predicate is.
+    Predicate(L),
     /// The two filters before it, both met.
     And,
     /// The two filters before it, one of them met.
     Or,
 }
 
-/// A test of leaves, of which a filter's meaning is made.
-pub trait LeafTest<L> {
-    /// What the test says of a leaf.
+/// A test of predicates, of which a filter's meaning is made.
+pub trait PredicateTest<L> {
+    /// What the test says of a predicate.
     ghost says: { Self → L → Bool };
 
-    /// Whether the leaf is met.
-    fn is_met(&self, leaf: &L) -> bool
-        ensures { result ≡ says self.now leaf.now };
+    /// Whether the predicate is met.
+    fn is_met(&self, predicate: &L) -> bool
+        ensures { result ≡ says self.now predicate.now };
 }
 
 /// A filter as the list of its parts, operands before their operators. No parts at all are the filter that is always
@@ -79,8 +79,8 @@ impl<L> Parts<L> {
         self.parts.as_slice()
     }
 
-    /// Whether the filter is met, where the test says it of each leaf. It takes no memory.
-    pub fn is_met<T: LeafTest<L>>(&self, test: &T) -> bool
+    /// Whether the filter is met, where the test says it of each predicate. It takes no memory.
+    pub fn is_met<T: PredicateTest<L>>(&self, test: &T) -> bool
         ensures { result ≡ meaning (T.says test.now) (tree_of self.now) }
     {
         let mut truths = Truths::new();
@@ -92,14 +92,14 @@ impl<L> Parts<L> {
 }
 
 /// The truth values after one more part.
-fn read_part<L, T: LeafTest<L>>(truths: &mut Truths, part: &Part<L>, test: &T)
+fn read_part<L, T: PredicateTest<L>>(truths: &mut Truths, part: &Part<L>, test: &T)
     requires { is_some (operands_after_part (length truths.old) part.now) ≡ true }
     ensures { truths.new ≡ judge_part (T.says test.now) truths.old part.now }
 {
     match part {
         Part::True => truths.push(true),
         Part::False => truths.push(false),
-        Part::Leaf(leaf) => truths.push(test.is_met(leaf)),
+        Part::Predicate(predicate) => truths.push(test.is_met(predicate)),
         Part::And => {
             let second = truths.pop();
             let first = truths.pop();

@@ -2,7 +2,7 @@
 
 ghost use Rattle.std.specs.Prelude.{◌≡◌, ℕ, List, Result, Ok, ◌∷◌, ◌++◌};
 ghost use Rattle.ice_filter.specs.declared.fault.FilterFault.{FilterFault};
-ghost use Rattle.ice_filter.specs.declared.leaf.Leaf.{Leaf};
+ghost use Rattle.ice_filter.specs.declared.predicate.Predicate.{Predicate};
 ghost use Rattle.ice_filter.specs.declared.token.Token.{Token};
 ghost use Rattle.ice_filter.specs.declared.token.Token.TheVariants as token;
 ghost use Rattle.ice_filter.specs.Grammar.{Written, Says, Stands, tokens_in, unit, both, either};
@@ -12,7 +12,7 @@ ghost use Rattle.ice_filter.specs.Trees.{Tree};
 
 /// A text is one thing: one filter, or one refusal.
 pub fn texts_have_one_reading()
-    ensures { (text : List ℕ) (one other : Result (Tree Leaf) FilterFault) → IsReadAs text one → IsReadAs text other →
+    ensures { (text : List ℕ) (one other : Result (Tree Predicate) FilterFault) → IsReadAs text one → IsReadAs text other →
         one ≡ other }
 {}
 
@@ -29,5 +29,5 @@ pub fn and_binds_closer_than_or()
 
 /// A filter's text is one of its texts: what a text is read as is shown as a text that is read as the same filter.
 pub fn shown_filters_are_read()
-    ensures { (text : List ℕ) (filter : Tree Leaf) → filter_of text ≡ Ok filter → filter_of (shown filter) ≡ Ok filter }
+    ensures { (text : List ℕ) (filter : Tree Predicate) → filter_of text ≡ Ok filter → filter_of (shown filter) ≡ Ok filter }
 {}

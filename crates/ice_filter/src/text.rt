@@ -2,13 +2,13 @@
 
 ghost use Rattle.std.specs.Prelude.{◌≡◌, ◌++◌, ◌∷◌, [], codes, reverse, OnOk, IfOk};
 ghost use Rattle.ice_filter.specs.Texts.{literal_text, column_text, choices_text, sign_text, in_text, question_text};
-ghost use Rattle.ice_filter.specs.Texts.{leaf_text, truth_text, enclosed, shown};
-ghost use Rattle.ice_filter.specs.Pieces.{both_of, either_of, truth_piece, leaf_piece, top, rest, put};
+ghost use Rattle.ice_filter.specs.Texts.{predicate_text, truth_text, enclosed, shown};
+ghost use Rattle.ice_filter.specs.Pieces.{both_of, either_of, truth_piece, predicate_piece, top, rest, put};
 ghost use Rattle.ice_filter.specs.Trees.{tree_of};
 
-use crate::leaf::{Choices, Column, Leaf, Literal, Question};
 use crate::parts::Part;
 use crate::phrase::Phrase;
+use crate::predicate::{Choices, Column, Literal, Predicate, Question};
 use crate::token::Comparison;
 use std::alloc::{AllocError, AllocFailed, Global};
 use std::marker::Model;
@@ -126,12 +126,12 @@ fn truth_piece(alloc: Global, truth: bool) -> Result<Piece, AllocError>
     })
 }
 
-fn leaf_piece(alloc: Global, leaf: &Leaf) -> Result<Piece, AllocError>
-    ensures { IfOk result (λ piece. piece ≡ leaf_piece leaf.now) }
+fn predicate_piece(alloc: Global, predicate: &Predicate) -> Result<Piece, AllocError>
+    ensures { IfOk result (λ piece. piece ≡ predicate_piece predicate.now) }
 {
     let mut text = Phrase::new(alloc);
-    push_column(&mut text, &leaf.column)?;
-    push_question(&mut text, alloc, &leaf.question)?;
+    push_column(&mut text, &predicate.column)?;
+    push_question(&mut text, alloc, &predicate.question)?;
     Ok(Piece {
         text,
         either: false,
@@ -235,13 +235,13 @@ impl Pieces {
     }
 
     /// The texts after one more part.
-    fn read(&mut self, alloc: Global, part: &Part<Leaf>) -> Result<(), AllocError>
+    fn read(&mut self, alloc: Global, part: &Part<Predicate>) -> Result<(), AllocError>
         ensures { OnOk result (self.new ≡ put self.old part.now) }
     {
         let piece = match part {
             Part::True => truth_piece(alloc, true)?,
             Part::False => truth_piece(alloc, false)?,
-            Part::Leaf(leaf) => leaf_piece(alloc, leaf)?,
+            Part::Predicate(predicate) => predicate_piece(alloc, predicate)?,
             Part::And => {
                 let second = self.pop(alloc)?;
                 let first = self.pop(alloc)?;
@@ -259,7 +259,7 @@ impl Pieces {
 }
 
 /// The text of the filter whose parts these are.
-pub fn shown(alloc: Global, parts: &[Part<Leaf>]) -> Result<Phrase, AllocError>
+pub fn shown(alloc: Global, parts: &[Part<Predicate>]) -> Result<Phrase, AllocError>
     ensures { IfOk result (λ text. text ≡ shown (tree_of parts.now)) }
 {
     let mut pieces = Pieces::new(alloc);

@@ -6,14 +6,14 @@ use Rattle.std.proofs.lemmas.List.{append-nil}
 use Rattle.std.proofs.lemmas.List.Elements.{All-nil, All-cons}
 use Rattle.ice_filter.specs.declared.fault.FilterFault.{FilterFault}
 use Rattle.ice_filter.specs.declared.fault.FilterFault.TheVariants as fault
-use Rattle.ice_filter.specs.declared.leaf.Leaf.{Leaf}
-use Rattle.ice_filter.specs.declared.leaf.Literal.{Literal}
-use Rattle.ice_filter.specs.declared.leaf.Literal.TheVariants as literal
-use Rattle.ice_filter.specs.declared.leaf.Question.{Question}
-use Rattle.ice_filter.specs.declared.leaf.Question.TheVariants as question
+use Rattle.ice_filter.specs.declared.predicate.Predicate.{Predicate}
+use Rattle.ice_filter.specs.declared.predicate.Literal.{Literal}
+use Rattle.ice_filter.specs.declared.predicate.Literal.TheVariants as literal
+use Rattle.ice_filter.specs.declared.predicate.Question.{Question}
+use Rattle.ice_filter.specs.declared.predicate.Question.TheVariants as question
 use Rattle.ice_filter.specs.declared.token.Token.{Token}
 use Rattle.ice_filter.specs.declared.token.Token.TheVariants as token
-use Rattle.ice_filter.specs.Grammar.{Written, truth, leaf, group, both, either, tokens_in, column_tokens}
+use Rattle.ice_filter.specs.Grammar.{Written, truth, predicate, group, both, either, tokens_in, column_tokens}
 use Rattle.ice_filter.specs.Grammar.{question_tokens, choices_tokens, literal_token, in_tokens, dotted, listed, words}
 use Rattle.ice_filter.specs.Grammar.{Says, Begins, IsMisplaced, EndsEarly, PassesLimit, limits}
 use Rattle.ice_filter.specs.Lexing.{tokens_of}
@@ -79,7 +79,7 @@ question_fine (question.Begins l) = (λ e. absurd (cc), (λ e. absurd (cc), (lit
 
 filter_fine : (w : Written) → AreFine (tokens_in w)
 filter_fine (truth b) = (λ e. absurd (cc), tt)
-filter_fine (leaf l) = fine_both (column_tokens l.column) (question_tokens l.question)
+filter_fine (predicate l) = fine_both (column_tokens l.column) (question_tokens l.question)
     (λ e. absurd (cc), names_fine l.column.more) (question_fine l.question)
 filter_fine (group w) =
     (λ e. absurd (cc), fine_both (tokens_in w) (token.Close ∷ []) (filter_fine w) (λ e. absurd (cc), tt))
@@ -106,13 +106,13 @@ no_bad ts h = (fine_back ts (token.Bad ∷ []) (begins_fine (ts ++ token.Bad ∷
 
 -- ---- what is read is what stands there
 
-is_read : (text : List ℕ) (r : Result (Tree Leaf) FilterFault) → filter_of text ≡ r → IsReadAs text r
+is_read : (text : List ℕ) (r : Result (Tree Predicate) FilterFault) → filter_of text ≡ r → IsReadAs text r
 is_read text r e = subst (λ q. IsReadAs text q) e (text_reads text)
 
-read_is : (text : List ℕ) (r : Result (Tree Leaf) FilterFault) → IsReadAs text r → filter_of text ≡ r
+read_is : (text : List ℕ) (r : Result (Tree Predicate) FilterFault) → IsReadAs text r → filter_of text ≡ r
 read_is text r h = one_reading limits (length text) (tokens_of text) (filter_of text) r (text_reads text) h
 
-pub written : (text : List ℕ) (f : Tree Leaf) → filter_of text ≡ Ok f → Writes text f
+pub written : (text : List ℕ) (f : Tree Predicate) → filter_of text ≡ Ok f → Writes text f
 written text f e =
     let h = is_read text (Ok f) e in
     let good = begins_good (tokens_of text) (says_begins (words (tokens_of text)) h.0 h.1.0) in (
@@ -124,7 +124,7 @@ written text f e =
       h.1.2,
     )
 
-pub writes : (text : List ℕ) (f : Tree Leaf) → Writes text f → filter_of text ≡ Ok f
+pub writes : (text : List ℕ) (f : Tree Predicate) → Writes text f → filter_of text ≡ Ok f
 writes text f (tokens, w, lie, says, within, is) =
     let e : tokens_of text ≡ tokens = (lie_tokens text tokens lie).0 in
     read_is text (Ok f) (w, (subst (λ z. Says (words z) w) (sym e) says, within, is))

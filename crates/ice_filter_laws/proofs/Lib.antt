@@ -13,6 +13,6 @@ pub mod Grown
 pub mod Fields
 pub mod Found
 pub mod Tabled
-pub mod Leaves
+pub mod Predicates
 pub mod FirstFault
 pub mod Ordered

@@ -7,8 +7,8 @@ use Rattle.std.proofs.lemmas.List.{append-nil}
 use Rattle.contract_words.specs.Outcome.{◌>>=◌}
 use Rattle.ice_filter.specs.declared.fault.FilterFault.{FilterFault}
 use Rattle.ice_filter.specs.declared.fault.FilterFault.TheVariants.{TooBig}
-use Rattle.ice_filter.specs.declared.leaf.Leaf.{Leaf}
-use Rattle.ice_filter.specs.declared.leaf.Progress.TheVariants as progress
+use Rattle.ice_filter.specs.declared.predicate.Predicate.{Predicate}
+use Rattle.ice_filter.specs.declared.predicate.Progress.TheVariants as progress
 use Rattle.ice_filter.specs.declared.parser.Pending.{Pending}
 use Rattle.ice_filter.specs.declared.parser.Place.{Place}
 use Rattle.ice_filter.specs.declared.parser.Place.TheVariants.{Wants, After, Inside}
@@ -19,10 +19,10 @@ use Rattle.ice_filter.specs.declared.token.Token.TheVariants as token
 use Rattle.ice_filter.specs.Grammar.{Limits, limits}
 use Rattle.ice_filter.specs.Lexing.{tokens_of}
 use Rattle.ice_filter.specs.Parsing.{State, Act, Read, add_part, joined, joined_and, opened, began, held, anded, ored}
-use Rattle.ice_filter.specs.Parsing.{at_unit, closed, after_unit, moved, leaf_step, step, step_at, ended, finish}
+use Rattle.ice_filter.specs.Parsing.{at_unit, closed, after_unit, moved, predicate_step, step, step_at, ended, finish}
 use Rattle.ice_filter.specs.Parsing.{outcome, start, parsed, mapped, filter_of}
 use Rattle.ice_filter.specs.Parsing as parsing
-use Rattle.ice_filter.specs.Trees.{Tree, truth, leaf, parts_of, read_part, read_parts, tree_of}
+use Rattle.ice_filter.specs.Trees.{Tree, truth, predicate, parts_of, read_part, read_parts, tree_of}
 use Rattle.ice_filter.specs.Trees.{operands_after_operand, operands_after_part, operands_after}
 use Rattle.ice_filter.specs.Trees.{is_one_filter, is_filter, most_operands, top}
 use Rattle.ice_filter.proofs.Shapes.{parsed_filter}
@@ -49,7 +49,8 @@ part_kept : {L : Type 0} (ts : List (Tree L)) (p : Part L) (m : ℕ) → operand
     → IsKept ts (read_part ts p) (p ∷ []) m
 part_kept ts part.True m h = operand_kept ts (truth true) part.True m (nat_lt (length ts) most_operands) refl refl h
 part_kept ts part.False m h = operand_kept ts (truth false) part.False m (nat_lt (length ts) most_operands) refl refl h
-part_kept ts (part.Leaf l) m h = operand_kept ts (leaf l) (part.Leaf l) m (nat_lt (length ts) most_operands) refl refl h
+part_kept ts (part.Predicate l) m h = operand_kept ts (predicate l) (part.Predicate l) m
+    (nat_lt (length ts) most_operands) refl refl h
 part_kept [] part.And m h = absurd (cc)
 part_kept (t ∷ []) part.And m h = absurd (cc)
 part_kept (t ∷ u ∷ ts) part.And m h =
@@ -105,7 +106,7 @@ parts_of_tree ps h some = tree_by ps (operands_after 0 ps) refl h some
 -- ---- something is read
 
 abbrev Parts : Type 0
-Parts = List (Part Leaf)
+Parts = List (Part Predicate)
 
 -- behind an operand something was read
 abbrev HasSome : Place → Parts → Type 0
@@ -116,7 +117,7 @@ abbrev IsSome : Result (State Parts) FilterFault → Type 0
 IsSome (Ok s) = HasSome s.place s.read
 IsSome (Err e) = Unit {0}
 
-pushed : (ps : Parts) (p : Part Leaf) → ps ++ p ∷ [] ≢ []
+pushed : (ps : Parts) (p : Part Predicate) → ps ++ p ∷ [] ≢ []
 pushed [] p e = absurd (cc)
 pushed (q ∷ ps) p e = absurd (cc)
 
@@ -146,7 +147,7 @@ unit_some : (m : Limits) (at : ℕ) (s : State Parts) (t : Token) → IsSome (at
 unfolding at_unit opened began
 unit_some m at s token.Open = limited_some (nat_lt (length s.outer) m.groups) _ tt
 unit_some m at s (token.Truth b) = held_some s (parsing.truth b) (truth_some s.read b)
-unit_some m at s (token.Name n) = limited_some (nat_lt s.leaves m.leaves) _ tt
+unit_some m at s (token.Name n) = limited_some (nat_lt s.predicates m.predicates) _ tt
 unit_some m at s _ = tt
 
 closed_some : (at : ℕ) (s : State Parts) (ps : List Pending) → s.read ≢ [] → IsSome (closed add_part at s ps)
@@ -164,7 +165,7 @@ after_some at s _ h = tt
 moved_some : (s : State Parts) (r : Read) → IsSome (moved add_part s r)
 unfolding moved
 moved_some s (Ok (progress.Going p)) = tt
-moved_some s (Ok (progress.Done l)) = held_some s (parsing.leaf l) (pushed s.read (part.Leaf l))
+moved_some s (Ok (progress.Done l)) = held_some s (parsing.predicate l) (pushed s.read (part.Predicate l))
 moved_some s (Err e) = tt
 
 step_some : (m : Limits) (at : ℕ) (s : State Parts) (place : Place) (t : Token) → HasSome place s.read
@@ -172,7 +173,7 @@ step_some : (m : Limits) (at : ℕ) (s : State Parts) (place : Place) (t : Token
 unfolding step_at
 step_some m at s Wants t h = unit_some m at s t
 step_some m at s After t h = after_some at s t h
-step_some m at s (Inside p) t h = moved_some (record s { place = Wants }) (leaf_step m.literals at p t)
+step_some m at s (Inside p) t h = moved_some (record s { place = Wants }) (predicate_step m.literals at p t)
 
 ended_some : (end : ℕ) (s : State Parts) (place : Place) (ps : List Pending) (out : Parts) → HasSome place s.read
     → ended add_part end s place ps ≡ Ok out → out ≢ []

@@ -1,4 +1,5 @@
--- What is at fault with a leaf of a filter over the columns of a schema, and which fault of a filter is told: each is
+-- What is at fault with a predicate of a filter over the columns of a schema, and which fault of a filter is told: each
+-- is
 -- said by itself here, and not by a walk that stops at the first.
 use Rattle.std.specs.Prelude.{◌≡◌, ◌≢◌, ◌↔◌, ◌⊎◌, ◌^◌, ◌<◌, ◌≤◌, ◌≤ℤ◌, ◌<ℤ◌, ℕ, ℤ, pos, neg_ℤ, true, List, [], ◌∷◌}
 use Rattle.std.specs.Prelude.{◌++◌, length, slice_get, Option, None, Some, Ok, Err}
@@ -9,23 +10,23 @@ use Rattle.ice_value.specs.declared.column_type.ColumnType.TheVariants.{Boolean,
 use Rattle.ice_value.specs.declared.column_type.ColumnType.TheVariants.{Timestamp, Timestamptz, String, Uuid, Fixed}
 use Rattle.ice_value.specs.declared.column_type.ColumnType.TheVariants.{Binary, Decimal}
 use Rattle.ice_meta.specs.declared.schema.Schema.{Schema}
-use Rattle.ice_filter.specs.declared.bound.BoundLeaf.{BoundLeaf}
+use Rattle.ice_filter.specs.declared.bound.BoundPredicate.{BoundPredicate}
 use Rattle.ice_filter.specs.declared.fault.FilterFault.{FilterFault}
 use Rattle.ice_filter.specs.declared.fault.FilterFault.TheVariants.{NoSuchColumn, NotComparable, WrongLiteral}
-use Rattle.ice_filter.specs.declared.leaf.Leaf.{Leaf}
-use Rattle.ice_filter.specs.declared.leaf.Literal.{Literal}
-use Rattle.ice_filter.specs.declared.leaf.Literal.TheVariants as literal
-use Rattle.ice_filter.specs.declared.leaf.Question.{Question}
-use Rattle.ice_filter.specs.declared.leaf.Question.TheVariants as question
+use Rattle.ice_filter.specs.declared.predicate.Predicate.{Predicate}
+use Rattle.ice_filter.specs.declared.predicate.Literal.{Literal}
+use Rattle.ice_filter.specs.declared.predicate.Literal.TheVariants as literal
+use Rattle.ice_filter.specs.declared.predicate.Question.{Question}
+use Rattle.ice_filter.specs.declared.predicate.Question.TheVariants as question
 use Rattle.ice_filter.specs.declared.token.Comparison.TheVariants.{Equal, NotEqual}
 use Rattle.ice_filter.specs.declared.token.Token.{Token}
 use Rattle.ice_filter.specs.declared.token.Token.TheVariants as token
 use Rattle.ice_filter.specs.declared.parts.Part.{Part}
 use Rattle.ice_filter.specs.Binding.{path, bound_parts}
-use Rattle.ice_filter.specs.Grammar.{leaf_tokens, words}
+use Rattle.ice_filter.specs.Grammar.{predicate_tokens, words}
 use Rattle.ice_filter.specs.Lexing.{tokens_of}
 use Rattle.ice_filter.specs.Parsing.{IsReadAs}
-use Rattle.ice_filter.specs.Trees.{Tree, truth, leaf, both, either, tree_of, is_filter}
+use Rattle.ice_filter.specs.Trees.{Tree, truth, predicate, both, either, tree_of, is_filter}
 use Rattle.ice_filter_laws.specs.Columns.{IsFound}
 
 -- ---- what a column can be asked
@@ -81,15 +82,16 @@ Takes (Fixed size) (literal.Bytes bytes) = length bytes ≡ size
 Takes Binary (literal.Bytes bytes) = Unit {0}
 Takes _ _ = ⊥
 
--- ---- the faults of a leaf
+-- ---- the faults of a predicate
 
--- the leaf's names lead to a column of this type
-abbrev pub IsOfType : Schema → Leaf → Option ColumnType → Type 0
+-- the predicate's names lead to a column of this type
+abbrev pub IsOfType : Schema → Predicate → Option ColumnType → Type 0
 IsOfType schema l type = (id : ℤ) × IsFound (path l.column) schema id type
 
--- the leaf has this fault: no column has its names; its column can't be asked so; its column doesn't take one of its
+-- the predicate has this fault: no column has its names; its column can't be asked so; its column doesn't take one of
+-- its
 -- literals
-abbrev pub HasFault : Schema → Leaf → FilterFault → Type 0
+abbrev pub HasFault : Schema → Predicate → FilterFault → Type 0
 HasFault schema l NoSuchColumn = (type : Option ColumnType) → IsOfType schema l type → ⊥
 HasFault schema l NotComparable = (type : Option ColumnType) × IsOfType schema l type × CannotBeAsked type l.question
 HasFault schema l WrongLiteral = (type : ColumnType) × (wrong : Literal) × IsOfType schema l (Some type)
@@ -103,42 +105,42 @@ rank NotComparable = 1
 rank WrongLiteral = 2
 rank _ = 3
 
--- the leaf has this fault, and none that is asked before it
-abbrev pub IsFaultOf : Schema → Leaf → FilterFault → Type 0
+-- the predicate has this fault, and none that is asked before it
+abbrev pub IsFaultOf : Schema → Predicate → FilterFault → Type 0
 IsFaultOf schema l f = HasFault schema l f × ((g : FilterFault) → HasFault schema l g → rank f ≤ rank g)
 
--- nothing is at fault with the leaf
-abbrev pub IsSound : Schema → Leaf → Type 0
+-- nothing is at fault with the predicate
+abbrev pub IsSound : Schema → Predicate → Type 0
 IsSound schema l = (f : FilterFault) → HasFault schema l f → ⊥
 
 -- ---- the fault of a filter
 
--- the leaves from left to right
-abbrev pub leaves : Tree Leaf → List Leaf
-leaves (truth b) = []
-leaves (leaf l) = l ∷ []
-leaves (both s t) = leaves s ++ leaves t
-leaves (either s t) = leaves s ++ leaves t
+-- the predicates from left to right
+abbrev pub predicates : Tree Predicate → List Predicate
+predicates (truth b) = []
+predicates (predicate l) = l ∷ []
+predicates (both s t) = predicates s ++ predicates t
+predicates (either s t) = predicates s ++ predicates t
 
--- it is the fault of a leaf before which nothing is at fault
-abbrev pub IsOfTheFirst : Schema → List Leaf → FilterFault → Type 0
-IsOfTheFirst schema ls f = (place : ℕ) × (l : Leaf) × (slice_get ls place ≡ Some l) × IsFaultOf schema l f
-    × ((before : ℕ) (other : Leaf) → before < place → slice_get ls before ≡ Some other → IsSound schema other)
+-- it is the fault of a predicate before which nothing is at fault
+abbrev pub IsOfTheFirst : Schema → List Predicate → FilterFault → Type 0
+IsOfTheFirst schema ls f = (place : ℕ) × (l : Predicate) × (slice_get ls place ≡ Some l) × IsFaultOf schema l f
+    × ((before : ℕ) (other : Predicate) → before < place → slice_get ls before ≡ Some other → IsSound schema other)
 
--- A filter is refused exactly for the fault of its first leaf at fault,
+-- A filter is refused exactly for the fault of its first predicate at fault,
 abbrev pub TellsTheFirst : Type 0
-TellsTheFirst = (schema : Schema) (parts : List (Part Leaf)) (f : FilterFault) → is_filter parts ≡ true
-    → (bound_parts schema parts ≡ Err f) ↔ IsOfTheFirst schema (leaves (tree_of parts)) f
+TellsTheFirst = (schema : Schema) (parts : List (Part Predicate)) (f : FilterFault) → is_filter parts ≡ true
+    → (bound_parts schema parts ≡ Err f) ↔ IsOfTheFirst schema (predicates (tree_of parts)) f
 
--- and it is bound exactly where nothing is at fault with any leaf.
-abbrev pub BindsSoundLeaves : Type 0
-BindsSoundLeaves = (schema : Schema) (parts : List (Part Leaf)) → is_filter parts ≡ true
-    → ((bound : List (Part BoundLeaf)) × (bound_parts schema parts ≡ Ok bound))
-    ↔ ((l : Leaf) → Contains (leaves (tree_of parts)) l → IsSound schema l)
+-- and it is bound exactly where nothing is at fault with any predicate.
+abbrev pub BindsSoundPredicates : Type 0
+BindsSoundPredicates = (schema : Schema) (parts : List (Part Predicate)) → is_filter parts ≡ true
+    → ((bound : List (Part BoundPredicate)) × (bound_parts schema parts ≡ Ok bound))
+    ↔ ((l : Predicate) → Contains (predicates (tree_of parts)) l → IsSound schema l)
 
--- ---- the order of a filter's leaves
+-- ---- the order of a filter's predicates
 
--- it belongs to no leaf
+-- it belongs to no predicate
 abbrev pub IsBetween : Token → Type 0
 IsBetween token.Open = Unit {0}
 IsBetween token.Close = Unit {0}
@@ -148,12 +150,12 @@ IsBetween (token.Truth b) = Unit {0}
 IsBetween _ = ⊥
 
 -- the tokens are those of these leaves one after the other, with such between them as belong to none
-abbrev pub AreOf : List Leaf → List Token → Type 0
+abbrev pub AreOf : List Predicate → List Token → Type 0
 AreOf [] tokens = AllByRecursion IsBetween tokens
-AreOf (l ∷ ls) tokens = (before after : List Token) × (tokens ≡ before ++ (leaf_tokens l ++ after))
+AreOf (l ∷ ls) tokens = (before after : List Token) × (tokens ≡ before ++ (predicate_tokens l ++ after))
     × AllByRecursion IsBetween before × AreOf ls after
 
--- The text of a filter has its leaves in their order.
-abbrev pub HasItsLeavesInOrder : Type 0
-HasItsLeavesInOrder = (text : List ℕ) (filter : Tree Leaf) → IsReadAs text (Ok filter)
-    → AreOf (leaves filter) (words (tokens_of text))
+-- The text of a filter has its predicates in their order.
+abbrev pub HasItsPredicatesInOrder : Type 0
+HasItsPredicatesInOrder = (text : List ℕ) (filter : Tree Predicate) → IsReadAs text (Ok filter)
+    → AreOf (predicates filter) (words (tokens_of text))

@@ -2,7 +2,7 @@
 use Rattle.std.specs.Prelude.{◌≡◌, ◌⊎◌, ◌↔◌, ℕ, List, [], ◌∷◌, ◌++◌, length, Ok, Err}
 use Rattle.ice_filter.specs.declared.fault.FilterFault.{FilterFault}
 use Rattle.ice_filter.specs.declared.fault.FilterFault.TheVariants.{Syntax, TooBig}
-use Rattle.ice_filter.specs.declared.leaf.Leaf.{Leaf}
+use Rattle.ice_filter.specs.declared.predicate.Predicate.{Predicate}
 use Rattle.ice_filter.specs.declared.token.Token.{Token}
 use Rattle.ice_filter.specs.Grammar.{Written, Says, IsWithin, IsInLimits, Begins, limits, bare, words}
 use Rattle.ice_filter.specs.Parsing.{filter_of, mapped, parsed}
@@ -10,7 +10,7 @@ use Rattle.ice_filter.specs.Trees.{Tree, parts_of}
 use Rattle.ice_filter_laws.specs.Lying.{Stands, Lie, NoneBegins}
 
 -- the text is blanks and the spellings of tokens that say the filter, which is within the limits
-abbrev pub Writes : List ℕ → Tree Leaf → Type 0
+abbrev pub Writes : List ℕ → Tree Predicate → Type 0
 Writes text f = (tokens : List (ℕ × Token)) × (w : Written) × Lie tokens 0 text (length text) []
     × Says (words tokens) w × IsWithin limits w × (f ≡ bare w)
 
@@ -42,7 +42,7 @@ Overflows text = (before : List (ℕ × Token)) × (at : ℕ) × (rest : List �
 
 -- A text is read as the filter that it writes,
 abbrev pub ReadsWhatIsWritten : Type 0
-ReadsWhatIsWritten = (text : List ℕ) (f : Tree Leaf) → (filter_of text ≡ Ok f) ↔ Writes text f
+ReadsWhatIsWritten = (text : List ℕ) (f : Tree Predicate) → (filter_of text ≡ Ok f) ↔ Writes text f
 
 -- it is refused at the offset where no filter goes on,
 abbrev pub RefusesWhereItStops : Type 0

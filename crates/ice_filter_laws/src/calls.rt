@@ -10,7 +10,7 @@ ghost use Rattle.ice_meta.specs.Partitioning.{is_unpartitioned};
 ghost use Rattle.ice_meta.specs.Tables.{HasCurrentSchema, HasDefaultSpec, HasDifferentSchemas, HasDifferentSpecs};
 ghost use Rattle.ice_meta.specs.Tables.{HasDifferentSnapshots};
 ghost use Rattle.ice_meta.specs.Targets.{described, metadata_of, resolved, schema_for};
-ghost use Rattle.ice_filter.specs.Binding.{bound_parts, leaf_meets};
+ghost use Rattle.ice_filter.specs.Binding.{bound_parts, predicate_meets};
 ghost use Rattle.ice_filter.specs.Parsing.{IsReadAs, filter_of, parsed};
 ghost use Rattle.ice_filter.specs.Rows.{Row, row_meets};
 ghost use Rattle.ice_filter.specs.Trees.{meaning, tree_of};
@@ -69,7 +69,7 @@ pub fn parse(alloc: Global, text: &str) -> Result<Filter, FilterFault>
 pub fn bind(alloc: Global, filter: &Filter, schema: &Schema) -> Result<Bound, FilterFault>
     ensures exact { Gives FilterFault.Memory (λ b. b.parts) result (bound_parts schema.now filter.now) }
     ensures meaning { IfOk result (λ b. (row : Row) → row_meets b.parts row ≡
-        meaning (leaf_meets schema.now row) (tree_of filter.now)) }
+        meaning (predicate_meets schema.now row) (tree_of filter.now)) }
 {
     ice_filter::bind(alloc, filter, schema)
 }

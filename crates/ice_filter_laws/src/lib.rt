@@ -8,5 +8,5 @@ mod laws;
 
 pub use calls::{bind, is_unpartitioned, parse, read, resolve, schema_for};
 pub use columns::columns_are_found_by_name;
-pub use faults::bind_refuses_the_first_leaf_at_fault;
+pub use faults::bind_refuses_the_first_predicate_at_fault;
 pub use laws::{texts_are_kept_as_parts, texts_say_filters, tokens_are_spelled};

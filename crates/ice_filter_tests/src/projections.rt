@@ -9,8 +9,8 @@ use ice_value::{Cell, ColumnType};
 use std::alloc::{AllocError, Global};
 use std::test::Fail;
 
-/// A leaf without a test, which every partition value meets.
-const TRUE: &str = "[Leaf(Items { items: [] })]";
+/// A predicate without a test, which every partition value meets.
+const TRUE: &str = "[Predicate(Items { items: [] })]";
 
 /// A transform, the column's type, a filter, and what its projection has in it.
 const PROJECTED: &[(&str, ColumnType, &str, &str)] = &[

@@ -1,4 +1,4 @@
--- Records that are met, and ways that go through them.
+-- Records that are met, and field paths that go through them.
 use Rattle.std.proofs.Common.{◌≡◌, ℤ, List, [], ◌∷◌, Option, Some, None, refl, sym, ap, subst}
 use Rattle.avro_schema.specs.Tree.{Tree, null, boolean, int, long, float, double, symbols, octets, string, fixed}
 use Rattle.avro_schema.specs.Tree.{structure, array, map, union, Fields}
@@ -45,41 +45,45 @@ record_taken (array t id k) v y e = absurd cc
 record_taken (map t) v y e = absurd cc
 record_taken (union bs) v y e = absurd cc
 
--- ---- ways through a record
+-- ---- field paths through a record
 
 -- where the one leads to this record, the other leads on from it
 abbrev Onward : List ℤ → Typed → Picked → Picked → Type 0
-Onward way y here there_on = record_of (there here) ≡ Some y → there_on ≡ pick way y
+Onward field_path y here there_on = record_of (there here) ≡ Some y → there_on ≡ pick field_path y
 
-unless_null_onward : (way : List ℤ) (y : Typed) (next more : Typed → Picked) (t : Tree) (v : Value)
-    → Onward way y (next (t, v)) (more (t, v)) → Onward way y (unless_null next (t, v)) (unless_null more (t, v))
-unless_null_onward way y next more t nothing on = λ e. absurd cc
-unless_null_onward way y next more t (truth b) on = on
-unless_null_onward way y next more t (small z) on = on
-unless_null_onward way y next more t (whole z) on = on
-unless_null_onward way y next more t (single s) on = on
-unless_null_onward way y next more t (twice s) on = on
-unless_null_onward way y next more t (symbol n) on = on
-unless_null_onward way y next more t (text s) on = on
-unless_null_onward way y next more t (run s) on = on
-unless_null_onward way y next more t (raw s) on = on
-unless_null_onward way y next more t (fields vs) on = on
-unless_null_onward way y next more t (items vs) on = on
-unless_null_onward way y next more t (entries es) on = on
-unless_null_onward way y next more t (chosen n v) on = on
+unless_null_onward : (field_path : List ℤ) (y : Typed) (next more : Typed → Picked) (t : Tree) (v : Value)
+    → Onward field_path y (next (t, v)) (more (t, v))
+    → Onward field_path y (unless_null next (t, v)) (unless_null more (t, v))
+unless_null_onward field_path y next more t nothing on = λ e. absurd cc
+unless_null_onward field_path y next more t (truth b) on = on
+unless_null_onward field_path y next more t (small z) on = on
+unless_null_onward field_path y next more t (whole z) on = on
+unless_null_onward field_path y next more t (single s) on = on
+unless_null_onward field_path y next more t (twice s) on = on
+unless_null_onward field_path y next more t (symbol n) on = on
+unless_null_onward field_path y next more t (text s) on = on
+unless_null_onward field_path y next more t (run s) on = on
+unless_null_onward field_path y next more t (raw s) on = on
+unless_null_onward field_path y next more t (fields vs) on = on
+unless_null_onward field_path y next more t (items vs) on = on
+unless_null_onward field_path y next more t (entries es) on = on
+unless_null_onward field_path y next more t (chosen n v) on = on
 
-unless_absent_onward : (way : List ℤ) (y : Typed) (next more : Typed → Picked) (o : Option Typed)
-    → ((x : Typed) → Onward way y (next x) (more x)) → Onward way y (unless_absent next o) (unless_absent more o)
-unless_absent_onward way y next more None on = λ e. absurd cc
-unless_absent_onward way y next more (Some x) on = on x
+unless_absent_onward : (field_path : List ℤ) (y : Typed) (next more : Typed → Picked) (o : Option Typed)
+    → ((x : Typed) → Onward field_path y (next x) (more x))
+    → Onward field_path y (unless_absent next o) (unless_absent more o)
+unless_absent_onward field_path y next more None on = λ e. absurd cc
+unless_absent_onward field_path y next more (Some x) on = on x
 
-record_onward : (id : ℤ) (way : List ℤ) (y x : Typed) → record_of (Some x) ≡ Some y
-    → unless_null (λ z. unless_absent (pick way) (field_with id z)) x ≡ pick (id ∷ way) y
-record_onward id way y x e =
+record_onward : (id : ℤ) (field_path : List ℤ) (y x : Typed) → record_of (Some x) ≡ Some y
+    → unless_null (λ z. unless_absent (pick field_path) (field_with id z)) x ≡ pick (id ∷ field_path) y
+record_onward id field_path y x e =
     let is = record_taken x.0 x.1 y e in
-    subst (λ (z : Typed). unless_null (λ z. unless_absent (pick way) (field_with id z)) z ≡ pick (id ∷ way) y)
-    (sym is.2) (subst (λ (z : Typed). unless_absent (pick way) (field_with id (structure is.0, fields is.1)) ≡ pick
-    (id ∷ way) z) (sym is.3) refl)
+    subst (λ (z : Typed). unless_null (λ z. unless_absent (pick field_path) (field_with id z)) z ≡ pick
+        (id ∷ field_path) y)
+    (sym is.2) (subst (λ (z : Typed). unless_absent (pick field_path)
+        (field_with id (structure is.0, fields is.1)) ≡ pick
+    (id ∷ field_path) z) (sym is.3) refl)
 
 present_is : (t : Tree) (v : Value) (y : Typed) → record_of (there (unless_null present (t, v))) ≡ Some y
     → record_of (Some (t, v)) ≡ Some y
@@ -98,18 +102,19 @@ present_is t (items vs) y e = e
 present_is t (entries es) y e = e
 present_is t (chosen n v) y e = e
 
-here_onward : (id : ℤ) (way : List ℤ) (y x : Typed) → Onward (id ∷ way) y (pick [] x) (pick (id ∷ way) x)
-here_onward id way y x = unless_absent_onward (id ∷ way) y (unless_null present)
-    (unless_null (λ z. unless_absent (pick way) (field_with id z))) (bare x)
-    (λ z e. record_onward id way y z (present_is z.0 z.1 y e))
+here_onward : (id : ℤ) (field_path : List ℤ) (y x : Typed)
+    → Onward (id ∷ field_path) y (pick [] x) (pick (id ∷ field_path) x)
+here_onward id field_path y x = unless_absent_onward (id ∷ field_path) y (unless_null present)
+    (unless_null (λ z. unless_absent (pick field_path) (field_with id z))) (bare x)
+    (λ z e. record_onward id field_path y z (present_is z.0 z.1 y e))
 
--- a way through a record goes on as from the record
-pub picked_onward : (id next : ℤ) (way : List ℤ) (x y : Typed) → record_of (there (at id x)) ≡ Some y
-    → pick (id ∷ next ∷ way) x ≡ pick (next ∷ way) y
-picked_onward id next way x y =
-    unless_absent_onward (next ∷ way) y (unless_null (λ z. unless_absent (pick []) (field_with id z)))
-    (unless_null (λ z. unless_absent (pick (next ∷ way)) (field_with id z))) (bare x)
-    (λ z. unless_null_onward (next ∷ way) y (λ z. unless_absent (pick []) (field_with id z))
-    (λ z. unless_absent (pick (next ∷ way)) (field_with id z)) z.0 z.1
-    (unless_absent_onward (next ∷ way) y (pick []) (pick (next ∷ way)) (field_with id z)
-    (λ w. here_onward next way y w)))
+-- a field path through a record goes on as from the record
+pub picked_onward : (id next : ℤ) (field_path : List ℤ) (x y : Typed) → record_of (there (at id x)) ≡ Some y
+    → pick (id ∷ next ∷ field_path) x ≡ pick (next ∷ field_path) y
+picked_onward id next field_path x y =
+    unless_absent_onward (next ∷ field_path) y (unless_null (λ z. unless_absent (pick []) (field_with id z)))
+    (unless_null (λ z. unless_absent (pick (next ∷ field_path)) (field_with id z))) (bare x)
+    (λ z. unless_null_onward (next ∷ field_path) y (λ z. unless_absent (pick []) (field_with id z))
+    (λ z. unless_absent (pick (next ∷ field_path)) (field_with id z)) z.0 z.1
+    (unless_absent_onward (next ∷ field_path) y (pick []) (pick (next ∷ field_path)) (field_with id z)
+    (λ w. here_onward next field_path y w)))

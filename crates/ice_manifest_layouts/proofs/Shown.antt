@@ -12,9 +12,9 @@ use Rattle.avro_file.specs.Files.{Shows}
 use Rattle.avro_file.specs.Picking.{Typed, Picked, present, pick}
 use Rattle.avro_file_picked.specs.declared.found.Found.{Found}
 use Rattle.avro_file_picked.specs.declared.guide.GuidedObject.{GuidedObject}
-use Rattle.avro_file_picked.specs.Finding.{layout_tree, ways_of, is_structure, IsMet}
+use Rattle.avro_file_picked.specs.Finding.{layout_tree, field_paths_of, is_structure, IsMet}
 use Rattle.avro_file_picked.specs.Guides.{IsGuided}
-use Rattle.avro_file_picked.specs.Placing.{nth_way, way_of}
+use Rattle.avro_file_picked.specs.Placing.{nth_field_path, field_path_of}
 use Rattle.avro_file_picked.proofs.Values.{stood, structure_taken}
 use Rattle.ice_meta.specs.declared.spec.PartitionField.{PartitionField}
 use Rattle.ice_manifest_fields.specs.Fields.{at, there, record_of}
@@ -22,10 +22,10 @@ use Rattle.ice_manifest_fields.specs.Schemas.{fields_in}
 use Rattle.ice_manifest_fields.specs.Seen.{fields_seen}
 use Rattle.ice_manifest_layouts.specs.declared.entry.FoundEntry.{FoundEntry}
 use Rattle.ice_manifest_layouts.specs.declared.file.FoundFile.{FoundFile}
-use Rattle.ice_manifest_layouts.specs.Ways.{to_cell, to_cells, to_entries, to_files, entry_fields, file_fields}
-use Rattle.ice_manifest_layouts.specs.Ways.{wanted_ways}
+use Rattle.ice_manifest_layouts.specs.FieldPaths.{to_cell, to_cells, to_entries, to_files, entry_fields, file_fields}
+use Rattle.ice_manifest_layouts.specs.FieldPaths.{wanted_field_paths}
 use Rattle.ice_manifest_layouts.specs.declared.entry_field.FileField.{FileField}
-use Rattle.ice_manifest_layouts.specs.Ways.{file_id, to_file, pair_ids, IsNumberOf}
+use Rattle.ice_manifest_layouts.specs.FieldPaths.{file_id, to_file, pair_ids, IsNumberOf}
 use Rattle.ice_manifest_layouts.specs.Seen.{value_read, record_met, entry_seen, IsPlaced, file_of, file_seen, IsFile}
 use Rattle.ice_manifest_layouts.specs.Seen.{tuple_of}
 use Rattle.ice_manifest_layouts.specs.Seen.{tuple_seen, HasTuple, IsGuidedFile}
@@ -33,19 +33,20 @@ use Rattle.ice_manifest_layouts.proofs.Records.{picked_onward}
 
 -- ---- from the object
 
-pub shown : (e : FoundEntry) (found : Option Found) (k : ℕ) (way : List ℤ) → IsPlaced e
-    → IsNumberOf way k e.partition.now
-    → ((v : Value) → Shows e.object v → IsMet found (pick (way_of e.layout.now k) (layout_tree e.layout.now, v)))
-    → IsMet found (pick way (entry_seen e))
+pub shown : (e : FoundEntry) (found : Option Found) (k : ℕ) (field_path : List ℤ) → IsPlaced e
+    → IsNumberOf field_path k e.partition.now
+    → ((v : Value) → Shows e.object v → IsMet found (pick (field_path_of e.layout.now k) (layout_tree e.layout.now, v)))
+    → IsMet found (pick field_path (entry_seen e))
 unfolding entry_seen
-shown e found k way placed number is =
+shown e found k field_path placed number is =
     let v : Value = placed.2.0 in
-    let way_is : way_of e.layout.now k ≡ way = ap (λ (ws : List (List ℤ)). nth_way ws k) placed.0 ∙ number.1 in
+    let field_path_is : field_path_of e.layout.now k ≡ field_path = ap
+        (λ (ws : List (List ℤ)). nth_field_path ws k) placed.0 ∙ number.1 in
     let read : v ≡ (entry_seen e).1 = sym (ap value_read placed.2.1.1) in
     let object_is : (layout_tree e.layout.now, v) ≡ entry_seen e =
     ap (λ (t : Tree). (t, v)) (sym placed.1.1) ∙ ap (λ (w : Value). (tree e.object.schema.now, w)) read in
-    subst (λ (w : List ℤ). IsMet found (pick w (entry_seen e))) way_is
-    (subst (λ (x : Typed). IsMet found (pick (way_of e.layout.now k) x)) object_is (is v placed.2.1))
+    subst (λ (w : List ℤ). IsMet found (pick w (entry_seen e))) field_path_is
+    (subst (λ (x : Typed). IsMet found (pick (field_path_of e.layout.now k) x)) object_is (is v placed.2.1))
 
 -- the object and its type
 pub entry_is : (e : FoundEntry) (v : Value) → Shows e.object v → entry_seen e ≡ (tree e.object.schema.now, v)
@@ -117,25 +118,26 @@ fields_met f met fs is type_is =
 
 -- ---- from the file
 
-pub file_shown : (f : FoundFile) (found : Option Found) (k : ℕ) (next : ℤ) (way : List ℤ) → IsFile f
-    → IsNumberOf (pos 2 ∷ next ∷ way) k f.entry.now.partition.now
+pub file_shown : (f : FoundFile) (found : Option Found) (k : ℕ) (next : ℤ) (field_path : List ℤ) → IsFile f
+    → IsNumberOf (pos 2 ∷ next ∷ field_path) k f.entry.now.partition.now
     → ((v : Value) → Shows f.entry.now.object v
-    → IsMet found (pick (way_of f.entry.now.layout.now k) (layout_tree f.entry.now.layout.now, v)))
-    → IsMet found (pick (next ∷ way) (file_seen f))
+    → IsMet found (pick (field_path_of f.entry.now.layout.now k) (layout_tree f.entry.now.layout.now, v)))
+    → IsMet found (pick (next ∷ field_path) (file_seen f))
 unfolding file_seen
-file_shown f found k next way is number finds =
+file_shown f found k next field_path is number finds =
     let here = ap record_met is.1.1 in
-    let onward = picked_onward (pos 2) next way (entry_seen f.entry.now) (
+    let onward = picked_onward (pos 2) next field_path (entry_seen f.entry.now) (
       structure (fields_seen f.fields.now),
       fields
           is.1.0,
     ) is.1.1 in
-    subst (λ (met : Picked). IsMet found met) (onward ∙ ap (pick (next ∷ way)) (sym here))
-    (shown f.entry.now found k (pos 2 ∷ next ∷ way) is.0 number finds)
+    subst (λ (met : Picked). IsMet found met) (onward ∙ ap (pick (next ∷ field_path)) (sym here))
+    (shown f.entry.now found k (pos 2 ∷ next ∷ field_path) is.0 number finds)
 
 -- where the file's object stands with a guide
 pub guided_shown : (f : FoundFile) (r : Option GuidedObject) → IsFile f → ((v : Value) → Shows f.entry.now.object v
-    → IfSome r (λ guided. IsGuided (ways_of f.entry.now.layout.now) (layout_tree f.entry.now.layout.now) v guided))
+    → IfSome r (λ guided. IsGuided (field_paths_of f.entry.now.layout.now)
+    (layout_tree f.entry.now.layout.now) v guided))
     → IfSome r (λ guided. IsGuidedFile f guided)
 unfolding entry_seen file_seen
 guided_shown f None is shows = tt
@@ -156,17 +158,18 @@ guided_shown f (Some guided) is shows =
 
 -- ---- from the partition values
 
-nth_behind : (front ways : List (List ℤ)) (k : ℕ) → nth_way (front ++ ways) (length front + k) ≡ nth_way ways k
-nth_behind [] ways k = rw (zero_add_is k) refl
+nth_behind : (front field_paths : List (List ℤ)) (k : ℕ)
+    → nth_field_path (front ++ field_paths) (length front + k) ≡ nth_field_path field_paths k
+nth_behind [] field_paths k = rw (zero_add_is k) refl
   where
     zero_add_is : (k : ℕ) → 0 + k ≡ k
     zero_add_is k = omega arith
-nth_behind (way ∷ front) ways k =
+nth_behind (field_path ∷ front) field_paths k =
     let e : suc (length front) + k ≡ suc (length front + k) = omega arith in
-    rw e (nth_behind front ways k)
+    rw e (nth_behind front field_paths k)
 
 nth_cell : (ps : List PartitionField) (k : ℕ) (p : PartitionField) → k < length ps → p ≡ get_or ps k p
-    → nth_way (to_cells ps) k ≡ to_cell p
+    → nth_field_path (to_cells ps) k ≡ to_cell p
 nth_cell [] k p lt is = absurd (omega arith)
 nth_cell (q ∷ ps) zero p lt is = ap to_cell (sym is)
 nth_cell (q ∷ ps) (suc k) p lt is = nth_cell ps k p (omega arith) is
@@ -174,15 +177,15 @@ nth_cell (q ∷ ps) (suc k) p lt is = nth_cell ps k p (omega arith) is
 pub cell_shown : (f : FoundFile) (found : Option Found) (k : ℕ) (p : PartitionField) → IsFile f → HasTuple f
     → k < length f.entry.now.partition.now → p ≡ get_or f.entry.now.partition.now k p
     → ((v : Value) → Shows f.entry.now.object v
-    → IsMet found (pick (way_of f.entry.now.layout.now (18 + k)) (layout_tree f.entry.now.layout.now, v)))
+    → IsMet found (pick (field_path_of f.entry.now.layout.now (18 + k)) (layout_tree f.entry.now.layout.now, v)))
     → IsMet found (at p.field_id (tuple_seen f))
 unfolding tuple_seen
 cell_shown f found k p is tuple lt here finds =
     let ps = f.entry.now.partition.now in
     let front : List (List ℤ) = to_entries entry_fields ++ (to_files file_fields ++ pair_ids ∷ []) in
-    let number : nth_way (wanted_ways ps) (18 + k) ≡ to_cell p =
+    let number : nth_field_path (wanted_field_paths ps) (18 + k) ≡ to_cell p =
     nth_behind front (to_cells ps) k ∙ nth_cell ps k p lt here in
-    let few : 18 + k < length (wanted_ways ps) = omega (arith, length-map ps to_cell, lt) in
+    let few : 18 + k < length (wanted_field_paths ps) = omega (arith, length-map ps to_cell, lt) in
     let onward = picked_onward (pos 102) p.field_id [] (file_seen f) tuple.0 tuple.1 in
     subst (λ (met : Picked). IsMet found met) (onward ∙ ap (at p.field_id) (sym (ap record_met tuple.1)))
     (file_shown f found (18 + k) (pos 102) (p.field_id ∷ []) is (few, number) finds)

@@ -1,3 +1,3 @@
-pub mod Ways
+pub mod FieldPaths
 pub mod Seen
 pub mod RowsFound

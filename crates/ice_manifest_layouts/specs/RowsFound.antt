@@ -7,8 +7,8 @@ use Rattle.avro_file.specs.Value.{Value, nothing}
 use Rattle.avro_file.specs.Blocks.{object_at}
 use Rattle.avro_file.specs.Files.{Shows}
 use Rattle.avro_file.specs.Picking.{Typed}
-use Rattle.avro_file_picked.specs.Finding.{ways_of}
-use Rattle.avro_file_picked.specs.Placing.{ArePlaced, nth_way}
+use Rattle.avro_file_picked.specs.Finding.{field_paths_of}
+use Rattle.avro_file_picked.specs.Placing.{ArePlaced, nth_field_path}
 use Rattle.ice_manifest_layouts.specs.declared.row_field.RowField.{RowField}
 use Rattle.ice_manifest_layouts.specs.declared.row_field.RowField.TheVariants as row
 use Rattle.ice_manifest_layouts.specs.declared.row.FoundRow.{FoundRow}
@@ -29,7 +29,7 @@ row_id row.SequenceNumber = pos 515
 row_id row.MinSequenceNumber = pos 516
 row_id row.Content = pos 517
 
--- the way of ids to a field of the row
+-- the field path to a field of the row
 abbrev pub to_field : RowField → List ℤ
 to_field f = row_id f ∷ []
 
@@ -46,12 +46,12 @@ row_fields = row.Path ∷ row.Length ∷ row.SpecId ∷ row.AddedSnapshotId ∷ 
 abbrev pub summary_ids : List ℤ
 summary_ids = pos 509 ∷ pos 518 ∷ pos 510 ∷ pos 511 ∷ []
 
-abbrev pub row_ways : List (List ℤ)
-row_ways = to_fields row_fields ++ summary_ids ∷ []
+abbrev pub row_field_paths : List (List ℤ)
+row_field_paths = to_fields row_fields ++ summary_ids ∷ []
 
--- the way to the field stands at this place among all
+-- the field path to the field stands at this place among all
 abbrev pub IsNumberOf : RowField → ℕ → Type 0
-IsNumberOf f k = (k < length row_ways) × (nth_way row_ways k ≡ to_field f)
+IsNumberOf f k = (k < length row_field_paths) × (nth_field_path row_field_paths k ≡ to_field f)
 
 -- what was read; null where nothing could be
 abbrev pub value_read : Result (Value × List ℕ) Refusal → Value
@@ -62,7 +62,7 @@ value_read (Err e) = nothing
 unfoldable pub row_seen : FoundRow → Typed
 row_seen r = (tree r.object.schema.now, value_read (object_at (tree r.object.schema.now) r.object.bytes.now))
 
--- an object stands there, and its values were placed along all ways that are wanted
+-- an object stands there, and its values were placed along all field paths that are wanted
 abbrev pub IsRow : FoundRow → Type 0
-IsRow r = (ways_of r.layout.now ≡ row_ways) × ArePlaced r.layout.now r.object r.places.now
+IsRow r = (field_paths_of r.layout.now ≡ row_field_paths) × ArePlaced r.layout.now r.object r.places.now
     × ((v : Value) × Shows r.object v)

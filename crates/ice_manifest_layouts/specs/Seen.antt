@@ -7,7 +7,7 @@ use Rattle.avro_file.specs.Value.{Value, nothing, fields, Values}
 use Rattle.avro_file.specs.Blocks.{object_at}
 use Rattle.avro_file.specs.Files.{Shows}
 use Rattle.avro_file.specs.Picking.{Typed, pick}
-use Rattle.avro_file_picked.specs.Finding.{ways_of}
+use Rattle.avro_file_picked.specs.Finding.{field_paths_of}
 use Rattle.avro_file_picked.specs.Placing.{ArePlaced}
 use Rattle.avro_file_picked.specs.declared.guide.GuidedObject.{GuidedObject}
 use Rattle.avro_file_picked.specs.Guides.{IsGuided}
@@ -16,7 +16,7 @@ use Rattle.ice_manifest_fields.specs.Seen.{fields_seen}
 use Rattle.ice_manifest_layouts.specs.declared.entry.FoundEntry.{FoundEntry}
 use Rattle.ice_manifest_layouts.specs.declared.file.FoundFile.{FoundFile}
 use Rattle.ice_manifest_layouts.specs.declared.entry_field.FileField.{FileField}
-use Rattle.ice_manifest_layouts.specs.Ways.{file_id, to_file, wanted_ways}
+use Rattle.ice_manifest_layouts.specs.FieldPaths.{file_id, to_file, wanted_field_paths}
 
 -- what was read; null where nothing could be
 abbrev pub value_read : Result (Value × List ℕ) Refusal → Value
@@ -32,9 +32,10 @@ record_met None = (null, nothing)
 unfoldable pub entry_seen : FoundEntry → Typed
 entry_seen e = (tree e.object.schema.now, value_read (object_at (tree e.object.schema.now) e.object.bytes.now))
 
--- an object stands there, and its values were placed along all ways that are wanted
+-- an object stands there, and its values were placed along all field paths that are wanted
 abbrev pub IsPlaced : FoundEntry → Type 0
-IsPlaced e = (ways_of e.layout.now ≡ wanted_ways e.partition.now) × ArePlaced e.layout.now e.object e.places.now
+IsPlaced e = (field_paths_of e.layout.now ≡ wanted_field_paths e.partition.now)
+    × ArePlaced e.layout.now e.object e.places.now
     × ((v : Value) × Shows e.object v)
 
 -- the record of the entry's file
@@ -60,7 +61,7 @@ abbrev pub HasTuple : FoundFile → Type 0
 HasTuple f = (y : Typed) × (tuple_of f ≡ Some y)
 
 -- The file's entry stands there, and the guide is of its type and keeps all that is wanted of it. Each field of the
--- file is what the way leads to from the entry.
+-- file is what the field path leads to from the entry.
 abbrev pub IsGuidedFile : FoundFile → GuidedObject → Type 0
-IsGuidedFile f guided = (t : Tree) × (v : Value) × IsGuided (wanted_ways f.entry.now.partition.now) t v guided
+IsGuidedFile f guided = (t : Tree) × (v : Value) × IsGuided (wanted_field_paths f.entry.now.partition.now) t v guided
     × ((field : FileField) → pick (to_file field) (t, v) ≡ at (file_id field) (file_seen f))

@@ -5,10 +5,10 @@ ghost use Rattle.avro_file.specs.Value.{Value};
 ghost use Rattle.avro_file.specs.Picking.{pick};
 ghost use Rattle.avro_file.specs.Files.{Shows};
 ghost use Rattle.avro_schema.specs.View.{tree};
-ghost use Rattle.avro_file_picked.specs.Finding.{ways_of, IsMet};
+ghost use Rattle.avro_file_picked.specs.Finding.{field_paths_of, IsMet};
 ghost use Rattle.avro_file_picked.specs.Placing.{ArePlaced};
 ghost use Rattle.ice_manifest_fields.specs.Fields.{at};
-ghost use Rattle.ice_manifest_layouts.specs.Ways.{entry_id, wanted_ways};
+ghost use Rattle.ice_manifest_layouts.specs.FieldPaths.{entry_id, wanted_field_paths};
 ghost use Rattle.ice_manifest_layouts.specs.Seen.{entry_seen, IsPlaced};
 
 use crate::entry_field::EntryField;

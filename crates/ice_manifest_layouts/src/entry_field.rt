@@ -2,7 +2,7 @@
 
 ghost use Rattle.std.specs.Prelude.{◌≡◌, List};
 ghost use Rattle.ice_meta.specs.declared.spec.PartitionField.{PartitionField};
-ghost use Rattle.ice_manifest_layouts.specs.Ways.{entry_id, file_id, to_entry, to_file, IsNumberOf};
+ghost use Rattle.ice_manifest_layouts.specs.FieldPaths.{entry_id, file_id, to_entry, to_file, IsNumberOf};
 
 /// The partition values are read behind all fields of entries and files, and of pairs.
 pub(crate) const PARTITION_START: usize = 18;

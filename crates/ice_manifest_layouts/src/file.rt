@@ -6,7 +6,7 @@ ghost use Rattle.avro_schema.specs.View.{tree};
 ghost use Rattle.avro_file_picked.specs.Finding.{IsMet};
 ghost use Rattle.ice_meta.specs.declared.spec.PartitionField.{PartitionField};
 ghost use Rattle.ice_manifest_fields.specs.Fields.{at};
-ghost use Rattle.ice_manifest_layouts.specs.Ways.{file_id};
+ghost use Rattle.ice_manifest_layouts.specs.FieldPaths.{file_id};
 ghost use Rattle.ice_manifest_layouts.specs.Seen.{IsPlaced, IsFile, HasTuple, file_of, file_seen, tuple_of, tuple_seen};
 ghost use Rattle.ice_manifest_layouts.specs.Seen.{IsGuidedFile};
 

@@ -1,4 +1,4 @@
-//! Which ways of field ids are read of a manifest list's rows and of a manifest's entries, and the fields that were
+//! Which field paths are read of a manifest list's rows and of a manifest's entries, and the fields that were
 //! found along them in the bytes of the file's objects.
 #![tactic(auto)]
 

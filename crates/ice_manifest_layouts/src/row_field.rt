@@ -3,19 +3,19 @@
 ghost use Rattle.std.specs.Prelude.{◌≡◌, ◌++◌, IfOk};
 ghost use Rattle.std.specs.Result.{IfErr};
 ghost use Rattle.avro_schema.specs.View.{tree};
-ghost use Rattle.avro_file_picked.specs.Finding.{layout_tree, ways_of};
+ghost use Rattle.avro_file_picked.specs.Finding.{layout_tree, field_paths_of};
 ghost use Rattle.avro_file_picked.specs.Placing.{IsLayout};
 ghost use Rattle.avro_file_picked.specs.Guides.{ids_in};
-ghost use Rattle.ice_manifest_layouts.specs.RowsFound.{row_id, to_fields, row_ways, IsNumberOf};
-ghost use Rattle.ice_manifest_layouts.specs.RowsFound.{row_ways as wanted_ways};
+ghost use Rattle.ice_manifest_layouts.specs.RowsFound.{row_id, to_fields, row_field_paths, IsNumberOf};
+ghost use Rattle.ice_manifest_layouts.specs.RowsFound.{row_field_paths as wanted_field_paths};
 
 use avro_file::AvroFault;
 use avro_file_picked::Layout;
 use avro_schema::Schema;
-use ice_manifest_values::push_way;
+use ice_manifest_values::push_field_path;
 use std::alloc::{AllocError, Global};
 
-/// The fields of the summaries of a row's partition fields. No way leads to them from a row: they stand among what is
+/// The fields of the summaries of a row's partition fields. No field path leads to them from a row: they stand among what is
 /// wanted so that a guide of the row, where the layout has one, keeps them in the summaries.
 const SUMMARY_IDS: [i32; 4] = [509, 518, 510, 511];
 
@@ -84,22 +84,22 @@ impl RowField {
     }
 }
 
-/// The ways to fields of a row.
-fn ways_to(alloc: Global, fields: &[RowField]) -> Result<Vec<Vec<i32>>, AllocError>
-    ensures { IfOk result (λ ways. ids_in ways.items ≡ to_fields fields.now) }
+/// The field paths to fields of a row.
+fn field_paths_to(alloc: Global, fields: &[RowField]) -> Result<Vec<Vec<i32>>, AllocError>
+    ensures { IfOk result (λ field_paths. ids_in field_paths.items ≡ to_fields fields.now) }
 {
-    let mut ways = Vec::with_capacity(alloc, fields.len())?;
+    let mut field_paths = Vec::with_capacity(alloc, fields.len())?;
     'fields: for field in fields {
-        ways.push(Vec::from_slice(alloc, &[field.id()])?)?;
+        field_paths.push(Vec::from_slice(alloc, &[field.id()])?)?;
     }
-    Ok(ways)
+    Ok(field_paths)
 }
 
-/// The ways to all that is read of a row.
-fn row_ways(alloc: Global) -> Result<Vec<Vec<i32>>, AllocError>
-    ensures { IfOk result (λ ways. ids_in ways.items ≡ wanted_ways) }
+/// The field paths to all that is read of a row.
+fn row_field_paths(alloc: Global) -> Result<Vec<Vec<i32>>, AllocError>
+    ensures { IfOk result (λ field_paths. ids_in field_paths.items ≡ wanted_field_paths) }
 {
-    let mut ways = ways_to(
+    let mut field_paths = field_paths_to(
         alloc,
         &[
             RowField::Path,
@@ -118,18 +118,18 @@ fn row_ways(alloc: Global) -> Result<Vec<Vec<i32>>, AllocError>
             RowField::Content,
         ],
     )?;
-    push_way(alloc, &SUMMARY_IDS, &mut ways)?;
-    Ok(ways)
+    push_field_path(alloc, &SUMMARY_IDS, &mut field_paths)?;
+    Ok(field_paths)
 }
 
 /// The layout of a manifest list's objects, which have this type, for the values that are read of a row. `Memory` is
 /// its only refusal.
 pub fn row_layout<'s>(alloc: Global, schema: &'s Schema) -> Result<Layout<'s>, AvroFault>
     ensures schema { IfOk result (λ layout. layout_tree layout ≡ tree schema.now) }
-    ensures ways { IfOk result (λ layout. ways_of layout ≡ row_ways) }
+    ensures field_paths { IfOk result (λ layout. field_paths_of layout ≡ row_field_paths) }
     ensures leads { IfOk result IsLayout }
     ensures memory { IfErr result (λ e. e ≡ AvroFault.Memory) }
 {
-    let ways = row_ways(alloc)?;
-    Layout::new(alloc, schema, &ways)
+    let field_paths = row_field_paths(alloc)?;
+    Layout::new(alloc, schema, &field_paths)
 }

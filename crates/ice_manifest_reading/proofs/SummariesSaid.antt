@@ -12,7 +12,7 @@ use Rattle.ice_manifest_fields.specs.Naming.{in_list, lists_field, told}
 use Rattle.ice_manifest_values.proofs.Itself.{RecordMet, record_met}
 use Rattle.ice_manifest_reading.specs.Lists.{summary_in, summary_of}
 use Rattle.ice_manifest_layouts.specs.RowsFound.{summary_ids}
-use Rattle.ice_manifest_reading.specs.SummaryWays.{summary_ways}
+use Rattle.ice_manifest_reading.specs.SummaryFieldPaths.{summary_field_paths}
 
 abbrev summary : Bool → Option Bool → Option (List ℕ) → Option (List ℕ) → Summary
 summary b n l u = record { contains_null = b; contains_nan = n; lower = l; upper = u }
@@ -38,20 +38,20 @@ summary_without_null x f is = ap (λ (r : Result Bool FieldFault). told in_list 
 
 -- ---- an item of a list
 
-pub all_asked : AreAsked summary_ways summary_ids
+pub all_asked : AreAsked summary_field_paths summary_ids
 all_asked = (refl, (refl, (refl, (refl, tt))))
 
-pub null_asked : (ways : List (List ℤ)) → AreAsked ways summary_ids → AreAsked ways (pos 509 ∷ [])
-null_asked ways asked = (asked.0, tt)
+pub null_asked : (field_paths : List (List ℤ)) → AreAsked field_paths summary_ids → AreAsked field_paths (pos 509 ∷ [])
+null_asked field_paths asked = (asked.0, tt)
 
-pub nan_asked : (ways : List (List ℤ)) → AreAsked ways summary_ids → AreAsked ways (pos 518 ∷ [])
-nan_asked ways asked = (asked.1.0, tt)
+pub nan_asked : (field_paths : List (List ℤ)) → AreAsked field_paths summary_ids → AreAsked field_paths (pos 518 ∷ [])
+nan_asked field_paths asked = (asked.1.0, tt)
 
-pub lower_asked : (ways : List (List ℤ)) → AreAsked ways summary_ids → AreAsked ways (pos 510 ∷ [])
-lower_asked ways asked = (asked.1.1.0, tt)
+pub lower_asked : (field_paths : List (List ℤ)) → AreAsked field_paths summary_ids → AreAsked field_paths (pos 510 ∷ [])
+lower_asked field_paths asked = (asked.1.1.0, tt)
 
-pub upper_asked : (ways : List (List ℤ)) → AreAsked ways summary_ids → AreAsked ways (pos 511 ∷ [])
-upper_asked ways asked = asked.1.1.1
+pub upper_asked : (field_paths : List (List ℤ)) → AreAsked field_paths summary_ids → AreAsked field_paths (pos 511 ∷ [])
+upper_asked field_paths asked = asked.1.1.1
 
 abbrev summarized : Picked → Picked → Picked → Picked → Result Summary FieldFault
 summarized b n l u = asked (pos 509) (truth_of (there b)) >>= λ holds. Ok (summary holds (truth_of (there n))

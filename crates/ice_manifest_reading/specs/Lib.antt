@@ -3,7 +3,7 @@ pub mod Partitions
 pub mod Lists
 pub mod Gathering
 pub mod Equality
-pub mod SummaryWays
+pub mod SummaryFieldPaths
 pub mod Manifests
 pub mod Laws
 pub mod Lending

@@ -4,12 +4,12 @@ ghost use Rattle.std.specs.Prelude.{◌≡◌, ◌≤◌, ◌++◌, [], ◌∷�
 ghost use Rattle.std.specs.List.Sorted.{IsStrictlySortedBy};
 ghost use Rattle.contract_words.specs.Outcome.{Gives};
 ghost use Rattle.avro_file.specs.Files.{ahead, type_of};
-ghost use Rattle.avro_file_picked.specs.Finding.{layout_tree, ways_of, is_structure};
+ghost use Rattle.avro_file_picked.specs.Finding.{layout_tree, field_paths_of, is_structure};
 ghost use Rattle.avro_file_picked.specs.Placing.{IsLayout};
 ghost use Rattle.ice_manifest_fields.specs.Fields.{at, there};
 ghost use Rattle.ice_manifest_fields.specs.Naming.{in_list, told};
 ghost use Rattle.ice_manifest_fields.specs.Schemas.{fields_in};
-ghost use Rattle.ice_manifest_layouts.specs.RowsFound.{row_seen, row_ways, IsRow};
+ghost use Rattle.ice_manifest_layouts.specs.RowsFound.{row_seen, row_field_paths, IsRow};
 ghost use Rattle.ice_manifest_reading.specs.Lists.{rows_of, row_of as row_said, row_content as content_in};
 ghost use Rattle.ice_manifest_reading.specs.Lists.{content_at as content_said, counts_at as counts_said};
 ghost use Rattle.ice_manifest_reading.specs.Lists.{summaries_in};
@@ -121,7 +121,7 @@ fn all_rows<'s, 'd>(
     mut reader: Objects<'s, 'd>,
 ) -> Result<Vec<LentRow<'d>>, ListFault>
     requires layout { IsLayout layout.now }
-    requires ways { ways_of layout.now ≡ row_ways }
+    requires field_paths { field_paths_of layout.now ≡ row_field_paths }
     requires schema { layout_tree layout.now ≡ type_of reader }
     requires records { is_structure (layout_tree layout.now) ≡ true }
     ensures { Gathers (λ rows. rows.items) result

@@ -5,7 +5,7 @@ ghost use Rattle.std.specs.Option.{option_copied};
 ghost use Rattle.contract_words.specs.Outcome.{Gives};
 ghost use Rattle.avro_file.specs.Ahead.{still_ahead};
 ghost use Rattle.avro_file.specs.Files.{ahead, type_of};
-ghost use Rattle.avro_file_picked.specs.Finding.{layout_tree, ways_of, is_structure};
+ghost use Rattle.avro_file_picked.specs.Finding.{layout_tree, field_paths_of, is_structure};
 ghost use Rattle.avro_file_picked.specs.Placing.{IsLayout};
 ghost use Rattle.ice_manifest_fields.specs.Fields.{int_or_zero as int_or_zero_said, path_at as path_said};
 ghost use Rattle.ice_manifest_fields.specs.Fields.{long_at as long_said, ints_at as ints_said};
@@ -14,7 +14,7 @@ ghost use Rattle.ice_manifest_fields.specs.Naming.{in_manifest, told};
 ghost use Rattle.ice_manifest_fields.specs.Schemas.{fields_in};
 ghost use Rattle.ice_manifest_fields.specs.Seen.{result_map};
 ghost use Rattle.ice_manifest_layouts.specs.Seen.{entry_seen, IsPlaced, file_seen, IsFile};
-ghost use Rattle.ice_manifest_layouts.specs.Ways.{entry_id, file_id, wanted_ways};
+ghost use Rattle.ice_manifest_layouts.specs.FieldPaths.{entry_id, file_id, wanted_field_paths};
 ghost use Rattle.ice_manifest_reading.specs.Manifests.{live_of, status_of as status_in, status_at as status_said};
 ghost use Rattle.ice_manifest_reading.specs.Manifests.{content_of as content_in, content_at as content_said};
 ghost use Rattle.ice_manifest_reading.specs.Manifests.{format_at as format_said};
@@ -391,7 +391,7 @@ fn all_entries<'s, 'd, K: Keep, T: Tell, G: Gather<'d>>(
 ) -> Result<Tallied<T::Told>, ManifestFault>
     requires few { still_ahead (ahead reader) < 2 ^ 64 }
     requires layout { IsLayout layout.now }
-    requires ways { ways_of layout.now ≡ wanted_ways source.now.spec.now.fields }
+    requires field_paths { field_paths_of layout.now ≡ wanted_field_paths source.now.spec.now.fields }
     requires schema { layout_tree layout.now ≡ type_of reader }
     requires records { is_structure (layout_tree layout.now) ≡ true }
     ensures told { Gives ManifestFault.Memory (λ read. read.told.items) result

@@ -18,39 +18,39 @@ ghost use Rattle.ice_manifest_fields.specs.Naming.{in_list, told};
 ghost use Rattle.ice_manifest_values.specs.InPlace.{Stands, AreAhead};
 ghost use Rattle.ice_manifest_layouts.specs.RowsFound.{summary_ids};
 ghost use Rattle.ice_manifest_reading.specs.Lists.{summary_in as summary_said, summary_of as summary_of_item};
-ghost use Rattle.ice_manifest_reading.specs.SummaryWays.{summary_ways};
+ghost use Rattle.ice_manifest_reading.specs.SummaryFieldPaths.{summary_field_paths};
 
 use avro_file_picked::{Found, Guide};
 use avro_schema::Schema;
 use contract_words::Items;
 use ice_manifest_fields::{FieldFault, ListFault};
-use ice_manifest_values::{ItemsAhead, Standing, binary, items_of, push_way, truth};
+use ice_manifest_values::{ItemsAhead, Standing, binary, items_of, push_field_path, truth};
 use ice_value::Summary;
 use std::alloc::{AllocError, Global};
 
-/// The ways to what a summary says.
-fn ways(alloc: Global) -> Result<Vec<Vec<i32>>, AllocError>
-    ensures { IfOk result (λ ways. ids_in ways.items ≡ summary_ways) }
+/// The field paths to what a summary says.
+fn field_paths(alloc: Global) -> Result<Vec<Vec<i32>>, AllocError>
+    ensures { IfOk result (λ field_paths. ids_in field_paths.items ≡ summary_field_paths) }
 {
-    let mut ways = Vec::new(alloc);
-    push_way(alloc, &[509], &mut ways)?;
-    push_way(alloc, &[518], &mut ways)?;
-    push_way(alloc, &[510], &mut ways)?;
-    push_way(alloc, &[511], &mut ways)?;
-    Ok(ways)
+    let mut field_paths = Vec::new(alloc);
+    push_field_path(alloc, &[509], &mut field_paths)?;
+    push_field_path(alloc, &[518], &mut field_paths)?;
+    push_field_path(alloc, &[510], &mut field_paths)?;
+    push_field_path(alloc, &[511], &mut field_paths)?;
+    Ok(field_paths)
 }
 
 /// The guide of a summary's type, for what it says.
 fn summary_guide<'s>(alloc: Global, schema: &'s Schema) -> Result<Guide<'s>, AllocError>
     ensures { IfOk result (IsGuideFor summary_ids (tree schema.now)) }
 {
-    let ways = ways(alloc)?;
-    Guide::new(alloc, schema, &ways)
+    let field_paths = field_paths(alloc)?;
+    Guide::new(alloc, schema, &field_paths)
 }
 
 /// A truth value at a field of an item; none where it is absent or null.
 fn truth_in(guide: &Guide, bytes: &[u8], id: i32) -> Option<bool>
-    ensures { (ways : List (List ℤ)) (t : Tree) (v : Value) → IsGuideOf ways t guide.now → AreAsked ways (id ∷ [])
+    ensures { (field_paths : List (List ℤ)) (t : Tree) (v : Value) → IsGuideOf field_paths t guide.now → AreAsked field_paths (id ∷ [])
         → StandsAt t bytes.now v → result ≡ truth_if_there id (t, v) }
 {
     truth(guide.found(&[id], bytes))
@@ -58,7 +58,7 @@ fn truth_in(guide: &Guide, bytes: &[u8], id: i32) -> Option<bool>
 
 /// A truth value at a field of an item.
 fn truth_asked(guide: &Guide, bytes: &[u8], id: i32) -> Result<bool, FieldFault>
-    ensures { (ways : List (List ℤ)) (t : Tree) (v : Value) → IsGuideOf ways t guide.now → AreAsked ways (id ∷ [])
+    ensures { (field_paths : List (List ℤ)) (t : Tree) (v : Value) → IsGuideOf field_paths t guide.now → AreAsked field_paths (id ∷ [])
         → StandsAt t bytes.now v → result ≡ truth_must_be id (t, v) }
 {
     match truth_in(guide, bytes, id) {
@@ -69,7 +69,7 @@ fn truth_asked(guide: &Guide, bytes: &[u8], id: i32) -> Result<bool, FieldFault>
 
 /// The bytes at a field of an item; none where they are absent or null.
 fn binary_in<'a>(guide: &Guide, bytes: &'a [u8], id: i32) -> Option<&'a [u8]>
-    ensures { (ways : List (List ℤ)) (t : Tree) (v : Value) → IsGuideOf ways t guide.now → AreAsked ways (id ∷ [])
+    ensures { (field_paths : List (List ℤ)) (t : Tree) (v : Value) → IsGuideOf field_paths t guide.now → AreAsked field_paths (id ∷ [])
         → StandsAt t bytes.now v → option_copied result ≡ binary_if_there id (t, v) }
 {
     binary(guide.found(&[id], bytes))

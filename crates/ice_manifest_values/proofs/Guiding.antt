@@ -9,21 +9,21 @@ use Rattle.avro_file.specs.Files.{Shows}
 use Rattle.avro_file.specs.Picking.{Typed, Picked, absent, null_met, present, pick}
 use Rattle.avro_file_picked.specs.declared.guide.Guide.{Guide}
 use Rattle.avro_file_picked.specs.declared.guide.GuidedObject.{GuidedObject}
-use Rattle.avro_file_picked.specs.Finding.{layout_tree, ways_of, items_type}
+use Rattle.avro_file_picked.specs.Finding.{layout_tree, field_paths_of, items_type}
 use Rattle.avro_file_picked.specs.Guides.{AreAsked, IsGuideOf, IsGuideFor, IsGuided, GuidesItems, MayGuide}
 use Rattle.ice_manifest_fields.specs.Fields.{there, at}
 use Rattle.ice_manifest_values.specs.InPlace.{type_listed}
 
-pub guide_for : {E : Type 0} (ways : List (List ℤ)) (ids : List ℤ) (t : Tree) (r : Result Guide E)
-    → IfOk r (IsGuideOf ways t) → AreAsked ways ids → IfOk r (IsGuideFor ids t)
-guide_for ways ids t (Ok g) is asked = (ways, is, asked)
-guide_for ways ids t (Err e) is asked = tt
+pub guide_for : {E : Type 0} (field_paths : List (List ℤ)) (ids : List ℤ) (t : Tree) (r : Result Guide E)
+    → IfOk r (IsGuideOf field_paths t) → AreAsked field_paths ids → IfOk r (IsGuideFor ids t)
+guide_for field_paths ids t (Ok g) is asked = (field_paths, is, asked)
+guide_for field_paths ids t (Err e) is asked = tt
 
--- a guide of the items that were met finds what its ways ask for
-pub items_guide_for : (ways : List (List ℤ)) (ids : List ℤ) (r : Option (Bor Guide)) (met : Picked)
-    → GuidesItems ways r met → AreAsked ways ids → MayGuide ids r met
-items_guide_for ways ids (Some g) met is asked = (is.0, is.1, (ways, is.2, asked))
-items_guide_for ways ids None met is asked = tt
+-- a guide of the items that were met finds what its field paths ask for
+pub items_guide_for : (field_paths : List (List ℤ)) (ids : List ℤ) (r : Option (Bor Guide)) (met : Picked)
+    → GuidesItems field_paths r met → AreAsked field_paths ids → MayGuide ids r met
+items_guide_for field_paths ids (Some g) met is asked = (is.0, is.1, (field_paths, is.2, asked))
+items_guide_for field_paths ids None met is asked = tt
 
 type_there : (met : Picked) → items_type met ≡ type_listed (there met)
 type_there absent = refl

@@ -11,23 +11,25 @@ use Rattle.avro_file.specs.Value.{items, entries, chosen}
 use Rattle.avro_file.specs.Picking.{Typed, Picked, present, bare, field_with, unless_null, unless_absent, pick}
 use Rattle.avro_file_picked.specs.Guides.{AreAsked}
 use Rattle.avro_file_picked.proofs.Values.{is_something}
-use Rattle.avro_file_picked.proofs.Ways.{something_met}
+use Rattle.avro_file_picked.proofs.FieldPaths.{something_met}
 use Rattle.avro_file_picked.proofs.Guided.{nth_asked}
 use Rattle.ice_value.specs.Columns.{ColumnCount, ColumnBound}
 use Rattle.ice_manifest_fields.specs.declared.fault.FieldFault.{FieldFault}
 use Rattle.ice_manifest_fields.specs.declared.columns.ColumnMap.{ColumnMap}
 use Rattle.ice_manifest_fields.specs.Fields.{at, there, record_of, asked, whole_of, binary_of, within_32, int_at}
 use Rattle.ice_manifest_fields.specs.Maps.{count_in, count_of, bound_in, bound_of}
-use Rattle.ice_manifest_values.specs.Met.{pair_ids, pair_ways}
+use Rattle.ice_manifest_values.specs.Met.{pair_ids, pair_field_paths}
 
-pub key_asked : (ways : List (List ℤ)) (m : ColumnMap) → AreAsked ways (pair_ids m) → AreAsked ways (m.key ∷ [])
-key_asked ways m asked = (asked.0, tt)
+pub key_asked : (field_paths : List (List ℤ)) (m : ColumnMap) → AreAsked field_paths (pair_ids m)
+    → AreAsked field_paths (m.key ∷ [])
+key_asked field_paths m asked = (asked.0, tt)
 
-pub said_asked : (ways : List (List ℤ)) (m : ColumnMap) → AreAsked ways (pair_ids m) → AreAsked ways (m.said ∷ [])
-said_asked ways m asked = asked.1
+pub said_asked : (field_paths : List (List ℤ)) (m : ColumnMap) → AreAsked field_paths (pair_ids m)
+    → AreAsked field_paths (m.said ∷ [])
+said_asked field_paths m asked = asked.1
 
-pub pair_asked : (m : ColumnMap) → AreAsked (pair_ways m) (pair_ids m)
-pair_asked m = ((nth_asked (pair_ways m) 0 (omega arith)).0, nth_asked (pair_ways m) 1 (omega arith))
+pub pair_asked : (m : ColumnMap) → AreAsked (pair_field_paths m) (pair_ids m)
+pair_asked m = ((nth_asked (pair_field_paths m) 0 (omega arith)).0, nth_asked (pair_field_paths m) 1 (omega arith))
 
 -- ---- a record, or none
 

@@ -13,9 +13,9 @@ use Rattle.avro_file.specs.Picking.{pick}
 use Rattle.avro_file.proofs.Views.{branch_trees, branch_there}
 use Rattle.avro_file_picked.specs.Finding.{branches_in, has_null_only, is_structure, within}
 use Rattle.avro_file_picked.proofs.Values.{structure_taken, chosen_taken, stands, stood}
-use Rattle.avro_file_picked.proofs.Ways.{null_at_end, present_at_end, pick_chosen, branch_chosen}
-use Rattle.avro_file_picked.proofs.Ways.{chosen_read, union_of_branches}
-use Rattle.avro_file_picked.proofs.Ways.{number_fails, negative_fails, past_fails}
+use Rattle.avro_file_picked.proofs.FieldPaths.{null_at_end, present_at_end, pick_chosen, branch_chosen}
+use Rattle.avro_file_picked.proofs.FieldPaths.{chosen_read, union_of_branches}
+use Rattle.avro_file_picked.proofs.FieldPaths.{number_fails, negative_fails, past_fails}
 use Rattle.avro_file_parts.specs.declared.refusal.Refusal.{Refusal}
 use Rattle.ice_manifest_fields.specs.Fields.{there, record_of}
 use Rattle.ice_manifest_values.proofs.Shown.{none_there}

@@ -1,4 +1,4 @@
--- What was met where a way of field ids leads, as the field that it is: what a manifest list's row or a manifest's
+-- What was met where a field path leads, as the field that it is: what a manifest list's row or a manifest's
 -- entry must have there, or may. Apache Iceberg table spec v2, 'Manifests' and 'Column Projection'.
 use Rattle.std.specs.Prelude.{◌≡◌, ◌≢◌, ℕ, ℤ, pos, List, [], ◌∷◌, Option, Some, None, Result, Ok, Err}
 use Rattle.contract_words.specs.Outcome.{◌>>=◌}
@@ -55,9 +55,9 @@ ints_met item met = each (int_item item) (items_of (there met))
 
 -- ---- columns
 
--- the ways to the key of a pair and to what it says
-abbrev pub pair_ways : ColumnMap → List (List ℤ)
-pair_ways m = (m.key ∷ []) ∷ (m.said ∷ []) ∷ []
+-- the field paths to the key of a pair and to what it says
+abbrev pub pair_field_paths : ColumnMap → List (List ℤ)
+pair_field_paths m = (m.key ∷ []) ∷ (m.said ∷ []) ∷ []
 
 -- the counts of a map; none where there is no map
 abbrev pub counts_in : ColumnMap → Option Typed → Result (List ColumnCount) FieldFault
@@ -72,8 +72,10 @@ pair_ids m = m.key ∷ m.said ∷ []
 
 -- the guide, if there is one, leads from an entry to what was met at the map, and keeps the fields of its pairs
 abbrev pub LeadsToMap : ColumnMap → Option GuidedObject → Picked → Type 0
-LeadsToMap m (Some guided) met = (ways : List (List ℤ)) × (t : Tree) × (v : Value) × IsGuided ways t v guided
-    × (pick (pos 2 ∷ m.id ∷ []) (t, v) ≡ met) × AreAsked ways (pos 2 ∷ m.id ∷ []) × AreAsked ways (pair_ids m)
+LeadsToMap m (Some guided) met = (field_paths : List (List ℤ)) × (t : Tree) × (v : Value)
+    × IsGuided field_paths t v guided
+    × (pick (pos 2 ∷ m.id ∷ []) (t, v) ≡ met) × AreAsked field_paths (pos 2 ∷ m.id ∷ [])
+        × AreAsked field_paths (pair_ids m)
 LeadsToMap m None met = Unit {0}
 
 -- what stands at the four maps of a data file's columns

@@ -18,5 +18,5 @@ pub use items::{ItemsAhead, items_of};
 pub use leaf::{binary, text, truth, whole, whole_there};
 pub use list::ints;
 pub use maps::{FoundMaps, ReadMaps};
-pub use pairs::push_way;
+pub use pairs::push_field_path;
 pub use standing::Standing;

@@ -16,7 +16,7 @@ ghost use Rattle.ice_manifest_fields.specs.Maps.{count_of as count_of_item, boun
 ghost use Rattle.ice_manifest_fields.specs.Naming.{in_manifest, told};
 ghost use Rattle.ice_manifest_fields.specs.Seen.{result_map};
 ghost use Rattle.ice_manifest_values.specs.InPlace.{Stands, AreAhead};
-ghost use Rattle.ice_manifest_values.specs.Met.{pair_ids, pair_ways, counts_in, bounds_in, LeadsToMap};
+ghost use Rattle.ice_manifest_values.specs.Met.{pair_ids, pair_field_paths, counts_in, bounds_in, LeadsToMap};
 
 use crate::field::{int_asked, long_asked};
 use crate::items::{ItemsAhead, items_of};
@@ -30,22 +30,26 @@ use std::alloc::{AllocError, Global};
 /// The field id of an entry's file.
 const DATA_FILE: i32 = 2;
 
-/// Puts the way of these ids behind the ways.
-pub fn push_way(alloc: Global, ids: &[i32], ways: &mut Vec<Vec<i32>>) -> Result<(), AllocError>
-    ensures { IfOk result (λ _. ids_in ways.new.items ≡ ids_in ways.old.items ++ ids.now ∷ []) }
+/// Puts the field path behind the field paths.
+pub fn push_field_path(
+    alloc: Global,
+    ids: &[i32],
+    field_paths: &mut Vec<Vec<i32>>,
+) -> Result<(), AllocError>
+    ensures { IfOk result (λ _. ids_in field_paths.new.items ≡ ids_in field_paths.old.items ++ ids.now ∷ []) }
 {
-    ways.push(Vec::from_slice(alloc, ids)?)?;
+    field_paths.push(Vec::from_slice(alloc, ids)?)?;
     Ok(())
 }
 
-/// The ways to the key of a pair and to what it says.
-fn ways_of(alloc: Global, map: ColumnMap) -> Result<Vec<Vec<i32>>, AllocError>
-    ensures { IfOk result (λ ways. ids_in ways.items ≡ pair_ways map) }
+/// The field paths to the key of a pair and to what it says.
+fn field_paths_of(alloc: Global, map: ColumnMap) -> Result<Vec<Vec<i32>>, AllocError>
+    ensures { IfOk result (λ field_paths. ids_in field_paths.items ≡ pair_field_paths map) }
 {
-    let mut ways = Vec::new(alloc);
-    push_way(alloc, &[map.key], &mut ways)?;
-    push_way(alloc, &[map.said], &mut ways)?;
-    Ok(ways)
+    let mut field_paths = Vec::new(alloc);
+    push_field_path(alloc, &[map.key], &mut field_paths)?;
+    push_field_path(alloc, &[map.said], &mut field_paths)?;
+    Ok(field_paths)
 }
 
 /// The guide of a pair's type, for its key and for what it says.
@@ -56,8 +60,8 @@ fn pair_guide<'s>(
 ) -> Result<Guide<'s>, AllocError>
     ensures { IfOk result (IsGuideFor (pair_ids map) (tree schema.now)) }
 {
-    let ways = ways_of(alloc, map)?;
-    Guide::new(alloc, schema, &ways)
+    let field_paths = field_paths_of(alloc, map)?;
+    Guide::new(alloc, schema, &field_paths)
 }
 
 /// The guide of the pairs of a map, taken from that of the entry in which the map stands.
@@ -75,7 +79,7 @@ fn guide_of_pairs<'e, 's>(
 
 /// A whole number of 64 bits at a field of an item.
 fn long_in(guide: &Guide, bytes: &[u8], id: i32) -> Result<i64, FieldFault>
-    ensures { (ways : List (List ℤ)) (t : Tree) (v : Value) → IsGuideOf ways t guide.now → AreAsked ways (id ∷ [])
+    ensures { (field_paths : List (List ℤ)) (t : Tree) (v : Value) → IsGuideOf field_paths t guide.now → AreAsked field_paths (id ∷ [])
         → StandsAt t bytes.now v → result ≡ long_at id (t, v) }
 {
     long_asked(guide.found(&[id], bytes), id)
@@ -83,7 +87,7 @@ fn long_in(guide: &Guide, bytes: &[u8], id: i32) -> Result<i64, FieldFault>
 
 /// A whole number of 32 bits at a field of an item.
 fn int_in(guide: &Guide, bytes: &[u8], id: i32) -> Result<i32, FieldFault>
-    ensures { (ways : List (List ℤ)) (t : Tree) (v : Value) → IsGuideOf ways t guide.now → AreAsked ways (id ∷ [])
+    ensures { (field_paths : List (List ℤ)) (t : Tree) (v : Value) → IsGuideOf field_paths t guide.now → AreAsked field_paths (id ∷ [])
         → StandsAt t bytes.now v → result ≡ int_at id (t, v) }
 {
     int_asked(guide.found(&[id], bytes), id)

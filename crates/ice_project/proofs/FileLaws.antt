@@ -12,12 +12,12 @@ use Rattle.ice_value.specs.declared.file_bounds.FileBounds.{FileBounds}
 use Rattle.ice_filter.specs.declared.bound.Test.{Test}
 use Rattle.ice_filter.specs.declared.bound.Test.TheVariants.{Less, AtMost, More, AtLeast, Among, NotAmong, IsNull}
 use Rattle.ice_filter.specs.declared.bound.Test.TheVariants.{IsPresent, StartsWith}
-use Rattle.ice_filter.specs.declared.bound.BoundLeaf.{BoundLeaf}
+use Rattle.ice_filter.specs.declared.bound.BoundPredicate.{BoundPredicate}
 use Rattle.ice_filter.specs.declared.parts.Part.{Part}
-use Rattle.ice_filter.specs.Rows.{Row, is_null, begins, holds, leaf_holds, row_meets}
-use Rattle.ice_filter.specs.Trees.{Tree, truth, leaf, both, either, meaning, tree_of}
+use Rattle.ice_filter.specs.Rows.{Row, is_null, begins, holds, predicate_holds, row_meets}
+use Rattle.ice_filter.specs.Trees.{Tree, truth, predicate, both, either, meaning, tree_of}
 use Rattle.ice_project.specs.Files.{is_unlike_test, same_count, is_all_null, is_zero, lower_limit, upper_limit}
-use Rattle.ice_project.specs.Files.{file_allows, file_may, null_count, IsColumn, HasLeaf, AreCounted}
+use Rattle.ice_project.specs.Files.{file_allows, file_may, null_count, IsColumn, HasPredicate, AreCounted}
 use Rattle.ice_project.specs.Honesty.{NoneMeets}
 use Rattle.ice_project.specs.Limits.{in_bounds, LiesIn}
 use Rattle.ice_project.specs.Tuples.{may, is_null_test}
@@ -87,7 +87,7 @@ zero_null (Some y) b g less h =
     let numbers = same_number b 0 (sym (g y refl) ∙ same) in
     absurd (omega arith)
 
--- ---- a leaf
+-- ---- a predicate
 begun : (c : Cell) (s : List ℕ) → begins c s ≡ true → is_null c ≡ false
 begun (Text text) s h = refl
 begun Null s h = absurd cc
@@ -110,10 +110,10 @@ held_present IsNull c e h = absurd cc
 held_present IsPresent c e h = present c h
 held_present (StartsWith s) c e h = begun c s h
 
-file_leaf : (ordered : Ordered) (file : FileBounds) (l : BoundLeaf) (cells : List Cell) (c : Cell)
+file_predicate : (ordered : Ordered) (file : FileBounds) (l : BoundPredicate) (cells : List Cell) (c : Cell)
     → IsColumn file l.column_type l.column cells → IsIn c cells →
     holds l.test c ≡ true → file_allows file l ≡ true
-file_leaf ordered file l cells c column i h = unlike (is_unlike_test l.test) where
+file_predicate ordered file l cells c column i h = unlike (is_unlike_test l.test) where
   low : Option Cell
   low = lower_limit file l.column_type l.column
 
@@ -141,10 +141,11 @@ file_leaf ordered file l cells c column i h = unlike (is_unlike_test l.test) whe
   unlike false = null (is_null_test l.test) refl
 
 -- ---- a filter
-mono_at : (met may : BoundLeaf → Bool) (t : Tree BoundLeaf)
-    → ((l : BoundLeaf) → HasLeaf l t → met l ≡ true → may l ≡ true) → meaning met t ≡ true → meaning may t ≡ true
+mono_at : (met may : BoundPredicate → Bool) (t : Tree BoundPredicate)
+    → ((l : BoundPredicate) → HasPredicate l t → met l ≡ true → may l ≡ true) → meaning met t ≡ true
+    → meaning may t ≡ true
 mono_at met may (truth b) each h = h
-mono_at met may (leaf l) each h = each l refl h
+mono_at met may (predicate l) each h = each l refl h
 mono_at met may (both s t) each h =
     and_mono (meaning met s) (meaning met t) _ _ (mono_at met may s (λ l i. each l (inl i)))
     (mono_at met may t (λ l i. each l (inr i))) h
@@ -161,15 +162,15 @@ in_column k [] row i = absurd i
 in_column k (x ∷ xs) row (inl e) = inl (ap (λ (r : Row). r k) e)
 in_column k (x ∷ xs) row (inr i) = inr (in_column k xs row i)
 
-none_meets : (filter : List (Part BoundLeaf)) (rows : List Row)
+none_meets : (filter : List (Part BoundPredicate)) (rows : List Row)
     → ((row : Row) → IsRowIn row rows → row_meets filter row ≡ false) → NoneMeets filter rows
 none_meets filter [] f = refl
 none_meets filter (x ∷ xs) f = let e = f x (inl refl) in rw e (none_meets filter xs (λ row i. f row (inr i)))
 
-pub file_sound : (ordered : Ordered) (filter : List (Part BoundLeaf)) (file : FileBounds) (rows : List Row)
+pub file_sound : (ordered : Ordered) (filter : List (Part BoundPredicate)) (file : FileBounds) (rows : List Row)
     → file_may filter file ≡ false → AreCounted file filter rows → NoneMeets filter rows
 file_sound ordered filter file rows refusal counted =
     none_meets filter rows (λ row i. refuted (row_meets filter row) (file_may filter file)
-    (mono_at (leaf_holds row) (file_allows file) (tree_of filter)
-    (λ l has met. file_leaf ordered file l (map (λ (r : Row). r l.column) rows) (row l.column) (counted l has)
+    (mono_at (predicate_holds row) (file_allows file) (tree_of filter)
+    (λ l has met. file_predicate ordered file l (map (λ (r : Row). r l.column) rows) (row l.column) (counted l has)
     (in_column l.column rows row i) met)) refusal)

@@ -21,17 +21,17 @@ use Rattle.ice_transform.specs.declared.transform.Transform.TheVariants.{Identit
 use Rattle.ice_transform.specs.declared.transform.Transform.TheVariants.{Hour, Void, Unknown}
 use Rattle.ice_filter.specs.declared.bound.Test.{Test}
 use Rattle.ice_filter.specs.declared.bound.Test.TheVariants.{Among, StartsWith}
-use Rattle.ice_filter.specs.declared.bound.BoundLeaf.{BoundLeaf}
+use Rattle.ice_filter.specs.declared.bound.BoundPredicate.{BoundPredicate}
 use Rattle.ice_filter.specs.declared.parts.Part.{Part}
-use Rattle.ice_filter.specs.Rows.{Row, is_null, begins, holds, leaf_holds, row_meets}
-use Rattle.ice_filter.specs.Trees.{Tree, truth, leaf, both, either, meaning, tree_of, map_leaves}
+use Rattle.ice_filter.specs.Rows.{Row, is_null, begins, holds, predicate_holds, row_meets}
+use Rattle.ice_filter.specs.Trees.{Tree, truth, predicate, both, either, meaning, tree_of, map_predicates}
 use Rattle.ice_meta.specs.declared.spec.Spec.{Spec}
 use Rattle.ice_project.specs.declared.field.Field.{Field}
 use Rattle.ice_project.specs.declared.part_filter.FieldTest.{FieldTest}
 use Rattle.ice_project.specs.Tuples.{may, field_test_met, tests_met, part_meets}
 use Rattle.ice_project.specs.Fields.{fields_of}
-use Rattle.ice_project.specs.Projection.{cut_start, projected_test, test_at, typed_test, field_test, leaf_test}
-use Rattle.ice_project.specs.Projection.{with_test, leaf_tests, projection}
+use Rattle.ice_project.specs.Projection.{cut_start, projected_test, test_at, typed_test, field_test, predicate_test}
+use Rattle.ice_project.specs.Projection.{with_test, predicate_tests, projection}
 use Rattle.ice_project.specs.Honesty.{IsPartitionValue, IsTupleOf, IsSound}
 use Rattle.ice_project.proofs.Orders.{Ordered}
 use Rattle.ice_project.proofs.Lines.{may_if, Even, Rising, same_sound, scattered_sound, stepped_sound, cut_sound}
@@ -53,8 +53,9 @@ pub record Facts : Type 0 where
   pub short : (width : ℕ) (text s : List ℕ) → starts_with nat_eq text s ≡ true → has_points width s ≡ false
       → starts_with nat_eq (first_points width text) s ≡ true
   pub valued : (f : Transform) (t : ColumnType) (c p : Cell) → IsValueOf f t c p → value_of f t c ≡ Some p
-  pub mapped : (f : BoundLeaf → List FieldTest) (met : List FieldTest → Bool) (parts : List (Part BoundLeaf)) →
-      meaning met (tree_of (map_leaves f parts)) ≡ meaning (λ l. met (f l)) (tree_of parts)
+  pub mapped : (f : BoundPredicate → List FieldTest) (met : List FieldTest → Bool)
+      (parts : List (Part BoundPredicate)) →
+      meaning met (tree_of (map_predicates f parts)) ≡ meaning (λ l. met (f l)) (tree_of parts)
 
 even : (facts : Facts) (f : Transform) (t : ColumnType) → is_void f ≡ false → Even (value_of f t)
 even facts f t v = record { kept = facts.kept f t; alone = λ c. facts.alone f t c v; equal = facts.equal f t }
@@ -151,7 +152,7 @@ test_sound facts Void t test c p e h = refl
 test_sound facts (Unknown text) t test c p e h = refl
 
 -- ---- a field
--- the test that a leaf makes of a field is one at its position that the value meets
+-- the test that a predicate makes of a field is one at its position that the value meets
 abbrev IsMetAt : ℕ → Cell → FieldTest → Type 0
 IsMetAt at p x = (x.position ≡ at) × (may x.test p ≡ true)
 
@@ -179,8 +180,8 @@ field_sound facts at field test p row x honest h e = go field.source_type refl e
   go (Some t) eo k = typed_sound facts at field.transform t test (row field.source_id) p x (λ r er. honest t r eo er) h
       k
 
-one_sound : (facts : Facts) (at : ℕ) (field : Field) (l : BoundLeaf) (p : Cell) (row : Row) (x : FieldTest) →
-    IsPartitionValue field p row → leaf_holds row l ≡ true → leaf_test at field l ≡ Some x → IsMetAt at p x
+one_sound : (facts : Facts) (at : ℕ) (field : Field) (l : BoundPredicate) (p : Cell) (row : Row) (x : FieldTest) →
+    IsPartitionValue field p row → predicate_holds row l ≡ true → predicate_test at field l ≡ Some x → IsMetAt at p x
 one_sound facts at field l p row x honest h e = go (int_eq field.source_id l.column) refl e where
   go : (b : Bool) → int_eq field.source_id l.column ≡ b → cond b (field_test at field l.test) None ≡ Some x
       → IsMetAt at p x
@@ -190,7 +191,7 @@ one_sound facts at field l p row x honest h e = go (int_eq field.source_id l.col
       field_sound facts at field l.test p row x honest held k
   go false eb k = absurd cc
 
--- the position of a leaf's test of a field
+-- the position of a predicate's test of a field
 typed_position : (at : ℕ) (f : Transform) (t : ColumnType) (test : Test) (x : FieldTest)
     → typed_test at f t test ≡ Some x → x.position ≡ at
 typed_position at f t test x e = go (type_of f t) (projected_test f t test) e where
@@ -200,16 +201,17 @@ typed_position at f t test x e = go (type_of f t) (projected_test f t test) e wh
   go (Some r) None k = absurd cc
   go (Some r) (Some q) k = let same : test_at at r q ≡ x = cc in rw (← same) refl
 
-pub leaf_position : (at : ℕ) (field : Field) (l : BoundLeaf) (x : FieldTest) → leaf_test at field l ≡ Some x
+pub predicate_position : (at : ℕ) (field : Field) (l : BoundPredicate) (x : FieldTest)
+    → predicate_test at field l ≡ Some x
     → x.position ≡ at
-leaf_position at field l x e = go (int_eq field.source_id l.column) field.source_type e where
+predicate_position at field l x e = go (int_eq field.source_id l.column) field.source_type e where
   go : (b : Bool) (o : Option ColumnType) → cond b (option_and_then (λ t. typed_test at field.transform t l.test) o)
       None ≡ Some x → x.position ≡ at
   go true None k = absurd cc
   go true (Some t) k = typed_position at field.transform t l.test x k
   go false o k = absurd cc
 
--- ---- a leaf
+-- ---- a predicate
 pub and_both : (a b : Bool) → a ≡ true → b ≡ true → (a && b) ≡ true
 and_both a b e f = rw (e, f) refl
 
@@ -220,29 +222,30 @@ with_met tuple None tests one rest = rest
 with_met tuple (Some x) tests one rest = and_both _ _ (one x refl) rest
 
 -- behind the tuple's end every test is met
-none_there : (fields : List Field) (at : ℕ) (tuple : List Cell) (l : BoundLeaf)
-    → ((k : ℕ) → slice_get tuple (at + k) ≡ None) → tests_met tuple (leaf_tests at fields l) ≡ true
+none_there : (fields : List Field) (at : ℕ) (tuple : List Cell) (l : BoundPredicate)
+    → ((k : ℕ) → slice_get tuple (at + k) ≡ None) → tests_met tuple (predicate_tests at fields l) ≡ true
 none_there [] at tuple l none = refl
 none_there (f ∷ fs) at tuple l none =
-    with_met tuple (leaf_test at f l) (leaf_tests (at + 1) fs l) missing (none_there fs (at + 1) tuple l
+    with_met tuple (predicate_test at f l) (predicate_tests (at + 1) fs l) missing (none_there fs (at + 1) tuple l
     (λ k. let o : at + 1 + k ≡ at + suc k = omega arith in rw o (none (suc k)))) where
-      missing : (x : FieldTest) → leaf_test at f l ≡ Some x → field_test_met tuple x ≡ true
+      missing : (x : FieldTest) → predicate_test at f l ≡ Some x → field_test_met tuple x ≡ true
       missing x e =
-          let place : x.position ≡ at + 0 = leaf_position at f l x e ∙ omega arith in
+          let place : x.position ≡ at + 0 = predicate_position at f l x e ∙ omega arith in
           let there : slice_get tuple x.position ≡ None = ap (λ i. slice_get tuple i) place ∙ none 0 in
           rw there refl
 
-pub leaf_sound : (facts : Facts) (fields : List Field) (ps : List Cell) (at : ℕ) (tuple : List Cell) (l : BoundLeaf)
+pub predicate_sound : (facts : Facts) (fields : List Field) (ps : List Cell) (at : ℕ) (tuple : List Cell)
+    (l : BoundPredicate)
     (row : Row) →
-    ((k : ℕ) → slice_get tuple (at + k) ≡ slice_get ps k) → IsTupleOf fields ps row → leaf_holds row l ≡ true
-    → tests_met tuple (leaf_tests at fields l) ≡ true
-leaf_sound facts [] ps at tuple l row look honest h = refl
-leaf_sound facts (f ∷ fs) [] at tuple l row look honest h = none_there (f ∷ fs) at tuple l look
-leaf_sound facts (f ∷ fs) (p ∷ ps) at tuple l row look honest h =
-    with_met tuple (leaf_test at f l) (leaf_tests (at + 1) fs l) met
-    (leaf_sound facts fs ps (at + 1) tuple l row (λ k. let o : at + 1 + k ≡ at + suc k = omega arith in
+    ((k : ℕ) → slice_get tuple (at + k) ≡ slice_get ps k) → IsTupleOf fields ps row → predicate_holds row l ≡ true
+    → tests_met tuple (predicate_tests at fields l) ≡ true
+predicate_sound facts [] ps at tuple l row look honest h = refl
+predicate_sound facts (f ∷ fs) [] at tuple l row look honest h = none_there (f ∷ fs) at tuple l look
+predicate_sound facts (f ∷ fs) (p ∷ ps) at tuple l row look honest h =
+    with_met tuple (predicate_test at f l) (predicate_tests (at + 1) fs l) met
+    (predicate_sound facts fs ps (at + 1) tuple l row (λ k. let o : at + 1 + k ≡ at + suc k = omega arith in
     rw o (look (suc k))) honest.1 h) where
-      met : (x : FieldTest) → leaf_test at f l ≡ Some x → field_test_met tuple x ≡ true
+      met : (x : FieldTest) → predicate_test at f l ≡ Some x → field_test_met tuple x ≡ true
       met x e =
           let is = one_sound facts at f l p row x honest.0 h e in
           let place : x.position ≡ at + 0 = is.0 ∙ omega arith in
@@ -263,26 +266,27 @@ or_mono false b false d f g h = g h
 pub meaning_mono : {L : Type 0} (met may : L → Bool) (each : (l : L) → met l ≡ true → may l ≡ true) (t : Tree L)
     → meaning met t ≡ true → meaning may t ≡ true
 meaning_mono met may each (truth b) h = h
-meaning_mono met may each (leaf l) h = each l h
+meaning_mono met may each (predicate l) h = each l h
 meaning_mono met may each (both s t) h = and_mono (meaning met s) (meaning met t) _ _ (meaning_mono met may each s)
     (meaning_mono met may each t) h
 meaning_mono met may each (either s t) h = or_mono (meaning met s) (meaning met t) _ _ (meaning_mono met may each s)
     (meaning_mono met may each t) h
 
-row_sound : (facts : Facts) (filter : List (Part BoundLeaf)) (spec : Spec) (tuple : List Cell) (row : Row)
+row_sound : (facts : Facts) (filter : List (Part BoundPredicate)) (spec : Spec) (tuple : List Cell) (row : Row)
     → IsTupleOf (fields_of spec) tuple row → row_meets filter row ≡ true →
     part_meets (projection filter spec) tuple ≡ true
 row_sound facts filter spec tuple row honest h =
-    facts.mapped (leaf_tests 0 (fields_of spec)) (tests_met tuple) filter
-    ∙ meaning_mono (leaf_holds row) (λ l. tests_met tuple (leaf_tests 0 (fields_of spec) l))
-    (λ l met. leaf_sound facts (fields_of spec) tuple 0 tuple l row (λ k. let o : 0 + k ≡ k = omega arith in rw o refl)
+    facts.mapped (predicate_tests 0 (fields_of spec)) (tests_met tuple) filter
+    ∙ meaning_mono (predicate_holds row) (λ l. tests_met tuple (predicate_tests 0 (fields_of spec) l))
+    (λ l met. predicate_sound facts (fields_of spec) tuple 0 tuple l row
+        (λ k. let o : 0 + k ≡ k = omega arith in rw o refl)
     honest met) (tree_of filter) h
 
 pub refuted : (a b : Bool) → (a ≡ true → b ≡ true) → b ≡ false → a ≡ false
 refuted true b f e = let k = f refl in absurd cc
 refuted false b f e = refl
 
-pub sound : (facts : Facts) (filter : List (Part BoundLeaf)) (spec : Spec) (tuple : List Cell)
+pub sound : (facts : Facts) (filter : List (Part BoundPredicate)) (spec : Spec) (tuple : List Cell)
     → IsSound filter spec tuple
 sound facts filter spec tuple [] refusal honest = refl
 sound facts filter spec tuple (row ∷ rows) refusal honest =

@@ -14,21 +14,22 @@ use Rattle.ice_transform.specs.declared.transform.Transform.{Transform}
 use Rattle.ice_meta.specs.declared.spec.Spec.{Spec}
 use Rattle.ice_filter.specs.declared.bound.Test.{Test}
 use Rattle.ice_filter.specs.declared.bound.Test.TheVariants.{IsNull}
-use Rattle.ice_filter.specs.declared.bound.BoundLeaf.{BoundLeaf}
+use Rattle.ice_filter.specs.declared.bound.BoundPredicate.{BoundPredicate}
 use Rattle.ice_filter.specs.declared.parts.Part.{Part}
 use Rattle.ice_filter.specs.Rows.{is_null}
-use Rattle.ice_filter.specs.Trees.{meaning, tree_of, map_leaves}
+use Rattle.ice_filter.specs.Trees.{meaning, tree_of, map_predicates}
 use Rattle.ice_project.specs.declared.field.Field.{Field}
 use Rattle.ice_project.specs.declared.part_filter.FieldTest.{FieldTest}
 use Rattle.ice_project.specs.Fields.{field_of, fields_of}
 use Rattle.ice_project.specs.Limits.{limit, in_bounds}
-use Rattle.ice_project.specs.Projection.{projected_test, test_at, typed_test, leaf_test, with_test, leaf_tests}
+use Rattle.ice_project.specs.Projection.{projected_test, test_at, typed_test, predicate_test, with_test,
+    predicate_tests}
 use Rattle.ice_project.specs.Projection.{projection}
 use Rattle.ice_project.specs.Summaries.{summary_allows, field_test_allowed, tests_allowed, summaries_may}
 use Rattle.ice_project.specs.Summaries.{type_of_values, IsSummaryOf, AreSummariesOf, IsCovered}
 use Rattle.ice_project.specs.Tuples.{may, may_present, is_null_test, field_test_met, tests_met, part_meets}
 use Rattle.ice_project.proofs.Orders.{Ordered}
-use Rattle.ice_project.proofs.Sound.{and_both, leaf_position, meaning_mono}
+use Rattle.ice_project.proofs.Sound.{and_both, predicate_position, meaning_mono}
 use Rattle.ice_project.proofs.Within.{shown, allowed}
 
 -- a value that isn't null meets no test for null
@@ -36,7 +37,7 @@ no_null_test : (test : Test) (p : Cell) → is_null_test test ≡ true → may_p
 no_null_test IsNull p e h b = absurd cc
 no_null_test _ p e h b = absurd cc
 
--- the type by which a leaf's test of a field reads bounds
+-- the type by which a predicate's test of a field reads bounds
 typed_type : (at : ℕ) (f : Transform) (t : ColumnType) (test : Test) (x : FieldTest) → typed_test at f t test ≡ Some x
     → type_of f t ≡ Some x.value_type
 typed_type at f t test x e = go (type_of f t) refl (projected_test f t test) e where
@@ -46,9 +47,9 @@ typed_type at f t test x e = go (type_of f t) refl (projected_test f t test) e w
   go (Some r) eo None k = absurd cc
   go (Some r) eo (Some q) k = let same : test_at at r q ≡ x = cc in rw (← same) eo
 
-leaf_type : (at : ℕ) (field : Field) (l : BoundLeaf) (x : FieldTest) → leaf_test at field l ≡ Some x
+predicate_type : (at : ℕ) (field : Field) (l : BoundPredicate) (x : FieldTest) → predicate_test at field l ≡ Some x
     → type_of_values field ≡ Some x.value_type
-leaf_type at field l x e = go (int_eq field.source_id l.column) field.source_type e where
+predicate_type at field l x e = go (int_eq field.source_id l.column) field.source_type e where
   go : (b : Bool) (o : Option ColumnType) → cond b (option_and_then (λ t. typed_test at field.transform t l.test) o)
       None ≡ Some x →
       option_and_then (type_of field.transform) o ≡ Some x.value_type
@@ -56,8 +57,9 @@ leaf_type at field l x e = go (int_eq field.source_id l.column) field.source_typ
   go true (Some t) k = typed_type at field.transform t l.test x k
   go false o k = absurd cc
 
-summary_sound : (ordered : Ordered) (at : ℕ) (field : Field) (l : BoundLeaf) (x : FieldTest) (s : Summary) (p : Cell)
-    → leaf_test at field l ≡ Some x → IsSummaryOf field s p →
+summary_sound : (ordered : Ordered) (at : ℕ) (field : Field) (l : BoundPredicate) (x : FieldTest) (s : Summary)
+    (p : Cell)
+    → predicate_test at field l ≡ Some x → IsSummaryOf field s p →
     may x.test p ≡ true → summary_allows x s ≡ true
 summary_sound ordered at field l x s p e cover h = go (is_null p) refl where
   present : is_null p ≡ false → (b : Bool) → is_null_test x.test ≡ b
@@ -65,7 +67,7 @@ summary_sound ordered at field l x s p e cover h = go (is_null p) refl where
   present n true k = no_null_test x.test p k (shown x.test p n h) s.contains_null
   present n false k =
       allowed ordered x.test (limit x.value_type s.lower) (limit x.value_type s.upper) p (cover.present n x.value_type
-      (leaf_type at field l x e)) (shown x.test p n h)
+      (predicate_type at field l x e)) (shown x.test p n h)
 
   go : (b : Bool) → is_null p ≡ b → summary_allows x s ≡ true
   go true n = let k : is_null_test x.test ≡ true = rw n at h in rw k (cover.null n)
@@ -80,53 +82,56 @@ with_allowed tuple summaries (Some x) tests one rest h =
     let parts = and_parts (field_test_met tuple x) (tests_met tuple tests) h in
     and_both _ _ (one x refl parts.0) (rest parts.1)
 
-leaf_allowed : (ordered : Ordered) (fields : List Field) (ss : List Summary) (ps : List Cell) (at : ℕ)
-    (summaries : List Summary) (tuple : List Cell) (l : BoundLeaf) →
+predicate_allowed : (ordered : Ordered) (fields : List Field) (ss : List Summary) (ps : List Cell) (at : ℕ)
+    (summaries : List Summary) (tuple : List Cell) (l : BoundPredicate) →
     ((k : ℕ) → slice_get summaries (at + k) ≡ slice_get ss k) → ((k : ℕ) → slice_get tuple (at + k) ≡ slice_get ps k)
     → AreSummariesOf fields ss ps →
-    tests_met tuple (leaf_tests at fields l) ≡ true → tests_allowed summaries (leaf_tests at fields l) ≡ true
-leaf_allowed ordered [] ss ps at summaries tuple l look_s look_p cover h = refl
-leaf_allowed ordered (f ∷ fs) [] ps at summaries tuple l look_s look_p cover h = absurd cover
-leaf_allowed ordered (f ∷ fs) (s ∷ ss) [] at summaries tuple l look_s look_p cover h = absurd cover
-leaf_allowed ordered (f ∷ fs) (s ∷ ss) (p ∷ ps) at summaries tuple l look_s look_p cover h =
-    with_allowed tuple summaries (leaf_test at f l) (leaf_tests (at + 1) fs l) one
-    (leaf_allowed ordered fs ss ps (at + 1) summaries tuple l (λ k. let o : at + 1 + k ≡ at + suc k = omega arith in
+    tests_met tuple (predicate_tests at fields l) ≡ true → tests_allowed summaries (predicate_tests at fields l) ≡ true
+predicate_allowed ordered [] ss ps at summaries tuple l look_s look_p cover h = refl
+predicate_allowed ordered (f ∷ fs) [] ps at summaries tuple l look_s look_p cover h = absurd cover
+predicate_allowed ordered (f ∷ fs) (s ∷ ss) [] at summaries tuple l look_s look_p cover h = absurd cover
+predicate_allowed ordered (f ∷ fs) (s ∷ ss) (p ∷ ps) at summaries tuple l look_s look_p cover h =
+    with_allowed tuple summaries (predicate_test at f l) (predicate_tests (at + 1) fs l) one
+    (predicate_allowed ordered fs ss ps (at + 1) summaries tuple l
+        (λ k. let o : at + 1 + k ≡ at + suc k = omega arith in
     rw o (look_s (suc k)))
     (λ k. let o : at + 1 + k ≡ at + suc k = omega arith in rw o (look_p (suc k))) cover.1) h where
-      one : (x : FieldTest) → leaf_test at f l ≡ Some x → field_test_met tuple x ≡ true
+      one : (x : FieldTest) → predicate_test at f l ≡ Some x → field_test_met tuple x ≡ true
           → field_test_allowed summaries x ≡ true
       one x e m =
-          let place : x.position ≡ at + 0 = leaf_position at f l x e ∙ omega arith in
+          let place : x.position ≡ at + 0 = predicate_position at f l x e ∙ omega arith in
           let value : slice_get tuple x.position ≡ Some p = ap (λ i. slice_get tuple i) place ∙ look_p 0 in
           let summary : slice_get summaries x.position ≡ Some s = ap (λ i. slice_get summaries i) place ∙ look_s 0 in
           let met : may x.test p ≡ true = rw value at m in
           rw summary (summary_sound ordered at f l x s p e cover.0 met)
 
 pub covered : (ordered : Ordered) →
-    ((f : BoundLeaf → List FieldTest) (met : List FieldTest → Bool) (parts : List (Part BoundLeaf))
-    → meaning met (tree_of (map_leaves f parts)) ≡ meaning (λ l. met (f l)) (tree_of parts)) →
-    (filter : List (Part BoundLeaf)) (spec : Spec) (summaries : List Summary) (tuple : List Cell)
+    ((f : BoundPredicate → List FieldTest) (met : List FieldTest → Bool) (parts : List (Part BoundPredicate))
+    → meaning met (tree_of (map_predicates f parts)) ≡ meaning (λ l. met (f l)) (tree_of parts)) →
+    (filter : List (Part BoundPredicate)) (spec : Spec) (summaries : List Summary) (tuple : List Cell)
     → IsCovered (fields_of spec) summaries tuple →
     part_meets (projection filter spec) tuple ≡ true → summaries_may (projection filter spec) summaries ≡ true
 covered ordered mapped filter spec summaries tuple cover h = go (length summaries == length spec.fields) refl where
   fields : List Field
   fields = fields_of spec
 
-  each : AreSummariesOf fields summaries tuple → (l : BoundLeaf) → tests_met tuple (leaf_tests 0 fields l) ≡ true
-      → tests_allowed summaries (leaf_tests 0 fields l) ≡ true
-  each are l m = leaf_allowed ordered fields summaries tuple 0 summaries tuple l (λ k. let o : 0 + k ≡ k =
+  each : AreSummariesOf fields summaries tuple → (l : BoundPredicate)
+      → tests_met tuple (predicate_tests 0 fields l) ≡ true
+      → tests_allowed summaries (predicate_tests 0 fields l) ≡ true
+  each are l m = predicate_allowed ordered fields summaries tuple 0 summaries tuple l (λ k. let o : 0 + k ≡ k =
       omega arith in rw o refl) (λ k. let o : 0 + k ≡ k = omega arith in rw o refl) are m
 
   all : AreSummariesOf fields summaries tuple
-      → meaning (tests_allowed summaries) (tree_of (map_leaves (leaf_tests 0 fields) filter)) ≡ true
+      → meaning (tests_allowed summaries) (tree_of (map_predicates (predicate_tests 0 fields) filter)) ≡ true
   all are =
-      mapped (leaf_tests 0 fields) (tests_allowed summaries) filter
-      ∙ meaning_mono (λ l. tests_met tuple (leaf_tests 0 fields l)) (λ l. tests_allowed summaries
-      (leaf_tests 0 fields l)) (each are) (tree_of filter)
-      (sym (mapped (leaf_tests 0 fields) (tests_met tuple) filter) ∙ h)
+      mapped (predicate_tests 0 fields) (tests_allowed summaries) filter
+      ∙ meaning_mono (λ l. tests_met tuple (predicate_tests 0 fields l)) (λ l. tests_allowed summaries
+      (predicate_tests 0 fields l)) (each are) (tree_of filter)
+      (sym (mapped (predicate_tests 0 fields) (tests_met tuple) filter) ∙ h)
 
   go : (b : Bool) → (length summaries == length spec.fields) ≡ b
-      → cond b (meaning (tests_allowed summaries) (tree_of (map_leaves (leaf_tests 0 fields) filter))) true ≡ true
+      → cond b (meaning (tests_allowed summaries) (tree_of (map_predicates (predicate_tests 0 fields) filter))) true ≡
+      true
   go true e = all (cover ((Decides-eqb (length summaries) (length spec.fields)).0 e ∙ sym
       (length-map spec.fields field_of)))
   go false e = refl

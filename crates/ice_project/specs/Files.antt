@@ -9,11 +9,11 @@ use Rattle.ice_value.specs.declared.column_type.ColumnType.{ColumnType}
 use Rattle.ice_value.specs.declared.cell.Cell.{Cell}
 use Rattle.ice_value.specs.declared.file_bounds.FileBounds.{FileBounds}
 use Rattle.ice_filter.specs.Rows.{Row, is_null}
-use Rattle.ice_filter.specs.Trees.{Tree, truth, leaf, both, either, tree_of, meaning}
+use Rattle.ice_filter.specs.Trees.{Tree, truth, predicate, both, either, tree_of, meaning}
 use Rattle.ice_filter.specs.declared.parts.Part.{Part}
 use Rattle.ice_filter.specs.declared.bound.Test.{Test}
 use Rattle.ice_filter.specs.declared.bound.Test.TheVariants.{NotAmong}
-use Rattle.ice_filter.specs.declared.bound.BoundLeaf.{BoundLeaf}
+use Rattle.ice_filter.specs.declared.bound.BoundPredicate.{BoundPredicate}
 use Rattle.ice_project.specs.Limits.{limit, in_bounds, LiesIn}
 use Rattle.ice_project.specs.Tuples.{is_null_test}
 
@@ -41,8 +41,8 @@ lower_limit file t column = limit t (bound_of column file.lower_bounds)
 abbrev pub upper_limit : FileBounds → ColumnType → ℤ → Option Cell
 upper_limit file t column = limit t (bound_of column file.upper_bounds)
 
--- the file may have a value that meets the leaf
-abbrev pub file_allows : FileBounds → BoundLeaf → Bool
+-- the file may have a value that meets the predicate
+abbrev pub file_allows : FileBounds → BoundPredicate → Bool
 file_allows file l =
     if is_unlike_test l.test then true
     else if is_null_test l.test then not (is_zero (count_of l.column file.null_counts))
@@ -50,7 +50,7 @@ file_allows file l =
     && in_bounds l.test (lower_limit file l.column_type l.column) (upper_limit file l.column_type l.column)
 
 -- the file may have a row that meets the filter
-abbrev pub file_may : List (Part BoundLeaf) → FileBounds → Bool
+abbrev pub file_may : List (Part BoundPredicate) → FileBounds → Bool
 file_may filter file = meaning (file_allows file) (tree_of filter)
 
 -- how many of the cells are null
@@ -65,15 +65,15 @@ pub record IsColumn (file : FileBounds) (t : ColumnType) (column : ℤ) (cells :
   pub bounded : AllByRecursion
       (λ (c : Cell). is_null c ≡ false → LiesIn (lower_limit file t column) (upper_limit file t column) c) cells
 
--- the filter has this leaf
-abbrev pub HasLeaf : BoundLeaf → Tree BoundLeaf → Type 0
-HasLeaf l (truth b) = ⊥
-HasLeaf l (leaf m) = l ≡ m
-HasLeaf l (both s t) = HasLeaf l s ⊎ HasLeaf l t
-HasLeaf l (either s t) = HasLeaf l s ⊎ HasLeaf l t
+-- the filter has this predicate
+abbrev pub HasPredicate : BoundPredicate → Tree BoundPredicate → Type 0
+HasPredicate l (truth b) = ⊥
+HasPredicate l (predicate m) = l ≡ m
+HasPredicate l (both s t) = HasPredicate l s ⊎ HasPredicate l t
+HasPredicate l (either s t) = HasPredicate l s ⊎ HasPredicate l t
 
 -- the file's counts and bounds of each column that the filter asks for are those of the rows
-abbrev pub AreCounted : FileBounds → List (Part BoundLeaf) → List Row → Type 0
+abbrev pub AreCounted : FileBounds → List (Part BoundPredicate) → List Row → Type 0
 AreCounted file filter rows =
-    (l : BoundLeaf) → HasLeaf l (tree_of filter)
+    (l : BoundPredicate) → HasPredicate l (tree_of filter)
     → IsColumn file l.column_type l.column (map (λ (row : Row). row l.column) rows)

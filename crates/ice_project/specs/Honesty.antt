@@ -8,7 +8,7 @@ use Rattle.ice_transform.specs.Values.{type_of}
 use Rattle.ice_meta.specs.declared.spec.Spec.{Spec}
 use Rattle.ice_filter.specs.Rows.{Row, row_meets}
 use Rattle.ice_filter.specs.declared.parts.Part.{Part}
-use Rattle.ice_filter.specs.declared.bound.BoundLeaf.{BoundLeaf}
+use Rattle.ice_filter.specs.declared.bound.BoundPredicate.{BoundPredicate}
 use Rattle.ice_project.specs.Fields.{fields_of}
 use Rattle.ice_project.specs.Projection.{projection}
 use Rattle.ice_project.specs.Tuples.{part_meets}
@@ -33,11 +33,11 @@ IsHonest fields tuple [] = Unit {0}
 IsHonest fields tuple (row ∷ rows) = IsTupleOf fields tuple row × IsHonest fields tuple rows
 
 -- no row meets the filter
-abbrev pub NoneMeets : List (Part BoundLeaf) → List Row → Type 0
+abbrev pub NoneMeets : List (Part BoundPredicate) → List Row → Type 0
 NoneMeets filter rows = list_any (row_meets filter) rows ≡ false
 
 -- where the tuple doesn't meet the projection, a file with it has no row that meets the filter
-abbrev pub IsSound : List (Part BoundLeaf) → Spec → List Cell → Type 0
+abbrev pub IsSound : List (Part BoundPredicate) → Spec → List Cell → Type 0
 IsSound filter spec tuple =
     (rows : List Row) → part_meets (projection filter spec) tuple ≡ false → IsHonest (fields_of spec) tuple rows
     → NoneMeets filter rows

@@ -17,9 +17,9 @@ use Rattle.ice_transform.specs.declared.transform.Transform.{Transform}
 use Rattle.ice_transform.specs.declared.transform.Transform.TheVariants.{Identity, Bucket, Truncate, Year, Month, Day}
 use Rattle.ice_transform.specs.declared.transform.Transform.TheVariants.{Hour, Void, Unknown}
 use Rattle.ice_meta.specs.declared.spec.Spec.{Spec}
-use Rattle.ice_filter.specs.Trees.{map_leaves}
+use Rattle.ice_filter.specs.Trees.{map_predicates}
 use Rattle.ice_filter.specs.declared.parts.Part.{Part}
-use Rattle.ice_filter.specs.declared.bound.BoundLeaf.{BoundLeaf}
+use Rattle.ice_filter.specs.declared.bound.BoundPredicate.{BoundPredicate}
 use Rattle.ice_filter.specs.declared.bound.Test.{Test}
 use Rattle.ice_filter.specs.declared.bound.Test.TheVariants.{Less, AtMost, More, AtLeast, Among, IsNull, IsPresent}
 use Rattle.ice_filter.specs.declared.bound.Test.TheVariants.{StartsWith}
@@ -116,20 +116,20 @@ typed_test at tr t test = option_and_then (λ r. option_map (test_at at r) (proj
 abbrev pub field_test : ℕ → Field → Test → Option FieldTest
 field_test at field test = option_and_then (λ t. typed_test at field.transform t test) field.source_type
 
--- the field's test, where the field is one of the leaf's column
-abbrev pub leaf_test : ℕ → Field → BoundLeaf → Option FieldTest
-leaf_test at field l = if int_eq field.source_id l.column then field_test at field l.test else None
+-- the field's test, where the field is one of the predicate's column
+abbrev pub predicate_test : ℕ → Field → BoundPredicate → Option FieldTest
+predicate_test at field l = if int_eq field.source_id l.column then field_test at field l.test else None
 
 abbrev pub with_test : Option FieldTest → List FieldTest → List FieldTest
 with_test None tests = tests
 with_test (Some t) tests = t ∷ tests
 
--- the projection of a leaf: all tests of the fields, of which the first stands at that position
-abbrev pub leaf_tests : ℕ → List Field → BoundLeaf → List FieldTest
-leaf_tests at [] l = []
-leaf_tests at (f ∷ fs) l = with_test (leaf_test at f l) (leaf_tests (at + 1) fs l)
+-- the projection of a predicate: all tests of the fields, of which the first stands at that position
+abbrev pub predicate_tests : ℕ → List Field → BoundPredicate → List FieldTest
+predicate_tests at [] l = []
+predicate_tests at (f ∷ fs) l = with_test (predicate_test at f l) (predicate_tests (at + 1) fs l)
 
--- the projection of a filter: of each leaf its own; `and` and `or` stay
-abbrev pub projection : List (Part BoundLeaf) → Spec → PartFilter
+-- the projection of a filter: of each predicate its own; `and` and `or` stay
+abbrev pub projection : List (Part BoundPredicate) → Spec → PartFilter
 projection filter spec =
-    record { fields = length spec.fields; parts = map_leaves (leaf_tests 0 (fields_of spec)) filter }
+    record { fields = length spec.fields; parts = map_predicates (predicate_tests 0 (fields_of spec)) filter }

@@ -10,7 +10,7 @@ ghost use Rattle.ice_project.specs.Honesty.{NoneMeets};
 
 use crate::laws::bounds_soundness;
 use crate::limits::Limits;
-use ice_filter::{Bound, BoundLeaf, LeafTest, Test};
+use ice_filter::{Bound, BoundPredicate, PredicateTest, Test};
 use ice_value::FileBounds;
 
 /// Whether all values of the column are null.
@@ -23,17 +23,17 @@ fn is_all_null(bounds: &FileBounds<'_, '_>, column: i32) -> bool
     }
 }
 
-/// Whether the bounds of the leaf's column allow a value that meets it.
-fn is_within(bounds: &FileBounds<'_, '_>, leaf: &BoundLeaf) -> bool
-    ensures { result ≡ in_bounds leaf.now.test (lower_limit bounds.now leaf.now.column_type leaf.now.column)
-        (upper_limit bounds.now leaf.now.column_type leaf.now.column) }
+/// Whether the bounds of the predicate's column allow a value that meets it.
+fn is_within(bounds: &FileBounds<'_, '_>, predicate: &BoundPredicate) -> bool
+    ensures { result ≡ in_bounds predicate.now.test (lower_limit bounds.now predicate.now.column_type predicate.now.column)
+        (upper_limit bounds.now predicate.now.column_type predicate.now.column) }
 {
     let limits = Limits {
-        column_type: leaf.column_type,
-        low: bounds.lower_bound(leaf.column),
-        high: bounds.upper_bound(leaf.column),
+        column_type: predicate.column_type,
+        low: bounds.lower_bound(predicate.column),
+        high: bounds.upper_bound(predicate.column),
     };
-    limits.may_meet(&leaf.test)
+    limits.may_meet(&predicate.test)
 }
 
 /// Whether the file may have a null in the column.
@@ -52,16 +52,16 @@ struct OfFile<'a> {
     bounds: &'a FileBounds<'a, 'a>,
 }
 
-impl<'a> LeafTest<BoundLeaf> for OfFile<'a> {
+impl<'a> PredicateTest<BoundPredicate> for OfFile<'a> {
     ghost says = { λ t l. file_allows t.bounds.now l };
 
-    fn is_met(&self, leaf: &BoundLeaf) -> bool {
-        if matches!(leaf.test, Test::NotAmong(_)) {
+    fn is_met(&self, predicate: &BoundPredicate) -> bool {
+        if matches!(predicate.test, Test::NotAmong(_)) {
             true
-        } else if matches!(leaf.test, Test::IsNull) {
-            may_have_null(self.bounds, leaf.column)
+        } else if matches!(predicate.test, Test::IsNull) {
+            may_have_null(self.bounds, predicate.column)
         } else {
-            !is_all_null(self.bounds, leaf.column) && is_within(self.bounds, leaf)
+            !is_all_null(self.bounds, predicate.column) && is_within(self.bounds, predicate)
         }
     }
 }

@@ -2,7 +2,7 @@
 
 ghost use Rattle.std.specs.Prelude.{◌≡◌, false, List};
 ghost use Rattle.ice_filter.specs.Rows.{Row};
-ghost use Rattle.ice_filter.specs.declared.bound.BoundLeaf.{BoundLeaf};
+ghost use Rattle.ice_filter.specs.declared.bound.BoundPredicate.{BoundPredicate};
 ghost use Rattle.ice_filter.specs.declared.parts.Part.{Part};
 ghost use Rattle.ice_meta.specs.declared.spec.Spec.{Spec};
 ghost use Rattle.ice_project.specs.Fields.{fields_of};
@@ -13,7 +13,7 @@ ghost use Rattle.ice_project.specs.Tuples.{part_meets, field_test_met, tests_met
 use crate::laws::soundness;
 use crate::tuples::may;
 use contract_words::Items;
-use ice_filter::{LeafTest, Parts, Test};
+use ice_filter::{Parts, PredicateTest, Test};
 use ice_value::{Cell, ColumnType};
 use shared_value::Shared;
 
@@ -40,7 +40,7 @@ impl FieldTest {
     }
 }
 
-/// A filter over the partition tuples of one spec. Each leaf is the tests that must all be met.
+/// A filter over the partition tuples of one spec. Each predicate is the tests that must all be met.
 #[derive(Debug, Drop)]
 pub struct PartFilter {
     /// How many fields the spec has.
@@ -55,7 +55,7 @@ struct OfTuple<'a> {
     tuple: &'a [Cell],
 }
 
-impl<'a> LeafTest<Items<FieldTest>> for OfTuple<'a> {
+impl<'a> PredicateTest<Items<FieldTest>> for OfTuple<'a> {
     ghost says = { λ t tests. tests_met t.tuple.now tests };
 
     fn is_met(&self, tests: &Items<FieldTest>) -> bool {
@@ -69,7 +69,7 @@ impl PartFilter {
         ensures test { result ≡ part_meets self.now tuple.now }
 
         // Where the answer is no, a file with this tuple has no row that meets the filter that was projected.
-        ensures sound { (filter : List (Part BoundLeaf)) (spec : Spec) (rows : List Row)
+        ensures sound { (filter : List (Part BoundPredicate)) (spec : Spec) (rows : List Row)
             → self.now ≡ projection filter spec
             → result ≡ false → IsHonest (fields_of spec) tuple.now rows → NoneMeets filter rows }
     {

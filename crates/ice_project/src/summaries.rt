@@ -1,7 +1,7 @@
 //! Manifests that may have a matching tuple.
 
 ghost use Rattle.std.specs.Prelude.{◌≡◌, true, List};
-ghost use Rattle.ice_filter.specs.declared.bound.BoundLeaf.{BoundLeaf};
+ghost use Rattle.ice_filter.specs.declared.bound.BoundPredicate.{BoundPredicate};
 ghost use Rattle.ice_filter.specs.declared.parts.Part.{Part};
 ghost use Rattle.ice_meta.specs.declared.spec.Spec.{Spec};
 ghost use Rattle.ice_value.specs.declared.cell.Cell.{Cell};
@@ -15,7 +15,7 @@ use crate::laws::summary_soundness;
 use crate::limits::Limits;
 use crate::part_filter::{FieldTest, PartFilter};
 use contract_words::Items;
-use ice_filter::{LeafTest, Test};
+use ice_filter::{PredicateTest, Test};
 use ice_value::Summary;
 
 impl FieldTest {
@@ -52,7 +52,7 @@ struct OfSummaries<'a> {
     summaries: &'a [Summary],
 }
 
-impl<'a> LeafTest<Items<FieldTest>> for OfSummaries<'a> {
+impl<'a> PredicateTest<Items<FieldTest>> for OfSummaries<'a> {
     ghost says = { λ t tests. tests_allowed t.summaries.now tests };
 
     fn is_met(&self, tests: &Items<FieldTest>) -> bool {
@@ -80,7 +80,7 @@ pub fn summary_may(part: &PartFilter, summaries: &[Summary]) -> bool
     ensures test { result ≡ summaries_may part.now summaries.now }
 
     // Where the summaries are those of a tuple that meets the filter, the answer is yes.
-    ensures sound { (filter : List (Part BoundLeaf)) (spec : Spec) (tuple : List Cell)
+    ensures sound { (filter : List (Part BoundPredicate)) (spec : Spec) (tuple : List Cell)
         → part.now ≡ projection filter spec
         → IsCovered (fields_of spec) summaries.now tuple → part_meets part.now tuple ≡ true → result ≡ true }
 {

@@ -9,7 +9,7 @@ use Rattle.ice_value.specs.declared.cell.Cell.{Cell}
 use Rattle.ice_value.specs.declared.file_bounds.Summary.{Summary}
 use Rattle.ice_meta.specs.Partitioning.{is_unpartitioned}
 use Rattle.ice_meta.specs.declared.spec.Spec.{Spec}
-use Rattle.ice_filter.specs.declared.bound.BoundLeaf.{BoundLeaf}
+use Rattle.ice_filter.specs.declared.bound.BoundPredicate.{BoundPredicate}
 use Rattle.ice_filter.specs.declared.parts.Part.{Part}
 use Rattle.ice_project.specs.Fields.{fields_of}
 use Rattle.ice_project.specs.Projection.{projection}
@@ -27,13 +27,13 @@ use Rattle.ice_state.proofs.Filters.{and_true}
 -- the same tuples meet the same filters
 module _ (same : (part : PartFilter) (tuple other : List Cell) → IsTrue (same_tuple tuple other)
     → part_meets part tuple ≡ part_meets part other) where
-  same_by : (parts : List (Part BoundLeaf)) (tuple other : List Cell) → same_tuple tuple other ≡ true
+  same_by : (parts : List (Part BoundPredicate)) (tuple other : List Cell) → same_tuple tuple other ≡ true
       → (o : Option Spec) → by_projection parts (λ part. part_meets part tuple) o ≡ true
       → by_projection parts (λ part. part_meets part other) o ≡ true
   same_by parts tuple other t None h = h
   same_by parts tuple other t (Some spec) h = sym (same (projection parts spec) tuple other t) ∙ h
 
-  pub of_same_partition : (parts : List (Part BoundLeaf)) (specs : List Spec) (x d : Entry)
+  pub of_same_partition : (parts : List (Part BoundPredicate)) (specs : List Spec) (x d : Entry)
       → same_partition (data_key_of x) (delete_key_of d) ≡ true
       → (pruner_of parts specs).meets x.spec_id x.file.tuple ≡ true
       → (pruner_of parts specs).meets d.spec_id d.file.tuple ≡ true
@@ -44,10 +44,10 @@ module _ (same : (part : PartFilter) (tuple other : List Cell) → IsTrue (same_
       (spec_of specs x.spec_id) met
 
 -- a projection through a spec that partitions nothing is met wherever another is
-module _ (opens : (filter : List (Part BoundLeaf)) (spec other : Spec) (tuple met : List Cell)
+module _ (opens : (filter : List (Part BoundPredicate)) (spec other : Spec) (tuple met : List Cell)
     → is_unpartitioned spec ≡ true → part_meets (projection filter other) met ≡ true
     → part_meets (projection filter spec) tuple ≡ true) where
-  open_by : (parts : List (Part BoundLeaf)) (tuple met : List Cell) (o q : Option Spec)
+  open_by : (parts : List (Part BoundPredicate)) (tuple met : List Cell) (o q : Option Spec)
       → option_map is_unpartitioned o ≡ Some true → by_projection parts (λ part. part_meets part met) q ≡ true
       → by_projection parts (λ part. part_meets part tuple) o ≡ true
   open_by parts tuple met None q u h = cc
@@ -55,45 +55,47 @@ module _ (opens : (filter : List (Part BoundLeaf)) (spec other : Spec) (tuple me
   open_by parts tuple met (Some spec) (Some other) u h = let yes : is_unpartitioned spec ≡ true = cc in
       opens parts spec other tuple met yes h
 
-  pub open_of : (parts : List (Part BoundLeaf)) (specs : List Spec) → IsOpen specs (pruner_of parts specs)
+  pub open_of : (parts : List (Part BoundPredicate)) (specs : List Spec) → IsOpen specs (pruner_of parts specs)
   open_of parts specs = λ x d says u met. open_by parts d.file.tuple x.file.tuple (spec_of specs d.spec_id)
       (spec_of specs x.spec_id) (says ∙ ap Some u) met
 
 -- summaries that cover a tuple that meets the projection don't say no
-module _ (sound : (filter : List (Part BoundLeaf)) (spec : Spec) (summaries : List Summary) (tuple : List Cell)
+module _ (sound : (filter : List (Part BoundPredicate)) (spec : Spec) (summaries : List Summary) (tuple : List Cell)
     → IsCovered (fields_of spec) summaries tuple → part_meets (projection filter spec) tuple ≡ true
     → summaries_may (projection filter spec) summaries ≡ true) where
-  allowed : (parts : List (Part BoundLeaf)) (spec : Spec) (tuple : List Cell) (summaries : Option (List Summary))
+  allowed : (parts : List (Part BoundPredicate)) (spec : Spec) (tuple : List Cell) (summaries : Option (List Summary))
       → Covers spec summaries tuple → part_meets (projection parts spec) tuple ≡ true
       → summaries_allow (projection parts spec) summaries ≡ true
   allowed parts spec tuple None covers met = refl
   allowed parts spec tuple (Some summaries) covers met = sound parts spec summaries tuple covers met
 
-  sound_by : (parts : List (Part BoundLeaf)) (tuple : List Cell) (summaries : Option (List Summary)) (o : Option Spec)
+  sound_by : (parts : List (Part BoundPredicate)) (tuple : List Cell) (summaries : Option (List Summary))
+      (o : Option Spec)
       → ((spec : Spec) → o ≡ Some spec → Covers spec summaries tuple)
       → by_projection parts (λ part. part_meets part tuple) o ≡ true
       → by_projection parts (λ part. summaries_allow part summaries) o ≡ true
   sound_by parts tuple summaries None covers met = met
   sound_by parts tuple summaries (Some spec) covers met = allowed parts spec tuple summaries (covers spec refl) met
 
-  pub sound_of : (parts : List (Part BoundLeaf)) (specs : List Spec) → HasSoundSummaries specs (pruner_of parts specs)
+  pub sound_of : (parts : List (Part BoundPredicate)) (specs : List Spec)
+      → HasSoundSummaries specs (pruner_of parts specs)
   sound_of parts specs = λ row tuple covers met. sound_by parts tuple row.partitions (spec_of specs row.spec_id) covers
       met
 
 -- the test of the projection through the spec that was found
-pub by_spec : (parts : List (Part BoundLeaf)) (test : PartFilter → Bool) (o : Option Spec) (f : OfSpec)
+pub by_spec : (parts : List (Part BoundPredicate)) (test : PartFilter → Bool) (o : Option Spec) (f : OfSpec)
     → option_map (filtered_by parts) o ≡ Some f → test (projection f.filter f.spec) ≡ by_projection parts test o
 by_spec parts test None f h = cc
 by_spec parts test (Some spec) f h = let same : filtered_by parts spec ≡ f = cc in
     ap (λ (g : OfSpec). test (projection g.filter g.spec)) (sym same)
 
 -- which spec was found, and that there is none
-pub found_by : (parts : List (Part BoundLeaf)) (o : Option Spec) (f : OfSpec)
+pub found_by : (parts : List (Part BoundPredicate)) (o : Option Spec) (f : OfSpec)
     → option_map (filtered_by parts) o ≡ Some f → o ≡ Some f.spec
 found_by parts None f h = cc
 found_by parts (Some spec) f h = let same : filtered_by parts spec ≡ f = cc in ap (λ (g : OfSpec). Some g.spec) same
 
-pub found_none : (parts : List (Part BoundLeaf)) (o : Option Spec) → option_map (filtered_by parts) o ≡ None
+pub found_none : (parts : List (Part BoundPredicate)) (o : Option Spec) → option_map (filtered_by parts) o ≡ None
     → is_none o ≡ true
 found_none parts None h = refl
 found_none parts (Some spec) h = cc

@@ -5,7 +5,7 @@ use Rattle.std.specs.List.{Contains}
 use Rattle.std.specs.List.Sorted.{IsSortedBy}
 use Rattle.std.specs.Option.{IsSome}
 use Rattle.contract_words.proofs.Sorted.{Rises, sorted_rises, filter-sorted, irreflexive}
-use Rattle.ice_filter.specs.declared.bound.BoundLeaf.{BoundLeaf}
+use Rattle.ice_filter.specs.declared.bound.BoundPredicate.{BoundPredicate}
 use Rattle.ice_filter.specs.declared.parts.Part.{Part}
 use Rattle.ice_meta.specs.declared.spec.Spec.{Spec}
 use Rattle.ice_manifest_reading.specs.declared.row.Row.{Row}
@@ -72,7 +72,7 @@ in_order rows specs scan h =
     subst (IsSortedBy row_before) (wanted_is rows specs scan h) (sorted_from_rises row_before row_order
     (wanted_rows (pruner scan) (by_row_path rows)) rises)
 
-pub refused : (rows : List Row) (specs : List Spec) (parts : List (Part BoundLeaf)) (id : ℤ)
+pub refused : (rows : List Row) (specs : List Spec) (parts : List (Part BoundPredicate)) (id : ℤ)
     → scan_of rows specs parts ≡ Err (NoSuchSpec id) → (row : Row) × IsFirstUnknown specs rows id row
 refused rows specs parts id h =
     let made : Scanned = scan_with rows specs parts in

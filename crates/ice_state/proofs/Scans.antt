@@ -7,7 +7,7 @@ use Rattle.std.specs.Cmp.{IsStrictWeakOrder}
 use Rattle.std.proofs.lemmas.Cmp.{nat_list_cmp_total}
 use Rattle.std.proofs.lemmas.List.Sorted.{ranks_by}
 use Rattle.std.proofs.Math.Path.{fun_ext}
-use Rattle.ice_filter.specs.declared.bound.BoundLeaf.{BoundLeaf}
+use Rattle.ice_filter.specs.declared.bound.BoundPredicate.{BoundPredicate}
 use Rattle.ice_filter.specs.declared.parts.Part.{Part}
 use Rattle.ice_project.specs.Files.{file_may}
 use Rattle.ice_project.specs.Tuples.{part_meets}
@@ -74,7 +74,7 @@ pub wanted_known : (specs : List Spec) (p : Row → Bool) (rows : List Row) → 
 wanted_known specs p rows h = none_without specs p rows h
 
 -- what is kept depends on the spec of each id alone
-abbrev pruner_from : List (Part BoundLeaf) → (ℤ → Option Spec) → Pruner
+abbrev pruner_from : List (Part BoundPredicate) → (ℤ → Option Spec) → Pruner
 pruner_from parts found =
     record {
       meets = λ id tuple. by_projection parts (λ part. part_meets part tuple) (found id);
@@ -82,12 +82,12 @@ pruner_from parts found =
       wants = λ row. by_projection parts (λ part. summaries_allow part row.partitions) (found row.spec_id);
     }
 
-pub pruner-by_id : (parts : List (Part BoundLeaf)) (specs : List Spec)
+pub pruner-by_id : (parts : List (Part BoundPredicate)) (specs : List Spec)
     → pruner_of parts (by_id specs) ≡ pruner_of parts specs
 pruner-by_id parts specs = ap (pruner_from parts) (fun_ext (spec_of-by_id specs))
 
 -- where each row has a spec, the scan has the wanted rows
-pub scan_of-sorted : (rows found : List Row) (specs ids : List Spec) (parts given : List (Part BoundLeaf))
+pub scan_of-sorted : (rows found : List Row) (specs ids : List Spec) (parts given : List (Part BoundPredicate))
     (wanted : List Row) → found ≡ by_row_path rows → ids ≡ by_id specs → given ≡ parts → without_spec ids found ≡ []
     → wanted ≡ wanted_rows (pruner_of given ids) found →
     scan_of rows specs parts ≡ Ok (record { wanted = wanted; specs = ids; filter = given })
@@ -102,14 +102,15 @@ scan_of-sorted rows found specs ids parts given wanted sorted' by same none is =
     ap (λ (rs : List Row). unless_missing rs (scan_with rows specs parts)) none'
     ∙ ap (λ (ws : List Row). Ok (record { wanted = ws; specs = by_id specs; filter = parts })) wants
     ∙ ap (λ (ss : List Spec). Ok (record { wanted = wanted; specs = ss; filter = parts })) (sym by)
-    ∙ ap (λ (ps : List (Part BoundLeaf)). Ok (record { wanted = wanted; specs = ids; filter = ps })) (sym same)
+    ∙ ap (λ (ps : List (Part BoundPredicate)). Ok (record { wanted = wanted; specs = ids; filter = ps })) (sym same)
 
 first_missing : (f : ScanFault) (xs : List Row) (scan : Scanned) → NamesFirst f xs → unless_missing xs scan ≡ Err f
 first_missing f [] scan h = absurd h
 first_missing f (row ∷ rows) scan h = ap Err (sym h)
 
 -- where a row has none, there is no scan
-pub scan_of-missing : (rows found : List Row) (specs ids : List Spec) (parts : List (Part BoundLeaf)) (f : ScanFault)
+pub scan_of-missing : (rows found : List Row) (specs ids : List Spec) (parts : List (Part BoundPredicate))
+    (f : ScanFault)
     → found ≡ by_row_path rows → ids ≡ by_id specs → NamesFirst f (without_spec ids found)
     → scan_of rows specs parts ≡ Err f
 scan_of-missing rows found specs ids parts f sorted' by first =
@@ -118,7 +119,7 @@ scan_of-missing rows found specs ids parts f sorted' by first =
     first_missing f (without_spec specs (by_row_path rows)) _ (subst (NamesFirst f) same first)
 
 -- what a scan is that there is
-pub scan_made : (rows : List Row) (specs : List Spec) (parts : List (Part BoundLeaf)) (scan : Scanned)
+pub scan_made : (rows : List Row) (specs : List Spec) (parts : List (Part BoundPredicate)) (scan : Scanned)
     → scan_of rows specs parts ≡ Ok scan → (without_spec specs (by_row_path rows) ≡ []) × (scan_with rows specs parts
     ≡ scan)
 scan_made rows specs parts scan h =
@@ -136,11 +137,11 @@ pub scan_is : (rows : List Row) (specs : List Spec) (scan : Scanned) → IsScanO
 scan_is rows specs scan h = scan_made rows specs scan.filter scan h
 
 -- the scan that was made is one of its own filter
-pub made : (rows : List Row) (specs : List Spec) (parts : List (Part BoundLeaf)) (scan : Scanned)
+pub made : (rows : List Row) (specs : List Spec) (parts : List (Part BoundPredicate)) (scan : Scanned)
     → scan_of rows specs parts ≡ Ok scan → (scan.filter ≡ parts) × IsScanOf rows specs scan
 made rows specs parts scan h =
     let same : parts ≡ scan.filter = ap (λ (s : Scanned). s.filter) (scan_made rows specs parts scan h).1 in
-    (sym same, subst (λ (ps : List (Part BoundLeaf)). scan_of rows specs ps ≡ Ok scan) same h)
+    (sym same, subst (λ (ps : List (Part BoundPredicate)). scan_of rows specs ps ≡ Ok scan) same h)
 
 -- it keeps the same by the sorted specs
 pub same_pruner : (rows : List Row) (specs : List Spec) (scan : Scanned) → IsScanOf rows specs scan

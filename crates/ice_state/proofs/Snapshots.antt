@@ -6,7 +6,7 @@ use Rattle.ice_meta.specs.declared.spec.Spec.{Spec}
 use Rattle.ice_manifest_reading.specs.declared.row.Row.{Row}
 use Rattle.ice_state.specs.Contents.{Content, World, live_by, manifest_of, reading, reading_of, slots_of, content}
 use Rattle.ice_state.specs.Contents.{every_row, HasEach}
-use Rattle.ice_filter.specs.declared.bound.BoundLeaf.{BoundLeaf}
+use Rattle.ice_filter.specs.declared.bound.BoundPredicate.{BoundPredicate}
 use Rattle.ice_filter.specs.declared.parts.Part.{Part}
 use Rattle.ice_state.specs.Covering.{AreCovered, HasSoundSummaries}
 use Rattle.ice_state.specs.Outcomes.{missing, missing_at, bad, bad_at, entries_in, kept_in, outcome_of, outcome}
@@ -127,8 +127,8 @@ kept_wanted-by_id p world specs (row ∷ rows) all = (
 )
 
 -- what the law of filters says
-module _ (opens : (parts : List (Part BoundLeaf)) (specs : List Spec) → IsOpen specs (pruner_of parts specs))
-    (sound : (parts : List (Part BoundLeaf)) (specs : List Spec) → HasSoundSummaries specs (pruner_of parts specs))
+module _ (opens : (parts : List (Part BoundPredicate)) (specs : List Spec) → IsOpen specs (pruner_of parts specs))
+    (sound : (parts : List (Part BoundPredicate)) (specs : List Spec) → HasSoundSummaries specs (pruner_of parts specs))
   where
     pub of_snapshot : (world : World) (scan : Scanned) (rows : List Row) (specs : List Spec) (c : Content)
         → IsScanOf rows specs scan → AreCovered world specs rows → HasEach world scan.wanted

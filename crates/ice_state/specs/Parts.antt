@@ -10,7 +10,7 @@ use Rattle.ice_value.specs.declared.file_content.FileContent.{FileContent}
 use Rattle.ice_value.specs.declared.file_content.FileContent.TheVariants.{Data, PositionDeletes, EqualityDeletes}
 use Rattle.ice_value.specs.Applying.{DataKey, DeleteKey, applies as key_applies}
 use Rattle.ice_deletes.specs.Found.{holds as key_holds, numbers_where}
-use Rattle.ice_filter.specs.declared.bound.BoundLeaf.{BoundLeaf}
+use Rattle.ice_filter.specs.declared.bound.BoundPredicate.{BoundPredicate}
 use Rattle.ice_filter.specs.declared.parts.Part.{Part}
 use Rattle.ice_project.specs.Files.{file_may}
 use Rattle.ice_project.specs.Projection.{projection}
@@ -42,14 +42,14 @@ NamesFirst fault (row ∷ rows) = fault ≡ NoSuchSpec row.spec_id
 -- the partition specs of a table, and a filter
 pub record Filtered : Type 0 where
   pub specs : List Spec
-  pub filter : List (Part BoundLeaf)
+  pub filter : List (Part BoundPredicate)
 
 -- one of the specs, and the filter
 pub record OfSpec : Type 0 where
   pub spec : Spec
-  pub filter : List (Part BoundLeaf)
+  pub filter : List (Part BoundPredicate)
 
-abbrev pub filtered_by : List (Part BoundLeaf) → Spec → OfSpec
+abbrev pub filtered_by : List (Part BoundPredicate) → Spec → OfSpec
 filtered_by parts spec = record { spec = spec; filter = parts }
 
 -- what the filter keeps of the manifests of the spec

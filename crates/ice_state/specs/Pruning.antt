@@ -7,7 +7,7 @@ use Rattle.ice_value.specs.declared.file_content.FileContent.{FileContent}
 use Rattle.ice_value.specs.declared.file_content.FileContent.TheVariants.{Data, PositionDeletes, EqualityDeletes}
 use Rattle.ice_meta.specs.declared.spec.Spec.{Spec}
 use Rattle.ice_meta.specs.Partitioning.{is_unpartitioned}
-use Rattle.ice_filter.specs.declared.bound.BoundLeaf.{BoundLeaf}
+use Rattle.ice_filter.specs.declared.bound.BoundPredicate.{BoundPredicate}
 use Rattle.ice_filter.specs.declared.parts.Part.{Part}
 use Rattle.ice_project.specs.declared.part_filter.PartFilter.{PartFilter}
 use Rattle.ice_project.specs.Files.{file_may}
@@ -33,12 +33,12 @@ summaries_allow part None = true
 summaries_allow part (Some summaries) = summaries_may part summaries
 
 -- the test of the filter's projection through the spec; nothing is of a spec that is missing
-abbrev pub by_projection : List (Part BoundLeaf) → (PartFilter → Bool) → Option Spec → Bool
+abbrev pub by_projection : List (Part BoundPredicate) → (PartFilter → Bool) → Option Spec → Bool
 by_projection parts test None = false
 by_projection parts test (Some spec) = test (projection parts spec)
 
 -- what a filter of rows keeps of a table with these specs
-abbrev pub pruner_of : List (Part BoundLeaf) → List Spec → Pruner
+abbrev pub pruner_of : List (Part BoundPredicate) → List Spec → Pruner
 pruner_of parts specs =
     record {
       meets = λ id tuple. by_projection parts (λ part. part_meets part tuple) (spec_of specs id);

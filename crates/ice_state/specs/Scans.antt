@@ -5,7 +5,7 @@ use Rattle.std.specs.Cmp.Lexicographic.{slice_cmp}
 use Rattle.std.specs.Ordering.{nat_cmp, is_lt}
 use Rattle.contract_words.specs.Sorting.{sorted}
 use Rattle.ice_meta.specs.declared.spec.Spec.{Spec}
-use Rattle.ice_filter.specs.declared.bound.BoundLeaf.{BoundLeaf}
+use Rattle.ice_filter.specs.declared.bound.BoundPredicate.{BoundPredicate}
 use Rattle.ice_filter.specs.declared.parts.Part.{Part}
 use Rattle.ice_manifest_reading.specs.declared.row.Row.{Row}
 use Rattle.ice_state.specs.declared.fault.ScanFault.{ScanFault}
@@ -17,7 +17,7 @@ use Rattle.ice_state.specs.Specs.{spec_of, by_id}
 pub record Scanned : Type 0 where
   pub wanted : List Row
   pub specs : List Spec
-  pub filter : List (Part BoundLeaf)
+  pub filter : List (Part BoundPredicate)
 
 -- what the scan keeps
 abbrev pub pruner : Scanned → Pruner
@@ -47,12 +47,12 @@ unless_missing [] scan = Ok scan
 unless_missing (row ∷ rows) scan = Err (NoSuchSpec row.spec_id)
 
 -- the scan of these rows by these specs, with this filter
-abbrev pub scan_with : List Row → List Spec → List (Part BoundLeaf) → Scanned
+abbrev pub scan_with : List Row → List Spec → List (Part BoundPredicate) → Scanned
 scan_with rows specs parts =
     record { wanted = wanted_rows (pruner_of parts specs) (by_row_path rows); specs = by_id specs; filter = parts }
 
 -- that scan, or the missing spec of the row with the least path
-abbrev pub scan_of : List Row → List Spec → List (Part BoundLeaf) → Result Scanned ScanFault
+abbrev pub scan_of : List Row → List Spec → List (Part BoundPredicate) → Result Scanned ScanFault
 scan_of rows specs parts = unless_missing (without_spec specs (by_row_path rows)) (scan_with rows specs parts)
 
 -- the scan is that of these rows by these specs

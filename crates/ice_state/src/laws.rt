@@ -4,7 +4,7 @@ ghost use Rattle.std.specs.Prelude.{◌≡◌, ◌<◌, ◌≤◌, ◌↔◌, �
 ghost use Rattle.std.specs.Prelude.{false, length, map, filter, slice_index_or, Contains};
 ghost use Rattle.std.specs.List.{flat_map, AllByRecursion};
 ghost use Rattle.std.specs.List.Sorted.{IsSortedBy};
-ghost use Rattle.ice_filter.specs.declared.bound.BoundLeaf.{BoundLeaf};
+ghost use Rattle.ice_filter.specs.declared.bound.BoundPredicate.{BoundPredicate};
 ghost use Rattle.ice_filter.specs.declared.parts.Part.{Part};
 ghost use Rattle.ice_meta.specs.declared.spec.Spec.{Spec};
 ghost use Rattle.ice_manifest_reading.specs.declared.entry.Entry.{Entry};
@@ -37,7 +37,7 @@ use ice_project::{
 /// It is refused for the row with the least path among those whose spec is missing. It finds the specs that the
 /// caller's list has, whatever their order, and so keeps the same.
 pub fn scanning()
-    ensures made { (rows : List Row) (specs : List Spec) (filter : List (Part BoundLeaf)) (scan : Scanned) →
+    ensures made { (rows : List Row) (specs : List Spec) (filter : List (Part BoundPredicate)) (scan : Scanned) →
         scan_of rows specs filter ≡ Ok scan → (scan.filter ≡ filter) × IsScanOf rows specs scan }
     ensures wanted { (rows : List Row) (specs : List Spec) (scan : Scanned) (row : Row) → IsScanOf rows specs scan →
         (Contains scan.wanted row ↔ (Contains rows row × ((pruner scan).wants row ≡ true))) }
@@ -49,7 +49,7 @@ pub fn scanning()
         spec_of scan.specs id ≡ spec_of specs id }
     ensures same_pruner { (rows : List Row) (specs : List Spec) (scan : Scanned) → IsScanOf rows specs scan →
         pruner scan ≡ pruner_of scan.filter specs }
-    ensures refused { (rows : List Row) (specs : List Spec) (filter : List (Part BoundLeaf)) (id : ℤ) →
+    ensures refused { (rows : List Row) (specs : List Spec) (filter : List (Part BoundPredicate)) (id : ℤ) →
         scan_of rows specs filter ≡ Err (NoSuchSpec id) → (row : Row) × IsFirstUnknown specs rows id row }
 {}
 
@@ -116,16 +116,16 @@ pub fn pruning()
 /// same spec and partition values, and each one of a spec that partitions nothing: so each delete file that applies.
 /// And of a row whose summaries tell the truth it doesn't say no where it keeps an entry.
 pub fn filtering()
-    ensures same_partition { (filter : List (Part BoundLeaf)) (specs : List Spec) (x d : Entry) →
+    ensures same_partition { (filter : List (Part BoundPredicate)) (specs : List Spec) (x d : Entry) →
         IsTrue (same_partition (data_key_of x) (delete_key_of d)) →
         (pruner_of filter specs).meets x.spec_id x.file.tuple ≡ true →
         (pruner_of filter specs).meets d.spec_id d.file.tuple ≡ true }
-    ensures open_where_unpartitioned { (filter : List (Part BoundLeaf)) (specs : List Spec) →
+    ensures open_where_unpartitioned { (filter : List (Part BoundPredicate)) (specs : List Spec) →
         IsOpen specs (pruner_of filter specs) }
-    ensures deletes { (filter : List (Part BoundLeaf)) (specs : List Spec) (x : Entry) (l : Live) →
+    ensures deletes { (filter : List (Part BoundPredicate)) (specs : List Spec) (x : Entry) (l : Live) →
         SaysItsSpec specs l.entry → Applies x l.entry →
         (pruner_of filter specs).meets x.spec_id x.file.tuple ≡ true → keeps (pruner_of filter specs) l ≡ true }
-    ensures sound { (filter : List (Part BoundLeaf)) (specs : List Spec) →
+    ensures sound { (filter : List (Part BoundPredicate)) (specs : List Spec) →
         HasSoundSummaries specs (pruner_of filter specs) }
 {
     projections_of_same_tuples();

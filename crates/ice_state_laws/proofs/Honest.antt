@@ -8,7 +8,7 @@ use Rattle.ice_value.specs.declared.file_content.FileContent.TheVariants.{Data}
 use Rattle.ice_meta.specs.declared.spec.Spec.{Spec}
 use Rattle.ice_filter.specs.Rows as table
 use Rattle.ice_filter.specs.Rows.{row_meets}
-use Rattle.ice_filter.specs.declared.bound.BoundLeaf.{BoundLeaf}
+use Rattle.ice_filter.specs.declared.bound.BoundPredicate.{BoundPredicate}
 use Rattle.ice_filter.specs.declared.parts.Part.{Part}
 use Rattle.ice_project.specs.Files.{file_may, AreCounted}
 use Rattle.ice_project.specs.Honesty.{IsSound, NoneMeets}
@@ -30,10 +30,10 @@ use Rattle.ice_state_laws.proofs.Lists.{in_none}
 
 -- what the laws of soundness say
 abbrev pub SoundTuples : Type 0
-SoundTuples = (filter : List (Part BoundLeaf)) (spec : Spec) (tuple : List Cell) → IsSound filter spec tuple
+SoundTuples = (filter : List (Part BoundPredicate)) (spec : Spec) (tuple : List Cell) → IsSound filter spec tuple
 
 abbrev pub SoundBounds : Type 0
-SoundBounds = (filter : List (Part BoundLeaf)) (file : FileBounds) (rows : List table.Row)
+SoundBounds = (filter : List (Part BoundPredicate)) (file : FileBounds) (rows : List table.Row)
     → file_may filter file ≡ false
     → AreCounted file filter rows → NoneMeets filter rows
 
@@ -50,7 +50,7 @@ either_is : (b : Bool) → (b ≡ true) ⊎ (b ≡ false)
 either_is true = inl refl
 either_is false = inr refl
 
-pub none_where : (filter : List (Part BoundLeaf)) (file : List table.Row)
+pub none_where : (filter : List (Part BoundPredicate)) (file : List table.Row)
     → (list_any (row_meets filter) file ≡ true → ⊥)
     → NoneMeets filter file
 none_where filter file h = elim (either_is (list_any (row_meets filter) file)) as (λ _. NoneMeets filter file)
@@ -65,7 +65,7 @@ none_live world specs row h = elim (world row.path) as (λ o. live_or_none (opti
 ]
 
 module _ (tuples : SoundTuples) (bounds : SoundBounds) (of_row : SameSpecs) (world : World) (specs : List Spec)
-    (filter : List (Part BoundLeaf)) where
+    (filter : List (Part BoundPredicate)) where
   abbrev p : Pruner
   p = pruner_of filter specs
 

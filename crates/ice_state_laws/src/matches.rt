@@ -5,7 +5,7 @@ ghost use Rattle.std.specs.List.{list_any};
 ghost use Rattle.ice_value.specs.declared.file_content.FileContent.TheVariants.{Data};
 ghost use Rattle.ice_filter.specs.Rows as table;
 ghost use Rattle.ice_filter.specs.Rows.{row_meets};
-ghost use Rattle.ice_filter.specs.declared.bound.BoundLeaf.{BoundLeaf};
+ghost use Rattle.ice_filter.specs.declared.bound.BoundPredicate.{BoundPredicate};
 ghost use Rattle.ice_filter.specs.declared.parts.Part.{Part};
 ghost use Rattle.ice_meta.specs.declared.spec.Spec.{Spec};
 ghost use Rattle.ice_manifest_reading.specs.declared.entry.Live.{Live};
@@ -31,7 +31,7 @@ use ice_state::laws::{filtering, scanning};
 /// the wanted rows alone: there the summaries of the file's manifest have to cover its partition values too. What other
 /// files, manifests and summaries say may be wrong.
 pub fn what_the_plan_lacks_has_no_match()
-    ensures snapshot { (world : World) (specs : List Spec) (filter : List (Part BoundLeaf)) (rows : List Row)
+    ensures snapshot { (world : World) (specs : List Spec) (filter : List (Part BoundPredicate)) (rows : List Row)
         (plan : List OwnedLine) (l : Live) (file : List table.Row) →
         plan_of_snapshot (pruner_of filter specs) world specs rows ≡ Ok plan →
         IsLive world specs rows l → l.entry.file.content ≡ Data → IsHonest specs filter l file →
@@ -49,7 +49,7 @@ pub fn what_the_plan_lacks_has_no_match()
 /// The same the other way round: a live data file that has a row that meets the filter, and is honest about its rows,
 /// has a line in the plan.
 pub fn what_has_a_match_is_planned()
-    ensures snapshot { (world : World) (specs : List Spec) (filter : List (Part BoundLeaf)) (rows : List Row)
+    ensures snapshot { (world : World) (specs : List Spec) (filter : List (Part BoundPredicate)) (rows : List Row)
         (plan : List OwnedLine) (l : Live) (file : List table.Row) →
         plan_of_snapshot (pruner_of filter specs) world specs rows ≡ Ok plan →
         IsLive world specs rows l → l.entry.file.content ≡ Data → IsHonest specs filter l file →

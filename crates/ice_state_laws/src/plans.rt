@@ -1,7 +1,7 @@
 //! What the plan of a snapshot has, in which order, and why there is none. The functions do nothing.
 
 ghost use Rattle.std.specs.Prelude.{◌≡◌, ◌↔◌, ℕ, List, Bool, Ok, Err, ◌⊎◌};
-ghost use Rattle.ice_filter.specs.declared.bound.BoundLeaf.{BoundLeaf};
+ghost use Rattle.ice_filter.specs.declared.bound.BoundPredicate.{BoundPredicate};
 ghost use Rattle.ice_filter.specs.declared.parts.Part.{Part};
 ghost use Rattle.ice_meta.specs.declared.spec.Spec.{Spec};
 ghost use Rattle.ice_manifest_fields.specs.declared.fault.ManifestFault.{ManifestFault};
@@ -28,19 +28,19 @@ use ice_state::laws::{filtering, pruning, scanning};
 /// file. Lines and delete files stand by path, each path once. Else the bad wanted row with the least path is told, and
 /// where none is bad the least path that is shared.
 pub fn snapshot_plans()
-    ensures planned { (world : World) (specs : List Spec) (filter : List (Part BoundLeaf)) (rows : List Row)
+    ensures planned { (world : World) (specs : List Spec) (filter : List (Part BoundPredicate)) (rows : List Row)
         (plan : List OwnedLine) →
         (plan_of_snapshot (pruner_of filter specs) world specs rows ≡ Ok plan) ↔
         IsPlan (pruner_of filter specs) world specs rows plan }
-    ensures bad { (world : World) (specs : List Spec) (filter : List (Part BoundLeaf)) (rows : List Row)
+    ensures bad { (world : World) (specs : List Spec) (filter : List (Part BoundPredicate)) (rows : List Row)
         (path : List ℕ) (fault : ManifestFault) → HasEachPathOnce rows →
         (plan_of_snapshot (pruner_of filter specs) world specs rows ≡ Err (Bad path fault)) ↔
         IsLeastBad (pruner_of filter specs) world specs rows path fault }
-    ensures twice { (world : World) (specs : List Spec) (filter : List (Part BoundLeaf)) (rows : List Row)
+    ensures twice { (world : World) (specs : List Spec) (filter : List (Part BoundPredicate)) (rows : List Row)
         (path : List ℕ) →
         (plan_of_snapshot (pruner_of filter specs) world specs rows ≡ Err (PathTwice path)) ↔
         IsPathTwice (pruner_of filter specs) world specs rows path }
-    ensures nothing_else { (world : World) (specs : List Spec) (filter : List (Part BoundLeaf)) (rows : List Row)
+    ensures nothing_else { (world : World) (specs : List Spec) (filter : List (Part BoundPredicate)) (rows : List Row)
         (told : FinishFault) → plan_of_snapshot (pruner_of filter specs) world specs rows ≡ Err told →
         ((path : List ℕ) × (fault : ManifestFault) × (told ≡ Bad path fault)) ⊎
         ((path : List ℕ) × (told ≡ PathTwice path)) }

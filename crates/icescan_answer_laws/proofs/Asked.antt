@@ -4,8 +4,8 @@ use Rattle.std.proofs.Common.{Option, Some, None, Result, Ok, Err}
 use Rattle.contract_words.specs.Outcome.{◌>>=◌}
 use Rattle.ice_filter.specs.Rows as table
 use Rattle.ice_filter.specs.Rows.{row_meets}
-use Rattle.ice_filter.specs.declared.bound.BoundLeaf.{BoundLeaf}
-use Rattle.ice_filter.specs.declared.leaf.Leaf.{Leaf}
+use Rattle.ice_filter.specs.declared.bound.BoundPredicate.{BoundPredicate}
+use Rattle.ice_filter.specs.declared.predicate.Predicate.{Predicate}
 use Rattle.ice_filter.specs.declared.parts.Part.{Part}
 use Rattle.ice_filter.proofs.Answering.{bound_means}
 use Rattle.ice_meta.specs.Targets.{bound_specs, list_of}
@@ -49,7 +49,7 @@ rows_of_answer ending world metadata request selection rows plan (is, has) h =
     rw (is, has) refl in
     sym e ∙ h
 
-pub plan_of_rows : (ending : Ending) (world : World) (specs : List Spec) (filter : List (Part BoundLeaf))
+pub plan_of_rows : (ending : Ending) (world : World) (specs : List Spec) (filter : List (Part BoundPredicate))
     (rows : List Row) (plan : List OwnedLine) → rows_plan ending world specs filter rows ≡ Ok plan
     → (scan : Scanned) × (scan_of rows specs filter ≡ Ok scan) × (ending world specs filter rows scan ≡ Ok plan)
 unfolding rows_plan
@@ -72,18 +72,20 @@ is_of world scan = slots_each world scan scan.wanted
 
 -- ---- the filter of a request
 
-same_bound : (schema : Schema) (parts : Option (List (Part Leaf))) (bound : List (Part BoundLeaf)) (row : table.Row)
+same_bound : (schema : Schema) (parts : Option (List (Part Predicate))) (bound : List (Part BoundPredicate))
+    (row : table.Row)
     → bound_in schema parts ≡ Ok bound → row_meets bound row ≡ meets schema parts row
-same_bound schema None bound row h = let e : [] ≡ bound = cc in ap (λ (ps : List (Part BoundLeaf)). row_meets ps row)
+same_bound schema None bound row h = let e : [] ≡ bound = cc in ap
+    (λ (ps : List (Part BoundPredicate)). row_meets ps row)
     (sym e)
 same_bound schema (Some parts) bound row h = bound_means schema parts bound h row
 
-of_snapshot : (table' : Table) (target : Target) (parts : Option (List (Part Leaf))) (schema : Schema)
+of_snapshot : (table' : Table) (target : Target) (parts : Option (List (Part Predicate))) (schema : Schema)
     (selection : Selection) (row : table.Row) → selected_by table' target parts ≡ Ok selection
     → schema_of target table' ≡ Ok schema → row_meets selection.filter.parts row ≡ meets schema parts row
 unfolding selected_by
 of_snapshot table' target parts schema selection row h is =
-    let made : List ℕ → Schema → List (Part BoundLeaf) → Result Selection RunFault = λ list s filter.
+    let made : List ℕ → Schema → List (Part BoundPredicate) → Result Selection RunFault = λ list s filter.
     Ok (record { list = list; specs = bound_specs s table'; filter = record { parts = filter } }) in
     let l = then_read (as_run of_meta (list_of target table'))
     (λ list. as_run of_meta (schema_of target table') >>= λ s.
@@ -101,7 +103,7 @@ of_snapshot table' target parts schema selection row h is =
     ∙ same_bound s.0 parts f.0 row bound ∙ ap (λ (x : Schema). meets x parts row) one
 
 pub means_its_text : (metadata : List ℕ) (request : Request) (selection : Selection) (schema : Schema)
-    (parts : Option (List (Part Leaf))) (row : table.Row) → selected metadata request ≡ Ok selection
+    (parts : Option (List (Part Predicate))) (row : table.Row) → selected metadata request ≡ Ok selection
     → IsRead metadata request schema parts → row_meets selection.filter.parts row ≡ meets schema parts row
 unfolding selected
 means_its_text metadata request selection schema parts row h (d, described, read, is) =

@@ -5,7 +5,7 @@ use Rattle.std.specs.Prelude.{Result, Ok}
 use Rattle.contract_words.specs.Outcome.{◌>>=◌}
 use Rattle.ice_desk.specs.Given.{AreOf, AreSlotsGiven, Giving}
 use Rattle.ice_desk.specs.Wanted.{untaken}
-use Rattle.ice_filter.specs.declared.bound.BoundLeaf.{BoundLeaf}
+use Rattle.ice_filter.specs.declared.bound.BoundPredicate.{BoundPredicate}
 use Rattle.ice_filter.specs.declared.parts.Part.{Part}
 use Rattle.ice_manifest_reading.specs.declared.row.Row.{Row}
 use Rattle.ice_meta.specs.declared.spec.Spec.{Spec}
@@ -48,7 +48,7 @@ module _ (gives : Giving) (world : World) (are : AreOf gives world) where
     each_there scan rows ss (omega (arith, e)) none h.1,
   )
 
-  pub rows_planned : (specs : List Spec) (filter : List (Part BoundLeaf)) (rows : List Row) (plan : List OwnedLine)
+  pub rows_planned : (specs : List Spec) (filter : List (Part BoundPredicate)) (rows : List Row) (plan : List OwnedLine)
       → IsRowsPlanOfGiven gives specs filter rows plan
       → rows_plan over_wanted_rows world specs filter rows ≡ Ok plan
   rows_planned specs filter rows plan h =

@@ -1,9 +1,9 @@
 -- What a request asks of a table: a snapshot, and a filter in the words of its text.
 use Rattle.std.specs.Prelude.{◌≡◌, ℕ, Bool, true, List, Option, Some, None, Ok}
-use Rattle.ice_filter.specs.Binding.{leaf_meets}
+use Rattle.ice_filter.specs.Binding.{predicate_meets}
 use Rattle.ice_filter.specs.Rows as table
 use Rattle.ice_filter.specs.Trees.{meaning, tree_of}
-use Rattle.ice_filter.specs.declared.leaf.Leaf.{Leaf}
+use Rattle.ice_filter.specs.declared.predicate.Predicate.{Predicate}
 use Rattle.ice_filter.specs.declared.parts.Part.{Part}
 use Rattle.ice_meta.specs.Targets.{Described, metadata_of}
 use Rattle.ice_meta.specs.declared.schema.Schema.{Schema}
@@ -20,11 +20,11 @@ IsAsked world metadata request selection rows = (selected metadata request ≡ O
     × (rows_at world selection.list ≡ Ok rows)
 
 -- the filter that the request's text says, and the schema that counts for its snapshot
-abbrev pub IsRead : List ℕ → Request → Schema → Option (List (Part Leaf)) → Type 0
+abbrev pub IsRead : List ℕ → Request → Schema → Option (List (Part Predicate)) → Type 0
 IsRead metadata request schema parts = (d : Described) × (metadata_of metadata ≡ Ok d)
     × (parts_in request.filter ≡ Ok parts) × (schema_of request.target d.table ≡ Ok schema)
 
 -- the row meets a filter over the names of a schema's columns; every row does where there is none
-abbrev pub meets : Schema → Option (List (Part Leaf)) → table.Row → Bool
+abbrev pub meets : Schema → Option (List (Part Predicate)) → table.Row → Bool
 meets schema None row = true
-meets schema (Some parts) row = meaning (leaf_meets schema row) (tree_of parts)
+meets schema (Some parts) row = meaning (predicate_meets schema row) (tree_of parts)

@@ -4,7 +4,7 @@ ghost use Rattle.std.specs.Prelude.{◌≡◌, ℕ, List, Option, Ok, Contains};
 ghost use Rattle.ice_value.specs.declared.file_content.FileContent.TheVariants.{Data};
 ghost use Rattle.ice_filter.specs.Rows as table;
 ghost use Rattle.ice_filter.specs.Rows.{row_meets};
-ghost use Rattle.ice_filter.specs.declared.leaf.Leaf.{Leaf};
+ghost use Rattle.ice_filter.specs.declared.predicate.Predicate.{Predicate};
 ghost use Rattle.ice_filter.specs.declared.parts.Part.{Part};
 ghost use Rattle.ice_meta.specs.declared.schema.Schema.{Schema};
 ghost use Rattle.ice_manifest_reading.specs.declared.entry.Live.{Live};
@@ -53,7 +53,7 @@ pub fn what_an_answer_lacks_has_no_match()
 /// counts; without a text every row meets it.
 pub fn filters_mean_their_texts()
     ensures { (metadata : List ℕ) (request : Request) (selection : Selection) (schema : Schema)
-        (parts : Option (List (Part Leaf))) (row : table.Row) →
+        (parts : Option (List (Part Predicate))) (row : table.Row) →
         selected metadata request ≡ Ok selection → IsRead metadata request schema parts →
         row_meets selection.filter.parts row ≡ meets schema parts row }
 {}

@@ -2,8 +2,8 @@
 use Rattle.std.proofs.Common.{◌≡◌, ℕ, List, [], sym, ap, subst, ◌∙◌, Option, None}
 use Rattle.std.specs.Prelude.{Result, Ok, Err}
 use Rattle.contract_words.specs.Outcome.{◌>>=◌}
-use Rattle.ice_filter.specs.declared.bound.BoundLeaf.{BoundLeaf}
-use Rattle.ice_filter.specs.declared.leaf.Leaf.{Leaf}
+use Rattle.ice_filter.specs.declared.bound.BoundPredicate.{BoundPredicate}
+use Rattle.ice_filter.specs.declared.predicate.Predicate.{Predicate}
 use Rattle.ice_filter.specs.declared.parts.Part.{Part}
 use Rattle.ice_meta.specs.declared.metadata.Target.{Target}
 use Rattle.ice_meta.specs.declared.schema.Schema.{Schema}
@@ -37,11 +37,11 @@ subject_from table list schema =
     list >>= λ l. schema >>= λ s. Ok (record { list = l; basis = basis_of s table })
 
 abbrev selection_from : Table → Result (List ℕ) RunFault → Result Schema RunFault
-    → (Schema → Result (List (Part BoundLeaf)) RunFault) → Result Selection RunFault
+    → (Schema → Result (List (Part BoundPredicate)) RunFault) → Result Selection RunFault
 selection_from table list schema bound = list >>= λ l. schema >>= λ s. bound s >>= λ f.
     Ok (record { list = l; specs = bound_specs s table; filter = record { parts = f } })
 
-bound_same : (table : Table) (l : List ℕ) (s : Schema) (f : Result (List (Part BoundLeaf)) RunFault)
+bound_same : (table : Table) (l : List ℕ) (s : Schema) (f : Result (List (Part BoundPredicate)) RunFault)
     (selection : Selection) (subject : Subject)
     → (f >>= λ parts. Ok (record { list = l; specs = bound_specs s table; filter = record { parts = parts } }))
     ≡ Ok selection
@@ -55,14 +55,14 @@ bound_same table l s (Ok parts) selection subject h k =
     )
 
 same_from : (table : Table) (list : Result (List ℕ) RunFault) (schema : Result Schema RunFault)
-    (bound : Schema → Result (List (Part BoundLeaf)) RunFault) (selection : Selection) (subject : Subject)
+    (bound : Schema → Result (List (Part BoundPredicate)) RunFault) (selection : Selection) (subject : Subject)
     → selection_from table list schema bound ≡ Ok selection → subject_from table list schema ≡ Ok subject
     → IsSame subject selection
 same_from table (Err e) schema bound selection subject h k = absurd cc
 same_from table (Ok l) (Err e) bound selection subject h k = absurd cc
 same_from table (Ok l) (Ok s) bound selection subject h k = bound_same table l s (bound s) selection subject h k
 
-same_parts : (table : Table) (target : Target) (parts : Option (List (Part Leaf))) (selection : Selection)
+same_parts : (table : Table) (target : Target) (parts : Option (List (Part Predicate))) (selection : Selection)
     (subject : Subject) → selected_by table target parts ≡ Ok selection → subject_in table target ≡ Ok subject
     → IsSame subject selection
 unfolding selected_by subject_in
@@ -70,7 +70,7 @@ same_parts table target parts selection subject h k =
     same_from table (as_run of_meta (list_of target table)) (as_run of_meta (schema_of target table))
     (λ s. as_run of_filter (bound_in s parts)) selection subject h k
 
-by_parts : (table : Table) (target : Target) (parts : Result (Option (List (Part Leaf))) RunFault)
+by_parts : (table : Table) (target : Target) (parts : Result (Option (List (Part Predicate))) RunFault)
     (selection : Selection) (subject : Subject) → (parts >>= λ p. selected_by table target p) ≡ Ok selection
     → subject_in table target ≡ Ok subject → IsSame subject selection
 by_parts table target (Err e) selection subject h k = absurd cc

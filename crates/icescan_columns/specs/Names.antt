@@ -1,7 +1,7 @@
 -- The names that lead from the row to the columns of a schema, as a filter has them. A field is led to by the names of
 -- the structs around it and by its own; an element, a key, a value, and what stands inside one, by none.
 use Rattle.std.specs.Prelude.{ℕ, List, [], ◌∷◌, ◌++◌, Option, Some, None, option_and_then, option_map, slice_get}
-use Rattle.ice_filter.specs.declared.leaf.Column as filter
+use Rattle.ice_filter.specs.declared.predicate.Column as filter
 use Rattle.ice_meta.specs.declared.schema.Column.{Column}
 
 abbrev pub Names : Type 0

@@ -5,7 +5,7 @@ ghost use Rattle.ice_filter.specs.Texts.{column_text};
 ghost use Rattle.icescan_columns.specs.Names.{all_names, names_at, names_of};
 
 use contract_words::{Items, Text};
-use ice_filter::{Column as Names, Filter, Leaf, Part, Question};
+use ice_filter::{Column as Names, Filter, Part, Predicate, Question};
 use ice_meta::Column;
 use std::alloc::{AllocError, Global};
 
@@ -78,7 +78,7 @@ pub fn push_column(text: &mut Vec<u8>, alloc: Global, names: &Names) -> Result<(
     ensures { OnOk result (text.new.items ≡ text.old.items ++ column_text names.now) }
 {
     let mut parts = Items::new(alloc);
-    parts.push(Part::Leaf(Leaf {
+    parts.push(Part::Predicate(Predicate {
         column: copied(alloc, names)?,
         question: Question::Missing,
     }))?;

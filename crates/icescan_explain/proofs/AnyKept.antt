@@ -8,7 +8,7 @@ use Rattle.icescan_explain.specs.Asking.{ice_filter_tests}
 use Rattle.icescan_explain.specs.declared.tests.FilterTests.{FilterTests}
 use Rattle.icescan_explain.specs.declared.tests.SpecTests.{SpecTests}
 use Rattle.icescan_explain.specs.declared.verdict.Verdict.{Verdict}
-use Rattle.ice_filter.specs.declared.bound.BoundLeaf.{BoundLeaf}
+use Rattle.ice_filter.specs.declared.bound.BoundPredicate.{BoundPredicate}
 use Rattle.ice_filter.specs.declared.parts.Part.{Part}
 use Rattle.ice_manifest_reading.specs.declared.entry.Entry.{Entry}
 use Rattle.ice_manifest_reading.specs.declared.row.Row.{Row}
@@ -91,7 +91,7 @@ module _ (scan : Scanned) (row : Row) (bytes : List ℕ) where
 
 -- ---- what is told of a row
 
-module _ (rows : List Row) (specs : List Spec) (filters : List (Part BoundLeaf)) (columns : List (List ℕ))
+module _ (rows : List Row) (specs : List Spec) (filters : List (Part BoundPredicate)) (columns : List (List ℕ))
     (scan : Scanned) (is : scan_of rows specs filters ≡ Ok scan) (row : Row) (bytes : List ℕ) where
   abbrev given : World
   given = λ path. Some bytes

@@ -6,12 +6,12 @@ use Rattle.std.specs.Option.{option_or}
 use Rattle.std.specs.List.{AllByRecursion, Contains, flat_map, list_all}
 use Rattle.std.proofs.lemmas.List.Folds.{find-append}
 use Rattle.ice_filter.specs.declared.parts.Part.{Part}
-use Rattle.ice_filter.specs.declared.parts.Part.TheVariants.{True, False, Leaf, And, Or}
-use Rattle.ice_filter.specs.Trees.{map_leaves}
+use Rattle.ice_filter.specs.declared.parts.Part.TheVariants.{True, False, Predicate, And, Or}
+use Rattle.ice_filter.specs.Trees.{map_predicates}
 use Rattle.ice_meta.specs.declared.spec.Spec.{Spec}
 use Rattle.ice_project.specs.declared.part_filter.FieldTest.{FieldTest}
 use Rattle.ice_project.specs.declared.part_filter.PartFilter.{PartFilter}
-use Rattle.icescan_explain.specs.Alone.{leaves, lone_test, only_test, tests_in}
+use Rattle.icescan_explain.specs.Alone.{predicates, lone_test, only_test, tests_in}
 use Rattle.icescan_explain.specs.Blaming.{first_no}
 use Rattle.icescan_explain.specs.declared.lone.LoneTest.{LoneTest}
 
@@ -28,7 +28,7 @@ none_no {X} says (x ∷ xs) h = go (says x) refl (λ k. none_no says xs k) where
   go true e rest = (e, rest (rw e at h))
   go false e rest = absurd (let k : Some x ≡ None = rw e at h in cc)
 
--- the tests of a projection's leaf are met together just where none of them alone says no
+-- the tests of a projection's predicate are met together just where none of them alone says no
 module _ (spec : Spec) (n : ℕ) (ok : FieldTest → Bool) (says : PartFilter → Bool)
     (one : (t : FieldTest) → says (only_test n t) ≡ (ok t && true)) where
   abbrev no_to : LoneTest → Bool
@@ -52,37 +52,37 @@ module _ (spec : Spec) (n : ℕ) (ok : FieldTest → Bool) (says : PartFilter �
   none_of None p h = (refl, h)
   none_of (Some x) p h = absurd cc
 
-  -- where no test says no, the tests of each leaf are met
+  -- where no test says no, the tests of each predicate are met
   pub none_out : (ps : List (Part (List FieldTest))) → blamed (lone ps) ≡ None
-      → AllByRecursion (λ ts. list_all ok ts ≡ true) (leaves ps)
+      → AllByRecursion (λ ts. list_all ok ts ≡ true) (predicates ps)
   none_out [] h = tt
   none_out (True ∷ ps) h = none_out ps h
   none_out (False ∷ ps) h = none_out ps h
   none_out (And ∷ ps) h = none_out ps h
   none_out (Or ∷ ps) h = none_out ps h
-  none_out (Leaf ts ∷ ps) h =
+  none_out (Predicate ts ∷ ps) h =
       let split = find-append (λ x. not (no_to x)) (map (lone_test spec n) ts) (lone ps) in
       let parts = none_of (blamed (map (lone_test spec n) ts)) (blamed (lone ps)) (sym split ∙ h) in
       (together ts ∙ ap is_none parts.0, none_out ps parts.1)
 
-  -- where one does, the tests of some leaf are not met together
+  -- where one does, the tests of some predicate are not met together
   pub some_out : {L : Type 0} (f : L → List FieldTest) (ps : List (Part L)) (x : LoneTest)
-      → blamed (lone (map_leaves f ps)) ≡ Some x
-      → (l : L) × Contains (leaves ps) l × (list_all ok (f l) ≡ false)
+      → blamed (lone (map_predicates f ps)) ≡ Some x
+      → (l : L) × Contains (predicates ps) l × (list_all ok (f l) ≡ false)
   some_out f [] x h = absurd cc
   some_out f (True ∷ ps) x h = some_out f ps x h
   some_out f (False ∷ ps) x h = some_out f ps x h
   some_out f (And ∷ ps) x h = some_out f ps x h
   some_out f (Or ∷ ps) x h = some_out f ps x h
-  some_out {L} f (Leaf l ∷ ps) x h =
+  some_out {L} f (Predicate l ∷ ps) x h =
       go (blamed (map (lone_test spec n) (f l))) refl (λ k. some_out f ps x k) where
         go : (o : Option LoneTest) → blamed (map (lone_test spec n) (f l)) ≡ o
-            → (blamed (lone (map_leaves f ps)) ≡ Some x
-            → (m : L) × Contains (leaves ps) m × (list_all ok (f m) ≡ false))
-            → (m : L) × Contains (leaves (Leaf l ∷ ps)) m × (list_all ok (f m) ≡ false)
+            → (blamed (lone (map_predicates f ps)) ≡ Some x
+            → (m : L) × Contains (predicates ps) m × (list_all ok (f m) ≡ false))
+            → (m : L) × Contains (predicates (Predicate l ∷ ps)) m × (list_all ok (f m) ≡ false)
         go (Some y) e rest = (l, (0, omega arith, refl), together (f l) ∙ ap is_none e)
         go None e rest =
-            let split = find-append (λ y. not (no_to y)) (map (lone_test spec n) (f l)) (lone (map_leaves f ps)) in
-            let left : blamed (lone (map_leaves f ps)) ≡ Some x = rw e at (sym split ∙ h) in
+            let split = find-append (λ y. not (no_to y)) (map (lone_test spec n) (f l)) (lone (map_predicates f ps)) in
+            let left : blamed (lone (map_predicates f ps)) ≡ Some x = rw e at (sym split ∙ h) in
             let found = rest left in
-            (found.0, later (leaves ps) l found.0 found.1, found.2)
+            (found.0, later (predicates ps) l found.0 found.1, found.2)

@@ -14,7 +14,7 @@ use Rattle.icescan_explain.specs.declared.tests.SpecTests.{SpecTests}
 use Rattle.icescan_explain.specs.declared.verdict.Subject.TheVariants as subject
 use Rattle.icescan_explain.specs.declared.verdict.Verdict.{Verdict}
 use Rattle.icescan_explain.proofs.Scanned.{file_kept, row_kept}
-use Rattle.ice_filter.specs.declared.bound.BoundLeaf.{BoundLeaf}
+use Rattle.ice_filter.specs.declared.bound.BoundPredicate.{BoundPredicate}
 use Rattle.ice_filter.specs.declared.parts.Part.{Part}
 use Rattle.ice_manifest_reading.specs.Manifests.{entries, live_of}
 use Rattle.ice_manifest_reading.specs.declared.entry.Entry.{Entry}
@@ -62,7 +62,7 @@ same_data Data = refl
 same_data PositionDeletes = refl
 same_data EqualityDeletes = refl
 
-module _ (specs : List Spec) (filters : List (Part BoundLeaf)) (columns : List (List ℕ)) where
+module _ (specs : List Spec) (filters : List (Part BoundPredicate)) (columns : List (List ℕ)) where
   abbrev p : Pruner
   p = pruner_of filters specs
 
@@ -194,7 +194,7 @@ planned_are scan c plan h =
     let P : List (List ℕ) → List (List ℕ) → Type 0 = λ us vs. IsPermutation us vs in
     subst (λ vs. P (paths_of_data all) vs) planned moved
 
-pub same_files : (world : World) (specs : List Spec) (filters : List (Part BoundLeaf)) (columns : List (List ℕ))
+pub same_files : (world : World) (specs : List Spec) (filters : List (Part BoundPredicate)) (columns : List (List ℕ))
     (rows : List Row) (scan : Scanned) (plan : List OwnedLine) → scan_of rows specs filters ≡ Ok scan
     → outcome scan (content world scan (every_row scan)) ≡ Ok plan
     → IsPermutation (paths_kept (rows_told (ice_filter_tests specs filters columns) world (by_row_path rows)))

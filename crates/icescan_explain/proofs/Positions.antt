@@ -7,15 +7,16 @@ use Rattle.std.specs.Ordering.{int_eq}
 use Rattle.std.specs.List.{AllByRecursion, flat_map}
 use Rattle.std.proofs.lemmas.List.{length-map}
 use Rattle.std.proofs.lemmas.Option.{slice_get-get_or}
-use Rattle.ice_filter.specs.declared.bound.BoundLeaf.{BoundLeaf}
+use Rattle.ice_filter.specs.declared.bound.BoundPredicate.{BoundPredicate}
 use Rattle.ice_filter.specs.declared.bound.Test.{Test}
 use Rattle.ice_filter.specs.declared.parts.Part.{Part}
-use Rattle.ice_filter.specs.declared.parts.Part.TheVariants.{True, False, Leaf, And, Or}
-use Rattle.ice_filter.specs.Trees.{map_leaves}
+use Rattle.ice_filter.specs.declared.parts.Part.TheVariants.{True, False, Predicate, And, Or}
+use Rattle.ice_filter.specs.Trees.{map_predicates}
 use Rattle.ice_meta.specs.declared.spec.PartitionField.{PartitionField}
 use Rattle.ice_meta.specs.declared.spec.Spec.{Spec}
 use Rattle.ice_project.specs.Fields.{field_of, fields_of}
-use Rattle.ice_project.specs.Projection.{leaf_test, leaf_tests, projected_test, test_at, typed_test, with_test}
+use Rattle.ice_project.specs.Projection.{predicate_test, predicate_tests, projected_test, test_at, typed_test,
+    with_test}
 use Rattle.ice_project.specs.declared.field.Field.{Field}
 use Rattle.ice_project.specs.declared.part_filter.FieldTest.{FieldTest}
 use Rattle.ice_transform.specs.Values.{type_of}
@@ -32,7 +33,7 @@ mapped_at : (at : ℕ) (r : ColumnType) (o : Option Test) → IsAt at (option_ma
 mapped_at at r None = tt
 mapped_at at r (Some test) = refl
 
-test_is_at : (at : ℕ) (field : Field) (l : BoundLeaf) → IsAt at (leaf_test at field l)
+test_is_at : (at : ℕ) (field : Field) (l : BoundPredicate) → IsAt at (predicate_test at field l)
 test_is_at at field l = go (int_eq field.source_id l.column) field.source_type where
   typed : (t : ColumnType) (o : Option ColumnType)
       → IsAt at (option_and_then (λ r. option_map (test_at at r) (projected_test field.transform t l.test)) o)
@@ -58,12 +59,13 @@ put : (at end : ℕ) (o : Option FieldTest) (ts : List FieldTest) → at < end �
 put at end None ts lt is all = from_later at end ts all
 put at end (Some t) ts lt is all = ((omega (arith, is), omega (arith, is, lt)), from_later at end ts all)
 
-tests_within : (at : ℕ) (fs : List Field) (l : BoundLeaf) → AreWithin at (at + length fs) (leaf_tests at fs l)
+tests_within : (at : ℕ) (fs : List Field) (l : BoundPredicate) → AreWithin at (at + length fs) (predicate_tests at fs l)
 tests_within at [] l = tt
 tests_within at (f ∷ fs) l =
     let same : (at + 1) + length fs ≡ at + length (f ∷ fs) = omega arith in
-    put at (at + length (f ∷ fs)) (leaf_test at f l) (leaf_tests (at + 1) fs l) (omega arith) (test_is_at at f l)
-    (subst (λ end. AreWithin (at + 1) end (leaf_tests (at + 1) fs l)) same (tests_within (at + 1) fs l))
+    put at (at + length (f ∷ fs)) (predicate_test at f l) (predicate_tests (at + 1) fs l) (omega arith)
+        (test_is_at at f l)
+    (subst (λ end. AreWithin (at + 1) end (predicate_tests (at + 1) fs l)) same (tests_within (at + 1) fs l))
 
 -- so each has a field's name
 abbrev IsNamed : LoneTest → Type 0
@@ -86,18 +88,18 @@ both P [] ys a b = b
 both P (x ∷ xs) ys a b = (a.0, both P xs ys a.1 b)
 
 module _ (spec : Spec) (n : ℕ) where
-  of_leaf : (l : BoundLeaf) → AreWithin 0 (length spec.fields) (leaf_tests 0 (fields_of spec) l)
-  of_leaf l =
+  of_predicate : (l : BoundPredicate) → AreWithin 0 (length spec.fields) (predicate_tests 0 (fields_of spec) l)
+  of_predicate l =
       let end : 0 + length (map field_of spec.fields) ≡ length spec.fields = omega (arith, length-map spec.fields field_of)
-      in subst (λ e. AreWithin 0 e (leaf_tests 0 (fields_of spec) l)) end (tests_within 0 (fields_of spec) l)
+      in subst (λ e. AreWithin 0 e (predicate_tests 0 (fields_of spec) l)) end (tests_within 0 (fields_of spec) l)
 
-  pub named : (ps : List (Part BoundLeaf))
-      → AllByRecursion IsNamed (flat_map (tests_in spec n) (map_leaves (leaf_tests 0 (fields_of spec)) ps))
+  pub named : (ps : List (Part BoundPredicate))
+      → AllByRecursion IsNamed (flat_map (tests_in spec n) (map_predicates (predicate_tests 0 (fields_of spec)) ps))
   named [] = tt
   named (True ∷ ps) = named ps
   named (False ∷ ps) = named ps
   named (And ∷ ps) = named ps
   named (Or ∷ ps) = named ps
-  named (Leaf l ∷ ps) = both IsNamed (map (lone_test spec n) (leaf_tests 0 (fields_of spec) l))
-      (flat_map (tests_in spec n) (map_leaves (leaf_tests 0 (fields_of spec)) ps))
-      (named_tests spec n 0 (leaf_tests 0 (fields_of spec) l) (of_leaf l)) (named ps)
+  named (Predicate l ∷ ps) = both IsNamed (map (lone_test spec n) (predicate_tests 0 (fields_of spec) l))
+      (flat_map (tests_in spec n) (map_predicates (predicate_tests 0 (fields_of spec)) ps))
+      (named_tests spec n 0 (predicate_tests 0 (fields_of spec) l) (of_predicate l)) (named ps)

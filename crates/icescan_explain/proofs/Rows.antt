@@ -3,7 +3,7 @@ use Rattle.std.proofs.Common.{◌≡◌, ℕ, List, ap, sym, subst}
 use Rattle.std.specs.Prelude.{Result, Ok, Err, IfOk}
 use Rattle.ice_desk.specs.Wanted.{paths_of}
 use Rattle.ice_desk.specs.Worlds.{EndsAt}
-use Rattle.ice_filter.specs.declared.bound.BoundLeaf.{BoundLeaf}
+use Rattle.ice_filter.specs.declared.bound.BoundPredicate.{BoundPredicate}
 use Rattle.ice_filter.specs.declared.parts.Part.{Part}
 use Rattle.ice_manifest_reading.specs.declared.row.Row.{Row}
 use Rattle.ice_meta.specs.declared.spec.Spec.{Spec}
@@ -16,7 +16,8 @@ use Rattle.icescan_text.specs.Reads.{MayEnd, all_present, as_run}
 use Rattle.icescan_text.specs.declared.fault.RunFault.{RunFault}
 use Rattle.icescan_text.proofs.Steps.{first_ends, then_ends}
 
-module _ (f : List ℕ → Type 0) (world : World) (specs : List Spec) (filter : List (Part BoundLeaf)) (rows : List Row)
+module _ (f : List ℕ → Type 0) (world : World) (specs : List Spec) (filter : List (Part BoundPredicate))
+    (rows : List Row)
     (scan : Scanned) (is : scan_of rows specs filter ≡ Ok scan) where
   scan_is : scan_in specs filter rows ≡ Ok scan
   scan_is = ap (as_run of_scan) is

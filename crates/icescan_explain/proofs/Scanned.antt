@@ -1,6 +1,6 @@
 -- A manifest and a file are told as kept just where a scan reads and keeps them.
 use Rattle.std.proofs.Common.{◌≡◌, ℕ, Bool, true, false, not, ◌&&◌, ◌||◌, cond, List, Option, Some, refl, sym, ap, ◌∙◌}
-use Rattle.ice_filter.specs.declared.bound.BoundLeaf.{BoundLeaf}
+use Rattle.ice_filter.specs.declared.bound.BoundPredicate.{BoundPredicate}
 use Rattle.ice_filter.specs.declared.parts.Part.{Part}
 use Rattle.ice_manifest_reading.specs.declared.entry.Live.{Live}
 use Rattle.ice_manifest_reading.specs.declared.row.Row.{Row}
@@ -26,7 +26,7 @@ kept_file true true false f g = refl
 kept_file true false b f g = refl
 kept_file false d b f g = refl
 
-module _ (specs : List Spec) (filter : List (Part BoundLeaf)) (spec : Spec) where
+module _ (specs : List Spec) (filter : List (Part BoundPredicate)) (spec : Spec) where
   pub row_kept : (row : Row) → spec_of specs row.spec_id ≡ Some spec
       → is_kept (row_fate (spec_tests filter spec) row) ≡ (pruner_of filter specs).wants row
   row_kept row is = kept_row (summaries_allow (projection filter spec) row.partitions) _

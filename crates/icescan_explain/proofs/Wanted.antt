@@ -8,7 +8,7 @@ use Rattle.icescan_explain.specs.Asking.{ice_filter_tests, spec_tests, tests_of}
 use Rattle.icescan_explain.specs.declared.tests.FilterTests.{FilterTests}
 use Rattle.icescan_explain.specs.declared.tests.SpecTests.{SpecTests}
 use Rattle.icescan_explain.proofs.Scanned.{row_kept}
-use Rattle.ice_filter.specs.declared.bound.BoundLeaf.{BoundLeaf}
+use Rattle.ice_filter.specs.declared.bound.BoundPredicate.{BoundPredicate}
 use Rattle.ice_filter.specs.declared.parts.Part.{Part}
 use Rattle.ice_manifest_reading.specs.declared.row.Row.{Row}
 use Rattle.ice_meta.specs.declared.spec.Spec.{Spec}
@@ -19,7 +19,7 @@ use Rattle.ice_state.proofs.Scans.{made, scan_is, scan_made}
 use Rattle.ice_state.proofs.Specs.{spec_of-by_id}
 use Rattle.icescan_explain.specs.RowsTold.{AreFor, IsScanFor, is_wanted, is_wanted_by}
 
-found_step : (filter : List (Part BoundLeaf)) (spec : Spec) (specs : List Spec) (id : ℤ) (b : Bool)
+found_step : (filter : List (Part BoundPredicate)) (spec : Spec) (specs : List Spec) (id : ℤ) (b : Bool)
     → find (λ (t : SpecTests). int_eq t.spec.id id) (map (spec_tests filter) specs)
     ≡ option_map (spec_tests filter) (spec_of specs id)
     → cond b (Some (spec_tests filter spec))
@@ -28,14 +28,14 @@ found_step : (filter : List (Part BoundLeaf)) (spec : Spec) (specs : List Spec) 
 found_step filter spec specs id true rest = refl
 found_step filter spec specs id false rest = rest
 
-found_in : (filter : List (Part BoundLeaf)) (specs : List Spec) (id : ℤ)
+found_in : (filter : List (Part BoundPredicate)) (specs : List Spec) (id : ℤ)
     → find (λ (t : SpecTests). int_eq t.spec.id id) (map (spec_tests filter) specs)
     ≡ option_map (spec_tests filter) (spec_of specs id)
 found_in filter [] id = refl
 found_in filter (spec ∷ specs) id =
     found_step filter spec specs id (int_eq spec.id id) (found_in filter specs id)
 
-module _ (specs : List Spec) (filter : List (Part BoundLeaf)) (columns : List (List ℕ)) where
+module _ (specs : List Spec) (filter : List (Part BoundPredicate)) (columns : List (List ℕ)) where
   abbrev tests : FilterTests
   tests = ice_filter_tests specs filter columns
 
@@ -56,7 +56,7 @@ module _ (specs : List Spec) (filter : List (Part BoundLeaf)) (columns : List (L
   wanted_are (row ∷ rows) = rw (wanted_is row, wanted_are rows) refl
 
 -- the wanted rows of a scan that the tests are for
-pub scan_wants : (by : FilterTests) (specs : List Spec) (filter : List (Part BoundLeaf)) (rows : List Row)
+pub scan_wants : (by : FilterTests) (specs : List Spec) (filter : List (Part BoundPredicate)) (rows : List Row)
     (scan : Scanned) → AreFor by specs filter → scan_of rows specs filter ≡ Ok scan
     → scan.wanted ≡ filter_list (is_wanted by) (by_row_path rows)
 scan_wants by specs filter rows scan for is =
@@ -66,7 +66,7 @@ scan_wants by specs filter rows scan for is =
 
 -- ---- the spec of a row
 
-of_tests : (filter : List (Part BoundLeaf)) (o : Option Spec) (of_spec : SpecTests)
+of_tests : (filter : List (Part BoundPredicate)) (o : Option Spec) (of_spec : SpecTests)
     → option_map (spec_tests filter) o ≡ Some of_spec → o ≡ Some of_spec.spec
 of_tests filter None of_spec h = absurd cc
 of_tests filter (Some spec) of_spec h =

@@ -1,4 +1,4 @@
--- What becomes of manifests and files under a filter, and which leaf of it is to blame: Apache Iceberg table spec,
+-- What becomes of manifests and files under a filter, and which predicate of it is to blame: Apache Iceberg table spec,
 -- version 2, "Scan Planning".
 use Rattle.std.specs.Prelude.{Bool, true, false, ◌&&◌, not, if◌then◌else◌}
 use Rattle.ice_value.specs.declared.file_content.FileContent.{FileContent}
@@ -41,7 +41,7 @@ is_out_of_bounds tests l = holds_in holds.Data l.entry && not (file_may tests.fi
 abbrev pub file_fate : FilterTests → SpecTests → Live → Fate
 file_fate tests of_spec l =
     if part_meets of_spec.part l.entry.file.tuple
-    then (if is_out_of_bounds tests l then ByBounds (blamed_column tests.leaves l.bounds) else Kept)
+    then (if is_out_of_bounds tests l then ByBounds (blamed_column tests.predicates l.bounds) else Kept)
     else ByPartition (blamed_field of_spec.lone (λ part. part_meets part l.entry.file.tuple))
 
 -- the verdict on an entry's file of which this becomes

@@ -9,7 +9,7 @@ use Rattle.icescan_explain.specs.Fates.{file_verdict, is_kept, row_fate, row_ver
 use Rattle.icescan_explain.specs.declared.tests.FilterTests.{FilterTests}
 use Rattle.icescan_explain.specs.declared.tests.SpecTests.{SpecTests}
 use Rattle.icescan_explain.specs.declared.verdict.Verdict.{Verdict}
-use Rattle.ice_filter.specs.declared.bound.BoundLeaf.{BoundLeaf}
+use Rattle.ice_filter.specs.declared.bound.BoundPredicate.{BoundPredicate}
 use Rattle.ice_filter.specs.declared.parts.Part.{Part}
 use Rattle.ice_manifest_reading.specs.Manifests.{live_of}
 use Rattle.ice_manifest_reading.specs.declared.entry.Live.{Live}
@@ -52,12 +52,12 @@ abbrev pub rows_told : FilterTests → World → List Row → List Verdict
 rows_told tests world rows = flat_map (row_told tests world) rows
 
 -- the tests are those of a filter through these specs
-abbrev pub AreFor : FilterTests → List Spec → List (Part BoundLeaf) → Type 0
+abbrev pub AreFor : FilterTests → List Spec → List (Part BoundPredicate) → Type 0
 AreFor tests specs filter = (columns : List (List ℕ)) × (tests ≡ ice_filter_tests specs filter columns)
 
 -- the scan is one of rows by the specs and the filter that the tests are for
 abbrev pub IsScanFor : FilterTests → Scanned → Type 0
-IsScanFor tests scan = (rows : List Row) × (specs : List Spec) × (filter : List (Part BoundLeaf))
+IsScanFor tests scan = (rows : List Row) × (specs : List Spec) × (filter : List (Part BoundPredicate))
     × AreFor tests specs filter × (scan_of rows specs filter ≡ Ok scan)
 
 -- why telling of a row ends: memory ran out, or its manifest, which is wanted, can't be had

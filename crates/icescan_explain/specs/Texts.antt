@@ -30,7 +30,7 @@ kept_text plan Manifest path = codes " wanted"
 kept_text plan Data path = codes " kept"
 kept_text plan Deletes path = named_number (codes " applies ") (applied plan path)
 
--- what says that it is left out, with a name behind the words; where no leaf is to blame there is none
+-- what says that it is left out, with a name behind the words; where no predicate is to blame there is none
 abbrev pub left_out_text : List ℕ → Option (List ℕ) → List ℕ
 left_out_text words (Some name) = named_path words name
 left_out_text words None = codes " pruned"

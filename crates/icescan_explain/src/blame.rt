@@ -5,7 +5,7 @@ ghost use Rattle.icescan_explain.specs.Blaming.{blamed_column, blamed_field};
 ghost use Rattle.ice_project.specs.Tuples.{part_meets};
 ghost use Rattle.ice_state.specs.Pruning.{summaries_allow};
 
-use crate::lone::{LoneLeaf, LoneTest, copied_name};
+use crate::lone::{LonePredicate, LoneTest, copied_name};
 use contract_words::Text;
 use ice_manifest_reading::Row;
 use ice_project::{PartFilter, bounds_may, summary_may};
@@ -55,17 +55,17 @@ pub fn blamed_by_tuple(
     Ok(None)
 }
 
-/// The column of the first leaf that counts and bounds alone say no to.
+/// The column of the first predicate that counts and bounds alone say no to.
 pub fn blamed_by_bounds(
     alloc: Global,
-    leaves: &[LoneLeaf],
+    predicates: &[LonePredicate],
     bounds: &FileBounds<'_, '_>,
 ) -> Result<Option<Text>, AllocError>
-    ensures { IfOk result (λ column. column ≡ blamed_column leaves.now bounds.now) }
+    ensures { IfOk result (λ column. column ≡ blamed_column predicates.now bounds.now) }
 {
-    'leaves: for leaf in leaves {
-        if !bounds_may(&leaf.filter, bounds) {
-            return copied_name(alloc, &leaf.column);
+    'predicates: for predicate in predicates {
+        if !bounds_may(&predicate.filter, bounds) {
+            return copied_name(alloc, &predicate.column);
         }
     }
     Ok(None)

@@ -1,11 +1,11 @@
-//! The names of the columns of a filter's leaves.
+//! The names of the columns of a filter's predicates.
 
 ghost use Rattle.std.specs.Prelude.{◌≡◌, ◌++◌, IfOk, OnOk};
 ghost use Rattle.std.specs.List.{flat_map};
 ghost use Rattle.icescan_explain.specs.Columns.{column_name, column_names, columns_in, names_in};
 
 use contract_words::{Items, Text};
-use ice_filter::{Column, FilterFault, Leaf, Part, parse};
+use ice_filter::{Column, FilterFault, Part, Predicate, parse};
 use std::alloc::{AllocError, Global};
 
 /// The names that lead to a column, with dots between them.
@@ -21,14 +21,14 @@ fn column_name(alloc: Global, column: &Column) -> Result<Text, AllocError>
     Ok(Text::from_string(name))
 }
 
-/// The names of the columns of a filter's leaves, in its order.
-fn column_names(alloc: Global, parts: &[Part<Leaf>]) -> Result<Vec<Text>, AllocError>
+/// The names of the columns of a filter's predicates, in its order.
+fn column_names(alloc: Global, parts: &[Part<Predicate>]) -> Result<Vec<Text>, AllocError>
     ensures { IfOk result (λ names. names.items ≡ column_names parts.now) }
 {
     let mut names = Vec::new(alloc);
     'parts: for part in parts {
-        if let Part::Leaf(leaf) = part {
-            names.push(column_name(alloc, &leaf.column)?)?;
+        if let Part::Predicate(predicate) = part {
+            names.push(column_name(alloc, &predicate.column)?)?;
         }
     }
     Ok(names)

@@ -3,18 +3,21 @@
 ghost use Rattle.std.specs.Prelude.{◌≡◌, IfOk};
 
 use contract_words::{Duplicate, Items};
-use ice_filter::{Bound, BoundLeaf, Part, Parts};
+use ice_filter::{Bound, BoundPredicate, Part, Parts};
 use ice_project::FieldTest;
 use std::alloc::{AllocError, Global};
 
-/// The same leaf.
-pub fn copied_leaf(alloc: Global, leaf: &BoundLeaf) -> Result<BoundLeaf, AllocError>
-    ensures { IfOk result (λ copied. copied ≡ leaf.now) }
+/// The same predicate.
+pub fn copied_predicate(
+    alloc: Global,
+    predicate: &BoundPredicate,
+) -> Result<BoundPredicate, AllocError>
+    ensures { IfOk result (λ copied. copied ≡ predicate.now) }
 {
-    Ok(BoundLeaf {
-        column: leaf.column,
-        column_type: leaf.column_type,
-        test: leaf.test.copy(alloc)?,
+    Ok(BoundPredicate {
+        column: predicate.column,
+        column_type: predicate.column_type,
+        test: predicate.test.copy(alloc)?,
     })
 }
 
@@ -30,13 +33,16 @@ pub fn copied_field_test(test: &FieldTest) -> Result<FieldTest, AllocError>
 }
 
 /// The same part.
-fn copied_part(alloc: Global, part: &Part<BoundLeaf>) -> Result<Part<BoundLeaf>, AllocError>
+fn copied_part(
+    alloc: Global,
+    part: &Part<BoundPredicate>,
+) -> Result<Part<BoundPredicate>, AllocError>
     ensures { IfOk result (λ copied. copied ≡ part.now) }
 {
     match part {
         Part::True => Ok(Part::True),
         Part::False => Ok(Part::False),
-        Part::Leaf(leaf) => Ok(Part::Leaf(copied_leaf(alloc, leaf)?)),
+        Part::Predicate(predicate) => Ok(Part::Predicate(copied_predicate(alloc, predicate)?)),
         Part::And => Ok(Part::And),
         Part::Or => Ok(Part::Or),
     }
@@ -45,8 +51,8 @@ fn copied_part(alloc: Global, part: &Part<BoundLeaf>) -> Result<Part<BoundLeaf>,
 /// The same parts.
 fn copied_parts(
     alloc: Global,
-    parts: &[Part<BoundLeaf>],
-) -> Result<Items<Part<BoundLeaf>>, AllocError>
+    parts: &[Part<BoundPredicate>],
+) -> Result<Items<Part<BoundPredicate>>, AllocError>
     ensures { IfOk result (λ copied. copied ≡ parts.now) }
 {
     let mut copied = Items::new(alloc);

@@ -38,7 +38,7 @@ fn file_fate(
         return Ok(Fate::ByPartition(field));
     }
     if is_out_of_bounds(tests, live) {
-        let column = blamed_by_bounds(alloc, tests.leaves.as_slice(), &live.bounds)?;
+        let column = blamed_by_bounds(alloc, tests.predicates.as_slice(), &live.bounds)?;
         return Ok(Fate::ByBounds(column));
     }
     Ok(Fate::Kept)

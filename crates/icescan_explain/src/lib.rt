@@ -19,8 +19,8 @@ mod verdict;
 
 pub use explained::explanations_tell_of_plans;
 pub use files::{FileTests, file_verdict, file_verdicts};
-pub use laws::{fates_are_those_of_scans, left_out_names_a_leaf, named_leaves_say_no};
-pub use lone::{LoneLeaf, LoneTest};
+pub use laws::{fates_are_those_of_scans, left_out_names_a_predicate, named_predicates_say_no};
+pub use lone::{LonePredicate, LoneTest};
 pub use manifests::Explanation;
 pub use running::{explain_file, run_explain};
 pub use tests::{FilterTests, SpecTests, row_verdict};

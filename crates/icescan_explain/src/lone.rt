@@ -1,16 +1,16 @@
-//! The leaves of a filter and the tests that they come to, each alone.
+//! The predicates of a filter and the tests that they come to, each alone.
 
 ghost use Rattle.std.specs.Prelude.{◌≡◌, ◌++◌, IfOk, OnOk, map, slice_get};
-ghost use Rattle.icescan_explain.specs.Alone.{field_name, lone_leaf, lone_leaves, lone_test, lone_tests, only, only_test};
+ghost use Rattle.icescan_explain.specs.Alone.{field_name, lone_predicate, lone_predicates, lone_test, lone_tests, only, only_test};
 
-use crate::copies::{copied_field_test, copied_leaf};
+use crate::copies::{copied_field_test, copied_predicate};
 use contract_words::{Items, Text};
-use ice_filter::{Bound, BoundLeaf, Part, Parts};
+use ice_filter::{Bound, BoundPredicate, Part, Parts};
 use ice_meta::Spec;
 use ice_project::{FieldTest, PartFilter};
 use std::alloc::{AllocError, Global};
 
-/// A test that a leaf of a filter comes to through a partition field, alone.
+/// A test that a predicate of a filter comes to through a partition field, alone.
 #[derive(Debug, Drop)]
 pub struct LoneTest {
     /// The field's name.
@@ -19,12 +19,12 @@ pub struct LoneTest {
     pub part: PartFilter,
 }
 
-/// A leaf of a filter, alone.
+/// A predicate of a filter, alone.
 #[derive(Debug, Drop)]
-pub struct LoneLeaf {
-    /// The name of the leaf's column.
+pub struct LonePredicate {
+    /// The name of the predicate's column.
     pub column: Option<Text>,
-    /// The filter that has this leaf alone.
+    /// The filter that has this predicate alone.
     pub filter: Bound,
 }
 
@@ -55,7 +55,7 @@ fn only_test(alloc: Global, fields: usize, test: &FieldTest) -> Result<PartFilte
     let mut tests = Items::new(alloc);
     tests.push(copied_field_test(test)?)?;
     let mut parts = Items::new(alloc);
-    parts.push(Part::Leaf(tests))?;
+    parts.push(Part::Predicate(tests))?;
     Ok(PartFilter {
         fields,
         parts: Parts::from_items(parts),
@@ -81,7 +81,7 @@ fn push_lone_tests(
     Ok(())
 }
 
-/// The tests of a filter's projection through a spec, leaf by leaf, each alone.
+/// The tests of a filter's projection through a spec, predicate by predicate, each alone.
 pub fn lone_tests(
     alloc: Global,
     spec: &Spec,
@@ -92,19 +92,19 @@ pub fn lone_tests(
     let parts = part.parts.as_slice();
     let mut lone = Items::new(alloc);
     'parts: for part_of in parts {
-        if let Part::Leaf(tests) = part_of {
+        if let Part::Predicate(tests) = part_of {
             push_lone_tests(alloc, &mut lone, spec, part.fields, tests.as_slice())?;
         }
     }
     Ok(lone)
 }
 
-/// The filter that has one leaf alone.
-fn only_leaf(alloc: Global, leaf: &BoundLeaf) -> Result<Bound, AllocError>
-    ensures { IfOk result (λ filter. filter.parts ≡ only leaf.now) }
+/// The filter that has one predicate alone.
+fn only_predicate(alloc: Global, predicate: &BoundPredicate) -> Result<Bound, AllocError>
+    ensures { IfOk result (λ filter. filter.parts ≡ only predicate.now) }
 {
     let mut parts = Items::new(alloc);
-    parts.push(Part::Leaf(copied_leaf(alloc, leaf)?))?;
+    parts.push(Part::Predicate(copied_predicate(alloc, predicate)?))?;
     Ok(Bound {
         parts: Parts::from_items(parts),
     })
@@ -120,35 +120,35 @@ fn column_at(alloc: Global, columns: &[Text], at: usize) -> Result<Option<Text>,
     }
 }
 
-/// A leaf alone.
-fn lone_leaf(
+/// A predicate alone.
+fn lone_predicate(
     alloc: Global,
     columns: &[Text],
     at: usize,
-    leaf: &BoundLeaf,
-) -> Result<LoneLeaf, AllocError>
-    ensures { IfOk result (λ lone. lone ≡ lone_leaf columns.now at leaf.now) }
+    predicate: &BoundPredicate,
+) -> Result<LonePredicate, AllocError>
+    ensures { IfOk result (λ lone. lone ≡ lone_predicate columns.now at predicate.now) }
 {
-    Ok(LoneLeaf {
+    Ok(LonePredicate {
         column: column_at(alloc, columns, at)?,
-        filter: only_leaf(alloc, leaf)?,
+        filter: only_predicate(alloc, predicate)?,
     })
 }
 
-/// The leaves of a filter, each alone. The names are those of the leaves' columns, in the same order.
-pub fn lone_leaves(
+/// The predicates of a filter, each alone. The names are those of the predicates' columns, in the same order.
+pub fn lone_predicates(
     alloc: Global,
     columns: &[Text],
     filter: &Bound,
-) -> Result<Items<LoneLeaf>, AllocError>
-    ensures { IfOk result (λ lone. lone ≡ lone_leaves columns.now 0 filter.now.parts) }
+) -> Result<Items<LonePredicate>, AllocError>
+    ensures { IfOk result (λ lone. lone ≡ lone_predicates columns.now 0 filter.now.parts) }
 {
     let parts = filter.parts.as_slice();
     let mut lone = Items::new(alloc);
     let mut at = 0;
     'parts: for part in parts {
-        if let Part::Leaf(leaf) = part {
-            lone.push(lone_leaf(alloc, columns, at, leaf)?)?;
+        if let Part::Predicate(predicate) = part {
+            lone.push(lone_predicate(alloc, columns, at, predicate)?)?;
             at += 1;
         }
     }

@@ -1,4 +1,4 @@
-//! A filter and its projections, with each of their leaves and tests alone.
+//! A filter and its projections, with each of their predicates and tests alone.
 
 ghost use Rattle.std.specs.Prelude.{◌≡◌, IfOk, map};
 ghost use Rattle.std.specs.Option.{option_copied};
@@ -7,7 +7,7 @@ ghost use Rattle.icescan_explain.specs.Fates.{row_fate, row_verdict};
 
 use crate::blame::{blamed_by_row, row_allows};
 use crate::copies::copied_filter;
-use crate::lone::{LoneLeaf, LoneTest, lone_leaves, lone_tests};
+use crate::lone::{LonePredicate, LoneTest, lone_predicates, lone_tests};
 use crate::verdict::{Fate, Subject, Verdict};
 use contract_words::{Items, Text};
 use ice_filter::Bound;
@@ -24,7 +24,7 @@ pub struct SpecTests {
     pub spec: Spec,
     /// The filter's projection through it.
     pub part: PartFilter,
-    /// The tests of the projection, leaf by leaf, each alone.
+    /// The tests of the projection, predicate by predicate, each alone.
     pub lone: Items<LoneTest>,
 }
 
@@ -33,8 +33,8 @@ pub struct SpecTests {
 pub struct FilterTests {
     /// The filter.
     pub filter: Bound,
-    /// Its leaves in order, each alone.
-    pub leaves: Items<LoneLeaf>,
+    /// Its predicates in order, each alone.
+    pub predicates: Items<LonePredicate>,
     /// The filter through each of the table's partition specs.
     pub specs: Items<SpecTests>,
 }
@@ -64,7 +64,7 @@ fn each_spec(alloc: Global, filter: &Bound, specs: &[Spec]) -> Result<Items<Spec
 
 impl FilterTests {
     /// What is asked for a filter of a table with these partition specs. The names are those of the columns of the
-    /// filter's leaves, in the same order.
+    /// filter's predicates, in the same order.
     pub fn new(
         alloc: Global,
         specs: &[Spec],
@@ -75,7 +75,7 @@ impl FilterTests {
     {
         Ok(FilterTests {
             filter: copied_filter(alloc, filter)?,
-            leaves: lone_leaves(alloc, columns, filter)?,
+            predicates: lone_predicates(alloc, columns, filter)?,
             specs: each_spec(alloc, filter, specs)?,
         })
     }

@@ -35,10 +35,10 @@ pub enum Fate {
     /// A manifest is read, a file is kept.
     Kept,
     /// It is left out by the filter's projection through its partition spec: a manifest by its row's summaries, a file
-    /// by its partition values. The partition field is that of the first test, leaf by leaf, that alone says no. There
-    /// is none where the filter is never met, as `false` is, whatever its leaves are.
+    /// by its partition values. The partition field is that of the first test, predicate by predicate, that alone says no. There
+    /// is none where the filter is never met, as `false` is, whatever its predicates are.
     ByPartition(Option<Text>),
-    /// A data file that the projection keeps is left out by its counts and bounds. The column is that of the first leaf
+    /// A data file that the projection keeps is left out by its counts and bounds. The column is that of the first predicate
     /// that alone says no.
     ByBounds(Option<Text>),
 }

@@ -6,7 +6,7 @@ use crate::hint::{Hint, quoted};
 use crate::nearest::add_none_named;
 use contract_words::Text;
 use ice_desk::Files;
-use ice_filter::{Column, Filter, FilterFault, Leaf, Part, parse};
+use ice_filter::{Column, Filter, FilterFault, Part, Predicate, parse};
 use ice_meta::{Metadata, Schema};
 use ice_value::ColumnType;
 use std::alloc::{AllocError, Global};
@@ -93,18 +93,18 @@ fn type_name(column_type: Option<ColumnType>) -> &'static str {
     }
 }
 
-/// Adds that the column of a leaf is none of the schema's, where it is so. The answer says whether it is.
+/// Adds that the column of a predicate is none of the schema's, where it is so. The answer says whether it is.
 fn add_missing(
     hint: &mut Hint,
     alloc: Global,
-    leaf: &Leaf,
+    predicate: &Predicate,
     schema: &Schema,
 ) -> Result<bool, AllocError> {
-    let path = path_of(alloc, &leaf.column)?;
+    let path = path_of(alloc, &predicate.column)?;
     if schema.column(path.as_slice()).is_some() {
         return Ok(false);
     }
-    let name = asked_name(alloc, &leaf.column)?;
+    let name = asked_name(alloc, &predicate.column)?;
     let names = names_of(alloc, schema)?;
     add_none_named(hint, alloc, "column", name.as_str(), names.as_slice())?;
     Ok(true)
@@ -118,8 +118,8 @@ fn add_first_missing(
     schema: &Schema,
 ) -> Result<(), AllocError> {
     for part in filter.parts().as_slice() {
-        if let Part::Leaf(leaf) = part {
-            if add_missing(hint, alloc, leaf, schema)? {
+        if let Part::Predicate(predicate) = part {
+            if add_missing(hint, alloc, predicate, schema)? {
                 return Ok(());
             }
         }
@@ -127,18 +127,18 @@ fn add_first_missing(
     Ok(())
 }
 
-/// Adds the type of the column that a leaf asks for.
+/// Adds the type of the column that a predicate asks for.
 fn add_type(
     hint: &mut Hint,
     alloc: Global,
-    leaf: &Leaf,
+    predicate: &Predicate,
     schema: &Schema,
 ) -> Result<(), AllocError> {
-    let path = path_of(alloc, &leaf.column)?;
+    let path = path_of(alloc, &predicate.column)?;
     let Some(column) = schema.column(path.as_slice()) else {
         return Ok(());
     };
-    let name = asked_name(alloc, &leaf.column)?;
+    let name = asked_name(alloc, &predicate.column)?;
     let name = quoted(alloc, name.as_str())?;
     let kind = type_name(column.column_type);
     hint.here(alloc, format!(in alloc; "the type of {name}: {kind}")?)
@@ -152,8 +152,8 @@ fn add_types(
     schema: &Schema,
 ) -> Result<(), AllocError> {
     for part in filter.parts().as_slice() {
-        if let Part::Leaf(leaf) = part {
-            add_type(hint, alloc, leaf, schema)?;
+        if let Part::Predicate(predicate) = part {
+            add_type(hint, alloc, predicate, schema)?;
         }
     }
     Ok(())

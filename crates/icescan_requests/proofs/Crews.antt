@@ -11,7 +11,7 @@ use Rattle.ice_desk.specs.declared.fault.WantedFault.TheVariants as wanted
 use Rattle.ice_desk.specs.Plans.{GivesPlan, IfFinished, MayStopPlan}
 use Rattle.ice_desk.specs.Wanted.{MayStop, paths_of}
 use Rattle.ice_desk.specs.Worlds.{EndsAt}
-use Rattle.ice_filter.specs.declared.bound.BoundLeaf.{BoundLeaf}
+use Rattle.ice_filter.specs.declared.bound.BoundPredicate.{BoundPredicate}
 use Rattle.ice_filter.specs.declared.parts.Part.{Part}
 use Rattle.ice_manifest_reading.specs.declared.row.Row.{Row}
 use Rattle.ice_meta.specs.declared.spec.Spec.{Spec}
@@ -41,7 +41,7 @@ length_by_path [] = refl
 length_by_path (row ∷ rows) = length_put row (by_row_path rows) ∙ ap suc (length_by_path rows)
 
 -- no more manifests are wanted than there are rows
-pub few_wanted : (rows : List Row) (specs : List Spec) (parts : List (Part BoundLeaf)) (scan : Scanned)
+pub few_wanted : (rows : List Row) (specs : List Spec) (parts : List (Part BoundPredicate)) (scan : Scanned)
     → scan_of rows specs parts ≡ Ok scan → length rows ≤ 65536 → length scan.wanted ≤ 65536
 few_wanted rows specs parts scan is few =
     let wants = (pruner_of parts specs).wants in
@@ -65,7 +65,7 @@ plan_is_no_write (planned.Device path) h = absurd cc
 plan_is_no_write planned.Memory h = absurd cc
 plan_is_no_write planned.Workers h = absurd cc
 
-module _ (f : List ℕ → Type 0) (w : Type 0) (world : World) (specs : List Spec) (filter : List (Part BoundLeaf))
+module _ (f : List ℕ → Type 0) (w : Type 0) (world : World) (specs : List Spec) (filter : List (Part BoundPredicate))
     (rows : List Row) (scan : Scanned) (is : scan_of rows specs filter ≡ Ok scan) where
   untaken : (e : WantedFault) → MayStop world f (paths_of scan.wanted) e
       → MayEnd (rows_plan over_wanted_rows world specs filter rows) (EndsAt world f (manifests specs filter rows)) w

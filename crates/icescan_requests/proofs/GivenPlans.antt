@@ -4,7 +4,7 @@ use Rattle.std.specs.Prelude.{Option, Result, Ok, Err, IfOk, OnOk}
 use Rattle.std.proofs.lemmas.Result.{on_ok_weaker}
 use Rattle.ice_desk.proofs.Given.{more_given}
 use Rattle.ice_desk.specs.Given.{Giving}
-use Rattle.ice_filter.specs.declared.bound.BoundLeaf.{BoundLeaf}
+use Rattle.ice_filter.specs.declared.bound.BoundPredicate.{BoundPredicate}
 use Rattle.ice_filter.specs.declared.parts.Part.{Part}
 use Rattle.ice_manifest_reading.specs.declared.row.Row.{Row}
 use Rattle.ice_filter.specs.declared.bound.Bound.{Bound}
@@ -57,7 +57,8 @@ module _ (gives more : Giving) (wider : (path : List ℕ) (found : Option (List 
     pub more_rows : (list : List ℕ) (rows : List Row) → AreRowsGiven gives list rows → AreRowsGiven more list rows
     more_rows list rows h = (h.0, wider list _ h.1, h.2)
 
-    pub more_rows_plans : (specs : List Spec) (filter : List (Part BoundLeaf)) (rows : List Row) (plan : List OwnedLine)
+    pub more_rows_plans : (specs : List Spec) (filter : List (Part BoundPredicate)) (rows : List Row)
+        (plan : List OwnedLine)
         → IsRowsPlanOfGiven gives specs filter rows plan → IsRowsPlanOfGiven more specs filter rows plan
     more_rows_plans specs filter rows plan h = record {
       scan = h.scan;

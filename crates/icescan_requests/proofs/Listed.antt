@@ -4,7 +4,7 @@ use Rattle.std.specs.Prelude.{Result, Ok, Err}
 use Rattle.std.specs.List.{AllByRecursion}
 use Rattle.contract_words.specs.Outcome.{◌>>=◌}
 use Rattle.ice_desk.specs.Worlds.{EndsAt}
-use Rattle.ice_filter.specs.declared.bound.BoundLeaf.{BoundLeaf}
+use Rattle.ice_filter.specs.declared.bound.BoundPredicate.{BoundPredicate}
 use Rattle.ice_filter.specs.declared.parts.Part.{Part}
 use Rattle.ice_manifest_reading.specs.declared.row.Row.{Row}
 use Rattle.ice_meta.specs.declared.spec.Spec.{Spec}
@@ -32,8 +32,8 @@ are_without_fields (row ∷ rows) = (refl, are_without_fields rows)
 abbrev listed : World → List Row → Result (List OwnedLine) RunFault
 listed world rows = list_scan rows >>= λ scan. all_present world scan.wanted >>= λ _. plan_in world rows
 
-module _ (opens : (parts : List (Part BoundLeaf)) (specs : List Spec) → IsOpen specs (pruner_of parts specs))
-    (sound : (parts : List (Part BoundLeaf)) (specs : List Spec) → HasSoundSummaries specs (pruner_of parts specs))
+module _ (opens : (parts : List (Part BoundPredicate)) (specs : List Spec) → IsOpen specs (pruner_of parts specs))
+    (sound : (parts : List (Part BoundPredicate)) (specs : List Spec) → HasSoundSummaries specs (pruner_of parts specs))
     (covers : (world : World) (specs : List Spec) (rows : List Row) → AllByRecursion (λ spec. spec.fields ≡ []) specs
     → AreCovered world specs rows)
     (plans : (world : World) (rows : List Row) (specs : List Spec) (scan : Scanned) → scan_of rows specs [] ≡ Ok scan

@@ -8,7 +8,7 @@ use Rattle.ice_desk.specs.declared.fault.WantedFault.{WantedFault}
 use Rattle.ice_desk.specs.declared.fault.WantedFault.TheVariants as wanted
 use Rattle.ice_desk.specs.Wanted.{MayStop, paths_of, reads_of as wanted_reads}
 use Rattle.ice_desk.specs.Worlds.{EndsAt}
-use Rattle.ice_filter.specs.declared.bound.BoundLeaf.{BoundLeaf}
+use Rattle.ice_filter.specs.declared.bound.BoundPredicate.{BoundPredicate}
 use Rattle.ice_filter.specs.declared.parts.Part.{Part}
 use Rattle.ice_manifest_reading.specs.declared.row.Row.{Row}
 use Rattle.ice_meta.specs.declared.spec.Spec.{Spec}
@@ -96,7 +96,7 @@ list_there world path rows h = file_there (file_in world path) rows h
 
 -- ---- the plan of the rows
 
-module _ (f : List ℕ → Type 0) (w : Type 0) (world : World) (specs : List Spec) (filter : List (Part BoundLeaf))
+module _ (f : List ℕ → Type 0) (w : Type 0) (world : World) (specs : List Spec) (filter : List (Part BoundPredicate))
     (rows : List Row) where
   abbrev stops : List ℕ → Type 0
   stops = EndsAt world f (manifests specs filter rows)
@@ -290,10 +290,10 @@ by_presence : (present : Result Unit RunFault) (a b : Result (List OwnedLine) Ru
 by_presence (Ok tt) a b h = h refl
 by_presence (Err e) a b h = refl
 
-module _ (opens : (parts : List (Part BoundLeaf)) (specs : List Spec) → IsOpen specs (pruner_of parts specs))
-    (sound : (parts : List (Part BoundLeaf)) (specs : List Spec) → HasSoundSummaries specs (pruner_of parts specs))
+module _ (opens : (parts : List (Part BoundPredicate)) (specs : List Spec) → IsOpen specs (pruner_of parts specs))
+    (sound : (parts : List (Part BoundPredicate)) (specs : List Spec) → HasSoundSummaries specs (pruner_of parts specs))
   where
-    by_scan : (world : World) (specs : List Spec) (filter : List (Part BoundLeaf)) (rows : List Row)
+    by_scan : (world : World) (specs : List Spec) (filter : List (Part BoundPredicate)) (rows : List Row)
         (found : Result Scanned ScanFault) → scan_of rows specs filter ≡ found → AreCovered world specs rows
         → (as_run of_scan found >>= λ s. all_present world s.wanted >>= λ _. as_run of_finish
         (over_wanted_rows world specs filter rows s))
@@ -308,7 +308,7 @@ module _ (opens : (parts : List (Part BoundLeaf)) (specs : List Spec) → IsOpen
         (has_each world s.wanted p) refl
         ∙ ap (λ parts. plan_of_snapshot (pruner_of parts specs) world specs rows) m.0))
 
-    pub same_plan : (world : World) (specs : List Spec) (filter : List (Part BoundLeaf)) (rows : List Row)
+    pub same_plan : (world : World) (specs : List Spec) (filter : List (Part BoundPredicate)) (rows : List Row)
         → AreCovered world specs rows → rows_plan over_wanted_rows world specs filter rows
         ≡ rows_plan over_all_rows world specs filter rows
     unfolding rows_plan

@@ -2,7 +2,7 @@
 use Rattle.std.specs.Prelude.{◌≡◌, ℕ, List, [], Option, Some, Ok}
 use Rattle.ice_desk.specs.Given.{Giving, IsGiven}
 use Rattle.ice_desk.specs.Wanted.{untaken}
-use Rattle.ice_filter.specs.declared.bound.BoundLeaf.{BoundLeaf}
+use Rattle.ice_filter.specs.declared.bound.BoundPredicate.{BoundPredicate}
 use Rattle.ice_filter.specs.declared.parts.Part.{Part}
 use Rattle.ice_manifest_reading.specs.declared.row.Row.{Row}
 use Rattle.ice_meta.specs.declared.spec.Spec.{Spec}
@@ -21,7 +21,8 @@ use Rattle.icescan_text.specs.declared.request.Request.{Request}
 
 -- The plan of these rows: each manifest that their scan wants was read from bytes that a read of its path gave, and the
 -- plan is that of what they have.
-pub record IsRowsPlanOfGiven (gives : Giving) (specs : List Spec) (filter : List (Part BoundLeaf)) (rows : List Row)
+pub record IsRowsPlanOfGiven (gives : Giving) (specs : List Spec) (filter : List (Part BoundPredicate))
+    (rows : List Row)
     (plan : List OwnedLine) : Type 0 where
   pub scan : Scanned
   pub scan_is : scan_of rows specs filter ≡ Ok scan

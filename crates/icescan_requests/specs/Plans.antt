@@ -2,7 +2,7 @@
 use Rattle.std.specs.Prelude.{◌≡◌, ◌≢◌, ℕ, List, [], ◌∷◌, Option, None, Result, Ok, Err, OnOk, IfErr, IsErrOf}
 use Rattle.contract_words.specs.Outcome.{◌>>=◌}
 use Rattle.ice_desk.specs.Worlds.{HasAt}
-use Rattle.ice_filter.specs.declared.bound.BoundLeaf.{BoundLeaf}
+use Rattle.ice_filter.specs.declared.bound.BoundPredicate.{BoundPredicate}
 use Rattle.ice_filter.specs.declared.parts.Part.{Part}
 use Rattle.ice_manifest_reading.specs.declared.row.Row.{Row}
 use Rattle.ice_meta.specs.declared.spec.Spec.{Spec}
@@ -31,7 +31,7 @@ use Rattle.icescan_requests.specs.declared.selection.Selection.{Selection}
 
 -- what the rows of a scan come to
 abbrev pub Ending : Type 0
-Ending = World → List Spec → List (Part BoundLeaf) → List Row → Scanned → Result (List OwnedLine) FinishFault
+Ending = World → List Spec → List (Part BoundPredicate) → List Row → Scanned → Result (List OwnedLine) FinishFault
 
 -- the plan of the snapshot, over all its rows
 abbrev pub over_all_rows : Ending
@@ -41,12 +41,12 @@ over_all_rows world specs filter rows scan = plan_of_snapshot (pruner_of filter 
 abbrev pub over_wanted_rows : Ending
 over_wanted_rows world specs filter rows scan = outcome scan (content world scan (every_row scan))
 
-abbrev pub scan_in : List Spec → List (Part BoundLeaf) → List Row → Result Scanned RunFault
+abbrev pub scan_in : List Spec → List (Part BoundPredicate) → List Row → Result Scanned RunFault
 scan_in specs filter rows = as_run of_scan (scan_of rows specs filter)
 
 -- The plan of these rows, or the first refusal: a row's spec is missing, a wanted manifest is absent (that of the least
 -- path: the wanted rows stand in the order of their paths), or the rows have no plan.
-unfoldable pub rows_plan : Ending → World → List Spec → List (Part BoundLeaf) → List Row
+unfoldable pub rows_plan : Ending → World → List Spec → List (Part BoundPredicate) → List Row
     → Result (List OwnedLine) RunFault
 rows_plan ending world specs filter rows = do
   scan ← scan_in specs filter rows
@@ -54,7 +54,7 @@ rows_plan ending world specs filter rows = do
   as_run of_finish (ending world specs filter rows scan)
 
 -- the paths of the wanted manifests, in the order in which they are read
-unfoldable pub manifests : List Spec → List (Part BoundLeaf) → List Row → List (List ℕ)
+unfoldable pub manifests : List Spec → List (Part BoundPredicate) → List Row → List (List ℕ)
 manifests specs filter rows = wanted_of (scan_in specs filter rows)
 
 -- ---- the plan that a request asks for

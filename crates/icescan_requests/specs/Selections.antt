@@ -4,9 +4,9 @@ use Rattle.std.specs.Prelude.{◌≡◌, ℕ, List, [], Option, Some, None, Resu
 use Rattle.contract_words.specs.Outcome.{◌>>=◌}
 use Rattle.ice_filter.specs.Binding.{bound_parts}
 use Rattle.ice_filter.specs.Parsing.{mapped, parsed}
-use Rattle.ice_filter.specs.declared.bound.BoundLeaf.{BoundLeaf}
+use Rattle.ice_filter.specs.declared.bound.BoundPredicate.{BoundPredicate}
 use Rattle.ice_filter.specs.declared.fault.FilterFault.{FilterFault}
-use Rattle.ice_filter.specs.declared.leaf.Leaf.{Leaf}
+use Rattle.ice_filter.specs.declared.predicate.Predicate.{Predicate}
 use Rattle.ice_filter.specs.declared.parts.Part.{Part}
 use Rattle.ice_meta.specs.declared.metadata.Target.{Target}
 use Rattle.ice_meta.specs.declared.schema.Schema.{Schema}
@@ -21,18 +21,18 @@ use Rattle.icescan_text.specs.declared.request.Request.{Request}
 use Rattle.icescan_requests.specs.declared.selection.Selection.{Selection}
 
 -- the parts of the filter's text, where there is one
-abbrev pub parts_in : Option (List ℕ) → Result (Option (List (Part Leaf))) FilterFault
+abbrev pub parts_in : Option (List ℕ) → Result (Option (List (Part Predicate))) FilterFault
 parts_in None = Ok None
 parts_in (Some text) = mapped Some (parsed text)
 
 -- the filter over the ids of a schema's columns; without a text it has no parts, and every row meets it
-abbrev pub bound_in : Schema → Option (List (Part Leaf)) → Result (List (Part BoundLeaf)) FilterFault
+abbrev pub bound_in : Schema → Option (List (Part Predicate)) → Result (List (Part BoundPredicate)) FilterFault
 bound_in schema None = Ok []
 bound_in schema (Some parts) = bound_parts schema parts
 
 -- What a snapshot of a table and a filter select, or the first refusal: that of the snapshot, or of what the filter
 -- asks of the schema.
-unfoldable pub selected_by : Table → Target → Option (List (Part Leaf)) → Result Selection RunFault
+unfoldable pub selected_by : Table → Target → Option (List (Part Predicate)) → Result Selection RunFault
 selected_by table target parts = do
   list ← as_run of_meta (list_of target table)
   schema ← as_run of_meta (schema_of target table)

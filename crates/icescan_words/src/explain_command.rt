@@ -14,7 +14,7 @@ becomes of its live files, in the order of their positions:
   data PATH pruned by bounds COLUMN         its counts and bounds of this column show it
   delete PATH applies N                     it applies to so many data files of the plan
   delete PATH pruned by partition FIELD     its value of this partition field shows it
-The first leaf of the filter that alone shows it is told. Where the filter is never met, as `false` is, no name stands
+The first predicate of the filter that alone shows it is told. Where the filter is never met, as `false` is, no name stands
 there. The files of a manifest that is left out are not read, and have no lines.
 
 The last three lines count them, and the bytes of the manifests and of the data files that are left out:

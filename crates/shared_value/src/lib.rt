@@ -4,11 +4,12 @@
 ghost use Rattle.std.specs.Prelude.{◌≡◌, IfOk};
 
 use std::alloc::{AllocError, AllocFailed, Global};
+use std::fmt::{self, Debug, Formatter};
 use std::marker::Model;
 use std::sync::Arc;
 
 /// A value that lies in memory once, whatever the number of its owners. Contracts see it as the value.
-#[derive(Debug, Drop)]
+#[derive(Drop)]
 pub struct Shared<T> {
     value: Arc<T>,
 }
@@ -45,6 +46,13 @@ impl<T> Shared<T> {
         ensures { result.now ≡ self.now }
     {
         &*self.value
+    }
+}
+
+/// Shown as the value.
+impl<T: Debug> Debug for Shared<T> {
+    fn fmt<W: fmt::Write>(&self, f: &mut Formatter<W>) -> fmt::Result {
+        self.get().fmt(f)
     }
 }
 

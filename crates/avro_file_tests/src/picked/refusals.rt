@@ -6,7 +6,7 @@ ghost use Rattle.avro_schema.specs.View.{tree};
 ghost use Rattle.avro_file.specs.Files.{type_of};
 ghost use Rattle.avro_file_picked.specs.Finding.{layout_tree};
 
-use super::{ENTRY, file_of_one, ways_of};
+use super::{ENTRY, field_paths_of, file_of_one};
 use avro_file::{AvroFault, Container, Datum, Object, Objects};
 use avro_file_picked::Layout;
 use avro_schema::{Schema, SchemaFault};
@@ -97,22 +97,22 @@ fn next_at_last<'a>(
     }
 }
 
-/// The layout for two ways, also where a growth was refused at first.
+/// The layout for two field paths, also where a growth was refused at first.
 fn layout_at_last(alloc: Global, schema: &Schema) -> Result<Layout<'_>, AvroFault>
     ensures { IfOk result (λ layout. layout_tree layout ≡ tree schema.now) }
 {
-    let ways: &[&[i32]] = &[&[2, 4], &[5]];
-    let ways = match ways_of(alloc, ways) {
-        Ok(ways) => ways,
-        Err(_) => ways_of(alloc, ways)?,
+    let field_paths: &[&[i32]] = &[&[2, 4], &[5]];
+    let field_paths = match field_paths_of(alloc, field_paths) {
+        Ok(field_paths) => field_paths,
+        Err(_) => field_paths_of(alloc, field_paths)?,
     };
-    match Layout::new(alloc, schema, &ways) {
-        Err(_) => Layout::new(alloc, schema, &ways),
+    match Layout::new(alloc, schema, &field_paths) {
+        Err(_) => Layout::new(alloc, schema, &field_paths),
         made => made,
     }
 }
 
-/// What stands on the ways from the next object, asked again where a growth was refused.
+/// What stands on the field paths from the next object, asked again where a growth was refused.
 fn picked_at_last<'a>(
     alloc: Global,
     objects: &mut Objects<'_, 'a>,

@@ -1,7 +1,7 @@
 use Rattle.std.proofs.Common.{drop, sym}
 use Rattle.avro_schema.specs.View.{tree}
 use Rattle.avro_file_picked.proofs.Placed.{to_the_end}
-use Rattle.avro_file_picked.proofs.Ways.{met_in_branch}
+use Rattle.avro_file_picked.proofs.FieldPaths.{met_in_branch}
 use Rattle.avro_file_picked.proofs.found.found_here.Goals as goal
 
 pub returns-in-Some-short_position : goal.returns-in-Some-short_position

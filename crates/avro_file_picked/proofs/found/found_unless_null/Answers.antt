@@ -2,7 +2,7 @@ use Rattle.std.proofs.Common.{sym}
 use Rattle.avro_schema.specs.View.{tree}
 use Rattle.avro_file.specs.Blocks.{max_items}
 use Rattle.avro_file_picked.proofs.Values.{stood}
-use Rattle.avro_file_picked.proofs.Ways.{null_at_end, present_at_end}
+use Rattle.avro_file_picked.proofs.FieldPaths.{null_at_end, present_at_end}
 use Rattle.avro_file_picked.proofs.found.found_unless_null.Goals as goal
 
 pub returns-then-is_null : goal.returns-then-is_null

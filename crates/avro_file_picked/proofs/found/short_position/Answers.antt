@@ -1,4 +1,4 @@
-use Rattle.avro_file_picked.proofs.Ways.{short_number}
+use Rattle.avro_file_picked.proofs.FieldPaths.{short_number}
 use Rattle.avro_file_picked.proofs.found.short_position.Goals as goal
 
 pub returns-in-len1-up : goal.returns-in-len1-up

@@ -23,7 +23,7 @@ lead_below-returns-in_err-lead-clause-lead t c = λ bytes at left end after plac
     (c.fields.invariant.1 bytes at left end after places vs inside few stand read) in
     rw (c.from_residual.ensures, ← same) (reached_nowhere (to_z w32 (of_z w32 c.args.id)) (field_trees c.args.fields.now)
     vs c.field-item.result.id (tree c.field-item.result.schema) (field_trees (drop (c.fields.field-index + 1)
-    c.args.fields.now)) places bytes end after c.fields.count c.args.way.now r (sym c.if-eq.ensures)
+    c.args.fields.now)) places bytes end after c.fields.count c.args.field_path.now r (sym c.if-eq.ensures)
     c.in_err-lead.ensures.lead)
 
 pub lead_below-returns-then-eq-clause-lead : goal.lead_below-returns-then-eq-clause-lead
@@ -34,7 +34,7 @@ lead_below-returns-then-eq-clause-lead t c = λ bytes at left end after places v
     (c.fields.invariant.1 bytes at left end after places vs inside few stand read) in
     rw (← same) (reached_there (to_z w32 (of_z w32 c.args.id)) (field_trees c.args.fields.now) vs c.field-item.result.id
     (tree c.field-item.result.schema) (field_trees (drop (c.fields.field-index + 1) c.args.fields.now)) places bytes end
-    after c.fields.count c.args.way.now c.in_ok-lead.lead r (sym c.if-eq.ensures) c.in_ok-lead.ensures.lead
+    after c.fields.count c.args.field_path.now c.in_ok-lead.lead r (sym c.if-eq.ensures) c.in_ok-lead.ensures.lead
     c.in_ok-lead.ensures.within.0)
 
 pub lead_below-fields-preserved : goal.lead_below-fields-preserved
@@ -54,15 +54,16 @@ pub lead_below-returns-clause-lead : goal.lead_below-returns-clause-lead
 lead_below-returns-clause-lead t c = λ bytes at left end after places vs inside few stand read.
     let same : to_z w32 (of_z w32 c.args.id) ≡ c.args.id = to_z-of_z w32 c.args.id (search rules) in
     rw (← same) (reached_none (to_z w32 (of_z w32 c.args.id)) (field_trees c.args.fields.now) vs c.args.fields.now
-    c.fields.field-index places bytes end after c.fields.count c.args.way.now c.fields-test.false
+    c.fields.field-index places bytes end after c.fields.count c.args.field_path.now c.fields-test.false
     (c.fields.invariant.1 bytes at left end after places vs inside few stand read))
 
 pub lead_of-returns-in-Some-clause-lead : goal.lead_of-returns-in-Some-clause-lead
 lead_of-returns-in-Some-clause-lead t c =
-    let way : c.args.way.now ≡ c.in-Some.id.now ∷ c.in-Some.rest.now = c.in-Some.ensures.cases.0 in
+    let field_path : c.args.field_path.now ≡ c.in-Some.id.now ∷ c.in-Some.rest.now = c.in-Some.ensures.cases.0 in
     let same : to_z w32 (of_z w32 c.in-Some.id.now) ≡ c.in-Some.id.now = to_z-of_z w32 c.in-Some.id.now (search rules) in
-    rw way (lead_within (tree c.args.schema.now) (field_trees c.fields_of.result.now) c.in-Some.id.now c.in-Some.rest.now
+    rw field_path (lead_within (tree c.args.schema.now)
+        (field_trees c.fields_of.result.now) c.in-Some.id.now c.in-Some.rest.now
     c.lead_below.result (sym c.if-is_record.ensures) c.fields_of.ensures (rw same at c.lead_below.ensures.lead))
 
 pub lead_of-returns-in_default-clause-lead : goal.lead_of-returns-in_default-clause-lead
-lead_of-returns-in_default-clause-lead t c = lead_here c.args.schema c.args.way.now
+lead_of-returns-in_default-clause-lead t c = lead_here c.args.schema c.args.field_path.now

@@ -9,10 +9,10 @@ use Rattle.avro_file_picked.proofs.Rows.{Reached}
 use Rattle.avro_file_picked.proofs.row.+lead.Given as goal
 
 abbrev pub decreases-lead_of : goal.decreases-lead_of
-decreases-lead_of l = 2 * length l.way.now
+decreases-lead_of l = 2 * length l.field_path.now
 
 abbrev pub decreases-lead_below : goal.decreases-lead_below
-decreases-lead_below l = 2 * length l.way.now + 1
+decreases-lead_below l = 2 * length l.field_path.now + 1
 
 abbrev pub invariant-lead_below-fields : goal.invariant-lead_below-fields
 invariant-lead_below-fields l =

@@ -24,7 +24,7 @@ pub row_of-requires : goal.row_of-requires
 row_of-requires c =
     let next = rw c.in-Some.is at c.in_ok-object.ensures.next in
     let placed = rw c.in-Some.is at c.in_ok-object.ensures.placed in (
-      c.requires.ways,
+      c.requires.field_paths,
       placed,
       shown_next (ahead c.objects.reader) (ahead c.next_placed.new.objects) c.in-Some.object next,
     )

@@ -18,7 +18,7 @@ all_rows-requires c =
     let same = c.in_ok-layout.ensures.schema ∙ c.schema-schema.ensures in
     record {
       layout = c.in_ok-layout.ensures.leads;
-      ways = c.in_ok-layout.ensures.ways;
+      field_paths = c.in_ok-layout.ensures.field_paths;
       schema = same ∙ sym c.objects.ensures.schema;
       records = subst (λ (t : Tree). is_structure t ≡ true) (sym same)
           (rows_are_records (tree_of c.in_ok-container.container) fits);

@@ -2,7 +2,7 @@ use Rattle.std.proofs.Common.{sym, ap, ◌∙◌, refl, arith, rules}
 use Rattle.std.proofs.lemmas.Result.{err_from_is_err_and}
 use Rattle.avro_file.specs.Files.{ahead}
 use Rattle.avro_file_picked.specs.Finding.{layout_tree}
-use Rattle.ice_manifest_layouts.specs.Ways.{wanted_ways}
+use Rattle.ice_manifest_layouts.specs.FieldPaths.{wanted_field_paths}
 use Rattle.ice_manifest_fields.specs.Schemas.{fields_in}
 use Rattle.ice_manifest_reading.specs.Collecting.{kept_each, told_each}
 use Rattle.ice_manifest_fields.proofs.Joining.{joined}
@@ -30,9 +30,9 @@ pub read_object-requires : goal.read_object-requires
 read_object-requires g c =
     let next = rw c.in-Some.is at c.in_ok-object.ensures.next in
     let placed = rw c.in-Some.is at c.in_ok-object.ensures.placed in
-    let ways = c.requires.ways ∙ ap wanted_ways (sym c.as_slice-partition.ensures) in
+    let field_paths = c.requires.field_paths ∙ ap wanted_field_paths (sym c.as_slice-partition.ensures) in
     let shown = shown_next (ahead c.objects.reader) (ahead c.next_placed.new.objects) c.in-Some.object next in
-    λ _. ((refl, tt), ((ways, placed, shown), c.as_slice-partition.ensures))
+    λ _. ((refl, tt), ((field_paths, placed, shown), c.as_slice-partition.ensures))
 
 pub returns-in_err-object-clause-told : goal.returns-in_err-object-clause-told
 returns-in_err-object-clause-told g c =

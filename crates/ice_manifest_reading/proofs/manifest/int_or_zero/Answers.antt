@@ -9,7 +9,7 @@ use Rattle.ice_manifest_fields.specs.Fields.{at, int_or_zero}
 use Rattle.ice_manifest_values.specs.Met.{int_met}
 use Rattle.ice_manifest_values.proofs.Said.{int_said}
 use Rattle.ice_manifest_layouts.specs.Seen.{file_seen}
-use Rattle.ice_manifest_layouts.specs.Ways.{file_id}
+use Rattle.ice_manifest_layouts.specs.FieldPaths.{file_id}
 use Rattle.ice_manifest_reading.proofs.Found.{file_fields_are}
 use Rattle.ice_manifest_reading.proofs.manifest.int_or_zero.Goals as goal
 

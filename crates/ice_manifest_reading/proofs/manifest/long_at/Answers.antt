@@ -3,7 +3,7 @@ use Rattle.std.proofs.lemmas.Int.{to_z-of_z}
 use Rattle.ice_manifest_fields.specs.Fields.{at}
 use Rattle.ice_manifest_values.specs.Met.{long_met}
 use Rattle.ice_manifest_layouts.specs.Seen.{file_seen}
-use Rattle.ice_manifest_layouts.specs.Ways.{file_id}
+use Rattle.ice_manifest_layouts.specs.FieldPaths.{file_id}
 use Rattle.ice_manifest_reading.proofs.manifest.long_at.Goals as goal
 
 pub returns : goal.returns

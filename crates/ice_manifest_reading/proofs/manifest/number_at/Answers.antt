@@ -4,7 +4,7 @@ use Rattle.ice_manifest_fields.specs.Fields.{at}
 use Rattle.ice_manifest_values.specs.Met.{optional_number_met}
 use Rattle.ice_manifest_values.proofs.Said.{optional_number_said}
 use Rattle.ice_manifest_layouts.specs.Seen.{entry_seen}
-use Rattle.ice_manifest_layouts.specs.Ways.{entry_id}
+use Rattle.ice_manifest_layouts.specs.FieldPaths.{entry_id}
 use Rattle.ice_manifest_reading.proofs.manifest.number_at.Goals as goal
 
 pub returns : goal.returns

@@ -3,7 +3,7 @@ use Rattle.avro_schema.specs.Tree.{Tree}
 use Rattle.avro_file.specs.Ahead.{still_ahead}
 use Rattle.avro_file.specs.Files.{ahead, tree_of, opened}
 use Rattle.avro_file_picked.specs.Finding.{is_structure}
-use Rattle.ice_manifest_layouts.specs.Ways.{wanted_ways}
+use Rattle.ice_manifest_layouts.specs.FieldPaths.{wanted_field_paths}
 use Rattle.ice_manifest_fields.specs.Schemas.{fields_in}
 use Rattle.ice_manifest_reading.specs.ManifestSchemas.{entry_fields}
 use Rattle.ice_manifest_reading.proofs.Few.{entries_take_bytes}
@@ -21,8 +21,8 @@ all_entries-requires g c =
     let here : still_ahead (ahead c.objects.result) ≤ length c.args.bytes.now = rw c.objects.ensures.ahead few in
     let same = c.in_ok-layout.ensures.schema ∙ c.schema-schema.ensures in
     let short : still_ahead (ahead c.objects.result) < 2 ^ 64 = omega (arith, here, c.well_formed) in
-    let ways = c.in_ok-layout.ensures.ways ∙ ap wanted_ways c.as_slice.ensures in
+    let field_paths = c.in_ok-layout.ensures.field_paths ∙ ap wanted_field_paths c.as_slice.ensures in
     let records = subst (λ (t : Tree). is_structure t ≡ true) (sym same)
     (entries_are_records c.args.spec.now (tree_of c.in_ok-container.container) fits) in
     let schema = same ∙ sym c.objects.ensures.schema in
-    λ _. ((refl, (refl, tt)), (short, (c.in_ok-layout.ensures.leads, (ways, (schema, records)))))
+    λ _. ((refl, (refl, tt)), (short, (c.in_ok-layout.ensures.leads, (field_paths, (schema, records)))))

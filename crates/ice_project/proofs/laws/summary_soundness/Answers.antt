@@ -7,4 +7,4 @@ returns c = covered (record {
   no_other = c.order_of_cells.ensures.no_other;
   turned = c.order_of_cells.ensures.turned;
   less = c.order_of_cells.ensures.less;
-}) c.filters_over_other_leaves.ensures.meaning
+}) c.filters_over_other_predicates.ensures.meaning

@@ -1,5 +1,5 @@
 use Rattle.std.proofs.Common.{◌≡◌, ◌⊎◌, inl, inr, ℕ, List, sym}
-use Rattle.ice_filter.specs.declared.bound.BoundLeaf.{BoundLeaf}
+use Rattle.ice_filter.specs.declared.bound.BoundPredicate.{BoundPredicate}
 use Rattle.ice_filter.specs.declared.parts.Part.{Part}
 use Rattle.ice_meta.specs.declared.spec.Spec.{Spec}
 use Rattle.ice_manifest_fields.specs.declared.fault.ManifestFault.{ManifestFault}
@@ -14,7 +14,7 @@ use Rattle.ice_state_laws.proofs.plans.snapshot_plans.Goals as goal
 
 pub returns : goal.returns
 returns c =
-    let over = λ (world : World) (specs : List Spec) (filter : List (Part BoundLeaf)) (rows : List Row).
+    let over = λ (world : World) (specs : List Spec) (filter : List (Part BoundPredicate)) (rows : List Row).
     over_kept c.pruning.ensures.same_entries c.pruning.ensures.plans (pruner_of filter specs) world specs
     (by_row_path rows) (c.filtering.ensures.open_where_unpartitioned filter specs) in
     record {

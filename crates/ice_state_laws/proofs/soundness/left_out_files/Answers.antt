@@ -22,7 +22,7 @@ returns c =
         whole = c.cut_texts.ensures.whole;
         short = c.cut_texts.ensures.short;
         valued = λ f t x p. (c.values_of_transforms.ensures f t x p).0;
-        mapped = c.filters_over_other_leaves.ensures.meaning;
+        mapped = c.filters_over_other_predicates.ensures.meaning;
       });
       columns = file_sound ordered;
     }

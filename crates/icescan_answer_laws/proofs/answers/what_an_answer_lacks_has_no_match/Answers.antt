@@ -1,5 +1,5 @@
 use Rattle.std.proofs.Common.{sym, subst, List}
-use Rattle.ice_filter.specs.declared.bound.BoundLeaf.{BoundLeaf}
+use Rattle.ice_filter.specs.declared.bound.BoundPredicate.{BoundPredicate}
 use Rattle.ice_filter.specs.declared.parts.Part.{Part}
 use Rattle.ice_project.specs.Honesty.{NoneMeets}
 use Rattle.ice_state.specs.Contents.{every_row}
@@ -23,7 +23,7 @@ returns c =
           let none : NoneMeets p.0.filter file = law.finished world selection.specs rows p.0 (every_row p.0)
           plan row l file
           made.1 (is_of world p.0) p.2 d e content
-          (subst (λ (ps : List (Part BoundLeaf)). IsHonest selection.specs ps l file) (sym made.0) honest)
+          (subst (λ (ps : List (Part BoundPredicate)). IsHonest selection.specs ps l file) (sym made.0) honest)
           covers lacks in
-          subst (λ (ps : List (Part BoundLeaf)). NoneMeets ps file) made.0 none;
+          subst (λ (ps : List (Part BoundPredicate)). NoneMeets ps file) made.0 none;
     }

@@ -6,6 +6,6 @@ use Rattle.avro_file.specs.Files.{Shows}
 use Rattle.avro_file_picked.specs.Picked.{picked}
 use Rattle.avro_file_picked.proofs.layout.Layout.picked.Given as goal
 
-abbrev pub invariant-ways : goal.invariant-ways
-invariant-ways l = (v : Value) → Shows l.object v → map (option_map view) l.found.items ≡ map
-    (λ way. picked (tree l.object.schema.now) v way.items) (take l.way-index l.way-items)
+abbrev pub invariant-field_paths : goal.invariant-field_paths
+invariant-field_paths l = (v : Value) → Shows l.object v → map (option_map view) l.found.items ≡ map
+    (λ field_path. picked (tree l.object.schema.now) v field_path.items) (take l.field_path-index l.field_path-items)

@@ -6,7 +6,7 @@ use Rattle.ice_filter.proofs.parts.Parts.is_met.Goals as goal
 
 pub returns : goal.returns
 returns g c =
-    let met = g.T.LeafTest.says c.args.test.now in
+    let met = g.T.PredicateTest.says c.args.test.now in
     let items = c.as_slice-part-items.result.now in
     let over = ap (λ ps. judge_parts met c.parts.truths ps) (drop_all c.parts.part-index items c.parts-test.false) in
     let whole = ap (λ ps. judge_parts met [] ps) (c.as_slice-part-items.ensures ∙ c.self.view_is) in

@@ -1,4 +1,4 @@
-use Rattle.ice_manifest_layouts.specs.Ways.{to_entry}
+use Rattle.ice_manifest_layouts.specs.FieldPaths.{to_entry}
 use Rattle.ice_manifest_layouts.proofs.Shown.{shown}
 use Rattle.ice_manifest_layouts.proofs.entry.FoundEntry.found.Goals as goal
 

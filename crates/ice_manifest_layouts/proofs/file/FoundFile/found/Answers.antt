@@ -1,5 +1,5 @@
 use Rattle.std.proofs.Common.{[]}
-use Rattle.ice_manifest_layouts.specs.Ways.{file_id}
+use Rattle.ice_manifest_layouts.specs.FieldPaths.{file_id}
 use Rattle.ice_manifest_layouts.proofs.Shown.{file_shown}
 use Rattle.ice_manifest_layouts.proofs.file.FoundFile.found.Goals as goal
 

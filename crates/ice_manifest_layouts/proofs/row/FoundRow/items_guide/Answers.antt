@@ -17,6 +17,7 @@ returns c =
     to_z-of_z w32 c.id.result (search rules) ∙ c.id.ensures in
     row_guided c.args.self.now c.in_ok-guided.guided c.items_guide.result (row_id c.args.field) c.requires
     c.in_ok-guided.ensures
-    (subst (λ (z : ℤ). (ways : List (List ℤ)) (t : Tree) (v : Value) → IsGuided ways t v c.in_ok-guided.guided
-    → AreAsked ways (z ∷ []) → GuidesItems ways c.items_guide.result (pick (z ∷ []) (t, v))) same
+    (subst (λ (z : ℤ). (field_paths : List (List ℤ)) (t : Tree) (v : Value)
+        → IsGuided field_paths t v c.in_ok-guided.guided
+    → AreAsked field_paths (z ∷ []) → GuidesItems field_paths c.items_guide.result (pick (z ∷ []) (t, v))) same
     c.items_guide.ensures) (row_asked c.args.field)

@@ -7,7 +7,7 @@ use Rattle.avro_file.specs.Alike.{EndAlike}
 use Rattle.avro_file.specs.Blocks.{StandsAt}
 use Rattle.avro_file.proofs.Behind.{behind_ok, behind_err}
 use Rattle.avro_file_picked.proofs.Values.{fewer_left, stands}
-use Rattle.avro_file_picked.proofs.Ways.{not_both, one_end}
+use Rattle.avro_file_picked.proofs.FieldPaths.{not_both, one_end}
 use Rattle.ice_manifest_values.specs.InPlace.{rest_at}
 use Rattle.ice_manifest_values.proofs.Coming.{first_item}
 use Rattle.ice_manifest_values.proofs.items.ItemsAhead.next_passed.Goals as goal

@@ -1,4 +1,0 @@
-use Rattle.avro_file_picked.proofs.found.Found.on_way.Goals as goal
-
-pub returns : goal.returns
-returns c = λ v is. rw (← c.schema.ensures) (c.found_on_way.ensures v (rw (c.schema.ensures, c.bytes.ensures) is))

@@ -1,5 +1,0 @@
--- The ways to what a summary of a manifest list's row says. Apache Iceberg table spec v2, "Manifest Lists".
-use Rattle.std.specs.Prelude.{ℤ, pos, List, [], ◌∷◌}
-
-abbrev pub summary_ways : List (List ℤ)
-summary_ways = (pos 509 ∷ []) ∷ (pos 518 ∷ []) ∷ (pos 510 ∷ []) ∷ (pos 511 ∷ []) ∷ []
