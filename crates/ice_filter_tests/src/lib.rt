@@ -9,4 +9,4 @@ mod language;
 #[cfg(test)]
 mod projections;
 
-pub use calls::{meets, summary_may};
+pub use calls::{meets, project, summary_may};
