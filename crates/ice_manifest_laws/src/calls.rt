@@ -3,6 +3,8 @@
 
 ghost use Rattle.std.specs.Prelude.{◌≡◌, IfOk};
 ghost use Rattle.contract_words.specs.Outcome.{Gives};
+ghost use Rattle.ice_manifest_fields.specs.Fields.{int_or_zero, number_or_zero};
+ghost use Rattle.ice_manifest_layouts.specs.RowsFound.{IsRow, row_id, row_seen};
 ghost use Rattle.ice_manifest_reading.specs.Lists.{rows_of};
 ghost use Rattle.ice_manifest_reading.specs.Manifests.{entries_of};
 ghost use Rattle.ice_manifest.specs.Adding.{AreNewFiles, IsHeading, lent};
@@ -11,7 +13,8 @@ ghost use Rattle.ice_manifest.specs.Writing.{list_bytes, manifest_bytes};
 
 use contract_words::Text;
 use ice_manifest::{Heading, NewFile};
-use ice_manifest_fields::{ListFault, ManifestFault};
+use ice_manifest_fields::{FieldFault, ListFault, ManifestFault};
+use ice_manifest_layouts::{FoundRow, RowField};
 use ice_manifest_reading::{Entry, Row};
 use ice_meta::Spec;
 use ice_value::SequenceNumber;
@@ -69,4 +72,20 @@ pub fn new_row(
     ensures { IfOk result (λ row. row ≡ new_row heading.now path length sequence_number (lent files.now)) }
 {
     heading.new_row(alloc, path, length, sequence_number, files)
+}
+
+/// A whole number of 32 bits at a field of a manifest list's row; 0 where the rows have no such field.
+pub fn int_or_zero(row: &FoundRow, field: RowField) -> Result<i32, FieldFault>
+    requires { IsRow row.now }
+    ensures { result ≡ int_or_zero (row_id field) (row_seen row.now) }
+{
+    row.int_or_zero(field)
+}
+
+/// A sequence number at a field of a manifest list's row; 0 where the rows have no such field.
+pub fn number_or_zero(row: &FoundRow, field: RowField) -> Result<SequenceNumber, FieldFault>
+    requires { IsRow row.now }
+    ensures { result ≡ number_or_zero (row_id field) (row_seen row.now) }
+{
+    row.number_or_zero(field)
 }
