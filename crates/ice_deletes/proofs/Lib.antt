@@ -1,9 +1,12 @@
 pub mod Applying
+pub mod Emptied
 pub mod Endings
 pub mod Held
+pub mod Least
 pub mod Lent
 pub mod Lists
 pub mod Naming
+pub mod Neighbours
 pub mod Numbered
 pub mod Orders
 pub mod Parts
@@ -14,5 +17,3 @@ pub mod Slices
 pub mod United
 pub mod Unnamed
 pub mod Within
-pub mod Least
-pub mod Neighbours

@@ -1,6 +1,6 @@
 //! The index of delete files.
 
-ghost use Rattle.std.specs.Prelude.{◌≡◌, ◌≢◌, ◌↔◌, ◌&&◌, ◌==◌, ◌≤◌, ℕ, map, length, IfOk, OnOk};
+ghost use Rattle.std.specs.Prelude.{◌≡◌, ◌≢◌, ◌↔◌, ◌&&◌, ◌==◌, ◌≤◌, ℕ, map, length, IfOk, IsOk, OnOk};
 ghost use Rattle.std.specs.Prelude.{OnErr, AllPairs, Contains, IsTrue, [], count_by, filter, nat_le};
 ghost use Rattle.std.specs.List.{list_any};
 ghost use Rattle.std.specs.List.Sorted.{IsPermutation, IsSorted};
@@ -80,8 +80,10 @@ impl DeleteIndex {
     }
 
     /// Whether it has no delete files.
+    #[tactic(auto, using(crate::proofs::Emptied::each_none))]
     fn is_empty(&self) -> bool
-        ensures { IsTrue result → self.now ≡ [] }
+        ensures is { IsTrue result → self.now ≡ [] }
+        ensures none { self.now ≡ [] → IsTrue result }
     {
         self.positions.deletes.is_empty()
             && self.referenced.deletes.is_empty()
@@ -112,6 +114,8 @@ impl DeleteIndex {
         requires agree { Agree self.old (renumbered to.now other.now) }
         ensures ok { OnOk result (IsUnion self.old (renumbered to.now other.now) self.new) }
         ensures err { OnErr result (self.new ≡ self.old) }
+        // An index without delete files takes no memory.
+        ensures none { other.now ≡ [] → IsOk result }
     {
         let alloc = *self.positions.numbers.allocator();
         if other.is_empty() {

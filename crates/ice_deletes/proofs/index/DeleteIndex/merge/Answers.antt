@@ -68,7 +68,7 @@ grow-requires-4-clause-fresh c = fresh_for Everywhere c.other.inside.everywhere 
 pub returns-then-is_empty-clause-ok : goal.returns-then-is_empty-clause-ok
 returns-then-is_empty-clause-ok c =
     let to = c.args.to.now in
-    let none : renumbered to c.args.other.now ≡ [] = ap (renumbered to) (c.if-is_empty.ensures refl) in
+    let none : renumbered to c.args.other.now ≡ [] = ap (renumbered to) (c.if-is_empty.ensures.is refl) in
     let D : List (ℕ × DeleteKey) → Type 0 = λ es. AreDistinct es in
     united_with_none c.args.self.now (renumbered to c.args.other.now) none
     (subst D c.self.view_is c.self.invariant.distinct)
