@@ -1,8 +1,9 @@
-//! Tests of icescan_text, of the sinks that its lines go to and of icescan_requests: the line and the status of each fault and what
-//! is read of a change file, against texts written by hand; reads that fail, that a signal
-//! interrupts or whose end comes late, and files that refuse to be written or kept.
+//! Tests of icescan_text, of the sinks that its lines go to and of icescan_requests: the line and the status of each
+//! fault and what is read of a change file, against texts written by hand; reads that fail, that a signal interrupts or
+//! whose end comes late, and files that refuse to be opened, written or kept.
 #![tactic(auto)]
 
+mod calls;
 #[cfg(test)]
 mod changes;
 #[cfg(test)]
@@ -13,3 +14,5 @@ mod inputs;
 mod placing;
 #[cfg(test)]
 mod sinks;
+
+pub use calls::{parse_words, place, put_lines, shows_hints, shows_progress};

@@ -1,6 +1,7 @@
-//! Files and folders that are refused while a commit puts its files.
+//! Files and folders that are refused while a commit puts its files, and while a file is read.
 
 use ice_catalog_versions::Ids;
+use ice_desk::{Files as _, ReadFault};
 use icescan_requests::{CommitFolder, Folder, Store, StoreFault};
 use std::alloc::Allocator;
 use std::cell::Cell;
@@ -236,6 +237,34 @@ fn links_that_refuse(rt: HostRuntime) -> io::Result<()> {
             ..willing_host()
         };
         assert_eq!(rt; puts(&rt, &host), (wanted, 0));
+    }
+    Ok(())
+}
+
+/// How a file is read in the folder of a host.
+fn reads(rt: &HostRuntime, host: &Host<'_>) -> Result<usize, ReadFault> {
+    let folder = Folder::new(host, "table", "mem://t");
+    Ok(folder.read(rt.alloc(), "mem://t/metadata/m")?.len())
+}
+
+/// Only what is not found is absent, and what is no regular file is not opened.
+#[test]
+fn reads_that_refuse(rt: HostRuntime) -> io::Result<()> {
+    let (file, device) = (Metadata::of_file(5), fs::metadata(&rt, "/dev/null")?);
+    let (absent, refused) = (Err(ReadFault::Absent), Err(ReadFault::Device));
+    for (found, opened, wanted) in [
+        (Some(&file), None, Ok(0)),
+        (None, None, absent),
+        (Some(&file), Some(ErrorKind::NotFound), absent),
+        (Some(&file), Some(ErrorKind::PermissionDenied), refused),
+        (Some(&device), None, refused),
+    ] {
+        let host = Host {
+            opened,
+            found,
+            ..willing_host()
+        };
+        assert_eq!(rt; reads(&rt, &host), wanted);
     }
     Ok(())
 }

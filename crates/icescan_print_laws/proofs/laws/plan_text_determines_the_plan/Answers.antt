@@ -1,7 +1,7 @@
 use Rattle.std.proofs.Common.{ap, sym, ◌∙◌}
 use Rattle.icescan_print_laws.specs.PlanTold.{told}
 use Rattle.icescan_print_laws.proofs.Lines.{plan_told}
-use Rattle.icescan_print_laws.proofs.plan_text_determines_the_plan.Goals as goal
+use Rattle.icescan_print_laws.proofs.laws.plan_text_determines_the_plan.Goals as goal
 
 pub returns-clause-told : goal.returns-clause-told
 returns-clause-told c = plan_told
