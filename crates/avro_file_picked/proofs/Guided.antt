@@ -203,7 +203,7 @@ kept_read field_paths no_fields p vs q e = record { values = vs; read = e; same 
 kept_read field_paths (field own t fs) p vs q e =
     let f = first_read own t fs p vs q e in
     kept_or_not field_paths own t fs p vs q f (kept_read field_paths fs f.between f.others q f.more)
-        (takes_bytes t || asks field_paths own)
+    (takes_bytes t || asks field_paths own)
     refl
 
 -- ---- a walk over the fields of a record
@@ -288,7 +288,7 @@ pub led_nowhere : (field_paths : List (List ℤ)) (id : ℤ) (fs : Fields) (vs :
 led_nowhere field_paths id fs vs gs i p q le l =
     let k : drop i gs ≡ [] = drop_of_length-le gs le in
     l.same ∙ none_left field_paths id l.rest l.values
-        (subst (λ (hs : List Guide). AreParts field_paths (all_seen hs) l.rest) k l.are)
+    (subst (λ (hs : List Guide). AreParts field_paths (all_seen hs) l.rest) k l.are)
 
 -- ---- passing a field
 
@@ -379,7 +379,7 @@ guides_settle field_paths left (Err f) = λ met none h. h
 
 pub guides_more : (field_paths : List (List ℤ)) (few many : ℕ) (met : Picked)
     (r : Result (Option (Bor Guide × Place)) Refusal) → few ≤ many → GuidesTo field_paths few met r
-        → GuidesTo field_paths many met r
+    → GuidesTo field_paths many met r
 guides_more field_paths few many met (Ok (Some x)) le h =
     (h.0, (omega (arith, le, h.1.0), h.1.1, h.1.2), h.2, h.3)
 guides_more field_paths few many met (Ok None) le h = h
@@ -429,7 +429,7 @@ pub item_part : (field_paths : List (List ℤ)) (g : Guide) (s : Tree) → IsGui
 item_part field_paths g s is listed =
     let a = array_of (tree (out-Guide g).schema.now) s listed in
     only_part field_paths (out-Guide g).parts.items s
-        (subst (λ (t : Tree). AreParts field_paths (all_seen (out-Guide g).parts.items)
+    (subst (λ (t : Tree). AreParts field_paths (all_seen (out-Guide g).parts.items)
     (inner field_paths t)) a.2 (parts_guide field_paths g is))
 
 -- the guide of the items of a list that is led to
@@ -467,9 +467,11 @@ all_on all (i ∷ field_path) field_paths on = (
 asked_more : (other : List ℤ) (field_paths : List (List ℤ)) (field_path : List ℤ) → AreAsked field_paths field_path
     → AreAsked (other ∷ field_paths) field_path
 asked_more other field_paths [] asked = tt
-asked_more other field_paths (i ∷ field_path) asked =
-    (either_second (is_on other (Some i))
-        (asks field_paths (Some i)) asked.0, asked_more other field_paths field_path asked.1)
+asked_more other field_paths (i ∷ field_path) asked = (
+  either_second (is_on other (Some i))
+      (asks field_paths (Some i)) asked.0,
+  asked_more other field_paths field_path asked.1,
+)
 
 -- each field path asks for its own ids
 pub nth_asked : (field_paths : List (List ℤ)) (k : ℕ) → k < length field_paths

@@ -15,7 +15,7 @@ pub one_more : {A B C : Type 0} (see : A → C) (wanted : B → C) (found : List
     → map see (found ++ a ∷ []) ≡ map wanted (take (i + 1) field_paths)
 one_more {A} {B} {C} see wanted found field_paths i field_path a lt is so_far here =
     let more : take (i + 1) field_paths ≡ take i field_paths ++ field_path ∷ [] = ap (λ (n : ℕ). take n field_paths)
-        (add-one i)
+    (add-one i)
     ∙ take-suc field_paths i field_path lt ∙ ap (λ (x : B). take i field_paths ++ x ∷ []) (sym is) in
     map-append see found (a ∷ []) ∙ ap (λ (cs : List C). cs ++ see a ∷ []) so_far
     ∙ ap (λ (c : C). map wanted (take i field_paths) ++ c ∷ []) here
@@ -32,7 +32,7 @@ pub all_done : {A B C D : Type 0} (see : A → D) (ids : B → C) (wanted : C �
     → map see found ≡ map wanted (map ids field_paths)
 all_done {A} {B} {C} {D} see ids wanted found field_paths i le so_far =
     so_far ∙ ap (λ (ws : List B). map (λ field_path. wanted (ids field_path)) ws) (take_all i field_paths le)
-        ∙ map_of_map ids wanted field_paths
+    ∙ map_of_map ids wanted field_paths
 
 -- what next gives, where the object shows it otherwise
 pub next_shown : {X Y : Type 0} (P : X → Value → Type 0) (Q : Y → Value → Type 0) (old new : Ahead) (x : X) (y : Y)

@@ -184,7 +184,7 @@ module _ (opens : (parts : List (Part BoundPredicate)) (specs : _) → IsOpen sp
     (sound : (parts : List (Part BoundPredicate)) (specs : _) → HasSoundSummaries specs (pruner_of parts specs)) where
   module _ (h : History) (state : State) (filter : List (Part Predicate)) (schema : Schema) (rows : List Row)
       (parts : List (Part BoundPredicate)) (leaves : state_of h ≡ Some state)
-          (reads : Reads state filter schema rows parts)
+      (reads : Reads state filter schema rows parts)
       (truth : TellsTheTruth state schema rows) where
     found : (r : Result Scanned ScanFault) → scan_of_rows rows (specs_of state schema) parts ≡ r
         → pinned_on h filter ≡ option_map (begun h) (result_ok (as_pin of_scan r))

@@ -29,8 +29,16 @@ use Rattle.ice_filter.specs.Rows.{Row, is_null, equals, holds, predicate_holds, 
 use Rattle.ice_filter.specs.Trees.{meaning, tree_of, operands_after, operands_after_part, is_one_filter, is_filter}
 use Rattle.ice_filter.specs.Truths.{judge_part, judge_parts, top}
 use Rattle.ice_filter.specs.Binding.{cell_of, cells_of, with_cell, compared_to, among, starts, test_of, path, or_fault}
-use Rattle.ice_filter.specs.Binding.{may_ask, asked, bound_predicate, bound_part, bound_parts, is_so, is_literal,
-    passes}
+use Rattle.ice_filter.specs.Binding.{
+  may_ask,
+  asked,
+  bound_predicate,
+  bound_part,
+  bound_parts,
+  is_so,
+  is_literal,
+  passes,
+}
 use Rattle.ice_filter.specs.Binding.{answers, predicate_meets}
 use Rattle.ice_filter.proofs.Stacks.{judged_tree}
 
@@ -183,7 +191,7 @@ each_then (Some m) g h e = e m
 
 more_same : (schema : Schema) (row : Row) (p : Part Predicate) (q : Part BoundPredicate) (ps : List (Part Predicate))
     (qs : List (Part BoundPredicate)) → Same schema row p q → AllSame schema row ps qs
-        → AllSame schema row (p ∷ ps) (q ∷ qs)
+    → AllSame schema row (p ∷ ps) (q ∷ qs)
 more_same schema row p q ps qs h k = record {
   counts = λ n. ap (λ o. option_and_then (λ m. operands_after m qs) o) (h.counts n) ∙ each_then
       (operands_after_part n p) (λ m. operands_after m qs) (λ m. operands_after m ps) k.counts;

@@ -16,14 +16,31 @@ use Rattle.ice_filter.specs.declared.predicate.Partial.TheVariants as partial
 use Rattle.ice_filter.specs.declared.parser.Pending.{Pending}
 use Rattle.ice_filter.specs.declared.parser.Place.TheVariants.{Wants, After, Inside}
 use Rattle.ice_filter.specs.Grammar.{Written, truth, predicate, group, both, either, Limits, Level, unit, conj, filter}
-use Rattle.ice_filter.specs.Grammar.{Stands, tokens_in, predicate_tokens, question_tokens, literal_token, in_tokens,
-    dotted}
+use Rattle.ice_filter.specs.Grammar.{
+  Stands,
+  tokens_in,
+  predicate_tokens,
+  question_tokens,
+  literal_token,
+  in_tokens,
+  dotted,
+}
 use Rattle.ice_filter.specs.Grammar.{listed, predicates_in, IsShort, IsShallow, IsWithin}
 use Rattle.ice_filter.specs.Rebuilding.{Reading, put}
 use Rattle.ice_filter.specs.Parsing.{literal_of, behind_column, behind_dot, compared, behind_not, behind_in, chosen}
 use Rattle.ice_filter.specs.Parsing.{behind_listed, chosen_too, behind_is, behind_is_not, behind_starts, begun}
-use Rattle.ice_filter.specs.Parsing.{predicate_step, joined, joined_and, opened, began, held, anded, ored, at_unit,
-    closed}
+use Rattle.ice_filter.specs.Parsing.{
+  predicate_step,
+  joined,
+  joined_and,
+  opened,
+  began,
+  held,
+  anded,
+  ored,
+  at_unit,
+  closed,
+}
 use Rattle.ice_filter.specs.Parsing.{after_unit, moved, step, step_at, ended, finish, start, none}
 
 -- The tokens of a text without their offsets, as a list of tokens with any offsets. Walking goes through them.
@@ -334,7 +351,7 @@ either_walk : (m : Limits) (a c : Written) → Walk m a filter → Walk m c conj
     → IsShallow g m.literals c
     → Walks m (Before none ps ts n) (tokens_in a ++ token.Or ∷ tokens_in c)
     (Behind (conj_ends c (record { either = true; both = false }) (a ∷ ts)) ps
-        (n + (predicates_in a + predicates_in c)))
+    (n + (predicates_in a + predicates_in c)))
 unfolding step step_at after_unit ored
 either_walk m a c left right ps ts n g sa sc few room_left ha hc =
     let q : Pending = record { either = true; both = false } in
@@ -377,7 +394,7 @@ pub filter_walk : (m : Limits) (t : Written) → Stands filter t → IsWithin m 
 filter_walk m t stands within =
     let e : 0 + predicates_in t ≡ predicates_in t = omega arith in
     let w : Walks m (start []) (tokens_in t)
-        (Behind (ends t none []) [] (0 + predicates_in t)) = walk m t filter none [] []
+    (Behind (ends t none []) [] (0 + predicates_in t)) = walk m t filter none [] []
     0 m.groups stands refl (omega (arith, within.few)) (omega arith) within.shallow in
     rw e at w
 

@@ -19,13 +19,32 @@ use Rattle.ice_filter.specs.declared.predicate.Partial.TheVariants as partial
 use Rattle.ice_filter.specs.declared.parser.Pending.{Pending}
 use Rattle.ice_filter.specs.declared.parser.Place.{Place}
 use Rattle.ice_filter.specs.declared.parser.Place.TheVariants.{Wants, After, Inside}
-use Rattle.ice_filter.specs.Grammar.{Written, truth, predicate, group, both, either, Says, predicates_in, IsShort,
-    IsShallow}
+use Rattle.ice_filter.specs.Grammar.{
+  Written,
+  truth,
+  predicate,
+  group,
+  both,
+  either,
+  Says,
+  predicates_in,
+  IsShort,
+  IsShallow,
+}
 use Rattle.ice_filter.specs.Grammar.{IsWithin, Limits, Begins, BeginsWithin, IsInLimits, EndsEarly, Reads, words}
 use Rattle.ice_filter.specs.Parsing.{State, literal_of, behind_column, behind_dot, compared, behind_not, behind_in}
 use Rattle.ice_filter.specs.Parsing.{chosen, behind_listed, chosen_too, behind_is, behind_is_not, behind_starts, begun}
-use Rattle.ice_filter.specs.Parsing.{predicate_step, joined, joined_and, opened, began, held, at_unit, closed,
-    after_unit}
+use Rattle.ice_filter.specs.Parsing.{
+  predicate_step,
+  joined,
+  joined_and,
+  opened,
+  began,
+  held,
+  at_unit,
+  closed,
+  after_unit,
+}
 use Rattle.ice_filter.specs.Parsing.{moved, step, step_at, ended, finish, outcome, start, none}
 use Rattle.ice_filter.specs.Parsing as parsing
 use Rattle.ice_filter.specs.Rebuilding.{Reading, top, put, read_tokens, place_tokens, Placed, predicates_of, Good}
@@ -105,8 +124,11 @@ step_on m s p t h e = further m s p (t ∷ []) (p, h, refl) e
 closes : (m : Limits) (p : Pending) (ps : List Pending) (ts : List Written) (n : ℕ)
     → Ends m (record { place = After; now = p; outer = ps; read = ts; predicates = n })
 unfolding step step_at after_unit closed
-closes m p [] ts n = ([], record { place = After; now = p; outer = []; read = ts; predicates = n },
-    (refl, (refl, refl)))
+closes m p [] ts n = (
+  [],
+  record { place = After; now = p; outer = []; read = ts; predicates = n },
+  (refl, (refl, refl)),
+)
 closes m p (q ∷ ps) ts n =
     step_on m (record { place = After; now = p; outer = q ∷ ps; read = ts; predicates = n }) (record {
       place = After;
@@ -334,8 +356,12 @@ shallow_enough (either s t) = (
 )
 
 pub roomy : Limits → Written → Limits
-roomy m t = record { predicates = m.predicates + predicates_in t; groups = m.groups + height t; literals =
-    m.literals + longest t }
+roomy m t = record {
+  predicates = m.predicates + predicates_in t;
+  groups = m.groups + height t;
+  literals =
+      m.literals + longest t;
+}
 
 pub roomy_up : (m : Limits) (t : Written) → IsUp m (roomy m t)
 unfolding roomy
@@ -380,7 +406,7 @@ misplaced m at a s t some h w e b =
       spelled = sym (append_assoc (read_tokens s) (t ∷ []) b.0) ∙ b.2.spelled;
     } in
     let walk : Walks n s (t ∷ b.0) (Behind (ends b.1 none []) [] (predicates_in b.1)) = passes n s (read_tokens s)
-        (t ∷ b.0)
+    (t ∷ b.0)
     b.1 (walk_up m n (read_tokens s) (start []) s some up (starts_good m) w) says (roomy_within m b.1) in
     let x : Told m n at at t (Err (Syntax a)) (step put n at s t) = rw e at (told m n at at s t up h) in
     no_step n at s walk.0 t (Syntax at) x.1 (walk.1 at)
@@ -410,7 +436,7 @@ over m at s t some h w e (inl b) =
       spelled = sym (append_assoc (read_tokens s) (t ∷ []) b.0) ∙ b.2.0.spelled;
     } in
     let walk : Walks m s (t ∷ b.0) (Behind (ends b.1 none []) [] (predicates_in b.1)) = passes m s (read_tokens s)
-        (t ∷ b.0)
+    (t ∷ b.0)
     b.1 w says b.2.1 in
     no_step m at s walk.0 t TooBig e (walk.1 at)
 over m at s t some h w e (inr b) =

@@ -4,8 +4,14 @@ use Rattle.std.specs.Option.{option_and_then}
 use Rattle.ice_filter.specs.declared.parts.Part.{Part}
 use Rattle.ice_filter.specs.declared.parts.Part.TheVariants.{True, False, Predicate, And, Or}
 use Rattle.ice_filter.specs.Trees.{Tree, truth, predicate, both, either, meaning, parts_of, read_part, read_parts, top}
-use Rattle.ice_filter.specs.Trees.{tree_of, map_part, map_predicates, operands_after_part, operands_after,
-    is_one_filter}
+use Rattle.ice_filter.specs.Trees.{
+  tree_of,
+  map_part,
+  map_predicates,
+  operands_after_part,
+  operands_after,
+  is_one_filter,
+}
 use Rattle.ice_filter.specs.Trees.{is_filter}
 use Rattle.ice_filter.specs.Truths.{judge_part, judge_parts, top as top_truth}
 use Rattle.ice_filter.proofs.Stacks.{judged_tree}
@@ -53,7 +59,7 @@ pub mapped_meaning : {L M : Type 0} (f : L → M) (met : M → Bool) (ps : List 
     → meaning met (tree_of (map_predicates f ps)) ≡ meaning (λ l. met (f l)) (tree_of ps)
 mapped_meaning f met ps =
     sym (judged_tree met (map_predicates f ps)) ∙ ap top_truth (mapped_truths f met [] ps)
-        ∙ judged_tree (λ l. met (f l)) ps
+    ∙ judged_tree (λ l. met (f l)) ps
 
 -- ---- reading
 pub read_more : {L : Type 0} (ts : List (Tree L)) (ps qs : List (Part L))

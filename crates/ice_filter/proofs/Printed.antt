@@ -13,8 +13,20 @@ use Rattle.ice_filter.specs.declared.token.Token.{Token}
 use Rattle.ice_filter.specs.declared.token.Token.TheVariants as token
 use Rattle.ice_filter.specs.declared.token.Comparison.{Comparison}
 use Rattle.ice_filter.specs.declared.token.Comparison.TheVariants as sign
-use Rattle.ice_filter.specs.Grammar.{Written, truth, predicate, group, both, either, bare, unit, conj, filter, Level,
-    Stands}
+use Rattle.ice_filter.specs.Grammar.{
+  Written,
+  truth,
+  predicate,
+  group,
+  both,
+  either,
+  bare,
+  unit,
+  conj,
+  filter,
+  Level,
+  Stands,
+}
 use Rattle.ice_filter.specs.Grammar.{Says, Reads, tokens_in, predicate_tokens, column_tokens, question_tokens}
 use Rattle.ice_filter.specs.Grammar.{choices_tokens, literal_token, dotted, listed, predicates_in, IsShallow, IsWithin}
 use Rattle.ice_filter.specs.Grammar.{Limits, limits, words}

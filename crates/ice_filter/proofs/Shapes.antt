@@ -21,8 +21,18 @@ use Rattle.ice_filter.specs.Trees.{operands_after_operand, operands_after_operat
 use Rattle.ice_filter.specs.Trees as trees
 use Rattle.ice_filter.specs.Lexing.{tokens_of}
 use Rattle.ice_filter.specs.Parsing.{Act, State, Read, joined, joined_and, opened, began, held, anded, ored, at_unit}
-use Rattle.ice_filter.specs.Parsing.{closed, after_unit, moved, predicate_step, step, step_at, ended, finish, outcome,
-    start}
+use Rattle.ice_filter.specs.Parsing.{
+  closed,
+  after_unit,
+  moved,
+  predicate_step,
+  step,
+  step_at,
+  ended,
+  finish,
+  outcome,
+  start,
+}
 use Rattle.ice_filter.specs.Parsing.{none, add_part, parsed, mapped, filter_of}
 use Rattle.ice_filter.specs.Parsing as parsing
 use Rattle.ice_filter.specs.Rebuilding.{put}

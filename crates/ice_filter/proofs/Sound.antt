@@ -27,8 +27,17 @@ use Rattle.ice_filter.specs.Rebuilding.{fronts, read_tokens, place_tokens, Fits,
 use Rattle.ice_filter.specs.Rebuilding.{Placed, predicates_at, predicates_of, Good}
 use Rattle.ice_filter.specs.Parsing.{State, Read, literal_of, behind_column, behind_dot, compared, behind_not}
 use Rattle.ice_filter.specs.Parsing.{behind_in, chosen, behind_listed, chosen_too, behind_is, behind_is_not}
-use Rattle.ice_filter.specs.Parsing.{behind_starts, begun, predicate_step, joined, joined_and, opened, began, held,
-    anded}
+use Rattle.ice_filter.specs.Parsing.{
+  behind_starts,
+  begun,
+  predicate_step,
+  joined,
+  joined_and,
+  opened,
+  began,
+  held,
+  anded,
+}
 use Rattle.ice_filter.specs.Parsing.{ored, at_unit, closed, after_unit, moved, step, step_at, ended, finish, outcome}
 use Rattle.ice_filter.specs.Parsing.{start, none, Act}
 use Rattle.ice_filter.specs.Parsing as parsing
@@ -420,7 +429,7 @@ closed_adds m at s g [] room h has k few = tt
 closed_adds m at s g (p ∷ ps) room h has k few =
     let js = joined put s.now s.read in
     let same : predicates_in (top js) + predicates_of (below js) ≡ s.predicates = top_predicates js
-        ∙ or_predicates s.now s.read ∙ k in
+    ∙ or_predicates s.now s.read ∙ k in
     let e : g + 1 - 1 ≡ g = omega arith in
     rw (grouped js (or_top s.now s.read has)) (
       regroup_close (outside ps (rest p (below js))) (front p (below js)) (tokens_in (top js)) ∙ ap

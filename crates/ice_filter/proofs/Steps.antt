@@ -20,8 +20,18 @@ use Rattle.ice_filter.specs.Grammar.{Limits}
 use Rattle.ice_filter.specs.Rebuilding.{Reading, put}
 use Rattle.ice_filter.specs.Parsing.{Act, State, Read, literal_of, behind_column, behind_dot, compared, behind_not}
 use Rattle.ice_filter.specs.Parsing.{behind_in, chosen, behind_listed, chosen_too, behind_is, behind_is_not}
-use Rattle.ice_filter.specs.Parsing.{behind_starts, begun, predicate_step, opened, began, held, anded, ored, at_unit,
-    closed}
+use Rattle.ice_filter.specs.Parsing.{
+  behind_starts,
+  begun,
+  predicate_step,
+  opened,
+  began,
+  held,
+  anded,
+  ored,
+  at_unit,
+  closed,
+}
 use Rattle.ice_filter.specs.Parsing.{after_unit, moved, step, step_at, none}
 use Rattle.ice_filter.specs.Parsing as parsing
 

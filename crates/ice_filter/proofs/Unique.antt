@@ -40,11 +40,11 @@ one_filter ts t u h k =
     (roomy_within m u) in
     let vt : Walks n (start []) ts (Behind (ends t none []) [] (predicates_in t)) = rw h.spelled wt in
     let vu : Walks n (start []) (ts ++ []) (Behind (ends u none []) [] (predicates_in u)) = rw
-        (append-nil ts, k.spelled)
+    (append-nil ts, k.spelled)
     wu in
     same_end (Behind (ends t none []) [] (predicates_in t)) (Behind (ends u none []) [] (predicates_in u)) t u
     (apart n ts [] (start []) (Behind (ends t none []) [] (predicates_in t))
-        (Behind (ends u none []) [] (predicates_in u))
+    (Behind (ends u none []) [] (predicates_in u))
     vt vu) (filter_ends 0 t) (filter_ends 0 u)
 
 stands_up : (t : Written) → Stands unit t → Stands conj t × Stands filter t

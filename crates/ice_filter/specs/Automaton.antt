@@ -7,5 +7,11 @@ use Rattle.ice_filter.specs.Parsing.{State}
 
 -- the parts so far, and the open filters with the innermost first
 abbrev pub state_of : Parser → State (List (Part Predicate))
-state_of p = record { place = p.place; now = p.now; outer = reverse p.outer.items; read = p.parts; predicates =
-    p.predicates }
+state_of p = record {
+  place = p.place;
+  now = p.now;
+  outer = reverse p.outer.items;
+  read = p.parts;
+  predicates =
+      p.predicates;
+}

@@ -155,8 +155,11 @@ opened m s = if nat_lt (length s.outer) m.groups
 
 unfoldable pub began : {R : Type 0} → Limits → State R → List ℕ → Result (State R) FilterFault
 began m s n = if nat_lt s.predicates m.predicates
-    then Ok (record s { place = Inside
-        (partial.Column (record { first = n; more = [] })); predicates = s.predicates + 1 })
+    then Ok (record s {
+      place = Inside
+          (partial.Column (record { first = n; more = [] }));
+      predicates = s.predicates + 1;
+    })
     else Err TooBig
 
 -- a whole operand
@@ -172,8 +175,14 @@ at_unit add m at s _ = Err (Syntax at)
 unfoldable pub closed : {R : Type 0} → (R → Act → R) → ℕ → State R → List Pending → Result (State R) FilterFault
 closed add at s [] = Err (Syntax at)
 closed add at s (p ∷ ps) =
-    Ok (record { place = After; now = p; outer = ps; read = add
-        (joined add s.now s.read) group; predicates = s.predicates })
+    Ok (record {
+      place = After;
+      now = p;
+      outer = ps;
+      read = add
+          (joined add s.now s.read) group;
+      predicates = s.predicates;
+    })
 
 -- an operand of `and`, of `or`
 unfoldable pub anded : {R : Type 0} → (R → Act → R) → State R → Result (State R) FilterFault

@@ -8,8 +8,15 @@ use Rattle.ice_filter.specs.declared.parser.Pending.{Pending}
 use Rattle.ice_filter.specs.declared.parser.Place.{Place}
 use Rattle.ice_filter.specs.declared.parser.Place.TheVariants.{Wants, After, Inside}
 use Rattle.ice_filter.specs.Grammar.{Written, truth, predicate, group, both, either, Level, unit, conj, filter, Stands}
-use Rattle.ice_filter.specs.Grammar.{IsShallow, predicates_in, Limits, tokens_in, column_tokens, choices_tokens,
-    in_tokens}
+use Rattle.ice_filter.specs.Grammar.{
+  IsShallow,
+  predicates_in,
+  Limits,
+  tokens_in,
+  column_tokens,
+  choices_tokens,
+  in_tokens,
+}
 use Rattle.ice_filter.specs.Parsing.{State, Act}
 use Rattle.ice_filter.specs.Parsing as parsing
 

@@ -18,8 +18,15 @@ use Rattle.ice_filter.specs.Trees.{most_operands, operands_after_operand, operan
 use Rattle.ice_filter.specs.Trees.{operands_after, is_one_filter}
 use Rattle.ice_filter_laws.specs.Faults.{IsFaultOf, IsSound, predicates, IsOfTheFirst, TellsTheFirst}
 use Rattle.ice_filter_laws.specs.Faults.{BindsSoundPredicates}
-use Rattle.ice_filter_laws.proofs.Predicates.{here, later, nowhere, cases_of, PredicateComes, predicate_comes,
-    fault_once}
+use Rattle.ice_filter_laws.proofs.Predicates.{
+  here,
+  later,
+  nowhere,
+  cases_of,
+  PredicateComes,
+  predicate_comes,
+  fault_once,
+}
 
 -- ---- parts and their predicates
 
@@ -141,7 +148,7 @@ come schema (part.True ∷ ps) = come_part schema (held ps) part.True (bound_par
 come schema (part.False ∷ ps) = come_part schema (held ps) part.False (bound_parts schema ps) (come schema ps)
 come schema (part.Predicate l ∷ ps) =
     come_predicate schema l (held ps) (bound_predicate schema l) (bound_parts schema ps) (predicate_comes schema l)
-        (come schema ps)
+    (come schema ps)
 come schema (part.And ∷ ps) = come_part schema (held ps) part.And (bound_parts schema ps) (come schema ps)
 come schema (part.Or ∷ ps) = come_part schema (held ps) part.Or (bound_parts schema ps) (come schema ps)
 

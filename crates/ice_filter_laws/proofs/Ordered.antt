@@ -47,7 +47,7 @@ written (group w) =
     let P : List Predicate → Type 0 = λ v. AreOf v (token.Open ∷ (tokens_in w ++ token.Close ∷ [])) in
     subst P (append-nil (predicates (bare w))) (behind (predicates (bare w) ++ []) (token.Open ∷ [])
     (tokens_in w ++ token.Close ∷ []) (tt, tt)
-        (joined (predicates (bare w)) [] (tokens_in w) (token.Close ∷ []) (written w)
+    (joined (predicates (bare w)) [] (tokens_in w) (token.Close ∷ []) (written w)
     (tt, tt)))
 written (both v w) =
     joined (predicates (bare v)) (predicates (bare w)) (tokens_in v) (token.And ∷ tokens_in w) (written v)

@@ -80,9 +80,9 @@ record_onward : (id : ℤ) (field_path : List ℤ) (y x : Typed) → record_of (
 record_onward id field_path y x e =
     let is = record_taken x.0 x.1 y e in
     subst (λ (z : Typed). unless_null (λ z. unless_absent (pick field_path) (field_with id z)) z ≡ pick
-        (id ∷ field_path) y)
+    (id ∷ field_path) y)
     (sym is.2) (subst (λ (z : Typed). unless_absent (pick field_path)
-        (field_with id (structure is.0, fields is.1)) ≡ pick
+    (field_with id (structure is.0, fields is.1)) ≡ pick
     (id ∷ field_path) z) (sym is.3) refl)
 
 present_is : (t : Tree) (v : Value) (y : Typed) → record_of (there (unless_null present (t, v))) ≡ Some y

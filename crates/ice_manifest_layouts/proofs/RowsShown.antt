@@ -21,7 +21,7 @@ unfolding row_seen
 shown r found k f is number finds =
     let v : Value = is.2.0 in
     let field_path_is : field_path_of r.layout.now k ≡ to_field f = ap
-        (λ (ws : List (List ℤ)). nth_field_path ws k) is.0 ∙ number.1 in
+    (λ (ws : List (List ℤ)). nth_field_path ws k) is.0 ∙ number.1 in
     let read : v ≡ (row_seen r).1 = sym (ap value_read is.2.1.1) in
     let object_is : (layout_tree r.layout.now, v) ≡ row_seen r =
     ap (λ (t : Tree). (t, v)) (sym is.1.1) ∙ ap (λ (w : Value). (tree r.object.schema.now, w)) read in

@@ -41,7 +41,7 @@ unfolding entry_seen
 shown e found k field_path placed number is =
     let v : Value = placed.2.0 in
     let field_path_is : field_path_of e.layout.now k ≡ field_path = ap
-        (λ (ws : List (List ℤ)). nth_field_path ws k) placed.0 ∙ number.1 in
+    (λ (ws : List (List ℤ)). nth_field_path ws k) placed.0 ∙ number.1 in
     let read : v ≡ (entry_seen e).1 = sym (ap value_read placed.2.1.1) in
     let object_is : (layout_tree e.layout.now, v) ≡ entry_seen e =
     ap (λ (t : Tree). (t, v)) (sym placed.1.1) ∙ ap (λ (w : Value). (tree e.object.schema.now, w)) read in

@@ -75,7 +75,7 @@ abbrev pub LeadsToMap : ColumnMap → Option GuidedObject → Picked → Type 0
 LeadsToMap m (Some guided) met = (field_paths : List (List ℤ)) × (t : Tree) × (v : Value)
     × IsGuided field_paths t v guided
     × (pick (pos 2 ∷ m.id ∷ []) (t, v) ≡ met) × AreAsked field_paths (pos 2 ∷ m.id ∷ [])
-        × AreAsked field_paths (pair_ids m)
+    × AreAsked field_paths (pair_ids m)
 LeadsToMap m None met = Unit {0}
 
 -- what stands at the four maps of a data file's columns

@@ -279,7 +279,7 @@ row_sound facts filter spec tuple row honest h =
     facts.mapped (predicate_tests 0 (fields_of spec)) (tests_met tuple) filter
     ∙ meaning_mono (predicate_holds row) (λ l. tests_met tuple (predicate_tests 0 (fields_of spec) l))
     (λ l met. predicate_sound facts (fields_of spec) tuple 0 tuple l row
-        (λ k. let o : 0 + k ≡ k = omega arith in rw o refl)
+    (λ k. let o : 0 + k ≡ k = omega arith in rw o refl)
     honest met) (tree_of filter) h
 
 pub refuted : (a b : Bool) → (a ≡ true → b ≡ true) → b ≡ false → a ≡ false

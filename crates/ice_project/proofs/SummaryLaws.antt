@@ -22,8 +22,14 @@ use Rattle.ice_project.specs.declared.field.Field.{Field}
 use Rattle.ice_project.specs.declared.part_filter.FieldTest.{FieldTest}
 use Rattle.ice_project.specs.Fields.{field_of, fields_of}
 use Rattle.ice_project.specs.Limits.{limit, in_bounds}
-use Rattle.ice_project.specs.Projection.{projected_test, test_at, typed_test, predicate_test, with_test,
-    predicate_tests}
+use Rattle.ice_project.specs.Projection.{
+  projected_test,
+  test_at,
+  typed_test,
+  predicate_test,
+  with_test,
+  predicate_tests,
+}
 use Rattle.ice_project.specs.Projection.{projection}
 use Rattle.ice_project.specs.Summaries.{summary_allows, field_test_allowed, tests_allowed, summaries_may}
 use Rattle.ice_project.specs.Summaries.{type_of_values, IsSummaryOf, AreSummariesOf, IsCovered}
@@ -93,7 +99,7 @@ predicate_allowed ordered (f ∷ fs) (s ∷ ss) [] at summaries tuple l look_s l
 predicate_allowed ordered (f ∷ fs) (s ∷ ss) (p ∷ ps) at summaries tuple l look_s look_p cover h =
     with_allowed tuple summaries (predicate_test at f l) (predicate_tests (at + 1) fs l) one
     (predicate_allowed ordered fs ss ps (at + 1) summaries tuple l
-        (λ k. let o : at + 1 + k ≡ at + suc k = omega arith in
+    (λ k. let o : at + 1 + k ≡ at + suc k = omega arith in
     rw o (look_s (suc k)))
     (λ k. let o : at + 1 + k ≡ at + suc k = omega arith in rw o (look_p (suc k))) cover.1) h where
       one : (x : FieldTest) → predicate_test at f l ≡ Some x → field_test_met tuple x ≡ true

@@ -11,7 +11,7 @@ use Rattle.ice_state.specs.Parts.{holds_deletes}
 use Rattle.ice_state.specs.Pruning.{holds, same_content}
 use Rattle.ice_state.proofs.Filters.{and_true, all_unit, filter_kept}
 use Rattle.ice_state.specs.PlaceLists.{LinePlaces}
-use Rattle.ice_state.specs.Lines.{entry_at, entries_at, LacksDeletes, line_at, lines_at, AreWithin, IsLineWithin}
+use Rattle.ice_state.specs.Lines.{entry_at, entries_at, LacksDeletes, line_at, deletes_at, lines_at, AreWithin, IsLineWithin}
 
 -- one entry stands at each place within
 one_at : (xs : List Entry) (i : ℕ) → i < length xs → (x : Entry) × (slice_get xs i ≡ Some x) × (entry_at xs i ≡ x ∷ [])
@@ -66,6 +66,19 @@ lines_at-get deletes (y ∷ ys) (q ∷ qs) zero x d file at =
     let same : q ≡ d = cc in
     ap (λ f. Some (line_at deletes f q)) first ∙ ap (λ l. Some (line_at deletes x l)) same
 lines_at-get deletes (y ∷ ys) (q ∷ qs) (suc k) x d file at = lines_at-get deletes ys qs k x d file at
+
+-- the delete files of a line are those at its places
+pub deletes_there : (deletes files : List Entry) (places : List LinePlaces) (i : ℕ) (line : LinePlaces)
+    → length places ≡ length files → slice_get places i ≡ Some line
+    → deletes_at (lines_at deletes files places) i
+    ≡ Some (entries_at deletes line.positions, entries_at deletes line.equalities)
+deletes_there deletes [] [] i line each at = cc
+deletes_there deletes [] (p ∷ ps) i line each at = absurd (omega arith)
+deletes_there deletes (x ∷ xs) [] i line each at = absurd (omega arith)
+deletes_there deletes (x ∷ xs) (p ∷ ps) zero line each at =
+    let same : p ≡ line = cc in
+    ap (λ (l : LinePlaces). Some (entries_at deletes l.positions, entries_at deletes l.equalities)) same
+deletes_there deletes (x ∷ xs) (p ∷ ps) (suc k) line each at = deletes_there deletes xs ps k line (omega arith) at
 
 -- ---- the whole plan
 

@@ -1,5 +1,5 @@
 -- The lines of a plan, and how a plan keeps them.
-use Rattle.std.specs.Prelude.{◌≡◌, ℕ, ◌<◌, zero, suc, List, [], ◌∷◌, length}
+use Rattle.std.specs.Prelude.{◌≡◌, ℕ, ◌<◌, zero, suc, List, [], ◌∷◌, length, Option, option_map, slice_get}
 use Rattle.std.specs.List.{flat_map, AllByRecursion}
 use Rattle.ice_manifest_reading.specs.declared.entry.Entry.{Entry}
 use Rattle.ice_state.specs.declared.plan.lines.Files.{Files}
@@ -12,6 +12,10 @@ pub record OwnedLine : Type 0 where
   pub file : Entry
   pub positions : List Entry
   pub equalities : List Entry
+
+-- the delete files that apply to the data file at a place, where there is one
+abbrev pub deletes_at : List OwnedLine → ℕ → Option (List Entry × List Entry)
+deletes_at lines i = option_map (λ (l : OwnedLine). (l.positions, l.equalities)) (slice_get lines i)
 
 -- no delete file applies to the data file
 abbrev pub LacksDeletes : OwnedLine → Type 0

@@ -152,13 +152,13 @@ module _ (columns : List (List ℕ)) (bounds : FileBounds) where
   bounds_predicate at (Or ∷ ps) x h = bounds_predicate at ps x h
   bounds_predicate at (Predicate l ∷ ps) x h = go (file_allows bounds l) refl
       (λ k. bounds_predicate (at + 1) ps x k) where
-    go : (b : Bool) → file_allows bounds l ≡ b
-        → (first (at + 1) ps ≡ Some x
-        → (m : BoundPredicate) × Contains (predicates ps) m × (file_may (only m) bounds ≡ false))
-        → (m : BoundPredicate) × Contains (predicates (Predicate l ∷ ps)) m × (file_may (only m) bounds ≡ false)
-    go true e rest = let found = rest (rw e at h) in
-        (found.0, later (predicates ps) l found.0 found.1, found.2)
-    go false e rest = (l, (0, omega arith, refl), e)
+        go : (b : Bool) → file_allows bounds l ≡ b
+            → (first (at + 1) ps ≡ Some x
+            → (m : BoundPredicate) × Contains (predicates ps) m × (file_may (only m) bounds ≡ false))
+            → (m : BoundPredicate) × Contains (predicates (Predicate l ∷ ps)) m × (file_may (only m) bounds ≡ false)
+        go true e rest = let found = rest (rw e at h) in
+            (found.0, later (predicates ps) l found.0 found.1, found.2)
+        go false e rest = (l, (0, omega arith, refl), e)
 
   pub all_allowed : (at : ℕ) (ps : List (Part BoundPredicate))
       → AllByRecursion (λ x. predicate_allows bounds x ≡ true) (lone_predicates columns at ps)
@@ -193,10 +193,10 @@ pub bounds_say_yes : (filter : List (Part BoundPredicate)) (spec : Spec) (column
 bounds_say_yes filter spec columns l meets none =
     let yes = all_yes (file_allows l.bounds) filter
     (all_allowed columns l.bounds 0 filter
-        (none_no (predicate_allows l.bounds) (lone_predicates columns 0 filter) none)) in
+    (none_no (predicate_allows l.bounds) (lone_predicates columns 0 filter) none)) in
     yes ∙ meaning_mono (λ (x : BoundPredicate). tests_met l.entry.file.tuple (predicate_tests 0 (fields_of spec) x))
     (λ (x : BoundPredicate). true) (λ x h. refl) (tree_of filter)
-        (sym (mapped_meaning (predicate_tests 0 (fields_of spec))
+    (sym (mapped_meaning (predicate_tests 0 (fields_of spec))
     (tests_met l.entry.file.tuple) filter) ∙ meets)
 
 -- ---- fates
@@ -270,7 +270,7 @@ module _ (filter : List (Part BoundPredicate)) (spec : Spec) where
     bounds_unnamed few h =
         let p = by_bounds meets out _ _ None h in
         let none = first_is_named (predicate_allows l.bounds) (λ (x : LonePredicate). x.column)
-            (lone_predicates columns 0 filter)
+        (lone_predicates columns 0 filter)
         (predicates_named columns 0 filter (omega (arith, few))) p.2 in
         let yes = bounds_say_yes filter spec columns l p.0 none in
         let no = and_not _ (file_may filter l.bounds) p.1 in

@@ -15,8 +15,14 @@ use Rattle.ice_filter.specs.Trees.{map_predicates}
 use Rattle.ice_meta.specs.declared.spec.PartitionField.{PartitionField}
 use Rattle.ice_meta.specs.declared.spec.Spec.{Spec}
 use Rattle.ice_project.specs.Fields.{field_of, fields_of}
-use Rattle.ice_project.specs.Projection.{predicate_test, predicate_tests, projected_test, test_at, typed_test,
-    with_test}
+use Rattle.ice_project.specs.Projection.{
+  predicate_test,
+  predicate_tests,
+  projected_test,
+  test_at,
+  typed_test,
+  with_test,
+}
 use Rattle.ice_project.specs.declared.field.Field.{Field}
 use Rattle.ice_project.specs.declared.part_filter.FieldTest.{FieldTest}
 use Rattle.ice_transform.specs.Values.{type_of}
@@ -64,7 +70,7 @@ tests_within at [] l = tt
 tests_within at (f ∷ fs) l =
     let same : (at + 1) + length fs ≡ at + length (f ∷ fs) = omega arith in
     put at (at + length (f ∷ fs)) (predicate_test at f l) (predicate_tests (at + 1) fs l) (omega arith)
-        (test_is_at at f l)
+    (test_is_at at f l)
     (subst (λ end. AreWithin (at + 1) end (predicate_tests (at + 1) fs l)) same (tests_within (at + 1) fs l))
 
 -- so each has a field's name

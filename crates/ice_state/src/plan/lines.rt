@@ -3,7 +3,7 @@
 ghost use Rattle.std.specs.Prelude.{◌≡◌, ◌<◌, ◌^◌, length, Some, slice_get, IsTrue};
 ghost use Rattle.std.specs.List.{AllByRecursion};
 ghost use Rattle.std.specs.Option.{option_copied};
-ghost use Rattle.ice_state.specs.Lines.{LacksDeletes};
+ghost use Rattle.ice_state.specs.Lines.{LacksDeletes, deletes_at};
 ghost use Rattle.ice_state.specs.Segments.{IsKept, entry_at};
 ghost use Rattle.ice_manifest_reading.specs.Lending.{lent};
 
@@ -282,6 +282,36 @@ impl<'a> Lines<'a> {
             deletes: self.deletes,
             positions: self.places.positions(i),
             equalities: self.places.equalities(i),
+        }
+    }
+
+    /// Whether the same delete files apply to two data files. Where they do the answer may still be no, as it is for
+    /// delete files that were put in other lists.
+    pub fn have_same_deletes(&self, i: usize, j: usize) -> bool
+        requires first { i < length self.now }
+        requires second { j < length self.now }
+        ensures { IsTrue result → deletes_at self.now i ≡ deletes_at self.now j }
+    {
+        self.places.positions(i) == self.places.positions(j)
+            && self.places.equalities(i) == self.places.equalities(j)
+    }
+
+    /// A number that is the same for data files to which the same delete files apply, and mostly another for others. By
+    /// it a caller looks for what it remembers of them.
+    pub fn deletes_hint(&self, i: usize) -> usize
+        requires { i < length self.now }
+    {
+        hint_of(self.places.positions(i)) ^ hint_of(self.places.equalities(i)).rotate_left(7)
+    }
+}
+
+/// A number that the first and last of some places and how many there are make.
+fn hint_of(places: &[u32]) -> usize {
+    match places {
+        [] => 0,
+        [first, ..] => {
+            let last = places[places.len() - 1];
+            (*first as usize).wrapping_mul(31) ^ (last as usize).wrapping_mul(131) ^ places.len()
         }
     }
 }

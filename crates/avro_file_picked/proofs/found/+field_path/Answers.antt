@@ -115,6 +115,6 @@ place_below-returns t c = λ vs after e.
     let same : to_z w32 (of_z w32 c.args.id) ≡ c.args.id = to_z-of_z w32 c.args.id (search rules) in
     let o = c.fields.invariant.1 vs after e in
     rw (← same) (ap (λ o. value_met (unless_absent (pick c.args.field_path.now) o))
-        (no_field (to_z w32 (of_z w32 c.args.id))
+    (no_field (to_z w32 (of_z w32 c.args.id))
     (field_trees c.args.fields.now) vs c.args.fields.now c.fields.field-index (position_of c.fields.here) after
     c.fields-test.false o))

@@ -20,9 +20,9 @@ guide_of-returns-in_ok-parts-in-Record-clause-guide t c =
     let field_paths = ids_in c.args.field_paths.now in
     let here : c.deref.result.now ≡ c.in-Record.fields.value = c.deref.ensures in
     let are : AreParts field_paths (all_seen c.in_ok-parts-in-Record.parts.items)
-        (inner field_paths (tree c.args.schema.now)) =
+    (inner field_paths (tree c.args.schema.now)) =
     rw (c.in-Record.is, tree-Record c.in-Record.fields, ← here, ← c.deref-in-Record.ensures.value)
     c.in_ok-parts-in-Record.ensures in
     guides_made field_paths c.args.id (tree c.args.schema.now)
-        (all_seen c.in_ok-parts-in-Record.parts.items) c.with_parts.result
+    (all_seen c.in_ok-parts-in-Record.parts.items) c.with_parts.result
     c.with_parts.ensures are

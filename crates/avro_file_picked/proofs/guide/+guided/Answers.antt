@@ -30,8 +30,11 @@ use Rattle.avro_file_picked.proofs.guide.+guided.Goals as goal
 pub place_by-returns-in_default : goal.place_by-returns-in_default
 place_by-returns-in_default t c = λ field_paths v after is asked e.
     let type = type_is c.args.guide.now in
-    rw (type, pick_itself c.args.field_path.now (tree (out-Guide c.args.guide.now).schema.now) v
-        (sym c.in_default.ensures))
+    rw (
+      type,
+      pick_itself c.args.field_path.now (tree (out-Guide c.args.guide.now).schema.now) v
+          (sym c.in_default.ensures),
+    )
     (rw type at (c.place_inside.ensures field_paths v after is asked e))
 
 pub place_by-returns-in_err-position : goal.place_by-returns-in_err-position
@@ -80,7 +83,7 @@ place_by-returns t c = λ field_paths v after is asked e.
     let guide_there : IsGuide field_paths (seen c.index.result.now) =
     subst (λ (g : Guide). IsGuide field_paths (seen g)) (sym c.index.ensures) part.1 in
     rw (type_is c.args.guide.now)
-        (met_chosen (λ met. GuidesTo field_paths c.args.place.left met c.place_inside-2.result)
+    (met_chosen (λ met. GuidesTo field_paths c.args.place.left met c.place_inside-2.result)
     c.args.field_path.now (tree (out-Guide c.args.guide.now).schema.now) branches c.in-Some-natural.position
     (out-Guide c.args.guide.now).schema.now _ after v (sym c.in-Some.ensures)
     (omega (arith, inside, parts_many field_paths parts.items branches are)) (rw there at read) (λ w end f.
@@ -93,15 +96,15 @@ place_inside-returns-then-is_record t c = λ field_paths v after is asked e.
     let schema = tree (out-Guide c.args.guide.now).schema.now in
     let asks = rw field_path at asked in
     let are : AreParts field_paths (all_seen c.deref.result.now)
-        (kept field_paths (fields_in schema)) = rw c.deref.ensures.value
+    (kept field_paths (fields_in schema)) = rw c.deref.ensures.value
     (field_parts field_paths c.args.guide.now is (sym c.if-is_record.ensures)) in
     rw (type_is c.args.guide.now, field_path)
-        (met_into (λ met. GuidesTo field_paths c.args.place.left met c.place_past.result)
+    (met_into (λ met. GuidesTo field_paths c.args.place.left met c.place_past.result)
     (guides_settle field_paths c.args.place.left c.place_past.result) c.in-Some.id.now c.in-Some.rest.now schema
     (fields_in schema) (position_of c.args.place) after v refl (rw (type_is c.args.guide.now) at e)
     (λ vs end f. let k = kept_read field_paths (fields_in schema) (position_of c.args.place) vs end f in
     rw (k.same c.in-Some.id.now asks.0)
-        (rw same at (c.place_past.ensures field_paths (kept field_paths (fields_in schema)) k.values end
+    (rw same at (c.place_past.ensures field_paths (kept field_paths (fields_in schema)) k.values end
     are asks.1 k.read))))
 
 pub place_inside-returns-else-is_record : goal.place_inside-returns-else-is_record
@@ -162,7 +165,7 @@ place_past-returns-in_err-here t c = λ field_paths fs vs after are asked e.
     c.guide-item.result (position_of c.guides.here) after c.guides-test.true c.guide-item.is
     (c.guides.invariant.1 field_paths fs vs after are e) in
     absurd (passing_reads field_paths c.guide-item.result
-        (position_of c.guides.here) f.first.between f.first.first _ f.is
+    (position_of c.guides.here) f.first.between f.first.first _ f.is
     f.first.read c.in_err-here.ensures)
 
 pub place_past-guides-preserved : goal.place_past-guides-preserved
@@ -175,7 +178,7 @@ place_past-guides-preserved t c =
       λ field_paths fs vs after are e.
           let id = to_z w32 (of_z w32 c.args.id) in
           let f = front_led field_paths id fs vs c.args.guides.now c.guides.guide-index here
-              (position_of c.guides.here) after
+          (position_of c.guides.here) after
           c.guides-test.true c.guide-item.is (c.guides.invariant.1 field_paths fs vs after are e) in
           let other : option_eq int_eq (id_guided (seen here)) (Some id) ≡ false =
           rw (id_is here) (sym c.if-eq.ensures) in
@@ -190,6 +193,6 @@ place_past-returns t c = λ field_paths fs vs after are asked e.
     let id = to_z w32 (of_z w32 c.args.id) in
     let same : id ≡ c.args.id = to_z-of_z w32 c.args.id (search rules) in
     rw (← same) (ap (λ (o : Option Typed). value_met (unless_absent (pick c.args.field_path.now) o))
-        (led_nowhere field_paths id fs vs
+    (led_nowhere field_paths id fs vs
     c.args.guides.now c.guides.guide-index (position_of c.guides.here) after c.guides-test.false
     (c.guides.invariant.1 field_paths fs vs after are e)))

@@ -11,7 +11,7 @@ use Rattle.avro_file_picked.proofs.guide.+guided.Given as goal
 abbrev pub invariant-place_past-guides : goal.invariant-place_past-guides
 invariant-place_past-guides l = (l.here.left ≤ l.fn.place.left)
     × ((field_paths : List (List ℤ)) (fs : Fields) (vs : List Value) (after : Position)
-        → AreParts field_paths (all_seen l.guides) fs
+    → AreParts field_paths (all_seen l.guides) fs
     → fields_at fs (position_of l.fn.place) ≡ Ok (vs, after)
     → Led field_paths l.id fs vs (all_seen (drop l.guide-index l.guides)) (position_of l.here) after)
 

@@ -8,7 +8,7 @@ pub returns-in-Ok-Some : goal.returns-in-Ok-Some
 returns-in-Ok-Some c = λ field_paths v is asked there.
     let read = stood (type_guided (seen c.args.guide.now)) c.args.bytes.now v there in
     guided_there field_paths
-        (pick c.args.field_path.now (type_guided (seen c.args.guide.now), v)) c.in-Ok-Some.guide c.in-Ok-Some.place
+    (pick c.args.field_path.now (type_guided (seen c.args.guide.now), v)) c.in-Ok-Some.guide c.in-Ok-Some.place
     (rw c.in-Ok-Some.field-0-is at (c.in-Ok-Some.ensures field_paths v read.0 is asked read.1))
 
 pub returns-in-Ok-None : goal.returns-in-Ok-None

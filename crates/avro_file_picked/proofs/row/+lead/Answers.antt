@@ -62,7 +62,7 @@ lead_of-returns-in-Some-clause-lead t c =
     let field_path : c.args.field_path.now ≡ c.in-Some.id.now ∷ c.in-Some.rest.now = c.in-Some.ensures.cases.0 in
     let same : to_z w32 (of_z w32 c.in-Some.id.now) ≡ c.in-Some.id.now = to_z-of_z w32 c.in-Some.id.now (search rules) in
     rw field_path (lead_within (tree c.args.schema.now)
-        (field_trees c.fields_of.result.now) c.in-Some.id.now c.in-Some.rest.now
+    (field_trees c.fields_of.result.now) c.in-Some.id.now c.in-Some.rest.now
     c.lead_below.result (sym c.if-is_record.ensures) c.fields_of.ensures (rw same at c.lead_below.ensures.lead))
 
 pub lead_of-returns-in_default-clause-lead : goal.lead_of-returns-in_default-clause-lead

@@ -10,7 +10,7 @@ returns c = λ field_paths t v is asked there.
     let same : to_z w32 (of_z w32 c.args.id) ≡ c.args.id = to_z-of_z w32 c.args.id (search rules) in
     let met = at c.args.id (t, v) in
     let asks : AreAsked field_paths (to_z w32 (of_z w32 c.args.id) ∷ []) = subst
-        (λ (z : ℤ). AreAsked field_paths (z ∷ [])) (sym same)
+    (λ (z : ℤ). AreAsked field_paths (z ∷ [])) (sym same)
     asked in
     let found : IsMet c.found.result met = subst (λ (z : ℤ). IsMet c.found.result (at z (t, v))) same
     (c.found.ensures field_paths t v is asks there) in

@@ -9,5 +9,5 @@ from_items-requires c =
     let parts = c.as_slice-3.result.now in
     let whole : is_filter parts ≡ true = ap is_filter c.as_slice-3.ensures.parts ∙ c.as_slice-3.ensures.filter in
     ap is_filter c.in_ok-parts.ensures
-        ∙ (c.filters_over_other_predicates.ensures.filter (predicate_tests 0 fields) parts ∙
+    ∙ (c.filters_over_other_predicates.ensures.filter (predicate_tests 0 fields) parts ∙
     whole)

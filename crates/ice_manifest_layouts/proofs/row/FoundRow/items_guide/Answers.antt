@@ -18,6 +18,6 @@ returns c =
     row_guided c.args.self.now c.in_ok-guided.guided c.items_guide.result (row_id c.args.field) c.requires
     c.in_ok-guided.ensures
     (subst (λ (z : ℤ). (field_paths : List (List ℤ)) (t : Tree) (v : Value)
-        → IsGuided field_paths t v c.in_ok-guided.guided
+    → IsGuided field_paths t v c.in_ok-guided.guided
     → AreAsked field_paths (z ∷ []) → GuidesItems field_paths c.items_guide.result (pick (z ∷ []) (t, v))) same
     c.items_guide.ensures) (row_asked c.args.field)
