@@ -12,4 +12,4 @@ mod plans;
 #[cfg(test)]
 mod refusals;
 
-pub use calls::{lacks_deletes, new};
+pub use calls::{into_plan, keeps, lacks_deletes, new, take_apart};
