@@ -1,6 +1,6 @@
 //! Writing paths and names escaped.
 
-ghost use Rattle.std.specs.Prelude.{◌≡◌, ◌<◌, ◌≤◌, true, Ok, Err, IfOk, IfErr, length, take, slice_index};
+ghost use Rattle.std.specs.Prelude.{◌≡◌, ◌<◌, ◌≤◌, true, false, Ok, Err, IfOk, IfErr, length, take, slice_index};
 ghost use Rattle.icescan_print.specs.Escaping.{hex_digit, is_escaped, escaped_byte, escaped};
 ghost use Rattle.icescan_print.specs.Written.{Wrote};
 
@@ -34,13 +34,39 @@ fn put_front<S: Sink>(sink: &mut S, bytes: &[u8]) -> Result<usize, SinkFault>
     Ok(plain)
 }
 
+/// How many bytes are looked at together.
+const BLOCK: usize = 16;
+
+/// Whether one of the bytes has to be escaped. No branch stands between them, so that a processor looks at many at once.
+fn has_escaped(bytes: &[u8]) -> bool
+    ensures { result ≡ false → escaped bytes.now ≡ bytes.now }
+{
+    let mut has = false;
+    'bytes: for i in 0..bytes.len() {
+        has |= is_escaped(bytes[i]);
+    }
+    has
+}
+
+/// How many bytes stand in the blocks before the first in which one has to be escaped.
+fn count_plain_blocks(bytes: &[u8]) -> usize
+    ensures within { result ≤ length bytes.now }
+    ensures plain { escaped (take result bytes.now) ≡ take result bytes.now }
+{
+    let mut count = 0;
+    while bytes.len() - count >= BLOCK && !has_escaped(&bytes[count..count + BLOCK]) {
+        count += BLOCK;
+    }
+    count
+}
+
 /// How many bytes stand before the first that has to be escaped.
 pub fn count_plain(bytes: &[u8]) -> usize
     ensures within { result ≤ length bytes.now }
     ensures plain { escaped (take result bytes.now) ≡ take result bytes.now }
     ensures stops { result < length bytes.now → is_escaped (slice_index bytes.now result) ≡ true }
 {
-    let mut count = 0;
+    let mut count = count_plain_blocks(bytes);
     while count < bytes.len() && !is_escaped(bytes[count]) {
         count += 1;
     }
@@ -59,7 +85,7 @@ pub fn digits_of(byte: u8) -> [u8; 4]
 pub fn is_escaped(byte: u8) -> bool
     ensures { result ≡ is_escaped byte }
 {
-    byte <= b' ' || byte == b'\\' || byte == 127
+    (byte <= b' ') | (byte == b'\\') | (byte == 127)
 }
 
 /// A hexadecimal digit, in lower case.
