@@ -1,4 +1,5 @@
 pub mod Escaping
+pub mod MadeDeletes
 pub mod Pieces
 pub mod PlanTexts
 pub mod Ranges

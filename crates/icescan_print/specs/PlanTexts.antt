@@ -31,9 +31,13 @@ position_text d = numbered_path (codes "  pos ") d ++ 10 ∷ []
 unfoldable pub equality_text : Entry → List ℕ
 equality_text d = numbered_path (codes "  eq ") d ++ (codes " ids " ++ (ids_text d.file.equality_ids ++ 10 ∷ []))
 
+-- the lines of the delete files that apply to a data file
+abbrev pub deletes_text : OwnedLine → List ℕ
+deletes_text l = flat_map position_text l.positions ++ flat_map equality_text l.equalities
+
 -- a data file, and below it the delete files that apply to it
 unfoldable pub line_text : OwnedLine → List ℕ
-line_text l = file_text l.file ++ (flat_map position_text l.positions ++ flat_map equality_text l.equalities)
+line_text l = file_text l.file ++ deletes_text l
 
 -- how many lines of delete files it has
 abbrev pub deletes_of : OwnedLine → ℕ

@@ -10,7 +10,7 @@ ghost use Rattle.icescan_print.specs.Written.{Sent};
 
 use crate::page::Page;
 use crate::plan_text::{put_lines, put_some_lines, put_totals};
-use crate::sink::{Sink, SinkFault};
+use crate::sink::{Nowhere, Sink, SinkFault};
 use ice_state::Lines;
 use std::alloc::{AllocError, Global};
 use std::thread::{Threads, join_mut};
@@ -18,22 +18,6 @@ use std::thread::{Threads, join_mut};
 /// How many bytes of a text are made ahead at most, by each thread. All have to be there to be taken; of them Linux
 /// gives only those that are written to.
 const MOST_AHEAD: usize = 8_388_608;
-
-/// Takes nothing: what is on its way there stays on its page, as far as that has room.
-#[derive(Debug, Drop)]
-struct Nowhere;
-
-impl Sink for Nowhere {
-    ghost use Rattle.std.specs.Prelude.{[]};
-
-    ghost taken = { λ _. Some [] };
-
-    ghost may_fail = { λ _. Unit {0} };
-
-    fn write(&mut self, _bytes: &[u8]) -> Result<usize, SinkFault> {
-        Err(SinkFault)
-    }
-}
 
 /// Where a thread makes the texts of ranges, one after the other, in memory that is taken once.
 #[derive(Debug, Drop)]

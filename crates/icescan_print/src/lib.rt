@@ -5,6 +5,7 @@
 
 mod by_workers;
 mod escape;
+mod made_deletes;
 mod page;
 mod pieces;
 mod plan_text;

@@ -46,6 +46,11 @@ impl Page {
         })
     }
 
+    /// What its memory is taken from.
+    pub(crate) fn alloc(&self) -> Global {
+        *self.bytes.allocator()
+    }
+
     /// What waits.
     pub(crate) fn bytes(&self) -> &[u8]
         ensures { result.now ≡ self.now }

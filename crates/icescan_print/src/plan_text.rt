@@ -1,15 +1,17 @@
 //! The text of a plan, sent to a sink piece by piece.
 
-ghost use Rattle.std.specs.Prelude.{◌≡◌, ◌∷◌, sum_by};
+ghost use Rattle.std.specs.Prelude.{◌≡◌, ◌∷◌, ◌<◌, Some, length, slice_get, sum_by};
 ghost use Rattle.std.specs.List.{flat_map};
 ghost use Rattle.std.specs.Fmt.{signed_decimal};
+ghost use Rattle.ice_state.specs.Lines.{OwnedLine};
 ghost use Rattle.icescan_print.specs.PlanTexts.{totals_text, ids_text, numbered_path, size_text, file_text};
 ghost use Rattle.icescan_print.specs.PlanTexts.{position_text};
 ghost use Rattle.icescan_print.specs.PlanTexts.{equality_text};
-ghost use Rattle.icescan_print.specs.PlanTexts.{totals_text, line_text, deletes_of, plan_text};
+ghost use Rattle.icescan_print.specs.PlanTexts.{totals_text, line_text, deletes_of, deletes_text, plan_text};
 ghost use Rattle.icescan_print.specs.Ranges.{range_text};
 ghost use Rattle.icescan_print.specs.Written.{Sent};
 
+use crate::made_deletes::{MadeDeletes, put_made_deletes};
 use crate::page::Page;
 use crate::sink::{Sink, SinkFault};
 use ice_state::{Line, Lines, PlanFile, PlanFiles};
@@ -85,19 +87,28 @@ pub(crate) fn put_some_lines<S: Sink>(
     ensures { Sent S.taken S.may_fail sink.old page.old result sink.new page.new (range_text lines.now first count) }
 {
     let end = lines.len().min(first.saturating_add(count));
+    let mut made = MadeDeletes::new(page.alloc(), lines);
     for i in first..end {
-        put_line(page, sink, &lines.line(i))?;
+        put_line(page, sink, &mut made, i)?;
     }
     Ok(())
 }
 
+/// Sends the text of one of a plan's lines.
 #[tactic(auto, unfolding(crate::specs::PlanTexts::line_text))]
-fn put_line<S: Sink>(page: &mut Page, sink: &mut S, line: &Line<'_>) -> Result<(), SinkFault>
-    ensures { Sent S.taken S.may_fail sink.old page.old result sink.new page.new (line_text line.now) }
+fn put_line<S: Sink>(
+    page: &mut Page,
+    sink: &mut S,
+    lines: &mut MadeDeletes<'_, '_>,
+    i: usize,
+) -> Result<(), SinkFault>
+    requires { i < length lines.old }
+    ensures same { lines.new ≡ lines.old }
+    ensures sent { (line : OwnedLine) → slice_get lines.old i ≡ Some line →
+        Sent S.taken S.may_fail sink.old page.old result sink.new page.new (line_text line) }
 {
-    put_file(page, sink, &line.file())?;
-    put_positions(page, sink, &line.positions())?;
-    put_equalities(page, sink, &line.equalities())
+    put_file(page, sink, &lines.line(i).file())?;
+    put_made_deletes(page, sink, lines, i)
 }
 
 #[tactic(auto, unfolding(crate::specs::PlanTexts::file_text))]
@@ -129,6 +140,18 @@ fn put_numbered_path<S: Sink>(
 {
     page.put_named_path(sink, name, file.path())?;
     page.put_named_number(sink, b" seq ", file.sequence_number().get())
+}
+
+/// Sends the lines of a data file's delete files.
+pub(crate) fn put_deletes<S: Sink>(
+    page: &mut Page,
+    sink: &mut S,
+    line: &Line<'_>,
+) -> Result<(), SinkFault>
+    ensures { Sent S.taken S.may_fail sink.old page.old result sink.new page.new (deletes_text line.now) }
+{
+    put_positions(page, sink, &line.positions())?;
+    put_equalities(page, sink, &line.equalities())
 }
 
 fn put_positions<S: Sink>(
