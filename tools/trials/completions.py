@@ -32,6 +32,7 @@ CASES = [
     ("icescan --explain plan --wor", "icescan --explain plan --workers"),
     ("icescan plan --format js", "icescan plan --format json"),
     (f"icescan plan --dir {TABLE}/meta", f"icescan plan --dir {TABLE}/metadata"),
+    (f"icescan locate {TABLE}/meta", f"icescan locate {TABLE}/metadata"),
     (f"icescan plan {PLACE} s3", f"icescan plan {PLACE} {PREFIX}/metadata/{NEWEST}"),
     (f"icescan plan {PLACE} s3://warehouse/db/ev", f"icescan plan {PLACE} {PREFIX}/metadata/{NEWEST}"),
     (f"icescan --explain audit {PLACE} {PREFIX}/metadata/00009", f"icescan --explain audit {PLACE} {PREFIX}/metadata/{NEWEST}"),

@@ -250,6 +250,15 @@ def files(cases):
     cases.files["folder/file"] = b""
     cases.add("P3 Device mem://t/folder", ["plan", "mem://t/folder"])
     cases.plan("P5 Workers", "table.json", table(), "--workers", "65")
+    cases.files["empty/metadata/notes.txt"] = b""
+    cases.files["twice/metadata/00002-a.metadata.json"] = b""
+    cases.files["twice/metadata/v2.metadata.json"] = b""
+    cases.files["packed/metadata/v1.metadata.json"] = b""
+    cases.files["packed/metadata/v2.gz.metadata.json"] = b""
+    cases.add("P6 NoFolder", ["locate", "FOLDER/none"])
+    cases.add("P7 NoMetadata", ["locate", "FOLDER/empty"])
+    cases.add("P8 TwoOfOneNumber 00002-a.metadata.json v2.metadata.json", ["locate", "FOLDER/twice"])
+    cases.add("P9 Compressed v2.gz.metadata.json", ["locate", "FOLDER/packed"])
     cases.add("B1 Bundle 2", ["list-plan", "--bundle"], b"a 00\nb\n")
 
 
@@ -296,7 +305,7 @@ def make(folder):
 def whole_words(words, folder):
     """The words with the folder and the prefix, where they have no bundle."""
     words = [w.replace("FOLDER", folder) for w in words]
-    if "--bundle" in words:
+    if "--bundle" in words or words[0] == "locate":
         return words
     prefix = [] if "--prefix" in words else ["--prefix", "mem://t"]
     return [words[0], "--dir", folder, *prefix, *words[1:]]

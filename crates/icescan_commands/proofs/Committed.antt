@@ -71,6 +71,8 @@ module _ (request : CommitRequest) (text : List ℕ) where
         cause_of known (failing_bundle w) (run.Filter f) (refused_commit (run.Filter f) h) refl
     commit_refuses w (run.Drill f) h =
         cause_of known (failing_bundle w) (run.Drill f) (refused_commit (run.Drill f) h) refl
+    commit_refuses w (run.Locate f) h =
+        cause_of known (failing_bundle w) (run.Locate f) (refused_commit (run.Locate f) h) refl
     commit_refuses w (run.Change f) h =
         cause_of known (failing_bundle w) (run.Change f) (refused_commit (run.Change f) h) refl
     commit_refuses w (run.Prepare f) h =

@@ -46,6 +46,7 @@ module _ (read : Result Commitment RunFault) (at : List ℕ → Type 0) (out : L
   ends_commit (run.Metadata f) h = h
   ends_commit (run.Filter f) h = h
   ends_commit (run.Drill f) h = h
+  ends_commit (run.Locate f) h = h
   ends_commit (run.Change f) h = h
   ends_commit (run.Prepare f) h = h
   ends_commit run.Workers h = h

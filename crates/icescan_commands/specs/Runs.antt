@@ -120,6 +120,7 @@ answer_to below (command.Audit source target workers path) input =
     over below source (λ world. audit_in world path target workers) input
 answer_to below (command.Explain source request workers path) input =
     over below source (λ world. explain_in world path request workers) input
+answer_to below (command.Locate folder form) input = None
 answer_to below (command.Drill asked) input = None
 answer_to below (command.Text text) input = Some (Ok (plain text))
 
@@ -143,6 +144,7 @@ failing_of below may_fail (command.Audit source target workers path) write =
     failing_over below may_fail source (λ world. audit_reads_at world path target) write
 failing_of below may_fail (command.Explain source request workers path) write =
     failing_over below may_fail source (λ world. reads_at world path request) write
+failing_of below may_fail (command.Locate folder form) write = failing_unread write
 failing_of below may_fail (command.Drill asked) write = failing_unread write
 failing_of below may_fail (command.Text text) write = failing_unread write
 

@@ -7,6 +7,7 @@ ghost use Rattle.icescan_commands.specs.Runs.{IsCount, Ran, answer_to, ended, fa
 ghost use Rattle.icescan_commands.specs.Sources.{failing_bundle, failing_unread};
 ghost use Rattle.icescan_commands.specs.Storing.{IsStored};
 ghost use Rattle.icescan_drill.specs.Drills.{WroteDrill};
+ghost use Rattle.icescan_locate.specs.Located.{WroteLocated};
 ghost use Rattle.icescan_requests.specs.Bundles.{IsInput, bundle_of};
 ghost use Rattle.icescan_requests.specs.Commits.{committed_text};
 ghost use Rattle.icescan_text.specs.declared.fault.RunFault.{RunFault};
@@ -22,12 +23,13 @@ use icescan_audit::audit_file;
 use icescan_columns::columns_file;
 use icescan_drill::{Watch, run_drill};
 use icescan_explain::explain_file;
+use icescan_locate::locate_folder;
 use icescan_print::{Sink, write_all};
 use icescan_progress::Progress;
 use icescan_requests::{
     Bundle, Folders, Stores, commit_to, prepare_commit, read_bundle, show_file,
 };
-use icescan_text::{CommitRequest, Drill, Request, RunFault};
+use icescan_text::{CommitRequest, Drill, Request, RunFault, Separator};
 use icescan_words::{Command, Format, Lists, Source};
 use std::alloc::Global;
 use std::io::Read;
@@ -281,6 +283,27 @@ pub fn tell<W: Sink>(text: &Text, output: &mut W) -> Result<(), RunFault>
 {
     write_all(output, text.as_bytes())?;
     Ok(())
+}
+
+/// Writes the words of the table in a folder.
+pub fn locate<H, S: Folders, P, W: Sink>(
+    system: &System<'_, H, S, P>,
+    folder: &Text,
+    separator: Separator,
+    output: &mut W,
+) -> Result<(), RunFault>
+    ensures ran { Ran None (failing_unread (W.may_fail output.old)) result (W.taken output.old) (W.taken output.new) }
+    ensures located { OnOk result (WroteLocated (S.lists system.now.folders.now)
+        (S.gives system.now.folders.now folder.now folder.now) folder.now separator (W.taken output.old)
+        (W.taken output.new)) }
+{
+    locate_folder(
+        system.alloc,
+        system.folders,
+        folder.as_str(),
+        separator,
+        output,
+    )
 }
 
 /// Drills, and writes what is told of the table.

@@ -10,7 +10,9 @@ ghost use Rattle.icescan_words.specs.CommandLines.{ReadAs};
 ghost use Rattle.icescan_words.specs.declared.command.Command.{Command};
 ghost use Rattle.icescan_text.specs.declared.fault.RunFault.{RunFault};
 
-use crate::arms::{TableAt, audit, columns, commit, drill, explain, list_plan, plan, show, tell};
+use crate::arms::{
+    TableAt, audit, columns, commit, drill, explain, list_plan, locate, plan, show, tell,
+};
 use crate::system::System;
 use icescan_drill::Watch;
 use icescan_print::Sink;
@@ -82,6 +84,9 @@ where
         Command::Explain(source, request, workers, path) => {
             let table = &TableAt { source, path };
             no_findings(explain(system, table, request, *workers, input, output))
+        }
+        Command::Locate(folder, separator) => {
+            no_findings(locate(system, folder, *separator, output))
         }
         Command::Drill(asked) => no_findings(drill(system.host, system.alloc, *asked, output)),
         Command::Text(text) => no_findings(tell(text, output)),

@@ -11,6 +11,7 @@ use crate::schema::of_schema;
 use crate::sentence::{MEMORY, Sentence};
 use avro_file::AvroFault;
 use ice_manifest_reading::{ListFault, ManifestFault};
+use ice_meta_files::NewestFault;
 use ice_state::FinishFault;
 use icescan_text::RunFault;
 use std::alloc::{AllocError, Global};
@@ -39,6 +40,35 @@ right to read it, no end within 16,777,216 reads; `-` is standard input",
     advice: Some("look at its rights and at the disk; try again"),
 };
 
+const NO_FOLDER: Sentence = Sentence {
+    name: "P6 NoFolder",
+    wrong: "there is no folder `metadata` in the folder",
+    advice: Some("name the folder of the table: the one that has its folder `metadata` in it"),
+};
+
+const NO_METADATA: Sentence = Sentence {
+    name: "P7 NoMetadata",
+    wrong: "the folder `metadata` has no file `vN.metadata.json`, `N.metadata.json` or
+`N-ID.metadata.json`",
+    advice: Some(
+        "look whether this is the folder of an Iceberg table, and whether its metadata is elsewhere",
+    ),
+};
+
+const TWO_OF_ONE_NUMBER: Sentence = Sentence {
+    name: "P8 TwoOfOneNumber",
+    wrong: "both files have the number of the newest metadata: two writers wrote it",
+    advice: Some(
+        "ask the table's catalog which of them is the table's, and name that one to the command",
+    ),
+};
+
+const COMPRESSED: Sentence = Sentence {
+    name: "P9 Compressed",
+    wrong: "the newest metadata is compressed by gzip",
+    advice: Some("`icescan-uncompress FOLDER COPY` unpacks it; locate the copy"),
+};
+
 const WORKERS: Sentence = Sentence {
     name: "P5 Workers",
     wrong: "the number behind `--workers` is 0, or over 64",
@@ -63,6 +93,17 @@ what this one wrote; status 4",
     advice: Some("read that metadata, and commit again on it under a new UUID"),
 };
 
+/// What is said of a folder without newest metadata.
+fn of_newest(fault: &NewestFault) -> Sentence {
+    match fault {
+        NewestFault::NoFolder => NO_FOLDER,
+        NewestFault::NoMetadata => NO_METADATA,
+        NewestFault::TwoOfOneNumber(_, _) => TWO_OF_ONE_NUMBER,
+        NewestFault::Compressed(_) => COMPRESSED,
+        NewestFault::Memory => MEMORY,
+    }
+}
+
 /// What a refusal says, and what those inside it say, the outermost first. Of words that are not understood nothing is
 /// said: their own text says all.
 pub fn sentences_of(alloc: Global, fault: &RunFault) -> Result<Vec<Sentence>, AllocError> {
@@ -78,6 +119,7 @@ pub fn sentences_of(alloc: Global, fault: &RunFault) -> Result<Vec<Sentence>, Al
         RunFault::Metadata(fault) => found.push(of_metadata(fault))?,
         RunFault::Filter(fault) => found.push(of_filter(*fault))?,
         RunFault::Drill(fault) => found.push(of_drill(fault))?,
+        RunFault::Locate(fault) => found.push(of_newest(fault))?,
         RunFault::Change(fault) => found.push(of_change(*fault))?,
         RunFault::Prepare(fault) => found.push(of_prepare(fault))?,
         RunFault::Conflict(_) => found.push(CONFLICT)?,

@@ -5,7 +5,7 @@ ghost use Rattle.icescan_progress.specs.Hints.{AppendsPlain};
 use crate::case::Case;
 use crate::columns::add_filter;
 use crate::commits::{add_change_file, add_commit, add_unwritten};
-use crate::hint::Hint;
+use crate::hint::{Hint, quoted};
 use crate::manifests::{add_list, add_manifest};
 use crate::paths::{add_file_name, add_path};
 use crate::run::sentences_of;
@@ -36,6 +36,7 @@ fn add_here<F: Files>(
         }
         RunFault::Metadata(fault) => add_metadata(hint, alloc, case, fault),
         RunFault::Filter(fault) => add_filter(hint, alloc, case, *fault),
+        RunFault::Locate(_) => add_folder(hint, alloc, case),
         RunFault::Change(_) => add_change_file(hint, alloc, case),
         RunFault::Prepare(fault) => add_commit(hint, alloc, case, fault),
         RunFault::Conflict(path) => add_taken(hint, alloc, case, path.as_str()),
@@ -56,6 +57,21 @@ fn add_taken<F: Files>(
     match case.place() {
         Some(place) => add_file_name(hint, alloc, place, path),
         None => Ok(()),
+    }
+}
+
+/// Adds the folder whose table is to be located.
+fn add_folder<F: Files>(
+    hint: &mut Hint,
+    alloc: Global,
+    case: &Case<'_, F>,
+) -> Result<(), AllocError> {
+    match case.asked {
+        Command::Locate(folder, _) => {
+            let name = quoted(alloc, folder.as_str())?;
+            hint.here(alloc, format!(in alloc; "the folder is {name}")?)
+        }
+        _ => Ok(()),
     }
 }
 

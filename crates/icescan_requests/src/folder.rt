@@ -98,7 +98,7 @@ pub fn file_name(
 }
 
 /// Why a file was not opened. Only one that the system says is not found is absent.
-fn open_fault(e: &io::Error) -> ReadFault
+pub fn open_fault(e: &io::Error) -> ReadFault
     ensures absent { (result ≡ ReadFault.Absent) ↔ (error_kind e.now ≡ ErrorKind.NotFound) }
     ensures memory { (result ≡ ReadFault.Memory) ↔ (error_kind e.now ≡ ErrorKind.OutOfMemory) }
 {

@@ -1,11 +1,12 @@
 //! The folders of a system: where files are read below them, and where commits put new ones.
 
-ghost use Rattle.std.specs.Prelude.{◌≡◌, ℕ, List, Option, None, Some, OnOk, IsErrOf};
+ghost use Rattle.std.specs.Prelude.{◌≡◌, ℕ, List, Option, None, Some, IfOk, OnOk, IsErrOf};
 ghost use Rattle.ice_desk.specs.Worlds.{HasAt};
 ghost use Rattle.ice_state.specs.Contents.{World};
 ghost use Rattle.icescan_requests.specs.Bundles.{File};
 
 use crate::folder::{CommitFolder, Folder};
+use crate::listing::names_in_folder;
 use crate::store::{Store, StoreFault};
 use contract_words::Text;
 use ice_catalog_versions::Ids;
@@ -41,6 +42,14 @@ pub trait Folders {
         ensures device { IsErrOf result ReadFault.Device → may_fail self.now folder.now prefix.now path.now }
         ensures given { OnOk result (gives self.now folder.now prefix.now path.now (Some bytes.new.items)) }
         ensures none_given { IsErrOf result ReadFault.Absent → gives self.now folder.now prefix.now path.now None };
+
+    /// What listing a folder may give: the names of what is in it, or that there is no such folder.
+    ghost lists: { Self → List ℕ → Option (List (List ℕ)) → Type 0 };
+
+    /// The names of what is in a folder, but for those that are not UTF-8.
+    fn names_in(&self, alloc: Global, folder: &str) -> Result<Vec<Text>, ReadFault>
+        ensures listed { IfOk result (λ names. lists self.now folder.now (Some names.items)) }
+        ensures not_listed { IsErrOf result ReadFault.Absent → lists self.now folder.now None };
 }
 
 /// The files below one folder.
@@ -113,6 +122,12 @@ impl<H: std::rt::Files> Folders for HostFolders<'_, H> {
         bytes: &mut Vec<u8>,
     ) -> Result<(), ReadFault> {
         Folder::new(self.host, folder, prefix).read_into(alloc, path, bytes)
+    }
+
+    ghost lists = { λ _ _ _. Unit {0} };
+
+    fn names_in(&self, alloc: Global, folder: &str) -> Result<Vec<Text>, ReadFault> {
+        names_in_folder(self.host, alloc, folder)
     }
 }
 

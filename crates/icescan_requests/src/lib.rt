@@ -12,6 +12,7 @@ mod folder;
 mod folders;
 mod input;
 mod list_plans;
+mod listing;
 mod planning;
 mod selected_rows;
 mod selection;

@@ -7,6 +7,7 @@ use ice_catalog_versions::PrepareFault;
 use ice_filter::FilterFault;
 use ice_manifest_reading::{ListFault, ManifestFault};
 use ice_meta::{Member, MetaFault};
+use ice_meta_files::NewestFault;
 use ice_state::{FinishFault, ScanFault};
 use icescan_text::{ChangeFault, ChangeMember, DrillFault, RunFault, report};
 use std::alloc::Global;
@@ -14,7 +15,7 @@ use std::alloc::Global;
 /// A fault that names no path, its line behind the program's name, and its status.
 type Told = (RunFault, &'static str, u8);
 
-const OF_RUNS: [Told; 10] = [
+const OF_RUNS: [Told; 12] = [
     (RunFault::Bundle(3), "B1 Bundle 3", 2),
     (RunFault::Input, "P3 Device -", 3),
     (RunFault::Workers, "P5 Workers", 2),
@@ -33,6 +34,12 @@ const OF_RUNS: [Told; 10] = [
         1,
     ),
     (RunFault::Drill(DrillFault::Conflict), "Conflict", 4),
+    (RunFault::Locate(NewestFault::NoFolder), "P6 NoFolder", 3),
+    (
+        RunFault::Locate(NewestFault::NoMetadata),
+        "P7 NoMetadata",
+        3,
+    ),
 ];
 
 const OF_METADATA: [Told; 11] = [
@@ -228,12 +235,13 @@ fn with_path(line: usize, path: Text, bytes: Vec<u8>) -> RunFault {
         18 => ManifestFault::BadContent,
         19 => ManifestFault::NoSequence,
         20 => ManifestFault::FloatPartition(1000),
+        22 => return RunFault::Locate(NewestFault::Compressed(path)),
         _ => ManifestFault::Memory,
     };
     RunFault::Finish(FinishFault::Bad(path, manifest))
 }
 
-static WITH_PATH: [(&str, u8); 22] = [
+static WITH_PATH: [(&str, u8); 23] = [
     ("P2 Absent *", 3),
     ("P3 Device *", 3),
     ("Conflict *", 4),
@@ -256,6 +264,7 @@ static WITH_PATH: [(&str, u8); 22] = [
     ("Z2 Bad * N7 NoSequence", 1),
     ("Z2 Bad * N8 FloatPartition 1000", 1),
     ("Z2 Bad * N10 Memory", 5),
+    ("P9 Compressed *", 3),
 ];
 
 /// Whether a fault prints the line of these parts behind the program's name, and ends with this status.

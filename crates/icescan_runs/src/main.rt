@@ -44,6 +44,7 @@
 //!   a refusal is that of the text
 //! - columns that a filter names, of `data/events` and of `data/columns`, a table without snapshots whose columns have
 //!   names and types of each form
+//! - the newest metadata of the tables in `data/located`, each with files that are not the newest and say so
 //! - refusals with `--explain`, over `data/hints`, which `tools/trials/refusals.py make` writes: below each line what it is
 //!   about and what to do
 #![tactic(auto)]

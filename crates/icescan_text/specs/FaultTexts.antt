@@ -28,6 +28,8 @@ use Rattle.icescan_text.specs.declared.change.fault.ChangeFault.{ChangeFault}
 use Rattle.icescan_text.specs.declared.change.fault.ChangeFault.TheVariants as change
 use Rattle.icescan_text.specs.declared.fault.RunFault.{RunFault}
 use Rattle.icescan_text.specs.declared.fault.RunFault.TheVariants as run
+use Rattle.ice_meta_files.specs.declared.newest_fault.NewestFault.{NewestFault}
+use Rattle.ice_meta_files.specs.declared.newest_fault.NewestFault.TheVariants as newest
 use Rattle.icescan_print.specs.Pieces.{named_path, named_signed, named_number}
 
 unfoldable pub schema_text : SchemaFault → List ℕ
@@ -108,6 +110,14 @@ filter_text filter.NotComparable = codes "F4 NotComparable"
 filter_text filter.TooBig = codes "F5 TooBig"
 filter_text filter.Memory = codes "F6 Memory"
 
+unfoldable pub newest_text : NewestFault → List ℕ
+newest_text newest.NoFolder = codes "P6 NoFolder"
+newest_text newest.NoMetadata = codes "P7 NoMetadata"
+newest_text (newest.TwoOfOneNumber first second) =
+    named_path (codes "P8 TwoOfOneNumber ") first ++ named_path (codes " ") second
+newest_text (newest.Compressed name) = named_path (codes "P9 Compressed ") name
+newest_text newest.Memory = codes "Memory"
+
 unfoldable pub drill_fault_text : DrillFault → List ℕ
 drill_fault_text drill.Conflict = codes "Conflict"
 drill_fault_text (drill.Lost path) = named_path (codes "Lost ") path
@@ -143,6 +153,7 @@ run_text (run.Finish fault) = finish_text fault
 run_text (run.Metadata fault) = meta_text fault
 run_text (run.Filter fault) = filter_text fault
 run_text (run.Drill fault) = drill_fault_text fault
+run_text (run.Locate fault) = newest_text fault
 run_text (run.Change fault) = change_text fault
 run_text (run.Prepare fault) = prepare_text fault
 run_text (run.Conflict path) = named_path (codes "Conflict ") path

@@ -28,6 +28,8 @@ use Rattle.icescan_text.specs.declared.change.fault.ChangeFault.{ChangeFault}
 use Rattle.icescan_text.specs.declared.change.fault.ChangeFault.TheVariants as change
 use Rattle.icescan_text.specs.declared.fault.RunFault.{RunFault}
 use Rattle.icescan_text.specs.declared.fault.RunFault.TheVariants as run
+use Rattle.ice_meta_files.specs.declared.newest_fault.NewestFault.{NewestFault}
+use Rattle.ice_meta_files.specs.declared.newest_fault.NewestFault.TheVariants as newest
 
 -- a lower fault as the program's: want of memory is the program's own
 abbrev pub of_list : ListFault → RunFault
@@ -57,6 +59,10 @@ of_change fault = run.Change fault
 abbrev pub of_prepare : PrepareFault → RunFault
 of_prepare prepare.Memory = run.Memory
 of_prepare fault = run.Prepare fault
+
+abbrev pub of_newest : NewestFault → RunFault
+of_newest newest.Memory = run.Memory
+of_newest fault = run.Locate fault
 
 abbrev pub of_wanted : WantedFault → RunFault
 of_wanted (wanted.Absent path) = run.Absent path
@@ -108,7 +114,8 @@ prepare_wants_memory prepare.Memory = true
 prepare_wants_memory _ = false
 
 -- 1: the table or a commit to it is refused; 2: the words, the number of workers, the bundle, the filter or the change
--- file; 3: a read or a write failed; 4: the place of a commit's metadata is taken; 5: memory ran out
+-- file; 3: a read or a write failed, or a folder has no newest metadata that can be read; 4: the place of a commit's
+-- metadata is taken; 5: memory ran out
 abbrev pub refused_status : Bool → ℕ
 refused_status wants_memory = if wants_memory then 5 else 1
 
@@ -125,6 +132,10 @@ abbrev pub change_status : ChangeFault → ℕ
 change_status change.Memory = 5
 change_status _ = 2
 
+abbrev pub newest_status : NewestFault → ℕ
+newest_status newest.Memory = 5
+newest_status _ = 3
+
 abbrev pub status_of : RunFault → ℕ
 status_of (run.Bundle line) = 2
 status_of (run.Words text) = 2
@@ -140,6 +151,7 @@ status_of (run.Conflict path) = 4
 status_of (run.Absent path) = 3
 status_of (run.Device path) = 3
 status_of (run.Drill fault) = drill_status fault
+status_of (run.Locate fault) = newest_status fault
 status_of run.Input = 3
 status_of run.Write = 3
 status_of run.Memory = 5

@@ -3,7 +3,7 @@
 ghost use Rattle.std.specs.Prelude.{◌≡◌};
 ghost use Rattle.icescan_text.specs.Faults.{of_list, of_scan, of_finish, of_wanted, of_plan, of_meta, of_filter};
 ghost use Rattle.icescan_text.specs.Faults.{of_change};
-ghost use Rattle.icescan_text.specs.Faults.{of_prepare};
+ghost use Rattle.icescan_text.specs.Faults.{newest_status, of_newest, of_prepare};
 ghost use Rattle.icescan_text.specs.Faults.{filter_status, change_status, refused_status, status_of};
 ghost use Rattle.icescan_text.specs.Faults.{meta_wants_memory, schema_wants_memory, avro_wants_memory};
 ghost use Rattle.icescan_text.specs.Faults.{list_wants_memory};
@@ -21,6 +21,7 @@ use ice_desk::{PlanFault, WantedFault};
 use ice_filter::FilterFault;
 use ice_manifest_reading::{ListFault, ManifestFault};
 use ice_meta::MetaFault;
+use ice_meta_files::NewestFault;
 use ice_state::{FinishFault, ScanFault};
 use icescan_print::SinkFault;
 use std::alloc::{AllocError, AllocFailed};
@@ -59,6 +60,9 @@ pub enum RunFault {
     /// The filter is refused.
     #[error("the filter is refused: {0:?}")]
     Filter(FilterFault),
+    /// A folder has no newest metadata that can be read.
+    #[error("the folder has no newest metadata that can be read: {0:?}")]
+    Locate(NewestFault),
     /// The drill is refused.
     #[error("the drill is refused: {0:?}")]
     Drill(DrillFault),
@@ -161,6 +165,17 @@ impl From<FilterFault> for RunFault {
     }
 }
 
+impl From<NewestFault> for RunFault {
+    ghost from_gives = { λ fault e. e ≡ of_newest fault };
+
+    fn from(fault: NewestFault) -> RunFault {
+        match fault {
+            NewestFault::Memory => RunFault::Memory,
+            fault => RunFault::Locate(fault),
+        }
+    }
+}
+
 impl From<ChangeFault> for RunFault {
     ghost from_gives = { λ fault e. e ≡ of_change fault };
 
@@ -212,8 +227,8 @@ impl From<PlanFault> for RunFault {
 impl RunFault {
     /// The status that the program ends with: 1 where the table or a commit to it is refused, or a file of a drill is
     /// lost; 2 for the words, the number of workers, the bundle, the filter or the change file; 3 where a read or a
-    /// write failed; 4 where the place of a commit's metadata is taken, or a drill's commit met others too often; 5
-    /// where memory ran out.
+    /// write failed, or a folder has no newest metadata that can be read; 4 where the place of a commit's metadata is
+    /// taken, or a drill's commit met others too often; 5 where memory ran out.
     pub fn status(&self) -> u8
         ensures { result ≡ status_of self.now }
     {
@@ -226,6 +241,7 @@ impl RunFault {
             RunFault::Metadata(fault) => refused_status(meta_wants_memory(fault)),
             RunFault::Filter(fault) => filter_status(*fault),
             RunFault::Drill(fault) => fault.status(),
+            RunFault::Locate(fault) => newest_status(fault),
             RunFault::Change(fault) => change_status(*fault),
             RunFault::Prepare(fault) => refused_status(prepare_wants_memory(fault)),
             RunFault::Conflict(_) => 4,
@@ -246,6 +262,15 @@ fn filter_status(fault: FilterFault) -> u8
     match fault {
         FilterFault::Memory => 5,
         _ => 2,
+    }
+}
+
+fn newest_status(fault: &NewestFault) -> u8
+    ensures { result ≡ newest_status fault.now }
+{
+    match fault {
+        NewestFault::Memory => 5,
+        _ => 3,
     }
 }
 

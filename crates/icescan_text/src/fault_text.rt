@@ -5,7 +5,7 @@ ghost use Rattle.ice_meta.specs.Members.{member_name};
 ghost use Rattle.icescan_text.specs.FaultTexts.{schema_text, avro_text, list_text, manifest_text, scan_text};
 ghost use Rattle.icescan_text.specs.FaultTexts.{finish_text};
 ghost use Rattle.icescan_text.specs.FaultTexts.{meta_text, filter_text, change_text, prepare_text, drill_fault_text};
-ghost use Rattle.icescan_text.specs.FaultTexts.{run_text, line_text, fault_text};
+ghost use Rattle.icescan_text.specs.FaultTexts.{run_text, line_text, fault_text, newest_text};
 ghost use Rattle.icescan_print.specs.Written.{Wrote};
 
 use crate::change::ChangeFault;
@@ -17,6 +17,7 @@ use ice_catalog_versions::PrepareFault;
 use ice_filter::FilterFault;
 use ice_manifest_reading::{ListFault, ManifestFault};
 use ice_meta::{Member, MetaFault};
+use ice_meta_files::NewestFault;
 use ice_state::{FinishFault, ScanFault};
 use icescan_print::{
     Sink, SinkFault, put_named_int, put_named_long, put_named_number, put_named_path, write_all,
@@ -59,12 +60,29 @@ fn put_run_fault<S: Sink>(sink: &mut S, fault: &RunFault) -> Result<(), SinkFaul
         RunFault::Metadata(fault) => put_meta_fault(sink, fault),
         RunFault::Filter(fault) => put_filter_fault(sink, *fault),
         RunFault::Drill(fault) => put_drill_fault(sink, fault),
+        RunFault::Locate(fault) => put_newest_fault(sink, fault),
         RunFault::Change(fault) => put_change_fault(sink, *fault),
         RunFault::Prepare(fault) => put_prepare_fault(sink, fault),
         RunFault::Conflict(path) => put_named_path(sink, b"Conflict ", path.as_bytes()),
         RunFault::Workers => write_all(sink, b"P5 Workers"),
         RunFault::Write => write_all(sink, b"W1 Write"),
         RunFault::Memory => write_all(sink, b"Memory"),
+    }
+}
+
+#[tactic(auto, unfolding(crate::specs::FaultTexts::newest_text))]
+fn put_newest_fault<S: Sink>(sink: &mut S, fault: &NewestFault) -> Result<(), SinkFault>
+    ensures { Wrote S.taken S.may_fail sink.old result sink.new (newest_text fault.now) }
+{
+    match fault {
+        NewestFault::NoFolder => write_all(sink, b"P6 NoFolder"),
+        NewestFault::NoMetadata => write_all(sink, b"P7 NoMetadata"),
+        NewestFault::TwoOfOneNumber(first, second) => {
+            put_named_path(sink, b"P8 TwoOfOneNumber ", first.as_bytes())?;
+            put_named_path(sink, b" ", second.as_bytes())
+        }
+        NewestFault::Compressed(name) => put_named_path(sink, b"P9 Compressed ", name.as_bytes()),
+        NewestFault::Memory => write_all(sink, b"Memory"),
     }
 }
 

@@ -21,6 +21,6 @@ pub use fault::RunFault;
 pub use fault_text::put_fault;
 pub use reading::{read_file, read_file_into, read_rows};
 pub use reporting::report;
-pub use request::{CommitRequest, Request};
+pub use request::{CommitRequest, Request, Separator};
 pub use workers::Workers;
 pub use write::{write_plan, write_plan_by_workers};

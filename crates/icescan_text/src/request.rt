@@ -14,6 +14,15 @@ pub struct Request {
     pub filter: Option<Text>,
 }
 
+/// How the words of an answer are set apart.
+#[derive(Clone, Copy, Debug, PartialEq, Eq)]
+pub enum Separator {
+    /// By spaces, on one line.
+    Space,
+    /// Each word is ended by a NUL.
+    Nul,
+}
+
 /// A commit that is asked for.
 #[derive(Debug, Drop)]
 pub struct CommitRequest {

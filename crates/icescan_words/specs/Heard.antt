@@ -20,6 +20,8 @@ use Rattle.icescan_text.specs.declared.change.ChangeKind.TheVariants as kind
 use Rattle.icescan_text.specs.declared.request.CommitRequest.{CommitRequest}
 use Rattle.ice_catalog_versions.specs.declared.change.Ids.{Ids}
 use Rattle.icescan_text.specs.declared.request.Request.{Request}
+use Rattle.icescan_text.specs.declared.request.Separator.{Separator}
+use Rattle.icescan_text.specs.declared.request.Separator.TheVariants as separator
 use Rattle.icescan_text.specs.declared.drill.Drill.{Drill}
 
 -- `=`
@@ -38,11 +40,11 @@ option_in (word ∷ words) name =
     else if bytes_eq (before_first is_equals word) name then value_in word words
     else option_in words name
 
--- the word after this option is its value: the option stands without `=`, and is none of the three that have no value
+-- the word after this option is its value: the option stands without `=`, and is none of the four that have no value
 abbrev pub takes_next : List ℕ → Bool
 takes_next word =
     not (list_any is_equals word || bytes_eq word (codes "--bundle") || bytes_eq word (codes "--quiet")
-    || bytes_eq word (codes "--explain"))
+    || bytes_eq word (codes "--null") || bytes_eq word (codes "--explain"))
 
 -- the words that are no options and no values of options, the first word being a value or not
 abbrev pub plain_from : Bool → List (List ℕ) → List (List ℕ)
@@ -91,6 +93,10 @@ abbrev pub format_by : Option (List ℕ) → Format
 format_by (Some name) = if bytes_eq name (codes "json") then format.Json else format.Text
 format_by None = format.Text
 
+-- how words are set apart: by `--null` with a NUL
+abbrev pub separator_by : Bool → Separator
+separator_by is_null = if is_null then separator.Nul else separator.Space
+
 -- the number of workers, by the text of --workers
 abbrev pub workers_by : Option (List ℕ) → ℕ
 workers_by value = unwrap_or (unsigned value) 1
@@ -114,6 +120,7 @@ command_name (command.ListPlan lists form) = codes "list-plan"
 command_name (command.Plan from request form workers path) = codes "plan"
 command_name (command.Commit from request) = name_of request.kind
 command_name (command.Show from path) = codes "show"
+command_name (command.Locate folder form) = codes "locate"
 command_name (command.Columns from of path) = codes "columns"
 command_name (command.Audit from of workers path) = codes "audit"
 command_name (command.Explain from request workers path) = codes "explain"
@@ -136,6 +143,9 @@ module _ (words : List (List ℕ)) where
 
   abbrev pub HasFormat : Format → Type 0
   HasFormat form = form ≡ format_by (option_in words (codes "--format"))
+
+  abbrev pub HasSeparator : Separator → Type 0
+  HasSeparator form = form ≡ separator_by (list_any (λ word. bytes_eq word (codes "--null")) words)
 
   abbrev pub HasWorkers : ℕ → Type 0
   HasWorkers workers = workers ≡ workers_by (option_in words (codes "--workers"))
@@ -165,6 +175,7 @@ module _ (words : List (List ℕ)) where
       Names (codes "plan") path × HasSource from × HasRequest request × HasFormat form × HasWorkers workers
   AsksFor (command.Commit from request) = HasCommit request × HasSource from
   AsksFor (command.Show from path) = Names (codes "show") path × HasSource from
+  AsksFor (command.Locate folder form) = Names (codes "locate") folder × HasSeparator form
   AsksFor (command.Columns from of path) = Names (codes "columns") path × HasSource from × HasTarget of
   AsksFor (command.Audit from of workers path) =
       Names (codes "audit") path × HasSource from × HasTarget of × HasWorkers workers

@@ -3,7 +3,7 @@
 use crate::answer_format::Format;
 use contract_words::Text;
 use ice_meta::Target;
-use icescan_text::{CommitRequest, Drill, Request};
+use icescan_text::{CommitRequest, Drill, Request, Separator};
 
 /// A folder, and how the paths of the files below it begin.
 #[derive(Debug, Drop)]
@@ -41,6 +41,8 @@ pub enum Command {
     Commit(Source, CommitRequest),
     /// The text of the metadata at this path.
     Show(Source, Text),
+    /// The words, set apart so, of the table in this folder.
+    Locate(Text, Separator),
     /// The columns that a filter of this snapshot names, of the table whose metadata is at this path.
     Columns(Source, Target, Text),
     /// The audit, by so many workers, of this snapshot of the table whose metadata is at this path.

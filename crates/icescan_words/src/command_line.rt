@@ -7,6 +7,7 @@ use crate::help_texts::{
     ABOUT, APPEND_EXAMPLE, AUDIT_EXAMPLE, DRILL_EXAMPLE, LIST_EXAMPLE, PLAN_EXAMPLE,
     PROGRAM_EXAMPLE, ROW_DELTA_EXAMPLE, SHOW_EXAMPLE,
 };
+use crate::locate_command::locate_command;
 use clap::builder::ValueParser;
 use clap::{Arg, ArgAction, ArgGroup, Command, value_parser};
 use std::alloc::{AllocError, Global};
@@ -292,6 +293,7 @@ pub fn program<'a>(alloc: Global) -> Result<Command<'a>, AllocError> {
         .subcommand(row_delta_command(alloc)?)?
         .subcommand(show_command(alloc)?)?
         .subcommand(columns_command(alloc)?)?
+        .subcommand(locate_command(alloc)?)?
         .subcommand(audit_command(alloc)?)?
         .subcommand(explain_command(alloc)?)?
         .subcommand(drill_command(alloc)?)

@@ -5,7 +5,8 @@ ghost use Rattle.std.specs.Prelude.{option_and_then, option_map, string_bytes};
 ghost use Rattle.std.specs.List.{after_first, before_first, list_any, starts_with};
 ghost use Rattle.uuid.specs.Text.{parsed};
 ghost use Rattle.icescan_words.specs.Heard.{AsksFor, HasCommit, HasDrill, HasFormat, HasIds, HasRequest, HasSource};
-ghost use Rattle.icescan_words.specs.Heard.{HasTarget, HasWorkers, Names, asks_help, is_equals, list_of, name_of};
+ghost use Rattle.icescan_words.specs.Heard.{HasSeparator, HasTarget, HasWorkers, Names, asks_help, is_equals};
+ghost use Rattle.icescan_words.specs.Heard.{list_of, name_of};
 ghost use Rattle.icescan_words.specs.Heard.{option_in, option_items, plain_words, signed, source_of, takes_next};
 ghost use Rattle.icescan_words.specs.Heard.{unsigned};
 ghost use Rattle.icescan_words.specs.declared.command.Source.TheVariants as source;
@@ -15,7 +16,7 @@ use crate::command::{Command, Lists, Place, Source};
 use contract_words::Text;
 use ice_catalog_versions::Ids;
 use ice_meta::Target;
-use icescan_text::{ChangeKind, CommitRequest, Drill, Request};
+use icescan_text::{ChangeKind, CommitRequest, Drill, Request, Separator};
 use std::alloc::{AllocError, Global};
 use uuid::Uuid;
 
@@ -56,7 +57,11 @@ fn takes_next(word: &str) -> bool
     ensures { result ≡ takes_next word.now }
 {
     let (_, value) = parts_of(word);
-    !(value.is_some() || word == "--bundle" || word == "--quiet" || word == "--explain")
+    !(value.is_some()
+        || word == "--bundle"
+        || word == "--quiet"
+        || word == "--null"
+        || word == "--explain")
 }
 
 /// Whether a word begins with two hyphens, as an option does.
@@ -262,6 +267,17 @@ fn has_format(words: &[String], format: Format) -> bool
     format == format_by(option_in(words, "--format"))
 }
 
+/// Whether the words ask for words that are set apart so.
+fn has_separator(words: &[String], separator: Separator) -> bool
+    ensures { IsTrue result → HasSeparator (map string_bytes words.now) separator }
+{
+    let is_null = words.iter().any(|word| word.as_str() == "--null");
+    match separator {
+        Separator::Space => !is_null,
+        Separator::Nul => is_null,
+    }
+}
+
 /// Whether the words ask for so many workers.
 fn has_workers(words: &[String], workers: usize) -> bool
     ensures { IsTrue result → HasWorkers (map string_bytes words.now) workers }
@@ -398,6 +414,9 @@ fn asks_with(words: &[String], plain: &[&str], command: &Command) -> bool
             has_commit(words, plain, request) && has_source(words, source)
         }
         Command::Show(source, path) => is_about(words, plain, "show", source, path.as_str()),
+        Command::Locate(folder, separator) => {
+            are_words(plain, &["locate", folder.as_str()]) && has_separator(words, *separator)
+        }
         Command::Columns(source, target, path) => {
             is_about(words, plain, "columns", source, path.as_str()) && has_target(words, target)
         }

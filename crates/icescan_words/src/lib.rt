@@ -8,6 +8,7 @@ mod command_line;
 mod explain_command;
 mod heard;
 mod help_texts;
+mod locate_command;
 mod matches;
 mod parsing;
 

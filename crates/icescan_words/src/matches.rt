@@ -14,7 +14,7 @@ use clap::ArgMatches;
 use contract_words::Text;
 use ice_catalog_versions::Ids;
 use ice_meta::Target;
-use icescan_text::{ChangeKind, CommitRequest, Drill, Request, RunFault};
+use icescan_text::{ChangeKind, CommitRequest, Drill, Request, RunFault, Separator};
 use std::alloc::{AllocError, Global};
 use uuid::Uuid;
 
@@ -266,6 +266,19 @@ fn show_command(alloc: Global, matches: &ArgMatches<'_>) -> Result<Command, RunF
     ))
 }
 
+/// The table that is to be located.
+fn locate_command(alloc: Global, matches: &ArgMatches<'_>) -> Result<Command, RunFault>
+    ensures name { IfOk result (λ command. command_name command ≡ codes "locate") }
+    ensures causes { IfErr result IsWordsFault }
+{
+    let separator = if matches.get_flag("null") {
+        Separator::Nul
+    } else {
+        Separator::Space
+    };
+    Ok(Command::Locate(required_text(alloc, matches, "folder")?, separator))
+}
+
 /// The columns that are asked for.
 fn columns_command(alloc: Global, matches: &ArgMatches<'_>) -> Result<Command, RunFault>
     ensures name { IfOk result (λ command. command_name command ≡ codes "columns") }
@@ -336,6 +349,7 @@ fn command_of(alloc: Global, matches: &ArgMatches<'_>) -> Result<Command, RunFau
         "plan" => plan_command(alloc, matches),
         "list-plan" => list_plan_command(alloc, matches),
         "show" => show_command(alloc, matches),
+        "locate" => locate_command(alloc, matches),
         "columns" => columns_command(alloc, matches),
         "audit" => audit_command(alloc, matches),
         "explain" => explain_command(alloc, matches),

@@ -92,6 +92,19 @@ returns-in-Drill-clause-ran g c =
       none.ensures.none,
     )
 
+pub returns-in-Locate-clause-ran : goal.returns-in-Locate-clause-ran
+returns-in-Locate-clause-ran g c =
+    let left = g.R.Read.remaining c.args.input.now in
+    let asked : c.args.asked.now ≡ command.Locate c.in-Locate.folder c.in-Locate.separator = search rules in
+    let none = c.no_findings-in-Locate in
+    rw asked (
+      left_of left,
+      is_left left,
+      ran_as _ _ c.locate.result none.result _ _ none.ensures.same
+          c.locate.ensures.ran,
+      none.ensures.none,
+    )
+
 pub returns-in-Drill-clause-drilled : goal.returns-in-Drill-clause-drilled
 returns-in-Drill-clause-drilled g c =
     let asked : c.args.asked.now ≡ command.Drill c.in-Drill.asked = search rules in
@@ -136,6 +149,11 @@ pub returns-in-Explain-clause-stored : goal.returns-in-Explain-clause-stored
 returns-in-Explain-clause-stored g c =
     let asked : c.args.asked.now ≡ command.Explain c.in-Explain.source c.in-Explain.request c.in-Explain.workers
     c.in-Explain.path = search rules in
+    rw asked refl
+
+pub returns-in-Locate-clause-stored : goal.returns-in-Locate-clause-stored
+returns-in-Locate-clause-stored g c =
+    let asked : c.args.asked.now ≡ command.Locate c.in-Locate.folder c.in-Locate.separator = search rules in
     rw asked refl
 
 pub returns-in-Drill-clause-stored : goal.returns-in-Drill-clause-stored
@@ -194,6 +212,11 @@ pub returns-in-Commit-clause-given : goal.returns-in-Commit-clause-given
 returns-in-Commit-clause-given g c =
     let asked : c.args.asked.now ≡ command.Commit c.in-Commit.source c.in-Commit.request = search rules in
     rw asked (any_count c.no_findings-in-Commit.result)
+
+pub returns-in-Locate-clause-given : goal.returns-in-Locate-clause-given
+returns-in-Locate-clause-given g c =
+    let asked : c.args.asked.now ≡ command.Locate c.in-Locate.folder c.in-Locate.separator = search rules in
+    rw asked (any_count c.no_findings-in-Locate.result)
 
 pub returns-in-Drill-clause-given : goal.returns-in-Drill-clause-given
 returns-in-Drill-clause-given g c =

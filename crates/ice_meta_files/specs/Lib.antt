@@ -1,0 +1,2 @@
+pub mod MetadataNames
+pub mod Newest

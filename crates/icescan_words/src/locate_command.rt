@@ -1,0 +1,43 @@
+//! The command `locate`.
+
+use clap::builder::ValueParser;
+use clap::{Arg, ArgAction, Command};
+use std::alloc::{AllocError, Global};
+
+const LOCATE_EXAMPLE: &str =
+    "FOLDER is the folder that stands for the table's location; its metadata files
+are in FOLDER/metadata. The newest of vN.metadata.json, N.metadata.json and
+N-ID.metadata.json is the one with the highest number N. Where
+FOLDER/metadata/version-hint.text has the number of a file that is there, it is
+the last of those that follow that one by one.
+
+What is printed are the words by which other commands are told of the table:
+  --dir FOLDER --prefix LOCATION METADATA
+LOCATION is the table's location, as its metadata says it.
+
+Example, at the top of icescan's repository:
+  icescan plan $(icescan locate examples/events-java/table) --filter \"id = 42\"
+Where a path has blanks:
+  icescan locate --null FOLDER | xargs -0 icescan show
+
+Exit status: 0 done, 1 the metadata is refused, 2 the command line is, 3 a read
+or a write failed, or there is no newest metadata that can be read, 5 memory ran
+out. A refusal is one line on standard error.";
+
+/// The command `locate`.
+pub fn locate_command<'a>(alloc: Global) -> Result<Command<'a>, AllocError> {
+    let folder = Arg::new(alloc, "folder")
+        .value_name("FOLDER")
+        .value_parser(ValueParser::NonEmptyString)
+        .required(true)
+        .help("The folder of the table");
+    let null = Arg::new(alloc, "null")
+        .long("null")
+        .action(ArgAction::SetTrue)
+        .help("End each word with a NUL");
+    Command::new(alloc, "locate")
+        .about("Find the newest metadata of a table in a folder, and print words that name it")
+        .after_long_help(LOCATE_EXAMPLE)
+        .arg(folder)?
+        .arg(null)
+}
