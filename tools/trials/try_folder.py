@@ -111,7 +111,7 @@ def main():
         status, out, errors = run(program, words)
         if status != 2 or out or not errors.startswith("error: ") or "Usage: icescan" not in errors:
             wrong.append((words, (status, out, errors)))
-    for words, start in [(["--version"], "icescan "), (["--help"], "Plans scans"), (["list-plan", "--help"], "Right for tables without partitions alone")]:
+    for words, start in [(["--version"], "icescan "), (["--help"], "Plans scans"), (["list-plan", "--help"], "Plan a manifest list, of a table without partitions alone")]:
         status, out, errors = run(program, words)
         if status or errors or not out.startswith(start):
             wrong.append((words, (status, out, errors)))

@@ -24,7 +24,7 @@ pub fn with_format<'a>(alloc: Global, command: Command<'a>) -> Result<Command<'a
         .value_name("FORMAT")
         .value_parser(ValueParser::Names(names))
         .default_value("text")
-        .help("Print lines of text, or the answer of an Iceberg REST catalog as one line of JSON");
+        .help("Print lines of text, or a REST catalog's answer as JSON");
     command.arg(format)
 }
 

@@ -5,26 +5,30 @@ use clap::{Arg, Command};
 use std::alloc::{AllocError, Global};
 
 const COLUMNS_EXAMPLE: &str =
-    "A line for the schema, and behind it one for each of its columns, each before those inside it; then the spec of new
-files, and each partition spec with its fields:
+    "A line for the schema, and after it one for each of its columns, each before
+those inside it; then the spec of new files, and each partition spec with its
+fields:
   schema ID columns N
   column ID type TYPE required yes|no filter yes|equality|no name NAME
   default-spec ID
   spec ID fields N
   field ID source COLUMN transform TRANSFORM name NAME
-NAME of a column is what a filter writes, with double quotes where it needs them; `-` is a list's element, a map's key
-or value, or what stands inside one, which no filter names. `filter` says how a filter may compare the column:
-`equality` by =, !=, in and is null alone. A name with control characters or backslashes is escaped, as paths are.
+NAME of a column is what a filter writes, with double quotes where it needs
+them; `-` is a list's element, a map's key or value, or what stands inside one,
+which no filter names. `filter` says how a filter may compare the column:
+`equality` by =, !=, in and is null alone. A name with control characters or
+backslashes is escaped, as paths are.
 
-The schema is the one that a filter of the same --ref or --snapshot is read by: the current one, or that of the snapshot
-itself for a tag and for --snapshot.
+The schema is the one that a filter of the same --ref or --snapshot is read by:
+the current one, or that of the snapshot itself for a tag and for --snapshot.
 
 Example, at the top of icescan's repository:
   icescan columns --dir examples/events-java/table --prefix s3://warehouse/db/events \\
     s3://warehouse/db/events/metadata/00009-ea5012f5-592b-59fd-6564-e953f439e682.metadata.json
 
-Exit status: 0 done, 1 the metadata is refused, 2 the command line or the bundle is, 3 a read or a write failed,
-5 memory ran out. A refusal is one line on standard error.";
+Exit status: 0 done, 1 the metadata is refused, 2 the command line or the bundle
+is, 3 a read or a write failed, 5 memory ran out. A refusal is one line on
+standard error.";
 
 /// The command `columns`.
 pub fn columns_command<'a>(alloc: Global) -> Result<Command<'a>, AllocError> {
@@ -33,13 +37,13 @@ pub fn columns_command<'a>(alloc: Global) -> Result<Command<'a>, AllocError> {
         .required(true)
         .help("The path of the table's metadata");
     let command = Command::new(alloc, "columns")
-        .about("Print the columns that a filter may name, and the fields of the partition specs")
+        .about("Print the columns that a filter may name, and partition fields")
         .after_long_help(COLUMNS_EXAMPLE)
         .arg(metadata)?;
     let command = with_target(
         alloc,
         command,
-        "The columns of this branch or tag, and not the current ones",
+        "The columns of this branch or tag",
         "The columns of the snapshot of this id",
     )?;
     with_source(alloc, command)

@@ -17,9 +17,7 @@ pub fn with_source<'a>(alloc: Global, command: Command<'a>) -> Result<Command<'a
     let bundle = Arg::new(alloc, "bundle")
         .long("bundle")
         .action(ArgAction::SetTrue)
-        .help(
-            "Read the files from standard input: a line each, its path, a space and its bytes in hexadecimal",
-        );
+        .help("Read the files from standard input, in hexadecimal");
     let command = command.arg(bundle)?;
     let dir = Arg::new(alloc, "dir")
         .long("dir")
@@ -32,9 +30,7 @@ pub fn with_source<'a>(alloc: Global, command: Command<'a>) -> Result<Command<'a
         .long("prefix")
         .value_name("TEXT")
         .requires_arg("dir")?
-        .help(
-            "The front of the table's paths that the folder stands for: PREFIX/a is the file DIR/a",
-        );
+        .help("The front of the table's paths: PREFIX/a is DIR/a");
     let command = command.arg(prefix)?;
     let ways = ArgGroup::new(alloc, "files")
         .arg("bundle")?
@@ -57,9 +53,9 @@ fn list_plan_command<'a>(alloc: Global) -> Result<Command<'a>, AllocError> {
     let list = Arg::new(alloc, "list")
         .value_name("LIST")
         .required_unless_present("bundle")?
-        .help("The path of the manifest list; without it, the bundle's first file is one");
+        .help("The path of the manifest list, or else the bundle's first file");
     let command = Command::new(alloc, "list-plan")
-        .about("Right for tables without partitions alone: print the plan of a manifest list")
+        .about("Plan a manifest list, of a table without partitions alone")
         .after_long_help(LIST_EXAMPLE)
         .arg(list)?;
     let command = with_format(alloc, command)?;
@@ -93,15 +89,13 @@ pub fn with_request<'a>(alloc: Global, command: Command<'a>) -> Result<Command<'
     let command = with_target(
         alloc,
         command,
-        "Plan the snapshot of this branch or tag, and not the current one",
+        "Plan the snapshot of this branch or tag",
         "Plan the snapshot of this id",
     )?;
     let filter = Arg::new(alloc, "filter")
         .long("filter")
         .value_name("TEXT")
-        .help(
-            "Leave out the files that have no row that meets this; `plan --help` shows how it is written",
-        );
+        .help("Leave out files without such rows; see plan --help");
     command.arg(filter)
 }
 
@@ -127,15 +121,13 @@ fn plan_command<'a>(alloc: Global) -> Result<Command<'a>, AllocError> {
         .required(true)
         .help("The path of the table's metadata");
     let command = Command::new(alloc, "plan")
-        .about(
-            "Print the plan of a table's snapshot: its data files, and the delete files that apply to each",
-        )
+        .about("Print a snapshot's data files, each with its delete files")
         .after_long_help(PLAN_EXAMPLE)
         .arg(metadata)?;
     let command = with_workers(
         alloc,
         with_request(alloc, command)?,
-        "How many workers read manifests at once, each in a thread of its own: from 1 to 64",
+        "How many threads read manifests, 1 to 64",
     )?;
     let command = with_format(alloc, command)?;
     with_quiet(alloc, with_source(alloc, command)?)
@@ -148,7 +140,7 @@ fn show_command<'a>(alloc: Global) -> Result<Command<'a>, AllocError> {
         .required(true)
         .help("The path of the table's metadata");
     let command = Command::new(alloc, "show")
-        .about("Print what a table's metadata says: schemas, partition specs, snapshots and refs")
+        .about("Print a table's schemas, partition specs, snapshots and refs")
         .after_long_help(SHOW_EXAMPLE)
         .arg(metadata)?;
     with_source(alloc, command)
@@ -161,31 +153,23 @@ fn audit_command<'a>(alloc: Global) -> Result<Command<'a>, AllocError> {
         .required(true)
         .help("The path of the table's metadata");
     let command = Command::new(alloc, "audit")
-        .about(
-            "Check what plans rest on: that each manifest's entries are as the manifest list and the metadata say",
-        )
+        .about("Check that each manifest is as the list and the metadata say")
         .after_long_help(AUDIT_EXAMPLE)
         .arg(metadata)?;
     let command = with_target(
         alloc,
         command,
-        "Audit the snapshot of this branch or tag, and not the current one",
+        "Audit the snapshot of this branch or tag",
         "Audit the snapshot of this id",
     )?;
-    let command = with_workers(
-        alloc,
-        command,
-        "How many workers read manifests at once, each in a thread of its own: from 1 to 64",
-    )?;
+    let command = with_workers(alloc, command, "How many threads read manifests, 1 to 64")?;
     with_quiet(alloc, with_source(alloc, command)?)
 }
 
 /// The command `drill`.
 fn drill_command<'a>(alloc: Global) -> Result<Command<'a>, AllocError> {
     let command = Command::new(alloc, "drill")
-        .about(
-            "Try commits at once: threads that commit to one table in memory, and see that none is lost",
-        )
+        .about("Commit from many threads at once in memory, and lose none")
         .after_long_help(DRILL_EXAMPLE);
     let threads = Arg::new(alloc, "threads")
         .long("threads")
@@ -211,13 +195,13 @@ fn with_names<'a>(alloc: Global, command: Command<'a>) -> Result<Command<'a>, Al
         .value_parser(value_parser!(i64))
         .allow_negative_numbers(true)
         .required(true)
-        .help("The id of the new snapshot; no snapshot of the table may have it");
+        .help("The id of the new snapshot, which none may have");
     let command = command.arg(snapshot)?;
     let uuid = Arg::new(alloc, "uuid")
         .long("uuid")
         .value_name("U")
         .required(true)
-        .help("A new UUID, by which the new manifests and the new list are named");
+        .help("A new UUID, by which the new files are named");
     let command = command.arg(uuid)?;
     let now = Arg::new(alloc, "now-ms")
         .long("now-ms")
@@ -225,7 +209,7 @@ fn with_names<'a>(alloc: Global, command: Command<'a>) -> Result<Command<'a>, Al
         .value_parser(value_parser!(i64))
         .allow_negative_numbers(true)
         .required(true)
-        .help("The time of the commit, in milliseconds since 1970-01-01 00:00 UTC");
+        .help("The time, in milliseconds since 1970-01-01 UTC");
     command.arg(now)
 }
 
@@ -253,9 +237,7 @@ fn with_commit<'a>(alloc: Global, command: Command<'a>) -> Result<Command<'a>, A
 /// The command `append`.
 fn append_command<'a>(alloc: Global) -> Result<Command<'a>, AllocError> {
     let command = Command::new(alloc, "append")
-        .about(
-            "Commit data files to a table: write manifests, a manifest list and, last, new metadata",
-        )
+        .about("Commit data files: write manifests, a list and, last, metadata")
         .after_long_help(APPEND_EXAMPLE);
     with_quiet(alloc, with_source(alloc, with_commit(alloc, command)?)?)
 }
@@ -263,18 +245,18 @@ fn append_command<'a>(alloc: Global) -> Result<Command<'a>, AllocError> {
 /// The command `row-delta`.
 fn row_delta_command<'a>(alloc: Global) -> Result<Command<'a>, AllocError> {
     let command = Command::new(alloc, "row-delta")
-        .about("Commit data files and delete files to a table, in the same way")
+        .about("Commit data files and delete files in the same way")
         .after_long_help(ROW_DELTA_EXAMPLE);
     with_quiet(alloc, with_source(alloc, with_commit(alloc, command)?)?)
 }
 
-/// The option that asks for a hint behind the line of a refusal. It has no effect on what the words ask for.
+/// The option that asks for a hint after the line of a refusal. It has no effect on what the words ask for.
 fn explain_option<'a>(alloc: Global) -> Arg<'a> {
     Arg::new(alloc, "explain")
         .long("explain")
         .action(ArgAction::SetTrue)
         .global(true)
-        .help("Say behind a refusal what it is about and what to do, as on a terminal")
+        .help("Say what a refusal is about, as on a terminal")
 }
 
 /// All commands.

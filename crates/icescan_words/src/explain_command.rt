@@ -5,19 +5,24 @@ use clap::{Arg, Command};
 use std::alloc::{AllocError, Global};
 
 const EXPLAIN_EXAMPLE: &str =
-    "What becomes of each manifest of the snapshot, in the order of their paths, and behind each that is read what
-becomes of its live files, in the order of their positions:
+    "What becomes of each manifest of the snapshot, in the order of their paths, and
+after each that is read what becomes of its live files, in the order of their
+positions:
   manifest PATH wanted                      it is read
-  manifest PATH pruned by FIELD             its summary of this partition field shows that no row meets the filter
+  manifest PATH pruned by FIELD             its summary of this partition field
+                                            shows that no row meets the filter
   data PATH kept                            the plan has it
-  data PATH pruned by partition FIELD       its value of this partition field shows it
-  data PATH pruned by bounds COLUMN         its counts and bounds of this column show it
-  delete PATH applies N                     it applies to so many data files of the plan
-  delete PATH pruned by partition FIELD     its value of this partition field shows it
-The first predicate of the filter that alone shows it is told. Where the filter is never met, as `false` is, no name stands
-there. The files of a manifest that is left out are not read, and have no lines.
+  data PATH pruned by partition FIELD       its value of this field shows it
+  data PATH pruned by bounds COLUMN         its counts and bounds of this column
+                                            show it
+  delete PATH applies N                     it applies to so many data files
+  delete PATH pruned by partition FIELD     its value of this field shows it
+The first comparison of the filter that alone shows it is told. Where the filter
+is never met, as `false` is, no name stands there. The files of a manifest that
+is left out are not read, and have no lines.
 
-The last three lines count them, and the bytes of the manifests and of the data files that are left out:
+The last three lines count them, and the bytes of the manifests and of the data
+files that are left out:
   manifests N wanted N pruned N bytes N
   data N kept N partition N bounds N bytes N
   deletes N kept N partition N
@@ -26,8 +31,9 @@ Example, at the top of icescan's repository:
   icescan explain --dir examples/events-java/table --prefix s3://warehouse/db/events --filter \"id = 42\" \\
     s3://warehouse/db/events/metadata/00009-ea5012f5-592b-59fd-6564-e953f439e682.metadata.json
 
-Exit status: 0 done, 1 the table is refused, 2 the command line, the bundle or the filter is, 3 a read or a write
-failed, 5 memory ran out. A refusal is one line on standard error.";
+Exit status: 0 done, 1 the table is refused, 2 the command line, the bundle or
+the filter is, 3 a read or a write failed, 5 memory ran out. A refusal is one
+line on standard error.";
 
 /// The command `explain`.
 pub fn explain_command<'a>(alloc: Global) -> Result<Command<'a>, AllocError> {
@@ -36,13 +42,13 @@ pub fn explain_command<'a>(alloc: Global) -> Result<Command<'a>, AllocError> {
         .required(true)
         .help("The path of the table's metadata");
     let command = Command::new(alloc, "explain")
-        .about("Say of each manifest and file of a plan why it is there, or what left it out")
+        .about("Say why each manifest and file is in a plan, or left out")
         .after_long_help(EXPLAIN_EXAMPLE)
         .arg(metadata)?;
     let command = with_workers(
         alloc,
         with_request(alloc, command)?,
-        "From 1 to 64, as for `plan`; today one worker reads all manifests, whatever the number",
+        "As for `plan`; one worker reads all",
     )?;
     with_quiet(alloc, with_source(alloc, command)?)
 }
