@@ -1,6 +1,6 @@
 //! The columns of a table, from the metadata's bytes.
 
-ghost use Rattle.std.specs.Prelude.{◌≡◌, ◌≢◌, ◌∷◌, [], Some, Ok, IfErr, IfOk, IsErrOf, OnOk};
+ghost use Rattle.std.specs.Prelude.{◌≡◌, ◌≢◌, ◌∷◌, [], ℕ, List, Some, Ok, IfErr, IfOk, IsErrOf, OnOk};
 ghost use Rattle.contract_words.specs.Outcome.{Gives};
 ghost use Rattle.ice_desk.specs.Worlds.{EndsAt};
 ghost use Rattle.ice_state.specs.Contents.{World};
@@ -96,6 +96,9 @@ pub fn columns_file<F: Files, W: Sink>(
 
     // Over all files.
     ensures nothing { IfErr result (λ fault. fault ≢ RunFault.Write → W.taken output.new ≡ W.taken output.old) }
+    // What is written is the columns of metadata that a read gave.
+    ensures given { OnOk result ((metadata : List ℕ) × F.gives files.now path.now (Some metadata)
+        × WroteText (columns_of metadata target.now) (W.taken output.old) (W.taken output.new)) }
 {
     let metadata = read_file(alloc, files, path)?;
     run_columns(alloc, &metadata, target, output)

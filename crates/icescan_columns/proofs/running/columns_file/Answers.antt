@@ -1,4 +1,4 @@
-use Rattle.std.proofs.Common.{ap, sym, ◌∙◌}
+use Rattle.std.proofs.Common.{ap, sym, ◌∙◌, List, ℕ, Some, subst}
 use Rattle.std.specs.Prelude.{Ok}
 use Rattle.std.proofs.lemmas.Result.{err_from_is_err_and, IfErr-weaker, on_ok_weaker}
 use Rattle.icescan_columns.proofs.Reading.{bytes_end, columns_there, file_ends}
@@ -31,3 +31,9 @@ returns-clause-front g c =
     let same = columns_there world c.args.path.now c.args.target.now c.deref.result.now has in
     let w = c.run_columns.ensures.front failed in
     (w.0, same ∙ w.1, w.2)
+
+pub returns-clause-given : goal.returns-clause-given
+returns-clause-given g c =
+    let read = subst (λ (bytes : List ℕ). g.F.Files.gives c.args.files.now c.args.path.now (Some bytes))
+    (sym c.deref.ensures.value) c.in_ok-metadata.ensures.given in
+    on_ok_weaker c.run_columns.result (λ w. (c.deref.result.now, read, w)) c.run_columns.ensures.written
