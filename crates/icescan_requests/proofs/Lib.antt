@@ -1,6 +1,7 @@
 pub mod Bases
 pub mod Commits
 pub mod Crews
+pub mod GivenCommits
 pub mod GivenPlans
 pub mod Inputs
 pub mod LastSlash

@@ -2,6 +2,7 @@ pub mod Bundles
 pub mod Commits
 pub mod Disks
 pub mod Folders
+pub mod GivenCommits
 pub mod GivenPlans
 pub mod ListPlans
 pub mod Plans

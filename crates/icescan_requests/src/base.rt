@@ -1,6 +1,6 @@
 //! What a commit reads of the table that it is made on: its metadata, and the files of its current snapshot.
 
-ghost use Rattle.std.specs.Prelude.{◌≡◌, List, ℕ, Some, option_map, OnOk, IfOk, IfErr};
+ghost use Rattle.std.specs.Prelude.{◌≡◌, List, ℕ, Option, Some, option_map, OnOk, IfOk, IfErr};
 ghost use Rattle.contract_words.specs.Outcome.{Gives};
 ghost use Rattle.ice_catalog_versions.specs.Histories.{openable};
 ghost use Rattle.ice_desk.specs.Wanted.{paths_of};
@@ -8,6 +8,7 @@ ghost use Rattle.ice_meta.specs.declared.metadata.Target.TheVariants.{Main};
 ghost use Rattle.ice_meta.specs.Targets.{described, list_of};
 ghost use Rattle.ice_state.specs.Contents.{World as Told};
 ghost use Rattle.icescan_requests.specs.Commits.{IsReadFault, base_files, keep_all, keep_found, manifests_in};
+ghost use Rattle.icescan_requests.specs.GivenCommits.{IsBaseGiven, WereKept};
 
 use contract_words::Text;
 use ice_catalog_versions::World;
@@ -39,6 +40,8 @@ fn keep_file<F: Files>(
     ensures kept { (world : Told) → F.world files.now ≡ Some world →
         OnOk result (kept.new ≡ keep_found path.now (world path.now) kept.old) }
     ensures causes { IfErr result (IsReadFault (F.may_fail files.now)) }
+    ensures given { OnOk result ((found : Option (List ℕ)) × F.gives files.now path.now found
+        × (kept.new ≡ keep_found path.now found kept.old)) }
 {
     match files.read(alloc, path) {
         Ok(bytes) => Ok(kept.put(path, bytes)?),
@@ -61,6 +64,7 @@ fn keep_files<F: Files>(
     ensures kept { (world : Told) → F.world files.now ≡ Some world →
         OnOk result (kept.new ≡ keep_all world paths.now kept.old) }
     ensures causes { IfErr result (IsReadFault (F.may_fail files.now)) }
+    ensures given { OnOk result (WereKept (F.gives files.now) paths.now kept.old kept.new) }
 {
     for path in paths {
         keep_file(alloc, files, path.as_str(), kept)?;
@@ -99,6 +103,7 @@ pub fn read_base<F: Files>(alloc: Global, files: &F, metadata: &Metadata) -> Res
     ensures base { (world : Told) → F.world files.now ≡ Some world →
         IfOk result (λ kept. kept ≡ base_files world (list_of Main metadata.now.table)) }
     ensures causes { IfErr result (IsReadFault (F.may_fail files.now)) }
+    ensures given { IfOk result (λ kept. IsBaseGiven (F.gives files.now) (list_of Main metadata.now.table) kept) }
 {
     let mut kept = World::new(alloc);
     let list = match metadata.manifest_list(&Target::Main) {

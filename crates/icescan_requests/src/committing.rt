@@ -12,6 +12,8 @@ ghost use Rattle.icescan_requests.specs.Commits.{IsCommitPlaced, NotCommitted, W
 ghost use Rattle.icescan_requests.specs.Disks.{Extends};
 ghost use Rattle.icescan_requests.specs.Commits.{change_asked, commitment, commitment_from, receipt_text};
 ghost use Rattle.icescan_requests.specs.Bundles.{File};
+ghost use Rattle.icescan_requests.specs.GivenCommits.{CommitsOfGiven, IsChangeGiven, IsCommitOfGiven};
+ghost use Rattle.icescan_requests.specs.GivenCommits.{IsCommitmentOfGiven};
 ghost use Rattle.icescan_text.specs.Reads.{MayEnd};
 ghost use Rattle.icescan_requests.specs.Stores.{MayHave, WereFree};
 ghost use Rattle.icescan_text.specs.declared.fault.RunFault.{RunFault};
@@ -42,6 +44,8 @@ fn change_at<F: Files>(
     ensures causes { IfErr result IsOfPreparing }
     ensures absent { (path : List ℕ) → IsErrOf result (RunFault.Absent path) → HasAt (F.world files.now) path None }
     ensures device { (path : List ℕ) → IsErrOf result (RunFault.Device path) → F.may_fail files.now path }
+    ensures given { IfOk result (IsChangeGiven (F.gives files.now) request.now) }
+    ensures none_given { (path : List ℕ) → IsErrOf result (RunFault.Absent path) → F.gives files.now path None }
 {
     let text = read_file(alloc, files, request.change.as_str())?;
     Ok(read_change(alloc, &text, request.kind)?)
@@ -68,6 +72,10 @@ fn prepare_from<F: Files>(
     ensures causes { IfErr result IsOfPreparing }
     ensures absent { (path : List ℕ) → IsErrOf result (RunFault.Absent path) → HasAt (F.world files.now) path None }
     ensures device { (path : List ℕ) → IsErrOf result (RunFault.Device path) → F.may_fail files.now path }
+    ensures given { IfOk result (λ prepared. (c : Commitment)
+        × IsCommitOfGiven (F.gives files.now) bytes.now (record { change = change.now; ids = ids }) c
+        × Writes prepared c) }
+    ensures none_given { (path : List ℕ) → IsErrOf result (RunFault.Absent path) → F.gives files.now path None }
 {
     let metadata = read_metadata(alloc, bytes)?;
     let kept = read_base(alloc, files, &metadata)?;
@@ -93,6 +101,10 @@ pub fn prepare_commit<F: Files>(
     ensures causes { IfErr result IsOfPreparing }
     ensures absent { (path : List ℕ) → IsErrOf result (RunFault.Absent path) → HasAt (F.world files.now) path None }
     ensures device { (path : List ℕ) → IsErrOf result (RunFault.Device path) → F.may_fail files.now path }
+    // What is written is a commit to bytes that reads gave.
+    ensures given { IfOk result (λ prepared. (c : Commitment)
+        × IsCommitmentOfGiven (F.gives files.now) request.now c × Writes prepared c) }
+    ensures none_given { (path : List ℕ) → IsErrOf result (RunFault.Absent path) → F.gives files.now path None }
 {
     let bytes = read_file(alloc, files, request.metadata.as_str())?;
     let change = change_at(alloc, files, request)?;
@@ -190,6 +202,9 @@ pub fn commit_to<F: Files, S: Store, W: Sink>(
     ensures told { TellsACommit request.now.ids.snapshot result (W.taken output.old) (W.taken output.new) }
     ensures refusal { OnCommitRefusal (F.world files.now) (F.may_fail files.now) request.now.out (S.files store.new)
         (S.may_fail store.old) (W.may_fail output.old) result }
+    // What is put is a commit to bytes that reads gave.
+    ensures given { CommitsOfGiven (F.gives files.now) request.now result (S.files store.old) (S.files store.new)
+        (W.taken output.old) (W.taken output.new) }
 {
     let prepared = prepare_commit(alloc, files, request)?;
     put_commit(alloc, store, &prepared, &request.out)?;

@@ -1,4 +1,4 @@
-use Rattle.std.proofs.Common.{sym, ap, ◌∙◌}
+use Rattle.std.proofs.Common.{sym, ap, ◌∙◌, List, ℕ, Some, subst}
 use Rattle.std.specs.Prelude.{Ok}
 use Rattle.std.proofs.lemmas.Result.{err_from_is_err_and}
 use Rattle.icescan_requests.proofs.Commits.{bad_change, change_is, no_change}
@@ -28,3 +28,10 @@ returns-clause-found g c =
     λ world told.
     let found = (rw c.as_str.ensures at (c.in_ok-text.ensures.found world told)) ∙ ap Ok (sym c.deref.ensures.value) in
     change_is f world c.args.request.now _ found c.in_ok-read_change.field-0 c.in_ok-read_change.ensures
+
+pub returns-clause-given : goal.returns-clause-given
+returns-clause-given g c =
+    let gives = g.F.Files.gives c.args.files.now in
+    let read = subst (λ (text : List ℕ). gives c.args.request.now.change (Some text)) (sym c.deref.ensures.value)
+    (rw c.as_str.ensures at c.in_ok-text.ensures.given) in
+    (c.deref.result.now, read, c.in_ok-read_change.ensures)

@@ -1,6 +1,6 @@
-use Rattle.std.proofs.Common.{sym, ap, ◌∙◌}
+use Rattle.std.proofs.Common.{sym, ap, ◌∙◌, List, ℕ, Some, subst}
 use Rattle.std.specs.Prelude.{Ok}
-use Rattle.std.proofs.lemmas.Result.{err_from_is_err_and}
+use Rattle.std.proofs.lemmas.Result.{err_from_is_err_and, IfOk-weaker}
 use Rattle.icescan_requests.proofs.Commits.{asked_is, no_metadata, not_asked}
 use Rattle.icescan_requests.proofs.committing.prepare_commit.Goals as goal
 
@@ -38,3 +38,20 @@ returns-clause-refused g c =
     let is = asked_is f world c.args.request.now _ has c.in_ok-change.change (c.in_ok-change.ensures.found world
     told) in
     rw is (c.prepare_from.ensures.refused world told)
+
+pub returns-clause-given : goal.returns-clause-given
+returns-clause-given g c =
+    let gives = g.F.Files.gives c.args.files.now in
+    let read = subst (λ (bytes : List ℕ). gives c.args.request.now.metadata (Some bytes)) (sym c.deref.ensures.value)
+    (rw c.as_str.ensures at c.in_ok-bytes.ensures.given) in
+    IfOk-weaker c.prepare_from.result _ _ (λ _ made. (
+      made.0,
+      record {
+        bytes = c.deref.result.now;
+        read = read;
+        change = c.in_ok-change.change;
+        asked = c.in_ok-change.ensures.given;
+        committed = made.1;
+      },
+      made.2,
+    )) c.prepare_from.ensures.given

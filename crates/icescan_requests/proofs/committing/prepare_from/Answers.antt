@@ -5,6 +5,7 @@ use Rattle.icescan_text.specs.Faults.{of_prepare}
 use Rattle.icescan_requests.proofs.Commits.{IsOfReading, bad_metadata, fault_prepares, not_prepared}
 use Rattle.icescan_requests.proofs.Commits.{prepare_reads_nothing}
 use Rattle.icescan_requests.proofs.Commits.{prepared}
+use Rattle.icescan_requests.proofs.GivenCommits.{committed_given}
 use Rattle.icescan_requests.proofs.committing.prepare_from.Goals as goal
 
 pub returns-in_err-metadata-clause-refused : goal.returns-in_err-metadata-clause-refused
@@ -52,4 +53,18 @@ returns-in_err-prepare-clause-device g c =
     let e = c.in_err-prepare.field-0.0 in
     rw (p.1, p.2) (λ path is.
     let same : of_prepare e ≡ run.Device path = cc in
+    absurd (prepare_reads_nothing e (subst IsOfReading (sym same) tt)))
+
+pub returns-clause-given : goal.returns-clause-given
+returns-clause-given g c =
+    committed_given (g.F.Files.gives c.args.files.now) _ (record { change = c.args.change.now; ids = c.args.ids }) _
+    c.in_ok-metadata.ensures c.in_ok-kept.kept c.in_ok-kept.ensures.given c.in_ok-base.base
+    c.in_ok-base.ensures.version c.in_ok-prepare.field-0 c.in_ok-prepare.ensures.prepared
+
+pub returns-in_err-prepare-clause-none_given : goal.returns-in_err-prepare-clause-none_given
+returns-in_err-prepare-clause-none_given g c =
+    let p = err_from_is_err_and c.from_residual-in_err-prepare.result c.from_residual-in_err-prepare.ensures.1 in
+    let e = c.in_err-prepare.field-0.0 in
+    rw (p.1, p.2) (λ path is.
+    let same : of_prepare e ≡ run.Absent path = cc in
     absurd (prepare_reads_nothing e (subst IsOfReading (sym same) tt)))
