@@ -4,3 +4,4 @@ pub mod Others
 pub mod Strays
 pub mod Steps
 pub mod Ranges
+mod Sends

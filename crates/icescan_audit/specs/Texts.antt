@@ -58,9 +58,11 @@ file_text None = []
 file_text (Some path) = named_path (codes " file ") path
 
 -- the line of a finding
+abbrev pub finding_end : Finding → List ℕ
+finding_end x = file_text x.file ++ (flaw_end x.flaw ++ 10 ∷ [])
+
 unfoldable pub finding_text : Finding → List ℕ
-finding_text x = codes "finding " ++ (flaw_name x.flaw ++ (named_path (codes " manifest ") x.manifest
-    ++ (file_text x.file ++ (flaw_end x.flaw ++ 10 ∷ []))))
+finding_text x = codes "finding " ++ (flaw_name x.flaw ++ (named_path (codes " manifest ") x.manifest ++ finding_end x))
 
 -- the last line: how many manifests and live entries were read, and how many findings there are
 unfoldable pub totals_text : Audit → List ℕ

@@ -1,29 +1,18 @@
 //! The text of an audit.
 
-ghost use Rattle.std.specs.Prelude.{◌≡◌, ◌++◌, OnOk, IfOk};
+ghost use Rattle.std.specs.Prelude.{◌≡◌, ◌++◌, [], OnOk, IfOk};
 ghost use Rattle.std.specs.List.{flat_map};
-ghost use Rattle.icescan_audit.specs.Texts.{audit_text, count_name, file_text, finding_text, flaw_end, flaw_name};
-ghost use Rattle.icescan_audit.specs.Texts.{totals_text};
-ghost use Rattle.icescan_print.specs.Pieces.{named_number, named_path, named_signed};
+ghost use Rattle.icescan_audit.specs.Texts.{audit_text, count_name, file_text, finding_end, finding_text, flaw_end};
+ghost use Rattle.icescan_audit.specs.Texts.{flaw_name, totals_text};
+ghost use Rattle.icescan_print.specs.Written.{Sent, Wrote};
 
 use crate::audit::Audit;
 use contract_words::Items;
 use icescan_audit_findings::{Count, Finding, Flaw};
-use icescan_print::{put_named_int, put_named_number, put_named_path};
+use icescan_print::{Page, Sink, SinkFault, put_named_number};
 use itoa::Integer;
+use shared_value::Shared;
 use std::alloc::{AllocError, Global};
-
-fn push_path(text: &mut Vec<u8>, name: &[u8], path: &[u8]) -> Result<(), AllocError>
-    ensures { OnOk result (text.new.items ≡ text.old.items ++ named_path name.now path.now) }
-{
-    put_named_path(text, name, path).map_err(|_| AllocError)
-}
-
-fn push_int(text: &mut Vec<u8>, name: &[u8], n: i32) -> Result<(), AllocError>
-    ensures { OnOk result (text.new.items ≡ text.old.items ++ named_signed name.now n) }
-{
-    put_named_int(text, name, n).map_err(|_| AllocError)
-}
 
 fn push_number<I: Integer>(text: &mut Vec<u8>, name: &[u8], n: I) -> Result<(), AllocError>
     ensures { OnOk result (text.new.items ≡ text.old.items ++ (name.now ++ I.text n)) }
@@ -62,39 +51,58 @@ fn flaw_name(flaw: &Flaw) -> &'static [u8]
     }
 }
 
-fn push_flaw_end(text: &mut Vec<u8>, flaw: &Flaw) -> Result<(), AllocError>
-    ensures { OnOk result (text.new.items ≡ text.old.items ++ flaw_end flaw.now) }
+/// Sends the field or the column that a flaw is about.
+#[tactic(auto, using(crate::proofs::Sends::nothing_sent))]
+fn put_flaw_end<S: Sink>(page: &mut Page, sink: &mut S, flaw: &Flaw) -> Result<(), SinkFault>
+    ensures { Sent S.taken S.may_fail sink.old page.old result sink.new page.new (flaw_end flaw.now) }
 {
     match flaw {
-        Flaw::Uncovered(field) => push_path(text, b" field ", field.as_bytes()),
-        Flaw::NoColumn(id) => push_int(text, b" column ", *id),
-        Flaw::BoundsCross(id) => push_int(text, b" column ", *id),
-        Flaw::ExcessNulls(id) => push_int(text, b" column ", *id),
+        Flaw::Uncovered(field) => page.put_named_path(sink, b" field ", field.get().as_bytes()),
+        Flaw::NoColumn(id) => page.put_named_int(sink, b" column ", *id),
+        Flaw::BoundsCross(id) => page.put_named_int(sink, b" column ", *id),
+        Flaw::ExcessNulls(id) => page.put_named_int(sink, b" column ", *id),
         Flaw::Miscounted(_) | Flaw::BelowLeast | Flaw::AboveLast | Flaw::LiveTwice => Ok(()),
         Flaw::NamedNotLive | Flaw::DanglingPositions | Flaw::DanglingEqualities => Ok(()),
     }
 }
 
-fn push_file(text: &mut Vec<u8>, file: &Option<Items<u8>>) -> Result<(), AllocError>
-    ensures { OnOk result (text.new.items ≡ text.old.items ++ file_text file.now) }
+/// Sends the file that a finding is about.
+#[tactic(auto, using(crate::proofs::Sends::nothing_sent))]
+fn put_file<S: Sink>(
+    page: &mut Page,
+    sink: &mut S,
+    file: &Option<Shared<Items<u8>>>,
+) -> Result<(), SinkFault>
+    ensures { Sent S.taken S.may_fail sink.old page.old result sink.new page.new (file_text file.now) }
 {
     match file {
-        Some(path) => push_path(text, b" file ", path.as_slice()),
+        Some(path) => page.put_named_path(sink, b" file ", path.get().as_slice()),
         None => Ok(()),
     }
 }
 
-/// Puts the line of a finding last.
-#[tactic(auto, unfolding(crate::specs::Texts::finding_text))]
-fn push_finding(text: &mut Vec<u8>, finding: &Finding) -> Result<(), AllocError>
-    ensures { OnOk result (text.new.items ≡ text.old.items ++ finding_text finding.now) }
+/// Sends the end of the line of a finding: the file, the flaw's end and the line feed.
+fn put_finding_end<S: Sink>(
+    page: &mut Page,
+    sink: &mut S,
+    finding: &Finding,
+) -> Result<(), SinkFault>
+    ensures { Sent S.taken S.may_fail sink.old page.old result sink.new page.new (finding_end finding.now) }
 {
-    text.extend_from_slice(b"finding ")?;
-    text.extend_from_slice(flaw_name(&finding.flaw))?;
-    push_path(text, b" manifest ", finding.manifest.as_bytes())?;
-    push_file(text, &finding.file)?;
-    push_flaw_end(text, &finding.flaw)?;
-    text.extend_from_slice(b"\n")
+    put_file(page, sink, &finding.file)?;
+    put_flaw_end(page, sink, &finding.flaw)?;
+    page.put(sink, b"\n")
+}
+
+/// Sends the line of a finding.
+#[tactic(auto, unfolding(crate::specs::Texts::finding_text))]
+fn put_finding<S: Sink>(page: &mut Page, sink: &mut S, finding: &Finding) -> Result<(), SinkFault>
+    ensures { Sent S.taken S.may_fail sink.old page.old result sink.new page.new (finding_text finding.now) }
+{
+    page.put(sink, b"finding ")?;
+    page.put(sink, flaw_name(&finding.flaw))?;
+    page.put_named_path(sink, b" manifest ", finding.manifest.get().as_bytes())?;
+    put_finding_end(page, sink, finding)
 }
 
 /// Puts the last line of an audit.
@@ -108,16 +116,56 @@ fn push_totals(text: &mut Vec<u8>, audit: &Audit) -> Result<(), AllocError>
     text.extend_from_slice(b"\n")
 }
 
-/// The text of an audit.
-#[tactic(auto, unfolding(crate::specs::Texts::audit_text))]
-pub fn audit_lines(alloc: Global, audit: &Audit) -> Result<Vec<u8>, AllocError>
-    ensures { IfOk result (λ text. text.items ≡ audit_text audit.now) }
+/// The last line of an audit.
+pub fn totals_of(alloc: Global, audit: &Audit) -> Result<Vec<u8>, AllocError>
+    ensures { IfOk result (λ text. text.items ≡ totals_text audit.now) }
 {
-    let findings = audit.findings.as_slice();
     let mut text = Vec::new(alloc);
-    'findings: for finding in findings {
-        push_finding(&mut text, finding)?;
-    }
     push_totals(&mut text, audit)?;
     Ok(text)
+}
+
+/// Sends the lines of findings.
+fn put_findings<S: Sink>(
+    page: &mut Page,
+    sink: &mut S,
+    findings: &[Finding],
+) -> Result<(), SinkFault>
+    ensures { Sent S.taken S.may_fail sink.old page.old result sink.new page.new
+        (flat_map finding_text findings.now) }
+{
+    'findings: for finding in findings {
+        put_finding(page, sink, finding)?;
+    }
+    Ok(())
+}
+
+/// Sends the text of an audit, whose last line this is.
+#[tactic(auto, unfolding(crate::specs::Texts::audit_text))]
+fn put_audit<S: Sink>(
+    page: &mut Page,
+    sink: &mut S,
+    audit: &Audit,
+    totals: &[u8],
+) -> Result<(), SinkFault>
+    requires { totals.now ≡ totals_text audit.now }
+    ensures { Sent S.taken S.may_fail sink.old page.old result sink.new page.new (audit_text audit.now) }
+{
+    put_findings(page, sink, audit.findings.as_slice())?;
+    page.put(sink, totals)
+}
+
+/// Writes the text of an audit, whose last line this is, by a page on which nothing waits. It takes no memory.
+pub fn write_audit<S: Sink>(
+    page: &mut Page,
+    sink: &mut S,
+    audit: &Audit,
+    totals: &[u8],
+) -> Result<(), SinkFault>
+    requires page { page.old ≡ [] }
+    requires totals { totals.now ≡ totals_text audit.now }
+    ensures { Wrote S.taken S.may_fail sink.old result sink.new (audit_text audit.now) }
+{
+    put_audit(page, sink, audit, totals)?;
+    page.flush(sink)
 }

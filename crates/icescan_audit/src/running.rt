@@ -12,13 +12,13 @@ ghost use Rattle.icescan_text.specs.Reads.{MayEnd};
 use crate::audit::Audit;
 use crate::by_workers::audit_rows_by_workers;
 use crate::laws::audits_tell_of_summaries;
-use crate::lines::audit_lines;
+use crate::lines::{totals_of, write_audit};
 use crate::manifests::check_specs;
 use crate::subject::{Subject, select_subject};
 use ice_desk::Files;
 use ice_meta::Target;
 use icescan_audit_findings::count_faults;
-use icescan_print::{Sink, write_all};
+use icescan_print::{Page, Sink};
 use icescan_text::{RunFault, Workers, read_file, read_rows};
 use std::alloc::Global;
 use std::thread::Threads;
@@ -93,8 +93,9 @@ pub fn run_audit<R: Threads + Sync, F: Files + Sync, W: Sink>(
 {
     audits_tell_of_summaries();
     let audit = audit_table(rt, alloc, files, metadata, target, workers)?;
-    let text = audit_lines(alloc, &audit)?;
-    write_all(output, &text)?;
+    let totals = totals_of(alloc, &audit)?;
+    let mut page = Page::new(alloc)?;
+    write_audit(&mut page, output, &audit, &totals)?;
     Ok(count_faults(audit.findings.as_slice()))
 }
 

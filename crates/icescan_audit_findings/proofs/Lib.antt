@@ -17,3 +17,4 @@ pub mod LastSaid
 pub mod AmongPairs
 pub mod ColumnsTold
 pub mod Miscounts
+pub mod NoTwo

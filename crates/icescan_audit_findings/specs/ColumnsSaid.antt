@@ -1,5 +1,5 @@
 -- What a manifest says of a column, looked up, and the maps that say it.
-use Rattle.std.specs.Prelude.{◌≡◌, ◌<◌, ℕ, ℤ, pos, List, None, length, get_or}
+use Rattle.std.specs.Prelude.{◌≡◌, ◌⊎◌, ◌<◌, ℕ, ℤ, pos, List, [], None, length, get_or}
 use Rattle.std.specs.Option.{option_copied}
 use Rattle.ice_value.specs.Columns.{bound_of, count_of}
 use Rattle.ice_value.specs.Pairs.{bounds_said, counts_said}
@@ -36,3 +36,8 @@ pub record AreMapsOf (file : FileBounds) (maps : RisingMaps) : Type 0 where
   pub nulls : counts_said maps.null_counts.pairs.now ≡ file.null_counts
   pub lower : bounds_said maps.lower_bounds.pairs.now ≡ file.lower_bounds
   pub upper : bounds_said maps.upper_bounds.pairs.now ≡ file.upper_bounds
+
+-- it says no bounds of one of the two kinds, and no counts of one
+pub record HasNoTwo (file : FileBounds) : Type 0 where
+  pub bounds : (file.lower_bounds ≡ []) ⊎ (file.upper_bounds ≡ [])
+  pub counts : (file.value_counts ≡ []) ⊎ (file.null_counts ≡ [])

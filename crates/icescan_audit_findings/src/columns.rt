@@ -1,9 +1,9 @@
 //! What a manifest says of the columns of a file and what can't be.
 
-ghost use Rattle.std.specs.Prelude.{◌≡◌, ◌++◌, IfOk, IfSome, OnOk, Some};
+ghost use Rattle.std.specs.Prelude.{◌≡◌, ◌++◌, true, IfOk, IfSome, OnOk, Some};
 ghost use Rattle.std.specs.Option.{option_copied};
 ghost use Rattle.icescan_audit_findings.specs.ColumnFlaws.{column_flaws, columns_flaws, cross, is_more, is_past};
-ghost use Rattle.icescan_audit_findings.specs.ColumnsSaid.{AreMapsOf, AreSaidOf, IsSaidOf};
+ghost use Rattle.icescan_audit_findings.specs.ColumnsSaid.{AreMapsOf, AreSaidOf, HasNoTwo, IsSaidOf};
 ghost use Rattle.icescan_audit_findings.specs.Ids.{Rises};
 ghost use Rattle.ice_project.specs.Limits.{limit};
 ghost use Rattle.ice_value.specs.declared.file_bounds.FileBounds.{FileBounds};
@@ -224,6 +224,18 @@ fn push_flaws_listed(
     Ok(())
 }
 
+/// Whether what is said of no column can be wrong: that takes a lower bound and an upper one, or a number of nulls and
+/// one of values.
+fn has_no_two(bounds: &FileBounds<'_, '_>) -> bool
+    ensures { result ≡ true → HasNoTwo bounds.now }
+{
+    let lacks_bounds = bounds.lower_bounds.pairs().is_empty()
+        || bounds.upper_bounds.pairs().is_empty();
+    let lacks_counts = bounds.value_counts.pairs().is_empty()
+        || bounds.null_counts.pairs().is_empty();
+    lacks_bounds && lacks_counts
+}
+
 /// Puts what is wrong with what is said of the schema's columns last, column by column. Where the ids of a map do not
 /// rise, these ids, which rise, are looked up quickly; those of all columns are best.
 pub fn push_columns_flaws(
@@ -236,6 +248,9 @@ pub fn push_columns_flaws(
     requires { Rises ids.now }
     ensures { OnOk result (flaws.new.items ≡ flaws.old.items ++ columns_flaws bounds.now columns.now) }
 {
+    if has_no_two(bounds) {
+        return Ok(());
+    }
     match rising_maps(bounds) {
         Some(mut maps) => push_flaws_found(alloc, flaws, columns, &mut maps),
         None => push_flaws_listed(alloc, flaws, columns, ids, bounds),

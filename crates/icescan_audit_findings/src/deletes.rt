@@ -19,6 +19,7 @@ use crate::repeats::LiveFile;
 use contract_words::Items;
 use ice_deletes::{DeleteIndex, Finder, Hits, Record};
 use ice_value::FileContent;
+use shared_value::Shared;
 use std::alloc::{AllocError, Global};
 
 /// A live data file.
@@ -241,8 +242,8 @@ fn push_finding(
 {
     if found {
         findings.push(Finding {
-            manifest: file.manifest.copy(alloc)?,
-            file: Some(file.path.copy(alloc)?),
+            manifest: file.manifest.share()?,
+            file: Some(Shared::new(alloc, file.path.copy(alloc)?)?),
             flaw,
         })?;
     }

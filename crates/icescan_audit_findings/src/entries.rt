@@ -14,43 +14,65 @@ use crate::counts::count_flaws;
 use crate::examined::{Examined, examine};
 use crate::finding::{Finding, Flaw};
 use crate::repeats::LiveFile;
-use contract_words::Items;
+use contract_words::{Items, Text};
 use ice_manifest_reading::{ManifestFault, Row};
 use ice_meta::Spec;
+use shared_value::Shared;
 use std::alloc::{AllocError, Global};
 
-/// Puts the flaws of an entry last, each as a finding.
-fn push_flaws(
-    alloc: Global,
+/// Puts the flaws of a file last, each as a finding.
+fn push_file_flaws(
     findings: &mut Items<Finding>,
     row: &Row,
-    path: &[u8],
+    manifest: &Shared<Text>,
+    file: &Shared<Items<u8>>,
     flaws: Vec<Flaw>,
 ) -> Result<(), AllocError>
-    ensures { OnOk result (findings.new ≡ findings.old ++ map (finding_at row.now path.now) flaws.items) }
+    requires { manifest.now ≡ row.now.path }
+    ensures { OnOk result (findings.new ≡ findings.old ++ map (finding_at row.now file.now) flaws.items) }
 {
     'flaws: for flaw in flaws {
         findings.push(Finding {
-            manifest: row.path.copy(alloc)?,
-            file: Some(Items::from_vec(path.to_vec(alloc)?)),
+            manifest: manifest.share()?,
+            file: Some(file.share()?),
             flaw,
         })?;
     }
     Ok(())
 }
 
-/// Puts the flaws of a manifest last, each as a finding.
-fn push_manifest_flaws(
+/// Puts the flaws of an entry last, each as a finding. The path is copied only where there are flaws.
+fn push_flaws(
     alloc: Global,
     findings: &mut Items<Finding>,
     row: &Row,
+    manifest: &Shared<Text>,
+    path: &[u8],
     flaws: Vec<Flaw>,
 ) -> Result<(), AllocError>
+    requires { manifest.now ≡ row.now.path }
+    ensures { OnOk result (findings.new ≡ findings.old ++ map (finding_at row.now path.now) flaws.items) }
+{
+    if flaws.is_empty() {
+        return Ok(());
+    }
+    let file = Shared::new(alloc, Items::from_vec(path.to_vec(alloc)?))?;
+    push_file_flaws(findings, row, manifest, &file, flaws)
+}
+
+/// Puts the flaws of a row's manifest last, each as a finding.
+fn push_manifest_flaws(
+    findings: &mut Items<Finding>,
+    row: &Row,
+    manifest: &Shared<Text>,
+    flaws: Vec<Flaw>,
+) -> Result<(), AllocError>
+    requires { manifest.now ≡ row.now.path }
     ensures { OnOk result (findings.new ≡ findings.old ++ map (manifest_finding row.now) flaws.items) }
 {
     'flaws: for flaw in flaws {
         findings.push(Finding {
-            manifest: row.path.copy(alloc)?,
+            manifest: manifest.share()?,
             file: None,
             flaw,
         })?;
@@ -64,8 +86,10 @@ fn push_entries(
     findings: &mut Items<Finding>,
     files: &mut Vec<LiveFile>,
     row: &Row,
+    manifest: &Shared<Text>,
     entries: Vec<Examined>,
 ) -> Result<(), AllocError>
+    requires { manifest.now ≡ row.now.path }
     ensures findings { OnOk result (findings.new ≡ findings.old ++ flat_map (findings_on row.now) entries.items) }
     ensures files { OnOk result (files.new.items ≡ files.old.items ++ map (file_at row.now) entries.items) }
 {
@@ -76,10 +100,17 @@ fn push_entries(
             key,
             ..
         } = entry;
-        push_flaws(alloc, findings, row, path.as_slice(), flaws.into_vec())?;
+        push_flaws(
+            alloc,
+            findings,
+            row,
+            manifest,
+            path.as_slice(),
+            flaws.into_vec(),
+        )?;
         files.push(LiveFile {
             path,
-            manifest: row.path.copy(alloc)?,
+            manifest: manifest.share()?,
             key,
         })?;
     }
@@ -115,7 +146,8 @@ pub fn audit_manifest(
     let examined = examine(alloc, basis, row, spec, bytes)?;
     let number = examined.told.len();
     let counted = count_flaws(alloc, row, &examined.tallies)?;
-    push_manifest_flaws(alloc, findings, row, counted)?;
-    push_entries(alloc, findings, files, row, examined.told)?;
+    let manifest = Shared::new(alloc, row.path.copy(alloc)?)?;
+    push_manifest_flaws(findings, row, &manifest, counted)?;
+    push_entries(alloc, findings, files, row, &manifest, examined.told)?;
     Ok(number)
 }

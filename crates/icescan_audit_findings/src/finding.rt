@@ -4,6 +4,7 @@ ghost use Rattle.std.specs.Prelude.{◌≡◌, length};
 ghost use Rattle.icescan_audit_findings.specs.Telling.{faults, is_fault};
 
 use contract_words::{Items, Text};
+use shared_value::Shared;
 
 /// What a manifest list counts in a manifest: the entries of a status, and the rows of the files that they are about.
 #[derive(Clone, Copy, Debug, PartialEq, Eq)]
@@ -22,7 +23,7 @@ pub enum Flaw {
     /// By the manifest list the manifest has another number of these.
     Miscounted(Count),
     /// The summary that the manifest's row has of the partition field of this name does not cover the file's value.
-    Uncovered(Text),
+    Uncovered(Shared<Text>),
     /// The entry's sequence number is below the least one that the manifest's row names.
     BelowLeast,
     /// The entry's sequence number is above the table's last.
@@ -47,9 +48,9 @@ pub enum Flaw {
 #[derive(Debug, Drop)]
 pub struct Finding {
     /// The path of the manifest.
-    pub manifest: Text,
+    pub manifest: Shared<Text>,
     /// The path of the entry's file, where it is about one entry.
-    pub file: Option<Items<u8>>,
+    pub file: Option<Shared<Items<u8>>>,
     /// What is wrong.
     pub flaw: Flaw,
 }

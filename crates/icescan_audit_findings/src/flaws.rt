@@ -15,7 +15,6 @@ use std::alloc::{AllocError, AllocFailed, Global};
 
 /// Puts the fields last whose value is not within the limits.
 fn push_uncovered(
-    alloc: Global,
     flaws: &mut Vec<Flaw>,
     limits: &[FieldLimits],
     tuple: &[Cell],
@@ -24,7 +23,7 @@ fn push_uncovered(
 {
     'fields: for i in 0..limits.len().min(tuple.len()) {
         if !limits[i].allows(&tuple[i]) {
-            flaws.push(Flaw::Uncovered(limits[i].name.copy(alloc)?))?;
+            flaws.push(Flaw::Uncovered(limits[i].name.share()?))?;
         }
     }
     Ok(())
@@ -88,7 +87,7 @@ pub fn flaws_of(
 {
     let number = entry.sequence_number.get();
     let mut flaws = Vec::new(alloc);
-    push_uncovered(alloc, &mut flaws, limits, entry.tuple)?;
+    push_uncovered(&mut flaws, limits, entry.tuple)?;
     push_where(
         &mut flaws,
         number < row.min_sequence_number.get(),

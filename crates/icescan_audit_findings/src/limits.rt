@@ -13,6 +13,7 @@ use ice_manifest_reading::Row;
 use ice_meta::{PartitionField, Spec};
 use ice_project::transform_named;
 use ice_value::{Cell, ColumnType, Summary, read_bound};
+use shared_value::Shared;
 use std::alloc::{AllocError, Global};
 use std::cmp::Ordering;
 
@@ -20,7 +21,7 @@ use std::cmp::Ordering;
 #[derive(Debug, Drop)]
 pub struct FieldLimits {
     /// The field's name.
-    pub name: Text,
+    pub name: Shared<Text>,
     /// Whether a value may be null.
     pub null: bool,
     /// No other value is below it.
@@ -102,7 +103,7 @@ fn limits_of(
 {
     let values = type_of_values(alloc, field)?;
     Ok(FieldLimits {
-        name: field.name.copy(alloc)?,
+        name: Shared::new(alloc, field.name.copy(alloc)?)?,
         null: summary.contains_null(),
         low: bound_of(alloc, &values, summary.lower())?,
         high: bound_of(alloc, &values, summary.upper())?,

@@ -8,6 +8,7 @@ ghost use Rattle.icescan_audit_findings.specs.Repeats.{path_before, repeat_where
 use crate::file_key::KeptKey;
 use crate::finding::{Finding, Flaw};
 use contract_words::{Items, Text};
+use shared_value::Shared;
 use std::alloc::{AllocError, Global};
 
 /// A live file.
@@ -16,7 +17,7 @@ pub struct LiveFile {
     /// Its path.
     pub path: Items<u8>,
     /// The path of the manifest that has its entry.
-    pub manifest: Text,
+    pub manifest: Shared<Text>,
     /// What delete files go by, where the snapshot has some.
     pub key: KeptKey,
 }
@@ -41,8 +42,8 @@ fn push_repeat(
 {
     if other.path.as_slice() == file.path.as_slice() {
         findings.push(Finding {
-            manifest: file.manifest.copy(alloc)?,
-            file: Some(file.path.copy(alloc)?),
+            manifest: file.manifest.share()?,
+            file: Some(Shared::new(alloc, file.path.copy(alloc)?)?),
             flaw: Flaw::LiveTwice,
         })?;
     }

@@ -26,14 +26,14 @@ returns-in_err-audit-clause-front g c =
     let failed : c.in_err-audit.field-0.0 ≡ run.Write = cc in
     absurd (c.in_err-audit.ensures.write (ap Err failed)))
 
-pub returns-in_err-write_all-clause-refused : goal.returns-in_err-write_all-clause-refused
-returns-in_err-write_all-clause-refused g c =
-    let p = err_from_is_err_and c.from_residual-in_err-write_all.result c.from_residual-in_err-write_all.ensures.1 in
-    λ world told. rw (p.1, p.2) c.in_err-write_all.ensures.cause
+pub returns-in_err-write_audit-clause-refused : goal.returns-in_err-write_audit-clause-refused
+returns-in_err-write_audit-clause-refused g c =
+    let p = err_from_is_err_and c.from_residual-in_err-write_audit.result c.from_residual-in_err-write_audit.ensures.1 in
+    λ world told. rw (p.1, p.2) c.in_err-write_audit.ensures.cause
 
-pub returns-in_err-write_all-clause-front : goal.returns-in_err-write_all-clause-front
-returns-in_err-write_all-clause-front g c =
-    let front = rw (c.deref.ensures.value, c.in_ok-text.ensures) at c.in_err-write_all.ensures.front in
+pub returns-in_err-write_audit-clause-front : goal.returns-in_err-write_audit-clause-front
+returns-in_err-write_audit-clause-front g c =
+    let front = c.in_err-write_audit.ensures.front in
     λ world told is. (c.in_ok-audit.audit, c.in_ok-audit.ensures.found world told, front)
 
 pub returns-clause-truth : goal.returns-clause-truth
@@ -50,7 +50,7 @@ returns-clause-written g c =
     let audit = c.in_ok-audit.audit in
     let count : c.count_faults.result ≡ length (faults audit.findings) = c.count_faults.ensures
     ∙ ap (λ found. length (faults found)) c.as_slice.ensures in
-    let all = rw (c.deref.ensures.value, c.in_ok-text.ensures) at c.in_ok-write_all.ensures.all in
+    let all = c.in_ok-write_audit.ensures.all in
     λ world told. (audit, c.in_ok-audit.ensures.found world told, count, all)
 
 pub returns-in_err-audit-clause-text : goal.returns-in_err-audit-clause-text
@@ -70,22 +70,22 @@ returns-in_err-audit-clause-refusal g c =
     (writes_stop (g.F.Files.world c.args.files.now) (g.F.Files.may_fail c.args.files.now)
     (g.W.Sink.may_fail c.args.output.now) c.in_err-audit.field-0.0 c.in_err-audit.ensures.stops)
 
-pub returns-in_err-write_all-clause-text : goal.returns-in_err-write_all-clause-text
-returns-in_err-write_all-clause-text g c =
-    let front = rw (c.deref.ensures.value, c.in_ok-text.ensures) at c.in_err-write_all.ensures.front in
-    let p = err_from_is_err_and c.from_residual-in_err-write_all.result c.from_residual-in_err-write_all.ensures.1 in
+pub returns-in_err-write_audit-clause-text : goal.returns-in_err-write_audit-clause-text
+returns-in_err-write_audit-clause-text g c =
+    let front = c.in_err-write_audit.ensures.front in
+    let p = err_from_is_err_and c.from_residual-in_err-write_audit.result c.from_residual-in_err-write_audit.ensures.1 in
     rw (p.1, p.2)
     (record { all = tt; front = λ is. (c.in_ok-audit.audit, c.in_ok-audit.ensures.read, front) })
 
-pub returns-in_err-write_all-clause-refusal : goal.returns-in_err-write_all-clause-refusal
-returns-in_err-write_all-clause-refusal g c =
-    let p = err_from_is_err_and c.from_residual-in_err-write_all.result c.from_residual-in_err-write_all.ensures.1 in
-    rw (p.1, p.2) c.in_err-write_all.ensures.cause
+pub returns-in_err-write_audit-clause-refusal : goal.returns-in_err-write_audit-clause-refusal
+returns-in_err-write_audit-clause-refusal g c =
+    let p = err_from_is_err_and c.from_residual-in_err-write_audit.result c.from_residual-in_err-write_audit.ensures.1 in
+    rw (p.1, p.2) c.in_err-write_audit.ensures.cause
 
 pub returns-clause-text : goal.returns-clause-text
 returns-clause-text g c =
     let audit = c.in_ok-audit.audit in
     let count : c.count_faults.result ≡ length (faults audit.findings) = c.count_faults.ensures
     ∙ ap (λ found. length (faults found)) c.as_slice.ensures in
-    let all = rw (c.deref.ensures.value, c.in_ok-text.ensures) at c.in_ok-write_all.ensures.all in
+    let all = c.in_ok-write_audit.ensures.all in
     record { all = (audit, c.in_ok-audit.ensures.read, count, all); front = λ is. absurd cc }
