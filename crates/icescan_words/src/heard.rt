@@ -1,13 +1,14 @@
 //! Whether a command is the one that the words ask for, found without the parser.
 
-ghost use Rattle.std.specs.Prelude.{◌≡◌, ◌∷◌, [], IfOk, IsTrue, None, Some, codes, if◌then◌else◌, map, nat_eq};
+ghost use Rattle.std.specs.Prelude.{◌≡◌, ◌∷◌, [], IfOk, IsTrue, None, Some, bytes_eq, codes, if◌then◌else◌, map, nat_eq};
 ghost use Rattle.std.specs.Prelude.{option_and_then, option_map, string_bytes};
 ghost use Rattle.std.specs.List.{after_first, before_first, list_any, starts_with};
 ghost use Rattle.uuid.specs.Text.{parsed};
 ghost use Rattle.icescan_words.specs.Heard.{AsksFor, HasCommit, HasDrill, HasFormat, HasIds, HasRequest, HasSource};
 ghost use Rattle.icescan_words.specs.Heard.{HasSeparator, HasTarget, HasWorkers, Names, asks_help, is_equals};
 ghost use Rattle.icescan_words.specs.Heard.{list_of, name_of};
-ghost use Rattle.icescan_words.specs.Heard.{option_in, option_items, plain_words, signed, source_of, takes_next};
+ghost use Rattle.icescan_words.specs.Heard.{option_in, option_items, plain_words, separator_by, signed, source_of};
+ghost use Rattle.icescan_words.specs.Heard.{takes_next};
 ghost use Rattle.icescan_words.specs.Heard.{unsigned};
 ghost use Rattle.icescan_words.specs.declared.command.Source.TheVariants as source;
 
@@ -112,6 +113,18 @@ fn any_asks_help(words: &[String]) -> bool
 {
     for word in words {
         if asks_help(word.as_str()) {
+            return true;
+        }
+    }
+    false
+}
+
+/// Whether one of the words is this one.
+fn has_word(words: &[String], wanted: &str) -> bool
+    ensures { result ≡ list_any (λ word. bytes_eq word wanted.now) (map string_bytes words.now) }
+{
+    for word in words {
+        if word.as_str() == wanted {
             return true;
         }
     }
@@ -267,15 +280,22 @@ fn has_format(words: &[String], format: Format) -> bool
     format == format_by(option_in(words, "--format"))
 }
 
+/// How words are set apart where a word asks for a NUL, and where none does.
+fn separator_by(is_null: bool) -> Separator
+    ensures { result ≡ separator_by is_null }
+{
+    if is_null {
+        Separator::Nul
+    } else {
+        Separator::Space
+    }
+}
+
 /// Whether the words ask for words that are set apart so.
 fn has_separator(words: &[String], separator: Separator) -> bool
     ensures { IsTrue result → HasSeparator (map string_bytes words.now) separator }
 {
-    let is_null = words.iter().any(|word| word.as_str() == "--null");
-    match separator {
-        Separator::Space => !is_null,
-        Separator::Nul => is_null,
-    }
+    separator == separator_by(has_word(words, "--null"))
 }
 
 /// Whether the words ask for so many workers.
