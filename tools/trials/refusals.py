@@ -1,16 +1,17 @@
 #!/usr/bin/env python3
 """refusals.py words | make FOLDER | lines FOLDER | play PROGRAM: the refusals of icescan, and what is said of them.
 
-words: compares the sentences of crates/icescan_hints/src with the tables of docs/REFUSALS.md, row by row, and says what
+words: compares the sentences of crates/icescan_hints with the tables of docs/REFUSALS.md, row by row, and says what
 differs; status 1 then. A row `as above` or `the same` is that of the row above it, and `see ..` has no sentence of its own.
 make: writes a table with what each refusal needs into a new folder.
 lines: prints the words of a command for each refusal, with a tab between two, as crates/icescan_runs/stdin has them.
 play: runs PROGRAM once for each refusal with a pseudo-terminal as standard error, over such a folder, and prints what it wrote;
-status 1 where a line is not the one that is wanted, no hint stands behind it, or a control character is in it. Then without words
+status 1 where a line is not the one that is wanted, no hint stands after it, or a control character is in it. Then without words
 and with a terminal as standard input, where it has to show its help.
 
 Not here: K11 and N11, which take a million files and 65,537 rows; the drill's two, Z1 and want of memory, which no files lead to.
 """
+import glob
 import json
 import os
 import pty
@@ -153,6 +154,17 @@ def filters(cases):
         cases.plan(line, "table.json", table(), "--filter", word)
 
 
+# What other languages of filters have, with the byte at which this one has not.
+SQL = [(3, "c == 42"), (3, "c <> 42"), (6, "c = 1 AND c = 2"), (2, "c IN (1)"), (4, "NOT c = 1"), (0, "not (c = 1)"),
+       (2, "c between 1 and 2"), (9, "category like 'a%'"), (11, "category = null"), (0, "`c` = 1"),
+       (11, "category = \u201cbooks\u201d"), (11, 'category = "books"'), (11, "category = books"), (1, "c")]
+
+
+def habits(cases):
+    for at, word in SQL:
+        cases.plan(f"F1 Syntax {at}", "table.json", table(), "--filter", word)
+
+
 def metadata(cases):
     spec = {"spec-id": 0, "fields": [{"source-id": 1, "field-id": 1000 + i, "name": f"n{i}", "transform": "identity"}
                                      for i in range(65)]}
@@ -287,7 +299,7 @@ def commits(cases):
 
 def all_cases():
     cases = Cases()
-    for part in (filters, metadata, lists, manifests, containers, schemas, files, commits):
+    for part in (filters, metadata, lists, manifests, containers, schemas, files, commits, habits):
         part(cases)
     return cases
 
@@ -363,10 +375,10 @@ def play(program):
                 ("a control character", re.search(rb"[\x00-\x09\x0b-\x1f\x7f]|\xc2[\x80-\x9f]", shown))] if is_so]
             print(shown.decode(errors="backslashreplace") + "".join(f"FAULT: {why}\n" for why in faults))
             bad += bool(faults)
-    print(f"{len(cases.commands)} refusals, {bad} not as they should be")
     if not shows_help(program):
         print("FAULT: no words don't show the help on a terminal, or do in a pipe")
         bad += 1
+    print(f"{len(cases.commands)} refusals, {bad} not as they should be")
     return bad
 
 
@@ -391,14 +403,13 @@ def documented():
 def written():
     """The same of the sentences of icescan_hints."""
     found = []
-    folder = os.path.join(TOP, "crates/icescan_hints/src")
     string = r'"((?:[^"\\]|\\.)*)"'
     shape = re.compile(rf'name:\s*{string},\s*wrong:\s*{string},\s*advice:\s*(?:None|Some\(\s*{string},?\s*\)),', re.S)
 
     def plain(literal):
         return None if literal is None else " ".join(re.sub(r"\\(.)", r"\1", literal).split())
-    for name in sorted(os.listdir(folder)):
-        with open(os.path.join(folder, name)) as source:
+    for name in sorted(glob.glob(os.path.join(TOP, "crates/icescan_hint*/src/*.rt"))):
+        with open(name) as source:
             found += [tuple(plain(part) for part in match.groups()) for match in shape.finditer(source.read())]
     return found
 

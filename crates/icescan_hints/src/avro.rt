@@ -1,7 +1,7 @@
 //! The words of refusals of Avro containers.
 
-use crate::sentence::{MEMORY, Sentence};
 use avro_file::AvroFault;
+use icescan_hint_texts::{MEMORY, Sentence};
 
 const NOT_AVRO: Sentence = Sentence {
     name: "V1 NotAvro",
@@ -13,8 +13,8 @@ const CODEC: Sentence = Sentence {
     name: "V2 Codec",
     wrong: "the container is compressed, by this codec",
     advice: Some(
-        "`tools/uncompress.py FOLDER COPY` copies a table's metadata without compression; or set
-`write.avro.compression-codec` to `uncompressed` for the table and rewrite its manifests",
+        "`icescan-uncompress FOLDER COPY` copies a table's metadata without compression; plan the copy. The
+table property `write.avro.compression-codec` changes the manifests of PyIceberg alone",
     ),
 };
 

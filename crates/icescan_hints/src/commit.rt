@@ -1,7 +1,7 @@
 //! The words of refusals of change files and of commits.
 
-use crate::sentence::{MEMORY, Sentence};
 use ice_catalog_versions::PrepareFault;
+use icescan_hint_texts::{MEMORY, Sentence};
 use icescan_text::ChangeFault;
 
 const BAD_CHANGE: Sentence = Sentence {

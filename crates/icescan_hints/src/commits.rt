@@ -1,13 +1,14 @@
 //! What of a commit is refused.
 
 use crate::case::Case;
-use crate::hint::{Hint, quoted};
+use crate::changes::{add_bad_file, add_fields};
 use crate::tables::add_specs;
 use contract_words::{Items, Text};
 use ice_catalog_versions::{PrepareFault, Prepared};
 use ice_desk::Files;
+use icescan_hint_texts::{Hint, quoted};
 use icescan_requests::prepare_commit;
-use icescan_text::CommitRequest;
+use icescan_text::{ChangeFault, CommitRequest};
 use std::alloc::{AllocError, Global};
 
 /// How many files of a commit are told at most.
@@ -77,8 +78,19 @@ pub fn add_unwritten<F: Files>(
     }
 }
 
+/// Adds the change file, and which of its files is at fault.
+pub fn add_change<F: Files>(
+    hint: &mut Hint,
+    alloc: Global,
+    case: &Case<'_, F>,
+    fault: ChangeFault,
+) -> Result<(), AllocError> {
+    add_change_file(hint, alloc, case)?;
+    add_bad_file(hint, alloc, case, fault)
+}
+
 /// Adds the path of the change file.
-pub fn add_change_file<F: Files>(
+fn add_change_file<F: Files>(
     hint: &mut Hint,
     alloc: Global,
     case: &Case<'_, F>,
@@ -127,6 +139,10 @@ pub fn add_commit<F: Files>(
         }
         PrepareFault::OutOfOrder => add_times(hint, alloc, case, request),
         PrepareFault::NoSuchSpec(_) => add_specs(hint, alloc, case),
+        PrepareFault::WrongTuple(path) => {
+            add_change_file(hint, alloc, case)?;
+            add_fields(hint, alloc, case, path)
+        }
         PrepareFault::BaseBad(_) | PrepareFault::SequenceEnd => {
             let name = quoted(alloc, request.metadata.as_str())?;
             hint.here(alloc, format!(in alloc; "the metadata is {name}")?)

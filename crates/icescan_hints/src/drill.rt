@@ -1,6 +1,6 @@
 //! The words of refusals of drills.
 
-use crate::sentence::Sentence;
+use icescan_hint_texts::Sentence;
 use icescan_text::DrillFault;
 
 const CONFLICT: Sentence = Sentence {

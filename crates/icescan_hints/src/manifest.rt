@@ -1,7 +1,7 @@
 //! The words of refusals of manifest lists and manifests.
 
-use crate::sentence::{MEMORY, Sentence};
 use ice_manifest_reading::{ListFault, ManifestFault};
+use icescan_hint_texts::{MEMORY, Sentence};
 
 const AVRO: Sentence = Sentence {
     name: "N1 Avro",

@@ -2,11 +2,11 @@
 
 use crate::case::Case;
 use crate::fields::field_name;
-use crate::hint::{Hint, quoted};
 use contract_words::Text;
 use ice_desk::Files;
 use ice_manifest_reading::{EntryView, Keep, ListFault, Live, ManifestFault, Row, read_kept};
 use ice_meta::{Metadata, Spec, Target};
+use icescan_hint_texts::{Hint, quoted};
 use icescan_words::{Command, Lists};
 use std::alloc::{AllocError, Global};
 use std::cell::Cell;

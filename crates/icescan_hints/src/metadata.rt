@@ -1,7 +1,7 @@
 //! The words of refusals of table metadata.
 
-use crate::sentence::{MEMORY, Sentence};
 use ice_meta::MetaFault;
+use icescan_hint_texts::{MEMORY, Sentence};
 
 const NOT_JSON: Sentence = Sentence {
     name: "M1 NotJson",

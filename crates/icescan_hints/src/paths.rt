@@ -1,9 +1,9 @@
 //! Why no file is found at a path.
 
 use crate::case::Case;
-use crate::hint::{Hint, quoted};
 use ice_desk::Files;
 use ice_meta::Metadata;
+use icescan_hint_texts::{Hint, quoted};
 use icescan_requests::file_name;
 use icescan_words::Place;
 use std::alloc::{AllocError, Global};
@@ -108,7 +108,7 @@ pub fn add_file_name(
         }
         None if path.starts_with(prefix) => hint.here(
             alloc,
-            format!(in alloc; "the path has a segment `.` or `..` behind the prefix")?,
+            format!(in alloc; "the path has a segment `.` or `..` after the prefix")?,
         ),
         None => {
             let path = quoted(alloc, path)?;

@@ -1,7 +1,7 @@
 //! The words of refusals of plans.
 
-use crate::sentence::{MEMORY, Sentence};
 use ice_state::{FinishFault, ScanFault};
+use icescan_hint_texts::{MEMORY, Sentence};
 
 const NO_SUCH_SPEC: Sentence = Sentence {
     name: "X1 NoSuchSpec",

@@ -8,11 +8,11 @@ use crate::manifest::{of_list, of_manifest};
 use crate::metadata::of_metadata;
 use crate::plan::{of_finish, of_scan};
 use crate::schema::of_schema;
-use crate::sentence::{MEMORY, Sentence};
 use avro_file::AvroFault;
 use ice_manifest_reading::{ListFault, ManifestFault};
 use ice_meta_files::NewestFault;
 use ice_state::FinishFault;
+use icescan_hint_texts::{MEMORY, Sentence};
 use icescan_text::RunFault;
 use std::alloc::{AllocError, Global};
 
@@ -25,11 +25,11 @@ earlier line has the path; or the bundle is empty",
 
 const ABSENT: Sentence = Sentence {
     name: "P2 Absent",
-    wrong: "a file that the table names is not in the bundle, or not below the folder; or its path does not
-begin with the prefix, or has a segment `.` or `..` behind it",
+    wrong: "the path does not begin with the prefix, or has a segment `.` or `..` after it; or no such file is
+below the folder, or in the bundle",
     advice: Some(
-        "look whether the prefix is that of the table's paths, and whether the file was deleted by an
-expiry; plan a newer snapshot",
+        "look whether the prefix is the front of the table's paths, mostly its location, and the folder
+stands for it; where an expiry deleted the file, plan a newer snapshot",
     ),
 };
 
@@ -77,12 +77,20 @@ const WORKERS: Sentence = Sentence {
 
 const WRITE: Sentence = Sentence {
     name: "W1 Write",
-    wrong: "the answer can't be written; the front of it that was written stands. Of a commit: a new file
-can't be put at its place, since the folder is not there or may not be read, another file is, or
-the path is not below the prefix; or the file or its folder can't be synced",
+    wrong: "the answer can't be written; the front of it that was written stands",
     advice: Some(
-        "look at the disk or at the program that reads the answer, and throw the front away. Commit again
-under a new UUID; a commit whose metadata stands at `--out` was made",
+        "look at the disk or at the program that reads the answer, and throw the front away",
+    ),
+};
+
+const NOT_STORED: Sentence = Sentence {
+    name: "W1 Write",
+    wrong: "a new file of the commit can't be put at its place, since the folder is not there or may not be
+read, another file is, or the path is not below the prefix; or the file or its folder can't be
+synced; or the commit was made, and its answer can't be written",
+    advice: Some(
+        "look at the disk, and commit again under a new UUID; a commit whose metadata stands at `--out`
+was made",
     ),
 };
 
@@ -104,9 +112,13 @@ fn of_newest(fault: &NewestFault) -> Sentence {
     }
 }
 
-/// What a refusal says, and what those inside it say, the outermost first. Of words that are not understood nothing is
-/// said: their own text says all.
-pub fn sentences_of(alloc: Global, fault: &RunFault) -> Result<Vec<Sentence>, AllocError> {
+/// What a refusal says, and what those inside it say, the outermost first, of a command that commits or of another. Of
+/// words that are not understood nothing is said: their own text says all.
+pub fn sentences_of(
+    alloc: Global,
+    fault: &RunFault,
+    commits: bool,
+) -> Result<Vec<Sentence>, AllocError> {
     let mut found = Vec::new(alloc);
     match fault {
         RunFault::Words(_) => {}
@@ -124,7 +136,7 @@ pub fn sentences_of(alloc: Global, fault: &RunFault) -> Result<Vec<Sentence>, Al
         RunFault::Prepare(fault) => found.push(of_prepare(fault))?,
         RunFault::Conflict(_) => found.push(CONFLICT)?,
         RunFault::Workers => found.push(WORKERS)?,
-        RunFault::Write => found.push(WRITE)?,
+        RunFault::Write => found.push(if commits { NOT_STORED } else { WRITE })?,
         RunFault::Memory => found.push(MEMORY)?,
     }
     Ok(found)

@@ -1,7 +1,7 @@
 //! The words of refusals of Avro schemas.
 
-use crate::sentence::{MEMORY, Sentence};
 use avro_schema::SchemaFault;
+use icescan_hint_texts::{MEMORY, Sentence};
 
 const NOT_JSON: Sentence = Sentence {
     name: "S1 NotJson",

@@ -1,10 +1,9 @@
 //! What of a table a refusal of its metadata is about.
 
 use crate::case::Case;
-use crate::hint::{Hint, quoted};
-use crate::nearest::add_none_named;
 use ice_desk::Files;
 use ice_meta::{MetaFault, Metadata, Table, Target};
+use icescan_hint_texts::{Hint, add_none_named, quoted};
 use std::alloc::{AllocError, Global};
 
 /// How many ids are told at most.

@@ -4,14 +4,14 @@ ghost use Rattle.icescan_progress.specs.Hints.{AppendsPlain};
 
 use crate::case::Case;
 use crate::columns::add_filter;
-use crate::commits::{add_change_file, add_commit, add_unwritten};
-use crate::hint::{Hint, quoted};
+use crate::commits::{add_change, add_commit, add_unwritten};
 use crate::manifests::{add_list, add_manifest};
 use crate::paths::{add_file_name, add_path};
 use crate::run::sentences_of;
 use crate::tables::{add_metadata, add_specs};
 use ice_desk::Files;
 use ice_state::{FinishFault, ScanFault};
+use icescan_hint_texts::{Hint, quoted};
 use icescan_print::Sink;
 use icescan_progress::put_lines;
 use icescan_text::RunFault;
@@ -37,7 +37,7 @@ fn add_here<F: Files>(
         RunFault::Metadata(fault) => add_metadata(hint, alloc, case, fault),
         RunFault::Filter(fault) => add_filter(hint, alloc, case, *fault),
         RunFault::Locate(_) => add_folder(hint, alloc, case),
-        RunFault::Change(_) => add_change_file(hint, alloc, case),
+        RunFault::Change(fault) => add_change(hint, alloc, case, *fault),
         RunFault::Prepare(fault) => add_commit(hint, alloc, case, fault),
         RunFault::Conflict(path) => add_taken(hint, alloc, case, path.as_str()),
         RunFault::Write => add_unwritten(hint, alloc, case),
@@ -115,8 +115,8 @@ fn hint_of<F: Files>(
     case: &Case<'_, F>,
     fault: &RunFault,
 ) -> Result<Hint, AllocError> {
-    let sentences = sentences_of(alloc, fault)?;
     let mut hint = Hint::new(alloc);
+    let sentences = sentences_of(alloc, fault, case.commit().is_some())?;
     for sentence in sentences.as_slice() {
         hint.say(alloc, sentence)?;
     }

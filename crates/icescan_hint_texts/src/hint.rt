@@ -4,6 +4,12 @@ use crate::sentence::Sentence;
 use contract_words::Text;
 use std::alloc::{AllocError, Global};
 
+/// The most characters of a line that breaks at blanks.
+const WIDTH: usize = 80;
+
+/// How far the lines after the first stand in.
+const MARGIN: usize = 3;
+
 /// The lines of a hint, in their order.
 #[derive(Drop)]
 pub struct Hint {
@@ -29,34 +35,71 @@ impl Hint {
         Ok(())
     }
 
-    /// Adds the lines of a text behind a word that says what they are.
-    fn text(&mut self, alloc: Global, word: &str, text: &str) -> Result<(), AllocError> {
-        let mut lead = word;
-        for line in text.lines() {
-            self.line(format!(in alloc; "  {lead}{line}")?)?;
-            lead = "  ";
+    /// Adds a text after a word that says what it is, in lines that break at blanks. They are as long as a terminal has
+    /// columns, but for a word that is longer.
+    fn text(&mut self, alloc: Global, lead: &str, text: &str) -> Result<(), AllocError> {
+        let mut line = String::from_str(alloc, lead)?;
+        let mut margin = lead.len();
+        let mut used = margin;
+        for word in text.split(' ') {
+            let length = word.chars().count();
+            if used > margin && length >= WIDTH.saturating_sub(used) {
+                let whole = std::mem::replace(&mut line, String::from_str(alloc, "   ")?);
+                self.line(whole)?;
+                margin = MARGIN;
+                used = MARGIN;
+            }
+            line.push(' ')?;
+            line.push_str(word)?;
+            used = used.saturating_add(length).saturating_add(1);
         }
-        Ok(())
+        self.line(line)
     }
 
     /// Adds what a refusal says.
     pub fn say(&mut self, alloc: Global, sentence: &Sentence) -> Result<(), AllocError> {
-        let name = format!(in alloc; "{}: ", sentence.name)?;
-        self.text(alloc, name.as_str(), sentence.wrong)
+        let name = format!(in alloc; "  {}:", sentence.name)?;
+        let wrong = joined(alloc, sentence.wrong)?;
+        self.text(alloc, name.as_str(), wrong.as_str())
     }
 
     /// Adds what to do.
     pub fn advise(&mut self, alloc: Global, sentence: &Sentence) -> Result<(), AllocError> {
         match sentence.advice {
-            Some(advice) => self.text(alloc, "to do: ", advice),
+            Some(advice) => {
+                let advice = joined(alloc, advice)?;
+                self.text(alloc, "  to do:", advice.as_str())
+            }
             None => Ok(()),
         }
     }
 
     /// Adds what of the table or of the words the refusal is about.
     pub fn here(&mut self, alloc: Global, text: String) -> Result<(), AllocError> {
-        self.line(format!(in alloc; "  here: {text}")?)
+        self.tell(alloc, text.as_str())
     }
+
+    /// The same of a text that is lent.
+    pub fn tell(&mut self, alloc: Global, text: &str) -> Result<(), AllocError> {
+        self.text(alloc, "  here:", text)
+    }
+
+    /// Adds what is to be known of an answer.
+    pub fn note(&mut self, alloc: Global, text: String) -> Result<(), AllocError> {
+        self.text(alloc, "note:", text.as_str())
+    }
+}
+
+/// The lines of a text as one, with blanks between them.
+fn joined(alloc: Global, text: &str) -> Result<String, AllocError> {
+    let mut line = String::new(alloc);
+    for part in text.lines() {
+        if !line.is_empty() {
+            line.push(' ')?;
+        }
+        line.push_str(part)?;
+    }
+    Ok(line)
 }
 
 /// A name or a path of the table, or a word of the command line, between backquotes. Control characters that take two

@@ -4,7 +4,7 @@ use crate::hint::Hint;
 use std::alloc::{AllocError, Global};
 
 /// The most characters of a filter that are shown.
-const WIDTH: usize = 90;
+const WIDTH: usize = 72;
 
 /// The character that is shown in place of one that would move the mark.
 fn steady(c: char) -> char {
