@@ -1,16 +1,14 @@
-//! Public calls once more, each under the one clause that its wrong implementations turn, so that the gate can try these
-//! cheaply.
+//! Public calls once more, each under the one clause that its wrong implementation turns, so that the gate can try that
+//! implementation cheaply.
 
-ghost use Rattle.std.specs.Prelude.{◌≡◌, ℕ, List, Some, IfOk, OnOk};
-ghost use Rattle.icescan_requests.specs.GivenPlans.{IsListPlanOfGiven};
+ghost use Rattle.std.specs.Prelude.{◌≡◌, IfOk, OnOk};
+ghost use Rattle.icescan_requests.specs.GivenPlans.{IsPlanOfGivenAt, WrotePlanThat};
 ghost use Rattle.icescan_requests.specs.Plans.{WritesAPlan};
-ghost use Rattle.icescan_requests.specs.Shows.{WroteText, show_of};
 ghost use Rattle.icescan_json.specs.JsonAnswers.{WritesJson};
 ghost use Rattle.icescan_explain.specs.Fates.{file_verdict};
 
-use ice_desk::Files;
+use ice_desk::{Files, Gate};
 use ice_manifest_reading::Live;
-use ice_state::OwnedPlan;
 use icescan_explain::{FilterTests, SpecTests, Verdict};
 use icescan_print::Sink;
 use icescan_text::{Request, RunFault};
@@ -18,58 +16,58 @@ use std::alloc::{AllocError, Global};
 use std::thread::Threads;
 
 /// Writes the text of a plan.
-pub fn write_plan<F: Files, W: Sink>(
+pub fn run_plan_with<R: Threads + Sync, F: Files + Sync, G: Gate + Sync, W: Sink>(
+    rt: &R,
     alloc: Global,
     files: &F,
-    output: &mut W,
     metadata: &[u8],
     request: &Request,
+    workers: usize,
+    gate: &G,
+    output: &mut W,
 ) -> Result<(), RunFault>
     ensures { WritesAPlan result (W.taken output.old) (W.taken output.new) }
 {
-    icescan_requests::run_plan(alloc, files, metadata, request, output)
+    icescan_requests::run_plan_with(rt, alloc, files, metadata, request, workers, gate, output)
 }
 
-/// The plan of a manifest list that a read gave.
-pub fn plan_list<F: Files>(alloc: Global, files: &F, list: &str) -> Result<OwnedPlan, RunFault>
-    ensures { IfOk result (IsListPlanOfGiven (F.gives files.now) list.now) }
-{
-    icescan_requests::plan_list(alloc, files, list)
-}
-
-/// Writes the text of metadata that a read gave.
-pub fn write_metadata<F: Files, W: Sink>(
-    alloc: Global,
-    files: &F,
-    path: &str,
-    output: &mut W,
-) -> Result<(), RunFault>
-    ensures { OnOk result ((metadata : List ℕ) × F.gives files.now path.now (Some metadata)
-        × WroteText (show_of metadata) (W.taken output.old) (W.taken output.new)) }
-{
-    icescan_requests::show_file(alloc, files, path, output)
-}
-
-/// Writes the JSON of a plan, made by one worker.
-pub fn write_json<R: Threads + Sync, F: Files + Sync, W: Sink>(
+/// Writes the text of the plan of bytes that reads gave.
+pub fn plan_file<R: Threads + Sync, F: Files + Sync, W: Sink>(
     rt: &R,
     alloc: Global,
-    output: &mut W,
     files: &F,
     path: &str,
     request: &Request,
+    workers: usize,
+    output: &mut W,
+) -> Result<(), RunFault>
+    ensures { OnOk result (WrotePlanThat (IsPlanOfGivenAt (F.gives files.now) path.now request.now)
+        (W.taken output.old) (W.taken output.new)) }
+{
+    icescan_requests::plan_file(rt, alloc, files, path, request, workers, output)
+}
+
+/// Writes the JSON of a plan.
+pub fn plan_file_json<R: Threads + Sync, F: Files + Sync, W: Sink>(
+    rt: &R,
+    alloc: Global,
+    files: &F,
+    path: &str,
+    request: &Request,
+    workers: usize,
+    output: &mut W,
 ) -> Result<(), RunFault>
     ensures { WritesJson result (W.taken output.old) (W.taken output.new) }
 {
-    icescan_json::plan_file_json(rt, alloc, files, path, request, 1, output)
+    icescan_json::plan_file_json(rt, alloc, files, path, request, workers, output)
 }
 
 /// What becomes of the file of a live entry.
-pub fn verdict_of(
-    live: &Live<'_, '_>,
+pub fn file_verdict(
+    alloc: Global,
     tests: &FilterTests,
     of_spec: &SpecTests,
-    alloc: Global,
+    live: &Live<'_, '_>,
 ) -> Result<Verdict, AllocError>
     ensures { IfOk result (λ verdict. verdict ≡ file_verdict tests.now of_spec.now live.now) }
 {

@@ -6,5 +6,5 @@ mod calls;
 mod given;
 
 pub use answers::{filters_mean_their_texts, what_an_answer_lacks_has_no_match};
-pub use calls::{plan_list, verdict_of, write_json, write_metadata, write_plan};
+pub use calls::{file_verdict, plan_file, plan_file_json, run_plan_with};
 pub use given::plans_of_a_world;

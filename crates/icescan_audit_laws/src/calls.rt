@@ -1,5 +1,5 @@
-//! Public calls once more, each under the one clause that its wrong implementations turn, so that the gate can try these
-//! cheaply.
+//! Public calls once more, each under the one clause that its wrong implementation turns, so that the gate can try that
+//! implementation cheaply.
 
 ghost use Rattle.std.specs.Prelude.{◌≡◌, ◌++◌, IfOk, List, Ok, OnOk, length, ℕ};
 ghost use Rattle.icescan_audit_findings.specs.Findings.{manifest_findings};
@@ -9,7 +9,6 @@ ghost use Rattle.ice_manifest_reading.specs.Tallying.{tallies_of};
 ghost use Rattle.ice_manifest_reading.specs.declared.entry.Live.{Live};
 ghost use Rattle.icescan_audit_findings.specs.Dangling.{delete_findings};
 ghost use Rattle.icescan_audit.specs.AnyFiles.{WritesAnAudit};
-ghost use Rattle.ice_meta.specs.declared.metadata.Target.TheVariants.{Main};
 
 use contract_words::Items;
 use ice_desk::Files;
@@ -22,14 +21,14 @@ use std::alloc::{AllocError, Global};
 use std::thread::Threads;
 
 /// Puts the findings on a manifest and the files of its live entries last, and gives the number of these.
-pub fn audit_entries(
-    findings: &mut Items<Finding>,
-    files: &mut Vec<LiveFile>,
+pub fn audit_manifest(
     alloc: Global,
     basis: &Basis,
-    spec: &Spec,
     row: &Row,
+    spec: &Spec,
     bytes: &[u8],
+    findings: &mut Items<Finding>,
+    files: &mut Vec<LiveFile>,
 ) -> Result<usize, ManifestFault>
     ensures { IfOk result (λ number. (lives : List Live) × (live_of row.now spec.now bytes.now ≡ Ok lives)
         × (number ≡ length lives)
@@ -40,26 +39,28 @@ pub fn audit_entries(
 }
 
 /// Puts the findings last on delete files that name no live data file, and on those that apply to none.
-pub fn audit_deletes(
+pub fn push_delete_findings(
+    alloc: Global,
     findings: &mut Items<Finding>,
     files: &[LiveFile],
-    alloc: Global,
 ) -> Result<(), AllocError>
     ensures { OnOk result (findings.new ≡ findings.old ++ delete_findings files.now) }
 {
     icescan_audit_findings::push_delete_findings(alloc, findings, files)
 }
 
-/// Audits the current snapshot of the table whose metadata is in the file at a path, by one worker.
-pub fn audit_current<R: Threads + Sync, F: Files + Sync, W: Sink>(
+/// Audits a snapshot of the table whose metadata is in the file at a path.
+pub fn audit_file<R: Threads + Sync, F: Files + Sync, W: Sink>(
     rt: &R,
     alloc: Global,
-    output: &mut W,
     files: &F,
     path: &str,
+    target: &Target,
+    workers: usize,
+    output: &mut W,
 ) -> Result<usize, RunFault>
     ensures { (metadata : List ℕ) ×
-        WritesAnAudit (F.gives files.now) metadata Main result (W.taken output.old) (W.taken output.new) }
+        WritesAnAudit (F.gives files.now) metadata target.now result (W.taken output.old) (W.taken output.new) }
 {
-    icescan_audit::audit_file(rt, alloc, files, path, &Target::Main, 1, output)
+    icescan_audit::audit_file(rt, alloc, files, path, target, workers, output)
 }
