@@ -18,8 +18,7 @@ const TEXTS: usize = 1024;
 
 const BYTES: usize = 16_777_216;
 
-/// How many bytes the line of a delete file has at most, where its text is to be kept; longer ones mostly fit too, beside
-/// shorter ones.
+/// How many bytes of room are taken for each delete file of a text. A text that is longer in all is not kept.
 const LINE: usize = 192;
 
 /// The text of the delete files of a plan's line.

@@ -285,8 +285,8 @@ impl<'a> Lines<'a> {
         }
     }
 
-    /// Whether the same delete files apply to two data files. Where they do the answer may still be no, as it is for
-    /// delete files that were put in other lists.
+    /// Whether the same delete files apply to two data files, by the places of these files among all delete files of
+    /// the plan. That it finds all such pairs is no clause: it serves to save work alone.
     pub fn have_same_deletes(&self, i: usize, j: usize) -> bool
         requires first { i < length self.now }
         requires second { j < length self.now }
