@@ -37,16 +37,16 @@ same_name true x name e = absurd cc
 same_name false x name e = cc
 
 -- the one name
-one : (found : List (List ℕ)) (name : List ℕ) → only_name found ≡ Ok name → found ≡ name ∷ []
+pub one : (found : List (List ℕ)) (name : List ℕ) → only_name found ≡ Ok name → found ≡ name ∷ []
 one [] name e = absurd cc
 one (x ∷ []) name e = ap (λ y. y ∷ []) (same_name (is_compressed (metadata_name x)) x name e)
 one (x ∷ y ∷ zs) name e = absurd cc
 
-numbered : (number : ℕ) (n : Option ℕ) → is_number number n ≡ true → n ≡ Some number
+pub numbered : (number : ℕ) (n : Option ℕ) → is_number number n ≡ true → n ≡ Some number
 numbered number None e = absurd cc
 numbered number (Some n) e = let same : n ≡ number = grind (arith, nat_tests) in ap Some same
 
-by_number : (names : List (List ℕ)) (name : List ℕ) (n : Option ℕ) → highest names ≡ n → of_number names n ≡ Ok name
+pub by_number : (names : List (List ℕ)) (name : List ℕ) (n : Option ℕ) → highest names ≡ n → of_number names n ≡ Ok name
     → IsHighest names name
 by_number names name None is e = absurd cc
 by_number names name (Some number) is e =

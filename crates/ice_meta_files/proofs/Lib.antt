@@ -1,2 +1,3 @@
+pub mod Climbing
 pub mod Cuts
 pub mod Highest

@@ -1,5 +1,5 @@
 -- Which of a folder's metadata files is the newest.
-use Rattle.std.specs.Prelude.{◌≡◌, ℕ, ◌+◌, ◌==◌, ◌≤◌, Bool, false, List, [], ◌∷◌, filter, Option, Some, None}
+use Rattle.std.specs.Prelude.{◌≡◌, ℕ, ◌+◌, ◌==◌, ◌≤◌, Bool, true, false, List, [], ◌∷◌, filter, Option, Some, None}
 use Rattle.std.specs.Prelude.{Result, Ok, Err, if◌then◌else◌, nat_lt, option_map}
 use Rattle.std.specs.List.{All, list_any}
 use Rattle.ice_meta_files.specs.MetadataNames.{metadata_name}
@@ -89,3 +89,21 @@ pub record IsHighest (names : List (List ℕ)) (name : List ℕ) : Type 0 where
 abbrev pub IsHighestIf : List (List ℕ) → Option ℕ → List ℕ → Type 0
 IsHighestIf names None name = IsHighest names name
 IsHighestIf names (Some hint) name = Unit {0}
+
+-- ---- with a hint
+
+-- The name is that of a metadata file, it stands once among the names, and its number is the last of those that follow
+-- the hint's one by one: from the hint's on each number is there, and the next one is not.
+pub record IsLastFrom (hint : ℕ) (names : List (List ℕ)) (name : List ℕ) : Type 0 where
+  pub number : ℕ
+  pub has : number_in name ≡ Some number
+  pub alone : filter (has_number number) names ≡ name ∷ []
+  pub reached : hint ≤ number
+  pub each : (n : ℕ) → hint ≤ n → n ≤ number → list_any (has_number n) names ≡ true
+  pub no_next : list_any (has_number (number + 1)) names ≡ false
+
+-- where the hint's number is there, the name is the last from it on; else it has the highest number
+abbrev pub IsByHint : List (List ℕ) → Option ℕ → List ℕ → Type 0
+IsByHint names None name = IsHighest names name
+IsByHint names (Some hint) name = (list_any (has_number hint) names ≡ true → IsLastFrom hint names name)
+    × (list_any (has_number hint) names ≡ false → IsHighest names name)

@@ -6,7 +6,7 @@ ghost use Rattle.contract_words.specs.Outcome.{Gives};
 ghost use Rattle.ice_meta_files.specs.Newest.{climbed, has_number, highest, hinted, larger, newest};
 ghost use Rattle.ice_meta_files.specs.Newest.{next_number, number_in};
 ghost use Rattle.ice_meta_files.specs.MetadataNames.{metadata_name};
-ghost use Rattle.ice_meta_files.specs.Newest.{IsHighestIf, is_compressed, only_name, readable};
+ghost use Rattle.ice_meta_files.specs.Newest.{IsByHint, IsHighestIf, is_compressed, only_name, readable};
 
 use crate::names::metadata_name;
 use crate::newest_fault::NewestFault;
@@ -184,6 +184,7 @@ pub fn newest_metadata(
 ) -> Result<Text, NewestFault>
     ensures gives { Gives NewestFault.Memory (λ name. name) result (newest names.now hint) }
     ensures highest { IfOk result (IsHighestIf names.now hint) }
+    ensures by_hint { IfOk result (IsByHint names.now hint) }
 {
     let name = newest_name(alloc, names, hint)?;
     Ok(name)
