@@ -1,4 +1,3 @@
-pub mod Json
 pub mod WrittenTypes
 pub mod PartitionNames
 pub mod NamesApart

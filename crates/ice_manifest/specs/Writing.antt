@@ -17,7 +17,7 @@ use Rattle.ice_manifest_reading.specs.declared.row.ManifestContent.TheVariants a
 use Rattle.ice_manifest_reading.specs.declared.entry.Entry.{Entry}
 use Rattle.ice_manifest.specs.declared.new_file.NewFile.{NewFile}
 use Rattle.ice_manifest.specs.declared.heading.Heading.{Heading}
-use Rattle.ice_manifest.specs.Json.{set, whole, no_object}
+use Rattle.ice_meta_json.specs.Objects.{set, whole, no_object}
 use Rattle.ice_manifest.specs.PartitionNames.{naming_of}
 use Rattle.ice_manifest.specs.WrittenTypes.{Written, json_of}
 use Rattle.ice_manifest.specs.WrittenSchemas.{list_type, entry_type, partition_fields}

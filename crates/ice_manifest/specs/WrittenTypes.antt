@@ -7,7 +7,7 @@ use Rattle.avro_schema.specs.declared.schema.ArrayKind.TheVariants as stands_for
 use Rattle.avro_schema.specs.declared.schema.BytesKind.TheVariants.{Plain}
 use Rattle.avro_schema.specs.Tree as tree_of
 use Rattle.avro_schema.specs.Tree.{Tree, Fields, null, union, no_branches, branch}
-use Rattle.ice_manifest.specs.Json.{set, whole, no_object}
+use Rattle.ice_meta_json.specs.Objects.{set, whole, no_object}
 
 -- a type that has no attributes
 pub data Word : Type 0 where

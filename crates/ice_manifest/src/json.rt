@@ -4,9 +4,10 @@ ghost use Rattle.std.specs.Prelude.{◌≡◌, IfOk};
 ghost use Rattle.std.specs.Fmt.{signed_decimal};
 ghost use Rattle.serde_json.specs.Data.{string};
 ghost use Rattle.serde_json.specs.View.{view};
-ghost use Rattle.ice_manifest.specs.Json.{whole, set, no_object};
+ghost use Rattle.ice_meta_json.specs.Objects.{whole, set, no_object};
 
-use serde_json::{Map, Value, put};
+use ice_meta_json::set;
+use serde_json::{Map, Value};
 use std::alloc::{AllocError, Global};
 
 /// A number as JSON.
@@ -28,18 +29,6 @@ pub fn no_object(alloc: Global) -> Value
     ensures { view result ≡ no_object }
 {
     Value::from(Map::new(alloc))
-}
-
-/// The object in which a member has this value; what was no object has this member alone.
-pub fn set(alloc: Global, json: Value, name: &str, value: Value) -> Result<Value, AllocError>
-    ensures { IfOk result (λ object. view object ≡ set name.now (view value) (view json)) }
-{
-    let mut members = match json {
-        Value::Object(members) => members,
-        _ => Map::new(alloc),
-    };
-    put(&mut members, alloc, name, value)?;
-    Ok(Value::from(members))
 }
 
 /// The object in which a member has this text.

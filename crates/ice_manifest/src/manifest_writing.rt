@@ -28,7 +28,7 @@ ghost use Rattle.ice_manifest.specs.Writing.{manifest_properties, manifest_bytes
 
 use crate::file_writing::begun;
 use crate::heading::Heading;
-use crate::json::{no_object, set, set_text, whole};
+use crate::json::{no_object, set_text, whole};
 use crate::new_file::NewFile;
 use crate::written_entries::entry_datum;
 use crate::written_schemas::manifest_type;
@@ -36,6 +36,7 @@ use avro_file::{Property, Writer};
 use contract_words::Text;
 use ice_manifest_reading::ManifestContent;
 use ice_meta::{PartitionField, Spec};
+use ice_meta_json::set;
 use serde_json::Value;
 use std::alloc::{AllocError, Global};
 

@@ -7,7 +7,8 @@ ghost use Rattle.ice_manifest.specs.WrittenTypes.{typed_json, logical_json, time
 ghost use Rattle.ice_manifest.specs.WrittenTypes.{array_json, list_json, map_json, structure_json, required_json};
 ghost use Rattle.ice_manifest.specs.WrittenTypes.{or_null as null_or_json, optional_json};
 
-use crate::json::{no_object, set, set_text, text, whole};
+use crate::json::{no_object, set_text, text, whole};
+use ice_meta_json::set;
 use serde_json::Value;
 use std::alloc::{AllocError, Global};
 
