@@ -1,6 +1,6 @@
 -- What is kept stays under its number.
 use Rattle.std.proofs.Common.{◌≡◌, ℕ, ◌+◌, ◌<◌, List, [], ◌∷◌, ◌++◌, length, slice_index_or, refl, sym, ap, ◌∙◌}
-use Rattle.std.proofs.Common.{subst, arith, add-one, length-append}
+use Rattle.std.proofs.Common.{subst, arith, add-one, length-append, inl, inr}
 use Rattle.std.specs.Prelude.{take, Result, Ok, Err, IfOk, OnErr}
 use Rattle.std.proofs.Math.ListN.{get_or-append}
 use Rattle.std.proofs.Math.Seq.{get_or-append_seam, take-suc}
@@ -14,7 +14,7 @@ use Rattle.ice_state_entries.specs.Kept.{HasKnownPaths}
 use Rattle.ice_state_entries.specs.Keeping.{kept_of, HasAllOf}
 use Rattle.ice_state_entries.specs.Own.{Row}
 use Rattle.ice_state_entries.specs.Sharing.{entry_in, HasShared, IsWithin, KeepsShared}
-use Rattle.ice_state_entries.specs.Tables.{Rows, IsIn, row_at, no_row, Puts, HasOwnPaths, HasKnownPaths as KnownRows}
+use Rattle.ice_state_entries.specs.Tables.{Rows, IsIn, row_at, no_row, Has, Puts, HasOwnPaths, HasKnownPaths as KnownRows}
 use Rattle.ice_state_entries.proofs.Lists.{all_at, all_push, all_weaker, map_same}
 use Rattle.ice_state_entries.proofs.Growing.{entry_in-keeps, entries-keep, all_within-keeps}
 
@@ -49,12 +49,19 @@ kept_of-keeps s t rows keeps all = λ i. record {
   clashes = entries-keep s t rows.clashes keeps all.1 i;
 }
 
-pub has_all-put : (s : Shared) (rows : Rows) (number : EntryNumber) (row : Row) (new : Rows) →
+has_all-puts : (s : Shared) (rows : Rows) (number : EntryNumber) (row : Row) (new : Rows) →
     Puts rows number row new → HasAllOf s rows → IsWithin s row.1 → HasAllOf s new
-has_all-put s rows (First n) row new puts all within =
+has_all-puts s rows (First n) row new puts all within =
     subst (HasAllOf s) (sym puts.1) (all_push (HasShared s) rows.records row all.0 within, all.1)
-has_all-put s rows (Further n) row new puts all within =
+has_all-puts s rows (Further n) row new puts all within =
     subst (HasAllOf s) (sym puts.1) (all.0, all_push (HasShared s) rows.clashes row all.1 within)
+
+pub has_all-put : (s : Shared) (rows : Rows) (number : EntryNumber) (row : Row) (new : Rows) →
+    Has rows number row new → HasAllOf s rows → IsWithin s row.1 → HasAllOf s new
+has_all-put s rows number row new has all within = elim has [
+  | inl there ↦ subst (HasAllOf s) (sym there.2) all
+  | inr puts ↦ has_all-puts s rows number row new puts all within
+]
 
 -- the row of a number
 abbrev IsRowAt : Rows → EntryNumber → Row → Type 0
@@ -73,25 +80,39 @@ pushed_last rows row n last = (
 )
 
 -- what was in is in still, and the new row too
-stays : (rows : Rows) (number : EntryNumber) (row : Row) (new : Rows) → Puts rows number row new →
+stays_put : (rows : Rows) (number : EntryNumber) (row : Row) (new : Rows) → Puts rows number row new →
     (n : EntryNumber) → IsIn rows n → IsRowAt new n (row_at rows n)
-stays rows (First k) row new puts (First n) within =
+stays_put rows (First k) row new puts (First n) within =
     subst (λ (r : Rows). IsRowAt r (First n) (row_at rows (First n))) (sym puts.1)
     (push_keeps rows.records row n within)
-stays rows (First k) row new puts (Further n) within =
+stays_put rows (First k) row new puts (Further n) within =
     subst (λ (r : Rows). IsRowAt r (Further n) (row_at rows (Further n))) (sym puts.1) (within, refl)
-stays rows (Further k) row new puts (First n) within =
+stays_put rows (Further k) row new puts (First n) within =
     subst (λ (r : Rows). IsRowAt r (First n) (row_at rows (First n))) (sym puts.1) (within, refl)
-stays rows (Further k) row new puts (Further n) within =
+stays_put rows (Further k) row new puts (Further n) within =
     subst (λ (r : Rows). IsRowAt r (Further n) (row_at rows (Further n))) (sym puts.1)
     (push_keeps rows.clashes row n within)
 
-pub put_in : (rows : Rows) (number : EntryNumber) (row : Row) (new : Rows) → Puts rows number row new →
+stays : (rows : Rows) (number : EntryNumber) (row : Row) (new : Rows) → Has rows number row new →
+    (n : EntryNumber) → IsIn rows n → IsRowAt new n (row_at rows n)
+stays rows number row new has n within = elim has [
+  | inl there ↦ subst (λ (r : Rows). IsRowAt r n (row_at rows n)) (sym there.2) (within, refl)
+  | inr puts ↦ stays_put rows number row new puts n within
+]
+
+last_in : (rows : Rows) (number : EntryNumber) (row : Row) (new : Rows) → Puts rows number row new →
     IsRowAt new number row
-put_in rows (First k) row new puts =
+last_in rows (First k) row new puts =
     subst (λ (r : Rows). IsRowAt r (First k) row) (sym puts.1) (pushed_last rows.records row k puts.0)
-put_in rows (Further k) row new puts =
+last_in rows (Further k) row new puts =
     subst (λ (r : Rows). IsRowAt r (Further k) row) (sym puts.1) (pushed_last rows.clashes row k puts.0)
+
+pub put_in : (rows : Rows) (number : EntryNumber) (row : Row) (new : Rows) → Has rows number row new →
+    IsRowAt new number row
+put_in rows number row new has = elim has [
+  | inl there ↦ subst (λ (r : Rows). IsRowAt r number row) (sym there.2) (there.0, there.1)
+  | inr puts ↦ last_in rows number row new puts
+]
 
 pub keeps_same : (a b : Kept) → b ≡ a → Keeps a b
 keeps_same a b same n kept = (subst (λ (k : Kept). IsKept k n) (sym same) kept, ap (λ (k : Kept). entry_at k n) same)
@@ -101,7 +122,7 @@ pub keeps_grown : (s t : Shared) (rows : Rows) → KeepsShared s t → HasAllOf 
 keeps_grown s t rows keeps all = keeps_same (kept_of s rows) (kept_of t rows) (kept_of-keeps s t rows keeps all)
 
 pub keeps_put : (s t : Shared) (rows : Rows) (number : EntryNumber) (row : Row) (new : Rows) →
-    KeepsShared s t → HasAllOf s rows → Puts rows number row new → Keeps (kept_of s rows) (kept_of t new)
+    KeepsShared s t → HasAllOf s rows → Has rows number row new → Keeps (kept_of s rows) (kept_of t new)
 keeps_put s t rows number row new keeps all puts n kept =
     let within = in_rows s rows n kept in
     let still = stays rows number row new puts n within in (
@@ -112,7 +133,7 @@ keeps_put s t rows number row new keeps all puts n kept =
     )
 
 pub put_kept : (t : Shared) (rows : Rows) (number : EntryNumber) (row : Row) (new : Rows) →
-    Puts rows number row new → IsKept (kept_of t new) number × (entry_at (kept_of t new) number ≡ entry_in t row)
+    Has rows number row new → IsKept (kept_of t new) number × (entry_at (kept_of t new) number ≡ entry_in t row)
 put_kept t rows number row new puts =
     let here = put_in rows number row new puts in
     (is_kept t new number here.0, entry_at-row t new number here.0 ∙ ap (entry_in t) here.1)
@@ -146,7 +167,7 @@ paths_known s rows known n within =
 
 -- a row is put, or memory is refused
 pub put_or_refused : {E : Type 0} (s t : Shared) (rows new : Rows) (row : Row) (r : Result EntryNumber E) →
-    KeepsShared s t → HasAllOf s rows → IsWithin t row.1 → IfOk r (λ number. Puts rows number row new) →
+    KeepsShared s t → HasAllOf s rows → IsWithin t row.1 → IfOk r (λ number. Has rows number row new) →
     OnErr r (new ≡ rows) → HasAllOf t new × Keeps (kept_of s rows) (kept_of t new)
 put_or_refused s t rows new row (Ok number) keeps all within puts same = (
   has_all-put t rows number row new puts (has_all-keeps s t rows keeps all) within,

@@ -1,5 +1,5 @@
 -- Records with their paths: the first one of each path, and the further ones.
-use Rattle.std.specs.Prelude.{◌≡◌, ◌≢◌, ℕ, ◌<◌, ◌++◌, List, [], ◌∷◌, length, map, slice_index_or, None, pos}
+use Rattle.std.specs.Prelude.{◌≡◌, ◌≢◌, ℕ, ◌<◌, ◌++◌, List, [], ◌∷◌, length, map, slice_index_or, None, pos, ◌⊎◌}
 use Rattle.std.specs.List.{AllByRecursion}
 use Rattle.path_arena.specs.Arena.{string}
 use Rattle.ice_state_entries.specs.declared.entries.EntryNumber.{EntryNumber}
@@ -54,6 +54,10 @@ Puts old (First n) row new =
     (n ≡ length old.records) × (new ≡ record { records = old.records ++ row ∷ []; clashes = old.clashes })
 Puts old (Further n) row new =
     (n ≡ length old.clashes) × (new ≡ record { records = old.records; clashes = old.clashes ++ row ∷ [] })
+
+-- the row has this number already, or is put last by it
+abbrev pub Has : Rows → EntryNumber → Row → Rows → Type 0
+Has old number row new = (IsIn old number × (row_at old number ≡ row) × (new ≡ old)) ⊎ Puts old number row new
 
 -- no two records but the further ones have a path in common
 abbrev pub HasOwnPaths : Rows → Type 0

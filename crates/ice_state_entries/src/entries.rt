@@ -20,7 +20,7 @@ use std::marker::Model;
 pub enum EntryNumber {
     /// The first entry of its path.
     Record(u32),
-    /// A further entry of a path that was known.
+    /// A further entry of a path that was known, which is not the same.
     Clash(u32),
 }
 
@@ -143,7 +143,9 @@ impl Entries {
         self.table.each_path_once();
     }
 
-    /// Keeps an entry, as a clash if its path is known. A refusal, for want of memory, forgets none that was kept.
+    /// Keeps an entry, as a clash if its path is that of another one. The same one again gets the number that it has, so
+    /// that what a refused call kept is found when the call is repeated. A refusal, for want of memory, forgets none that
+    /// was kept.
     pub fn add(&mut self, entry: &LentEntry<'_>) -> Result<EntryNumber, AllocError>
         requires { HasShortPaths entry.now }
         ensures keeps { Keeps self.old self.new }

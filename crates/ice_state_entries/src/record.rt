@@ -54,6 +54,20 @@ impl Model for Record {
     } };
 }
 
+impl Record {
+    /// Whether another record is the same.
+    pub(crate) fn is_same(&self, other: &Record) -> bool
+        ensures { IsTrue result → self.now ≡ other.now }
+    {
+        self.position == other.position
+            && self.record_count == other.record_count
+            && self.file_size == other.file_size
+            && self.common == other.common
+            && self.origin == other.origin
+            && self.referenced == other.referenced
+    }
+}
+
 /// What entries share: what they have in common, the commits that they came from, and the paths that position deletes
 /// name.
 #[derive(Drop)]

@@ -1,7 +1,7 @@
 //! Records by the numbers of their paths.
 
 ghost use Rattle.std.specs.Prelude.{◌≡◌, ◌+◌, ◌<◌, ◌≤◌, ◌^◌, ◌++◌, ◌∷◌, [], length, IfOk, OnErr};
-ghost use Rattle.ice_state_entries.specs.Tables.{no_rows, IsIn, row_at, Puts, HasOwnPaths, HasKnownPaths};
+ghost use Rattle.ice_state_entries.specs.Tables.{no_rows, IsIn, row_at, Has, HasOwnPaths, HasKnownPaths};
 
 use crate::entries::EntryNumber;
 use crate::paths::Paths;
@@ -87,10 +87,11 @@ impl Table {
         self.paths.reserve(records, bytes)
     }
 
-    /// Puts a record last, with its path: among the further ones if the path is known.
+    /// Puts a record last, with its path: among the further ones if the path is known. Where the path's first record is
+    /// the same, that one stands for it, so that what a refused call put is found when the call is repeated.
     pub(crate) fn put(&mut self, path: &[u8], own: Record) -> Result<EntryNumber, AllocError>
         requires { length path.now ≤ 65535 }
-        ensures ok { IfOk result (λ number. Puts self.old number (path.now, own) self.new) }
+        ensures ok { IfOk result (λ number. Has self.old number (path.now, own) self.new) }
         ensures err { OnErr result (self.new ≡ self.old) }
     {
         // Room comes first, so that a new path is never without its record.
@@ -98,6 +99,9 @@ impl Table {
         let id = self.paths.intern(path)?;
         if id.place() as usize == self.records.len() {
             self.records.push_reserved(own);
+            return Ok(EntryNumber::Record(id.place()));
+        }
+        if self.records[id.place() as usize].is_same(&own) {
             return Ok(EntryNumber::Record(id.place()));
         }
         let number = push_clash(&mut self.clashes, Clash { path: id, own })?;
