@@ -8,6 +8,7 @@ pub mod Filtered
 pub mod Filters
 pub mod FoundPlaces
 pub mod Gains
+pub mod Held
 pub mod Gaps
 pub mod Hits
 pub mod JoinedIndexes

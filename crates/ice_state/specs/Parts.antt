@@ -15,6 +15,7 @@ use Rattle.ice_filter.specs.declared.parts.Part.{Part}
 use Rattle.ice_project.specs.Files.{file_may}
 use Rattle.ice_project.specs.Projection.{projection}
 use Rattle.ice_project.specs.Tuples.{part_meets}
+use Rattle.ice_project.specs.declared.part_filter.PartFilter.{PartFilter}
 use Rattle.ice_manifest_fields.specs.declared.fault.ManifestFault.{ManifestFault}
 use Rattle.ice_manifest_reading.specs.declared.row.Row.{Row}
 use Rattle.ice_manifest_reading.specs.Manifests.{live_of}
@@ -67,6 +68,11 @@ reading_by f row bytes = reading (pruner_by f) (live_of row f.spec bytes)
 -- specs in the order of their ids
 abbrev pub AreById : List Spec → Type 0
 AreById specs = IsSortedBy id_before specs
+
+-- a projection that is held is that of the filter through the spec at its place
+abbrev pub AreProjected : List (Part BoundPredicate) → List Spec → List (Option PartFilter) → Type 0
+AreProjected parts specs held = (i : ℕ) (spec : Spec) (part : PartFilter) → slice_get specs i ≡ Some spec →
+    slice_get held i ≡ Some (Some part) → part ≡ projection parts spec
 
 -- this spec, where it has the id
 abbrev pub if_of : ℤ → Option Spec → Option Spec

@@ -138,13 +138,7 @@ impl Partial {
             (RanOut result → ⊥) → self.new ≡ content world scan.now (add ts i) }
     {
         if self.is_taken(i) {
-            return read_told(
-                self.alloc,
-                &scan.wanted()[i],
-                scan.filter_of(i).spec(),
-                tell,
-                bytes,
-            );
+            return read_told(self.alloc, &scan.wanted()[i], scan.spec(i), tell, bytes);
         }
         self.take_new(scan, i, bytes, tell)?
     }
@@ -170,7 +164,7 @@ impl Partial {
         ensures memory { IfOk result (λ told. RanOut told → ⊥) }
     {
         let row = &scan.wanted()[i];
-        let filter = scan.filter_of(i);
+        let filter = scan.filter_of(self.alloc, i)?;
         let TakenTold { taken, told } = take_manifest(
             self.alloc,
             &mut self.entries,

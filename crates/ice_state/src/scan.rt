@@ -7,6 +7,7 @@ ghost use Rattle.ice_state.specs.Pruning.{pruner_of};
 ghost use Rattle.ice_state.specs.Scans.{by_row_path, without_spec, wanted_rows};
 
 pub mod pruning;
+pub mod room;
 
 use crate::fault::ScanFault;
 use crate::scan::pruning::{Pruning, SpecFilter};
@@ -51,10 +52,10 @@ impl Scan {
     ) -> Result<Scan, ScanFault>
         ensures { Gives ScanFault.Memory (λ scan. scan) result (scan_of rows.items specs.items filter.parts) }
     {
-        let pruning = Pruning::new(alloc, specs, filter)?;
+        let mut pruning = Pruning::new(alloc, specs, filter)?;
         sort_by_path(&mut rows)?;
         check_specs(&rows, &pruning)?;
-        let wanted = wanted(alloc, rows, &pruning)?;
+        let wanted = wanted(alloc, rows, &mut pruning)?;
         Ok(Scan { wanted, pruning })
     }
 
@@ -72,14 +73,26 @@ impl Scan {
         self.wanted == other.wanted
     }
 
-    /// What the manifest of the wanted row `i` is read by.
-    pub(crate) fn filter_of(&self, i: usize) -> SpecFilter<'_>
+    /// The spec of the wanted row `i`.
+    pub(crate) fn spec(&self, i: usize) -> &Spec
         requires { i < length self.now.wanted }
-        ensures spec { spec_at self.now i ≡ Some result.spec }
-        ensures filter { result.filter ≡ self.now.filter }
+        ensures { spec_at self.now i ≡ Some result.now }
     {
-        match self.pruning.of_row(&self.wanted[i]) {
-            Some(filter) => filter,
+        match self.pruning.spec_of_row(&self.wanted[i]) {
+            Some(spec) => spec,
+            None => unreachable!(),
+        }
+    }
+
+    /// What the manifest of the wanted row `i` is read by.
+    pub(crate) fn filter_of(&self, alloc: Global, i: usize) -> Result<SpecFilter<'_>, AllocError>
+        requires { i < length self.now.wanted }
+        ensures spec { IfOk result (λ by. spec_at self.now i ≡ Some by.spec) }
+        ensures filter { IfOk result (λ by. by.filter ≡ self.now.filter) }
+    {
+        let found = self.pruning.of_row(alloc, &self.wanted[i])?;
+        match found {
+            Some(filter) => Ok(filter),
             None => unreachable!(),
         }
     }
@@ -94,13 +107,14 @@ fn sort_by_path(rows: &mut Vec<Row>) -> Result<(), AllocError>
 }
 
 /// Those of the rows that are wanted.
-fn wanted(alloc: Global, rows: Vec<Row>, pruning: &Pruning) -> Result<Vec<Row>, AllocError>
-    ensures { IfOk result (λ wanted. wanted.items
-        ≡ wanted_rows (pruner_of pruning.now.filter pruning.now.specs) rows.items) }
+fn wanted(alloc: Global, rows: Vec<Row>, pruning: &mut Pruning) -> Result<Vec<Row>, AllocError>
+    ensures wanted { IfOk result (λ wanted. wanted.items
+        ≡ wanted_rows (pruner_of pruning.old.filter pruning.old.specs) rows.items) }
+    ensures same { pruning.new ≡ pruning.old }
 {
     let mut wanted = Vec::new(alloc);
     'rows: for row in rows {
-        if pruning.wants(&row) {
+        if pruning.wants(alloc, &row)? {
             wanted.push(row)?;
         }
     }
@@ -113,7 +127,7 @@ fn check_specs(rows: &[Row], pruning: &Pruning) -> Result<(), ScanFault>
         (λ f. NamesFirst f (without_spec pruning.now.specs rows.now)) }
 {
     'rows: for row in rows {
-        if pruning.of_row(row).is_none() {
+        if pruning.spec_of_row(row).is_none() {
             return Err(ScanFault::NoSuchSpec(row.spec_id));
         }
     }

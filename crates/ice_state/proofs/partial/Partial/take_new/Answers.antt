@@ -23,7 +23,7 @@ invariant_of-self g c = state_kept c.self.inside.entries c.take_manifest.new.ent
 
 pub returns-in_err-taken-clause-err : goal.returns-in_err-taken-clause-err
 returns-in_err-taken-clause-err g c =
-    let p = err_from_is_err_and c.from_residual.result c.from_residual.ensures.1 in
+    let p = err_from_is_err_and c.from_residual-in_err-taken.result c.from_residual-in_err-taken.ensures.1 in
     rw p.1 (contents-kept c.self.inside.entries c.take_manifest.new.entries c.take_manifest.ensures.keeps
     c.self.inside.slots.items c.self.invariant.numbers ∙ c.self.view_is)
 
@@ -79,8 +79,8 @@ returns-clause-ok g c =
     c.wanted.ensures in
     let new = c.take_manifest.new.entries in
     let step = with_row-took c.args.scan.now c.args.self.now c.args.scan.now.wanted c.args.i c.args.bytes.now
-    c.index-wanted-i.result c.filter_of-filter.result c.filter_of-filter.ensures.filter c.requires.row row
-    c.filter_of-filter.ensures.spec in
+    c.index-wanted-i.result c.in_ok-filter.filter c.in_ok-filter.ensures.filter c.requires.row row
+    c.in_ok-filter.ensures.spec in
     c.put_row.ensures.row new
     ∙ ap (λ (s : Content). with_row s c.args.i (given new c.in_ok-taken.field-0.taken))
     (contents-kept c.self.inside.entries new c.take_manifest.ensures.keeps c.self.inside.slots.items c.self.invariant.numbers
@@ -92,5 +92,5 @@ returns-clause-told g c = λ row at.
     let here = c.index-wanted-i.is ∙ ap (λ (rs : List Row). get_or rs c.args.i c.index-wanted-i.result)
     c.wanted.ensures in
     c.in_ok-taken.ensures.told ∙ ap (told_of (g.T.Tell.told c.args.tell.now))
-    (sym (manifest_is c.args.scan.now c.args.i row c.index-wanted-i.result c.filter_of-filter.result.spec
-    c.args.bytes.now at here c.filter_of-filter.ensures.spec))
+    (sym (manifest_is c.args.scan.now c.args.i row c.index-wanted-i.result c.in_ok-filter.filter.spec
+    c.args.bytes.now at here c.in_ok-filter.ensures.spec))

@@ -13,7 +13,8 @@ unreachable-requires c =
     let row = c.index.result.now in
     let in_rows : c.args.i < length rows = omega (arith, ap (λ (s : Scanned). length s.wanted) c.self.view_is) in
     let there = has_spec pruning.specs rows c.args.i row in_rows c.index.ensures c.self.invariant in
-    let none = found_none pruning.filter (spec_of pruning.specs row.spec_id) (sym c.of_row.ensures ∙ c.in-None.is) in
+    let none = found_none pruning.filter (spec_of pruning.specs row.spec_id)
+    (sym c.in_ok-found.ensures ∙ c.in-None.is) in
     let e : true ≡ false = sym none ∙ there in
     cc
 
@@ -25,4 +26,5 @@ returns-clause-spec c =
     let in_rows : c.args.i < length rows = omega (arith, ap (λ (s : Scanned). length s.wanted) c.self.view_is) in
     ap (λ (s : Scanned). spec_at s c.args.i) (sym c.self.view_is)
     ∙ spec_at-row pruning.specs rows c.args.i row in_rows c.index.ensures
-    ∙ found_by pruning.filter (spec_of pruning.specs row.spec_id) c.in-Some.filter (sym c.of_row.ensures ∙ c.in-Some.is)
+    ∙ found_by pruning.filter (spec_of pruning.specs row.spec_id) c.in-Some.filter
+    (sym c.in_ok-found.ensures ∙ c.in-Some.is)
