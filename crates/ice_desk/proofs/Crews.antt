@@ -22,7 +22,7 @@ use Rattle.ice_desk.specs.Plans.{AreServed}
 use Rattle.ice_desk.specs.Seats.{IsFresh, IsSeatOf, drawn_in, had_done, hand_of, limit_of, marked_in, seen_in}
 use Rattle.ice_desk.specs.Tickets.{times}
 use Rattle.ice_desk.specs.Wanted.{untaken}
-use Rattle.ice_desk.specs.Works.{AtLeast, Lacks, MayFailAt, Worked, had_seen, missed}
+use Rattle.ice_desk.specs.Works.{AtLeast, IsTicketOf, Lacks, MayFailAt, Worked, had_seen, missed}
 use Rattle.ice_desk.proofs.Taking.{none_untaken}
 use Rattle.ice_desk.proofs.Works.{miss, miss_at, missed_less, or_more}
 
@@ -83,10 +83,10 @@ served_alone world may_fail desk scan old new before after left fresh none seat 
       (λ taken. taken)
       (w.marked i (omega (arith, some, sum_by-cons (λ (s : Seat). times i (hand_of s).marked) new [])));
   small = omega (arith, small);
-  absent = λ some. let at = some_of (λ t. Lacks world scan (t % desk.manifests)) w.tickets left.absent w.absent some in
-      (at.0 % desk.manifests, at.1);
-  device = λ some. let at = some_of (λ t. MayFailAt may_fail scan (t % desk.manifests)) w.tickets left.device w.device
-      some in (at.0 % desk.manifests, at.1);
+  absent = λ some. let at = some_of (IsTicketOf desk (Lacks world scan)) w.tickets left.absent w.absent some in
+      (at.0 % desk.manifests, at.1.1);
+  device = λ some. let at = some_of (IsTicketOf desk (MayFailAt may_fail scan)) w.tickets left.device w.device some in
+      (at.0 % desk.manifests, at.1.1);
 }
   where
     one_is : (P : Seat → Type 0) → P new → All P (new ∷ [])

@@ -113,6 +113,23 @@ reads_none (s ∷ ss) [] (suc i) l = untaken_none (drop i ss)
 reads_none [] (r ∷ rows) (suc i) l = refl
 reads_none (s ∷ ss) (r ∷ rows) (suc i) l = reads_none ss rows i (omega arith)
 
+-- where no row is left, none is left from a row on
+pub none_from : (c : Content) (rows : List Row) (i : ℕ) → untaken c rows ≡ [] → untaken (drop i c) (drop i rows) ≡ []
+none_from c rows zero h = h
+none_from [] [] (suc i) h = refl
+none_from [] (r ∷ rows) (suc i) h = refl
+none_from (s ∷ ss) [] (suc i) h = untaken_none (drop i ss)
+none_from (Some x ∷ ss) (r ∷ rows) (suc i) h = none_from ss rows i h
+none_from (None ∷ ss) (r ∷ rows) (suc i) h = absurd cc
+
+-- where none is left, no row is read
+pub no_read : (c : Content) (rows : List Row) (i : ℕ) (row : Row) → length c ≡ length rows → i < length rows
+    → row ≡ get_or rows i row → is_row_taken c i ≡ false → untaken c rows ≡ [] → ⊥
+no_read c rows i row e l h t none =
+    let next : row ∷ untaken (drop (suc i) c) (drop (suc i) rows) ≡ [] =
+    sym (reads_next c rows i row e l h t) ∙ none_from c rows i none in
+    absurd cc
+
 -- the bytes at the path of the row that stands at i
 pub has_bytes : (world : World) (rows : List Row) (i : ℕ) (row : Row) (bytes : List ℕ) → i < length rows
     → row ≡ get_or rows i row → world row.path ≡ Some bytes → HasBytesAt world rows i bytes

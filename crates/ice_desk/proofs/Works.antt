@@ -5,7 +5,7 @@ use Rattle.std.proofs.Common.{Some, sym, refl, ap, ◌∙◌, subst, arith, appe
 use Rattle.std.proofs.lemmas.Bool.{cases_lt, cases_eq, le-ltb, lt-ltb, ltb-true}
 use Rattle.std.proofs.lemmas.Nat.{mod_below}
 use Rattle.std.proofs.lemmas.List.{length-append, length-set}
-use Rattle.std.proofs.lemmas.List.Sums.{sum_by-cons, sum_by_push}
+use Rattle.std.proofs.lemmas.List.Sums.{count_by-le-length, sum_by-cons, sum_by_push}
 use Rattle.ice_manifest_reading.specs.declared.row.Row.{Row}
 use Rattle.ice_state.specs.Contents.{Content, World, IsOf, add, is_row_taken, took, took_at}
 use Rattle.ice_state.specs.Scans.{Scanned}
@@ -20,7 +20,7 @@ use Rattle.ice_desk.specs.Left.{all_left, counted, failed}
 use Rattle.ice_desk.specs.Tickets.{times, drawing, marking, seeing}
 use Rattle.ice_desk.specs.Seats.{hand_of, limit_of, Claims}
 use Rattle.ice_desk.specs.Wanted.{IsContentOf}
-use Rattle.ice_desk.specs.Works.{AtLeast, IsPathAt, Lacks, MayFailAt, Serves, Worked, had_seen}
+use Rattle.ice_desk.specs.Works.{AtLeast, IsPathAt, IsTicketOf, Lacks, MayFailAt, Serves, Worked, had_seen}
 use Rattle.ice_desk.specs.Works.{missed}
 use Rattle.ice_desk.proofs.Keeps.{times_more}
 use Rattle.ice_desk.proofs.Taking.{taken_before, taken_here, took_length}
@@ -78,6 +78,13 @@ miss_one true false = omega arith
 miss_none : (a : Bool) → miss a true ≡ 0
 miss_none false = refl
 miss_none true = refl
+
+-- one for a ticket, none for another number
+abbrev ticket_at : Desk → ℕ → ℕ
+ticket_at desk t = cond (nat_lt t (limit_of desk)) 1 0
+
+is_one : (desk : Desk) (t : ℕ) → t < limit_of desk → ticket_at desk t ≡ 1
+is_one desk t ticket = ap (λ b. cond b 1 0) (lt-ltb t (limit_of desk) ticket)
 
 abbrev pub miss_at : Desk → (ℕ → Bool) → ℕ → ℕ
 miss_at desk so t = miss (nat_lt t (limit_of desk)) (so (t % desk.manifests))
@@ -139,22 +146,29 @@ module _ (world : Option World) (may_fail : List ℕ → Type 0) (desk : Desk) (
     marks : (j : ℕ) → 0 < times j (hand_of new).marked
         → (0 < times j (hand_of mid).marked) ⊎ IsTrue (is_row_taken after j)
 
+  abbrev seen_by : Seat → ℕ → Type 0
+  seen_by seat = IsTicketOf desk (λ i. IsTrue (had_seen seat i))
+
   -- why the tickets were left
   record Causes (new : Seat) (ts : List ℕ) (left : Left) : Type 0 where
-    absent : AtLeast (λ t. Lacks world scan (t % desk.manifests)) ts left.absent
-    device : AtLeast (λ t. MayFailAt may_fail scan (t % desk.manifests)) ts left.device
-    seen : AtLeast (λ t. IsTrue (had_seen new (t % desk.manifests))) ts left.marked
+    absent : AtLeast (IsTicketOf desk (Lacks world scan)) ts left.absent
+    device : AtLeast (IsTicketOf desk (MayFailAt may_fail scan)) ts left.device
+    seen : AtLeast (seen_by new) ts left.marked
+
+  -- what was seen marked is still seen
+  still_seen : (mid new : Seat) (ts : List ℕ) (k : ℕ) → ((j : ℕ) → IsTrue (had_seen mid j) → IsTrue (had_seen new j))
+      → AtLeast (seen_by mid) ts k → AtLeast (seen_by new) ts k
+  still_seen mid new ts k saw is =
+      at_least_weaker (seen_by mid) (seen_by new) (λ u was. (was.0, saw (u % desk.manifests) was.1)) ts k is
 
   -- the causes so far stand with one more number
   causes_more : (mid new : Seat) (taken after : Content) (left : Left) (t : ℕ) (w : Did mid taken left)
       → Drew mid new after t → Causes new (w.tickets ++ t ∷ []) left
   causes_more mid new taken after left t w drew = record {
-    absent = at_least_more (λ t. Lacks world scan (t % desk.manifests)) w.tickets left.absent t w.absent;
-    device = at_least_more (λ t. MayFailAt may_fail scan (t % desk.manifests)) w.tickets left.device t w.device;
-    seen = at_least_more (λ t. IsTrue (had_seen new (t % desk.manifests))) w.tickets left.marked t
-        (at_least_weaker (λ t. IsTrue (had_seen mid (t % desk.manifests)))
-        (λ t. IsTrue (had_seen new (t % desk.manifests))) (λ u was. drew.saw (u % desk.manifests) was) w.tickets
-        left.marked w.seen);
+    absent = at_least_more (IsTicketOf desk (Lacks world scan)) w.tickets left.absent t w.absent;
+    device = at_least_more (IsTicketOf desk (MayFailAt may_fail scan)) w.tickets left.device t w.device;
+    seen = at_least_more (seen_by new) w.tickets left.marked t (still_seen mid new w.tickets left.marked drew.saw
+        w.seen);
   }
 
   -- one more number t, after which the worker stands so
@@ -165,7 +179,8 @@ module _ (world : Option World) (may_fail : List ℕ → Type 0) (desk : Desk) (
       → ((j : ℕ) → IsTrue (is_row_taken after j) → IsTrue (is_row_taken taken j) ⊎
       ((t < limit_of desk) × (t % desk.manifests ≡ j)))
       → Keeps taken after
-      → miss_at desk (taken_in after) t + all_left left ≤ all_left left' → all_left left' ≤ all_left left + 1
+      → miss_at desk (taken_in after) t + all_left left ≤ all_left left'
+      → all_left left' ≤ all_left left + ticket_at desk t
       → miss_at desk (met after new) t + failed left ≤ failed left'
       → Causes new (w.tickets ++ t ∷ []) left'
       → Did new after left'
@@ -196,7 +211,7 @@ module _ (world : Option World) (may_fail : List ℕ → Type 0) (desk : Desk) (
       w.unseen,
       unseen,
     );
-    few = omega (arith, few, w.few, length-append w.tickets (t ∷ []));
+    few = omega (arith, few, w.few, sum_by_push (ticket_at desk) w.tickets t);
     absent = causes.absent;
     device = causes.device;
     seen = causes.seen;
@@ -238,8 +253,8 @@ module _ (world : Option World) (may_fail : List ℕ → Type 0) (desk : Desk) (
     few = w.few;
     absent = w.absent;
     device = w.device;
-    seen = subst (λ (v : Hand). AtLeast (λ t. IsTrue (nat_lt 0 (times (t % desk.manifests) v.seen))) w.tickets
-        left.marked) (sym is) w.seen;
+    seen = still_seen mid new w.tickets left.marked
+        (λ j was. subst (λ (v : Hand). IsTrue (nat_lt 0 (times j v.seen))) (sym is) was) w.seen;
     marked = λ i some. w.marked i (subst (λ (v : Hand). 0 < times i v.marked) is some);
   }
 
@@ -255,7 +270,8 @@ module _ (world : Option World) (may_fail : List ℕ → Type 0) (desk : Desk) (
   -- a number after which the state is as it was
   unchanged : (mid new : Seat) (taken after : Content) (left left' : Left) (t : ℕ) (w : Did mid taken left)
       → Drew mid new after t → after ≡ taken
-      → miss_at desk (taken_in after) t + all_left left ≤ all_left left' → all_left left' ≤ all_left left + 1
+      → miss_at desk (taken_in after) t + all_left left ≤ all_left left'
+      → all_left left' ≤ all_left left + ticket_at desk t
       → miss_at desk (met after new) t + failed left ≤ failed left'
       → Causes new (w.tickets ++ t ∷ []) left'
       → Did new after left'
@@ -291,10 +307,11 @@ module _ (world : Option World) (may_fail : List ℕ → Type 0) (desk : Desk) (
 
   -- a ticket is left because a read or a take failed
   left_one : (mid new : Seat) (taken after : Content) (left left' : Left) (t : ℕ) (w : Did mid taken left)
-      → Drew mid new after t → after ≡ taken → failed left' ≡ failed left + 1 → left'.marked ≡ left.marked
+      → Drew mid new after t → t < limit_of desk → after ≡ taken → failed left' ≡ failed left + 1
+      → left'.marked ≡ left.marked
       → Causes new (w.tickets ++ t ∷ []) left'
       → Did new after left'
-  left_one mid new taken after left left' t w drew same grown marks causes =
+  left_one mid new taken after left left' t w drew ticket same grown marks causes =
       unchanged mid new taken after left left' t w drew same
       (omega (
         arith,
@@ -302,7 +319,7 @@ module _ (world : Option World) (may_fail : List ℕ → Type 0) (desk : Desk) (
         marks,
         miss_one (nat_lt t (limit_of desk)) (is_row_taken after (t % desk.manifests)),
       ))
-      (omega (arith, grown, marks))
+      (omega (arith, grown, marks, is_one desk t ticket))
       (omega (arith, grown, miss_one (nat_lt t (limit_of desk)) (met after new (t % desk.manifests)))) causes
 
   -- a ticket's manifest is taken, and marked then
@@ -346,9 +363,9 @@ module _ (world : Option World) (may_fail : List ℕ → Type 0) (desk : Desk) (
 
   -- a ticket's manifest is seen marked
   passed_one : (mid new : Seat) (taken after : Content) (left : Left) (t i : ℕ)
-      → hand_of new ≡ seeing (drawing (hand_of mid) t) i → i ≡ t % desk.manifests → after ≡ taken
+      → hand_of new ≡ seeing (drawing (hand_of mid) t) i → t < limit_of desk → i ≡ t % desk.manifests → after ≡ taken
       → Did mid taken left → Did new after (record left { marked = left.marked + 1 })
-  passed_one mid new taken after left t i hand is same w =
+  passed_one mid new taken after left t i hand ticket is same w =
       let saw : (j : ℕ) → times j (hand_of new).seen ≡ times j (hand_of mid).seen + one_where (i == j) = λ j.
       ap (λ (v : Hand). times j v.seen) hand ∙ times_more j i (hand_of mid).seen in
       let now : IsTrue (had_seen new (t % desk.manifests)) = lt-ltb 0 (times (t % desk.manifests) (hand_of new).seen)
@@ -364,7 +381,8 @@ module _ (world : Option World) (may_fail : List ℕ → Type 0) (desk : Desk) (
       } in
       let more = causes_more mid new taken after left t w drew in
       unchanged mid new taken after left (record left { marked = left.marked + 1 }) t w drew same
-      (omega (arith, miss_one (nat_lt t (limit_of desk)) (is_row_taken after (t % desk.manifests)))) (omega arith)
+      (omega (arith, miss_one (nat_lt t (limit_of desk)) (is_row_taken after (t % desk.manifests))))
+      (omega (arith, is_one desk t ticket))
       (omega (
         arith,
         so_none (met after new) t
@@ -373,10 +391,8 @@ module _ (world : Option World) (may_fail : List ℕ → Type 0) (desk : Desk) (
       (record {
         absent = more.absent;
         device = more.device;
-        seen = at_least_one (λ t. IsTrue (had_seen new (t % desk.manifests))) w.tickets left.marked t now
-            (at_least_weaker (λ t. IsTrue (had_seen mid (t % desk.manifests)))
-            (λ t. IsTrue (had_seen new (t % desk.manifests))) (λ u was. drew.saw (u % desk.manifests) was) w.tickets
-            left.marked w.seen);
+        seen = at_least_one (seen_by new) w.tickets left.marked t (ticket, now)
+            (still_seen mid new w.tickets left.marked drew.saw w.seen);
       })
 
   -- a ticket is drawn and served
@@ -389,30 +405,30 @@ module _ (world : Option World) (may_fail : List ℕ → Type 0) (desk : Desk) (
   served_one mid drew new taken after left t i served.Absent draws ticket is inside serves w =
       let alone = drew_alone mid new after t (serves.0.0 ∙ draws) in
       let more = causes_more mid new taken after left t w alone in
-      left_one mid new taken after left (record left { absent = left.absent + 1 }) t w alone serves.0.1 (omega arith)
-      refl (record {
-        absent = at_least_one (λ t. Lacks world scan (t % desk.manifests)) w.tickets left.absent t
-            (subst (Lacks world scan) is serves.1) w.absent;
+      left_one mid new taken after left (record left { absent = left.absent + 1 }) t w alone ticket serves.0.1
+      (omega arith) refl (record {
+        absent = at_least_one (IsTicketOf desk (Lacks world scan)) w.tickets left.absent t
+            (ticket, subst (Lacks world scan) is serves.1) w.absent;
         device = more.device;
         seen = more.seen;
       })
   served_one mid drew new taken after left t i served.Device draws ticket is inside serves w =
       let alone = drew_alone mid new after t (serves.0.0 ∙ draws) in
       let more = causes_more mid new taken after left t w alone in
-      left_one mid new taken after left (record left { device = left.device + 1 }) t w alone serves.0.1 (omega arith)
-      refl (record {
+      left_one mid new taken after left (record left { device = left.device + 1 }) t w alone ticket serves.0.1
+      (omega arith) refl (record {
         absent = more.absent;
-        device = at_least_one (λ t. MayFailAt may_fail scan (t % desk.manifests)) w.tickets left.device t
-            (subst (MayFailAt may_fail scan) is serves.1) w.device;
+        device = at_least_one (IsTicketOf desk (MayFailAt may_fail scan)) w.tickets left.device t
+            (ticket, subst (MayFailAt may_fail scan) is serves.1) w.device;
         seen = more.seen;
       })
   served_one mid drew new taken after left t i served.Memory draws ticket is inside serves w =
       let alone = drew_alone mid new after t (serves.0 ∙ draws) in
       let more = causes_more mid new taken after left t w alone in
-      left_one mid new taken after left (record left { memory = left.memory + 1 }) t w alone serves.1 (omega arith) refl
-      (record { absent = more.absent; device = more.device; seen = more.seen })
+      left_one mid new taken after left (record left { memory = left.memory + 1 }) t w alone ticket serves.1
+      (omega arith) refl (record { absent = more.absent; device = more.device; seen = more.seen })
   served_one mid drew new taken after left t i served.Marked draws ticket is inside serves w =
-      passed_one mid new taken after left t i (serves.0 ∙ ap (λ v. seeing v i) draws) is serves.1 w
+      passed_one mid new taken after left t i (serves.0 ∙ ap (λ v. seeing v i) draws) ticket is serves.1 w
 
 -- a ticket's manifest is one of the desk's
 pub index_below : (desk : Desk) (t i : ℕ) → t < limit_of desk → i ≡ t % desk.manifests → i < desk.manifests
@@ -428,7 +444,12 @@ pub left_few : (world : Option World) (may_fail : List ℕ → Type 0) (desk : D
     (before after : Content) (left : Left)
     → Worked world may_fail desk scan old new before after left → all_left left ≤ length (hand_of new).drawn
 left_few world may_fail desk scan old new before after left w =
-    omega (arith, w.few, ap length w.drawn ∙ length-append (hand_of old).drawn w.tickets)
+    omega (
+      arith,
+      w.few,
+      count_by-le-length (λ t. nat_lt t (limit_of desk)) w.tickets,
+      ap length w.drawn ∙ length-append (hand_of old).drawn w.tickets,
+    )
 
 pub few_counted : (left : Left) (s : Served) (t : ℕ) → all_left left ≤ t → t + 1 < 2 ^ 32
     → all_left (counted left s) < 2 ^ 32

@@ -1,7 +1,7 @@
 -- What one worker does: it draws tickets, and reads and takes their manifests.
 use Rattle.std.specs.Prelude.{◌≡◌, ◌⊎◌, ℕ, zero, suc, ◌%◌, ◌<◌, ◌≤◌, Bool, ◌&&◌, ◌||◌, not, cond, nat_lt, IsTrue}
-use Rattle.std.specs.Prelude.{List, [], ◌∷◌, ◌++◌, Option, Some, None, length}
-use Rattle.std.specs.List.{sum_by}
+use Rattle.std.specs.Prelude.{List, [], ◌∷◌, ◌++◌, Option, Some, None}
+use Rattle.std.specs.List.{count_by, sum_by}
 use Rattle.ice_manifest_reading.specs.declared.row.Row.{Row}
 use Rattle.ice_state.specs.Contents.{Content, World, IsOf, add, is_row_taken, took}
 use Rattle.ice_state.specs.Scans.{Scanned}
@@ -34,6 +34,14 @@ Lacks world scan i = IsPathAt (λ path. HasAt world path None) scan.wanted i
 -- reading the manifest i may fail
 abbrev pub MayFailAt : (List ℕ → Type 0) → Scanned → ℕ → Type 0
 MayFailAt may_fail scan i = IsPathAt may_fail scan.wanted i
+
+-- how many of the numbers are tickets
+abbrev pub tickets_among : Desk → List ℕ → ℕ
+tickets_among desk ts = count_by (λ t. nat_lt t (limit_of desk)) ts
+
+-- the number is a ticket, and its manifest is so
+abbrev pub IsTicketOf : Desk → (ℕ → Type 0) → ℕ → Type 0
+IsTicketOf desk so t = (t < limit_of desk) × so (t % desk.manifests)
 
 -- how many of the tickets have a manifest that is not so
 abbrev pub missed : Desk → (ℕ → Bool) → List ℕ → ℕ
@@ -81,10 +89,11 @@ pub record Worked (world : Option World) (may_fail : List ℕ → Type 0) (desk 
   pub untaken : missed desk (λ i. is_row_taken after i) tickets ≤ all_left left
   -- and where it was not seen marked either, a read or a take failed
   pub unseen : missed desk (λ i. is_row_taken after i || had_seen new i) tickets ≤ failed left
-  pub few : all_left left ≤ length tickets
-  pub absent : AtLeast (λ t. Lacks world scan (t % desk.manifests)) tickets left.absent
-  pub device : AtLeast (λ t. MayFailAt may_fail scan (t % desk.manifests)) tickets left.device
-  pub seen : AtLeast (λ t. IsTrue (had_seen new (t % desk.manifests))) tickets left.marked
+  -- nothing but a ticket is left, and each for its cause
+  pub few : all_left left ≤ tickets_among desk tickets
+  pub absent : AtLeast (IsTicketOf desk (Lacks world scan)) tickets left.absent
+  pub device : AtLeast (IsTicketOf desk (MayFailAt may_fail scan)) tickets left.device
+  pub seen : AtLeast (IsTicketOf desk (λ i. IsTrue (had_seen new i))) tickets left.marked
   -- what it marked is taken
   pub marked : (i : ℕ) → 0 < times i (hand_of new).marked
       → (0 < times i (hand_of old).marked) ⊎ IsTrue (is_row_taken after i)

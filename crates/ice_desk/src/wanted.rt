@@ -1,6 +1,7 @@
 //! Taking the manifests that a scan wants.
 
-ghost use Rattle.std.specs.Prelude.{◌≡◌, ◌<◌, ℕ, Bool, List, [], ◌∷◌, Some, None, length, IfOk, IfErr, OnOk, IsErrOf};
+ghost use Rattle.std.specs.Prelude.{◌≡◌, ◌<◌, ℕ, Bool, List, [], ◌∷◌, Some, None, length, IfOk, IfErr, IsOk, OnOk};
+ghost use Rattle.std.specs.Prelude.{IsErrOf};
 ghost use Rattle.ice_desk.specs.Given.{IsGiven};
 ghost use Rattle.ice_desk.specs.Wanted.{IsContentOf, MayStop, reads_of, untaken};
 ghost use Rattle.ice_desk.specs.Worlds.{HasAt};
@@ -71,6 +72,8 @@ pub fn take_wanted<F: Files>(
     // What it takes is read from bytes that reads of these files gave.
     ensures given { IsGiven (F.gives files.now) scan.now state.old → IsGiven (F.gives files.now) scan.now state.new }
     ensures none_given { (path : List ℕ) → IsErrOf result (WantedFault.Absent path) → F.gives files.now path None }
+    // A state that lacks none takes no memory.
+    ensures none { untaken state.old scan.now.wanted ≡ [] → IsOk result }
 {
     let mut bytes = Vec::new(alloc);
     for (i, row) in scan.wanted().iter().enumerate() {

@@ -5,8 +5,8 @@ use Rattle.ice_state.specs.Contents.{is_row_taken, took}
 use Rattle.ice_desk.specs.Given.{IsGiven}
 use Rattle.ice_desk.proofs.Given.{took_given}
 use Rattle.ice_desk.proofs.Taking.{again, begins, behind_more, below_or_at, ends, goes_on, has_bytes, has_next}
-use Rattle.ice_desk.proofs.Taking.{none_untaken, reads_next, same_taken, skips, stops_later, taken_before, taken_here}
-use Rattle.ice_desk.proofs.Taking.{took_behind}
+use Rattle.ice_desk.proofs.Taking.{no_read, none_untaken, reads_next, same_taken, skips, stops_later, taken_before}
+use Rattle.ice_desk.proofs.Taking.{taken_here, took_behind}
 use Rattle.ice_desk.proofs.wanted.take_wanted.Goals as goal
 
 pub loop-i-init : goal.loop-i-init
@@ -91,3 +91,21 @@ returns-clause-whole g c =
     let low : length scan.wanted ≤ c.loop-i.i = rw c.wanted-row-items.ensures at c.loop-i-test.false in
     none_untaken c.loop-i.state scan.wanted c.loop-i.invariant.of_scan (λ j l. c.loop-i.invariant.so_far j
     (omega (arith, l, low)))
+
+pub returns-in_err-read_file-clause-none : goal.returns-in_err-read_file-clause-none
+returns-in_err-read_file-clause-none g c =
+    let scan = c.args.scan.now in
+    let l : c.loop-i.i < length scan.wanted = rw c.wanted-row-items.ensures at c.loop-i-test.true in
+    let f : is_row_taken c.loop-i.state c.loop-i.i ≡ false = sym c.is_taken.ensures ∙ c.if-is_taken.false in
+    λ none. absurd (no_read c.args.state.now scan.wanted c.loop-i.i c.row-item.result c.requires l
+    (rw c.wanted-row-items.ensures at c.row-item.is)
+    (sym (same_taken c.loop-i.state c.args.state.now c.loop-i.i c.loop-i.invariant.behind) ∙ f) none)
+
+pub returns-in_err-take-clause-none : goal.returns-in_err-take-clause-none
+returns-in_err-take-clause-none g c =
+    let scan = c.args.scan.now in
+    let l : c.loop-i.i < length scan.wanted = rw c.wanted-row-items.ensures at c.loop-i-test.true in
+    let f : is_row_taken c.loop-i.state c.loop-i.i ≡ false = sym c.is_taken.ensures ∙ c.if-is_taken.false in
+    λ none. absurd (no_read c.args.state.now scan.wanted c.loop-i.i c.row-item.result c.requires l
+    (rw c.wanted-row-items.ensures at c.row-item.is)
+    (sym (same_taken c.loop-i.state c.args.state.now c.loop-i.i c.loop-i.invariant.behind) ∙ f) none)
