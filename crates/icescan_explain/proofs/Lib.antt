@@ -14,3 +14,4 @@ pub mod Planned
 pub mod FilesRead
 pub mod Rows
 pub mod MoreGiven
+mod Names

@@ -32,6 +32,10 @@ predicates parts = flat_map predicate_in parts
 abbrev pub only_test : ℕ → FieldTest → PartFilter
 only_test n test = record { fields = n; parts = only (test ∷ []) }
 
+-- the names of partition fields
+abbrev pub names_of : List PartitionField → List (List ℕ)
+names_of fields = map (λ (f : PartitionField). f.name) fields
+
 -- the name of the partition field at a position
 abbrev pub field_name : Spec → ℕ → Option (List ℕ)
 field_name spec at = option_map (λ (f : PartitionField). f.name) (slice_get spec.fields at)

@@ -25,7 +25,6 @@ fn is_out_of_bounds(tests: &FilterTests, live: &Live<'_, '_>) -> bool
 }
 
 fn file_fate(
-    alloc: Global,
     tests: &FilterTests,
     of_spec: &SpecTests,
     live: &Live<'_, '_>,
@@ -34,11 +33,11 @@ fn file_fate(
 {
     let tuple = live.entry.tuple();
     if !of_spec.part.meets(tuple) {
-        let field = blamed_by_tuple(alloc, of_spec.lone.as_slice(), tuple)?;
+        let field = blamed_by_tuple(of_spec.lone.as_slice(), tuple)?;
         return Ok(Fate::ByPartition(field));
     }
     if is_out_of_bounds(tests, live) {
-        let column = blamed_by_bounds(alloc, tests.predicates.as_slice(), &live.bounds)?;
+        let column = blamed_by_bounds(tests.predicates.as_slice(), &live.bounds)?;
         return Ok(Fate::ByBounds(column));
     }
     Ok(Fate::Kept)
@@ -46,7 +45,6 @@ fn file_fate(
 
 /// What becomes of the file of an entry, where its counts and bounds do not matter; none where they may.
 fn fate_without_columns(
-    alloc: Global,
     tests: &FilterTests,
     of_spec: &SpecTests,
     entry: &EntryView<'_>,
@@ -56,7 +54,7 @@ fn fate_without_columns(
 {
     let tuple = entry.tuple();
     if !of_spec.part.meets(tuple) {
-        let field = blamed_by_tuple(alloc, of_spec.lone.as_slice(), tuple)?;
+        let field = blamed_by_tuple(of_spec.lone.as_slice(), tuple)?;
         return Ok(Some(Fate::ByPartition(field)));
     }
     if entry.content() != FileContent::Data || tests.filter.parts.as_slice().is_empty() {
@@ -87,7 +85,7 @@ pub fn file_verdict(
 ) -> Result<Verdict, AllocError>
     ensures { IfOk result (λ verdict. verdict ≡ file_verdict tests.now of_spec.now live.now) }
 {
-    let fate = file_fate(alloc, tests, of_spec, live)?;
+    let fate = file_fate(tests, of_spec, live)?;
     verdict_on(alloc, &live.entry, fate)
 }
 
@@ -114,7 +112,7 @@ impl<'a> Tell for FileTests<'a> {
         alloc: Global,
         entry: &EntryView<'_>,
     ) -> Result<Option<Verdict>, AllocError> {
-        match fate_without_columns(alloc, self.tests, self.of_spec, entry)? {
+        match fate_without_columns(self.tests, self.of_spec, entry)? {
             Some(fate) => Ok(Some(verdict_on(alloc, entry, fate)?)),
             None => Ok(None),
         }

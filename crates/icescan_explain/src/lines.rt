@@ -18,6 +18,7 @@ use contract_words::Text;
 use icescan_print::{Page, Sink, SinkFault, put_named_number};
 use icescan_text::RunFault;
 use itoa::Integer;
+use shared_value::Shared;
 use std::alloc::{AllocError, Global};
 
 fn push_number<I: Integer>(text: &mut Vec<u8>, name: &[u8], n: I) -> Result<(), AllocError>
@@ -69,12 +70,12 @@ fn put_left_out<S: Sink>(
     page: &mut Page,
     sink: &mut S,
     words: &[u8],
-    name: &Option<Text>,
+    name: &Option<Shared<Text>>,
 ) -> Result<(), SinkFault>
     ensures { Sent S.taken S.may_fail sink.old page.old result sink.new page.new (left_out_text words.now name.now) }
 {
     match name {
-        Some(name) => page.put_named_path(sink, words, name.as_bytes()),
+        Some(name) => page.put_named_path(sink, words, name.get().as_bytes()),
         None => page.put(sink, b" pruned"),
     }
 }

@@ -91,13 +91,13 @@ impl FilterTests {
     }
 }
 
-fn row_fate(alloc: Global, tests: &SpecTests, row: &Row) -> Result<Fate, AllocError>
+fn row_fate(tests: &SpecTests, row: &Row) -> Result<Fate, AllocError>
     ensures { IfOk result (λ fate. fate ≡ row_fate tests.now row.now) }
 {
     if row_allows(&tests.part, row) {
         Ok(Fate::Kept)
     } else {
-        Ok(Fate::ByPartition(blamed_by_row(alloc, tests.lone.as_slice(), row)?))
+        Ok(Fate::ByPartition(blamed_by_row(tests.lone.as_slice(), row)?))
     }
 }
 
@@ -109,6 +109,6 @@ pub fn row_verdict(alloc: Global, tests: &SpecTests, row: &Row) -> Result<Verdic
         path: Items::from_vec(row.path.as_bytes().to_vec(alloc)?),
         bytes: row.length,
         subject: Subject::Manifest,
-        fate: row_fate(alloc, tests, row)?,
+        fate: row_fate(tests, row)?,
     })
 }

@@ -5,6 +5,7 @@ ghost use Rattle.icescan_explain.specs.Fates.{is_kept, subject_of};
 
 use contract_words::{Items, Text};
 use ice_value::FileContent;
+use shared_value::Shared;
 
 /// What a verdict is about.
 #[derive(Clone, Copy, Debug, PartialEq, Eq)]
@@ -35,12 +36,12 @@ pub enum Fate {
     /// A manifest is read, a file is kept.
     Kept,
     /// It is left out by the filter's projection through its partition spec: a manifest by its row's summaries, a file
-    /// by its partition values. The partition field is that of the first test, predicate by predicate, that alone says no. There
-    /// is none where the filter is never met, as `false` is, whatever its predicates are.
-    ByPartition(Option<Text>),
-    /// A data file that the projection keeps is left out by its counts and bounds. The column is that of the first predicate
-    /// that alone says no.
-    ByBounds(Option<Text>),
+    /// by its partition values. The partition field is that of the first test, predicate by predicate, that alone says
+    /// no. There is none where the filter is never met, as `false` is, whatever its predicates are.
+    ByPartition(Option<Shared<Text>>),
+    /// A data file that the projection keeps is left out by its counts and bounds. The column is that of the first
+    /// predicate that alone says no.
+    ByBounds(Option<Shared<Text>>),
 }
 
 impl Fate {
