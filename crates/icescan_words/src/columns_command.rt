@@ -1,7 +1,9 @@
 //! The command `columns`.
 
-use crate::command_line::{with_source, with_target};
-use clap::{Arg, Command};
+use crate::command_line::{described, over_files};
+use crate::parameter::Parameter;
+use crate::parameters::{BUNDLE, COLUMNS_REF, COLUMNS_SNAPSHOT, DIR, METADATA, PREFIX};
+use clap::Command;
 use std::alloc::{AllocError, Global};
 
 const COLUMNS_EXAMPLE: &str =
@@ -30,21 +32,14 @@ Exit status: 0 done, 1 the metadata is refused, 2 the command line or the bundle
 is, 3 a read or a write failed, 5 memory ran out. A refusal is one line on
 standard error.";
 
+const COLUMNS: &[Parameter] = &[METADATA, COLUMNS_REF, COLUMNS_SNAPSHOT, BUNDLE, DIR, PREFIX];
+
 /// The command `columns`.
 pub fn columns_command<'a>(alloc: Global) -> Result<Command<'a>, AllocError> {
-    let metadata = Arg::new(alloc, "metadata")
-        .value_name("METADATA")
-        .required(true)
-        .help("The path of the table's metadata");
-    let command = Command::new(alloc, "columns")
-        .about("Print the columns that a filter may name, and partition fields")
-        .after_long_help(COLUMNS_EXAMPLE)
-        .arg(metadata)?;
-    let command = with_target(
+    let about = "Print the columns that a filter may name, and partition fields";
+    over_files(
         alloc,
-        command,
-        "The columns of this branch or tag",
-        "The columns of the snapshot of this id",
-    )?;
-    with_source(alloc, command)
+        described(alloc, "columns", about, COLUMNS_EXAMPLE),
+        COLUMNS,
+    )
 }

@@ -1,7 +1,11 @@
 //! The command `explain`.
 
-use crate::command_line::{with_quiet, with_request, with_source, with_workers};
-use clap::{Arg, Command};
+use crate::command_line::{described, over_files};
+use crate::parameter::Parameter;
+use crate::parameters::{
+    BUNDLE, DIR, EXPLAIN_WORKERS, FILTER, METADATA, PREFIX, QUIET, REF, SNAPSHOT,
+};
+use clap::Command;
 use std::alloc::{AllocError, Global};
 
 const EXPLAIN_EXAMPLE: &str =
@@ -31,24 +35,31 @@ Example, at the top of icescan's repository:
   icescan explain --dir examples/events-java/table --prefix s3://warehouse/db/events --filter \"id = 42\" \\
     s3://warehouse/db/events/metadata/00009-ea5012f5-592b-59fd-6564-e953f439e682.metadata.json
 
+On a terminal, and with --explain, a line of standard error says first how the
+filter was read, with dates and times as a calendar has them.
+
 Exit status: 0 done, 1 the table is refused, 2 the command line, the bundle or
 the filter is, 3 a read or a write failed, 5 memory ran out. A refusal is one
 line on standard error.";
 
+const EXPLAIN: &[Parameter] = &[
+    METADATA,
+    REF,
+    SNAPSHOT,
+    FILTER,
+    EXPLAIN_WORKERS,
+    BUNDLE,
+    DIR,
+    PREFIX,
+    QUIET,
+];
+
 /// The command `explain`.
 pub fn explain_command<'a>(alloc: Global) -> Result<Command<'a>, AllocError> {
-    let metadata = Arg::new(alloc, "metadata")
-        .value_name("METADATA")
-        .required(true)
-        .help("The path of the table's metadata");
-    let command = Command::new(alloc, "explain")
-        .about("Say why each manifest and file is in a plan, or left out")
-        .after_long_help(EXPLAIN_EXAMPLE)
-        .arg(metadata)?;
-    let command = with_workers(
+    let about = "Say why each manifest and file is in a plan, or left out";
+    over_files(
         alloc,
-        with_request(alloc, command)?,
-        "As for `plan`; one worker reads all",
-    )?;
-    with_quiet(alloc, with_source(alloc, command)?)
+        described(alloc, "explain", about, EXPLAIN_EXAMPLE),
+        EXPLAIN,
+    )
 }

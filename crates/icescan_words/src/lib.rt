@@ -10,6 +10,8 @@ mod heard;
 mod help_texts;
 mod locate_command;
 mod matches;
+mod parameter;
+mod parameters;
 mod parsing;
 
 pub use answer_format::Format;

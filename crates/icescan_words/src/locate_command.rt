@@ -1,7 +1,9 @@
 //! The command `locate`.
 
-use clap::builder::ValueParser;
-use clap::{Arg, ArgAction, Command};
+use crate::command_line::{described, with_parameters};
+use crate::parameter::Parameter;
+use crate::parameters::{FOLDER, NULL};
+use clap::Command;
 use std::alloc::{AllocError, Global};
 
 const LOCATE_EXAMPLE: &str =
@@ -24,20 +26,14 @@ Exit status: 0 done, 1 the metadata is refused, 2 the command line is, 3 a read
 or a write failed, or there is no newest metadata that can be read, 5 memory ran
 out. A refusal is one line on standard error.";
 
+const LOCATE: &[Parameter] = &[FOLDER, NULL];
+
 /// The command `locate`.
 pub fn locate_command<'a>(alloc: Global) -> Result<Command<'a>, AllocError> {
-    let folder = Arg::new(alloc, "folder")
-        .value_name("FOLDER")
-        .value_parser(ValueParser::NonEmptyString)
-        .required(true)
-        .help("The folder of the table");
-    let null = Arg::new(alloc, "null")
-        .long("null")
-        .action(ArgAction::SetTrue)
-        .help("End each word with a NUL");
-    Command::new(alloc, "locate")
-        .about("Find the newest metadata of a table in a folder, and print words that name it")
-        .after_long_help(LOCATE_EXAMPLE)
-        .arg(folder)?
-        .arg(null)
+    let about = "Find a table's newest metadata, and print words that name it";
+    with_parameters(
+        alloc,
+        described(alloc, "locate", about, LOCATE_EXAMPLE),
+        LOCATE,
+    )
 }
