@@ -5,7 +5,7 @@ use Rattle.std.proofs.lemmas.Bool.Decides.{nat_tests}
 use Rattle.icescan_progress.proofs.Plain.{nothing_plain}
 use Rattle.icescan_text.specs.declared.fault.RunFault.{RunFault}
 use Rattle.icescan_commands.specs.Runs.{Explained, Given, Left, RanWithHint, RanWithoutHint, Refused, Told}
-use Rattle.icescan_commands.specs.Runs.{ToldWithHint, meant}
+use Rattle.icescan_commands.specs.Runs.{ToldWithHint, Wrote, WroteWithNotes, meant}
 use Rattle.icescan_words.specs.declared.command.Command.{Command}
 
 -- a fault that is told without a hint
@@ -21,15 +21,47 @@ hinted given asked text left r = record {
   nothing = r.nothing;
   front = r.front;
   stored = r.stored;
+  stored_of_given = r.stored_of_given;
+  before = given.errors;
+  note = nothing_plain given.errors;
   told = plainly given.tell_may_fail given.errors left.errors r.fault r.told;
 }
 
-or_hinted : {A : Type 0} (given : Given) (asked : Result Command RunFault) (text : List ℕ) (left : Left)
-    → A ⊎ Refused given asked text left → A ⊎ Explained given asked text left
-or_hinted given asked text left (inl a) = inl a
+noted : (given : Given) (asked : Result Command RunFault) (text : List ℕ) (left : Left) → Wrote given asked text left
+    → WroteWithNotes given asked text left
+noted given asked text left w = record {
+  wrote = record {
+    written = w.written;
+    silent = refl;
+    ends = w.ends;
+    drilled = w.drilled;
+    of_given = w.of_given;
+    stored = w.stored;
+    stored_of_given = w.stored_of_given;
+  };
+  noted = record {
+    between = given.errors;
+    before = nothing_plain given.errors;
+    after = rw w.silent (nothing_plain given.errors);
+  };
+}
+
+or_hinted : (given : Given) (asked : Result Command RunFault) (text : List ℕ) (left : Left)
+    → Wrote given asked text left ⊎ Refused given asked text left
+    → WroteWithNotes given asked text left ⊎ Explained given asked text left
+or_hinted given asked text left (inl w) = inl (noted given asked text left w)
 or_hinted given asked text left (inr r) = inr (hinted given asked text left r)
 
--- no hint is a hint without lines
+-- a fault is told the same to errors of which fewer writes may fail
+pub tell_more : (w v : Type 0) (e e' : Option (List ℕ)) (fault : RunFault) → (w → v) → ToldWithHint w e e' fault
+    → ToldWithHint v e e' fault
+tell_more w v e e' fault still told = record {
+  between = told.between;
+  line = record { front = told.line.front; all = λ no. told.line.all (λ yes. no (still yes)) };
+  hint = told.hint;
+}
+
+-- no hint is a hint without lines, and no notes are notes without any
 pub with_hint : (given : Given) (texts : List (List ℕ)) (left : Left) → RanWithoutHint given texts left
     → RanWithHint given texts left
 with_hint given texts left r = (r.0, r.1, r.2, r.3, or_hinted given r.0 r.2 left r.4)

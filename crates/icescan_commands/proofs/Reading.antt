@@ -14,8 +14,8 @@ use Rattle.icescan_words.specs.declared.answer_format.Format.TheVariants as form
 use Rattle.icescan_words.specs.declared.command.Command.TheVariants as command
 use Rattle.icescan_words.specs.declared.command.Source.{Source}
 use Rattle.icescan_words.specs.declared.command.Source.TheVariants as source
-use Rattle.icescan_commands.specs.Reading.{AreGivenBelow, GivingBelow, WroteAudited, WroteExplained, WroteOfGiven}
-use Rattle.icescan_commands.specs.Reading.{WrotePlanAt, WroteShown}
+use Rattle.icescan_commands.specs.Reading.{AreGivenBelow, GivingBelow, WroteAudited, WroteColumns, WroteExplained}
+use Rattle.icescan_commands.specs.Reading.{WroteOfGiven, WrotePlanAt, WroteShown}
 use Rattle.icescan_commands.specs.Runs.{ended}
 
 -- nothing is said
@@ -98,6 +98,14 @@ module _ (below : GivingBelow) where
       → OnOk result (WroteOfGiven below (command.Show from path) 0 o o')
   show_below source.Bundle gives wider path result o o' wrote = any_ok result
   show_below (source.Folder place) gives wider path result o o' wrote =
+      on_ok_weaker result (λ w. (w.0, wider path _ w.1, w.2)) wrote
+
+  pub columns_below : (from : Source) (gives : Giving) → AreGivenBelow below from gives → (path : List ℕ)
+      (target : Target) (result : Result Unit RunFault) (o o' : Option (List ℕ))
+      → OnOk result (WroteColumns gives path target o o')
+      → OnOk result (WroteOfGiven below (command.Columns from target path) 0 o o')
+  columns_below source.Bundle gives wider path target result o o' wrote = any_ok result
+  columns_below (source.Folder place) gives wider path target result o o' wrote =
       on_ok_weaker result (λ w. (w.0, wider path _ w.1, w.2)) wrote
 
   pub audit_below : (from : Source) (gives : Giving) → AreGivenBelow below from gives → (path : List ℕ)

@@ -4,6 +4,7 @@ use Rattle.std.specs.Prelude.{ℕ, List, Option, Some, Result, Ok, Err}
 use Rattle.ice_desk.specs.Given.{Giving}
 use Rattle.ice_meta.specs.declared.metadata.Target.{Target}
 use Rattle.icescan_audit.specs.AnyFiles.{WroteAnAudit}
+use Rattle.icescan_columns.specs.Columns.{columns_of}
 use Rattle.icescan_explain.specs.AnyFiles.{WroteAnExplanation}
 use Rattle.icescan_json.specs.JsonAnswers.{IsTypedListOfGiven, IsTypedOfGivenAt, WroteJsonThat}
 use Rattle.icescan_requests.specs.GivenPlans.{IsListPlanOfGiven, IsPlanOfGivenAt, WrotePlanThat}
@@ -49,6 +50,11 @@ abbrev pub WroteShown : Giving → List ℕ → Option (List ℕ) → Option (Li
 WroteShown gives path output output' = (metadata : List ℕ) × gives path (Some metadata)
     × WroteText (show_of metadata) output output'
 
+-- the columns of the metadata at a path
+abbrev pub WroteColumns : Giving → List ℕ → Target → Option (List ℕ) → Option (List ℕ) → Type 0
+WroteColumns gives path target output output' = (metadata : List ℕ) × gives path (Some metadata)
+    × WroteText (columns_of metadata target) output output'
+
 -- the audit of a snapshot of the table whose metadata is at a path, with so many faults
 abbrev pub WroteAudited : Giving → List ℕ → Target → ℕ → Option (List ℕ) → Option (List ℕ) → Type 0
 WroteAudited gives path target count output output' = (metadata : List ℕ) × gives path (Some metadata)
@@ -60,7 +66,7 @@ WroteExplained gives path request output output' = (metadata : List ℕ) × give
     × WroteAnExplanation gives metadata request output output'
 
 -- What a command wrote that ended without a fault and told of so many faults of a table: over a folder, of bytes that
--- reads below it gave. Of a commit `IsStored` says more.
+-- reads below it gave. Of a commit `IsStored` and `IsStoredOfGiven` say more.
 abbrev pub WroteOfGiven : GivingBelow → Command → ℕ → Option (List ℕ) → Option (List ℕ) → Type 0
 WroteOfGiven below (command.ListPlan (lists.Folder place list) form) count output output' =
     WroteListPlan (given_at below place) list form output output'
@@ -68,6 +74,8 @@ WroteOfGiven below (command.Plan (source.Folder place) request form workers path
     WrotePlanAt (given_at below place) path request form output output'
 WroteOfGiven below (command.Show (source.Folder place) path) count output output' =
     WroteShown (given_at below place) path output output'
+WroteOfGiven below (command.Columns (source.Folder place) target path) count output output' =
+    WroteColumns (given_at below place) path target output output'
 WroteOfGiven below (command.Audit (source.Folder place) target workers path) count output output' =
     WroteAudited (given_at below place) path target count output output'
 WroteOfGiven below (command.Explain (source.Folder place) request workers path) count output output' =

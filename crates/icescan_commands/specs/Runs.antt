@@ -12,7 +12,7 @@ use Rattle.icescan_json.specs.JsonAnswers.{typed_answer_at, typed_list_answer}
 use Rattle.icescan_commands.specs.Sources.{Below, Failing, MayFailBelow, failing_bundle, failing_over, failing_place}
 use Rattle.icescan_commands.specs.Sources.{failing_unread, over, world_at}
 use Rattle.icescan_commands.specs.Reading.{GivingBelow, WroteOfGivenBy}
-use Rattle.icescan_commands.specs.Storing.{IsStoredBy, MayFailToPut, Stored}
+use Rattle.icescan_commands.specs.Storing.{IsStoredBy, IsStoredOfGivenBy, MayFailToPut, Stored}
 use Rattle.icescan_explain.specs.Explanations.{explained_at}
 use Rattle.icescan_explain.specs.Texts.{explanation_text}
 use Rattle.icescan_explain.specs.declared.manifests.Explanation.{Explanation}
@@ -248,6 +248,11 @@ abbrev pub StoredAs : Given → Result Command RunFault → Result Unit RunFault
 StoredAs given asked result left = IsStoredBy asked given.below given.read_may_fail given.stored given.put_may_fail
     given.write_may_fail result left.stored left.files given.output left.output
 
+-- the same, by what reads gave
+abbrev pub StoredOfGivenAs : Given → Result Command RunFault → Result Unit RunFault → Left → Type 0
+StoredOfGivenAs given asked result left =
+    IsStoredOfGivenBy asked given.gives given.stored result left.files given.output left.output
+
 -- the program ended without a fault: it wrote the answer to its output, and nothing else
 pub record Wrote (given : Given) (asked : Result Command RunFault) (text : List ℕ) (left : Left) : Type 0 where
   pub written : IfSome (known_of given asked text) (λ read. WroteAnswer read given.output left.output)
@@ -258,6 +263,7 @@ pub record Wrote (given : Given) (asked : Result Command RunFault) (text : List 
   pub of_given : (count : ℕ) × (left.status ≡ status_of_count count)
       × WroteOfGivenBy given.gives asked count given.output left.output
   pub stored : StoredAs given asked (Ok tt) left
+  pub stored_of_given : StoredOfGivenAs given asked (Ok tt) left
 
 -- The program ended with a fault: it told it, and wrote nothing else but after a failed write, and then a front of the
 -- answer.
@@ -269,6 +275,7 @@ pub record Refused (given : Given) (asked : Result Command RunFault) (text : Lis
   pub front : fault ≡ run.Write
       → IfSome (known_of given asked text) (λ read. WroteAnswerFront read given.output left.output)
   pub stored : StoredAs given asked (Err fault) left
+  pub stored_of_given : StoredOfGivenAs given asked (Err fault) left
   pub told : Told given.tell_may_fail given.errors left.errors fault
 
 -- ---- at a terminal
@@ -279,13 +286,34 @@ meant true [] = codes "--help" ∷ []
 meant true (word ∷ words) = word ∷ words
 meant false words = words
 
+-- texts without control characters were written beside an answer: how its filter is read, and what is to be known of it
+pub record Noted (errors errors' : Option (List ℕ)) : Type 0 where
+  pub between : Option (List ℕ)
+  pub before : AppendsPlain errors between
+  pub after : AppendsPlain between errors'
+
 -- a fault was told, and then a text without control characters was written
 pub record ToldWithHint (write_may_fail : Type 0) (errors errors' : Option (List ℕ)) (fault : RunFault) : Type 0 where
   pub between : Option (List ℕ)
   pub line : Told write_may_fail errors between fault
   pub hint : AppendsPlain between errors'
 
--- the program ended with a fault, as in `Refused`, and told it with a hint
+-- what is left, but that nothing was written to the errors
+abbrev pub silently : Given → Left → Left
+silently given left = record {
+  status = left.status;
+  stored = left.stored;
+  files = left.files;
+  output = left.output;
+  errors = given.errors;
+}
+
+-- the program ended without a fault, as in `Wrote`, but that it wrote notes beside the answer
+pub record WroteWithNotes (given : Given) (asked : Result Command RunFault) (text : List ℕ) (left : Left) : Type 0 where
+  pub wrote : Wrote given asked text (silently given left)
+  pub noted : Noted given.errors left.errors
+
+-- The program ended with a fault, as in `Refused`, and told it with a hint; how a filter is read may stand before.
 pub record Explained (given : Given) (asked : Result Command RunFault) (text : List ℕ) (left : Left) : Type 0 where
   pub fault : RunFault
   pub cause : IsCause given asked text fault
@@ -294,14 +322,18 @@ pub record Explained (given : Given) (asked : Result Command RunFault) (text : L
   pub front : fault ≡ run.Write
       → IfSome (known_of given asked text) (λ read. WroteAnswerFront read given.output left.output)
   pub stored : StoredAs given asked (Err fault) left
-  pub told : ToldWithHint given.tell_may_fail given.errors left.errors fault
+  pub stored_of_given : StoredOfGivenAs given asked (Err fault) left
+  pub before : Option (List ℕ)
+  pub note : AppendsPlain given.errors before
+  pub told : ToldWithHint given.tell_may_fail before left.errors fault
 
 -- what `run_words` says of a run by its words
 abbrev pub RanWithoutHint : Given → List (List ℕ) → Left → Type 0
 RanWithoutHint given texts left = (asked : Result Command RunFault) × ReadAs texts asked
     × (text : List ℕ) × IsInput given.input text × (Wrote given asked text left ⊎ Refused given asked text left)
 
--- the same, but that a hint may stand after the line of a fault
+-- the same, but that notes may stand beside the answer, and a hint after the line of a fault
 abbrev pub RanWithHint : Given → List (List ℕ) → Left → Type 0
 RanWithHint given texts left = (asked : Result Command RunFault) × ReadAs texts asked
-    × (text : List ℕ) × IsInput given.input text × (Wrote given asked text left ⊎ Explained given asked text left)
+    × (text : List ℕ) × IsInput given.input text
+    × (WroteWithNotes given asked text left ⊎ Explained given asked text left)

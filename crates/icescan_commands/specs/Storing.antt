@@ -3,11 +3,13 @@ use Rattle.std.specs.Prelude.{◌≡◌, ℕ, List, Option, IfErr, IfSome, OnErr
 use Rattle.ice_state.specs.Contents.{World}
 use Rattle.icescan_requests.specs.Bundles.{File}
 use Rattle.icescan_requests.specs.Commits.{Commitment, IsLeft, Made, MayEndCommit, commitment}
+use Rattle.icescan_requests.specs.GivenCommits.{CommitsOfGiven}
 use Rattle.icescan_text.specs.declared.fault.RunFault.{RunFault}
 use Rattle.icescan_text.specs.declared.request.CommitRequest.{CommitRequest}
 use Rattle.icescan_words.specs.declared.command.Source.TheVariants as source
 use Rattle.icescan_words.specs.declared.command.Command.{Command}
 use Rattle.icescan_words.specs.declared.command.Command.TheVariants as command
+use Rattle.icescan_commands.specs.Reading.{GivingBelow, given_at}
 use Rattle.icescan_commands.specs.Sources.{Below, MayFailBelow, world_at}
 
 -- the files that the store below each folder has, by the prefix that it stands for, where they are reported
@@ -49,3 +51,18 @@ IsStoredBy (Ok asked) below may_fail stored put_may_fail write_may_fail result s
     IsStored asked below may_fail stored put_may_fail write_may_fail result stored' files' output output'
 IsStoredBy (Err fault) below may_fail stored put_may_fail write_may_fail result stored' files' output output' =
     stored' ≡ stored
+
+-- What a commit to a table in a folder does with the files of its store, by what reads below the folder gave: also
+-- where files change from one read to the next.
+abbrev pub IsStoredOfGiven : Command → GivingBelow → Stored → Result Unit RunFault → Option (List File)
+    → Option (List ℕ) → Option (List ℕ) → Type 0
+IsStoredOfGiven (command.Commit (source.Folder place) request) below stored result files' output output' =
+    CommitsOfGiven (given_at below place) request result (stored place.folder place.prefix) files' output output'
+IsStoredOfGiven _ below stored result files' output output' = Unit {0}
+
+-- the same of words that were read
+abbrev pub IsStoredOfGivenBy : Result Command RunFault → GivingBelow → Stored → Result Unit RunFault
+    → Option (List File) → Option (List ℕ) → Option (List ℕ) → Type 0
+IsStoredOfGivenBy (Ok asked) below stored result files' output output' =
+    IsStoredOfGiven asked below stored result files' output output'
+IsStoredOfGivenBy (Err fault) below stored result files' output output' = Unit {0}

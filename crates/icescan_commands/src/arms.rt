@@ -5,7 +5,7 @@ ghost use Rattle.icescan_commands.specs.Answers.{as_answer, plain};
 ghost use Rattle.icescan_commands.specs.Reading.{WroteOfGiven};
 ghost use Rattle.icescan_commands.specs.Runs.{IsCount, Ran, answer_to, ended, failing_of, list_in};
 ghost use Rattle.icescan_commands.specs.Sources.{failing_bundle, failing_unread};
-ghost use Rattle.icescan_commands.specs.Storing.{IsStored};
+ghost use Rattle.icescan_commands.specs.Storing.{IsStored, IsStoredOfGiven};
 ghost use Rattle.icescan_drill.specs.Drills.{WroteDrill};
 ghost use Rattle.icescan_locate.specs.Located.{WroteLocated};
 ghost use Rattle.icescan_requests.specs.Bundles.{IsInput, bundle_of};
@@ -145,12 +145,15 @@ pub fn columns<H, S: Folders, P: Progress, R: Read, W: Sink>(
     output: &mut W,
 ) -> Result<(), RunFault>
     requires { P.may_be_told system.now.progress.now ≡ true }
-    ensures { (text : List ℕ) × IsInput (R.remaining input.old) text ×
+    ensures ran { (text : List ℕ) × IsInput (R.remaining input.old) text ×
         Ran (answer_to (S.below system.now.folders.now)
         (Command.Columns table.now.source.now target.now table.now.path.now) text)
         (failing_of (S.below system.now.folders.now) (S.may_fail system.now.folders.now)
         (Command.Columns table.now.source.now target.now table.now.path.now) (W.may_fail output.old))
         result (W.taken output.old) (W.taken output.new) }
+    ensures given { OnOk result (WroteOfGiven (S.gives system.now.folders.now)
+        (Command.Columns table.now.source.now target.now table.now.path.now) 0 (W.taken output.old)
+        (W.taken output.new)) }
 {
     let files = open_files(system, table.source, input)?;
     columns_file(system.alloc, &files, table.path.as_str(), target, output)
@@ -257,6 +260,9 @@ pub fn commit<H, S: Folders, P: Progress, K: Stores, R: Read, W: Sink>(
     ensures stored { IsStored (Command.Commit source.now request.now) (S.below system.now.folders.now)
         (S.may_fail system.now.folders.now) (K.below stores.old) (K.below_may_fail stores.old) (W.may_fail output.old)
         result (K.below stores.new) (K.files stores.new) (W.taken output.old) (W.taken output.new) }
+    ensures stored_of_given { IsStoredOfGiven (Command.Commit source.now request.now)
+        (S.gives system.now.folders.now) (K.below stores.old) result (K.files stores.new) (W.taken output.old)
+        (W.taken output.new) }
 {
     match source {
         Source::Bundle => {

@@ -1,4 +1,5 @@
-//! The program where a user reads what it writes: a hint stands behind the line of a fault, and what is read is shown.
+//! The program where a user reads what it writes: notes stand beside an answer and a hint after the line of a fault, and
+//! what is read is shown.
 
 ghost use Rattle.std.specs.Prelude.{◌≡◌, ◌∷◌, [], true, false, map, string_bytes, codes, IfOk};
 ghost use Rattle.icescan_commands.specs.Runs.{RanWithHint, RanWithoutHint, ToldWithHint, meant};
@@ -8,8 +9,9 @@ ghost use Rattle.icescan_text.specs.Faults.{status_of};
 use crate::system::System;
 use crate::table_files::files_below;
 use crate::words::{run_asked, run_words, status_of_count};
+use ice_desk::Files;
 use icescan_drill::Watch;
-use icescan_hints::{Case, place_of, put_hint};
+use icescan_hints::{Case, Looks, place_of, put_hint, put_notes, put_reading, put_words_hint};
 use icescan_print::Sink;
 use icescan_progress::{Progress, Silent, Terminals, shows_hints, shows_progress};
 use icescan_requests::{Below, Folders, Stores};
@@ -27,10 +29,10 @@ fn folder_of<'a, S: Folders>(folders: &'a S, asked: &'a Command) -> Option<Below
 }
 
 /// Writes the line of a fault and its hint, and gives the status that the program ends with.
-fn explain<S: Folders, E: Sink>(
-    folders: &S,
+fn explain<L: Looks, F: Files, E: Sink>(
+    looks: &L,
     alloc: Global,
-    asked: &Command,
+    case: &Case<'_, F>,
     fault: &RunFault,
     errors: &mut E,
 ) -> u8
@@ -38,16 +40,22 @@ fn explain<S: Folders, E: Sink>(
     ensures told { ToldWithHint (E.may_fail errors.old) (E.taken errors.old) (E.taken errors.new) fault.now }
 {
     let status = report(fault, errors);
-    let files = folder_of(folders, asked);
-    let case = Case {
-        asked,
-        files: files.as_ref(),
-    };
-    put_hint(alloc, &case, fault, errors);
+    put_hint(alloc, looks, case, fault, errors);
     status
 }
 
-/// Runs the program as `run_words` does, and writes a hint after the line of a fault of what the words ask for.
+/// Writes the line of words that are not understood, and what is to be said of them, and gives the status that the
+/// program ends with.
+fn explain_words<E: Sink>(alloc: Global, words: &[String], fault: &RunFault, errors: &mut E) -> u8
+    ensures status { result ≡ status_of fault.now }
+    ensures told { ToldWithHint (E.may_fail errors.old) (E.taken errors.old) (E.taken errors.new) fault.now }
+{
+    let status = report(fault, errors);
+    put_words_hint(alloc, words, errors);
+    status
+}
+
+/// Runs the program as `run_words` does, and writes notes beside the answer, or a hint after the line of a fault.
 fn run_explained<H, S: Folders + Sync, P: Progress + Sync, K: Stores, R: Read, W: Sink, E: Sink>(
     system: &System<'_, H, S, P>,
     words: &[String],
@@ -57,7 +65,7 @@ fn run_explained<H, S: Folders + Sync, P: Progress + Sync, K: Stores, R: Read, W
     errors: &mut E,
 ) -> u8
 where
-    H: Threads + Wait + Watch + Sync,
+    H: Threads + Wait + Watch + Looks + Sync,
     requires { P.may_be_told system.now.progress.now ≡ true }
     ensures { RanWithHint (record {
       below = S.below system.now.folders.now;
@@ -80,11 +88,22 @@ where
         }) }
 {
     match parse_words(system.alloc, words) {
-        Ok(asked) => match run_asked(system, &asked, stores, input, output) {
-            Ok(count) => status_of_count(count),
-            Err(fault) => explain(system.folders, system.alloc, &asked, &fault, errors),
-        },
-        Err(fault) => report(&fault, errors),
+        Ok(asked) => {
+            let files = folder_of(system.folders, &asked);
+            let case = Case {
+                asked: &asked,
+                files: files.as_ref(),
+            };
+            put_reading(system.alloc, &case, errors);
+            match run_asked(system, &asked, stores, input, output) {
+                Ok(count) => {
+                    put_notes(system.alloc, &case, errors);
+                    status_of_count(count)
+                }
+                Err(fault) => explain(system.host, system.alloc, &case, &fault, errors),
+            }
+        }
+        Err(fault) => explain_words(system.alloc, words, &fault, errors),
     }
 }
 
@@ -114,7 +133,7 @@ fn run_shown<H, S: Folders + Sync, P: Progress + Sync, K: Stores, R: Read, W: Si
     errors: &mut E,
 ) -> u8
 where
-    H: Threads + Wait + Watch + Sync,
+    H: Threads + Wait + Watch + Looks + Sync,
     requires { shows_progress terminals.errors (map string_bytes words.now) ≡ true →
         P.may_be_told system.now.progress.now ≡ true }
     ensures { RanWithHint (record {
@@ -198,9 +217,10 @@ where
 
 /// Runs the program as `run_words` does. Where standard input is a terminal, no words are read as `--help`. Where
 /// standard error is a terminal, or a word is `--explain`, a hint stands after the line of a fault: lines that say
-/// what the fault is about and what to do, in which no control character of the table's stands. Where standard error is
-/// a terminal and no word is `--quiet`, the system's `progress` is told of each file that is read below a folder; what
-/// is written to `output` and `errors` is the same.
+/// what the fault is about and what to do; and notes stand beside an answer: how its filter is read, and where it may
+/// not be what was meant. No control character of the table's stands in them. Where standard error is a terminal and no
+/// word is `--quiet`, the system's `progress` is told of each file that is read below a folder; what is written to
+/// `output` and `errors` is the same.
 pub fn run_program<H, S: Folders + Sync, P: Progress + Sync, K: Stores, R: Read, W: Sink, E: Sink>(
     system: &System<'_, H, S, P>,
     terminals: Terminals,
@@ -211,7 +231,7 @@ pub fn run_program<H, S: Folders + Sync, P: Progress + Sync, K: Stores, R: Read,
     errors: &mut E,
 ) -> u8
 where
-    H: Threads + Wait + Watch + Sync,
+    H: Threads + Wait + Watch + Looks + Sync,
     // No other run tells `progress` of reads.
     requires { shows_progress terminals.errors (map string_bytes words.now) ≡ true →
         P.may_be_told system.now.progress.now ≡ true }
@@ -236,7 +256,8 @@ where
           output = W.taken output.new;
           errors = E.taken errors.new;
         }) }
-    // In any case: that, but that a text without control characters may stand after the line of a fault.
+    // In any case: that, but that texts without control characters may stand beside the answer, and after the line of
+    // a fault.
     ensures run { RanWithHint (record {
       below = S.below system.now.folders.now;
       gives = S.gives system.now.folders.now;

@@ -13,6 +13,7 @@ mod words;
 pub use explaining::run_program;
 pub use icescan_columns::{columns_file, run_columns};
 pub use icescan_drill::{Drill, Watch, drill_table, run_drill};
+pub use icescan_hints::{Kind, Looks};
 pub use icescan_json::{plan_file_json, run_list_plan_json};
 pub use icescan_progress::{Cleared, Progress, ProgressLine, Screen, Silent, Terminals};
 pub use icescan_requests::{

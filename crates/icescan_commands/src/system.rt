@@ -2,7 +2,7 @@
 
 use std::alloc::Global;
 
-/// What a run works with: there is no other way to a file.
+/// What a run works with: there is no other way to the bytes of a file.
 #[derive(Drop)]
 pub struct System<'a, H, S, P> {
     /// Starts threads, and waits for them.

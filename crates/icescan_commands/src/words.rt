@@ -5,7 +5,7 @@ ghost use Rattle.icescan_requests.specs.Bundles.{IsInput};
 ghost use Rattle.icescan_commands.specs.Reading.{WroteOfGiven, WroteOfGivenBy};
 ghost use Rattle.icescan_commands.specs.Runs.{IsCount, IsCountOf, IsOfDrill, Ran, RanWithoutHint, answer_to, ended};
 ghost use Rattle.icescan_commands.specs.Runs.{failing_of, failing_run, run_of, status_of_count};
-ghost use Rattle.icescan_commands.specs.Storing.{IsStored, IsStoredBy};
+ghost use Rattle.icescan_commands.specs.Storing.{IsStored, IsStoredBy, IsStoredOfGiven, IsStoredOfGivenBy};
 ghost use Rattle.icescan_words.specs.CommandLines.{ReadAs};
 ghost use Rattle.icescan_words.specs.declared.command.Command.{Command};
 ghost use Rattle.icescan_text.specs.declared.fault.RunFault.{RunFault};
@@ -57,6 +57,8 @@ where
         (ended result) (K.below stores.new) (K.files stores.new) (W.taken output.old) (W.taken output.new) }
     ensures given { IfOk result (λ count. WroteOfGiven (S.gives system.now.folders.now) asked.now count
         (W.taken output.old) (W.taken output.new)) }
+    ensures stored_of_given { IsStoredOfGiven asked.now (S.gives system.now.folders.now) (K.below stores.old)
+        (ended result) (K.files stores.new) (W.taken output.old) (W.taken output.new) }
 {
     match asked {
         Command::ListPlan(lists, format) => {
@@ -111,6 +113,8 @@ where
         (ended result) (K.below stores.new) (K.files stores.new) (W.taken output.old) (W.taken output.new) ×
         IfOk result (λ count. WroteOfGivenBy (S.gives system.now.folders.now) asked count (W.taken output.old)
         (W.taken output.new)) ×
+        IsStoredOfGivenBy asked (S.gives system.now.folders.now) (K.below stores.old) (ended result)
+        (K.files stores.new) (W.taken output.old) (W.taken output.new) ×
         (text : List ℕ) × IsInput (R.remaining input.old) text ×
         Ran (run_of (S.below system.now.folders.now) asked text)
         (failing_run (S.below system.now.folders.now) (S.may_fail system.now.folders.now) asked

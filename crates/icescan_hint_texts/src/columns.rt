@@ -155,3 +155,17 @@ pub fn add_types(
     }
     Ok(())
 }
+
+/// The type of the column that a predicate asks for.
+pub fn type_in(
+    alloc: Global,
+    predicate: &Predicate,
+    schema: &Schema,
+) -> Result<Option<ColumnType>, AllocError> {
+    let path = path_of(alloc, &predicate.column)?;
+    Ok(
+        schema
+            .column(path.as_slice())
+            .and_then(|column| column.column_type),
+    )
+}

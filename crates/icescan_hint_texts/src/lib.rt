@@ -1,4 +1,4 @@
-//! The lines of a hint, and what they say of a filter.
+//! The lines of a hint, and what they say of a filter and of words that a shell split.
 #![tactic(auto)]
 
 mod caret;
@@ -9,7 +9,10 @@ mod literals;
 mod moments;
 mod nearest;
 mod predicates;
+mod reading;
 mod sentence;
+mod split;
+mod units;
 
 pub use caret::add_caret;
 pub use columns::{add_first_missing, add_types};
@@ -17,4 +20,7 @@ pub use habits::add_habit;
 pub use hint::{Hint, quoted, quoted_list};
 pub use literals::add_wrong_literal;
 pub use nearest::add_none_named;
+pub use reading::reading_of;
 pub use sentence::{MEMORY, Sentence};
+pub use split::add_split;
+pub use units::add_unlikely;

@@ -1,11 +1,54 @@
-//! The numbers of dates and times that a text stands for.
+//! Dates and times, between their numbers and their texts.
 
 use jiff_core::civil::{Date, Time};
+use std::alloc::{AllocError, Global};
 
 /// How many microseconds a second and a day have.
 const SECOND: i64 = 1_000_000;
 
 const DAY: i64 = 86_400_000_000;
+
+/// The text of the day so many days after 1970-01-01, in the years from 0 to 9999.
+pub fn day_text(alloc: Global, day: i64) -> Result<Option<String>, AllocError> {
+    match Date::from_unix_epoch_day(day) {
+        Ok(date) if date.year >= 0 => {
+            let year = date.year;
+            let month = date.month;
+            let day = date.day;
+            Ok(Some(format!(in alloc; "{year:04}-{month:02}-{day:02}")?))
+        }
+        _ => Ok(None),
+    }
+}
+
+/// The text of the time so many microseconds after midnight.
+pub fn time_text(alloc: Global, micros: i64) -> Result<Option<String>, AllocError> {
+    if micros < 0 || micros >= DAY {
+        return Ok(None);
+    }
+    let second = micros / SECOND;
+    let hour = second / 3_600;
+    let minute = second / 60 % 60;
+    let second = second % 60;
+    let part = micros % SECOND;
+    let text = format!(in alloc; "{hour:02}:{minute:02}:{second:02}")?;
+    if part == 0 {
+        return Ok(Some(text));
+    }
+    let fraction = format!(in alloc; "{part:06}")?;
+    let fraction = fraction.as_str().trim_end_matches('0');
+    Ok(Some(format!(in alloc; "{text}.{fraction}")?))
+}
+
+/// The text of the moment so many microseconds after 1970-01-01 00:00, in the years from 0 to 9999.
+pub fn moment_text(alloc: Global, micros: i64) -> Result<Option<String>, AllocError> {
+    let day = day_text(alloc, micros.div_euclid(DAY))?;
+    let time = time_text(alloc, micros.rem_euclid(DAY))?;
+    match (day, time) {
+        (Some(day), Some(time)) => Ok(Some(format!(in alloc; "{day}T{time}")?)),
+        _ => Ok(None),
+    }
+}
 
 /// The number of a text of digits alone, none where it has others.
 fn number_in(text: &str) -> Option<i16> {

@@ -21,6 +21,22 @@ fn is_read(alloc: Global, member: ChangeMember, file: &Value) -> Result<bool, Al
     Ok(read_change(alloc, text.as_bytes(), ChangeKind::RowDelta).is_ok())
 }
 
+/// Which file of an array of the change file is at fault.
+fn bad_file_text(
+    alloc: Global,
+    file: &Value,
+    name: &str,
+    place: usize,
+) -> Result<String, AllocError> {
+    match file.get("path").and_then(|path| path.as_str()) {
+        Some(path) => {
+            let path = quoted(alloc, path)?;
+            format!(in alloc; "the file at fault is {path}, `{name}[{place}]` of the change file")
+        }
+        None => format!(in alloc; "the file at fault is `{name}[{place}]` of the change file"),
+    }
+}
+
 /// Adds the first file of an array that can't be read. The answer says whether there is one.
 fn add_first(
     hint: &mut Hint,
@@ -33,19 +49,7 @@ fn add_first(
     };
     for (place, file) in files.iter().enumerate() {
         if !is_read(alloc, member, file)? {
-            let name = member.name();
-            let text = match file.get("path").and_then(|path| path.as_str()) {
-                Some(path) => {
-                    let path = quoted(alloc, path)?;
-                    format!(in alloc;
-                        "the file at fault is {path}, `{name}[{place}]` of the change file"
-                    )?
-                }
-                None => format!(in alloc;
-                    "the file at fault is `{name}[{place}]` of the change file"
-                )?,
-            };
-            hint.here(alloc, text)?;
+            hint.here(alloc, bad_file_text(alloc, file, member.name(), place)?)?;
             return Ok(true);
         }
     }
@@ -133,6 +137,40 @@ fn fields_text(alloc: Global, metadata: &Metadata, spec: &Spec) -> Result<String
     Ok(text)
 }
 
+/// The fields of the spec of an id, where the metadata can be read and has one.
+fn spec_text<F: Files>(
+    alloc: Global,
+    case: &Case<'_, F>,
+    spec_id: i32,
+) -> Result<Option<String>, AllocError> {
+    let Some(metadata) = case.metadata(alloc) else {
+        return Ok(None);
+    };
+    match metadata.spec(alloc, spec_id, metadata.schema_for(&Target::Main))? {
+        Some(spec) => Ok(Some(fields_text(alloc, &metadata, &spec)?)),
+        None => Ok(None),
+    }
+}
+
+/// Adds the fields of the spec of an id, and how many values a partition has.
+fn add_spec_fields<F: Files>(
+    hint: &mut Hint,
+    alloc: Global,
+    case: &Case<'_, F>,
+    spec_id: i32,
+    values: usize,
+) -> Result<(), AllocError> {
+    match spec_text(alloc, case, spec_id)? {
+        Some(fields) => hint.here(
+            alloc,
+            format!(in alloc;
+                "the fields of spec {spec_id}: {fields}; values in the file's partition: {values}"
+            )?,
+        ),
+        None => Ok(()),
+    }
+}
+
 /// Adds the fields of the spec by which the file at a path is written.
 pub fn add_fields<F: Files>(
     hint: &mut Hint,
@@ -140,22 +178,11 @@ pub fn add_fields<F: Files>(
     case: &Case<'_, F>,
     path: &Text,
 ) -> Result<(), AllocError> {
-    let (Some(change), Some(metadata)) = (change_of(alloc, case), case.metadata(alloc)) else {
+    let Some(change) = change_of(alloc, case) else {
         return Ok(());
     };
-    let Some((spec_id, values)) = partition_at(&change, path) else {
-        return Ok(());
-    };
-    let schema = metadata.schema_for(&Target::Main);
-    let Some(spec) = metadata.spec(alloc, spec_id, schema)? else {
-        return Ok(());
-    };
-    let fields = fields_text(alloc, &metadata, &spec)?;
-    hint.here(
-        alloc,
-        format!(in alloc;
-            "the fields of spec {}: {fields}; values in the file's partition: {values}",
-            spec.id
-        )?,
-    )
+    match partition_at(&change, path) {
+        Some((spec_id, values)) => add_spec_fields(hint, alloc, case, spec_id, values),
+        None => Ok(()),
+    }
 }

@@ -2,6 +2,7 @@
 
 use crate::case::Case;
 use crate::changes::{add_bad_file, add_fields};
+use crate::paths::add_named;
 use crate::tables::add_specs;
 use contract_words::{Items, Text};
 use ice_catalog_versions::{PrepareFault, Prepared};
@@ -60,6 +61,18 @@ fn add_made<F: Files>(
     }
 }
 
+/// Adds which files of a commit stand at their places, and whether it was made.
+fn add_prepared<F: Files>(
+    hint: &mut Hint,
+    alloc: Global,
+    case: &Case<'_, F>,
+    out: &Text,
+    prepared: &Prepared,
+) -> Result<(), AllocError> {
+    add_files(hint, alloc, case, prepared.files())?;
+    add_made(hint, alloc, case, out, prepared)
+}
+
 /// Adds which files of a commit that could not be put or told stand at their places, and whether it was made.
 pub fn add_unwritten<F: Files>(
     hint: &mut Hint,
@@ -70,10 +83,7 @@ pub fn add_unwritten<F: Files>(
         return hint.here(alloc, format!(in alloc; "standard output")?);
     };
     match prepare_commit(alloc, files, request) {
-        Ok(prepared) => {
-            add_files(hint, alloc, case, prepared.files())?;
-            add_made(hint, alloc, case, &request.out, &prepared)
-        }
+        Ok(prepared) => add_prepared(hint, alloc, case, &request.out, &prepared),
         Err(_) => Ok(()),
     }
 }
@@ -98,8 +108,12 @@ fn add_change_file<F: Files>(
     let Some(request) = case.commit() else {
         return Ok(());
     };
-    let name = quoted(alloc, request.change.as_str())?;
-    hint.here(alloc, format!(in alloc; "the change file is {name}")?)
+    add_named(hint, alloc, "the change file", request.change.as_str())
+}
+
+/// The time of the newest snapshot.
+fn newest_time<F: Files>(alloc: Global, case: &Case<'_, F>) -> Option<i64> {
+    case.metadata(alloc)?.newest_time()
 }
 
 /// Adds the commit's time and that of the newest snapshot.
@@ -110,10 +124,7 @@ fn add_times<F: Files>(
     request: &CommitRequest,
 ) -> Result<(), AllocError> {
     let now = request.ids.now_ms;
-    let Some(metadata) = case.metadata(alloc) else {
-        return Ok(());
-    };
-    match metadata.newest_time() {
+    match newest_time(alloc, case) {
         Some(newest) => hint.here(
             alloc,
             format!(in alloc; "`--now-ms` is {now}, and the newest snapshot is of {newest}")?,
@@ -144,8 +155,7 @@ pub fn add_commit<F: Files>(
             add_fields(hint, alloc, case, path)
         }
         PrepareFault::BaseBad(_) | PrepareFault::SequenceEnd => {
-            let name = quoted(alloc, request.metadata.as_str())?;
-            hint.here(alloc, format!(in alloc; "the metadata is {name}")?)
+            add_named(hint, alloc, "the metadata", request.metadata.as_str())
         }
         _ => add_change_file(hint, alloc, case),
     }

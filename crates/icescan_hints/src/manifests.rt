@@ -2,6 +2,7 @@
 
 use crate::case::Case;
 use crate::fields::field_name;
+use crate::paths::add_named;
 use contract_words::Text;
 use ice_desk::Files;
 use ice_manifest_reading::{EntryView, Keep, ListFault, Live, ManifestFault, Row, read_kept};
@@ -101,24 +102,17 @@ fn add_position(hint: &mut Hint, alloc: Global, last: Option<u64>) -> Result<(),
     }
 }
 
-/// Adds where in a manifest the fault is.
-fn add_place<F: Files>(
-    hint: &mut Hint,
+/// The position of the last entry of the manifest at a path that can be read.
+fn last_position<F: Files>(
     alloc: Global,
     case: &Case<'_, F>,
+    metadata: &Option<Metadata>,
     path: &Text,
-) -> Result<(), AllocError> {
-    let metadata = case.metadata(alloc);
-    let Some(row) = row_at(alloc, case, &metadata, path) else {
-        return Ok(());
-    };
-    let Some(spec) = spec_of(alloc, case, &metadata, &row) else {
-        return Ok(());
-    };
-    match case.read(alloc, path.as_str()) {
-        Some(bytes) => add_position(hint, alloc, last_read(alloc, &row, &spec, &bytes)),
-        None => Ok(()),
-    }
+) -> Option<u64> {
+    let row = row_at(alloc, case, metadata, path)?;
+    let spec = spec_of(alloc, case, metadata, &row)?;
+    let bytes = case.read(alloc, path.as_str())?;
+    last_read(alloc, &row, &spec, &bytes)
 }
 
 /// Adds what of the manifest at a path is at fault.
@@ -129,15 +123,15 @@ pub fn add_manifest<F: Files>(
     path: &Text,
     fault: &ManifestFault,
 ) -> Result<(), AllocError> {
-    let name = quoted(alloc, path.as_str())?;
-    hint.here(alloc, format!(in alloc; "the manifest is {name}")?)?;
+    add_named(hint, alloc, "the manifest", path.as_str())?;
     match fault {
         ManifestFault::MissingField(id)
         | ManifestFault::WrongFieldType(id)
         | ManifestFault::OutOfRange(id) => add_field(hint, alloc, *id)?,
         _ => {}
     }
-    add_place(hint, alloc, case, path)
+    let metadata = case.metadata(alloc);
+    add_position(hint, alloc, last_position(alloc, case, &metadata, path))
 }
 
 /// Adds what of the manifest list is at fault.

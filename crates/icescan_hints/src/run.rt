@@ -112,52 +112,52 @@ fn of_newest(fault: &NewestFault) -> Sentence {
     }
 }
 
-/// What a refusal says, and what those inside it say, the outermost first, of a command that commits or of another. Of
-/// words that are not understood nothing is said: their own text says all.
+/// What a refusal itself says, of a command that commits or of another. Of words that are not understood nothing is
+/// said: their own text says all.
+fn sentence_of(fault: &RunFault, commits: bool) -> Option<Sentence> {
+    Some(match fault {
+        RunFault::Words(_) => return None,
+        RunFault::Bundle(_) => BUNDLE,
+        RunFault::Absent(_) => ABSENT,
+        RunFault::Input | RunFault::Device(_) => DEVICE,
+        RunFault::List(fault) => of_list(fault),
+        RunFault::Scan(fault) => of_scan(*fault),
+        RunFault::Finish(fault) => of_finish(fault),
+        RunFault::Metadata(fault) => of_metadata(fault),
+        RunFault::Filter(fault) => of_filter(*fault),
+        RunFault::Drill(fault) => of_drill(fault),
+        RunFault::Locate(fault) => of_newest(fault),
+        RunFault::Change(fault) => of_change(*fault),
+        RunFault::Prepare(fault) => of_prepare(fault),
+        RunFault::Conflict(_) => CONFLICT,
+        RunFault::Workers => WORKERS,
+        RunFault::Write if commits => NOT_STORED,
+        RunFault::Write => WRITE,
+        RunFault::Memory => MEMORY,
+    })
+}
+
+/// Adds what the refusals inside one say.
+fn add_inner(found: &mut Vec<Sentence>, fault: &RunFault) -> Result<(), AllocError> {
+    match fault {
+        RunFault::List(ListFault::Avro(fault)) => add_container(found, fault),
+        RunFault::Finish(FinishFault::Bad(_, fault)) => add_manifest(found, fault),
+        _ => Ok(()),
+    }
+}
+
+/// What a refusal says, and what those inside it say, the outermost first, of a command that commits or of another.
 pub fn sentences_of(
     alloc: Global,
     fault: &RunFault,
     commits: bool,
 ) -> Result<Vec<Sentence>, AllocError> {
     let mut found = Vec::new(alloc);
-    match fault {
-        RunFault::Words(_) => {}
-        RunFault::Bundle(_) => found.push(BUNDLE)?,
-        RunFault::Absent(_) => found.push(ABSENT)?,
-        RunFault::Input | RunFault::Device(_) => found.push(DEVICE)?,
-        RunFault::List(fault) => add_list(&mut found, fault)?,
-        RunFault::Scan(fault) => found.push(of_scan(*fault))?,
-        RunFault::Finish(fault) => add_finish(&mut found, fault)?,
-        RunFault::Metadata(fault) => found.push(of_metadata(fault))?,
-        RunFault::Filter(fault) => found.push(of_filter(*fault))?,
-        RunFault::Drill(fault) => found.push(of_drill(fault))?,
-        RunFault::Locate(fault) => found.push(of_newest(fault))?,
-        RunFault::Change(fault) => found.push(of_change(*fault))?,
-        RunFault::Prepare(fault) => found.push(of_prepare(fault))?,
-        RunFault::Conflict(_) => found.push(CONFLICT)?,
-        RunFault::Workers => found.push(WORKERS)?,
-        RunFault::Write => found.push(if commits { NOT_STORED } else { WRITE })?,
-        RunFault::Memory => found.push(MEMORY)?,
+    if let Some(sentence) = sentence_of(fault, commits) {
+        found.push(sentence)?;
     }
+    add_inner(&mut found, fault)?;
     Ok(found)
-}
-
-/// Adds what a refusal of a manifest list says.
-fn add_list(found: &mut Vec<Sentence>, fault: &ListFault) -> Result<(), AllocError> {
-    found.push(of_list(fault))?;
-    match fault {
-        ListFault::Avro(fault) => add_container(found, fault),
-        _ => Ok(()),
-    }
-}
-
-/// Adds what a refusal of a plan says.
-fn add_finish(found: &mut Vec<Sentence>, fault: &FinishFault) -> Result<(), AllocError> {
-    found.push(of_finish(fault))?;
-    match fault {
-        FinishFault::Bad(_, fault) => add_manifest(found, fault),
-        _ => Ok(()),
-    }
 }
 
 /// Adds what a refusal of a manifest says.

@@ -1,9 +1,10 @@
 //! What of a table a refusal of its metadata is about.
 
 use crate::case::Case;
+use crate::paths::add_named;
 use ice_desk::Files;
 use ice_meta::{MetaFault, Metadata, Table, Target};
-use icescan_hint_texts::{Hint, add_none_named, quoted};
+use icescan_hint_texts::{Hint, add_none_named};
 use std::alloc::{AllocError, Global};
 
 /// How many ids are told at most.
@@ -36,20 +37,25 @@ fn spec_ids(alloc: Global, table: &Table) -> Result<String, AllocError> {
     Ok(text)
 }
 
+/// Adds the ids of a table's partition specs.
+fn add_spec_ids(hint: &mut Hint, alloc: Global, table: &Table) -> Result<(), AllocError> {
+    let ids = spec_ids(alloc, table)?;
+    hint.here(
+        alloc,
+        format!(in alloc; "the partition specs of the table:{ids}")?,
+    )
+}
+
 /// Adds the ids of the table's partition specs.
 pub fn add_specs<F: Files>(
     hint: &mut Hint,
     alloc: Global,
     case: &Case<'_, F>,
 ) -> Result<(), AllocError> {
-    let Some(metadata) = case.metadata(alloc) else {
-        return Ok(());
-    };
-    let ids = spec_ids(alloc, metadata.table())?;
-    hint.here(
-        alloc,
-        format!(in alloc; "the partition specs of the table:{ids}")?,
-    )
+    match case.metadata(alloc) {
+        Some(metadata) => add_spec_ids(hint, alloc, metadata.table()),
+        None => Ok(()),
+    }
 }
 
 /// Adds which snapshot is asked for, and which the table has.
@@ -79,6 +85,18 @@ fn add_target(
                 format!(in alloc; "{id} is no snapshot of the table; its last ones:{ids}")?,
             )
         }
+    }
+}
+
+/// The same, where the metadata can be read.
+fn add_asked_target<F: Files>(
+    hint: &mut Hint,
+    alloc: Global,
+    case: &Case<'_, F>,
+) -> Result<(), AllocError> {
+    match (case.target(), case.metadata(alloc)) {
+        (Some(target), Some(metadata)) => add_target(hint, alloc, target, &metadata),
+        _ => Ok(()),
     }
 }
 
@@ -115,13 +133,10 @@ pub fn add_metadata<F: Files>(
     let Some(path) = case.metadata_path() else {
         return Ok(());
     };
-    let name = quoted(alloc, path)?;
-    hint.here(alloc, format!(in alloc; "the metadata is {name}")?)?;
-    match (fault, case.target(), case.metadata(alloc)) {
-        (MetaFault::NoSuchRef | MetaFault::NoSuchSnapshot, Some(target), Some(metadata)) => {
-            add_target(hint, alloc, target, &metadata)
-        }
-        (MetaFault::NotJson, _, _) => add_compression(hint, alloc, case, path),
+    add_named(hint, alloc, "the metadata", path)?;
+    match fault {
+        MetaFault::NoSuchRef | MetaFault::NoSuchSnapshot => add_asked_target(hint, alloc, case),
+        MetaFault::NotJson => add_compression(hint, alloc, case, path),
         _ => Ok(()),
     }
 }

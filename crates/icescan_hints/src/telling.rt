@@ -5,13 +5,14 @@ ghost use Rattle.icescan_progress.specs.Hints.{AppendsPlain};
 use crate::case::Case;
 use crate::columns::add_filter;
 use crate::commits::{add_change, add_commit, add_unwritten};
+use crate::looks::{Kind, Looks};
 use crate::manifests::{add_list, add_manifest};
-use crate::paths::{add_file_name, add_path};
+use crate::paths::{add_file_name, add_named, add_path, add_unread};
 use crate::run::sentences_of;
 use crate::tables::{add_metadata, add_specs};
 use ice_desk::Files;
 use ice_state::{FinishFault, ScanFault};
-use icescan_hint_texts::{Hint, quoted};
+use icescan_hint_texts::Hint;
 use icescan_print::Sink;
 use icescan_progress::put_lines;
 use icescan_text::RunFault;
@@ -19,16 +20,16 @@ use icescan_words::{Command, Lists};
 use std::alloc::{AllocError, Global};
 
 /// Adds what of the words, the table and its files a fault is about.
-fn add_here<F: Files>(
+fn add_here<L: Looks, F: Files>(
     hint: &mut Hint,
     alloc: Global,
+    looks: &L,
     case: &Case<'_, F>,
     fault: &RunFault,
 ) -> Result<(), AllocError> {
     match fault {
-        RunFault::Absent(path) | RunFault::Device(path) => {
-            add_path(hint, alloc, case, path.as_str())
-        }
+        RunFault::Absent(path) => add_path(hint, alloc, case, path.as_str()),
+        RunFault::Device(path) => add_unread(hint, alloc, looks, case, path.as_str()),
         RunFault::List(fault) => add_list(hint, alloc, case, fault),
         RunFault::Scan(ScanFault::NoSuchSpec(_)) => add_specs(hint, alloc, case),
         RunFault::Finish(FinishFault::Bad(path, fault)) => {
@@ -67,10 +68,7 @@ fn add_folder<F: Files>(
     case: &Case<'_, F>,
 ) -> Result<(), AllocError> {
     match case.asked {
-        Command::Locate(folder, _) => {
-            let name = quoted(alloc, folder.as_str())?;
-            hint.here(alloc, format!(in alloc; "the folder is {name}")?)
-        }
+        Command::Locate(folder, _) => add_named(hint, alloc, "the folder", folder.as_str()),
         _ => Ok(()),
     }
 }
@@ -108,19 +106,31 @@ fn add_workers<F: Files>(
     }
 }
 
+/// Whether a pipe that takes the answer was closed: its reader had enough.
+fn had_enough<L: Looks, F: Files>(looks: &L, case: &Case<'_, F>, fault: &RunFault) -> bool {
+    match fault {
+        RunFault::Write => case.commit().is_none() && looks.kind("/dev/stdout") == Kind::Pipe,
+        _ => false,
+    }
+}
+
 /// The lines of a fault's hint: what each refusal says, what they are about, and what to do. There are none for words
-/// that are not understood.
-fn hint_of<F: Files>(
+/// that are not understood, and none where the answer's reader had enough.
+fn hint_of<L: Looks, F: Files>(
     alloc: Global,
+    looks: &L,
     case: &Case<'_, F>,
     fault: &RunFault,
 ) -> Result<Hint, AllocError> {
     let mut hint = Hint::new(alloc);
+    if had_enough(looks, case, fault) {
+        return Ok(hint);
+    }
     let sentences = sentences_of(alloc, fault, case.commit().is_some())?;
     for sentence in sentences.as_slice() {
         hint.say(alloc, sentence)?;
     }
-    add_here(&mut hint, alloc, case, fault)?;
+    add_here(&mut hint, alloc, looks, case, fault)?;
     if let Some(sentence) = sentences.last() {
         hint.advise(alloc, sentence)?;
     }
@@ -129,15 +139,16 @@ fn hint_of<F: Files>(
 
 /// Writes the hint of a fault, as far as it can be written: lines in which no control character stands. Nothing is
 /// written where memory runs out.
-pub fn put_hint<F: Files, S: Sink>(
+pub fn put_hint<L: Looks, F: Files, S: Sink>(
     alloc: Global,
+    looks: &L,
     case: &Case<'_, F>,
     fault: &RunFault,
     errors: &mut S,
 )
     ensures { AppendsPlain (S.taken errors.old) (S.taken errors.new) }
 {
-    if let Ok(hint) = hint_of(alloc, case, fault) {
+    if let Ok(hint) = hint_of(alloc, looks, case, fault) {
         put_lines(alloc, hint.lines(), errors);
     }
 }

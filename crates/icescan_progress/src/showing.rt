@@ -61,7 +61,8 @@ fn shown(alloc: Global, lines: &[Text]) -> Result<Vec<u8>, AllocError>
 /// Writes lines, as far as they can be written: no control character stands in them but the line feeds at their ends.
 /// Nothing is written where memory runs out.
 pub fn put_lines<S: Sink>(alloc: Global, lines: &[Text], errors: &mut S)
-    ensures { AppendsPlain (S.taken errors.old) (S.taken errors.new) }
+    ensures plain { AppendsPlain (S.taken errors.old) (S.taken errors.new) }
+    ensures still { S.may_fail errors.new → S.may_fail errors.old }
 {
     if let Ok(text) = shown(alloc, lines) {
         let _ = write_all(errors, &text);

@@ -49,7 +49,9 @@
 //!   about and what to do
 #![tactic(auto)]
 
-use icescan_commands::{HostFolders, HostStores, Silent, System, Terminals, Watch, run_program};
+use icescan_commands::{
+    HostFolders, HostStores, Looks, Silent, System, Terminals, Watch, run_program,
+};
 use std::alloc::{AllocError, Global};
 use std::fs;
 use std::io::{self, Write};
@@ -84,7 +86,7 @@ fn words_of(alloc: Global, line: &str) -> Result<Vec<String>, AllocError> {
 /// error, and its status.
 fn play<H, W: Write>(host: &H, alloc: Global, line: &str, page: &mut W) -> io::Result<()>
 where
-    H: Files<File: Send, Dir: Send> + Threads + Wait + Watch + Sync,
+    H: Files<File: Send, Dir: Send> + Threads + Wait + Watch + Looks + Sync,
 {
     let (from, behind) = marked(line, '<');
     let (to, words) = marked(behind, '>');

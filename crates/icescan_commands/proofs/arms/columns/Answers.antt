@@ -4,10 +4,11 @@ use Rattle.icescan_columns.specs.Columns.{columns_at}
 use Rattle.icescan_commands.specs.Runs.{columns_told}
 use Rattle.icescan_commands.proofs.Answering.{gives_shown}
 use Rattle.icescan_commands.proofs.Opened.{opened_ran, unopened_ran}
+use Rattle.icescan_commands.proofs.Reading.{columns_below}
 use Rattle.icescan_commands.proofs.arms.columns.Goals as goal
 
-pub returns-in_err-files : goal.returns-in_err-files
-returns-in_err-files g c =
+pub returns-in_err-files-clause-ran : goal.returns-in_err-files-clause-ran
+returns-in_err-files-clause-ran g c =
     let p = err_from_is_err_and c.from_residual.result c.from_residual.ensures.1 in
     let no = c.in_err-files.ensures.refused in
     let path = c.args.table.now.path.now in
@@ -20,8 +21,8 @@ returns-in_err-files g c =
           c.in_err-files.field-0.0 no.2,
     )
 
-pub returns : goal.returns
-returns g c =
+pub returns-clause-ran : goal.returns-clause-ran
+returns-clause-ran g c =
     let opened = c.in_ok-files.ensures.opened in
     let path = c.as_str.result.now in
     let ran = c.columns_file in
@@ -31,3 +32,10 @@ returns g c =
     ran.result _ _ (λ v told. gives_shown (columns_at v path c.args.target.now) _ _ ran.result _ _ (ran.ensures.written v told)
     (ran.ensures.refused v told) (ran.ensures.front v told)) ran.ensures.nothing in
     (opened.0, opened.1, rw c.as_str.ensures at told)
+
+pub returns-clause-given : goal.returns-clause-given
+returns-clause-given g c =
+    let path = c.as_str.result.now in
+    let wrote = columns_below (g.S.Folders.gives c.args.system.now.folders.now) c.args.table.now.source.now _
+    c.in_ok-files.ensures.given path c.args.target.now c.columns_file.result _ _ c.columns_file.ensures.given in
+    rw c.as_str.ensures at wrote

@@ -60,3 +60,19 @@ returns-in-Folder-clause-stored g c =
     (λ fault none. ran.ensures.unchanged world fault (rw (is.0, is.1, is.2) told) none)
     (λ commit there. ran.ensures.left world commit (rw (is.0, is.1, is.2) told) there) in
     rw (is.0, is.1, is.2, c.enter.ensures.entered, c.as_str.ensures, c.as_str-in-Folder.ensures) at here))
+
+pub returns-in_err-bundle-in-Bundle-clause-stored_of_given : goal.returns-in_err-bundle-in-Bundle-clause-stored_of_given
+returns-in_err-bundle-in-Bundle-clause-stored_of_given g c =
+    let asked : c.args.source.now ≡ source.Bundle = search rules in rw asked tt
+
+pub returns-in_ok-bundle-in-Bundle-clause-stored_of_given : goal.returns-in_ok-bundle-in-Bundle-clause-stored_of_given
+returns-in_ok-bundle-in-Bundle-clause-stored_of_given g c =
+    let asked : c.args.source.now ≡ source.Bundle = search rules in rw asked tt
+
+pub returns-in-Folder-clause-stored_of_given : goal.returns-in-Folder-clause-stored_of_given
+returns-in-Folder-clause-stored_of_given g c =
+    let asked : c.args.source.now ≡ source.Folder c.in-Folder.place = search rules in
+    let is = c.watched_files-files.ensures in
+    let here = c.commit_to.ensures.given in
+    let there = rw (is.0, is.1, is.2, c.enter.ensures.entered, c.as_str.ensures, c.as_str-in-Folder.ensures) at here in
+    rw asked there

@@ -1,6 +1,7 @@
 use Rattle.std.proofs.Common.{refl, inl, inr, ap}
 use Rattle.std.specs.Prelude.{Ok, Err}
-use Rattle.icescan_commands.proofs.Hinted.{plainly}
+use Rattle.icescan_progress.proofs.Plain.{nothing_plain}
+use Rattle.icescan_commands.proofs.Hinted.{tell_more}
 use Rattle.icescan_commands.proofs.Refusals.{is_left, left_of, words_ran}
 use Rattle.icescan_commands.proofs.explaining.run_explained.Goals as goal
 
@@ -13,12 +14,20 @@ returns-in-Ok-run_asked g c =
       ran.0,
       ran.1,
       inl (record {
-        written = ran.2.written;
-        silent = refl;
-        ends = (c.in-Ok-run_asked.count, ran.3, c.status_of_count.ensures);
-        drilled = w.drilled;
-        of_given = (c.in-Ok-run_asked.count, c.status_of_count.ensures, w.given);
-        stored = w.stored;
+        wrote = record {
+          written = ran.2.written;
+          silent = refl;
+          ends = (c.in-Ok-run_asked.count, ran.3, c.status_of_count.ensures);
+          drilled = w.drilled;
+          of_given = (c.in-Ok-run_asked.count, c.status_of_count.ensures, w.given);
+          stored = w.stored;
+          stored_of_given = w.stored_of_given;
+        };
+        noted = record {
+          between = g.E.Sink.taken c.put_reading.new.errors;
+          before = c.put_reading.ensures.plain;
+          after = c.put_notes.ensures;
+        };
       }),
     )
 
@@ -36,7 +45,10 @@ returns-in-Ok g c =
         nothing = ran.2.nothing;
         front = λ is. ran.2.front (ap Err is);
         stored = c.in-Err-run_asked.ensures.stored;
-        told = c.explain.ensures.told;
+        stored_of_given = c.in-Err-run_asked.ensures.stored_of_given;
+        before = g.E.Sink.taken c.put_reading.new.errors;
+        note = c.put_reading.ensures.plain;
+        told = tell_more _ _ _ _ _ c.put_reading.ensures.still c.explain.ensures.told;
       }),
     )
 
@@ -53,10 +65,13 @@ returns g c =
       inr (record {
         fault = fault;
         cause = ran.refused;
-        status_is = c.report.ensures.status;
+        status_is = c.explain_words.ensures.status;
         nothing = λ _. refl;
         front = λ is. ran.front (ap Err is);
         stored = refl;
-        told = plainly _ _ _ fault (record { front = c.report.ensures.front; all = c.report.ensures.all });
+        stored_of_given = tt;
+        before = g.E.Sink.taken c.args.errors.now;
+        note = nothing_plain _;
+        told = c.explain_words.ensures.told;
       }),
     )

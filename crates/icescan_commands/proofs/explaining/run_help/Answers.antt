@@ -22,6 +22,7 @@ returns-in-Err g c =
         nothing = λ _. refl;
         front = λ is. absurd cc;
         stored = refl;
+        stored_of_given = tt;
         told = record { front = c.report.ensures.front; all = c.report.ensures.all };
       }),
     )

@@ -14,6 +14,7 @@ returns-in_err-asked g c =
       tt,
       refl,
       tt,
+      tt,
       left_of left,
       is_left left,
       words_ran
@@ -28,6 +29,7 @@ returns g c = let w = c.run_asked.ensures in (
   w.drilled,
   w.stored,
   w.given,
+  w.stored_of_given,
   w.ran.0,
   w.ran.1,
   w.ran.2,

@@ -57,7 +57,7 @@ pub returns-in-Columns-clause-ran : goal.returns-in-Columns-clause-ran
 returns-in-Columns-clause-ran g c =
     let asked : c.args.asked.now ≡ command.Columns c.in-Columns.source c.in-Columns.target c.in-Columns.path
     = search rules in
-    let told = c.columns.ensures in
+    let told = c.columns.ensures.ran in
     rw asked (
       told.0,
       told.1,
@@ -198,6 +198,13 @@ returns-in-Show-clause-given g c =
     let asked : c.args.asked.now ≡ command.Show c.in-Show.source c.in-Show.path = search rules in
     rw asked (counted_as _ c.show.result c.no_findings-in-Show.result c.no_findings-in-Show.ensures.same c.no_findings-in-Show.ensures.none c.show.ensures.given)
 
+pub returns-in-Columns-clause-given : goal.returns-in-Columns-clause-given
+returns-in-Columns-clause-given g c =
+    let asked : c.args.asked.now ≡ command.Columns c.in-Columns.source c.in-Columns.target c.in-Columns.path
+    = search rules in
+    rw asked (counted_as _ c.columns.result c.no_findings-in-Columns.result c.no_findings-in-Columns.ensures.same
+    c.no_findings-in-Columns.ensures.none c.columns.ensures.given)
+
 pub returns-in-Explain-clause-given : goal.returns-in-Explain-clause-given
 returns-in-Explain-clause-given g c =
     let asked : c.args.asked.now ≡ command.Explain c.in-Explain.source c.in-Explain.request c.in-Explain.workers c.in-Explain.path = search rules in
@@ -227,3 +234,53 @@ pub returns-in-Text-clause-given : goal.returns-in-Text-clause-given
 returns-in-Text-clause-given g c =
     let asked : c.args.asked.now ≡ command.Text c.in-Text.text = search rules in
     rw asked (any_count c.no_findings-in-Text.result)
+
+pub returns-in-ListPlan-clause-stored_of_given : goal.returns-in-ListPlan-clause-stored_of_given
+returns-in-ListPlan-clause-stored_of_given g c =
+    let asked : c.args.asked.now ≡ command.ListPlan c.in-ListPlan.lists c.in-ListPlan.format = search rules in
+    rw asked tt
+
+pub returns-in-Plan-clause-stored_of_given : goal.returns-in-Plan-clause-stored_of_given
+returns-in-Plan-clause-stored_of_given g c =
+    let asked : c.args.asked.now ≡ command.Plan c.in-Plan.source c.in-Plan.request c.in-Plan.format c.in-Plan.workers c.in-Plan.path = search rules in
+    rw asked tt
+
+pub returns-in-Show-clause-stored_of_given : goal.returns-in-Show-clause-stored_of_given
+returns-in-Show-clause-stored_of_given g c =
+    let asked : c.args.asked.now ≡ command.Show c.in-Show.source c.in-Show.path = search rules in
+    rw asked tt
+
+pub returns-in-Columns-clause-stored_of_given : goal.returns-in-Columns-clause-stored_of_given
+returns-in-Columns-clause-stored_of_given g c =
+    let asked : c.args.asked.now ≡ command.Columns c.in-Columns.source c.in-Columns.target c.in-Columns.path = search rules in
+    rw asked tt
+
+pub returns-in-Explain-clause-stored_of_given : goal.returns-in-Explain-clause-stored_of_given
+returns-in-Explain-clause-stored_of_given g c =
+    let asked : c.args.asked.now ≡ command.Explain c.in-Explain.source c.in-Explain.request c.in-Explain.workers c.in-Explain.path = search rules in
+    rw asked tt
+
+pub returns-in-Drill-clause-stored_of_given : goal.returns-in-Drill-clause-stored_of_given
+returns-in-Drill-clause-stored_of_given g c =
+    let asked : c.args.asked.now ≡ command.Drill c.in-Drill.asked = search rules in
+    rw asked tt
+
+pub returns-in-Text-clause-stored_of_given : goal.returns-in-Text-clause-stored_of_given
+returns-in-Text-clause-stored_of_given g c =
+    let asked : c.args.asked.now ≡ command.Text c.in-Text.text = search rules in
+    rw asked tt
+
+pub returns-in-Audit-clause-stored_of_given : goal.returns-in-Audit-clause-stored_of_given
+returns-in-Audit-clause-stored_of_given g c =
+    let asked : c.args.asked.now ≡ command.Audit c.in-Audit.source c.in-Audit.target c.in-Audit.workers c.in-Audit.path = search rules in
+    rw asked tt
+
+pub returns-in-Commit-clause-stored_of_given : goal.returns-in-Commit-clause-stored_of_given
+returns-in-Commit-clause-stored_of_given g c =
+    let asked : c.args.asked.now ≡ command.Commit c.in-Commit.source c.in-Commit.request = search rules in
+    rw (asked, c.no_findings-in-Commit.ensures.same) c.commit.ensures.stored_of_given
+
+pub returns-in-Locate-clause-stored_of_given : goal.returns-in-Locate-clause-stored_of_given
+returns-in-Locate-clause-stored_of_given g c =
+    let asked : c.args.asked.now ≡ command.Locate c.in-Locate.folder c.in-Locate.separator = search rules in
+    rw asked tt

@@ -9,14 +9,15 @@ returns-in-Ok g c =
       run = (
         w.0,
         w.1,
-        w.5,
         w.6,
+        w.7,
         inl (record {
-          written = w.7.written;
+          written = w.8.written;
           silent = refl;
-          ends = (c.in-Ok.count, w.8, c.status_of_count.ensures);
+          ends = (c.in-Ok.count, w.9, c.status_of_count.ensures);
           drilled = w.2;
           stored = w.3;
+          stored_of_given = w.5;
           of_given = (c.in-Ok.count, c.status_of_count.ensures, w.4);
         }),
       );
@@ -25,13 +26,13 @@ returns-in-Ok g c =
 pub returns-in-Err : goal.returns-in-Err
 returns-in-Err g c =
     let w = c.in-Err.ensures in
-    let ran = w.7 in
+    let ran = w.8 in
     record {
       run = (
         w.0,
         w.1,
-        w.5,
         w.6,
+        w.7,
         inr (record {
           fault = c.in-Err.fault;
           cause = ran.refused;
@@ -39,6 +40,7 @@ returns-in-Err g c =
           nothing = ran.nothing;
           front = λ is. ran.front (ap Err is);
           stored = w.3;
+          stored_of_given = w.5;
           told = record { front = c.report.ensures.front; all = c.report.ensures.all };
         }),
       );

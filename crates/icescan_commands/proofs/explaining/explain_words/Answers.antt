@@ -1,0 +1,8 @@
+use Rattle.icescan_commands.proofs.explaining.explain_words.Goals as goal
+
+pub returns-clause-told : goal.returns-clause-told
+returns-clause-told g c = record {
+  between = g.E.Sink.taken c.report-status.new.errors;
+  line = record { front = c.report-status.ensures.front; all = c.report-status.ensures.all };
+  hint = c.put_words_hint.ensures;
+}

@@ -1,0 +1,138 @@
+//! What is to be known of an answer: how its filter was read, and where it may not be what was meant.
+
+ghost use Rattle.icescan_progress.specs.Hints.{AppendsPlain};
+
+use crate::case::Case;
+use ice_desk::Files;
+use ice_filter::{Filter, bind, parse};
+use ice_manifest_reading::Row;
+use ice_meta::Schema;
+use icescan_hint_texts::{Hint, add_split, add_unlikely, reading_of};
+use icescan_print::Sink;
+use icescan_progress::put_lines;
+use icescan_words::{Command, Lists};
+use std::alloc::{AllocError, Global};
+
+/// When notes are written.
+#[derive(Clone, Copy)]
+enum When {
+    Before,
+    After,
+}
+
+/// Adds what is to be known of a filter that its columns take: before the answer how it is read, after it a number that
+/// hardly stands for the time that is meant.
+fn add_bound(
+    hint: &mut Hint,
+    alloc: Global,
+    filter: &Filter,
+    schema: &Schema,
+    when: When,
+) -> Result<(), AllocError> {
+    if bind(alloc, filter, schema).is_err() {
+        return Ok(());
+    }
+    match when {
+        When::Before => {
+            let reading = reading_of(alloc, filter, schema)?;
+            hint.note(alloc, format!(in alloc; "the filter is read as {reading}")?)
+        }
+        When::After => add_unlikely(hint, alloc, filter, schema),
+    }
+}
+
+/// Adds what is to be known of the filter of a plan.
+fn add_filter<F: Files>(
+    hint: &mut Hint,
+    alloc: Global,
+    case: &Case<'_, F>,
+    when: When,
+) -> Result<(), AllocError> {
+    let (Some(request), Some(text)) = (case.request(), case.filter()) else {
+        return Ok(());
+    };
+    let Ok(filter) = parse(alloc, text.as_str()) else {
+        return Ok(());
+    };
+    match case.metadata(alloc) {
+        Some(metadata) => {
+            let schema = metadata.schema_for(&request.target);
+            add_bound(hint, alloc, &filter, schema, when)
+        }
+        None => Ok(()),
+    }
+}
+
+/// Whether a row of a manifest list is that of a partitioned table.
+fn has_partitions(row: &Row) -> bool {
+    let summaries = row.partitions.as_ref();
+    row.spec_id != 0 || summaries.is_some_and(|summaries| !summaries.as_slice().is_empty())
+}
+
+/// Adds that a list that was planned without metadata is that of a table with partitions.
+fn add_partitions<F: Files>(
+    hint: &mut Hint,
+    alloc: Global,
+    case: &Case<'_, F>,
+    list: &str,
+) -> Result<(), AllocError> {
+    let Some(rows) = case.rows(alloc, list) else {
+        return Ok(());
+    };
+    match rows.iter().find(|row| has_partitions(row)) {
+        Some(row) => hint.note(
+            alloc,
+            format!(in alloc;
+                "the table has partitions, as in its spec {}, and `list-plan` is right for tables without any: it may give data files too many delete files. Use `icescan plan` with the table's metadata",
+                row.spec_id
+            )?,
+        ),
+        None => Ok(()),
+    }
+}
+
+/// The lines before an answer, and those after it.
+fn notes<F: Files>(alloc: Global, case: &Case<'_, F>, when: When) -> Result<Hint, AllocError> {
+    let mut hint = Hint::new(alloc);
+    match (when, case.asked) {
+        (When::Before, Command::Explain(..)) => add_filter(&mut hint, alloc, case, when)?,
+        (When::Before, _) => {}
+        (When::After, Command::ListPlan(Lists::Folder(_, list), _)) => {
+            add_partitions(&mut hint, alloc, case, list.as_str())?
+        }
+        (When::After, _) => add_filter(&mut hint, alloc, case, when)?,
+    }
+    Ok(hint)
+}
+
+/// Writes how the filter of an explained plan is read, as far as it can be written: lines in which no control character
+/// stands. Nothing is written of other commands.
+pub fn put_reading<F: Files, S: Sink>(alloc: Global, case: &Case<'_, F>, errors: &mut S)
+    ensures plain { AppendsPlain (S.taken errors.old) (S.taken errors.new) }
+    ensures still { S.may_fail errors.new → S.may_fail errors.old }
+{
+    if let Ok(hint) = notes(alloc, case, When::Before) {
+        put_lines(alloc, hint.lines(), errors);
+    }
+}
+
+/// Writes where an answer may not be what was meant, as far as it can be written: lines in which no control character
+/// stands.
+pub fn put_notes<F: Files, S: Sink>(alloc: Global, case: &Case<'_, F>, errors: &mut S)
+    ensures { AppendsPlain (S.taken errors.old) (S.taken errors.new) }
+{
+    if let Ok(hint) = notes(alloc, case, When::After) {
+        put_lines(alloc, hint.lines(), errors);
+    }
+}
+
+/// Writes what is to be said of words that are not understood, as far as it can be written: lines in which no control
+/// character stands.
+pub fn put_words_hint<S: Sink>(alloc: Global, words: &[String], errors: &mut S)
+    ensures { AppendsPlain (S.taken errors.old) (S.taken errors.new) }
+{
+    let mut hint = Hint::new(alloc);
+    if add_split(&mut hint, alloc, words).is_ok() {
+        put_lines(alloc, hint.lines(), errors);
+    }
+}
