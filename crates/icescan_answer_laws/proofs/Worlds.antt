@@ -1,26 +1,38 @@
 -- Where reads give what a world has.
 use Rattle.std.proofs.Common.{◌≡◌, ℕ, List, [], ◌∷◌, Option, Some, None, is_some, option_map, true, length, replicate}
 use Rattle.std.proofs.Common.{arith, refl, sym, ap, ◌∙◌}
-use Rattle.std.specs.Prelude.{Result, Ok}
+use Rattle.std.specs.FinMap.{empty}
+use Rattle.std.specs.Prelude.{Result, Ok, Err}
 use Rattle.contract_words.specs.Outcome.{◌>>=◌}
+use Rattle.ice_catalog_versions.specs.declared.change.Commit.{Commit}
+use Rattle.ice_catalog_versions.specs.declared.world.World.{World as Kept}
+use Rattle.ice_catalog_versions.specs.Histories.{openable}
 use Rattle.ice_desk.specs.Given.{AreOf, AreSlotsGiven, Giving}
 use Rattle.ice_desk.specs.Wanted.{untaken}
 use Rattle.ice_filter.specs.declared.bound.BoundPredicate.{BoundPredicate}
 use Rattle.ice_filter.specs.declared.parts.Part.{Part}
 use Rattle.ice_manifest_reading.specs.declared.row.Row.{Row}
+use Rattle.ice_meta.specs.declared.fault.MetaFault.{MetaFault}
+use Rattle.ice_meta.specs.declared.metadata.Target.TheVariants.{Main}
 use Rattle.ice_meta.specs.declared.spec.Spec.{Spec}
+use Rattle.ice_meta.specs.Targets.{Described, list_of}
 use Rattle.ice_state.specs.Contents.{Content, HasEach, World, content, every_row, reading_of, slot_of, slots_of}
 use Rattle.ice_state.specs.Lines.{OwnedLine}
 use Rattle.ice_state.specs.Outcomes.{outcome}
 use Rattle.ice_state.specs.Readings.{Reading}
 use Rattle.ice_state.specs.Scans.{Scanned}
+use Rattle.icescan_requests.proofs.Commits.{asked_is, change_is}
 use Rattle.icescan_requests.proofs.Plans.{plan_there}
+use Rattle.icescan_requests.specs.Commits.{Commitment, base_files, base_of, commitment, commitment_from, commitment_on}
+use Rattle.icescan_requests.specs.Commits.{keep_all, keep_found, manifests_in}
+use Rattle.icescan_requests.specs.GivenCommits.{IsBaseGiven, IsCommitmentOfGiven, WereKept}
 use Rattle.icescan_requests.specs.GivenPlans.{IsPlanOfGiven, IsPlanOfGivenAt, IsRowsPlanOfGiven}
 use Rattle.icescan_requests.specs.Plans.{answer_at, answer_by, over_wanted_rows, rows_plan, wanted_answer}
 use Rattle.icescan_text.proofs.Steps.{each_present, found_in}
 use Rattle.icescan_text.specs.Reads.{AreRowsGiven, file_in, rows_at, rows_in}
 use Rattle.icescan_text.specs.Workers.{by_workers}
 use Rattle.icescan_text.specs.declared.fault.RunFault.{RunFault}
+use Rattle.icescan_text.specs.declared.request.CommitRequest.{CommitRequest}
 use Rattle.icescan_text.specs.declared.request.Request.{Request}
 
 module _ (gives : Giving) (world : World) (are : AreOf gives world) where
@@ -76,3 +88,40 @@ module _ (gives : Giving) (world : World) (are : AreOf gives world) where
       (ap (λ (found : Result (List ℕ) RunFault). found >>= λ metadata. wanted_answer world metadata request)
       (found_in world path h.metadata (are path _ h.read))
       ∙ table_planned h.metadata request plan h.planned)
+
+  -- ---- commits
+
+  kept_are : (paths : List (List ℕ)) (kept kept' : Kept) → WereKept gives paths kept kept'
+      → kept' ≡ keep_all world paths kept
+  kept_are [] kept kept' h = h
+  kept_are (path ∷ paths) kept kept' h =
+      kept_are paths (keep_found path h.0 kept) kept' h.2
+      ∙ ap (λ found. keep_all world paths (keep_found path found kept)) (sym (are path h.0 h.1))
+
+  base_is : (read : Result (List ℕ) MetaFault) (kept : Kept) → IsBaseGiven gives read kept
+      → kept ≡ base_files world read
+  unfolding base_files
+  base_is (Err fault) kept h = h
+  base_is (Ok list) kept h =
+      kept_are (manifests_in h.0) (keep_found list h.0 empty) kept h.2
+      ∙ ap (λ found. keep_all world (manifests_in found) (keep_found list found empty)) (sym (are list h.0 h.1))
+
+  on_base : (bytes : List ℕ) (commit : Commit) (m : Described) → openable bytes ≡ Ok m
+      → commitment_from world bytes commit ≡ commitment_on (base_of world m) commit
+  unfolding commitment_from
+  on_base bytes commit m is = rw is refl
+
+  pub committed : (request : CommitRequest) (c : Commitment) → IsCommitmentOfGiven gives request c
+      → commitment world request ≡ Ok c
+  committed request c h =
+      let f : List ℕ → Type 0 = λ _. ⊥ in
+      let has = found_in world request.metadata h.bytes (are request.metadata _ h.read) in
+      let text = found_in world request.change h.asked.0 (are request.change _ h.asked.1) in
+      let change = change_is f world request h.asked.0 text h.change h.asked.2 in
+      let commit : Commit = record { change = h.change; ids = request.ids } in
+      let m = h.committed.metadata in
+      let base = base_is (list_of Main m.table) h.committed.kept h.committed.base in
+      asked_is f world request h.bytes has h.change change
+      ∙ on_base h.bytes commit m h.committed.opens
+      ∙ ap (λ kept. commitment_on (record { metadata = m; world = kept }) commit) (sym base)
+      ∙ h.committed.is

@@ -1,9 +1,12 @@
 //! Public calls once more, each under the one clause that its wrong implementation turns, so that the gate can try that
 //! implementation cheaply.
 
-ghost use Rattle.std.specs.Prelude.{◌≡◌, IfOk, OnOk};
+ghost use Rattle.std.specs.Prelude.{◌≡◌, ℕ, List, Some, IfOk, OnOk};
+ghost use Rattle.icescan_requests.specs.Commits.{Commitment, Made};
+ghost use Rattle.icescan_requests.specs.GivenCommits.{IsCommitmentOfGiven};
 ghost use Rattle.icescan_requests.specs.GivenPlans.{IsPlanOfGivenAt, WrotePlanThat};
 ghost use Rattle.icescan_requests.specs.Plans.{WritesAPlan};
+ghost use Rattle.icescan_requests.specs.Shows.{WroteText, show_of};
 ghost use Rattle.icescan_json.specs.JsonAnswers.{WritesJson};
 ghost use Rattle.icescan_explain.specs.Fates.{file_verdict};
 
@@ -11,7 +14,8 @@ use ice_desk::{Files, Gate};
 use ice_manifest_reading::Live;
 use icescan_explain::{FilterTests, SpecTests, Verdict};
 use icescan_print::Sink;
-use icescan_text::{Request, RunFault};
+use icescan_requests::{Below, Folders, Store};
+use icescan_text::{CommitRequest, Request, RunFault};
 use std::alloc::{AllocError, Global};
 use std::thread::Threads;
 
@@ -45,6 +49,36 @@ pub fn plan_file<R: Threads + Sync, F: Files + Sync, W: Sink>(
         (W.taken output.old) (W.taken output.new)) }
 {
     icescan_requests::plan_file(rt, alloc, files, path, request, workers, output)
+}
+
+/// Writes the text of the metadata at a path below a folder, by bytes that a read below that folder gave.
+pub fn show_below<D: Folders, W: Sink>(
+    alloc: Global,
+    folders: &D,
+    folder: &str,
+    prefix: &str,
+    path: &str,
+    output: &mut W,
+) -> Result<(), RunFault>
+    ensures { OnOk result ((metadata : List ℕ) × D.gives folders.now folder.now prefix.now path.now (Some metadata)
+        × WroteText (show_of metadata) (W.taken output.old) (W.taken output.new)) }
+{
+    let files = Below::new(folders, folder, prefix);
+    icescan_requests::show_file(alloc, &files, path, output)
+}
+
+/// Makes a commit of bytes that reads gave: its files are put.
+pub fn commit_to<F: Files, S: Store, W: Sink>(
+    alloc: Global,
+    files: &F,
+    request: &CommitRequest,
+    store: &mut S,
+    output: &mut W,
+) -> Result<(), RunFault>
+    ensures { OnOk result ((c : Commitment) × IsCommitmentOfGiven (F.gives files.now) request.now c
+        × Made c request.now (S.files store.old) (S.files store.new) (W.taken output.old) (W.taken output.new)) }
+{
+    icescan_requests::commit_to(alloc, files, request, store, output)
 }
 
 /// Writes the JSON of a plan.

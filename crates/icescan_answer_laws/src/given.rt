@@ -1,13 +1,16 @@
-//! Plans of what reads gave, and of what files have.
+//! Plans and commits of what reads gave, and of what files have.
 
 ghost use Rattle.std.specs.Prelude.{◌≡◌, ℕ, List, Ok};
 ghost use Rattle.ice_desk.specs.Given.{AreOf};
 ghost use Rattle.ice_state.specs.Contents.{World};
 ghost use Rattle.ice_state.specs.Lines.{OwnedLine};
+ghost use Rattle.icescan_requests.specs.Commits.{Commitment, commitment};
+ghost use Rattle.icescan_requests.specs.GivenCommits.{IsCommitmentOfGiven};
 ghost use Rattle.icescan_requests.specs.GivenPlans.{IsListPlanOfGiven, IsPlanOfGiven, IsPlanOfGivenAt};
 ghost use Rattle.icescan_requests.specs.ListPlans.{list_answer};
 ghost use Rattle.icescan_requests.specs.Plans.{answer_at, over_wanted_rows, wanted_answer};
 ghost use Rattle.icescan_text.specs.Workers.{by_workers};
+ghost use Rattle.icescan_text.specs.declared.request.CommitRequest.{CommitRequest};
 ghost use Rattle.icescan_text.specs.declared.request.Request.{Request};
 
 use ice_desk::Files;
@@ -29,3 +32,9 @@ pub fn plans_of_a_world<F: Files>(files: &F)
     covering_without_fields();
     unfiltered();
 }
+
+/// Where each read of some files gives what a world has, a commit of what they gave is the commit to that world.
+pub fn commits_of_a_world<F: Files>(files: &F)
+    ensures { (world : World) (request : CommitRequest) (c : Commitment) → AreOf (F.gives files.now) world →
+        IsCommitmentOfGiven (F.gives files.now) request c → commitment world request ≡ Ok c }
+{}
