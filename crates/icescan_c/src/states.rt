@@ -54,8 +54,8 @@ impl State {
         Ok(())
     }
 
-    /// Takes over what another state of the same scan took: `OtherScan` where its scan is another, or `Memory`, and then
-    /// the state is as it was.
+    /// Takes over what another state of the same scan took: `OtherScan` where its scan is another, or `Memory`, and
+    /// then the state is as it was.
     pub fn merge(&mut self, other: &State) -> Result<(), Refusal>
         ensures { TakesOver self.old other.now result self.new }
     {

@@ -1,13 +1,14 @@
 //! Telling what a handle holds.
 
-ghost use Rattle.std.specs.Prelude.{slice_get};
+ghost use Rattle.std.specs.Prelude.{◌≡◌, Err, IfErr, IfOk, Ok, slice_get};
 ghost use Rattle.icescan_c.specs.Readings.{AreLent, IsCount, IsDeleteOf, IsFileOf, IsFileOfLine, Tells};
 ghost use Rattle.icescan_c.specs.Readings.{at_place, count_of, equalities_of, fault_in, lines_in, list_in, or_past};
 ghost use Rattle.icescan_c.specs.Readings.{path_of, positions_of, wanted_in};
 ghost use Rattle.icescan_c_requests.specs.Statuses.{status_of};
 
 use crate::held::Held;
-use ice_state::{PlanFile, PlanFiles};
+use crate::questions::SharedScan;
+use ice_state::{OwnedPlan, PlanFile, PlanFiles};
 use icescan_c_lent::{Bytes, Ids};
 use icescan_c_requests::Refusal;
 
@@ -52,6 +53,28 @@ impl File {
 }
 
 impl Held {
+    /// The scan that it holds.
+    fn scan(&self) -> Result<&SharedScan, Refusal>
+        ensures scan { IfOk result (λ asked. wanted_in self.now ≡ Ok asked.now.scan.wanted) }
+        ensures none { IfErr result (λ refused. wanted_in self.now ≡ Err refused) }
+    {
+        match self {
+            Held::Scan(scan) => Ok(scan),
+            _ => Err(Refusal::Kind),
+        }
+    }
+
+    /// The plan that it holds.
+    fn plan(&self) -> Result<&OwnedPlan, Refusal>
+        ensures plan { IfOk result (λ plan. lines_in self.now ≡ Ok plan.now) }
+        ensures none { IfErr result (λ refused. lines_in self.now ≡ Err refused) }
+    {
+        match self {
+            Held::Plan(plan) => Ok(plan),
+            _ => Err(Refusal::Kind),
+        }
+    }
+
     /// Lends the line of a fault.
     pub fn lend_fault(&self, line: &mut Bytes) -> Result<(), Refusal>
         ensures { Tells AreLent (fault_in self.now) line.old (status_of result) line.new }
@@ -82,13 +105,8 @@ impl Held {
     pub fn count_wanted(&self, count: &mut usize) -> Result<(), Refusal>
         ensures { Tells IsCount (count_of (wanted_in self.now)) count.old (status_of result) count.new }
     {
-        match self {
-            Held::Scan(scan) => {
-                *count = scan.scan().wanted().len();
-                Ok(())
-            }
-            _ => Err(Refusal::Kind),
-        }
+        *count = self.scan()?.scan().wanted().len();
+        Ok(())
     }
 
     /// Lends the path of a manifest that a scan wants.
@@ -96,15 +114,12 @@ impl Held {
         ensures { Tells AreLent (path_of (at_place (wanted_in self.now) i)) path.old (status_of result)
             path.new }
     {
-        match self {
-            Held::Scan(scan) => match scan.scan().wanted().get(i) {
-                Some(row) => {
-                    *path = Bytes::of(row.path.as_bytes());
-                    Ok(())
-                }
-                None => Err(Refusal::PastEnd),
-            },
-            _ => Err(Refusal::Kind),
+        match self.scan()?.scan().wanted().get(i) {
+            Some(row) => {
+                *path = Bytes::of(row.path.as_bytes());
+                Ok(())
+            }
+            None => Err(Refusal::PastEnd),
         }
     }
 
@@ -112,33 +127,23 @@ impl Held {
     pub fn count_files(&self, count: &mut usize) -> Result<(), Refusal>
         ensures { Tells IsCount (count_of (lines_in self.now)) count.old (status_of result) count.new }
     {
-        match self {
-            Held::Plan(plan) => {
-                *count = plan.lines().len();
-                Ok(())
-            }
-            _ => Err(Refusal::Kind),
-        }
+        *count = self.plan()?.lines().len();
+        Ok(())
     }
 
     /// Lends a data file of a plan.
     pub fn lend_file(&self, i: usize, file: &mut File) -> Result<(), Refusal>
         ensures { Tells IsFileOfLine (at_place (lines_in self.now) i) file.old (status_of result) file.new }
     {
-        match self {
-            Held::Plan(plan) => {
-                let lines = plan.lines();
-                if lines.len() <= i {
-                    return Err(Refusal::PastEnd);
-                }
-                let line = lines.line(i);
-                let positions = line.positions().len();
-                let equalities = line.equalities().len();
-                *file = File::of(&line.file(), positions, equalities);
-                Ok(())
-            }
-            _ => Err(Refusal::Kind),
+        let lines = self.plan()?.lines();
+        if lines.len() <= i {
+            return Err(Refusal::PastEnd);
         }
+        let line = lines.line(i);
+        let positions = line.positions().len();
+        let equalities = line.equalities().len();
+        *file = File::of(&line.file(), positions, equalities);
+        Ok(())
     }
 
     /// Lends a position delete file of a data file of a plan.
@@ -146,16 +151,11 @@ impl Held {
         ensures { Tells IsDeleteOf (at_place (positions_of (at_place (lines_in self.now) i)) j) file.old
             (status_of result) file.new }
     {
-        match self {
-            Held::Plan(plan) => {
-                let lines = plan.lines();
-                if lines.len() <= i {
-                    return Err(Refusal::PastEnd);
-                }
-                lend_delete(&lines.line(i).positions(), j, file)
-            }
-            _ => Err(Refusal::Kind),
+        let lines = self.plan()?.lines();
+        if lines.len() <= i {
+            return Err(Refusal::PastEnd);
         }
+        lend_delete(&lines.line(i).positions(), j, file)
     }
 
     /// Lends an equality delete file of a data file of a plan.
@@ -163,16 +163,11 @@ impl Held {
         ensures { Tells IsDeleteOf (at_place (equalities_of (at_place (lines_in self.now) i)) j) file.old
             (status_of result) file.new }
     {
-        match self {
-            Held::Plan(plan) => {
-                let lines = plan.lines();
-                if lines.len() <= i {
-                    return Err(Refusal::PastEnd);
-                }
-                lend_delete(&lines.line(i).equalities(), j, file)
-            }
-            _ => Err(Refusal::Kind),
+        let lines = self.plan()?.lines();
+        if lines.len() <= i {
+            return Err(Refusal::PastEnd);
         }
+        lend_delete(&lines.line(i).equalities(), j, file)
     }
 }
 

@@ -20,7 +20,8 @@ abbrev pub words : Ptr → ℕ → Val
 words p n = vstruct (vcons (ptr_val p) (vcons (vint w64 n) vnil))
 
 module _ {M : Type 1} {𝓤 : Ura M} {𝓛 : Logic 𝓤} {K : Type 0} {Γ : List (Item 𝓤)} {G : Goal 𝓤 𝓛.H} where
-  pub words_in : K → (p : Ptr) (n : ℕ) → n < 2 ^ 64 → Step K 𝓛 (‵ (Words.own_val (p, (n, tt)) (words p n ∷ [])) ∷ Γ) G Γ G
+  pub words_in : K → (p : Ptr) (n : ℕ) → n < 2 ^ 64
+      → Step K 𝓛 (‵ (Words.own_val (p, (n, tt)) (words p n ∷ [])) ∷ Γ) G Γ G
   words_in t p n fits = step (λ s.
       flt_i t n (2 ^ 64) fits $ feq_i t (List Val) (vint w64 n ∷ []) (vint w64 n ∷ []) refl $ fjoin t $
       nothing t $ move t (1 ∷ 0 ∷ []) $ fjoin t $

@@ -3,7 +3,8 @@ use Rattle.std.proofs.Common.{ℕ, ◌<◌, ◌^◌, [], ◌∷◌, length, refl
 use mir.Syntax.{named}
 use base.Logic.{id⊢}
 use base.Fml.{Lft, ftrue, flft}
-use types.Kit.{‵, ◌⊛◌, ◌$◌, ◌∵◌, !, qed, move, keep, drop, use1, split, join, fsplit, fjoin, feq_i, fpack, suffices, frame, done}
+use types.Kit.{‵, ◌⊛◌, ◌$◌, ◌∵◌, !, qed, move, keep, drop, use1, split, join, fsplit, fjoin, feq_i, fpack, suffices}
+use types.Kit.{frame, done}
 use types.Part.{whole, sub, agg}
 use types.Run.{stop, fld, hop, from, addr, of_opd, and_then, no_more, returns, enter}
 use types.ByLocal.{alloc_all, pass_all, free_all, look_at, look_in_at, get, get_in, sets}
@@ -35,7 +36,8 @@ over_spec 𝓤 𝓛 𝓜 𝓡 wired =
     f.Key.name code.function (code.unfolded 𝓤 𝓛.H 𝓜 𝓡 wired)
     (λ κs. (shr_slice_vals, tt)) (λ κs. (shr_slice_Tells (named 0) κs.0 u8, tt)) (λ κs qs bounds a _ are.
     let κ = κs.0 in let b = a.0.ref_ptr.0 in let o = a.0.ref_ptr.1 in let xs = a.0.now in let n = length xs in
-    let fits : n < 2 ^ 64 = are.0.0.1.0 in let made : lent.the_row.Denot = record { at = block_ptr b o; len = n; bytes = Some xs } in
+    let fits : n < 2 ^ 64 = are.0.0.1.0 in let made : lent.the_row.Denot =
+    record { at = block_ptr b o; len = n; bytes = Some xs } in
     qed 𝓛 (((‵ (flft κ qs.0) ⊛ ‵ ftrue) ⊛ ‵ ((ShrSlice (named 0) κ u8).own_val a.0 (shr_slice_vals a.0)) ⊛ ‵ ftrue) ∷
     ‵ ftrue ∷ []) ∵
     split ! $ split ! $ move ! (2 ∷ []) $ split ! $ keep ! (0 ∷ 2 ∷ []) $ fsplit ! $ drop ! $

@@ -33,7 +33,8 @@ nothing_spec 𝓤 𝓛 𝓜 𝓡 wired =
     enter ! _ _ _ _ _ $ alloc_all ! (λ l. pass_all ! refl tt $
     sets ! (agg ! (and_then ! (lit ! tt) (and_then ! (lit ! tt) (no_more !)))) refl
     (tt, (record { fits = lit< tt }, (record { fits = lit< tt }, tt))) $
-    feq_i ! (List ℤ) [] [] refl $ fpack ! Lft (λ (ι : Lft). lie_for i32 null_ptr [] ι) [] $ feq_i ! ℕ 0 0 refl $ fjoin ! $
+    feq_i ! (List ℤ) [] [] refl $ fpack ! Lft (λ (ι : Lft). lie_for i32 null_ptr [] ι) [] $ feq_i ! ℕ 0 0 refl
+    $ fjoin ! $
     words_in ! null_ptr 0 (lit< tt) $ fjoin ! $
     use1 𝓛 (‵ (lent.the_row.own_val made (words null_ptr 0 ∷ []))) (id⊢ 𝓤 _) $
     returns ! (look_at ! 0 refl) $ free_all ! refl $ keep ! (0 ∷ []) $
