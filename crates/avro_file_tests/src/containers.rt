@@ -1,5 +1,6 @@
 //! Container files: vectors by hand from the specification, files of Avro's own libraries, and what a writer gives.
 
+use crate::cases::expect;
 use crate::look::looks;
 use avro_file::{AvroFault, Container, Objects};
 use std::alloc::{AllocError, Global};

@@ -1,13 +1,13 @@
 //! Wanted values alone: what stands where field paths lead, beside what the whole objects are.
 
-ghost use Rattle.std.specs.Prelude.{◌≡◌, ◌≤◌, length};
+ghost use Rattle.std.specs.Prelude.{◌≡◌};
 ghost use Rattle.avro_file.specs.Files.{type_of};
-ghost use Rattle.avro_file_picked.specs.Finding.{layout_tree, field_paths_of};
-ghost use Rattle.avro_file_picked.specs.Placing.{IsLayout, FitsLayout, ArePlaced};
+ghost use Rattle.avro_file_picked.specs.Finding.{layout_tree};
 
+use crate::cases::expect;
 use crate::look::looks;
-use avro_file::{AvroFault, Container, Datum, Object, Objects};
-use avro_file_picked::{Layout, Places};
+use avro_file::{AvroFault, Container, Datum, Objects};
+use avro_file_picked::Layout;
 use std::alloc::{AllocError, Global};
 use std::test::*;
 
@@ -74,100 +74,24 @@ fn are_next(alloc: Global, objects: &mut Objects<'_, '_>, layout: &Layout<'_>, l
     true
 }
 
-/// What stands on each field path from an object whose values were placed.
-fn all_found<'s, 'a>(
+/// Whether an open file's objects look like these lines along the field paths.
+fn are_picked(
     alloc: Global,
-    layout: &Layout<'s>,
-    object: Object<'s, 'a>,
-    places: &Places,
-    count: usize,
-) -> Result<Vec<Option<Datum<'a>>>, AvroFault>
-    requires field_paths { count ≤ length (field_paths_of layout.now) }
-    requires placed { ArePlaced layout.now object places.now }
-{
-    let mut all = Vec::with_capacity(alloc, count)?;
-    for field_path in 0..count {
-        match layout.found(object, places, field_path) {
-            Some(found) => all.push(Some(found.datum(alloc)?))?,
-            None => all.push(None)?,
-        }
-    }
-    Ok(all)
-}
-
-/// The same of the next object, by the places of its values.
-fn next_found<'s, 'a>(
-    alloc: Global,
-    objects: &mut Objects<'s, 'a>,
-    layout: &Layout<'s>,
-    places: &mut Places,
-    count: usize,
-) -> Next<'a>
-    requires schema { layout_tree layout.now ≡ type_of objects.old }
-    requires fits { FitsLayout layout.now places.old }
-    requires field_paths { count ≤ length (field_paths_of layout.now) }
-    ensures schema { type_of objects.new ≡ type_of objects.old }
-    ensures fits { FitsLayout layout.now places.new }
-{
-    match layout.next_placed(objects, places)? {
-        Some(object) => Ok(Some(all_found(alloc, layout, object, places, count)?)),
-        None => Ok(None),
-    }
-}
-
-/// Whether the objects look like these lines by the places of their values.
-fn are_found<'s, 'a>(
-    alloc: Global,
-    objects: &mut Objects<'s, 'a>,
-    layout: &Layout<'s>,
-    count: usize,
-    lines: &str,
-) -> bool
-    requires schema { layout_tree layout.now ≡ type_of objects.old }
-    requires leads { IsLayout layout.now }
-    requires field_paths { count ≤ length (field_paths_of layout.now) }
-{
-    let Ok(mut places) = layout.places(alloc) else {
-        return false;
-    };
-    'lines: for look in lines.lines() {
-        let next = next_found(alloc, objects, layout, &mut places, count);
-        if !is_next(alloc, &next, look) {
-            return false;
-        }
-    }
-    true
-}
-
-/// Whether a file of that content gives, along the field paths, what looks like these lines.
-fn gives(
-    alloc: Global,
-    schema: &[u8],
-    count: usize,
-    content: &[u8],
-    field_paths: &[&[i32]],
+    container: &Container<'_>,
+    field_paths: &[Vec<i32>],
     lines: &str,
 ) -> bool {
-    let (Ok(bytes), Ok(field_paths)) = (
-        file_of_one(alloc, schema, count, content),
-        field_paths_of(alloc, field_paths),
-    ) else {
-        return false;
-    };
-    let Ok(container) = Container::open(alloc, &bytes) else {
-        return false;
-    };
-    let Ok(layout) = Layout::new(alloc, container.schema(), &field_paths) else {
-        return false;
-    };
-    are_next(alloc, &mut container.objects(), &layout, lines)
-        && are_found(
-            alloc,
-            &mut container.objects(),
-            &layout,
-            field_paths.len(),
-            lines,
-        )
+    match Layout::new(alloc, container.schema(), field_paths) {
+        Ok(layout) => are_next(alloc, &mut container.objects(), &layout, lines),
+        Err(_) => false,
+    }
+}
+
+/// Whether a file gives, along the field paths, what looks like these lines.
+fn gives(alloc: Global, bytes: &[u8], field_paths: &[&[i32]], lines: &str) -> Option<bool> {
+    let container = Container::open(alloc, bytes).ok()?;
+    let field_paths = field_paths_of(alloc, field_paths).ok()?;
+    Some(are_picked(alloc, &container, &field_paths, lines))
 }
 
 /// A long, a record that may be null, and a map.
@@ -240,12 +164,24 @@ Some(Map([(\"k\", Boolean(true))]))]\nend\nend",
     ),
 ];
 
+/// Whether so many entries of that content give these lines.
+fn is_right(
+    alloc: Global,
+    content: &[u8],
+    count: usize,
+    field_paths: &[&[i32]],
+    lines: &str,
+) -> bool {
+    match file_of_one(alloc, ENTRY, count, content) {
+        Ok(bytes) => gives(alloc, &bytes, field_paths, lines) == Some(true),
+        Err(_) => false,
+    }
+}
+
 #[test]
 fn wanted_values(rt: HostRuntime) {
     for (content, count, field_paths, lines) in ENTRIES {
-        assert!(rt;
-            gives(rt.alloc(), ENTRY, *count, content, field_paths, lines),
-            "{lines}"
-        );
+        let is_right = is_right(rt.alloc(), content, *count, field_paths, lines);
+        expect(&rt, is_right, lines);
     }
 }

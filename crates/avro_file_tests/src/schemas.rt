@@ -1,5 +1,6 @@
 //! Schemas' texts, what they name, and the limits of a tree.
 
+use crate::cases::expect;
 use crate::look::looks;
 use avro_schema::{Schema, SchemaFault};
 use std::alloc::{AllocError, Global};
@@ -29,26 +30,29 @@ fn texts(rt: HostRuntime) {
     for lines in [PARTS, NAMES, NAMESPACES, FIRST_FAULTS] {
         for line in lines.lines() {
             if let Some((text, look)) = line.split_once(" => ") {
-                assert!(rt; names_tree(rt.alloc(), text, look), "{line}");
+                expect(&rt, names_tree(rt.alloc(), text, look), line);
             }
         }
     }
 }
 
+/// Texts of headers, and the trees that they name.
+const OF_ICEBERG: &[(&str, &str)] = &[
+    (JAVA_LIST, LIST_TREE),
+    (PYTHON_LIST, LIST_TREE),
+    (BARE_LIST, LIST_TREE),
+    (JAVA_MANIFEST, JAVA_MANIFEST_TREE),
+    (JAVA_DAY_MANIFEST, DAY_MANIFEST_TREE),
+    (JAVA_PLAIN_MANIFEST, PLAIN_MANIFEST_TREE),
+    (BARE_MANIFEST, PLAIN_MANIFEST_TREE),
+    (PYTHON_MANIFEST, PYTHON_MANIFEST_TREE),
+    (GO_MANIFEST, PYTHON_MANIFEST_TREE),
+];
+
 #[test]
 fn schemas_of_iceberg(rt: HostRuntime) {
-    for (text, tree) in [
-        (JAVA_LIST, LIST_TREE),
-        (PYTHON_LIST, LIST_TREE),
-        (BARE_LIST, LIST_TREE),
-        (JAVA_MANIFEST, JAVA_MANIFEST_TREE),
-        (JAVA_DAY_MANIFEST, DAY_MANIFEST_TREE),
-        (JAVA_PLAIN_MANIFEST, PLAIN_MANIFEST_TREE),
-        (BARE_MANIFEST, PLAIN_MANIFEST_TREE),
-        (PYTHON_MANIFEST, PYTHON_MANIFEST_TREE),
-        (GO_MANIFEST, PYTHON_MANIFEST_TREE),
-    ] {
-        assert!(rt; names_tree(rt.alloc(), text, tree), "at {text}");
+    for (text, tree) in OF_ICEBERG {
+        expect(&rt, names_tree(rt.alloc(), text, tree), text);
     }
 }
 
@@ -85,16 +89,33 @@ fn in_long_namespace(alloc: Global, length: usize, count: u32) -> Result<String,
     Ok(text)
 }
 
-/// It is seen within half a second that a tree of 4,294,967,295 nodes is too big, and that no name of a long namespace
-/// stands twice.
+/// Whether a text is refused with this fault, or names a tree where none is given, within half a second.
+fn is_soon(rt: &HostRuntime, text: &str, want: Option<SchemaFault>) -> Option<bool> {
+    let start = Instant::now(rt).ok()?;
+    let fault = Schema::from_json(rt.alloc(), text.as_bytes()).err();
+    Some(fault == want && start.elapsed(rt).ok()? < Duration::from_millis(500))
+}
+
+/// A tree of 4,294,967,295 nodes is too big.
+fn is_seen_too_big(rt: &HostRuntime) -> Option<bool> {
+    is_soon(
+        rt,
+        &doubled(rt.alloc(), 31).ok()?,
+        Some(SchemaFault::TooBig),
+    )
+}
+
+/// No name of a long namespace stands twice.
+fn is_seen_unique(rt: &HostRuntime) -> Option<bool> {
+    is_soon(
+        rt,
+        &in_long_namespace(rt.alloc(), 200_000, 2000).ok()?,
+        None,
+    )
+}
+
 #[test]
-fn large_texts(rt: HostRuntime) -> Result<(), Fail> {
-    let doubled = doubled(rt.alloc(), 31)?;
-    let named = in_long_namespace(rt.alloc(), 200_000, 2000)?;
-    for (text, want) in [(&doubled, Some(SchemaFault::TooBig)), (&named, None)] {
-        let start = Instant::now(&rt)?;
-        let fault = Schema::from_json(rt.alloc(), text.as_bytes()).err();
-        assert!(rt; fault == want && start.elapsed(&rt)? < Duration::from_millis(500));
-    }
-    Ok(())
+fn large_texts(rt: HostRuntime) {
+    expect(&rt, is_seen_too_big(&rt) == Some(true), "a big tree");
+    expect(&rt, is_seen_unique(&rt) == Some(true), "a long namespace");
 }

@@ -3,8 +3,6 @@
 ghost use Rattle.std.specs.Prelude.{◌≡◌, [], IfOk};
 
 mod machine;
-mod names;
-mod refusals;
 mod seats;
 mod threads;
 

@@ -9,7 +9,7 @@ use ice_manifest_reading::LentEntry;
 use ice_state_entries::{Entries, EntryNumber};
 use std::alloc::AllocError;
 
-/// Keeps an entry, as a clash if its path is known.
+/// Keeps an entry, as a clash if its path is that of another one.
 pub fn add(entries: &mut Entries, entry: &LentEntry<'_>) -> Result<EntryNumber, AllocError>
     requires { HasShortPaths entry.now }
     ensures { IfOk result (λ number. entry_at entries.new number ≡ lent entry.now) }

@@ -7,7 +7,6 @@ use crate::stores::{shown, take_all};
 use ice_manifest_reading::ManifestFault;
 use ice_state_entries::{Entries, EntryNumber};
 use std::alloc::{AllocError, Global};
-use std::test::Fail;
 
 /// What it is about; the manifests of a store, and those of another that is added to it; and what the first one keeps,
 /// by its numbers.
@@ -86,15 +85,17 @@ fn kept(alloc: Global, mine: &[&str], theirs: &[&str]) -> Result<String, Manifes
     Ok(both_shown(alloc, &copied, &numbers, &added)?)
 }
 
-#[test]
-fn cases(rt: HostRuntime) -> Result<(), Fail> {
-    for case in &CASES {
-        assert_eq!(rt;
-            kept(rt.alloc(), case.1, case.2)?.as_str(),
-            case.3,
-            "{}",
-            case.0
-        );
+/// Whether what is kept is this.
+fn is_kept(alloc: Global, case: &Case) -> bool {
+    match kept(alloc, case.1, case.2) {
+        Ok(text) => text.as_str() == case.3,
+        Err(_) => false,
     }
-    Ok(())
+}
+
+#[test]
+fn cases(rt: HostRuntime) {
+    for case in &CASES {
+        assert!(rt; is_kept(rt.alloc(), case), "{}", case.0);
+    }
 }

@@ -1,5 +1,5 @@
-//! Tests of ice_state_entries, of what no clause says: that calls succeed where memory is ample, the entries of manifests that
-//! were written by hand, and what a refused growth leaves.
+//! Tests of ice_state_entries, of what no clause says: that calls succeed where memory is ample, and the entries of
+//! manifests that were written by hand.
 #![tactic(auto)]
 
 mod calls;
@@ -7,8 +7,6 @@ mod calls;
 mod cases;
 #[cfg(test)]
 mod files;
-#[cfg(test)]
-mod refusals;
 #[cfg(test)]
 mod stores;
 

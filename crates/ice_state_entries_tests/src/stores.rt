@@ -124,7 +124,7 @@ fn put_number(text: &mut String, alloc: Global, number: EntryNumber) -> Result<(
 }
 
 /// Puts the entry of a number, and whether something of it is odd.
-pub fn put_kept(
+fn put_kept(
     text: &mut String,
     alloc: Global,
     entries: &Entries,

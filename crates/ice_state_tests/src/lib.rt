@@ -10,6 +10,6 @@ mod cases;
 #[cfg(test)]
 mod plans;
 #[cfg(test)]
-mod refusals;
+mod states;
 
 pub use calls::{into_plan, keeps, lacks_deletes, new, take_apart};

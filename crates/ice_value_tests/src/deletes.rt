@@ -1,10 +1,11 @@
 //! The delete files that apply to a data file.
 
+use crate::cases::expect;
 use ice_deletes::{DeleteIndex, Finder, Record};
 use ice_value::{Cell, FileContent, SequenceNumber};
-use std::test::Fail;
+use std::alloc::Global;
 
-pub fn file<'a>(
+fn file<'a>(
     content: FileContent,
     spec_id: i32,
     unpartitioned: bool,
@@ -22,7 +23,7 @@ pub fn file<'a>(
 }
 
 /// The same file, which names a data file.
-pub fn naming<'a>(path: &'a [u8], file: Record<'a>) -> Record<'a> {
+fn naming<'a>(path: &'a [u8], file: Record<'a>) -> Record<'a> {
     Record {
         referenced: Some(path),
         ..file
@@ -31,7 +32,7 @@ pub fn naming<'a>(path: &'a [u8], file: Record<'a>) -> Record<'a> {
 
 /// A data file, and the numbers of the delete files that apply to it, in any order.
 #[derive(Clone, Copy)]
-pub struct Case<'a> {
+struct Case<'a> {
     spec_id: i32,
     tuple: &'a [Cell],
     sequence_number: u64,
@@ -40,7 +41,7 @@ pub struct Case<'a> {
     numbers: [&'static [usize]; 4],
 }
 
-pub fn data_file<'a>(
+fn data_file<'a>(
     spec_id: i32,
     tuple: &'a [Cell],
     sequence_number: u64,
@@ -56,7 +57,7 @@ pub fn data_file<'a>(
 }
 
 /// The same data file at this path.
-pub fn at<'a>(path: &'a [u8], case: Case<'a>) -> Case<'a> {
+fn at<'a>(path: &'a [u8], case: Case<'a>) -> Case<'a> {
     Case { path, ..case }
 }
 
@@ -82,7 +83,7 @@ fn is_found(index: &DeleteIndex, case: &Case<'_>) -> bool {
 }
 
 /// Whether it finds what the cases say.
-pub fn are_found(index: &DeleteIndex, cases: &[Case<'_>]) -> bool {
+fn are_found(index: &DeleteIndex, cases: &[Case<'_>]) -> bool {
     for case in cases {
         if !is_found(index, case) {
             return false;
@@ -91,41 +92,53 @@ pub fn are_found(index: &DeleteIndex, cases: &[Case<'_>]) -> bool {
     true
 }
 
-pub const POSITIONS: FileContent = FileContent::PositionDeletes;
+const POSITIONS: FileContent = FileContent::PositionDeletes;
 
-pub const EQUALITIES: FileContent = FileContent::EqualityDeletes;
+const EQUALITIES: FileContent = FileContent::EqualityDeletes;
 
-pub const A: &[u8] = b"mem://t/a.parquet";
+const A: &[u8] = b"mem://t/a.parquet";
 
-pub const B: &[u8] = b"mem://t/b.parquet";
+const B: &[u8] = b"mem://t/b.parquet";
 
-/// Deletes of three kinds in three partitions, some of which name a data file.
-#[test]
-fn deletes_of_partitions_and_of_files(rt: HostRuntime) -> Result<(), Fail> {
-    let one = [Cell::Whole(1)];
-    let two = [Cell::Whole(2)];
+/// Deletes of three kinds in the partitions of two values, some of which name a data file.
+fn index(alloc: Global, one: &[Cell], two: &[Cell]) -> Option<DeleteIndex> {
     let records = [
         file(EQUALITIES, 0, true, &[], 5),
-        file(EQUALITIES, 1, false, &one, 5),
-        file(EQUALITIES, 1, false, &two, 5),
-        file(POSITIONS, 1, false, &two, 5),
-        naming(A, file(POSITIONS, 1, false, &one, 5)),
-        naming(B, file(POSITIONS, 1, false, &one, 6)),
-        naming(A, file(POSITIONS, 2, false, &one, 8)),
+        file(EQUALITIES, 1, false, one, 5),
+        file(EQUALITIES, 1, false, two, 5),
+        file(POSITIONS, 1, false, two, 5),
+        naming(A, file(POSITIONS, 1, false, one, 5)),
+        naming(B, file(POSITIONS, 1, false, one, 6)),
+        naming(A, file(POSITIONS, 2, false, one, 8)),
     ];
+    DeleteIndex::build(alloc, &records).ok()
+}
+
+fn finds_all(index: &DeleteIndex, one: &[Cell], two: &[Cell]) -> bool {
     let cases = [
-        data_file(1, &one, 4, [&[], &[4], &[1], &[0]]),
-        data_file(1, &one, 5, [&[], &[4], &[], &[]]),
-        at(B, data_file(1, &one, 6, [&[], &[5], &[], &[]])),
-        data_file(1, &two, 4, [&[3], &[], &[2], &[0]]),
-        data_file(2, &one, 8, [&[], &[6], &[], &[]]),
-        data_file(3, &one, 4, [&[], &[], &[], &[0]]),
+        data_file(1, one, 4, [&[], &[4], &[1], &[0]]),
+        data_file(1, one, 5, [&[], &[4], &[], &[]]),
+        at(B, data_file(1, one, 6, [&[], &[5], &[], &[]])),
+        data_file(1, two, 4, [&[3], &[], &[2], &[0]]),
+        data_file(2, one, 8, [&[], &[6], &[], &[]]),
+        data_file(3, one, 4, [&[], &[], &[], &[0]]),
     ];
-    let index = DeleteIndex::build(rt.alloc(), &records)?;
-    assert!(rt; are_found(&index, &cases));
-    let mut finder = Finder::new(&index);
-    let hits = finder.for_data(1, &one, SequenceNumber::zero(), B);
-    assert!(rt; hits.referenced == [5].as_slice());
-    assert!(rt; hits.equalities == [1].as_slice());
-    Ok(())
+    are_found(index, &cases)
+}
+
+/// The same through a finder, of a data file of the first version.
+fn finds_first(index: &DeleteIndex, one: &[Cell]) -> bool {
+    let mut finder = Finder::new(index);
+    let hits = finder.for_data(1, one, SequenceNumber::zero(), B);
+    hits.referenced == [5].as_slice() && hits.equalities == [1].as_slice()
+}
+
+#[test]
+fn deletes_of_partitions_and_of_files(rt: HostRuntime) {
+    let (one, two) = ([Cell::Whole(1)], [Cell::Whole(2)]);
+    let is_right = match index(rt.alloc(), &one, &two) {
+        Some(index) => finds_all(&index, &one, &two) && finds_first(&index, &one),
+        None => false,
+    };
+    expect(&rt, is_right, "delete files");
 }

@@ -1,17 +1,15 @@
 //! Tests of contract_words, ice_value, ice_transform and ice_deletes, of what no clause says: that calls succeed where
-//! memory is ample, values that the specification and other programs give, and what a refused growth leaves.
+//! memory is ample, and values that the specification and other programs give.
 #![tactic(auto)]
 
 mod applying;
 mod calls;
 #[cfg(test)]
+mod cases;
+#[cfg(test)]
 mod deletes;
 #[cfg(test)]
 mod literals;
-#[cfg(test)]
-mod merge_refusals;
-#[cfg(test)]
-mod merges;
 #[cfg(test)]
 mod transforms;
 #[cfg(test)]

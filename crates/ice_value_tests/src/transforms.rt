@@ -1,17 +1,17 @@
 //! Transforms: their texts, their values, and the hashes of the specification and of Murmur3's authors.
 
+use crate::cases::expect;
 use crate::literals::Literal::{Bytes, Null, Text, Whole};
 use crate::literals::{Literal, UUID, cell};
 use ice_transform::{Transform, murmur3};
-use ice_value::ColumnType;
+use ice_value::{Cell, ColumnType};
 use std::alloc::{AllocError, Global};
-use std::test::Fail;
 
 /// 2017-11-16T22:31:08
 const MICROSECONDS: i64 = 1_510_871_468_000_000;
 
 /// The values that the Iceberg specification gives, of numbers of 64 bits.
-const NUMBER_HASHES: [(i64, i32); 4] = [
+const NUMBER_HASHES: &[(i64, i32)] = &[
     (34, 2017239379),
     (17486, -653330422),
     (81_068_000_000, -662762989),
@@ -19,7 +19,7 @@ const NUMBER_HASHES: [(i64, i32); 4] = [
 ];
 
 /// Those that it and the authors of Murmur3 give, of byte strings.
-const HASHES: [(&[u8], i32); 12] = [
+const HASHES: &[(&[u8], i32)] = &[
     (b"iceberg", 1210000089),
     (&[0, 1, 2, 3], -188683207),
     (&UUID, 1488055340),
@@ -34,13 +34,21 @@ const HASHES: [(&[u8], i32); 12] = [
     (b"The quick brown fox jumps over the lazy dog", 776992547),
 ];
 
+fn have_hashes() -> bool {
+    for (number, hash) in NUMBER_HASHES {
+        if murmur3(&number.to_le_bytes()) != *hash {
+            return false;
+        }
+    }
+    true
+}
+
 #[test]
 fn hashes(rt: HostRuntime) {
-    for (number, hash) in NUMBER_HASHES {
-        assert!(rt; murmur3(&number.to_le_bytes()) == hash, "{number}");
-    }
+    expect(&rt, have_hashes(), "numbers");
     for (bytes, hash) in HASHES {
-        assert!(rt; murmur3(bytes) == hash, "{hash}");
+        let text = str::from_utf8(bytes).unwrap_or("bytes that are no text");
+        expect(&rt, murmur3(bytes) == *hash, text);
     }
 }
 
@@ -209,35 +217,41 @@ const VALUES: &[(&str, ColumnType, Literal, Option<Literal>)] = &[
     ("zorder", ColumnType::Int, Whole(7), None),
 ];
 
-/// Whether a value under a transform is the literal; without one there is no value.
-fn is_right(
+fn is_same(alloc: Global, found: Option<Cell>, wanted: Option<Literal>) -> bool {
+    match (found, wanted) {
+        (Some(found), Some(wanted)) => match cell(alloc, wanted) {
+            Ok(wanted) => found == wanted,
+            Err(_) => false,
+        },
+        (None, None) => true,
+        _ => false,
+    }
+}
+
+/// The value of a literal under a transform, where there is memory.
+fn value(
     alloc: Global,
     name: &str,
     source: &ColumnType,
     literal: Literal,
-    wanted: Option<Literal>,
-) -> Result<bool, AllocError> {
+) -> Result<Option<Cell>, AllocError> {
     let transform = Transform::parse(alloc, name)?;
-    match (
-        transform.apply(alloc, source, &cell(alloc, literal)?)?,
-        wanted,
-    ) {
-        (Some(found), Some(wanted)) => Ok(found == cell(alloc, wanted)?),
-        (found, wanted) => Ok(found.is_none() && wanted.is_none()),
-    }
+    transform.apply(alloc, source, &cell(alloc, literal)?)
 }
 
 #[test]
-fn values(rt: HostRuntime) -> Result<(), Fail> {
-    for (place, (name, source, literal, wanted)) in VALUES.iter().enumerate() {
-        let is_right = is_right(rt.alloc(), name, source, *literal, *wanted)?;
-        assert!(rt; is_right, "{place}: {name}");
+fn values(rt: HostRuntime) {
+    for (name, source, literal, wanted) in VALUES {
+        let is_right = match value(rt.alloc(), name, source, *literal) {
+            Ok(found) => is_same(rt.alloc(), found, *wanted),
+            Err(_) => false,
+        };
+        expect(&rt, is_right, name);
     }
-    Ok(())
 }
 
 /// Texts of transforms that are known, and one that is not.
-const NAMES: [&str; 9] = [
+const NAMES: &[&str] = &[
     "identity",
     "year",
     "month",
@@ -256,10 +270,9 @@ fn is_written_back(alloc: Global, name: &str) -> Result<bool, AllocError> {
 }
 
 #[test]
-fn names(rt: HostRuntime) -> Result<(), Fail> {
+fn names(rt: HostRuntime) {
     for name in NAMES {
-        let is_right = is_written_back(rt.alloc(), name)?;
-        assert!(rt; is_right, "{name}");
+        let is_right = matches!(is_written_back(rt.alloc(), name), Ok(true));
+        expect(&rt, is_right, name);
     }
-    Ok(())
 }

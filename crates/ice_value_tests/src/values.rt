@@ -1,17 +1,17 @@
 //! Cells, their bounds as bytes, and copies of lists and texts.
 
+use crate::cases::expect;
 use crate::literals::{Literal, UUID, cell};
 use contract_words::{Duplicate, Items};
 use ice_value::{Cell, ColumnType, Summary, compare_bound, read_bound, write_bound};
 use std::alloc::{AllocError, Global};
 use std::cmp::Ordering;
-use std::test::Fail;
 
 /// A type, the bytes of a bound, and a cell.
 type Bound = (ColumnType, &'static [u8], Literal);
 
 /// The bytes are read as the cell, compared as equal to it, and written for it.
-const BOUNDS: [Bound; 13] = [
+const BOUNDS: &[Bound] = &[
     (ColumnType::Boolean, &[0], Literal::Bool(false)),
     (ColumnType::Boolean, &[1], Literal::Bool(true)),
     (ColumnType::Date, &[0x4e, 0x44, 0, 0], Literal::Whole(17486)),
@@ -77,12 +77,11 @@ fn is_right(alloc: Global, bound: &Bound) -> Result<bool, AllocError> {
 }
 
 #[test]
-fn cells_as_bytes(rt: HostRuntime) -> Result<(), Fail> {
-    for (place, bound) in BOUNDS.iter().enumerate() {
-        let is_right = is_right(rt.alloc(), bound)?;
-        assert!(rt; is_right, "{place}");
+fn cells_as_bytes(rt: HostRuntime) {
+    for bound in BOUNDS {
+        let is_right = matches!(is_right(rt.alloc(), bound), Ok(true));
+        expect(&rt, is_right, "a bound");
     }
-    Ok(())
 }
 
 fn copies_cells(alloc: Global) -> Result<bool, AllocError> {
@@ -97,8 +96,11 @@ fn copies_summary(alloc: Global) -> Result<bool, AllocError> {
 }
 
 #[test]
-fn copies(rt: HostRuntime) -> Result<(), Fail> {
-    let are_copied = copies_cells(rt.alloc())? && copies_summary(rt.alloc())?;
-    assert!(rt; are_copied);
-    Ok(())
+fn copies(rt: HostRuntime) {
+    expect(&rt, matches!(copies_cells(rt.alloc()), Ok(true)), "cells");
+    expect(
+        &rt,
+        matches!(copies_summary(rt.alloc()), Ok(true)),
+        "a summary",
+    );
 }

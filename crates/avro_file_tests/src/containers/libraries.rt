@@ -1,8 +1,7 @@
 //! Files that Avro's own libraries wrote: manifest lists, and a manifest.
 
-use super::*;
-
 /// A file and what it has to give.
+#[derive(Clone, Copy)]
 pub struct Sample {
     pub bytes: &'static [u8],
     /// The rows, a line each, and the end.
@@ -240,14 +239,3 @@ Record([String("s3://warehouse/db/plain/metadata/m3-rewritten-deletes.avro"), Lo
 Record([String("s3://warehouse/db/plain/metadata/m2.avro"), Long(5318), Int(0), Int(0), Long(2), Long(2), Long(5974787585992374985), Int(9), Int(0), Int(0), Long(900), Long(0), Long(0), Union(1, Array([])), NullBranch(0)])
 end"#,
 };
-
-#[test]
-fn files_of_libraries(rt: HostRuntime) {
-    for sample in [&C, &GO, &JAVA, &PYTHON] {
-        assert!(rt;
-            gives(rt.alloc(), sample.bytes, sample.rows),
-            "{}",
-            sample.rows
-        );
-    }
-}

@@ -71,11 +71,17 @@ const VALUES: &[(&[u8], &[u8], &str)] = &[
     (NULLS, b"\xfe\xff\xff\x0f\x04\x00", "TooManyItems"),
 ];
 
-#[test]
-fn values(rt: HostRuntime) -> Result<(), Fail> {
-    for (schema, content, look) in VALUES {
-        let bytes = file(rt.alloc(), schema, &[2], content)?;
-        assert!(rt; gives(rt.alloc(), &bytes, look), "{content:?} is no {look}");
+/// Whether the content of one object gives what looks like this.
+fn is_value(alloc: Global, schema: &[u8], content: &[u8], look: &str) -> bool {
+    match file(alloc, schema, &[2], content) {
+        Ok(bytes) => gives(alloc, &bytes, look),
+        Err(_) => false,
     }
-    Ok(())
+}
+
+#[test]
+fn values(rt: HostRuntime) {
+    for (schema, content, look) in VALUES {
+        expect(&rt, is_value(rt.alloc(), schema, content, look), look);
+    }
 }

@@ -7,24 +7,16 @@ ghost use Rattle.avro_file.specs.Files.{type_of};
 ghost use Rattle.avro_file_picked.specs.Finding.{layout_tree};
 
 use super::{ENTRY, field_paths_of, file_of_one};
+use crate::cases::expect;
+use crate::look::looks_at_last;
 use avro_file::{AvroFault, Container, Datum, Object, Objects};
 use avro_file_picked::Layout;
 use avro_schema::{Schema, SchemaFault};
 use std::alloc::{AllocError, Global};
-use std::fmt::Debug;
 use std::test::*;
 
-/// Whether a value looks like this, also where a growth was refused at first.
-fn looks_at_last<T: Debug>(alloc: Global, value: &T, look: &str) -> Result<bool, AllocError> {
-    let text = match format!(in alloc; "{value:?}") {
-        Ok(text) => text,
-        Err(_) => format!(in alloc; "{value:?}")?,
-    };
-    Ok(text.as_str() == look)
-}
-
 /// Texts of schemas, and the tree or the fault of each.
-const SCHEMAS: [(&str, &str); 4] = [
+const SCHEMAS: &[(&str, &str)] = &[
     (
         r#"{"type":"record","name":"x.r","fields":[{"name":"a","type":{"type":"fixed","name":"f","size":1},"field-id":1},{"name":"b","type":["null","f",{"type":"array","items":{"type":"map","values":"long"}}]},{"name":"c","type":{"type":"enum","name":"e","symbols":["A","B"]}}]}"#,
         "Ok(Record([Field { id: Some(1), schema: Fixed(1, Plain) }, Field { id: None, schema: Union([Null, Fixed(1, Plain), Array(Map(Long), None, List)]) }, Field { id: None, schema: Enum(2) }]))",
@@ -49,12 +41,11 @@ fn read_at_last(alloc: Global, text: &str) -> Result<Schema, SchemaFault> {
 }
 
 #[test]
-fn of_schemas(rt: HostRuntime) -> Result<(), Fail> {
+fn of_schemas(rt: HostRuntime) {
     for (text, look) in SCHEMAS {
         let read = read_at_last(rt.alloc(), text);
-        assert!(rt; looks_at_last(rt.alloc(), &read, look)?, "{text}");
+        expect(&rt, looks_at_last(rt.alloc(), &read, look), text);
     }
-    Ok(())
 }
 
 /// A file of one block, also where a growth was refused at first.
@@ -132,7 +123,7 @@ const OBJECTS: &[u8] =
     b"\x02\x02\x02x\x02\x04\x02\x04\x00\x02\x02k\x01\x00\x06\x02\x02\x02x\x04\x0e\x02\x02l\x00\x00";
 
 /// What comes next in turn.
-const NEXT: [&str; 3] = [
+const NEXT: &[&str] = &[
     "Ok(Some(Record([Long(1), Union(1, Record([String(\"x\"), Union(1, Array([Int(1), Int(2)]))])), Map([(\"k\", Boolean(true))]), Int(3)])))",
     "Err(BlockSize)",
     "Err(BlockSize)",
@@ -141,27 +132,54 @@ const NEXT: [&str; 3] = [
 const PICKED: &str =
     "Ok(Some([Some(Array([Int(1), Int(2)])), Some(Map([(\"k\", Boolean(true))]))]))";
 
-#[test]
-fn of_objects(rt: HostRuntime) -> Result<(), Fail> {
-    let alloc = rt.alloc();
+/// Whether the objects look like this in turn, as trees.
+fn are_next_at_last(alloc: Global, objects: &mut Objects<'_, '_>) -> bool {
+    for look in NEXT {
+        if !looks_at_last(alloc, &next_at_last(alloc, objects), look) {
+            return false;
+        }
+    }
+    true
+}
+
+/// Whether what stands on the field paths from the next object looks like this.
+fn is_picked(alloc: Global, objects: &mut Objects<'_, '_>, layout: &Layout<'_>, look: &str) -> bool
+    requires { layout_tree layout.now ≡ type_of objects.old }
+    ensures { type_of objects.new ≡ type_of objects.old }
+{
+    looks_at_last(alloc, &picked_at_last(alloc, objects, layout), look)
+}
+
+/// Whether that of both objects looks as it is to.
+fn are_picked(alloc: Global, container: &Container<'_>) -> bool {
+    match layout_at_last(alloc, container.schema()) {
+        Ok(layout) => {
+            let mut objects = container.objects();
+            is_picked(alloc, &mut objects, &layout, PICKED)
+                && is_picked(alloc, &mut objects, &layout, "Err(BlockSize)")
+        }
+        Err(_) => false,
+    }
+}
+
+/// Whether the file of two objects gives them, whole and picked.
+fn are_right(alloc: Global) -> Result<bool, AvroFault> {
     let bytes = file_at_last(alloc, ENTRY, 2, OBJECTS)?;
     let container = opened_at_last(alloc, &bytes)?;
-    let mut objects = container.objects();
-    for look in NEXT {
-        let next = next_at_last(alloc, &mut objects);
-        assert!(rt; looks_at_last(alloc, &next, look)?, "{look}");
-    }
-    let layout = layout_at_last(alloc, container.schema())?;
-    let mut objects = container.objects();
-    let first = picked_at_last(alloc, &mut objects, &layout);
-    assert!(rt; looks_at_last(alloc, &first, PICKED)?);
-    let second = picked_at_last(alloc, &mut objects, &layout);
-    assert!(rt; looks_at_last(alloc, &second, "Err(BlockSize)")?);
-    Ok(())
+    Ok(are_next_at_last(alloc, &mut container.objects()) && are_picked(alloc, &container))
+}
+
+#[test]
+fn of_objects(rt: HostRuntime) {
+    expect(
+        &rt,
+        matches!(are_right(rt.alloc()), Ok(true)),
+        "two objects",
+    );
 }
 
 /// Files that are refused when they are opened: by the codec, and by the schema.
-const UNOPENED: [(&[u8], &str); 2] = [
+const UNOPENED: &[(&[u8], &str)] = &[
     (
         b"Obj\x01\x04\x14avro.codec\x06lz4\x16avro.schema\x0c\"long\"\x00\x00\x01\x02\x03\x04\x05\x06\x07\x08\x09\x0a\x0b\x0c\x0d\x0e\x0f",
         "Some(Codec(CodecName { bytes: [108, 122, 52] }))",
@@ -173,10 +191,9 @@ const UNOPENED: [(&[u8], &str); 2] = [
 ];
 
 #[test]
-fn of_openings(rt: HostRuntime) -> Result<(), Fail> {
+fn of_openings(rt: HostRuntime) {
     for (bytes, look) in UNOPENED {
         let fault = opened_at_last(rt.alloc(), bytes).err();
-        assert!(rt; looks_at_last(rt.alloc(), &fault, look)?, "{look}");
+        expect(&rt, looks_at_last(rt.alloc(), &fault, look), look);
     }
-    Ok(())
 }
