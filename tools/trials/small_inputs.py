@@ -1,12 +1,19 @@
 #!/usr/bin/env python3
-"""small_inputs.py PROGRAM [NAME..]: commands on inputs below 1 MB whose parts multiply, within limits of memory and time.
+"""small_inputs.py PROGRAM [--long] [NAME..]: commands on inputs below 1 MB whose parts multiply, within limits of
+memory and time.
 
 Each case makes a table in a folder, in which two parts are as large as the size lets them be: literals and partition
-fields, a long name and many files, columns and entries. Then it runs a command on it by one worker and by four. No run may
-take more than 100 MB or 5 seconds of processor time, end by want of memory, or have another status than the case wants.
+fields, a long name and many files, columns and entries. Then it runs a command on it by one worker and by four. No run
+may take more than 100 MB or 5 seconds of processor time, end out of memory, or have another status than the case
+wants.
 
-Prints each run, those that are over marked, and a last line that counts. NAME..: these cases alone. MEGABYTES and SECONDS
-in the environment are other limits.
+With --long it also plans tables of 6,553 and of 65,535 manifests of 10 delete files each, the most that a manifest list
+may have beside one of data files: ten times as many may take no more than ten times the time, and an entry no more than
+1.3 times what one of as many manifests of data files takes. That is no small input: it takes 300 MB of disk at a time,
+and some minutes.
+
+Prints each run, those that are over marked, and a last line that counts and names the cases of which a run is over.
+NAME..: these cases alone. MEGABYTES and SECONDS in the environment are other limits.
 """
 import json
 import os
@@ -264,6 +271,66 @@ CASES = [identities_of_50_specs, identities, buckets, cut_texts, specs_of_one_fi
          long_manifest_path, long_file_path, entries_without_maps, entries_with_one_bound, entries_with_turned_bounds,
          entries_with_an_excess, missing_columns, many_predicates, small_objects, small_members]
 
+# ---- growth
+
+FEWER, MORE, MOST_TIMES, MOST_OF_DATA = 6553, 65535, 10, 1.3
+
+
+def with_ids(content, part):
+    """What stands behind the fields that all entries have: a partition value, and the columns of an equality delete."""
+    return number(1) + number(part) + (number(1) + number(1) * 2 + number(0) if content == 2 else b"\x00")
+
+
+def growing(folder, manifests, content):
+    """A table of so many manifests of 10 files each. Beside those of equality deletes, one manifest has a data file in
+    each partition."""
+    ids = field("equality_ids", ["null", {"type": "array", "items": "int"}], 135)
+    schema, rows = entry_schema([partition(["int"]), ids]), []
+
+    def put(name, files, holds, number_of):
+        with open(os.path.join(folder, name), "wb") as out:
+            out.write(container(schema, files))
+        rows.append(text("mem://t/" + name) + number(1) + number(0) + number(holds) + number(number_of) * 2 + number(5))
+
+    for at in range(manifests):
+        part = with_ids(content, at % 1000)
+        put(f"m{at}", [entry(f"mem://t/data/{at}-{file}", part, content) for file in range(10)], content and 1, at + 2)
+    if content:
+        put("d", [entry(f"mem://t/data/{at}", with_ids(0, at)) for at in range(1000)], 0, 1)
+    newest = {"snapshot-id": 5, "sequence-number": manifests + 5, "timestamp-ms": 50, "schema-id": 0,
+              "manifest-list": "mem://t/l"}
+    whole = {"last-sequence-number": manifests + 5, "snapshots": [newest]}
+    for name, data in (("l", container(record("m", ROW), rows)),
+                       ("t", table([(1, "c", "int")], [[partition_field(0, 1, "identity")]], **whole))):
+        with open(os.path.join(folder, name), "wb") as out:
+            out.write(data)
+
+
+def seconds_of(program, manifests, content, workers):
+    """The least time of three runs."""
+    with tempfile.TemporaryDirectory() as folder:
+        growing(folder, manifests, content)
+        words = ["plan", "--dir", folder, "--prefix", "mem://t", "--workers", str(workers), "mem://t/t"]
+        took = [run(program, words) for _ in range(3)]
+    assert all(status == 0 for status, _, _ in took), took
+    return min(seconds for _, _, seconds in took)
+
+
+def growth(program):
+    """How many of its runs grow faster than their tables."""
+    over = 0
+    for workers in (1, 4):
+        fewer, more = seconds_of(program, FEWER, 2, workers), seconds_of(program, MORE, 2, workers)
+        data = seconds_of(program, MORE, 0, workers)
+        of_data = more / (10 * MORE + 1000) / (data / (10 * MORE))
+        bad = more > MOST_TIMES * fewer * MORE / (10 * FEWER) or of_data > MOST_OF_DATA
+        over += bad
+        print(f"{'OVER ' if bad else '     '}growth plan by {workers}: {FEWER} manifests of delete files {fewer:.2f} s, "
+              f"{MORE} of them {more:.2f} s, {more / fewer:.1f} times; an entry takes {of_data:.2f} times what one of "
+              "data files does", flush=True)
+    return over
+
+
 CHANGE = {"data": [{"path": "mem://t/new", "format": "parquet", "spec-id": 0, "partition": [], "record-count": 1,
                     "file-size": 1}], "deletes": []}
 
@@ -302,24 +369,34 @@ def run(program, words):
     return child.returncode, used.ru_maxrss / 1024, used.ru_utime + used.ru_stime
 
 
+def run_case(program, make):
+    """How many runs of the case there are, and how many of them are over."""
+    case, runs, over = make(), 0, 0
+    with tempfile.TemporaryDirectory() as folder:
+        size = made(folder, case)
+        assert size < MOST_INPUT, (make.__name__, size)
+        for command in case.commands:
+            for workers in (1,) if command in ("append", "show") else (1, 4):
+                status, megabytes, seconds = run(program, words_of(command, folder, case, workers))
+                bad = status != case.status or megabytes > MEGABYTES or seconds > SECONDS
+                runs, over = runs + 1, over + bad
+                print(f"{'OVER ' if bad else '     '}{make.__name__} {command} by {workers}: {size / 1e6:.2f} MB of input, "
+                      f"{megabytes:.0f} MB, {seconds:.2f} s, status {status}", flush=True)
+    return runs, over
+
+
 def main():
-    program, names = sys.argv[1], sys.argv[2:]
-    runs = over = 0
+    program, long = sys.argv[1], "--long" in sys.argv
+    names = [name for name in sys.argv[2:] if name != "--long"]
+    runs, over, bad = 0, 0, []
     for make in CASES:
-        if names and make.__name__ not in names:
-            continue
-        case = make()
-        with tempfile.TemporaryDirectory() as folder:
-            size = made(folder, case)
-            assert size < MOST_INPUT, (make.__name__, size)
-            for command in case.commands:
-                for workers in (1,) if command in ("append", "show") else (1, 4):
-                    status, megabytes, seconds = run(program, words_of(command, folder, case, workers))
-                    bad = status != case.status or megabytes > MEGABYTES or seconds > SECONDS
-                    runs, over = runs + 1, over + bad
-                    print(f"{'OVER ' if bad else '     '}{make.__name__} {command} by {workers}: {size / 1e6:.2f} MB of input, "
-                          f"{megabytes:.0f} MB, {seconds:.2f} s, status {status}", flush=True)
-    print(f"{runs} runs, {over} over")
+        if not names or make.__name__ in names:
+            ran, beyond = run_case(program, make)
+            runs, over, bad = runs + ran, over + beyond, bad + [make.__name__] * (beyond > 0)
+    if long:
+        beyond = growth(program)
+        runs, over, bad = runs + 2, over + beyond, bad + ["growth"] * (beyond > 0)
+    print(f"{runs} runs, {over} over" + (": " + ", ".join(bad) if bad else ""))
     sys.exit(1 if over else 0)
 
 
