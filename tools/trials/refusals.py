@@ -261,6 +261,10 @@ def files(cases):
     cases.files["metadata/table.json"] = table()
     cases.files["folder/file"] = b""
     cases.add("P3 Device mem://t/folder", ["plan", "mem://t/folder"])
+    for name in ("00002-a", "00003-c", "00010-b", "last"):
+        cases.files[f"table/metadata/{name}.metadata.json"] = table()
+    cases.add("P3 Device mem://t/table", ["show", "mem://t/table"])
+    cases.add("P3 Device mem://t/table/metadata", ["plan", "mem://t/table/metadata"])
     cases.plan("P5 Workers", "table.json", table(), "--workers", "65")
     cases.files["empty/metadata/notes.txt"] = b""
     cases.files["twice/metadata/00002-a.metadata.json"] = b""
@@ -278,6 +282,7 @@ def commits(cases):
     new = data_file("mem://t/new.parquet")
     cases.files["base.m"] = container(entry_schema(), [entry("mem://t/live.parquet")])
     cases.files["list"] = container(record("manifest_file", ROW), [row("mem://t/base.m")])
+    cases.files["partitioned.list"] = container(record("manifest_file", ROW), [row("mem://t/base.m", 1)])
     cases.files["taken.json"] = table()
     cases.commit("C1 BadChange -", "no_object", b"x")
     cases.commit("C1 BadChange spec-id", "no_spec_id", change(data_file("mem://t/x", **{"spec-id": "x"})))
