@@ -139,8 +139,8 @@ def of_table(metadata, rows, manifests):
 # ---- the cases
 
 
-def through_specs(specs, fields, literals, transform, kind="long"):
-    """Each of these specs is that of a manifest, and each of its fields one of the filter's column."""
+def through_specs(specs, fields, literals, transform, kind="long", rows=None):
+    """Each of these specs is that of a manifest, or of more by turns, and each of its fields one of the filter's column."""
     values = [str(n) for n in range(10000, 10000 + literals)]
     if kind == "string":
         values = ["'" + f"{n:06}" + "x" * 94 + "'" for n in range(literals)]
@@ -148,8 +148,8 @@ def through_specs(specs, fields, literals, transform, kind="long"):
                                         for spec in range(specs)])
     result = {"long": "int", "string": "string"}[kind] if "bucket" not in transform(1) else "int"
     one = container(entry_schema([partition([result] * fields)]), [entry("mem://t/f", number(0) * fields)])
-    rows = [row("mem://t/" + "/" * spec + "m", spec) for spec in range(min(specs, 100))]
-    return Case(of_table(metadata, rows, {"m": one}), ["--filter", in_lists("c", values)], commands=("plan",))
+    many = [row("mem://t/" + "/" * at + "m", at % specs) for at in range(rows or min(specs, 100))]
+    return Case(of_table(metadata, many, {"m": one}), ["--filter", in_lists("c", values)], commands=("plan",))
 
 
 def identities():
@@ -162,6 +162,11 @@ def identities_of_50_specs():
 
 def buckets():
     return through_specs(100, 64, 12000, lambda at: f"bucket[{at + 1}]")
+
+
+def rows_of_large_specs():
+    """Projections of which not all are held, each for many rows."""
+    return through_specs(3, 64, 12000, lambda at: f"bucket[{at + 1}]", rows=300)
 
 
 def cut_texts():

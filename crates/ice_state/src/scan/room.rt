@@ -3,8 +3,8 @@
 use ice_filter::{Bound, Part, Test};
 use ice_value::Cell;
 
-/// So many bytes of projections are held.
-pub(crate) const MOST_HELD: usize = 8 << 20;
+/// So many bytes of projections are held: more than those of a filter and a table that were not made to be large.
+pub(crate) const MOST_HELD: usize = 48 << 20;
 
 /// What a literal takes without its bytes, and what a test takes without its literals.
 const SMALL: usize = 32;
