@@ -272,8 +272,8 @@ def small_members():
     return Case(of_table(metadata, [row("mem://t/m")], {"m": manifest}), [], 0, ("plan", "append", "show", "audit"))
 
 
-CASES = [identities_of_50_specs, identities, buckets, rows_of_large_specs, cut_texts, specs_of_one_field, long_field_name, long_names_of_leaves,
-         long_manifest_path, long_file_path, entries_without_maps, entries_with_one_bound, entries_with_turned_bounds,
+CASES = [identities_of_50_specs, identities, buckets, rows_of_large_specs, cut_texts, specs_of_one_field,
+         long_field_name, long_names_of_leaves, long_manifest_path, long_file_path, entries_without_maps, entries_with_one_bound, entries_with_turned_bounds,
          entries_with_an_excess, missing_columns, many_predicates, small_objects, small_members]
 
 # ---- growth
