@@ -65,7 +65,8 @@ none_in front read f e = rw (behind_err read f e) refl
 
 -- ---- values that hold others
 
-pub behind_made : {A B : Type 0} (make : A → B) (read : Read A) → behind (read >>= λ x. Ok (make x.0, x.1)) ≡ behind read
+pub behind_made : {A B : Type 0} (make : A → B) (read : Read A)
+    → behind (read >>= λ x. Ok (make x.0, x.1)) ≡ behind read
 behind_made make (Ok x) = refl
 behind_made make (Err f) = refl
 

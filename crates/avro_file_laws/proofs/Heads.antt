@@ -15,7 +15,8 @@ use Rattle.avro_file.specs.Blocks.{fault_of}
 use Rattle.avro_file.proofs.Steps.{either}
 use Rattle.avro_file.proofs.Taken.{long_takes, run_takes}
 use Rattle.avro_file.proofs.Again.{long_again, run_again}
-use Rattle.avro_file_laws.specs.Parts.{Part, a_block_number, some_bytes, the_marker, EndsIn, IsWrong, StandsWrong, IsNatural}
+use Rattle.avro_file_laws.specs.Parts.{Part, a_block_number, some_bytes, the_marker, EndsIn, IsWrong, StandsWrong}
+use Rattle.avro_file_laws.specs.Parts.{IsNatural}
 use Rattle.avro_file_laws.specs.Coming.{Coming}
 use Rattle.avro_file_laws.specs.Faults.{IsAtFault, ComesInHead}
 use Rattle.avro_file_laws.proofs.Numbers.{err_is, bind_err, which_way, NumberErr, long_err, long_fails}

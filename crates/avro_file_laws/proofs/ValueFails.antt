@@ -18,7 +18,8 @@ use Rattle.avro_file.specs.Spelling.{IsEntry, Spells, item_count, item_counts, e
 use Rattle.avro_file.specs.Blocks.{max_items}
 use Rattle.avro_file.proofs.Taken.{entry_cost}
 use Rattle.avro_file.proofs.Again.{long_again, datum_again}
-use Rattle.avro_file_laws.specs.Parts.{Part, a_long, an_int, a_symbol, a_branch, a_count, a_truth, some_bytes, StandsWrong}
+use Rattle.avro_file_laws.specs.Parts.{Part, a_long, an_int, a_symbol, a_branch, a_count, a_truth, some_bytes}
+use Rattle.avro_file_laws.specs.Parts.{StandsWrong}
 use Rattle.avro_file_laws.specs.Parts.{IsPosition}
 use Rattle.avro_file_laws.specs.Coming.{Comes, ComesInEntry, ComesInFields, ComesInBranch, ComesInUnion, IsFirst}
 use Rattle.avro_file_laws.specs.Coming.{branch_count}

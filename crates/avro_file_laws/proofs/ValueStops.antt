@@ -18,10 +18,13 @@ use Rattle.avro_file.specs.Blocks.{max_items}
 use Rattle.avro_file.proofs.Steps.{joined}
 use Rattle.avro_file.proofs.Taken.{long_takes, counts, entry_cost, entries_held, fields_held, entry_takes}
 use Rattle.avro_file.proofs.Taken.{entries_len-entries_of, datum_takes}
-use Rattle.avro_file_laws.specs.Parts.{Part, a_long, an_int, a_symbol, a_branch, a_count, a_truth, some_bytes, IsPosition}
-use Rattle.avro_file_laws.specs.Coming.{Coming, Comes, ComesInEntry, ComesInFields, ComesInBranch, IsFirst, branch_count}
+use Rattle.avro_file_laws.specs.Parts.{Part, a_long, an_int, a_symbol, a_branch, a_count, a_truth, some_bytes}
+use Rattle.avro_file_laws.specs.Parts.{IsPosition}
+use Rattle.avro_file_laws.specs.Coming.{Coming, Comes, ComesInEntry, ComesInFields, ComesInBranch, IsFirst}
+use Rattle.avro_file_laws.specs.Coming.{branch_count}
 use Rattle.avro_file_laws.proofs.Numbers.{err_is, bind_err, NumberErr, long_err, int_err}
-use Rattle.avro_file_laws.proofs.Bad.{Bad, bad_long, bad_int, run_err, truth_err, symbol_err, bytes_err, string_err, Found}
+use Rattle.avro_file_laws.proofs.Bad.{Bad, bad_long, bad_int, run_err, truth_err, symbol_err, bytes_err, string_err}
+use Rattle.avro_file_laws.proofs.Bad.{Found}
 use Rattle.avro_file_laws.proofs.Bad.{first_found}
 use Rattle.avro_file_laws.proofs.Stopped.{Stops, ComesInSome, items_found, blocks_stop, entry_stops}
 

@@ -296,7 +296,8 @@ place_past (a ∷ front) back end k =
 -- ---- leads
 
 -- the fields from here on stand behind so many places, and picking among them is picking among all
-pub record Reached (id : ℤ) (fs : Fields) (vs : List Value) (rest : Fields) (places bytes : List ℕ) (end after count : ℕ) :
+pub record Reached (id : ℤ) (fs : Fields) (vs : List Value) (rest : Fields) (places bytes : List ℕ)
+    (end after count : ℕ) :
     Type 0 where
   pub values : List Value
   pub front : List ℕ
@@ -485,7 +486,8 @@ lead_within (structure gs) fs id ids lead is same below = λ bytes at left end a
     let taken = structure_taken gs (standing bytes at left) v (standing bytes end after) read in
     let led = subst (λ (hs : Fields). IsLeadBelow hs id ids lead) same below bytes at left end after places taken.0
     inside few stand taken.1 in
-    subst (λ (w : Value). IsLedTo lead (id ∷ ids) places end bytes (pick (id ∷ ids) (structure gs, w))) (sym taken.2) led
+    subst (λ (w : Value). IsLedTo lead (id ∷ ids) places end bytes (pick (id ∷ ids) (structure gs, w)))
+        (sym taken.2) led
 
 pub lead_here : (schema : Bor Schema) (field_path : List ℤ)
     → IsLead (tree schema.now) field_path (Some (record { schema = schema; step = 0; passed = 0 }))

@@ -89,7 +89,8 @@ stands s p v q le e =
 abbrev without_count : Value × Position → Result (Value × List ℕ) Refusal
 without_count x = Ok (x.0, x.1.bytes)
 
-object_read : (r : Read Value) (v : Value) (rest : List ℕ) → (refused inside r >>= without_count) ≡ Ok (v, rest) → (q : Position) × (r ≡ Ok (v, q))
+object_read : (r : Read Value) (v : Value) (rest : List ℕ) → (refused inside r >>= without_count) ≡ Ok (v, rest)
+    → (q : Position) × (r ≡ Ok (v, q))
 object_read (Ok x) v rest e =
     (x.1, ap (λ (y : Value × List ℕ). Ok (y.0, x.1)) (ok_is (x.0, x.1.bytes) (v, rest) e))
 object_read (Err f) v rest e = absurd cc
@@ -107,7 +108,8 @@ fewer_left s p v q e = let t = datum_takes s p (v, q) e in omega (arith, t.left)
 -- ---- records
 
 -- the first field and the others
-pub record First (own : Option ℤ) (t : Tree) (fs : Fields) (p : Position) (vs : List Value) (q : Position) : Type 0 where
+pub record First (own : Option ℤ) (t : Tree) (fs : Fields) (p : Position) (vs : List Value)
+    (q : Position) : Type 0 where
   pub first : Value
   pub others : List Value
   pub between : Position

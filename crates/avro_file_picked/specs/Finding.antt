@@ -98,6 +98,7 @@ abbrev pub ArePicked : Tree → List (List ℤ) → Vec (Option Datum) Global �
 ArePicked s field_paths found v = seen found ≡ all_picked s v field_paths
 
 -- what next gives, seen along the field paths; or memory lacks, and nothing was passed
-abbrev pub NextPicked : Tree → List (List ℤ) → Ahead → Result (Option (Vec (Option Datum) Global)) AvroFault → Ahead → Type 0
+abbrev pub NextPicked : Tree → List (List ℤ) → Ahead → Result (Option (Vec (Option Datum) Global)) AvroFault → Ahead
+    → Type 0
 NextPicked s field_paths old result new = Next (ArePicked s field_paths) old result new ⊎
     ((result ≡ Err Memory) × (new ≡ old))

@@ -18,7 +18,8 @@ use Rattle.avro_schema.proofs.Same.{Complete, took_same}
 use Rattle.avro_schema_laws.specs.Walk.{Place, Stop, at_type}
 use Rattle.avro_schema_laws.specs.Faults.{OneOf, first_one, later_one, Met, NamesOf}
 use Rattle.avro_schema_laws.proofs.Passing.{passed, passed_both, Faultless, Passes, none_left, passes_on, passes_both}
-use Rattle.avro_schema_laws.proofs.Passing.{none_of, still_passed, is_passed, passed_cases, one_first_both, one_second_both}
+use Rattle.avro_schema_laws.proofs.Passing.{none_of, still_passed, is_passed, passed_cases, one_first_both}
+use Rattle.avro_schema_laws.proofs.Passing.{one_second_both}
 use Rattle.avro_schema_laws.proofs.Stops.{not_again}
 use Rattle.avro_schema_laws.proofs.Matching.{met_on, Matches, matches_close}
 

@@ -18,7 +18,8 @@ use Rattle.avro_schema.proofs.Known.{Stays, not_both, not_open, name_is, known_o
 use Rattle.avro_schema.proofs.Known.{agrees_before, one_use}
 use Rattle.avro_schema.proofs.Same.{agrees_open, some_is}
 use Rattle.avro_schema_laws.specs.Walk.{Place, Stop, at_type, at_field}
-use Rattle.avro_schema_laws.specs.Faults.{OneOf, first_one, later_one, Met, NamesOf, Takes, nothing, a_use, no_use, no_node}
+use Rattle.avro_schema_laws.specs.Faults.{OneOf, first_one, later_one, Met, NamesOf, Takes, nothing, a_use, no_use}
+use Rattle.avro_schema_laws.specs.Faults.{no_node}
 use Rattle.avro_schema_laws.specs.Faults.{IsTooBig, too_deep, too_many}
 use Rattle.avro_schema_laws.proofs.Passing.{none_of}
 

@@ -38,7 +38,8 @@ use Rattle.avro_schema_laws.proofs.Stops.{type_kind, field_free, is_no_type, is_
 use Rattle.avro_schema_laws.proofs.Matching.{Matches, matches_field, matches_plain, matches_open}
 use Rattle.avro_schema_laws.proofs.Closing.{steps, asked_steps, CoversAll, covers_none, covers_behind, Done}
 use Rattle.avro_schema_laws.proofs.Closing.{AllDone, done_both, done_type, Almost, with_name}
-use Rattle.avro_schema_laws.proofs.Naming.{now, has_room, plain_free, named_free, DoneAs, FailsAs, defined_tells, both_there}
+use Rattle.avro_schema_laws.proofs.Naming.{now, has_room, plain_free, named_free, DoneAs, FailsAs, defined_tells}
+use Rattle.avro_schema_laws.proofs.Naming.{both_there}
 use Rattle.avro_schema_laws.proofs.Naming.{first_absent, second_absent}
 
 abbrev pub in_union : Role → Bool

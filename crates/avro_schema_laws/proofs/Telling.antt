@@ -26,7 +26,8 @@ use Rattle.avro_schema.proofs.Whole.{tree_tells}
 use Rattle.avro_schema_laws.specs.Walk.{Place, Stop, inside, in_kind, walk}
 use Rattle.avro_schema_laws.specs.Sound.{is_type}
 use Rattle.avro_schema_laws.specs.Faults.{IsJson, too_deep, IsFault, no_room, no_type, unknown, recursive}
-use Rattle.avro_schema_laws.specs.Faults.{no_room_again, twice, no_field, id_twice, FirstFault, here, later, HasFirstFault}
+use Rattle.avro_schema_laws.specs.Faults.{no_room_again, twice, no_field, id_twice, FirstFault, here, later}
+use Rattle.avro_schema_laws.specs.Faults.{HasFirstFault}
 use Rattle.avro_schema_laws.proofs.Passing.{Passes, Fails, fails_here, has_first, one_first, none_first}
 use Rattle.avro_schema_laws.proofs.Stops.{type_kind, inside_kind, has_no_room, is_no_type}
 use Rattle.avro_schema_laws.proofs.Matching.{Matches, matches_start, no_more, matches_plain}

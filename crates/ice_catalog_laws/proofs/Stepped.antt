@@ -25,7 +25,8 @@ use Rattle.ice_state.specs.Scans.{Scanned}
 use Rattle.ice_state.specs.declared.fault.FinishFault.{FinishFault}
 use Rattle.ice_state.specs.declared.fault.FinishFault.TheVariants as fault
 use Rattle.ice_catalog_versions.specs.Applying.{apply}
-use Rattle.ice_catalog_versions.specs.Histories.{History, IsReceiptOf, Step, after, prepared_from, prepared_on, state_of, step}
+use Rattle.ice_catalog_versions.specs.Histories.{History, IsReceiptOf, Step, after, prepared_from, prepared_on}
+use Rattle.ice_catalog_versions.specs.Histories.{state_of, step}
 use Rattle.ice_catalog_versions.specs.Replaying.{AddsAStep}
 use Rattle.ice_catalog_versions.specs.States.{State}
 use Rattle.ice_catalog_versions.specs.declared.change.Commit.{Commit}

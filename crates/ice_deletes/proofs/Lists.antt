@@ -86,7 +86,8 @@ before_or_behind (suc first) (suc k) = elim (before_or_behind first k) [
 
 -- what fails in a list is the back of it, where the last of a front passes, and the place is found behind that
 pub later_back : {X : Type 0} (p : X → Bool) (first end m : ℕ) (xs : List X) → first ≤ end → end ≤ length xs
-    → m ≤ length (slice_range xs first end) → IsPartitionedBy p xs → ((d : X) → 0 < first → p (get_or xs (first - 1) d) ≡ true)
+    → m ≤ length (slice_range xs first end) → IsPartitionedBy p xs
+    → ((d : X) → 0 < first → p (get_or xs (first - 1) d) ≡ true)
     → IsPartitionPoint (λ y. p y ≡ true) (λ y. p y ≡ false) (slice_range xs first end) m
     → drop (first + m) (take end xs) ≡ filter (λ y. not (p y)) (take end xs)
 later_back {X} p first end m xs low high most parted older point =

@@ -35,8 +35,10 @@ module _ (spec_id : ℤ) (tuple : List Cell) (number : ℕ) (p q : List ℕ) whe
       → numbers_for Positions (at p) files ≡ numbers_for Positions (at q) files
   positions_agree = agree Positions (λ d. go d.content d.referenced d) where
     go : (K : FileContent) (r : Option (List ℕ)) (d : DeleteKey)
-        → ((is_content PositionDeletes K && is_none r) && applies_as K (at p) (record d { content = K; referenced = r }))
-        ≡ ((is_content PositionDeletes K && is_none r) && applies_as K (at q) (record d { content = K; referenced = r }))
+        → ((is_content PositionDeletes K && is_none r) && applies_as K (at p)
+        (record d { content = K; referenced = r }))
+        ≡ ((is_content PositionDeletes K && is_none r) && applies_as K (at q)
+        (record d { content = K; referenced = r }))
     go Data r d = refl
     go PositionDeletes None d = refl
     go PositionDeletes (Some r) d = refl
@@ -141,7 +143,8 @@ module _ (x : DataKey) (files : List (ℕ × DeleteKey)) (hits : Hits) (found : 
       map-append number_of (a ++ b ++ c) d
       ∙ ap (λ l. l ++ map number_of d) (map-append number_of (a ++ b) c
       ∙ ap (λ l. l ++ map number_of c) (map-append number_of a b))
-      ∙ all_four _ _ _ _ _ _ _ _ (of_group Positions) (of_group Referenced) (of_group Equalities) (of_group Everywhere) in
+      ∙ all_four _ _ _ _ _ _ _ _ (of_group Positions) (of_group Referenced) (of_group Equalities)
+      (of_group Everywhere) in
       let P : List ℕ → Type 0 = λ ns. IsPermutation (numbers_where (applies x) files) ns in
       let Q : List (ℕ × DeleteKey) → Type 0 = λ es. IsPermutation es (a ++ b ++ c ++ d) in
       subst P split (IsPermutation-map number_of apply (a ++ b ++ c ++ d) (subst Q all_apply (by_group apply)))

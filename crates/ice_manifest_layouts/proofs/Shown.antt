@@ -152,7 +152,8 @@ guided_shown f (Some guided) is shows =
       v,
       subst (λ (ws : List (List ℤ)). IsGuided ws (layout_tree e.layout.now) v guided) is.0.0 (shows v is.0.2.1),
       λ field. ap (pick (to_file field)) object_is
-          ∙ picked_onward (pos 2) (file_id field) [] (entry_seen e) (structure (fields_seen f.fields.now), fields is.1.0)
+          ∙ picked_onward (pos 2) (file_id field) [] (entry_seen e)
+          (structure (fields_seen f.fields.now), fields is.1.0)
           is.1.1 ∙ ap (pick (file_id field ∷ [])) (sym here),
     )
 

@@ -51,7 +51,8 @@ seen_is e s same record_is = ap (λ (t : Tree). (t, (entry_seen e).1)) (same ∙
 pub value_is : (e : FoundEntry) → Is e.object (entry_seen e).1
 value_is e = λ v is. ap (λ (x : Typed). x.1) (entry_is e v is)
 
-pub entry_given : {X : Type 0} (gives : Live → List X) (row : Row) (spec : Spec) (s : Tree) (k : ℕ) (front found : List X)
+pub entry_given : {X : Type 0} (gives : Live → List X) (row : Row) (spec : Spec) (s : Tree) (k : ℕ)
+    (front found : List X)
     (now new : Ahead) (e : FoundEntry) → Next Shows now (Ok (Some e.object)) new → tree e.object.schema.now ≡ s
     → is_structure s ≡ true → given_behind gives front (entry_of row spec k (entry_seen e)) ≡ Ok found
     → joined front (given_of gives (entries_ahead row spec (fields_in s) k now)) ≡ joined found

@@ -33,7 +33,8 @@ with_nulls met v n = bounds_in lower_bounds (there met.lower) >>= with_lower met
 abbrev with_values : MapsMet → List ColumnCount → Result FileBounds FieldFault
 with_values met v = counts_in null_value_counts (there met.nulls) >>= with_nulls met v
 
-values_read : (met : MapsMet) (v : List ColumnCount) → told in_manifest (counts_in value_counts (there met.values)) ≡ Ok v
+values_read : (met : MapsMet) (v : List ColumnCount)
+    → told in_manifest (counts_in value_counts (there met.values)) ≡ Ok v
     → told in_manifest (columns_met met) ≡ told in_manifest (with_values met v)
 unfolding columns_met
 values_read met v a = then_read in_manifest (counts_in value_counts (there met.values)) (with_values met) v a

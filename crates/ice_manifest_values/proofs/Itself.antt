@@ -74,7 +74,8 @@ RecordMet y = ((x : Typed) × (record_of (there (pick [] y)) ≡ Some x) × ((id
 abbrev below : ℤ → Typed → Picked
 below id x = unless_null (λ y. unless_absent (pick []) (field_with id y)) x
 
-met_some : (y : Typed) (t : Tree) (v : Value) → bare y ≡ Some (t, v) → is_something v ≡ true → Either (t, v) → RecordMet y
+met_some : (y : Typed) (t : Tree) (v : Value) → bare y ≡ Some (t, v) → is_something v ≡ true → Either (t, v)
+    → RecordMet y
 met_some y t v is some (inl r) = inl (
   (t, v),
   ap (λ (o : Option Typed). record_of (there (unless_absent (unless_null present) o))) is
@@ -144,7 +145,8 @@ count_itself m y = counted_by m y (record_met y)
 -- ---- bounds
 
 abbrev bounded : ColumnMap → Option Typed → Option Typed → Result ColumnBound FieldFault
-bounded m key said = key_of m key >>= λ k. asked m.said (binary_of said) >>= λ bs. Ok (record { column = k; bytes = bs })
+bounded m key said = key_of m key >>= λ k. asked m.said (binary_of said) >>= λ bs. Ok
+    (record { column = k; bytes = bs })
 
 bounded_there : (m : ColumnMap) (x : Typed) → bound_in m x ≡ bounded m (there (at m.key x)) (there (at m.said x))
 unfolding bound_in int_at

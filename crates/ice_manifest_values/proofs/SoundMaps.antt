@@ -79,8 +79,10 @@ field_spelled id (field own s fs) vs bytes t here is =
 
 signed_within : (id : ℤ) (n : ℕ) (b : Bool) → n < 2 ^ 32
     → within_32 id (cond b (pos (n / 2)) (negsuc (n / 2))) ≡ Ok (cond b (pos (n / 2)) (negsuc (n / 2)))
-signed_within id n true lt = let half : ltb (n / 2) (2 ^ 31) ≡ true = lt-ltb (n / 2) (2 ^ 31) (omega arith) in rw half refl
-signed_within id n false lt = let half : ltb (n / 2) (2 ^ 31) ≡ true = lt-ltb (n / 2) (2 ^ 31) (omega arith) in rw half refl
+signed_within id n true lt = let half : ltb (n / 2) (2 ^ 31) ≡ true = lt-ltb (n / 2) (2 ^ 31)
+    (omega arith) in rw half refl
+signed_within id n false lt = let half : ltb (n / 2) (2 ^ 31) ≡ true = lt-ltb (n / 2) (2 ^ 31)
+    (omega arith) in rw half refl
 
 int_within : (id z : ℤ) (bytes : List ℕ) → IsInt bytes z → within_32 id z ≡ Ok z
 int_within id z bytes is =

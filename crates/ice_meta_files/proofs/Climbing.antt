@@ -64,7 +64,8 @@ unfolding has_in one_if
 one_step low m None = omega arith
 one_step low m (Some n) = in_first low m n _ _ _ _ refl refl refl refl
 
-more : (low m : ℕ) (names : List (List ℕ)) → (in_range low m names + of_one (low + m) names) ≤ in_range low (m + 1) names
+more : (low m : ℕ) (names : List (List ℕ))
+    → (in_range low m names + of_one (low + m) names) ≤ in_range low (m + 1) names
 unfolding in_range of_one
 more low m [] = omega arith
 more low m (x ∷ xs) =

@@ -61,7 +61,8 @@ version_of (b ∷ digits) = if b == 118 then number_of digits else number_of (b 
 
 -- `vN.metadata.json` or `N.metadata.json`
 abbrev pub version_name : List ℕ → Option MetadataName
-version_name name = option_and_then (λ (p : Parts). with_both (version_of p.front) (whole_ending p.rest)) (cut_at 46 name)
+version_name name = option_and_then (λ (p : Parts). with_both (version_of p.front) (whole_ending p.rest))
+    (cut_at 46 name)
 
 -- `N-ID.metadata.json`
 abbrev pub catalog_name : List ℕ → Option MetadataName

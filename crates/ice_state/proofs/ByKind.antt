@@ -87,7 +87,8 @@ only_data : (xs : List Entry) → deletes_of xs ≡ [] → data_of xs ≡ xs
 only_data [] none = refl
 only_data (x ∷ xs) none =
     let P : (b : Bool) → cond (not b) (x ∷ deletes_of xs) (deletes_of xs) ≡ []
-    → cond b (x ∷ data_of xs) (data_of xs) ≡ x ∷ xs = λ b. elim b as (λ v. cond (not v) (x ∷ deletes_of xs) (deletes_of xs) ≡ []
+    → cond b (x ∷ data_of xs) (data_of xs) ≡ x ∷ xs = λ b. elim b as
+    (λ v. cond (not v) (x ∷ deletes_of xs) (deletes_of xs) ≡ []
     → cond v (x ∷ data_of xs) (data_of xs) ≡ x ∷ xs) [
       | true ↦ λ h. ap (λ ys. x ∷ ys) (only_data xs h)
       | false ↦ λ h. cc
@@ -121,7 +122,8 @@ parted (x ∷ xs) =
     elim (holds Data x) as (λ b. IsPermutation (x ∷ xs)
     (cond b (x ∷ data_of xs) (data_of xs) ++ cond (not b) (x ∷ deletes_of xs) (deletes_of xs))) [
       | true ↦ rest
-      | false ↦ IsPermutation-trans (x ∷ xs) (x ∷ (data_of xs ++ deletes_of xs)) (data_of xs ++ (x ∷ deletes_of xs)) rest
+      | false ↦ IsPermutation-trans (x ∷ xs) (x ∷ (data_of xs ++ deletes_of xs))
+          (data_of xs ++ (x ∷ deletes_of xs)) rest
           (fronts (x ∷ []) (data_of xs) (deletes_of xs))
     ]
 
@@ -132,15 +134,19 @@ counted [] p = refl
 counted (x ∷ xs) p =
     let rest = counted xs p in
     elim (holds Data x) as (λ b. count_at (x ∷ xs) p
-    ≡ count_at (cond b (x ∷ data_of xs) (data_of xs)) p + count_at (cond (not b) (x ∷ deletes_of xs) (deletes_of xs)) p) [
+    ≡ count_at (cond b (x ∷ data_of xs) (data_of xs)) p + count_at
+    (cond (not b) (x ∷ deletes_of xs) (deletes_of xs)) p) [
       | true ↦ elim (bytes_eq x.file.path p) as (λ v. length
-          (cond v (x ∷ filter (λ (w : Entry). bytes_eq w.file.path p) xs) (filter (λ (w : Entry). bytes_eq w.file.path p) xs))
+          (cond v (x ∷ filter (λ (w : Entry). bytes_eq w.file.path p) xs)
+              (filter (λ (w : Entry). bytes_eq w.file.path p) xs))
           ≡ length (cond v (x ∷ filter (λ (w : Entry). bytes_eq w.file.path p) (data_of xs))
           (filter (λ (w : Entry). bytes_eq w.file.path p) (data_of xs))) + count_at (deletes_of xs) p)
           [ true ↦ omega (arith, rest) | false ↦ rest ]
       | false ↦ elim (bytes_eq x.file.path p) as (λ v. length
-          (cond v (x ∷ filter (λ (w : Entry). bytes_eq w.file.path p) xs) (filter (λ (w : Entry). bytes_eq w.file.path p) xs))
-          ≡ count_at (data_of xs) p + length (cond v (x ∷ filter (λ (w : Entry). bytes_eq w.file.path p) (deletes_of xs))
+          (cond v (x ∷ filter (λ (w : Entry). bytes_eq w.file.path p) xs)
+              (filter (λ (w : Entry). bytes_eq w.file.path p) xs))
+          ≡ count_at (data_of xs) p + length
+          (cond v (x ∷ filter (λ (w : Entry). bytes_eq w.file.path p) (deletes_of xs))
           (filter (λ (w : Entry). bytes_eq w.file.path p) (deletes_of xs))))
           [ true ↦ omega (arith, rest) | false ↦ rest ]
     ]
@@ -150,7 +156,8 @@ pub once_by_kind : (xs data_files delete_files : List Entry) → data_files ≡ 
     → ShareNoPath data_files delete_files → twice (by_path xs) ≡ []
 once_by_kind xs data_files delete_files are are_deletes once once_deletes apart = once_if_few (by_path xs) (λ p.
     let few = few_if_once (data_of xs) (subst (λ (ys : List Entry). twice ys ≡ []) are once) p in
-    let few_deletes = few_if_once (deletes_of xs) (subst (λ (ys : List Entry). twice ys ≡ []) are_deletes once_deletes) p in
+    let few_deletes = few_if_once (deletes_of xs)
+        (subst (λ (ys : List Entry). twice ys ≡ []) are_deletes once_deletes) p in
     let count : count_at data_files p ≡ count_at (data_of xs) p =
     ap (λ (ys : List Entry). count_at ys p) are ∙ count-by_path (data_of xs) p in
     let count_deletes : count_at delete_files p ≡ count_at (deletes_of xs) p =
@@ -180,7 +187,8 @@ module _ (kept : Segmented) (xs : List Entry) (files now : FilesByKind) (has : H
     all_deletes = deletes_are ∙ sym (filtered_by_path holds_deletes xs);
   }
 
-  pub none_twice : twice (entries_at kept now.data_files.items) ≡ [] → twice (entries_at kept now.delete_files.items) ≡ []
+  pub none_twice : twice (entries_at kept now.data_files.items) ≡ []
+      → twice (entries_at kept now.delete_files.items) ≡ []
       → ShareNoPath (entries_at kept now.data_files.items) (entries_at kept now.delete_files.items)
       → twice (by_path xs) ≡ []
   none_twice = once_by_kind xs (entries_at kept now.data_files.items) (entries_at kept now.delete_files.items) data_are
@@ -191,6 +199,7 @@ module _ (kept : Segmented) (xs : List Entry) (files now : FilesByKind) (has : H
       let P : List Entry → List Entry → Type 0 = λ us vs. IsPermutation xs (us ++ vs) in
       subst (λ (us : List Entry). P us (entries_at kept now.delete_files.items)) (sym data_are)
       (subst (λ (vs : List Entry). P (by_path (data_of xs)) vs) (sym deletes_are)
-      (IsPermutation-trans xs (data_of xs ++ deletes_of xs) (by_path (data_of xs) ++ by_path (deletes_of xs)) (parted xs)
+      (IsPermutation-trans xs (data_of xs ++ deletes_of xs) (by_path (data_of xs) ++ by_path (deletes_of xs))
+          (parted xs)
       (IsPermutation-append (data_of xs) (by_path (data_of xs)) (deletes_of xs) (by_path (deletes_of xs))
       (by_path_moves (data_of xs)) (by_path_moves (deletes_of xs)))))

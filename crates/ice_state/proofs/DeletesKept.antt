@@ -159,7 +159,8 @@ module _ (kept : Segmented) (xs ys : List Entry) (d e : IndexedDeletes) (first :
       let P : List FileNumber → Type 0 = λ ns. IsPermutation (filter holds_deletes ys) (entries_at kept ns) in
       let more : filter holds_deletes ys ≡ [] = no_more (filter holds_deletes ys) (subst P none rest.all) in
       let all : filter holds_deletes (xs ++ ys) ≡ filter holds_deletes xs =
-      filter-append holds_deletes xs ys ∙ ap (λ zs. filter holds_deletes xs ++ zs) more ∙ append-nil (filter holds_deletes xs) in
+      filter-append holds_deletes xs ys ∙ ap (λ zs. filter holds_deletes xs ++ zs) more
+          ∙ append-nil (filter holds_deletes xs) in
       record {
         files = first.files;
         all = subst (λ (zs : List Entry). IsPermutation zs (entries_at kept d.files.items)) (sym all) first.all;
@@ -198,7 +199,8 @@ module _ (kept : Segmented) (xs ys : List Entry) (d e : IndexedDeletes) (first :
       record {
         files = subst (AreKept kept) (sym files) (files_both kept d.files.items e.files.items first.files rest.files);
         all =
-            subst (λ (us : List Entry). P us (entries_at kept both.files.items)) (sym (filter-append holds_deletes xs ys))
+            subst (λ (us : List Entry). P us (entries_at kept both.files.items))
+                (sym (filter-append holds_deletes xs ys))
             (subst (P (filter holds_deletes xs ++ filter holds_deletes ys)) (sym entries)
             (IsPermutation-append (filter holds_deletes xs) (entries_at kept d.files.items) (filter holds_deletes ys)
             (entries_at kept e.files.items) first.all rest.all));
@@ -241,7 +243,8 @@ module _ (kept : Segmented) (xs : List Entry) (d : KeptDeletes) where
     parts = subst (λ (ys : List Entry). IsPermutation ys xs) (sym (append-nil xs)) (IsPermutation-refl xs);
     index = is;
     files = subst (AreKept kept) (sym none) tt;
-    waiting = subst (λ (ns : List FileNumber). IsPermutation [] (entries_at kept ns)) (sym none) (IsPermutation-refl []);
+    waiting = subst (λ (ns : List FileNumber). IsPermutation [] (entries_at kept ns)) (sym none)
+        (IsPermutation-refl []);
   }
 
   -- all wait

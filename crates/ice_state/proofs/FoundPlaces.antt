@@ -55,13 +55,16 @@ place_back (x ∷ xs) few (suc k) l =
     let p = (at xs k).file.path in
     let there = counted xs k (omega arith) in
     let P : (b : Bool) → bytes_eq x.file.path p ≡ b
-    → length (cond b (x ∷ filter (λ (w : Entry). bytes_eq w.file.path p) xs) (filter (λ (w : Entry). bytes_eq w.file.path p) xs)) ≤ 1
+    → length (cond b (x ∷ filter (λ (w : Entry). bytes_eq w.file.path p) xs)
+    (filter (λ (w : Entry). bytes_eq w.file.path p) xs)) ≤ 1
     → cond b 0 (suc (place_in xs p)) ≡ suc k =
     λ b. elim b as (λ v. bytes_eq x.file.path p ≡ v
-    → length (cond v (x ∷ filter (λ (w : Entry). bytes_eq w.file.path p) xs) (filter (λ (w : Entry). bytes_eq w.file.path p) xs)) ≤ 1
+    → length (cond v (x ∷ filter (λ (w : Entry). bytes_eq w.file.path p) xs)
+    (filter (λ (w : Entry). bytes_eq w.file.path p) xs)) ≤ 1
     → cond v 0 (suc (place_in xs p)) ≡ suc k) [
       | true ↦ λ h most. absurd (omega (arith, most, there))
-      | false ↦ λ h most. ap suc (place_back xs (λ q. let more = count_more x xs q in let all = few q in omega (arith, more, all))
+      | false ↦ λ h most. ap suc
+          (place_back xs (λ q. let more = count_more x xs q in let all = few q in omega (arith, more, all))
           k (omega arith))
     ] in
     P (bytes_eq x.file.path p) refl (few p)

@@ -158,7 +158,8 @@ pub apart-step : (cs ds : Content) (i : ℕ) (c d : Option Reading) → i < leng
 apart-step [] ds i c d l m h k apart rest = absurd (omega arith)
 apart-step (x ∷ xs) [] i c d l m h k apart rest = absurd (omega arith)
 apart-step (x ∷ xs) (y ∷ ys) zero c d l m h k apart rest = (apart_here x y (rw (← h, ← k) apart), rest)
-apart-step (x ∷ xs) (y ∷ ys) (suc i) c d l m h k apart rest = apart-step xs ys i c d (omega arith) (omega arith) h k apart rest
+apart-step (x ∷ xs) (y ∷ ys) (suc i) c d l m h k apart rest = apart-step xs ys i c d (omega arith)
+    (omega arith) h k apart rest
 
 -- a row that is taken in both
 pub both_at : (cs ds : Content) (i : ℕ) (c d : Option Reading) → i < length cs → i < length ds → c ≡ get_or cs i c

@@ -11,7 +11,8 @@ use Rattle.ice_state.specs.Parts.{holds_deletes}
 use Rattle.ice_state.specs.Pruning.{holds, same_content}
 use Rattle.ice_state.proofs.Filters.{and_true, all_unit, filter_kept}
 use Rattle.ice_state.specs.PlaceLists.{LinePlaces}
-use Rattle.ice_state.specs.Lines.{entry_at, entries_at, LacksDeletes, line_at, deletes_at, lines_at, AreWithin, IsLineWithin}
+use Rattle.ice_state.specs.Lines.{entry_at, entries_at, LacksDeletes, line_at, deletes_at, lines_at, AreWithin}
+use Rattle.ice_state.specs.Lines.{IsLineWithin}
 
 -- one entry stands at each place within
 one_at : (xs : List Entry) (i : ℕ) → i < length xs → (x : Entry) × (slice_get xs i ≡ Some x) × (entry_at xs i ≡ x ∷ [])
@@ -118,7 +119,8 @@ none_at : (places : List ℕ) → entries_at [] places ≡ []
 none_at [] = refl
 none_at (i ∷ is) = none_at is
 
-pub lines_lack : (files : List Entry) (places : List LinePlaces) → AllByRecursion LacksDeletes (lines_at [] files places)
+pub lines_lack : (files : List Entry) (places : List LinePlaces)
+    → AllByRecursion LacksDeletes (lines_at [] files places)
 lines_lack [] places = tt
 lines_lack (x ∷ xs) [] = tt
 lines_lack (x ∷ xs) (p ∷ ps) = ((none_at p.positions, none_at p.equalities), lines_lack xs ps)

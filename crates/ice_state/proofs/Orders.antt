@@ -90,7 +90,8 @@ place_within n (p ∷ ps) zero all l = all.0
 place_within n (p ∷ ps) (suc i) all l = place_within n ps i all.1 (omega arith)
 
 -- the number at a place
-pub number_placed : (kept : Kept) (ns : List EntryNumber) (places : List ℕ) (i : ℕ) (d : EntryNumber) → i < length places
+pub number_placed : (kept : Kept) (ns : List EntryNumber) (places : List ℕ) (i : ℕ) (d : EntryNumber)
+    → i < length places
     → AreKept kept ns → AreWithin (length (kept_at kept ns)) places → IsKept kept (get_or ns (get_or places i 0) d)
 number_placed kept ns places i d l all within =
     number_kept kept ns (get_or places i 0) d all (place_within (length (kept_at kept ns)) places i within l)

@@ -21,7 +21,8 @@ where_renumbered ranks p (e ∷ es) =
     let rest = where_renumbered ranks p es in
     elim (p e.1) as (λ b. map (λ (x : ℕ × DeleteKey). x.0) (cond b ((slice_index ranks e.0, e.1)
     ∷ filter (λ x. p x.1) (renumbered ranks es)) (filter (λ x. p x.1) (renumbered ranks es)))
-    ≡ places_at ranks (map (λ (x : ℕ × DeleteKey). x.0) (cond b (e ∷ filter (λ x. p x.1) es) (filter (λ x. p x.1) es)))) [
+    ≡ places_at ranks (map (λ (x : ℕ × DeleteKey). x.0)
+    (cond b (e ∷ filter (λ x. p x.1) es) (filter (λ x. p x.1) es)))) [
       | true ↦ ap (λ ns. slice_index ranks e.0 ∷ ns) rest
       | false ↦ rest
     ]

@@ -46,7 +46,8 @@ file_more kept ns (p ∷ ps) (suc i) d l within =
     ap (λ xs. entry_at_place (entries_at kept ns) p ++ xs) (file_more kept ns ps i d (omega arith) within.1)
     ∙ sym (append_assoc (entry_at_place (entries_at kept ns) p) (entries_at_places (entries_at kept ns) (take i ps)) _)
 
-module _ (kept : Segmented) (deletes : IndexedDeletes) (xs : List Entry) (is : IsIndexOf kept xs deletes) (order : List ℕ)
+module _ (kept : Segmented) (deletes : IndexedDeletes) (xs : List Entry) (is : IsIndexOf kept xs deletes)
+    (order : List ℕ)
     (ordered : IsOrder (entries_at kept deletes.files.items) order) where
   abbrev files : List Entry
   files = entries_at kept deletes.files.items

@@ -44,7 +44,8 @@ one_alike es first next here all = λ i after before.
     split zero zero l = inr refl
     split zero (suc n) l = inl (omega arith)
     split (suc i) zero l = absurd (omega arith)
-    split (suc i) (suc n) l = elim (split i n (omega arith)) [ inl less ↦ inl (omega arith) | inr same ↦ inr (ap suc same) ]
+    split (suc i) (suc n) l = elim
+        (split i n (omega arith)) [ inl less ↦ inl (omega arith) | inr same ↦ inr (ap suc same) ]
 
 -- ---- stretches that are looked for
 

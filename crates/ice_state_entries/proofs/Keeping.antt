@@ -14,7 +14,8 @@ use Rattle.ice_state_entries.specs.Kept.{HasKnownPaths}
 use Rattle.ice_state_entries.specs.Keeping.{kept_of, HasAllOf}
 use Rattle.ice_state_entries.specs.Own.{Row}
 use Rattle.ice_state_entries.specs.Sharing.{entry_in, HasShared, IsWithin, KeepsShared}
-use Rattle.ice_state_entries.specs.Tables.{Rows, IsIn, row_at, no_row, Has, Puts, HasOwnPaths, HasKnownPaths as KnownRows}
+use Rattle.ice_state_entries.specs.Tables.{Rows, IsIn, row_at, no_row, Has, Puts, HasOwnPaths}
+use Rattle.ice_state_entries.specs.Tables.{HasKnownPaths as KnownRows}
 use Rattle.ice_state_entries.proofs.Lists.{all_at, all_push, all_weaker, map_same}
 use Rattle.ice_state_entries.proofs.Growing.{entry_in-keeps, entries-keep, all_within-keeps}
 

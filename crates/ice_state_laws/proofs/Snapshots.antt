@@ -30,7 +30,8 @@ use Rattle.ice_state.proofs.Scans.{row_order}
 use Rattle.ice_state.proofs.Sharing.{order, none_shared, least_shared, count-by_path}
 use Rattle.ice_state_laws.specs.Plans.{AreByPath, IsLive, IsKeptFile, IsDeleteOf, HasLine, IsBad, NoneIsBad, IsPlan}
 use Rattle.ice_state_laws.specs.Plans.{IsLeastBad, IsPathTwice}
-use Rattle.ice_state_laws.proofs.Entries.{from_kept, in_kept, holds_data, data_holds, kept_data, data_kept, live_in_flat}
+use Rattle.ice_state_laws.proofs.Entries.{from_kept, in_kept, holds_data, data_holds, kept_data, data_kept}
+use Rattle.ice_state_laws.proofs.Entries.{live_in_flat}
 use Rattle.ice_state_laws.proofs.Entries.{live_from_flat, live_sorted, sorted_live, number-sorted, rise_apart, one_path}
 use Rattle.ice_state_laws.proofs.Lists.{in_map, from_map, both_none, none_or_first, Rise, rise_filter, one_list}
 use Rattle.ice_state_laws.proofs.Refusals.{first_or_ok, first_or_err, first_of_both, first_twice, path_of_twice}

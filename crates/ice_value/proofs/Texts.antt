@@ -24,6 +24,7 @@ keeps : (bs : List ℕ) → IsUtf8 bs → KeepsBytes (cell_in String bs)
 keeps bs u = let is = is_utf8-from_IsUtf8 bs u in rw is tt
 
 -- a text that is refused keeps its bytes
-pub text_keeps : {A E : Type 0} (r : Result A E) (bs : List ℕ) → IsUtf8 bs → IfErr r (λ _. KeepsBytes (cell_in String bs))
+pub text_keeps : {A E : Type 0} (r : Result A E) (bs : List ℕ) → IsUtf8 bs
+    → IfErr r (λ _. KeepsBytes (cell_in String bs))
 text_keeps (Ok _) bs u = tt
 text_keeps (Err _) bs u = keeps bs u

@@ -34,7 +34,8 @@ pub given : (path bytes : List ℕ) → file_in (λ p. Some bytes) path ≡ Ok b
 unfolding file_in
 given path bytes = refl
 
-pub read_more : (gives : Giving) (basis : Basis) (row : Row) (rows : List Row) (a b : Reading) → IsReadOfRow gives basis row a
+pub read_more : (gives : Giving) (basis : Basis) (row : Row) (rows : List Row) (a b : Reading)
+    → IsReadOfRow gives basis row a
     → IsReadOf gives basis rows b → IsReadOf gives basis (row ∷ rows) (joined a b)
 read_more gives basis row rows a b first others = (a, b, first, others, refl)
 

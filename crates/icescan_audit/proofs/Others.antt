@@ -14,17 +14,20 @@ use Rattle.ice_meta.specs.declared.spec.Spec.{Spec}
 use Rattle.icescan_audit_findings.specs.ColumnFlaws.{bounds_cross, column_flaws, columns_flaws, has_excess_nulls}
 use Rattle.icescan_audit_findings.specs.Counting.{all_counts, count_flaws, miscounted}
 use Rattle.icescan_audit_findings.specs.Coverage.{outside, row_limits}
-use Rattle.icescan_audit_findings.specs.Findings.{entry_findings, finding_of, flaws_by, live_findings, live_flaws, manifest_finding}
+use Rattle.icescan_audit_findings.specs.Findings.{entry_findings, finding_of, flaws_by, live_findings, live_flaws}
+use Rattle.icescan_audit_findings.specs.Findings.{manifest_finding}
 use Rattle.icescan_audit_findings.specs.Findings.{manifest_findings, missing, missing_columns, missing_in}
 use Rattle.icescan_audit_findings.specs.Flaws.{flaw_where}
-use Rattle.icescan_audit_findings.specs.Repeats.{path_before, repeat_of, repeat_where, repeats, repeats_behind, repeats_in}
+use Rattle.icescan_audit_findings.specs.Repeats.{path_before, repeat_of, repeat_where, repeats, repeats_behind}
+use Rattle.icescan_audit_findings.specs.Repeats.{repeats_in}
 use Rattle.icescan_audit_findings.specs.declared.basis.Basis.{Basis}
 use Rattle.icescan_audit_findings.specs.declared.basis.TypedColumn.{TypedColumn}
 use Rattle.icescan_audit_findings.specs.declared.finding.Finding.{Finding}
 use Rattle.icescan_audit_findings.specs.declared.finding.Flaw.{Flaw}
 use Rattle.icescan_audit_findings.specs.declared.finding.Flaw.TheVariants.{Uncovered, BelowLeast, AboveLast, NoColumn}
 use Rattle.icescan_audit_findings.specs.declared.finding.Flaw.TheVariants.{Miscounted, BoundsCross, ExcessNulls}
-use Rattle.icescan_audit_findings.specs.declared.finding.Flaw.TheVariants.{NamedNotLive, DanglingPositions, DanglingEqualities}
+use Rattle.icescan_audit_findings.specs.declared.finding.Flaw.TheVariants.{NamedNotLive, DanglingPositions}
+use Rattle.icescan_audit_findings.specs.declared.finding.Flaw.TheVariants.{DanglingEqualities}
 use Rattle.icescan_audit_findings.specs.declared.limits.FieldLimits.{FieldLimits}
 use Rattle.icescan_audit_findings.specs.declared.repeats.LiveFile.{LiveFile}
 use Rattle.icescan_audit_findings.proofs.Members.{first_or_behind, from_flat, from_map, in_none}
@@ -109,7 +112,8 @@ manifest_other basis row spec tallies lives =
     (λ f c.
     let limits = row_limits spec row.partitions in
     let r = from_flat (entry_findings basis row limits) lives f c in
-    made_other (finding_of row r.0.entry) (λ _. refl) (live_flaws basis row limits r.0) (live_other basis row limits r.0)
+    made_other (finding_of row r.0.entry) (λ _. refl) (live_flaws basis row limits r.0)
+        (live_other basis row limits r.0)
     f r.2)
 
 repeat_other : (b : Bool) (x : LiveFile) → AreOthers (repeat_where b x)

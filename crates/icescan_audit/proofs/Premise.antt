@@ -31,7 +31,8 @@ use Rattle.icescan_audit.specs.declared.audit.Audit.{Audit}
 use Rattle.icescan_audit.specs.declared.audit.Reading.{Reading}
 use Rattle.icescan_audit.specs.declared.subject.Subject.{Subject}
 use Rattle.icescan_audit_findings.proofs.Telltale.{told_of_covered, told_of_manifest}
-use Rattle.icescan_audit_findings.proofs.Told.{no_delete_findings, no_repeats, none_of_all, none_of_both, uncovered_are_faults}
+use Rattle.icescan_audit_findings.proofs.Told.{no_delete_findings, no_repeats, none_of_all, none_of_both}
+use Rattle.icescan_audit_findings.proofs.Told.{uncovered_are_faults}
 use Rattle.icescan_audit_findings.specs.Telling.{faults, uncovered}
 
 -- ---- reading step by step

@@ -78,7 +78,8 @@ module _ (world : World) (basis : Basis) where
 
 -- ---- over any files
 
-both_read : (gives : Giving) (basis : Basis) (xs ys : List Row) (a b : Reading) → IsReadOf gives basis xs a → IsReadOf gives basis ys b
+both_read : (gives : Giving) (basis : Basis) (xs ys : List Row) (a b : Reading) → IsReadOf gives basis xs a
+    → IsReadOf gives basis ys b
     → IsReadOf gives basis (xs ++ ys) (joined a b)
 both_read gives basis [] ys a b none has =
     subst (IsReadOf gives basis ys) (sym (join_nothing b) ∙ ap (λ (x : Reading). joined x b) (sym none)) has
@@ -94,7 +95,8 @@ both_read gives basis (row ∷ xs) ys a b (first, others, one, rest, is) has = (
 
 module _ (told : Option World) (f : List ℕ → Type 0) (gives : Giving) (basis : Basis) (rows xs ys : List Row)
     (whole : rows ≡ xs ++ ys) where
-  pub refused_first : (e : RunFault) → ReadsRows told f gives basis xs (Err e) → ReadsRows told f gives basis rows (Err e)
+  pub refused_first : (e : RunFault) → ReadsRows told f gives basis xs (Err e)
+      → ReadsRows told f gives basis rows (Err e)
   refused_first e r = subst (λ rs. ReadsRows told f gives basis rs (Err e)) (sym whole) (record {
     found = λ world is. tt;
     refused = λ world is. first_refuses world basis f xs ys e (r.refused world is);

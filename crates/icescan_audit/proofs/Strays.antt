@@ -7,7 +7,8 @@ use Rattle.std.specs.Option.{option_and_then}
 use Rattle.std.proofs.lemmas.List.Elements.{Contains-append_cases, Contains-append_left, Contains-append_right}
 use Rattle.ice_manifest_reading.specs.Tallying.{tallies_of}
 use Rattle.icescan_audit_findings.specs.Bases.{among, has_content_of_deletes, have_deletes}
-use Rattle.icescan_audit_findings.specs.Dangling.{dangling_flaw, data_by, data_files, data_key, data_of, delete_by, delete_files}
+use Rattle.icescan_audit_findings.specs.Dangling.{dangling_flaw, data_by, data_files, data_key, data_of, delete_by}
+use Rattle.icescan_audit_findings.specs.Dangling.{delete_files}
 use Rattle.icescan_audit_findings.specs.Dangling.{delete_findings, delete_key, delete_of}
 use Rattle.icescan_audit_findings.specs.Keys.{file_key, key_of}
 use Rattle.icescan_audit_findings.specs.Repeats.{live_file, repeats}
@@ -89,7 +90,8 @@ data_parts x None y is h =
 data_parts x (Some key) y is h = data_parts_by x key y is key.content refl
     (sym (ap (option_and_then (λ k. data_by k.content x k)) is) ∙ h)
 
-data_some : (x : LiveFile) (key : FileKey) → x.key ≡ Some key → key.content ≡ Data → data_of x ≡ Some (data_key x.path key)
+data_some : (x : LiveFile) (key : FileKey) → x.key ≡ Some key → key.content ≡ Data
+    → data_of x ≡ Some (data_key x.path key)
 data_some x key has is =
     ap (option_and_then (λ k. data_by k.content x k)) has ∙ ap (λ content. data_by content x key) is
 
@@ -224,7 +226,8 @@ of_deletes row_of_content.Deletes c h real = refl
 abbrev pub at : List ℕ → List ℕ → Flaw → Finding
 at manifest path flaw = record { manifest = manifest; file = Some path; flaw = flaw }
 
-module _ (fits : FitsItsRow) (refs : IsOfDeletesWhereReferenced) (world : World) (basis : Basis) (rows : List Row) (read : Reading)
+module _ (fits : FitsItsRow) (refs : IsOfDeletesWhereReferenced) (world : World) (basis : Basis) (rows : List Row)
+    (read : Reading)
     (audited : rows_audit world (among rows basis) rows ≡ Ok read) where
   abbrev held : Basis
   held = among rows basis

@@ -7,8 +7,10 @@ use Rattle.icescan_audit_findings.specs.declared.finding.Count.TheVariants.{Adde
 use Rattle.icescan_audit_findings.specs.declared.finding.Finding.{Finding}
 use Rattle.icescan_audit_findings.specs.declared.finding.Flaw.{Flaw}
 use Rattle.icescan_audit_findings.specs.declared.finding.Flaw.TheVariants.{Miscounted, Uncovered, BelowLeast, AboveLast}
-use Rattle.icescan_audit_findings.specs.declared.finding.Flaw.TheVariants.{LiveTwice, NoColumn, BoundsCross, ExcessNulls}
-use Rattle.icescan_audit_findings.specs.declared.finding.Flaw.TheVariants.{NamedNotLive, DanglingPositions, DanglingEqualities}
+use Rattle.icescan_audit_findings.specs.declared.finding.Flaw.TheVariants.{LiveTwice, NoColumn, BoundsCross}
+use Rattle.icescan_audit_findings.specs.declared.finding.Flaw.TheVariants.{ExcessNulls}
+use Rattle.icescan_audit_findings.specs.declared.finding.Flaw.TheVariants.{NamedNotLive, DanglingPositions}
+use Rattle.icescan_audit_findings.specs.declared.finding.Flaw.TheVariants.{DanglingEqualities}
 use Rattle.icescan_audit_findings.specs.Telling.{faults}
 use Rattle.icescan_print.specs.Pieces.{named_number, named_path, named_signed}
 use Rattle.icescan_print.specs.Written.{Appends, AppendsFront}

@@ -10,7 +10,8 @@ use Rattle.std.specs.List.{AllByRecursion, IsDistinct}
 use Rattle.std.specs.Ordering.{ordering_reverse}
 use Rattle.contract_words.specs.Sorting.{put, sorted}
 use Rattle.contract_words.proofs.Sorted.{Rises, sorted_rises}
-use Rattle.icescan_audit_findings.specs.Repeats.{has_path_of, path_before, repeat_where, repeats, repeats_behind, repeats_in}
+use Rattle.icescan_audit_findings.specs.Repeats.{has_path_of, path_before, repeat_where, repeats, repeats_behind}
+use Rattle.icescan_audit_findings.specs.Repeats.{repeats_in}
 use Rattle.icescan_audit_findings.specs.declared.finding.Finding.{Finding}
 use Rattle.icescan_audit_findings.specs.declared.repeats.LiveFile.{LiveFile}
 

@@ -11,8 +11,10 @@ use Rattle.ice_value.specs.Applying.{Applies, DataKey, applies}
 use Rattle.ice_value.specs.declared.file_content.FileContent.{FileContent}
 use Rattle.ice_value.specs.declared.file_content.FileContent.TheVariants.{Data, PositionDeletes, EqualityDeletes}
 use Rattle.ice_value.proofs.Deletes.{applies-decides}
-use Rattle.icescan_audit_findings.specs.Dangling.{dangling_flaw, data_files, delete_by, delete_files, delete_findings, delete_key}
-use Rattle.icescan_audit_findings.specs.Dangling.{delete_of, finding_where, findings_beside, is_reaching, names_none, paths_in}
+use Rattle.icescan_audit_findings.specs.Dangling.{dangling_flaw, data_files, delete_by, delete_files, delete_findings}
+use Rattle.icescan_audit_findings.specs.Dangling.{delete_key}
+use Rattle.icescan_audit_findings.specs.Dangling.{delete_of, finding_where, findings_beside, is_reaching, names_none}
+use Rattle.icescan_audit_findings.specs.Dangling.{paths_in}
 use Rattle.icescan_audit_findings.specs.Telling.{Dangles, NamesNone}
 use Rattle.icescan_audit_findings.specs.declared.file_key.FileKey.{FileKey}
 use Rattle.icescan_audit_findings.specs.declared.finding.Finding.{Finding}
@@ -20,7 +22,8 @@ use Rattle.icescan_audit_findings.specs.declared.finding.Flaw.{Flaw}
 use Rattle.icescan_audit_findings.specs.declared.finding.Flaw.TheVariants.{NamedNotLive}
 use Rattle.icescan_audit_findings.specs.declared.repeats.LiveFile.{LiveFile}
 use Rattle.icescan_audit_findings.proofs.Hitting.{passes, passing}
-use Rattle.icescan_audit_findings.proofs.Members.{at_head, first_or_behind, from_flat, from_map, in_flat, in_map, in_none}
+use Rattle.icescan_audit_findings.proofs.Members.{at_head, first_or_behind, from_flat, from_map, in_flat, in_map}
+use Rattle.icescan_audit_findings.proofs.Members.{in_none}
 
 abbrev found_on : LiveFile → Flaw → Finding
 found_on x flaw = record { manifest = x.manifest; file = Some x.path; flaw = flaw }

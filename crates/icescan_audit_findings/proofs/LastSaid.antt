@@ -23,7 +23,8 @@ module _ {T : Type 0} where
   last_first id p xs false h = rw h refl
 
   -- one more pair
-  pub last_more : (id : ℤ) (pairs : List (ℤ × T)) (i : ℕ) (p : ℤ × T) (b : Bool) → i < length pairs → p ≡ get_or pairs i p
+  pub last_more : (id : ℤ) (pairs : List (ℤ × T)) (i : ℕ) (p : ℤ × T) (b : Bool) → i < length pairs
+      → p ≡ get_or pairs i p
       → int_eq p.0 id ≡ b → last_of id (take (i + 1) pairs) ≡ cond b (Some p.1) (last_of id (take i pairs))
   last_more id pairs i p b low is test =
       ap (last_of id) (take_more pairs i p low ∙ ap (λ (q : ℤ × T). take i pairs ++ q ∷ []) (sym is))

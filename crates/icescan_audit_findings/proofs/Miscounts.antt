@@ -16,9 +16,11 @@ use Rattle.icescan_audit_findings.specs.declared.finding.Count.TheVariants.{Adde
 use Rattle.icescan_audit_findings.specs.declared.finding.Count.TheVariants.{AddedRows, ExistingRows, DeletedRows}
 use Rattle.icescan_audit_findings.specs.declared.finding.Finding.{Finding}
 use Rattle.icescan_audit_findings.specs.declared.finding.Flaw.TheVariants.{Miscounted}
-use Rattle.icescan_audit_findings.specs.Counting.{all_counts, count_flaws, has_all, is_borne_out, listed, miscounted, there_are}
+use Rattle.icescan_audit_findings.specs.Counting.{all_counts, count_flaws, has_all, is_borne_out, listed, miscounted}
+use Rattle.icescan_audit_findings.specs.Counting.{there_are}
 use Rattle.icescan_audit_findings.specs.Coverage.{row_limits}
-use Rattle.icescan_audit_findings.specs.Findings.{entry_findings, finding_of, live_findings, live_flaws, manifest_finding}
+use Rattle.icescan_audit_findings.specs.Findings.{entry_findings, finding_of, live_findings, live_flaws}
+use Rattle.icescan_audit_findings.specs.Findings.{manifest_finding}
 use Rattle.icescan_audit_findings.specs.Findings.{manifest_findings}
 use Rattle.icescan_audit_findings.specs.Telling.{IsMiscounted}
 use Rattle.icescan_audit_findings.proofs.Members.{at_head, first_or_behind, from_flat, from_map, in_map, in_none}

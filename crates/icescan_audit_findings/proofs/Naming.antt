@@ -1,5 +1,6 @@
 -- Paths that delete files name, beside paths of data files.
-use Rattle.std.proofs.Common.{◌≡◌, ◌∙◌, ◌∷◌, [], ℕ, Bool, false, not, List, Option, Some, None, refl, sym, ap, get_or, length}
+use Rattle.std.proofs.Common.{◌≡◌, ◌∙◌, ◌∷◌, [], ℕ, Bool, false, not, List, Option, Some, None, refl, sym, ap, get_or}
+use Rattle.std.proofs.Common.{length}
 use Rattle.std.proofs.Common.{◌<◌}
 use Rattle.std.specs.List.{list_any}
 use Rattle.std.specs.List.Sorted.{IsPermutation}

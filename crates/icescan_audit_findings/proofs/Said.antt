@@ -22,11 +22,13 @@ use Rattle.icescan_audit_findings.specs.ColumnFlaws.{bounds_cross, column_flaws,
 use Rattle.icescan_audit_findings.specs.Counting.{count_flaws}
 use Rattle.icescan_audit_findings.specs.Coverage.{outside, row_limits}
 use Rattle.icescan_audit_findings.specs.Examining.{finding_at}
-use Rattle.icescan_audit_findings.specs.Findings.{entry_findings, finding_of, flaws_by, live_findings, live_flaws, manifest_finding}
+use Rattle.icescan_audit_findings.specs.Findings.{entry_findings, finding_of, flaws_by, live_findings, live_flaws}
+use Rattle.icescan_audit_findings.specs.Findings.{manifest_finding}
 use Rattle.icescan_audit_findings.specs.Findings.{manifest_findings, missing, missing_columns, missing_in}
 use Rattle.icescan_audit_findings.specs.Flaws.{flaw_where}
 use Rattle.icescan_audit_findings.specs.Telling.{IsSaid}
-use Rattle.icescan_audit_findings.proofs.Members.{at_head, first_or_behind, from_flat, from_map, in_flat, in_map, in_none}
+use Rattle.icescan_audit_findings.proofs.Members.{at_head, first_or_behind, from_flat, from_map, in_flat, in_map}
+use Rattle.icescan_audit_findings.proofs.Members.{in_none}
 
 -- ---- the flaws of an entry are others
 
@@ -67,7 +69,8 @@ module _ (basis : Basis) (row : Row) (limits : List FieldLimits) (x : Entry) whe
       elim (Contains-append_cases (map Uncovered (outside limits x.file.tuple))
       (below ++ (above ++ missing_columns basis x)) f c) as (λ _. is_said f ≡ false) [
         | inl m ↦ sym (ap is_said (from_map Uncovered (outside limits x.file.tuple) f m).2)
-        | inr m ↦ elim (Contains-append_cases below (above ++ missing_columns basis x) f m) as (λ _. is_said f ≡ false) [
+        | inr m ↦ elim (Contains-append_cases below (above ++ missing_columns basis x) f m) as
+            (λ _. is_said f ≡ false) [
           | inl k ↦ other_where (nat_lt x.sequence_number row.min_sequence_number) BelowLeast f refl k
           | inr k ↦ elim (Contains-append_cases above (missing_columns basis x) f k) as (λ _. is_said f ≡ false) [
             | inl i ↦ other_where (nat_lt basis.last x.sequence_number) AboveLast f refl i
@@ -114,7 +117,8 @@ module _ (flaw : ℤ → Flaw) (holds : FileBounds → TypedColumn → Bool) (sa
   of_columns : (l : Live) → Contains (live_flaws basis row limits_here l) (flaw id)
       → Contains (columns_flaws l.bounds basis.typed) (flaw id)
   of_columns l c =
-      elim (Contains-append_cases (flaws_by basis row limits_here l.entry) (columns_flaws l.bounds basis.typed) (flaw id)
+      elim (Contains-append_cases (flaws_by basis row limits_here l.entry) (columns_flaws l.bounds basis.typed)
+          (flaw id)
       c) as (λ _. Contains (columns_flaws l.bounds basis.typed) (flaw id)) [
         | inl m ↦ let other : true ≡ false = sym (said id) ∙ other_flaws basis row limits_here l.entry (flaw id) m in
             absurd cc
@@ -140,7 +144,8 @@ module _ (flaw : ℤ → Flaw) (holds : FileBounds → TypedColumn → Bool) (sa
         is_true = here.0;
       }
 
-  pub from_finding : Contains (manifest_findings basis row spec tallies lives) finding → IsSaid holds basis.typed lives path id
+  pub from_finding : Contains (manifest_findings basis row spec tallies lives) finding
+      → IsSaid holds basis.typed lives path id
   from_finding c =
       elim (Contains-append_cases (map (manifest_finding row) (count_flaws row tallies))
       (live_findings basis row spec lives) finding c) as (λ _. IsSaid holds basis.typed lives path id) [
@@ -149,7 +154,8 @@ module _ (flaw : ℤ → Flaw) (holds : FileBounds → TypedColumn → Bool) (sa
         | inr m ↦ let r = from_flat (entry_findings basis row limits_here) lives finding m in of_live r.0 r.1 r.2
       ]
 
-  pub to_finding : IsSaid holds basis.typed lives path id → Contains (manifest_findings basis row spec tallies lives) finding
+  pub to_finding : IsSaid holds basis.typed lives path id
+      → Contains (manifest_findings basis row spec tallies lives) finding
   to_finding s =
       let l = s.live in
       let c = s.column in

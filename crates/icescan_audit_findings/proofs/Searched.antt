@@ -41,7 +41,8 @@ search_tells paths path (Ok k) low h up =
     sym (ap not (any_map (λ p. bytes_eq p path) (λ (y : Bor (List ℕ)). y.now) paths ∙ found))
   where
     found : list_any (λ (y : Bor (List ℕ)). bytes_eq y.now path) paths ≡ true
-    found = list_any_at (λ (y : Bor (List ℕ)). bytes_eq y.now path) paths k (record { ref_ptr = (0, 0); now = path }) low
+    found = list_any_at (λ (y : Bor (List ℕ)). bytes_eq y.now path) paths k
+        (record { ref_ptr = (0, 0); now = path }) low
         ((bytes_eq-Decides (get_or paths k _).now path).1 (list_same (get_or paths k _).now path (h _)))
 search_tells paths path (Err i) low h up =
     let parts = h (searchable_from_sorted nat_list_cmp_total (λ (y : Bor (List ℕ)). y.now) paths path up) in

@@ -48,7 +48,8 @@ maps_more h f xs i x zs z low at kept e =
     map-append f zs (z ∷ []) ∙ ap (λ ys. ys ++ f z ∷ []) kept ∙ sym (some_more h xs i x (f z) low at e)
 
 -- the same of what is mapped further
-pub paths_more : {X Y Z W : Type 0} (h : X → Option Y) (g : Y → W) (f : Z → W) (xs : List X) (i : ℕ) (x : X) (zs : List Z)
+pub paths_more : {X Y Z W : Type 0} (h : X → Option Y) (g : Y → W) (f : Z → W) (xs : List X) (i : ℕ) (x : X)
+    (zs : List Z)
     (z : Z) (y : Y) → i < length xs → x ≡ get_or xs i x → map f zs ≡ map g (filter_map h (take i xs)) → h x ≡ Some y
     → f z ≡ g y → map f (zs ++ z ∷ []) ≡ map g (filter_map h (take (i + 1) xs))
 paths_more h g f xs i x zs z y low at kept e one =

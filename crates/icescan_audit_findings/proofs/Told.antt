@@ -14,18 +14,22 @@ use Rattle.icescan_audit_findings.specs.declared.finding.Count.{Count}
 use Rattle.icescan_audit_findings.specs.declared.finding.Finding.{Finding}
 use Rattle.icescan_audit_findings.specs.declared.finding.Flaw.{Flaw}
 use Rattle.icescan_audit_findings.specs.declared.finding.Flaw.TheVariants.{Uncovered, BelowLeast, AboveLast, NoColumn}
-use Rattle.icescan_audit_findings.specs.declared.finding.Flaw.TheVariants.{Miscounted, LiveTwice, BoundsCross, ExcessNulls}
-use Rattle.icescan_audit_findings.specs.declared.finding.Flaw.TheVariants.{NamedNotLive, DanglingPositions, DanglingEqualities}
+use Rattle.icescan_audit_findings.specs.declared.finding.Flaw.TheVariants.{Miscounted, LiveTwice, BoundsCross}
+use Rattle.icescan_audit_findings.specs.declared.finding.Flaw.TheVariants.{ExcessNulls}
+use Rattle.icescan_audit_findings.specs.declared.finding.Flaw.TheVariants.{NamedNotLive, DanglingPositions}
+use Rattle.icescan_audit_findings.specs.declared.finding.Flaw.TheVariants.{DanglingEqualities}
 use Rattle.icescan_audit_findings.specs.declared.limits.FieldLimits.{FieldLimits}
 use Rattle.icescan_audit_findings.specs.ColumnFlaws.{bounds_cross, column_flaws, columns_flaws, has_excess_nulls}
 use Rattle.icescan_audit_findings.specs.Coverage.{outside}
 use Rattle.icescan_audit_findings.specs.Counting.{all_counts, count_flaws, miscounted}
-use Rattle.icescan_audit_findings.specs.Findings.{entry_findings, finding_of, flaws_by, manifest_finding, missing, missing_columns}
+use Rattle.icescan_audit_findings.specs.Findings.{entry_findings, finding_of, flaws_by, manifest_finding, missing}
+use Rattle.icescan_audit_findings.specs.Findings.{missing_columns}
 use Rattle.icescan_audit_findings.specs.Findings.{missing_in}
 use Rattle.icescan_audit_findings.specs.Flaws.{flaw_where}
 use Rattle.icescan_audit_findings.specs.Repeats.{path_before, repeat_where, repeats, repeats_behind, repeats_in}
 use Rattle.icescan_audit_findings.specs.Telling.{faults, is_fault, is_uncovered, uncovered}
-use Rattle.icescan_audit_findings.specs.Dangling.{dangling_flaw, data_files, delete_files, delete_findings, finding_where}
+use Rattle.icescan_audit_findings.specs.Dangling.{dangling_flaw, data_files, delete_files, delete_findings}
+use Rattle.icescan_audit_findings.specs.Dangling.{finding_where}
 use Rattle.icescan_audit_findings.specs.Dangling.{findings_beside, is_reaching, names_none, paths_in}
 use Rattle.icescan_audit_findings.specs.declared.file_key.FileKey.{FileKey}
 use Rattle.ice_value.specs.Applying.{DataKey}
@@ -190,7 +194,8 @@ no_repeats files = none_repeated (sorted path_before files)
 
 -- ---- the findings on delete files
 
-where_none : (b : Bool) (x : LiveFile) (flaw : Flaw) → is_uncovered flaw ≡ false → uncovered (finding_where b x flaw) ≡ []
+where_none : (b : Bool) (x : LiveFile) (flaw : Flaw) → is_uncovered flaw ≡ false
+    → uncovered (finding_where b x flaw) ≡ []
 where_none true x flaw h = rw h refl
 where_none false x flaw h = refl
 
@@ -199,7 +204,8 @@ dangles Data = refl
 dangles PositionDeletes = refl
 dangles EqualityDeletes = refl
 
-none_on_deletes : (xs : List DataKey) (ds : List (LiveFile × FileKey)) → uncovered (flat_map (findings_beside xs) ds) ≡ []
+none_on_deletes : (xs : List DataKey) (ds : List (LiveFile × FileKey))
+    → uncovered (flat_map (findings_beside xs) ds) ≡ []
 none_on_deletes xs [] = refl
 none_on_deletes xs (d ∷ ds) =
     let named = names_none (paths_in xs) d.1.referenced in

@@ -10,7 +10,8 @@ use Rattle.ice_value.specs.declared.file_content.FileContent.TheVariants.{Data, 
 use Rattle.icescan_audit_findings.specs.declared.file_key.FileKey.{FileKey}
 use Rattle.icescan_audit_findings.specs.declared.finding.Finding.{Finding}
 use Rattle.icescan_audit_findings.specs.declared.finding.Flaw.{Flaw}
-use Rattle.icescan_audit_findings.specs.declared.finding.Flaw.TheVariants.{NamedNotLive, DanglingPositions, DanglingEqualities}
+use Rattle.icescan_audit_findings.specs.declared.finding.Flaw.TheVariants.{NamedNotLive, DanglingPositions}
+use Rattle.icescan_audit_findings.specs.declared.finding.Flaw.TheVariants.{DanglingEqualities}
 use Rattle.icescan_audit_findings.specs.declared.repeats.LiveFile.{LiveFile}
 
 -- what the rules of applying ask of a data file, and of a delete file

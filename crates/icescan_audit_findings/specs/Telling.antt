@@ -15,7 +15,8 @@ use Rattle.icescan_audit_findings.specs.declared.file_key.FileKey.{FileKey}
 use Rattle.icescan_audit_findings.specs.declared.finding.Count.{Count}
 use Rattle.icescan_audit_findings.specs.declared.finding.Finding.{Finding}
 use Rattle.icescan_audit_findings.specs.declared.finding.Flaw.{Flaw}
-use Rattle.icescan_audit_findings.specs.declared.finding.Flaw.TheVariants.{DanglingEqualities, DanglingPositions, Uncovered}
+use Rattle.icescan_audit_findings.specs.declared.finding.Flaw.TheVariants.{DanglingEqualities, DanglingPositions}
+use Rattle.icescan_audit_findings.specs.declared.finding.Flaw.TheVariants.{Uncovered}
 use Rattle.icescan_audit_findings.specs.declared.repeats.LiveFile.{LiveFile}
 
 abbrev pub is_uncovered : Flaw → Bool

@@ -1,5 +1,6 @@
 -- Runs of the program with hints and without.
-use Rattle.std.proofs.Common.{◌≡◌, ◌⊎◌, ℕ, Bool, true, false, List, [], ◌∷◌, Option, refl, inl, inr, map, length, codes, arith}
+use Rattle.std.proofs.Common.{◌≡◌, ◌⊎◌, ℕ, Bool, true, false, List, [], ◌∷◌, Option, refl, inl, inr, map, length, codes}
+use Rattle.std.proofs.Common.{arith}
 use Rattle.std.specs.Prelude.{◌==◌, Result}
 use Rattle.std.proofs.lemmas.Bool.Decides.{nat_tests}
 use Rattle.icescan_progress.proofs.Plain.{nothing_plain}

@@ -211,7 +211,8 @@ pub record Told (write_may_fail : Type 0) (errors errors' : Option (List ℕ)) (
   pub all : (write_may_fail → ⊥) → Appends errors errors' (fault_text fault)
 
 -- What a run is given: the files below folders, where they are reported, what reads of them may give, and where reading
--- them may fail; the files that stores below folders have, and where putting one may fail; what standard input has left,
+-- them may fail; the files that stores below folders have, and where putting one may fail; what standard input has
+-- left,
 -- where that is known; what its output and its errors took, and whether a write of either may fail.
 pub record Given : Type 1 where
   pub below : Below

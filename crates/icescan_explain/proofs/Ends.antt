@@ -1,6 +1,7 @@
 -- Why telling of rows ends, and what was read until then.
 use Rattle.std.proofs.Common.{◌≡◌, inl, inr, ℕ, suc, ◌+◌, ◌<◌, ◌≤◌, Bool, true, false, cond, List, [], ◌∷◌, ◌++◌}
-use Rattle.std.proofs.Common.{length, drop, take, get_or, filter, map, replicate, Option, None, Some, refl, sym, ap, ◌∙◌, subst}
+use Rattle.std.proofs.Common.{length, drop, take, get_or, filter, map, replicate, Option, None, Some, refl, sym, ap}
+use Rattle.std.proofs.Common.{◌∙◌, subst}
 use Rattle.std.proofs.Common.{arith, add-one, append-nil, length-drop, zero, nat_lt}
 use Rattle.std.proofs.lemmas.Bool.{ltb-true, ltb-false}
 use Rattle.std.proofs.lemmas.List.{append_assoc, drop_more}
@@ -21,7 +22,8 @@ use Rattle.icescan_explain.specs.Asking.{tests_of}
 use Rattle.icescan_explain.specs.Fates.{file_verdict, is_kept, row_fate, row_verdict}
 use Rattle.icescan_explain.specs.declared.tests.SpecTests.{SpecTests}
 use Rattle.icescan_explain.specs.declared.verdict.Verdict.{Verdict}
-use Rattle.icescan_explain.specs.RowsTold.{MayEndRow, files_told, is_wanted, is_wanted_by, lives_at, row_told, rows_told, told_by}
+use Rattle.icescan_explain.specs.RowsTold.{MayEndRow, files_told, is_wanted, is_wanted_by, lives_at, row_told}
+use Rattle.icescan_explain.specs.RowsTold.{rows_told, told_by}
 
 -- ---- rows that have to be there
 
@@ -175,7 +177,8 @@ flags (suc n) = ap suc (flags n)
 
 -- ---- what is told of the rows so far
 
-pub told_more : (tests : FilterTests) (world : World) (rows : List Row) (i : ℕ) (row : Row) → slice_get rows i ≡ Some row
+pub told_more : (tests : FilterTests) (world : World) (rows : List Row) (i : ℕ) (row : Row)
+    → slice_get rows i ≡ Some row
     → rows_told tests world (take (i + 1) rows) ≡ rows_told tests world (take i rows) ++ row_told tests world row
 told_more tests world [] i row is = absurd cc
 told_more tests world (r ∷ rows) zero row is =

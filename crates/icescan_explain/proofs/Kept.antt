@@ -21,7 +21,8 @@ use Rattle.ice_manifest_reading.specs.declared.entry.Entry.{Entry}
 use Rattle.ice_manifest_reading.specs.declared.entry.Live.{Live}
 use Rattle.ice_manifest_reading.specs.declared.row.Row.{Row}
 use Rattle.ice_meta.specs.declared.spec.Spec.{Spec}
-use Rattle.ice_state.specs.Contents.{Content, World, content, every_row, live_by, manifest_of, reading, reading_of, slots_of}
+use Rattle.ice_state.specs.Contents.{Content, World, content, every_row, live_by, manifest_of, reading, reading_of}
+use Rattle.ice_state.specs.Contents.{slots_of}
 use Rattle.ice_state.specs.Lines.{OwnedLine}
 use Rattle.ice_state.specs.Outcomes.{by_path, entries_in, first_or, kept_in, line_of, outcome, path_before, plan_over}
 use Rattle.ice_state.specs.Pruning.{Pruner, holds, keeps, kept, pruner_of, same_content}

@@ -36,6 +36,7 @@ module _ (specs : List Spec) (filter : List (Part BoundPredicate)) (spec : Spec)
       → is_kept (file_fate (ice_filter_tests specs filter columns) (spec_tests filter spec) l)
       ≡ keeps (pruner_of filter specs) l
   file_kept columns l is =
-      kept_file (part_meets (projection filter spec) l.entry.file.tuple) (holds Data l.entry) (file_may filter l.bounds) _ _
+      kept_file (part_meets (projection filter spec) l.entry.file.tuple) (holds Data l.entry)
+          (file_may filter l.bounds) _ _
       ∙ ap (λ (o : Option Spec). by_projection filter (λ part. part_meets part l.entry.file.tuple) o
       && (not (holds Data l.entry) || file_may filter l.bounds)) (sym is)

@@ -52,7 +52,8 @@ module _ (f : List ℕ → Type 0) (world : World) (metadata : List ℕ) (reques
     explained_is =
         let there = are_found world metadata request found has in
         subst (λ (s : SelectedRows). explained world metadata request
-        ≡ (rows_plan over_wanted_rows world s.specs s.filter.parts s.rows >>= λ plan. Ok (explains world request s plan)))
+        ≡ (rows_plan over_wanted_rows world s.specs s.filter.parts s.rows >>= λ plan. Ok
+        (explains world request s plan)))
         there.is (rw (there.asked, there.listed) refl)
 
     pub no_plan : (e : RunFault)

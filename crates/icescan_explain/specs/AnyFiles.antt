@@ -18,7 +18,8 @@ use Rattle.icescan_explain.specs.Told.{paths_kept, paths_planned}
 use Rattle.icescan_explain.specs.Texts.{explanation_text}
 use Rattle.icescan_explain.specs.declared.manifests.Explanation.{Explanation}
 
--- An explanation of the plan that a request asks for of the table whose metadata these are the bytes of: a read gave the
+-- An explanation of the plan that a request asks for of the table whose metadata these are the bytes of: a read gave
+-- the
 -- manifest list, and of each wanted row's manifest a read gave the bytes. The plan is that of such bytes, and the data
 -- files that are told as kept are those of the plan.
 pub record IsAnExplanation (gives : Giving) (metadata : List ℕ) (request : Request) (x : Explanation) : Type 0 where

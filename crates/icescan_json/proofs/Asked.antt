@@ -43,7 +43,8 @@ module _ (ending : Ending) (world : World) (metadata : List ℕ) (request : Requ
       → typed_answer_by ending world metadata request ≡ Ok typed
   typed_found specs typed asked has types =
       typed_there asked.0 typed.plan asked.1 has
-      ∙ ap Ok (ap (λ known. record { types = known; plan = typed.plan }) (ap (map spec_types) (sym asked.2) ∙ sym types))
+      ∙ ap Ok (ap (λ known. record { types = known; plan = typed.plan })
+      (ap (map spec_types) (sym asked.2) ∙ sym types))
 
 -- the same plan is the same answer
 pub same_typed : (world : World) (metadata : List ℕ) (request : Request)

@@ -14,11 +14,13 @@ use Rattle.ice_state.specs.Lines.{entry_at, entries_at, line_at, lines_at, AreWi
 use Rattle.ice_state.specs.PlaceLists.{LinePlaces}
 use Rattle.ice_state.specs.PlacedFiles.{PlanPlaces, ArePlaced, plan_of}
 use Rattle.icescan_json.specs.declared.types.SpecTypes.{SpecTypes}
-use Rattle.icescan_json.specs.PlanJson.{content_name, member_if, file_members, format_name, kind_members, delete_json, data_json, references}
+use Rattle.icescan_json.specs.PlanJson.{content_name, member_if, file_members, format_name, kind_members, delete_json}
+use Rattle.icescan_json.specs.PlanJson.{data_json, references}
 use Rattle.icescan_json.specs.PlanJson.{task_json, tasks_json, plan_json}
 use Rattle.icescan_json.specs.Types.{types_of}
 use Rattle.icescan_json.specs.Values.{cells_json, number_json}
-use Rattle.icescan_json.specs.Told.{by_key, items_by_key, each_item, named_in, path_in, path_of, paths_of, task_told, told}
+use Rattle.icescan_json.specs.Told.{by_key, items_by_key, each_item, named_in, path_in, path_of, paths_of, task_told}
+use Rattle.icescan_json.specs.Told.{told}
 use Rattle.icescan_json.specs.Told.{items_in}
 
 -- a file whose format has this name, if it has one
@@ -90,7 +92,8 @@ within_both k [] es a b = b
 within_both k (p ∷ ps) es a b = (a.0, within_both k ps es a.1 b)
 
 -- the references of a task
-pub referred : (types : List SpecTypes) (x : Entry) (places : LinePlaces) → items_in (get (codes "delete-file-references")
+pub referred : (types : List SpecTypes) (x : Entry) (places : LinePlaces)
+    → items_in (get (codes "delete-file-references")
     (by_key (task_json types x places))) ≡ numbers_of (places.positions ++ places.equalities)
 unfolding task_json
 referred types x places = go (places.positions ++ places.equalities) where

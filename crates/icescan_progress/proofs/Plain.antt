@@ -41,7 +41,8 @@ escape b h = all_if (is_escaped b) (92 ∷ 120 ∷ hex_digit (b / 16) ∷ hex_di
     (λ e. All-cons IsPlain b [] (inr (unescaped b e)) (All-nil IsPlain))
 
 byte : (b : ℕ) → All IsPlain (shown_byte b)
-byte b = all_if (is_control b) (escaped_byte b) (b ∷ []) (escape b) (λ e. All-cons IsPlain b [] (inr e) (All-nil IsPlain))
+byte b = all_if (is_control b) (escaped_byte b) (b ∷ []) (escape b)
+    (λ e. All-cons IsPlain b [] (inr e) (All-nil IsPlain))
 
 line : (bytes : List ℕ) → All IsPlain (shown_line bytes)
 line bytes = All-append IsPlain (flat_map shown_byte bytes) (10 ∷ []) (all_flat shown_byte byte bytes)

@@ -15,7 +15,8 @@ input_is None = ([], tt)
 input_is (Some xs) = (xs, refl)
 
 -- it goes on with some rest
-pub input_goes_on : (a b : Option (List ℕ)) (text : List ℕ) → Consumes a b text → (rest : List ℕ) × IsInput a (text ++ rest)
+pub input_goes_on : (a b : Option (List ℕ)) (text : List ℕ) → Consumes a b text → (rest : List ℕ)
+    × IsInput a (text ++ rest)
 input_goes_on None b text h = ([], tt)
 input_goes_on (Some xs) None text h = absurd h
 input_goes_on (Some xs) (Some ys) text h = (ys, sym h)

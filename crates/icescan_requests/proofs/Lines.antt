@@ -73,7 +73,8 @@ cut_before xs i rest w h = ap (λ l. l ++ rest) (cut_at xs i w h)
     ∙ append_assoc (take i xs) (10 ∷ drop (i + 1) xs) rest
 
 -- a text without bytes has no line
-pub no_line : (n : ℕ) (files : List File) (text : List ℕ) → length text ≡ 0 → with_lines n files (lines_of text) ≡ Ok files
+pub no_line : (n : ℕ) (files : List File) (text : List ℕ) → length text ≡ 0
+    → with_lines n files (lines_of text) ≡ Ok files
 unfolding with_lines
 no_line n files [] h = refl
 no_line n files (b ∷ bs) h = absurd (omega arith)

@@ -57,7 +57,8 @@ tries_link_nothing (e ∷ tries) h =
     let first : links e ≡ false = subst (λ e'. links e' ≡ false) (sym h.0.1) refl in
     subst (λ a. (a || list_any links tries) ≡ false) (sym first) (tries_link_nothing tries h.1)
 
-pub taken_then : (m n : List Event) → AllByRecursion IsTaken m → AllByRecursion IsTaken n → AllByRecursion IsTaken (m ++ n)
+pub taken_then : (m n : List Event) → AllByRecursion IsTaken m → AllByRecursion IsTaken n
+    → AllByRecursion IsTaken (m ++ n)
 taken_then [] n h k = k
 taken_then (e ∷ m) n h k = (h.0, taken_then m n h.1 k)
 
@@ -137,7 +138,8 @@ extends_put a b c d e own name bytes aside aside' folder removed IsSynced made w
     λ m. (sync : List Event) × IsSynced folder sync × (m ≡ event_of (Remove aside) removed ∷ sync) in
     let last : Extends c e IsLast =
     extends_then c d e _ _ _ removes synced (λ m n p q. (n, q, ap (λ x. x ++ n) p)) in
-    let IsRest : List Event → Type 0 = λ m. (whole : List Event) × (sync : List Event) × IsWholeAt aside name bytes whole
+    let IsRest : List Event → Type 0 = λ m. (whole : List Event) × (sync : List Event)
+        × IsWholeAt aside name bytes whole
     × IsSynced folder sync × (m ≡ whole ++ event_of (Remove aside) removed ∷ sync) in
     let rest : Extends b e IsRest =
     extends_then b c e _ _ _ whole last (λ m n p q. (m, q.0, p, q.1, ap (λ x. m ++ x) q.2)) in
@@ -227,7 +229,8 @@ module _ (names : Names) where
 
   -- one more, which is not placed
   pub stops_next : (added : Added) (f : List ℕ × List ℕ) (more : Added) (fault : StoreFault) (m n : List Event)
-      → ArePlaced names added m → NotPlacedAt names f.0 f.1 fault n → StopsPlacing names (added ++ f ∷ more) fault (m ++ n)
+      → ArePlaced names added m → NotPlacedAt names f.0 f.1 fault n
+      → StopsPlacing names (added ++ f ∷ more) fault (m ++ n)
   stops_next [] f more fault m n p q = inl (subst (λ x. NotPlacedAt names f.0 f.1 fault (x ++ n)) (sym p) q)
   stops_next (g ∷ added) f more fault m n p q =
       let both = p.1 ++ n in

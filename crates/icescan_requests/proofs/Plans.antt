@@ -379,7 +379,8 @@ pub refused_plan : (read : Result (List OwnedLine) RunFault) (r : List ℕ → T
 refused_plan read r w e o o' h not_write = refused_answers read r w e o o' (may_write r w read e h) not_write
 
 -- a number of workers that there may not be
-pub no_workers : (workers : ℕ) (read : Result (List OwnedLine) RunFault) (r : List ℕ → Type 0) (w : Type 0) (e : RunFault)
+pub no_workers : (workers : ℕ) (read : Result (List OwnedLine) RunFault) (r : List ℕ → Type 0) (w : Type 0)
+    (e : RunFault)
     (o o' : Option (List ℕ)) → (e ≡ run.Workers) × ((workers ≡ 0) ⊎ (64 < workers))
     → Answers (by_workers workers read) r w (Err e) o o'
 no_workers workers read r w e o o' h =

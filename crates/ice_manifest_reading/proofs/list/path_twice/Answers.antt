@@ -11,7 +11,8 @@ returns-then-eq c =
     let step = twice_here last c.in_ok-first.others.now c.rows.row-index row c.rows-test.true c.row-item.is in
     let same : bytes_eq row.path last.path ≡ true =
     ap (λ (p : List ℕ). bytes_eq p last.path) (sym c.path.ensures)
-    ∙ ap (λ (p : List ℕ). bytes_eq c.path.result.now p) (sym c.path-in-rows.ensures) ∙ sym c.eq.ensures ∙ c.if-eq.true in
+    ∙ ap (λ (p : List ℕ). bytes_eq c.path.result.now p) (sym c.path-in-rows.ensures) ∙ sym c.eq.ensures
+    ∙ c.if-eq.true in
     let twice : cond (bytes_eq row.path last.path) (Some row.path)
     (twice_after row (drop (c.rows.row-index + 1) c.in_ok-first.others.now)) ≡ Some row.path = rw same refl in
     ap Some c.path-then-eq.ensures ∙ sym (sym c.rows.invariant ∙ step ∙ twice)
@@ -23,7 +24,8 @@ rows-preserved c =
     let step = twice_here last c.in_ok-first.others.now c.rows.row-index row c.rows-test.true c.row-item.is in
     let other : bytes_eq row.path last.path ≡ false =
     ap (λ (p : List ℕ). bytes_eq p last.path) (sym c.path.ensures)
-    ∙ ap (λ (p : List ℕ). bytes_eq c.path.result.now p) (sym c.path-in-rows.ensures) ∙ sym c.eq.ensures ∙ c.if-eq.false in
+    ∙ ap (λ (p : List ℕ). bytes_eq c.path.result.now p) (sym c.path-in-rows.ensures) ∙ sym c.eq.ensures
+    ∙ c.if-eq.false in
     let rest : cond (bytes_eq row.path last.path) (Some row.path)
     (twice_after row (drop (c.rows.row-index + 1) c.in_ok-first.others.now))
     ≡ twice_after row (drop (c.rows.row-index + 1) c.in_ok-first.others.now) = rw other refl in

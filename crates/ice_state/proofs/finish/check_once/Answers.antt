@@ -23,10 +23,12 @@ all c = first_of (search rules, grind (arith, common_steps))
 pub sorted_by_path-requires : goal.sorted_by_path-requires
 sorted_by_path-requires c = subst (AreKept c.args.entries.now)
     (sym (c.deref-2.ensures.value ∙ all (goal.at.sorted_by_path-requires c).In_ok-extend_from_slice))
-    (both_kept c.args.entries.now c.args.files.now.data_files.items c.args.files.now.delete_files.items c.requires.0 c.requires.1)
+    (both_kept c.args.entries.now c.args.files.now.data_files.items c.args.files.now.delete_files.items c.requires.0
+        c.requires.1)
 
 pub check_neighbours-requires : goal.check_neighbours-requires
-check_neighbours-requires c = subst (AreKept c.args.entries.now) (sym c.deref-3.ensures.value) c.in_ok-sorted.ensures.kept
+check_neighbours-requires c = subst (AreKept c.args.entries.now)
+    (sym c.deref-3.ensures.value) c.in_ok-sorted.ensures.kept
 
 pub returns : goal.returns
 returns c = λ xs same.

@@ -23,6 +23,7 @@ files-preserved c =
       all =
           looked_up_more ranks index kept files i c.files-test.true old c.push_places.new.places c.files.invariant.all _
           (lent c.entry.result) c.entry.ensures pushed
-          ∙ ap (λ (n : ℕ). map (λ x. places_of (renumbered ranks index) (data_key_of x)) (entries_at kept (take n files)))
+          ∙ ap (λ (n : ℕ). map (λ x. places_of (renumbered ranks index) (data_key_of x))
+          (entries_at kept (take n files)))
           (sym (add-one i));
     }

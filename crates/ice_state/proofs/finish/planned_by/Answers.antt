@@ -73,7 +73,8 @@ returns-clause-planned c =
     record {
       files = c.requires.1.has.numbers.0;
       deletes = c.requires.1.has.numbers.1;
-      lines = lines_fit (entries_at kept c.args.files.delete_files.items) (entries_at kept c.args.files.data_files.items)
+      lines = lines_fit (entries_at kept c.args.files.delete_files.items)
+          (entries_at kept c.args.files.data_files.items)
           c.in_ok-places.places (places_are (goal.at.returns-clause-planned c).In_ok-places);
     }
 

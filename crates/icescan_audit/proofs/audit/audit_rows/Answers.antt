@@ -18,7 +18,8 @@ rows-init g c = record {
       (h ∙ ap Ok (sym (join_nothing left)));
   ends = λ world told e h. h;
   read = λ left h. rw (c.new-findings.ensures, c.new-live.ensures.items)
-      (subst (IsReadOf (g.F.Files.gives c.args.files.now) c.args.basis.now c.args.rows.now) (sym (join_nothing left)) h);
+      (subst (IsReadOf (g.F.Files.gives c.args.files.now) c.args.basis.now c.args.rows.now)
+          (sym (join_nothing left)) h);
   few = omega arith;
 }
 
@@ -89,11 +90,13 @@ returns g c =
     let all : i ≡ length rows = omega arith in
     let kept = c.rows.invariant in
     rw c.from_vec.ensures (record {
-      found = λ world told. rows_end world basis rows i (length rows) c.rows.entries c.rows.findings c.rows.live.items low
+      found = λ world told. rows_end world basis rows i
+          (length rows) c.rows.entries c.rows.findings c.rows.live.items low
           all (kept.found world told);
       refused = λ world told. tt;
       write = λ is. absurd cc;
-      read = read_end gives basis rows i (length rows) c.rows.entries c.rows.findings c.rows.live.items low all kept.read;
+      read = read_end gives basis rows i
+          (length rows) c.rows.entries c.rows.findings c.rows.live.items low all kept.read;
       stops = tt;
       few = (refl, omega (arith, kept.few, all));
     })

@@ -23,5 +23,6 @@ columns-preserved c = λ file are.
     }
 
 pub returns : goal.returns
-returns c = λ file are. (c.columns.invariant file are).flaws ∙ ap (λ cs. c.args.flaws.now.items ++ columns_flaws file cs)
+returns c = λ file are. (c.columns.invariant file are).flaws
+    ∙ ap (λ cs. c.args.flaws.now.items ++ columns_flaws file cs)
     (take_all c.columns.column-index c.args.columns.now c.columns-test.false)

@@ -9,4 +9,5 @@ returns-in-Some c =
     let none = search_tells paths c.as_slice.result.now c.binary_search.result c.binary_search.ensures.bound
     c.binary_search.ensures.position c.requires in
     c.is_err.ensures.value ∙ none
-    ∙ ap (λ path. names_none (map (λ (p : Bor (List ℕ)). p.now) paths) path) (ap Some c.as_slice.ensures ∙ sym c.in-Some.is)
+    ∙ ap (λ path. names_none (map (λ (p : Bor (List ℕ)). p.now) paths) path)
+    (ap Some c.as_slice.ensures ∙ sym c.in-Some.is)

@@ -1,7 +1,8 @@
 use Rattle.std.proofs.Common.{refl}
 use Rattle.icescan_audit_findings.specs.ColumnFlaws.{bounds_cross}
 use Rattle.icescan_audit_findings.specs.declared.finding.Flaw.TheVariants.{BoundsCross, ExcessNulls}
-use Rattle.icescan_audit_findings.proofs.Said.{cross_tells, cross_told, excess, from_finding, nulls_tells, nulls_told, to_finding}
+use Rattle.icescan_audit_findings.proofs.Said.{cross_tells, cross_told, excess, from_finding, nulls_tells, nulls_told}
+use Rattle.icescan_audit_findings.proofs.Said.{to_finding}
 use Rattle.icescan_audit_findings.proofs.laws.findings_tell_columns.Goals as goal
 
 pub returns-clause-bounds : goal.returns-clause-bounds

@@ -2,7 +2,8 @@ use Rattle.std.proofs.Common.{◌≡◌, map, string_bytes}
 use Rattle.icescan_commands.specs.Runs.{meant}
 use Rattle.icescan_commands.proofs.Hinted.{meant_help, meant_piped, meant_words, with_hint}
 use Rattle.icescan_commands.proofs.explaining.run_program.Goals as goal
-use Rattle.icescan_commands.proofs.explaining.run_program.Goals.{else-terminals-via-then-terminals+else-is_empty, else-terminals-via-else-terminals}
+use Rattle.icescan_commands.proofs.explaining.run_program.Goals.{else-terminals-via-then-terminals+else-is_empty}
+use Rattle.icescan_commands.proofs.explaining.run_program.Goals.{else-terminals-via-else-terminals}
 
 pub returns-then-is_empty-clause-line : goal.returns-then-is_empty-clause-line
 returns-then-is_empty-clause-line g c =

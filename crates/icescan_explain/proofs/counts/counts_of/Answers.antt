@@ -21,12 +21,14 @@ verdicts-preserved c =
     let bounds : bool_byte c.is_counted-in-verdicts-2.result ≤ 1 = byte_at_most c.is_counted-in-verdicts-2.result in
     let more = c.bytes_in.result in
     let fits : SFits w64 more = search rules in
-    let sum : to_z w128 (of_z w128 (to_z w128 c.verdicts.bytes-bits +ℤ to_z w128 (of_z w128 (to_z w64 (of_z w64 more)))))
+    let sum : to_z w128 (of_z w128
+        (to_z w128 c.verdicts.bytes-bits +ℤ to_z w128 (of_z w128 (to_z w64 (of_z w64 more)))))
     ≡ c.verdicts.bytes +ℤ more = omega (arith, ints) in
     record {
       kept = rw c.is_counted.ensures (many_more s Kept vs i v c.verdicts.kept lt is so.kept);
       few_kept = omega (arith, kept, so.few_kept);
-      partition = rw c.is_counted-in-verdicts.ensures (many_more s Partition vs i v c.verdicts.by_partition lt is so.partition);
+      partition = rw c.is_counted-in-verdicts.ensures
+          (many_more s Partition vs i v c.verdicts.by_partition lt is so.partition);
       few_partition = omega (arith, partition, so.few_partition);
       bounds = rw c.is_counted-in-verdicts-2.ensures (many_more s Bounds vs i v c.verdicts.by_bounds lt is so.bounds);
       few_bounds = omega (arith, bounds, so.few_bounds);

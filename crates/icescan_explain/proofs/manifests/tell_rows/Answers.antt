@@ -1,4 +1,5 @@
-use Rattle.std.proofs.Common.{◌≡◌, ◌≤◌, ◌-◌, ◌++◌, ◌∙◌, List, [], ap, append-nil, arith, drop, length, refl, subst, sym, take}
+use Rattle.std.proofs.Common.{◌≡◌, ◌≤◌, ◌-◌, ◌++◌, ◌∙◌, List, [], ap, append-nil, arith, drop, length, refl, subst, sym}
+use Rattle.std.proofs.Common.{take}
 use Rattle.std.specs.Prelude.{Some, slice_get}
 use Rattle.std.proofs.Math.Seq.{take-length}
 use Rattle.std.proofs.lemmas.List.{append_assoc}
@@ -61,7 +62,8 @@ rows-preserved g c =
     let step = step_of rows i row c.rows-test.true c.row-item.is in
     let at = is_next (is_wanted tests) wanted rows i next row kept.rest step in
     let start = starts (is_wanted tests) wanted rows i next row kept.rest step in
-    let item : slice_get rows i ≡ Some row = slice_get-get_or rows i row c.rows-test.true ∙ ap Some (sym c.row-item.is) in
+    let item : slice_get rows i ≡ Some row = slice_get-get_or rows i row c.rows-test.true
+        ∙ ap Some (sym c.row-item.is) in
     let here = c.in_ok-next.ensures in
     let read = here.read in
     record {

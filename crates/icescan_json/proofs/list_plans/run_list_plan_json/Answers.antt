@@ -10,7 +10,8 @@ returns-in_err-plan_list-clause-answers g c =
     let p = err_from_is_err_and c.from_residual.result c.from_residual.ensures.1 in
     λ world told. rw (p.1, p.2)
     (refused_json _ _ (g.W.Sink.may_fail c.args.output.now) _ _ _
-    (refused_listed world c.args.list.now _ c.in_err-plan_list.field-0.0 (c.in_err-plan_list.ensures.refused world told))
+    (refused_listed world c.args.list.now _ c.in_err-plan_list.field-0.0
+        (c.in_err-plan_list.ensures.refused world told))
     (λ is. c.in_err-plan_list.ensures.write (ap Err is)))
 
 pub returns-in_err-plan_list-clause-text : goal.returns-in_err-plan_list-clause-text
@@ -22,7 +23,8 @@ pub returns-clause-answers : goal.returns-clause-answers
 returns-clause-answers g c =
     let wrote = c.write_json.ensures in
     λ world told.
-    let there = plan_listed world c.args.list.now c.in_ok-plan_list.field-0 (c.in_ok-plan_list.ensures.found world told) in
+    let there = plan_listed world c.args.list.now c.in_ok-plan_list.field-0
+        (c.in_ok-plan_list.ensures.found world told) in
     written_json _ c.write_json.result (g.W.Sink.may_fail c.args.output.now) _ _ wrote.all wrote.front
     _ _ (rw c.new.ensures there) wrote.causes wrote.cause
 

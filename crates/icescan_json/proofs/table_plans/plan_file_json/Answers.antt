@@ -8,7 +8,8 @@ use Rattle.icescan_text.proofs.Enough.{in_range}
 use Rattle.icescan_requests.proofs.Plans.{writes_whoever_works}
 use Rattle.icescan_requests.specs.Plans.{over_all_rows, over_wanted_rows, reads_at}
 use Rattle.icescan_json.proofs.Asked.{same_typed_at}
-use Rattle.icescan_json.proofs.Written.{json_that, no_workers_at, refused_json, refused_writes_none, writes_json, written_json}
+use Rattle.icescan_json.proofs.Written.{json_that, no_workers_at, refused_json, refused_writes_none, writes_json}
+use Rattle.icescan_json.proofs.Written.{written_json}
 use Rattle.icescan_json.proofs.table_plans.plan_file_json.Goals as goal
 
 pub returns-in_err-workers-clause-workers : goal.returns-in_err-workers-clause-workers
@@ -21,13 +22,15 @@ pub returns-in_err-workers-clause-wanted : goal.returns-in_err-workers-clause-wa
 returns-in_err-workers-clause-wanted g c =
     let p = err_from_is_err_and c.from_residual.result c.from_residual.ensures.1 in
     λ world told. rw (p.1, p.2)
-    (no_workers_at over_wanted_rows world c.args.path.now c.args.request.now c.args.workers _ (g.W.Sink.may_fail c.args.output.now) _ _ _ c.in_err-workers.ensures.refused)
+    (no_workers_at over_wanted_rows world c.args.path.now c.args.request.now c.args.workers _
+        (g.W.Sink.may_fail c.args.output.now) _ _ _ c.in_err-workers.ensures.refused)
 
 pub returns-in_err-workers-clause-plan : goal.returns-in_err-workers-clause-plan
 returns-in_err-workers-clause-plan g c =
     let p = err_from_is_err_and c.from_residual.result c.from_residual.ensures.1 in
     λ world told truth. rw (p.1, p.2)
-    (no_workers_at over_all_rows world c.args.path.now c.args.request.now c.args.workers _ (g.W.Sink.may_fail c.args.output.now) _ _ _ c.in_err-workers.ensures.refused)
+    (no_workers_at over_all_rows world c.args.path.now c.args.request.now c.args.workers _
+        (g.W.Sink.may_fail c.args.output.now) _ _ _ c.in_err-workers.ensures.refused)
 
 pub returns-in_err-workers-clause-text : goal.returns-in_err-workers-clause-text
 returns-in_err-workers-clause-text g c =
@@ -57,7 +60,8 @@ returns-in_err-typed-clause-plan g c =
     let p = err_from_is_err_and c.from_residual-in_err-typed.result c.from_residual-in_err-typed.ensures.1 in
     let given = c.in_ok-workers.ensures.given in
     λ world told truth.
-    let same = same_typed_at c.plans_of_true_summaries.ensures world c.args.path.now c.args.request.now c.args.workers truth
+    let same = same_typed_at c.plans_of_true_summaries.ensures world c.args.path.now c.args.request.now c.args.workers
+        truth
     in
     let refused = rw given.0 at (c.in_err-typed.ensures.refused world told) in
     rw (p.1, p.2)
@@ -91,7 +95,8 @@ returns-clause-plan g c =
     let given = c.in_ok-workers.ensures.given in
     let wrote = c.write_json.ensures in
     λ world told truth.
-    let same = same_typed_at c.plans_of_true_summaries.ensures world c.args.path.now c.args.request.now c.args.workers truth
+    let same = same_typed_at c.plans_of_true_summaries.ensures world c.args.path.now c.args.request.now c.args.workers
+        truth
     in
     written_json c.in_ok-typed.typed c.write_json.result (g.W.Sink.may_fail c.args.output.now) _ _ wrote.all wrote.front
     _ _ (same ∙ (rw given.0 at (c.in_ok-typed.ensures.found world told))) wrote.causes wrote.cause

@@ -8,7 +8,8 @@ use Rattle.ice_desk.specs.Worlds.{EndsAt}
 use Rattle.icescan_requests.proofs.Plans.{writes_whoever_works}
 use Rattle.icescan_requests.specs.Plans.{over_all_rows, over_wanted_rows, reads}
 use Rattle.icescan_json.specs.JsonAnswers.{typed_answer_by}
-use Rattle.icescan_json.proofs.Written.{json_that, no_workers, refused_by_workers, refused_writes_none, typed_json, writes_json}
+use Rattle.icescan_json.proofs.Written.{json_that, no_workers, refused_by_workers, refused_writes_none, typed_json}
+use Rattle.icescan_json.proofs.Written.{writes_json}
 use Rattle.icescan_json.proofs.Written.{written_json}
 use Rattle.icescan_json.proofs.table_plans.run_plan_json_with.Goals as goal
 

@@ -6,7 +6,8 @@ use Rattle.icescan_print.proofs.escape.count_plain_blocks.Goals as goal
 
 -- plain bytes after plain bytes
 further : (bytes : List ℕ) (n more : ℕ) → escaped (take n bytes) ≡ take n bytes
-    → escaped (take more (drop n bytes)) ≡ take more (drop n bytes) → escaped (take (n + more) bytes) ≡ take (n + more) bytes
+    → escaped (take more (drop n bytes)) ≡ take more (drop n bytes)
+    → escaped (take (n + more) bytes) ≡ take (n + more) bytes
 further bytes n more before after = rw (
   take-add n more bytes,
   flat_map-append escaped_byte (take n bytes)

@@ -50,7 +50,8 @@ returns-in-Err-clause-refused g c =
     let input = input_goes_on _ _ (taken.0 ++ bytes) both in (
       (taken.0 ++ bytes) ++ input.0,
       input.1,
-      refused_text ((taken.0 ++ bytes) ++ input.0) c.in-Err.fault (λ m. ap bundle_of (append_assoc taken.0 bytes input.0)
+      refused_text ((taken.0 ++ bytes) ++ input.0) c.in-Err.fault
+          (λ m. ap bundle_of (append_assoc taken.0 bytes input.0)
           ∙ taken.2 (bytes ++ input.0) ∙ c.in-Err.ensures.err m input.0),
     )
 

@@ -37,7 +37,8 @@ returns-in_err-planned-clause-workers g c =
     let p = err_from_is_err_and c.from_residual-in_err-planned.result c.from_residual-in_err-planned.ensures.1 in
     let given = c.in_ok-workers.ensures.given in
     rw (p.1, p.2) (
-      λ is. let q : c.in_err-planned.field-0.0 ≡ run.Workers = cc in absurd (c.in_err-planned.ensures.workers (ap Err q)),
+      λ is. let q : c.in_err-planned.field-0.0 ≡ run.Workers = cc in absurd
+          (c.in_err-planned.ensures.workers (ap Err q)),
       λ out. absurd (in_range c.args.workers given.1 given.2 out),
     )
 
@@ -100,5 +101,6 @@ returns-clause-text g c =
     (rw c.lines.ensures at wrote.front)
 
 pub returns-clause-given : goal.returns-clause-given
-returns-clause-given g c = wrote_that _ c.in_ok-planned.planned.plan c.write_plan_by_workers.result _ _ c.in_ok-planned.ensures.given
+returns-clause-given g c =
+    wrote_that _ c.in_ok-planned.planned.plan c.write_plan_by_workers.result _ _ c.in_ok-planned.ensures.given
     (rw c.lines.ensures at c.write_plan_by_workers.ensures.all)

@@ -38,7 +38,8 @@ some-preserved c =
     record {
       near = omega (arith, is.within, length-map c.args.files.now (entry_at kept));
       within = omega (arith, run.within, length-map c.args.some.now (entry_at kept));
-      none = none_more xs ys c.some.first c.in-Some.gap c.end_in_gap-first.result c.requires.sorted c.requires.sorted_some is run
+      none = none_more xs ys c.some.first c.in-Some.gap c.end_in_gap-first.result c.requires.sorted
+          c.requires.sorted_some is run
           c.some.invariant.none;
     }
 

@@ -16,6 +16,8 @@ returns c = λ t l.
     let path = c.args.path.now in
     let place = c.args.place in
     let here : c.path.result.now ≡ path_at xs place = c.path.ensures
-    ∙ ap (λ (x : Entry). x.file.path) (file_entry kept files place _ (omega (arith, l, length-map files (entry_at kept)))) in
-    let lt : is_lt (slice_cmp nat_cmp path c.path.result.now) ≡ true = ap is_lt (sym c.cmp.ensures) ∙ sym c.is_lt.ensures ∙ t in
+    ∙ ap (λ (x : Entry). x.file.path)
+    (file_entry kept files place _ (omega (arith, l, length-map files (entry_at kept)))) in
+    let lt : is_lt (slice_cmp nat_cmp path c.path.result.now) ≡ true = ap is_lt (sym c.cmp.ensures)
+        ∙ sym c.is_lt.ensures ∙ t in
     subst (λ (p : List ℕ). is_lt (slice_cmp nat_cmp path p) ≡ true) here lt

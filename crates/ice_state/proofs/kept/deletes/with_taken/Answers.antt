@@ -10,16 +10,19 @@ use Rattle.ice_state.proofs.kept.deletes.with_taken.Goals.{In_ok-more}
 
 -- those that are there, and those of the manifest with them
 with_more : (c : In_ok-more) → (xs : List Entry) → AreDeletesOf c.args.entries.now xs c.in_ok-deletes.deletes
-    → AreDeletesOf c.args.entries.now (xs ++ entries_given (Some (given c.args.entries.now c.args.taken.now))) c.in_ok-more.more
+    → AreDeletesOf c.args.entries.now
+    (xs ++ entries_given (Some (given c.args.entries.now c.args.taken.now))) c.in_ok-more.more
 with_more c xs are =
     let entries = c.args.entries.now in
     if_ok c.with_manifest.result c.in_ok-more.more c.ok.ensures.value c.in_ok-more.was
-    (AreDeletesOf entries (xs ++ entries_given (Some (given entries c.args.taken.now)))) (c.with_manifest.ensures xs are)
+    (AreDeletesOf entries (xs ++ entries_given (Some (given entries c.args.taken.now))))
+        (c.with_manifest.ensures xs are)
 
 pub grown-requires : goal.grown-requires
 grown-requires c =
     let entries = c.args.entries.now in
-    let mine = subst (λ (o : Option KeptDeletes). IfSome o (AreDeletes entries)) c.in_ok-deletes.was c.requires.deletes in
+    let mine = subst (λ (o : Option KeptDeletes). IfSome o
+        (AreDeletes entries)) c.in_ok-deletes.was c.requires.deletes in
     (_, with_more (goal.at.grown-requires c).In_ok-more mine.0 mine.1)
 
 pub returns : goal.returns

@@ -17,7 +17,8 @@ returns-in_ok-to_vec-in-Good-clause-numbers c =
     let same = added.ok ∙ ap (entries_at c.segment-theirs.result.now) numbers
     ∙ ap (λ (one : Kept). entries_at one ordered.numbers) c.segment-theirs.ensures in (
       c.add_kept.ensures.there,
-      ordered_alike _ _ ordered _ c.in_ok-added-in-Good.added.items here.1 added.kept same c.from_vec.ensures order refl,
+      ordered_alike _ _ ordered _ c.in_ok-added-in-Good.added.items here.1 added.kept same c.from_vec.ensures order
+          refl,
     )
 
 pub returns-in_err-reserve-in-Good-clause-keeps : goal.returns-in_err-reserve-in-Good-clause-keeps

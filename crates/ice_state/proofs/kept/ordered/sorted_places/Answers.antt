@@ -18,4 +18,5 @@ returns-clause-order c = λ xs is.
 pub returns-clause-once : goal.returns-clause-once
 returns-clause-once c = λ xs is t.
     let after = c.in_ok-rise.ensures in
-    subst (λ (ys : List Entry). twice ys ≡ []) (after.sorted xs is.placed ∙ ap by_path is.all) (after.once xs is.placed t)
+    subst (λ (ys : List Entry). twice ys ≡ []) (after.sorted xs is.placed ∙ ap by_path is.all)
+        (after.once xs is.placed t)

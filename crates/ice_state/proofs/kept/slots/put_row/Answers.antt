@@ -13,7 +13,8 @@ returns-then-is_none-clause-row c = λ kept.
     (is-some-given kept c.index.result.now ∙ search rules)
 
 pub returns-then-is_none-clause-numbers : goal.returns-then-is_none-clause-numbers
-returns-then-is_none-clause-numbers c = λ kept all one. set-numbers kept c.args.slots.now.items c.args.i c.args.taken all
+returns-then-is_none-clause-numbers c = λ
+    kept all one. set-numbers kept c.args.slots.now.items c.args.i c.args.taken all
     one
 
 pub returns-else-is_none-clause-row : goal.returns-else-is_none-clause-row

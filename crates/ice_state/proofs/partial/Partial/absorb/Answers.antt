@@ -86,14 +86,16 @@ with_absorbed-requires c =
     let gained = kept_in (gains (contents mine c.deref-3.result.now) (contents others c.deref-4.result.now)) in
     let Are = λ (es : Segmented) (d : Option KeptDeletes). IfSome d (AreDeletes es) in
     let all = sym c.in_ok-before.ensures.ok in
-    let state = state_kept mine (mine ++ others) slots c.self.inside.deletes (keeps_firsts mine others) c.self.invariant in
+    let state = state_kept mine (mine ++ others) slots c.self.inside.deletes
+        (keeps_firsts mine others) c.self.invariant in
     let behind = c.absorbed_behind.ensures mine others gained (are (goal.at.with_absorbed-requires c).In_ok-before)
     (c.absorbed_deletes-absorbed.ensures mine) in
     record {
       deletes =
           subst (λ (es : Segmented). Are es c.take.result) all
           (subst (Are (mine ++ others)) (sym c.take.ensures.value)
-          (if_some_of (mine ++ others) (kept_in (contents (mine ++ others) slots)) c.self.inside.deletes state.all_deletes));
+          (if_some_of (mine ++ others)
+              (kept_in (contents (mine ++ others) slots)) c.self.inside.deletes state.all_deletes));
       absorbed =
           subst (λ (es : Segmented). Are es c.absorbed_behind.result) all
           (if_some_of (mine ++ others) gained c.absorbed_behind.result behind);
@@ -117,15 +119,18 @@ invariant_of-self-2 c =
     length-contents all slots ∙ sym (length-contents kept slots) ∙ ap length c.self.view_is ∙ c.requires
     ∙ sym (ap length c.other.view_is) in
     let same = entries_joined before gained alike in
-    let More = λ (cs ds : Content). IfSome c.absorbed_deletes-absorbed.result (AreDeletesOf others (kept_in (gains cs ds))) in
+    let More = λ (cs ds : Content). IfSome c.absorbed_deletes-absorbed.result
+        (AreDeletesOf others (kept_in (gains cs ds))) in
     let more : More before gained =
     subst (λ (ss : List (Option Taken)). More (contents all ss) gained) c.deref-3.ensures.value
     (subst (λ (ss : List (Option Taken)). More (contents all c.deref-3.result.now) (contents others ss))
     c.deref-4.ensures.value (c.absorbed_deletes-absorbed.ensures all)) in
     let behind = c.absorbed_behind.ensures kept others (kept_in (gains before gained)) before_own more in
     let With = λ (es : Segmented). (xs ys : List Entry) → IfSome c.take.result (AreDeletesOf es xs)
-    → IfSome c.absorbed_behind.result (AreDeletesOf es ys) → IfSome c.with_absorbed.result (AreDeletesOf es (xs ++ ys)) in
-    let joined = subst With c.in_ok-before.ensures.ok c.with_absorbed.ensures (kept_in before) (kept_in (gains before gained))
+    → IfSome c.absorbed_behind.result (AreDeletesOf es ys)
+    → IfSome c.with_absorbed.result (AreDeletesOf es (xs ++ ys)) in
+    let joined = subst With c.in_ok-before.ensures.ok c.with_absorbed.ensures (kept_in before)
+        (kept_in (gains before gained))
     was behind in
     let moved = subst (λ (cs : Content). IsPermutation (kept_in before ++ kept_in (gains before gained)) (kept_in cs))
     (sym (c.put_behind.ensures.rows kept others before_own c.other.invariant.numbers)) same in
@@ -157,7 +162,8 @@ returns-clause-ok c =
     ap (λ (k : Segmented). contents k c.put_behind.new.slots.items) c.in_ok-before.ensures.ok
     ∙ c.put_behind.ensures.rows kept others are c.other.invariant.numbers
     ∙ ap (λ (s : Content). join s (contents others c.other.inside.slots.items))
-    (contents-kept kept all (keeps_firsts kept others) c.self.inside.slots.items c.self.invariant.numbers ∙ c.self.view_is)
+    (contents-kept kept all (keeps_firsts kept others) c.self.inside.slots.items c.self.invariant.numbers
+        ∙ c.self.view_is)
     ∙ ap (join c.args.self.now) c.other.view_is
 
 pub returns-clause-of_scan : goal.returns-clause-of_scan

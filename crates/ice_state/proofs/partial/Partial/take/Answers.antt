@@ -30,7 +30,8 @@ returns-clause-still c = λ h.
     absurd cc
 
 pub returns-clause-world : goal.returns-clause-world
-returns-clause-world c = λ world ts is has. took-in_world world c.args.scan.now ts _ _ _ _ c.in_ok-take_new.ensures.ok is
+returns-clause-world c = λ
+    world ts is has. took-in_world world c.args.scan.now ts _ _ _ _ c.in_ok-take_new.ensures.ok is
     has
 
 pub returns-clause-of_scan : goal.returns-clause-of_scan

@@ -69,7 +69,8 @@ invariant_of-self-2 g c =
     (sym (c.put_row.ensures.row new)) (entries_with_row before c.args.i taken low free) in
     record {
       numbers = c.put_row.ensures.numbers new state.numbers c.in_ok-taken.ensures.numbers;
-      all_deletes = if_moved new (kept_in before ++ entries_in (Some taken)) (kept_in (contents new c.put_row.new.slots.items))
+      all_deletes = if_moved new (kept_in before ++ entries_in (Some taken))
+          (kept_in (contents new c.put_row.new.slots.items))
           c.with_taken.result same (c.with_taken.ensures (kept_in before) was);
     }
 
@@ -83,7 +84,8 @@ returns-clause-ok g c =
     c.in_ok-filter.ensures.spec in
     c.put_row.ensures.row new
     ∙ ap (λ (s : Content). with_row s c.args.i (given new c.in_ok-taken.field-0.taken))
-    (contents-kept c.self.inside.entries new c.take_manifest.ensures.keeps c.self.inside.slots.items c.self.invariant.numbers
+    (contents-kept c.self.inside.entries new c.take_manifest.ensures.keeps c.self.inside.slots.items
+        c.self.invariant.numbers
     ∙ c.self.view_is)
     ∙ ap (λ (r : Reading). with_row c.args.self.now c.args.i r) c.in_ok-taken.ensures.given ∙ step
 

@@ -19,7 +19,8 @@ returns-in-Some c = λ q.
     let same : count + 1 ≡ times_in old path + 1 = ap (λ o. unwrap_or o 0 + 1) there in
     let written = (c.get_mut.follows.holds (count + 1)).3 (subst IsSome there refl) in
     once_more path old new
-    (subst (λ n. tree.UpdatesBy order (λ k. slice_cmp nat_cmp path k.items) old.counts new.counts (Some n)) same written) q
+    (subst (λ n. tree.UpdatesBy order (λ k. slice_cmp nat_cmp path k.items) old.counts new.counts
+        (Some n)) same written) q
 
 pub returns : goal.returns
 returns c = λ q.

@@ -4,7 +4,8 @@ use Rattle.path_arena.proofs.Walks.{node_read}
 use Rattle.path_arena.proofs.index.Index.below.Goals as goal
 
 pub index-node-requires : goal.index-node-requires
-index-node-requires c = omega (arith, c.requires, ap (λ (t : Trees). length t.nodes) c.self.view_is, c.self.inside.nodes.ok.0)
+index-node-requires c = omega
+    (arith, c.requires, ap (λ (t : Trees). length t.nodes) c.self.view_is, c.self.inside.nodes.ok.0)
 
 pub returns-then-right-clause-within : goal.returns-then-right-clause-within
 returns-then-right-clause-within c =

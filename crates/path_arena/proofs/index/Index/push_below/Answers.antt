@@ -23,7 +23,8 @@ invariant_of-self c =
     pushed c.push-done.result _ _ _ (c.push-done.ensures.succeeds within) c.push-done.ensures.items in
     let last : c.len.result + 1 ≡ length ns + 1 = omega (arith, c.len.ensures, s.nodes.ok.0) in
     subst (IsIndex s.tops.items) (sym all)
-    (below_index s.tops.items ns id c.args.right m n (c.len.result + 1) lt c.leading.ensures.side other refl refl last c.self.invariant)
+    (below_index s.tops.items ns id c.args.right m n
+        (c.len.result + 1) lt c.leading.ensures.side other refl refl last c.self.invariant)
 
 pub returns-clause-hashes : goal.returns-clause-hashes
 returns-clause-hashes c =

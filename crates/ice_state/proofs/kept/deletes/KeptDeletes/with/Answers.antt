@@ -19,5 +19,6 @@ returns c = λ xs ys are its.
     let same : IsPermutation ((xs ++ its.first) ++ its.others) (xs ++ ys) =
     subst (λ (zs : List Entry). IsPermutation zs (xs ++ ys)) (sym (append_assoc xs its.first its.others))
     (IsPermutation-append_right xs (its.first ++ its.others) ys its.parts) in
-    IfOk-weaker c.with_files.result _ _ (λ d more. deletes_moved kept ((xs ++ its.first) ++ its.others) (xs ++ ys) d same more)
+    IfOk-weaker c.with_files.result _ _
+        (λ d more. deletes_moved kept ((xs ++ its.first) ++ its.others) (xs ++ ys) d same more)
     (c.with_files.ensures kept (xs ++ its.first) its.others front its.files its.waiting)

@@ -10,7 +10,8 @@ on_err (Ok x) p = tt
 on_err (Err e) p = p
 
 abbrev of_positions : In_ok-push → List ℕ
-of_positions c = places_at c.args.ranks.now c.args.positions.now ++ places_at c.args.ranks.now c.args.other_positions.now
+of_positions c = places_at c.args.ranks.now c.args.positions.now ++ places_at c.args.ranks.now
+    c.args.other_positions.now
 
 abbrev of_equalities : In_ok-push → List ℕ
 of_equalities c = places_at c.args.ranks.now c.args.equalities.now
@@ -44,5 +45,6 @@ invariant_of-self-2 c =
 pub returns-clause-ok : goal.returns-clause-ok
 returns-clause-ok c =
     let at = (goal.at.returns-clause-ok c).In_ok-push in
-    subst (λ (ns : List ℕ). GainsLine c.args.self.now (lines_in c.push.new.self ns) (of_positions at) (of_equalities at))
+    subst (λ (ns : List ℕ). GainsLine c.args.self.now (lines_in c.push.new.self ns) (of_positions at)
+        (of_equalities at))
     (sym (pushed (goal.at.returns-clause-ok c).In_ok-push-2)) (more at).gains
