@@ -1,12 +1,12 @@
 -- The machine's history and replies after a front of the events.
 use Rattle.std.proofs.Common.{◌≡◌, ℕ, true, false, List, [], ◌∷◌, ◌++◌, length, refl}
 use Rattle.std.specs.Prelude.{◌==◌, cond, Option, Some, None, Result, Ok, Err, slice_get}
-use Rattle.ice_catalog_versions.specs.declared.change.Commit.{Commit}
+use Rattle.ice_catalog_changes.specs.declared.change.Commit.{Commit}
 use Rattle.ice_catalog.specs.declared.event.Event.{Event}
 use Rattle.ice_catalog.specs.declared.event.Event.TheVariants as on
 use Rattle.ice_catalog.specs.declared.event.Reply.{Reply}
 use Rattle.ice_catalog.specs.declared.event.Reply.TheVariants as reply
-use Rattle.ice_catalog_versions.specs.declared.fault.PrepareFault.{PrepareFault}
+use Rattle.ice_catalog_changes.specs.declared.fault.PrepareFault.{PrepareFault}
 use Rattle.ice_catalog_versions.specs.Histories.{Step, after, prepared_on}
 use Rattle.ice_catalog_versions.specs.Live.{IsGrown}
 use Rattle.ice_catalog.specs.Machines.{Machine, PinnedScan, at_pin, commit, committed, event, machine_after, merge}

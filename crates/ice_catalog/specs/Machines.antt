@@ -15,12 +15,12 @@ use Rattle.ice_state.specs.Lines.{OwnedLine}
 use Rattle.ice_state.specs.Outcomes.{outcome}
 use Rattle.ice_state.specs.Scans.{Scanned}
 use Rattle.ice_state.specs.declared.fault.FinishFault.{FinishFault}
-use Rattle.ice_catalog_versions.specs.declared.change.Commit.{Commit}
+use Rattle.ice_catalog_changes.specs.declared.change.Commit.{Commit}
 use Rattle.ice_catalog.specs.declared.event.Event.{Event}
 use Rattle.ice_catalog.specs.declared.event.Event.TheVariants as on
 use Rattle.ice_catalog.specs.declared.event.Reply.{Reply}
 use Rattle.ice_catalog.specs.declared.event.Reply.TheVariants as reply
-use Rattle.ice_catalog_versions.specs.declared.fault.PrepareFault.{PrepareFault}
+use Rattle.ice_catalog_changes.specs.declared.fault.PrepareFault.{PrepareFault}
 use Rattle.ice_catalog_versions.specs.declared.receipt.Receipt.{Receipt}
 use Rattle.ice_catalog_versions.specs.Histories.{History, Step, state_of, after, prepared_on}
 use Rattle.ice_catalog.specs.Pins.{scan_in}

@@ -1,7 +1,8 @@
 //! What can happen to a table and to scans of it, and what is replied.
 
 use contract_words::Text;
-use ice_catalog_versions::{Change, Ids, PrepareFault, Receipt};
+use ice_catalog_changes::{Change, Ids, PrepareFault};
+use ice_catalog_versions::Receipt;
 use ice_filter::Filter;
 use ice_state::{FinishFault, OwnedPlan};
 

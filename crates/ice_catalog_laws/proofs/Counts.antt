@@ -21,8 +21,8 @@ use Rattle.ice_state.specs.declared.fault.FinishFault.{FinishFault}
 use Rattle.ice_catalog_versions.specs.Applying.{apply}
 use Rattle.ice_catalog_versions.specs.Histories.{History, Step, after, prepared_from, prepared_on, state_of}
 use Rattle.ice_catalog_versions.specs.States.{State}
-use Rattle.ice_catalog_versions.specs.declared.change.Commit.{Commit}
-use Rattle.ice_catalog_versions.specs.declared.fault.PrepareFault.{PrepareFault}
+use Rattle.ice_catalog_changes.specs.declared.change.Commit.{Commit}
+use Rattle.ice_catalog_changes.specs.declared.fault.PrepareFault.{PrepareFault}
 use Rattle.ice_catalog_versions.specs.declared.receipt.Receipt.{Receipt}
 use Rattle.ice_catalog_laws.specs.Counts.{commit_of, count_of, followed_by, made, sum_of_seats}
 

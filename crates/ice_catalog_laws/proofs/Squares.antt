@@ -22,8 +22,8 @@ use Rattle.ice_state.specs.Joins.{either, join}
 use Rattle.ice_state.specs.Outcomes.{outcome}
 use Rattle.ice_state.specs.Scans.{Scanned}
 use Rattle.ice_catalog_versions.specs.Histories.{Step, prepared_on}
-use Rattle.ice_catalog_versions.specs.declared.change.Commit.{Commit}
-use Rattle.ice_catalog_versions.specs.declared.fault.PrepareFault.{PrepareFault}
+use Rattle.ice_catalog_changes.specs.declared.change.Commit.{Commit}
+use Rattle.ice_catalog_changes.specs.declared.fault.PrepareFault.{PrepareFault}
 use Rattle.ice_catalog_laws.specs.Workers.{Begins, CanMerge, CanTake, HasManifest, HasState, IsPut, Lacks}
 use Rattle.ice_catalog_laws.specs.Workers.{states_of, tells_a_change}
 

@@ -29,8 +29,8 @@ use Rattle.ice_catalog_versions.specs.Histories.{History, IsReceiptOf, Step, aft
 use Rattle.ice_catalog_versions.specs.Histories.{state_of, step}
 use Rattle.ice_catalog_versions.specs.Replaying.{AddsAStep}
 use Rattle.ice_catalog_versions.specs.States.{State}
-use Rattle.ice_catalog_versions.specs.declared.change.Commit.{Commit}
-use Rattle.ice_catalog_versions.specs.declared.fault.PrepareFault.{PrepareFault}
+use Rattle.ice_catalog_changes.specs.declared.change.Commit.{Commit}
+use Rattle.ice_catalog_changes.specs.declared.fault.PrepareFault.{PrepareFault}
 use Rattle.ice_catalog_versions.specs.declared.receipt.Receipt.{Receipt}
 use Rattle.ice_catalog_laws.proofs.Counts.{same_journal}
 use Rattle.ice_catalog_laws.proofs.Squares.{begins, finish_outcome, merge_state, merged_where, take_state}

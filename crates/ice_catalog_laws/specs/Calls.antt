@@ -7,7 +7,7 @@ use Rattle.ice_desk.specs.declared.fault.PlanFault.{PlanFault}
 use Rattle.ice_desk.specs.declared.fault.PlanFault.TheVariants as plan
 use Rattle.ice_state.specs.Lines.{OwnedLine}
 use Rattle.ice_catalog_versions.specs.Histories.{History}
-use Rattle.ice_catalog_versions.specs.declared.change.Commit.{Commit}
+use Rattle.ice_catalog_changes.specs.declared.change.Commit.{Commit}
 use Rattle.ice_catalog_versions.specs.declared.receipt.Receipt.{Receipt}
 use Rattle.ice_catalog_laws.specs.Counts.{followed_by}
 

@@ -5,7 +5,7 @@ use Rattle.ice_catalog.specs.declared.event.Event.TheVariants as on
 use Rattle.ice_catalog.specs.declared.event.Reply.{Reply}
 use Rattle.ice_catalog.specs.declared.event.Reply.TheVariants as reply
 use Rattle.ice_catalog_versions.specs.Histories.{History}
-use Rattle.ice_catalog_versions.specs.declared.change.Commit.{Commit}
+use Rattle.ice_catalog_changes.specs.declared.change.Commit.{Commit}
 
 -- the commit of an event, where the reply says that it is made
 abbrev pub commit_of : Event → Reply → List Commit

@@ -6,7 +6,8 @@ ghost use Rattle.contract_words.specs.Outcome.{Gives};
 ghost use Rattle.ice_catalog_versions.specs.Histories.{opened, prepared_on};
 
 use ice_catalog::{Event, Reply};
-use ice_catalog_versions::{Change, Ids, PrepareFault, Prepared, Version, World};
+use ice_catalog_changes::{Change, Ids, PrepareFault};
+use ice_catalog_versions::{Prepared, Version, World};
 use ice_meta::MetaFault;
 use std::alloc::{AllocError, Global};
 

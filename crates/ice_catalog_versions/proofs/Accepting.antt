@@ -9,9 +9,9 @@ use Rattle.ice_meta.specs.Committing.{CanFollow}
 use Rattle.ice_meta.specs.Tables.{table_of}
 use Rattle.ice_meta.specs.Targets.{snapshot_with}
 use Rattle.ice_manifest_reading.specs.declared.row.ManifestContent.TheVariants.{Data as OfData, Deletes}
-use Rattle.ice_catalog_versions.specs.declared.change.Commit.{Commit}
-use Rattle.ice_catalog_versions.specs.declared.fault.PrepareFault.{PrepareFault}
-use Rattle.ice_catalog_versions.specs.declared.fault.PrepareFault.TheVariants as fault
+use Rattle.ice_catalog_changes.specs.declared.change.Commit.{Commit}
+use Rattle.ice_catalog_changes.specs.declared.fault.PrepareFault.{PrepareFault}
+use Rattle.ice_catalog_changes.specs.declared.fault.PrepareFault.TheVariants as fault
 use Rattle.ice_catalog_versions.specs.Adding.{CanWrite, snapshot_of}
 use Rattle.ice_catalog_versions.specs.Bases.{base_rows, table_specs}
 use Rattle.ice_catalog_versions.specs.Groups.{groups_of, groups}

@@ -12,12 +12,12 @@ use Rattle.ice_value.specs.declared.file_content.FileContent.TheVariants.{Data, 
 use Rattle.ice_value.specs.contracts.file_content.FileContentPartialEq.TheImpl as content_test
 use Rattle.ice_manifest.specs.declared.new_file.NewFile.{NewFile}
 use Rattle.ice_manifest.specs.contracts.new_file.NewFilePartialEq.TheImpl as file_test
-use Rattle.ice_catalog_versions.specs.declared.change.Change.{Change}
-use Rattle.ice_catalog_versions.specs.declared.change.Commit.{Commit}
-use Rattle.ice_catalog_versions.specs.declared.change.Ids.{Ids}
-use Rattle.ice_catalog_versions.specs.contracts.change.ChangePartialEq.TheImpl as change_test
-use Rattle.ice_catalog_versions.specs.contracts.change.IdsPartialEq.TheImpl as ids_test
-use Rattle.ice_catalog_versions.specs.contracts.change.CommitPartialEq.TheImpl as commit_test
+use Rattle.ice_catalog_changes.specs.declared.change.Change.{Change}
+use Rattle.ice_catalog_changes.specs.declared.change.Commit.{Commit}
+use Rattle.ice_catalog_changes.specs.declared.change.Ids.{Ids}
+use Rattle.ice_catalog_changes.specs.contracts.change.ChangePartialEq.TheImpl as change_test
+use Rattle.ice_catalog_changes.specs.contracts.change.IdsPartialEq.TheImpl as ids_test
+use Rattle.ice_catalog_changes.specs.contracts.change.CommitPartialEq.TheImpl as commit_test
 
 -- lists whose items are seen by v, and compared as v sees them
 pub seen_same : {A B : Type 0} (E : B → B → Bool) (exact : (a b : B) → Decides (E a b) (a ≡ b)) (v : A

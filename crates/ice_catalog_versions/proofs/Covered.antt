@@ -20,8 +20,8 @@ use Rattle.ice_manifest.specs.Writing.{new_entries}
 use Rattle.ice_state.specs.Contents.{live_by}
 use Rattle.ice_state.specs.Covering.{RowCovers}
 use Rattle.ice_state.specs.Snapshots.{live, live_or_none}
-use Rattle.ice_catalog_versions.specs.declared.change.Commit.{Commit}
-use Rattle.ice_catalog_versions.specs.declared.fault.PrepareFault.{PrepareFault}
+use Rattle.ice_catalog_changes.specs.declared.change.Commit.{Commit}
+use Rattle.ice_catalog_changes.specs.declared.fault.PrepareFault.{PrepareFault}
 use Rattle.ice_catalog_versions.specs.declared.world.World.{World}
 use Rattle.ice_catalog_versions.specs.Adding.{next, next_sequence}
 use Rattle.ice_catalog_versions.specs.Applying.{apply, unless}

@@ -32,10 +32,10 @@ use Rattle.ice_manifest.specs.declared.new_file.NewFile.{NewFile}
 use Rattle.ice_manifest_reading.proofs.Rising.{order}
 use Rattle.ice_manifest_reading.proofs.Sets.{cases_of, in_sorted, nowhere, to_sorted}
 use Rattle.ice_state.proofs.Elements.{all_at, filtered, refiltered}
-use Rattle.ice_catalog_versions.specs.declared.change.Change.{Change}
-use Rattle.ice_catalog_versions.specs.declared.change.Commit.{Commit}
-use Rattle.ice_catalog_versions.specs.declared.fault.PrepareFault.{PrepareFault}
-use Rattle.ice_catalog_versions.specs.declared.fault.PrepareFault.TheVariants as fault
+use Rattle.ice_catalog_changes.specs.declared.change.Change.{Change}
+use Rattle.ice_catalog_changes.specs.declared.change.Commit.{Commit}
+use Rattle.ice_catalog_changes.specs.declared.fault.PrepareFault.{PrepareFault}
+use Rattle.ice_catalog_changes.specs.declared.fault.PrepareFault.TheVariants as fault
 use Rattle.ice_catalog_versions.specs.Adding.{next_sequence, row_of}
 use Rattle.ice_catalog_versions.specs.Bases.{base_rows, current_list, live_entries, spec_in}
 use Rattle.ice_catalog_versions.specs.Groups.{groups}

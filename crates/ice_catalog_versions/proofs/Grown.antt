@@ -1,7 +1,7 @@
 -- Histories whose commits add in turn.
 use Rattle.std.proofs.Common.{List, [], ◌∷◌, ◌++◌, sym, subst, append_assoc}
 use Rattle.std.proofs.lemmas.List.{append-nil}
-use Rattle.ice_catalog_versions.specs.declared.change.Commit.{Commit}
+use Rattle.ice_catalog_changes.specs.declared.change.Commit.{Commit}
 use Rattle.ice_catalog_versions.specs.Histories.{History, after}
 use Rattle.ice_catalog_versions.specs.Live.{AddInTurn, AddsToBase, IsGrown}
 

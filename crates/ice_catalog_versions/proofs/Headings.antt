@@ -10,7 +10,7 @@ use Rattle.ice_meta.specs.declared.table.Table.{Table}
 use Rattle.ice_meta.specs.declared.metadata.Target.TheVariants.{Main}
 use Rattle.ice_meta.specs.Targets.{Described, bound_spec, schema_for, spec_with}
 use Rattle.ice_manifest.specs.declared.heading.Heading.{Heading}
-use Rattle.ice_catalog_versions.specs.declared.change.Ids.{Ids}
+use Rattle.ice_catalog_changes.specs.declared.change.Ids.{Ids}
 use Rattle.ice_catalog_versions.specs.Adding.{schema_text, spec_or_none, types_of, heading_of}
 use Rattle.ice_catalog_versions.specs.Bases.{table_specs, specs_under, spec_in}
 use Rattle.ice_catalog_versions.specs.Groups.{Group}

@@ -11,9 +11,9 @@ use Rattle.std.proofs.lemmas.Bool.{cases_lt}
 use Rattle.std.proofs.lemmas.Cmp.{nat_list_cmp_total}
 use Rattle.std.proofs.lemmas.Map.Lookups.{exact_bytes}
 use Rattle.ice_meta.specs.Logs.{newest_time}
-use Rattle.ice_catalog_versions.specs.declared.change.Commit.{Commit}
-use Rattle.ice_catalog_versions.specs.declared.fault.PrepareFault.{PrepareFault}
-use Rattle.ice_catalog_versions.specs.declared.fault.PrepareFault.TheVariants as fault
+use Rattle.ice_catalog_changes.specs.declared.change.Commit.{Commit}
+use Rattle.ice_catalog_changes.specs.declared.fault.PrepareFault.{PrepareFault}
+use Rattle.ice_catalog_changes.specs.declared.fault.PrepareFault.TheVariants as fault
 use Rattle.ice_catalog_versions.specs.Bases.{table_specs}
 use Rattle.ice_catalog_versions.specs.Histories.{History, Step, prepared_on, state_of}
 use Rattle.ice_catalog_versions.specs.LeastFaults.{HasFault, IsBefore, IsLeast, NamesLess, PreparesWhereNoneIsThere}

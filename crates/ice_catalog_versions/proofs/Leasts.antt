@@ -4,7 +4,7 @@ use Rattle.std.specs.Prelude.{Option, None, Some, option_map}
 use Rattle.std.specs.List.{AllByRecursion}
 use Rattle.std.specs.Ordering.{int_cmp, is_lt}
 use Rattle.ice_manifest.specs.declared.new_file.NewFile.{NewFile}
-use Rattle.ice_catalog_versions.specs.declared.fault.PrepareFault.{PrepareFault}
+use Rattle.ice_catalog_changes.specs.declared.fault.PrepareFault.{PrepareFault}
 use Rattle.ice_catalog_versions.specs.Refusals.{path_before, lesser_path, least_path, lesser_id, least_id, path_of}
 use Rattle.ice_catalog_versions.specs.Refusals.{paths_where}
 

@@ -34,9 +34,9 @@ use Rattle.ice_manifest_reading.specs.Manifests.{entries_of}
 use Rattle.ice_manifest.specs.NewRows.{new_row, summaries_from}
 use Rattle.ice_manifest.proofs.Summaries.{by_summaries}
 use Rattle.ice_manifest.specs.Writing.{list_bytes, new_entries}
-use Rattle.ice_catalog_versions.specs.declared.change.Commit.{Commit}
-use Rattle.ice_catalog_versions.specs.declared.change.Ids.{Ids}
-use Rattle.ice_catalog_versions.specs.declared.fault.PrepareFault.TheVariants as fault
+use Rattle.ice_catalog_changes.specs.declared.change.Commit.{Commit}
+use Rattle.ice_catalog_changes.specs.declared.change.Ids.{Ids}
+use Rattle.ice_catalog_changes.specs.declared.fault.PrepareFault.TheVariants as fault
 use Rattle.ice_catalog_versions.specs.declared.world.World.{World}
 use Rattle.ice_catalog_versions.specs.Adding.{CanWrite, NewManifest, added, bytes_of, file_of, group_spec, heading_of}
 use Rattle.ice_catalog_versions.specs.Adding.{list_file, list_path, manifest_name, manifest_of, manifest_path}

@@ -26,9 +26,9 @@ use Rattle.ice_manifest.specs.NewRows as row
 use Rattle.ice_manifest.specs.Writing.{new_entries, new_entry}
 use Rattle.ice_manifest_reading.proofs.Sets.{here, later, nowhere, cases_of, in_sorted, to_sorted}
 use Rattle.ice_state.proofs.Elements.{all_at, filtered, refiltered}
-use Rattle.ice_catalog_versions.specs.declared.change.Change.{Change}
-use Rattle.ice_catalog_versions.specs.declared.change.Commit.{Commit}
-use Rattle.ice_catalog_versions.specs.declared.change.Ids.{Ids}
+use Rattle.ice_catalog_changes.specs.declared.change.Change.{Change}
+use Rattle.ice_catalog_changes.specs.declared.change.Commit.{Commit}
+use Rattle.ice_catalog_changes.specs.declared.change.Ids.{Ids}
 use Rattle.ice_catalog_versions.specs.Adding.{NewManifest, group_spec, heading_of, manifest_of, manifests_from}
 use Rattle.ice_catalog_versions.specs.Adding.{spec_or_none}
 use Rattle.ice_catalog_versions.specs.Bases.{base_rows, live_at, spec_in, table_specs}

@@ -2,7 +2,7 @@
 use Rattle.std.proofs.Common.{◌≡◌, ◌+◌, ◌<◌, ◌≤◌, ℕ, List, [], ◌∷◌, ◌++◌, length, get_or, drop, map, ap, ◌∙◌}
 use Rattle.std.proofs.Common.{append_assoc}
 use Rattle.ice_meta.specs.Targets.{Described}
-use Rattle.ice_catalog_versions.specs.declared.change.Ids.{Ids}
+use Rattle.ice_catalog_changes.specs.declared.change.Ids.{Ids}
 use Rattle.ice_catalog_versions.specs.declared.groups.Group as kept
 use Rattle.ice_manifest.specs.declared.heading.Heading.{Heading}
 use Rattle.ice_manifest.specs.declared.new_file.NewFile.{NewFile}

@@ -14,9 +14,9 @@ use Rattle.ice_manifest.specs.NewRows.{new_row, summaries}
 use Rattle.ice_manifest.proofs.Summaries.{by_summaries}
 use Rattle.ice_state.specs.Covering.{Covers}
 use Rattle.ice_state.specs.Specs.{spec_of}
-use Rattle.ice_catalog_versions.specs.declared.change.Commit.{Commit}
-use Rattle.ice_catalog_versions.specs.declared.change.Ids.{Ids}
-use Rattle.ice_catalog_versions.specs.declared.fault.PrepareFault.TheVariants as fault
+use Rattle.ice_catalog_changes.specs.declared.change.Commit.{Commit}
+use Rattle.ice_catalog_changes.specs.declared.change.Ids.{Ids}
+use Rattle.ice_catalog_changes.specs.declared.fault.PrepareFault.TheVariants as fault
 use Rattle.ice_catalog_versions.specs.Adding.{NewManifest, heading_of, manifest_of, manifests_from, next_sequence}
 use Rattle.ice_catalog_versions.specs.Adding.{spec_or_none}
 use Rattle.ice_catalog_versions.specs.Adding.{types_of}

@@ -9,8 +9,8 @@ use Rattle.std.specs.Result.{result_ok}
 use Rattle.std.proofs.Math.Seq.{take-append_seam}
 use Rattle.contract_words.specs.Outcome.{◌>>=◌}
 use Rattle.ice_meta.specs.Targets.{Described}
-use Rattle.ice_catalog_versions.specs.declared.change.Commit.{Commit}
-use Rattle.ice_catalog_versions.specs.declared.fault.PrepareFault.{PrepareFault}
+use Rattle.ice_catalog_changes.specs.declared.change.Commit.{Commit}
+use Rattle.ice_catalog_changes.specs.declared.fault.PrepareFault.{PrepareFault}
 use Rattle.ice_catalog_versions.specs.declared.opening.Opening.{Opening}
 use Rattle.ice_catalog_versions.specs.Adding.{added, next}
 use Rattle.ice_catalog_versions.specs.Applying.{apply, unless}

@@ -20,8 +20,8 @@ use Rattle.ice_manifest_reading.specs.Lists.{rows_of}
 use Rattle.ice_manifest_reading.specs.Manifests.{entries_of}
 use Rattle.ice_manifest_reading.specs.declared.entry.Entry.{Entry}
 use Rattle.ice_manifest_reading.specs.declared.row.Row.{Row}
-use Rattle.ice_catalog_versions.specs.declared.change.Commit.{Commit}
-use Rattle.ice_catalog_versions.specs.declared.fault.PrepareFault.{PrepareFault}
+use Rattle.ice_catalog_changes.specs.declared.change.Commit.{Commit}
+use Rattle.ice_catalog_changes.specs.declared.fault.PrepareFault.{PrepareFault}
 use Rattle.ice_catalog_versions.specs.declared.world.World.{World}
 use Rattle.ice_catalog_versions.specs.Adding.{added, next, snapshot_of}
 use Rattle.ice_catalog_versions.specs.Applying.{apply, unless}

@@ -29,7 +29,7 @@ use Rattle.ice_manifest.specs.Adding.{AreNewFiles, MayReference}
 use Rattle.ice_manifest_reading.specs.Laws.{MayHold}
 use Rattle.ice_project.specs.Fields.{field_of}
 use Rattle.ice_project.specs.Summaries.{type_of_values}
-use Rattle.ice_catalog_versions.specs.declared.change.Ids.{Ids}
+use Rattle.ice_catalog_changes.specs.declared.change.Ids.{Ids}
 use Rattle.ice_catalog_versions.specs.declared.tuples.Allowed.{Allowed}
 use Rattle.ice_catalog_versions.specs.declared.tuples.Allowed.TheVariants.{Null, Value, Nothing}
 use Rattle.ice_catalog_versions.specs.Adding.{CanWrite, schema_text, types_of, heading_of, spec_or_none}

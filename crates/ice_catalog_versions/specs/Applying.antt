@@ -1,7 +1,7 @@
 -- What one commit makes of a table.
 use Rattle.std.specs.Prelude.{Option, Some, None, Result, Ok, Err}
-use Rattle.ice_catalog_versions.specs.declared.change.Commit.{Commit}
-use Rattle.ice_catalog_versions.specs.declared.fault.PrepareFault.{PrepareFault}
+use Rattle.ice_catalog_changes.specs.declared.change.Commit.{Commit}
+use Rattle.ice_catalog_changes.specs.declared.fault.PrepareFault.{PrepareFault}
 use Rattle.ice_catalog_versions.specs.Adding.{next}
 use Rattle.ice_catalog_versions.specs.Refusals.{refusal}
 use Rattle.ice_catalog_versions.specs.States.{State}

@@ -6,7 +6,7 @@ use Rattle.std.specs.List.{AllByRecursion}
 use Rattle.ice_meta.specs.declared.spec.Spec.{Spec}
 use Rattle.ice_manifest.specs.declared.new_file.NewFile.{NewFile}
 use Rattle.ice_state.specs.Covering.{AreCovered, RowCovers}
-use Rattle.ice_catalog_versions.specs.declared.change.Commit.{Commit}
+use Rattle.ice_catalog_changes.specs.declared.change.Commit.{Commit}
 use Rattle.ice_catalog_versions.specs.Adding.{NewManifest, next_sequence, row_of}
 use Rattle.ice_catalog_versions.specs.Bases.{base_rows, current_list, table_specs}
 use Rattle.ice_catalog_versions.specs.Histories.{History, start, state_of, step}

@@ -7,7 +7,7 @@ use Rattle.contract_words.specs.Sorting.{sorted}
 use Rattle.ice_manifest.specs.declared.new_file.NewFile.{NewFile}
 use Rattle.ice_manifest_reading.specs.declared.row.ManifestContent.{ManifestContent}
 use Rattle.ice_manifest_reading.specs.declared.row.ManifestContent.TheVariants.{Data, Deletes}
-use Rattle.ice_catalog_versions.specs.declared.change.Change.{Change}
+use Rattle.ice_catalog_changes.specs.declared.change.Change.{Change}
 
 -- the files of one content and one spec
 pub record Group : Type 0 where

@@ -7,9 +7,9 @@ use Rattle.ice_meta.specs.declared.fault.MetaFault.{MetaFault}
 use Rattle.ice_meta.specs.declared.fault.MetaFault.TheVariants.{NoSnapshot}
 use Rattle.ice_meta.specs.declared.metadata.Target.TheVariants.{Main}
 use Rattle.ice_meta.specs.Targets.{Described, metadata_of, resolved}
-use Rattle.ice_catalog_versions.specs.declared.change.Commit.{Commit}
-use Rattle.ice_catalog_versions.specs.declared.fault.PrepareFault.{PrepareFault}
-use Rattle.ice_catalog_versions.specs.declared.fault.PrepareFault.TheVariants.{Memory}
+use Rattle.ice_catalog_changes.specs.declared.change.Commit.{Commit}
+use Rattle.ice_catalog_changes.specs.declared.fault.PrepareFault.{PrepareFault}
+use Rattle.ice_catalog_changes.specs.declared.fault.PrepareFault.TheVariants.{Memory}
 use Rattle.ice_catalog_versions.specs.declared.opening.Opening.{Opening}
 use Rattle.ice_catalog_versions.specs.declared.receipt.Receipt.{Receipt}
 use Rattle.ice_catalog_versions.specs.declared.world.World.{World}

@@ -13,10 +13,10 @@ use Rattle.ice_manifest_reading.specs.declared.entry.Entry.{Entry}
 use Rattle.ice_manifest_reading.specs.declared.row.ManifestContent.TheVariants.{Data, Deletes}
 use Rattle.ice_manifest_reading.specs.declared.row.Row.{Row}
 use Rattle.ice_manifest.specs.declared.new_file.NewFile.{NewFile}
-use Rattle.ice_catalog_versions.specs.declared.change.Change.{Change}
-use Rattle.ice_catalog_versions.specs.declared.change.Commit.{Commit}
-use Rattle.ice_catalog_versions.specs.declared.fault.PrepareFault.{PrepareFault}
-use Rattle.ice_catalog_versions.specs.declared.fault.PrepareFault.TheVariants as fault
+use Rattle.ice_catalog_changes.specs.declared.change.Change.{Change}
+use Rattle.ice_catalog_changes.specs.declared.change.Commit.{Commit}
+use Rattle.ice_catalog_changes.specs.declared.fault.PrepareFault.{PrepareFault}
+use Rattle.ice_catalog_changes.specs.declared.fault.PrepareFault.TheVariants as fault
 use Rattle.ice_catalog_versions.specs.Bases.{current_list, table_specs}
 use Rattle.ice_catalog_versions.specs.Histories.{History, prepared_on, state_of}
 use Rattle.ice_catalog_versions.specs.Live.{entries_at, listed_rows, rows_after}

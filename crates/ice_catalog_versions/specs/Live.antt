@@ -9,8 +9,8 @@ use Rattle.ice_manifest.specs.Fitting.{IsReadable}
 use Rattle.ice_manifest_reading.specs.Lists.{path_order, rows_of}
 use Rattle.ice_manifest_reading.specs.Manifests.{entries_of}
 use Rattle.ice_manifest.specs.Writing.{list_bytes, new_entries}
-use Rattle.ice_catalog_versions.specs.declared.change.Commit.{Commit}
-use Rattle.ice_catalog_versions.specs.declared.change.Ids.{Ids}
+use Rattle.ice_catalog_changes.specs.declared.change.Commit.{Commit}
+use Rattle.ice_catalog_changes.specs.declared.change.Ids.{Ids}
 use Rattle.ice_catalog_versions.specs.Adding.{NewManifest, bytes_of, manifests_from, next_rows, next_sequence, row_of}
 use Rattle.ice_catalog_versions.specs.Bases.{base_rows, current_rows, manifest_at, table_specs}
 use Rattle.ice_catalog_versions.specs.Groups.{groups}

@@ -7,8 +7,8 @@ use Rattle.ice_meta.specs.Partitioning.{is_unpartitioned}
 use Rattle.ice_manifest_reading.specs.declared.data_file.DataFile.{DataFile}
 use Rattle.ice_manifest_reading.specs.declared.entry.Entry.{Entry}
 use Rattle.ice_manifest.specs.declared.new_file.NewFile.{NewFile}
-use Rattle.ice_catalog_versions.specs.declared.change.Change.{Change}
-use Rattle.ice_catalog_versions.specs.declared.change.Commit.{Commit}
+use Rattle.ice_catalog_changes.specs.declared.change.Change.{Change}
+use Rattle.ice_catalog_changes.specs.declared.change.Commit.{Commit}
 use Rattle.ice_catalog_versions.specs.Adding.{next_sequence, spec_or_none}
 use Rattle.ice_catalog_versions.specs.Bases.{live_entries, spec_in, table_specs}
 use Rattle.ice_catalog_versions.specs.Groups.{is_of_spec}

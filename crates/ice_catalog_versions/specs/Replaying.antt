@@ -1,7 +1,7 @@
 -- What replaying a journal comes to.
 use Rattle.std.specs.Prelude.{◌≡◌, true, List, ◌++◌, Option}
 use Rattle.std.specs.Option.{is_some}
-use Rattle.ice_catalog_versions.specs.declared.change.Commit.{Commit}
+use Rattle.ice_catalog_changes.specs.declared.change.Commit.{Commit}
 use Rattle.ice_catalog_versions.specs.Histories.{History, step, replay, state_of, after, before}
 use Rattle.ice_catalog_versions.specs.States.{State}
 

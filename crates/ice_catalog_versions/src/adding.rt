@@ -16,12 +16,12 @@ ghost use Rattle.ice_catalog_versions.specs.Partitionings.{specs_of};
 ghost use Rattle.ice_catalog_versions.specs.Seen.{seen, all_seen};
 ghost use Rattle.ice_catalog_versions.specs.Tuples.{written_type};
 
-use crate::change::Ids;
 use crate::groups::Group;
 use crate::partitioning::Partitioning;
 use crate::paths::{list_path, manifest_path};
 use crate::tuples::{Allowed, partitioning_of};
 use contract_words::{Items, Text};
+use ice_catalog_changes::Ids;
 use ice_manifest::{Heading, NewFile, write_list, write_manifest};
 use ice_manifest_reading::{ManifestContent, Row};
 use ice_meta::{Metadata, Spec, Table, Target};

@@ -5,7 +5,7 @@ ghost use Rattle.std.specs.Prelude.{is_none, if◌then◌else◌};
 ghost use Rattle.std.specs.Option.{option_copied, option_or};
 ghost use Rattle.std.specs.Ordering.{nat_cmp};
 ghost use Rattle.std.specs.Cmp.Lexicographic.{slice_cmp};
-ghost use Rattle.ice_catalog_versions.specs.declared.fault.PrepareFault.TheVariants as fault;
+ghost use Rattle.ice_catalog_changes.specs.declared.fault.PrepareFault.TheVariants as fault;
 ghost use Rattle.ice_catalog_versions.specs.Bases.{table_specs, current_list, rows_at, base_rows, manifest_at, live_in};
 ghost use Rattle.ice_catalog_versions.specs.Outcome.{Refuses};
 ghost use Rattle.ice_catalog_versions.specs.Partitionings.{specs_of};
@@ -13,12 +13,12 @@ ghost use Rattle.ice_catalog_versions.specs.Refusals.{AreSorted, is_among, lesse
 ghost use Rattle.ice_catalog_versions.specs.Refusals.{unreadable};
 ghost use Rattle.ice_catalog_versions.specs.Refusals.{base_bad, path_taken};
 
-use crate::fault::PrepareFault;
 use crate::partitioning::Partitioning;
 use crate::refusals::lesser_path;
 use crate::tuples::partitioning_of;
 use crate::world::World;
 use contract_words::Text;
+use ice_catalog_changes::PrepareFault;
 use ice_manifest_reading::{Entry, ListFault, ManifestFault, Row, read_list, read_manifest};
 use ice_meta::{Metadata, Target};
 use std::alloc::Global;

@@ -5,10 +5,10 @@ ghost use Rattle.ice_meta.specs.Committing.{CanFollow, next_metadata};
 ghost use Rattle.ice_catalog_versions.specs.Adding.{operation_of, snapshot_of};
 ghost use Rattle.ice_catalog_versions.specs.States.{seen, with_files};
 
-use crate::change::{Change, Ids};
 use crate::paths::list_path;
 use crate::world::World;
 use contract_words::{Items, Text};
+use ice_catalog_changes::{Change, Ids};
 use ice_meta::{Metadata, NewSnapshot, Operation};
 use std::alloc::{AllocError, Global};
 

@@ -5,7 +5,7 @@ ghost use Rattle.ice_manifest.specs.Adding.{lent};
 ghost use Rattle.ice_catalog_versions.specs.Groups.{spec_ids, is_of_spec, groups_of, groups};
 ghost use Rattle.ice_catalog_versions.specs.Seen.{all_seen};
 
-use crate::change::Change;
+use ice_catalog_changes::Change;
 use ice_manifest::NewFile;
 use ice_manifest_reading::ManifestContent;
 use std::alloc::{AllocError, Global};

@@ -4,8 +4,6 @@
 
 mod adding;
 mod bases;
-mod change;
-mod fault;
 mod following;
 mod groups;
 mod laws;
@@ -20,9 +18,6 @@ mod tuples;
 mod version;
 mod world;
 
-pub use change::{Change, Commit, Ids};
-pub use fault::PrepareFault;
-pub use ice_manifest::NewFile;
 pub use laws::{
     a_commit_is_one_step, a_new_uuid_makes_new_names, commits_leave_what_was_there,
     the_last_commit_is_taken_off, the_least_fault_is_told, versions_stay_covered,

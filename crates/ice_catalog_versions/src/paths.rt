@@ -4,8 +4,8 @@ ghost use Rattle.std.specs.Prelude.{◌≡◌, ◌++◌, IfOk, codes, string_byt
 ghost use Rattle.std.specs.Fmt.{signed_decimal};
 ghost use Rattle.ice_catalog_versions.specs.Adding.{metadata_path, manifest_name, list_name, manifest_path, list_path};
 
-use crate::change::Ids;
 use contract_words::Text;
+use ice_catalog_changes::Ids;
 use ice_meta::Table;
 use std::alloc::{AllocError, Global};
 use uuid::Uuid;

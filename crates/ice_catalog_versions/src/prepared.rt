@@ -6,11 +6,11 @@ ghost use Rattle.ice_catalog_versions.specs.Histories.{StepsTo, after, added_on,
 ghost use Rattle.ice_catalog_versions.specs.Live.{AddsToBase};
 ghost use Rattle.ice_catalog_versions.specs.States.{seen};
 
-use crate::change::Commit;
 use crate::receipt::Receipt;
 use crate::version::Version;
 use crate::world::World;
 use contract_words::{Items, Text};
+use ice_catalog_changes::Commit;
 use ice_meta::Metadata;
 use std::alloc::{AllocError, AllocFailed, Global};
 use std::marker::Model;

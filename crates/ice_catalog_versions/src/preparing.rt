@@ -17,8 +17,6 @@ ghost use Rattle.ice_catalog_versions.specs.States.{state_now};
 
 use crate::adding::added_files;
 use crate::bases::base_rows;
-use crate::change::{Change, Commit, Ids};
-use crate::fault::PrepareFault;
 use crate::following::{next_metadata, world_with};
 use crate::groups::{Group, groups};
 use crate::partitioning::Partitioning;
@@ -31,6 +29,7 @@ use crate::tuples::{check_specs, check_tuples, partitionings};
 use crate::version::Version;
 use crate::world::World;
 use contract_words::{Items, Text};
+use ice_catalog_changes::{Change, Commit, Ids, PrepareFault};
 use ice_manifest_reading::Row;
 use ice_meta::{Metadata, Spec, Target};
 use std::alloc::{AllocError, Global};

@@ -13,9 +13,8 @@ ghost use Rattle.ice_meta.specs.Logs.{newest_time};
 ghost use Rattle.ice_meta.specs.Targets.{described};
 ghost use Rattle.contract_words.specs.Sorting.{sorted};
 
-use crate::change::{Change, Ids};
-use crate::fault::PrepareFault;
 use contract_words::Text;
+use ice_catalog_changes::{Change, Ids, PrepareFault};
 use ice_manifest::NewFile;
 use ice_manifest_reading::ManifestContent;
 use ice_meta::Metadata;

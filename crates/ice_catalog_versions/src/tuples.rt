@@ -15,11 +15,10 @@ ghost use Rattle.ice_catalog_versions.specs.Refusals.{no_such_spec, wrong_tuple}
 ghost use Rattle.ice_catalog_versions.specs.Partitionings.{specs_of};
 ghost use Rattle.ice_catalog_versions.specs.Tuples.{allowed_of, allowed_of_type, allows, fit, fits_spec, written_type};
 
-use crate::change::Change;
-use crate::fault::PrepareFault;
 use crate::partitioning::Partitioning;
 use crate::refusals::lesser_path;
 use contract_words::{Items, Text};
+use ice_catalog_changes::{Change, PrepareFault};
 use ice_manifest::NewFile;
 use ice_meta::{PartitionField, Spec};
 use ice_project::transform_named;

@@ -9,10 +9,10 @@ ghost use Rattle.ice_catalog_versions.specs.Histories.{openable, opened, state_o
 ghost use Rattle.ice_catalog_versions.specs.Live.{AddsToBase, IsGrown};
 ghost use Rattle.ice_catalog_versions.specs.States.{State, seen};
 
-use crate::change::Commit;
 use crate::opening::Opening;
 use crate::world::World;
 use contract_words::Items;
+use ice_catalog_changes::Commit;
 use ice_meta::{MetaFault, Metadata, Target};
 use std::alloc::{AllocError, Global};
 use std::marker::Model;

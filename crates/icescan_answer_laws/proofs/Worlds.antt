@@ -4,7 +4,7 @@ use Rattle.std.proofs.Common.{arith, refl, sym, ap, ◌∙◌}
 use Rattle.std.specs.FinMap.{empty}
 use Rattle.std.specs.Prelude.{Result, Ok, Err}
 use Rattle.contract_words.specs.Outcome.{◌>>=◌}
-use Rattle.ice_catalog_versions.specs.declared.change.Commit.{Commit}
+use Rattle.ice_catalog_changes.specs.declared.change.Commit.{Commit}
 use Rattle.ice_catalog_versions.specs.declared.world.World.{World as Kept}
 use Rattle.ice_catalog_versions.specs.Histories.{openable}
 use Rattle.ice_desk.specs.Given.{AreOf, AreSlotsGiven, Giving}

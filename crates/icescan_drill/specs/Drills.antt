@@ -10,8 +10,8 @@ use Rattle.std.specs.Int.{to_be_bytes, w128}
 use Rattle.contract_words.specs.Outcome.{◌>>=◌}
 use Rattle.ice_catalog_versions.specs.Histories.{History, state_of}
 use Rattle.ice_catalog_versions.specs.States.{State}
-use Rattle.ice_catalog_versions.specs.declared.change.Commit.{Commit}
-use Rattle.ice_catalog_versions.specs.declared.change.Ids.{Ids}
+use Rattle.ice_catalog_changes.specs.declared.change.Commit.{Commit}
+use Rattle.ice_catalog_changes.specs.declared.change.Ids.{Ids}
 use Rattle.ice_manifest.specs.declared.new_file.NewFile.{NewFile}
 use Rattle.ice_meta.specs.declared.metadata.Target.TheVariants.{Main}
 use Rattle.ice_meta.specs.Targets.{bound_specs, list_of}

@@ -6,9 +6,11 @@ ghost use Rattle.icescan_drill.specs.Drills.{HasEachFile, IsLost, IsPlanOf, IsTu
 ghost use Rattle.icescan_drill.specs.Drills.{new_file, scan_of_state};
 
 use contract_words::{Items, Text};
-use ice_catalog_versions::{Change, Ids, NewFile, Prepared, Version, World, prepare};
+use ice_catalog_changes::{Change, Ids};
+use ice_catalog_versions::{Prepared, Version, World, prepare};
 use ice_desk::take_wanted;
 use ice_filter::Bound;
+use ice_manifest::NewFile;
 use ice_meta::{Metadata, Target};
 use ice_state::{Lines, OwnedPlan, Partial, Scan};
 use ice_value::FileContent;

@@ -2,7 +2,7 @@
 
 use crate::case::Case;
 use contract_words::Text;
-use ice_catalog_versions::Change;
+use ice_catalog_changes::Change;
 use ice_desk::Files;
 use ice_meta::{Metadata, PartitionField, Spec, Target};
 use icescan_hint_texts::{Hint, quoted};

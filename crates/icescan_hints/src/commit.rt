@@ -1,6 +1,6 @@
 //! The words of refusals of change files and of commits.
 
-use ice_catalog_versions::PrepareFault;
+use ice_catalog_changes::PrepareFault;
 use icescan_hint_texts::{MEMORY, Sentence};
 use icescan_text::ChangeFault;
 

@@ -2,10 +2,10 @@
 use Rattle.std.proofs.Common.{◌≡◌, ◌≢◌, ℕ, List, [], ◌∷◌, Some, refl, sym, ap, subst, ◌∙◌, inl, inr}
 use Rattle.std.specs.Prelude.{Option, Result, Ok, Err}
 use Rattle.contract_words.specs.Outcome.{◌>>=◌}
-use Rattle.ice_catalog_versions.specs.declared.change.Change.{Change}
-use Rattle.ice_catalog_versions.specs.declared.change.Commit.{Commit}
-use Rattle.ice_catalog_versions.specs.declared.fault.PrepareFault.{PrepareFault}
-use Rattle.ice_catalog_versions.specs.declared.fault.PrepareFault.TheVariants as prepare
+use Rattle.ice_catalog_changes.specs.declared.change.Change.{Change}
+use Rattle.ice_catalog_changes.specs.declared.change.Commit.{Commit}
+use Rattle.ice_catalog_changes.specs.declared.fault.PrepareFault.{PrepareFault}
+use Rattle.ice_catalog_changes.specs.declared.fault.PrepareFault.TheVariants as prepare
 use Rattle.ice_catalog_versions.specs.declared.opening.Opening.{Opening}
 use Rattle.ice_catalog_versions.specs.declared.world.World.{World as Kept}
 use Rattle.ice_catalog_versions.specs.Adding.{added}

@@ -2,7 +2,7 @@
 use Rattle.std.proofs.Common.{◌≡◌, ℕ, List, Option, sym, subst}
 use Rattle.std.specs.Prelude.{Result, Ok, Err}
 use Rattle.std.specs.FinMap.{empty}
-use Rattle.ice_catalog_versions.specs.declared.change.Commit.{Commit}
+use Rattle.ice_catalog_changes.specs.declared.change.Commit.{Commit}
 use Rattle.ice_catalog_versions.specs.declared.opening.Opening.{Opening}
 use Rattle.ice_catalog_versions.specs.declared.world.World.{World as Kept}
 use Rattle.ice_catalog_versions.specs.Histories.{History, Step, openable, opened, prepared_on}

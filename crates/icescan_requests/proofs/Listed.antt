@@ -88,4 +88,4 @@ module _ (f : List ℕ → Type 0) (world : World) (path : List ℕ) where
         subst (λ a. MayEnd a (EndsAt world f (list_reads world path)) ⊥ e) (same ∙ sym listed_there)
         (more_reads (rows_plan over_wanted_rows world (specs_of rows) [] rows)
         (EndsAt world f (manifests (specs_of rows) [] rows))
-            (EndsAt world f (list_reads world path)) ⊥ e listed_reads h)
+        (EndsAt world f (list_reads world path)) ⊥ e listed_reads h)

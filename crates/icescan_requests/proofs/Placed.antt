@@ -139,7 +139,7 @@ extends_put a b c d e own name bytes aside aside' folder removed IsSynced made w
     let last : Extends c e IsLast =
     extends_then c d e _ _ _ removes synced (λ m n p q. (n, q, ap (λ x. x ++ n) p)) in
     let IsRest : List Event → Type 0 = λ m. (whole : List Event) × (sync : List Event)
-        × IsWholeAt aside name bytes whole
+    × IsWholeAt aside name bytes whole
     × IsSynced folder sync × (m ≡ whole ++ event_of (Remove aside) removed ∷ sync) in
     let rest : Extends b e IsRest =
     extends_then b c e _ _ _ whole last (λ m n p q. (m, q.0, p, q.1, ap (λ x. m ++ x) q.2)) in

@@ -7,7 +7,7 @@ use Rattle.std.specs.declared.io.Error.{Error}
 use Rattle.std.specs.declared.io.ErrorKind.{ErrorKind}
 use Rattle.std.specs.declared.io.ErrorKind.TheVariants.{AlreadyExists}
 use Rattle.ice_catalog_versions.specs.States.{Added}
-use Rattle.ice_catalog_versions.specs.declared.change.Ids.{Ids}
+use Rattle.ice_catalog_changes.specs.declared.change.Ids.{Ids}
 use Rattle.icescan_requests.specs.Folders.{HasNoSync, IsKept, IsNamed, aside_name}
 use Rattle.icescan_requests.specs.declared.store.StoreFault.{StoreFault}
 use Rattle.icescan_requests.specs.declared.store.StoreFault.TheVariants as store

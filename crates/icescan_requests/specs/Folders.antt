@@ -9,7 +9,7 @@ use Rattle.std.specs.declared.io.Error.{Error}
 use Rattle.std.specs.declared.io.ErrorKind.TheVariants.{InvalidInput, Unsupported}
 use Rattle.icescan_requests.specs.Bundles.{before_line}
 use Rattle.ice_catalog_versions.specs.Adding.{uuid_text}
-use Rattle.ice_catalog_versions.specs.declared.change.Ids.{Ids}
+use Rattle.ice_catalog_changes.specs.declared.change.Ids.{Ids}
 
 -- the parts of a path between its slashes (47)
 abbrev pub segments : List ℕ → List (List ℕ)

@@ -9,7 +9,7 @@ use crate::folder::{CommitFolder, Folder};
 use crate::listing::names_in_folder;
 use crate::store::{Store, StoreFault};
 use contract_words::Text;
-use ice_catalog_versions::Ids;
+use ice_catalog_changes::Ids;
 use ice_desk::{Files, ReadFault};
 use std::alloc::{AllocError, Global};
 

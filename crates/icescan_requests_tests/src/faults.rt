@@ -3,7 +3,7 @@
 use avro_file::{AvroFault, CodecName};
 use avro_schema::SchemaFault;
 use contract_words::{Items, Text};
-use ice_catalog_versions::PrepareFault;
+use ice_catalog_changes::PrepareFault;
 use ice_filter::FilterFault;
 use ice_manifest_reading::{ListFault, ManifestFault};
 use ice_meta::{Member, MetaFault};

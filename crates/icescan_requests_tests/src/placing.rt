@@ -1,6 +1,6 @@
 //! Files and folders that are refused while a commit puts its files, and while a file is read.
 
-use ice_catalog_versions::Ids;
+use ice_catalog_changes::Ids;
 use ice_desk::{Files as _, ReadFault};
 use icescan_requests::{CommitFolder, Folder, Store, StoreFault};
 use std::alloc::Allocator;

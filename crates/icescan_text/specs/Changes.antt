@@ -21,7 +21,7 @@ use Rattle.ice_value.specs.declared.file_content.FileContent.TheVariants as cont
 use Rattle.ice_value.specs.Formats.{format_named}
 use Rattle.ice_manifest.specs.declared.new_file.NewFile.{NewFile}
 use Rattle.ice_meta.specs.Members.{if_int, if_objects, not_null}
-use Rattle.ice_catalog_versions.specs.declared.change.Change.{Change}
+use Rattle.ice_catalog_changes.specs.declared.change.Change.{Change}
 use Rattle.icescan_text.specs.declared.change.ChangeKind.{ChangeKind}
 use Rattle.icescan_text.specs.declared.change.ChangeKind.TheVariants as kind
 use Rattle.icescan_text.specs.declared.change.fault.ChangeFault.{ChangeFault}

@@ -21,8 +21,8 @@ use Rattle.ice_state.specs.declared.fault.FinishFault.{FinishFault}
 use Rattle.ice_state.specs.declared.fault.FinishFault.TheVariants as finish
 use Rattle.icescan_text.specs.declared.drill_fault.DrillFault.{DrillFault}
 use Rattle.icescan_text.specs.declared.drill_fault.DrillFault.TheVariants as drill
-use Rattle.ice_catalog_versions.specs.declared.fault.PrepareFault.{PrepareFault}
-use Rattle.ice_catalog_versions.specs.declared.fault.PrepareFault.TheVariants as prepare
+use Rattle.ice_catalog_changes.specs.declared.fault.PrepareFault.{PrepareFault}
+use Rattle.ice_catalog_changes.specs.declared.fault.PrepareFault.TheVariants as prepare
 use Rattle.icescan_text.specs.Changes.{member_name as change_member_name}
 use Rattle.icescan_text.specs.declared.change.fault.ChangeFault.{ChangeFault}
 use Rattle.icescan_text.specs.declared.change.fault.ChangeFault.TheVariants as change

@@ -22,8 +22,8 @@ use Rattle.ice_desk.specs.declared.fault.PlanFault.{PlanFault}
 use Rattle.ice_desk.specs.declared.fault.PlanFault.TheVariants as plan
 use Rattle.icescan_text.specs.declared.drill_fault.DrillFault.{DrillFault}
 use Rattle.icescan_text.specs.declared.drill_fault.DrillFault.TheVariants as drill
-use Rattle.ice_catalog_versions.specs.declared.fault.PrepareFault.{PrepareFault}
-use Rattle.ice_catalog_versions.specs.declared.fault.PrepareFault.TheVariants as prepare
+use Rattle.ice_catalog_changes.specs.declared.fault.PrepareFault.{PrepareFault}
+use Rattle.ice_catalog_changes.specs.declared.fault.PrepareFault.TheVariants as prepare
 use Rattle.icescan_text.specs.declared.change.fault.ChangeFault.{ChangeFault}
 use Rattle.icescan_text.specs.declared.change.fault.ChangeFault.TheVariants as change
 use Rattle.icescan_text.specs.declared.fault.RunFault.{RunFault}

@@ -15,7 +15,8 @@ use crate::change::members::objects_at;
 use crate::change::new_file::{data_file_from, delete_file_from};
 use contract_words::Items;
 pub use fault::{ChangeFault, ChangeMember};
-use ice_catalog_versions::{Change, NewFile};
+use ice_catalog_changes::Change;
+use ice_manifest::NewFile;
 use serde_json::{Category, Value};
 use std::alloc::Global;
 

@@ -16,7 +16,7 @@ use crate::drill_fault::DrillFault;
 use avro_file::AvroFault;
 use avro_schema::SchemaFault;
 use contract_words::Text;
-use ice_catalog_versions::PrepareFault;
+use ice_catalog_changes::PrepareFault;
 use ice_desk::{PlanFault, WantedFault};
 use ice_filter::FilterFault;
 use ice_manifest_reading::{ListFault, ManifestFault};

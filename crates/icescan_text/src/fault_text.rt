@@ -13,7 +13,7 @@ use crate::drill_fault::DrillFault;
 use crate::fault::RunFault;
 use avro_file::AvroFault;
 use avro_schema::SchemaFault;
-use ice_catalog_versions::PrepareFault;
+use ice_catalog_changes::PrepareFault;
 use ice_filter::FilterFault;
 use ice_manifest_reading::{ListFault, ManifestFault};
 use ice_meta::{Member, MetaFault};

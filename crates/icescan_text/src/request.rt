@@ -2,7 +2,7 @@
 
 use crate::change::ChangeKind;
 use contract_words::Text;
-use ice_catalog_versions::Ids;
+use ice_catalog_changes::Ids;
 use ice_meta::Target;
 
 /// What of a table is asked for.

@@ -18,7 +18,7 @@ use Rattle.ice_meta.specs.declared.metadata.Target.TheVariants as target
 use Rattle.icescan_text.specs.declared.change.ChangeKind.{ChangeKind}
 use Rattle.icescan_text.specs.declared.change.ChangeKind.TheVariants as kind
 use Rattle.icescan_text.specs.declared.request.CommitRequest.{CommitRequest}
-use Rattle.ice_catalog_versions.specs.declared.change.Ids.{Ids}
+use Rattle.ice_catalog_changes.specs.declared.change.Ids.{Ids}
 use Rattle.icescan_text.specs.declared.request.Request.{Request}
 use Rattle.icescan_text.specs.declared.request.Separator.{Separator}
 use Rattle.icescan_text.specs.declared.request.Separator.TheVariants as separator

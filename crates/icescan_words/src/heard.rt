@@ -15,7 +15,7 @@ ghost use Rattle.icescan_words.specs.declared.command.Source.TheVariants as sour
 use crate::answer_format::{Format, format_by};
 use crate::command::{Command, Lists, Place, Source};
 use contract_words::Text;
-use ice_catalog_versions::Ids;
+use ice_catalog_changes::Ids;
 use ice_meta::Target;
 use icescan_text::{ChangeKind, CommitRequest, Drill, Request, Separator};
 use std::alloc::{AllocError, Global};

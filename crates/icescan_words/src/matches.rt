@@ -12,7 +12,7 @@ use crate::answer_format::{Format, format_by};
 use crate::command::{Command, Lists, Place, Source};
 use clap::ArgMatches;
 use contract_words::Text;
-use ice_catalog_versions::Ids;
+use ice_catalog_changes::Ids;
 use ice_meta::Target;
 use icescan_text::{ChangeKind, CommitRequest, Drill, Request, RunFault, Separator};
 use std::alloc::{AllocError, Global};

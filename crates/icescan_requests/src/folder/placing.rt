@@ -10,7 +10,7 @@ ghost use Rattle.icescan_requests.specs.Disks.{IsPlacedAt, NotPlacedAt, names_be
 use super::disk::{Disk, HostDisk};
 use super::{Folder, file_name};
 use crate::store::{Store, StoreFault};
-use ice_catalog_versions::Ids;
+use ice_catalog_changes::Ids;
 use std::alloc::{AllocError, Global};
 use std::io::{self, ErrorKind};
 use uuid::Uuid;

@@ -10,7 +10,7 @@ use crate::change::members::{
     format_at, ids_at, int_at, kept_text_at, long_at, referenced_at, text_at, tuple_at,
 };
 use contract_words::Items;
-use ice_catalog_versions::NewFile;
+use ice_manifest::NewFile;
 use ice_value::FileContent;
 use serde_json::Value;
 use std::alloc::Global;

@@ -3,7 +3,7 @@ use Rattle.std.proofs.lemmas.List.{length-map}
 use Rattle.std.specs.Prelude.{Some}
 use Rattle.std.proofs.lemmas.Result.{err_from_is_err_and}
 use Rattle.ice_meta.specs.Targets.{described}
-use Rattle.ice_catalog_versions.specs.declared.change.Commit.{Commit}
+use Rattle.ice_catalog_changes.specs.declared.change.Commit.{Commit}
 use Rattle.ice_catalog_versions.specs.Refusals.{all_files, sorted_paths, no_such_spec, wrong_tuple, base_bad}
 use Rattle.ice_catalog_versions.specs.Refusals.{path_taken}
 use Rattle.ice_catalog_versions.specs.Refusals.{too_many, too_many_rows}

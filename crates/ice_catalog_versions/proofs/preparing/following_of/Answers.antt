@@ -1,7 +1,7 @@
 use Rattle.std.proofs.Common.{List, sym, ap, ◌∙◌, subst}
 use Rattle.std.specs.List.{AllByRecursion}
 use Rattle.ice_meta.specs.Targets.{Described, described}
-use Rattle.ice_catalog_versions.specs.declared.change.Commit.{Commit}
+use Rattle.ice_catalog_changes.specs.declared.change.Commit.{Commit}
 use Rattle.ice_manifest_reading.specs.declared.row.Row.{Row}
 use Rattle.ice_catalog_versions.specs.Adding.{CanWrite, files_over, added, manifests_from, next, next_rows}
 use Rattle.ice_catalog_versions.specs.Adding.{next_sequence}

@@ -2,8 +2,8 @@ use Rattle.std.proofs.Common.{◌≡◌, Some, Ok, ap, ◌∙◌, sym, subst}
 use Rattle.std.specs.Arc.{arc_value}
 use Rattle.std.proofs.lemmas.Result.{err_from_is_err_and}
 use Rattle.ice_meta.specs.Targets.{Described, described}
-use Rattle.ice_catalog_versions.specs.declared.change.Change.{Change}
-use Rattle.ice_catalog_versions.specs.declared.change.Commit.{Commit}
+use Rattle.ice_catalog_changes.specs.declared.change.Change.{Change}
+use Rattle.ice_catalog_changes.specs.declared.change.Commit.{Commit}
 use Rattle.ice_catalog_versions.specs.Histories.{Step, state_of, step}
 use Rattle.ice_catalog_versions.specs.Live.{AddsToBase}
 use Rattle.ice_catalog_versions.specs.States.{State}

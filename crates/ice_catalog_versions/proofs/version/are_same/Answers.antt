@@ -1,6 +1,6 @@
 use Rattle.std.proofs.Common.{◌∙◌, sym}
 use Rattle.std.specs.Arc.{arc_value}
-use Rattle.ice_catalog_versions.specs.contracts.change.CommitPartialEq.TheImpl as commit_impl
+use Rattle.ice_catalog_changes.specs.contracts.change.CommitPartialEq.TheImpl as commit_impl
 use Rattle.ice_catalog_versions.proofs.Commits.{seen_same, commit_exact}
 use Rattle.ice_catalog_versions.proofs.version.are_same.Goals as goal
 

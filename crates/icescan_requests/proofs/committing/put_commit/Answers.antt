@@ -86,7 +86,7 @@ returns-in-Err-There-clause-unplaced g c = λ x writes.
     let end = g.S.Store.events c.create_new.new.self in
     let names' = g.S.Store.names c.put_files.new.store in
     let last = rw (c.as_str.ensures, c.deref.ensures.value, c.in-Err-There.field-0-is) at
-        c.in-Err-There.ensures.unplaced in
+    c.in-Err-There.ensures.unplaced in
     beaten names x c.args.out.now bytes c.files.result.now same says before put names'
     c.in-Ok.ensures.named end c.in-Ok.ensures.placed last
 
@@ -102,7 +102,7 @@ returns-in-Err-Failed-clause-unplaced g c = λ x writes.
     let end = g.S.Store.events c.create_new.new.self in
     let names' = g.S.Store.names c.put_files.new.store in
     let last = rw (c.as_str.ensures, c.deref.ensures.value, c.in-Err-Failed.field-0-is) at
-        c.in-Err-Failed.ensures.unplaced in
+    c.in-Err-Failed.ensures.unplaced in
     let stops = metadata_stops names x c.args.out.now bytes c.files.result.now same says before put names'
     c.in-Ok.ensures.named end c.in-Ok.ensures.placed store.Failed last in
     extends_as before end _ _ stops (λ m h. (store.Failed, h))
@@ -119,7 +119,7 @@ returns-in-Err-Memory-create_new-clause-unplaced g c = λ x writes.
     let end = g.S.Store.events c.create_new.new.self in
     let names' = g.S.Store.names c.put_files.new.store in
     let last = rw (c.as_str.ensures, c.deref.ensures.value, c.in-Err-Memory-create_new.field-0-is) at
-        c.in-Err-Memory-create_new.ensures.unplaced in
+    c.in-Err-Memory-create_new.ensures.unplaced in
     let stops = metadata_stops names x c.args.out.now bytes c.files.result.now same says before put names'
     c.in-Ok.ensures.named end c.in-Ok.ensures.placed store.Memory last in
     extends_as before end _ _ stops (λ m h. inr h)

@@ -12,7 +12,7 @@ returns-in_err-scan-clause-refused g c =
     let p = err_from_is_err_and c.from_residual.result c.from_residual.ensures.1 in
     λ world told. rw (p.1, p.2)
     (no_scan (g.F.Files.may_fail c.args.files.now) ⊥ world c.args.selected.specs c.args.selected.filter.parts
-        c.args.selected.rows
+    c.args.selected.rows
     c.in_err-scan.field-0.0 c.in_err-scan.ensures)
 
 pub returns-in_err-take_wanted-clause-refused : goal.returns-in_err-take_wanted-clause-refused
@@ -23,7 +23,7 @@ returns-in_err-take_wanted-clause-refused g c =
     let stopped = rw c.in_ok-state.ensures.none at (c.in_err-take_wanted.ensures.refused world told) in
     rw (p.1, p.2)
     (not_taken (g.F.Files.may_fail c.args.files.now) ⊥ world c.args.selected.specs c.args.selected.filter.parts
-        c.args.selected.rows
+    c.args.selected.rows
     c.in_ok-scan.scan c.in_ok-scan.ensures c.in_err-take_wanted.field-0.0 stopped)
 
 pub returns-in_err-into_plan-clause-refused : goal.returns-in_err-into_plan-clause-refused
@@ -39,7 +39,7 @@ returns-in_err-into_plan-clause-refused g c =
     let fault = rw taken.is at c.in_err-into_plan.ensures.outcome in
     rw (p.1, p.2)
     (no_plan (g.F.Files.may_fail c.args.files.now) ⊥ world c.args.selected.specs c.args.selected.filter.parts
-        c.args.selected.rows scan
+    c.args.selected.rows scan
     c.in_ok-scan.ensures present c.in_err-into_plan.field-0.0 fault)
 
 pub returns-clause-found : goal.returns-clause-found
@@ -52,7 +52,7 @@ returns-clause-found g c =
     let taken = c.in_ok-take_wanted.ensures.taken world (no_row scan) told
     (nothing_taken world scan c.in_ok-state.state (c.in_ok-state.ensures.world world)) in
     plan_there (g.F.Files.may_fail c.args.files.now) ⊥ world c.args.selected.specs c.args.selected.filter.parts
-        c.args.selected.rows
+    c.args.selected.rows
     scan c.in_ok-scan.ensures present c.in_ok-into_plan.field-0 (rw taken.is at c.in_ok-into_plan.ensures.outcome)
 
 pub returns-clause-given : goal.returns-clause-given

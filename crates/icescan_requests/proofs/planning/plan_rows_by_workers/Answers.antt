@@ -12,7 +12,7 @@ returns-in_err-scan-clause-refused g c =
     let p = err_from_is_err_and c.from_residual.result c.from_residual.ensures.1 in
     λ world told. rw (p.1, p.2)
     (no_scan (g.F.Files.may_fail c.args.files.now) ⊥ world c.args.selected.specs c.args.selected.filter.parts
-        c.args.selected.rows
+    c.args.selected.rows
     c.in_err-scan.field-0.0 c.in_err-scan.ensures)
 
 pub plan_scan-requires-after_bounds : goal.plan_scan-requires-after_bounds
@@ -27,7 +27,7 @@ returns-in_err-plan_scan-clause-refused g c =
     λ world told.
     rw (p.1, p.2)
     (not_planned (g.F.Files.may_fail c.args.files.now) ⊥ world c.args.selected.specs c.args.selected.filter.parts
-        c.args.selected.rows
+    c.args.selected.rows
     c.in_ok-scan.scan c.in_ok-scan.ensures c.in_err-plan_scan.field-0.0
     (λ none. in_range c.count.result c.count.ensures.some c.count.ensures.few (ran.workers.0 (ap Err none)))
     (ran.refused world told) (ran.present world told) (ran.outcome world told))
@@ -38,7 +38,7 @@ returns-clause-found g c =
     λ world told.
     let present = each_present world scan.wanted (c.in_ok-plan_scan.ensures.present world told) in
     plan_there (g.F.Files.may_fail c.args.files.now) ⊥ world c.args.selected.specs c.args.selected.filter.parts
-        c.args.selected.rows
+    c.args.selected.rows
     scan c.in_ok-scan.ensures present c.in_ok-plan_scan.field-0 (c.in_ok-plan_scan.ensures.outcome world told)
 
 pub returns-clause-given : goal.returns-clause-given

@@ -21,7 +21,7 @@ returns-in_err-workers-clause-wanted g c =
     let p = err_from_is_err_and c.from_residual.result c.from_residual.ensures.1 in
     λ world told. rw (p.1, p.2)
     (no_workers_at over_wanted_rows world c.args.path.now c.args.request.now c.args.workers _
-        (g.W.Sink.may_fail c.args.output.now) _ _ _
+    (g.W.Sink.may_fail c.args.output.now) _ _ _
     c.in_err-workers.ensures.refused)
 
 pub returns-in_err-workers-clause-plan : goal.returns-in_err-workers-clause-plan
@@ -29,7 +29,7 @@ returns-in_err-workers-clause-plan g c =
     let p = err_from_is_err_and c.from_residual.result c.from_residual.ensures.1 in
     λ world told truth. rw (p.1, p.2)
     (no_workers_at over_all_rows world c.args.path.now c.args.request.now c.args.workers _
-        (g.W.Sink.may_fail c.args.output.now) _ _ _
+    (g.W.Sink.may_fail c.args.output.now) _ _ _
     c.in_err-workers.ensures.refused)
 
 pub returns-in_err-workers-clause-text : goal.returns-in_err-workers-clause-text
@@ -72,7 +72,7 @@ returns-in_err-planned-clause-plan g c =
     let given = c.in_ok-workers.ensures.given in
     λ world told truth.
     let same = same_answer_at c.plans_of_true_summaries.ensures world c.args.path.now c.args.request.now c.args.workers
-        truth
+    truth
     in
     rw (p.1, p.2) (answers_as _ _ _ _ w _ _ _ (same) (λ path m. m)
     (refused_plan _ _ w _ _ _ (rw given.0 at (c.in_err-planned.ensures.refused world told))
@@ -84,7 +84,7 @@ returns-clause-plan g c =
     let wrote = c.write_plan_by_workers.ensures in
     λ world told truth.
     let same = same_answer_at c.plans_of_true_summaries.ensures world c.args.path.now c.args.request.now c.args.workers
-        truth
+    truth
     in
     written_plan c.in_ok-planned.planned.plan c.write_plan_by_workers.result _ _ (rw c.lines.ensures at wrote.all)
     (rw c.lines.ensures at wrote.front) _ _ (g.W.Sink.may_fail c.args.output.now)
@@ -119,4 +119,4 @@ returns-clause-given g c =
     wrote_that (IsPlanOfGivenAt (g.F.Files.gives c.args.files.now) c.args.path.now c.args.request.now)
     c.in_ok-planned.planned.plan c.write_plan_by_workers.result _ _
     (record { metadata = read.0; read = read.1; planned = read.2 })
-        (rw c.lines.ensures at c.write_plan_by_workers.ensures.all)
+    (rw c.lines.ensures at c.write_plan_by_workers.ensures.all)

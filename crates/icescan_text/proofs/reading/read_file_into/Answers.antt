@@ -7,7 +7,7 @@ returns-in-Ok-clause-found g c = λ world told. found_in world _ _ (rw told at c
 pub returns-in_ok-text_of-in-Err-Absent-clause-refused : goal.returns-in_ok-text_of-in-Err-Absent-clause-refused
 returns-in_ok-text_of-in-Err-Absent-clause-refused g c =
     λ world told. rw c.in_ok-text_of-in-Err-Absent.ensures
-        (absent_in world _ (rw told at (c.read_into.ensures.absent cc)))
+    (absent_in world _ (rw told at (c.read_into.ensures.absent cc)))
 
 pub returns-in_ok-text_of-in-Err-Device-clause-refused : goal.returns-in_ok-text_of-in-Err-Device-clause-refused
 returns-in_ok-text_of-in-Err-Device-clause-refused g c = λ world told. rw c.in_ok-text_of-in-Err-Device.ensures

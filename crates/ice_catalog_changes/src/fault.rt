@@ -1,7 +1,7 @@
 //! Why a change can't be committed.
 
 ghost use Rattle.std.specs.Prelude.{◌≡◌};
-ghost use Rattle.ice_catalog_versions.specs.declared.fault.PrepareFault.TheVariants.{Memory};
+ghost use Rattle.ice_catalog_changes.specs.declared.fault.PrepareFault.TheVariants.{Memory};
 
 use contract_words::Text;
 use std::alloc::{AllocError, AllocFailed};
