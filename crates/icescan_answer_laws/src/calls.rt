@@ -2,8 +2,8 @@
 //! implementation cheaply.
 
 ghost use Rattle.std.specs.Prelude.{◌≡◌, ℕ, List, Some, IfOk, OnOk};
-ghost use Rattle.icescan_requests.specs.Commits.{Commitment, Made};
-ghost use Rattle.icescan_requests.specs.GivenCommits.{IsCommitmentOfGiven};
+ghost use Rattle.icescan_commits.specs.Commits.{Commitment, Made};
+ghost use Rattle.icescan_commits.specs.GivenCommits.{IsCommitmentOfGiven};
 ghost use Rattle.icescan_requests.specs.GivenPlans.{IsPlanOfGivenAt, WrotePlanThat};
 ghost use Rattle.icescan_requests.specs.Plans.{WritesAPlan};
 ghost use Rattle.icescan_requests.specs.Shows.{WroteText, show_of};
@@ -13,8 +13,8 @@ ghost use Rattle.icescan_explain.specs.Fates.{file_verdict};
 use ice_desk::{Files, Gate};
 use ice_manifest_reading::Live;
 use icescan_explain::{FilterTests, SpecTests, Verdict};
+use icescan_files::{Below, Folders, Store};
 use icescan_print::Sink;
-use icescan_requests::{Below, Folders, Store};
 use icescan_text::{CommitRequest, Request, RunFault};
 use std::alloc::{AllocError, Global};
 use std::thread::Threads;
@@ -78,7 +78,7 @@ pub fn commit_to<F: Files, S: Store, W: Sink>(
     ensures { OnOk result ((c : Commitment) × IsCommitmentOfGiven (F.gives files.now) request.now c
         × Made c request.now (S.files store.old) (S.files store.new) (W.taken output.old) (W.taken output.new)) }
 {
-    icescan_requests::commit_to(alloc, files, request, store, output)
+    icescan_commits::commit_to(alloc, files, request, store, output)
 }
 
 /// Writes the JSON of a plan.

@@ -9,7 +9,6 @@ use ice_catalog_changes::PrepareFault;
 use ice_catalog_versions::Prepared;
 use ice_desk::Files;
 use icescan_hint_texts::{Hint, quoted};
-use icescan_requests::prepare_commit;
 use icescan_text::{ChangeFault, CommitRequest};
 use std::alloc::{AllocError, Global};
 
@@ -74,18 +73,20 @@ fn add_prepared<F: Files>(
     add_made(hint, alloc, case, out, prepared)
 }
 
-/// Adds which files of a commit that could not be put or told stand at their places, and whether it was made.
+/// Adds what could not be written. Of a commit: which files stand at their places, and whether it was made, where it
+/// could be prepared once more.
 pub fn add_unwritten<F: Files>(
     hint: &mut Hint,
     alloc: Global,
     case: &Case<'_, F>,
+    again: Option<&Prepared>,
 ) -> Result<(), AllocError> {
-    let (Some(request), Some(files)) = (case.commit(), case.files) else {
+    let (Some(request), Some(_)) = (case.commit(), case.files) else {
         return hint.here(alloc, format!(in alloc; "standard output")?);
     };
-    match prepare_commit(alloc, files, request) {
-        Ok(prepared) => add_prepared(hint, alloc, case, &request.out, &prepared),
-        Err(_) => Ok(()),
+    match again {
+        Some(prepared) => add_prepared(hint, alloc, case, &request.out, prepared),
+        None => Ok(()),
     }
 }
 
