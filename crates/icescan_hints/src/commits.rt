@@ -62,18 +62,6 @@ fn add_made<F: Files>(
     }
 }
 
-/// Adds which files of a commit stand at their places, and whether it was made.
-fn add_prepared<F: Files>(
-    hint: &mut Hint,
-    alloc: Global,
-    case: &Case<'_, F>,
-    out: &Text,
-    prepared: &Prepared,
-) -> Result<(), AllocError> {
-    add_files(hint, alloc, case, prepared.files())?;
-    add_made(hint, alloc, case, out, prepared)
-}
-
 /// Adds which files of a commit that could not be put or told stand at their places, and whether it was made.
 pub fn add_unwritten<F: Files>(
     hint: &mut Hint,
@@ -83,10 +71,11 @@ pub fn add_unwritten<F: Files>(
     let (Some(request), Some(files)) = (case.commit(), case.files) else {
         return hint.here(alloc, format!(in alloc; "standard output")?);
     };
-    match prepare_commit(alloc, files, request) {
-        Ok(prepared) => add_prepared(hint, alloc, case, &request.out, &prepared),
-        Err(_) => Ok(()),
-    }
+    let Ok(prepared) = prepare_commit(alloc, files, request) else {
+        return Ok(());
+    };
+    add_files(hint, alloc, case, prepared.files())?;
+    add_made(hint, alloc, case, &request.out, &prepared)
 }
 
 /// Adds the change file, and which of its files is at fault.
