@@ -8,7 +8,8 @@ use Rattle.std.proofs.lemmas.List.{append_cancel_left, append_cancel_right}
 use Rattle.uuid.specs.Text.{by_index, hex_digit, lower, nibble}
 use Rattle.ice_meta.specs.declared.table.Table.{Table}
 use Rattle.ice_catalog_changes.specs.declared.change.Ids.{Ids}
-use Rattle.ice_catalog_versions.specs.Adding.{list_name, list_path, manifest_name, manifest_path, uuid_text}
+use Rattle.ice_catalog_changes.specs.NewFiles.{uuid_text}
+use Rattle.ice_catalog_versions.specs.Adding.{list_name, list_path, manifest_name, manifest_path}
 
 same_names : (location a b : List ℕ) → location ++ codes "/metadata/" ++ a ≡ location ++ codes "/metadata/" ++ b → a ≡ b
 same_names location a b e = append_cancel_left (location ++ codes "/metadata/") a b e

@@ -37,18 +37,19 @@ use Rattle.ice_manifest.specs.Writing.{list_bytes, new_entries}
 use Rattle.ice_catalog_changes.specs.declared.change.Commit.{Commit}
 use Rattle.ice_catalog_changes.specs.declared.change.Ids.{Ids}
 use Rattle.ice_catalog_changes.specs.declared.fault.PrepareFault.TheVariants as fault
+use Rattle.ice_catalog_changes.specs.NewFiles.{Added, uuid_text}
 use Rattle.ice_catalog_versions.specs.declared.world.World.{World}
 use Rattle.ice_catalog_versions.specs.Adding.{CanWrite, NewManifest, added, bytes_of, file_of, group_spec, heading_of}
 use Rattle.ice_catalog_versions.specs.Adding.{list_file, list_path, manifest_name, manifest_of, manifest_path}
 use Rattle.ice_catalog_versions.specs.Adding.{manifests_from}
-use Rattle.ice_catalog_versions.specs.Adding.{next, next_sequence, row_of, snapshot_of, spec_or_none, uuid_text}
+use Rattle.ice_catalog_versions.specs.Adding.{next, next_sequence, row_of, snapshot_of, spec_or_none}
 use Rattle.ice_catalog_versions.specs.Bases.{base_rows, current_list, current_rows, manifest_at, read_at, rows_at}
 use Rattle.ice_catalog_versions.specs.Bases.{spec_in}
 use Rattle.ice_catalog_versions.specs.Bases.{table_specs}
 use Rattle.ice_catalog_versions.specs.Groups.{Group, groups}
 use Rattle.ice_catalog_versions.specs.Histories.{History, state_of, step}
 use Rattle.ice_catalog_versions.specs.Refusals.{bad_path, refusal}
-use Rattle.ice_catalog_versions.specs.States.{Added, State, with_files}
+use Rattle.ice_catalog_versions.specs.States.{State, with_files}
 use Rattle.ice_catalog_versions.specs.Staying.{IsNewTo}
 use Rattle.ice_catalog_versions.specs.Live.{AddsToBase, AreReadBack, HasBaseAndChange, HaveNumber, IsReadBack}
 use Rattle.ice_catalog_versions.specs.Live.{added_entries}

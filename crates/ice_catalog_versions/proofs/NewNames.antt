@@ -10,10 +10,11 @@ use Rattle.ice_meta.specs.Targets.{Described}
 use Rattle.ice_manifest_reading.proofs.Sets.{cases_of, here, later, nowhere}
 use Rattle.ice_catalog_changes.specs.declared.change.Commit.{Commit}
 use Rattle.ice_catalog_changes.specs.declared.change.Ids.{Ids}
-use Rattle.ice_catalog_versions.specs.Adding.{added, file_of, list_path, manifest_path, manifests_from, uuid_text}
+use Rattle.ice_catalog_changes.specs.NewFiles.{Added, uuid_text}
+use Rattle.ice_catalog_versions.specs.Adding.{added, file_of, list_path, manifest_path, manifests_from}
 use Rattle.ice_catalog_versions.specs.Groups.{Group, groups}
 use Rattle.ice_catalog_versions.specs.NewNames.{CarriesItsUuid, IsInNoPath, IsPartOf, MakesNewNames}
-use Rattle.ice_catalog_versions.specs.States.{Added, State}
+use Rattle.ice_catalog_versions.specs.States.{State}
 
 -- ---- names
 

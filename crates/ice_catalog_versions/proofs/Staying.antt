@@ -22,13 +22,14 @@ use Rattle.ice_manifest_reading.specs.declared.entry.Entry.{Entry}
 use Rattle.ice_manifest_reading.specs.declared.row.Row.{Row}
 use Rattle.ice_catalog_changes.specs.declared.change.Commit.{Commit}
 use Rattle.ice_catalog_changes.specs.declared.fault.PrepareFault.{PrepareFault}
+use Rattle.ice_catalog_changes.specs.NewFiles.{Added}
 use Rattle.ice_catalog_versions.specs.declared.world.World.{World}
 use Rattle.ice_catalog_versions.specs.Adding.{added, next, snapshot_of}
 use Rattle.ice_catalog_versions.specs.Applying.{apply, unless}
 use Rattle.ice_catalog_versions.specs.Bases.{manifest_at, read_at, spec_in, specs_under, table_specs}
 use Rattle.ice_catalog_versions.specs.Histories.{replay, step}
 use Rattle.ice_catalog_versions.specs.Refusals.{refusal}
-use Rattle.ice_catalog_versions.specs.States.{Added, State, with_files}
+use Rattle.ice_catalog_versions.specs.States.{State, with_files}
 use Rattle.ice_catalog_versions.specs.Staying.{AreNewTo, IsNewTo, KeepsEntries, KeepsFiles, KeepsRows}
 
 -- ---- one commit

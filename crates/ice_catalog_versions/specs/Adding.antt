@@ -3,7 +3,6 @@
 use Rattle.std.specs.Prelude.{◌≡◌, ◌+◌, true, is_some, ℕ, suc, ℤ, pos, List, [], ◌∷◌, ◌++◌, length, map, codes, Option}
 use Rattle.std.specs.Prelude.{None, Some}
 use Rattle.std.specs.Fmt.{decimal, signed_decimal}
-use Rattle.uuid.specs.Text.{hyphenated_text, lower}
 use Rattle.contract_words.specs.Sorting.{sorted}
 use Rattle.ice_value.specs.declared.column_type.ColumnType.{ColumnType}
 use Rattle.ice_meta.specs.declared.commit.NewSnapshot.{NewSnapshot}
@@ -24,9 +23,10 @@ use Rattle.ice_manifest.specs.NewRows.{new_row}
 use Rattle.ice_manifest.specs.Writing.{list_bytes, manifest_bytes}
 use Rattle.ice_catalog_changes.specs.declared.change.Commit.{Commit}
 use Rattle.ice_catalog_changes.specs.declared.change.Ids.{Ids}
+use Rattle.ice_catalog_changes.specs.NewFiles.{Added}
 use Rattle.ice_catalog_versions.specs.Bases.{table_specs, spec_in, base_rows}
 use Rattle.ice_catalog_versions.specs.Groups.{Group, groups}
-use Rattle.ice_catalog_versions.specs.States.{State, Added, with_files}
+use Rattle.ice_catalog_versions.specs.States.{State, with_files}
 use Rattle.ice_catalog_versions.specs.Tuples.{allowed_of, written_type}
 
 -- ---- paths
@@ -34,9 +34,6 @@ use Rattle.ice_catalog_versions.specs.Tuples.{allowed_of, written_type}
 -- LOCATION/metadata/NAME
 abbrev pub metadata_path : Table → List ℕ → List ℕ
 metadata_path t name = t.location ++ codes "/metadata/" ++ name
-
-abbrev pub uuid_text : Ids → List ℕ
-uuid_text ids = hyphenated_text lower ids.uuid
 
 -- UUID-mN.avro
 abbrev pub manifest_name : Ids → ℕ → List ℕ

@@ -10,12 +10,13 @@ use Rattle.ice_meta.specs.Targets.{Described, metadata_of, resolved}
 use Rattle.ice_catalog_changes.specs.declared.change.Commit.{Commit}
 use Rattle.ice_catalog_changes.specs.declared.fault.PrepareFault.{PrepareFault}
 use Rattle.ice_catalog_changes.specs.declared.fault.PrepareFault.TheVariants.{Memory}
+use Rattle.ice_catalog_changes.specs.NewFiles.{Added}
 use Rattle.ice_catalog_versions.specs.declared.opening.Opening.{Opening}
 use Rattle.ice_catalog_versions.specs.declared.receipt.Receipt.{Receipt}
 use Rattle.ice_catalog_versions.specs.declared.world.World.{World}
 use Rattle.ice_catalog_versions.specs.Adding.{added}
 use Rattle.ice_catalog_versions.specs.Applying.{apply}
-use Rattle.ice_catalog_versions.specs.States.{State, Added}
+use Rattle.ice_catalog_versions.specs.States.{State}
 
 -- what was handed to `open`, and the commits since, the oldest first
 pub record History : Type 0 where

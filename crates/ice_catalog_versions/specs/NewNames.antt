@@ -4,8 +4,9 @@ use Rattle.std.specs.Prelude.{◌≡◌, ◌++◌, ℕ, List, Some}
 use Rattle.std.specs.FinMap.{get}
 use Rattle.std.specs.List.{Contains}
 use Rattle.ice_catalog_changes.specs.declared.change.Commit.{Commit}
+use Rattle.ice_catalog_changes.specs.NewFiles.{uuid_text}
 use Rattle.ice_catalog_versions.specs.declared.world.World.{World}
-use Rattle.ice_catalog_versions.specs.Adding.{added, uuid_text}
+use Rattle.ice_catalog_versions.specs.Adding.{added}
 use Rattle.ice_catalog_versions.specs.States.{State}
 use Rattle.ice_catalog_versions.specs.Staying.{IsNewTo}
 

@@ -1,8 +1,9 @@
 -- A table at one moment: its metadata, and the files that are there.
-use Rattle.std.specs.Prelude.{ℕ, List, [], ◌∷◌}
+use Rattle.std.specs.Prelude.{[], ◌∷◌}
 use Rattle.std.specs.FinMap.{insert}
 use Rattle.ice_meta.specs.declared.metadata.Metadata.{Metadata}
 use Rattle.ice_meta.specs.Targets.{Described, described}
+use Rattle.ice_catalog_changes.specs.NewFiles.{Added}
 use Rattle.ice_catalog_versions.specs.declared.world.World.{World}
 
 pub record State : Type 0 where
@@ -16,10 +17,6 @@ seen m = described m.json m.table
 -- the state that metadata and files are, however they are kept
 abbrev pub state_now : Metadata → World → State
 state_now metadata world = record { metadata = seen metadata; world = world }
-
--- paths, each with the bytes of its file, in the order in which they are written
-abbrev pub Added : Type 0
-Added = List (List ℕ × List ℕ)
 
 -- the world with these files; a new path's bytes replace what was there
 abbrev pub with_files : World → Added → World

@@ -21,11 +21,11 @@ use Rattle.ice_state.specs.Lines.{OwnedLine}
 use Rattle.ice_state.specs.Outcomes.{outcome}
 use Rattle.ice_state.specs.Readings.{Reading}
 use Rattle.ice_state.specs.Scans.{Scanned}
-use Rattle.icescan_requests.proofs.Commits.{asked_is, change_is}
+use Rattle.icescan_commits.proofs.Commits.{asked_is, change_is}
 use Rattle.icescan_requests.proofs.Plans.{plan_there}
-use Rattle.icescan_requests.specs.Commits.{Commitment, base_files, base_of, commitment, commitment_from, commitment_on}
-use Rattle.icescan_requests.specs.Commits.{keep_all, keep_found, manifests_in}
-use Rattle.icescan_requests.specs.GivenCommits.{IsBaseGiven, IsCommitmentOfGiven, WereKept}
+use Rattle.icescan_commits.specs.Commits.{Commitment, base_files, base_of, commitment, commitment_from, commitment_on}
+use Rattle.icescan_commits.specs.Commits.{keep_all, keep_found, manifests_in}
+use Rattle.icescan_commits.specs.GivenCommits.{IsBaseGiven, IsCommitmentOfGiven, WereKept}
 use Rattle.icescan_requests.specs.GivenPlans.{IsPlanOfGiven, IsPlanOfGivenAt, IsRowsPlanOfGiven}
 use Rattle.icescan_requests.specs.Plans.{answer_at, answer_by, over_wanted_rows, rows_plan, wanted_answer}
 use Rattle.icescan_text.proofs.Steps.{each_present, found_in}

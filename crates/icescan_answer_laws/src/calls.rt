@@ -2,16 +2,16 @@
 //! implementation cheaply.
 
 ghost use Rattle.std.specs.Prelude.{◌≡◌, ℕ, List, Some, IfOk, OnOk};
-ghost use Rattle.icescan_requests.specs.Commits.{Commitment, Made};
-ghost use Rattle.icescan_requests.specs.GivenCommits.{IsCommitmentOfGiven};
+ghost use Rattle.icescan_commits.specs.Commits.{Commitment, Made};
+ghost use Rattle.icescan_commits.specs.GivenCommits.{IsCommitmentOfGiven};
 ghost use Rattle.icescan_requests.specs.Shows.{WroteText, show_of};
 ghost use Rattle.icescan_explain.specs.Fates.{file_verdict};
 
 use ice_desk::Files;
 use ice_manifest_reading::Live;
 use icescan_explain::{Fate, FilterTests, SpecTests};
+use icescan_files::{Below, Folders, Store};
 use icescan_print::Sink;
-use icescan_requests::{Below, Folders, Store};
 use icescan_text::{CommitRequest, RunFault};
 use std::alloc::{AllocError, Global};
 
@@ -42,7 +42,7 @@ pub fn commit_to<F: Files, S: Store, W: Sink>(
     ensures { OnOk result ((c : Commitment) × IsCommitmentOfGiven (F.gives files.now) request.now c
         × Made c request.now (S.files store.old) (S.files store.new) (W.taken output.old) (W.taken output.new)) }
 {
-    icescan_requests::commit_to(alloc, files, request, store, output)
+    icescan_commits::commit_to(alloc, files, request, store, output)
 }
 
 /// Whether the file of a live entry is kept, or why it is not.

@@ -3,9 +3,9 @@ use Rattle.std.proofs.Common.{◌≡◌, ℕ, List, Bool, true, false, Option, S
 use Rattle.std.proofs.Common.{inl}
 use Rattle.std.specs.Prelude.{Result, Ok, Err, IfSome, if◌then◌else◌, option_map}
 use Rattle.serde_json.specs.Written.{compact_text, has_float}
-use Rattle.icescan_requests.specs.Bundles.{File, bundle_of, bytes_at}
-use Rattle.icescan_requests.specs.Commits.{Commitment, IsTextOf, bundle_lines, commitment, committed_text, in_order}
-use Rattle.icescan_requests.specs.Commits.{told_text}
+use Rattle.icescan_files.specs.Bundles.{File, bundle_of, bytes_at}
+use Rattle.icescan_commits.specs.Commits.{Commitment, IsTextOf, bundle_lines, commitment, committed_text, in_order}
+use Rattle.icescan_commits.specs.Commits.{told_text}
 use Rattle.icescan_text.specs.Reads.{MayEnd}
 use Rattle.icescan_commands.specs.Answers.{Answer, WroteAnswer, as_answer, plain}
 use Rattle.icescan_commands.specs.Runs.{MayRefuse, Ran}

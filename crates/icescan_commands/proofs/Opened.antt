@@ -4,7 +4,7 @@ use Rattle.std.specs.Prelude.{Result, Ok, Err, IfErr, IfOk, IfSome, option_map}
 use Rattle.contract_words.specs.Outcome.{◌>>=◌}
 use Rattle.ice_desk.specs.Worlds.{EndsAt}
 use Rattle.ice_state.specs.Contents.{World}
-use Rattle.icescan_requests.specs.Bundles.{File, bundle_of, bytes_at}
+use Rattle.icescan_files.specs.Bundles.{File, bundle_of, bytes_at}
 use Rattle.icescan_text.proofs.Steps.{never_fails}
 use Rattle.icescan_text.specs.Reads.{MayEnd}
 use Rattle.icescan_text.specs.declared.fault.RunFault.{RunFault}

@@ -5,8 +5,8 @@ use Rattle.std.specs.Prelude.{Result, Ok, Err, IfErr, IfSome, OnOk, if◌then◌
 use Rattle.contract_words.specs.Outcome.{◌>>=◌}
 use Rattle.icescan_text.specs.declared.fault.RunFault.{RunFault}
 use Rattle.icescan_text.specs.declared.fault.RunFault.TheVariants as run
-use Rattle.icescan_requests.specs.Bundles.{File, IsInput, NoBundle, added, bundle_of, bytes_at, file_of, first_path}
-use Rattle.icescan_requests.specs.Bundles.{with_lines}
+use Rattle.icescan_files.specs.Bundles.{File, IsInput, NoBundle, added, bundle_of, bytes_at, file_of, first_path}
+use Rattle.icescan_files.specs.Bundles.{with_lines}
 use Rattle.icescan_commands.specs.Answers.{Answer}
 use Rattle.icescan_commands.specs.Runs.{MayRefuse, Ran, ended, list_in, list_plan_in, list_planned, or_first_line}
 use Rattle.icescan_commands.specs.Sources.{Below, Failing, failing_bundle, failing_unread}

@@ -2,8 +2,8 @@
 use Rattle.std.proofs.Common.{◌≡◌, ℕ, List, Option, Some, None, refl, inl, inr}
 use Rattle.std.specs.Prelude.{Result, Ok, Err, IfErr, IfSome, OnErr, OnOk}
 use Rattle.ice_state.specs.Contents.{World}
-use Rattle.icescan_requests.specs.Bundles.{File}
-use Rattle.icescan_requests.specs.Commits.{Commitment, IsLeft, Made, MayEndCommit, MayNotPut, MayNotTell, commitment}
+use Rattle.icescan_files.specs.Bundles.{File}
+use Rattle.icescan_commits.specs.Commits.{Commitment, IsLeft, Made, MayEndCommit, MayNotPut, MayNotTell, commitment}
 use Rattle.icescan_commands.specs.Storing.{Commits}
 use Rattle.icescan_text.specs.declared.request.CommitRequest.{CommitRequest}
 use Rattle.icescan_text.specs.declared.fault.RunFault.{RunFault}

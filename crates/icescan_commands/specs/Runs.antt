@@ -18,9 +18,9 @@ use Rattle.icescan_explain.specs.Texts.{explanation_text}
 use Rattle.icescan_explain.specs.declared.manifests.Explanation.{Explanation}
 use Rattle.ice_meta.specs.declared.metadata.Target.{Target}
 use Rattle.ice_state.specs.Lines.{OwnedLine}
-use Rattle.icescan_requests.specs.Bundles.{File, IsInput, bundle_of, bytes_at, first_path}
+use Rattle.icescan_files.specs.Bundles.{File, IsInput, bundle_of, bytes_at, first_path}
 use Rattle.icescan_drill.specs.Drills.{WroteDrill}
-use Rattle.icescan_requests.specs.Commits.{committed_text}
+use Rattle.icescan_commits.specs.Commits.{committed_text}
 use Rattle.icescan_requests.specs.ListPlans.{list_answer, list_reads}
 use Rattle.icescan_requests.specs.Plans.{answer_at, over_wanted_rows, reads_at}
 use Rattle.icescan_text.specs.Faults.{status_of}

@@ -4,7 +4,7 @@ use Rattle.std.specs.Prelude.{◌≡◌, ℕ, List, Option, Some, option_map, If
 use Rattle.contract_words.specs.Outcome.{◌>>=◌}
 use Rattle.ice_desk.specs.Worlds.{EndsAt}
 use Rattle.ice_state.specs.Contents.{World}
-use Rattle.icescan_requests.specs.Bundles.{File, NoBundle, bundle_of, bytes_at}
+use Rattle.icescan_files.specs.Bundles.{File, NoBundle, bundle_of, bytes_at}
 use Rattle.icescan_text.specs.declared.fault.RunFault.{RunFault}
 use Rattle.icescan_words.specs.declared.command.Place.{Place}
 use Rattle.icescan_words.specs.declared.command.Source.{Source}

@@ -1,9 +1,9 @@
 -- What a run does with the files that stores below folders have.
 use Rattle.std.specs.Prelude.{◌≡◌, ℕ, List, Option, IfErr, IfSome, OnErr, OnOk, Result, Ok, Err}
 use Rattle.ice_state.specs.Contents.{World}
-use Rattle.icescan_requests.specs.Bundles.{File}
-use Rattle.icescan_requests.specs.Commits.{Commitment, IsLeft, Made, MayEndCommit, commitment}
-use Rattle.icescan_requests.specs.GivenCommits.{CommitsOfGiven}
+use Rattle.icescan_files.specs.Bundles.{File}
+use Rattle.icescan_commits.specs.Commits.{Commitment, IsLeft, Made, MayEndCommit, commitment}
+use Rattle.icescan_commits.specs.GivenCommits.{CommitsOfGiven}
 use Rattle.icescan_text.specs.declared.fault.RunFault.{RunFault}
 use Rattle.icescan_text.specs.declared.request.CommitRequest.{CommitRequest}
 use Rattle.icescan_words.specs.declared.command.Source.TheVariants as source

@@ -3,7 +3,7 @@ use Rattle.std.specs.Prelude.{◌≡◌, ℕ, List, Option, Some}
 use Rattle.ice_state.specs.Contents.{World}
 use Rattle.icescan_commands.specs.declared.table_files.TableFiles.{TableFiles}
 use Rattle.icescan_commands.specs.declared.table_files.TableFiles.TheVariants as table
-use Rattle.icescan_requests.specs.Bundles.{bytes_at}
+use Rattle.icescan_files.specs.Bundles.{bytes_at}
 
 -- a bundle has its bytes at each path; a folder's files have what they report
 abbrev pub world_of : {F : Type 0} → (F → Option World) → TableFiles F → Option World

@@ -8,8 +8,8 @@ ghost use Rattle.icescan_commands.specs.Sources.{failing_bundle, failing_unread}
 ghost use Rattle.icescan_commands.specs.Storing.{IsStored, IsStoredOfGiven};
 ghost use Rattle.icescan_drill.specs.Drills.{WroteDrill};
 ghost use Rattle.icescan_locate.specs.Located.{WroteLocated};
-ghost use Rattle.icescan_requests.specs.Bundles.{IsInput, bundle_of};
-ghost use Rattle.icescan_requests.specs.Commits.{committed_text};
+ghost use Rattle.icescan_files.specs.Bundles.{IsInput, bundle_of};
+ghost use Rattle.icescan_commits.specs.Commits.{committed_text};
 ghost use Rattle.icescan_text.specs.declared.fault.RunFault.{RunFault};
 ghost use Rattle.icescan_words.specs.declared.command.Command.{Command};
 
@@ -21,14 +21,14 @@ use contract_words::Text;
 use ice_meta::Target;
 use icescan_audit::audit_file;
 use icescan_columns::columns_file;
+use icescan_commits::{commit_to, prepare_commit};
 use icescan_drill::{Watch, run_drill};
 use icescan_explain::explain_file;
+use icescan_files::{Bundle, Folders, Stores, read_bundle};
 use icescan_locate::locate_folder;
 use icescan_print::{Sink, write_all};
 use icescan_progress::Progress;
-use icescan_requests::{
-    Bundle, Folders, Stores, commit_to, prepare_commit, read_bundle, show_file,
-};
+use icescan_requests::show_file;
 use icescan_text::{CommitRequest, Drill, Request, RunFault, Separator};
 use icescan_words::{Command, Format, Lists, Source};
 use std::alloc::Global;

@@ -1,7 +1,7 @@
 //! The files of a commit as the lines of a bundle.
 
 ghost use Rattle.std.specs.Prelude.{◌≡◌, ◌++◌, OnOk, IfOk};
-ghost use Rattle.icescan_requests.specs.Commits.{bundle_lines, file_line, in_order};
+ghost use Rattle.icescan_commits.specs.Commits.{bundle_lines, file_line, in_order};
 
 use contract_words::{Items, Text};
 use icescan_print::put_escaped;

@@ -4,17 +4,19 @@
 ghost use Rattle.std.specs.Prelude.{◌≡◌, ◌∷◌, [], true, false, map, string_bytes, codes, IfOk};
 ghost use Rattle.icescan_commands.specs.Runs.{RanWithHint, RanWithoutHint, ToldWithHint, meant};
 ghost use Rattle.icescan_progress.specs.Asked.{hints, shows_progress};
+ghost use Rattle.icescan_progress.specs.Hints.{AppendsPlain};
 ghost use Rattle.icescan_text.specs.Faults.{status_of};
 
 use crate::system::System;
 use crate::table_files::files_below;
 use crate::words::{run_asked, run_words, status_of_count};
 use ice_desk::Files;
+use icescan_commits::prepare_commit;
 use icescan_drill::Watch;
+use icescan_files::{Below, Folders, Stores};
 use icescan_hints::{Case, Looks, place_of, put_hint, put_notes, put_reading, put_words_hint};
 use icescan_print::Sink;
 use icescan_progress::{Progress, Silent, Terminals, shows_hints, shows_progress};
-use icescan_requests::{Below, Folders, Stores};
 use icescan_text::{RunFault, report};
 use icescan_words::{Command, parse_words};
 use std::alloc::{AllocError, Global};
@@ -26,6 +28,25 @@ use std::thread::Threads;
 fn folder_of<'a, S: Folders>(folders: &'a S, asked: &'a Command) -> Option<Below<'a, S>> {
     let place = place_of(asked)?;
     Some(files_below(folders, place))
+}
+
+/// Writes the hint of a fault. A commit that could not be written is prepared once more for it.
+fn hint<L: Looks, F: Files, E: Sink>(
+    looks: &L,
+    alloc: Global,
+    case: &Case<'_, F>,
+    fault: &RunFault,
+    errors: &mut E,
+)
+    ensures { AppendsPlain (E.taken errors.old) (E.taken errors.new) }
+{
+    let (RunFault::Write, Some(request), Some(files)) = (fault, case.commit(), case.files) else {
+        return put_hint(alloc, looks, case, fault, None, errors);
+    };
+    match prepare_commit(alloc, files, request) {
+        Ok(prepared) => put_hint(alloc, looks, case, fault, Some(&prepared), errors),
+        Err(_) => put_hint(alloc, looks, case, fault, None, errors),
+    }
 }
 
 /// Writes the line of a fault and its hint, and gives the status that the program ends with.
@@ -40,7 +61,7 @@ fn explain<L: Looks, F: Files, E: Sink>(
     ensures told { ToldWithHint (E.may_fail errors.old) (E.taken errors.old) (E.taken errors.new) fault.now }
 {
     let status = report(fault, errors);
-    put_hint(alloc, looks, case, fault, errors);
+    hint(looks, alloc, case, fault, errors);
     status
 }
 

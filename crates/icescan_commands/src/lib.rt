@@ -12,15 +12,18 @@ mod words;
 
 pub use explaining::run_program;
 pub use icescan_columns::{columns_file, run_columns};
+pub use icescan_commits::{commit_to, commits_are_put, prepare_commit, put_commit};
 pub use icescan_drill::{Drill, Watch, drill_table, run_drill};
+pub use icescan_files::{
+    Bundle, CommitFolder, Disk, DiskFolder, Folder, Folders, HostFolders, HostStores, Store,
+    StoreFault, Stores, file_name, put_files, read_all,
+};
 pub use icescan_hints::{Kind, Looks};
 pub use icescan_json::{plan_file_json, run_list_plan_json};
 pub use icescan_progress::{Cleared, Progress, ProgressLine, Screen, Silent, Terminals};
 pub use icescan_requests::{
-    Bundle, CommitFolder, Disk, DiskFolder, Folder, Folders, HostFolders, HostStores, Selection,
-    Store, StoreFault, Stores, commit_to, commits_are_put, file_name, plan_file,
-    plans_of_true_summaries, prepare_commit, put_commit, put_files, read_all, run_list_plan,
-    run_plan, run_plan_with, run_show, select, show_file,
+    Selection, plan_file, plans_of_true_summaries, run_list_plan, run_plan, run_plan_with,
+    run_show, select, show_file,
 };
 pub use icescan_text::{CommitRequest, Request};
 pub use icescan_words::{Command, Format, Lists, Place, Source, parse_words};

@@ -3,12 +3,12 @@
 ghost use Rattle.std.specs.Prelude.{◌≡◌, ℕ, List, IfErr, IfOk, true};
 ghost use Rattle.icescan_commands.specs.Reading.{AreGivenBelow};
 ghost use Rattle.icescan_commands.specs.Sources.{AreOf, IsNoBundle};
-ghost use Rattle.icescan_requests.specs.Bundles.{IsInput};
+ghost use Rattle.icescan_files.specs.Bundles.{IsInput};
 
 use crate::system::System;
 use ice_desk::{Files, ReadFault};
+use icescan_files::{Below, Bundle, Folders, read_bundle};
 use icescan_progress::{Progress, Watched};
-use icescan_requests::{Below, Bundle, Folders, read_bundle};
 use icescan_text::RunFault;
 use icescan_words::{Place, Source};
 use std::alloc::Global;

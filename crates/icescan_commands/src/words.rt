@@ -1,7 +1,7 @@
 //! The program over its words, standard input, the folders of a system, output and errors.
 
 ghost use Rattle.std.specs.Prelude.{◌≡◌, ◌⊎◌, ℕ, List, Option, Result, Ok, map, string_bytes, IfOk, OnOk, true};
-ghost use Rattle.icescan_requests.specs.Bundles.{IsInput};
+ghost use Rattle.icescan_files.specs.Bundles.{IsInput};
 ghost use Rattle.icescan_commands.specs.Reading.{WroteOfGiven, WroteOfGivenBy};
 ghost use Rattle.icescan_commands.specs.Runs.{IsCount, IsCountOf, IsOfDrill, Ran, RanWithoutHint, answer_to, ended};
 ghost use Rattle.icescan_commands.specs.Runs.{failing_of, failing_run, run_of, status_of_count};
@@ -15,9 +15,9 @@ use crate::arms::{
 };
 use crate::system::System;
 use icescan_drill::Watch;
+use icescan_files::{Folders, Stores};
 use icescan_print::Sink;
 use icescan_progress::Progress;
-use icescan_requests::{Folders, Stores};
 use icescan_text::{RunFault, report};
 use icescan_words::{Command, parse_words};
 use std::io::Read;

@@ -9,7 +9,6 @@ use ice_catalog_changes::PrepareFault;
 use ice_catalog_versions::Prepared;
 use ice_desk::Files;
 use icescan_hint_texts::{Hint, quoted};
-use icescan_requests::prepare_commit;
 use icescan_text::{ChangeFault, CommitRequest};
 use std::alloc::{AllocError, Global};
 
@@ -62,20 +61,22 @@ fn add_made<F: Files>(
     }
 }
 
-/// Adds which files of a commit that could not be put or told stand at their places, and whether it was made.
+/// Adds what could not be written. Of a commit: which files stand at their places, and whether it was made, where it
+/// could be prepared once more.
 pub fn add_unwritten<F: Files>(
     hint: &mut Hint,
     alloc: Global,
     case: &Case<'_, F>,
+    again: Option<&Prepared>,
 ) -> Result<(), AllocError> {
-    let (Some(request), Some(files)) = (case.commit(), case.files) else {
+    let (Some(request), Some(_)) = (case.commit(), case.files) else {
         return hint.here(alloc, format!(in alloc; "standard output")?);
     };
-    let Ok(prepared) = prepare_commit(alloc, files, request) else {
+    let Some(prepared) = again else {
         return Ok(());
     };
     add_files(hint, alloc, case, prepared.files())?;
-    add_made(hint, alloc, case, &request.out, &prepared)
+    add_made(hint, alloc, case, &request.out, prepared)
 }
 
 /// Adds the change file, and which of its files is at fault.

@@ -1,7 +1,7 @@
 //! What stands at a name of the file system.
 
 use contract_words::Text;
-use icescan_requests::{Folders, HostFolders};
+use icescan_files::{Folders, HostFolders};
 use std::alloc::Global;
 use std::fs;
 use std::io::ErrorKind;

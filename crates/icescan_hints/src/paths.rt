@@ -6,8 +6,8 @@ use crate::newest::add_newest;
 use contract_words::Text;
 use ice_desk::Files;
 use ice_meta::Metadata;
+use icescan_files::file_name;
 use icescan_hint_texts::{Hint, quoted};
-use icescan_requests::file_name;
 use icescan_words::Place;
 use std::alloc::{AllocError, Global};
 

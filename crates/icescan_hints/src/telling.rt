@@ -10,6 +10,7 @@ use crate::manifests::{add_list, add_manifest};
 use crate::paths::{add_file_name, add_named, add_path, add_unread};
 use crate::run::sentences_of;
 use crate::tables::{add_metadata, add_specs};
+use ice_catalog_versions::Prepared;
 use ice_desk::Files;
 use ice_state::{FinishFault, ScanFault};
 use icescan_hint_texts::Hint;
@@ -26,6 +27,7 @@ fn add_here<L: Looks, F: Files>(
     looks: &L,
     case: &Case<'_, F>,
     fault: &RunFault,
+    again: Option<&Prepared>,
 ) -> Result<(), AllocError> {
     match fault {
         RunFault::Absent(path) => add_path(hint, alloc, case, path.as_str()),
@@ -41,7 +43,7 @@ fn add_here<L: Looks, F: Files>(
         RunFault::Change(fault) => add_change(hint, alloc, case, *fault),
         RunFault::Prepare(fault) => add_commit(hint, alloc, case, fault),
         RunFault::Conflict(path) => add_taken(hint, alloc, case, path.as_str()),
-        RunFault::Write => add_unwritten(hint, alloc, case),
+        RunFault::Write => add_unwritten(hint, alloc, case, again),
         RunFault::Bundle(_) => add_bundle(hint, alloc, case),
         RunFault::Workers => add_workers(hint, alloc, case),
         _ => Ok(()),
@@ -121,6 +123,7 @@ fn hint_of<L: Looks, F: Files>(
     looks: &L,
     case: &Case<'_, F>,
     fault: &RunFault,
+    again: Option<&Prepared>,
 ) -> Result<Hint, AllocError> {
     let mut hint = Hint::new(alloc);
     if had_enough(looks, case, fault) {
@@ -130,7 +133,7 @@ fn hint_of<L: Looks, F: Files>(
     for sentence in sentences.as_slice() {
         hint.say(alloc, sentence)?;
     }
-    add_here(&mut hint, alloc, looks, case, fault)?;
+    add_here(&mut hint, alloc, looks, case, fault, again)?;
     if let Some(sentence) = sentences.last() {
         hint.advise(alloc, sentence)?;
     }
@@ -138,17 +141,18 @@ fn hint_of<L: Looks, F: Files>(
 }
 
 /// Writes the hint of a fault, as far as it can be written: lines in which no control character stands. Nothing is
-/// written where memory runs out.
+/// written where memory runs out. `again` is the commit that could not be written, prepared once more.
 pub fn put_hint<L: Looks, F: Files, S: Sink>(
     alloc: Global,
     looks: &L,
     case: &Case<'_, F>,
     fault: &RunFault,
+    again: Option<&Prepared>,
     errors: &mut S,
 )
     ensures { AppendsPlain (S.taken errors.old) (S.taken errors.new) }
 {
-    if let Ok(hint) = hint_of(alloc, looks, case, fault) {
+    if let Ok(hint) = hint_of(alloc, looks, case, fault, again) {
         put_lines(alloc, hint.lines(), errors);
     }
 }

@@ -11,8 +11,8 @@ use contract_words::Text;
 use ice_desk::{Files, ReadFault};
 use ice_meta::Metadata;
 use ice_meta_files::{NewestFault, newest_metadata};
+use icescan_files::{Below, Folders};
 use icescan_print::{Sink, write_all};
-use icescan_requests::{Below, Folders};
 use icescan_text::{RunFault, Separator, read_file};
 use std::alloc::{AllocError, Global};
 

@@ -1,17 +1,5 @@
-pub mod Bases
-pub mod Commits
 pub mod Crews
-pub mod GivenCommits
 pub mod GivenPlans
-pub mod Inputs
-pub mod LastSlash
-pub mod Lines
 pub mod Listed
-pub mod Lookups
-pub mod OnDisk
-pub mod Placed
 pub mod Plans
-pub mod Segments
 pub mod Shows
-pub mod Stored
-pub mod DigitValues

@@ -1,11 +1,5 @@
-pub mod Bundles
-pub mod Commits
-pub mod Disks
-pub mod Folders
-pub mod GivenCommits
 pub mod GivenPlans
 pub mod ListPlans
 pub mod Plans
 pub mod Selections
 pub mod Shows
-pub mod Stores

@@ -4,13 +4,13 @@
 ghost use Rattle.std.specs.Prelude.{◌≡◌, OnOk, map, string_bytes};
 ghost use Rattle.icescan_progress.specs.Asked.{hints, shows_progress};
 ghost use Rattle.icescan_progress.specs.Hints.{AppendsPlain};
-ghost use Rattle.icescan_requests.specs.Disks.{Extends, IsPlacedAt, names_below};
+ghost use Rattle.icescan_files.specs.Disks.{Extends, IsPlacedAt, names_below};
 ghost use Rattle.icescan_words.specs.CommandLines.{ReadAs};
 
 use contract_words::Text;
+use icescan_files::{Disk, DiskFolder, Store, StoreFault};
 use icescan_print::Sink;
 use icescan_progress::Terminals;
-use icescan_requests::{Disk, DiskFolder, Store, StoreFault};
 use icescan_text::RunFault;
 use icescan_words::Command;
 use std::alloc::Global;

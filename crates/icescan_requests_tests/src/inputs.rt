@@ -1,7 +1,7 @@
 //! Readers that fail, that a signal interrupts, and whose end comes late.
 
 use ice_desk::ReadFault;
-use icescan_requests::read_all;
+use icescan_files::read_all;
 use std::alloc::Global;
 use std::io::{self, ErrorKind, Read};
 

@@ -2,7 +2,7 @@
 
 use ice_catalog_changes::Ids;
 use ice_desk::{Files as _, ReadFault};
-use icescan_requests::{CommitFolder, Folder, Store, StoreFault};
+use icescan_files::{CommitFolder, Folder, Store, StoreFault};
 use std::alloc::Allocator;
 use std::cell::Cell;
 use std::fs::{self, Metadata, OpenFile, OpenOptions};

@@ -30,7 +30,7 @@ returns-clause-ran g c =
     (g.S.Folders.may_fail c.args.system.now.folders.now) opened.0 c.args.table.now.source.now _ _ opened.2
     (λ world. columns_told world path c.args.target.now) (λ world. path ∷ []) (g.W.Sink.may_fail c.args.output.now)
     ran.result _ _ (λ v told. gives_shown (columns_at v path c.args.target.now) _ _ ran.result _ _
-        (ran.ensures.written v told)
+    (ran.ensures.written v told)
     (ran.ensures.refused v told) (ran.ensures.front v told)) ran.ensures.nothing in
     (opened.0, opened.1, rw c.as_str.ensures at told)
 

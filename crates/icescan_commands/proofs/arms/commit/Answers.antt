@@ -1,7 +1,7 @@
 use Rattle.std.proofs.Common.{◌≡◌, refl, rules}
 use Rattle.std.specs.Prelude.{option_map}
 use Rattle.std.proofs.lemmas.Result.{err_from_is_err_and}
-use Rattle.icescan_requests.specs.Commits.{committed_text}
+use Rattle.icescan_commits.specs.Commits.{committed_text}
 use Rattle.icescan_commands.specs.Answers.{as_answer}
 use Rattle.icescan_commands.specs.Sources.{failing_bundle}
 use Rattle.icescan_words.specs.declared.command.Source.TheVariants as source

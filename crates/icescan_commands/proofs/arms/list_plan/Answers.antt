@@ -1,7 +1,7 @@
 use Rattle.std.proofs.Common.{◌≡◌, refl, rules}
 use Rattle.std.proofs.lemmas.Result.{err_from_is_err_and}
 use Rattle.ice_state.specs.Contents.{World}
-use Rattle.icescan_requests.specs.Bundles.{bytes_at}
+use Rattle.icescan_files.specs.Bundles.{bytes_at}
 use Rattle.icescan_requests.specs.ListPlans.{list_reads}
 use Rattle.icescan_text.proofs.Steps.{never_fails}
 use Rattle.icescan_commands.specs.Runs.{list_plan_in}

@@ -2,13 +2,13 @@ use Rattle.std.proofs.Common.{refl}
 use Rattle.std.specs.Prelude.{option_map}
 use Rattle.std.proofs.lemmas.Result.{err_from_is_err_and}
 use Rattle.ice_state.specs.Contents.{World}
-use Rattle.icescan_requests.specs.Bundles.{bytes_at}
-use Rattle.icescan_requests.specs.Commits.{committed_text}
+use Rattle.icescan_files.specs.Bundles.{bytes_at}
+use Rattle.icescan_commits.specs.Commits.{committed_text}
 use Rattle.icescan_commands.specs.Answers.{as_answer}
 use Rattle.icescan_commands.specs.Sources.{failing_bundle}
 use Rattle.icescan_commands.proofs.Committed.{commit_ran, failed_ran, wrote_ran}
 use Rattle.icescan_commands.proofs.Refusals.{memory_ran}
-use Rattle.icescan_requests.proofs.Stored.{added_is, text_is}
+use Rattle.icescan_commits.proofs.Stored.{added_is, text_is}
 use Rattle.icescan_commands.proofs.arms.print_commit.Goals as goal
 
 pub returns-in_err-prepared : goal.returns-in_err-prepared

@@ -1,5 +1,5 @@
 use Rattle.std.proofs.Common.{◌≡◌, take}
-use Rattle.icescan_requests.specs.Commits.{bundle_lines}
+use Rattle.icescan_commits.specs.Commits.{bundle_lines}
 use Rattle.icescan_commands.proofs.commit_lines.commit_lines.Given as goal
 
 abbrev pub invariant-files : goal.invariant-files

@@ -187,21 +187,21 @@ pub returns-in-ListPlan-clause-given : goal.returns-in-ListPlan-clause-given
 returns-in-ListPlan-clause-given g c =
     let asked : c.args.asked.now ≡ command.ListPlan c.in-ListPlan.lists c.in-ListPlan.format = search rules in
     rw asked (counted_as _ c.list_plan.result c.no_findings.result c.no_findings.ensures.same
-        c.no_findings.ensures.none c.list_plan.ensures.given)
+    c.no_findings.ensures.none c.list_plan.ensures.given)
 
 pub returns-in-Plan-clause-given : goal.returns-in-Plan-clause-given
 returns-in-Plan-clause-given g c =
     let asked : c.args.asked.now ≡
-        command.Plan c.in-Plan.source c.in-Plan.request c.in-Plan.format c.in-Plan.workers c.in-Plan.path =
-        search rules in
+    command.Plan c.in-Plan.source c.in-Plan.request c.in-Plan.format c.in-Plan.workers c.in-Plan.path =
+    search rules in
     rw asked (counted_as _ c.plan.result c.no_findings-in-Plan.result c.no_findings-in-Plan.ensures.same
-        c.no_findings-in-Plan.ensures.none c.plan.ensures.given)
+    c.no_findings-in-Plan.ensures.none c.plan.ensures.given)
 
 pub returns-in-Show-clause-given : goal.returns-in-Show-clause-given
 returns-in-Show-clause-given g c =
     let asked : c.args.asked.now ≡ command.Show c.in-Show.source c.in-Show.path = search rules in
     rw asked (counted_as _ c.show.result c.no_findings-in-Show.result c.no_findings-in-Show.ensures.same
-        c.no_findings-in-Show.ensures.none c.show.ensures.given)
+    c.no_findings-in-Show.ensures.none c.show.ensures.given)
 
 pub returns-in-Columns-clause-given : goal.returns-in-Columns-clause-given
 returns-in-Columns-clause-given g c =
@@ -213,14 +213,14 @@ returns-in-Columns-clause-given g c =
 pub returns-in-Explain-clause-given : goal.returns-in-Explain-clause-given
 returns-in-Explain-clause-given g c =
     let asked : c.args.asked.now ≡ command.Explain
-        c.in-Explain.source c.in-Explain.request c.in-Explain.workers c.in-Explain.path = search rules in
+    c.in-Explain.source c.in-Explain.request c.in-Explain.workers c.in-Explain.path = search rules in
     rw asked (counted_as _ c.explain.result c.no_findings-in-Explain.result c.no_findings-in-Explain.ensures.same
-        c.no_findings-in-Explain.ensures.none c.explain.ensures.given)
+    c.no_findings-in-Explain.ensures.none c.explain.ensures.given)
 
 pub returns-in-Audit-clause-given : goal.returns-in-Audit-clause-given
 returns-in-Audit-clause-given g c =
     let asked : c.args.asked.now ≡
-        command.Audit c.in-Audit.source c.in-Audit.target c.in-Audit.workers c.in-Audit.path = search rules in
+    command.Audit c.in-Audit.source c.in-Audit.target c.in-Audit.workers c.in-Audit.path = search rules in
     rw asked (c.audit.ensures.given)
 
 pub returns-in-Commit-clause-given : goal.returns-in-Commit-clause-given
@@ -251,8 +251,8 @@ returns-in-ListPlan-clause-stored_of_given g c =
 pub returns-in-Plan-clause-stored_of_given : goal.returns-in-Plan-clause-stored_of_given
 returns-in-Plan-clause-stored_of_given g c =
     let asked : c.args.asked.now ≡
-        command.Plan c.in-Plan.source c.in-Plan.request c.in-Plan.format c.in-Plan.workers c.in-Plan.path =
-        search rules in
+    command.Plan c.in-Plan.source c.in-Plan.request c.in-Plan.format c.in-Plan.workers c.in-Plan.path =
+    search rules in
     rw asked tt
 
 pub returns-in-Show-clause-stored_of_given : goal.returns-in-Show-clause-stored_of_given
@@ -263,13 +263,13 @@ returns-in-Show-clause-stored_of_given g c =
 pub returns-in-Columns-clause-stored_of_given : goal.returns-in-Columns-clause-stored_of_given
 returns-in-Columns-clause-stored_of_given g c =
     let asked : c.args.asked.now ≡ command.Columns c.in-Columns.source c.in-Columns.target c.in-Columns.path =
-        search rules in
+    search rules in
     rw asked tt
 
 pub returns-in-Explain-clause-stored_of_given : goal.returns-in-Explain-clause-stored_of_given
 returns-in-Explain-clause-stored_of_given g c =
     let asked : c.args.asked.now ≡ command.Explain
-        c.in-Explain.source c.in-Explain.request c.in-Explain.workers c.in-Explain.path = search rules in
+    c.in-Explain.source c.in-Explain.request c.in-Explain.workers c.in-Explain.path = search rules in
     rw asked tt
 
 pub returns-in-Drill-clause-stored_of_given : goal.returns-in-Drill-clause-stored_of_given
@@ -285,7 +285,7 @@ returns-in-Text-clause-stored_of_given g c =
 pub returns-in-Audit-clause-stored_of_given : goal.returns-in-Audit-clause-stored_of_given
 returns-in-Audit-clause-stored_of_given g c =
     let asked : c.args.asked.now ≡
-        command.Audit c.in-Audit.source c.in-Audit.target c.in-Audit.workers c.in-Audit.path = search rules in
+    command.Audit c.in-Audit.source c.in-Audit.target c.in-Audit.workers c.in-Audit.path = search rules in
     rw asked tt
 
 pub returns-in-Commit-clause-stored_of_given : goal.returns-in-Commit-clause-stored_of_given

@@ -1,0 +1,4 @@
+pub mod Bundles
+pub mod Disks
+pub mod Folders
+pub mod Stores

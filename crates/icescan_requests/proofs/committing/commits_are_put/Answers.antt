@@ -1,5 +1,0 @@
-use Rattle.icescan_requests.proofs.Stored.{told_as_taken}
-use Rattle.icescan_requests.proofs.committing.commits_are_put.Goals as goal
-
-pub returns : goal.returns
-returns c = told_as_taken
