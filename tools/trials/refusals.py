@@ -409,13 +409,18 @@ def written():
     """The same of the sentences of icescan_hints."""
     found = []
     string = r'"((?:[^"\\]|\\.)*)"'
-    shape = re.compile(rf'name:\s*{string},\s*wrong:\s*{string},\s*advice:\s*(?:None|Some\(\s*{string},?\s*\)),', re.S)
+    advice = rf'Some\(\s*{string},?\s*\)'
+    named = re.compile(rf'const (\w+): Option<&str> =\s*{advice};', re.S)
+    shape = re.compile(rf'name:\s*{string},\s*wrong:\s*{string},\s*advice:\s*(?:None|{advice}|(\w+)),', re.S)
 
     def plain(literal):
         return None if literal is None else " ".join(re.sub(r"\\(.)", r"\1", literal).split())
     for name in sorted(glob.glob(os.path.join(TOP, "crates/icescan_hint*/src/*.rt"))):
         with open(name) as source:
-            found += [tuple(plain(part) for part in match.groups()) for match in shape.finditer(source.read())]
+            text = source.read()
+        advices = dict(named.findall(text))
+        for number, wrong, advice, constant in (match.groups() for match in shape.finditer(text)):
+            found.append((plain(number), plain(wrong), plain(advices[constant] if constant else advice)))
     return found
 
 

@@ -2,7 +2,8 @@
 
 ghost use Rattle.std.specs.Prelude.{◌≡◌, ◌≢◌, ◌∷◌, [], Ok, IfOk, IfErr, OnOk, IsErrOf};
 ghost use Rattle.ice_meta.specs.Targets.{described};
-ghost use Rattle.icescan_drill.specs.Drills.{HasEachFile, IsLost, IsPlanOf, IsTurn, commit_of, file_path, has_file, ids_of};
+ghost use Rattle.icescan_drill.specs.Drills.{HasEachFile, IsLost, IsPlanOf, IsTurn, commit_of, file_path, has_file};
+ghost use Rattle.icescan_drill.specs.Drills.{ids_of};
 ghost use Rattle.icescan_drill.specs.Drills.{new_file, scan_of_state};
 
 use contract_words::{Items, Text};

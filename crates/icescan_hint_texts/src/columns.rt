@@ -1,9 +1,10 @@
 //! Which columns a filter asks for.
 
+use crate::asked::Asked;
 use crate::hint::{Hint, quoted};
 use crate::nearest::add_none_named;
 use contract_words::Text;
-use ice_filter::{Column, Filter, Part, Predicate};
+use ice_filter::{Column, Predicate};
 use ice_meta::Schema;
 use ice_value::ColumnType;
 use std::alloc::{AllocError, Global};
@@ -111,14 +112,11 @@ fn add_missing(
 pub fn add_first_missing(
     hint: &mut Hint,
     alloc: Global,
-    filter: &Filter,
-    schema: &Schema,
+    asked: &Asked<'_>,
 ) -> Result<(), AllocError> {
-    for part in filter.parts().as_slice() {
-        if let Part::Predicate(predicate) = part {
-            if add_missing(hint, alloc, predicate, schema)? {
-                return Ok(());
-            }
+    for predicate in asked.predicates(alloc)? {
+        if add_missing(hint, alloc, predicate, asked.schema)? {
+            return Ok(());
         }
     }
     Ok(())
@@ -142,16 +140,9 @@ fn add_type(
 }
 
 /// Adds the types of the columns that a filter asks for.
-pub fn add_types(
-    hint: &mut Hint,
-    alloc: Global,
-    filter: &Filter,
-    schema: &Schema,
-) -> Result<(), AllocError> {
-    for part in filter.parts().as_slice() {
-        if let Part::Predicate(predicate) = part {
-            add_type(hint, alloc, predicate, schema)?;
-        }
+pub fn add_types(hint: &mut Hint, alloc: Global, asked: &Asked<'_>) -> Result<(), AllocError> {
+    for predicate in asked.predicates(alloc)? {
+        add_type(hint, alloc, predicate, asked.schema)?;
     }
     Ok(())
 }

@@ -1,6 +1,7 @@
 //! The lines of a hint, and what they say of a filter and of words that a shell split.
 #![tactic(auto)]
 
+mod asked;
 mod caret;
 mod columns;
 mod habits;
@@ -14,6 +15,7 @@ mod sentence;
 mod split;
 mod units;
 
+pub use asked::Asked;
 pub use caret::add_caret;
 pub use columns::{add_first_missing, add_types};
 pub use habits::add_habit;

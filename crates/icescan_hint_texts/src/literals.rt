@@ -1,10 +1,11 @@
 //! Which constant of a filter its column does not take, and what to write for it.
 
-use crate::columns::{path_of, type_name};
+use crate::asked::Asked;
+use crate::columns::{type_in, type_name};
 use crate::hint::{Hint, quoted};
 use crate::moments::{day_in, micros_in, time_in};
 use crate::predicates::{column_text, literal_text, literals_of};
-use ice_filter::{Filter, FilterFault, Literal, Part, Predicate, bind, parse};
+use ice_filter::{FilterFault, Literal, Predicate, bind, parse};
 use ice_meta::Schema;
 use ice_value::ColumnType;
 use std::alloc::{AllocError, Global};
@@ -101,17 +102,12 @@ fn add_wrong(
 pub fn add_wrong_literal(
     hint: &mut Hint,
     alloc: Global,
-    filter: &Filter,
-    schema: &Schema,
+    asked: &Asked<'_>,
 ) -> Result<(), AllocError> {
-    for part in filter.parts().as_slice() {
-        if let Part::Predicate(predicate) = part {
-            let path = path_of(alloc, &predicate.column)?;
-            let column = schema.column(path.as_slice());
-            if let Some(column_type) = column.and_then(|column| column.column_type) {
-                if add_wrong(hint, alloc, predicate, column_type, schema)? {
-                    return Ok(());
-                }
+    for predicate in asked.predicates(alloc)? {
+        if let Some(column_type) = type_in(alloc, predicate, asked.schema)? {
+            if add_wrong(hint, alloc, predicate, column_type, asked.schema)? {
+                return Ok(());
             }
         }
     }

@@ -1,8 +1,9 @@
 //! A filter as it was read.
 
+use crate::asked::Asked;
 use crate::columns::type_in;
 use crate::predicates::predicate_text;
-use ice_filter::{Filter, Part, Predicate};
+use ice_filter::{Part, Predicate};
 use ice_meta::Schema;
 use std::alloc::{AllocError, Global};
 
@@ -64,10 +65,10 @@ fn part_text(
 }
 
 /// A filter as it was read: dates and times stand in it as a calendar has them.
-pub fn reading_of(alloc: Global, filter: &Filter, schema: &Schema) -> Result<String, AllocError> {
+pub fn reading_of(alloc: Global, asked: &Asked<'_>) -> Result<String, AllocError> {
     let mut pieces = Vec::new(alloc);
-    for part in filter.parts().as_slice() {
-        match part_text(alloc, part, schema)? {
+    for part in asked.filter.parts().as_slice() {
+        match part_text(alloc, part, asked.schema)? {
             Some(text) => pieces.push(Piece {
                 text,
                 either: false,

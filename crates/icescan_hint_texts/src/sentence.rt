@@ -1,7 +1,7 @@
 //! What a refusal says.
 
-/// What a refusal says, in the words of docs/REFUSALS.md, with which `tools/trials/refusals.py` compares them. Lines are short
-/// enough for a terminal.
+/// What a refusal says, in the words of docs/REFUSALS.md, with which `tools/trials/refusals.py` compares them. Lines
+/// are short enough for a terminal.
 #[derive(Clone, Copy)]
 pub struct Sentence {
     /// Its number and name.

@@ -1,9 +1,10 @@
 //! Numbers that hardly stand for the dates and times that are meant: those of another unit.
 
+use crate::asked::Asked;
 use crate::columns::type_in;
 use crate::hint::Hint;
 use crate::predicates::{literals_of, read_number};
-use ice_filter::{Filter, Literal, Part, Predicate};
+use ice_filter::{Literal, Predicate};
 use ice_meta::Schema;
 use ice_value::ColumnType;
 use std::alloc::{AllocError, Global};
@@ -118,17 +119,10 @@ fn unlikely_in(
 }
 
 /// Adds the first number of a filter that hardly stands for the time that is meant.
-pub fn add_unlikely(
-    hint: &mut Hint,
-    alloc: Global,
-    filter: &Filter,
-    schema: &Schema,
-) -> Result<(), AllocError> {
-    for part in filter.parts().as_slice() {
-        if let Part::Predicate(predicate) = part {
-            if let Some(text) = unlikely_in(alloc, predicate, schema)? {
-                return hint.note(alloc, text);
-            }
+pub fn add_unlikely(hint: &mut Hint, alloc: Global, asked: &Asked<'_>) -> Result<(), AllocError> {
+    for predicate in asked.predicates(alloc)? {
+        if let Some(text) = unlikely_in(alloc, predicate, asked.schema)? {
+            return hint.note(alloc, text);
         }
     }
     Ok(())

@@ -5,7 +5,7 @@ use ice_desk::Files;
 use ice_filter::{FilterFault, parse};
 use ice_meta::Metadata;
 use icescan_hint_texts::{
-    Hint, add_caret, add_first_missing, add_habit, add_types, add_wrong_literal,
+    Asked, Hint, add_caret, add_first_missing, add_habit, add_types, add_wrong_literal,
 };
 use std::alloc::{AllocError, Global};
 
@@ -23,11 +23,14 @@ fn add_bound<F: Files>(
     let Ok(filter) = parse(alloc, text.as_str()) else {
         return Ok(());
     };
-    let schema = metadata.schema_for(&request.target);
+    let asked = Asked {
+        filter: &filter,
+        schema: metadata.schema_for(&request.target),
+    };
     match fault {
-        FilterFault::NoSuchColumn => add_first_missing(hint, alloc, &filter, schema),
-        FilterFault::WrongLiteral => add_wrong_literal(hint, alloc, &filter, schema),
-        _ => add_types(hint, alloc, &filter, schema),
+        FilterFault::NoSuchColumn => add_first_missing(hint, alloc, &asked),
+        FilterFault::WrongLiteral => add_wrong_literal(hint, alloc, &asked),
+        _ => add_types(hint, alloc, &asked),
     }
 }
 

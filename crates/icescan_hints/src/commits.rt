@@ -61,18 +61,6 @@ fn add_made<F: Files>(
     }
 }
 
-/// Adds which files of a commit stand at their places, and whether it was made.
-fn add_prepared<F: Files>(
-    hint: &mut Hint,
-    alloc: Global,
-    case: &Case<'_, F>,
-    out: &Text,
-    prepared: &Prepared,
-) -> Result<(), AllocError> {
-    add_files(hint, alloc, case, prepared.files())?;
-    add_made(hint, alloc, case, out, prepared)
-}
-
 /// Adds what could not be written. Of a commit: which files stand at their places, and whether it was made, where it
 /// could be prepared once more.
 pub fn add_unwritten<F: Files>(
@@ -84,10 +72,11 @@ pub fn add_unwritten<F: Files>(
     let (Some(request), Some(_)) = (case.commit(), case.files) else {
         return hint.here(alloc, format!(in alloc; "standard output")?);
     };
-    match again {
-        Some(prepared) => add_prepared(hint, alloc, case, &request.out, prepared),
-        None => Ok(()),
-    }
+    let Some(prepared) = again else {
+        return Ok(());
+    };
+    add_files(hint, alloc, case, prepared.files())?;
+    add_made(hint, alloc, case, &request.out, prepared)
 }
 
 /// Adds the change file, and which of its files is at fault.

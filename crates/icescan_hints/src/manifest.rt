@@ -3,6 +3,11 @@
 use ice_manifest_reading::{ListFault, ManifestFault};
 use icescan_hint_texts::{MEMORY, Sentence};
 
+/// What to do about a file whose fields are not those of the format.
+const FOREIGN: Option<&str> = Some(
+    "the file was not written by a table format library, or is of another format version",
+);
+
 const AVRO: Sentence = Sentence {
     name: "N1 Avro",
     wrong: "the container can't be read",
@@ -21,34 +26,26 @@ as in files of format version 1, but not null",
 const WRONG_FIELD_TYPE: Sentence = Sentence {
     name: "N3 WrongFieldType",
     wrong: "a field has a type that does not fit",
-    advice: Some(
-        "the file was not written by a table format library, or is of another format version",
-    ),
+    advice: FOREIGN,
 };
 
 const OUT_OF_RANGE: Sentence = Sentence {
     name: "N4 OutOfRange",
     wrong: "a number or a path is outside what it may be: ints have 32 bits, sequence numbers are not
 negative, paths have at most 65,535 bytes",
-    advice: Some(
-        "the file was not written by a table format library, or is of another format version",
-    ),
+    advice: FOREIGN,
 };
 
 const BAD_STATUS: Sentence = Sentence {
     name: "N5 BadStatus",
     wrong: "an entry's status is neither existing, added nor deleted",
-    advice: Some(
-        "the file was not written by a table format library, or is of another format version",
-    ),
+    advice: FOREIGN,
 };
 
 const BAD_CONTENT: Sentence = Sentence {
     name: "N6 BadContent",
     wrong: "a content number is none, or an entry's content is not what its manifest may hold",
-    advice: Some(
-        "the file was not written by a table format library, or is of another format version",
-    ),
+    advice: FOREIGN,
 };
 
 const NO_SEQUENCE: Sentence = Sentence {

@@ -4,10 +4,9 @@ ghost use Rattle.icescan_progress.specs.Hints.{AppendsPlain};
 
 use crate::case::Case;
 use ice_desk::Files;
-use ice_filter::{Filter, bind, parse};
+use ice_filter::{bind, parse};
 use ice_manifest_reading::Row;
-use ice_meta::Schema;
-use icescan_hint_texts::{Hint, add_split, add_unlikely, reading_of};
+use icescan_hint_texts::{Asked, Hint, add_split, add_unlikely, reading_of};
 use icescan_print::Sink;
 use icescan_progress::put_lines;
 use icescan_words::{Command, Lists};
@@ -25,19 +24,18 @@ enum When {
 fn add_bound(
     hint: &mut Hint,
     alloc: Global,
-    filter: &Filter,
-    schema: &Schema,
+    asked: &Asked<'_>,
     when: When,
 ) -> Result<(), AllocError> {
-    if bind(alloc, filter, schema).is_err() {
+    if bind(alloc, asked.filter, asked.schema).is_err() {
         return Ok(());
     }
     match when {
         When::Before => {
-            let reading = reading_of(alloc, filter, schema)?;
+            let reading = reading_of(alloc, asked)?;
             hint.note(alloc, format!(in alloc; "the filter is read as {reading}")?)
         }
-        When::After => add_unlikely(hint, alloc, filter, schema),
+        When::After => add_unlikely(hint, alloc, asked),
     }
 }
 
@@ -57,7 +55,8 @@ fn add_filter<F: Files>(
     match case.metadata(alloc) {
         Some(metadata) => {
             let schema = metadata.schema_for(&request.target);
-            add_bound(hint, alloc, &filter, schema, when)
+            let filter = &filter;
+            add_bound(hint, alloc, &Asked { filter, schema }, when)
         }
         None => Ok(()),
     }

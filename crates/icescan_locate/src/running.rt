@@ -1,6 +1,7 @@
 //! The newest metadata of a table in a folder.
 
-ghost use Rattle.std.specs.Prelude.{◌≡◌, ◌≢◌, ℕ, List, Option, Ok, Some, None, IfErr, IfOk, IsErrOf, OnOk, string_bytes};
+ghost use Rattle.std.specs.Prelude.{◌≡◌, ◌≢◌, ℕ, List, Option, Ok, Some, None, IfErr, IfOk, IsErrOf, OnOk};
+ghost use Rattle.std.specs.Prelude.{string_bytes};
 ghost use Rattle.ice_meta_files.specs.declared.newest_fault.NewestFault.{NewestFault};
 ghost use Rattle.icescan_locate.specs.Located.{Found, HasLocation, HasNoNewest, WroteLocated};
 ghost use Rattle.icescan_locate.specs.Located.{hint_in, hint_path};
@@ -50,8 +51,8 @@ fn hint_below<F: Files>(alloc: Global, files: &F, folder: &str) -> Result<Option
     }
 }
 
-/// The name of the newest metadata of the table in a folder. The files of the metadata are in the folder `metadata` below
-/// it.
+/// The name of the newest metadata of the table in a folder. The files of the metadata are in the folder `metadata`
+/// below it.
 ///
 /// The refusal is `Locate` where there is no newest metadata that can be read (`newest_metadata`), or no folder
 /// `metadata`; `Device` where that folder or the hint can't be read; or `Memory`.

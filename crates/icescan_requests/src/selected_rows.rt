@@ -64,7 +64,8 @@ pub fn select_rows<F: Files>(
 
     // Over all files.
     ensures selection { IfOk result (λ found. (selection : Selection)
-        × (selected metadata.now request.now ≡ Ok selection) × (found.specs ≡ selection.specs) × (found.filter ≡ selection.filter)) }
+        × (selected metadata.now request.now ≡ Ok selection) × (found.specs ≡ selection.specs)
+        × (found.filter ≡ selection.filter)) }
     ensures few { IfOk result (λ found. length found.rows ≤ 65536) }
     ensures absent { (path : List ℕ) → IsErrOf result (RunFault.Absent path) → HasAt (F.world files.now) path None }
     ensures device { (path : List ℕ) → IsErrOf result (RunFault.Device path) → F.may_fail files.now path }

@@ -38,15 +38,15 @@
 //! - audits: of `data/audits`, each table with the finding that it is named after; of the tables from before; of
 //!   `data/together`, which has the files of `data/audits/together` below a folder and ends with status 1. What is
 //!   expected was computed by a program in another language, from what the tables were written with
-//! - explanations of plans of tables from before: with what is expected of `id = 42`, of filters of several predicates, of one
-//!   that is never met, as that program computed it from the files too
-//! - plans as JSON: of `id = 42`, with the delete files that its explanation keeps, and of lists, as that program made them;
-//!   a refusal is that of the text
+//! - explanations of plans of tables from before: with what is expected of `id = 42`, of filters of several predicates,
+//!   of one that is never met, as that program computed it from the files too
+//! - plans as JSON: of `id = 42`, with the delete files that its explanation keeps, and of lists, as that program made
+//!   them; a refusal is that of the text
 //! - columns that a filter names, of `data/events` and of `data/columns`, a table without snapshots whose columns have
 //!   names and types of each form
 //! - the newest metadata of the tables in `data/located`, each with files that are not the newest and say so
-//! - refusals with `--explain`, over `data/hints`, which `tools/trials/refusals.py make` writes: below each line what it is
-//!   about and what to do
+//! - refusals with `--explain`, over `data/hints`, which `tools/trials/refusals.py make` writes: below each line what
+//!   it is about and what to do
 #![tactic(auto)]
 
 use icescan_commands::{
