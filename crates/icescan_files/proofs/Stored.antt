@@ -6,7 +6,6 @@ use Rattle.std.proofs.Math.Seq.{take-length, take-suc}
 use Rattle.std.proofs.lemmas.List.{append-nil, map-append}
 use Rattle.std.proofs.lemmas.Option.{get_or_from_slice_get, slice_get_within}
 use Rattle.ice_catalog_changes.specs.NewFiles.{Added}
-use Rattle.ice_catalog_versions.specs.Histories.{after}
 use Rattle.icescan_files.specs.Bundles.{File, bytes_at}
 use Rattle.icescan_files.specs.Stores.{MayLack, Puts, PutsAll, PutsFront, WereFree, each_free}
 use Rattle.icescan_files.specs.Stores.{file_of}
