@@ -23,7 +23,7 @@ use Rattle.ice_manifest.specs.NewRows.{new_row}
 use Rattle.ice_manifest.specs.Writing.{list_bytes, manifest_bytes}
 use Rattle.ice_catalog_changes.specs.declared.change.Commit.{Commit}
 use Rattle.ice_catalog_changes.specs.declared.change.Ids.{Ids}
-use Rattle.ice_catalog_changes.specs.NewFiles.{Added}
+use Rattle.ice_catalog_changes.specs.NewFiles.{Added, uuid_text}
 use Rattle.ice_catalog_versions.specs.Bases.{table_specs, spec_in, base_rows}
 use Rattle.ice_catalog_versions.specs.Groups.{Group, groups}
 use Rattle.ice_catalog_versions.specs.States.{State, with_files}
