@@ -138,13 +138,13 @@ counted (x ∷ xs) p =
     (cond (not b) (x ∷ deletes_of xs) (deletes_of xs)) p) [
       | true ↦ elim (bytes_eq x.file.path p) as (λ v. length
           (cond v (x ∷ filter (λ (w : Entry). bytes_eq w.file.path p) xs)
-              (filter (λ (w : Entry). bytes_eq w.file.path p) xs))
+          (filter (λ (w : Entry). bytes_eq w.file.path p) xs))
           ≡ length (cond v (x ∷ filter (λ (w : Entry). bytes_eq w.file.path p) (data_of xs))
           (filter (λ (w : Entry). bytes_eq w.file.path p) (data_of xs))) + count_at (deletes_of xs) p)
           [ true ↦ omega (arith, rest) | false ↦ rest ]
       | false ↦ elim (bytes_eq x.file.path p) as (λ v. length
           (cond v (x ∷ filter (λ (w : Entry). bytes_eq w.file.path p) xs)
-              (filter (λ (w : Entry). bytes_eq w.file.path p) xs))
+          (filter (λ (w : Entry). bytes_eq w.file.path p) xs))
           ≡ count_at (data_of xs) p + length
           (cond v (x ∷ filter (λ (w : Entry). bytes_eq w.file.path p) (deletes_of xs))
           (filter (λ (w : Entry). bytes_eq w.file.path p) (deletes_of xs))))
@@ -157,7 +157,7 @@ pub once_by_kind : (xs data_files delete_files : List Entry) → data_files ≡ 
 once_by_kind xs data_files delete_files are are_deletes once once_deletes apart = once_if_few (by_path xs) (λ p.
     let few = few_if_once (data_of xs) (subst (λ (ys : List Entry). twice ys ≡ []) are once) p in
     let few_deletes = few_if_once (deletes_of xs)
-        (subst (λ (ys : List Entry). twice ys ≡ []) are_deletes once_deletes) p in
+    (subst (λ (ys : List Entry). twice ys ≡ []) are_deletes once_deletes) p in
     let count : count_at data_files p ≡ count_at (data_of xs) p =
     ap (λ (ys : List Entry). count_at ys p) are ∙ count-by_path (data_of xs) p in
     let count_deletes : count_at delete_files p ≡ count_at (deletes_of xs) p =
@@ -200,6 +200,6 @@ module _ (kept : Segmented) (xs : List Entry) (files now : FilesByKind) (has : H
       subst (λ (us : List Entry). P us (entries_at kept now.delete_files.items)) (sym data_are)
       (subst (λ (vs : List Entry). P (by_path (data_of xs)) vs) (sym deletes_are)
       (IsPermutation-trans xs (data_of xs ++ deletes_of xs) (by_path (data_of xs) ++ by_path (deletes_of xs))
-          (parted xs)
+      (parted xs)
       (IsPermutation-append (data_of xs) (by_path (data_of xs)) (deletes_of xs) (by_path (deletes_of xs))
       (by_path_moves (data_of xs)) (by_path_moves (deletes_of xs)))))

@@ -160,7 +160,7 @@ module _ (kept : Segmented) (xs ys : List Entry) (d e : IndexedDeletes) (first :
       let more : filter holds_deletes ys ≡ [] = no_more (filter holds_deletes ys) (subst P none rest.all) in
       let all : filter holds_deletes (xs ++ ys) ≡ filter holds_deletes xs =
       filter-append holds_deletes xs ys ∙ ap (λ zs. filter holds_deletes xs ++ zs) more
-          ∙ append-nil (filter holds_deletes xs) in
+      ∙ append-nil (filter holds_deletes xs) in
       record {
         files = first.files;
         all = subst (λ (zs : List Entry). IsPermutation zs (entries_at kept d.files.items)) (sym all) first.all;
@@ -200,7 +200,7 @@ module _ (kept : Segmented) (xs ys : List Entry) (d e : IndexedDeletes) (first :
         files = subst (AreKept kept) (sym files) (files_both kept d.files.items e.files.items first.files rest.files);
         all =
             subst (λ (us : List Entry). P us (entries_at kept both.files.items))
-                (sym (filter-append holds_deletes xs ys))
+            (sym (filter-append holds_deletes xs ys))
             (subst (P (filter holds_deletes xs ++ filter holds_deletes ys)) (sym entries)
             (IsPermutation-append (filter holds_deletes xs) (entries_at kept d.files.items) (filter holds_deletes ys)
             (entries_at kept e.files.items) first.all rest.all));
@@ -321,6 +321,27 @@ deletes_pushed kept xs ys d e same files pushed are = record {
       (sym pushed)
       (IsPermutation-append_left (filter holds_deletes ys) (filter holds_deletes are.others)
       (entries_at kept d.waiting.items) are.waiting));
+}
+
+-- the same entries with the further ones last
+further_last : (first more others : List Entry)
+    → IsPermutation ((first ++ more) ++ others) ((first ++ others) ++ more)
+further_last first more others =
+    subst (λ (zs : List Entry). IsPermutation zs ((first ++ others) ++ more)) (sym (append_assoc first more others))
+    (subst (λ (zs : List Entry). IsPermutation (first ++ (more ++ others)) zs) (sym (append_assoc first others more))
+    (IsPermutation-append_right first (more ++ others) (others ++ more) (IsPermutation-append_comm more others)))
+
+-- a further index that was merged in
+pub deletes_joined : (kept : Segmented) (xs ys : List Entry) (d e : KeptDeletes) → (are : AreDeletesOf kept xs d)
+    → e.waiting ≡ d.waiting → IsIndexOf kept (are.first ++ ys) e.indexed → AreDeletesOf kept (xs ++ ys) e
+deletes_joined kept xs ys d e are same is = record {
+  first = are.first ++ ys;
+  others = are.others;
+  parts = IsPermutation-trans ((are.first ++ ys) ++ are.others) ((are.first ++ are.others) ++ ys) (xs ++ ys)
+      (further_last are.first ys are.others) (IsPermutation-append_left ys (are.first ++ are.others) xs are.parts);
+  index = is;
+  files = rw same are.files;
+  waiting = rw same are.waiting;
 }
 
 -- ---- delete files that may have been dropped

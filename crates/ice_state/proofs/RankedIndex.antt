@@ -107,7 +107,7 @@ module _ (key : ℕ → DeleteKey) (keys : List DeleteKey) (index : List (ℕ ×
   pub index_by_ranks : IsPermutation (numbered_deletes (map key order)) (renumbered ranks index)
   index_by_ranks =
       let here = filter_moved is_delete (map rank (enumerate_from 0 keys))
-          (enumerate_from 0 (map key order)) all_ranked in
+      (enumerate_from 0 (map key order)) all_ranked in
       let moved = subst (λ (xs : List (ℕ × DeleteKey)). IsPermutation xs (numbered_deletes (map key order)))
       (filter_numbers (slice_index ranks) (λ d. not (holds Data d)) (enumerate_from 0 keys)) here in
       IsPermutation-trans (numbered_deletes (map key order)) (map rank (numbered_deletes keys)) (renumbered ranks index)

@@ -297,8 +297,8 @@ fn indexed_anew(
     IndexedDeletes::build(alloc, entries, delete_files.to_vec(alloc)?)
 }
 
-/// A line for each data file. Where the delete files were dropped, or some wait to be indexed, their index is built
-/// anew.
+/// A line for each data file. Where some delete files wait to be indexed, the index of all is made of theirs and of the
+/// one that is kept; where they were dropped, it is built anew.
 fn planned(
     alloc: Global,
     entries: &Segments,
@@ -314,7 +314,11 @@ fn planned(
         Some(deletes) if deletes.waiting.is_empty() => {
             planned_by(alloc, entries, &deletes.indexed, files)
         }
-        _ => {
+        Some(deletes) => {
+            let deletes = deletes.index_of_all(alloc, entries)?;
+            planned_by(alloc, entries, &deletes, files)
+        }
+        None => {
             let deletes = indexed_anew(alloc, entries, &files.delete_files)?;
             planned_by(alloc, entries, &deletes, files)
         }

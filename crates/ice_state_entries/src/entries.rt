@@ -54,6 +54,11 @@ impl Room {
         }
     }
 
+    /// For how many entries.
+    pub fn entries(self) -> usize {
+        self.entries
+    }
+
     /// For one more entry. Where more is asked than there can be, there is no more to ask for.
     fn with(self, entry: &LentEntry<'_>) -> Room {
         let named = entry.referenced.map_or(0, |path| path.len());

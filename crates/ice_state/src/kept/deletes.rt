@@ -3,7 +3,7 @@
 ghost use Rattle.std.specs.Prelude.{◌≡◌, ◌++◌, [], filter, length, IfOk, IfSome, IsTrue, List, Some};
 ghost use Rattle.std.specs.List.Sorted.{IsPermutation};
 ghost use Rattle.ice_manifest_reading.specs.declared.entry.Entry.{Entry};
-ghost use Rattle.ice_state.specs.KeptDeletes.{AreDeletes, AreDeletesOf, IsIndexed, IsIndexOf};
+ghost use Rattle.ice_state.specs.KeptDeletes.{AreDeletes, AreDeletesOf, HasPlaces, IsIndexOf};
 ghost use Rattle.ice_state.specs.Outcomes.{entries_in as entries_given, kept_in};
 ghost use Rattle.ice_state.specs.Parts.{gains, holds_deletes};
 ghost use Rattle.ice_state.specs.Segments.{AreBefore, AreKept, entries_at, Segmented};
@@ -114,6 +114,20 @@ impl KeptDeletes {
         Ok(KeptDeletes::of_index(alloc, self.into_index(alloc, entries)?))
     }
 
+    /// The index of all, which leaves these as they are: the index that is kept is merged into that of those that wait.
+    pub fn index_of_all(
+        &self,
+        alloc: Global,
+        entries: &Segments,
+    ) -> Result<IndexedDeletes, AllocError>
+        requires { AreDeletes entries.now self.now }
+        ensures { (xs : List Entry) → AreDeletesOf entries.now xs self.now → IfOk result (IsIndexOf entries.now xs) }
+    {
+        let waiting = self.waiting.as_slice().to_vec(alloc)?;
+        let index = IndexedDeletes::build(alloc, entries, waiting)?;
+        index.joined(alloc, &self.indexed)
+    }
+
     /// The same, of which none waits where as many waited as are indexed.
     fn grown(self, alloc: Global, entries: &Segments) -> Result<KeptDeletes, AllocError>
         requires { AreDeletes entries.now self }
@@ -125,53 +139,41 @@ impl KeptDeletes {
         self.all_indexed(alloc, entries)
     }
 
-    /// These and those of another index, all indexed.
-    fn with_index(
-        self,
-        alloc: Global,
-        entries: &Segments,
-        other: IndexedDeletes,
-    ) -> Result<KeptDeletes, AllocError>
-        requires mine { AreDeletes entries.now self }
-        requires others { IsIndexed entries.now other }
-        ensures { (xs ys : List Entry) → AreDeletesOf entries.now xs self → IsIndexOf entries.now ys other →
-            IfOk result (AreDeletesOf entries.now (xs ++ ys)) }
+    /// These and those of another index, which is merged into theirs. What waits goes on to wait.
+    fn with_index(self, alloc: Global, other: IndexedDeletes) -> Result<KeptDeletes, AllocError>
+        requires mine { HasPlaces self.indexed }
+        requires others { HasPlaces other }
+        ensures { (kept : Segmented) (xs ys : List Entry) → AreDeletesOf kept xs self → IsIndexOf kept ys other →
+            IfOk result (AreDeletesOf kept (xs ++ ys)) }
     {
-        let index = self.into_index(alloc, entries)?;
-        Ok(KeptDeletes::of_index(alloc, index.with(alloc, other)?))
+        let waiting = self.waiting;
+        Ok(KeptDeletes {
+            indexed: self.indexed.with(alloc, other)?,
+            waiting,
+        })
     }
 
     /// These and the files of another index, which is merged into theirs unless it has few.
-    fn with_indexed(
-        self,
-        alloc: Global,
-        entries: &Segments,
-        other: IndexedDeletes,
-    ) -> Result<KeptDeletes, AllocError>
-        requires mine { AreDeletes entries.now self }
-        requires others { IsIndexed entries.now other }
-        ensures { (xs ys : List Entry) → AreDeletesOf entries.now xs self → IsIndexOf entries.now ys other →
-            IfOk result (AreDeletesOf entries.now (xs ++ ys)) }
+    fn with_indexed(self, alloc: Global, other: IndexedDeletes) -> Result<KeptDeletes, AllocError>
+        requires mine { HasPlaces self.indexed }
+        requires others { HasPlaces other }
+        ensures { (kept : Segmented) (xs ys : List Entry) → AreDeletesOf kept xs self → IsIndexOf kept ys other →
+            IfOk result (AreDeletesOf kept (xs ++ ys)) }
     {
         if other.files.len() < self.indexed.files.len() / FEW {
             return self.with_files(other.files);
         }
-        self.with_index(alloc, entries, other)
+        self.with_index(alloc, other)
     }
 
     /// These and those of another.
-    fn with(
-        self,
-        alloc: Global,
-        entries: &Segments,
-        other: KeptDeletes,
-    ) -> Result<KeptDeletes, AllocError>
-        requires mine { AreDeletes entries.now self }
-        requires others { AreDeletes entries.now other }
-        ensures { (xs ys : List Entry) → AreDeletesOf entries.now xs self → AreDeletesOf entries.now ys other →
-            IfOk result (AreDeletesOf entries.now (xs ++ ys)) }
+    fn with(self, alloc: Global, other: KeptDeletes) -> Result<KeptDeletes, AllocError>
+        requires mine { HasPlaces self.indexed }
+        requires others { HasPlaces other.indexed }
+        ensures { (kept : Segmented) (xs ys : List Entry) → AreDeletesOf kept xs self → AreDeletesOf kept ys other →
+            IfOk result (AreDeletesOf kept (xs ++ ys)) }
     {
-        let both = self.with_indexed(alloc, entries, other.indexed)?;
+        let both = self.with_indexed(alloc, other.indexed)?;
         both.with_files(other.waiting)
     }
 
@@ -272,7 +274,7 @@ pub fn with_absorbed(
 {
     let deletes = deletes?;
     let absorbed = absorbed?;
-    let both = deletes.with(alloc, entries, absorbed).ok()?;
+    let both = deletes.with(alloc, absorbed).ok()?;
     both.grown(alloc, entries).ok()
 }
 

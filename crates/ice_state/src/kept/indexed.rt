@@ -59,6 +59,16 @@ impl IndexedDeletes {
         if self.files.is_empty() {
             return Ok(other);
         }
+        self.joined(alloc, &other)
+    }
+
+    /// The same of another that is lent.
+    pub fn joined(self, alloc: Global, other: &IndexedDeletes) -> Result<IndexedDeletes, AllocError>
+        requires places { HasPlaces self }
+        requires others { HasPlaces other.now }
+        ensures { (kept : Segmented) (xs ys : List Entry) → IsIndexOf kept xs self → IsIndexOf kept ys other.now →
+            IfOk result (IsIndexOf kept (xs ++ ys)) }
+    {
         let to = places_from(alloc, self.files.len(), other.files.len())?;
         let mut index = self.index;
         index.merge(&other.index, &to)?;

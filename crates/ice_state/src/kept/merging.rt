@@ -56,7 +56,44 @@ fn is_gain(slot: &Option<Taken>, other: &Option<Taken>) -> bool
     matches!((slot, other), (None, Some(_)))
 }
 
-/// What the first slots lack of the second, by the numbers of entries that are put to those of the first.
+/// The room, and that which the entries take that a manifest gave.
+fn room_of_taken(room: Room, others: &Segments, taken: &Taken) -> Room
+    requires { HasNumbers others.now taken.now }
+{
+    match taken {
+        Taken::Good(ordered) => {
+            let theirs = others.segment(ordered.segment);
+            let numbers = ordered.numbers.as_slice();
+            theirs.room_with(numbers, room)
+        }
+        Taken::Bad(_) => room,
+    }
+}
+
+/// The room, and that which the entries of a row take, where it is gained.
+fn room_of_gain(room: Room, slot: &Option<Taken>, others: &Segments, other: &Option<Taken>) -> Room
+    requires { IfSome other.now (HasNumbers others.now) }
+{
+    match (slot, other) {
+        (None, Some(taken)) => room_of_taken(room, others, taken),
+        _ => room,
+    }
+}
+
+/// The room that the entries of all gained rows take.
+fn room_of_gains(slots: &[Option<Taken>], others: &Segments, other: &[Option<Taken>]) -> Room
+    requires same { length slots.now ≡ length other.now }
+    requires numbers { HaveNumbers others.now other.now }
+{
+    let mut room = Room::none();
+    for i in 0..slots.len() {
+        room = room_of_gain(room, &slots[i], others, &other[i]);
+    }
+    room
+}
+
+/// What the first slots lack of the second, by the numbers of entries that are put to those of the first. Room for all
+/// of them is made first.
 pub fn gained(
     alloc: Global,
     entries: &mut Segments,
@@ -72,6 +109,7 @@ pub fn gained(
     ensures gained { (kept : Segmented) → IfOk result (λ gained. contents entries.new gained.items
         ≡ gains (contents kept slots.now) (contents others.now other.now)) }
 {
+    entries.make_room(alloc, room_of_gains(slots, others, other))?;
     let mut gained = Vec::with_capacity(alloc, slots.len())?;
     for i in 0..slots.len() {
         gained.push(gain(alloc, entries, &slots[i], others, &other[i])?)?;

@@ -186,6 +186,18 @@ impl Segments {
         self.list[segment as usize].reserve(room)
     }
 
+    /// Makes room for entries that are put next, where they are no more than one segment has: of more, each manifest's
+    /// own are made room for. A refusal, for want of memory, forgets nothing.
+    pub(crate) fn make_room(&mut self, alloc: Global, room: Room) -> Result<(), AllocError>
+        ensures { Keeps self.old self.new }
+    {
+        if room.entries() > ROOM {
+            return Ok(());
+        }
+        let segment = self.begin(alloc, room.entries())?;
+        self.reserve(segment, room)
+    }
+
     /// Puts entries that others keep to a segment. A refusal, for want of memory, forgets none that was kept.
     pub(crate) fn add_kept(
         &mut self,

@@ -24,7 +24,7 @@ pub sorted_by_path-requires : goal.sorted_by_path-requires
 sorted_by_path-requires c = subst (AreKept c.args.entries.now)
     (sym (c.deref-2.ensures.value ∙ all (goal.at.sorted_by_path-requires c).In_ok-extend_from_slice))
     (both_kept c.args.entries.now c.args.files.now.data_files.items c.args.files.now.delete_files.items c.requires.0
-        c.requires.1)
+    c.requires.1)
 
 pub check_neighbours-requires : goal.check_neighbours-requires
 check_neighbours-requires c = subst (AreKept c.args.entries.now)

@@ -15,7 +15,7 @@ loop-i-preserved c = λ kept.
     let slot = c.index-slots-i.result in
     let within : c.loop-i.i < length (contents kept slots) = omega (arith, length-contents kept slots) in
     let step = missing_step c.args.rows.now (contents kept slots) c.loop-i.i (option_map (given kept) slot)
-        (omega arith)
+    (omega arith)
     within (at-contents kept slots c.loop-i.i slot c.index-slots-i.is) (is-none-given kept slot ∙ search rules) in
     rw (add-one, step) (c.loop-i.invariant kept)
 

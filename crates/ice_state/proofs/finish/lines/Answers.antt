@@ -21,7 +21,7 @@ returns-then-is_empty c =
     let places : List FileNumber → List LinePlaces = λ ns. map (λ x. places_of (enumerate_from 0
     (map delete_key_of (by_path (entries_at kept ns)))) (data_key_of x)) files in
     let many : length c.args.files.now.data_files.items ≡ length files = sym
-        (length-map c.args.files.now.data_files.items (entry_at kept)) in
+    (length-map c.args.files.now.data_files.items (entry_at kept)) in
     let counted : c.len.result ≡ length c.args.files.now.data_files.items = first_of (
       omega (arith, c.len.ensures),
       grind (arith, common_steps),
@@ -56,8 +56,8 @@ returns c =
     let ranked = subst (AreRanks c.args.order.now) (sym c.deref.ensures.value) c.in_ok-ranks.ensures in
     let files = map delete_key_of (by_path (entries_at kept deletes.files.items)) in
     let same = index_in_order kept deletes index.0 index.1 c.args.order.now c.requires.order c.deref.result.now ranked
-        in
+    in
     let Q : List LinePlaces → Type 0 = λ ps. IfOk c.looked_up.result (λ places. places ≡ ps) in
     subst Q (all_by_place files (renumbered c.deref.result.now deletes.index) same
-        (entries_at kept c.args.files.now.data_files.items))
+    (entries_at kept c.args.files.now.data_files.items))
     c.looked_up.ensures

@@ -14,7 +14,7 @@ returns-in-Some c =
     subst (λ (r : Option (List ℕ)). IfSome r (AreWithin (length files))) c.in-Some.is c.in_ok-order.ensures.within in
     let same : entries_at_places xs c.in-Some.order ≡ entries_at kept c.args.sorted.now =
     subst (λ (r : Option (List ℕ)). IfSome r
-        (λ places. entries_at_places xs places ≡ entries_at kept c.args.sorted.now))
+    (λ places. entries_at_places xs places ≡ entries_at kept c.args.sorted.now))
     c.in-Some.is (c.in_ok-order.ensures.same kept) in
     order_found xs c.in-Some.order c.requires.once
     (subst (λ (n : ℕ). AreWithin n c.in-Some.order) (sym (length-map files (entry_at kept))) within)

@@ -37,7 +37,7 @@ returns-in_err-files-clause-outcome c =
     rw (p.1, p.2) (stopped_twice c.args.rows.now cs c.in_err-files.field-0.0 (by_path (kept_in cs))
     (c.in_ok-check_taken.ensures c.args.entries.now) (c.in_ok-check_good.ensures c.args.entries.now) refl
     (subst (λ (fs : List FinishFault). Stops c.in_err-files.field-0.0 fs)
-        (twice_alike (kept_in cs) found.0 found.1) found.2))
+    (twice_alike (kept_in cs) found.0 found.1) found.2))
 
 -- where no path is shared, the files' entries are the content's by path
 sorted_alike : (c : In_ok-files) → by_path c.in_ok-files.ensures.0

@@ -18,6 +18,6 @@ returns c = λ t k e.
     let here : c.path.result.now ≡ path_at xs last = c.path.ensures
     ∙ ap (λ (x : Entry). x.file.path) (file_entry kept files last _ (omega (arith, e, c.requires.place))) in
     let lt : is_lt (slice_cmp nat_cmp c.path.result.now path) ≡ true = ap is_lt (sym c.cmp.ensures)
-        ∙ sym c.is_lt.ensures ∙ t in
+    ∙ sym c.is_lt.ensures ∙ t in
     subst (λ (n : ℕ). is_lt (slice_cmp nat_cmp (path_at xs n) path) ≡ true) at
     (subst (λ (p : List ℕ). is_lt (slice_cmp nat_cmp p path) ≡ true) here lt)

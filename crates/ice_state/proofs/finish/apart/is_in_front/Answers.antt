@@ -19,5 +19,5 @@ returns c = λ t l.
     ∙ ap (λ (x : Entry). x.file.path)
     (file_entry kept files place _ (omega (arith, l, length-map files (entry_at kept)))) in
     let lt : is_lt (slice_cmp nat_cmp path c.path.result.now) ≡ true = ap is_lt (sym c.cmp.ensures)
-        ∙ sym c.is_lt.ensures ∙ t in
+    ∙ sym c.is_lt.ensures ∙ t in
     subst (λ (p : List ℕ). is_lt (slice_cmp nat_cmp path p) ≡ true) here lt

@@ -22,12 +22,12 @@ returns-in_ok-files_of_rows-in-Some c =
     let deletes = c.in-Some.deletes in
     let here : AreDeletesOf kept (kept_in cs) deletes =
     subst (λ (d : Option KeptDeletes). IfSome d
-        (AreDeletesOf kept (kept_in cs))) c.in-Some.is c.requires.state.all_deletes in
+    (AreDeletesOf kept (kept_in cs))) c.in-Some.is c.requires.state.all_deletes in
     let none = c.is_empty.ensures c.if-is_empty.true in
     let moved = rows_moved cs rows (subst (λ (n : ℕ). IsPermutation (range_with_len 0 n) rows)
     (sym (length-contents kept slots)) c.requires.rows) in
     let files : FilesByKind =
-        record { data_files = c.in_ok-files_of_rows-in-Some.field-0; delete_files = c.new.result } in
+    record { data_files = c.in_ok-files_of_rows-in-Some.field-0; delete_files = c.new.result } in
     all_data kept (runs_at cs rows) files
-        (no_deletes kept (kept_in cs) (runs_at cs rows) deletes here none.0 none.1 moved)
+    (no_deletes kept (kept_in cs) (runs_at cs rows) deletes here none.0 none.1 moved)
     c.in_ok-files_of_rows-in-Some.ensures c.new.ensures.items

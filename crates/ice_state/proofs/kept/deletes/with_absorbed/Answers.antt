@@ -2,7 +2,7 @@ use Rattle.std.proofs.Common.{◌++◌, IfSome, List, Option, subst}
 use Rattle.ice_manifest_reading.specs.declared.entry.Entry.{Entry}
 use Rattle.ice_state.specs.declared.kept.deletes.KeptDeletes.{KeptDeletes}
 use Rattle.ice_state.specs.KeptDeletes.{AreDeletes, AreDeletesOf}
-use Rattle.ice_state.proofs.DeletesKept.{if_ok, if_some_ok}
+use Rattle.ice_state.proofs.DeletesKept.{has_places, if_ok, if_some_ok}
 use Rattle.ice_state.proofs.kept.deletes.with_absorbed.Goals as goal
 use Rattle.ice_state.proofs.kept.deletes.with_absorbed.Goals.{In_ok-both}
 
@@ -10,14 +10,17 @@ both : (c : In_ok-both) → (xs ys : List Entry) → AreDeletesOf c.args.entries
     → AreDeletesOf c.args.entries.now ys c.in_ok-absorbed.absorbed
     → AreDeletesOf c.args.entries.now (xs ++ ys) c.in_ok-both.both
 both c xs ys are its = if_ok c.with.result c.in_ok-both.both c.ok.ensures.value c.in_ok-both.was
-    (AreDeletesOf c.args.entries.now (xs ++ ys)) (c.with.ensures xs ys are its)
+    (AreDeletesOf c.args.entries.now (xs ++ ys)) (c.with.ensures c.args.entries.now xs ys are its)
 
 pub with-requires : goal.with-requires
 with-requires c =
-    let Are = λ (o : Option KeptDeletes). IfSome o (AreDeletes c.args.entries.now) in
+    let kept = c.args.entries.now in
+    let Are = λ (o : Option KeptDeletes). IfSome o (AreDeletes kept) in
+    let mine = (subst Are c.in_ok-deletes.was c.requires.deletes).1 in
+    let its = (subst Are c.in_ok-absorbed.was c.requires.absorbed).1 in
     record {
-      mine = subst Are c.in_ok-deletes.was c.requires.deletes;
-      others = subst Are c.in_ok-absorbed.was c.requires.absorbed;
+      mine = has_places kept mine.first c.in_ok-deletes.deletes.indexed mine.index;
+      others = has_places kept its.first c.in_ok-absorbed.absorbed.indexed its.index;
     }
 
 pub grown-requires : goal.grown-requires

@@ -16,7 +16,7 @@ with_more : (c : In_ok-more) → (kept : Segmented) (xs : List Entry)
     → AreDeletesOf c.args.entries.now xs c.in_ok-deletes.deletes
     → AreDeletesOf c.args.entries.now
     (xs ++ kept_in (gains (contents kept c.args.slots.now) (contents c.args.entries.now c.args.gained.now)))
-        c.in_ok-more.more
+    c.in_ok-more.more
 with_more c kept xs are =
     let entries = c.args.entries.now in
     let ys = kept_in (gains (contents kept c.args.slots.now) (contents entries c.args.gained.now)) in
@@ -30,7 +30,7 @@ pub grown-requires : goal.grown-requires
 grown-requires c =
     let entries = c.args.entries.now in
     let mine = subst (λ (o : Option KeptDeletes). IfSome o
-        (AreDeletes entries)) c.in_ok-deletes.was c.requires.deletes in
+    (AreDeletes entries)) c.in_ok-deletes.was c.requires.deletes in
     (_, with_more (goal.at.grown-requires c).In_ok-more entries mine.0 mine.1)
 
 pub returns : goal.returns

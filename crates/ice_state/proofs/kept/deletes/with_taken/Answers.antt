@@ -16,13 +16,13 @@ with_more c xs are =
     let entries = c.args.entries.now in
     if_ok c.with_manifest.result c.in_ok-more.more c.ok.ensures.value c.in_ok-more.was
     (AreDeletesOf entries (xs ++ entries_given (Some (given entries c.args.taken.now))))
-        (c.with_manifest.ensures xs are)
+    (c.with_manifest.ensures xs are)
 
 pub grown-requires : goal.grown-requires
 grown-requires c =
     let entries = c.args.entries.now in
     let mine = subst (λ (o : Option KeptDeletes). IfSome o
-        (AreDeletes entries)) c.in_ok-deletes.was c.requires.deletes in
+    (AreDeletes entries)) c.in_ok-deletes.was c.requires.deletes in
     (_, with_more (goal.at.grown-requires c).In_ok-more mine.0 mine.1)
 
 pub returns : goal.returns

@@ -34,10 +34,10 @@ loop-i-preserved c =
           let gain = gain_of (option_map (given kept) slot) (option_map (given entries) its) in
           let rest = gains (drop (suc i) cs) (drop (suc i) ds) in
           let pushed : entries_at entries c.push_gain.new.found.items ≡ before ++ filter holds_deletes
-              (entries_in gain) =
+          (entries_in gain) =
           c.in_ok-push_gain.ensures.pushed kept in
           let step : deletes_in (gains (drop i cs) (drop i ds)) ≡ filter holds_deletes
-              (entries_in gain) ++ deletes_in rest =
+          (entries_in gain) ++ deletes_in rest =
           ap deletes_in (gains-step cs ds i (option_map (given kept) slot) (option_map (given entries) its) m n
           (at-contents kept slots i slot c.index-slots-i.is) (at-contents entries other i its c.index-other-i.is))
           ∙ filter-append holds_deletes (entries_in gain) (kept_in rest) in

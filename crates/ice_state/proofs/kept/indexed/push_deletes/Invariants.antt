@@ -9,5 +9,5 @@ invariant-numbers l = record {
   kept : AreKept l.entries l.fn.found.items → AreKept l.entries l.found.items;
   pushed : entries_at l.entries l.found.items ≡ entries_at l.entries l.fn.found.items
       ++ filter holds_deletes
-          (entries_in (segment_at l.entries l.ordered.segment) (take l.number-index l.ordered.numbers));
+      (entries_in (segment_at l.entries l.ordered.segment) (take l.number-index l.ordered.numbers));
 }

@@ -22,7 +22,7 @@ files-preserved c =
           (λ k d lt. c.files.invariant.moved firsts kept are all k d lt)
           (λ d. subst (λ (n : FileNumber). StandsBehind firsts kept n c.behind.result) (sym (at d))
           (c.behind.ensures firsts kept are
-              (subst (IsKept kept) (at x) (kept_at_place kept old i x all (omega arith)))));
+          (subst (IsKept kept) (at x) (kept_at_place kept old i x all (omega arith)))));
       rest = λ k d far. set_rest now i c.behind.result k d far ∙ c.files.invariant.rest k d (omega arith);
     }
 

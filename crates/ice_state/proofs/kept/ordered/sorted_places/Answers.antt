@@ -19,4 +19,4 @@ pub returns-clause-once : goal.returns-clause-once
 returns-clause-once c = λ xs is t.
     let after = c.in_ok-rise.ensures in
     subst (λ (ys : List Entry). twice ys ≡ []) (after.sorted xs is.placed ∙ ap by_path is.all)
-        (after.once xs is.placed t)
+    (after.once xs is.placed t)

@@ -50,9 +50,9 @@ rows-preserved c =
           let ends : HasEnds run w.in-Some.run' =
           subst (λ (r : Option Run). IsRunOf run r) w.in-Some.is c.run_of.ensures in
           let between : 0 < length old
-              → is_lt (slice_cmp nat_cmp (path_at old (length old - 1)) (path_at run 0)) ≡ true =
+          → is_lt (slice_cmp nat_cmp (path_at old (length old - 1)) (path_at run 0)) ≡ true =
           λ some. subst (λ (p : List ℕ). is_lt (slice_cmp nat_cmp p (path_at run 0)) ≡ true)
-              (c.rows.invariant.before some)
+          (c.rows.invariant.before some)
           (subst (λ (p : List ℕ). is_lt (slice_cmp nat_cmp c.rows.before.now p) ≡ true) ends.first
           (sym (w.if-not-is_lt.ensures ∙ ap is_lt w.cmp.ensures))) in
           record {
@@ -63,7 +63,7 @@ rows-preserved c =
       | in_default w ↦
           let none : run ≡ [] = w.in_default.ensures in
           let same : old ≡ runs_at cs (take (i + 1) rows) = sym (append-nil old) ∙ ap (λ xs. old ++ xs) (sym none)
-              ∙ step in
+          ∙ step in
           record {
             rise = subst Rise same c.rows.invariant.rise;
             before = λ some. rw w.before-is (subst (λ (xs : List Entry). 0 < length xs

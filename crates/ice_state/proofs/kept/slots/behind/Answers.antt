@@ -12,7 +12,7 @@ returns-in-Good-clause-numbers c = λ firsts kept are all.
     omega (arith, c.saturating_add.ensures, few_behind c.args.before firsts kept are ordered.segment here.0) in
     let moved : Ordered =
     record { segment = c.saturating_add.result; numbers = ordered.numbers; order = ordered.order; rise = ordered.rise }
-        in
+    in
     is_in_behind c.args.before firsts kept are ordered moved here at refl refl refl
 
 pub returns-in-Good-clause-given : goal.returns-in-Good-clause-given
@@ -23,5 +23,5 @@ returns-in-Good-clause-given c = λ firsts kept are all.
     omega (arith, c.saturating_add.ensures, few_behind c.args.before firsts kept are ordered.segment here.0) in
     let moved : Ordered =
     record { segment = c.saturating_add.result; numbers = ordered.numbers; order = ordered.order; rise = ordered.rise }
-        in
+    in
     given_behind c.args.before firsts kept are ordered moved at refl ∙ sym (ap (given kept) c.in-Good.is)

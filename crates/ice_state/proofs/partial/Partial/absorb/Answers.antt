@@ -87,7 +87,7 @@ with_absorbed-requires c =
     let Are = λ (es : Segmented) (d : Option KeptDeletes). IfSome d (AreDeletes es) in
     let all = sym c.in_ok-before.ensures.ok in
     let state = state_kept mine (mine ++ others) slots c.self.inside.deletes
-        (keeps_firsts mine others) c.self.invariant in
+    (keeps_firsts mine others) c.self.invariant in
     let behind = c.absorbed_behind.ensures mine others gained (are (goal.at.with_absorbed-requires c).In_ok-before)
     (c.absorbed_deletes-absorbed.ensures mine) in
     record {
@@ -95,7 +95,7 @@ with_absorbed-requires c =
           subst (λ (es : Segmented). Are es c.take.result) all
           (subst (Are (mine ++ others)) (sym c.take.ensures.value)
           (if_some_of (mine ++ others)
-              (kept_in (contents (mine ++ others) slots)) c.self.inside.deletes state.all_deletes));
+          (kept_in (contents (mine ++ others) slots)) c.self.inside.deletes state.all_deletes));
       absorbed =
           subst (λ (es : Segmented). Are es c.absorbed_behind.result) all
           (if_some_of (mine ++ others) gained c.absorbed_behind.result behind);
@@ -120,7 +120,7 @@ invariant_of-self-2 c =
     ∙ sym (ap length c.other.view_is) in
     let same = entries_joined before gained alike in
     let More = λ (cs ds : Content). IfSome c.absorbed_deletes-absorbed.result
-        (AreDeletesOf others (kept_in (gains cs ds))) in
+    (AreDeletesOf others (kept_in (gains cs ds))) in
     let more : More before gained =
     subst (λ (ss : List (Option Taken)). More (contents all ss) gained) c.deref-3.ensures.value
     (subst (λ (ss : List (Option Taken)). More (contents all c.deref-3.result.now) (contents others ss))
@@ -130,7 +130,7 @@ invariant_of-self-2 c =
     → IfSome c.absorbed_behind.result (AreDeletesOf es ys)
     → IfSome c.with_absorbed.result (AreDeletesOf es (xs ++ ys)) in
     let joined = subst With c.in_ok-before.ensures.ok c.with_absorbed.ensures (kept_in before)
-        (kept_in (gains before gained))
+    (kept_in (gains before gained))
     was behind in
     let moved = subst (λ (cs : Content). IsPermutation (kept_in before ++ kept_in (gains before gained)) (kept_in cs))
     (sym (c.put_behind.ensures.rows kept others before_own c.other.invariant.numbers)) same in
@@ -163,7 +163,7 @@ returns-clause-ok c =
     ∙ c.put_behind.ensures.rows kept others are c.other.invariant.numbers
     ∙ ap (λ (s : Content). join s (contents others c.other.inside.slots.items))
     (contents-kept kept all (keeps_firsts kept others) c.self.inside.slots.items c.self.invariant.numbers
-        ∙ c.self.view_is)
+    ∙ c.self.view_is)
     ∙ ap (join c.args.self.now) c.other.view_is
 
 pub returns-clause-of_scan : goal.returns-clause-of_scan

@@ -12,7 +12,7 @@ pub with_index_of_all-deletes-requires : goal.with_index_of_all-deletes-requires
 with_index_of_all-deletes-requires c =
     let kept = c.self.inside.entries in
     if_some_of kept (kept_in
-        (contents kept c.self.inside.slots.items)) c.self.inside.deletes c.self.invariant.all_deletes
+    (contents kept c.self.inside.slots.items)) c.self.inside.deletes c.self.invariant.all_deletes
 
 pub returns-in_err-numbered-clause-snapshot : goal.returns-in_err-numbered-clause-snapshot
 returns-in_err-numbered-clause-snapshot c =

@@ -97,7 +97,7 @@ with_gained-requires c =
     let Have = λ (ss : List (Option Taken)). HaveNumbers c.gained.new.entries ss in
     let new = c.gained.new.entries in
     let state = state_kept c.self.inside.entries new slots c.self.inside.deletes c.gained.ensures.keeps
-        c.self.invariant in
+    c.self.invariant in
     record {
       same =
           ap (λ (ss : List (Option Taken)). length ss) c.deref-5.ensures.value ∙ sym many
@@ -141,11 +141,11 @@ invariant_of-self-2 c =
     length-contents new slots ∙ sym many ∙ sym (length-contents new gained) in
     let same = entries_joined before (contents new gained) alike in
     let With = λ (cs ds : Content). IfSome c.with_gained.result
-        (AreDeletesOf new (kept_in before ++ kept_in (gains cs ds))) in
+    (AreDeletesOf new (kept_in before ++ kept_in (gains cs ds))) in
     let more : With before (contents new gained) =
     subst (λ (ss : List (Option Taken)). With (contents new ss) (contents new gained)) c.deref-5.ensures.value
     (subst (λ (ss : List (Option Taken)). With (contents new c.deref-5.result.now)
-        (contents new ss)) c.deref-6.ensures.value
+    (contents new ss)) c.deref-6.ensures.value
     (c.with_gained.ensures new (kept_in before) was)) in
     let moved = subst (λ (cs : Content). IsPermutation (kept_in before ++ kept_in (gains before (contents new gained)))
     (kept_in cs)) (sym (c.put_all.ensures.rows new)) same in

@@ -85,7 +85,7 @@ returns-clause-ok g c =
     c.put_row.ensures.row new
     ∙ ap (λ (s : Content). with_row s c.args.i (given new c.in_ok-taken.field-0.taken))
     (contents-kept c.self.inside.entries new c.take_manifest.ensures.keeps c.self.inside.slots.items
-        c.self.invariant.numbers
+    c.self.invariant.numbers
     ∙ c.self.view_is)
     ∙ ap (λ (r : Reading). with_row c.args.self.now c.args.i r) c.in_ok-taken.ensures.given ∙ step
 

@@ -17,10 +17,10 @@ returns-in_ok-push c = λ xs has.
     ) in
     let here : holds Data (entry_at c.args.entries.now c.args.file) ≡ false =
     ap (λ (K : FileContent). same_content K Data) (sym c.content.ensures)
-        ∙ not_true (same_content c.content.result Data) other in
+    ∙ not_true (same_content c.content.result Data) other in
     let now : FilesByKind = record { data_files = c.args.self.now.data_files; delete_files = c.push.new.self } in
     deletes_more c.args.entries.now xs c.args.self.now now has c.args.file c.requires here c.in_ok-push.ensures.items
-        refl
+    refl
 
 pub returns-in_ok-push-2 : goal.returns-in_ok-push-2
 returns-in_ok-push-2 c = λ xs has.
@@ -30,4 +30,4 @@ returns-in_ok-push-2 c = λ xs has.
     let now : FilesByKind =
     record { data_files = c.push-else-ne.new.self; delete_files = c.args.self.now.delete_files } in
     data_more c.args.entries.now xs c.args.self.now now has c.args.file c.requires here c.in_ok-push-2.ensures.items
-        refl
+    refl

@@ -6,19 +6,12 @@ use Rattle.ice_manifest_reading.specs.declared.entry.Entry.{Entry}
 use Rattle.ice_state.proofs.DeletesKept.{deletes_moved}
 use Rattle.ice_state.proofs.kept.deletes.KeptDeletes.with.Goals as goal
 
-pub with_indexed-requires : goal.with_indexed-requires
-with_indexed-requires c = record {
-  mine = c.requires.mine;
-  others = (c.requires.others.1.first, c.requires.others.1.index);
-}
-
 pub returns : goal.returns
-returns c = λ xs ys are its.
-    let kept = c.args.entries.now in
-    let front = c.in_ok-both.ensures xs its.first are its.index in
+returns c = λ kept xs ys are its.
+    let front = c.in_ok-both.ensures kept xs its.first are its.index in
     let same : IsPermutation ((xs ++ its.first) ++ its.others) (xs ++ ys) =
     subst (λ (zs : List Entry). IsPermutation zs (xs ++ ys)) (sym (append_assoc xs its.first its.others))
     (IsPermutation-append_right xs (its.first ++ its.others) ys its.parts) in
     IfOk-weaker c.with_files.result _ _
-        (λ d more. deletes_moved kept ((xs ++ its.first) ++ its.others) (xs ++ ys) d same more)
+    (λ d more. deletes_moved kept ((xs ++ its.first) ++ its.others) (xs ++ ys) d same more)
     (c.with_files.ensures kept (xs ++ its.first) its.others front its.files its.waiting)

@@ -59,5 +59,5 @@ returns-then-eq c same =
     (line_of_parts ps c.args.i a b c.positions.ensures c.equalities.ensures)
     ∙ sym (deletes_there ds fs ps c.args.j (record { positions = a; equalities = b }) c.self.invariant.lines.each
     (line_of_parts ps c.args.j a b (rw positions c.positions-2.ensures) (rw equalities c.equalities-then-eq.ensures)))
-        in
+    in
     rw c.self.view_is at there

@@ -15,5 +15,5 @@ returns c = λ t.
     let none : deletes.numbers.now ≡ [] = grind (arith, common_steps) in
     subst (λ (ls : List OwnedLine). AllByRecursion LacksDeletes ls) c.self.view_is
     (subst (λ (ns : List FileNumber). AllByRecursion LacksDeletes
-        (lines_at (kept_at deletes.entries.now ns) files places))
+    (lines_at (kept_at deletes.entries.now ns) files places))
     (sym none) (lines_lack files places))

@@ -7,7 +7,7 @@ use Rattle.ice_state.proofs.plan.places.PlaceTable.without_places.Goals as goal
 pub invariant_of-result : goal.invariant_of-result
 invariant_of-result c =
     subst (λ (es : List Ends). RiseWithin (length c.new.result.items) 0 es)
-        (sym (c.in_ok-vec.ensures.items_if_clones_equal (λ y h. h)))
+    (sym (c.in_ok-vec.ensures.items_if_clones_equal (λ y h. h)))
     (no_rise (length c.new.result.items) c.args.lines)
 
 pub returns : goal.returns

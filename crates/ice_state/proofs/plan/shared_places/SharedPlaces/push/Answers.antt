@@ -46,5 +46,5 @@ pub returns-clause-ok : goal.returns-clause-ok
 returns-clause-ok c =
     let at = (goal.at.returns-clause-ok c).In_ok-push in
     subst (λ (ns : List ℕ). GainsLine c.args.self.now (lines_in c.push.new.self ns) (of_positions at)
-        (of_equalities at))
+    (of_equalities at))
     (sym (pushed (goal.at.returns-clause-ok c).In_ok-push-2)) (more at).gains
