@@ -3,9 +3,9 @@
 memory and time.
 
 Each case makes a table in a folder, in which two parts are as large as the size lets them be: literals and partition
-fields, a long name and many files, columns and entries. Then it runs a command on it by one worker and by four. No run
-may take more than 100 MB or 5 seconds of processor time, end out of memory, or have another status than the case
-wants.
+fields, a long name and many files, columns and entries; or in which a file is none: a pipe, one manifest under many
+names. Then it runs a command on it by one worker and by four. No run may take more than 100 MB or 5 seconds of
+processor time, end out of memory, wait for ever, or have another status than the case wants.
 
 With --long it also plans tables of 6,553 and of 65,535 manifests of 10 delete files each, the most that a manifest list
 may have beside one of data files: ten times as many may take no more than ten times the time, and an entry no more than
@@ -18,6 +18,7 @@ NAME..: these cases alone. MEGABYTES and SECONDS in the environment are other li
 import json
 import os
 import resource
+import signal
 import subprocess
 import sys
 import tempfile
@@ -127,7 +128,12 @@ def in_lists(column, literals):
     return " or ".join(f"{column} in ({','.join(literals[at:at + 1000])})" for at in range(0, len(literals), 1000))
 
 
+PIPE = object()
+
+
 class Case:
+    """Files by their names, of which some may be pipes, and the words of the commands."""
+
     def __init__(self, files, words, status=0, commands=("plan", "explain")):
         self.files, self.words, self.status, self.commands = files, words, status, commands
 
@@ -272,7 +278,28 @@ def small_members():
     return Case(of_table(metadata, [row("mem://t/m")], {"m": manifest}), [], 0, ("plan", "append", "show", "audit"))
 
 
-CASES = [identities_of_50_specs, identities, buckets, rows_of_large_specs, cut_texts, specs_of_one_field,
+def pipe_for_a_manifest():
+    """Whoever opened it would wait for its writer."""
+    manifest = container(entry_schema(), [entry("mem://t/f")])
+    rows = [row("mem://t/m"), row("mem://t/pipe")]
+    return Case(of_table(table([(1, "c", "int")], [[]]), rows, {"m": manifest, "pipe": PIPE}), [], 3,
+                ("plan", "explain", "audit", "append"))
+
+
+def pipe_for_a_list():
+    return Case({"t": table([(1, "c", "int")], [[]]), "l": PIPE}, [], 3, ("plan", "explain", "audit", "append"))
+
+
+def manifest_under_a_thousand_names():
+    """All are paths of one file to a system that passes over segments that are a dot."""
+    manifest = container(entry_schema(), [entry(f"{at:x}") for at in range(20000)])
+    dots = ["".join(("./" if at >> bit & 1 else "") + f"{bit}/" for bit in range(10)) for at in range(1000)]
+    rows = [row("mem://t/" + path + "m") for path in dots]
+    deep = "0/1/2/3/4/5/6/7/8/9/m"
+    return Case(of_table(table([(1, "c", "int")], [[]]), rows, {deep: manifest}), [], 3, ("plan", "explain"))
+
+
+CASES = [pipe_for_a_manifest, pipe_for_a_list, manifest_under_a_thousand_names, identities_of_50_specs, identities, buckets, rows_of_large_specs, cut_texts, specs_of_one_field,
          long_field_name, long_names_of_leaves, long_manifest_path, long_file_path, entries_without_maps, entries_with_one_bound, entries_with_turned_bounds,
          entries_with_an_excess, missing_columns, many_predicates, small_objects, small_members]
 
@@ -344,12 +371,15 @@ def made(folder, case):
     """Writes the case's files, and gives their size and that of the words."""
     for name, data in case.files.items():
         os.makedirs(os.path.dirname(os.path.join(folder, name)), exist_ok=True)
+        if data is PIPE:
+            os.mkfifo(os.path.join(folder, name))
+            continue
         with open(os.path.join(folder, name), "wb") as out:
             out.write(data)
     os.makedirs(os.path.join(folder, "metadata"))
     with open(os.path.join(folder, "change"), "w") as out:
         json.dump(CHANGE, out)
-    return sum(map(len, case.files.values())) + sum(map(len, case.words))
+    return sum(len(data) for data in case.files.values() if data is not PIPE) + sum(map(len, case.words))
 
 
 def words_of(command, folder, case, workers):
@@ -364,6 +394,7 @@ def words_of(command, folder, case, workers):
 def limited():
     resource.setrlimit(resource.RLIMIT_AS, (4 << 30, 4 << 30))
     resource.setrlimit(resource.RLIMIT_CPU, (60, 60))
+    signal.alarm(300)
 
 
 def run(program, words):

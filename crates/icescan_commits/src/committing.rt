@@ -80,6 +80,8 @@ fn prepare_from<F: Files>(
 {
     let metadata = read_metadata(alloc, bytes)?;
     let kept = read_base(alloc, files, &metadata)?;
+    // The version has metadata of its own: the two need not be there at once.
+    drop(metadata);
     let base = Version::open(alloc, bytes, kept)?;
     Ok(prepare(alloc, &base, change, ids)?)
 }
