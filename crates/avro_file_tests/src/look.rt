@@ -15,8 +15,3 @@ pub fn looks<T: Debug>(alloc: Global, value: &T, look: &str) -> bool {
         Err(_) => false,
     }
 }
-
-/// The same, also where a growth was refused at first.
-pub fn looks_at_last<T: Debug>(alloc: Global, value: &T, look: &str) -> bool {
-    looks(alloc, value, look) || looks(alloc, value, look)
-}

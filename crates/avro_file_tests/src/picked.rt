@@ -11,8 +11,6 @@ use avro_file_picked::Layout;
 use std::alloc::{AllocError, Global};
 use std::test::*;
 
-mod refusals;
-
 const MARKER: [u8; 16] = [0, 1, 2, 3, 4, 5, 6, 7, 8, 9, 10, 11, 12, 13, 14, 15];
 
 /// The number of up to 14 bits, as a file has it.

@@ -1,6 +1,4 @@
-//! The desk and its seats, and plans by workers.
+//! Workers at one desk.
 
-mod plans;
-mod refusals;
 mod table;
 mod threads;

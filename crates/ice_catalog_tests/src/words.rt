@@ -35,8 +35,3 @@ fn behind_plan<'a>(text: &'a [u8], lines: &Lines<'_>) -> Option<&'a [u8]> {
 pub fn is_plan(text: &str, lines: &Lines<'_>) -> bool {
     behind_plan(text.as_bytes(), lines) == Some(b"".as_slice())
 }
-
-/// Whether a text is a word and a path.
-pub fn is_path(text: &str, word: &str, path: &str) -> bool {
-    text.strip_prefix(word) == Some(path)
-}

@@ -1,10 +1,8 @@
 //! A small table: three manifests, whose files lie in memory.
 
-ghost use Rattle.std.specs.Prelude.{None};
-
 use crate::files::{PATHS, manifest};
 use contract_words::Text;
-use ice_desk::{Files, Gate, ReadFault};
+use ice_desk::ReadFault;
 use ice_filter::Bound;
 use ice_manifest_reading::{Counts, ManifestContent, Row};
 use ice_meta::Spec;
@@ -47,12 +45,6 @@ pub fn scan_of_three(alloc: Global) -> Option<Scan> {
     Scan::new(alloc, rows, specs, Bound::always(alloc)).ok()
 }
 
-/// The files of the manifests, those that are there.
-#[derive(Drop)]
-pub struct Stored {
-    pub there: [bool; 3],
-}
-
 /// Which of the manifests this path names.
 pub fn number_of(path: &str) -> Option<usize> {
     for i in 0..PATHS.len() {
@@ -69,30 +61,4 @@ pub fn file_of(alloc: Global, which: usize) -> Result<Vec<u8>, ReadFault> {
         Ok(bytes) => Ok(bytes),
         Err(_) => Err(ReadFault::Memory),
     }
-}
-
-impl Files for Stored {
-    ghost world = { λ f. None };
-
-    ghost gives = { λ f path found. Unit {0} };
-
-    ghost may_fail = { λ f path. Unit {0} };
-
-    fn read(&self, alloc: Global, path: &str) -> Result<Vec<u8>, ReadFault> {
-        let Some(which) = number_of(path) else {
-            return Err(ReadFault::Absent);
-        };
-        if which >= self.there.len() || !self.there[which] {
-            return Err(ReadFault::Absent);
-        }
-        file_of(alloc, which)
-    }
-}
-
-/// Lets each read pass.
-#[derive(Drop)]
-pub struct Open;
-
-impl Gate for Open {
-    fn before_take(&self, _worker: usize, _i: usize) {}
 }
