@@ -6,5 +6,5 @@ mod calls;
 mod given;
 
 pub use answers::{filters_mean_their_texts, what_an_answer_lacks_has_no_match};
-pub use calls::{commit_to, file_verdict, plan_file, plan_file_json, run_plan_with, show_below};
+pub use calls::{commit_below, file_fate, show_below};
 pub use given::{commits_of_a_world, plans_of_a_world};

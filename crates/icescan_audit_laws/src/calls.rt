@@ -1,11 +1,9 @@
 //! Public calls once more, each under the one clause that its wrong implementation turns, so that the gate can try that
 //! implementation cheaply.
 
-ghost use Rattle.std.specs.Prelude.{◌≡◌, ◌++◌, IfOk, List, Ok, OnOk, length, ℕ};
-ghost use Rattle.icescan_audit_findings.specs.Findings.{manifest_findings};
+ghost use Rattle.std.specs.Prelude.{◌≡◌, IfOk, List, Ok, ℕ};
 ghost use Rattle.icescan_audit_findings.specs.Repeats.{live_files};
 ghost use Rattle.ice_manifest_reading.specs.Manifests.{live_of};
-ghost use Rattle.ice_manifest_reading.specs.Tallying.{tallies_of};
 ghost use Rattle.ice_manifest_reading.specs.declared.entry.Live.{Live};
 ghost use Rattle.icescan_audit_findings.specs.Dangling.{delete_findings};
 ghost use Rattle.icescan_audit.specs.AnyFiles.{WritesAnAudit};
@@ -20,33 +18,38 @@ use icescan_text::RunFault;
 use std::alloc::{AllocError, Global};
 use std::thread::Threads;
 
-/// Puts the findings on a manifest and the files of its live entries last, and gives the number of these.
-pub fn audit_manifest(
+/// The live files of a manifest.
+pub fn live_files(
     alloc: Global,
     basis: &Basis,
     row: &Row,
     spec: &Spec,
     bytes: &[u8],
-    findings: &mut Items<Finding>,
-    files: &mut Vec<LiveFile>,
-) -> Result<usize, ManifestFault>
-    ensures { IfOk result (λ number. (lives : List Live) × (live_of row.now spec.now bytes.now ≡ Ok lives)
-        × (number ≡ length lives)
-        × (findings.new ≡ findings.old ++ manifest_findings basis.now row.now spec.now (tallies_of bytes.now) lives)
-        × (files.new.items ≡ files.old.items ++ live_files basis.now row.now lives)) }
+) -> Result<Vec<LiveFile>, ManifestFault>
+    ensures { IfOk result (λ files. (lives : List Live) × (live_of row.now spec.now bytes.now ≡ Ok lives)
+        × (files.items ≡ live_files basis.now row.now lives)) }
 {
-    icescan_audit_findings::audit_manifest(alloc, basis, row, spec, bytes, findings, files)
+    let mut files = Vec::new(alloc);
+    let mut findings = Items::new(alloc);
+    let _number = icescan_audit_findings::audit_manifest(
+        alloc,
+        basis,
+        row,
+        spec,
+        bytes,
+        &mut findings,
+        &mut files,
+    )?;
+    Ok(files)
 }
 
-/// Puts the findings last on delete files that name no live data file, and on those that apply to none.
-pub fn push_delete_findings(
-    alloc: Global,
-    findings: &mut Items<Finding>,
-    files: &[LiveFile],
-) -> Result<(), AllocError>
-    ensures { OnOk result (findings.new ≡ findings.old ++ delete_findings files.now) }
+/// The findings on delete files that name no live data file, and on those that apply to none.
+pub fn delete_findings(alloc: Global, files: &[LiveFile]) -> Result<Items<Finding>, AllocError>
+    ensures { IfOk result (λ findings. findings ≡ delete_findings files.now) }
 {
-    icescan_audit_findings::push_delete_findings(alloc, findings, files)
+    let mut findings = Items::new(alloc);
+    icescan_audit_findings::push_delete_findings(alloc, &mut findings, files)?;
+    Ok(findings)
 }
 
 /// Audits a snapshot of the table whose metadata is in the file at a path.
