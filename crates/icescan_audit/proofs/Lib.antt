@@ -5,3 +5,4 @@ pub mod Strays
 pub mod Steps
 pub mod Ranges
 mod Sends
+pub mod JsonWritten

@@ -113,7 +113,7 @@ manifest_other basis row spec tallies lives =
     let limits = row_limits spec row.partitions in
     let r = from_flat (entry_findings basis row limits) lives f c in
     made_other (finding_of row r.0.entry) (λ _. refl) (live_flaws basis row limits r.0)
-        (live_other basis row limits r.0)
+    (live_other basis row limits r.0)
     f r.2)
 
 repeat_other : (b : Bool) (x : LiveFile) → AreOthers (repeat_where b x)

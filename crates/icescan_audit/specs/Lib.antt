@@ -5,3 +5,4 @@ pub mod Premises
 pub mod Strays
 pub mod AnyFiles
 pub mod Readings
+pub mod JsonLines

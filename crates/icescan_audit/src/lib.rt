@@ -1,16 +1,20 @@
-//! Audits of a table's snapshot over any files: every manifest is read, and what is found is written, line by line.
+//! Audits of a table's snapshot over any files: every manifest is read, and what is found is written, line by
+//! line, as text or as JSON.
 #![tactic(auto)]
 
 mod audit;
 mod by_workers;
+mod json_lines;
 mod laws;
 mod lines;
 mod manifests;
 mod running;
+mod running_json;
 mod subject;
 
 pub use audit::{Audit, Reading};
 pub use icescan_audit_findings::{Basis, Finding, Flaw, LiveFile, TypedColumn};
 pub use laws::{audits_tell_of_deletes, audits_tell_of_summaries};
 pub use running::{audit_file, run_audit};
+pub use running_json::audit_file_json;
 pub use subject::{Subject, select_subject};

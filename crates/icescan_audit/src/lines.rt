@@ -33,7 +33,7 @@ fn count_name(count: Count) -> &'static [u8]
     }
 }
 
-fn flaw_name(flaw: &Flaw) -> &'static [u8]
+pub fn flaw_name(flaw: &Flaw) -> &'static [u8]
     ensures { result.now ≡ flaw_name flaw.now }
 {
     match flaw {

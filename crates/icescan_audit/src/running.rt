@@ -24,7 +24,7 @@ use std::alloc::Global;
 use std::thread::Threads;
 
 /// What a snapshot's audit finds, by so many workers.
-fn audit_table<R: Threads + Sync, F: Files + Sync>(
+pub(crate) fn audit_table<R: Threads + Sync, F: Files + Sync>(
     rt: &R,
     alloc: Global,
     files: &F,

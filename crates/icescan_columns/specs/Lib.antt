@@ -4,3 +4,4 @@ pub mod Names
 pub mod Told
 pub mod Texts
 pub mod TypeNames
+pub mod JsonLines

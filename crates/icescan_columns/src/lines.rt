@@ -80,7 +80,7 @@ fn yes_or_no(truth: bool) -> &'static [u8]
     if truth { b"yes" } else { b"no" }
 }
 
-fn compared_word(compared: Compared) -> &'static [u8]
+pub fn compared_word(compared: Compared) -> &'static [u8]
     ensures { result.now ≡ compared_word compared }
 {
     match compared {

@@ -119,7 +119,7 @@ module _ (filter : List (Part BoundPredicate)) (spec : Spec) where
   row_predicate None out name h = absurd cc
   row_predicate (Some ss) out name h =
       let p = full (length ss == length spec.fields)
-          (meaning (tests_allowed ss) (tree_of (projection filter spec).parts))
+      (meaning (tests_allowed ss) (tree_of (projection filter spec).parts))
       out in
       let found = a_predicate filter spec (field_test_allowed ss) (allowed (Some ss)) (λ t. rw p.0 refl) name h in
       (found.0, found.1, whole (length ss == length spec.fields) _ p.0 found.2)
@@ -130,7 +130,7 @@ module _ (filter : List (Part BoundPredicate)) (spec : Spec) where
   no_row_predicate None h out = absurd cc
   no_row_predicate (Some ss) h out =
       let p = full (length ss == length spec.fields)
-          (meaning (tests_allowed ss) (tree_of (projection filter spec).parts))
+      (meaning (tests_allowed ss) (tree_of (projection filter spec).parts))
       out in
       no_predicate filter spec (field_test_allowed ss) (allowed (Some ss)) (λ t. rw p.0 refl) h p.1
 

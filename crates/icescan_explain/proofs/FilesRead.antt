@@ -30,7 +30,7 @@ pub lives_there : (world : World) (of_spec : SpecTests) (row : Row) (bytes : Lis
     → lives_at world of_spec row ≡ live_or_none (Some (live_of row of_spec.spec bytes))
 lives_there world of_spec row bytes h =
     ap (λ (o : Option (List ℕ)). live_or_none (option_map (live_of row of_spec.spec) o))
-        (bytes_in world row.path bytes h)
+    (bytes_in world row.path bytes h)
 
 has_at : (world : World) (rows : List Row) (i : ℕ) (row : Row) (bytes : List ℕ) → slice_get rows i ≡ Some row
     → world row.path ≡ Some bytes → HasBytesAt world rows i bytes

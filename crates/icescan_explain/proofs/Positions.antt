@@ -97,7 +97,7 @@ module _ (spec : Spec) (n : ℕ) where
   of_predicate : (l : BoundPredicate) → AreWithin 0 (length spec.fields) (predicate_tests 0 (fields_of spec) l)
   of_predicate l =
       let end : 0 + length (map field_of spec.fields) ≡ length spec.fields = omega
-          (arith, length-map spec.fields field_of)
+      (arith, length-map spec.fields field_of)
       in subst (λ e. AreWithin 0 e (predicate_tests 0 (fields_of spec) l)) end (tests_within 0 (fields_of spec) l)
 
   pub named : (ps : List (Part BoundPredicate))

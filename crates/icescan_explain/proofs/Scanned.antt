@@ -37,6 +37,6 @@ module _ (specs : List Spec) (filter : List (Part BoundPredicate)) (spec : Spec)
       ≡ keeps (pruner_of filter specs) l
   file_kept columns l is =
       kept_file (part_meets (projection filter spec) l.entry.file.tuple) (holds Data l.entry)
-          (file_may filter l.bounds) _ _
+      (file_may filter l.bounds) _ _
       ∙ ap (λ (o : Option Spec). by_projection filter (λ part. part_meets part l.entry.file.tuple) o
       && (not (holds Data l.entry) || file_may filter l.bounds)) (sym is)

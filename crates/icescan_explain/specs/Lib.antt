@@ -11,3 +11,4 @@ pub mod RowsTold
 pub mod Explanations
 pub mod Told
 pub mod AnyFiles
+pub mod JsonLines

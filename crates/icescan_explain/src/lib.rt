@@ -9,11 +9,13 @@ mod copies;
 mod counts;
 mod explained;
 mod files;
+mod json_lines;
 mod laws;
 mod lines;
 mod lone;
 mod manifests;
 mod running;
+mod running_json;
 mod tests;
 mod verdict;
 
@@ -23,5 +25,6 @@ pub use laws::{fates_are_those_of_scans, left_out_names_a_predicate, named_predi
 pub use lone::{LonePredicate, LoneTest};
 pub use manifests::Explanation;
 pub use running::{explain_file, run_explain};
+pub use running_json::explain_file_json;
 pub use tests::{FilterTests, SpecTests, row_verdict};
 pub use verdict::{Fate, Subject, Verdict};

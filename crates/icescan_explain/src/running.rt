@@ -20,7 +20,7 @@ use icescan_text::{Request, RunFault, Workers, read_file};
 use std::alloc::Global;
 
 /// The plan that a request asks for, and what became of the snapshot's manifests and live files.
-fn explain_table<F: Files>(
+pub(crate) fn explain_table<F: Files>(
     alloc: Global,
     files: &F,
     metadata: &[u8],

@@ -21,7 +21,8 @@ use Rattle.ice_state.specs.Lines.{AreWithin, IsLineWithin}
 use Rattle.icescan_json.specs.declared.types.SpecTypes.{SpecTypes}
 use Rattle.icescan_json.specs.Types.{types_of}
 use Rattle.icescan_json.specs.Dates.{time_text}
-use Rattle.icescan_json.specs.Values.{number_json, time_json, whole_json, bytes_json, cell_json, cells_json, type_at}
+use Rattle.icescan_forms.specs.Objects.{number_json}
+use Rattle.icescan_json.specs.Values.{time_json, whole_json, bytes_json, cell_json, cells_json, type_at}
 use Rattle.icescan_json.specs.PlanJson.{member_if, file_members, format_name, kind_members, delete_json}
 use Rattle.icescan_json.specs.PlanJson.{data_json, references, task_json, tasks_json, plan_json}
 use Rattle.icescan_json.specs.Told.{FitsCell, FitsEntry, HasFittingNumbers}

@@ -1,13 +1,10 @@
-pub mod Each
 pub mod Escapes
 pub mod Days
-pub mod Numbered
 pub mod Objects
 pub mod ReadBack
 pub mod Fitting
 pub mod Tellings
 pub mod TellingsWhole
-pub mod Lists
 pub mod Tasks
 pub mod Points
 pub mod Needed

@@ -14,14 +14,15 @@ use Rattle.ice_manifest_reading.specs.declared.entry.Entry.{Entry}
 use Rattle.ice_state.specs.PlaceLists.{LinePlaces}
 use Rattle.ice_state.specs.PlacedFiles.{PlanPlaces}
 use Rattle.icescan_json.specs.declared.types.SpecTypes.{SpecTypes}
-use Rattle.icescan_json.specs.Values.{number_json, cell_json, cells_json, type_at}
+use Rattle.icescan_forms.specs.Objects.{number_json}
+use Rattle.icescan_json.specs.Values.{cell_json, cells_json, type_at}
 use Rattle.icescan_json.specs.Types.{types_of}
 use Rattle.icescan_json.specs.PlanJson.{member_if, content_name, format_name, file_members, kind_members, delete_json}
 use Rattle.icescan_json.specs.PlanJson.{data_json, references, task_json, tasks_json}
 use Rattle.icescan_json.specs.Texts.{file_head, file_partition, file_sizes, file_text, format_text, kind_text}
 use Rattle.icescan_json.specs.Texts.{referenced_text, references_text, ids_text, deletes_text, tasks_text, json_text}
-use Rattle.icescan_json.proofs.Each.{each_same, items_all, items_each, items_by_place}
-use Rattle.icescan_json.proofs.Numbered.{number_text_is}
+use Rattle.icescan_forms.proofs.Each.{each_same, items_all, items_each, items_by_place}
+use Rattle.icescan_forms.proofs.Numbered.{number_text_is}
 
 sizes : (x : Entry) (rest : Members) → members_text true (member (codes "file-size-in-bytes")
     (number_json x.file.file_size) (member (codes "record-count") (number_json x.file.record_count) rest))

@@ -7,7 +7,7 @@ use Rattle.std.specs.Fmt.{decimal}
 use Rattle.std.proofs.lemmas.Bool.{le-ltb}
 use Rattle.json.specs.Print.{escape, quoted}
 use Rattle.icescan_json.specs.Decimals.{decimal_text, minus_if, scaled, with_point}
-use Rattle.icescan_json.proofs.Escapes.{escape_append}
+use Rattle.icescan_forms.proofs.Escapes.{escape_append}
 
 -- where there are more digits than stand behind the point
 pub point_within : (scale : ℕ) (ds : List ℕ) → scale < length ds → escape (with_point scale ds)

@@ -8,11 +8,11 @@ use Rattle.serde_json.specs.Written.{compact_text}
 use Rattle.ice_manifest_reading.specs.declared.entry.Entry.{Entry}
 use Rattle.ice_state.specs.PlaceLists.{LinePlaces}
 use Rattle.icescan_json.specs.declared.types.SpecTypes.{SpecTypes}
-use Rattle.icescan_json.specs.Pieces.{each_from}
+use Rattle.icescan_forms.specs.Pieces.{each_from}
 use Rattle.icescan_json.specs.PlanJson.{data_json, tasks_json}
 use Rattle.icescan_json.specs.Texts.{references_text}
-use Rattle.icescan_json.proofs.Each.{each_append}
-use Rattle.icescan_json.proofs.Lists.{from_zero}
+use Rattle.icescan_forms.proofs.Each.{each_append}
+use Rattle.icescan_forms.proofs.Lists.{from_zero}
 use Rattle.icescan_json.proofs.Objects.{task_is}
 
 pub references_none : (ps es : List ℕ) → length ps + length es ≡ 0 → references_text (ps ++ es) ≡ []

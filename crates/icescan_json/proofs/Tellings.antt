@@ -18,7 +18,8 @@ use Rattle.icescan_json.specs.PlanJson.{content_name, member_if, file_members, f
 use Rattle.icescan_json.specs.PlanJson.{data_json, references}
 use Rattle.icescan_json.specs.PlanJson.{task_json, tasks_json, plan_json}
 use Rattle.icescan_json.specs.Types.{types_of}
-use Rattle.icescan_json.specs.Values.{cells_json, number_json}
+use Rattle.icescan_forms.specs.Objects.{number_json}
+use Rattle.icescan_json.specs.Values.{cells_json}
 use Rattle.icescan_json.specs.Told.{by_key, items_by_key, each_item, named_in, path_in, path_of, paths_of, task_told}
 use Rattle.icescan_json.specs.Told.{told}
 use Rattle.icescan_json.specs.Told.{items_in}

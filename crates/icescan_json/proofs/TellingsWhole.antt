@@ -26,7 +26,8 @@ use Rattle.icescan_json.specs.Dates.{time_text}
 use Rattle.icescan_json.specs.PlanJson.{content_name, member_if, file_members, format_name, kind_members, delete_json}
 use Rattle.icescan_json.specs.PlanJson.{data_json, task_json, tasks_json, plan_json}
 use Rattle.icescan_json.specs.Types.{types_of}
-use Rattle.icescan_json.specs.Values.{number_json, time_json, whole_json, bytes_json, cell_json, cells_json, type_at}
+use Rattle.icescan_forms.specs.Objects.{number_json}
+use Rattle.icescan_json.specs.Values.{time_json, whole_json, bytes_json, cell_json, cells_json, type_at}
 use Rattle.icescan_json.specs.Told.{by_key, items_by_key, each_item}
 use Rattle.icescan_json.specs.ToldWhole.{ToldFile, number_in, file_in, delete_in, task_in, told_whole}
 use Rattle.icescan_json.specs.ToldWhole.{content_named, file_as, delete_of, files_of}

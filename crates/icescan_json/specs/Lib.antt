@@ -5,6 +5,5 @@ pub mod Types
 pub mod PlanJson
 pub mod Told
 pub mod ToldWhole
-pub mod Pieces
 pub mod Texts
 pub mod JsonAnswers

@@ -12,7 +12,8 @@ use Rattle.ice_state.specs.PlaceLists.{LinePlaces}
 use Rattle.ice_state.specs.PlacedFiles.{PlanPlaces}
 use Rattle.icescan_json.specs.Types.{types_of}
 use Rattle.icescan_json.specs.declared.types.SpecTypes.{SpecTypes}
-use Rattle.icescan_json.specs.Values.{number_json, cells_json}
+use Rattle.icescan_forms.specs.Objects.{number_json}
+use Rattle.icescan_json.specs.Values.{cells_json}
 
 -- a member that is left out where there is no value
 abbrev pub member_if : List ℕ → Option Data → Members → Members

@@ -11,7 +11,7 @@ use Rattle.ice_manifest_reading.specs.declared.data_file.DataFile.{DataFile}
 use Rattle.ice_manifest_reading.specs.declared.entry.Entry.{Entry}
 use Rattle.ice_state.specs.Lines.{OwnedLine}
 use Rattle.ice_state.specs.PlacedFiles.{plan_of, ArePlaced, PlanPlaces}
-use Rattle.icescan_json.specs.Pieces.{each_from}
+use Rattle.icescan_forms.specs.Pieces.{each_from}
 use Rattle.icescan_json.specs.PlanJson.{content_name, format_name, delete_json, plan_json, tasks_json}
 use Rattle.icescan_json.specs.Types.{types_of}
 use Rattle.icescan_json.specs.declared.types.SpecTypes.{SpecTypes}

@@ -4,7 +4,7 @@
 use Rattle.std.specs.Prelude.{ℕ, ◌/◌, ◌%◌, ◌==◌, List, [], ◌∷◌, ◌++◌, if◌then◌else◌, codes, length, map}
 use Rattle.std.specs.Prelude.{Option, Some, None, ℤ, pos, negsuc, nat_lt}
 use Rattle.std.specs.List.{enumerate_from, flat_map, slice_get}
-use Rattle.serde_json.specs.Data.{Num, unsigned, negative, Data, null, boolean, number, string, Items}
+use Rattle.serde_json.specs.Data.{Data, null, boolean, string, Items}
 use Rattle.serde_json.specs.View.{items_of}
 use Rattle.uuid.specs.Text.{hyphenated_text, lower}
 use Rattle.ice_value.specs.declared.cell.Cell.{Cell}
@@ -12,17 +12,10 @@ use Rattle.ice_value.specs.declared.cell.Cell.TheVariants.{Null, Bool as Flag, W
 use Rattle.ice_value.specs.declared.column_type.ColumnType.{ColumnType}
 use Rattle.ice_value.specs.declared.column_type.ColumnType.TheVariants.{Date, Time, Timestamp, Timestamptz, Uuid}
 use Rattle.ice_value.specs.declared.column_type.ColumnType.TheVariants.{Decimal}
+use Rattle.icescan_forms.specs.Objects.{number_json}
 use Rattle.icescan_print.specs.Escaping.{hex_digit}
 use Rattle.icescan_json.specs.Dates.{date_text, time_text, timestamp_text}
 use Rattle.icescan_json.specs.Decimals.{decimal_text, is_decimal, unscaled}
-
--- a whole number
-abbrev pub num_of : ℤ → Num
-num_of (pos n) = unsigned n
-num_of (negsuc n) = negative (negsuc n)
-
-abbrev pub number_json : ℤ → Data
-number_json z = number (num_of z)
 
 -- so many microseconds after midnight are a time of the day
 abbrev pub time_json : ℤ → Data

@@ -10,8 +10,7 @@ ghost use Rattle.icescan_json.specs.Dates.{timestamp_text};
 ghost use Rattle.icescan_json.specs.Dates.{day_of_micros, time_of_micros};
 ghost use Rattle.icescan_json.specs.Dates.{CalendarDate, near_year, near_month, near_day};
 
-use crate::pieces::put_quoted;
-use crate::quotes::put_escaped;
+use icescan_forms::{put_escaped, put_quoted};
 use icescan_print::{Page, Sink, SinkFault};
 use itoa::Buffer;
 use jiff_core::civil::Date;

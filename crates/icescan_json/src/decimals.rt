@@ -6,7 +6,7 @@ ghost use Rattle.icescan_print.specs.Written.{Sent};
 ghost use Rattle.icescan_json.specs.Decimals.{decimal_text, is_decimal, minus_if, scaled, sign_byte, unscaled, widened};
 ghost use Rattle.icescan_json.specs.Decimals.{with_point};
 
-use crate::quotes::put_escaped;
+use icescan_forms::put_escaped;
 use icescan_print::{Page, Sink, SinkFault};
 use itoa::Buffer;
 

@@ -9,11 +9,11 @@ ghost use Rattle.icescan_json.specs.PlanJson.{content_name, data_json, delete_js
 ghost use Rattle.icescan_json.specs.Texts.{file_head, file_partition, file_sizes, file_text, format_text, kind_text};
 ghost use Rattle.icescan_json.specs.Texts.{referenced_text};
 
-use crate::pieces::{put_ids, put_quoted};
 use crate::types::{SpecTypes, types_of};
 use crate::values::put_cells;
 use ice_state::PlanFile;
 use ice_value::FileContent;
+use icescan_forms::{put_ids, put_quoted};
 use icescan_print::{Page, Sink, SinkFault};
 
 fn content_name(content: FileContent) -> &'static [u8]

@@ -11,10 +11,10 @@ ghost use Rattle.icescan_json.specs.Texts.{deletes_text, json_text, needed, refe
 ghost use Rattle.icescan_json.specs.Types.{spec_types};
 
 use crate::files::{put_data_file, put_delete_file};
-use crate::pieces::{comma_before, put_places};
 use crate::types::{SpecTypes, types_of_specs};
 use ice_meta::Spec;
 use ice_state::{Lines, PlacedFiles};
+use icescan_forms::{comma_before, put_places};
 use icescan_print::{Page, Sink, SinkFault};
 use std::alloc::{AllocError, Global};
 

@@ -11,9 +11,8 @@ ghost use Rattle.icescan_json.specs.Values.{uuid_json, whole_json};
 
 use crate::dates::{put_date, put_time, put_timestamp};
 use crate::decimals::{is_decimal, put_decimal_text, unscaled};
-use crate::pieces::{comma_before, put_quoted};
-use crate::quotes::{hex_digit, put_escaped};
 use ice_value::{Cell, ColumnType};
+use icescan_forms::{comma_before, hex_digit, put_escaped, put_quoted};
 use icescan_print::{Page, Sink, SinkFault};
 use uuid::Uuid;
 

@@ -1,7 +1,7 @@
 //! The words by which other commands are told of a table in a folder.
 
 ghost use Rattle.std.specs.Prelude.{◌≡◌, ◌==◌, IfOk, Some, position, string_bytes};
-ghost use Rattle.icescan_locate.specs.Located.{below, first_line, hint_in, words_text};
+ghost use Rattle.icescan_locate.specs.Located.{below, first_line, hint_in, metadata_path, words_text};
 
 use ice_meta_files::number_of;
 use icescan_text::Separator;
@@ -17,6 +17,15 @@ pub fn below(alloc: Global, path: &str, name: &str) -> Result<String, AllocError
     }
     joined.push_str(name)?;
     Ok(joined)
+}
+
+/// The path of the metadata of a name, below a folder or a location.
+pub fn metadata_path(alloc: Global, folder: &str, name: &str) -> Result<String, AllocError>
+    ensures { IfOk result (λ path. string_bytes path ≡ metadata_path folder.now name.now) }
+{
+    let mut rest = String::from_str(alloc, "metadata/")?;
+    rest.push_str(name)?;
+    below(alloc, folder, rest.as_str())
 }
 
 /// Where the first line feed is.

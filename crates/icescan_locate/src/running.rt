@@ -3,11 +3,13 @@
 ghost use Rattle.std.specs.Prelude.{◌≡◌, ◌≢◌, ℕ, List, Option, Ok, Some, None, IfErr, IfOk, IsErrOf, OnOk};
 ghost use Rattle.std.specs.Prelude.{string_bytes};
 ghost use Rattle.ice_meta_files.specs.declared.newest_fault.NewestFault.{NewestFault};
+ghost use Rattle.icescan_locate.specs.Dated.{AreThere, HasNoFiles, WroteDated};
 ghost use Rattle.icescan_locate.specs.Located.{Found, HasLocation, HasNoNewest, WroteLocated};
 ghost use Rattle.icescan_locate.specs.Located.{hint_in, hint_path};
 ghost use Rattle.icescan_locate.specs.Located.{metadata_folder, metadata_path};
 
-use crate::located::{below, hint_of, words_text};
+use crate::dated::{DatedFile, dated_files, sort_files, write_files};
+use crate::located::{below, hint_of, metadata_path, words_text};
 use contract_words::Text;
 use ice_desk::{Files, ReadFault};
 use ice_meta::Metadata;
@@ -15,7 +17,7 @@ use ice_meta_files::{NewestFault, newest_metadata};
 use icescan_files::{Below, Folders};
 use icescan_print::{Sink, write_all};
 use icescan_text::{RunFault, Separator, read_file};
-use std::alloc::{AllocError, Global};
+use std::alloc::Global;
 
 /// The names in the folder of a table's metadata.
 fn metadata_names<S: Folders>(
@@ -71,15 +73,6 @@ pub fn newest_name<S: Folders>(alloc: Global, folders: &S, folder: &str) -> Resu
     }
 }
 
-/// The path of the metadata of a name, below a folder or a location.
-fn metadata_path(alloc: Global, folder: &str, name: &str) -> Result<String, AllocError>
-    ensures { IfOk result (λ path. string_bytes path ≡ metadata_path folder.now name.now) }
-{
-    let mut rest = String::from_str(alloc, "metadata/")?;
-    rest.push_str(name)?;
-    below(alloc, folder, rest.as_str())
-}
-
 /// The metadata of a name.
 fn read_metadata<F: Files>(
     alloc: Global,
@@ -120,4 +113,47 @@ pub fn locate_folder<S: Folders, W: Sink>(
     let text = words_text(alloc, separator, folder, location, path.as_str())?;
     write_all(output, &text)?;
     Ok(())
+}
+
+/// The metadata files in the folder `metadata` below a folder, as they stand in its listing.
+fn files_below<S: Folders>(
+    alloc: Global,
+    folders: &S,
+    folder: &str,
+) -> Result<Vec<DatedFile>, RunFault>
+    ensures found { IfOk result (λ files. AreThere (S.lists folders.now) (S.gives folders.now folder.now folder.now)
+        folder.now files.items) }
+    ensures refused { (why : NewestFault) → IsErrOf result (RunFault.Locate why) →
+        HasNoFiles (S.lists folders.now) folder.now why }
+{
+    let names = metadata_names(alloc, folders, folder)?;
+    let files = dated_files(alloc, &Below::new(folders, folder, folder), folder, &names)?;
+    if files.is_empty() {
+        Err(RunFault::Locate(NewestFault::NoMetadata))
+    } else {
+        Ok(files)
+    }
+}
+
+/// Writes each metadata file of the table in a folder, the newest first: the number in its name, the time that it says,
+/// and its name.
+///
+/// The refusal is `Locate` where there is no folder `metadata`, or no metadata file in it; `Device` where that folder or
+/// one of the files can't be read; `Write` where a write failed, and then a front of the lines was written; or `Memory`.
+/// After any refusal but `Write` nothing was written.
+pub fn locate_all<S: Folders, W: Sink>(
+    alloc: Global,
+    folders: &S,
+    folder: &str,
+    output: &mut W,
+) -> Result<(), RunFault>
+    ensures located { OnOk result (WroteDated (S.lists folders.now) (S.gives folders.now folder.now folder.now)
+        folder.now (W.taken output.old) (W.taken output.new)) }
+    ensures refused { (why : NewestFault) → IsErrOf result (RunFault.Locate why) →
+        HasNoFiles (S.lists folders.now) folder.now why }
+    ensures nothing { IfErr result (λ fault. fault ≢ RunFault.Write → W.taken output.new ≡ W.taken output.old) }
+{
+    let mut files = files_below(alloc, folders, folder)?;
+    sort_files(&mut files)?;
+    write_files(alloc, &files, output)
 }

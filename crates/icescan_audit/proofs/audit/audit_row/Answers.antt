@@ -17,7 +17,7 @@ returns-in_err-spec-clause-refused g c =
 pub returns-in_err-read_file_into-clause-refused : goal.returns-in_err-read_file_into-clause-refused
 returns-in_err-read_file_into-clause-refused g c =
     let p = err_from_is_err_and c.from_residual-in_err-read_file_into.result
-        c.from_residual-in_err-read_file_into.ensures.1 in
+    c.from_residual-in_err-read_file_into.ensures.1 in
     let known = rw c.as_slice.ensures at c.in_ok-spec.ensures.ok in
     λ world told.
     let refused = rw c.as_str.ensures at (c.in_err-read_file_into.ensures.refused world told) in
@@ -31,7 +31,7 @@ returns-in_err-entries-clause-refused g c =
     let known = rw c.as_slice.ensures at c.in_ok-spec.ensures.ok in
     λ world told.
     let has = (rw c.as_str.ensures at (c.in_ok-read_file_into.ensures.found world told))
-        ∙ ap Ok (sym c.as_slice-2.ensures.value) in
+    ∙ ap Ok (sym c.as_slice-2.ensures.value) in
     rw (p.1, p.2)
     (no_entries (g.F.Files.may_fail c.args.files.now) world c.args.basis.now c.args.row.now c.in_ok-spec.spec.now known
     c.as_slice-2.result.now has c.in_err-entries.field-0.0 c.in_err-entries.ensures.refused)
@@ -42,7 +42,7 @@ returns-clause-found g c =
     let found = c.in_ok-entries.ensures.found in
     λ world told.
     let has = (rw c.as_str.ensures at (c.in_ok-read_file_into.ensures.found world told))
-        ∙ ap Ok (sym c.as_slice-2.ensures.value) in
+    ∙ ap Ok (sym c.as_slice-2.ensures.value) in
     let is = row_there (g.F.Files.may_fail c.args.files.now) world c.args.basis.now c.args.row.now
     c.in_ok-spec.spec.now known c.as_slice-2.result.now has found.0 found.1 in
     (_, is, refl, sym found.2, found.3, found.4)
@@ -59,11 +59,11 @@ returns-in_err-spec-clause-stops g c =
 pub returns-in_err-read_file_into-clause-stops : goal.returns-in_err-read_file_into-clause-stops
 returns-in_err-read_file_into-clause-stops g c =
     let p = err_from_is_err_and c.from_residual-in_err-read_file_into.result
-        c.from_residual-in_err-read_file_into.ensures.1 in
+    c.from_residual-in_err-read_file_into.ensures.1 in
     let no = c.in_err-read_file_into.ensures in
     rw (p.1, p.2)
     (read_stops (g.F.Files.world c.args.files.now)
-        (g.F.Files.may_fail c.args.files.now) c.in_err-read_file_into.field-0.0
+    (g.F.Files.may_fail c.args.files.now) c.in_err-read_file_into.field-0.0
     no.absent no.device no.write)
 
 pub returns-in_err-entries-clause-stops : goal.returns-in_err-entries-clause-stops

@@ -19,7 +19,7 @@ rows-init g c = record {
   ends = λ world told e h. h;
   read = λ left h. rw (c.new-findings.ensures, c.new-live.ensures.items)
       (subst (IsReadOf (g.F.Files.gives c.args.files.now) c.args.basis.now c.args.rows.now)
-          (sym (join_nothing left)) h);
+      (sym (join_nothing left)) h);
   few = omega arith;
 }
 

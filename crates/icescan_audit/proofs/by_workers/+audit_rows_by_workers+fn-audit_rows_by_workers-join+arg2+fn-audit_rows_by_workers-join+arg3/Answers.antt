@@ -9,7 +9,7 @@ returns-in_err-first g t c =
     rw (p.1, p.2)
     (refused_first (g.F.Files.world c.args.files.now) (g.F.Files.may_fail c.args.files.now)
     (g.F.Files.gives c.args.files.now) c.args.basis.now c.args.rows.now _ _ c.split_at.ensures.by_index.0
-        c.in_err-first.field-0.0 first)
+    c.in_err-first.field-0.0 first)
 
 pub returns-in_err-others : goal.returns-in_err-others
 returns-in_err-others g t c =
@@ -19,7 +19,7 @@ returns-in_err-others g t c =
     rw (p.1, p.2)
     (refused_behind (g.F.Files.world c.args.files.now) (g.F.Files.may_fail c.args.files.now)
     (g.F.Files.gives c.args.files.now) c.args.basis.now c.args.rows.now _ _ c.split_at.ensures.by_index.0
-        c.in_ok-first.field-0 c.in_err-others.field-0.0 first others)
+    c.in_ok-first.field-0 c.in_err-others.field-0.0 first others)
 
 pub returns : goal.returns
 returns g t c =
@@ -28,4 +28,4 @@ returns g t c =
     rw c.in_ok-joined.ensures
     (reads_both (g.F.Files.world c.args.files.now) (g.F.Files.may_fail c.args.files.now)
     (g.F.Files.gives c.args.files.now) c.args.basis.now c.args.rows.now _ _ c.split_at.ensures.by_index.0
-        c.in_ok-first.field-0 c.in_ok-others.field-0 first others)
+    c.in_ok-first.field-0 c.in_ok-others.field-0 first others)

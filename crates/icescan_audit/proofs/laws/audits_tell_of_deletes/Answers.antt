@@ -15,7 +15,7 @@ returns-clause-positions c = λ world metadata target audit subject rows manifes
     subst (λ (a : Audit). Contains a.findings (at manifest path DanglingPositions)
     ↔ DanglesUnder PositionDeletes world subject.basis.specs rows manifest path) r.2
     (dangling_told fit.content fit.referenced world subject.basis rows r.0 r.1 manifest path PositionDeletes (λ h. cc)
-        (λ h. cc) refl)
+    (λ h. cc) refl)
 
 pub returns-clause-equalities : goal.returns-clause-equalities
 returns-clause-equalities c = λ world metadata target audit subject rows manifest path is asked listed.
@@ -24,7 +24,7 @@ returns-clause-equalities c = λ world metadata target audit subject rows manife
     subst (λ (a : Audit). Contains a.findings (at manifest path DanglingEqualities)
     ↔ DanglesUnder EqualityDeletes world subject.basis.specs rows manifest path) r.2
     (dangling_told fit.content fit.referenced world subject.basis rows r.0 r.1 manifest path EqualityDeletes (λ h. cc)
-        (λ h. cc) refl)
+    (λ h. cc) refl)
 
 pub returns-clause-named : goal.returns-clause-named
 returns-clause-named c = λ world metadata target audit subject rows manifest path is asked listed.

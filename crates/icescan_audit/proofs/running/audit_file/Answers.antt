@@ -52,7 +52,7 @@ returns-in_err-metadata-clause-refused g c =
     λ world told. rw (p.1, p.2)
     (no_metadata (g.F.Files.may_fail c.args.files.now) world c.args.path.now c.args.target.now c.args.workers given.1
     given.2 (g.W.Sink.may_fail c.args.output.now) c.in_err-metadata.field-0.0
-        (c.in_err-metadata.ensures.refused world told))
+    (c.in_err-metadata.ensures.refused world told))
 
 pub returns-clause-written : goal.returns-clause-written
 returns-clause-written g c =
@@ -61,7 +61,7 @@ returns-clause-written g c =
     λ world told.
     let has = c.in_ok-metadata.ensures.found world told ∙ ap Ok (sym c.deref.ensures.value) in
     let same = audit_behind f world c.args.path.now c.args.target.now c.args.workers given.1 given.2 c.deref.result.now
-        has in
+    has in
     IfOk-weaker c.run_audit.result _ _ (λ _ w. (w.0, same ∙ w.1, w.2, w.3)) (c.run_audit.ensures.written world told)
 
 pub returns-clause-truth : goal.returns-clause-truth
@@ -88,7 +88,7 @@ returns-clause-front g c =
     λ world told failed.
     let has = c.in_ok-metadata.ensures.found world told ∙ ap Ok (sym c.deref.ensures.value) in
     let same = audit_behind f world c.args.path.now c.args.target.now c.args.workers given.1 given.2 c.deref.result.now
-        has in
+    has in
     let w = c.run_audit.ensures.front world told failed in
     (w.0, same ∙ w.1, w.2)
 

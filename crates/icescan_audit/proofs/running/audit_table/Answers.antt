@@ -44,7 +44,7 @@ returns-in_err-read-clause-refused g c =
     λ world told.
     let has = rw c.as_str.ensures at (c.in_ok-rows.ensures.found world told) in
     let refused = rw (c.among-basis.ensures, c.deref-2.ensures.value, c.deref-3.ensures.value) at
-        (c.in_err-read.ensures.refused world told) in
+    (c.in_err-read.ensures.refused world told) in
     rw (p.1, p.2)
     (no_audit f world c.args.metadata.now c.args.target.now c.in_ok-subject.subject c.in_ok-subject.ensures.gives
     c.in_ok-rows.rows.items has known c.in_err-read.field-0.0 refused)
@@ -56,7 +56,7 @@ returns-clause-found g c =
     λ world told.
     let has = rw c.as_str.ensures at (c.in_ok-rows.ensures.found world told) in
     let read = rw (c.among-basis.ensures, c.deref-2.ensures.value, c.deref-3.ensures.value) at
-        (c.in_ok-read.ensures.found world told) in
+    (c.in_ok-read.ensures.found world told) in
     rw c.in_ok-whole.ensures
     (audit_there f world c.args.metadata.now c.args.target.now c.in_ok-subject.subject c.in_ok-subject.ensures.gives
     c.in_ok-rows.rows.items has known c.in_ok-read.read read)

@@ -29,7 +29,7 @@ returns-in_err-audit-clause-front g c =
 pub returns-in_err-write_audit-clause-refused : goal.returns-in_err-write_audit-clause-refused
 returns-in_err-write_audit-clause-refused g c =
     let p = err_from_is_err_and c.from_residual-in_err-write_audit.result c.from_residual-in_err-write_audit.ensures.1
-        in
+    in
     λ world told. rw (p.1, p.2) c.in_err-write_audit.ensures.cause
 
 pub returns-in_err-write_audit-clause-front : goal.returns-in_err-write_audit-clause-front
@@ -75,14 +75,14 @@ pub returns-in_err-write_audit-clause-text : goal.returns-in_err-write_audit-cla
 returns-in_err-write_audit-clause-text g c =
     let front = c.in_err-write_audit.ensures.front in
     let p = err_from_is_err_and c.from_residual-in_err-write_audit.result c.from_residual-in_err-write_audit.ensures.1
-        in
+    in
     rw (p.1, p.2)
     (record { all = tt; front = λ is. (c.in_ok-audit.audit, c.in_ok-audit.ensures.read, front) })
 
 pub returns-in_err-write_audit-clause-refusal : goal.returns-in_err-write_audit-clause-refusal
 returns-in_err-write_audit-clause-refusal g c =
     let p = err_from_is_err_and c.from_residual-in_err-write_audit.result c.from_residual-in_err-write_audit.ensures.1
-        in
+    in
     rw (p.1, p.2) c.in_err-write_audit.ensures.cause
 
 pub returns-clause-text : goal.returns-clause-text

@@ -22,7 +22,7 @@ verdicts-preserved c =
     let more = c.bytes_in.result in
     let fits : SFits w64 more = search rules in
     let sum : to_z w128 (of_z w128
-        (to_z w128 c.verdicts.bytes-bits +ℤ to_z w128 (of_z w128 (to_z w64 (of_z w64 more)))))
+    (to_z w128 c.verdicts.bytes-bits +ℤ to_z w128 (of_z w128 (to_z w64 (of_z w64 more)))))
     ≡ c.verdicts.bytes +ℤ more = omega (arith, ints) in
     record {
       kept = rw c.is_counted.ensures (many_more s Kept vs i v c.verdicts.kept lt is so.kept);

@@ -19,7 +19,7 @@ tell_rows-requires-clause-rows g c =
     let same : c.deref.result.now ≡ by_row_path c.args.selected.rows = c.deref.ensures.value
     ∙ c.in_ok-sort_by_path.ensures ∙ ap by_row_path (c.in_ok-sorted.ensures ∙ c.as_slice.ensures) in
     scan_wants c.args.tests.now c.args.selected.specs c.args.selected.filter.parts c.args.selected.rows
-        c.in_ok-scan.scan c.requires
+    c.in_ok-scan.scan c.requires
     c.in_ok-scan.ensures
     ∙ ap (filter (is_wanted c.args.tests.now)) (sym same)
 
@@ -28,7 +28,7 @@ returns-in_err-scan-clause-refused g c =
     let p = err_from_is_err_and c.from_residual-in_err-scan.result c.from_residual-in_err-scan.ensures.1 in
     λ world told. rw (p.1, p.2)
     (no_scan (g.F.Files.may_fail c.args.files.now) ⊥ world c.args.selected.specs c.args.selected.filter.parts
-        c.args.selected.rows
+    c.args.selected.rows
     c.in_err-scan.field-0.0 c.in_err-scan.ensures)
 
 pub returns-in_err-verdicts-clause-refused : goal.returns-in_err-verdicts-clause-refused
@@ -36,7 +36,7 @@ returns-in_err-verdicts-clause-refused g c =
     let p = err_from_is_err_and c.from_residual-in_err-verdicts.result c.from_residual-in_err-verdicts.ensures.1 in
     λ world told. rw (p.1, p.2)
     (no_manifest (g.F.Files.may_fail c.args.files.now) world c.args.selected.specs c.args.selected.filter.parts
-        c.args.selected.rows
+    c.args.selected.rows
     c.in_ok-scan.scan c.in_ok-scan.ensures c.in_err-verdicts.field-0.0 (c.in_err-verdicts.ensures.refused world told))
 
 pub returns-in_err-plan-clause-refused : goal.returns-in_err-plan-clause-refused
@@ -46,7 +46,7 @@ returns-in_err-plan-clause-refused g c =
     let taken = c.in_ok-verdicts.ensures.taken world told (c.in_ok-state.ensures.world world) in
     rw (p.1, p.2)
     (no_plan (g.F.Files.may_fail c.args.files.now) ⊥ world c.args.selected.specs c.args.selected.filter.parts
-        c.args.selected.rows
+    c.args.selected.rows
     c.in_ok-scan.scan c.in_ok-scan.ensures (c.in_ok-verdicts.ensures.present world told) c.in_err-plan.field-0.0
     (rw taken at c.in_err-plan.ensures.outcome))
 
@@ -54,7 +54,7 @@ pub returns-clause-planned : goal.returns-clause-planned
 returns-clause-planned g c = λ world told.
     let taken = c.in_ok-verdicts.ensures.taken world told (c.in_ok-state.ensures.world world) in
     plan_there (g.F.Files.may_fail c.args.files.now) ⊥ world c.args.selected.specs c.args.selected.filter.parts
-        c.args.selected.rows
+    c.args.selected.rows
     c.in_ok-scan.scan c.in_ok-scan.ensures (c.in_ok-verdicts.ensures.present world told) c.in_ok-plan.plan
     (rw taken at c.in_ok-plan.ensures.outcome)
 

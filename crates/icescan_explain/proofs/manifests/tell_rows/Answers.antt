@@ -63,7 +63,7 @@ rows-preserved g c =
     let at = is_next (is_wanted tests) wanted rows i next row kept.rest step in
     let start = starts (is_wanted tests) wanted rows i next row kept.rest step in
     let item : slice_get rows i ≡ Some row = slice_get-get_or rows i row c.rows-test.true
-        ∙ ap Some (sym c.row-item.is) in
+    ∙ ap Some (sym c.row-item.is) in
     let here = c.in_ok-next.ensures in
     let read = here.read in
     record {

@@ -31,7 +31,7 @@ returns-clause-found g c =
     (c.in_ok-selected.ensures.found world told) in
     both_ok c.explain_rows.result _ _ _
     (λ x planned verdicts. there x.plan planned
-        ∙ ap Ok (ap (λ vs. record { plan = x.plan; verdicts = vs }) (sym verdicts)))
+    ∙ ap Ok (ap (λ vs. record { plan = x.plan; verdicts = vs }) (sym verdicts)))
     (c.explain_rows.ensures.planned world told) (rw tests at (c.explain_rows.ensures.told world told))
 
 pub returns-clause-refused : goal.returns-clause-refused

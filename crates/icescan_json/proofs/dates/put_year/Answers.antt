@@ -4,7 +4,7 @@ use Rattle.std.specs.Prelude.{unsigned_abs}
 use Rattle.std.proofs.lemmas.Int.{to_z-of_z}
 use Rattle.icescan_json.specs.Dates.{year_digits, year_sign}
 use Rattle.icescan_print.proofs.Sends.{sent_less, sent_more}
-use Rattle.icescan_json.proofs.Escapes.{escape_append}
+use Rattle.icescan_forms.proofs.Escapes.{escape_append}
 use Rattle.icescan_json.proofs.dates.put_year.Goals as goal
 
 pub returns-in_err-put_escaped : goal.returns-in_err-put_escaped

@@ -11,7 +11,7 @@ returns-in_err-plan_list-clause-answers g c =
     λ world told. rw (p.1, p.2)
     (refused_json _ _ (g.W.Sink.may_fail c.args.output.now) _ _ _
     (refused_listed world c.args.list.now _ c.in_err-plan_list.field-0.0
-        (c.in_err-plan_list.ensures.refused world told))
+    (c.in_err-plan_list.ensures.refused world told))
     (λ is. c.in_err-plan_list.ensures.write (ap Err is)))
 
 pub returns-in_err-plan_list-clause-text : goal.returns-in_err-plan_list-clause-text
@@ -24,7 +24,7 @@ returns-clause-answers g c =
     let wrote = c.write_json.ensures in
     λ world told.
     let there = plan_listed world c.args.list.now c.in_ok-plan_list.field-0
-        (c.in_ok-plan_list.ensures.found world told) in
+    (c.in_ok-plan_list.ensures.found world told) in
     written_json _ c.write_json.result (g.W.Sink.may_fail c.args.output.now) _ _ wrote.all wrote.front
     _ _ (rw c.new.ensures there) wrote.causes wrote.cause
 

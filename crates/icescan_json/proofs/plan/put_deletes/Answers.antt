@@ -1,7 +1,7 @@
 use Rattle.serde_json.specs.Written.{compact_text}
 use Rattle.icescan_json.specs.PlanJson.{delete_json}
 use Rattle.icescan_print.proofs.Sends.{sent_more}
-use Rattle.icescan_json.proofs.Lists.{sent_next, sent_stops, comma_failed}
+use Rattle.icescan_forms.proofs.Lists.{sent_next, sent_stops, comma_failed}
 use Rattle.icescan_json.proofs.plan.put_deletes.Goals as goal
 
 pub returns-in_err-put : goal.returns-in_err-put

@@ -3,8 +3,8 @@ use Rattle.serde_json.specs.Data.{null}
 use Rattle.serde_json.specs.Written.{compact_text}
 use Rattle.icescan_json.specs.PlanJson.{tasks_json}
 use Rattle.icescan_print.proofs.Sends.{sent_more}
-use Rattle.icescan_json.proofs.Each.{each_all}
-use Rattle.icescan_json.proofs.Lists.{there, sent_next, sent_stops, comma_failed}
+use Rattle.icescan_forms.proofs.Each.{each_all}
+use Rattle.icescan_forms.proofs.Lists.{there, sent_next, sent_stops, comma_failed}
 use Rattle.icescan_json.proofs.Tasks.{length_tasks}
 use Rattle.icescan_json.proofs.plan.put_tasks.Goals as goal
 

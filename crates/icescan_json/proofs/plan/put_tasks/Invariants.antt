@@ -1,6 +1,6 @@
 use Rattle.std.proofs.Common.{take, Ok}
 use Rattle.serde_json.specs.Written.{compact_text}
-use Rattle.icescan_json.specs.Pieces.{each_from}
+use Rattle.icescan_forms.specs.Pieces.{each_from}
 use Rattle.icescan_json.specs.PlanJson.{tasks_json}
 use Rattle.icescan_print.specs.Written.{Sent}
 use Rattle.icescan_json.proofs.plan.put_tasks.Given as goal

@@ -23,14 +23,14 @@ returns-in_err-workers-clause-wanted g c =
     let p = err_from_is_err_and c.from_residual.result c.from_residual.ensures.1 in
     λ world told. rw (p.1, p.2)
     (no_workers_at over_wanted_rows world c.args.path.now c.args.request.now c.args.workers _
-        (g.W.Sink.may_fail c.args.output.now) _ _ _ c.in_err-workers.ensures.refused)
+    (g.W.Sink.may_fail c.args.output.now) _ _ _ c.in_err-workers.ensures.refused)
 
 pub returns-in_err-workers-clause-plan : goal.returns-in_err-workers-clause-plan
 returns-in_err-workers-clause-plan g c =
     let p = err_from_is_err_and c.from_residual.result c.from_residual.ensures.1 in
     λ world told truth. rw (p.1, p.2)
     (no_workers_at over_all_rows world c.args.path.now c.args.request.now c.args.workers _
-        (g.W.Sink.may_fail c.args.output.now) _ _ _ c.in_err-workers.ensures.refused)
+    (g.W.Sink.may_fail c.args.output.now) _ _ _ c.in_err-workers.ensures.refused)
 
 pub returns-in_err-workers-clause-text : goal.returns-in_err-workers-clause-text
 returns-in_err-workers-clause-text g c =
@@ -61,7 +61,7 @@ returns-in_err-typed-clause-plan g c =
     let given = c.in_ok-workers.ensures.given in
     λ world told truth.
     let same = same_typed_at c.plans_of_true_summaries.ensures world c.args.path.now c.args.request.now c.args.workers
-        truth
+    truth
     in
     let refused = rw given.0 at (c.in_err-typed.ensures.refused world told) in
     rw (p.1, p.2)
@@ -96,7 +96,7 @@ returns-clause-plan g c =
     let wrote = c.write_json.ensures in
     λ world told truth.
     let same = same_typed_at c.plans_of_true_summaries.ensures world c.args.path.now c.args.request.now c.args.workers
-        truth
+    truth
     in
     written_json c.in_ok-typed.typed c.write_json.result (g.W.Sink.may_fail c.args.output.now) _ _ wrote.all wrote.front
     _ _ (same ∙ (rw given.0 at (c.in_ok-typed.ensures.found world told))) wrote.causes wrote.cause

@@ -3,7 +3,7 @@ use Rattle.serde_json.specs.Written.{compact_text}
 use Rattle.ice_value.specs.declared.cell.Cell.TheVariants.{Null}
 use Rattle.icescan_json.specs.Values.{cell_json, type_at}
 use Rattle.icescan_print.proofs.Sends.{sent_more, stands_at}
-use Rattle.icescan_json.proofs.Lists.{there, sent_next, sent_stops, comma_failed}
+use Rattle.icescan_forms.proofs.Lists.{there, sent_next, sent_stops, comma_failed}
 use Rattle.icescan_json.proofs.values.put_cells.Goals as goal
 
 pub returns-in_err-put : goal.returns-in_err-put

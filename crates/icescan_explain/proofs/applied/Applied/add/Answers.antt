@@ -20,7 +20,7 @@ returns-in-Some c = λ q.
     let written = (c.get_mut.follows.holds (count + 1)).3 (subst IsSome there refl) in
     once_more path old new
     (subst (λ n. tree.UpdatesBy order (λ k. slice_cmp nat_cmp path k.items) old.counts new.counts
-        (Some n)) same written) q
+    (Some n)) same written) q
 
 pub returns : goal.returns
 returns c = λ q.

@@ -1,0 +1,7 @@
+use Rattle.icescan_print.proofs.Sends.{wrote_all_sent}
+use Rattle.icescan_audit.proofs.json_lines.write_audit_objects.Goals as goal
+
+pub returns-in_err-flush-clause-front : goal.returns-in_err-flush-clause-front
+returns-in_err-flush-clause-front g c =
+    λ is. (wrote_all_sent _ _ _ _ _ _ _ _ _ (rw c.in_ok-page.ensures at c.in_ok-put_audit.ensures)
+    c.in_err-flush.ensures.wrote).front

@@ -1,0 +1,5 @@
+pub mod Each
+pub mod Escapes
+pub mod Lists
+pub mod Members
+pub mod Numbered

@@ -1,0 +1,14 @@
+//! The forms of an answer: text, or lines of JSON; and the pieces that JSON is written in.
+#![tactic(auto)]
+
+mod format;
+mod object_lines;
+mod objects;
+mod pieces;
+mod quotes;
+
+pub use format::Format;
+pub use object_lines::ObjectLines;
+pub use objects::{Value, put_object};
+pub use pieces::{comma_before, put_ids, put_places, put_quoted};
+pub use quotes::{hex_digit, put_escaped};
