@@ -1,0 +1,138 @@
+-- The two plans of which the changes are told, what is told of them, and why either may end the run.
+use Rattle.std.proofs.Common.{◌≡◌, ◌⊎◌, inl, inr, ℕ, ◌<◌, ◌≤◌, List, [], ◌∷◌, ◌++◌, refl, sym, subst, ◌∙◌}
+use Rattle.std.specs.Prelude.{Ok}
+use Rattle.contract_words.specs.Outcome.{◌>>=◌}
+use Rattle.ice_desk.specs.Wanted.{paths_of}
+use Rattle.ice_desk.specs.Worlds.{EndsAt}
+use Rattle.ice_manifest_reading.specs.declared.row.Row.{Row}
+use Rattle.ice_meta.specs.declared.metadata.Target.{Target}
+use Rattle.ice_state.specs.Contents.{HasEach, World}
+use Rattle.ice_state.specs.Lines.{OwnedLine}
+use Rattle.icescan_changes.specs.Answers.{both_reads, changes_at, changes_in, changes_reads_at, changes_reads_behind}
+use Rattle.icescan_changes.specs.Answers.{earlier_of}
+use Rattle.icescan_changes.specs.Texts.{changes_text}
+use Rattle.icescan_requests.specs.ListPlans.{wanted_of}
+use Rattle.icescan_requests.specs.Plans.{answer_by, manifests, manifests_of, over_wanted_rows, reads, reads_of, rows_plan}
+use Rattle.icescan_requests.specs.Plans.{scan_in, wanted_answer}
+use Rattle.icescan_requests.specs.Selections.{selected}
+use Rattle.icescan_requests.specs.declared.selection.Selection.{Selection}
+use Rattle.icescan_requests.proofs.Plans.{list_there}
+use Rattle.icescan_text.specs.Reads.{MayEnd, all_present, file_in, rows_at}
+use Rattle.icescan_text.specs.declared.fault.RunFault.{RunFault}
+use Rattle.icescan_text.specs.declared.fault.RunFault.TheVariants as run
+use Rattle.icescan_text.specs.declared.request.Request.{Request}
+use Rattle.icescan_text.proofs.Steps.{fails_later, first_ends, has_each, more_reads, only_first, step, then_ends}
+use Rattle.icescan_text.proofs.Enough.{enough, not_enough}
+
+-- ---- what is read before
+
+ends_first : (world : World) (f : List ℕ → Type 0) (xs ys : List (List ℕ)) (p : List ℕ) → EndsAt world f xs p
+    → EndsAt world f (xs ++ ys) p
+ends_first world f [] ys p h = absurd h
+ends_first world f (x ∷ xs) ys p (inl h) = inl h
+ends_first world f (x ∷ xs) ys p (inr h) = inr (h.0, ends_first world f xs ys p h.1)
+
+module _ (world : World) (f : List ℕ → Type 0) (rest : List (List ℕ)) (p : List ℕ) (ends : EndsAt world f rest p) where
+  behind_rows : (rows : List Row) → HasEach world rows → EndsAt world f (paths_of rows ++ rest) p
+  behind_rows [] h = ends
+  behind_rows (row ∷ rows) h = inr (h.0, behind_rows rows h.1)
+
+  -- where a list's rows have a plan, their manifests were there
+  behind_plan : (s : Selection) (rows : List Row) (plan : List OwnedLine)
+      → rows_plan over_wanted_rows world s.specs s.filter.parts rows ≡ Ok plan
+      → EndsAt world f (manifests s.specs s.filter.parts rows ++ rest) p
+  unfolding rows_plan manifests
+  behind_plan s rows plan h =
+      let scan = step (scan_in s.specs s.filter.parts rows) _ plan h in
+      let there = step (all_present world scan.0.wanted) _ plan scan.2 in
+      subst (λ found. EndsAt world f (wanted_of found ++ rest) p) (sym scan.1)
+      (behind_rows scan.0.wanted (has_each world scan.0.wanted there.1))
+
+  -- where there is a plan, all that it needs was there
+  pub behind : (metadata : List ℕ) (request : Request) (plan : List OwnedLine)
+      → wanted_answer world metadata request ≡ Ok plan → EndsAt world f (reads world metadata request ++ rest) p
+  unfolding answer_by reads
+  behind metadata request plan h =
+      let asked = step (selected metadata request) _ plan h in
+      let rows = step (rows_at world asked.0.list) _ plan asked.2 in
+      let bytes = list_there world asked.0.list rows.0 rows.1 in
+      let later = fails_later world f asked.0.list bytes.0
+      (manifests asked.0.specs asked.0.filter.parts rows.0 ++ rest) p bytes.1
+      (behind_plan asked.0 rows.0 plan rows.2) in
+      let of_rows = subst (λ found. EndsAt world f (asked.0.list ∷ (manifests_of asked.0 found ++ rest)) p)
+      (sym rows.1) later in
+      subst (λ found. EndsAt world f (reads_of world found ++ rest) p) (sym asked.1) of_rows
+
+-- ---- two plans
+
+module _ (f : List ℕ → Type 0) (world : World) (metadata : List ℕ) (from : Target) (request : Request) where
+  abbrev stops : List ℕ → Type 0
+  stops = EndsAt world f (both_reads world metadata from request)
+
+  pub no_earlier : (e : RunFault)
+      → MayEnd (wanted_answer world metadata (earlier_of from request))
+      (EndsAt world f (reads world metadata (earlier_of from request))) ⊥ e
+      → MayEnd (changes_in world metadata from request) stops ⊥ e
+  unfolding changes_in
+  no_earlier e h =
+      first_ends stops ⊥ (EndsAt world f (reads world metadata (earlier_of from request)))
+      (wanted_answer world metadata (earlier_of from request)) _ e
+      (λ p m. ends_first world f (reads world metadata (earlier_of from request)) (reads world metadata request) p m) h
+
+  module _ (earlier : List OwnedLine) (was : wanted_answer world metadata (earlier_of from request) ≡ Ok earlier) where
+    pub no_later : (e : RunFault)
+        → MayEnd (wanted_answer world metadata request) (EndsAt world f (reads world metadata request)) ⊥ e
+        → MayEnd (changes_in world metadata from request) stops ⊥ e
+    unfolding changes_in
+    no_later e h =
+        then_ends stops ⊥ (wanted_answer world metadata (earlier_of from request)) _ earlier e was
+        (first_ends stops ⊥ (EndsAt world f (reads world metadata request)) (wanted_answer world metadata request) _ e
+        (λ p m. behind world f (reads world metadata request) p m metadata (earlier_of from request) earlier was) h)
+
+    pub changes_there : (later : List OwnedLine) → wanted_answer world metadata request ≡ Ok later
+        → changes_in world metadata from request ≡ Ok (changes_text earlier later)
+    unfolding changes_in
+    changes_there later is = rw (was, is) refl
+
+-- ---- the metadata in a file
+
+module _ (f : List ℕ → Type 0) (world : World) (path : List ℕ) (from : Target) (request : Request) (workers : ℕ) where
+  abbrev at_reads : List ℕ → Type 0
+  at_reads = EndsAt world f (changes_reads_at world path from request)
+
+  pub no_workers : (w : Type 0) (e : RunFault) → (e ≡ run.Workers) × ((workers ≡ 0) ⊎ (64 < workers))
+      → MayEnd (changes_at world path from request workers) at_reads w e
+  unfolding changes_at
+  no_workers w e h = subst (λ x. MayEnd (changes_at world path from request workers) at_reads w x) (sym h.0)
+      (not_enough workers _ h.1)
+
+  module _ (some : 0 < workers) (few : workers ≤ 64) where
+    told_in : changes_at world path from request workers
+        ≡ (file_in world path >>= λ metadata. changes_in world metadata from request)
+    unfolding changes_at
+    told_in = enough workers _ some few
+
+    pub no_metadata : (w : Type 0) (e : RunFault) → MayEnd (file_in world path) (EndsAt world f (path ∷ [])) ⊥ e
+        → MayEnd (changes_at world path from request workers) at_reads w e
+    unfolding changes_reads_at
+    no_metadata w e h = subst (λ x. MayEnd x at_reads w e) (sym told_in)
+        (first_ends at_reads w (EndsAt world f (path ∷ [])) (file_in world path) _ e
+        (λ p m. only_first world f path (changes_reads_behind world from request (file_in world path)) p m) h)
+
+    module _ (metadata : List ℕ) (has : file_in world path ≡ Ok metadata) where
+      pub told_behind : changes_at world path from request workers ≡ changes_in world metadata from request
+      told_behind = told_in ∙ rw has refl
+
+      reads_of_metadata : (p : List ℕ) → EndsAt world f (both_reads world metadata from request) p → at_reads p
+      unfolding changes_reads_at
+      reads_of_metadata p h =
+          subst (λ found. EndsAt world f (path ∷ changes_reads_behind world from request found) p) (sym has)
+          (fails_later world f path metadata (both_reads world metadata from request) p has h)
+
+      pub ends_behind : (w : Type 0) (e : RunFault)
+          → MayEnd (changes_in world metadata from request)
+          (EndsAt world f (both_reads world metadata from request)) w e
+          → MayEnd (changes_at world path from request workers) at_reads w e
+      ends_behind w e h = subst (λ x. MayEnd x at_reads w e) (sym told_behind)
+          (more_reads (changes_in world metadata from request)
+          (EndsAt world f (both_reads world metadata from request)) at_reads w e reads_of_metadata h)

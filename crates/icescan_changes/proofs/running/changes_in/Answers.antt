@@ -1,0 +1,34 @@
+use Rattle.std.proofs.Common.{◌∙◌, ap, sym}
+use Rattle.std.specs.Prelude.{Ok}
+use Rattle.std.proofs.lemmas.Result.{err_from_is_err_and}
+use Rattle.icescan_changes.proofs.Asking.{changes_there, no_earlier, no_later}
+use Rattle.icescan_changes.proofs.running.changes_in.Goals as goal
+
+pub returns-in_err-earlier-clause-refused : goal.returns-in_err-earlier-clause-refused
+returns-in_err-earlier-clause-refused g c =
+    let p = err_from_is_err_and c.from_residual-in_err-earlier.result c.from_residual-in_err-earlier.ensures.1 in
+    λ world told. rw (p.1, p.2)
+    (no_earlier (g.F.Files.may_fail c.args.files.now) world c.args.metadata.now c.args.from.now c.args.request.now
+    c.in_err-earlier.field-0.0 (rw c.in_ok-asked.ensures at (c.in_err-earlier.ensures.refused world told)))
+
+pub returns-in_err-later-clause-refused : goal.returns-in_err-later-clause-refused
+returns-in_err-later-clause-refused g c =
+    let p = err_from_is_err_and c.from_residual-in_err-later.result c.from_residual-in_err-later.ensures.1 in
+    λ world told. rw (p.1, p.2)
+    (no_later (g.F.Files.may_fail c.args.files.now) world c.args.metadata.now c.args.from.now c.args.request.now
+    c.in_ok-earlier.earlier.plan (rw c.in_ok-asked.ensures at (c.in_ok-earlier.ensures.found world told))
+    c.in_err-later.field-0.0 (c.in_err-later.ensures.refused world told))
+
+pub returns-clause-found : goal.returns-clause-found
+returns-clause-found g c =
+    let text = rw (c.lines.ensures, c.lines-2.ensures) at c.in_ok-changes_text.ensures in
+    λ world told.
+    changes_there (g.F.Files.may_fail c.args.files.now) world c.args.metadata.now c.args.from.now c.args.request.now
+    c.in_ok-earlier.earlier.plan (rw c.in_ok-asked.ensures at (c.in_ok-earlier.ensures.found world told))
+    c.in_ok-later.later.plan (c.in_ok-later.ensures.found world told) ∙ ap Ok (sym text)
+
+pub returns-in_err-changes_text-clause-refused : goal.returns-in_err-changes_text-clause-refused
+returns-in_err-changes_text-clause-refused g c =
+    let p = err_from_is_err_and c.from_residual-in_err-changes_text.result
+    c.from_residual-in_err-changes_text.ensures.1 in
+    λ world told. rw (p.1, p.2) tt

@@ -1,0 +1,6 @@
+pub mod Answers
+pub mod Changes
+pub mod Files
+pub mod Meanings
+pub mod Texts
+pub mod Walks
