@@ -1,0 +1,5 @@
+pub mod MoreGiven
+pub mod NamedFiles
+pub mod Reached
+pub mod SameRows
+pub mod Steps

@@ -1,0 +1,20 @@
+use Rattle.std.proofs.Common.{}
+use Rattle.icescan_reachable.proofs.Steps.{rows_end, rows_step}
+use Rattle.icescan_reachable.proofs.lists.gather_rows.Goals as goal
+
+pub snapshots-init : goal.snapshots-init
+snapshots-init g c = λ all h. rw c.new-rows.ensures.items at h
+
+pub snapshots-preserved : goal.snapshots-preserved
+snapshots-preserved g c =
+    let gives = g.F.Files.gives c.args.files.now in
+    let read = c.in_ok-put_rows.ensures.given in
+    λ all h. c.snapshots.invariant all (rows_step gives c.args.snapshots.now c.snapshots.snapshot-index
+    c.snapshot-item.result c.snapshots-test.true c.snapshot-item.is c.snapshots.rows.items c.in_ok-list.list.now
+    c.in_ok-list.ensures.list read.0 read.1 _ all read.2 h)
+
+pub returns-clause-given : goal.returns-clause-given
+returns-clause-given g c =
+    let gives = g.F.Files.gives c.args.files.now in
+    c.snapshots.invariant c.snapshots.rows.items (rows_end gives c.args.snapshots.now c.snapshots.snapshot-index
+    c.snapshots.rows.items c.snapshots-test.false)

@@ -1,0 +1,132 @@
+//! The files of the live entries of manifests.
+
+ghost use Rattle.std.specs.Prelude.{◌≡◌, ◌≢◌, ◌++◌, ◌∷◌, [], List, Ok, IfOk, IsErrOf, OnOk};
+ghost use Rattle.ice_manifest_reading.specs.Manifests.{live_of};
+ghost use Rattle.ice_manifest_reading.specs.Telling.{told_of};
+ghost use Rattle.ice_manifest_reading.specs.declared.entry.Live.{Live};
+ghost use Rattle.icescan_reachable.specs.Given.{AreLiveGiven, AreManifestsBehind, bare_spec, live_line, live_lines};
+ghost use Rattle.icescan_reachable.specs.Lines.{entry_line, kind_of, line};
+
+use crate::kind::{FileKind, line_of, put_line};
+use contract_words::Items;
+use ice_desk::Files;
+use ice_manifest_reading::{EntryView, Live, ManifestFault, Row, Tell, read_told};
+use ice_meta::Spec;
+use ice_state::FinishFault;
+use ice_value::FileContent;
+use icescan_text::{RunFault, read_file_into};
+use std::alloc::{AllocError, Global};
+
+/// What a file that holds this is to a table.
+fn kind_of(content: FileContent) -> FileKind
+    ensures { result ≡ kind_of content }
+{
+    match content {
+        FileContent::Data => FileKind::Data,
+        FileContent::PositionDeletes | FileContent::EqualityDeletes => FileKind::Delete,
+    }
+}
+
+/// The line of an entry's file.
+fn entry_line(alloc: Global, entry: &EntryView<'_>) -> Result<Items<u8>, AllocError>
+    ensures { IfOk result (λ text. text ≡ entry_line entry.now) }
+{
+    let lent = entry.lent();
+    line_of(alloc, kind_of(lent.content), lent.path)
+}
+
+/// Tells the line of a live entry's file.
+struct Lines;
+
+impl Tell for Lines {
+    type Told = Items<u8>;
+
+    ghost told = { λ _ live. live_line live };
+
+    fn tell(&self, alloc: Global, live: &Live<'_, '_>) -> Result<Items<u8>, AllocError> {
+        entry_line(alloc, &live.entry)
+    }
+
+    fn without_columns(
+        &self,
+        alloc: Global,
+        entry: &EntryView<'_>,
+    ) -> Result<Option<Items<u8>>, AllocError> {
+        Ok(Some(entry_line(alloc, entry)?))
+    }
+}
+
+/// Why the manifest of a row can't be read; or that memory ran out.
+fn refusal(alloc: Global, row: &Row, fault: ManifestFault) -> RunFault
+    ensures { result ≢ RunFault.Write }
+{
+    if let ManifestFault::Memory = fault {
+        return RunFault::Memory;
+    }
+    match row.path.copy(alloc) {
+        Ok(path) => RunFault::Finish(FinishFault::Bad(path, fault)),
+        Err(_) => RunFault::Memory,
+    }
+}
+
+/// The lines of the files of the live entries of a row's manifest. Its partition values are not looked at.
+fn entry_lines(alloc: Global, row: &Row, bytes: &[u8]) -> Result<Vec<Items<u8>>, RunFault>
+    ensures told { IfOk result (λ told. told_of live_line (live_of row.now (bare_spec row.now) bytes.now)
+        ≡ Ok told.items) }
+    ensures write { IsErrOf result RunFault.Write → ⊥ }
+{
+    let spec = Spec {
+        id: row.spec_id,
+        fields: Items::new(alloc),
+    };
+    match read_told(alloc, row, &spec, &Lines, bytes) {
+        Ok(told) => Ok(told),
+        Err(fault) => Err(refusal(alloc, row, fault)),
+    }
+}
+
+/// Puts lines last.
+fn put_all(lines: &mut Vec<Items<u8>>, mut more: Vec<Items<u8>>) -> Result<(), AllocError>
+    ensures { OnOk result (lines.new.items ≡ lines.old.items ++ more.items) }
+{
+    lines.append(&mut more)?;
+    Ok(())
+}
+
+/// Puts last the lines of a row's manifest and of the files of its live entries. `bytes` is the room that the manifest
+/// is read into.
+fn put_manifest<F: Files>(
+    alloc: Global,
+    files: &F,
+    row: &Row,
+    bytes: &mut Vec<u8>,
+    lines: &mut Vec<Items<u8>>,
+) -> Result<(), RunFault>
+    ensures write { IsErrOf result RunFault.Write → ⊥ }
+    ensures given { OnOk result ((found : List Live) × AreLiveGiven (F.gives files.now) row.now found
+        × (lines.new.items ≡ (lines.old.items ++ line FileKind.Manifest row.now.path ∷ []) ++ live_lines found)) }
+{
+    put_line(lines, alloc, FileKind::Manifest, row.path.as_bytes())?;
+    read_file_into(alloc, files, row.path.as_str(), bytes)?;
+    let told = entry_lines(alloc, row, bytes.as_slice())?;
+    put_all(lines, told)?;
+    Ok(())
+}
+
+/// Puts last the lines of the manifests of these rows and of the files of their live entries. Each manifest is read
+/// into the room of the one before.
+pub fn put_manifests<F: Files>(
+    alloc: Global,
+    files: &F,
+    rows: &[Row],
+    lines: &mut Vec<Items<u8>>,
+) -> Result<(), RunFault>
+    ensures write { IsErrOf result RunFault.Write → ⊥ }
+    ensures given { OnOk result (AreManifestsBehind (F.gives files.now) lines.old.items rows.now lines.new.items) }
+{
+    let mut bytes = Vec::new(alloc);
+    'rows: for row in rows {
+        put_manifest(alloc, files, row, &mut bytes, lines)?;
+    }
+    Ok(())
+}
