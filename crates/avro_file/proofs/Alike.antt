@@ -127,7 +127,7 @@ field_alike : (id own : Option ℤ) (s t : Tree) (fs gs : Fields) → EndAlike s
 unfolding fields_at
 field_alike id own s t fs gs alike others = λ p.
     both_alike (λ a b. a ∷ b) (λ a b. a ∷ b) (fields_at fs) (fields_at gs) (datum_at s p) (datum_at t p)
-        (alike p) others
+    (alike p) others
 
 empty_field : (id : Option ℤ) (s : Tree) (fs : Fields) → takes_bytes s ≡ false → FieldsEndAlike fs (field id s fs)
 unfolding fields_at

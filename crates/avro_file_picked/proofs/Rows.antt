@@ -487,7 +487,7 @@ lead_within (structure gs) fs id ids lead is same below = λ bytes at left end a
     let led = subst (λ (hs : Fields). IsLeadBelow hs id ids lead) same below bytes at left end after places taken.0
     inside few stand taken.1 in
     subst (λ (w : Value). IsLedTo lead (id ∷ ids) places end bytes (pick (id ∷ ids) (structure gs, w)))
-        (sym taken.2) led
+    (sym taken.2) led
 
 pub lead_here : (schema : Bor Schema) (field_path : List ℤ)
     → IsLead (tree schema.now) field_path (Some (record { schema = schema; step = 0; passed = 0 }))

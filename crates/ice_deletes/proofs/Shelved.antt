@@ -142,8 +142,8 @@ module _ (g : Group) (other : Shelf) (is : IsShelf g other) (held to : List ℕ)
         rising = subst P kept.of_group rising;
         grouped = All-permutation (λ (d : Delete). is_in g (key_in d) ≡ true) (old.deletes.items ++ fresh)
             new.deletes.items all
-                (All-append (λ (d : Delete). is_in g
-                (key_in d) ≡ true) old.deletes.items fresh kept.grouped fresh_grouped);
+            (All-append (λ (d : Delete). is_in g
+            (key_in d) ≡ true) old.deletes.items fresh kept.grouped fresh_grouped);
         numbered = numbered;
       }
 

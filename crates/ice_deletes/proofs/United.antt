@@ -106,10 +106,10 @@ no_number : (n : ℕ) (es : List (ℕ × DeleteKey)) → list_any (λ m. m == n)
 no_number n [] h = refl
 no_number n (e ∷ es) h = sum_by-cons (λ (e : ℕ × DeleteKey). cond (e.0 == n) 1 0) e es
     ∙ go (e.0 == n) (λ r. no_number n es r) h where
-  go : (b : Bool) → (list_any (λ m. m == n) (map (λ (e : ℕ × DeleteKey). e.0) es) ≡ false → times n es ≡ 0)
-      → (b || list_any (λ m. m == n) (map (λ (e : ℕ × DeleteKey). e.0) es)) ≡ false → cond b 1 0 + times n es ≡ 0
-  go true rest h = absurd cc
-  go false rest h = let r = rest h in omega arith
+      go : (b : Bool) → (list_any (λ m. m == n) (map (λ (e : ℕ × DeleteKey). e.0) es) ≡ false → times n es ≡ 0)
+          → (b || list_any (λ m. m == n) (map (λ (e : ℕ × DeleteKey). e.0) es)) ≡ false → cond b 1 0 + times n es ≡ 0
+      go true rest h = absurd cc
+      go false rest h = let r = rest h in omega arith
 
 -- a test never gives a number more often
 fewer_times : (p : ℕ × DeleteKey → Bool) (es : List (ℕ × DeleteKey)) (n : ℕ) → times n (filter p es) ≤ times n es

@@ -162,7 +162,7 @@ checked_same rows others same =
             let first = refused (in_order rows) p h in
             let second = refused (in_order others) q k in
             first ∙ ap (λ (v : List ℕ). Err (ManifestTwice v))
-                (one_path p q (not_below rows others p q same first second)
+            (one_path p q (not_below rows others p q same first second)
             (not_below others rows q p back second first)) ∙ sym second
       ]
     ] in

@@ -134,7 +134,7 @@ pub hit_is : (keys : List DeleteKey) (index : List (ℕ × DeleteKey)) → IsPer
     → (x : DataKey) (k : ℕ) (d : DeleteKey) → k < length keys → get_or keys k d ≡ d → is_hit index x k ≡ applies x d
 hit_is keys index same x k d low at =
     sym (list_any-IsPermutation (hit x k) (numbered_deletes keys) index same)
-        ∙ hit_at x k 0 keys k d low at (omega arith)
+    ∙ hit_at x k 0 keys k d low at (omega arith)
 
 numbers_below : (keys : List DeleteKey) (m n : ℕ) → m + length keys ≤ n
     → AllByRecursion (λ (e : ℕ × DeleteKey). e.0 < n) (kept (enumerate_from m keys))

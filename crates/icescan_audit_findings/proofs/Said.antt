@@ -71,12 +71,12 @@ module _ (basis : Basis) (row : Row) (limits : List FieldLimits) (x : Entry) whe
         | inl m ↦ sym (ap is_said (from_map Uncovered (outside limits x.file.tuple) f m).2)
         | inr m ↦ elim (Contains-append_cases below (above ++ missing_columns basis x) f m) as
             (λ _. is_said f ≡ false) [
-          | inl k ↦ other_where (nat_lt x.sequence_number row.min_sequence_number) BelowLeast f refl k
-          | inr k ↦ elim (Contains-append_cases above (missing_columns basis x) f k) as (λ _. is_said f ≡ false) [
-            | inl i ↦ other_where (nat_lt basis.last x.sequence_number) AboveLast f refl i
-            | inr i ↦ other_missing x.file.content basis.columns x.file.equality_ids f i
-          ]
-        ]
+              | inl k ↦ other_where (nat_lt x.sequence_number row.min_sequence_number) BelowLeast f refl k
+              | inr k ↦ elim (Contains-append_cases above (missing_columns basis x) f k) as (λ _. is_said f ≡ false) [
+                | inl i ↦ other_where (nat_lt basis.last x.sequence_number) AboveLast f refl i
+                | inr i ↦ other_missing x.file.content basis.columns x.file.equality_ids f i
+              ]
+            ]
       ]
 
 -- ---- the flaws of a column
@@ -118,7 +118,7 @@ module _ (flaw : ℤ → Flaw) (holds : FileBounds → TypedColumn → Bool) (sa
       → Contains (columns_flaws l.bounds basis.typed) (flaw id)
   of_columns l c =
       elim (Contains-append_cases (flaws_by basis row limits_here l.entry) (columns_flaws l.bounds basis.typed)
-          (flaw id)
+      (flaw id)
       c) as (λ _. Contains (columns_flaws l.bounds basis.typed) (flaw id)) [
         | inl m ↦ let other : true ≡ false = sym (said id) ∙ other_flaws basis row limits_here l.entry (flaw id) m in
             absurd cc

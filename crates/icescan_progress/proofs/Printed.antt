@@ -28,6 +28,6 @@ told_printed files bytes few small =
     let n = number_printed files few in
     let m = number_printed (bytes / 1000000) (omega arith) in
     both_printed (codes "read so far: " ++ decimal files) _
-        (both_printed (codes "read so far: ") (decimal files) refl n)
+    (both_printed (codes "read so far: ") (decimal files) refl n)
     (both_printed (codes " files, " ++ decimal (bytes / 1000000)) (codes " MB")
     (both_printed (codes " files, ") (decimal (bytes / 1000000)) refl m) refl)

@@ -58,7 +58,7 @@ lean_schema-returns-in_ok-new-in-Record t c =
       c.in_ok-new-in-Record.ensures.ok,
     )
     (structure_alike (field_trees c.in_ok-lean_fields-in-Record.field-0.items)
-        (field_trees c.deref-in-Record.result.now)
+    (field_trees c.deref-in-Record.result.now)
     c.in_ok-lean_fields-in-Record.ensures)
 
 -- ---- fields and branches

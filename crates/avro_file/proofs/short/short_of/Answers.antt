@@ -30,7 +30,7 @@ returns-in-len2-up-clause-int c =
     c.if-second-lt128.true in
     rw (z, c.signed-in-len2-up.ensures, c.from-in-len2-up.ensures, c.from-in-len2-up-2.ensures, to_end bytes 2)
     (is_int bytes (drop 2 bytes) (get_or bytes 0 0 - 128 + 128 * get_or bytes 1 0) number
-        (omega (arith, c.from-in-len2-up-2.ensures, c.if-second-lt128.true, c.type_inv.bytes 0)))
+    (omega (arith, c.from-in-len2-up-2.ensures, c.if-second-lt128.true, c.type_inv.bytes 0)))
 
 pub returns-in-len2-up-clause-long : goal.returns-in-len2-up-clause-long
 returns-in-len2-up-clause-long c =

@@ -20,7 +20,7 @@ use Rattle.avro_file_picked.proofs.found.+field_path.Goals as goal
 pub place_on_field_path-returns-in_err-position : goal.place_on_field_path-returns-in_err-position
 place_on_field_path-returns-in_err-position t c = λ v after e.
     absurd (number_fails (tree c.args.schema.now) (branch_trees c.in-Some.branches.now)
-        (position_of c.args.place) after v
+    (position_of c.args.place) after v
     c.in_err-position.field-0.0 (sym c.in-Some.ensures) c.in_err-position.ensures e)
 
 pub place_on_field_path-returns-in_default-natural : goal.place_on_field_path-returns-in_default-natural
@@ -33,18 +33,18 @@ place_on_field_path-returns-in_default-natural t c = λ v after e.
 pub place_on_field_path-returns-then-position-branches : goal.place_on_field_path-returns-then-position-branches
 place_on_field_path-returns-then-position-branches t c = λ v after e.
     let is : c.in_ok-position.position ≡ pos c.in-Some-natural.position = omega
-        (arith, ints, c.in-Some-natural.ensures) in
+    (arith, ints, c.in-Some-natural.ensures) in
     let read = chosen_read (tree c.args.schema.now) (branch_trees c.in-Some.branches.now)
-        (position_of c.args.place) after
+    (position_of c.args.place) after
     v c.in_ok-position.position c.in_ok-position.rest.now (sym c.in-Some.ensures) c.in_ok-position.ensures e in
     past_fails c.in-Some.branches.now c.in-Some-natural.position _ after v c.if-position-branches.true (rw is at read)
 
 pub place_on_field_path-returns : goal.place_on_field_path-returns
 place_on_field_path-returns t c = λ v after e.
     let is : c.in_ok-position.position ≡ pos c.in-Some-natural.position = omega
-        (arith, ints, c.in-Some-natural.ensures) in
+    (arith, ints, c.in-Some-natural.ensures) in
     let read = chosen_read (tree c.args.schema.now) (branch_trees c.in-Some.branches.now)
-        (position_of c.args.place) after
+    (position_of c.args.place) after
     v c.in_ok-position.position c.in_ok-position.rest.now (sym c.in-Some.ensures) c.in_ok-position.ensures e in
     leads_chosen c.args.place.left c.args.field_path.now (tree c.args.schema.now) c.in-Some.branches.now
     c.in-Some-natural.position c.index-branches-position.result _ after v c.place_within-2.result
@@ -55,7 +55,7 @@ pub place_within-returns-in-Some : goal.place_within-returns-in-Some
 place_within-returns-in-Some t c = λ v after e.
     let field_path : c.args.field_path.now ≡ c.in-Some.id.now ∷ c.in-Some.rest.now = c.in-Some.ensures.cases.0 in
     let same : to_z w32 (of_z w32 c.in-Some.id.now) ≡ c.in-Some.id.now = to_z-of_z w32 c.in-Some.id.now
-        (search rules) in
+    (search rules) in
     rw field_path (leads_into c.args.place.left c.in-Some.id.now c.in-Some.rest.now (tree c.args.schema.now)
     (field_trees c.fields_of.result.now) (position_of c.args.place) after v c.place_below.result c.fields_of.ensures e
     (rw same at c.place_below.ensures))
@@ -83,7 +83,7 @@ place_below-returns-then-eq t c = λ vs after e.
     c.fields.field-index c.field-item.result (position_of c.fields.here) after c.fields-test.true c.field-item.is o in
     let there = found_field (to_z w32 (of_z w32 c.args.id)) (field_trees c.args.fields.now) vs c.args.fields.now
     c.fields.field-index c.field-item.result
-        (position_of c.fields.here) after c.fields-test.true c.field-item.is o first
+    (position_of c.fields.here) after c.fields-test.true c.field-item.is o first
     (sym c.if-eq.ensures) in
     let on = leads_more c.fields.here.left c.args.place.left (pick c.args.field_path.now (
       tree c.field-item.result.schema,

@@ -93,7 +93,7 @@ pub place_inside-returns-then-is_record : goal.place_inside-returns-then-is_reco
 place_inside-returns-then-is_record t c = λ field_paths v after is asked e.
     let field_path : c.args.field_path.now ≡ c.in-Some.id.now ∷ c.in-Some.rest.now = c.in-Some.ensures.cases.0 in
     let same : to_z w32 (of_z w32 c.in-Some.id.now) ≡ c.in-Some.id.now = to_z-of_z w32 c.in-Some.id.now
-        (search rules) in
+    (search rules) in
     let schema = tree (out-Guide c.args.guide.now).schema.now in
     let asks = rw field_path at asked in
     let are : AreParts field_paths (all_seen c.deref.result.now)

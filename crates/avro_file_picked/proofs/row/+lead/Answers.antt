@@ -22,7 +22,7 @@ lead_below-returns-in_err-lead-clause-lead t c = λ bytes at left end after plac
     c.fields.field-index c.field-item.result places bytes end after c.fields.count c.fields-test.true c.field-item.is
     (c.fields.invariant.1 bytes at left end after places vs inside few stand read) in
     rw (c.from_residual.ensures, ← same)
-        (reached_nowhere (to_z w32 (of_z w32 c.args.id)) (field_trees c.args.fields.now)
+    (reached_nowhere (to_z w32 (of_z w32 c.args.id)) (field_trees c.args.fields.now)
     vs c.field-item.result.id (tree c.field-item.result.schema) (field_trees (drop (c.fields.field-index + 1)
     c.args.fields.now)) places bytes end after c.fields.count c.args.field_path.now r (sym c.if-eq.ensures)
     c.in_err-lead.ensures.lead)
@@ -40,8 +40,7 @@ lead_below-returns-then-eq-clause-lead t c = λ bytes at left end after places v
 
 pub lead_below-fields-preserved : goal.lead_below-fields-preserved
 lead_below-fields-preserved t c =
-    let more = lens_on c.args.fields.now c.fields.field-index c.field-item.result c.fields-test.true c.field-item.is in
-        (
+    let more = lens_on c.args.fields.now c.fields.field-index c.field-item.result c.fields-test.true c.field-item.is in (
       omega (arith, c.fields.invariant.0, more, c.row_len-count.ensures),
       λ bytes at left end after places vs inside few stand read.
           let r = reached_at (to_z w32 (of_z w32 c.args.id)) (field_trees c.args.fields.now) vs c.args.fields.now
@@ -63,7 +62,7 @@ pub lead_of-returns-in-Some-clause-lead : goal.lead_of-returns-in-Some-clause-le
 lead_of-returns-in-Some-clause-lead t c =
     let field_path : c.args.field_path.now ≡ c.in-Some.id.now ∷ c.in-Some.rest.now = c.in-Some.ensures.cases.0 in
     let same : to_z w32 (of_z w32 c.in-Some.id.now) ≡ c.in-Some.id.now = to_z-of_z w32 c.in-Some.id.now
-        (search rules) in
+    (search rules) in
     rw field_path (lead_within (tree c.args.schema.now)
     (field_trees c.fields_of.result.now) c.in-Some.id.now c.in-Some.rest.now
     c.lead_below.result (sym c.if-is_record.ensures) c.fields_of.ensures (rw same at c.lead_below.ensures.lead))

@@ -16,16 +16,16 @@ returns-in-Ok c = λ met is.
     let m : IsMet (Some c.in_ok-found.found) met =
     subst (λ (o : Option Found). IsMet o met) c.in_ok-found.was is in
     let t : tree c.in_ok-found.found.schema.now ≡ string = ap tree (sym c.schema.ensures ∙ c.in-String.is)
-        ∙ tree-String in
+    ∙ tree-String in
     text_there c.in_ok-found.found met c.bytes.result.now
-        (c.in-Ok.text.now, c.in-Ok.field-0-1.now) t c.bytes.ensures c.in-Ok.ensures m
+    (c.in-Ok.text.now, c.in-Ok.field-0-1.now) t c.bytes.ensures c.in-Ok.ensures m
 
 pub returns-in-Err : goal.returns-in-Err
 returns-in-Err c = λ met is.
     let m : IsMet (Some c.in_ok-found.found) met =
     subst (λ (o : Option Found). IsMet o met) c.in_ok-found.was is in
     let t : tree c.in_ok-found.found.schema.now ≡ string = ap tree (sym c.schema.ensures ∙ c.in-String.is)
-        ∙ tree-String in
+    ∙ tree-String in
     absurd (text_never c.in_ok-found.found met c.bytes.result.now c.in-Err.field-0 t c.bytes.ensures c.in-Err.ensures m)
 
 pub returns-in_default : goal.returns-in_default

@@ -21,7 +21,7 @@ returns-in-Ok c = λ v is.
     let m : IsMet (Some f) met = (v, is, refl) in
     let t : tree c.args.schema.now ≡ int = ap tree c.in-Int.is ∙ tree-Int in
     let number : to_z w64 (of_z w64 c.from.result) ≡ c.in-Ok.number = to_z-of_z w64 c.from.result (search rules)
-        ∙ c.from.ensures
+    ∙ c.from.ensures
     ∙ to_z-of_z w32 c.in-Ok.number (search rules) in
     rw number (whole_int f met c.args.bytes.now (c.in-Ok.number, c.in-Ok.field-0-1.now) t refl c.in-Ok.ensures m)
 
@@ -40,10 +40,10 @@ returns-in-Ok-long_of c = λ v is.
     let m : IsMet (Some f) met = (v, is, refl) in
     let t : tree c.args.schema.now ≡ long = ap tree c.in-Long.is ∙ tree-Long in
     let number : to_z w64
-        (of_z w64 c.in-Ok-long_of.number) ≡ c.in-Ok-long_of.number = to_z-of_z w64 c.in-Ok-long_of.number
-        (search rules) in
+    (of_z w64 c.in-Ok-long_of.number) ≡ c.in-Ok-long_of.number = to_z-of_z w64 c.in-Ok-long_of.number
+    (search rules) in
     rw number (whole_long f met c.args.bytes.now
-        (c.in-Ok-long_of.number, c.in-Ok-long_of.field-0-1.now) t refl c.in-Ok-long_of.ensures m)
+    (c.in-Ok-long_of.number, c.in-Ok-long_of.field-0-1.now) t refl c.in-Ok-long_of.ensures m)
 
 pub returns-in-Err-long_of : goal.returns-in-Err-long_of
 returns-in-Err-long_of c = λ v is.

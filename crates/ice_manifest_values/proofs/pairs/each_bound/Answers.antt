@@ -57,6 +57,6 @@ returns c = λ vs fits ahead.
     let here = subst (λ (s : Schema). IsGuideFor (pair_ids c.args.map) (tree s) c.args.guide.now)
     (sym c.items.invariant.1) fits in
     ap (told in_manifest)
-        (all_so_far (bound_of c.args.map) c.args.items c.items.items (bounds_said c.items.bounds.items)
+    (all_so_far (bound_of c.args.map) c.args.items c.items.items (bounds_said c.items.bounds.items)
     (c.in_default.ensures.items (c.passing.ensures here.0 (tree c.items.items.schema.now) here.1))
     (c.items.invariant.0 fits) vs ahead)

@@ -18,14 +18,14 @@ returns-in_default-long_of c = λ v at.
 pub returns-in_err-position : goal.returns-in_err-position
 returns-in_err-position c = λ v at.
     let same : to_z w64 (of_z w64 c.in-Ok.position) ≡ c.in-Ok.position = to_z-of_z w64 c.in-Ok.position
-        (search rules) in
+    (search rules) in
     absurd (never_negative (tree c.args.schema.now) c.in-Some.branches.now c.args.bytes.now c.in-Ok.bytes.now v
     c.in-Ok.position (sym c.in-Some.ensures) c.in-Ok.ensures (rw same at c.in_err-position.ensures) at)
 
 pub returns-then-position-branches : goal.returns-then-position-branches
 returns-then-position-branches c = λ v at.
     let same : to_z w64 (of_z w64 c.in-Ok.position) ≡ c.in-Ok.position = to_z-of_z w64 c.in-Ok.position
-        (search rules) in
+    (search rules) in
     let is : c.in-Ok.position ≡ pos c.in_ok-position.position = sym same ∙ c.in_ok-position.ensures in
     absurd (never_past (tree c.args.schema.now) c.in-Some.branches.now c.in_ok-position.position c.args.bytes.now
     c.in-Ok.bytes.now v (sym c.in-Some.ensures) (rw is at c.in-Ok.ensures) c.if-position-branches.true at)
@@ -33,7 +33,7 @@ returns-then-position-branches c = λ v at.
 pub returns : goal.returns
 returns c = λ v at.
     let same : to_z w64 (of_z w64 c.in-Ok.position) ≡ c.in-Ok.position = to_z-of_z w64 c.in-Ok.position
-        (search rules) in
+    (search rules) in
     let is : c.in-Ok.position ≡ pos c.in_ok-position.position = sym same ∙ c.in_ok-position.ensures in
     let chosen = chosen_there (tree c.args.schema.now) c.in-Some.branches.now c.in_ok-position.position
     c.index-branches-position.result c.args.bytes.now c.in-Ok.bytes.now v (sym c.in-Some.ensures)

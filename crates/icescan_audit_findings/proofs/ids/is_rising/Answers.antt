@@ -7,7 +7,7 @@ use Rattle.icescan_audit_findings.proofs.ids.is_rising.Goals as goal
 pub ids-preserved : goal.ids-preserved
 ids-preserved c =
     let last : get_or c.args.ids.now (c.ids.i - 1) (pos 0) <ℤ get_or c.args.ids.now c.ids.i (pos 0) = omega
-        (arith, ints) in
+    (arith, ints) in
     rise_more (λ k. get_or c.args.ids.now k (pos 0)) c.ids.i c.ids.auto.i c.ids.invariant last
 
 pub returns : goal.returns

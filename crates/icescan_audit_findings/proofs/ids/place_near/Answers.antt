@@ -10,7 +10,7 @@ returns-else-near-ids-clause-there c =
     let found = c.binary_search.result in
     let same : to_z w32 (of_z w32 c.args.id) ≡ c.args.id = to_z-of_z w32 c.args.id (search rules) in
     rw c.ok.ensures.value
-        (subst (λ z. IfSome (result_ok found) (λ k. (k < length ids) × (get_or ids k (pos 0) ≡ z))) same
+    (subst (λ z. IfSome (result_ok found) (λ k. (k < length ids) × (get_or ids k (pos 0) ≡ z))) same
     (searched ids (to_z w32 (of_z w32 c.args.id)) found c.requires c.binary_search.ensures.bound
     c.binary_search.ensures.position).there)
 

@@ -21,7 +21,7 @@ pairs-preserved g c = λ a b d.
     (arith, ints) in
     rise_more (λ k. (get_or pairs k d).0) i (omega arith) (λ k n. c.pairs.invariant k n d)
     (subst (λ x. x <ℤ (get_or pairs i d).0) first
-        (subst (λ y. to_z w32 (of_z w32 (get_or pairs (i - 1) p).0) <ℤ y) second
+    (subst (λ y. to_z w32 (of_z w32 (get_or pairs (i - 1) p).0) <ℤ y) second
     read)) a b
 
 pub returns : goal.returns

@@ -18,5 +18,5 @@ returns c =
     × AreHits (data_key c.args.spec_id c.args.tuple.now c.args.sequence_number path) es l.hits in
     subst Q c.self.view_is (found_before files l c.args.spec_id c.args.tuple.now c.args.sequence_number found
     (c.if-not-is_beside.ensures.spec refl ∙ to_z-of_z w32 c.args.spec_id c.ranges.spec_id)
-        (c.if-not-is_beside.ensures.tuple refl)
+    (c.if-not-is_beside.ensures.tuple refl)
     (c.if-not-is_beside.ensures.number refl))

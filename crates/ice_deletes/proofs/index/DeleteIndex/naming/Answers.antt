@@ -22,4 +22,4 @@ returns-clause-named c =
 pub returns-clause-distinct : goal.returns-clause-distinct
 returns-clause-distinct c =
     let P : List (ℕ × DeleteKey)
-        → Type 0 = λ files. AreDistinct files in subst P c.self.view_is c.self.invariant.distinct
+    → Type 0 = λ files. AreDistinct files in subst P c.self.view_is c.self.invariant.distinct

@@ -9,7 +9,7 @@ use Rattle.ice_manifest_values.proofs.items.ItemsAhead.at_item.Goals as goal
 pub returns-in-Ok-clause-no_more : goal.returns-in-Ok-clause-no_more
 returns-in-Ok-clause-no_more c =
     let off = counted_off (position_of c.args.self.now.place)
-        (position_of c.in-Ok.place) c.in-Ok.count c.in-Ok.ensures in
+    (position_of c.in-Ok.place) c.in-Ok.count c.in-Ok.ensures in
     let h : c.in-Ok.count + c.in-Ok.place.left ≤ c.args.self.now.in_block + c.args.self.now.place.left =
     omega (arith, off) in
     h
@@ -18,7 +18,7 @@ pub returns-in-Ok-clause-items : goal.returns-in-Ok-clause-items
 returns-in-Ok-clause-items c = λ vs ahead.
     let zero : c.args.self.now.in_block ≡ 0 = omega (arith, c.if-self-gt0.false) in
     let off = counted_off (position_of c.args.self.now.place)
-        (position_of c.in-Ok.place) c.in-Ok.count c.in-Ok.ensures in
+    (position_of c.in-Ok.place) c.in-Ok.count c.in-Ok.ensures in
     let b = block_ahead (tree c.args.self.now.schema.now) ahead.1 c.in-Ok.count (position_of c.args.self.now.place)
     (position_of c.in-Ok.place) (vs, ahead.2) (rw zero at ahead.3) c.in-Ok.ensures c.if-count-gt0.true in
     (c.if-count-gt0.true, (omega (arith, off, ahead.0), b.0, ahead.2, b.1), refl)

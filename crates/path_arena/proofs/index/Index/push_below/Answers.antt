@@ -24,7 +24,7 @@ invariant_of-self c =
     let last : c.len.result + 1 ≡ length ns + 1 = omega (arith, c.len.ensures, s.nodes.ok.0) in
     subst (IsIndex s.tops.items) (sym all)
     (below_index s.tops.items ns id c.args.right m n
-        (c.len.result + 1) lt c.leading.ensures.side other refl refl last c.self.invariant)
+    (c.len.result + 1) lt c.leading.ensures.side other refl refl last c.self.invariant)
 
 pub returns-clause-hashes : goal.returns-clause-hashes
 returns-clause-hashes c =
